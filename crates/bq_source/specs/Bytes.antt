@@ -1,0 +1,8 @@
+-- What a byte string holds.
+use Rattle.std.specs.Prelude.{ℕ, List, take}
+use Rattle.bq_source.specs.declared.bytes.Repr.{Repr}
+use Rattle.bq_source.specs.declared.bytes.Repr.TheVariants as repr
+
+abbrev pub bytes_of : Repr → List ℕ
+bytes_of (repr.Short short) = take short.len short.bytes
+bytes_of (repr.Shared shared) = shared.value.items

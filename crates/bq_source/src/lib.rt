@@ -1,0 +1,31 @@
+//! The bytes of a BUILD or .bzl file come in; its tokens go out, or its first fault.
+//!
+//! The promise: [`lex`] answers exactly the tokens that the text reads as, by the relation `Lexes` of
+//! `specs/Reading.antt`. A text that reads as no tokens has one fault there, and that one is answered.
+//!
+//! In reading order:
+//!
+//! - `bytes`: the shared byte string of names, texts and details, here and in every crate above;
+//! - `fault`: the table of all faults that users see;
+//! - `token`: what a token is;
+//! - `lexis`: how the single tokens are spelled;
+//! - `place`: how far a text is cut into tokens;
+//! - `lexer`: one pass over the bytes, a piece at a time;
+//! - `laws`: what every reading of a text is, in words of the text alone.
+#![tactic(auto)]
+
+mod bytes;
+mod fault;
+mod laws;
+mod lexer;
+mod lexis;
+mod place;
+#[cfg(test)]
+mod tests;
+mod token;
+
+pub use bytes::Bytes;
+pub use fault::{Fault, FaultKind, SourceErr};
+pub use laws::{every_text_has_its_reading, one_reading, tokens_lie, tokens_spell_the_text};
+pub use lexer::lex;
+pub use token::{Token, TokenKind};
