@@ -1,0 +1,12 @@
+pub mod Cuts
+pub mod Readings
+pub mod Orders
+pub mod Searches
+pub mod Above
+pub mod Workspaces
+pub mod Segments
+pub mod Homes
+pub mod BuildFiles
+pub mod Owners
+pub mod FullForms
+pub mod Listings

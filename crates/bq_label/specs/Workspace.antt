@@ -1,0 +1,57 @@
+-- The files of a workspace: which lists are lawful, and the order that they stand in.
+use Rattle.std.specs.Prelude.{◌≡◌, ℕ, ◌++◌, ◌&&◌, ◌≤◌, Bool, true, not, nat_le, nat_eq, List, [], ◌∷◌, length, Option, Some, None, map, bytes_eq, if◌then◌else◌}
+use Rattle.std.specs.List.{list_all, list_any, starts_with, find}
+use Rattle.std.specs.List.Sorted.{IsStrictlySortedBy, IsPermutation}
+use Rattle.std.specs.declared.cmp.Ordering.{Ordering}
+use Rattle.std.specs.Ordering.{nat_cmp}
+use Rattle.std.specs.Cmp.Lexicographic.{slice_cmp}
+use Rattle.bq_label.specs.declared.workspace.File.{File}
+use Rattle.bq_label.specs.Paths.{is_path}
+use Rattle.bq_label.specs.Order.{in_order}
+
+-- the path goes on behind the directory and a slash
+unfoldable pub is_above : List ℕ → List ℕ → Bool
+is_above directory path = starts_with nat_eq path (directory ++ 47 ∷ [])
+
+-- no text stands twice
+unfoldable pub are_distinct : List (List ℕ) → Bool
+are_distinct [] = true
+are_distinct (p ∷ ps) = not (list_any (bytes_eq p) ps) && are_distinct ps
+
+-- none of the paths is a directory of another
+unfoldable pub are_apart : List (List ℕ) → Bool
+are_apart paths = list_all (λ p. not (list_any (λ d. is_above d p) paths)) paths
+
+abbrev pub paths_of : List File → List (List ℕ)
+paths_of files = map (λ f. f.path) files
+
+-- at most so many files
+abbrev pub file_limit : ℕ
+file_limit = 65536
+
+-- the paths are lawful and distinct, none is a directory of another, and they are not too many
+unfoldable pub are_paths : List (List ℕ) → Bool
+are_paths paths = list_all is_path paths && are_distinct paths && are_apart paths
+
+-- files by the bytes of their paths
+abbrev pub path_cmp : File → File → Ordering
+path_cmp f g = slice_cmp nat_cmp f.path g.path
+
+-- the files of a lawful list in the order of their paths
+unfoldable pub workspace_of : List File → Option (List File)
+workspace_of files = if nat_le (length files) file_limit && are_paths (paths_of files) then Some (in_order path_cmp files) else None
+
+-- the files of a workspace, in their order
+pub record IsWorkspace (files : List File) : Type 0 where
+  pub few : length files ≤ file_limit
+  pub lawful : are_paths (paths_of files) ≡ true
+  pub ascending : IsStrictlySortedBy path_cmp files
+
+-- the files, in the order of a workspace
+pub record IsWorkspaceOf (files workspace : List File) : Type 0 where
+  pub moved : IsPermutation files workspace
+  pub lawful : IsWorkspace workspace
+
+-- the file at a path
+unfoldable pub file_at : List File → List ℕ → Option File
+file_at files path = find (λ f. bytes_eq f.path path) files

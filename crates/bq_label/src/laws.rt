@@ -1,0 +1,58 @@
+//! Laws of the definitions. The gate proves what a contract names, so each law is the contract of a function that does
+//! nothing.
+
+ghost use Rattle.std.specs.Prelude.{◌≡◌, ◌↔◌, List, ℕ, Some, []};
+ghost use Rattle.std.specs.List.{Contains};
+ghost use Rattle.std.specs.List.Sorted.{IsStrictlySortedBy};
+ghost use Rattle.bq_label.specs.declared.workspace.File.{File};
+ghost use Rattle.bq_label.specs.declared.packages.BuildFile.{BuildFile};
+ghost use Rattle.bq_label.specs.Workspace.{workspace_of, IsWorkspace, IsWorkspaceOf};
+ghost use Rattle.bq_label.specs.Packages.{packages_of, package_cmp, IsPackageOf, HasBuildFile, IsListed, home_of, owner_of, OwnerIs};
+ghost use Rattle.bq_label.specs.Label.{PackageParts, LabelParts, IsLabel, ReadsAs, full_form};
+ghost use Rattle.bq_label.specs.Reading.{label_of};
+
+/// [`crate::read_label`]'s function reads a text as a label exactly where one of the forms of a label does.
+pub fn forms_of_a_label()
+    ensures { (own : PackageParts) (text : List ℕ) (l : LabelParts) → (label_of own text ≡ Some l) ↔ ReadsAs own text l }
+{}
+
+/// A text reads as one label at most.
+pub fn one_reading()
+    ensures { (own : PackageParts) (text : List ℕ) (l m : LabelParts) → ReadsAs own text l → ReadsAs own text m → l ≡ m }
+{}
+
+/// The full form of a label reads as that label in every package of the main repository.
+pub fn round_trip()
+    ensures { (own : PackageParts) (l : LabelParts) → own.repo ≡ [] → IsLabel l → ReadsAs own (full_form l) l }
+{}
+
+/// Two labels with one full form are one label.
+pub fn one_full_form()
+    ensures { (l m : LabelParts) → IsLabel l → IsLabel m → full_form l ≡ full_form m → l ≡ m }
+{}
+
+/// A workspace of files is these files in the one order in which each path is below the next, where the paths are
+/// lawful and distinct and none is a directory of another.
+pub fn one_order()
+    ensures { (files w : List File) → (workspace_of files ≡ Some w) ↔ IsWorkspaceOf files w }
+{}
+
+/// A package's directory has a BUILD file: `BUILD.bazel`, or `BUILD` where there is no `BUILD.bazel`.
+pub fn a_package_has_a_build_file()
+    ensures { (files : List File) (b : BuildFile) → IsWorkspace files → Contains (packages_of files) b → IsPackageOf files b }
+{}
+
+/// A directory with a file `BUILD.bazel` or `BUILD`, in its repository, is one of the packages.
+pub fn a_build_file_makes_a_package()
+    ensures { (files : List File) (p : PackageParts) → HasBuildFile files p → IsListed (packages_of files) p }
+{}
+
+/// Each package stands once, and below the next.
+pub fn one_entry_each()
+    ensures { (files : List File) → IsWorkspace files → IsStrictlySortedBy package_cmp (packages_of files) }
+{}
+
+/// A path's owner is the package above it in its repository that has the longest path.
+pub fn the_nearest_owner()
+    ensures { (packages : List BuildFile) (path repo rest : List ℕ) → home_of path ≡ Some (repo, rest) → OwnerIs packages repo rest (owner_of packages path) }
+{}

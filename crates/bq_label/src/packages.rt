@@ -1,0 +1,276 @@
+//! The packages of a workspace.
+
+ghost use Rattle.std.specs.Prelude.{◌≡◌, List, Some, None, IfSome, IfNone, IfOk, slice_get, MatchResult, true, bytes_eq, codes, ◌++◌};
+ghost use Rattle.std.specs.List.{list_all};
+ghost use Rattle.std.specs.List.Sorted.{IsPermutation, IsSorted, IsStrictlySortedBy};
+ghost use Rattle.std.specs.Option.{option_copied};
+ghost use Rattle.bq_label.specs.Paths.{is_path};
+ghost use Rattle.bq_label.specs.Label.{package_at, last_segment};
+ghost use Rattle.bq_label.specs.Workspace.{paths_of, IsWorkspace};
+ghost use Rattle.bq_label.specs.Packages.{wins, directory_of, package_at_file, build_files_of, packages_of, build_label};
+ghost use Rattle.bq_label.specs.Packages.{package_cmp, id_cmp, package_named, owner_of, nearest_over};
+
+use crate::home::home_of_path;
+use crate::label::Label;
+use crate::package_id::PackageId;
+use crate::path::is_name;
+use crate::split::{directory_part, last_part};
+use crate::workspace::{File, Workspace};
+use bq_source::Bytes;
+use std::alloc::{AllocError, Global};
+use std::cmp::Ordering;
+use std::marker::Model;
+
+/// A package, and the BUILD file that makes its directory one.
+#[derive(Debug, Drop)]
+pub struct BuildFile {
+    pub id: PackageId,
+    pub file: File,
+}
+
+impl BuildFile {
+    /// The same package. No byte is copied.
+    pub fn share(&self) -> Result<BuildFile, AllocError>
+        ensures { IfOk result (λ b. b ≡ self.now) }
+    {
+        Ok(BuildFile {
+            id: self.id.share()?,
+            file: self.file.share()?,
+        })
+    }
+
+    /// The BUILD file's name in its directory: `BUILD.bazel` or `BUILD`.
+    pub fn name(&self) -> &[u8]
+        ensures { result.now ≡ last_segment self.now.file.path }
+    {
+        last_part(self.file.path.as_slice())
+    }
+
+    /// The package's directory in the workspace, which is empty for the root of the main repository.
+    pub fn directory(&self) -> &[u8]
+        ensures { result.now ≡ directory_of self.now.file.path }
+    {
+        directory_part(self.file.path.as_slice())
+    }
+
+    /// The BUILD file's own label, as `//a:BUILD.bazel`. There is none where the file's path does not end in a name.
+    #[tactic(auto, unfolding(crate::specs::Packages::build_label))]
+    pub fn label(&self, alloc: Global) -> Result<Option<Label>, AllocError>
+        ensures { IfOk result (λ l. l ≡ build_label self.now) }
+    {
+        let name = self.name();
+        if !is_name(name) {
+            return Ok(None);
+        }
+        let name = Bytes::from_slice(alloc, name)?;
+        Ok(Some(Label::new(self.id.share()?, name)))
+    }
+}
+
+/// Whether the path's last segment is this one.
+fn has_name(path: &[u8], name: &[u8]) -> bool
+    ensures { result ≡ bytes_eq (last_segment path.now) name.now }
+{
+    last_part(path) == name
+}
+
+/// The path of a `BUILD.bazel` beside a `BUILD`.
+fn preferred_path(alloc: Global, path: &[u8]) -> Result<Vec<u8>, AllocError>
+    ensures { IfOk result (λ p. p.items ≡ path.now ++ codes ".bazel") }
+{
+    let mut preferred = path.to_vec(alloc)?;
+    preferred.extend_from_slice(b".bazel")?;
+    Ok(preferred)
+}
+
+/// Whether the file at this path is its directory's BUILD file: `BUILD.bazel`, or `BUILD` with no `BUILD.bazel` beside it.
+fn is_build_file(alloc: Global, workspace: &Workspace, path: &[u8]) -> Result<bool, AllocError>
+    ensures { IfOk result (λ w. w ≡ wins (paths_of workspace.now) path.now) }
+{
+    if has_name(path, b"BUILD.bazel") {
+        return Ok(true);
+    }
+    if !has_name(path, b"BUILD") {
+        return Ok(false);
+    }
+    let preferred = preferred_path(alloc, path)?;
+    Ok(workspace.file(&preferred).is_none())
+}
+
+/// The package whose BUILD file this is.
+#[tactic(auto, unfolding(crate::specs::Packages::package_at_file))]
+fn package_of_file(
+    alloc: Global,
+    workspace: &Workspace,
+    file: &File,
+) -> Result<Option<BuildFile>, AllocError>
+    requires { is_path file.now.path ≡ true }
+    ensures { IfOk result (λ b. b ≡ package_at_file (paths_of workspace.now) file.now) }
+{
+    if !is_build_file(alloc, workspace, file.path.as_slice())? {
+        return Ok(None);
+    }
+    let Some(home) = home_of_path(file.path.as_slice()) else {
+        return Ok(None);
+    };
+    let repo = Bytes::from_slice(alloc, home.repo)?;
+    let path = Bytes::from_slice(alloc, directory_part(home.rest))?;
+    Ok(Some(BuildFile {
+        id: PackageId::lawful(repo, path),
+        file: file.share()?,
+    }))
+}
+
+/// The packages of a workspace, in the order of their BUILD files' paths.
+fn build_files(alloc: Global, workspace: &Workspace) -> Result<Vec<BuildFile>, AllocError>
+    ensures found { IfOk result (λ found. found.items ≡ build_files_of (paths_of workspace.now) workspace.now) }
+    ensures lawful { IsWorkspace workspace.now }
+{
+    let files = workspace.files();
+    let mut found = Vec::new(alloc);
+    for file in files {
+        let Some(package) = package_of_file(alloc, workspace, file)? else {
+            continue;
+        };
+        found.push(package)?;
+    }
+    Ok(found)
+}
+
+/// By the bytes of the repository, and then of the path.
+fn compare(id: &PackageId, repo: &[u8], path: &[u8]) -> Ordering
+    ensures { result ≡ id_cmp id.now (package_at repo.now path.now) }
+{
+    let by_repo = id.repo().as_slice().cmp(repo);
+    by_repo.then(id.package().as_slice().cmp(path))
+}
+
+/// The packages, ascending by their names.
+fn sorted(found: Vec<BuildFile>) -> Vec<BuildFile>
+    ensures moved { IsPermutation found.items result.items }
+    ensures ascending { IsSorted package_cmp result.items }
+{
+    let mut found = found;
+    found.sort_unstable_by(|a, b| compare(
+        &a.id,
+        b.id.repo().as_slice(),
+        b.id.package().as_slice(),
+    ));
+    found
+}
+
+/// Where the package of this name stands.
+fn find_place(packages: &[BuildFile], repo: &[u8], path: &[u8]) -> Option<usize>
+    requires { IsStrictlySortedBy package_cmp packages.now }
+    ensures found { IfSome result (λ at. slice_get packages.now at ≡ package_named packages.now (package_at repo.now path.now)) }
+    ensures none { IfNone result (package_named packages.now (package_at repo.now path.now) ≡ None) }
+{
+    match packages.binary_search_by(|package| compare(&package.id, repo, path)) {
+        Ok(at) => Some(at),
+        Err(_) => None,
+    }
+}
+
+/// The package of this name.
+fn find_package<'a>(packages: &'a [BuildFile], repo: &[u8], path: &[u8]) -> Option<&'a BuildFile>
+    requires { IsStrictlySortedBy package_cmp packages.now }
+    ensures { option_copied result ≡ package_named packages.now (package_at repo.now path.now) }
+{
+    match find_place(packages, repo, path) {
+        Some(at) => packages.get(at),
+        None => None,
+    }
+}
+
+/// The package whose directory is the nearest above a path of a repository.
+fn nearest_above<'a>(packages: &'a [BuildFile], repo: &[u8], rest: &[u8]) -> Option<&'a BuildFile>
+    requires { IsStrictlySortedBy package_cmp packages.now }
+    ensures { option_copied result ≡ nearest_over packages.now repo.now rest.now }
+{
+    let mut at = rest.len();
+    while at > 0 {
+        at -= 1;
+        if rest[at] != b'/' {
+            continue;
+        }
+        let package = find_package(packages, repo, &rest[..at]);
+        if package.is_some() {
+            return package;
+        }
+    }
+    find_package(packages, repo, &[])
+}
+
+/// The packages of a workspace. Contracts see the list of them, ascending by repository and then by path.
+#[derive(Debug, Drop)]
+pub struct Packages {
+    packages: Vec<BuildFile>,
+}
+
+impl Model for Packages {
+    ghost use Rattle.std.specs.Prelude.{List};
+    ghost use Rattle.std.specs.List.Sorted.{IsStrictlySortedBy};
+    ghost use Rattle.bq_label.specs.declared.packages.BuildFile.{BuildFile};
+    ghost use Rattle.bq_label.specs.Packages.{package_cmp};
+
+    ghost Value = { List BuildFile };
+
+    ghost view = { λ p. p.packages.items };
+
+    ghost invariant = { λ p. IsStrictlySortedBy package_cmp p.packages.items };
+}
+
+impl Packages {
+    /// The packages of a workspace: the directories with a file `BUILD.bazel` or `BUILD`, of which the first wins.
+    pub fn of(alloc: Global, workspace: &Workspace) -> Result<Packages, AllocError>
+        ensures { IfOk result (λ p. p ≡ packages_of workspace.now) }
+    {
+        let found = build_files(alloc, workspace)?;
+        Ok(Packages {
+            packages: sorted(found),
+        })
+    }
+
+    /// The packages, ascending by the bytes of their repositories and then of their paths.
+    pub fn all(&self) -> &[BuildFile]
+        ensures value { result.now ≡ self.now }
+        ensures ascending { IsStrictlySortedBy package_cmp self.now }
+    {
+        self.packages.as_slice()
+    }
+
+    /// Where the package of this name stands in `all`, in time logarithmic in the number of packages.
+    pub fn place(&self, id: &PackageId) -> Option<usize>
+        ensures found { IfSome result (λ at. slice_get self.now at ≡ package_named self.now id.now) }
+        ensures none { IfNone result (package_named self.now id.now ≡ None) }
+    {
+        find_place(
+            &self.packages,
+            id.repo().as_slice(),
+            id.package().as_slice(),
+        )
+    }
+
+    /// The package of this name, in time logarithmic in the number of packages.
+    pub fn named(&self, id: &PackageId) -> Option<&BuildFile>
+        ensures { option_copied result ≡ package_named self.now id.now }
+    {
+        find_package(
+            &self.packages,
+            id.repo().as_slice(),
+            id.package().as_slice(),
+        )
+    }
+
+    /// The owner of a path: the package whose directory is the nearest above it in its repository. It takes time
+    /// logarithmic in the number of packages for each level of the path.
+    #[tactic(auto, unfolding(crate::specs::Packages::owner_of))]
+    pub fn owner_of(&self, path: &[u8]) -> Option<&BuildFile>
+        ensures { option_copied result ≡ owner_of self.now path.now }
+    {
+        match home_of_path(path) {
+            Some(home) => nearest_above(&self.packages, home.repo, home.rest),
+            None => None,
+        }
+    }
+}

@@ -1,0 +1,87 @@
+//! How a label is read.
+
+ghost use Rattle.std.specs.Prelude.{◌≡◌, option_and_then};
+ghost use Rattle.bq_source.specs.Fault.{fault_at};
+ghost use Rattle.bq_source.specs.declared.fault.FaultKind.TheVariants.{BadLabel};
+ghost use Rattle.bq_source.specs.declared.fault.SourceErr.TheVariants.{Bad};
+ghost use Rattle.bq_label.specs.Label.{label_at, label_in};
+ghost use Rattle.bq_label.specs.Reading.{AnswersLabel, label_of, lawful_label, absolute_label, external_label};
+
+use crate::label::Label;
+use crate::package_id::PackageId;
+use crate::path::is_name;
+use crate::split::{last_part, split_once};
+use bq_source::{Bytes, Fault, FaultKind, SourceErr};
+use std::alloc::Global;
+
+fn bad_label() -> SourceErr
+    ensures { result ≡ Bad (fault_at BadLabel 0) }
+{
+    SourceErr::Bad(Fault::at(FaultKind::BadLabel, 0))
+}
+
+/// A name in a package.
+#[tactic(auto, unfolding(crate::specs::Reading::lawful_label, crate::specs::Reading::is_label))]
+fn read_name(alloc: Global, package: PackageId, name: &[u8]) -> Result<Label, SourceErr>
+    ensures { AnswersLabel (lawful_label (label_in «package» name.now)) result }
+{
+    if !is_name(name) {
+        return Err(bad_label());
+    }
+    let name = Bytes::from_slice(alloc, name)?;
+    Ok(Label::new(package, name))
+}
+
+#[tactic(auto, unfolding(crate::specs::Reading::lawful_label, crate::specs::Reading::is_label))]
+fn read_parts(alloc: Global, repo: Bytes, package: &[u8], name: &[u8]) -> Result<Label, SourceErr>
+    ensures { AnswersLabel (lawful_label (label_at repo «package».now name.now)) result }
+{
+    let package = Bytes::from_slice(alloc, package)?;
+    match PackageId::new(repo, package) {
+        Some(package) => read_name(alloc, package, name),
+        None => Err(bad_label()),
+    }
+}
+
+/// What stands behind `//`.
+#[tactic(auto, unfolding(crate::specs::Reading::absolute_label))]
+fn read_absolute(alloc: Global, repo: Bytes, text: &[u8]) -> Result<Label, SourceErr>
+    ensures { AnswersLabel (lawful_label (absolute_label repo text.now)) result }
+{
+    match split_once(text, b':') {
+        Some((package, name)) => read_parts(alloc, repo, package, name),
+        None => read_parts(alloc, repo, text, last_part(text)),
+    }
+}
+
+/// What stands behind `@`.
+#[tactic(auto, unfolding(crate::specs::Reading::external_label, crate::specs::Reading::label_of))]
+fn read_external(alloc: Global, text: &[u8]) -> Result<Label, SourceErr>
+    ensures { AnswersLabel (option_and_then lawful_label (external_label text.now)) result }
+{
+    match split_once(text, b'/') {
+        None => read_parts(alloc, Bytes::from_slice(alloc, text)?, &[], text),
+        Some((repo, [b'/', rest @ ..])) => read_absolute(
+            alloc,
+            Bytes::from_slice(alloc, repo)?,
+            rest,
+        ),
+        Some(_) => Err(bad_label()),
+    }
+}
+
+/// The label that a text reads as in a file of the package. A text that reads as none is fault F78, at line 0.
+///
+/// The forms are those of Bazel's page "Labels": `//package:name`, `//a/b` for `//a/b:b`, `:name`, `name`, and
+/// `@repository` in front of `//` or for `@repository//:repository`.
+#[tactic(auto, unfolding(crate::specs::Reading::parts_of, crate::specs::Reading::label_of))]
+pub fn read_label(alloc: Global, text: &[u8], package: &PackageId) -> Result<Label, SourceErr>
+    ensures { AnswersLabel (label_of «package».now text.now) result }
+{
+    match text {
+        [b'@', rest @ ..] => read_external(alloc, rest),
+        [b'/', b'/', rest @ ..] => read_absolute(alloc, package.repo().share()?, rest),
+        [b':', name @ ..] => read_name(alloc, package.share()?, name),
+        name => read_name(alloc, package.share()?, name),
+    }
+}

@@ -1,0 +1,45 @@
+//! How a text is cut at a byte.
+
+ghost use Rattle.std.specs.Prelude.{◌≡◌, ◌≢◌, ◌<◌, ℕ, Some, None, MatchOption, IfSome, IfNone, length, slice_index};
+ghost use Rattle.bq_label.specs.Label.{last_segment};
+ghost use Rattle.bq_label.specs.Reading.{cut_at};
+ghost use Rattle.bq_label.specs.Packages.{directory_of};
+
+/// The place of the first such byte.
+fn first_place(text: &[u8], byte: u8) -> Option<usize>
+    ensures found { IfSome result (λ at. (at < length text.now) × (slice_index text.now at ≡ byte) × ((k : ℕ) → k < at → slice_index text.now k ≢ byte)) }
+    ensures none { IfNone result ((k : ℕ) → k < length text.now → slice_index text.now k ≢ byte) }
+{
+    text.iter().position(|b| *b == byte)
+}
+
+/// What stands before the first such byte, and what stands behind it.
+pub(crate) fn split_once(text: &[u8], byte: u8) -> Option<(&[u8], &[u8])>
+    ensures { MatchOption result (cut_at byte text.now ≡ None) (λ p. cut_at byte text.now ≡ Some (p.0.now, p.1.now)) }
+{
+    match first_place(text, byte) {
+        Some(at) => Some((&text[..at], &text[at + 1..])),
+        None => None,
+    }
+}
+
+/// What stands behind the last slash.
+pub(crate) fn last_part(path: &[u8]) -> &[u8]
+    ensures { result.now ≡ last_segment path.now }
+{
+    let mut at = path.len();
+    while at > 0 && path[at - 1] != b'/' {
+        at -= 1;
+    }
+    &path[at..]
+}
+
+/// What stands before the last slash; nothing where there is none.
+#[tactic(auto, unfolding(crate::specs::Packages::directory_of))]
+pub(crate) fn directory_part(path: &[u8]) -> &[u8]
+    ensures { result.now ≡ directory_of path.now }
+{
+    let name = last_part(path);
+    let len = path.len().saturating_sub(name.len()).saturating_sub(1);
+    &path[..len]
+}
