@@ -1,0 +1,13 @@
+pub mod Sums
+pub mod Settling
+pub mod Turning
+pub mod Beginning
+pub mod Paths
+pub mod Edges
+pub mod Rows
+pub mod Outs
+pub mod Keeps
+pub mod Looking
+pub mod Hands
+pub mod Lawful
+pub mod Trials

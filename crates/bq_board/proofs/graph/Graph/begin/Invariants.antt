@@ -1,0 +1,5 @@
+use Rattle.bq_board.specs.Draining.{Begins}
+use Rattle.bq_board.proofs.graph.Graph.begin.Given as goal
+
+abbrev pub invariant-loop-m : goal.invariant-loop-m
+invariant-loop-m l = Begins (l.self) l.m l.order.modules.items l.order.pending.items

@@ -1,0 +1,14 @@
+pub mod Counts
+pub mod Graph
+pub mod Cycles
+pub mod Refusal
+pub mod Drain
+pub mod Draining
+pub mod Plan
+pub mod Board
+pub mod Steps
+pub mod Claims
+pub mod Seats
+pub mod Closing
+pub mod Laws
+pub mod Tests

@@ -1,0 +1,56 @@
+//! Claims: a module goes to the seat that wins it.
+ghost use Rattle.std.specs.Prelude.{◌≡◌, ◌+◌, ◌<◌, length, IsTrue, ◌↔◌};
+ghost use Rattle.bq_board.specs.Board.{Posted};
+ghost use Rattle.bq_board.specs.Claims.{Answered};
+ghost use Rattle.bq_board.specs.Seats.{IsSeatOf, view_of};
+
+use crate::board::{Board, Seat};
+use crate::parcel::Parcel;
+use crate::steps::{Look, TryClaim};
+
+/// What a claim found.
+#[derive(Clone, Copy, Debug, PartialEq, Eq)]
+pub enum Claim {
+    /// The module is this seat's: all edges into it are posted, and no seat had claimed it.
+    Won,
+    /// A seat has claimed it.
+    Taken,
+    /// This edge into it isn't posted yet.
+    Waiting(usize),
+}
+
+impl<V: Parcel> Board<V> {
+    /// Claims module `m`, where all edges into it are posted and no seat has it.
+    ///
+    /// `Won`: a module that is new to this seat, at a step at which no seat had it, with all edges into it posted.
+    /// `Taken`: at a step of this call a seat had it. It is the answer once `done` has told the number of modules.
+    /// `Waiting(edge)`: that edge into `m` wasn't posted at a step of this call. It is none that this seat posted or saw posted.
+    pub fn claim(&self, seat: &mut Seat<V>, m: usize) -> Claim
+        requires seat { IsSeatOf self.now seat.old }
+        requires module { m < length self.now.plan }
+        ensures seat { IsSeatOf self.now seat.new }
+        ensures answer { Answered (view_of seat.old) m result (view_of seat.new) }
+    {
+        let modules = self.plan.modules();
+        let from = self.plan.start(m);
+        let to = self.plan.start(m + 1);
+        let mut e = from;
+        while e < to {
+            let shared = &self.table.shared;
+            let found = shared.load::<Look>(&mut seat.place, 1 + modules + e);
+            if !is_posted(found) {
+                return Claim::Waiting(e);
+            }
+            e += 1;
+        }
+        let shared = &self.table.shared;
+        let found = shared.compare_exchange::<TryClaim>(&mut seat.place, 1 + m, 0, 1);
+        if found == 0 { Claim::Won } else { Claim::Taken }
+    }
+}
+
+fn is_posted(word: u64) -> bool
+    ensures { IsTrue result ↔ Posted word }
+{
+    word == 1 || word == 2
+}

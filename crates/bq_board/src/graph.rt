@@ -1,0 +1,118 @@
+//! Load graphs: for each module, by number, the modules that it loads.
+ghost use Rattle.std.specs.Prelude.{◌≡◌, ℕ, ◌+◌, ◌<◌, ◌≤◌, ◌↔◌, List, [], length, vec_len, IfOk, OnOk, IfErr, IsTrue};
+ghost use Rattle.bq_board.specs.Counts.{Has};
+ghost use Rattle.bq_board.specs.Graph.{Loads, row, edges, Known, IsGraph, lists};
+ghost use Rattle.bq_board.specs.Cycles.{TellsPaths};
+ghost use Rattle.bq_board.specs.Refusal.{Refused};
+
+use crate::refusal::PlanErr;
+use std::alloc::{AllocError, Global};
+use std::marker::Model;
+
+/// The most modules that a graph may have.
+pub const MODULES_MAX: usize = 4096;
+
+/// The most edges that a graph may have: a module that is loaded twice makes two.
+pub const EDGES_MAX: usize = 65_536;
+
+/// For each module the modules that it loads. A contract sees it as the list of these lists.
+#[derive(Drop)]
+pub struct Graph {
+    rows: Vec<Vec<u32>>,
+}
+
+impl Model for Graph {
+    ghost Value = { List (List ℕ) };
+
+    ghost view = { λ g. lists g.rows.items };
+
+    ghost invariant = { λ g. IsGraph (lists g.rows.items) };
+}
+
+impl Graph {
+    /// The graph in which module `m` loads the modules `rows[m]`, in this order.
+    /// P3 for too many modules or edges, then P2 for a loaded module that the graph hasn't.
+    pub fn new(rows: Vec<Vec<u32>>) -> Result<Graph, PlanErr>
+        ensures graph { IfOk result (λ g. g ≡ lists rows.items) }
+        ensures lawful { OnOk result (IsGraph (lists rows.items)) }
+        ensures refused { IfErr result (λ e. Refused (lists rows.items) e) }
+    {
+        if rows.len() > MODULES_MAX || !has_few_edges(rows.as_slice()) {
+            return Err(PlanErr::TooMany);
+        }
+        if !knows_all(rows.as_slice()) {
+            return Err(PlanErr::BadIndex);
+        }
+        Ok(Graph { rows })
+    }
+
+    /// The number of modules.
+    pub fn len(&self) -> usize
+        ensures len { result ≡ length self.now }
+        ensures lawful { IsGraph self.now }
+    {
+        self.rows.len()
+    }
+
+    /// The modules that module `m` loads.
+    pub fn row(&self, m: usize) -> &[u32]
+        requires { m < length self.now }
+        ensures row { result.now ≡ row self.now m }
+        ensures lawful { IsGraph self.now }
+    {
+        self.rows[m].as_slice()
+    }
+}
+
+// Whether the rows have no more entries than a graph may have edges.
+fn has_few_edges(rows: &[Vec<u32>]) -> bool
+    ensures { IsTrue result ↔ (edges (lists rows.now) ≤ 65536) }
+{
+    let mut left = EDGES_MAX;
+    for row in rows {
+        if row.len() > left {
+            return false;
+        }
+        left -= row.len();
+    }
+    true
+}
+
+// Whether each entry is the number of a row.
+fn knows_all(rows: &[Vec<u32>]) -> bool
+    ensures { IsTrue result ↔ Known (lists rows.now) }
+{
+    for row in rows {
+        if !is_below(row.as_slice(), rows.len()) {
+            return false;
+        }
+    }
+    true
+}
+
+fn is_below(loaded: &[u32], bound: usize) -> bool
+    ensures { IsTrue result ↔ ((l : ℕ) → Has loaded.now l → l < bound) }
+{
+    for l in loaded {
+        if *l as usize >= bound {
+            return false;
+        }
+    }
+    true
+}
+
+// n rows without entries.
+pub(crate) fn empty_rows(alloc: Global, n: usize) -> Result<Vec<Vec<u32>>, AllocError>
+    ensures { IfOk result (λ v. (vec_len v ≡ n) × ((m : ℕ) → row (lists v.items) m ≡ [])) }
+{
+    let mut rows = Vec::new(alloc);
+    for _ in 0..n {
+        rows.push(Vec::new(alloc))?;
+    }
+    Ok(rows)
+}
+
+/// A module is cyclic by the test exactly where a path of one edge more than there are modules starts at it.
+pub fn cyclic_is_a_path()
+    ensures { (p : Loads) → TellsPaths p }
+{}

@@ -1,0 +1,41 @@
+//! Hands the modules of a load plan to seats, so that threads can load modules side by side.
+//!
+//! In: for each module, by number, the modules that it loads. Out: for each seat, the modules that it won, and the parcels of what they load.
+//! The promise: a module is won once, by one seat, when all that it loads is posted, and a parcel that is fetched for a load belongs to the loaded module.
+//! It holds for every number of seats and every order of their steps, with no lock: each step is one atomic step on one word.
+//!
+//! In reading order:
+//! `graph` and `drain` (load graphs, which modules are cyclic, an order for the others), `plan` and `refusal` (graphs without cyclic modules, with numbered edges),
+//! `parcel` (what modules hand on), `board` and `opening` (the board, its words, slots and seats), `view` (what contracts know of a seat),
+//! `claim`, `fetch`, `post`, `finish`, `done`, `close` (the calls), `steps` and `rule` (the atomic steps, and the rule that each keeps), `laws` (that rule in words).
+#![tactic(auto)]
+
+mod board;
+mod claim;
+mod close;
+mod done;
+mod drain;
+mod fetch;
+mod finish;
+mod graph;
+mod laws;
+mod opening;
+mod parcel;
+mod plan;
+mod post;
+mod refusal;
+mod rule;
+mod steps;
+#[cfg(test)]
+mod tests;
+mod view;
+
+pub use board::{Board, Seat};
+pub use claim::Claim;
+pub use drain::Order;
+pub use graph::{EDGES_MAX, Graph, MODULES_MAX, cyclic_is_a_path};
+pub use laws::{done_law, edge_law, load_law, module_law, note_law, owner_law, slot_law};
+pub use parcel::Parcel;
+pub use plan::{Plan, edges_are_loads};
+pub use refusal::PlanErr;
+pub use view::View;

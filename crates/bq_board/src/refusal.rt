@@ -1,0 +1,29 @@
+use std::alloc::AllocError;
+use thiserror::Error;
+
+/// Why loads make no plan. The first that applies of `TooMany`, `BadIndex`, `Cyclic`; `Memory` where a growth was refused.
+#[derive(Debug, Drop, Error)]
+pub enum PlanErr {
+    /// A module is cyclic: loads lead from it round a cycle.
+    #[error("P1 Cyclic")]
+    Cyclic,
+    /// A loaded module is none of the plan's.
+    #[error("P2 BadIndex")]
+    BadIndex,
+    /// More than 4,096 modules or 65,536 edges.
+    #[error("P3 TooMany")]
+    TooMany,
+    #[error("P4 Memory")]
+    Memory,
+}
+
+impl From<AllocError> for PlanErr {
+    ghost use Rattle.std.specs.Prelude.{◌≡◌};
+    ghost use Rattle.bq_board.specs.declared.refusal.PlanErr.TheVariants.{Memory};
+
+    ghost from_gives = { λ _ e. e ≡ Memory };
+
+    fn from(_: AllocError) -> PlanErr {
+        PlanErr::Memory
+    }
+}

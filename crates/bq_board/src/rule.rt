@@ -1,0 +1,26 @@
+//! The rule that every step on the board's table keeps.
+ghost use Rattle.bq_board.specs.Board.{RuleHolds, blank};
+
+use crate::parcel::Parcel;
+use crate::plan::Plan;
+use crate::view::View;
+use atomic_table::TableRule;
+use std::marker::PhantomData;
+use std::snapshot::Snapshot;
+
+/// What the rule reads and no step changes.
+#[derive(Drop)]
+pub struct Key<B> {
+    pub plan: Snapshot<Plan>,
+    pub base: Snapshot<B>,
+}
+
+pub struct Rule<V> {
+    of: PhantomData<V>,
+}
+
+impl<V: Parcel> TableRule<Option<V>, View<V::Base>, Key<V::Base>> for Rule<V> {
+    ghost holds = { λ key. RuleHolds V.belongs key.base.value key.plan.value };
+
+    ghost first = { λ key. blank key.base.value key.plan.value };
+}
