@@ -1,0 +1,6 @@
+pub mod Tables
+pub mod Targets
+pub mod Sources
+pub mod FaultLines
+pub mod Words
+pub mod LoadedPackages

@@ -1,0 +1,123 @@
+-- What was loaded of the packages.
+use Rattle.std.proofs.Common.{◌≡◌, ℕ, ◌+◌, ◌<◌, ◌≤◌, zero, suc, List, [], ◌∷◌, ◌++◌, length, take, drop, get_or, true, false, None, Result, Ok, Err, refl, sym, ap, ◌∙◌, subst, append_assoc}
+use Rattle.std.specs.Prelude.{slice_get}
+use Rattle.std.specs.Option.{is_some}
+use Rattle.std.proofs.lemmas.List.{take_all, drop_all, append-nil}
+use Rattle.bq_source.specs.declared.fault.Fault.{Fault}
+use Rattle.bq_source.specs.declared.fault.SourceErr.{SourceErr}
+use Rattle.bq_label.specs.declared.packages.BuildFile.{BuildFile}
+use Rattle.bq_label.specs.Label.{LabelParts, package_of, full_form}
+use Rattle.bq_source.specs.declared.fault.FaultKind.TheVariants as f
+use Rattle.bq_label.specs.Packages.{package_named}
+use Rattle.bq_parse.specs.declared.tree.TopLevel.{TopLevel}
+use Rattle.bq_fragment.specs.declared.calls.RuleCall.{RuleCall}
+use Rattle.bq_fragment.specs.declared.declaration.Declaration.{Declaration}
+use Rattle.bq_fragment.specs.declared.fault_lines.FaultLine.{FaultLine}
+use Rattle.bq_fragment.specs.declared.loading.Loaded.{Loaded}
+use Rattle.bq_fragment.specs.declared.package.Mention.{Mention}
+use Rattle.bq_fragment.specs.declared.package.Package.{Package}
+use Rattle.bq_fragment.specs.Calls.{resolved}
+use Rattle.bq_fragment.specs.Source.{statements_of}
+use Rattle.bq_fragment.specs.Package.{Targets}
+use Rattle.bq_fragment.specs.Loading.{outcome_of, target_in, target_of, dangling, all_dangling, fault_line, lines_by, lines_of, lines_from, LoadsTo, FoundBy, Stands, AllStand, build_text, kind_at, lines_with, lines_at, lines_of_all}
+use Rattle.bq_fragment.proofs.Targets.{one_left, one_more}
+
+pub loads : (packages : List BuildFile) (b : BuildFile) (statements : List TopLevel) (calls : List RuleCall) (r : Result Package SourceErr)
+    → statements_of b.file.content ≡ Ok statements → resolved statements ≡ Ok calls → Targets packages b calls r → LoadsTo packages b r
+unfolding outcome_of
+loads packages b statements calls (Ok p) e f t = (t.0, rw (e, f) t.1, t.2, t.3)
+loads packages b statements calls (Err x) e f t = λ why is. rw (e, f) (t why is)
+
+pub stand-end : (packages bs : List BuildFile) (xs : List Loaded) (b : BuildFile) (x : Loaded) → AllStand packages bs xs → Stands packages b x
+    → AllStand packages (bs ++ b ∷ []) (xs ++ x ∷ [])
+stand-end packages [] [] b x h s = (s, tt)
+stand-end packages (c ∷ bs) (y ∷ xs) b x h s = (h.0, stand-end packages bs xs b x h.1 s)
+stand-end packages [] (y ∷ xs) b x h s = absurd h
+stand-end packages (c ∷ bs) [] b x h s = absurd h
+
+pub stand-more : (packages : List BuildFile) (i : ℕ) (b : BuildFile) (xs ys : List Loaded) (x : Loaded) → i < length packages → b ≡ get_or packages i b
+    → AllStand packages (take i packages) xs → Stands packages b x → ys ≡ xs ++ x ∷ [] → AllStand packages (take (i + 1) packages) ys
+stand-more packages i b xs ys x h e all s f =
+    let P : List BuildFile → Type 0 = λ z. AllStand packages z ys in
+    let Q : List Loaded → Type 0 = λ z. AllStand packages (take i packages ++ b ∷ []) z in
+    subst P (sym (one_more packages i b h e)) (subst Q (sym f) (stand-end packages (take i packages) xs b x all s))
+
+pub stand-all : (packages : List BuildFile) (i : ℕ) (xs : List Loaded) → length packages ≤ i → AllStand packages (take i packages) xs → AllStand packages packages xs
+stand-all packages i xs h all = let P : List BuildFile → Type 0 = λ z. AllStand packages z xs in subst P (take_all i packages h) all
+
+-- what stands at a place has the kinds of the package there
+pub kinds_at : (packages bs : List BuildFile) (xs : List Loaded) (j : ℕ) (name : List ℕ) → AllStand packages bs xs
+    → kind_at (slice_get xs j) name ≡ target_in packages (slice_get bs j) name
+kinds_at packages [] [] j name h = refl
+kinds_at packages (b ∷ bs) (x ∷ xs) zero name h = h.0.kinds name
+kinds_at packages (b ∷ bs) (x ∷ xs) (suc j) name h = kinds_at packages bs xs j name h.1
+kinds_at packages [] (x ∷ xs) j name h = absurd h
+kinds_at packages (b ∷ bs) [] j name h = absurd h
+
+pub target_here : (packages : List BuildFile) (xs : List Loaded) (l : LabelParts) (at : ℕ) → AllStand packages packages xs
+    → slice_get packages at ≡ package_named packages (package_of l) → kind_at (slice_get xs at) l.name ≡ target_of packages l
+unfolding target_of
+target_here packages xs l at h e = kinds_at packages packages xs at l.name h ∙ ap (λ z. target_in packages z l.name) e
+
+pub target_nowhere : (packages : List BuildFile) (l : LabelParts) → package_named packages (package_of l) ≡ None → None ≡ target_of packages l
+unfolding target_of
+target_nowhere packages l e = ap (λ z. target_in packages z l.name) (sym e)
+
+-- ---- labels that name no target
+
+module _ (packages : List BuildFile) (label : List ℕ) (ms : List Mention) (i : ℕ) (m : Mention) (h : i < length ms) (e : m ≡ get_or ms i m)
+    (lines all : List FaultLine) (left : lines ++ all_dangling packages label (drop i ms) ≡ all) where
+  next_dangling : lines ++ (dangling packages label m ++ all_dangling packages label (drop (i + 1) ms)) ≡ all
+  unfolding all_dangling
+  next_dangling = ap (λ z. lines ++ all_dangling packages label z) (sym (one_left ms i m h e)) ∙ left
+
+  pub names_target : is_some (target_of packages m.label) ≡ true → lines ++ all_dangling packages label (drop (i + 1) ms) ≡ all
+  names_target t = rw t at next_dangling
+
+  pub names_none : (line : FaultLine) → is_some (target_of packages m.label) ≡ false → dangling packages label m ≡ line ∷ []
+      → (lines ++ line ∷ []) ++ all_dangling packages label (drop (i + 1) ms) ≡ all
+  names_none line t f = append_assoc lines (line ∷ []) (all_dangling packages label (drop (i + 1) ms))
+      ∙ ap (λ z. lines ++ (z ++ all_dangling packages label (drop (i + 1) ms))) (sym f) ∙ next_dangling
+
+pub no_more_dangling : (packages : List BuildFile) (label : List ℕ) (ms : List Mention) (i : ℕ) (lines all : List FaultLine) → length ms ≤ i
+    → lines ++ all_dangling packages label (drop i ms) ≡ all → lines ≡ all
+unfolding all_dangling
+no_more_dangling packages label ms i lines all h left =
+    sym (append-nil lines) ∙ ap (λ z. lines ++ all_dangling packages label z) (sym (drop_all i ms h)) ∙ left
+
+-- ---- the lines of all
+
+pub lines-on : (packages : List BuildFile) (xs : List Loaded) (i : ℕ) (x : Loaded) (lines : List FaultLine) → i < length xs → x ≡ get_or xs i x
+    → lines_of_all packages xs ≡ lines ++ lines_of_all packages (drop i xs) → lines_of_all packages xs ≡ (lines ++ lines_at packages x) ++ lines_of_all packages (drop (i + 1) xs)
+unfolding lines_of_all
+lines-on packages xs i x lines h e left = left ∙ ap (λ z. lines ++ lines_of_all packages z) (one_left xs i x h e)
+    ∙ sym (append_assoc lines (lines_at packages x) (lines_of_all packages (drop (i + 1) xs)))
+
+lines-done : (packages : List BuildFile) (xs : List Loaded) (i : ℕ) (lines : List FaultLine) → length xs ≤ i
+    → lines_of_all packages xs ≡ lines ++ lines_of_all packages (drop i xs) → lines ≡ lines_of_all packages xs
+unfolding lines_of_all
+lines-done packages xs i lines h left = sym (left ∙ ap (λ z. lines ++ lines_of_all packages z) (drop_all i xs h) ∙ append-nil lines)
+
+found_lines : (packages : List BuildFile) (b : BuildFile) (x : Loaded) (o : Result (List Declaration) Fault) → x.label ≡ build_text b → FoundBy b o x
+    → lines_at packages x ≡ lines_by packages b o
+found_lines packages b x (Err why) e found = ap (lines_with packages x) found.0 ∙ ap (λ z. fault_line z why ∷ []) e
+found_lines packages b x (Ok ds) e found = ap (lines_with packages x) found.0
+    ∙ ap (λ z. all_dangling packages z x.foreign) e ∙ ap (all_dangling packages (build_text b)) found.1
+
+stand-lines : (packages bs : List BuildFile) (xs : List Loaded) → AllStand packages bs xs → lines_of_all packages xs ≡ lines_from packages bs
+unfolding lines_of_all lines_from lines_of
+stand-lines packages [] [] h = refl
+stand-lines packages (b ∷ bs) (x ∷ xs) h =
+    let a = found_lines packages b x (outcome_of packages b) h.0.label h.0.found in
+    let c = stand-lines packages bs xs h.1 in
+    ap (λ z. z ++ lines_of_all packages xs) a ∙ ap (λ z. lines_by packages b (outcome_of packages b) ++ z) c
+stand-lines packages [] (x ∷ xs) h = absurd h
+stand-lines packages (b ∷ bs) [] h = absurd h
+
+pub all-lines : (packages : List BuildFile) (xs : List Loaded) (i : ℕ) (lines : List FaultLine) → length xs ≤ i → AllStand packages packages xs
+    → lines_of_all packages xs ≡ lines ++ lines_of_all packages (drop i xs) → lines ≡ lines_from packages packages
+all-lines packages xs i lines h all left = lines-done packages xs i lines h left ∙ stand-lines packages packages xs all
+
+pub dangles : (packages : List BuildFile) (label : List ℕ) (m : Mention) (share detail : List ℕ) → is_some (target_of packages m.label) ≡ false
+    → share ≡ label → detail ≡ full_form m.label → dangling packages label m ≡ record { label = share; line = m.line; kind = f.DanglingLabel; detail = detail } ∷ []
+dangles packages label m share detail t e g = rw (t, e, g) refl

@@ -1,0 +1,37 @@
+-- What the lexer and the parser answer, by the functions that read.
+use Rattle.std.proofs.Common.{◌≡◌, ℕ, List, Result, Ok, Err, Vec}
+use Rattle.std.specs.Prelude.{IfOk}
+use Rattle.std.specs.Global.{Global}
+use Rattle.bq_source.specs.declared.token.Token.{Token}
+use Rattle.bq_source.specs.declared.fault.Fault.{Fault}
+use Rattle.bq_source.specs.declared.fault.SourceErr.{SourceErr}
+use Rattle.bq_source.specs.Reading.{Lexes}
+use Rattle.bq_source.specs.Lexing as lexing
+use Rattle.bq_source.specs.Tokens.{tokens_of}
+use Rattle.bq_source.proofs.Reached.{every_text}
+use Rattle.bq_parse.specs.declared.tree.File.{File}
+use Rattle.bq_parse.specs.declared.tree.TopLevel.{TopLevel}
+use Rattle.bq_parse.specs.Statements.{statements_of as parsed}
+use Rattle.bq_parse.specs.Verdict as verdict
+use Rattle.bq_parse.specs.Verdict.{Parses}
+use Rattle.bq_parse.proofs.Files.{has_its_reading}
+use Rattle.bq_fragment.specs.Steps.{FindsAll}
+use Rattle.bq_fragment.specs.Source.{FindsFile}
+
+tokens_found : (r : Result (Vec Token Global) SourceErr) (q : Result (List Token) Fault) → lexing.Returned r q → FindsAll q r
+tokens_found (Ok v) q h = h
+tokens_found (Err e) q h = h
+
+pub lexed : (text : List ℕ) (r : Result (Vec Token Global) SourceErr) → ((q : Result (List Token) Fault) → Lexes text q → lexing.Returned r q) → FindsAll (tokens_of text) r
+lexed text r only = tokens_found r (tokens_of text) (only (tokens_of text) (every_text text))
+
+pub lexes : (text : List ℕ) (r : Result (Vec Token Global) SourceErr) → lexing.Answers text r → IfOk r (λ v. Lexes text (Ok v.items))
+lexes text (Ok v) h = h
+lexes text (Err e) h = tt
+
+file_found : (r : Result File SourceErr) (q : Result (List TopLevel) Fault) → verdict.Returned r q → FindsFile q r
+file_found (Ok file) q h = h
+file_found (Err e) q h = h
+
+pub parsed_by : (text : List ℕ) (ts : List Token) (r : Result File SourceErr) → ((q : Result (List TopLevel) Fault) → Parses text ts q → verdict.Returned r q) → FindsFile (parsed text ts) r
+parsed_by text ts r only = file_found r (parsed text ts) (only (parsed text ts) (has_its_reading text ts))

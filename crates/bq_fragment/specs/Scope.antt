@@ -1,0 +1,24 @@
+-- The package that a BUILD file declares targets in, among the others.
+use Rattle.std.specs.Prelude.{List, Bool, false, not, ◌&&◌, Option, None, Some, bytes_eq, if◌then◌else◌}
+use Rattle.bq_label.specs.declared.packages.BuildFile.{BuildFile}
+use Rattle.bq_label.specs.Label.{PackageParts, LabelParts}
+use Rattle.bq_label.specs.Packages.{path_of, owner_of}
+
+abbrev pub is_package : PackageParts → PackageParts → Bool
+is_package p q = bytes_eq p.repo q.repo && bytes_eq p.package q.package
+
+-- the label is of this package
+unfoldable pub is_own : PackageParts → LabelParts → Bool
+is_own own l = bytes_eq l.repo own.repo && bytes_eq l.package own.package
+
+abbrev pub is_owned_by_other : LabelParts → Option BuildFile → Bool
+is_owned_by_other l None = false
+is_owned_by_other l (Some b) = not (is_own b.id l)
+
+-- another package owns the path that the label names (Bazel, "Labels": a label "must not cross a package boundary")
+unfoldable pub crosses : List BuildFile → LabelParts → Bool
+crosses packages l = is_owned_by_other l (owner_of packages (path_of l))
+
+-- the label is of this package, and crosses into another
+unfoldable pub strays : PackageParts → List BuildFile → LabelParts → Bool
+strays own packages l = if is_own own l then crosses packages l else false

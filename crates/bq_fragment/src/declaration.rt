@@ -1,0 +1,167 @@
+//! What a call of a rule declares.
+
+ghost use Rattle.std.specs.Prelude.{◌≡◌, [], IfOk, bytes_eq};
+ghost use Rattle.std.specs.List.{list_any};
+ghost use Rattle.bq_fragment.specs.Names.{names_of};
+ghost use Rattle.bq_fragment.specs.Steps.{Gives, Makes};
+ghost use Rattle.bq_fragment.specs.Declarations.{begun, with_texts, with_argument, with_arguments, gives_all, declaration};
+
+use crate::attribute::{labels_of, names_of, output_names, value_texts};
+use crate::names::repeats;
+use crate::refusal::CallErr;
+use crate::rule::{AttributeType, Rule};
+use crate::scope::Scope;
+use bq_label::Label;
+use bq_parse::{Keyword, KeywordCall};
+use bq_source::{Bytes, FaultKind};
+use sqlite_items::Items;
+use std::alloc::Global;
+
+/// A target that a call of a rule declares, with its outputs.
+#[derive(Drop)]
+pub struct Declaration {
+    /// The line of the call's statement, from 1.
+    pub line: u32,
+    pub rule: Rule,
+    /// The target's name, once it is read.
+    pub names: Items<Bytes>,
+    pub outputs: Items<Bytes>,
+    /// The labels of the attributes that make edges, in the order in which they are written.
+    pub labels: Items<Label>,
+}
+
+impl Declaration {
+    fn begun(alloc: Global, line: u32, rule: Rule) -> Declaration
+        ensures { result ≡ begun line rule }
+    {
+        Declaration {
+            line,
+            rule,
+            names: Items::new(alloc),
+            outputs: Items::new(alloc),
+            labels: Items::new(alloc),
+        }
+    }
+
+    /// Takes the texts of an attribute of this type.
+    #[tactic(auto, unfolding(crate::specs::Declarations::with_texts))]
+    fn take_texts(
+        &mut self,
+        alloc: Global,
+        scope: Scope<'_>,
+        kind: AttributeType,
+        texts: &[Bytes],
+    ) -> Result<(), CallErr>
+        ensures { Makes (with_texts scope.entry.own.now scope.entry.packages.now kind texts.now self.old) result self.new }
+    {
+        match kind {
+            AttributeType::Name => {
+                let names = names_of(alloc, scope, texts)?;
+                self.names.append(names)?;
+                Ok(())
+            }
+            AttributeType::OutputList => {
+                let outputs = output_names(alloc, texts)?;
+                let outputs = names_of(alloc, scope, outputs.as_slice())?;
+                self.outputs.append(outputs)?;
+                Ok(())
+            }
+            AttributeType::Label => {
+                let labels = labels_of(alloc, scope, texts)?;
+                self.labels.append(labels)?;
+                Ok(())
+            }
+            AttributeType::LabelList => {
+                let labels = labels_of(alloc, scope, texts)?;
+                self.labels.append(labels)?;
+                Ok(())
+            }
+            AttributeType::String => Ok(()),
+            AttributeType::Bool => Ok(()),
+            AttributeType::StringList => Ok(()),
+        }
+    }
+
+    /// Takes an argument: F71, F73, or the faults of its value.
+    #[tactic(auto, unfolding(crate::specs::Declarations::with_argument))]
+    fn take_argument(
+        &mut self,
+        alloc: Global,
+        scope: Scope<'_>,
+        argument: &Keyword,
+    ) -> Result<(), CallErr>
+        ensures { Makes (with_argument scope.entry.own.now scope.entry.packages.now self.old argument.now) result self.new }
+    {
+        let Some(kind) = self.rule.attribute(argument.name.as_slice()) else {
+            return Err(CallErr::Bad(FaultKind::NoAttribute));
+        };
+        let Some(texts) = value_texts(kind, &argument.value) else {
+            return Err(CallErr::Bad(FaultKind::AttributeType));
+        };
+        self.take_texts(alloc, scope, kind, texts)
+    }
+
+    /// Takes the arguments in the order in which they are written.
+    #[tactic(auto, unfolding(crate::specs::Declarations::with_arguments))]
+    fn take_arguments(
+        &mut self,
+        alloc: Global,
+        scope: Scope<'_>,
+        arguments: &[Keyword],
+    ) -> Result<(), CallErr>
+        ensures { Makes (with_arguments scope.entry.own.now scope.entry.packages.now self.old arguments.now) result self.new }
+    {
+        for argument in arguments {
+            self.take_argument(alloc, scope, argument)?;
+        }
+        Ok(())
+    }
+}
+
+/// Whether an argument has this name.
+fn gives(arguments: &[Keyword], name: &[u8]) -> bool
+    ensures { result ≡ list_any (bytes_eq name.now) (names_of arguments.now) }
+{
+    for argument in arguments {
+        if name == argument.name.as_slice() {
+            return true;
+        }
+    }
+    false
+}
+
+/// Whether the arguments give the name, and what else is mandatory.
+#[tactic(auto, unfolding(crate::specs::Declarations::gives_all))]
+fn gives_all(rule: Rule, arguments: &[Keyword]) -> bool
+    ensures { result ≡ gives_all rule (names_of arguments.now) }
+{
+    if !gives(arguments, b"name") {
+        return false;
+    }
+    match rule.mandatory() {
+        None => true,
+        Some(name) => gives(arguments, name.as_bytes()),
+    }
+}
+
+/// What a call of the rule declares, by its arguments alone: F52, the faults of the arguments, or F72.
+#[tactic(auto, unfolding(crate::specs::Declarations::declaration))]
+pub fn declare(
+    alloc: Global,
+    scope: Scope<'_>,
+    rule: Rule,
+    call: &KeywordCall,
+) -> Result<Declaration, CallErr>
+    ensures { Gives (declaration scope.entry.own.now scope.entry.packages.now rule call.now) result }
+{
+    let arguments = call.arguments.as_slice();
+    if repeats(alloc, arguments)? {
+        return Err(CallErr::Bad(FaultKind::Args));
+    }
+    let mut declaration = Declaration::begun(alloc, call.line, rule);
+    declaration.take_arguments(alloc, scope, arguments)?;
+    if !gives_all(rule, arguments) {
+        return Err(CallErr::Bad(FaultKind::MissingAttribute));
+    }
+    Ok(declaration)
+}

@@ -1,0 +1,138 @@
+//! A run over a workspace: from its files and the query to the texts and the ending.
+
+ghost use Rattle.std.specs.Prelude.{◌≡◌, IfOk};
+ghost use Rattle.bq_fragment.specs.Fragment.{refused, unanswered, answering, answer_at, told_of, told_over, tell_of};
+ghost use Rattle.bq_fragment.specs.Loading.{AllStand};
+ghost use Rattle.bq_fragment.specs.Told.{telling};
+
+use crate::answer::answer_text;
+use crate::line_text::fault_text;
+use crate::loading::{Loaded, fault_lines, load_all, target};
+use crate::query::read_query;
+use crate::query_error::QueryErr;
+use crate::told::{Output, Refusal, Status, Told};
+use bq_label::{Label, Packages, Workspace, print_label};
+use bq_source::Bytes;
+use std::alloc::{AllocError, Global};
+
+const SCHEMA: &[u8] = b"rules.schema";
+
+/// The most modules that a workspace may have.
+const MODULE_LIMIT: usize = 4096;
+
+/// The answer's text, and how the run ends.
+#[derive(Drop)]
+pub struct Reply {
+    pub text: Vec<u8>,
+    pub end: Result<Status, Refusal>,
+}
+
+fn refused(alloc: Global, why: Refusal) -> Told
+    ensures { telling result ≡ refused why }
+{
+    Told {
+        faults: Vec::new(alloc),
+        answer: Vec::new(alloc),
+        end: Err(why),
+    }
+}
+
+fn unanswered(alloc: Global, why: QueryErr) -> Reply
+    ensures { answering result ≡ unanswered why }
+{
+    Reply {
+        text: Vec::new(alloc),
+        end: Err(Refusal::Query(why)),
+    }
+}
+
+/// The answer over packages that are loaded.
+#[tactic(auto, unfolding(crate::specs::Fragment::answer_at))]
+fn answer(
+    alloc: Global,
+    packages: &Packages,
+    loaded: &[Loaded],
+    label: &Label,
+    output: Output,
+    status: Status,
+) -> Result<Reply, AllocError>
+    requires { AllStand packages.now packages.now loaded.now }
+    ensures { IfOk result (λ a. answering a ≡ answer_at packages.now label.now output status) }
+{
+    if packages.named(label.package_id()).is_none() {
+        let text = Bytes::from_vec(alloc, print_label(alloc, label)?)?;
+        return Ok(unanswered(alloc, QueryErr::NoSuchPackage(text)));
+    }
+    match target(packages, loaded, label) {
+        Some(kind) => Ok(Reply {
+            text: answer_text(alloc, output, kind, label)?,
+            end: Ok(status),
+        }),
+        None => {
+            let text = Bytes::from_vec(alloc, print_label(alloc, label)?)?;
+            Ok(unanswered(alloc, QueryErr::NoSuchTarget(text)))
+        }
+    }
+}
+
+/// Loads the packages, and answers.
+#[tactic(auto, unfolding(crate::specs::Fragment::told_of))]
+fn tell_packages(
+    alloc: Global,
+    packages: &Packages,
+    label: &Label,
+    output: Output,
+) -> Result<Told, AllocError>
+    ensures { IfOk result (λ t. telling t ≡ told_of packages.now label.now output) }
+{
+    let loaded = load_all(alloc, packages)?;
+    let lines = fault_lines(alloc, packages, &loaded)?;
+    let status = if lines.is_empty() {
+        Status::Answered
+    } else {
+        Status::WithFaults
+    };
+    let Reply { text, end } = answer(alloc, packages, &loaded, label, output, status)?;
+    Ok(Told {
+        faults: fault_text(alloc, lines)?,
+        answer: text,
+        end,
+    })
+}
+
+/// What is told of a lawful query.
+#[tactic(auto, unfolding(crate::specs::Fragment::told_over))]
+fn tell_label(
+    alloc: Global,
+    workspace: &Workspace,
+    label: &Label,
+    output: Output,
+) -> Result<Told, AllocError>
+    ensures { IfOk result (λ t. telling t ≡ told_over workspace.now label.now output) }
+{
+    if workspace.file(SCHEMA).is_some() {
+        return Ok(refused(alloc, Refusal::Schema(1)));
+    }
+    let packages = Packages::of(alloc, workspace)?;
+    if packages.all().len() > MODULE_LIMIT {
+        return Ok(refused(alloc, Refusal::TooManyModules));
+    }
+    tell_packages(alloc, &packages, label, output)
+}
+
+/// The texts of a run over this workspace with this query, and how it ends. Only want of memory is an error; Q3, Q5, Q6, Q8, E6
+/// and E7 stand in the ending.
+#[tactic(auto, unfolding(crate::specs::Fragment::tell_of))]
+pub fn tell(
+    alloc: Global,
+    workspace: &Workspace,
+    query: &[u8],
+    output: Output,
+) -> Result<Told, AllocError>
+    ensures { IfOk result (λ t. telling t ≡ tell_of workspace.now query.now output) }
+{
+    match read_query(alloc, query)? {
+        Ok(label) => tell_label(alloc, workspace, &label, output),
+        Err(why) => Ok(refused(alloc, Refusal::Query(why))),
+    }
+}

@@ -1,0 +1,168 @@
+//! The packages of a workspace, each loaded once.
+
+ghost use Rattle.std.specs.Prelude.{◌≡◌, ◌++◌, IfOk, OnOk, slice_get};
+ghost use Rattle.bq_fragment.specs.Loading.{LoadsTo, Stands, AllStand, kind_at, target_of, all_dangling, lines_at, all_lines, build_text};
+
+use crate::calls::resolve;
+use crate::fault_lines::FaultLine;
+use crate::names::{Names, TargetKind};
+use crate::package::{Mention, Package, targets};
+use crate::scope::Scope;
+use crate::source::statements;
+use bq_label::{BuildFile, Label, Packages, print_label};
+use bq_source::{Bytes, Fault, FaultKind, SourceErr};
+use sqlite_items::Items;
+use std::alloc::{AllocError, Global};
+
+/// What was loaded of a package. After a fault it has no targets.
+#[derive(Drop)]
+pub struct Loaded {
+    /// The full form of the BUILD file's label.
+    pub label: Bytes,
+    pub names: Names,
+    pub foreign: Items<Mention>,
+    pub fault: Option<Fault>,
+}
+
+/// What the package's BUILD file declares, or its fault.
+#[tactic(auto, unfolding(crate::specs::Loading::outcome_of))]
+fn load_package(alloc: Global, packages: &Packages, build: &BuildFile) -> Result<Package, SourceErr>
+    ensures { LoadsTo packages.now build.now result }
+{
+    let scope = Scope {
+        own: &build.id,
+        packages,
+    };
+    let file = statements(alloc, build.file.content.as_slice())?;
+    let calls = resolve(alloc, file.statements.as_slice())?;
+    targets(alloc, scope, build, &calls)
+}
+
+/// The full form of the BUILD file's own label.
+fn build_text(alloc: Global, build: &BuildFile) -> Result<Bytes, AllocError>
+    ensures { IfOk result (λ text. text ≡ build_text build.now) }
+{
+    match build.label(alloc)? {
+        Some(label) => Bytes::from_vec(alloc, print_label(alloc, &label)?),
+        None => Ok(Bytes::empty()),
+    }
+}
+
+fn load(alloc: Global, packages: &Packages, build: &BuildFile) -> Result<Loaded, AllocError>
+    ensures { IfOk result (Stands packages.now build.now) }
+{
+    let label = build_text(alloc, build)?;
+    match load_package(alloc, packages, build) {
+        Ok(Package { names, foreign }) => Ok(Loaded {
+            label,
+            names,
+            foreign,
+            fault: None,
+        }),
+        Err(SourceErr::Memory) => Err(AllocError),
+        Err(SourceErr::Bad(fault)) => Ok(Loaded {
+            label,
+            names: Names::new(alloc),
+            foreign: Items::new(alloc),
+            fault: Some(fault),
+        }),
+    }
+}
+
+/// Loads each package, in their order.
+pub fn load_all(alloc: Global, packages: &Packages) -> Result<Vec<Loaded>, AllocError>
+    ensures { IfOk result (λ loaded. AllStand packages.now packages.now loaded.items) }
+{
+    let mut loaded = Vec::new(alloc);
+    for build in packages.all() {
+        loaded.push(load(alloc, packages, build)?)?;
+    }
+    Ok(loaded)
+}
+
+fn kind_at(loaded: &[Loaded], at: usize, name: &Bytes) -> Option<TargetKind>
+    ensures { result ≡ kind_at (slice_get loaded.now at) name.now }
+{
+    match loaded.get(at) {
+        Some(entry) => entry.names.kind(name),
+        None => None,
+    }
+}
+
+/// The kind of the target that a label names, where there is one. It is found in time logarithmic in the number of packages
+/// and of the package's targets.
+pub fn target(packages: &Packages, loaded: &[Loaded], label: &Label) -> Option<TargetKind>
+    requires { AllStand packages.now packages.now loaded.now }
+    ensures { result ≡ target_of packages.now label.now }
+{
+    match packages.place(label.package_id()) {
+        Some(at) => kind_at(loaded, at, label.name()),
+        None => None,
+    }
+}
+
+/// Adds the lines of the labels of other packages that name no target.
+fn add_dangling(
+    alloc: Global,
+    packages: &Packages,
+    loaded: &[Loaded],
+    entry: &Loaded,
+    lines: &mut Vec<FaultLine>,
+) -> Result<(), AllocError>
+    requires { AllStand packages.now packages.now loaded.now }
+    ensures { OnOk result (lines.new.items ≡ lines.old.items ++ all_dangling packages.now entry.now.label entry.now.foreign) }
+{
+    for mention in entry.foreign.as_slice() {
+        if target(packages, loaded, &mention.label).is_some() {
+            continue;
+        }
+        lines.push(FaultLine {
+            label: entry.label.share()?,
+            line: mention.line,
+            kind: FaultKind::DanglingLabel,
+            detail: Bytes::from_vec(alloc, print_label(alloc, &mention.label)?)?,
+        })?;
+    }
+    Ok(())
+}
+
+/// Adds the fault lines of a package.
+fn add_lines(
+    alloc: Global,
+    packages: &Packages,
+    loaded: &[Loaded],
+    entry: &Loaded,
+    lines: &mut Vec<FaultLine>,
+) -> Result<(), AllocError>
+    requires { AllStand packages.now packages.now loaded.now }
+    ensures { OnOk result (lines.new.items ≡ lines.old.items ++ lines_at packages.now entry.now) }
+{
+    match &entry.fault {
+        Some(fault) => {
+            lines.push(FaultLine {
+                label: entry.label.share()?,
+                line: fault.line,
+                kind: fault.kind,
+                detail: fault.detail.share()?,
+            })?;
+            Ok(())
+        }
+        None => add_dangling(alloc, packages, loaded, entry, lines),
+    }
+}
+
+/// The fault lines of all packages.
+pub fn fault_lines(
+    alloc: Global,
+    packages: &Packages,
+    loaded: &[Loaded],
+) -> Result<Vec<FaultLine>, AllocError>
+    requires { AllStand packages.now packages.now loaded.now }
+    ensures { IfOk result (λ lines. lines.items ≡ all_lines packages.now) }
+{
+    let mut lines = Vec::new(alloc);
+    for entry in loaded {
+        add_lines(alloc, packages, loaded, entry, &mut lines)?;
+    }
+    Ok(lines)
+}

@@ -1,0 +1,162 @@
+//! The targets of a package, and the labels of other packages that they name.
+
+ghost use Rattle.std.specs.Prelude.{◌≡◌, ◌++◌, [], ◌∷◌, true, map, IfOk, OnOk};
+ghost use Rattle.bq_fragment.specs.Names.{Knows};
+ghost use Rattle.bq_fragment.specs.Steps.{Finds, FindsAll};
+ghost use Rattle.bq_fragment.specs.Package.{AddsAll, entries, entries_of, are_new, declared_by, declarations, DeclaresNext, mentions_of, mentions_in, Sorts, Targets};
+
+use crate::calls::RuleCall;
+use crate::declaration::{Declaration, declare};
+use crate::names::{Names, TargetKind};
+use crate::refusal::CallErr;
+use crate::scope::Scope;
+use bq_label::{BuildFile, Label};
+use bq_source::{Bytes, Fault, FaultKind, SourceErr};
+use sqlite_items::Items;
+use std::alloc::{AllocError, Global};
+
+/// A label that a target names, with the line of the call that declares the target.
+#[derive(Drop)]
+pub struct Mention {
+    pub line: u32,
+    pub label: Label,
+}
+
+/// The targets of a package, and the labels of other packages that they name.
+#[derive(Drop)]
+pub struct Package {
+    pub names: Names,
+    pub foreign: Items<Mention>,
+}
+
+/// Adds names of one kind, up to the first that is there. Says whether all were new.
+fn add_all(names: &mut Names, added: &[Bytes], kind: TargetKind) -> Result<bool, AllocError>
+    ensures { IfOk result (λ new. AddsAll names.old names.new (map (λ n. (n, kind)) added.now) new) }
+{
+    for name in added {
+        let new = names.add(name.share()?, kind)?;
+        if !new {
+            return Ok(false);
+        }
+    }
+    Ok(true)
+}
+
+/// Adds the names that a declaration makes. Says whether all were new.
+fn add_declaration(names: &mut Names, declaration: &Declaration) -> Result<bool, AllocError>
+    ensures { IfOk result (λ new. AddsAll names.old names.new (entries declaration.now) new) }
+{
+    if !add_all(
+        names,
+        declaration.names.as_slice(),
+        TargetKind::RuleOf(declaration.rule),
+    )? {
+        return Ok(false);
+    }
+    add_all(names, declaration.outputs.as_slice(), TargetKind::Generated)
+}
+
+/// What the next call declares; F74 where one of its names is there.
+fn declare_next(
+    alloc: Global,
+    scope: Scope<'_>,
+    names: &mut Names,
+    call: &RuleCall,
+) -> Result<Declaration, SourceErr>
+    ensures { DeclaresNext scope.entry.own.now scope.entry.packages.now call.now names.old names.new result }
+{
+    let line = call.call.line;
+    let declaration = match declare(alloc, scope, call.rule, &call.call) {
+        Ok(declaration) => declaration,
+        Err(CallErr::Memory) => return Err(SourceErr::Memory),
+        Err(CallErr::Bad(kind)) => return Err(SourceErr::Bad(Fault::at(kind, line))),
+    };
+    if !add_declaration(names, &declaration)? {
+        return Err(SourceErr::Bad(Fault::at(FaultKind::DoubleTarget, line)));
+    }
+    Ok(declaration)
+}
+
+/// What the calls declare, in their order, or the first fault.
+fn declarations(
+    alloc: Global,
+    scope: Scope<'_>,
+    names: &mut Names,
+    calls: &[RuleCall],
+) -> Result<Vec<Declaration>, SourceErr>
+    requires { Knows names.old [] }
+    ensures found { FindsAll (declarations scope.entry.own.now scope.entry.packages.now [] calls.now) result }
+    ensures known { IfOk result (λ ds. Knows names.new (entries_of ds.items)) }
+{
+    let mut done = Vec::new(alloc);
+    for call in calls {
+        done.push(declare_next(alloc, scope, names, call)?)?;
+    }
+    Ok(done)
+}
+
+/// The labels that the declarations name, in the order in which they are written.
+fn mentions(alloc: Global, declarations: &[Declaration]) -> Result<Vec<Mention>, AllocError>
+    ensures { IfOk result (λ ms. ms.items ≡ mentions_of declarations.now) }
+{
+    let mut found = Vec::new(alloc);
+    for declaration in declarations {
+        add_mentions(&mut found, declaration)?;
+    }
+    Ok(found)
+}
+
+fn add_mentions(found: &mut Vec<Mention>, declaration: &Declaration) -> Result<(), AllocError>
+    ensures { OnOk result (found.new.items ≡ found.old.items ++ mentions_in declaration.now) }
+{
+    for label in declaration.labels.as_slice() {
+        found.push(Mention {
+            line: declaration.line,
+            label: label.share()?,
+        })?;
+    }
+    Ok(())
+}
+
+/// Adds what the mentions of this package name as source files, and keeps the others.
+fn settle(
+    alloc: Global,
+    scope: Scope<'_>,
+    names: &mut Names,
+    mentions: &[Mention],
+) -> Result<Items<Mention>, AllocError>
+    ensures { IfOk result (λ foreign. Sorts scope.entry.own.now mentions.now names.old names.new foreign) }
+{
+    let mut foreign = Items::new(alloc);
+    for mention in mentions {
+        if scope.is_own(&mention.label) {
+            let _new = names.add(mention.label.name().share()?, TargetKind::Source)?;
+            continue;
+        }
+        foreign.push(Mention {
+            line: mention.line,
+            label: mention.label.share()?,
+        })?;
+    }
+    Ok(foreign)
+}
+
+/// The targets of the package, and the mentions of other packages.
+#[tactic(auto, unfolding(crate::specs::Package::targets_of))]
+pub fn targets(
+    alloc: Global,
+    scope: Scope<'_>,
+    build: &BuildFile,
+    calls: &[RuleCall],
+) -> Result<Package, SourceErr>
+    requires { build.now.id ≡ scope.own.now }
+    ensures { Targets scope.entry.packages.now build.now calls.now result }
+{
+    let mut names = Names::new(alloc);
+    let declarations = declarations(alloc, scope, &mut names, calls)?;
+    let file = Bytes::from_slice(alloc, build.name())?;
+    let _new = names.add(file, TargetKind::Source)?;
+    let mentions = mentions(alloc, &declarations)?;
+    let foreign = settle(alloc, scope, &mut names, &mentions)?;
+    Ok(Package { names, foreign })
+}
