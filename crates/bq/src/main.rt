@@ -1,0 +1,79 @@
+//! The program `bq`: words and a bundle on standard input come in; the answer goes to standard output, and the faults and
+//! the error line to standard error. All that it promises is `bq_run::run`'s.
+//!
+//! - `words`: the command line.
+#![tactic(auto)]
+
+mod words;
+
+ghost use Rattle.bq_run.specs.Run.{IsInRange};
+
+use bq_run::{
+    ANSWERED, DEVICE_FAILED, Metered, NO_MEMORY, Options, REFUSED, RunErr, run, status_of,
+    write_all,
+};
+use clap::Error;
+use clap::error::ErrorKind;
+use std::alloc::Global;
+use std::process::ExitCode;
+use std::{env, io};
+use words::options_of;
+
+/// The error line of want of memory, which is written without any.
+fn tell_no_memory(rt: &impl Eprint) -> u8 {
+    let _ = eprintln!(rt; "bq: {}", RunErr::Memory);
+    NO_MEMORY
+}
+
+/// Arguments that are no text, or that there is no memory for.
+fn refuse_arguments(rt: &impl Eprint, error: &io::Error) -> u8 {
+    if error.kind() == io::ErrorKind::OutOfMemory {
+        return tell_no_memory(rt);
+    }
+    let _ = eprintln!(rt; "error: an argument is no text in UTF-8");
+    REFUSED
+}
+
+/// Prints help on standard output, and why words are refused on standard error.
+fn show<R: Print + Eprint>(rt: &R, error: &Error) -> u8 {
+    if error.kind() == ErrorKind::OutOfMemory {
+        return tell_no_memory(rt);
+    }
+    let printed = error.print(rt);
+    match error.kind() {
+        ErrorKind::DisplayHelp if printed.is_err() => DEVICE_FAILED,
+        ErrorKind::DisplayHelp => ANSWERED,
+        _ => REFUSED,
+    }
+}
+
+/// Runs on the standard streams.
+fn answer(rt: &HostRuntime, alloc: Global, options: &Options) -> u8
+    requires { IsInRange options.now }
+{
+    let mut reader = Metered::new(rt.stdin());
+    let mut writer = Metered::new(rt.stdout());
+    let mut faults = Metered::new(rt.stderr());
+    let ended = run(rt, alloc, &mut reader, &mut writer, &mut faults, options);
+    let Ok((status, line)) = status_of(alloc, &ended) else {
+        return tell_no_memory(rt);
+    };
+    let mut errors = Metered::new(rt.stderr());
+    let _ = write_all(&mut errors, &line);
+    status
+}
+
+fn main(rt: HostRuntime) -> ExitCode {
+    let alloc = rt.alloc();
+    let arguments = match env::args(&rt) {
+        Ok(arguments) => arguments,
+        Err(error) => return ExitCode::from(refuse_arguments(&rt, &error)),
+    };
+    let Ok(words) = arguments.collect::<Vec<String>>(alloc) else {
+        return ExitCode::from(tell_no_memory(&rt));
+    };
+    match options_of(alloc, &words) {
+        Ok(options) => ExitCode::from(answer(&rt, alloc, &options)),
+        Err(error) => ExitCode::from(show(&rt, &error)),
+    }
+}

@@ -1,0 +1,88 @@
+//! The command line.
+
+ghost use Rattle.std.specs.Prelude.{IfOk};
+ghost use Rattle.bq_run.specs.Run.{IsInRange};
+
+use bq_run::{Options, Output};
+use clap::{Arg, ArgAction, Command, Error, value_parser};
+use std::alloc::{AllocError, Global};
+
+/// What `--help` says behind the options.
+const NOTES: &str = "\
+The workspace is read from standard input: for each file a line `=== PATH`, and then its bytes.
+The answer goes to standard output, one target a line. Faults go to standard error.
+
+Example:
+  printf '=== a/BUILD\\nfilegroup(name = \"x\", srcs = [\"s.txt\"])\\n' | bq //a:x
+
+Exit status:
+  0  the query is answered, and no file is faulty
+  2  the words, the bundle, the query or the schema is refused
+  3  the query is answered, and standard error has faults
+  4  there is not enough memory
+  5  reading the input or writing the output failed";
+
+const MOST_JOBS: u32 = 64;
+
+const USUAL_JOBS: u32 = 4;
+
+const MOST_STEPS: u64 = 1_000_000_000;
+
+const USUAL_STEPS: u64 = 1_000_000;
+
+/// The command, before it has seen any words.
+fn command<'a>(alloc: Global) -> Result<Command<'a>, AllocError> {
+    let jobs = Arg::new(alloc, "jobs")
+        .long("jobs")
+        .value_name("N")
+        .help("How many workers load modules, 1 to 64")
+        .value_parser(value_parser!(u32).range(1..=64))
+        .default_value("4");
+    let output = Arg::new(alloc, "output")
+        .long("output")
+        .value_name("FORM")
+        .help("What is printed of a target")
+        .value_parser(["label", "label_kind"].as_slice())
+        .default_value("label");
+    let max_steps = Arg::new(alloc, "max-steps")
+        .long("max-steps")
+        .value_name("N")
+        .help("How many steps a module may take, 1 to 1000000000")
+        .value_parser(value_parser!(u64).range(1..=1000000000))
+        .default_value("1000000");
+    let query = Arg::new(alloc, "query")
+        .value_name("QUERY")
+        .help("The query, as a label //package:name")
+        .required(true)
+        .action(ArgAction::Set);
+    Command::new(alloc, "bq")
+        .about("Answers a query over the targets of a workspace of BUILD files")
+        .after_help(NOTES)
+        .arg(jobs)?
+        .arg(output)?
+        .arg(max_steps)?
+        .arg(query)
+}
+
+/// What the words ask for. The error has clap's text, for standard error or, with `--help`, for standard output.
+pub fn options_of(alloc: Global, words: &[String]) -> Result<Options, Error>
+    ensures { IfOk result IsInRange }
+{
+    let matches = command(alloc)?.try_get_matches_from(words)?;
+    let jobs = matches.get_one::<u32>("jobs").unwrap_or(USUAL_JOBS);
+    let max_steps = matches.get_one::<u64>("max-steps").unwrap_or(USUAL_STEPS);
+    let output = match matches.get_str("output") {
+        Some("label_kind") => Output::LabelKind,
+        _ => Output::Label,
+    };
+    Ok(Options {
+        query: matches
+            .get_str("query")
+            .unwrap_or("")
+            .as_bytes()
+            .to_vec(alloc)?,
+        jobs: jobs.clamp(1, MOST_JOBS),
+        output,
+        max_steps: max_steps.clamp(1, MOST_STEPS),
+    })
+}

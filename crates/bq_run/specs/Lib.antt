@@ -1,0 +1,6 @@
+pub mod Device
+pub mod Error
+pub mod Bundle
+pub mod Written
+pub mod Run
+pub mod Status

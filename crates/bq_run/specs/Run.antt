@@ -1,0 +1,85 @@
+-- What a run writes for the bytes that it reads, and how it ends.
+use Rattle.std.specs.Prelude.{◌≡◌, ◌⊎◌, ◌≤◌, ℕ, List, [], Option, None, Some, Result, Ok, Err, if◌then◌else◌}
+use Rattle.std.specs.Io.KnownBytes.{Appends, Keeps}
+use Rattle.bq_label.specs.declared.workspace.File.{File}
+use Rattle.bq_fragment.specs.Fragment.{tell_of}
+use Rattle.bq_fragment.specs.Told.{Telling, is_unanswered}
+use Rattle.bq_fragment.specs.declared.query_error.QueryErr.TheVariants as query
+use Rattle.bq_fragment.specs.declared.told.Refusal.{Refusal}
+use Rattle.bq_fragment.specs.declared.told.Status.{Status}
+use Rattle.bq_run.specs.Bundle.{bundle_of}
+use Rattle.bq_run.specs.Device.{Begins}
+use Rattle.bq_run.specs.Error.{run_err}
+use Rattle.bq_run.specs.declared.error.RunErr.{RunErr}
+use Rattle.bq_run.specs.declared.error.RunErr.TheVariants as run
+use Rattle.bq_run.specs.declared.options.Options.{Options}
+
+-- what is written, and how the run ends
+pub record Run : Type 0 where
+  -- what the faults writer gets
+  pub faults : List ℕ
+  -- what the writer gets
+  pub answer : List ℕ
+  pub end : Result Status RunErr
+
+-- With a status both texts are written. Where the query names what isn't there, the faults are written and no answer. With
+-- every other error nothing is.
+abbrev pub run_by : List ℕ → List ℕ → Result Status Refusal → Run
+run_by faults answer (Ok status) = record { faults = faults; answer = answer; end = Ok status }
+run_by faults answer (Err why) = record { faults = if is_unanswered why then faults else []; answer = []; end = Err (run_err why) }
+
+abbrev pub run_told : Telling → Run
+run_told t = run_by t.faults t.answer t.end
+
+-- the run over a workspace
+abbrev pub run_files_of : Options → List File → Run
+run_files_of options files = run_told (tell_of files options.query.items options.output)
+
+abbrev pub run_from : Options → Option (List File) → Run
+run_from options None = record { faults = []; answer = []; end = Err run.Bundle }
+run_from options (Some files) = run_files_of options files
+
+-- the run over the bytes of a bundle
+unfoldable pub run_of : Options → List ℕ → Run
+run_of options input = run_from options (bundle_of input)
+
+-- want of memory and failing devices aside, the call ends as the definition does
+abbrev pub EndsAs : Result Status RunErr → Result Status RunErr → Type 0
+EndsAs (Err run.Memory) end = Unit {0}
+EndsAs (Err run.Read) end = Unit {0}
+EndsAs (Err run.Write) end = Unit {0}
+EndsAs result end = result ≡ end
+
+-- Both texts are written whole. With want of memory or a failed reader nothing is; with a failed writer a beginning of each, and
+-- of the answer only behind the whole of the faults.
+abbrev pub Writes : Result Status RunErr → List ℕ → List ℕ → (f f' a a' : Option (List ℕ)) → Type 0
+Writes (Err run.Memory) faults answer f f' a a' = Keeps f f' × Keeps a a'
+Writes (Err run.Read) faults answer f f' a a' = Keeps f f' × Keeps a a'
+Writes (Err run.Write) faults answer f f' a a' = Begins f f' faults × Begins a a' answer × (Keeps a a' ⊎ Appends f f' faults)
+Writes result faults answer f f' a a' = Appends f f' faults × Appends a a' answer
+
+-- The call did what the run is: what the faults writer held before and after it is f and f', the writer a and a'.
+pub record Does (what : Run) (result : Result Status RunErr) (f f' a a' : Option (List ℕ)) : Type 0 where
+  pub ends : EndsAs result what.end
+  pub writes : Writes result what.faults what.answer f f' a a'
+
+-- an error with which nothing is written
+abbrev pub IsSilent : Result Status RunErr → Type 0
+IsSilent (Ok status) = ⊥
+IsSilent (Err run.Memory) = Unit {0}
+IsSilent (Err run.Read) = Unit {0}
+IsSilent (Err run.Write) = ⊥
+IsSilent (Err run.Bundle) = Unit {0}
+IsSilent (Err (run.Query query.LeftOut)) = Unit {0}
+IsSilent (Err (run.Query (query.NoSuchTarget label))) = ⊥
+IsSilent (Err (run.Query (query.NoSuchPackage label))) = ⊥
+IsSilent (Err (run.Query query.Arguments)) = Unit {0}
+IsSilent (Err (run.Schema line)) = Unit {0}
+IsSilent (Err run.TooManyModules) = Unit {0}
+
+-- how many workers a run may have, and how many steps a module
+pub record IsInRange (o : Options) : Type 0 where
+  pub some_job : 1 ≤ o.jobs
+  pub jobs : o.jobs ≤ 64
+  pub some_step : 1 ≤ o.max_steps
+  pub steps : o.max_steps ≤ 1000000000
