@@ -155,7 +155,10 @@ fn shares_one_copy(rt: HostRuntime) -> Result<(), Fail> {
     // Few bytes lie in place and are copied always.
     let line = Bytes::from_slice(rt.alloc(), b"\n")?;
     assert_eq!(rt; format!(in rt.alloc(); "{line:?}")?.as_str(), "\\n");
-    assert_eq!(rt; line.share()?.into_vec(rt.alloc())?.as_slice(), b"\n");
+    assert_eq!(rt;
+        line.share()?.into_vec(rt.alloc())?.as_slice(),
+        b"\n".as_slice()
+    );
     Ok(())
 }
 
