@@ -7,9 +7,8 @@ use bq_source::Bytes;
 use std::alloc::AllocError;
 use std::marker::Model;
 
-/// A package: its repository and its path there. Contracts see both as bytes. Packages ascend by their repositories, and
-/// then by their paths.
-#[derive(Debug, PartialEq, Eq, PartialOrd, Ord, Drop)]
+/// A package: its repository and its path there. Contracts see both as bytes.
+#[derive(Debug, PartialEq, Eq, Drop)]
 pub struct PackageId {
     repo: Bytes,
     package: Bytes,

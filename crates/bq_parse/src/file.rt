@@ -10,7 +10,7 @@ use crate::pieces::piece_len;
 use crate::refusal::Refusal;
 use crate::statement::{line_of, top_level};
 use crate::tree::{File, FileKind, TopLevel};
-use bq_source::{Fault, FaultKind, SourceErr, Token, tokens_lie};
+use bq_source::{Fault, FaultKind, SourceErr, Token, tokens_lie_within};
 use sqlite_items::Items;
 use std::alloc::Global;
 
@@ -48,7 +48,7 @@ pub fn parse(
     // Each statement is a call with keyword arguments, which is all of the grammar so far.
     ensures calls { IfOk result (λ file. All (λ s. IsSome (keyword_call s)) file.statements) }
 {
-    tokens_lie(text, tokens);
+    tokens_lie_within(text, tokens);
     let mut statements = Items::new(alloc);
     let mut rest = tokens;
     'pieces: while !rest.is_empty() {

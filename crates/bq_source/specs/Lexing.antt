@@ -9,7 +9,7 @@ use Rattle.bq_source.specs.declared.place.Lexer.{Lexer}
 use Rattle.bq_source.specs.Reading.{State, Next, go, done, stop, Lexes}
 
 abbrev pub state : Lexer → State
-state l = record { at = l.at; line = l.line; rest = drop l.at l.text.now; fresh = l.fresh; open_brackets = reverse l.open.items; tokens = l.tokens.items }
+state l = record { at = l.at; line = l.line; rest = drop l.at l.text.now; fresh = l.fresh; open_brackets = reverse l.open_brackets.items; tokens = l.tokens.items }
 
 -- a function that takes a piece: it leads where the definition does, want of memory aside
 abbrev pub Leads : Next → Result (Unit {0}) SourceErr → State → Type 0

@@ -1,5 +1,6 @@
 pub mod Bytes
 pub mod Fault
+pub mod Shown
 pub mod Token
 pub mod Lexis
 pub mod Reading

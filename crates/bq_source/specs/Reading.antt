@@ -53,8 +53,8 @@ token_at kind n s = record { kind = kind; start = s.at; end = s.at + n; line = s
 abbrev pub take_token : TokenKind → ℕ → State → State
 take_token kind n s = record s { at = s.at + n; rest = drop n s.rest; tokens = s.tokens ++ token_at kind n s ∷ [] }
 
--- "Indentation": a line of spaces alone is blank and makes no token. Any other line is a logical line, which begins with
--- no space until there is indentation (ours).
+-- "White space": spaces at the start of a line mean something. A line of spaces alone is blank and makes no token; any other
+-- is a logical line, which begins with no space until there is indentation (ours).
 abbrev pub line_front : List ℕ → ℕ → State → Next
 line_front [] width s = go (pass width s)
 line_front (b ∷ bs) width s =

@@ -7,7 +7,6 @@ ghost use Rattle.std.specs.Cmp.{partial_equiv_from_equiv};
 
 use std::alloc::{AllocError, Global};
 use std::cmp::Ordering;
-use std::fmt;
 use std::marker::Model;
 use std::sync::Arc;
 
@@ -196,15 +195,5 @@ impl Ord for Bytes {
 
     fn cmp(&self, other: &Bytes) -> Ordering {
         self.as_slice().cmp(other.as_slice())
-    }
-}
-
-/// Printable ASCII stands for itself, any other byte as an escape.
-impl fmt::Debug for Bytes {
-    fn fmt<W: fmt::Write>(&self, f: &mut fmt::Formatter<W>) -> fmt::Result {
-        for byte in self.as_slice() {
-            write!(f, "{}", byte.escape_ascii())?;
-        }
-        Ok(())
     }
 }

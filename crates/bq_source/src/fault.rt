@@ -7,7 +7,6 @@ ghost use Rattle.bq_source.specs.declared.fault.SourceErr.TheVariants.{Memory};
 
 use crate::bytes::Bytes;
 use std::alloc::{AllocError, AllocFailed};
-use std::fmt;
 use thiserror::Error;
 
 /// What is wrong, as `F1 BadByte`.
@@ -174,23 +173,6 @@ impl Fault {
             line,
             detail: Bytes::empty(),
         }
-    }
-}
-
-/// As `line 3: F36 LoadFailed //:f.bzl`.
-impl fmt::Display for Fault {
-    fn fmt<W: fmt::Write>(&self, f: &mut fmt::Formatter<W>) -> fmt::Result {
-        write!(
-            f,
-            "line {}: F{} {}",
-            self.line,
-            self.kind.number(),
-            self.kind.name()
-        )?;
-        if !self.detail.is_empty() {
-            write!(f, " {:?}", self.detail)?;
-        }
-        Ok(())
     }
 }
 

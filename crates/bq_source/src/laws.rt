@@ -28,7 +28,7 @@ pub fn tokens_spell_the_text()
 
 /// The tokens of a text lie in it, and those of strings have both their quotes: slices of the text by their places are in
 /// bounds.
-pub fn tokens_lie(text: &[u8], tokens: &[Token])
+pub fn tokens_lie_within(text: &[u8], tokens: &[Token])
     requires { Lexes text.now (Ok tokens.now) }
     ensures { AllByRecursion (Lies text.now) tokens.now }
 {}

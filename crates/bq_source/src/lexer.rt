@@ -94,7 +94,7 @@ impl<'a> Lexer<'a> {
         ensures text { self.new.text ≡ self.old.text }
         ensures onward { OnOk result (self.old.at < self.new.at) }
     {
-        if self.open.is_empty() {
+        if self.open_brackets.is_empty() {
             self.take_token(TokenKind::Newline, 1)?;
             self.fresh = true;
             self.line += 1;
@@ -141,7 +141,7 @@ impl<'a> Lexer<'a> {
         ensures text { self.new.text ≡ self.old.text }
         ensures onward { OnOk result (self.old.at < self.new.at) }
     {
-        self.open.push(Open {
+        self.open_brackets.push(Open {
             closing,
             line: self.line,
         })?;
@@ -156,7 +156,7 @@ impl<'a> Lexer<'a> {
         ensures text { self.new.text ≡ self.old.text }
         ensures onward { OnOk result (self.old.at < self.new.at) }
     {
-        match self.open.pop() {
+        match self.open_brackets.pop() {
             Some(open) if open.closing.is(kind) => {
                 self.take_token(kind, 1)?;
                 Ok(())
@@ -226,7 +226,7 @@ impl<'a> Lexer<'a> {
         requires { drop self.at self.text.now ≡ [] }
         ensures { Ends (spec.step (state self.entry)) result }
     {
-        if let Some(innermost) = self.open.pop() {
+        if let Some(innermost) = self.open_brackets.pop() {
             return Err(SourceErr::Bad(Fault::at(FaultKind::Bracket, innermost.line)));
         }
         if !self.fresh {
@@ -270,7 +270,7 @@ pub fn lex(alloc: Global, text: &[u8]) -> Result<Vec<Token>, SourceErr>
         at: 0,
         line: 1,
         fresh: true,
-        open: Vec::new(alloc),
+        open_brackets: Vec::new(alloc),
         tokens: Vec::new(alloc),
     };
     while let [b, behind @ ..] = lexer.rest() {

@@ -7,6 +7,7 @@
 //!
 //! - `bytes`: the shared byte string of names, texts and details, here and in every crate above;
 //! - `fault`: the table of all faults that users see;
+//! - `shown`: how these two are shown to people;
 //! - `token`: what a token is;
 //! - `lexis`: how the single tokens are spelled;
 //! - `place`: how far a text is cut into tokens;
@@ -20,12 +21,13 @@ mod laws;
 mod lexer;
 mod lexis;
 mod place;
+mod shown;
 #[cfg(test)]
 mod tests;
 mod token;
 
 pub use bytes::Bytes;
 pub use fault::{Fault, FaultKind, SourceErr};
-pub use laws::{every_text_has_its_reading, one_reading, tokens_lie, tokens_spell_the_text};
+pub use laws::{every_text_has_its_reading, one_reading, tokens_lie_within, tokens_spell_the_text};
 pub use lexer::lex;
 pub use token::{Token, TokenKind};

@@ -1,6 +1,7 @@
 //! How far a text is cut into tokens.
 
 ghost use Rattle.std.specs.Prelude.{◌≤◌, ◌+◌, length};
+ghost use Rattle.bq_source.specs.Reading.{max_file_bytes};
 
 use crate::token::{Token, TokenKind};
 
@@ -27,9 +28,9 @@ pub struct Lexer<'a> {
     /// Nothing of a logical line has come since the last one ended.
     pub fresh: bool,
     /// The innermost one is the last.
-    pub open: Vec<Open>,
+    pub open_brackets: Vec<Open>,
     pub tokens: Vec<Token>,
     ghost within: { at ≤ length text.now },
-    ghost short: { length text.now ≤ 1048576 },
+    ghost short: { length text.now ≤ max_file_bytes },
     ghost lines: { line ≤ at + 1 },
 }

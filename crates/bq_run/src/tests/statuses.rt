@@ -11,7 +11,7 @@ fn names_each_ending(rt: HostRuntime) -> Result<(), Fail> {
     let alloc = rt.alloc();
     let label = Bytes::from_slice(alloc, b"//a:none")?;
     let pattern = Bytes::from_slice(alloc, b"@r//b:x")?;
-    let endings: [(Result<Status, RunErr>, u8, &[u8]); 11] = [
+    let endings: [(Result<Status, RunErr>, u8, &[u8]); 12] = [
         (Ok(Status::Answered), 0, b""),
         (Ok(Status::WithFaults), 3, b""),
         (Err(RunErr::Memory), 4, b"bq: E1 Memory\n"),
