@@ -1,4 +1,5 @@
 pub mod Moves
+pub mod Faulted
 pub mod Reached
 pub mod Spelled
 pub mod Strings

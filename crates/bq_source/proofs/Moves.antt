@@ -15,8 +15,23 @@ use Rattle.bq_source.specs.declared.token.Token.{Token}
 use Rattle.bq_source.specs.declared.place.Open.{Open}
 use Rattle.bq_source.specs.Token.{same_kind}
 use Rattle.bq_source.specs.Lexis.{has, is_letter, is_word, keywords, is_reserved, word_kind, word_kind_by, other_word, string_len, has_escape}
-use Rattle.bq_source.specs.Reading.{State, Next, go, done, stop, pass, pass_line, take_token, token_at, line_front, line_begins, line_ends, line_ends_by, word, string, string_by, close_by, close, mark, piece, step, step_by, finish, finish_by, supplied}
+use Rattle.bq_source.specs.Reading.{State, Next, go, done, stop, pass, pass_line, take_token, token_at, line_front, line_begins, line_ends, line_ends_by, word, string, string_by, close_by, close, mark, piece, step, step_by, finish, finish_by, supplied, line_behind}
+use Rattle.bq_source.specs.declared.fault.FaultKind.{FaultKind}
+use Rattle.bq_source.specs.declared.fault.FaultKind.TheVariants as f
+use Rattle.bq_source.specs.Fault.{fault_at}
+use Rattle.bq_source.specs.Faulty.{Leaves, one_token, opened_by, closed_by, BeginsLine, Closes, paren, bracket, Spoils, bad_byte, indented, no_end, escaped, closes_none, never_closed}
 use Rattle.bq_source.specs.Spelling.{newlines, IsBlank, IsPlain, IsWord, BeginsLetter, NoWord, Spelled}
+
+-- behind these bytes: the line, the brackets that the tokens leave unclosed, and where a line begins
+pub record Stands (front : List ℕ) (s : State) : Type 0 where
+  pub line : s.line ≡ line_behind front
+  pub leaves : Leaves s.tokens s.open_brackets
+  pub closed : s.fresh ≡ true → s.open_brackets ≡ []
+  pub begins : s.fresh ≡ true → BeginsLine front ⊎ (s.rest ≡ [])
+
+-- past these bytes
+abbrev pub Keeps : State → State → List ℕ → Type 0
+Keeps s t bs = (front : List ℕ) → Stands front s → Stands (front ++ bs) t
 
 -- either bytes were passed, or the front of a line was
 abbrev pub Onward : State → State → Type 0
@@ -24,21 +39,21 @@ Onward s t = (length t.rest < length s.rest) ⊎ ((t.rest ≡ s.rest) × (s.fres
 
 pub data Moves (s t : State) : Type 0 where
   blanks : (bs : List ℕ) → s.rest ≡ bs ++ t.rest → AllByRecursion IsBlank bs → t.tokens ≡ s.tokens → t.at ≡ s.at + length bs → t.line ≡ s.line + newlines bs
-      → Onward s t → Moves s t
+      → Onward s t → Keeps s t bs → Moves s t
   makes : (bs : List ℕ) (u : Token) → s.rest ≡ bs ++ t.rest → Spelled u.kind bs t.rest → u.start ≡ s.at → u.end ≡ s.at + length bs → u.line ≡ s.line
       → t.tokens ≡ s.tokens ++ u ∷ [] → t.at ≡ s.at + length bs → t.line ≡ s.line + newlines bs
-      → 0 < length bs → Moves s t
+      → 0 < length bs → Keeps s t bs → Moves s t
 
 -- at the end no byte is left, and a newline token is supplied or not
 pub data Finishes (s : State) (ts : List Token) : Type 0 where
-  as_is : s.rest ≡ [] → ts ≡ s.tokens → Finishes s ts
-  supplies : s.rest ≡ [] → ts ≡ s.tokens ++ token_at k.Newline 0 s ∷ [] → Finishes s ts
+  as_is : s.rest ≡ [] → s.open_brackets ≡ [] → ts ≡ s.tokens → Finishes s ts
+  supplies : s.rest ≡ [] → s.open_brackets ≡ [] → ts ≡ s.tokens ++ token_at k.Newline 0 s ∷ [] → Finishes s ts
 
--- where a piece leads on, it moves so; where it ends the text, it finishes so
+-- where a piece leads on, it moves so; where it ends the text, it finishes so; where it is faulty, the fault is this
 abbrev pub Sound : State → Next → Type 0
 Sound s (go t) = Moves s t
 Sound s (done ts) = Finishes s ts
-Sound s (stop e) = Unit {0}
+Sound s (stop e) = (front : List ℕ) → Stands front s → Spoils front s.open_brackets s.rest e
 
 by_test : (P : Next → Type 0) (b : Bool) (x y : Next) → (b ≡ true → P x) → (b ≡ false → P y) → P (cond b x y)
 by_test P true x y f g = f refl
@@ -98,12 +113,48 @@ space_no_newline b e = let h = eqb-true b 32 e in rw h refl
 word_no_newline : (b : ℕ) → is_word b ≡ true → (b == 10) ≡ false
 word_no_newline b e = elim (by_bool (b == 10)) [ inr other ↦ other | inl e' ↦ let h = eqb-true b 10 e' in let never : false ≡ true = rw h at e in cc ]
 
+never_true : (b : Bool) (P : Type 0) → b ≡ false → b ≡ true → P
+never_true true P e h = cc
+never_true false P e h = cc
+
+-- past bytes that make no token, inside a line
+same_keeps : (s t : State) (bs : List ℕ) → t.tokens ≡ s.tokens → t.open_brackets ≡ s.open_brackets → t.line ≡ s.line + newlines bs → t.fresh ≡ false → Keeps s t bs
+same_keeps s t bs tokens unclosed line fr = λ front g. record {
+  line = rw newlines-append (let l = g.line in omega arith);
+  leaves = rw (tokens, unclosed) g.leaves;
+  closed = λ e. never_true t.fresh (t.open_brackets ≡ []) fr e;
+  begins = λ e. never_true t.fresh (BeginsLine (front ++ bs) ⊎ (t.rest ≡ [])) fr e;
+}
+
+token_leaves : (s t : State) (u : Token) → Leaves s.tokens s.open_brackets → t.tokens ≡ s.tokens ++ u ∷ [] → opened_by u.kind u.line s.open_brackets ≡ Some t.open_brackets
+    → Leaves t.tokens t.open_brackets
+token_leaves s t u h more unclosed = let P : List Token → Type 0 = λ ts. Leaves ts t.open_brackets in subst P (sym more) (one_token u h unclosed)
+
+-- past a token inside a line
+token_keeps : (s t : State) (bs : List ℕ) (u : Token) → t.tokens ≡ s.tokens ++ u ∷ [] → opened_by u.kind u.line s.open_brackets ≡ Some t.open_brackets
+    → t.line ≡ s.line + newlines bs → t.fresh ≡ false → Keeps s t bs
+token_keeps s t bs u more unclosed line fr = λ front g. record {
+  line = rw newlines-append (let l = g.line in omega arith);
+  leaves = token_leaves s t u g.leaves more unclosed;
+  closed = λ e. never_true t.fresh (t.open_brackets ≡ []) fr e;
+  begins = λ e. never_true t.fresh (BeginsLine (front ++ bs) ⊎ (t.rest ≡ [])) fr e;
+}
+
+-- a fault in the line of the next byte
+spoils_here : (kind : FaultKind) (s : State) (front : List ℕ) → Stands front s → Spoils front s.open_brackets s.rest (fault_at kind (line_behind front))
+    → Spoils front s.open_brackets s.rest (fault_at kind s.line)
+spoils_here kind s front g h = let P : ℕ → Type 0 = λ l. Spoils front s.open_brackets s.rest (fault_at kind l) in subst P (sym g.line) h
+
 -- the same state at another place
 abbrev cut_off : (n : ℕ) (s : State) → s.rest ≡ take n s.rest ++ drop n s.rest
 cut_off n s = sym (take-append-drop n s.rest)
 
 pub passed : (s t : State) (bs : List ℕ) → s.rest ≡ bs ++ t.rest → 0 < length bs → Onward s t
 passed s t bs whole some = inl (let e = ap length whole ∙ length-append bs t.rest in omega arith)
+
+wide_some : (n : ℕ) → (n == 0) ≡ false → 0 < n
+wide_some zero h = cc
+wide_some (suc n) h = omega arith
 
 -- the front of a line
 fresh_front : (s : State) (ds : List ℕ) → 0 < length s.rest → s.fresh ≡ true → drop (prefix_len (has Space) s.rest) s.rest ≡ ds → Sound s (line_front ds (prefix_len (has Space) s.rest) s)
@@ -113,6 +164,12 @@ fresh_front s [] some fr e =
     let long = length-prefix_len (has Space) s.rest in
     let none = no_newlines (λ b. has Space b ≡ true) space_no_newline (take w s.rest) run in
     blanks (take w s.rest) (sym (take-append-drop w s.rest)) (all_of (λ b. has Space b ≡ true) IsBlank space_blank (take w s.rest) run) refl (rw long refl) (rw none (omega arith)) (inl (rw e some))
+    (λ front g. record {
+      line = rw (newlines-append, none) (let l = g.line in omega arith);
+      leaves = g.leaves;
+      closed = g.closed;
+      begins = λ _. inr e;
+    })
 fresh_front s (b ∷ bs) some fr e =
     let w = prefix_len (has Space) s.rest in
     let run = run_all (has Space) s.rest in
@@ -124,30 +181,50 @@ fresh_front s (b ∷ bs) some fr e =
     let whole : s.rest ≡ (take w s.rest ++ 10 ∷ []) ++ drop 1 (drop w s.rest) =
     rw append_assoc (let tail : drop w s.rest ≡ 10 ∷ drop 1 (drop w s.rest) = rw (e, at_end) refl in sym (take-append-drop w s.rest) ∙ ap (λ z. take w s.rest ++ z) tail) in
     blanks (take w s.rest ++ 10 ∷ []) whole all refl (rw (length-append, long) (omega arith)) (rw (newlines-append, none) (omega arith))
-    (passed s (pass_line (pass w s)) (take w s.rest ++ 10 ∷ []) whole (rw length-append (omega arith))))
-    (λ no_nl. by_test (Sound s) (w == 0) _ _ (λ flat. blanks [] refl tt refl (omega arith) (omega arith) (inr (refl, fr, refl))) (λ wide. tt))
+    (passed s (pass_line (pass w s)) (take w s.rest ++ 10 ∷ []) whole (rw length-append (omega arith)))
+    (λ front g. record {
+      line = rw (newlines-append, newlines-append, none) (let l = g.line in omega arith);
+      leaves = g.leaves;
+      closed = g.closed;
+      begins = λ _. inl (inr (front ++ take w s.rest, sym (append_assoc front (take w s.rest) (10 ∷ []))));
+    }))
+    (λ no_nl. by_test (Sound s) (w == 0) _ _
+    (λ flat. blanks [] refl tt refl (omega arith) (omega arith) (inr (refl, fr, refl)) (same_keeps s (record s { fresh = false }) [] refl refl (omega arith) refl))
+    (λ wide. λ front g. spoils_here f.Indent s front g (elim (g.begins fr) [
+      | inl begins ↦ indented (take w s.rest) b bs begins (g.closed fr) (sym (take-append-drop w s.rest) ∙ ap (λ z. take w s.rest ++ z) e) (rw long (wide_some w wide)) run no_nl
+      | inr empty ↦ let none : 0 < length s.rest = some in let never : length s.rest ≡ 0 = rw empty refl in absurd (omega arith)
+    ])))
 
 -- one byte that is no newline makes a token
-one_byte : (s : State) (kind : TokenKind) (b c : ℕ) (bs : List ℕ) → s.rest ≡ b ∷ bs → b ≡ c → (c == 10) ≡ false
-    → ((rest : List ℕ) → Spelled kind (c ∷ []) rest) → (os : List Open) → Moves s (record (take_token kind 1 s) { open_brackets = os })
-one_byte s kind b c bs e is plain spelled os =
+one_byte : (s : State) (kind : TokenKind) (b c : ℕ) (bs : List ℕ) → s.fresh ≡ false → s.rest ≡ b ∷ bs → b ≡ c → (c == 10) ≡ false
+    → ((rest : List ℕ) → Spelled kind (c ∷ []) rest) → (os : List Open) → opened_by kind s.line s.open_brackets ≡ Some os
+    → Moves s (record (take_token kind 1 s) { open_brackets = os })
+one_byte s kind b c bs fr e is plain spelled os unclosed =
     let whole : s.rest ≡ (c ∷ []) ++ drop 1 s.rest = rw (e, is) refl in
+    let none : newlines (c ∷ []) ≡ 0 = rw plain refl in
     makes (c ∷ []) (token_at kind 1 s) whole (spelled (drop 1 s.rest)) refl refl refl refl refl (rw plain (omega arith)) (omega arith)
+    (token_keeps s (record (take_token kind 1 s) { open_brackets = os }) (c ∷ []) (token_at kind 1 s) refl unclosed (rw plain (omega arith)) fr)
 
 newline_spells : (rest : List ℕ) → Spelled k.Newline (10 ∷ []) rest
 newline_spells rest = inl refl
 
-ends_by : (s : State) (os : List Open) (b : ℕ) (bs : List ℕ) → s.rest ≡ b ∷ bs → b ≡ 10 → Sound s (line_ends_by os s)
-ends_by s [] b bs e is =
+ends_by : (s : State) (os : List Open) (b : ℕ) (bs : List ℕ) → s.open_brackets ≡ os → s.fresh ≡ false → s.rest ≡ b ∷ bs → b ≡ 10 → Sound s (line_ends_by os s)
+ends_by s [] b bs unclosed fr e is =
     let whole : s.rest ≡ (10 ∷ []) ++ drop 1 s.rest = rw (e, is) refl in
     makes (10 ∷ []) (token_at k.Newline 1 s) whole (inl refl) refl refl refl refl refl refl (omega arith)
-ends_by s (o ∷ os) b bs e is =
+    (λ front g. record {
+      line = rw newlines-append (let l = g.line in omega arith);
+      leaves = one_token (token_at k.Newline 1 s) g.leaves refl;
+      closed = λ _. unclosed;
+      begins = λ _. inl (inr (front, refl));
+    })
+ends_by s (o ∷ os) b bs unclosed fr e is =
     let whole : s.rest ≡ (10 ∷ []) ++ drop 1 s.rest = rw (e, is) refl in
-    blanks (10 ∷ []) whole (inr refl, tt) refl refl refl (passed s (pass_line s) (10 ∷ []) whole (omega arith))
+    blanks (10 ∷ []) whole (inr refl, tt) refl refl refl (passed s (pass_line s) (10 ∷ []) whole (omega arith)) (same_keeps s (pass_line s) (10 ∷ []) refl refl refl fr)
 
 -- a word's kind is no mark, string or newline
 abbrev ForWords : TokenKind → Type 0
-ForWords kind = (bs rest : List ℕ) → IsWord kind bs rest → Spelled kind bs rest
+ForWords kind = ((bs rest : List ℕ) → IsWord kind bs rest → Spelled kind bs rest) × ((line : ℕ) (unclosed : List Open) → opened_by kind line unclosed ≡ Some unclosed)
 
 abbrev AllKinds : List (List ℕ × TokenKind) → Type 0
 AllKinds [] = Unit {0}
@@ -161,14 +238,14 @@ found_kind w (p ∷ ps) h g = elim (by_bool (bytes_eq w p.0)) [
 ]
 
 other_kind : (b : Bool) → ForWords (other_word b)
-other_kind true = λ bs rest h. h
-other_kind false = λ bs rest h. h
+other_kind true = (λ bs rest h. h, λ line unclosed. refl)
+other_kind false = (λ bs rest h. h, λ line unclosed. refl)
 
 word_kinds : (w : List ℕ) → ForWords (word_kind w)
 unfolding word_kind
 word_kinds w =
     found_kind w keywords
-    (λ bs rest h. h, (λ bs rest h. h, (λ bs rest h. h, (λ bs rest h. h, (λ bs rest h. h, (λ bs rest h. h, (λ bs rest h. h, (λ bs rest h. h, (λ bs rest h. h, (λ bs rest h. h, (λ bs rest h. h, (λ bs rest h. h, (λ bs rest h. h, (λ bs rest h. h, (λ bs rest h. h, tt)))))))))))))))
+    ((λ bs rest h. h, λ line unclosed. refl), ((λ bs rest h. h, λ line unclosed. refl), ((λ bs rest h. h, λ line unclosed. refl), ((λ bs rest h. h, λ line unclosed. refl), ((λ bs rest h. h, λ line unclosed. refl), ((λ bs rest h. h, λ line unclosed. refl), ((λ bs rest h. h, λ line unclosed. refl), ((λ bs rest h. h, λ line unclosed. refl), ((λ bs rest h. h, λ line unclosed. refl), ((λ bs rest h. h, λ line unclosed. refl), ((λ bs rest h. h, λ line unclosed. refl), ((λ bs rest h. h, λ line unclosed. refl), ((λ bs rest h. h, λ line unclosed. refl), ((λ bs rest h. h, λ line unclosed. refl), ((λ bs rest h. h, λ line unclosed. refl), tt)))))))))))))))
     (other_kind (is_reserved w))
 
 first_letter : (b : ℕ) (bs : List ℕ) (n : ℕ) → is_letter b ≡ true → 0 < n → BeginsLetter (take n (b ∷ bs))
@@ -183,9 +260,9 @@ unfolding Stops
 no_word [] h = tt
 no_word (x ∷ xs) h = h
 
-word_sound : (s : State) (b : ℕ) (bs : List ℕ) → s.rest ≡ b ∷ bs → is_letter b ≡ true → Sound s (word s)
+word_sound : (s : State) (b : ℕ) (bs : List ℕ) → s.fresh ≡ false → s.rest ≡ b ∷ bs → is_letter b ≡ true → Sound s (word s)
 unfolding word
-word_sound s b bs e letter =
+word_sound s b bs fr e letter =
     let n = prefix_len (has Word) s.rest in
     let w = take n s.rest in
     let all = run_all (has Word) s.rest in
@@ -194,8 +271,9 @@ word_sound s b bs e letter =
     let some : 0 < n = rw (e, letter_is_word b letter) (omega arith) in
     let front : BeginsLetter w = rw e (first_letter b bs (prefix_len (has Word) (b ∷ bs)) letter (rw (letter_is_word b letter) (omega arith))) in
     makes w (token_at (word_kind w) n s) (sym (take-append-drop n s.rest))
-    (word_kinds w w (drop n s.rest) record { first = front; all = all; longest = no_word (drop n s.rest) (run_stops (has Word) s.rest); means = refl })
+    ((word_kinds w).0 w (drop n s.rest) record { first = front; all = all; longest = no_word (drop n s.rest) (run_stops (has Word) s.rest); means = refl })
     refl (rw long refl) refl refl (rw long refl) (rw none (omega arith)) (rw long some)
+    (token_keeps s (take_token (word_kind w) n s) w (token_at (word_kind w) n s) refl ((word_kinds w).1 s.line s.open_brackets) (rw none (omega arith)) fr)
 
 -- what stands behind the opening quote of a string without escapes
 record Quoted (bs : List ℕ) (n : ℕ) : Type 0 where
@@ -258,60 +336,78 @@ quoted (b ∷ bs) n e h = elim (by_bool (b == 10)) [
 plain_no_newline : (b : ℕ) → IsPlain b → (b == 10) ≡ false
 plain_no_newline b p = p.no_newline
 
-string_sound : (s : State) (b : ℕ) (bs : List ℕ) → s.rest ≡ b ∷ bs → b ≡ 34 → Sound s (string bs s)
+string_sound : (s : State) (b : ℕ) (bs : List ℕ) → s.fresh ≡ false → s.rest ≡ b ∷ bs → b ≡ 34 → Sound s (string bs s)
 unfolding string
-string_sound s b bs e is = by_len (string_len false bs) refl
+string_sound s b bs fr e is = by_len (string_len false bs) refl
   where
     by_len : (o : Option ℕ) → string_len false bs ≡ o → Sound s (string_by o bs s)
-    by_len None at = tt
-    by_len (Some n) at = by_test (Sound s) (has_escape (take n bs)) _ _ (λ t. tt) (λ t.
+    by_len None at = λ front g. spoils_here f.OpenString s front g (no_end bs (rw (e, is) refl) at)
+    by_len (Some n) at = by_test (Sound s) (has_escape (take n bs)) _ _ (λ t. λ front g. spoils_here f.Escape s front g (escaped bs n (rw (e, is) refl) at t)) (λ t.
         let q = quoted bs n at t in
         let piece : take (n + 1) s.rest ≡ 34 ∷ take n bs = rw (add-one, e, is) refl in
         let none : newlines (34 ∷ take n bs) ≡ 0 = rw (q.taken, newlines-append) (let z = no_newlines IsPlain plain_no_newline q.body q.plain in rw z refl) in
         let long : length (34 ∷ take n bs) ≡ n + 1 = ap suc q.long ∙ sym (add-one n) in
         let whole : s.rest ≡ (34 ∷ take n bs) ++ drop (n + 1) s.rest = sym (take-append-drop (n + 1) s.rest) ∙ ap (λ z. z ++ drop (n + 1) s.rest) piece in
         makes (34 ∷ take n bs) (token_at k.String (n + 1) s) whole record { body = q.body; plain = q.plain; quoted = ap (λ z. 34 ∷ z) q.taken }
-        refl (rw long refl) refl refl (rw long refl) (rw none (omega arith)) (omega arith))
+        refl (rw long refl) refl refl (rw long refl) (rw none (omega arith)) (omega arith)
+        (token_keeps s (take_token k.String (n + 1) s) (34 ∷ take n bs) (token_at k.String (n + 1) s) refl refl (rw none (omega arith)) fr))
 
-close_sound : (s : State) (kind : TokenKind) (b c : ℕ) (bs : List ℕ) → s.rest ≡ b ∷ bs → b ≡ c → (c == 10) ≡ false
-    → ((rest : List ℕ) → Spelled kind (c ∷ []) rest) → (os : List Open) → Sound s (close_by os kind s)
-close_sound s kind b c bs e is plain spelled [] = tt
-close_sound s kind b c bs e is plain spelled (o ∷ os) =
-    by_test (Sound s) (same_kind o.closing kind) _ _ (λ t. one_byte s kind b c bs e is plain spelled os) (λ t. tt)
+close_sound : (s : State) (kind : TokenKind) (b c : ℕ) (bs : List ℕ) → s.fresh ≡ false → s.rest ≡ b ∷ bs → b ≡ c → (c == 10) ≡ false → Closes c kind
+    → ((os : List Open) → opened_by kind s.line os ≡ closed_by os kind)
+    → ((rest : List ℕ) → Spelled kind (c ∷ []) rest) → (os : List Open) → s.open_brackets ≡ os → Sound s (close_by os kind s)
+close_sound s kind b c bs fr e is plain closes opens spelled [] unclosed =
+    λ front g. spoils_here f.Bracket s front g (closes_none c bs kind (rw (e, is) refl) closes (rw unclosed refl))
+close_sound s kind b c bs fr e is plain closes opens spelled (o ∷ os) unclosed =
+    by_test (Sound s) (same_kind o.closing kind) _ _
+    (λ t. one_byte s kind b c bs fr e is plain spelled os (opens s.open_brackets ∙ rw (unclosed, t) refl))
+    (λ t. λ front g. spoils_here f.Bracket s front g (closes_none c bs kind (rw (e, is) refl) closes (rw (unclosed, t) refl)))
 
-mark_sound : (s : State) (b : ℕ) (bs : List ℕ) → s.rest ≡ b ∷ bs → Sound s (mark b s)
+mark_sound : (s : State) (b : ℕ) (bs : List ℕ) → s.fresh ≡ false → s.rest ≡ b ∷ bs → (b == 32) ≡ false → (b == 10) ≡ false → is_letter b ≡ false → (b == 34) ≡ false
+    → Sound s (mark b s)
 unfolding mark close
-mark_sound s b bs e =
-    by_test (Sound s) (b == 40) _ _ (λ t. one_byte s k.LeftParen b 40 bs e (eqb-true b 40 t) refl (λ rest. refl) _) (λ _.
-    by_test (Sound s) (b == 41) _ _ (λ t. close_sound s k.RightParen b 41 bs e (eqb-true b 41 t) refl (λ rest. refl) s.open_brackets) (λ _.
-    by_test (Sound s) (b == 91) _ _ (λ t. one_byte s k.LeftBracket b 91 bs e (eqb-true b 91 t) refl (λ rest. refl) _) (λ _.
-    by_test (Sound s) (b == 93) _ _ (λ t. close_sound s k.RightBracket b 93 bs e (eqb-true b 93 t) refl (λ rest. refl) s.open_brackets) (λ _.
-    by_test (Sound s) (b == 44) _ _ (λ t. one_byte s k.Comma b 44 bs e (eqb-true b 44 t) refl (λ rest. refl) s.open_brackets) (λ _.
-    by_test (Sound s) (b == 61) _ _ (λ t. one_byte s k.Assign b 61 bs e (eqb-true b 61 t) refl (λ rest. refl) s.open_brackets) (λ _. tt))))))
+mark_sound s b bs fr e sp nl le qu =
+    by_test (Sound s) (b == 40) _ _ (λ t. one_byte s k.LeftParen b 40 bs fr e (eqb-true b 40 t) refl (λ rest. refl) _ refl) (λ lp.
+    by_test (Sound s) (b == 41) _ _ (λ t. close_sound s k.RightParen b 41 bs fr e (eqb-true b 41 t) refl paren (λ os. refl) (λ rest. refl) s.open_brackets refl) (λ rp.
+    by_test (Sound s) (b == 91) _ _ (λ t. one_byte s k.LeftBracket b 91 bs fr e (eqb-true b 91 t) refl (λ rest. refl) _ refl) (λ lb.
+    by_test (Sound s) (b == 93) _ _ (λ t. close_sound s k.RightBracket b 93 bs fr e (eqb-true b 93 t) refl bracket (λ os. refl) (λ rest. refl) s.open_brackets refl) (λ rb.
+    by_test (Sound s) (b == 44) _ _ (λ t. one_byte s k.Comma b 44 bs fr e (eqb-true b 44 t) refl (λ rest. refl) s.open_brackets refl) (λ co.
+    by_test (Sound s) (b == 61) _ _ (λ t. one_byte s k.Assign b 61 bs fr e (eqb-true b 61 t) refl (λ rest. refl) s.open_brackets refl) (λ eq.
+    λ front g. spoils_here f.BadByte s front g (bad_byte b bs e record {
+      no_space = sp;
+      no_newline = nl;
+      no_letter = le;
+      no_quote = qu;
+      no_left_paren = lp;
+      no_right_paren = rp;
+      no_left_bracket = lb;
+      no_right_bracket = rb;
+      no_comma = co;
+      no_assign = eq;
+    })))))))
 
-piece_sound : (s : State) (b : ℕ) (bs : List ℕ) → s.rest ≡ b ∷ bs → Sound s (piece b bs s)
+piece_sound : (s : State) (b : ℕ) (bs : List ℕ) → s.fresh ≡ false → s.rest ≡ b ∷ bs → Sound s (piece b bs s)
 unfolding piece line_ends
-piece_sound s b bs e =
+piece_sound s b bs fr e =
     by_test (Sound s) (b == 32) _ _ (λ t.
     let is = eqb-true b 32 t in
     let whole : s.rest ≡ (32 ∷ []) ++ drop 1 s.rest = rw (e, is) refl in
-    blanks (32 ∷ []) whole (inl refl, tt) refl refl (omega arith) (passed s (pass 1 s) (32 ∷ []) whole (omega arith))) (λ _.
-    by_test (Sound s) (b == 10) _ _ (λ t. ends_by s s.open_brackets b bs e (eqb-true b 10 t)) (λ _.
-    by_test (Sound s) (is_letter b) _ _ (λ t. word_sound s b bs e t) (λ _.
-    by_test (Sound s) (b == 34) _ _ (λ t. string_sound s b bs e (eqb-true b 34 t)) (λ _. mark_sound s b bs e))))
+    blanks (32 ∷ []) whole (inl refl, tt) refl refl (omega arith) (passed s (pass 1 s) (32 ∷ []) whole (omega arith)) (same_keeps s (pass 1 s) (32 ∷ []) refl refl (omega arith) fr)) (λ sp.
+    by_test (Sound s) (b == 10) _ _ (λ t. ends_by s s.open_brackets b bs refl fr e (eqb-true b 10 t)) (λ nl.
+    by_test (Sound s) (is_letter b) _ _ (λ t. word_sound s b bs fr e t) (λ le.
+    by_test (Sound s) (b == 34) _ _ (λ t. string_sound s b bs fr e (eqb-true b 34 t)) (λ qu. mark_sound s b bs fr e sp nl le qu))))
 
-finish_sound : (s : State) (os : List Open) → s.rest ≡ [] → Sound s (finish_by os s)
-finish_sound s (o ∷ os) e = tt
-finish_sound s [] e = by_fresh s.fresh
+finish_sound : (s : State) (os : List Open) → s.open_brackets ≡ os → s.rest ≡ [] → Sound s (finish_by os s)
+finish_sound s (o ∷ os) unclosed e = λ front g. never_closed o os e unclosed
+finish_sound s [] unclosed e = by_fresh s.fresh
   where
     by_fresh : (b : Bool) → Finishes s (supplied b s)
-    by_fresh true = as_is e refl
-    by_fresh false = supplies e refl
+    by_fresh true = as_is e unclosed refl
+    by_fresh false = supplies e unclosed refl
 
 pub step_sound : (s : State) → Sound s (step s)
 unfolding step finish line_begins
 step_sound s = by_rest s.rest refl
   where
     by_rest : (xs : List ℕ) → s.rest ≡ xs → Sound s (step_by xs s)
-    by_rest [] e = finish_sound s s.open_brackets e
-    by_rest (b ∷ bs) e = by_test (Sound s) s.fresh _ _ (λ fr. fresh_front s _ (rw e (omega arith)) fr refl) (λ _. piece_sound s b bs e)
+    by_rest [] e = finish_sound s s.open_brackets refl e
+    by_rest (b ∷ bs) e = by_test (Sound s) s.fresh _ _ (λ fr. fresh_front s _ (rw e (omega arith)) fr refl) (λ fr. piece_sound s b bs fr e)

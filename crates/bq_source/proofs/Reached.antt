@@ -20,8 +20,8 @@ onward_left s t (inl h) = let a = flag_le t.fresh in omega arith
 onward_left s t (inr h) = let a = ap length h.0 in rw (h.1, h.2) (omega arith)
 
 moves_left : (s t : State) → Moves s t → left t < left s
-moves_left s t (blanks bs whole blank same at line onward) = onward_left s t onward
-moves_left s t (makes bs u whole good begins ends_ on more at line some) = onward_left s t (passed s t bs whole some)
+moves_left s t (blanks bs whole blank same at line onward keeps) = onward_left s t onward
+moves_left s t (makes bs u whole good begins ends_ on more at line some keeps) = onward_left s t (passed s t bs whole some)
 
 pub reached : (n : ℕ) (s : State) → left s < n → Runs s (pieces n s)
 unfolding pieces

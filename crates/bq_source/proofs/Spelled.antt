@@ -14,23 +14,23 @@ use Rattle.bq_source.proofs.Moves.{Moves, blanks, makes, Finishes, as_is, suppli
 abbrev Ahead : State → List Token → Type 0
 Ahead s ts = (new : List Token) × (ts ≡ s.tokens ++ new) × Spells s.at s.line s.rest new
 
-spells_at : (at line a l : ℕ) (rest : List ℕ) (ts : List Token) → a ≡ at → l ≡ line → Spells a l rest ts → Spells at line rest ts
+pub spells_at : (at line a l : ℕ) (rest : List ℕ) (ts : List Token) → a ≡ at → l ≡ line → Spells a l rest ts → Spells at line rest ts
 spells_at at line a l rest ts e f h =
     let P : ℕ → Type 0 = λ n. Spells n l rest ts in
     let Q : ℕ → Type 0 = λ n. Spells at n rest ts in
     subst Q f (subst P e h)
 
 moved : (s t : State) (ts : List Token) → Moves s t → Ahead t ts → Ahead s ts
-moved s t ts (blanks bs whole blank same at line onward) (new, is, spells) =
+moved s t ts (blanks bs whole blank same at line onward keeps) (new, is, spells) =
     (new, is ∙ ap (λ z. z ++ new) same, gap bs whole blank (spells_at _ _ _ _ _ _ at line spells))
-moved s t ts (makes bs u whole good begins ends_ on more at line some) (new, is, spells) =
+moved s t ts (makes bs u whole good begins ends_ on more at line some keeps) (new, is, spells) =
     (u ∷ new, is ∙ ap (λ z. z ++ new) more ∙ append_assoc s.tokens (u ∷ []) new, token bs whole good begins ends_ on (spells_at _ _ _ _ _ _ at line spells))
 
 finished : (s : State) (ts : List Token) → Finishes s ts → Ahead s ts
-finished s ts (as_is e is) =
+finished s ts (as_is e unclosed is) =
     let P : List ℕ → Type 0 = λ xs. Spells s.at s.line xs [] in
     ([], is ∙ sym (append-nil s.tokens), subst P (sym e) ended)
-finished s ts (supplies e is) =
+finished s ts (supplies e unclosed is) =
     let P : List ℕ → Type 0 = λ xs. Spells s.at s.line xs (token_at k.Newline 0 s ∷ []) in
     (token_at k.Newline 0 s ∷ [], is, subst P (sym e) (token [] refl (inr (refl, refl)) refl refl refl ended))
 

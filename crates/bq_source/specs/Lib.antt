@@ -7,3 +7,4 @@ pub mod Reading
 pub mod Tokens
 pub mod Lexing
 pub mod Spelling
+pub mod Faulty

@@ -1,10 +1,11 @@
 //! What every reading of a text is, in words of the text alone. The functions do nothing: their contracts are the laws.
 
-ghost use Rattle.std.specs.Prelude.{◌≡◌, ℕ, List, Ok, Result};
+ghost use Rattle.std.specs.Prelude.{◌≡◌, ℕ, List, [], Ok, Err, Result};
 ghost use Rattle.std.specs.List.{AllByRecursion};
 ghost use Rattle.bq_source.specs.Reading.{Lexes};
 ghost use Rattle.bq_source.specs.Tokens.{tokens_of};
 ghost use Rattle.bq_source.specs.Spelling.{Lies, Spells};
+ghost use Rattle.bq_source.specs.Faulty.{IsFaultOf, Leaves};
 ghost use Rattle.bq_source.specs.declared.fault.Fault.{Fault};
 ghost use Rattle.bq_source.specs.declared.token.Token.{Token};
 
@@ -31,4 +32,17 @@ pub fn tokens_spell_the_text()
 pub fn tokens_lie_within(text: &[u8], tokens: &[Token])
     requires { Lexes text.now (Ok tokens.now) }
     ensures { AllByRecursion (Lies text.now) tokens.now }
+{}
+
+/// Each closing bracket of a text that reads as tokens closes the innermost open one, which is of its kind, and none is left
+/// open.
+pub fn brackets_match()
+    ensures { (text : List ℕ) (tokens : List Token) → Lexes text (Ok tokens) → Leaves tokens [] }
+{}
+
+/// The fault of a text is in it: a front that tokens spell, and behind it, in the line that is named, a byte that begins
+/// nothing (F1), an indented line (F2), a string without end (F4) or with an escape (F5), a bracket that closes none; or a
+/// bracket that is never closed (F7). Else the text is too long (F8).
+pub fn faults_are_in_the_text()
+    ensures { (text : List ℕ) (fault : Fault) → Lexes text (Err fault) → IsFaultOf text fault }
 {}

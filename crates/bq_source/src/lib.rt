@@ -28,6 +28,9 @@ mod token;
 
 pub use bytes::Bytes;
 pub use fault::{Fault, FaultKind, SourceErr};
-pub use laws::{every_text_has_its_reading, one_reading, tokens_lie_within, tokens_spell_the_text};
+pub use laws::{
+    brackets_match, every_text_has_its_reading, faults_are_in_the_text, one_reading,
+    tokens_lie_within, tokens_spell_the_text,
+};
 pub use lexer::lex;
 pub use token::{Token, TokenKind};
