@@ -22,7 +22,7 @@ use Rattle.bq_source.specs.Fault.{fault_at}
 use Rattle.bq_source.specs.Faulty.{Leaves, one_token, opened_by, closed_by, BeginsLine, Closes, paren, bracket, Spoils, bad_byte, indented, no_end, escaped, closes_none, never_closed}
 use Rattle.bq_source.specs.Spelling.{newlines, IsBlank, IsPlain, IsWord, BeginsLetter, NoWord, Spelled}
 
--- behind these bytes: the line, the brackets that the tokens leave unclosed, and where a line begins
+-- behind these bytes: the line, the brackets that the tokens leave open, and where a line begins
 pub record Stands (front : List ℕ) (s : State) : Type 0 where
   pub line : s.line ≡ line_behind front
   pub leaves : Leaves s.tokens s.open_brackets
