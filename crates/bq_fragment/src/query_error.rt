@@ -1,7 +1,7 @@
 //! The errors of queries, with the numbers and names that users see. They stand here once, and everything else names the
 //! variant.
 
-ghost use Rattle.std.specs.Prelude.{◌≡◌};
+ghost use Rattle.std.specs.Prelude.{◌≡◌, Some};
 ghost use Rattle.bq_fragment.specs.QueryError.{query_title, query_detail};
 
 use bq_source::Bytes;
@@ -47,7 +47,10 @@ impl QueryErr {
     }
 }
 
+/// Its title.
 impl fmt::Display for QueryErr {
+    ghost output = { λ e. Some (query_title e) };
+
     fn fmt<W: fmt::Write>(&self, f: &mut fmt::Formatter<W>) -> fmt::Result {
         f.write_str(self.title())
     }

@@ -1,7 +1,7 @@
 //! The errors of runs, with the numbers and names that users see. They stand here once, and everything else names the
 //! variant.
 
-ghost use Rattle.std.specs.Prelude.{◌≡◌};
+ghost use Rattle.std.specs.Prelude.{◌≡◌, Some};
 ghost use Rattle.bq_run.specs.Error.{run_title, run_err};
 ghost use Rattle.bq_run.specs.declared.error.RunErr.TheVariants.{Memory, Write};
 
@@ -47,7 +47,10 @@ impl RunErr {
     }
 }
 
+/// Its title.
 impl fmt::Display for RunErr {
+    ghost output = { λ e. Some (run_title e) };
+
     fn fmt<W: fmt::Write>(&self, f: &mut fmt::Formatter<W>) -> fmt::Result {
         f.write_str(self.title())
     }

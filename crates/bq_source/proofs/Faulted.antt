@@ -1,4 +1,4 @@
--- The fault of a text is one of the text, and a text that reads as tokens leaves no bracket unclosed.
+-- The fault of a text is one of the text, and a text that reads as tokens leaves no bracket open.
 use Rattle.std.proofs.Common.{◌≡◌, ℕ, ◌<◌, inl, inr, List, [], ◌∷◌, ◌++◌, length, take, Some, Result, Ok, Err, refl, sym, ap, ◌∙◌, subst, arith, append_assoc}
 use Rattle.std.proofs.lemmas.List.{append-nil}
 use Rattle.bq_source.specs.declared.token.TokenKind.{TokenKind}
