@@ -22,8 +22,6 @@ mod lexer;
 mod lexis;
 mod place;
 mod shown;
-#[cfg(test)]
-mod tests;
 mod token;
 
 pub use bytes::Bytes;

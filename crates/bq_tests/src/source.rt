@@ -1,6 +1,6 @@
 //! What no clause says: values from outside, printed text, and memory that is shared.
 
-use crate::{Bytes, Fault, FaultKind, SourceErr, lex};
+use bq_source::{Bytes, Fault, FaultKind, SourceErr, lex};
 use std::alloc::{AllocError, Global};
 use std::cmp::Ordering;
 use std::fmt::Write;

@@ -1,0 +1,7 @@
+//! The tests of all crates: what no clause says, as values from outside, printed texts, and memory that is there.
+//!
+//! They stand in one crate at the top, a file for each crate below, since a crate with tests is proved once more for them.
+#![tactic(auto)]
+
+#[cfg(test)]
+mod source;
