@@ -15,7 +15,7 @@ abbrev pub next : List Token → List Token
 next [] = []
 next (t ∷ ts) = ts
 
--- behind the next token, if it is of this kind
+-- after the next token, if it is of this kind
 abbrev pub after : TokenKind → List Token → List Token
 after kind ts = if sees kind ts then next ts else ts
 

@@ -21,7 +21,7 @@ use Rattle.bq_parse.specs.Turns.{Found, Parse, ◌>>=◌, Turn, ended, last, ite
 use Rattle.bq_parse.specs.Literals.{name_of, value_of, identifier}
 use Rattle.bq_parse.specs.Grammar.{line_of}
 
--- behind an item of a list in brackets stands a comma or the closing bracket
+-- after an item of a list in brackets comes a comma or the closing bracket
 abbrev pub behind_item : {A : Type 0} → TokenKind → Found A → Turn A
 behind_item close (Err why) = failed why
 behind_item close (Ok p) =
@@ -32,7 +32,7 @@ behind_item close (Ok p) =
 abbrev pub listed : {A : Type 0} → TokenKind → Parse A → List Token → Turn A
 listed close one ts = if sees close ts then ended (next ts) else behind_item close (one ts)
 
--- the items of a list in brackets, behind those found; the opening bracket is passed already
+-- the items of a list in brackets, after those found; the opening bracket is passed already
 abbrev pub items : {A : Type 0} → TokenKind → Parse A → List A → Parse (List A)
 items close one = many (listed close one)
 

@@ -4,7 +4,7 @@ use Rattle.bq_source.specs.declared.token.Token.{Token}
 use Rattle.bq_parse.specs.declared.refusal.Refusal.{Refusal}
 use Rattle.bq_parse.specs.declared.refusal.Refusal.TheVariants.{Memory, LeftOut}
 
--- what was read and the tokens behind it, or why nothing was
+-- what was read and the tokens after it, or why nothing was
 abbrev pub Found : Type 0 → Type 0
 Found A = Result (A × List Token) Refusal
 
@@ -16,7 +16,7 @@ abbrev pub ◌>>=◌ : {A B : Type 0} → Found A → (A → Parse B) → Found 
 (Err e) >>= f = Err e
 (Ok p) >>= f = f p.0 p.1
 
--- what a function that reads ensures: what the definition reads, want of memory aside
+-- what a function that reads ensures: what the definition reads, out of memory aside
 abbrev pub Reads : {A : Type 0} → Found A → Result A Refusal → List Token → Type 0
 Reads found (Ok x) rest = found ≡ Ok (x, rest)
 Reads found (Err e) rest = e ≢ Memory → found ≡ Err e
@@ -28,7 +28,7 @@ Finds found (Err e) = e ≢ Memory → found ≡ Err e
 
 -- ---- repetition
 
--- what one turn of a repetition finds: that it has ended, a last item, an item behind which it goes on, or no reading
+-- what one turn of a repetition finds: that it has ended, a last item, an item after which it goes on, or no reading
 pub data Turn (A : Type 0) : Type 0 where
   ended : List Token → Turn A
   last : A → List Token → Turn A

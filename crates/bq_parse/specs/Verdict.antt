@@ -35,7 +35,7 @@ abbrev pub Answers : List ℕ → List Token → Result File SourceErr → Type 
 Answers text ts (Ok file) = Parses text ts (Ok file.statements)
 Answers text ts (Err err) = (why : Fault) → err ≡ Bad why → Parses text ts (Err why)
 
--- want of memory aside, this reading was answered
+-- out of memory aside, this reading was answered
 abbrev pub Returned : Result File SourceErr → Result (List TopLevel) Fault → Type 0
 Returned (Ok file) r = r ≡ Ok file.statements
 Returned (Err err) r = (why : Fault) → err ≡ Bad why → r ≡ Err why

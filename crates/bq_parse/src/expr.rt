@@ -1,6 +1,8 @@
 //! Expressions: a method for each production of the grammar, which stands above it.
 
-ghost use Rattle.std.specs.Prelude.{◌≡◌, ◌<◌, [], length, OnOk};
+ghost use Rattle.std.specs.Prelude.{◌≡◌, ◌<◌, [], ◌∷◌, length, IfOk, OnOk};
+ghost use Rattle.bq_parse.specs.declared.tree.Expr.TheVariants as e;
+ghost use Rattle.bq_parse.specs.declared.tree.Suffix.TheVariants.{Call};
 ghost use Rattle.bq_parse.specs.Turns.{Reads};
 ghost use Rattle.bq_parse.specs.Reading as spec;
 ghost use Rattle.bq_source.specs.declared.token.TokenKind.TheVariants as kind;
@@ -8,10 +10,10 @@ ghost use Rattle.bq_source.specs.declared.token.TokenKind.TheVariants as kind;
 use crate::literals::{identifier, name_of, value_of};
 use crate::place::Cursor;
 use crate::refusal::Refusal;
-use crate::tree::{Argument, Expr, Suffix};
+use crate::tree::{Argument, Expr, Identifier, Suffix};
 use bq_source::TokenKind;
 use sqlite_items::{Boxed, Items};
-use std::alloc::Global;
+use std::alloc::{AllocError, Global};
 
 /// Operand = string
 #[tactic(auto, unfolding(crate::specs::Reading::operand))]
@@ -87,6 +89,15 @@ fn arguments(alloc: Global, cursor: &mut Cursor<'_>) -> Result<Items<Argument>, 
     Ok(found)
 }
 
+/// The tree of a name that is called.
+fn call(alloc: Global, callee: Identifier, arguments: Items<Argument>) -> Result<Expr, AllocError>
+    ensures { IfOk result (λ x. x ≡ e.Primary (e.Name callee) (Call arguments ∷ [])) }
+{
+    let mut suffixes = Items::new(alloc);
+    suffixes.push(Suffix::Call(arguments))?;
+    Ok(Expr::Primary(Boxed::new(alloc, Expr::Name(callee))?, suffixes))
+}
+
 /// Expression = identifier '(' [ Argument { ',' Argument } [','] ] ')'
 #[tactic(auto, unfolding(crate::specs::Reading::expr))]
 pub fn expr(alloc: Global, cursor: &mut Cursor<'_>) -> Result<Expr, Refusal>
@@ -97,8 +108,6 @@ pub fn expr(alloc: Global, cursor: &mut Cursor<'_>) -> Result<Expr, Refusal>
     let word = cursor.expect(TokenKind::Identifier)?;
     cursor.expect(TokenKind::LeftParen)?;
     let arguments = arguments(alloc, cursor)?;
-    let callee = Expr::Name(identifier(alloc, cursor.text, word)?);
-    let mut suffixes = Items::new(alloc);
-    suffixes.push(Suffix::Call(arguments))?;
-    Ok(Expr::Primary(Boxed::new(alloc, callee)?, suffixes))
+    let callee = identifier(alloc, cursor.text, word)?;
+    Ok(call(alloc, callee, arguments)?)
 }

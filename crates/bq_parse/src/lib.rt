@@ -46,6 +46,3 @@ pub use laws::{every_file_has_its_reading, one_parse, one_tree, pieces_of_a_file
 pub use tree::{
     Argument, Expr, File, FileKind, Identifier, SmallKind, SmallStmt, Stmt, Suffix, TopLevel,
 };
-
-#[cfg(test)]
-mod tests;

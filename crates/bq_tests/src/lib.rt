@@ -4,4 +4,6 @@
 #![tactic(auto)]
 
 #[cfg(test)]
+mod parse;
+#[cfg(test)]
 mod source;

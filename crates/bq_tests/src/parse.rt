@@ -1,0 +1,106 @@
+//! Texts from the first byte to their trees, which were written by hand from the grammar of the Starlark specification.
+
+use bq_parse::{FileKind, KeywordCall, KeywordValue, keyword_call, parse};
+use bq_source::{SourceErr, lex};
+use std::alloc::{AllocError, Global};
+use std::test::Fail;
+
+fn write_value(out: &mut String, value: &KeywordValue) -> Result<(), AllocError> {
+    match value {
+        KeywordValue::String(bytes) => write!(out, "\"{bytes:?}\""),
+        KeywordValue::Strings(all) => {
+            out.push_str("[")?;
+            for bytes in all.as_slice() {
+                write!(out, "\"{bytes:?}\",")?;
+            }
+            out.push_str("]")
+        }
+    }
+}
+
+/// A call as `LINE:NAME@LINE(NAME=VALUE;..)`.
+fn write_call(out: &mut String, call: &KeywordCall) -> Result<(), AllocError> {
+    write!(
+        out,
+        "{}:{:?}@{}(",
+        call.line, call.callee.name, call.callee.line
+    )?;
+    for keyword in call.arguments.as_slice() {
+        write!(out, "{:?}=", keyword.name)?;
+        write_value(out, &keyword.value)?;
+        out.push_str(";")?;
+    }
+    out.push_str(")")
+}
+
+/// The calls of a text, or its fault.
+fn calls(alloc: Global, text: &[u8], kind: FileKind) -> Result<String, SourceErr> {
+    let tokens = lex(alloc, text)?;
+    let file = parse(alloc, &tokens, text, kind)?;
+    let mut out = String::new(alloc);
+    for statement in file.statements.as_slice() {
+        match keyword_call(alloc, statement)? {
+            Some(call) => write_call(&mut out, &call)?,
+            None => out.push_str("?")?,
+        }
+    }
+    Ok(out)
+}
+
+/// The calls of a text, or its fault as `line LINE: F12 LeftOut`.
+fn reading(alloc: Global, text: &[u8], kind: FileKind) -> Result<String, AllocError> {
+    match calls(alloc, text, kind) {
+        Ok(written) => Ok(written),
+        Err(err) => format!(in alloc; "{err}"),
+    }
+}
+
+#[test]
+fn reads(rt: HostRuntime) -> Result<(), Fail> {
+    for (text, wanted) in [
+        ("", ""),
+        ("\n  \n", ""),
+        (
+            "filegroup(name = \"x\", srcs = [\"s.txt\"])\n",
+            "1:filegroup@1(name=\"x\";srcs=[\"s.txt\",];)",
+        ),
+        ("f()", "1:f@1()"),
+        ("f(a = \"\",)", "1:f@1(a=\"\";)"),
+        (
+            "f(a = [], b = [\"x\", \"y\",])",
+            "1:f@1(a=[];b=[\"x\",\"y\",];)",
+        ),
+        (
+            "f(b = \"1\", a = \"2\", b = \"3\")",
+            "1:f@1(b=\"1\";a=\"2\";b=\"3\";)",
+        ),
+        ("\nf()\n\ng(\n  a\n = \"x\"\n)\n", "2:f@2()4:g@4(a=\"x\";)"),
+        ("f(a = \"\u{e9}\")", "1:f@1(a=\"\\xc3\\xa9\";)"),
+        // Faults: the first faulty statement, by its first line.
+        ("f", "line 1: F12 LeftOut"),
+        ("x = \"a\"", "line 1: F12 LeftOut"),
+        ("f() f()", "line 1: F12 LeftOut"),
+        ("f(,)", "line 1: F12 LeftOut"),
+        ("f(\"x\")", "line 1: F12 LeftOut"),
+        ("f(a = b)", "line 1: F12 LeftOut"),
+        ("f(a = \"x\" \"y\")", "line 1: F12 LeftOut"),
+        ("f(a = [,])", "line 1: F12 LeftOut"),
+        ("f(a = [[]])", "line 1: F12 LeftOut"),
+        ("f(a = [b = \"x\"])", "line 1: F12 LeftOut"),
+        ("for(a = \"x\")", "line 1: F12 LeftOut"),
+        ("f(if = \"x\")", "line 1: F12 LeftOut"),
+        ("while(a = \"x\")", "line 1: F12 LeftOut"),
+        ("f()\n\nf(\n\na)\nf(b)\n", "line 3: F12 LeftOut"),
+        ("f()\ng()\nelse\n", "line 2: F12 LeftOut"),
+        ("else\nelif\n", "line 1: F12 LeftOut"),
+    ] {
+        for kind in [FileKind::Build, FileKind::Bzl] {
+            assert_eq!(rt;
+                reading(rt.alloc(), text.as_bytes(), kind)?.as_str(),
+                wanted,
+                "{text}"
+            );
+        }
+    }
+    Ok(())
+}
