@@ -9,8 +9,8 @@ mod words;
 ghost use Rattle.bq_run.specs.Run.{IsInRange};
 
 use bq_run::{
-    ANSWERED, DEVICE_FAILED, Metered, NO_MEMORY, Options, REFUSED, RunErr, run, status_of,
-    write_all,
+    ANSWERED, DEVICE_FAILED, Metered, NO_MEMORY, Options, REFUSED, RunErr, run, status_code,
+    write_status_line,
 };
 use clap::Error;
 use clap::error::ErrorKind;
@@ -19,16 +19,16 @@ use std::process::ExitCode;
 use std::{env, io};
 use words::options_of;
 
-/// The error line of want of memory, which is written without any.
-fn tell_no_memory(rt: &impl Eprint) -> u8 {
+/// Writes the error line of a lack of memory, which takes none.
+fn report_no_memory(rt: &impl Eprint) -> u8 {
     let _ = eprintln!(rt; "bq: {}", RunErr::Memory);
     NO_MEMORY
 }
 
-/// Arguments that are no text, or that there is no memory for.
+/// Why the arguments could not be read: they are not UTF-8, or there is no memory for them.
 fn refuse_arguments(rt: &impl Eprint, error: &io::Error) -> u8 {
     if error.kind() == io::ErrorKind::OutOfMemory {
-        return tell_no_memory(rt);
+        return report_no_memory(rt);
     }
     let _ = eprintln!(rt; "error: an argument is no text in UTF-8");
     REFUSED
@@ -37,7 +37,7 @@ fn refuse_arguments(rt: &impl Eprint, error: &io::Error) -> u8 {
 /// Prints help on standard output, and why words are refused on standard error.
 fn show<R: Print + Eprint>(rt: &R, error: &Error) -> u8 {
     if error.kind() == ErrorKind::OutOfMemory {
-        return tell_no_memory(rt);
+        return report_no_memory(rt);
     }
     let printed = error.print(rt);
     match error.kind() {
@@ -48,19 +48,16 @@ fn show<R: Print + Eprint>(rt: &R, error: &Error) -> u8 {
 }
 
 /// Runs on the standard streams.
-fn answer(rt: &HostRuntime, alloc: Global, options: &Options) -> u8
+fn run_on_streams(rt: &HostRuntime, alloc: Global, options: &Options) -> u8
     requires { IsInRange options.now }
 {
     let mut reader = Metered::new(rt.stdin());
     let mut writer = Metered::new(rt.stdout());
     let mut faults = Metered::new(rt.stderr());
     let ended = run(rt, alloc, &mut reader, &mut writer, &mut faults, options);
-    let Ok((status, line)) = status_of(alloc, &ended) else {
-        return tell_no_memory(rt);
-    };
     let mut errors = Metered::new(rt.stderr());
-    let _ = write_all(&mut errors, &line);
-    status
+    let _ = write_status_line(&mut errors, &ended);
+    status_code(&ended)
 }
 
 fn main(rt: HostRuntime) -> ExitCode {
@@ -70,10 +67,10 @@ fn main(rt: HostRuntime) -> ExitCode {
         Err(error) => return ExitCode::from(refuse_arguments(&rt, &error)),
     };
     let Ok(words) = arguments.collect::<Vec<String>>(alloc) else {
-        return ExitCode::from(tell_no_memory(&rt));
+        return ExitCode::from(report_no_memory(&rt));
     };
     match options_of(alloc, &words) {
-        Ok(options) => ExitCode::from(answer(&rt, alloc, &options)),
+        Ok(options) => ExitCode::from(run_on_streams(&rt, alloc, &options)),
         Err(error) => ExitCode::from(show(&rt, &error)),
     }
 }

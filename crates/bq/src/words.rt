@@ -22,13 +22,13 @@ Exit status:
   4  there is not enough memory
   5  reading the input or writing the output failed";
 
-const MOST_JOBS: u32 = 64;
+const MAX_JOBS: u32 = 64;
 
-const USUAL_JOBS: u32 = 4;
+const DEFAULT_JOBS: u32 = 4;
 
-const MOST_STEPS: u64 = 1_000_000_000;
+const MAX_STEPS: u64 = 1_000_000_000;
 
-const USUAL_STEPS: u64 = 1_000_000;
+const DEFAULT_STEPS: u64 = 1_000_000;
 
 /// The command, before it has seen any words.
 fn command<'a>(alloc: Global) -> Result<Command<'a>, AllocError> {
@@ -69,8 +69,8 @@ pub fn options_of(alloc: Global, words: &[String]) -> Result<Options, Error>
     ensures { IfOk result IsInRange }
 {
     let matches = command(alloc)?.try_get_matches_from(words)?;
-    let jobs = matches.get_one::<u32>("jobs").unwrap_or(USUAL_JOBS);
-    let max_steps = matches.get_one::<u64>("max-steps").unwrap_or(USUAL_STEPS);
+    let jobs = matches.get_one::<u32>("jobs").unwrap_or(DEFAULT_JOBS);
+    let max_steps = matches.get_one::<u64>("max-steps").unwrap_or(DEFAULT_STEPS);
     let output = match matches.get_str("output") {
         Some("label_kind") => Output::LabelKind,
         _ => Output::Label,
@@ -81,8 +81,8 @@ pub fn options_of(alloc: Global, words: &[String]) -> Result<Options, Error>
             .unwrap_or("")
             .as_bytes()
             .to_vec(alloc)?,
-        jobs: jobs.clamp(1, MOST_JOBS),
+        jobs: jobs.clamp(1, MAX_JOBS),
         output,
-        max_steps: max_steps.clamp(1, MOST_STEPS),
+        max_steps: max_steps.clamp(1, MAX_STEPS),
     })
 }

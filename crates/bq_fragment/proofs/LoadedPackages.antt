@@ -14,12 +14,12 @@ use Rattle.bq_fragment.specs.declared.calls.RuleCall.{RuleCall}
 use Rattle.bq_fragment.specs.declared.declaration.Declaration.{Declaration}
 use Rattle.bq_fragment.specs.declared.fault_lines.FaultLine.{FaultLine}
 use Rattle.bq_fragment.specs.declared.loading.Loaded.{Loaded}
-use Rattle.bq_fragment.specs.declared.package.Mention.{Mention}
+use Rattle.bq_fragment.specs.declared.package.Dependency.{Dependency}
 use Rattle.bq_fragment.specs.declared.package.Package.{Package}
 use Rattle.bq_fragment.specs.Calls.{resolved}
 use Rattle.bq_fragment.specs.Source.{statements_of}
 use Rattle.bq_fragment.specs.Package.{Targets}
-use Rattle.bq_fragment.specs.Loading.{outcome_of, target_in, target_of, dangling, all_dangling, fault_line, lines_by, lines_of, lines_from, LoadsTo, FoundBy, Stands, AllStand, build_text, kind_at, lines_with, lines_at, lines_of_all}
+use Rattle.bq_fragment.specs.Loading.{outcome_of, target_in, target_of, dangling, all_dangling, fault_line, lines_by, lines_of, lines_from, LoadsTo, FoundBy, IsLoaded, AreLoaded, build_text, kind_at, lines_with, lines_at, lines_of_all}
 use Rattle.bq_fragment.proofs.Targets.{one_left, one_more}
 
 pub loads : (packages : List BuildFile) (b : BuildFile) (statements : List TopLevel) (calls : List RuleCall) (r : Result Package SourceErr)
@@ -28,25 +28,25 @@ unfolding outcome_of
 loads packages b statements calls (Ok p) e f t = (t.0, rw (e, f) t.1, t.2, t.3)
 loads packages b statements calls (Err x) e f t = λ why is. rw (e, f) (t why is)
 
-pub stand-end : (packages bs : List BuildFile) (xs : List Loaded) (b : BuildFile) (x : Loaded) → AllStand packages bs xs → Stands packages b x
-    → AllStand packages (bs ++ b ∷ []) (xs ++ x ∷ [])
-stand-end packages [] [] b x h s = (s, tt)
-stand-end packages (c ∷ bs) (y ∷ xs) b x h s = (h.0, stand-end packages bs xs b x h.1 s)
-stand-end packages [] (y ∷ xs) b x h s = absurd h
-stand-end packages (c ∷ bs) [] b x h s = absurd h
+pub loaded-end : (packages bs : List BuildFile) (xs : List Loaded) (b : BuildFile) (x : Loaded) → AreLoaded packages bs xs → IsLoaded packages b x
+    → AreLoaded packages (bs ++ b ∷ []) (xs ++ x ∷ [])
+loaded-end packages [] [] b x h s = (s, tt)
+loaded-end packages (c ∷ bs) (y ∷ xs) b x h s = (h.0, loaded-end packages bs xs b x h.1 s)
+loaded-end packages [] (y ∷ xs) b x h s = absurd h
+loaded-end packages (c ∷ bs) [] b x h s = absurd h
 
-pub stand-more : (packages : List BuildFile) (i : ℕ) (b : BuildFile) (xs ys : List Loaded) (x : Loaded) → i < length packages → b ≡ get_or packages i b
-    → AllStand packages (take i packages) xs → Stands packages b x → ys ≡ xs ++ x ∷ [] → AllStand packages (take (i + 1) packages) ys
-stand-more packages i b xs ys x h e all s f =
-    let P : List BuildFile → Type 0 = λ z. AllStand packages z ys in
-    let Q : List Loaded → Type 0 = λ z. AllStand packages (take i packages ++ b ∷ []) z in
-    subst P (sym (one_more packages i b h e)) (subst Q (sym f) (stand-end packages (take i packages) xs b x all s))
+pub loaded-more : (packages : List BuildFile) (i : ℕ) (b : BuildFile) (xs ys : List Loaded) (x : Loaded) → i < length packages → b ≡ get_or packages i b
+    → AreLoaded packages (take i packages) xs → IsLoaded packages b x → ys ≡ xs ++ x ∷ [] → AreLoaded packages (take (i + 1) packages) ys
+loaded-more packages i b xs ys x h e all s f =
+    let P : List BuildFile → Type 0 = λ z. AreLoaded packages z ys in
+    let Q : List Loaded → Type 0 = λ z. AreLoaded packages (take i packages ++ b ∷ []) z in
+    subst P (sym (one_more packages i b h e)) (subst Q (sym f) (loaded-end packages (take i packages) xs b x all s))
 
-pub stand-all : (packages : List BuildFile) (i : ℕ) (xs : List Loaded) → length packages ≤ i → AllStand packages (take i packages) xs → AllStand packages packages xs
-stand-all packages i xs h all = let P : List BuildFile → Type 0 = λ z. AllStand packages z xs in subst P (take_all i packages h) all
+pub loaded-all : (packages : List BuildFile) (i : ℕ) (xs : List Loaded) → length packages ≤ i → AreLoaded packages (take i packages) xs → AreLoaded packages packages xs
+loaded-all packages i xs h all = let P : List BuildFile → Type 0 = λ z. AreLoaded packages z xs in subst P (take_all i packages h) all
 
 -- what stands at a place has the kinds of the package there
-pub kinds_at : (packages bs : List BuildFile) (xs : List Loaded) (j : ℕ) (name : List ℕ) → AllStand packages bs xs
+pub kinds_at : (packages bs : List BuildFile) (xs : List Loaded) (j : ℕ) (name : List ℕ) → AreLoaded packages bs xs
     → kind_at (slice_get xs j) name ≡ target_in packages (slice_get bs j) name
 kinds_at packages [] [] j name h = refl
 kinds_at packages (b ∷ bs) (x ∷ xs) zero name h = h.0.kinds name
@@ -54,7 +54,7 @@ kinds_at packages (b ∷ bs) (x ∷ xs) (suc j) name h = kinds_at packages bs xs
 kinds_at packages [] (x ∷ xs) j name h = absurd h
 kinds_at packages (b ∷ bs) [] j name h = absurd h
 
-pub target_here : (packages : List BuildFile) (xs : List Loaded) (l : LabelParts) (at : ℕ) → AllStand packages packages xs
+pub target_here : (packages : List BuildFile) (xs : List Loaded) (l : LabelParts) (at : ℕ) → AreLoaded packages packages xs
     → slice_get packages at ≡ package_named packages (package_of l) → kind_at (slice_get xs at) l.name ≡ target_of packages l
 unfolding target_of
 target_here packages xs l at h e = kinds_at packages packages xs at l.name h ∙ ap (λ z. target_in packages z l.name) e
@@ -65,7 +65,7 @@ target_nowhere packages l e = ap (λ z. target_in packages z l.name) (sym e)
 
 -- ---- labels that name no target
 
-module _ (packages : List BuildFile) (label : List ℕ) (ms : List Mention) (i : ℕ) (m : Mention) (h : i < length ms) (e : m ≡ get_or ms i m)
+module _ (packages : List BuildFile) (label : List ℕ) (ms : List Dependency) (i : ℕ) (m : Dependency) (h : i < length ms) (e : m ≡ get_or ms i m)
     (lines all : List FaultLine) (left : lines ++ all_dangling packages label (drop i ms) ≡ all) where
   next_dangling : lines ++ (dangling packages label m ++ all_dangling packages label (drop (i + 1) ms)) ≡ all
   unfolding all_dangling
@@ -79,7 +79,7 @@ module _ (packages : List BuildFile) (label : List ℕ) (ms : List Mention) (i :
   names_none line t f = append_assoc lines (line ∷ []) (all_dangling packages label (drop (i + 1) ms))
       ∙ ap (λ z. lines ++ (z ++ all_dangling packages label (drop (i + 1) ms))) (sym f) ∙ next_dangling
 
-pub no_more_dangling : (packages : List BuildFile) (label : List ℕ) (ms : List Mention) (i : ℕ) (lines all : List FaultLine) → length ms ≤ i
+pub no_more_dangling : (packages : List BuildFile) (label : List ℕ) (ms : List Dependency) (i : ℕ) (lines all : List FaultLine) → length ms ≤ i
     → lines ++ all_dangling packages label (drop i ms) ≡ all → lines ≡ all
 unfolding all_dangling
 no_more_dangling packages label ms i lines all h left =
@@ -102,22 +102,22 @@ found_lines : (packages : List BuildFile) (b : BuildFile) (x : Loaded) (o : Resu
     → lines_at packages x ≡ lines_by packages b o
 found_lines packages b x (Err why) e found = ap (lines_with packages x) found.0 ∙ ap (λ z. fault_line z why ∷ []) e
 found_lines packages b x (Ok ds) e found = ap (lines_with packages x) found.0
-    ∙ ap (λ z. all_dangling packages z x.foreign) e ∙ ap (all_dangling packages (build_text b)) found.1
+    ∙ ap (λ z. all_dangling packages z x.cross_package) e ∙ ap (all_dangling packages (build_text b)) found.1
 
-stand-lines : (packages bs : List BuildFile) (xs : List Loaded) → AllStand packages bs xs → lines_of_all packages xs ≡ lines_from packages bs
+loaded-lines : (packages bs : List BuildFile) (xs : List Loaded) → AreLoaded packages bs xs → lines_of_all packages xs ≡ lines_from packages bs
 unfolding lines_of_all lines_from lines_of
-stand-lines packages [] [] h = refl
-stand-lines packages (b ∷ bs) (x ∷ xs) h =
+loaded-lines packages [] [] h = refl
+loaded-lines packages (b ∷ bs) (x ∷ xs) h =
     let a = found_lines packages b x (outcome_of packages b) h.0.label h.0.found in
-    let c = stand-lines packages bs xs h.1 in
+    let c = loaded-lines packages bs xs h.1 in
     ap (λ z. z ++ lines_of_all packages xs) a ∙ ap (λ z. lines_by packages b (outcome_of packages b) ++ z) c
-stand-lines packages [] (x ∷ xs) h = absurd h
-stand-lines packages (b ∷ bs) [] h = absurd h
+loaded-lines packages [] (x ∷ xs) h = absurd h
+loaded-lines packages (b ∷ bs) [] h = absurd h
 
-pub all-lines : (packages : List BuildFile) (xs : List Loaded) (i : ℕ) (lines : List FaultLine) → length xs ≤ i → AllStand packages packages xs
+pub all-lines : (packages : List BuildFile) (xs : List Loaded) (i : ℕ) (lines : List FaultLine) → length xs ≤ i → AreLoaded packages packages xs
     → lines_of_all packages xs ≡ lines ++ lines_of_all packages (drop i xs) → lines ≡ lines_from packages packages
-all-lines packages xs i lines h all left = lines-done packages xs i lines h left ∙ stand-lines packages packages xs all
+all-lines packages xs i lines h all left = lines-done packages xs i lines h left ∙ loaded-lines packages packages xs all
 
-pub dangles : (packages : List BuildFile) (label : List ℕ) (m : Mention) (share detail : List ℕ) → is_some (target_of packages m.label) ≡ false
+pub dangles : (packages : List BuildFile) (label : List ℕ) (m : Dependency) (share detail : List ℕ) → is_some (target_of packages m.label) ≡ false
     → share ≡ label → detail ≡ full_form m.label → dangling packages label m ≡ record { label = share; line = m.line; kind = f.DanglingLabel; detail = detail } ∷ []
 dangles packages label m share detail t e g = rw (t, e, g) refl

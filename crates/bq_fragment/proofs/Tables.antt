@@ -12,9 +12,10 @@ use Rattle.std.proofs.lemmas.Map.Text.{is_eq-slice_cmp}
 use Rattle.std.proofs.lemmas.List.{take_more}
 use Rattle.std.proofs.lemmas.List.Folds.{list_any-append}
 use Rattle.bq_fragment.specs.declared.names.Names.{Names}
-use Rattle.bq_fragment.specs.declared.names.TargetKind.{TargetKind}
+use Rattle.bq_fragment.specs.declared.target_kind.TargetKind.{TargetKind}
 use Rattle.bq_parse.specs.declared.calls.Keyword.{Keyword}
-use Rattle.bq_fragment.specs.Names.{kind_of, is_known, Knows, Adds, repeats, names_of}
+use Rattle.bq_fragment.specs.Names.{kind_of, is_known, Knows, Adds}
+use Rattle.bq_fragment.specs.Arguments.{repeats, argument_names}
 
 pub by_bool : (b : Bool) → (b ≡ true) ⊎ (b ≡ false)
 by_bool true = inl refl
@@ -105,17 +106,17 @@ more_seen s n names name seen updates q =
       | inr t ↦ rw (updates q, back, list_any-append (bytes_eq q) names (name ∷ []), t) (seen q ∙ sym (or_false (list_any (bytes_eq q) names)))
     ]
 
-map-end : (xs : List Keyword) (k : Keyword) → names_of (xs ++ k ∷ []) ≡ names_of xs ++ k.name ∷ []
+map-end : (xs : List Keyword) (k : Keyword) → argument_names (xs ++ k ∷ []) ≡ argument_names xs ++ k.name ∷ []
 map-end [] k = refl
 map-end (x ∷ xs) k = ap (λ z. x.name ∷ z) (map-end xs k)
 
 pub names_more : (ks : List Keyword) (i : ℕ) (k : Keyword) → i < length ks → k ≡ get_or ks i k
-    → names_of (take (i + 1) ks) ≡ names_of (take i ks) ++ k.name ∷ []
-names_more ks i k h e = ap names_of (take_more ks i k h) ∙ ap (λ z. names_of (take i ks ++ z ∷ [])) (sym e) ∙ map-end (take i ks) k
+    → argument_names (take (i + 1) ks) ≡ argument_names (take i ks) ++ k.name ∷ []
+names_more ks i k h e = ap argument_names (take_more ks i k h) ∙ ap (λ z. argument_names (take i ks ++ z ∷ [])) (sym e) ∙ map-end (take i ks) k
 
 pub repeats_step : (ks : List Keyword) (i : ℕ) (k : Keyword) → i < length ks → k ≡ get_or ks i k
-    → repeats (names_of (take i ks)) (names_of (drop i ks))
-    ≡ (list_any (bytes_eq k.name) (names_of (take i ks)) || repeats (names_of (take (i + 1) ks)) (names_of (drop (i + 1) ks)))
+    → repeats (argument_names (take i ks)) (argument_names (drop i ks))
+    ≡ (list_any (bytes_eq k.name) (argument_names (take i ks)) || repeats (argument_names (take (i + 1) ks)) (argument_names (drop (i + 1) ks)))
 unfolding repeats
 repeats_step ks i k h e =
     let rest : drop i ks ≡ k ∷ drop (i + 1) ks = rw (add-one) (drop-cons ks i k h ∙ ap (λ z. z ∷ drop (suc i) ks) (sym e)) in
@@ -126,22 +127,22 @@ unfolding repeats
 none_repeats seen = refl
 
 module _ (ks : List Keyword) (i : ℕ) (k : Keyword) (h : i < length ks) (e : k ≡ get_or ks i k) (s : set.BTreeSet (List ℕ)) (key : List ℕ) (is : key ≡ k.name)
-    (seen : Seen s (names_of (take i ks))) (left : repeats [] (names_of ks) ≡ repeats (names_of (take i ks)) (names_of (drop i ks))) where
-  was_seen : list_any (bytes_eq k.name) (names_of (take i ks)) ≡ set.contains (slice_cmp nat_cmp) s key
+    (seen : Seen s (argument_names (take i ks))) (left : repeats [] (argument_names ks) ≡ repeats (argument_names (take i ks)) (argument_names (drop i ks))) where
+  was_seen : list_any (bytes_eq k.name) (argument_names (take i ks)) ≡ set.contains (slice_cmp nat_cmp) s key
   was_seen = sym (seen k.name) ∙ ap (λ z. set.contains (slice_cmp nat_cmp) s z) (sym is)
 
   -- a name that is in the set comes again
-  pub comes_again : set.contains (slice_cmp nat_cmp) s key ≡ true → true ≡ repeats [] (names_of ks)
+  pub comes_again : set.contains (slice_cmp nat_cmp) s key ≡ true → true ≡ repeats [] (argument_names ks)
   comes_again t = sym (left ∙ repeats_step ks i k h e ∙ rw (was_seen, t) refl)
 
   -- a name that is not goes into it
-  pub goes_on : set.contains (slice_cmp nat_cmp) s key ≡ false → repeats [] (names_of ks) ≡ repeats (names_of (take (i + 1) ks)) (names_of (drop (i + 1) ks))
+  pub goes_on : set.contains (slice_cmp nat_cmp) s key ≡ false → repeats [] (argument_names ks) ≡ repeats (argument_names (take (i + 1) ks)) (argument_names (drop (i + 1) ks))
   goes_on t = left ∙ repeats_step ks i k h e ∙ rw (was_seen, t) refl
 
   pub goes_in : (n : set.BTreeSet (List ℕ))
       → ((q : List ℕ) → set.contains (slice_cmp nat_cmp) n q ≡ cond (is_eq (slice_cmp nat_cmp key q)) true (set.contains (slice_cmp nat_cmp) s q))
-      → Seen n (names_of (take (i + 1) ks))
-  goes_in n updates = rw (names_more ks i k h e, ← is) (more_seen s n (names_of (take i ks)) key seen updates)
+      → Seen n (argument_names (take (i + 1) ks))
+  goes_in n updates = rw (names_more ks i k h e, ← is) (more_seen s n (argument_names (take i ks)) key seen updates)
 
 not_true : (b c : Bool) → c ≡ not b → c ≡ false → b ≡ true
 not_true true c e f = refl

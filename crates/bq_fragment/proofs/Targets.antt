@@ -1,4 +1,4 @@
--- The names, mentions and declarations of a package.
+-- The names, dependencies and declarations of a package.
 use Rattle.std.proofs.Common.{◌≡◌, ℕ, ◌+◌, ◌<◌, ◌≤◌, inl, inr, suc, List, [], ◌∷◌, ◌++◌, length, take, drop, get_or, map, Bool, true, false, cond, ◌&&◌, Result, Ok, Err, refl, sym, ap, ◌∙◌, subst, add-one, drop-cons, append_assoc}
 use Rattle.std.specs.Prelude.{bytes_eq, IfOk}
 use Rattle.std.specs.declared.alloc.AllocError.{AllocError}
@@ -15,13 +15,13 @@ use Rattle.bq_label.specs.Label.{PackageParts, last_segment}
 use Rattle.bq_fragment.specs.declared.calls.RuleCall.{RuleCall}
 use Rattle.bq_fragment.specs.declared.declaration.Declaration.{Declaration}
 use Rattle.bq_fragment.specs.declared.names.Names.{Names}
-use Rattle.bq_fragment.specs.declared.names.TargetKind.{TargetKind}
-use Rattle.bq_fragment.specs.declared.names.TargetKind.TheVariants.{Source}
-use Rattle.bq_fragment.specs.declared.package.Mention.{Mention}
+use Rattle.bq_fragment.specs.declared.target_kind.TargetKind.{TargetKind}
+use Rattle.bq_fragment.specs.declared.target_kind.TargetKind.TheVariants.{Source}
+use Rattle.bq_fragment.specs.declared.package.Dependency.{Dependency}
 use Rattle.bq_fragment.specs.Names.{is_known, Knows, Adds}
 use Rattle.bq_fragment.specs.Scope.{is_own}
 use Rattle.bq_fragment.specs.Declarations.{declaration}
-use Rattle.bq_fragment.specs.Package.{entries, entries_of, are_new, declared_by, declarations, mentions_in, mentions_of, sources, foreign, targets_of, AddsAll, DeclaresNext}
+use Rattle.bq_fragment.specs.Package.{entries, entries_of, are_new, declared_by, declarations, dependencies_in, dependencies_of, sources, cross_package, targets_of, AddsAll, DeclaresNext}
 use Rattle.bq_fragment.specs.Steps.{in_turn}
 use Rattle.bq_fragment.proofs.Tables.{by_bool}
 
@@ -162,20 +162,20 @@ pub declares_all : (own : PackageParts) (packages : List BuildFile) (calls : Lis
 unfolding declarations in_turn
 declares_all own packages calls i done h left = left ∙ rw (drop_all i calls h) refl
 
--- ---- mentions
+-- ---- dependencies
 
-pub mentions-on : (ds : List Declaration) (i : ℕ) (d : Declaration) (found : List Mention) → i < length ds → d ≡ get_or ds i d
-    → mentions_of ds ≡ found ++ mentions_of (drop i ds) → mentions_of ds ≡ (found ++ mentions_in d) ++ mentions_of (drop (i + 1) ds)
-unfolding mentions_of
-mentions-on ds i d found h e left = left ∙ rw (one_left ds i d h e) (sym (append_assoc found (mentions_in d) (mentions_of (drop (i + 1) ds))))
+pub dependencies-on : (ds : List Declaration) (i : ℕ) (d : Declaration) (found : List Dependency) → i < length ds → d ≡ get_or ds i d
+    → dependencies_of ds ≡ found ++ dependencies_of (drop i ds) → dependencies_of ds ≡ (found ++ dependencies_in d) ++ dependencies_of (drop (i + 1) ds)
+unfolding dependencies_of
+dependencies-on ds i d found h e left = left ∙ rw (one_left ds i d h e) (sym (append_assoc found (dependencies_in d) (dependencies_of (drop (i + 1) ds))))
 
-pub mentions-all : (ds : List Declaration) (i : ℕ) (found : List Mention) → length ds ≤ i → mentions_of ds ≡ found ++ mentions_of (drop i ds) → found ≡ mentions_of ds
-unfolding mentions_of
-mentions-all ds i found h left = sym (left ∙ rw (drop_all i ds h) (append-nil found))
+pub dependencies-all : (ds : List Declaration) (i : ℕ) (found : List Dependency) → length ds ≤ i → dependencies_of ds ≡ found ++ dependencies_of (drop i ds) → found ≡ dependencies_of ds
+unfolding dependencies_of
+dependencies-all ds i found h left = sym (left ∙ rw (drop_all i ds h) (append-nil found))
 
--- ---- mentions of the package itself, and of others
+-- ---- dependencies of the package itself, and of others
 
-sources-append : (own : PackageParts) (xs ys : List Mention) → sources own (xs ++ ys) ≡ sources own xs ++ sources own ys
+sources-append : (own : PackageParts) (xs ys : List Dependency) → sources own (xs ++ ys) ≡ sources own xs ++ sources own ys
 unfolding sources
 sources-append own [] ys = refl
 sources-append own (x ∷ xs) ys = elim (by_bool (is_own own x.label)) [
@@ -183,15 +183,15 @@ sources-append own (x ∷ xs) ys = elim (by_bool (is_own own x.label)) [
   | inr t ↦ rw t (sources-append own xs ys)
 ]
 
-foreign-append : (own : PackageParts) (xs ys : List Mention) → foreign own (xs ++ ys) ≡ foreign own xs ++ foreign own ys
-unfolding foreign
-foreign-append own [] ys = refl
-foreign-append own (x ∷ xs) ys = elim (by_bool (is_own own x.label)) [
-  | inl t ↦ rw t (foreign-append own xs ys)
-  | inr t ↦ rw t (ap (λ z. x ∷ z) (foreign-append own xs ys))
+cross_package-append : (own : PackageParts) (xs ys : List Dependency) → cross_package own (xs ++ ys) ≡ cross_package own xs ++ cross_package own ys
+unfolding cross_package
+cross_package-append own [] ys = refl
+cross_package-append own (x ∷ xs) ys = elim (by_bool (is_own own x.label)) [
+  | inl t ↦ rw t (cross_package-append own xs ys)
+  | inr t ↦ rw t (ap (λ z. x ∷ z) (cross_package-append own xs ys))
 ]
 
-module _ (own : PackageParts) (ms : List Mention) (i : ℕ) (m : Mention) (h : i < length ms) (e : m ≡ get_or ms i m) where
+module _ (own : PackageParts) (ms : List Dependency) (i : ℕ) (m : Dependency) (h : i < length ms) (e : m ≡ get_or ms i m) where
   pub source_more : is_own own m.label ≡ true → sources own (take (i + 1) ms) ≡ sources own (take i ms) ++ (m.label.name, Source) ∷ []
   unfolding sources
   source_more t = rw (one_more ms i m h e) (sources-append own (take i ms) (m ∷ []) ∙ rw t refl)
@@ -200,13 +200,13 @@ module _ (own : PackageParts) (ms : List Mention) (i : ℕ) (m : Mention) (h : i
   unfolding sources
   source_same t = rw (one_more ms i m h e) (sources-append own (take i ms) (m ∷ []) ∙ rw t (append-nil (sources own (take i ms))))
 
-  pub foreign_same : is_own own m.label ≡ true → foreign own (take (i + 1) ms) ≡ foreign own (take i ms)
-  unfolding foreign
-  foreign_same t = rw (one_more ms i m h e) (foreign-append own (take i ms) (m ∷ []) ∙ rw t (append-nil (foreign own (take i ms))))
+  pub cross_package_same : is_own own m.label ≡ true → cross_package own (take (i + 1) ms) ≡ cross_package own (take i ms)
+  unfolding cross_package
+  cross_package_same t = rw (one_more ms i m h e) (cross_package-append own (take i ms) (m ∷ []) ∙ rw t (append-nil (cross_package own (take i ms))))
 
-  pub foreign_more : is_own own m.label ≡ false → foreign own (take (i + 1) ms) ≡ foreign own (take i ms) ++ m ∷ []
-  unfolding foreign
-  foreign_more t = rw (one_more ms i m h e) (foreign-append own (take i ms) (m ∷ []) ∙ rw t refl)
+  pub cross_package_more : is_own own m.label ≡ false → cross_package own (take (i + 1) ms) ≡ cross_package own (take i ms) ++ m ∷ []
+  unfolding cross_package
+  cross_package_more t = rw (one_more ms i m h e) (cross_package-append own (take i ms) (m ∷ []) ∙ rw t refl)
 
 -- the sources that the loop has come to are known
 abbrev pub KnowsSo : Names → Names → Entries → Type 0
@@ -237,13 +237,13 @@ both_added old mid new kind last ns ms os ps b (Ok c) e f t adds more =
     let R : List (List ℕ) → Type 0 = λ z. AddsAll mid new (Added last z) c in
     adds_both old mid new (Added kind ns) (Added last os) c (subst Q t (subst P e adds)) (subst R f more)
 
-pub settle_begins : (old : Names) (own : PackageParts) → KnowsSo old old (sources own [])
+pub no_sources_yet : (old : Names) (own : PackageParts) → KnowsSo old old (sources own [])
 unfolding sources
-settle_begins old own = knows_none old
+no_sources_yet old own = knows_none old
 
-pub none_foreign : (own : PackageParts) (kept : List Mention) → kept ≡ [] → kept ≡ foreign own []
-unfolding foreign
-none_foreign own kept e = e
+pub none_cross_package : (own : PackageParts) (kept : List Dependency) → kept ≡ [] → kept ≡ cross_package own []
+unfolding cross_package
+none_cross_package own kept e = e
 
 pub none_declared : (names : Names) (ds : List Declaration) → ds ≡ [] → Knows names [] → Knows names (entries_of ds)
 unfolding entries_of
@@ -252,12 +252,12 @@ none_declared names ds e knows = let P : List Declaration → Type 0 = λ z. Kno
 pub adds_as : (old new : Names) (es : Entries) (b c : Bool) → b ≡ c → AddsAll old new es b → AddsAll old new es c
 adds_as old new es b c e adds = let P : Bool → Type 0 = λ z. AddsAll old new es z in subst P e adds
 
-pub targets_known : (new : Names) (b : BuildFile) (own : PackageParts) (ds : List Declaration) (file : List ℕ) (ms : List Mention) → b.id ≡ own
-    → file ≡ last_segment b.file.path → ms ≡ mentions_of ds → Knows new ((entries_of ds ++ (file, Source) ∷ []) ++ sources own ms) → Knows new (targets_of b ds)
+pub targets_known : (new : Names) (b : BuildFile) (own : PackageParts) (ds : List Declaration) (file : List ℕ) (ms : List Dependency) → b.id ≡ own
+    → file ≡ last_segment b.file.path → ms ≡ dependencies_of ds → Knows new ((entries_of ds ++ (file, Source) ∷ []) ++ sources own ms) → Knows new (targets_of b ds)
 unfolding targets_of
 targets_known new b own ds file ms e f g knows =
     let P : Entries → Type 0 = Knows new in
     subst P (append_assoc (entries_of ds) ((file, Source) ∷ []) (sources own ms)
     ∙ ap (λ z. entries_of ds ++ ((z, Source) ∷ sources own ms)) f
     ∙ ap (λ z. entries_of ds ++ ((last_segment b.file.path, Source) ∷ sources own z)) g
-    ∙ ap (λ z. entries_of ds ++ ((last_segment b.file.path, Source) ∷ sources z (mentions_of ds))) (sym e)) knows
+    ∙ ap (λ z. entries_of ds ++ ((last_segment b.file.path, Source) ∷ sources z (dependencies_of ds))) (sym e)) knows

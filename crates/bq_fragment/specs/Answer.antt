@@ -1,10 +1,10 @@
 -- What is printed of a target (Bazel, "query", output formats `label` and `label_kind`).
 use Rattle.std.specs.Prelude.{ℕ, ◌++◌, List, codes}
 use Rattle.bq_label.specs.Label.{LabelParts, full_form}
-use Rattle.bq_fragment.specs.declared.names.TargetKind.{TargetKind}
-use Rattle.bq_fragment.specs.declared.names.TargetKind.TheVariants.{RuleOf, Generated, Source}
-use Rattle.bq_fragment.specs.declared.told.Output.{Output}
-use Rattle.bq_fragment.specs.declared.told.Output.TheVariants as output
+use Rattle.bq_fragment.specs.declared.target_kind.TargetKind.{TargetKind}
+use Rattle.bq_fragment.specs.declared.target_kind.TargetKind.TheVariants.{RuleOf, Generated, Source}
+use Rattle.bq_fragment.specs.declared.report.Output.{Output}
+use Rattle.bq_fragment.specs.declared.report.Output.TheVariants as output
 use Rattle.bq_fragment.specs.Schema.{rule_name}
 
 abbrev pub kind_text : TargetKind → List ℕ

@@ -11,7 +11,7 @@ use Rattle.bq_parse.specs.declared.calls.KeywordValue.{KeywordValue}
 use Rattle.bq_parse.specs.declared.calls.KeywordValue.TheVariants as v
 use Rattle.bq_fragment.specs.declared.rule.AttributeType.{AttributeType}
 use Rattle.bq_fragment.specs.declared.rule.AttributeType.TheVariants as t
-use Rattle.bq_fragment.specs.Scope.{crosses, strays}
+use Rattle.bq_fragment.specs.Scope.{crosses, own_label_crosses}
 use Rattle.bq_fragment.specs.Steps.{◌>>=◌, in_turn}
 
 abbrev pub takes_text : AttributeType → Bool
@@ -41,11 +41,11 @@ all_labels own = in_turn (λ done t. label_found (label_of own t))
 
 -- and then F37 where one of the own package crosses into another
 unfoldable pub labels_of : PackageParts → List BuildFile → List (List ℕ) → Result (List LabelParts) FaultKind
-labels_of own packages ts = all_labels own [] ts >>= λ ls. if list_any (strays own packages) ls then Err f.CrossesPackage else Ok ls
+labels_of own packages ts = all_labels own [] ts >>= λ ls. if list_any (own_label_crosses own packages) ls then Err f.CrossesPackage else Ok ls
 
 -- the names that a call declares: F75 where one is no name of a target, then F37 where one crosses into another package
-unfoldable pub names_of : PackageParts → List BuildFile → List (List ℕ) → Result (List (List ℕ)) FaultKind
-names_of own packages ns =
+unfoldable pub target_names : PackageParts → List BuildFile → List (List ℕ) → Result (List (List ℕ)) FaultKind
+target_names own packages ns =
     if list_all is_path ns then (if list_any (λ n. crosses packages (label_in own n)) ns then Err f.CrossesPackage else Ok ns)
     else Err f.BadName
 

@@ -13,8 +13,8 @@ use Rattle.bq_fragment.specs.declared.rule.AttributeType.{AttributeType}
 use Rattle.bq_fragment.specs.declared.rule.AttributeType.TheVariants as t
 use Rattle.bq_fragment.specs.declared.declaration.Declaration.{Declaration}
 use Rattle.bq_fragment.specs.Schema.{attribute_of, mandatory_of}
-use Rattle.bq_fragment.specs.Names.{repeats, names_of as argument_names}
-use Rattle.bq_fragment.specs.Attributes.{value_texts, labels_of, names_of, without_colon}
+use Rattle.bq_fragment.specs.Arguments.{repeats, argument_names}
+use Rattle.bq_fragment.specs.Attributes.{value_texts, labels_of, target_names, without_colon}
 use Rattle.bq_fragment.specs.Steps.{◌>>=◌}
 
 abbrev pub begun : ℕ → Rule → Declaration
@@ -22,8 +22,8 @@ begun line rule = record { line = line; rule = rule; names = []; outputs = []; l
 
 -- what the texts of an attribute of this type add: a name, outputs or the labels of edges
 unfoldable pub with_texts : PackageParts → List BuildFile → AttributeType → List (List ℕ) → Declaration → Result Declaration FaultKind
-with_texts own packages t.Name ts d = names_of own packages ts >>= λ ns. Ok (record d { names = d.names ++ ns })
-with_texts own packages t.OutputList ts d = names_of own packages (map without_colon ts) >>= λ ns. Ok (record d { outputs = d.outputs ++ ns })
+with_texts own packages t.Name ts d = target_names own packages ts >>= λ ns. Ok (record d { names = d.names ++ ns })
+with_texts own packages t.OutputList ts d = target_names own packages (map without_colon ts) >>= λ ns. Ok (record d { outputs = d.outputs ++ ns })
 with_texts own packages t.Label ts d = labels_of own packages ts >>= λ ls. Ok (record d { labels = d.labels ++ ls })
 with_texts own packages t.LabelList ts d = labels_of own packages ts >>= λ ls. Ok (record d { labels = d.labels ++ ls })
 with_texts own packages _ ts d = Ok d

@@ -1,6 +1,7 @@
 pub mod Schema
 pub mod Predeclared
 pub mod Names
+pub mod Arguments
 pub mod Scope
 pub mod Steps
 pub mod Attributes
@@ -9,7 +10,7 @@ pub mod Calls
 pub mod Package
 pub mod Source
 pub mod QueryError
-pub mod Told
+pub mod Report
 pub mod Query
 pub mod FaultLines
 pub mod LineText

@@ -13,12 +13,12 @@ use Rattle.bq_fragment.specs.declared.declaration.Declaration.{Declaration}
 use Rattle.bq_fragment.specs.declared.fault_lines.FaultLine.{FaultLine}
 use Rattle.bq_fragment.specs.declared.package.Package.{Package}
 use Rattle.bq_fragment.specs.declared.loading.Loaded.{Loaded}
-use Rattle.bq_fragment.specs.declared.names.TargetKind.{TargetKind}
-use Rattle.bq_fragment.specs.declared.package.Mention.{Mention}
+use Rattle.bq_fragment.specs.declared.target_kind.TargetKind.{TargetKind}
+use Rattle.bq_fragment.specs.declared.package.Dependency.{Dependency}
 use Rattle.bq_fragment.specs.Names.{kind_of, Knows}
 use Rattle.bq_fragment.specs.Source.{statements_of}
 use Rattle.bq_fragment.specs.Calls.{resolved}
-use Rattle.bq_fragment.specs.Package.{declarations, mentions_of, foreign, targets_of}
+use Rattle.bq_fragment.specs.Package.{declarations, dependencies_of, cross_package, targets_of}
 use Rattle.bq_fragment.specs.Steps.{◌>>=◌}
 
 -- what the package's BUILD file declares, or its fault: that of its text, else that of its callees, else that of its first bad call
@@ -47,12 +47,12 @@ abbrev pub build_text : BuildFile → List ℕ
 build_text b = label_text (build_label b)
 
 -- F79 where a label of another package names no target there
-abbrev pub dangling : List BuildFile → List ℕ → Mention → List FaultLine
+abbrev pub dangling : List BuildFile → List ℕ → Dependency → List FaultLine
 dangling packages label m =
     if is_some (target_of packages m.label) then []
     else record { label = label; line = m.line; kind = f.DanglingLabel; detail = full_form m.label } ∷ []
 
-unfoldable pub all_dangling : List BuildFile → List ℕ → List Mention → List FaultLine
+unfoldable pub all_dangling : List BuildFile → List ℕ → List Dependency → List FaultLine
 all_dangling packages label [] = []
 all_dangling packages label (m ∷ ms) = dangling packages label m ++ all_dangling packages label ms
 
@@ -61,7 +61,7 @@ fault_line label why = record { label = label; line = why.line; kind = why.kind;
 
 abbrev pub lines_by : List BuildFile → BuildFile → Result (List Declaration) Fault → List FaultLine
 lines_by packages b (Err why) = fault_line (build_text b) why ∷ []
-lines_by packages b (Ok ds) = all_dangling packages (build_text b) (foreign b.id (mentions_of ds))
+lines_by packages b (Ok ds) = all_dangling packages (build_text b) (cross_package b.id (dependencies_of ds))
 
 -- the fault lines of a package
 unfoldable pub lines_of : List BuildFile → BuildFile → List FaultLine
@@ -78,24 +78,24 @@ all_lines packages = lines_from packages packages
 -- ---- what the functions promise
 
 abbrev pub LoadsTo : List BuildFile → BuildFile → Result Package SourceErr → Type 0
-LoadsTo packages b (Ok p) = (ds : List Declaration) × (outcome_of packages b ≡ Ok ds) × Knows p.names (targets_of b ds) × (p.foreign ≡ foreign b.id (mentions_of ds))
+LoadsTo packages b (Ok p) = (ds : List Declaration) × (outcome_of packages b ≡ Ok ds) × Knows p.names (targets_of b ds) × (p.cross_package ≡ cross_package b.id (dependencies_of ds))
 LoadsTo packages b (Err e) = (why : Fault) → e ≡ Bad why → outcome_of packages b ≡ Err why
 
 abbrev pub FoundBy : BuildFile → Result (List Declaration) Fault → Loaded → Type 0
-FoundBy b (Err why) x = (x.fault ≡ Some why) × (x.foreign ≡ [])
-FoundBy b (Ok ds) x = (x.fault ≡ None) × (x.foreign ≡ foreign b.id (mentions_of ds))
+FoundBy b (Err why) x = (x.fault ≡ Some why) × (x.cross_package ≡ [])
+FoundBy b (Ok ds) x = (x.fault ≡ None) × (x.cross_package ≡ cross_package b.id (dependencies_of ds))
 
 -- what was loaded of a package is what its BUILD file comes to
-pub record Stands (packages : List BuildFile) (b : BuildFile) (x : Loaded) : Type 0 where
+pub record IsLoaded (packages : List BuildFile) (b : BuildFile) (x : Loaded) : Type 0 where
   pub kinds : (name : List ℕ) → kind_of x.names name ≡ kind_by b (outcome_of packages b) name
   pub label : x.label ≡ build_text b
   pub found : FoundBy b (outcome_of packages b) x
 
-abbrev pub AllStand : List BuildFile → List BuildFile → List Loaded → Type 0
-AllStand packages [] [] = Unit {0}
-AllStand packages (b ∷ bs) (x ∷ xs) = Stands packages b x × AllStand packages bs xs
-AllStand packages [] (x ∷ xs) = ⊥
-AllStand packages (b ∷ bs) [] = ⊥
+abbrev pub AreLoaded : List BuildFile → List BuildFile → List Loaded → Type 0
+AreLoaded packages [] [] = Unit {0}
+AreLoaded packages (b ∷ bs) (x ∷ xs) = IsLoaded packages b x × AreLoaded packages bs xs
+AreLoaded packages [] (x ∷ xs) = ⊥
+AreLoaded packages (b ∷ bs) [] = ⊥
 
 -- the kind of a name in what was loaded of a package
 abbrev pub kind_at : Option Loaded → List ℕ → Option TargetKind
@@ -104,7 +104,7 @@ kind_at (Some x) name = kind_of x.names name
 
 abbrev pub lines_with : List BuildFile → Loaded → Option Fault → List FaultLine
 lines_with packages x (Some why) = fault_line x.label why ∷ []
-lines_with packages x None = all_dangling packages x.label x.foreign
+lines_with packages x None = all_dangling packages x.label x.cross_package
 
 -- the fault lines of what was loaded of a package
 abbrev pub lines_at : List BuildFile → Loaded → List FaultLine

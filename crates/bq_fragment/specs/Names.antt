@@ -1,14 +1,12 @@
--- Lists of names, and what they name.
-use Rattle.std.specs.Prelude.{◌≡◌, ℕ, ◌++◌, List, [], ◌∷◌, Bool, false, ◌||◌, Option, map, bytes_eq}
+-- The names of a package, and what they name.
+use Rattle.std.specs.Prelude.{◌≡◌, ℕ, ◌++◌, List, [], ◌∷◌, Bool, Option, bytes_eq}
 use Rattle.std.specs.Option.{is_some}
-use Rattle.std.specs.List.{list_any}
 use Rattle.std.specs.Map.{lookup}
 use Rattle.std.specs.BTreeMap.{get_by}
 use Rattle.std.specs.Ordering.{nat_cmp}
 use Rattle.std.specs.Cmp.Lexicographic.{slice_cmp}
-use Rattle.bq_parse.specs.declared.calls.Keyword.{Keyword}
 use Rattle.bq_fragment.specs.declared.names.Names.{Names}
-use Rattle.bq_fragment.specs.declared.names.TargetKind.{TargetKind}
+use Rattle.bq_fragment.specs.declared.target_kind.TargetKind.{TargetKind}
 
 -- what the table says of a name
 unfoldable pub kind_of : Names → List ℕ → Option TargetKind
@@ -24,11 +22,3 @@ Knows names entries = (q : List ℕ) → kind_of names q ≡ lookup (bytes_eq q)
 -- a table with this entry behind those that it had
 abbrev pub Adds : Names → Names → List ℕ → TargetKind → Type 0
 Adds old new name kind = (entries : List (List ℕ × TargetKind)) → Knows old entries → Knows new (entries ++ (name, kind) ∷ [])
-
--- a name is among those before it
-unfoldable pub repeats : List (List ℕ) → List (List ℕ) → Bool
-repeats seen [] = false
-repeats seen (n ∷ ns) = list_any (bytes_eq n) seen || repeats (seen ++ n ∷ []) ns
-
-abbrev pub names_of : List Keyword → List (List ℕ)
-names_of arguments = map (λ k. k.name) arguments

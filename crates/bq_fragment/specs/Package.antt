@@ -1,5 +1,5 @@
 -- The targets of a package (Bazel, "BUILD files"; "Dependencies"): those that its calls declare, its BUILD file, and the source
--- files that they mention.
+-- files that they dependency.
 use Rattle.std.specs.Prelude.{◌≡◌, ℕ, ◌++◌, List, [], ◌∷◌, Bool, true, false, Result, Ok, Err, map, bytes_eq, if◌then◌else◌}
 use Rattle.std.specs.Option.{is_some}
 use Rattle.std.specs.Map.{lookup}
@@ -14,9 +14,9 @@ use Rattle.bq_label.specs.Label.{PackageParts, last_segment}
 use Rattle.bq_fragment.specs.declared.calls.RuleCall.{RuleCall}
 use Rattle.bq_fragment.specs.declared.declaration.Declaration.{Declaration}
 use Rattle.bq_fragment.specs.declared.names.Names.{Names}
-use Rattle.bq_fragment.specs.declared.names.TargetKind.{TargetKind}
-use Rattle.bq_fragment.specs.declared.names.TargetKind.TheVariants.{RuleOf, Generated, Source}
-use Rattle.bq_fragment.specs.declared.package.Mention.{Mention}
+use Rattle.bq_fragment.specs.declared.target_kind.TargetKind.{TargetKind}
+use Rattle.bq_fragment.specs.declared.target_kind.TargetKind.TheVariants.{RuleOf, Generated, Source}
+use Rattle.bq_fragment.specs.declared.package.Dependency.{Dependency}
 use Rattle.bq_fragment.specs.declared.package.Package.{Package}
 use Rattle.bq_fragment.specs.Names.{Knows}
 use Rattle.bq_fragment.specs.Scope.{is_own}
@@ -47,27 +47,27 @@ declared_by own packages done r = declared_as done r.call.line (declaration own 
 unfoldable pub declarations : PackageParts → List BuildFile → List Declaration → List RuleCall → Result (List Declaration) Fault
 declarations own packages = in_turn (declared_by own packages)
 
-abbrev pub mentions_in : Declaration → List Mention
-mentions_in d = map (λ l. record { line = d.line; label = l }) d.labels
+abbrev pub dependencies_in : Declaration → List Dependency
+dependencies_in d = map (λ l. record { line = d.line; label = l }) d.labels
 
 -- the labels that declarations name, with their lines
-unfoldable pub mentions_of : List Declaration → List Mention
-mentions_of [] = []
-mentions_of (d ∷ ds) = mentions_in d ++ mentions_of ds
+unfoldable pub dependencies_of : List Declaration → List Dependency
+dependencies_of [] = []
+dependencies_of (d ∷ ds) = dependencies_in d ++ dependencies_of ds
 
--- the source files of the package that mentions name
-unfoldable pub sources : PackageParts → List Mention → List (List ℕ × TargetKind)
+-- the source files of the package that dependencies name
+unfoldable pub sources : PackageParts → List Dependency → List (List ℕ × TargetKind)
 sources own [] = []
 sources own (m ∷ ms) = if is_own own m.label then (m.label.name, Source) ∷ sources own ms else sources own ms
 
--- the mentions of other packages
-unfoldable pub foreign : PackageParts → List Mention → List Mention
-foreign own [] = []
-foreign own (m ∷ ms) = if is_own own m.label then foreign own ms else m ∷ foreign own ms
+-- the dependencies of other packages
+unfoldable pub cross_package : PackageParts → List Dependency → List Dependency
+cross_package own [] = []
+cross_package own (m ∷ ms) = if is_own own m.label then cross_package own ms else m ∷ cross_package own ms
 
 -- The targets of a package by their names. What is declared goes before a source file of the same name.
 unfoldable pub targets_of : BuildFile → List Declaration → List (List ℕ × TargetKind)
-targets_of b ds = entries_of ds ++ ((last_segment b.file.path, Source) ∷ sources b.id (mentions_of ds))
+targets_of b ds = entries_of ds ++ ((last_segment b.file.path, Source) ∷ sources b.id (dependencies_of ds))
 
 -- ---- what the functions promise
 
@@ -83,11 +83,11 @@ abbrev pub DeclaresNext : PackageParts → List BuildFile → RuleCall → Names
 DeclaresNext own packages r old new result = (done : List Declaration) → Knows old (entries_of done)
     → Finds (declared_by own packages done r) result × Keeps new done result
 
-pub record Sorts (own : PackageParts) (ms : List Mention) (old new : Names) (kept : List Mention) : Type 0 where
+pub record Partitions (own : PackageParts) (ms : List Dependency) (old new : Names) (kept : List Dependency) : Type 0 where
   pub here : (known : List (List ℕ × TargetKind)) → Knows old known → Knows new (known ++ sources own ms)
-  pub elsewhere : kept ≡ foreign own ms
+  pub elsewhere : kept ≡ cross_package own ms
 
--- the package's names and its mentions of other packages, or its first fault
+-- the package's names and its dependencies of other packages, or its first fault
 abbrev pub Targets : List BuildFile → BuildFile → List RuleCall → Result Package SourceErr → Type 0
-Targets packages b calls (Ok p) = (ds : List Declaration) × (declarations b.id packages [] calls ≡ Ok ds) × Knows p.names (targets_of b ds) × (p.foreign ≡ foreign b.id (mentions_of ds))
+Targets packages b calls (Ok p) = (ds : List Declaration) × (declarations b.id packages [] calls ≡ Ok ds) × Knows p.names (targets_of b ds) × (p.cross_package ≡ cross_package b.id (dependencies_of ds))
 Targets packages b calls (Err e) = (why : Fault) → e ≡ Bad why → declarations b.id packages [] calls ≡ Err why

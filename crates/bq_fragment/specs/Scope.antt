@@ -4,9 +4,6 @@ use Rattle.bq_label.specs.declared.packages.BuildFile.{BuildFile}
 use Rattle.bq_label.specs.Label.{PackageParts, LabelParts}
 use Rattle.bq_label.specs.Packages.{path_of, owner_of}
 
-abbrev pub is_package : PackageParts → PackageParts → Bool
-is_package p q = bytes_eq p.repo q.repo && bytes_eq p.package q.package
-
 -- the label is of this package
 unfoldable pub is_own : PackageParts → LabelParts → Bool
 is_own own l = bytes_eq l.repo own.repo && bytes_eq l.package own.package
@@ -20,5 +17,5 @@ unfoldable pub crosses : List BuildFile → LabelParts → Bool
 crosses packages l = is_owned_by_other l (owner_of packages (path_of l))
 
 -- the label is of this package, and crosses into another
-unfoldable pub strays : PackageParts → List BuildFile → LabelParts → Bool
-strays own packages l = if is_own own l then crosses packages l else false
+unfoldable pub own_label_crosses : PackageParts → List BuildFile → LabelParts → Bool
+own_label_crosses own packages l = if is_own own l then crosses packages l else false

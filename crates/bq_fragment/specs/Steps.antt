@@ -5,8 +5,8 @@ use Rattle.bq_source.specs.declared.fault.FaultKind.{FaultKind}
 use Rattle.bq_source.specs.declared.fault.Fault.{Fault}
 use Rattle.bq_source.specs.declared.fault.SourceErr.{SourceErr}
 use Rattle.bq_source.specs.declared.fault.SourceErr.TheVariants as source
-use Rattle.bq_fragment.specs.declared.refusal.CallErr.{CallErr}
-use Rattle.bq_fragment.specs.declared.refusal.CallErr.TheVariants.{Bad}
+use Rattle.bq_fragment.specs.declared.call_error.CallErr.{CallErr}
+use Rattle.bq_fragment.specs.declared.call_error.CallErr.TheVariants.{Bad}
 
 -- one step after another
 infixl 10 ◌>>=◌

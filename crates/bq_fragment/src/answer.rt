@@ -3,8 +3,8 @@
 ghost use Rattle.std.specs.Prelude.{◌≡◌, ◌++◌, IfOk};
 ghost use Rattle.bq_fragment.specs.Answer.{answer_of, kind_text};
 
-use crate::names::TargetKind;
-use crate::told::Output;
+use crate::report::Output;
+use crate::target_kind::TargetKind;
 use bq_label::{Label, print_label};
 use std::alloc::{AllocError, Global};
 

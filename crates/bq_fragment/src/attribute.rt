@@ -1,13 +1,13 @@
 //! The values of attributes: which texts they hold, and the labels and names that these read as.
 
 ghost use Rattle.std.specs.Prelude.{◌≡◌, ◌++◌, [], option_map, map, IfOk};
-ghost use Rattle.bq_fragment.specs.Attributes.{value_texts, takes_text, takes_list, all_labels, labels_of, names_of, label_found, without_colon};
+ghost use Rattle.bq_fragment.specs.Attributes.{value_texts, takes_text, takes_list, all_labels, labels_of, label_found, target_names, without_colon};
 ghost use Rattle.std.specs.List.{list_all};
 ghost use Rattle.bq_fragment.specs.Steps.{Gives};
 ghost use Rattle.bq_label.specs.Paths.{is_path};
 ghost use Rattle.bq_label.specs.Reading.{label_of};
 
-use crate::refusal::CallErr;
+use crate::call_error::CallErr;
 use crate::rule::AttributeType;
 use crate::scope::Scope;
 use bq_label::{Label, is_name, read_label};
@@ -93,7 +93,7 @@ pub fn labels_of(alloc: Global, scope: Scope<'_>, texts: &[Bytes]) -> Result<Ite
     ensures { Gives (labels_of scope.entry.own.now scope.entry.packages.now texts.now) result }
 {
     let labels = all_labels(alloc, scope, texts)?;
-    if scope.any_strays(alloc, labels.as_slice())? {
+    if scope.any_own_label_crosses(alloc, labels.as_slice())? {
         return Err(CallErr::Bad(FaultKind::CrossesPackage));
     }
     Ok(labels)
@@ -106,9 +106,13 @@ fn are_names(texts: &[Bytes]) -> bool
 }
 
 /// The names that a call declares.
-#[tactic(auto, unfolding(crate::specs::Attributes::names_of))]
-pub fn names_of(alloc: Global, scope: Scope<'_>, texts: &[Bytes]) -> Result<Items<Bytes>, CallErr>
-    ensures { Gives (names_of scope.entry.own.now scope.entry.packages.now texts.now) result }
+#[tactic(auto, unfolding(crate::specs::Attributes::target_names))]
+pub fn target_names(
+    alloc: Global,
+    scope: Scope<'_>,
+    texts: &[Bytes],
+) -> Result<Items<Bytes>, CallErr>
+    ensures { Gives (target_names scope.entry.own.now scope.entry.packages.now texts.now) result }
 {
     if !are_names(texts) {
         return Err(CallErr::Bad(FaultKind::BadName));

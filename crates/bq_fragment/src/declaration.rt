@@ -2,13 +2,13 @@
 
 ghost use Rattle.std.specs.Prelude.{◌≡◌, [], IfOk, bytes_eq};
 ghost use Rattle.std.specs.List.{list_any};
-ghost use Rattle.bq_fragment.specs.Names.{names_of};
+ghost use Rattle.bq_fragment.specs.Arguments.{argument_names};
 ghost use Rattle.bq_fragment.specs.Steps.{Gives, Makes};
 ghost use Rattle.bq_fragment.specs.Declarations.{begun, with_texts, with_argument, with_arguments, gives_all, declaration};
 
-use crate::attribute::{labels_of, names_of, output_names, value_texts};
-use crate::names::repeats;
-use crate::refusal::CallErr;
+use crate::arguments::{gives, repeats};
+use crate::attribute::{labels_of, output_names, target_names, value_texts};
+use crate::call_error::CallErr;
 use crate::rule::{AttributeType, Rule};
 use crate::scope::Scope;
 use bq_label::Label;
@@ -56,13 +56,13 @@ impl Declaration {
     {
         match kind {
             AttributeType::Name => {
-                let names = names_of(alloc, scope, texts)?;
+                let names = target_names(alloc, scope, texts)?;
                 self.names.append(names)?;
                 Ok(())
             }
             AttributeType::OutputList => {
                 let outputs = output_names(alloc, texts)?;
-                let outputs = names_of(alloc, scope, outputs.as_slice())?;
+                let outputs = target_names(alloc, scope, outputs.as_slice())?;
                 self.outputs.append(outputs)?;
                 Ok(())
             }
@@ -118,22 +118,10 @@ impl Declaration {
     }
 }
 
-/// Whether an argument has this name.
-fn gives(arguments: &[Keyword], name: &[u8]) -> bool
-    ensures { result ≡ list_any (bytes_eq name.now) (names_of arguments.now) }
-{
-    for argument in arguments {
-        if name == argument.name.as_slice() {
-            return true;
-        }
-    }
-    false
-}
-
 /// Whether the arguments give the name, and what else is mandatory.
 #[tactic(auto, unfolding(crate::specs::Declarations::gives_all))]
 fn gives_all(rule: Rule, arguments: &[Keyword]) -> bool
-    ensures { result ≡ gives_all rule (names_of arguments.now) }
+    ensures { result ≡ gives_all rule (argument_names arguments.now) }
 {
     if !gives(arguments, b"name") {
         return false;

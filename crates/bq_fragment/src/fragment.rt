@@ -1,16 +1,16 @@
 //! A run over a workspace: from its files and the query to the texts and the ending.
 
 ghost use Rattle.std.specs.Prelude.{◌≡◌, IfOk};
-ghost use Rattle.bq_fragment.specs.Fragment.{refused, unanswered, answering, answer_at, told_of, told_over, tell_of};
-ghost use Rattle.bq_fragment.specs.Loading.{AllStand};
-ghost use Rattle.bq_fragment.specs.Told.{telling};
+ghost use Rattle.bq_fragment.specs.Fragment.{refused, unanswered, reply_view, reply_to, report_packages, report_workspace, answer_query};
+ghost use Rattle.bq_fragment.specs.Loading.{AreLoaded};
+ghost use Rattle.bq_fragment.specs.Report.{report_view};
 
 use crate::answer::answer_text;
 use crate::line_text::fault_text;
 use crate::loading::{Loaded, fault_lines, load_all, target};
 use crate::query::read_query;
 use crate::query_error::QueryErr;
-use crate::told::{Output, Refusal, Status, Told};
+use crate::report::{Output, Refusal, Report, Status};
 use bq_label::{Label, Packages, Workspace, print_label};
 use bq_source::Bytes;
 use std::alloc::{AllocError, Global};
@@ -18,7 +18,7 @@ use std::alloc::{AllocError, Global};
 const SCHEMA: &[u8] = b"rules.schema";
 
 /// The most modules that a workspace may have.
-const MODULE_LIMIT: usize = 4096;
+const MAX_MODULES: usize = 4096;
 
 /// The answer's text, and how the run ends.
 #[derive(Drop)]
@@ -27,10 +27,10 @@ pub struct Reply {
     pub end: Result<Status, Refusal>,
 }
 
-fn refused(alloc: Global, why: Refusal) -> Told
-    ensures { telling result ≡ refused why }
+fn refused(alloc: Global, why: Refusal) -> Report
+    ensures { report_view result ≡ refused why }
 {
-    Told {
+    Report {
         faults: Vec::new(alloc),
         answer: Vec::new(alloc),
         end: Err(why),
@@ -38,7 +38,7 @@ fn refused(alloc: Global, why: Refusal) -> Told
 }
 
 fn unanswered(alloc: Global, why: QueryErr) -> Reply
-    ensures { answering result ≡ unanswered why }
+    ensures { reply_view result ≡ unanswered why }
 {
     Reply {
         text: Vec::new(alloc),
@@ -47,8 +47,8 @@ fn unanswered(alloc: Global, why: QueryErr) -> Reply
 }
 
 /// The answer over packages that are loaded.
-#[tactic(auto, unfolding(crate::specs::Fragment::answer_at))]
-fn answer(
+#[tactic(auto, unfolding(crate::specs::Fragment::reply_to))]
+fn reply_to(
     alloc: Global,
     packages: &Packages,
     loaded: &[Loaded],
@@ -56,8 +56,8 @@ fn answer(
     output: Output,
     status: Status,
 ) -> Result<Reply, AllocError>
-    requires { AllStand packages.now packages.now loaded.now }
-    ensures { IfOk result (λ a. answering a ≡ answer_at packages.now label.now output status) }
+    requires { AreLoaded packages.now packages.now loaded.now }
+    ensures { IfOk result (λ a. reply_view a ≡ reply_to packages.now label.now output status) }
 {
     if packages.named(label.package_id()).is_none() {
         let text = Bytes::from_vec(alloc, print_label(alloc, label)?)?;
@@ -76,14 +76,14 @@ fn answer(
 }
 
 /// Loads the packages, and answers.
-#[tactic(auto, unfolding(crate::specs::Fragment::told_of))]
-fn tell_packages(
+#[tactic(auto, unfolding(crate::specs::Fragment::report_packages))]
+fn report_packages(
     alloc: Global,
     packages: &Packages,
     label: &Label,
     output: Output,
-) -> Result<Told, AllocError>
-    ensures { IfOk result (λ t. telling t ≡ told_of packages.now label.now output) }
+) -> Result<Report, AllocError>
+    ensures { IfOk result (λ t. report_view t ≡ report_packages packages.now label.now output) }
 {
     let loaded = load_all(alloc, packages)?;
     let lines = fault_lines(alloc, packages, &loaded)?;
@@ -92,47 +92,47 @@ fn tell_packages(
     } else {
         Status::WithFaults
     };
-    let Reply { text, end } = answer(alloc, packages, &loaded, label, output, status)?;
-    Ok(Told {
+    let Reply { text, end } = reply_to(alloc, packages, &loaded, label, output, status)?;
+    Ok(Report {
         faults: fault_text(alloc, lines)?,
         answer: text,
         end,
     })
 }
 
-/// What is told of a lawful query.
-#[tactic(auto, unfolding(crate::specs::Fragment::told_over))]
-fn tell_label(
+/// The report on a valid query.
+#[tactic(auto, unfolding(crate::specs::Fragment::report_workspace))]
+fn report_workspace(
     alloc: Global,
     workspace: &Workspace,
     label: &Label,
     output: Output,
-) -> Result<Told, AllocError>
-    ensures { IfOk result (λ t. telling t ≡ told_over workspace.now label.now output) }
+) -> Result<Report, AllocError>
+    ensures { IfOk result (λ t. report_view t ≡ report_workspace workspace.now label.now output) }
 {
     if workspace.file(SCHEMA).is_some() {
         return Ok(refused(alloc, Refusal::Schema(1)));
     }
     let packages = Packages::of(alloc, workspace)?;
-    if packages.all().len() > MODULE_LIMIT {
+    if packages.all().len() > MAX_MODULES {
         return Ok(refused(alloc, Refusal::TooManyModules));
     }
-    tell_packages(alloc, &packages, label, output)
+    report_packages(alloc, &packages, label, output)
 }
 
-/// The texts of a run over this workspace with this query, and how it ends. Only want of memory is an error; Q3, Q5, Q6, Q8, E6
+/// The texts of a run over this workspace with this query, and how it ends. Only a lack of memory is an error; Q3, Q5, Q6, Q8, E6
 /// and E7 stand in the ending.
-#[tactic(auto, unfolding(crate::specs::Fragment::tell_of))]
-pub fn tell(
+#[tactic(auto, unfolding(crate::specs::Fragment::answer_query))]
+pub fn answer_query(
     alloc: Global,
     workspace: &Workspace,
     query: &[u8],
     output: Output,
-) -> Result<Told, AllocError>
-    ensures { IfOk result (λ t. telling t ≡ tell_of workspace.now query.now output) }
+) -> Result<Report, AllocError>
+    ensures { IfOk result (λ t. report_view t ≡ answer_query workspace.now query.now output) }
 {
     match read_query(alloc, query)? {
-        Ok(label) => tell_label(alloc, workspace, &label, output),
+        Ok(label) => report_workspace(alloc, workspace, &label, output),
         Err(why) => Ok(refused(alloc, Refusal::Query(why))),
     }
 }

@@ -1,14 +1,16 @@
 //! The packages of a workspace, each loaded once.
 
 ghost use Rattle.std.specs.Prelude.{◌≡◌, ◌++◌, IfOk, OnOk, slice_get};
-ghost use Rattle.bq_fragment.specs.Loading.{LoadsTo, Stands, AllStand, kind_at, target_of, all_dangling, lines_at, all_lines, build_text};
+ghost use Rattle.bq_label.specs.Label.{full_form};
+ghost use Rattle.bq_fragment.specs.Loading.{LoadsTo, IsLoaded, AreLoaded, kind_at, target_of, all_dangling, lines_at, all_lines, build_text};
 
 use crate::calls::resolve;
 use crate::fault_lines::FaultLine;
-use crate::names::{Names, TargetKind};
-use crate::package::{Mention, Package, targets};
+use crate::names::Names;
+use crate::package::{Dependency, Package, targets};
 use crate::scope::Scope;
 use crate::source::statements;
+use crate::target_kind::TargetKind;
 use bq_label::{BuildFile, Label, Packages, print_label};
 use bq_source::{Bytes, Fault, FaultKind, SourceErr};
 use sqlite_items::Items;
@@ -20,7 +22,7 @@ pub struct Loaded {
     /// The full form of the BUILD file's label.
     pub label: Bytes,
     pub names: Names,
-    pub foreign: Items<Mention>,
+    pub cross_package: Items<Dependency>,
     pub fault: Option<Fault>,
 }
 
@@ -38,32 +40,44 @@ fn load_package(alloc: Global, packages: &Packages, build: &BuildFile) -> Result
     targets(alloc, scope, build, &calls)
 }
 
+/// The full form of a label.
+fn shown_label(alloc: Global, label: &Label) -> Result<Bytes, AllocError>
+    ensures { IfOk result (λ text. text ≡ full_form label.now) }
+{
+    Bytes::from_vec(alloc, print_label(alloc, label)?)
+}
+
 /// The full form of the BUILD file's own label.
 fn build_text(alloc: Global, build: &BuildFile) -> Result<Bytes, AllocError>
     ensures { IfOk result (λ text. text ≡ build_text build.now) }
 {
     match build.label(alloc)? {
-        Some(label) => Bytes::from_vec(alloc, print_label(alloc, &label)?),
+        Some(label) => shown_label(alloc, &label),
         None => Ok(Bytes::empty()),
     }
 }
 
 fn load(alloc: Global, packages: &Packages, build: &BuildFile) -> Result<Loaded, AllocError>
-    ensures { IfOk result (Stands packages.now build.now) }
+    ensures { IfOk result (IsLoaded packages.now build.now) }
 {
     let label = build_text(alloc, build)?;
     match load_package(alloc, packages, build) {
-        Ok(Package { names, foreign }) => Ok(Loaded {
+        Ok(
+            Package {
+                names,
+                cross_package,
+            },
+        ) => Ok(Loaded {
             label,
             names,
-            foreign,
+            cross_package,
             fault: None,
         }),
         Err(SourceErr::Memory) => Err(AllocError),
         Err(SourceErr::Bad(fault)) => Ok(Loaded {
             label,
             names: Names::new(alloc),
-            foreign: Items::new(alloc),
+            cross_package: Items::new(alloc),
             fault: Some(fault),
         }),
     }
@@ -71,7 +85,7 @@ fn load(alloc: Global, packages: &Packages, build: &BuildFile) -> Result<Loaded,
 
 /// Loads each package, in their order.
 pub fn load_all(alloc: Global, packages: &Packages) -> Result<Vec<Loaded>, AllocError>
-    ensures { IfOk result (λ loaded. AllStand packages.now packages.now loaded.items) }
+    ensures { IfOk result (λ loaded. AreLoaded packages.now packages.now loaded.items) }
 {
     let mut loaded = Vec::new(alloc);
     for build in packages.all() {
@@ -92,7 +106,7 @@ fn kind_at(loaded: &[Loaded], at: usize, name: &Bytes) -> Option<TargetKind>
 /// The kind of the target that a label names, where there is one. It is found in time logarithmic in the number of packages
 /// and of the package's targets.
 pub fn target(packages: &Packages, loaded: &[Loaded], label: &Label) -> Option<TargetKind>
-    requires { AllStand packages.now packages.now loaded.now }
+    requires { AreLoaded packages.now packages.now loaded.now }
     ensures { result ≡ target_of packages.now label.now }
 {
     match packages.place(label.package_id()) {
@@ -109,18 +123,18 @@ fn add_dangling(
     entry: &Loaded,
     lines: &mut Vec<FaultLine>,
 ) -> Result<(), AllocError>
-    requires { AllStand packages.now packages.now loaded.now }
-    ensures { OnOk result (lines.new.items ≡ lines.old.items ++ all_dangling packages.now entry.now.label entry.now.foreign) }
+    requires { AreLoaded packages.now packages.now loaded.now }
+    ensures { OnOk result (lines.new.items ≡ lines.old.items ++ all_dangling packages.now entry.now.label entry.now.cross_package) }
 {
-    for mention in entry.foreign.as_slice() {
-        if target(packages, loaded, &mention.label).is_some() {
+    for dependency in entry.cross_package.as_slice() {
+        if target(packages, loaded, &dependency.label).is_some() {
             continue;
         }
         lines.push(FaultLine {
             label: entry.label.share()?,
-            line: mention.line,
+            line: dependency.line,
             kind: FaultKind::DanglingLabel,
-            detail: Bytes::from_vec(alloc, print_label(alloc, &mention.label)?)?,
+            detail: Bytes::from_vec(alloc, print_label(alloc, &dependency.label)?)?,
         })?;
     }
     Ok(())
@@ -134,7 +148,7 @@ fn add_lines(
     entry: &Loaded,
     lines: &mut Vec<FaultLine>,
 ) -> Result<(), AllocError>
-    requires { AllStand packages.now packages.now loaded.now }
+    requires { AreLoaded packages.now packages.now loaded.now }
     ensures { OnOk result (lines.new.items ≡ lines.old.items ++ lines_at packages.now entry.now) }
 {
     match &entry.fault {
@@ -157,7 +171,7 @@ pub fn fault_lines(
     packages: &Packages,
     loaded: &[Loaded],
 ) -> Result<Vec<FaultLine>, AllocError>
-    requires { AllStand packages.now packages.now loaded.now }
+    requires { AreLoaded packages.now packages.now loaded.now }
     ensures { IfOk result (λ lines. lines.items ≡ all_lines packages.now) }
 {
     let mut lines = Vec::new(alloc);

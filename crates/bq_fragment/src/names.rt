@@ -1,21 +1,12 @@
 //! The names that stand in a package, each with what it names.
 
-ghost use Rattle.std.specs.Prelude.{◌≡◌, ◌++◌, [], ◌∷◌, IfOk, not};
-ghost use Rattle.bq_fragment.specs.Names.{Knows, Adds, is_known, kind_of, repeats, names_of};
+ghost use Rattle.std.specs.Prelude.{◌≡◌, [], IfOk, not};
+ghost use Rattle.bq_fragment.specs.Names.{Knows, Adds, is_known, kind_of};
 
-use crate::rule::Rule;
-use bq_parse::Keyword;
+use crate::target_kind::TargetKind;
 use bq_source::Bytes;
 use std::alloc::{AllocError, Global};
-use std::collections::{BTreeMap, BTreeSet};
-
-/// What a name of a package names.
-#[derive(Clone, Copy, Debug, PartialEq, Eq)]
-pub enum TargetKind {
-    RuleOf(Rule),
-    Generated,
-    Source,
-}
+use std::collections::BTreeMap;
 
 /// Names in their order, each with the kind that it was first added with.
 #[derive(Drop)]
@@ -52,18 +43,4 @@ impl Names {
         self.kinds.insert(name, kind)?;
         Ok(true)
     }
-}
-
-/// Whether two arguments have one name.
-pub fn repeats(alloc: Global, arguments: &[Keyword]) -> Result<bool, AllocError>
-    ensures { IfOk result (λ found. found ≡ repeats [] (names_of arguments.now)) }
-{
-    let mut seen: BTreeSet<Bytes> = BTreeSet::new(alloc);
-    for argument in arguments {
-        let new = seen.insert(argument.name.share()?)?;
-        if !new {
-            return Ok(true);
-        }
-    }
-    Ok(false)
 }

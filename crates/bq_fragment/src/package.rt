@@ -3,13 +3,14 @@
 ghost use Rattle.std.specs.Prelude.{◌≡◌, ◌++◌, [], ◌∷◌, true, map, IfOk, OnOk};
 ghost use Rattle.bq_fragment.specs.Names.{Knows};
 ghost use Rattle.bq_fragment.specs.Steps.{Finds, FindsAll};
-ghost use Rattle.bq_fragment.specs.Package.{AddsAll, entries, entries_of, are_new, declared_by, declarations, DeclaresNext, mentions_of, mentions_in, Sorts, Targets};
+ghost use Rattle.bq_fragment.specs.Package.{AddsAll, entries, entries_of, are_new, declared_by, declarations, DeclaresNext, dependencies_of, dependencies_in, Partitions, Targets};
 
+use crate::call_error::CallErr;
 use crate::calls::RuleCall;
 use crate::declaration::{Declaration, declare};
-use crate::names::{Names, TargetKind};
-use crate::refusal::CallErr;
+use crate::names::Names;
 use crate::scope::Scope;
+use crate::target_kind::TargetKind;
 use bq_label::{BuildFile, Label};
 use bq_source::{Bytes, Fault, FaultKind, SourceErr};
 use sqlite_items::Items;
@@ -17,7 +18,7 @@ use std::alloc::{AllocError, Global};
 
 /// A label that a target names, with the line of the call that declares the target.
 #[derive(Drop)]
-pub struct Mention {
+pub struct Dependency {
     pub line: u32,
     pub label: Label,
 }
@@ -26,7 +27,7 @@ pub struct Mention {
 #[derive(Drop)]
 pub struct Package {
     pub names: Names,
-    pub foreign: Items<Mention>,
+    pub cross_package: Items<Dependency>,
 }
 
 /// Adds names of one kind, up to the first that is there. Says whether all were new.
@@ -96,21 +97,24 @@ fn declarations(
 }
 
 /// The labels that the declarations name, in the order in which they are written.
-fn mentions(alloc: Global, declarations: &[Declaration]) -> Result<Vec<Mention>, AllocError>
-    ensures { IfOk result (λ ms. ms.items ≡ mentions_of declarations.now) }
+fn dependencies(alloc: Global, declarations: &[Declaration]) -> Result<Vec<Dependency>, AllocError>
+    ensures { IfOk result (λ ms. ms.items ≡ dependencies_of declarations.now) }
 {
     let mut found = Vec::new(alloc);
     for declaration in declarations {
-        add_mentions(&mut found, declaration)?;
+        add_dependencies(&mut found, declaration)?;
     }
     Ok(found)
 }
 
-fn add_mentions(found: &mut Vec<Mention>, declaration: &Declaration) -> Result<(), AllocError>
-    ensures { OnOk result (found.new.items ≡ found.old.items ++ mentions_in declaration.now) }
+fn add_dependencies(
+    found: &mut Vec<Dependency>,
+    declaration: &Declaration,
+) -> Result<(), AllocError>
+    ensures { OnOk result (found.new.items ≡ found.old.items ++ dependencies_in declaration.now) }
 {
     for label in declaration.labels.as_slice() {
-        found.push(Mention {
+        found.push(Dependency {
             line: declaration.line,
             label: label.share()?,
         })?;
@@ -118,30 +122,30 @@ fn add_mentions(found: &mut Vec<Mention>, declaration: &Declaration) -> Result<(
     Ok(())
 }
 
-/// Adds what the mentions of this package name as source files, and keeps the others.
-fn settle(
+/// Adds what the dependencies of this package name as source files, and keeps the others.
+fn add_source_files(
     alloc: Global,
     scope: Scope<'_>,
     names: &mut Names,
-    mentions: &[Mention],
-) -> Result<Items<Mention>, AllocError>
-    ensures { IfOk result (λ foreign. Sorts scope.entry.own.now mentions.now names.old names.new foreign) }
+    dependencies: &[Dependency],
+) -> Result<Items<Dependency>, AllocError>
+    ensures { IfOk result (λ cross_package. Partitions scope.entry.own.now dependencies.now names.old names.new cross_package) }
 {
-    let mut foreign = Items::new(alloc);
-    for mention in mentions {
-        if scope.is_own(&mention.label) {
-            let _new = names.add(mention.label.name().share()?, TargetKind::Source)?;
+    let mut cross_package = Items::new(alloc);
+    for dependency in dependencies {
+        if scope.is_own(&dependency.label) {
+            let _new = names.add(dependency.label.name().share()?, TargetKind::Source)?;
             continue;
         }
-        foreign.push(Mention {
-            line: mention.line,
-            label: mention.label.share()?,
+        cross_package.push(Dependency {
+            line: dependency.line,
+            label: dependency.label.share()?,
         })?;
     }
-    Ok(foreign)
+    Ok(cross_package)
 }
 
-/// The targets of the package, and the mentions of other packages.
+/// The targets of the package, and the dependencies of other packages.
 #[tactic(auto, unfolding(crate::specs::Package::targets_of))]
 pub fn targets(
     alloc: Global,
@@ -156,7 +160,10 @@ pub fn targets(
     let declarations = declarations(alloc, scope, &mut names, calls)?;
     let file = Bytes::from_slice(alloc, build.name())?;
     let _new = names.add(file, TargetKind::Source)?;
-    let mentions = mentions(alloc, &declarations)?;
-    let foreign = settle(alloc, scope, &mut names, &mentions)?;
-    Ok(Package { names, foreign })
+    let dependencies = dependencies(alloc, &declarations)?;
+    let cross_package = add_source_files(alloc, scope, &mut names, &dependencies)?;
+    Ok(Package {
+        names,
+        cross_package,
+    })
 }

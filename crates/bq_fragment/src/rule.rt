@@ -1,6 +1,8 @@
 //! The built-in rules and their attributes.
 
-ghost use Rattle.std.specs.Prelude.{◌≡◌, option_map};
+ghost use Rattle.std.specs.Prelude.{◌≡◌, map, option_map};
+ghost use Rattle.std.specs.Map.{lookup};
+ghost use Rattle.std.specs.Str.{bytes_eq};
 ghost use Rattle.bq_fragment.specs.Schema.{rule_named, rule_name, attribute_of, common_attribute, own_attribute, mandatory_of};
 
 /// A built-in rule (Bazel, Build Encyclopedia).
@@ -25,69 +27,57 @@ pub enum AttributeType {
     OutputList,
 }
 
-/// An attribute that every rule has.
+/// The attributes that all rules have.
+const COMMON_ATTRIBUTES: [(&[u8], AttributeType); 6] = [
+    (b"name", AttributeType::Name),
+    (b"visibility", AttributeType::StringList),
+    (b"tags", AttributeType::StringList),
+    (b"features", AttributeType::StringList),
+    (b"testonly", AttributeType::Bool),
+    (b"deprecation", AttributeType::String),
+];
+
+const FILEGROUP_ATTRIBUTES: [(&[u8], AttributeType); 3] = [
+    (b"srcs", AttributeType::LabelList),
+    (b"data", AttributeType::LabelList),
+    (b"output_group", AttributeType::String),
+];
+
+const GENRULE_ATTRIBUTES: [(&[u8], AttributeType); 11] = [
+    (b"srcs", AttributeType::LabelList),
+    (b"outs", AttributeType::OutputList),
+    (b"cmd", AttributeType::String),
+    (b"cmd_bash", AttributeType::String),
+    (b"cmd_bat", AttributeType::String),
+    (b"cmd_ps", AttributeType::String),
+    (b"output_to_bindir", AttributeType::Bool),
+    (b"executable", AttributeType::Bool),
+    (b"local", AttributeType::Bool),
+    (b"message", AttributeType::String),
+    (b"tools", AttributeType::LabelList),
+];
+
+const ALIAS_ATTRIBUTES: [(&[u8], AttributeType); 1] = [(b"actual", AttributeType::Label)];
+
+const TEST_SUITE_ATTRIBUTES: [(&[u8], AttributeType); 1] = [(b"tests", AttributeType::LabelList)];
+
+/// The type of the attribute of this name in a table.
+fn find_attribute(mut table: &[(&[u8], AttributeType)], name: &[u8]) -> Option<AttributeType>
+    ensures { result ≡ lookup (bytes_eq name.now) (map (λ e. (e.0.now, e.1)) table.entry.now) }
+{
+    while let [entry, rest @ ..] = table {
+        if name == entry.0 {
+            return Some(entry.1);
+        }
+        table = rest;
+    }
+    None
+}
+
 fn common_attribute(name: &[u8]) -> Option<AttributeType>
     ensures { result ≡ common_attribute name.now }
 {
-    if name == b"name".as_slice() {
-        Some(AttributeType::Name)
-    } else if name == b"visibility".as_slice() {
-        Some(AttributeType::StringList)
-    } else if name == b"tags".as_slice() {
-        Some(AttributeType::StringList)
-    } else if name == b"features".as_slice() {
-        Some(AttributeType::StringList)
-    } else if name == b"testonly".as_slice() {
-        Some(AttributeType::Bool)
-    } else if name == b"deprecation".as_slice() {
-        Some(AttributeType::String)
-    } else {
-        None
-    }
-}
-
-fn filegroup_attribute(name: &[u8]) -> Option<AttributeType>
-    ensures { result ≡ own_attribute Rule.Filegroup name.now }
-{
-    if name == b"srcs".as_slice() {
-        Some(AttributeType::LabelList)
-    } else if name == b"data".as_slice() {
-        Some(AttributeType::LabelList)
-    } else if name == b"output_group".as_slice() {
-        Some(AttributeType::String)
-    } else {
-        None
-    }
-}
-
-fn genrule_attribute(name: &[u8]) -> Option<AttributeType>
-    ensures { result ≡ own_attribute Rule.Genrule name.now }
-{
-    if name == b"srcs".as_slice() {
-        Some(AttributeType::LabelList)
-    } else if name == b"outs".as_slice() {
-        Some(AttributeType::OutputList)
-    } else if name == b"cmd".as_slice() {
-        Some(AttributeType::String)
-    } else if name == b"cmd_bash".as_slice() {
-        Some(AttributeType::String)
-    } else if name == b"cmd_bat".as_slice() {
-        Some(AttributeType::String)
-    } else if name == b"cmd_ps".as_slice() {
-        Some(AttributeType::String)
-    } else if name == b"output_to_bindir".as_slice() {
-        Some(AttributeType::Bool)
-    } else if name == b"executable".as_slice() {
-        Some(AttributeType::Bool)
-    } else if name == b"local".as_slice() {
-        Some(AttributeType::Bool)
-    } else if name == b"message".as_slice() {
-        Some(AttributeType::String)
-    } else if name == b"tools".as_slice() {
-        Some(AttributeType::LabelList)
-    } else {
-        None
-    }
+    find_attribute(&COMMON_ATTRIBUTES, name)
 }
 
 impl Rule {
@@ -122,22 +112,10 @@ impl Rule {
         ensures { result ≡ own_attribute self name.now }
     {
         match self {
-            Rule::Filegroup => filegroup_attribute(name),
-            Rule::Genrule => genrule_attribute(name),
-            Rule::Alias => {
-                if name == b"actual".as_slice() {
-                    Some(AttributeType::Label)
-                } else {
-                    None
-                }
-            }
-            Rule::TestSuite => {
-                if name == b"tests".as_slice() {
-                    Some(AttributeType::LabelList)
-                } else {
-                    None
-                }
-            }
+            Rule::Filegroup => find_attribute(&FILEGROUP_ATTRIBUTES, name),
+            Rule::Genrule => find_attribute(&GENRULE_ATTRIBUTES, name),
+            Rule::Alias => find_attribute(&ALIAS_ATTRIBUTES, name),
+            Rule::TestSuite => find_attribute(&TEST_SUITE_ATTRIBUTES, name),
         }
     }
 

@@ -4,7 +4,7 @@ ghost use Rattle.std.specs.Prelude.{◌≡◌, true, IfOk};
 ghost use Rattle.std.specs.List.{list_any, list_all};
 ghost use Rattle.bq_label.specs.Label.{label_in};
 ghost use Rattle.bq_label.specs.Paths.{is_path};
-ghost use Rattle.bq_fragment.specs.Scope.{crosses, is_own, strays};
+ghost use Rattle.bq_fragment.specs.Scope.{crosses, is_own, own_label_crosses};
 
 use bq_label::{Label, PackageId, Packages, label_path};
 use bq_source::Bytes;
@@ -22,6 +22,15 @@ fn is_of(label: &Label, package: &PackageId) -> bool
     ensures { result ≡ is_own «package».now label.now }
 {
     label.repo() == package.repo() && label.package() == package.package()
+}
+
+/// The label of a name in a package. No byte is copied.
+fn in_package(own: &PackageId, name: &Bytes) -> Result<Label, AllocError>
+    requires { is_path name.now ≡ true }
+    ensures { IfOk result (λ l. l ≡ label_in own.now name.now) }
+{
+    let name = name.share()?;
+    Ok(Label::new(own.share()?, name))
 }
 
 impl Scope<'_> {
@@ -45,9 +54,9 @@ impl Scope<'_> {
     }
 
     /// Whether the label is of this package, and another package owns the path that it names.
-    #[tactic(auto, unfolding(crate::specs::Scope::strays))]
-    pub fn strays(&self, alloc: Global, label: &Label) -> Result<bool, AllocError>
-        ensures { IfOk result (λ found. found ≡ strays self.now.own.now self.now.packages.now label.now) }
+    #[tactic(auto, unfolding(crate::specs::Scope::own_label_crosses))]
+    pub fn own_label_crosses(&self, alloc: Global, label: &Label) -> Result<bool, AllocError>
+        ensures { IfOk result (λ found. found ≡ own_label_crosses self.now.own.now self.now.packages.now label.now) }
     {
         if !self.is_own(label) {
             return Ok(false);
@@ -55,16 +64,24 @@ impl Scope<'_> {
         self.crosses(alloc, label)
     }
 
-    /// Whether one of the labels strays.
-    pub fn any_strays(&self, alloc: Global, labels: &[Label]) -> Result<bool, AllocError>
-        ensures { IfOk result (λ found. found ≡ list_any (strays self.now.own.now self.now.packages.now) labels.now) }
+    /// Whether one of the labels own_label_crosses.
+    pub fn any_own_label_crosses(&self, alloc: Global, labels: &[Label]) -> Result<bool, AllocError>
+        ensures { IfOk result (λ found. found ≡ list_any (own_label_crosses self.now.own.now self.now.packages.now) labels.now) }
     {
         for label in labels {
-            if self.strays(alloc, label)? {
+            if self.own_label_crosses(alloc, label)? {
                 return Ok(true);
             }
         }
         Ok(false)
+    }
+
+    fn name_crosses(&self, alloc: Global, name: &Bytes) -> Result<bool, AllocError>
+        requires { is_path name.now ≡ true }
+        ensures { IfOk result (λ found. found ≡ crosses self.now.packages.now (label_in self.now.own.now name.now)) }
+    {
+        let label = in_package(self.own, name)?;
+        self.crosses(alloc, &label)
     }
 
     /// Whether another package owns the path of one of these names of targets of this package.
@@ -73,8 +90,7 @@ impl Scope<'_> {
         ensures { IfOk result (λ found. found ≡ list_any (λ n. crosses self.now.packages.now (label_in self.now.own.now n)) names.now) }
     {
         for name in names {
-            let label = Label::new(self.own.share()?, name.share()?);
-            if self.crosses(alloc, &label)? {
+            if self.name_crosses(alloc, name)? {
                 return Ok(true);
             }
         }

@@ -1,9 +1,10 @@
 -- One transfer after another.
-use Rattle.std.proofs.Common.{◌≡◌, ◌+◌, ℕ, zero, suc, ◌-◌, take_all, length-drop, if◌then◌else◌, subst, List, [], ◌++◌, Option, None, Some, length, take, drop, ap, sym, ◌∙◌, append_assoc, refl, arith, rules}
+use Rattle.std.proofs.Common.{◌≡◌, ◌≤◌, ◌+◌, ℕ, zero, suc, ◌-◌, take_all, length-drop, length-append, le_refl, if◌then◌else◌, subst, List, [], ◌++◌, Option, None, Some, length, take, drop, ap, sym, ◌∙◌, append_assoc, refl, arith, rules}
 use Rattle.std.specs.Io.KnownBytes.{Appends, Consumes, Keeps}
-use Rattle.std.proofs.Math.Seq.{take-add}
+use Rattle.std.proofs.Math.Seq.{take-add, take-append-add}
+use Rattle.std.proofs.lemmas.List.{take-append-le}
 use Rattle.std.proofs.lemmas.Bool.Decides.{nat_tests}
-use Rattle.bq_run.specs.Device.{one_more, took_none}
+use Rattle.bq_run.specs.Device.{Begins, one_more, took_none}
 
 pub Appends-none : (known : Option (List ℕ)) → Appends known known []
 Appends-none None = tt
@@ -44,3 +45,16 @@ pub Appends-front : (a b c : Option (List ℕ)) (text : List ℕ) (i n : ℕ) �
 Appends-front a b c text i n h k =
     let k' : Appends b c (take n (drop i text)) = subst (λ t. Appends b c (take n t)) (rest_of text i) k in
     subst (Appends a c) (sym (take-add i n text)) (Appends-more a b c (take i text) (take n (drop i text)) h k')
+
+-- a whole text is a beginning of it
+pub Begins-whole : (a b : Option (List ℕ)) (xs : List ℕ) → Appends a b xs → Begins a b xs
+Begins-whole a b xs h = (length xs, le_refl (length xs), subst (Appends a b) (sym (take_all (length xs) xs (le_refl (length xs)))) h)
+
+-- and of every longer one
+pub Begins-front : (a b : Option (List ℕ)) (xs ys : List ℕ) → Begins a b xs → Begins a b (xs ++ ys)
+Begins-front a b xs ys h = (h.0, omega (arith, h.1, length-append xs ys), subst (Appends a b) (sym (take-append-le h.0 xs ys h.1)) h.2)
+
+-- a text was written, and a beginning of the next
+pub Begins-more : (a b c : Option (List ℕ)) (xs ys : List ℕ) → Appends a b xs → Begins b c ys → Begins a c (xs ++ ys)
+Begins-more a b c xs ys h k =
+    (length xs + k.0, omega (arith, k.1, length-append xs ys), subst (Appends a c) (sym (take-append-add xs ys k.0)) (Appends-more a b c xs (take k.0 ys) h k.2))

@@ -67,9 +67,9 @@ abbrev pub files_of : List ℕ → Option (List File)
 files_of text = let c = cut (lines text) in if is_bundle c then Some (map file_of c.parts) else None
 
 -- the most bytes that a bundle has
-abbrev pub bundle_limit : ℕ
-bundle_limit = 1073741824
+abbrev pub max_bundle_bytes : ℕ
+max_bundle_bytes = 1073741824
 
 -- the workspace that a text stands for
 unfoldable pub bundle_of : List ℕ → Option (List File)
-bundle_of text = if nat_le (length text) bundle_limit then option_and_then workspace_of (files_of text) else None
+bundle_of text = if nat_le (length text) max_bundle_bytes then option_and_then workspace_of (files_of text) else None

@@ -2,11 +2,11 @@
 use Rattle.std.specs.Prelude.{◌≡◌, ◌⊎◌, ◌≤◌, ℕ, List, [], Option, None, Some, Result, Ok, Err, if◌then◌else◌}
 use Rattle.std.specs.Io.KnownBytes.{Appends, Keeps}
 use Rattle.bq_label.specs.declared.workspace.File.{File}
-use Rattle.bq_fragment.specs.Fragment.{tell_of}
-use Rattle.bq_fragment.specs.Told.{Telling, is_unanswered}
+use Rattle.bq_fragment.specs.Fragment.{answer_query}
+use Rattle.bq_fragment.specs.Report.{ReportView, is_unanswered}
 use Rattle.bq_fragment.specs.declared.query_error.QueryErr.TheVariants as query
-use Rattle.bq_fragment.specs.declared.told.Refusal.{Refusal}
-use Rattle.bq_fragment.specs.declared.told.Status.{Status}
+use Rattle.bq_fragment.specs.declared.report.Refusal.{Refusal}
+use Rattle.bq_fragment.specs.declared.report.Status.{Status}
 use Rattle.bq_run.specs.Bundle.{bundle_of}
 use Rattle.bq_run.specs.Device.{Begins}
 use Rattle.bq_run.specs.Error.{run_err}
@@ -28,12 +28,12 @@ abbrev pub run_by : List ℕ → List ℕ → Result Status Refusal → Run
 run_by faults answer (Ok status) = record { faults = faults; answer = answer; end = Ok status }
 run_by faults answer (Err why) = record { faults = if is_unanswered why then faults else []; answer = []; end = Err (run_err why) }
 
-abbrev pub run_told : Telling → Run
-run_told t = run_by t.faults t.answer t.end
+abbrev pub run_report : ReportView → Run
+run_report t = run_by t.faults t.answer t.end
 
 -- the run over a workspace
 abbrev pub run_files_of : Options → List File → Run
-run_files_of options files = run_told (tell_of files options.query.items options.output)
+run_files_of options files = run_report (answer_query files options.query.items options.output)
 
 abbrev pub run_from : Options → Option (List File) → Run
 run_from options None = record { faults = []; answer = []; end = Err run.Bundle }

@@ -1,8 +1,9 @@
 -- The exit status of a run, and the line that names its error.
 use Rattle.std.specs.Prelude.{◌++◌, ℕ, List, [], ◌∷◌, Result, Ok, Err, codes, decimal}
+use Rattle.bq_fragment.specs.LineText.{detail_text}
 use Rattle.bq_fragment.specs.QueryError.{query_detail}
-use Rattle.bq_fragment.specs.declared.told.Status.{Status}
-use Rattle.bq_fragment.specs.declared.told.Status.TheVariants.{Answered, WithFaults}
+use Rattle.bq_fragment.specs.declared.report.Status.{Status}
+use Rattle.bq_fragment.specs.declared.report.Status.TheVariants.{Answered, WithFaults}
 use Rattle.bq_run.specs.Error.{run_title}
 use Rattle.bq_run.specs.declared.error.RunErr.{RunErr}
 use Rattle.bq_run.specs.declared.error.RunErr.TheVariants.{Memory, Read, Write, Bundle, Query, Schema, TooManyModules}
@@ -18,7 +19,7 @@ status_code (Err (Query error)) = 2
 status_code (Err (Schema line)) = 2
 status_code (Err TooManyModules) = 2
 
--- what is printed behind an error's name; empty for most
+-- what is printed after an error's name; empty for most
 abbrev pub error_detail : RunErr → List ℕ
 error_detail Memory = []
 error_detail Read = []
@@ -28,14 +29,9 @@ error_detail (Query error) = query_detail error
 error_detail (Schema line) = decimal line
 error_detail TooManyModules = []
 
--- a space and the detail, where there is one
-abbrev pub behind : List ℕ → List ℕ
-behind [] = []
-behind (b ∷ bs) = 32 ∷ b ∷ bs
-
 -- `bq: ` and the error's number, name and detail
 abbrev pub error_line : RunErr → List ℕ
-error_line error = codes "bq: " ++ run_title error ++ behind (error_detail error) ++ 10 ∷ []
+error_line error = codes "bq: " ++ run_title error ++ detail_text (error_detail error) ++ 10 ∷ []
 
 -- the line for standard error, empty where there is none
 abbrev pub status_line : Result Status RunErr → List ℕ

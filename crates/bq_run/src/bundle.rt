@@ -1,8 +1,8 @@
 //! A workspace from the text form that holds it: header lines `=== PATH`, each followed by the bytes of its file.
 
-ghost use Rattle.std.specs.Prelude.{◌≡◌, ◌⊎◌, ◌-◌, ◌^◌, ◌<◌, ◌≤◌, ◌∷◌, [], Some, None, true, false, take, drop, length, IfOk, IfSome, IfNone, IsErr, IsErrOf};
+ghost use Rattle.std.specs.Prelude.{◌≡◌, ◌⊎◌, ◌+◌, ◌-◌, ◌^◌, ◌<◌, ◌≤◌, ◌∷◌, [], Some, None, true, false, take, drop, length, IfOk, IfSome, IfNone, IsErr, IsErrOf};
 ghost use Rattle.std.specs.List.{list_all};
-ghost use Rattle.bq_run.specs.Bundle.{BeginsWith, bundle_limit, bundle_of, cut, files_of, is_whole, lines};
+ghost use Rattle.bq_run.specs.Bundle.{BeginsWith, max_bundle_bytes, bundle_of, cut, files_of, is_whole, lines};
 
 use crate::device::Source;
 use crate::error::RunErr;
@@ -16,7 +16,7 @@ use std::alloc::{AllocError, Global};
 const MARKER: &[u8] = b"=== ";
 
 /// The most bytes that a bundle has.
-const BUNDLE_LIMIT: usize = 1 << 30;
+const MAX_BUNDLE_BYTES: usize = 1 << 30;
 
 /// How long the first line is, with its newline.
 fn line_len(text: &[u8]) -> usize
@@ -50,7 +50,7 @@ fn lead(text: &[u8]) -> usize
     at
 }
 
-/// What stands behind one header: its path, its content, and the text from the next header on.
+/// A file as the text has it: its path, its content, and the text from the next header on.
 #[derive(Clone, Copy)]
 struct Piece<'a> {
     path: &'a [u8],
@@ -111,7 +111,7 @@ fn files_in(alloc: Global, text: &[u8]) -> Result<Vec<File>, RunErr>
 /// The workspace of a bundle in hand. The text is given back before the files are put in order.
 #[tactic(auto, unfolding(crate::specs::Bundle::bundle_of))]
 fn workspace_in(alloc: Global, text: Vec<u8>) -> Result<Workspace, RunErr>
-    requires { length text.items ≤ bundle_limit }
+    requires { length text.items ≤ max_bundle_bytes }
     ensures found { IfOk result (λ w. bundle_of text.items ≡ Some w) }
     ensures none { IsErrOf result RunErr.Bundle → bundle_of text.items ≡ None }
     ensures only { IsErr result → IsErrOf result RunErr.Bundle ⊎ IsErrOf result RunErr.Memory }
@@ -133,10 +133,11 @@ pub fn read_bundle<R: Source>(alloc: Global, reader: &mut R) -> Result<Workspace
     requires { R.failed reader.old < 2 ^ 64 - 1 }
     ensures found { IfOk result (λ w. IfSome (R.remaining reader.old) (λ input. bundle_of input ≡ Some w)) }
     ensures none { IsErrOf result RunErr.Bundle → IfSome (R.remaining reader.old) (λ input. bundle_of input ≡ None) }
-    ensures device { IsErrOf result RunErr.Read → R.failed reader.old < R.failed reader.new }
+    ensures device { IsErrOf result RunErr.Read → R.failed reader.new ≡ R.failed reader.old + 1 }
+    ensures quiet { (IsErrOf result RunErr.Read → ⊥) → R.failed reader.new ≡ R.failed reader.old }
     ensures only { IsErr result → IsErrOf result RunErr.Bundle ⊎ IsErrOf result RunErr.Memory ⊎ IsErrOf result RunErr.Read }
 {
-    match read_all(alloc, reader, BUNDLE_LIMIT) {
+    match read_all(alloc, reader, MAX_BUNDLE_BYTES) {
         Ok(text) => workspace_in(alloc, text),
         Err(ReadFault::Memory) => Err(RunErr::Memory),
         Err(ReadFault::Device) => Err(RunErr::Read),

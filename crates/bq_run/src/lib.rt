@@ -21,8 +21,6 @@ pub mod laws;
 mod options;
 mod runs;
 mod status;
-#[cfg(test)]
-mod tests;
 mod transfer;
 
 pub use bq_fragment::{Output, QueryErr, Status};
@@ -31,5 +29,7 @@ pub use device::{Counted, Metered, Sink, Source};
 pub use error::RunErr;
 pub use options::Options;
 pub use runs::{run, run_files};
-pub use status::{ANSWERED, DEVICE_FAILED, NO_MEMORY, REFUSED, WITH_FAULTS, status_of};
+pub use status::{
+    ANSWERED, DEVICE_FAILED, NO_MEMORY, REFUSED, WITH_FAULTS, status_code, status_of, write_status_line,
+};
 pub use transfer::{ReadFault, WriteFault, read_all, write_all};

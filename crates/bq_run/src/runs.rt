@@ -1,37 +1,39 @@
 //! A run: the bytes of a bundle are read, and the texts of the faults and of the answer are written.
 
-ghost use Rattle.std.specs.Prelude.{◌≡◌, ◌⊎◌, ◌-◌, ◌^◌, ◌<◌, IfSome, IsErrOf};
+ghost use Rattle.std.specs.Prelude.{◌≡◌, ◌+◌, ◌-◌, ◌^◌, ◌<◌, IfSome, IsErrOf};
 ghost use Rattle.std.specs.Io.KnownBytes.{Keeps};
-ghost use Rattle.bq_fragment.specs.Told.{telling};
-ghost use Rattle.bq_run.specs.Run.{Does, IsInRange, IsSilent, run_files_of, run_of, run_told};
+ghost use Rattle.bq_fragment.specs.Report.{report_view};
+ghost use Rattle.bq_run.specs.Device.{OneFailed};
+ghost use Rattle.bq_run.specs.Run.{Does, IsInRange, IsSilent, run_files_of, run_of, run_report};
 
 use crate::bundle::read_bundle;
 use crate::device::{Sink, Source};
 use crate::error::RunErr;
 use crate::options::Options;
 use crate::transfer::write_all;
-use bq_fragment::{Status, Told, tell};
+use bq_fragment::{Report, Status, answer_query};
 use bq_label::Workspace;
 use std::alloc::Global;
 
-/// Writes what is told, the faults first.
+/// Writes a report, the faults first.
 fn send<W: Sink, F: Sink>(
-    told: Told,
+    report: Report,
     writer: &mut W,
     faults_writer: &mut F,
 ) -> Result<Status, RunErr>
     requires writer { W.failed writer.old < 2 ^ 64 - 1 }
     requires faults_writer { F.failed faults_writer.old < 2 ^ 64 - 1 }
-    ensures does { Does (run_told (telling told)) result (F.contents faults_writer.old) (F.contents faults_writer.new) (W.contents writer.old) (W.contents writer.new) }
+    ensures does { Does (run_report (report_view report)) result (F.contents faults_writer.old) (F.contents faults_writer.new) (W.contents writer.old) (W.contents writer.new) }
     ensures silent { IsSilent result → Keeps (F.contents faults_writer.old) (F.contents faults_writer.new) × Keeps (W.contents writer.old) (W.contents writer.new) }
     ensures no_read { IsErrOf result RunErr.Read → ⊥ }
-    ensures device { IsErrOf result RunErr.Write → F.failed faults_writer.old < F.failed faults_writer.new ⊎ W.failed writer.old < W.failed writer.new }
+    ensures write { IsErrOf result RunErr.Write → OneFailed (F.failed faults_writer.old) (F.failed faults_writer.new) (W.failed writer.old) (W.failed writer.new) }
+    ensures quiet { (IsErrOf result RunErr.Write → ⊥) → (F.failed faults_writer.new ≡ F.failed faults_writer.old) × (W.failed writer.new ≡ W.failed writer.old) }
 {
-    let Told {
+    let Report {
         faults,
         answer,
         end,
-    } = told;
+    } = report;
     match end {
         Ok(status) => {
             write_all(faults_writer, &faults)?;
@@ -63,19 +65,20 @@ pub fn run_files<T, W: Sink, F: Sink>(
     ensures does { Does (run_files_of options.now workspace.now) result (F.contents faults_writer.old) (F.contents faults_writer.new) (W.contents writer.old) (W.contents writer.new) }
     ensures silent { IsSilent result → Keeps (F.contents faults_writer.old) (F.contents faults_writer.new) × Keeps (W.contents writer.old) (W.contents writer.new) }
     ensures no_read { IsErrOf result RunErr.Read → ⊥ }
-    ensures write { IsErrOf result RunErr.Write → F.failed faults_writer.old < F.failed faults_writer.new ⊎ W.failed writer.old < W.failed writer.new }
+    ensures write { IsErrOf result RunErr.Write → OneFailed (F.failed faults_writer.old) (F.failed faults_writer.new) (W.failed writer.old) (W.failed writer.new) }
+    ensures quiet { (IsErrOf result RunErr.Write → ⊥) → (F.failed faults_writer.new ≡ F.failed faults_writer.old) × (W.failed writer.new ≡ W.failed writer.old) }
 {
-    let told = tell(alloc, workspace, &options.query, options.output)?;
-    send(told, writer, faults_writer)
+    let report = answer_query(alloc, workspace, &options.query, options.output)?;
+    send(report, writer, faults_writer)
 }
 
 /// A run: the bundle is read to its end, the query and the schema are read, the packages are loaded, and the query is
 /// answered. Then the faults writer gets the faults, and after it the writer gets the answer.
 ///
-/// E4, E5 with Q3 or Q8, and E6 come in this order, and nothing is written with them. With Q5 or Q6 the faults are written
-/// alone. E1 comes before the first byte is written.
+/// E4, E5 with Q3 or Q8, E6 and E7 take precedence in this order, and nothing is written with them. With Q5 or Q6 only the
+/// faults are written. E1 comes before the first byte is written.
 ///
-/// `rt` is what workers will be started by; no worker is yet, and the call takes any value for it.
+/// `rt` will start the workers. None is started yet, and the call takes any value for it.
 #[tactic(auto, unfolding(crate::specs::Run::run_of))]
 pub fn run<T, R: Source, W: Sink, F: Sink>(
     rt: &T,
@@ -96,9 +99,11 @@ pub fn run<T, R: Source, W: Sink, F: Sink>(
     // With such an error nothing is written, whatever is known of the reader.
     ensures silent { IsSilent result → Keeps (F.contents faults_writer.old) (F.contents faults_writer.new) × Keeps (W.contents writer.old) (W.contents writer.new) }
 
-    // A failed device is told only where it counted a failure in this call.
-    ensures read { IsErrOf result RunErr.Read → R.failed reader.old < R.failed reader.new }
-    ensures write { IsErrOf result RunErr.Write → F.failed faults_writer.old < F.failed faults_writer.new ⊎ W.failed writer.old < W.failed writer.new }
+    // E2 and E3 come exactly after one failed call of a device, which is not tried again.
+    ensures read { IsErrOf result RunErr.Read → R.failed reader.new ≡ R.failed reader.old + 1 }
+    ensures quiet_reader { (IsErrOf result RunErr.Read → ⊥) → R.failed reader.new ≡ R.failed reader.old }
+    ensures write { IsErrOf result RunErr.Write → OneFailed (F.failed faults_writer.old) (F.failed faults_writer.new) (W.failed writer.old) (W.failed writer.new) }
+    ensures quiet { (IsErrOf result RunErr.Write → ⊥) → (F.failed faults_writer.new ≡ F.failed faults_writer.old) × (W.failed writer.new ≡ W.failed writer.old) }
 {
     let workspace = read_bundle(alloc, reader)?;
     run_files(rt, alloc, &workspace, writer, faults_writer, options)

@@ -1,10 +1,16 @@
 //! The exit status, and the line that names an error.
 
-ghost use Rattle.std.specs.Prelude.{◌≡◌, ◌++◌, IfOk};
-ghost use Rattle.bq_run.specs.Status.{behind, error_detail, error_line, status_code, status_line};
+ghost use Rattle.std.specs.Prelude.{◌≡◌, ◌++◌, ◌-◌, ◌^◌, ◌<◌, IfOk, OnOk};
+ghost use Rattle.std.specs.Io.KnownBytes.{Appends};
+ghost use Rattle.bq_fragment.specs.LineText.{detail_text};
+ghost use Rattle.bq_run.specs.Device.{Begins};
+ghost use Rattle.bq_run.specs.Status.{error_detail, error_line, status_code, status_line};
 
+use crate::device::Sink;
 use crate::error::RunErr;
-use bq_fragment::Status;
+use crate::transfer::{WriteFault, write_all};
+use bq_fragment::{Status, push_detail};
+use itoa::Buffer;
 use std::alloc::{AllocError, Global};
 
 /// The run answered, and no file is faulty.
@@ -18,7 +24,8 @@ pub const NO_MEMORY: u8 = 4;
 /// Reading the input or writing the output failed.
 pub const DEVICE_FAILED: u8 = 5;
 
-fn code_of(ended: &Result<Status, RunErr>) -> u8
+/// The exit status of a run.
+pub fn status_code(ended: &Result<Status, RunErr>) -> u8
     ensures { result ≡ status_code ended.now }
 {
     match ended {
@@ -34,40 +41,30 @@ fn code_of(ended: &Result<Status, RunErr>) -> u8
     }
 }
 
-/// What is printed behind an error's name.
-fn detail_of(alloc: Global, error: &RunErr) -> Result<Vec<u8>, AllocError>
-    ensures { IfOk result (λ detail. detail.items ≡ error_detail error.now) }
+/// What is printed after an error's name. Where it is a number, `digits` holds it.
+fn detail_of<'a>(error: &'a RunErr, digits: &'a mut Buffer) -> &'a [u8]
+    ensures { result.now ≡ error_detail error.now }
 {
     match error {
-        RunErr::Memory => Ok(Vec::new(alloc)),
-        RunErr::Read => Ok(Vec::new(alloc)),
-        RunErr::Write => Ok(Vec::new(alloc)),
-        RunErr::Bundle => Ok(Vec::new(alloc)),
-        RunErr::Query(error) => error.detail().to_vec(alloc),
-        RunErr::Schema(line) => Ok(format!(in alloc; "{line}")?.into_bytes()),
-        RunErr::TooManyModules => Ok(Vec::new(alloc)),
+        RunErr::Memory => &[],
+        RunErr::Read => &[],
+        RunErr::Write => &[],
+        RunErr::Bundle => &[],
+        RunErr::Query(error) => error.detail(),
+        RunErr::Schema(line) => digits.format(*line).as_bytes(),
+        RunErr::TooManyModules => &[],
     }
-}
-
-/// Appends a space and the detail, where there is one.
-fn push_detail(line: &mut Vec<u8>, detail: &[u8]) -> Result<(), AllocError>
-    ensures { IfOk result (λ _. line.new.items ≡ line.old.items ++ behind detail.now) }
-{
-    if detail.is_empty() {
-        return Ok(());
-    }
-    line.push(b' ')?;
-    line.extend_from_slice(detail)
 }
 
 /// The line that names an error, with its newline.
 fn line_of(alloc: Global, error: &RunErr) -> Result<Vec<u8>, AllocError>
     ensures { IfOk result (λ line. line.items ≡ error_line error.now) }
 {
+    let mut digits = Buffer::new();
+    let detail = detail_of(error, &mut digits);
     let mut line = b"bq: ".to_vec(alloc)?;
     line.extend_from_slice(error.title().as_bytes())?;
-    let detail = detail_of(alloc, error)?;
-    push_detail(&mut line, &detail)?;
+    push_detail(&mut line, detail)?;
     line.push(b'\n')?;
     Ok(line)
 }
@@ -81,5 +78,49 @@ pub fn status_of(alloc: Global, ended: &Result<Status, RunErr>) -> Result<(u8, V
         Ok(_) => Vec::new(alloc),
         Err(error) => line_of(alloc, error)?,
     };
-    Ok((code_of(ended), line))
+    Ok((status_code(ended), line))
+}
+
+/// Writes a space and the detail, where there is one.
+fn write_detail<W: Sink>(writer: &mut W, detail: &[u8]) -> Result<(), WriteFault>
+    requires { W.failed writer.old < 2 ^ 64 - 1 }
+    ensures whole { OnOk result (Appends (W.contents writer.old) (W.contents writer.new) (detail_text detail.now)) }
+    ensures begins { Begins (W.contents writer.old) (W.contents writer.new) (detail_text detail.now) }
+    ensures quiet { OnOk result (W.failed writer.new ≡ W.failed writer.old) }
+{
+    if detail.is_empty() {
+        return Ok(());
+    }
+    write_all(writer, b" ")?;
+    write_all(writer, detail)
+}
+
+/// Writes the line that names an error.
+fn write_line<W: Sink>(writer: &mut W, error: &RunErr) -> Result<(), WriteFault>
+    requires { W.failed writer.old < 2 ^ 64 - 1 }
+    ensures whole { OnOk result (Appends (W.contents writer.old) (W.contents writer.new) (error_line error.now)) }
+    ensures begins { Begins (W.contents writer.old) (W.contents writer.new) (error_line error.now) }
+{
+    let mut digits = Buffer::new();
+    let detail = detail_of(error, &mut digits);
+    write_all(writer, b"bq: ")?;
+    write_all(writer, error.title().as_bytes())?;
+    write_detail(writer, detail)?;
+    write_all(writer, b"\n")
+}
+
+/// Writes the line for standard error, where there is one. It is written in pieces, so that it takes no memory: after a run
+/// that has written something, no lack of memory can hide how it ended.
+pub fn write_status_line<W: Sink>(
+    writer: &mut W,
+    ended: &Result<Status, RunErr>,
+) -> Result<(), WriteFault>
+    requires { W.failed writer.old < 2 ^ 64 - 1 }
+    ensures whole { OnOk result (Appends (W.contents writer.old) (W.contents writer.new) (status_line ended.now)) }
+    ensures begins { Begins (W.contents writer.old) (W.contents writer.new) (status_line ended.now) }
+{
+    match ended {
+        Ok(_) => Ok(()),
+        Err(error) => write_line(writer, error),
+    }
 }

@@ -1,6 +1,6 @@
 //! Reading to the end, and writing a whole text.
 
-ghost use Rattle.std.specs.Prelude.{◌≡◌, ◌-◌, ◌^◌, ◌<◌, ◌≤◌, length, IfOk, OnOk, OnErr, IfSome, IsErrOf};
+ghost use Rattle.std.specs.Prelude.{◌≡◌, ◌+◌, ◌-◌, ◌^◌, ◌<◌, ◌≤◌, length, IfOk, OnOk, OnErr, IfSome, IsErrOf};
 ghost use Rattle.std.specs.Io.KnownBytes.{Appends};
 ghost use Rattle.bq_run.specs.Device.{Begins};
 ghost use Rattle.bq_run.specs.declared.transfer.ReadFault.TheVariants.{Memory};
@@ -12,7 +12,7 @@ use std::alloc::{AllocError, Global};
 #[derive(Clone, Copy, Debug, PartialEq, Eq)]
 pub enum ReadFault {
     Memory,
-    /// A read answered an error. It is not tried again.
+    /// A read failed.
     Device,
     TooLong,
 }
@@ -28,7 +28,7 @@ impl From<AllocError> for ReadFault {
 /// How many bytes a read asks for.
 const CHUNK: usize = 4096;
 
-/// All that the reader has left, at most `limit` bytes of it.
+/// All that the reader has left, at most `limit` bytes of it. The first failed read ends it: none is tried again.
 pub fn read_all<R: Source>(
     alloc: Global,
     reader: &mut R,
@@ -38,7 +38,7 @@ pub fn read_all<R: Source>(
     ensures fits { IfOk result (λ bytes. length bytes.items ≤ limit) }
     ensures all { IfOk result (λ bytes. IfSome (R.remaining reader.old) (λ left. bytes.items ≡ left)) }
     ensures too_long { IsErrOf result ReadFault.TooLong → IfSome (R.remaining reader.old) (λ left. limit < length left) }
-    ensures device { IsErrOf result ReadFault.Device → R.failed reader.old < R.failed reader.new }
+    ensures device { IsErrOf result ReadFault.Device → R.failed reader.new ≡ R.failed reader.old + 1 }
     ensures quiet { (IsErrOf result ReadFault.Device → ⊥) → R.failed reader.new ≡ R.failed reader.old }
 {
     let mut bytes = Vec::new(alloc);
@@ -57,12 +57,13 @@ pub fn read_all<R: Source>(
 #[derive(Clone, Copy, Debug, PartialEq, Eq)]
 pub struct WriteFault;
 
-/// Writes all of the text. A write of some bytes that takes none is a failure, and none is tried again.
+/// Writes all of the text. A write of some bytes that takes none is a failure. The first failed write ends it: none is tried
+/// again.
 pub fn write_all<W: Sink>(writer: &mut W, text: &[u8]) -> Result<(), WriteFault>
     requires { W.failed writer.old < 2 ^ 64 - 1 }
     ensures whole { OnOk result (Appends (W.contents writer.old) (W.contents writer.new) text.now) }
     ensures begins { Begins (W.contents writer.old) (W.contents writer.new) text.now }
-    ensures device { OnErr result (W.failed writer.old < W.failed writer.new) }
+    ensures device { OnErr result (W.failed writer.new ≡ W.failed writer.old + 1) }
     ensures quiet { OnOk result (W.failed writer.new ≡ W.failed writer.old) }
 {
     let mut at = 0;

@@ -6,4 +6,6 @@
 #[cfg(test)]
 mod parse;
 #[cfg(test)]
+mod run;
+#[cfg(test)]
 mod source;

@@ -1,4 +1,4 @@
-use Rattle.bq_fragment.specs.declared.names.TargetKind.TheVariants.{RuleOf, Generated}
+use Rattle.bq_fragment.specs.declared.target_kind.TargetKind.TheVariants.{RuleOf, Generated}
 use Rattle.bq_fragment.proofs.Targets.{first_clash, both_added, Added}
 use Rattle.bq_fragment.proofs.package.add_declaration.Goals as goal
 
