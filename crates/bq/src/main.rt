@@ -1,5 +1,5 @@
-//! The program `bq`: words and a bundle on standard input come in; the answer goes to standard output, and the faults and
-//! the error line to standard error. All that it promises is `bq_run::run`'s.
+//! The program `bq`: words and a bundle on standard input come in; the answer goes to standard output, and the faults
+//! and the error line to standard error. All that it promises is `bq_run::run`'s.
 //!
 //! - `words`: the command line.
 #![tactic(auto)]

@@ -7,7 +7,7 @@ use bq_run::{Options, Output};
 use clap::{Arg, ArgAction, Command, Error, value_parser};
 use std::alloc::{AllocError, Global};
 
-/// What `--help` says behind the options.
+/// What `--help` says after the options.
 const NOTES: &str = "\
 The workspace is read from standard input: for each file a line `=== PATH`, and then its bytes.
 The answer goes to standard output, one target a line. Faults go to standard error.
@@ -16,10 +16,10 @@ Example:
   printf '=== a/BUILD\\nfilegroup(name = \"x\", srcs = [\"s.txt\"])\\n' | bq //a:x
 
 Exit status:
-  0  the query is answered, and no file is faulty
-  2  the words, the bundle, the query or the schema is refused
-  3  the query is answered, and standard error has faults
-  4  there is not enough memory
+  0  the query was answered, and no file has a fault
+  2  the arguments, the bundle, the query or the schema was refused
+  3  the query was answered, and standard error lists faults
+  4  out of memory
   5  reading the input or writing the output failed";
 
 const MAX_JOBS: u32 = 64;
@@ -35,8 +35,8 @@ fn command<'a>(alloc: Global) -> Result<Command<'a>, AllocError> {
     let jobs = Arg::new(alloc, "jobs")
         .long("jobs")
         .value_name("N")
-        .help("How many workers load modules, 1 to 64")
-        .value_parser(value_parser!(u32).range(1..=64))
+        .help("How many workers load modules, 1 to 64; no effect yet")
+        .value_parser(value_parser!(u32).range(1..=MAX_JOBS as i64))
         .default_value("4");
     let output = Arg::new(alloc, "output")
         .long("output")
@@ -47,12 +47,12 @@ fn command<'a>(alloc: Global) -> Result<Command<'a>, AllocError> {
     let max_steps = Arg::new(alloc, "max-steps")
         .long("max-steps")
         .value_name("N")
-        .help("How many steps a module may take, 1 to 1000000000")
-        .value_parser(value_parser!(u64).range(1..=1000000000))
+        .help("How many steps a module may take, 1 to 1000000000; no effect yet")
+        .value_parser(value_parser!(u64).range(1..=MAX_STEPS as i64))
         .default_value("1000000");
     let query = Arg::new(alloc, "query")
         .value_name("QUERY")
-        .help("The query, as a label //package:name")
+        .help("The query: a label, as //package:name")
         .required(true)
         .action(ArgAction::Set);
     Command::new(alloc, "bq")

@@ -45,7 +45,7 @@ loaded-more packages i b xs ys x h e all s f =
 pub loaded-all : (packages : List BuildFile) (i : ℕ) (xs : List Loaded) → length packages ≤ i → AreLoaded packages (take i packages) xs → AreLoaded packages packages xs
 loaded-all packages i xs h all = let P : List BuildFile → Type 0 = λ z. AreLoaded packages z xs in subst P (take_all i packages h) all
 
--- what stands at a place has the kinds of the package there
+-- what was loaded at a place has the kinds of the package there
 pub kinds_at : (packages bs : List BuildFile) (xs : List Loaded) (j : ℕ) (name : List ℕ) → AreLoaded packages bs xs
     → kind_at (slice_get xs j) name ≡ target_in packages (slice_get bs j) name
 kinds_at packages [] [] j name h = refl

@@ -15,23 +15,25 @@ use Rattle.bq_parse.specs.Statements.{statements_of as parsed}
 use Rattle.bq_parse.specs.Verdict as verdict
 use Rattle.bq_parse.specs.Verdict.{Parses}
 use Rattle.bq_parse.proofs.Files.{has_its_reading}
-use Rattle.bq_fragment.specs.Steps.{FindsAll}
-use Rattle.bq_fragment.specs.Source.{FindsFile}
+use Rattle.bq_source.specs.Gives.{Gives}
+use Rattle.bq_source.specs.declared.fault.SourceErr.TheVariants.{Bad}
+use Rattle.bq_fragment.specs.Steps.{items}
+use Rattle.bq_fragment.specs.Source.{statements_in}
 
-tokens_found : (r : Result (Vec Token Global) SourceErr) (q : Result (List Token) Fault) → lexing.Returned r q → FindsAll q r
+tokens_found : (r : Result (Vec Token Global) SourceErr) (q : Result (List Token) Fault) → lexing.Returned r q → Gives items Bad r q
 tokens_found (Ok v) q h = h
 tokens_found (Err e) q h = h
 
-pub lexed : (text : List ℕ) (r : Result (Vec Token Global) SourceErr) → ((q : Result (List Token) Fault) → Lexes text q → lexing.Returned r q) → FindsAll (tokens_of text) r
+pub lexed : (text : List ℕ) (r : Result (Vec Token Global) SourceErr) → ((q : Result (List Token) Fault) → Lexes text q → lexing.Returned r q) → Gives items Bad r (tokens_of text)
 lexed text r only = tokens_found r (tokens_of text) (only (tokens_of text) (every_text text))
 
 pub lexes : (text : List ℕ) (r : Result (Vec Token Global) SourceErr) → lexing.Answers text r → IfOk r (λ v. Lexes text (Ok v.items))
 lexes text (Ok v) h = h
 lexes text (Err e) h = tt
 
-file_found : (r : Result File SourceErr) (q : Result (List TopLevel) Fault) → verdict.Returned r q → FindsFile q r
+file_found : (r : Result File SourceErr) (q : Result (List TopLevel) Fault) → verdict.Returned r q → Gives statements_in Bad r q
 file_found (Ok file) q h = h
 file_found (Err e) q h = h
 
-pub parsed_by : (text : List ℕ) (ts : List Token) (r : Result File SourceErr) → ((q : Result (List TopLevel) Fault) → Parses text ts q → verdict.Returned r q) → FindsFile (parsed text ts) r
+pub parsed_by : (text : List ℕ) (ts : List Token) (r : Result File SourceErr) → ((q : Result (List TopLevel) Fault) → Parses text ts q → verdict.Returned r q) → Gives statements_in Bad r (parsed text ts)
 parsed_by text ts r only = file_found r (parsed text ts) (only (parsed text ts) (has_its_reading text ts))

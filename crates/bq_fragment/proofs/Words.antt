@@ -7,7 +7,7 @@ use Rattle.std.proofs.lemmas.Bool.{eqb-true}
 use Rattle.std.proofs.lemmas.List.{take_all, take-append-drop, reverse-append, length-reverse}
 use Rattle.std.proofs.lemmas.List.Folds.{list_all-append}
 use Rattle.std.proofs.lemmas.Slice.Eq.{bytes_eq-Decides}
-use Rattle.bq_fragment.specs.Query.{begins_word, cut_front, cut_back, cut_spaces, has_dots, is_space, is_word, is_word_byte, StandsIn}
+use Rattle.bq_fragment.specs.Query.{begins_word, cut_front, cut_back, cut_spaces, has_dots, is_space, is_word, is_word_byte, OccursIn}
 
 dots_step : (w : List ℕ) (i : ℕ) → i < length w → has_dots (drop i w) ≡ (starts_with nat_eq (drop i w) (codes "...") || has_dots (drop (i + 1) w))
 unfolding has_dots
@@ -55,7 +55,7 @@ begins_so w e =
     let same : codes "..." ≡ take 3 w = (bytes_eq-Decides (codes "...") (take 3 w)).0 e in
     sym (take-append-drop 3 w) ∙ ap (λ z. z ++ drop 3 w) (sym same)
 
-pub found_dots : (w : List ℕ) → has_dots w ≡ true → StandsIn (codes "...") w
+pub found_dots : (w : List ℕ) → has_dots w ≡ true → OccursIn (codes "...") w
 unfolding has_dots
 found_dots [] e = cc
 found_dots (b ∷ bs) e = elim (by_bool (starts_with nat_eq (b ∷ bs) (codes "..."))) [
@@ -68,8 +68,8 @@ unfolding has_dots
 standing_dots [] back = refl
 standing_dots (b ∷ front) back = or_right _ (has_dots (front ++ (codes "..." ++ back))) (standing_dots front back)
 
-pub dots_stand : (w : List ℕ) → StandsIn (codes "...") w → has_dots w ≡ true
-dots_stand w s = ap has_dots s.2 ∙ standing_dots s.0 s.1
+pub dots_occur : (w : List ℕ) → OccursIn (codes "...") w → has_dots w ≡ true
+dots_occur w s = ap has_dots s.2 ∙ standing_dots s.0 s.1
 
 -- ---- what cutting the spaces leaves
 

@@ -34,6 +34,6 @@ rule_call call = rule_by call (rule_named call.callee.name)
 unfoldable pub rule_calls : List RuleCall → List KeywordCall → Result (List RuleCall) Fault
 rule_calls = in_turn (λ done call. rule_call call)
 
--- F12 of the whole file goes before F20
+-- F12 of the whole file takes precedence over F20
 unfoldable pub resolved : List TopLevel → Result (List RuleCall) Fault
 resolved statements = calls_of [] statements >>= λ calls. rule_calls [] calls

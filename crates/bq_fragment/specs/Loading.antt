@@ -1,4 +1,4 @@
--- What each package's BUILD file comes to, and the faults of all (Bazel, "Repositories, packages, and targets").
+-- What each package's BUILD file gives, and the faults of all (Bazel, "Repositories, packages, and targets").
 use Rattle.std.specs.Prelude.{◌≡◌, ℕ, ◌++◌, List, [], ◌∷◌, Option, Some, None, Result, Ok, Err, bytes_eq, if◌then◌else◌}
 use Rattle.std.specs.Option.{is_some}
 use Rattle.std.specs.Map.{lookup}
@@ -85,7 +85,7 @@ abbrev pub FoundBy : BuildFile → Result (List Declaration) Fault → Loaded �
 FoundBy b (Err why) x = (x.fault ≡ Some why) × (x.cross_package ≡ [])
 FoundBy b (Ok ds) x = (x.fault ≡ None) × (x.cross_package ≡ cross_package b.id (dependencies_of ds))
 
--- what was loaded of a package is what its BUILD file comes to
+-- what was loaded of a package is what its BUILD file gives
 pub record IsLoaded (packages : List BuildFile) (b : BuildFile) (x : Loaded) : Type 0 where
   pub kinds : (name : List ℕ) → kind_of x.names name ≡ kind_by b (outcome_of packages b) name
   pub label : x.label ≡ build_text b

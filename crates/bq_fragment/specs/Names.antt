@@ -19,6 +19,6 @@ is_known names q = is_some (kind_of names q)
 abbrev pub Knows : Names → List (List ℕ × TargetKind) → Type 0
 Knows names entries = (q : List ℕ) → kind_of names q ≡ lookup (bytes_eq q) entries
 
--- a table with this entry behind those that it had
+-- a table with this entry after those that it had
 abbrev pub Adds : Names → Names → List ℕ → TargetKind → Type 0
 Adds old new name kind = (entries : List (List ℕ × TargetKind)) → Knows old entries → Knows new (entries ++ (name, kind) ∷ [])

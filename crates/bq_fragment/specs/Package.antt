@@ -21,7 +21,8 @@ use Rattle.bq_fragment.specs.declared.package.Package.{Package}
 use Rattle.bq_fragment.specs.Names.{Knows}
 use Rattle.bq_fragment.specs.Scope.{is_own}
 use Rattle.bq_fragment.specs.Declarations.{declaration}
-use Rattle.bq_fragment.specs.Steps.{in_turn, Finds}
+use Rattle.bq_source.specs.Gives.{Gives}
+use Rattle.bq_fragment.specs.Steps.{in_turn, itself}
 
 -- the names that a declaration makes: the rule's, then those of its outputs
 abbrev pub entries : Declaration → List (List ℕ × TargetKind)
@@ -31,7 +32,7 @@ unfoldable pub entries_of : List Declaration → List (List ℕ × TargetKind)
 entries_of [] = []
 entries_of (d ∷ ds) = entries d ++ entries_of ds
 
--- none of these names is known, nor stands twice among them
+-- none of these names is known, nor occurs twice among them
 unfoldable pub are_new : List (List ℕ × TargetKind) → List (List ℕ × TargetKind) → Bool
 are_new known [] = true
 are_new known (e ∷ es) = if is_some (lookup (bytes_eq e.0) known) then false else are_new (known ++ e ∷ []) es
@@ -40,7 +41,7 @@ abbrev pub declared_as : List Declaration → ℕ → Result Declaration FaultKi
 declared_as done line (Err kind) = Err (fault_at kind line)
 declared_as done line (Ok d) = if are_new (entries_of done) (entries d) then Ok d else Err (fault_at f.DoubleTarget line)
 
--- what a call declares behind those before it: the faults of the call, then F74 where one of its names is declared
+-- what a call declares after those before it: the faults of the call, then F74 where one of its names is declared
 unfoldable pub declared_by : PackageParts → List BuildFile → List Declaration → RuleCall → Result Declaration Fault
 declared_by own packages done r = declared_as done r.call.line (declaration own packages r.rule r.call)
 
@@ -65,13 +66,13 @@ unfoldable pub cross_package : PackageParts → List Dependency → List Depende
 cross_package own [] = []
 cross_package own (m ∷ ms) = if is_own own m.label then cross_package own ms else m ∷ cross_package own ms
 
--- The targets of a package by their names. What is declared goes before a source file of the same name.
+-- The targets of a package by their names. What is declared takes precedence over a source file of the same name.
 unfoldable pub targets_of : BuildFile → List Declaration → List (List ℕ × TargetKind)
 targets_of b ds = entries_of ds ++ ((last_segment b.file.path, Source) ∷ sources b.id (dependencies_of ds))
 
 -- ---- what the functions promise
 
--- entries were added behind those that were known, as far as they were new
+-- entries were added after those that were known, as far as they were new
 abbrev pub AddsAll : Names → Names → List (List ℕ × TargetKind) → Bool → Type 0
 AddsAll old new es all_new = (known : List (List ℕ × TargetKind)) → Knows old known → (all_new ≡ are_new known es) × (all_new ≡ true → Knows new (known ++ es))
 
@@ -81,7 +82,7 @@ Keeps new done (Err e) = Unit {0}
 
 abbrev pub DeclaresNext : PackageParts → List BuildFile → RuleCall → Names → Names → Result Declaration SourceErr → Type 0
 DeclaresNext own packages r old new result = (done : List Declaration) → Knows old (entries_of done)
-    → Finds (declared_by own packages done r) result × Keeps new done result
+    → Gives itself Bad result (declared_by own packages done r) × Keeps new done result
 
 pub record Partitions (own : PackageParts) (ms : List Dependency) (old new : Names) (kept : List Dependency) : Type 0 where
   pub here : (known : List (List ℕ × TargetKind)) → Knows old known → Knows new (known ++ sources own ms)

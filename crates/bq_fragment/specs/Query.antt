@@ -42,7 +42,7 @@ abbrev pub begins_label : List ℕ → Bool
 begins_label [] = false
 begins_label (b ∷ bs) = (b == 47 && first_is 47 bs) || (b == 64 && not (first_is 64 bs))
 
--- `...` stands somewhere in the text
+-- `...` occurs in the text
 unfoldable pub has_dots : List ℕ → Bool
 has_dots [] = false
 has_dots (b ∷ bs) = starts_with nat_eq (b ∷ bs) (codes "...") || has_dots bs
@@ -63,6 +63,6 @@ query_by word = if is_word word && begins_label word then word_query word (label
 unfoldable pub query_of : List ℕ → Result LabelParts QueryErr
 query_of text = query_by (cut_spaces text)
 
--- the part stands somewhere in the text
-abbrev pub StandsIn : List ℕ → List ℕ → Type 0
-StandsIn part text = (front : List ℕ) × (back : List ℕ) × (text ≡ front ++ (part ++ back))
+-- the part occurs in the text
+abbrev pub OccursIn : List ℕ → List ℕ → Type 0
+OccursIn part text = (front : List ℕ) × (back : List ℕ) × (text ≡ front ++ (part ++ back))

@@ -1,4 +1,4 @@
--- The numbers and names of the errors of queries, and what is printed behind them.
+-- The numbers and names of the errors of queries, and what is printed after them.
 use Rattle.std.specs.Prelude.{ℕ, List, [], codes}
 use Rattle.bq_fragment.specs.declared.query_error.QueryErr.{QueryErr}
 use Rattle.bq_fragment.specs.declared.query_error.QueryErr.TheVariants.{LeftOut, NoSuchTarget, NoSuchPackage, Arguments}

@@ -3,7 +3,9 @@
 ghost use Rattle.std.specs.Prelude.{◌≡◌, ◌++◌, [], option_map, map, IfOk};
 ghost use Rattle.bq_fragment.specs.Attributes.{value_texts, takes_text, takes_list, all_labels, labels_of, label_found, target_names, without_colon};
 ghost use Rattle.std.specs.List.{list_all};
-ghost use Rattle.bq_fragment.specs.Steps.{Gives};
+ghost use Rattle.bq_source.specs.Gives.{Gives};
+ghost use Rattle.bq_fragment.specs.declared.call_error.CallErr.TheVariants.{Bad};
+ghost use Rattle.bq_fragment.specs.Steps.{itself};
 ghost use Rattle.bq_label.specs.Paths.{is_path};
 ghost use Rattle.bq_label.specs.Reading.{label_of};
 
@@ -66,7 +68,7 @@ pub fn value_texts(kind: AttributeType, value: &KeywordValue) -> Option<&[Bytes]
 
 /// The label that the text reads as.
 fn label_of(alloc: Global, scope: Scope<'_>, text: &Bytes) -> Result<Label, CallErr>
-    ensures { Gives (label_found (label_of scope.entry.own.now text.now)) result }
+    ensures { Gives itself Bad result (label_found (label_of scope.entry.own.now text.now)) }
 {
     match read_label(alloc, text.as_slice(), scope.own) {
         Ok(label) => Ok(label),
@@ -78,7 +80,7 @@ fn label_of(alloc: Global, scope: Scope<'_>, text: &Bytes) -> Result<Label, Call
 /// The labels that the texts read as.
 #[tactic(auto, unfolding(crate::specs::Attributes::all_labels, crate::specs::Steps::in_turn))]
 fn all_labels(alloc: Global, scope: Scope<'_>, texts: &[Bytes]) -> Result<Items<Label>, CallErr>
-    ensures { Gives (all_labels scope.entry.own.now [] texts.now) result }
+    ensures { Gives itself Bad result (all_labels scope.entry.own.now [] texts.now) }
 {
     let mut labels = Items::new(alloc);
     for text in texts {
@@ -90,7 +92,7 @@ fn all_labels(alloc: Global, scope: Scope<'_>, texts: &[Bytes]) -> Result<Items<
 /// The labels that the texts read as. None of them is of this package and crosses into another.
 #[tactic(auto, unfolding(crate::specs::Attributes::labels_of))]
 pub fn labels_of(alloc: Global, scope: Scope<'_>, texts: &[Bytes]) -> Result<Items<Label>, CallErr>
-    ensures { Gives (labels_of scope.entry.own.now scope.entry.packages.now texts.now) result }
+    ensures { Gives itself Bad result (labels_of scope.entry.own.now scope.entry.packages.now texts.now) }
 {
     let labels = all_labels(alloc, scope, texts)?;
     if scope.any_own_label_crosses(alloc, labels.as_slice())? {
@@ -112,7 +114,7 @@ pub fn target_names(
     scope: Scope<'_>,
     texts: &[Bytes],
 ) -> Result<Items<Bytes>, CallErr>
-    ensures { Gives (target_names scope.entry.own.now scope.entry.packages.now texts.now) result }
+    ensures { Gives itself Bad result (target_names scope.entry.own.now scope.entry.packages.now texts.now) }
 {
     if !are_names(texts) {
         return Err(CallErr::Bad(FaultKind::BadName));

@@ -3,7 +3,9 @@
 ghost use Rattle.std.specs.Prelude.{◌≡◌, [], IfOk, bytes_eq};
 ghost use Rattle.std.specs.List.{list_any};
 ghost use Rattle.bq_fragment.specs.Arguments.{argument_names};
-ghost use Rattle.bq_fragment.specs.Steps.{Gives, Makes};
+ghost use Rattle.bq_source.specs.Gives.{Gives};
+ghost use Rattle.bq_fragment.specs.declared.call_error.CallErr.TheVariants.{Bad};
+ghost use Rattle.bq_fragment.specs.Steps.{itself};
 ghost use Rattle.bq_fragment.specs.Declarations.{begun, with_texts, with_argument, with_arguments, gives_all, declaration};
 
 use crate::arguments::{gives, repeats};
@@ -52,7 +54,7 @@ impl Declaration {
         kind: AttributeType,
         texts: &[Bytes],
     ) -> Result<(), CallErr>
-        ensures { Makes (with_texts scope.entry.own.now scope.entry.packages.now kind texts.now self.old) result self.new }
+        ensures { Gives (λ _. self.new) Bad result (with_texts scope.entry.own.now scope.entry.packages.now kind texts.now self.old) }
     {
         match kind {
             AttributeType::Name => {
@@ -90,7 +92,7 @@ impl Declaration {
         scope: Scope<'_>,
         argument: &Keyword,
     ) -> Result<(), CallErr>
-        ensures { Makes (with_argument scope.entry.own.now scope.entry.packages.now self.old argument.now) result self.new }
+        ensures { Gives (λ _. self.new) Bad result (with_argument scope.entry.own.now scope.entry.packages.now self.old argument.now) }
     {
         let Some(kind) = self.rule.attribute(argument.name.as_slice()) else {
             return Err(CallErr::Bad(FaultKind::NoAttribute));
@@ -109,7 +111,7 @@ impl Declaration {
         scope: Scope<'_>,
         arguments: &[Keyword],
     ) -> Result<(), CallErr>
-        ensures { Makes (with_arguments scope.entry.own.now scope.entry.packages.now self.old arguments.now) result self.new }
+        ensures { Gives (λ _. self.new) Bad result (with_arguments scope.entry.own.now scope.entry.packages.now self.old arguments.now) }
     {
         for argument in arguments {
             self.take_argument(alloc, scope, argument)?;
@@ -140,7 +142,7 @@ pub fn declare(
     rule: Rule,
     call: &KeywordCall,
 ) -> Result<Declaration, CallErr>
-    ensures { Gives (declaration scope.entry.own.now scope.entry.packages.now rule call.now) result }
+    ensures { Gives itself Bad result (declaration scope.entry.own.now scope.entry.packages.now rule call.now) }
 {
     let arguments = call.arguments.as_slice();
     if repeats(alloc, arguments)? {

@@ -12,8 +12,8 @@ use std::cmp::Ordering;
 
 /// A fault of a file as it is printed.
 ///
-/// Lines are ordered by the bytes of the label, then by the line's number, then by the fault's number, then by the bytes
-/// of the detail.
+/// Lines are ordered by the bytes of the label, then by the line's number, then by the fault's number, then by the
+/// bytes of the detail.
 #[derive(Debug, Drop)]
 pub struct FaultLine {
     /// The file's label in full form.

@@ -120,8 +120,8 @@ fn report_workspace(
     report_packages(alloc, &packages, label, output)
 }
 
-/// The texts of a run over this workspace with this query, and how it ends. Only a lack of memory is an error; Q3, Q5, Q6, Q8, E6
-/// and E7 stand in the ending.
+/// The texts of a run over this workspace with this query, and how it ends. Only a lack of memory is an error; Q3, Q5,
+/// Q6, Q8, E6 and E7 are in the ending.
 #[tactic(auto, unfolding(crate::specs::Fragment::answer_query))]
 pub fn answer_query(
     alloc: Global,

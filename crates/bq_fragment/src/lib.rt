@@ -1,9 +1,11 @@
 //! A workspace and a query come in; the texts of the run and its ending go out.
 //!
-//! The promise: [`answer_query`] reports exactly what `answer_query` of `specs/Fragment.antt` says of the files and the query.
+//! The promise: [`answer_query`] reports exactly what `answer_query` of `specs/Fragment.antt` says of the files and the
+//! query.
 //!
-//! It is the loader and the query of the first fragment: BUILD files that call the built-in rules, and a query that is one
-//! label. A loader that evaluates and a query language will replace it, and nothing above knows more of it than `answer_query`.
+//! It is the loader and the query of the first fragment: BUILD files that call the built-in rules, and a query that is
+//! one label. A loader that evaluates and a query language will replace it, and nothing above knows more of it than
+//! `answer_query`.
 //!
 //! In reading order:
 //!

@@ -103,8 +103,8 @@ fn kind_at(loaded: &[Loaded], at: usize, name: &Bytes) -> Option<TargetKind>
     }
 }
 
-/// The kind of the target that a label names, where there is one. It is found in time logarithmic in the number of packages
-/// and of the package's targets.
+/// The kind of the target that a label names, where there is one. It is found in time logarithmic in the number of
+/// packages and of the package's targets.
 pub fn target(packages: &Packages, loaded: &[Loaded], label: &Label) -> Option<TargetKind>
     requires { AreLoaded packages.now packages.now loaded.now }
     ensures { result ≡ target_of packages.now label.now }

@@ -1,4 +1,4 @@
-//! The names that stand in a package, each with what it names.
+//! The names of a package, each with what it names.
 
 ghost use Rattle.std.specs.Prelude.{◌≡◌, [], IfOk, not};
 ghost use Rattle.bq_fragment.specs.Names.{Knows, Adds, is_known, kind_of};

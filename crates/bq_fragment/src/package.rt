@@ -2,7 +2,9 @@
 
 ghost use Rattle.std.specs.Prelude.{◌≡◌, ◌++◌, [], ◌∷◌, true, map, IfOk, OnOk};
 ghost use Rattle.bq_fragment.specs.Names.{Knows};
-ghost use Rattle.bq_fragment.specs.Steps.{Finds, FindsAll};
+ghost use Rattle.bq_source.specs.Gives.{Gives};
+ghost use Rattle.bq_source.specs.declared.fault.SourceErr.TheVariants.{Bad};
+ghost use Rattle.bq_fragment.specs.Steps.{items};
 ghost use Rattle.bq_fragment.specs.Package.{AddsAll, entries, entries_of, are_new, declared_by, declarations, DeclaresNext, dependencies_of, dependencies_in, Partitions, Targets};
 
 use crate::call_error::CallErr;
@@ -86,7 +88,7 @@ fn declarations(
     calls: &[RuleCall],
 ) -> Result<Vec<Declaration>, SourceErr>
     requires { Knows names.old [] }
-    ensures found { FindsAll (declarations scope.entry.own.now scope.entry.packages.now [] calls.now) result }
+    ensures found { Gives items Bad result (declarations scope.entry.own.now scope.entry.packages.now [] calls.now) }
     ensures known { IfOk result (λ ds. Knows names.new (entries_of ds.items)) }
 {
     let mut done = Vec::new(alloc);

@@ -2,7 +2,7 @@
 
 ghost use Rattle.std.specs.Prelude.{◌≡◌, ◌↔◌, ◌++◌, ℕ, List, true, codes, IfOk};
 ghost use Rattle.std.specs.List.{list_all};
-ghost use Rattle.bq_fragment.specs.Query.{begins_label, begins_word, cut_back, cut_front, cut_spaces, has_dots, is_space, is_wildcard, is_word, is_word_byte, query_by, query_of, StandsIn};
+ghost use Rattle.bq_fragment.specs.Query.{begins_label, begins_word, cut_back, cut_front, cut_spaces, has_dots, is_space, is_wildcard, is_word, is_word_byte, query_by, query_of, OccursIn};
 
 use crate::query_error::QueryErr;
 use bq_label::{Label, PackageId, read_label};
@@ -73,7 +73,7 @@ fn begins_label(word: &[u8]) -> bool
     }
 }
 
-/// Whether `...` stands somewhere in the word.
+/// Whether `...` occurs in the word.
 fn has_dots(word: &[u8]) -> bool
     ensures { result ≡ has_dots word.now }
 {
@@ -130,5 +130,5 @@ pub fn read_query(alloc: Global, text: &[u8]) -> Result<Result<Label, QueryErr>,
 /// A word between spaces is cut out whole, and the words with `...` in them are told from the others.
 pub fn words_of_a_query()
     ensures cut { (front word back : List ℕ) → list_all is_space front ≡ true → list_all is_space back ≡ true → is_word word ≡ true → cut_spaces (front ++ (word ++ back)) ≡ word }
-    ensures dots { (word : List ℕ) → (has_dots word ≡ true) ↔ StandsIn (codes "...") word }
+    ensures dots { (word : List ℕ) → (has_dots word ≡ true) ↔ OccursIn (codes "...") word }
 {}

@@ -1,5 +1,5 @@
-//! The errors of queries, with the numbers and names that users see. They stand here once, and everything else names the
-//! variant.
+//! The errors of queries, with the numbers and names that users see. This is the only table of them: everything else names
+//! the variant.
 
 ghost use Rattle.std.specs.Prelude.{◌≡◌, Some};
 ghost use Rattle.bq_fragment.specs.QueryError.{query_title, query_detail};
@@ -34,7 +34,7 @@ impl QueryErr {
         }
     }
 
-    /// What is printed behind the name; empty for most.
+    /// What is printed after the name; empty for most.
     pub fn detail(&self) -> &[u8]
         ensures { result.now ≡ query_detail self.now }
     {

@@ -81,7 +81,7 @@ header_shape line header five f =
       behind [] five f = absurd (omega arith)
       behind (b ∷ bs) five f = path_of (b ∷ bs) (full_tail 32 b bs (full_tail 61 32 (b ∷ bs) (full_tail 61 61 (32 ∷ b ∷ bs) (full_tail 61 61 (61 ∷ 32 ∷ b ∷ bs) f))))
 
--- how a text is cut, and that what stands from the first header on is written by its files
+-- how a text is cut, and that what begins at the first header is written by its files
 pub record IsCutSo (text : List ℕ) (c : Cut) : Type 0 where
   pub rest : List ℕ
   pub is : text ≡ c.before ++ rest

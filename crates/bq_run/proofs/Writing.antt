@@ -35,7 +35,7 @@ first_line b (c ∷ cs) =
       | inr other ↦ record { first = b ∷ f.first; others = f.others; is = rw (other, f.is) refl }
     ]
 
--- where a line ends, the lines behind it are those of the text behind it
+-- where a line ends, the lines after it are those of the text after it
 pub lines-append : (xs ys : List ℕ) → EndsLine xs → lines (xs ++ ys) ≡ lines xs ++ lines ys
 lines-append [] ys ends = refl
 lines-append (b ∷ []) ys ends = rw ends refl
@@ -101,7 +101,7 @@ file-part f =
     let count : length (header_of f.path) - 5 ≡ length f.path = omega (arith, length-header f.path) in
     ap (λ t. record { path = t; content = f.content }) (ap (λ k. take k (f.path ++ 10 ∷ [])) count ∙ take_front f.path (10 ∷ []))
 
--- behind a content the next header begins a line
+-- after a content the next header begins a line
 lines-body : (content rest : List ℕ) → EndsLine content ⊎ (rest ≡ []) → lines (content ++ rest) ≡ lines content ++ lines rest
 lines-body content rest ends = elim ends [
   | inl line ↦ lines-append content rest line

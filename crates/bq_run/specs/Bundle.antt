@@ -1,4 +1,4 @@
--- The text form of a workspace: header lines, and the files behind them.
+-- The text form of a workspace: header lines, each followed by its file.
 use Rattle.std.specs.Prelude.{◌≡◌, ◌<◌, ◌-◌, ◌++◌, ◌==◌, ◌&&◌, ℕ, Bool, true, nat_le, nat_eq, List, [], ◌∷◌, Option, None, Some, length, take, drop, map, slice_index, codes, option_and_then, if◌then◌else◌}
 use Rattle.std.specs.List.{starts_with, list_all}
 use Rattle.bq_label.specs.Workspace.{workspace_of}
@@ -21,7 +21,7 @@ marker = codes "=== "
 abbrev pub is_header : List ℕ → Bool
 is_header line = starts_with nat_eq line marker
 
--- a header line, and the bytes behind it up to the next header or the end
+-- a header line, and the bytes after it up to the next header or the end
 pub record Part : Type 0 where
   pub header : List ℕ
   pub content : List ℕ
@@ -41,11 +41,11 @@ abbrev pub cut : List (List ℕ) → Cut
 cut [] = record { before = []; parts = [] }
 cut (l ∷ ls) = cut_at l (cut ls)
 
--- the header has a newline behind the marker
+-- the header has a newline after the marker
 abbrev pub is_whole : Part → Bool
 is_whole part = nat_le 5 (length part.header) && slice_index part.header (length part.header - 1) == 10
 
--- the path is what stands between the marker and the newline
+-- the path is the text between the marker and the newline
 abbrev pub file_of : Part → File
 file_of part = record { path = take (length part.header - 5) (drop 4 part.header); content = part.content }
 
@@ -58,7 +58,7 @@ pub record BeginsWith (text path content rest : List ℕ) : Type 0 where
   pub front : (cut (lines rest)).before ≡ []
   pub shorter : length rest < length text
 
--- nothing stands before the first header, and every header has its newline
+-- nothing comes before the first header, and every header has its newline
 abbrev pub is_bundle : Cut → Bool
 is_bundle c = nat_eq (length c.before) 0 && list_all is_whole c.parts
 
@@ -70,6 +70,6 @@ files_of text = let c = cut (lines text) in if is_bundle c then Some (map file_o
 abbrev pub max_bundle_bytes : ℕ
 max_bundle_bytes = 1073741824
 
--- the workspace that a text stands for
+-- the workspace that a text holds
 unfoldable pub bundle_of : List ℕ → Option (List File)
 bundle_of text = if nat_le (length text) max_bundle_bytes then option_and_then workspace_of (files_of text) else None

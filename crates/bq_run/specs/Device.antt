@@ -6,7 +6,7 @@ use Rattle.std.specs.Io.KnownBytes.{Appends}
 abbrev pub one_more : ℕ → ℕ
 one_more n = min (n + 1) (2 ^ 64 - 1)
 
--- a read that answers an error counts, and no other does
+-- a read that returns an error counts, and no other does
 abbrev pub ReadCounts : {E : Type 0} → ℕ → ℕ → Result ℕ E → Type 0
 ReadCounts old new (Ok n) = new ≡ old
 ReadCounts old new (Err e) = new ≡ one_more old
@@ -15,7 +15,7 @@ ReadCounts old new (Err e) = new ≡ one_more old
 abbrev pub took_none : ℕ → List ℕ → Bool
 took_none n bytes = n == 0 && nat_lt 0 (length bytes)
 
--- a write that answers an error counts, and one of some bytes that takes none; no other does
+-- a write that returns an error counts, and one of some bytes that takes none; no other does
 abbrev pub WriteCounts : {E : Type 0} → ℕ → ℕ → Result ℕ E → List ℕ → Type 0
 WriteCounts old new (Ok n) bytes = new ≡ (if took_none n bytes then one_more old else old)
 WriteCounts old new (Err e) bytes = new ≡ one_more old

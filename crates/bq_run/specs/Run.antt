@@ -43,15 +43,15 @@ run_from options (Some files) = run_files_of options files
 unfoldable pub run_of : Options → List ℕ → Run
 run_of options input = run_from options (bundle_of input)
 
--- want of memory and failing devices aside, the call ends as the definition does
+-- out of memory and failing devices aside, the call ends as the definition does
 abbrev pub EndsAs : Result Status RunErr → Result Status RunErr → Type 0
 EndsAs (Err run.Memory) end = Unit {0}
 EndsAs (Err run.Read) end = Unit {0}
 EndsAs (Err run.Write) end = Unit {0}
 EndsAs result end = result ≡ end
 
--- Both texts are written whole. With want of memory or a failed reader nothing is; with a failed writer a beginning of each, and
--- of the answer only behind the whole of the faults.
+-- Both texts are written whole. Out of memory, or with a failed reader, nothing is; with a failed writer a beginning of each is, and
+-- of the answer only after the whole of the faults.
 abbrev pub Writes : Result Status RunErr → List ℕ → List ℕ → (f f' a a' : Option (List ℕ)) → Type 0
 Writes (Err run.Memory) faults answer f f' a a' = Keeps f f' × Keeps a a'
 Writes (Err run.Read) faults answer f f' a a' = Keeps f f' × Keeps a a'

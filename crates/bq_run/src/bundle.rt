@@ -31,7 +31,7 @@ fn line_len(text: &[u8]) -> usize
     }
 }
 
-/// How many bytes stand before the first header.
+/// How many bytes there are before the first header.
 fn lead(text: &[u8]) -> usize
     ensures within { result ≤ length text.now }
     ensures bytes { (cut (lines text.now)).before ≡ take result text.now }
@@ -126,8 +126,8 @@ fn workspace_in(alloc: Global, text: Vec<u8>) -> Result<Workspace, RunErr>
 
 /// Reads a bundle to its end.
 ///
-/// E2: a read failed; it is not tried again. E4: the bytes are no bundle, or are more than 1,073,741,824, which a reader
-/// that never ends meets. E1: a growth was refused.
+/// E2: a read failed; it is not tried again. E4: the bytes are no bundle, or are more than 1,073,741,824, which a
+/// reader that never ends meets. E1: a growth was refused.
 #[tactic(auto, unfolding(crate::specs::Bundle::bundle_of))]
 pub fn read_bundle<R: Source>(alloc: Global, reader: &mut R) -> Result<Workspace, RunErr>
     requires { R.failed reader.old < 2 ^ 64 - 1 }

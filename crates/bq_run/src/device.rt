@@ -16,24 +16,24 @@ pub trait Counted {
         ensures { result ≡ failed self.now };
 }
 
-/// A reader that counts each read that answers an error.
+/// A reader that counts each read that returns an error.
 pub trait Source: Counted {
     /// The bytes that reads will give from here on, where they are known.
     ghost remaining: { Self → Option (List ℕ) } = { λ _. None };
 
-    /// Reads some bytes into the front of `buf`, and answers how many. At the end, or into an empty `buf`, they are none.
+    /// Reads some bytes into the front of `buf`, and returns how many: 0 at the end, and where `buf` is empty.
     fn read(&mut self, buf: &mut [u8]) -> io::Result<usize>
         ensures bound { ReadsAtMost result buf.new }
         ensures bytes { ReadConsumes (remaining self.old) (remaining self.new) result buf.new }
         ensures count { ReadCounts (Self.failed self.old) (Self.failed self.new) result };
 }
 
-/// A writer that counts each write that answers an error, and each of some bytes that takes none.
+/// A writer that counts each write that returns an error, and each of some bytes that takes none.
 pub trait Sink: Counted {
     /// The bytes that the writer holds, where they are known.
     ghost contents: { Self → Option (List ℕ) } = { λ _. None };
 
-    /// Takes some bytes from the front of `buf`, and answers how many.
+    /// Takes some bytes from the front of `buf`, and returns how many.
     fn write(&mut self, buf: &[u8]) -> io::Result<usize>
         ensures bound { WritesAtMost result buf.now }
         ensures bytes { WriteAppends (contents self.old) (contents self.new) result buf.now }

@@ -1,5 +1,5 @@
-//! The errors of runs, with the numbers and names that users see. They stand here once, and everything else names the
-//! variant.
+//! The errors of runs, with the numbers and names that users see. This is the only table of them: everything else names
+//! the variant.
 
 ghost use Rattle.std.specs.Prelude.{◌≡◌, Some};
 ghost use Rattle.bq_run.specs.Error.{run_title, run_err};

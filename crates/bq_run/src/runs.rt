@@ -75,8 +75,8 @@ pub fn run_files<T, W: Sink, F: Sink>(
 /// A run: the bundle is read to its end, the query and the schema are read, the packages are loaded, and the query is
 /// answered. Then the faults writer gets the faults, and after it the writer gets the answer.
 ///
-/// E4, E5 with Q3 or Q8, E6 and E7 take precedence in this order, and nothing is written with them. With Q5 or Q6 only the
-/// faults are written. E1 comes before the first byte is written.
+/// E4, E5 with Q3 or Q8, E6 and E7 take precedence in this order, and nothing is written with them. With Q5 or Q6 only
+/// the faults are written. E1 comes before the first byte is written.
 ///
 /// `rt` will start the workers. None is started yet, and the call takes any value for it.
 #[tactic(auto, unfolding(crate::specs::Run::run_of))]

@@ -109,8 +109,8 @@ fn write_line<W: Sink>(writer: &mut W, error: &RunErr) -> Result<(), WriteFault>
     write_all(writer, b"\n")
 }
 
-/// Writes the line for standard error, where there is one. It is written in pieces, so that it takes no memory: after a run
-/// that has written something, no lack of memory can hide how it ended.
+/// Writes the line for standard error, where there is one. It is written in pieces, so that it takes no memory: after a
+/// run that has written something, no lack of memory can hide how it ended.
 pub fn write_status_line<W: Sink>(
     writer: &mut W,
     ended: &Result<Status, RunErr>,

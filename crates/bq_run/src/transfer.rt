@@ -57,8 +57,8 @@ pub fn read_all<R: Source>(
 #[derive(Clone, Copy, Debug, PartialEq, Eq)]
 pub struct WriteFault;
 
-/// Writes all of the text. A write of some bytes that takes none is a failure. The first failed write ends it: none is tried
-/// again.
+/// Writes all of the text. A write of some bytes that takes none is a failure. The first failed write ends it: none is
+/// tried again.
 pub fn write_all<W: Sink>(writer: &mut W, text: &[u8]) -> Result<(), WriteFault>
     requires { W.failed writer.old < 2 ^ 64 - 1 }
     ensures whole { OnOk result (Appends (W.contents writer.old) (W.contents writer.new) text.now) }

@@ -23,12 +23,7 @@ const CORNERS: [(u32, u64); 9] = [
     (1, 1_000_000_000),
 ];
 
-fn expect_answer(
-    rt: &impl Abort,
-    alloc: Global,
-    jobs: u32,
-    max_steps: u64,
-) -> Result<(), Fail>
+fn expect_answer(rt: &impl Abort, alloc: Global, jobs: u32, max_steps: u64) -> Result<(), Fail>
     requires some_job { 1 ≤ jobs }
     requires jobs { jobs ≤ 64 }
     requires some_step { 1 ≤ max_steps }
@@ -53,7 +48,12 @@ fn expect_answer(
 #[test]
 fn answer_alike(rt: HostRuntime) -> Result<(), Fail> {
     for (jobs, max_steps) in CORNERS {
-        expect_answer(&rt, rt.alloc(), jobs.clamp(1, 64), max_steps.clamp(1, 1_000_000_000))?;
+        expect_answer(
+            &rt,
+            rt.alloc(),
+            jobs.clamp(1, 64),
+            max_steps.clamp(1, 1_000_000_000),
+        )?;
     }
     Ok(())
 }
