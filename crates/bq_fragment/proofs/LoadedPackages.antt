@@ -19,7 +19,7 @@ use Rattle.bq_fragment.specs.declared.package.Package.{Package}
 use Rattle.bq_fragment.specs.Calls.{resolved}
 use Rattle.bq_fragment.specs.Source.{statements_of}
 use Rattle.bq_fragment.specs.Package.{Targets}
-use Rattle.bq_fragment.specs.Loading.{outcome_of, target_in, target_of, dangling, all_dangling, fault_line, lines_by, lines_of, lines_from, LoadsTo, FoundBy, IsLoaded, AreLoaded, build_text, kind_at, lines_with, lines_at, lines_of_all}
+use Rattle.bq_fragment.specs.Loading.{outcome_of, target_in, target_of, dangling, all_dangling, fault_line, lines_by, lines_of, lines_from, LoadsTo, FoundBy, IsLoaded, AreLoaded, build_text, kind_by, kind_in, kind_at, lines_with, lines_at, lines_of_all}
 use Rattle.bq_fragment.proofs.Targets.{one_left, one_more}
 
 pub loads : (packages : List BuildFile) (b : BuildFile) (statements : List TopLevel) (calls : List RuleCall) (r : Result Package SourceErr)
@@ -45,11 +45,16 @@ loaded-more packages i b xs ys x h e all s f =
 pub loaded-all : (packages : List BuildFile) (i : ℕ) (xs : List Loaded) → length packages ≤ i → AreLoaded packages (take i packages) xs → AreLoaded packages packages xs
 loaded-all packages i xs h all = let P : List BuildFile → Type 0 = λ z. AreLoaded packages z xs in subst P (take_all i packages h) all
 
+-- what was loaded has the kinds of what its BUILD file gives
+kinds_found : (b : BuildFile) (o : Result (List Declaration) Fault) (r : Result Package Fault) (name : List ℕ) → FoundBy b o r → kind_in r name ≡ kind_by b o name
+kinds_found b (Err why) r name found = ap (λ z. kind_in z name) found
+kinds_found b (Ok ds) r name found = ap (λ z. kind_in z name) found.1 ∙ found.2 name
+
 -- what was loaded at a place has the kinds of the package there
 pub kinds_at : (packages bs : List BuildFile) (xs : List Loaded) (j : ℕ) (name : List ℕ) → AreLoaded packages bs xs
     → kind_at (slice_get xs j) name ≡ target_in packages (slice_get bs j) name
 kinds_at packages [] [] j name h = refl
-kinds_at packages (b ∷ bs) (x ∷ xs) zero name h = h.0.kinds name
+kinds_at packages (b ∷ bs) (x ∷ xs) zero name h = kinds_found b (outcome_of packages b) x.package name h.0.found
 kinds_at packages (b ∷ bs) (x ∷ xs) (suc j) name h = kinds_at packages bs xs j name h.1
 kinds_at packages [] (x ∷ xs) j name h = absurd h
 kinds_at packages (b ∷ bs) [] j name h = absurd h
@@ -98,11 +103,11 @@ lines-done : (packages : List BuildFile) (xs : List Loaded) (i : ℕ) (lines : L
 unfolding lines_of_all
 lines-done packages xs i lines h left = sym (left ∙ ap (λ z. lines ++ lines_of_all packages z) (drop_all i xs h) ∙ append-nil lines)
 
-found_lines : (packages : List BuildFile) (b : BuildFile) (x : Loaded) (o : Result (List Declaration) Fault) → x.label ≡ build_text b → FoundBy b o x
+found_lines : (packages : List BuildFile) (b : BuildFile) (x : Loaded) (o : Result (List Declaration) Fault) → x.label ≡ build_text b → FoundBy b o x.package
     → lines_at packages x ≡ lines_by packages b o
-found_lines packages b x (Err why) e found = ap (lines_with packages x) found.0 ∙ ap (λ z. fault_line z why ∷ []) e
-found_lines packages b x (Ok ds) e found = ap (lines_with packages x) found.0
-    ∙ ap (λ z. all_dangling packages z x.cross_package) e ∙ ap (all_dangling packages (build_text b)) found.1
+found_lines packages b x (Err why) e found = ap (lines_with packages x.label) found ∙ ap (λ z. fault_line z why ∷ []) e
+found_lines packages b x (Ok ds) e found = ap (lines_with packages x.label) found.1
+    ∙ ap (λ z. all_dangling packages z found.0.cross_package) e ∙ ap (all_dangling packages (build_text b)) found.3
 
 loaded-lines : (packages bs : List BuildFile) (xs : List Loaded) → AreLoaded packages bs xs → lines_of_all packages xs ≡ lines_from packages bs
 unfolding lines_of_all lines_from lines_of

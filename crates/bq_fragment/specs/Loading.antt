@@ -81,15 +81,14 @@ abbrev pub LoadsTo : List BuildFile → BuildFile → Result Package SourceErr �
 LoadsTo packages b (Ok p) = (ds : List Declaration) × (outcome_of packages b ≡ Ok ds) × Knows p.names (targets_of b ds) × (p.cross_package ≡ cross_package b.id (dependencies_of ds))
 LoadsTo packages b (Err e) = (why : Fault) → e ≡ Bad why → outcome_of packages b ≡ Err why
 
-abbrev pub FoundBy : BuildFile → Result (List Declaration) Fault → Loaded → Type 0
-FoundBy b (Err why) x = (x.fault ≡ Some why) × (x.cross_package ≡ [])
-FoundBy b (Ok ds) x = (x.fault ≡ None) × (x.cross_package ≡ cross_package b.id (dependencies_of ds))
+abbrev pub FoundBy : BuildFile → Result (List Declaration) Fault → Result Package Fault → Type 0
+FoundBy b (Err why) found = found ≡ Err why
+FoundBy b (Ok ds) found = (p : Package) × (found ≡ Ok p) × Knows p.names (targets_of b ds) × (p.cross_package ≡ cross_package b.id (dependencies_of ds))
 
 -- what was loaded of a package is what its BUILD file gives
 pub record IsLoaded (packages : List BuildFile) (b : BuildFile) (x : Loaded) : Type 0 where
-  pub kinds : (name : List ℕ) → kind_of x.names name ≡ kind_by b (outcome_of packages b) name
   pub label : x.label ≡ build_text b
-  pub found : FoundBy b (outcome_of packages b) x
+  pub found : FoundBy b (outcome_of packages b) x.package
 
 abbrev pub AreLoaded : List BuildFile → List BuildFile → List Loaded → Type 0
 AreLoaded packages [] [] = Unit {0}
@@ -98,17 +97,21 @@ AreLoaded packages [] (x ∷ xs) = ⊥
 AreLoaded packages (b ∷ bs) [] = ⊥
 
 -- the kind of a name in what was loaded of a package
+abbrev pub kind_in : Result Package Fault → List ℕ → Option TargetKind
+kind_in (Err why) name = None
+kind_in (Ok p) name = kind_of p.names name
+
 abbrev pub kind_at : Option Loaded → List ℕ → Option TargetKind
 kind_at None name = None
-kind_at (Some x) name = kind_of x.names name
+kind_at (Some x) name = kind_in x.package name
 
-abbrev pub lines_with : List BuildFile → Loaded → Option Fault → List FaultLine
-lines_with packages x (Some why) = fault_line x.label why ∷ []
-lines_with packages x None = all_dangling packages x.label x.cross_package
+abbrev pub lines_with : List BuildFile → List ℕ → Result Package Fault → List FaultLine
+lines_with packages label (Err why) = fault_line label why ∷ []
+lines_with packages label (Ok p) = all_dangling packages label p.cross_package
 
 -- the fault lines of what was loaded of a package
 abbrev pub lines_at : List BuildFile → Loaded → List FaultLine
-lines_at packages x = lines_with packages x x.fault
+lines_at packages x = lines_with packages x.label x.package
 
 unfoldable pub lines_of_all : List BuildFile → List Loaded → List FaultLine
 lines_of_all packages [] = []

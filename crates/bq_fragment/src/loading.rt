@@ -2,28 +2,24 @@
 
 ghost use Rattle.std.specs.Prelude.{◌≡◌, ◌++◌, IfOk, OnOk, slice_get};
 ghost use Rattle.bq_label.specs.Label.{full_form};
-ghost use Rattle.bq_fragment.specs.Loading.{LoadsTo, IsLoaded, AreLoaded, kind_at, target_of, all_dangling, lines_at, all_lines, build_text};
+ghost use Rattle.bq_fragment.specs.Loading.{LoadsTo, IsLoaded, AreLoaded, kind_in, kind_at, target_of, all_dangling, lines_at, all_lines, build_text};
 
 use crate::calls::resolve;
 use crate::fault_lines::FaultLine;
-use crate::names::Names;
-use crate::package::{Dependency, Package, targets};
+use crate::package::{Package, targets};
 use crate::scope::Scope;
 use crate::source::statements;
 use crate::target_kind::TargetKind;
 use bq_label::{BuildFile, Label, Packages, print_label};
 use bq_source::{Bytes, Fault, FaultKind, SourceErr};
-use sqlite_items::Items;
 use std::alloc::{AllocError, Global};
 
-/// What was loaded of a package. After a fault it has no targets.
+/// What a BUILD file gives: its package, or its fault.
 #[derive(Drop)]
 pub struct Loaded {
     /// The full form of the BUILD file's label.
     pub label: Bytes,
-    pub names: Names,
-    pub cross_package: Items<Dependency>,
-    pub fault: Option<Fault>,
+    pub package: Result<Package, Fault>,
 }
 
 /// What the package's BUILD file declares, or its fault.
@@ -62,23 +58,14 @@ fn load(alloc: Global, packages: &Packages, build: &BuildFile) -> Result<Loaded,
 {
     let label = build_text(alloc, build)?;
     match load_package(alloc, packages, build) {
-        Ok(
-            Package {
-                names,
-                cross_package,
-            },
-        ) => Ok(Loaded {
+        Ok(package) => Ok(Loaded {
             label,
-            names,
-            cross_package,
-            fault: None,
+            package: Ok(package),
         }),
         Err(SourceErr::Memory) => Err(AllocError),
         Err(SourceErr::Bad(fault)) => Ok(Loaded {
             label,
-            names: Names::new(alloc),
-            cross_package: Items::new(alloc),
-            fault: Some(fault),
+            package: Err(fault),
         }),
     }
 }
@@ -94,11 +81,21 @@ pub fn load_all(alloc: Global, packages: &Packages) -> Result<Vec<Loaded>, Alloc
     Ok(loaded)
 }
 
+/// A faulty BUILD file has no targets.
+fn kind_in(package: &Result<Package, Fault>, name: &Bytes) -> Option<TargetKind>
+    ensures { result ≡ kind_in «package».now name.now }
+{
+    match package {
+        Ok(package) => package.names.kind(name),
+        Err(_) => None,
+    }
+}
+
 fn kind_at(loaded: &[Loaded], at: usize, name: &Bytes) -> Option<TargetKind>
     ensures { result ≡ kind_at (slice_get loaded.now at) name.now }
 {
     match loaded.get(at) {
-        Some(entry) => entry.names.kind(name),
+        Some(entry) => kind_in(&entry.package, name),
         None => None,
     }
 }
@@ -120,18 +117,19 @@ fn add_dangling(
     alloc: Global,
     packages: &Packages,
     loaded: &[Loaded],
-    entry: &Loaded,
+    label: &Bytes,
+    package: &Package,
     lines: &mut Vec<FaultLine>,
 ) -> Result<(), AllocError>
     requires { AreLoaded packages.now packages.now loaded.now }
-    ensures { OnOk result (lines.new.items ≡ lines.old.items ++ all_dangling packages.now entry.now.label entry.now.cross_package) }
+    ensures { OnOk result (lines.new.items ≡ lines.old.items ++ all_dangling packages.now label.now «package».now.cross_package) }
 {
-    for dependency in entry.cross_package.as_slice() {
+    for dependency in package.cross_package.as_slice() {
         if target(packages, loaded, &dependency.label).is_some() {
             continue;
         }
         lines.push(FaultLine {
-            label: entry.label.share()?,
+            label: label.share()?,
             line: dependency.line,
             kind: FaultKind::DanglingLabel,
             detail: Bytes::from_vec(alloc, print_label(alloc, &dependency.label)?)?,
@@ -151,8 +149,8 @@ fn add_lines(
     requires { AreLoaded packages.now packages.now loaded.now }
     ensures { OnOk result (lines.new.items ≡ lines.old.items ++ lines_at packages.now entry.now) }
 {
-    match &entry.fault {
-        Some(fault) => {
+    match &entry.package {
+        Err(fault) => {
             lines.push(FaultLine {
                 label: entry.label.share()?,
                 line: fault.line,
@@ -161,7 +159,7 @@ fn add_lines(
             })?;
             Ok(())
         }
-        None => add_dangling(alloc, packages, loaded, entry, lines),
+        Ok(package) => add_dangling(alloc, packages, loaded, &entry.label, package, lines),
     }
 }
 

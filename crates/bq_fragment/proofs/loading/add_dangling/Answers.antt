@@ -10,7 +10,7 @@ pub loop-dependency-preserved-then-is_some : goal.loop-dependency-preserved-then
 loop-dependency-preserved-then-is_some c =
     let l = c.loop-dependency in
     let packages = c.args.packages.now in
-    let label = c.args.entry.now.label in
+    let label = c.args.label.now in
     let ms = c.as_slice-dependency-items.result.now in
     let u : is_some c.target.result ≡ true = search rules in
     names_target packages label ms l.dependency-index c.dependency-item.result c.loop-dependency-test.true c.dependency-item.is l.lines.items
@@ -20,7 +20,7 @@ pub loop-dependency-preserved : goal.loop-dependency-preserved
 loop-dependency-preserved c =
     let l = c.loop-dependency in
     let packages = c.args.packages.now in
-    let label = c.args.entry.now.label in
+    let label = c.args.label.now in
     let ms = c.as_slice-dependency-items.result.now in
     let m = c.dependency-item.result in
     let u : is_some c.target.result ≡ false = search rules in
@@ -35,7 +35,7 @@ pub returns : goal.returns
 returns c =
     let l = c.loop-dependency in
     let packages = c.args.packages.now in
-    let label = c.args.entry.now.label in
+    let label = c.args.label.now in
     let ms = c.as_slice-dependency-items.result.now in
     no_more_dangling packages label ms l.dependency-index l.lines.items (c.args.lines.now.items ++ all_dangling packages label ms) c.loop-dependency-test.false l.invariant
     ∙ ap (λ z. c.args.lines.now.items ++ all_dangling packages label z) c.as_slice-dependency-items.ensures
