@@ -1,40 +1,40 @@
--- The users of each module, and the start of the drain.
+-- The dependents of each module, and the start of the sort.
 use Rattle.std.proofs.Common.{◌≡◌, ℕ, ◌+◌, ◌<◌, ◌≤◌, List, [], ◌∷◌, ◌++◌, length, get_or, set, sym, refl, ap, subst, ◌∙◌, inl, inr, arith, length-append, length-set, get_or-set_same, get_or-set_other}
 use mathlib.Core.Logic.{dite}
 use native.Mathlib.Decide.{ℕ_discrete, dec_lt}
 use Rattle.std.proofs.lemmas.List.{get_or_past, get_or_append_left, get_or_push}
 use Rattle.bq_board.specs.Counts.{times}
 use Rattle.bq_board.specs.Graph.{Loads, row}
-use Rattle.bq_board.specs.Draining.{Draining, IsUsers, Adds, UsersBelow, Begins, closed}
-use Rattle.bq_board.specs.Drain.{is_zero}
+use Rattle.bq_board.specs.Sorting.{Sorting, IsDependents, Adds, DependentsBelow, Begins, closed}
+use Rattle.bq_board.specs.Topological.{is_zero}
 use Rattle.bq_board.proofs.Sums.{times_same, times_other, times_more, at_same, at_other, Has_snoc}
 use Rattle.bq_board.proofs.Settling.{at_zero, not_zero}
 
-pub adds_none : (u : ℕ) (users : List (List ℕ)) → Adds u [] users users
-adds_none u users = record { wide = refl; mine = λ m h. omega arith; others = λ m v n. refl }
+pub adds_none : (u : ℕ) (dependents : List (List ℕ)) → Adds u [] dependents dependents
+adds_none u dependents = record { wide = refl; mine = λ m h. omega arith; others = λ m v n. refl }
 
--- u joins the users of x
-pub adds_more : (u x : ℕ) (xs : List ℕ) (old users : List (List ℕ)) → Adds u xs old users → x < length old → (r : List ℕ) → r ≡ get_or users x [] ++ u ∷ [] → Adds u (xs ++ x ∷ []) old (set users x r)
-adds_more u x xs old users a lt r e = record {
-  wide = length-set users x r ∙ a.wide;
+-- u joins the dependents of x
+pub adds_more : (u x : ℕ) (xs : List ℕ) (old dependents : List (List ℕ)) → Adds u xs old dependents → x < length old → (r : List ℕ) → r ≡ get_or dependents x [] ++ u ∷ [] → Adds u (xs ++ x ∷ []) old (set dependents x r)
+adds_more u x xs old dependents a lt r e = record {
+  wide = length-set dependents x r ∙ a.wide;
   mine = λ m h. dite (ℕ_discrete m x)
-      (λ same. let at : get_or (set users x r) m [] ≡ r = ap (λ v. get_or (set users x r) v []) same ∙ get_or-set_same users x r [] (omega (arith, a.wide)) in
-      let was : get_or users x [] ≡ get_or users m [] = ap (λ v. get_or users v []) (sym same) in
-      omega (arith, a.mine m h, ap (times u) at, ap (times u) e, times_same u (get_or users x []), ap (times u) was, times_more m xs x, at_same m x (sym same)))
-      (λ ne. let at : get_or (set users x r) m [] ≡ get_or users m [] = get_or-set_other users x m r [] ne in
+      (λ same. let at : get_or (set dependents x r) m [] ≡ r = ap (λ v. get_or (set dependents x r) v []) same ∙ get_or-set_same dependents x r [] (omega (arith, a.wide)) in
+      let was : get_or dependents x [] ≡ get_or dependents m [] = ap (λ v. get_or dependents v []) (sym same) in
+      omega (arith, a.mine m h, ap (times u) at, ap (times u) e, times_same u (get_or dependents x []), ap (times u) was, times_more m xs x, at_same m x (sym same)))
+      (λ ne. let at : get_or (set dependents x r) m [] ≡ get_or dependents m [] = get_or-set_other dependents x m r [] ne in
       omega (arith, a.mine m h, ap (times u) at, times_more m xs x, at_other m x (λ d. ne (sym d))));
   others = λ m v n. dite (ℕ_discrete m x)
-      (λ same. let at : get_or (set users x r) m [] ≡ r = ap (λ w. get_or (set users x r) w []) same ∙ get_or-set_same users x r [] (omega (arith, a.wide)) in
-      let was : get_or users x [] ≡ get_or users m [] = ap (λ w. get_or users w []) (sym same) in
-      omega (arith, a.others m v n, ap (times v) at, ap (times v) e, times_other v (get_or users x []) u (λ d. n (sym d)), ap (times v) was))
-      (λ ne. ap (times v) (get_or-set_other users x m r [] ne) ∙ a.others m v n);
+      (λ same. let at : get_or (set dependents x r) m [] ≡ r = ap (λ w. get_or (set dependents x r) w []) same ∙ get_or-set_same dependents x r [] (omega (arith, a.wide)) in
+      let was : get_or dependents x [] ≡ get_or dependents m [] = ap (λ w. get_or dependents w []) (sym same) in
+      omega (arith, a.others m v n, ap (times v) at, ap (times v) e, times_other v (get_or dependents x []) u (λ d. n (sym d)), ap (times v) was))
+      (λ ne. ap (times v) (get_or-set_other dependents x m r [] ne) ∙ a.others m v n);
 }
 
-pub users_none : (p users : List (List ℕ)) → length users ≡ length p → ((m : ℕ) → get_or users m [] ≡ []) → UsersBelow p 0 users
-users_none p users e h = record { wide = e; known = λ m u l. ap (times u) (h m); both = λ m u lt b. absurd (omega arith) }
+pub dependents_none : (p dependents : List (List ℕ)) → length dependents ≡ length p → ((m : ℕ) → get_or dependents m [] ≡ []) → DependentsBelow p 0 dependents
+dependents_none p dependents e h = record { wide = e; known = λ m u l. ap (times u) (h m); both = λ m u lt b. absurd (omega arith) }
 
-pub users_more : (p old new : List (List ℕ)) (i : ℕ) → UsersBelow p i old → Adds i (row p i) old new → UsersBelow p (i + 1) new
-users_more p old new i b a = record {
+pub dependents_more : (p old new : List (List ℕ)) (i : ℕ) → DependentsBelow p i old → Adds i (row p i) old new → DependentsBelow p (i + 1) new
+dependents_more p old new i b a = record {
   wide = a.wide ∙ b.wide;
   known = λ m u l. a.others m u (λ e. absurd (omega arith)) ∙ b.known m u (omega arith);
   both = λ m u lt h. dite (ℕ_discrete u i)
@@ -42,8 +42,8 @@ users_more p old new i b a = record {
       (λ ne. a.others m u ne ∙ b.both m u lt (omega arith));
 }
 
-pub users_all : (p users : List (List ℕ)) (i : ℕ) → length p ≤ i → i ≤ length p → UsersBelow p i users → IsUsers p users
-users_all p users i ge le b = record {
+pub dependents_all : (p dependents : List (List ℕ)) (i : ℕ) → length p ≤ i → i ≤ length p → DependentsBelow p i dependents → IsDependents p dependents
+dependents_all p dependents i ge le b = record {
   wide = b.wide;
   known = λ m u h. dite (dec_lt u (length p)) (λ lt. lt) (λ nl. absurd (omega (arith, b.known m u (omega arith))));
   both = λ m u lt. dite (dec_lt u (length p)) (λ h. b.both m u lt (omega arith))
@@ -97,7 +97,7 @@ closed_none : (xs : List ℕ) → closed [] xs ≡ 0
 closed_none [] = refl
 closed_none (x ∷ xs) = omega (arith, closed_none xs)
 
-pub begun : (p : Loads) (i : ℕ) (order pending : List ℕ) → length p ≤ i → i ≤ length p → Begins p i order pending → Draining p 0 order pending
+pub begun : (p : Loads) (i : ℕ) (order pending : List ℕ) → length p ≤ i → i ≤ length p → Begins p i order pending → Sorting p 0 order pending
 begun p i order pending ge le b = record {
   at_in = omega arith;
   wide = omega (arith, b.wide);

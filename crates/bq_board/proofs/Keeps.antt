@@ -1,5 +1,5 @@
 -- Each step keeps the rule.
-use Rattle.std.proofs.Common.{◌≡◌, ℕ, zero, suc, cond, ◌+◌, ◌%◌, ◌^◌, ◌<◌, ◌≤◌, ◌≢◌, eqb, List, [], ◌∷◌, ◌++◌, length, get_or, set, sym, refl, ap, ◌∙◌, subst, ⊎_elim, arith, length-set, get_or-set_other, get_or-set_same, eq-eqb, ne_eqb, length-append}
+use Rattle.std.proofs.Common.{◌≡◌, ℕ, zero, suc, cond, ◌+◌, ◌-◌, ◌%◌, ◌^◌, ◌<◌, ◌≤◌, ◌≢◌, eqb, List, [], ◌∷◌, ◌++◌, length, get_or, set, sym, refl, ap, ◌∙◌, subst, ⊎_elim, arith, length-set, get_or-set_other, get_or-set_same, eq-eqb, ne_eqb, length-append}
 use Rattle.std.specs.Prelude.{Option, Some, None}
 use mathlib.Core.Logic.{dite}
 use mathlib.Core.Option.{none, some, some-injective, some-ne-none}
@@ -9,13 +9,13 @@ use lib.ListN.{get_elem?}
 use lib.Seq.{set-get_or}
 use prog.Atomic.{either}
 use Rattle.atomic_table.specs.Table.{State, Me, step, keeps, takes, gives, stepped, opening, Allows, Splits}
-use Rattle.atomic_table.proofs.Lists.{at_set, at_snoc, at_map, set_again, set_here, set_else}
+use Rattle.atomic_table.proofs.Lists.{at_set, at_snoc, at_map, set_here, set_else}
 use Rattle.std.proofs.Math.ListN.{replicate}
 use Rattle.std.proofs.lemmas.List.{length-map, length-replicate}
 use Rattle.bq_board.specs.Counts.{total, times, Has, below}
 use Rattle.bq_board.specs.Graph.{Loads, edges, IsGraph}
 use Rattle.bq_board.specs.Plan.{source, Into}
-use Rattle.bq_board.specs.Board.{module_word, edge_word, Posted, Phase, SlotHolds, blank, ViewHolds, RuleHolds}
+use Rattle.bq_board.specs.Board.{module_word, edge_word, Posted, Phase, SlotHolds, blank, blank_with, ViewHolds, RuleHolds}
 use Rattle.bq_board.specs.Steps.{with_seen, with_missed, with_opened, with_posted, with_fetched, with_claimed, with_taken, with_finished, with_told, Fed, Looked, Claimed, looked, tried, opened, posted, fetched, added, counted}
 use Rattle.bq_board.specs.declared.view.View.{View}
 use Rattle.bq_board.proofs.Sums.{total-append, total-set, term_le, terms_le, some_term, total_below, times_same, times_other, Has_more, Has_snoc, below_le, below_full, total_times}
@@ -37,7 +37,7 @@ dec_posted x = dite (dec_le 1 x) (λ a. dite (dec_le x 2) (λ c. yes (a, c)) (λ
 abbrev Turns : (w w' o o' q q' f f' : ℕ) → Type 0
 Turns w w' o o' q q' f f' = ((a b c a' b' c' : ℕ) → a' + o ≡ a + o' → b' + q ≡ b + q' → c' + f ≡ c + f' → Phase w a b c → Phase w' a' b' c') × (Posted w → Posted w')
 
-module _ (B V : Type 0) (fact : B → ℕ → V → Type 0) (b : B) (p : Loads) where
+module _ (B V : Type 0) (fact : B → ℕ → V → Type 0) (b : B) (p : Loads) (seats : ℕ) where
   abbrev St : Type 0
   St = State (Option V) (View B)
 
@@ -45,7 +45,7 @@ module _ (B V : Type 0) (fact : B → ℕ → V → Type 0) (b : B) (p : Loads) 
   Homes = List (maybe.Option (Option V))
 
   abbrev K : St → Type 0
-  K s = RuleHolds fact b p s
+  K s = RuleHolds fact b p seats s
 
   -- how the words, the slots and one view may change together
   record Moves (ws ws' : List ℕ) (hs hs' : Homes) (v w : View B) : Type 0 where
@@ -56,6 +56,7 @@ module _ (B V : Type 0) (fact : B → ℕ → V → Type 0) (b : B) (p : Loads) 
     pub claim : (m : ℕ) → m < length p → (get_or ws' (module_word m) 0 + times m v.claimed ≡ get_or ws (module_word m) 0 + times m w.claimed) × (get_or ws (module_word m) 0 ≤ get_or ws' (module_word m) 0) × (get_or ws' (module_word m) 0 ≤ 1)
     pub ready : (m e : ℕ) → m < length p → Into p m e → get_or ws' (module_word m) 0 ≡ 1 → Posted (get_or ws' (edge_word p e) 0)
     pub done : (get_or ws' 0 0 + length v.finished ≡ get_or ws 0 0 + length w.finished) × (get_or ws 0 0 ≤ get_or ws' 0 0)
+    pub spare : w.spare ≡ v.spare
     pub good : ViewHolds b p ws w
 
   lifted : (ws ws' : List ℕ) (hs hs' : Homes) (v w u : View B) → Moves ws ws' hs hs' v w → ViewHolds b p ws u → ViewHolds b p ws' u
@@ -84,15 +85,16 @@ module _ (B V : Type 0) (fact : B → ℕ → V → Type 0) (b : B) (p : Loads) 
     claim = λ m h. let r = t.claim m h in let q = k.claim m h in let c = total-set (λ u. times m u.claimed) s.views id v w at in (omega arith, r.2);
     ready = t.ready;
     done = let d = t.done in let q = k.done in let c = total-set (λ u. length u.finished) s.views id v w at in omega arith;
+    cut = let c = total-set (λ u. 1 + u.spare) s.views id v w at in let q = k.cut in let same = t.spare in omega arith;
     each = λ j u e. ⊎_elim (λ c. subst (ViewHolds b p ws) c.1 (lifted s.words ws s.homes hs v w w t t.good)) (λ c. lifted s.words ws s.homes hs v w u t (k.each j u c.1)) (at_set s.views id j w u e);
   }
 
   -- a step that changes no word and no slot
   stays : (s : St) (k : K s) (i id : ℕ) (c : List (ℕ × Option V)) (v w : View B) → get_elem? s.views id ≡ some v
       → ((e : ℕ) → times e w.opened ≡ times e v.opened) → ((e : ℕ) → times e w.posted ≡ times e v.posted) → ((e : ℕ) → times e w.fetched ≡ times e v.fetched)
-      → ((m : ℕ) → times m w.claimed ≡ times m v.claimed) → length w.finished ≡ length v.finished → ViewHolds b p s.words w
+      → ((m : ℕ) → times m w.claimed ≡ times m v.claimed) → length w.finished ≡ length v.finished → w.spare ≡ v.spare → ViewHolds b p s.words w
       → K (stepped s i (get_or s.words i 0) id c w keeps)
-  stays s k i id c v w at same-o same-p same-g same-c same-f g = subst (λ (ws : List ℕ). K record { words = ws; homes = s.homes; views = set s.views id w }) (sym (set-get_or s.words i 0))
+  stays s k i id c v w at same-o same-p same-g same-c same-f same-s g = subst (λ (ws : List ℕ). K record { words = ws; homes = s.homes; views = set s.views id w }) (sym (set-get_or s.words i 0))
       (moved s k id v w s.words s.homes at record {
         wide = refl;
         deep = refl;
@@ -101,6 +103,7 @@ module _ (B V : Type 0) (fact : B → ℕ → V → Type 0) (b : B) (p : Loads) 
         claim = λ m h. let q = k.claim m h in (omega (arith, same-c m), omega arith, omega arith);
         ready = k.ready;
         done = (omega arith, omega arith);
+        spare = same-s;
         good = g;
       })
 
@@ -148,7 +151,7 @@ module _ (B V : Type 0) (fact : B → ℕ → V → Type 0) (b : B) (p : Loads) 
   Sat = Me (Option V) (View B)
 
   -- the load of an edge's word
-  pub looks : (n id e : ℕ) (m : Sat) (i : ℕ) → i ≡ edge_word p e → e < edges p → Allows (RuleHolds fact b p) n id m i (λ y. y) (looked (step n i 0 0 none) m)
+  pub looks : (n id e : ℕ) (m : Sat) (i : ℕ) → i ≡ edge_word p e → e < edges p → Allows (RuleHolds fact b p seats) n id m i (λ y. y) (looked (step n i 0 0 none) m)
   looks n id e m i is h s k _ at _ =
       let g = k.each id m.0 at in let x : ℕ = get_or s.words (edge_word p e) 0 in
       let tells : (w : View B) → Looked m.0 e x w → looked (step n i 0 0 none) m (get_or s.words i 0) (w, m.1) = λ w t. (
@@ -161,7 +164,7 @@ module _ (B V : Type 0) (fact : B → ℕ → V → Type 0) (b : B) (p : Loads) 
         w,
         keeps,
         tt,
-        stays s k i id m.1 m.0 w at (λ d. refl) (λ d. refl) (λ d. refl) (λ d. refl) refl
+        stays s k i id m.1 m.0 w at (λ d. refl) (λ d. refl) (λ d. refl) (λ d. refl) refl refl
             (noted s.words m.0 w.seen w.missed w.taken w.told g g.told (along (λ z. (z < edges p) × Posted (get_or s.words (edge_word p z) 0)) m.0.seen e g.seen (h, hit)) g.taken),
         tells w ((λ _. refl), λ no. absurd (no hit)),
       ))
@@ -169,7 +172,7 @@ module _ (B V : Type 0) (fact : B → ℕ → V → Type 0) (b : B) (p : Loads) 
         w,
         keeps,
         tt,
-        stays s k i id m.1 m.0 w at (λ d. refl) (λ d. refl) (λ d. refl) (λ d. refl) refl (noted s.words m.0 w.seen w.missed w.taken w.told g g.told g.seen g.taken),
+        stays s k i id m.1 m.0 w at (λ d. refl) (λ d. refl) (λ d. refl) (λ d. refl) refl refl (noted s.words m.0 w.seen w.missed w.taken w.told g g.told g.seen g.taken),
         tells w (
           (λ yes. absurd (miss yes)),
           λ _. (
@@ -182,7 +185,7 @@ module _ (B V : Type 0) (fact : B → ℕ → V → Type 0) (b : B) (p : Loads) 
       ))
 
   -- the exchange of a module's word
-  pub tries : (n id c : ℕ) (m : Sat) → c < length p → Fed m.0 c → Allows (RuleHolds fact b p) n id m (module_word c) (λ y. either (eqb y 0) 1 y) (tried (step n (module_word c) 0 1 none) m)
+  pub tries : (n id c : ℕ) (m : Sat) → c < length p → Fed m.0 c → Allows (RuleHolds fact b p seats) n id m (module_word c) (λ y. either (eqb y 0) 1 y) (tried (step n (module_word c) 0 1 none) m)
   tries n id c m h fed s k _ at _ =
       let g = k.each id m.0 at in let i : ℕ = module_word c in let x : ℕ = get_or s.words i 0 in let k-wide = k.wide in
       let tells : (w : View B) → Claimed m.0 c x w → tried (step n i 0 1 none) m x (w, m.1) = λ w t. (refl, λ d ed. let same : c ≡ d = omega arith in subst (λ (z : ℕ). Claimed m.0 z x w) same t) in
@@ -194,7 +197,7 @@ module _ (B V : Type 0) (fact : B → ℕ → V → Type 0) (b : B) (p : Loads) 
         w,
         keeps,
         tt,
-        subst (λ z. RuleHolds fact b p (stepped s i (either z 1 x) id m.1 w keeps)) (sym (eq-eqb x 0 free)) (moved s k id m.0 w ws s.homes at record {
+        subst (λ z. RuleHolds fact b p seats (stepped s i (either z 1 x) id m.1 w keeps)) (sym (eq-eqb x 0 free)) (moved s k id m.0 w ws s.homes at record {
           wide = length-set s.words i 1;
           deep = refl;
           edge = λ e l. let t = edge-stays e in ((λ x y z x' y' z' d₁ d₂ d₃ ph. (omega arith, omega arith, omega arith, omega arith)), λ q. (omega arith, omega arith));
@@ -207,6 +210,7 @@ module _ (B V : Type 0) (fact : B → ℕ → V → Type 0) (b : B) (p : Loads) 
               (λ same. fed_is s k id m.0 at e (fed e (subst (λ (z : ℕ × Loads). Into z.1 z.0 e) (λ j. (same j, sym g.plan j)) into)))
               (λ ne. k.ready d e l into (sym (else (module_word d) (λ z. ne (omega arith))) ∙ one)));
           done = let t = else 0 (λ z. omega arith) in (omega arith, omega arith);
+          spare = refl;
           good = record {
             base = g.base;
             plan = g.plan;
@@ -239,7 +243,7 @@ module _ (B V : Type 0) (fact : B → ℕ → V → Type 0) (b : B) (p : Loads) 
         w,
         keeps,
         tt,
-        subst (λ z. RuleHolds fact b p (stepped s i (either z 1 x) id m.1 w keeps)) (sym (ne_eqb x 0 lost)) (stays s k i id m.1 m.0 w at (λ d. refl) (λ d. refl) (λ d. refl) (λ d. refl) refl
+        subst (λ z. RuleHolds fact b p seats (stepped s i (either z 1 x) id m.1 w keeps)) (sym (ne_eqb x 0 lost)) (stays s k i id m.1 m.0 w at (λ d. refl) (λ d. refl) (λ d. refl) (λ d. refl) refl refl
             (noted s.words m.0 w.seen w.missed w.taken w.told g g.told g.seen (along (λ z. (z < length p) × (get_or s.words (module_word z) 0 ≡ 1)) m.0.taken c g.taken (h, one)))),
         tells w ((λ yes. absurd (lost yes)), λ _. refl),
       ))
@@ -261,9 +265,9 @@ module _ (B V : Type 0) (fact : B → ℕ → V → Type 0) (b : B) (p : Loads) 
       → Turns (get_or s.words (edge_word p e) 0) x (times e v.opened) (times e w.opened) (times e v.posted) (times e w.posted) (times e v.fetched) (times e w.fetched)
       → ((d : ℕ) → d ≢ e → (times d w.opened ≡ times d v.opened) × (times d w.posted ≡ times d v.posted) × (times d w.fetched ≡ times d v.fetched))
       → SlotHolds fact b p e x (get_elem? hs e) → ((d : ℕ) → d ≢ e → get_elem? hs d ≡ get_elem? s.homes d)
-      → ((m : ℕ) → times m w.claimed ≡ times m v.claimed) → length w.finished ≡ length v.finished → ViewHolds b p s.words w
+      → ((m : ℕ) → times m w.claimed ≡ times m v.claimed) → length w.finished ≡ length v.finished → w.spare ≡ v.spare → ViewHolds b p s.words w
       → K record { words = set s.words (edge_word p e) x; homes = hs; views = set s.views id w }
-  edge_moved s k id e x v w hs h at deep turn same lies same-h same-c same-f g =
+  edge_moved s k id e x v w hs h at deep turn same lies same-h same-c same-f same-s g =
       let i : ℕ = edge_word p e in let k-wide = k.wide in let ws : List ℕ = set s.words i x in
       let here : get_or ws i 0 ≡ x = get_or-set_same s.words i x 0 (omega arith) in
       let else : (j : ℕ) → j ≢ i → get_or ws j 0 ≡ get_or s.words j 0 = λ j ne. get_or-set_other s.words i j x 0 ne in
@@ -285,11 +289,12 @@ module _ (B V : Type 0) (fact : B → ℕ → V → Type 0) (b : B) (p : Loads) 
         ready = λ d c l into one. let r = k.ready d c l into (sym (mod-else d l) ∙ one) in
             dite (dec_le (edges p) c) (λ past. subst Posted (sym (edge-else c (λ y. omega arith))) r) (λ n. (turns c (omega arith)).1 r);
         done = let t = else 0 (λ y. omega arith) in (omega arith, omega arith);
+        spare = same-s;
         good = g;
       }
 
   -- an edge is opened: its empty slot comes out
-  pub opens_edge : (n id e : ℕ) (m : Sat) → e < edges p → Has m.0.claimed (source p e) → ¬ Has m.0.opened e → Allows (RuleHolds fact b p) n id m (edge_word p e) (λ _. 3) (λ _. opened (step n (edge_word p e) 3 0 none) m 3)
+  pub opens_edge : (n id e : ℕ) (m : Sat) → e < edges p → Has m.0.claimed (source p e) → ¬ Has m.0.opened e → Allows (RuleHolds fact b p seats) n id m (edge_word p e) (λ _. 3) (λ _. opened (step n (edge_word p e) 3 0 none) m 3)
   opens_edge n id e m h owns not-yet s k _ at _ =
       let g = k.each id m.0 at in let w : View B = with_opened m.0 e in let ph = k.edge e h in
       let nobody = none_did (λ u. u.opened) s k id m.0 e (source p e) (source_known p k.sound.1 e h) at owns (λ j u a had. ((k.each j u a).opens e had).1) not-yet in
@@ -300,7 +305,7 @@ module _ (B V : Type 0) (fact : B → ℕ → V → Type 0) (b : B) (p : Loads) 
         edge_moved s k id e 3 m.0 w (set s.homes e none) h at (length-set s.homes e none)
             ((λ a c y a' c' y' d₁ d₂ d₃ q. (omega arith, omega arith, omega arith, omega arith)), λ q. absurd (omega arith))
             (λ d ne. (times_other d m.0.opened e (λ y. ne (sym y)), refl, refl)) (record { empty = λ y. absurd (omega arith); out = λ _. set_here s.homes e none (omega arith); full = λ y. absurd (omega arith) })
-            (λ d ne. set_else s.homes e d none ne) (λ d. refl) refl
+            (λ d ne. set_else s.homes e d none ne) (λ d. refl) refl refl
             (record {
               base = g.base;
               plan = g.plan;
@@ -319,7 +324,7 @@ module _ (B V : Type 0) (fact : B → ℕ → V → Type 0) (b : B) (p : Loads) 
 
   -- an edge is posted: its filled slot goes home
   pub posts_edge : (n id e : ℕ) (v : View B) (x : V) (c : List (ℕ × Option V)) → e < edges p → Has v.opened e → ¬ Has v.posted e → fact b (source p e) x
-      → Allows (RuleHolds fact b p) n id (v, (e, Some x) ∷ c) (edge_word p e) (λ _. 1) (λ _. posted (step n (edge_word p e) 1 0 none) (v, (e, Some x) ∷ c) 1)
+      → Allows (RuleHolds fact b p seats) n id (v, (e, Some x) ∷ c) (edge_word p e) (λ _. 1) (λ _. posted (step n (edge_word p e) 1 0 none) (v, (e, Some x) ∷ c) 1)
   posts_edge n id e v x c h had not-yet fits s k _ at _ =
       let g = k.each id v at in let w : View B = with_posted v e in let ph = k.edge e h in let owns = (g.opens e had).1 in
       let nobody = none_did (λ u. u.posted) s k id v e (source p e) (source_known p k.sound.1 e h) at owns (λ j u a y. let q = k.each j u a in (q.opens e (q.posts e y)).1) not-yet in
@@ -332,7 +337,7 @@ module _ (B V : Type 0) (fact : B → ℕ → V → Type 0) (b : B) (p : Loads) 
             ((λ a c y a' c' y' d₁ d₂ d₃ q. (omega arith, omega arith, omega arith, omega arith)), λ q. absurd (omega arith))
             (λ d ne. (refl, times_other d v.posted e (λ y. ne (sym y)), refl))
             (record { empty = λ y. absurd (omega arith); out = λ y. absurd (omega arith); full = λ y. (x, set_here s.homes e (some (Some x)) (omega arith), fits) })
-            (λ d ne. set_else s.homes e d (some (Some x)) ne) (λ d. refl) refl
+            (λ d ne. set_else s.homes e d (some (Some x)) ne) (λ d. refl) refl refl
             (record {
               base = g.base;
               plan = g.plan;
@@ -351,7 +356,7 @@ module _ (B V : Type 0) (fact : B → ℕ → V → Type 0) (b : B) (p : Loads) 
 
   -- an edge is fetched: its slot comes out
   pub fetches_edge : (n id e t : ℕ) (m : Sat) → e < edges p → Has m.0.claimed t → Into p t e → ¬ Has m.0.fetched e
-      → Allows (RuleHolds fact b p) n id m (edge_word p e) (λ _. 2) (λ _. fetched fact (step n (edge_word p e) 2 0 none) m 2)
+      → Allows (RuleHolds fact b p seats) n id m (edge_word p e) (λ _. 2) (λ _. fetched fact (step n (edge_word p e) 2 0 none) m 2)
   fetches_edge n id e t m h owns into not-yet s k _ at _ =
       let g = k.each id m.0 at in let w : View B = with_fetched m.0 e in let ph = k.edge e h in let mine = claimed_is s k id m.0 at t owns in
       let nobody = none_did (λ u. u.fetched) s k id m.0 e t mine.0 at owns (λ j u a had. let q = (k.each j u a).fetches e had in subst (λ (z : ℕ). Has u.claimed z) (into_once p q.0 t e q.2 into) q.1) not-yet in
@@ -363,7 +368,7 @@ module _ (B V : Type 0) (fact : B → ℕ → V → Type 0) (b : B) (p : Loads) 
         edge_moved s k id e 2 m.0 w (set s.homes e none) h at (length-set s.homes e none)
             ((λ a c y a' c' y' d₁ d₂ d₃ q. (omega arith, omega arith, omega arith, omega arith)), λ q. (omega arith, omega arith))
             (λ d ne. (refl, refl, times_other d m.0.fetched e (λ y. ne (sym y)))) (record { empty = λ y. absurd (omega arith); out = λ _. set_here s.homes e none (omega arith); full = λ y. absurd (omega arith) })
-            (λ d ne. set_else s.homes e d none ne) (λ d. refl) refl
+            (λ d ne. set_else s.homes e d none ne) (λ d. refl) refl refl
             (record {
               base = g.base;
               plan = g.plan;
@@ -383,7 +388,7 @@ module _ (B V : Type 0) (fact : B → ℕ → V → Type 0) (b : B) (p : Loads) 
 
   -- one more module is finished
   pub adds : (n id c : ℕ) (m : Sat) → Has m.0.claimed c → ¬ Has m.0.finished c → ((e : ℕ) → e < edges p → source p e ≡ c → Has m.0.posted e)
-      → Allows (RuleHolds fact b p) n id m 0 (λ y. (y + 1) % 2 ^ 64) (added c (step n 0 1 0 none) m)
+      → Allows (RuleHolds fact b p seats) n id m 0 (λ y. (y + 1) % 2 ^ 64) (added c (step n 0 1 0 none) m)
   adds n id c m owns not-yet all-out s k _ at _ =
       let g = k.each id m.0 at in let x : ℕ = get_or s.words 0 0 in let low = done_le s k in let few = k.sound.0.0 in let y : ℕ = (x + 1) % 2 ^ 64 in let more : y ≡ x + 1 = omega arith in let k-wide = k.wide in
       let w : View B = with_finished m.0 c in let ws : List ℕ = set s.words 0 y in
@@ -401,6 +406,7 @@ module _ (B V : Type 0) (fact : B → ℕ → V → Type 0) (b : B) (p : Loads) 
           claim = λ d l. let q = k.claim d l in let t = else (module_word d) (λ z. omega arith) in (omega arith, omega arith, omega arith);
           ready = λ d e l into one. subst Posted (sym (edge-stays e)) (k.ready d e l into (sym (else (module_word d) (λ z. omega arith)) ∙ one));
           done = let a = length-append m.0.finished (c ∷ []) in (omega arith, omega arith);
+          spare = refl;
           good = record {
             base = g.base;
             plan = g.plan;
@@ -421,17 +427,17 @@ module _ (B V : Type 0) (fact : B → ℕ → V → Type 0) (b : B) (p : Loads) 
       )
 
   -- the load of the count
-  pub counts : (n id : ℕ) (m : Sat) → Allows (RuleHolds fact b p) n id m 0 (λ y. y) (counted (step n 0 0 0 none) m)
+  pub counts : (n id : ℕ) (m : Sat) → Allows (RuleHolds fact b p seats) n id m 0 (λ y. y) (counted (step n 0 0 0 none) m)
   counts n id m s k _ at _ = let g = k.each id m.0 at in let x : ℕ = get_or s.words 0 0 in let w : View B = with_told m.0 x in (
     w,
     keeps,
     tt,
-    stays s k 0 id m.1 m.0 w at (λ d. refl) (λ d. refl) (λ d. refl) (λ d. refl) refl (noted s.words m.0 w.seen w.missed w.taken w.told g (along (λ z. z ≤ x) m.0.told x g.told (omega arith)) g.seen g.taken),
-    (refl, (refl, (let t = term_le (λ v. length v.finished) s.views id m.0 at in let q = k.done in omega arith), g.told)),
+    stays s k 0 id m.1 m.0 w at (λ d. refl) (λ d. refl) (λ d. refl) (λ d. refl) refl refl (noted s.words m.0 w.seen w.missed w.taken w.told g (along (λ z. z ≤ x) m.0.told x g.told (omega arith)) g.seen g.taken),
+    (refl, (refl, (let t = term_le (λ v. length v.finished) s.views id m.0 at in let q = k.done in omega arith), g.told, omega (arith, done_le s k, ap (λ (q : Loads). length q) g.plan))),
   )
 
-  fresh : (ws : List ℕ) → ViewHolds b p ws (blank b p)
-  fresh ws = record {
+  fresh : (ws : List ℕ) (spare : ℕ) → ViewHolds b p ws (blank_with b p spare)
+  fresh ws spare = record {
     base = refl;
     plan = refl;
     claims = λ m h. absurd (omega arith);
@@ -445,25 +451,32 @@ module _ (B V : Type 0) (fact : B → ℕ → V → Type 0) (b : B) (p : Loads) 
     taken = λ m h. absurd (omega arith);
   }
 
+  -- one seat less may be cut from a view
+  less_spare : (ws : List ℕ) (v : View B) (spare : ℕ) → ViewHolds b p ws v → ViewHolds b p ws (record v { spare = spare })
+  less_spare ws v spare g = record { base = g.base; plan = g.plan; claims = g.claims; opens = g.opens; posts = g.posts; fetches = g.fetches; ends = g.ends; ends_once = g.ends_once; told = g.told; seen = g.seen; taken = g.taken }
+
   -- one more seat, which knows nothing yet
-  pub splits : (id : ℕ) (v : View B) → v.base ≡ b → v.plan ≡ p → Splits (RuleHolds fact b p) id v v (blank v.base v.plan)
-  splits id v is-b is-p s k at = let new : View B = blank v.base v.plan in let same = set_again s.views id v at in let good : ViewHolds b p s.words new = subst (λ (z : B × Loads). ViewHolds b p s.words (blank z.0 z.1)) (λ j. (sym is-b j, sym is-p j)) (fresh s.words) in
-      subst (λ (l : List (View B)). K record { words = s.words; homes = s.homes; views = l ++ new ∷ [] }) (sym same) record {
+  pub splits : (id : ℕ) (v : View B) → v.base ≡ b → v.plan ≡ p → 0 < v.spare → Splits (RuleHolds fact b p seats) id v (record v { spare = v.spare - 1 }) (blank v.base v.plan)
+  splits id v is-b is-p some-left s k at = let new : View B = blank v.base v.plan in let left : View B = record v { spare = v.spare - 1 } in let l : List (View B) = set s.views id left in
+      let good : ViewHolds b p s.words new = subst (λ (z : B × Loads). ViewHolds b p s.words (blank z.0 z.1)) (λ j. (sym is-b j, sym is-p j)) (fresh s.words 0) in
+      let sum : (f : View B → ℕ) → f left ≡ f v → f new ≡ 0 → total f (l ++ new ∷ []) ≡ total f s.views = λ f same none-yet. (let t = total-append f l (new ∷ []) in let c = total-set f s.views id v left at in omega arith) in record {
         sound = k.sound;
         wide = k.wide;
         deep = k.deep;
-        edge = λ e h. let q = k.edge e h in let t₁ = total-append (λ u. times e u.opened) s.views (new ∷ []) in let t₂ = total-append (λ u. times e u.posted) s.views (new ∷ []) in
-            let t₃ = total-append (λ u. times e u.fetched) s.views (new ∷ []) in (omega arith, omega arith, omega arith, omega arith);
+        edge = λ e h. let q = k.edge e h in let t₁ = sum (λ u. times e u.opened) refl refl in let t₂ = sum (λ u. times e u.posted) refl refl in let t₃ = sum (λ u. times e u.fetched) refl refl in (omega arith, omega arith, omega arith, omega arith);
         lies = k.lies;
-        claim = λ m h. let q = k.claim m h in let t = total-append (λ u. times m u.claimed) s.views (new ∷ []) in (omega arith, q.1);
+        claim = λ m h. let q = k.claim m h in let t = sum (λ u. times m u.claimed) refl refl in (omega arith, q.1);
         ready = k.ready;
-        done = let q = k.done in let t = total-append (λ u. length u.finished) s.views (new ∷ []) in omega arith;
-        each = λ j u e. ⊎_elim (λ old. k.each j u old) (λ is-new. subst (ViewHolds b p s.words) is-new good) (at_snoc s.views new u j e);
+        done = let q = k.done in let t = sum (λ u. length u.finished) refl refl in omega arith;
+        cut = let q = k.cut in let t = total-append (λ u. 1 + u.spare) l (new ∷ []) in let c = total-set (λ u. 1 + u.spare) s.views id v left at in omega arith;
+        each = λ j u e. ⊎_elim
+            (λ old. ⊎_elim (λ c. subst (ViewHolds b p s.words) c.1 (less_spare s.words v (v.spare - 1) (k.each id v at))) (λ c. k.each j u c.1) (at_set s.views id j left u old))
+            (λ is-new. subst (ViewHolds b p s.words) is-new good) (at_snoc l new u j e);
       }
 
   -- the board at the start
-  pub starts : (ws : List ℕ) (n : ℕ) → IsGraph p → length ws ≡ 1 + length p + edges p → n ≡ edges p → ((j : ℕ) → get_or ws j 0 ≡ 0) → K (opening ws (replicate n None) (blank b p))
-  starts ws n sound wide deep none-yet = record {
+  pub starts : (ws : List ℕ) (n : ℕ) → IsGraph p → length ws ≡ 1 + length p + edges p → n ≡ edges p → ((j : ℕ) → get_or ws j 0 ≡ 0) → 0 < seats → K (opening ws (replicate n None) (blank_with b p (seats - 1)))
+  starts ws n sound wide deep none-yet some-seat = record {
     sound = sound;
     wide = wide;
     deep = length-map (replicate n None) some ∙ length-replicate n None ∙ deep;
@@ -472,5 +485,6 @@ module _ (B V : Type 0) (fact : B → ℕ → V → Type 0) (b : B) (p : Loads) 
     claim = λ m h. let z = none-yet (module_word m) in (omega arith, omega arith);
     ready = λ m e h into one. absurd (omega (arith, none-yet (module_word m)));
     done = omega (arith, none-yet 0);
-    each = λ j u e. ⊎_elim (λ (old : get_elem? [] j ≡ some u). absurd (some-ne-none u (sym old))) (λ (is : blank b p ≡ u). subst (ViewHolds b p ws) is (fresh ws)) (at_snoc [] (blank b p) u j e);
+    cut = omega arith;
+    each = λ j u e. ⊎_elim (λ (old : get_elem? [] j ≡ some u). absurd (some-ne-none u (sym old))) (λ (is : blank_with b p (seats - 1) ≡ u). subst (ViewHolds b p ws) is (fresh ws (seats - 1))) (at_snoc [] (blank_with b p (seats - 1)) u j e);
   }

@@ -9,5 +9,5 @@ pub mod Outs
 pub mod Keeps
 pub mod Looking
 pub mod Hands
-pub mod Lawful
-pub mod Trials
+pub mod FromRule
+pub mod Conditions

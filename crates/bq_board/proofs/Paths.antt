@@ -1,4 +1,4 @@
--- The modules that a drain leaves are the cyclic ones.
+-- The modules that are in no topological order are the cyclic ones.
 use Rattle.std.proofs.Common.{◌≡◌, ℕ, zero, suc, ◌<◌, ◌≤◌, ◌⊎◌, Bool, true, false, List, [], ◌∷◌, length, take, get_or, sym, refl, ap, ◌∙◌, inl, inr, arith, length-take}
 use mathlib.Core.Bool.{◌||◌}
 use mathlib.Core.Logic.{dite}
@@ -8,7 +8,7 @@ use Rattle.std.proofs.lemmas.List.{get_or-take}
 use Rattle.bq_board.specs.Counts.{times, Has}
 use Rattle.bq_board.specs.Graph.{Loads, row, Known}
 use Rattle.bq_board.specs.Cycles.{starts_path, is_cyclic, HasPath, IsAcyclic}
-use Rattle.bq_board.specs.Drain.{Drained}
+use Rattle.bq_board.specs.Topological.{IsTopologicalOrder}
 use Rattle.bq_board.proofs.Sums.{at_same, at_other, length_times, below_le}
 use Rattle.bq_board.proofs.Settling.{at_zero}
 use Rattle.bq_board.proofs.Turning.{is_zero-le}
@@ -75,7 +75,7 @@ pub place : (xs : List ℕ) (l : ℕ) → Has xs l → (k : ℕ) × (k < length 
 place [] l h = absurd (omega arith)
 place (x ∷ xs) l h = elim (cons_has x xs l h) [ inl e ↦ (0, omega arith, e) | inr k ↦ let r = place xs l k in (suc r.0, omega (arith, r.1), r.2) ]
 
-module _ (p : Loads) (known : Known p) (order pending : List ℕ) (d : Drained p order pending) where
+module _ (p : Loads) (known : Known p) (order pending : List ℕ) (d : IsTopologicalOrder p order pending) where
   pub shallow : (n i : ℕ) → i < n → i < length order → starts_path p (suc i) (get_or order i 0) ≡ false
   unfolding starts_path
   shallow zero i h lt = absurd (omega arith)
@@ -86,15 +86,15 @@ module _ (p : Loads) (known : Known p) (order pending : List ℕ) (d : Drained p
       let e : starts_path p (suc k.0) l ≡ false = ap (starts_path p (suc k.0)) (sym at) ∙ shallow n k.0 (omega arith) (omega arith) in
       longer p (suc k.0) i l (omega arith) e)
 
-  pub few_drained : length order ≤ length p
-  few_drained = omega (arith, length_times (length p) order d.within, below_le (λ k. times k order) (length p) (λ k h. omega (arith, d.once k h, is_zero-le (get_or pending k 0))))
+  pub few_ordered : length order ≤ length p
+  few_ordered = omega (arith, length_times (length p) order d.within, below_le (λ k. times k order) (length p) (λ k h. omega (arith, d.once k h, is_zero-le (get_or pending k 0))))
 
   pub in_order : (u : ℕ) → u < length p → get_or pending u 0 ≡ 0 → Has order u
   in_order u h e = omega (arith, d.once u h, at_zero (get_or pending u 0) e)
 
-  pub drained : (u : ℕ) → u < length p → get_or pending u 0 ≡ 0 → is_cyclic p u ≡ false
-  drained u h e = let k = place order u (in_order u h e) in
-      ap (starts_path p (suc (length p))) (sym k.2) ∙ longer p (suc k.0) (suc (length p)) (get_or order k.0 0) (omega (arith, few_drained, k.1)) (shallow (suc k.0) k.0 (omega arith) k.1)
+  pub not_cyclic : (u : ℕ) → u < length p → get_or pending u 0 ≡ 0 → is_cyclic p u ≡ false
+  not_cyclic u h e = let k = place order u (in_order u h e) in
+      ap (starts_path p (suc (length p))) (sym k.2) ∙ longer p (suc k.0) (suc (length p)) (get_or order k.0 0) (omega (arith, few_ordered, k.1)) (shallow (suc k.0) k.0 (omega arith) k.1)
 
   pub stuck : (n u : ℕ) → u < length p → 0 < get_or pending u 0 → starts_path p n u ≡ true
   unfolding starts_path

@@ -1,11 +1,11 @@
--- One turn of the drain, step by step.
+-- One turn of the sort, step by step.
 use Rattle.std.proofs.Common.{◌≡◌, ℕ, ◌+◌, ◌-◌, ◌<◌, ◌≤◌, ◌==◌, List, [], ◌∷◌, ◌++◌, length, take, drop, get_or, set, cond, sym, refl, ap, subst, ◌∙◌, arith, append_assoc, length-set, get_or-set_same, get_or-set_other, eq-eqb, ne_eqb}
 use mathlib.Core.Logic.{dite}
 use native.Mathlib.Decide.{ℕ_discrete}
 use Rattle.std.proofs.lemmas.List.{append-nil, take-append-drop, take_more}
 use Rattle.bq_board.specs.Counts.{times, Has}
-use Rattle.bq_board.specs.Draining.{Settles}
-use Rattle.bq_board.specs.Drain.{is_zero}
+use Rattle.bq_board.specs.Sorting.{Settles}
+use Rattle.bq_board.specs.Topological.{is_zero}
 use Rattle.bq_board.proofs.Sums.{total-append, times_same, times_other}
 
 pub at_zero : (n : ℕ) → n ≡ 0 → is_zero n ≡ 1
@@ -32,7 +32,7 @@ less_more us pending left x a h lt e u = dite (ℕ_discrete u x)
     let n : times u (us ++ x ∷ []) ≡ times u us = times_other u us x (λ d. ne (sym d)) in
     omega (arith, h u))
 
--- the user has an open load left
+-- the dependent has an open load left
 pub settle_open : (us pending left order grown : List ℕ) (x a : ℕ) → Settles us pending left order grown → x < length pending → get_or left x 0 ≡ a + 1 → 0 < a
     → Settles (us ++ x ∷ []) pending (set left x a) order grown
 settle_open us pending left order grown x a s lt e pos = record {
@@ -79,13 +79,13 @@ times_take_more us i x h = ap (times x) (take_more us i 0 h)
 pub Has-get_or : (us : List ℕ) (i : ℕ) → i < length us → Has us (get_or us i 0)
 Has-get_or us i h = omega (arith, times_take_more us i (get_or us i 0) h, times_same (get_or us i 0) (take i us), times_take-le (get_or us i 0) (i + 1) us)
 
--- a user that is still to come has an open load
-pub user_open : (us pending left order grown : List ℕ) (i : ℕ) → Settles (take i us) pending left order grown → ((u : ℕ) → times u us ≤ get_or pending u 0) → i < length us → 1 ≤ get_or left (get_or us i 0) 0
-user_open us pending left order grown i s many h =
+-- a dependent that is still to come has an open load
+pub dependent_open : (us pending left order grown : List ℕ) (i : ℕ) → Settles (take i us) pending left order grown → ((u : ℕ) → times u us ≤ get_or pending u 0) → i < length us → 1 ≤ get_or left (get_or us i 0) 0
+dependent_open us pending left order grown i s many h =
     let x : ℕ = get_or us i 0 in
     omega (arith, s.less x, many x, times_take_more us i x h, times_same x (take i us), times_take-le x (i + 1) us)
 
--- the turn of the user at i, whose count was v
+-- the turn of the dependent at i, whose count was v
 pub turn_open : (us pending left order grown : List ℕ) (i v : ℕ) → Settles (take i us) pending left order grown → i < length us → get_or us i 0 < length pending → v ≡ get_or left (get_or us i 0) 0 → 1 ≤ v → 0 < v - 1
     → (g : List ℕ) → g ≡ grown → Settles (take (i + 1) us) pending (set left (get_or us i 0) (v - 1)) order g
 turn_open us pending left order grown i v s h k e one pos g same =

@@ -38,6 +38,10 @@ module _ {A : Type 0} (g : A → ℕ) where
   total_below f [] h = omega arith
   total_below f (x ∷ xs) h = omega (arith, h 0 x refl, total_below f xs (λ j v e. h (suc j) v e))
 
+pub total_more : {A : Type 0} (g : A → ℕ) (l : List A) → total (λ v. 1 + g v) l ≡ length l + total g l
+total_more g [] = refl
+total_more g (x ∷ xs) = omega (arith, total_more g xs)
+
 pub total_same : {A : Type 0} (f g : A → ℕ) (l : List A) → ((j : ℕ) (v : A) → get_elem? l j ≡ some v → f v ≡ g v) → total f l ≡ total g l
 total_same f g [] h = refl
 total_same f g (x ∷ xs) h = omega (arith, h 0 x refl, total_same f g xs (λ j v e. h (suc j) v e))

@@ -1,12 +1,12 @@
--- One turn of the drain keeps its invariant, and the end of the drain.
+-- One turn of the sort keeps its invariant, and the end of the sort.
 use Rattle.std.proofs.Common.{◌≡◌, ℕ, ◌+◌, ◌-◌, ◌<◌, ◌≤◌, List, [], ◌∷◌, ◌++◌, length, take, get_or, sym, refl, ap, subst, ◌∙◌, arith, length-append}
 use mathlib.Core.Logic.{dite}
 use native.Mathlib.Decide.{ℕ_discrete, dec_lt}
 use Rattle.std.proofs.lemmas.List.{take_more, take-append-le, take-take, get_or_past, get_or_append_left, get_or-append_right, take_all}
 use Rattle.bq_board.specs.Counts.{times, Has}
 use Rattle.bq_board.specs.Graph.{Loads, row, Known}
-use Rattle.bq_board.specs.Draining.{Settles, Draining, IsUsers, closed}
-use Rattle.bq_board.specs.Drain.{Drained, is_zero}
+use Rattle.bq_board.specs.Sorting.{Settles, Sorting, IsDependents, closed}
+use Rattle.bq_board.specs.Topological.{IsTopologicalOrder, is_zero}
 use Rattle.bq_board.proofs.Sums.{total-append, times_more, one_at, at_same, at_other, length_times, below_le}
 use Rattle.bq_board.proofs.Settling.{at_zero, not_zero, times_take-le, Has-get_or}
 
@@ -54,7 +54,7 @@ some_open ms (x ∷ xs) h = dite (ℕ_discrete (times x ms) 0)
 pub times_take_mono : (x n k : ℕ) (us : List ℕ) → n ≤ k → times x (take n us) ≤ times x (take k us)
 times_take_mono x n k us h = let e : times x (take n (take k us)) ≡ times x (take n us) = ap (times x) (take-take n k us h) in omega (arith, times_take-le x n (take k us))
 
-module _ (p : Loads) (known : Known p) (at : ℕ) (order pending : List ℕ) (d : Draining p at order pending) where
+module _ (p : Loads) (known : Known p) (at : ℕ) (order pending : List ℕ) (d : Sorting p at order pending) where
   pub at_most_once : (l : ℕ) → l < length p → times l order ≤ 1
   at_most_once l h = omega (arith, d.once l h, is_zero-le (get_or pending l 0))
 
@@ -64,18 +64,18 @@ module _ (p : Loads) (known : Known p) (at : ℕ) (order pending : List ℕ) (d 
   in_row : (n u l : ℕ) → Has (row p u) l → times l (take n order) ≤ 1
   in_row n u l h = omega (arith, times_take-le l n order, at_most_once l (known u l h))
 
-  module _ (users : List (List ℕ)) (uses : IsUsers p users) (more : at < length order) where
-    pub users_inside : (u : ℕ) → Has (get_or users (get_or order at 0) []) u → u < length pending
-    users_inside u h = omega (arith, uses.known (get_or order at 0) u h, d.wide)
+  module _ (dependents : List (List ℕ)) (uses : IsDependents p dependents) (more : at < length order) where
+    pub dependents_inside : (u : ℕ) → Has (get_or dependents (get_or order at 0) []) u → u < length pending
+    dependents_inside u h = omega (arith, uses.known (get_or order at 0) u h, d.wide)
 
-    -- each user has at least as many open loads as it loads this module
-    pub users_open : (u : ℕ) → times u (get_or users (get_or order at 0) []) ≤ get_or pending u 0
-    users_open u = let m : ℕ = get_or order at 0 in dite (dec_lt u (length p))
+    -- each dependent has at least as many open loads as it loads this module
+    pub dependents_open : (u : ℕ) → times u (get_or dependents (get_or order at 0) []) ≤ get_or pending u 0
+    dependents_open u = let m : ℕ = get_or order at 0 in dite (dec_lt u (length p))
         (λ lt. let e : closed (take (at + 1) order) (row p u) ≡ closed (take at order ++ m ∷ []) (row p u) = ap (λ t. closed t (row p u)) (take_more order at 0 more) in
         omega (arith, e, closed_push (take at order) (row p u) m, closed_le (take (at + 1) order) (row p u) (λ l h. in_row (at + 1) u l h), d.left u lt, uses.both m u (d.within m (Has-get_or order at more))))
-        (λ ge. dite (ℕ_discrete (times u (get_or users m [])) 0) (λ z. omega arith) (λ nz. absurd (ge (uses.known m u (omega arith)))))
+        (λ ge. dite (ℕ_discrete (times u (get_or dependents m [])) 0) (λ z. omega arith) (λ nz. absurd (ge (uses.known m u (omega arith)))))
 
-    module _ (left grown : List ℕ) (s : Settles (get_or users (get_or order at 0) []) pending left order grown) where
+    module _ (left grown : List ℕ) (s : Settles (get_or dependents (get_or order at 0) []) pending left order grown) where
       times_grown : (u : ℕ) → times u grown ≡ times u order + times u s.more.0
       times_grown u = ap (times u) s.more.1 ∙ total-append (one_at u) order s.more.0
 
@@ -114,7 +114,7 @@ module _ (p : Loads) (known : Known p) (at : ℕ) (order pending : List ℕ) (d 
           let k : Has (take (at + 1) grown) l = all_closed (take (at + 1) grown) (row p u) (λ j t. omega (arith, times_take-le j (at + 1) grown, once_next j (known u j t), is_zero-le (get_or left j 0))) all l h in
           omega (arith, times_take_mono l (at + 1) i grown (omega arith))
 
-      pub turn : Draining p (at + 1) grown left
+      pub turn : Sorting p (at + 1) grown left
       turn = record {
         at_in = omega (arith, length_grown);
         wide = s.wide ∙ d.wide;
@@ -125,7 +125,7 @@ module _ (p : Loads) (known : Known p) (at : ℕ) (order pending : List ℕ) (d 
       }
 
   -- at the end of the order
-  pub ended : length order ≤ at → Drained p order pending
+  pub ended : length order ≤ at → IsTopologicalOrder p order pending
   ended h = record {
     wide = d.wide;
     within = d.within;

@@ -26,8 +26,13 @@ abbrev pub Phase : ℕ → ℕ → ℕ → ℕ → Type 0
 Phase w opened posted fetched = (w + 2 * posted ≡ 3 * opened + fetched) × (fetched ≤ posted) × (posted ≤ opened) × (opened ≤ 1)
 
 module _ {B : Type 0} where
+  -- the view of a seat that has done nothing, and from which some more may be cut
+  abbrev pub blank_with : B → Loads → ℕ → View B
+  blank_with b p spare = record { of = record {}; base = b; plan = p; seen = []; missed = []; opened = []; posted = []; fetched = []; claimed = []; taken = []; finished = []; told = []; spare = spare }
+
+  -- and from which none may be cut
   abbrev pub blank : B → Loads → View B
-  blank b p = record { of = record {}; base = b; plan = p; seen = []; missed = []; opened = []; posted = []; fetched = []; claimed = []; taken = []; finished = []; told = [] }
+  blank b p = blank_with b p 0
 
   -- what a seat's view says of the board
   pub record ViewHolds (b : B) (p : Loads) (ws : List ℕ) (v : View B) : Type 0 where
@@ -50,8 +55,8 @@ module _ {B V : Type 0} (fact : B → ℕ → V → Type 0) (b : B) (p : Loads) 
     pub out : 2 ≤ w → h ≡ some none
     pub full : w ≡ 1 → (x : V) × (h ≡ some (some (Some x))) × fact b (source p e) x
 
-  -- the rule: what holds of words, slots and all views between any two steps
-  pub record RuleHolds (s : State (Option V) (View B)) : Type 0 where
+  -- the rule of a board with so many seats: what holds of words, slots and all views between any two steps
+  pub record RuleHolds (seats : ℕ) (s : State (Option V) (View B)) : Type 0 where
     pub sound : IsGraph p
     pub wide : length s.words ≡ 1 + length p + edges p
     pub deep : length s.homes ≡ edges p
@@ -60,4 +65,5 @@ module _ {B V : Type 0} (fact : B → ℕ → V → Type 0) (b : B) (p : Loads) 
     pub claim : (m : ℕ) → m < length p → (slice_index s.words (module_word m) ≡ total (λ v. times m v.claimed) s.views) × (slice_index s.words (module_word m) ≤ 1)
     pub ready : (m e : ℕ) → m < length p → Into p m e → slice_index s.words (module_word m) ≡ 1 → Posted (slice_index s.words (edge_word p e))
     pub done : slice_index s.words 0 ≡ total (λ v. length v.finished) s.views
+    pub cut : total (λ v. 1 + v.spare) s.views ≡ seats
     pub each : (j : ℕ) (v : View B) → get_elem? s.views j ≡ some v → ViewHolds b p s.words v

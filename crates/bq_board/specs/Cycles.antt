@@ -18,8 +18,8 @@ abbrev pub is_cyclic : Loads → ℕ → Bool
 is_cyclic p m = starts_path p (suc (length p)) m
 
 -- the test is the relation
-abbrev pub TellsPaths : Loads → Type 0
-TellsPaths p = (n m : ℕ) → (starts_path p n m ≡ true → HasPath p n m) × (HasPath p n m → starts_path p n m ≡ true)
+abbrev pub TestsPaths : Loads → Type 0
+TestsPaths p = (n m : ℕ) → (starts_path p n m ≡ true → HasPath p n m) × (HasPath p n m → starts_path p n m ≡ true)
 
 abbrev pub IsAcyclic : Loads → Type 0
 IsAcyclic p = (m : ℕ) → m < length p → is_cyclic p m ≡ false

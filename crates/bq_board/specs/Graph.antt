@@ -28,9 +28,15 @@ edges p = length (sources p)
 abbrev pub Known : Loads → Type 0
 Known p = (m l : ℕ) → Has (row p m) l → l < length p
 
--- no more modules and edges than a graph may have
+-- the most modules, and the most edges, that a graph may have
+abbrev pub max_modules : ℕ
+max_modules = 4096
+
+abbrev pub max_edges : ℕ
+max_edges = 65536
+
 abbrev pub Fits : Loads → Type 0
-Fits p = (length p ≤ 4096) × (edges p ≤ 65536)
+Fits p = (length p ≤ max_modules) × (edges p ≤ max_edges)
 
 abbrev pub IsGraph : Loads → Type 0
 IsGraph p = Fits p × Known p

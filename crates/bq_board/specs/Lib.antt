@@ -2,8 +2,8 @@ pub mod Counts
 pub mod Graph
 pub mod Cycles
 pub mod Refusal
-pub mod Drain
-pub mod Draining
+pub mod Topological
+pub mod Sorting
 pub mod Plan
 pub mod Board
 pub mod Steps
@@ -11,4 +11,4 @@ pub mod Claims
 pub mod Seats
 pub mod Closing
 pub mod Laws
-pub mod Tests
+pub mod Conditions

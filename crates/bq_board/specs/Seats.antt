@@ -1,5 +1,5 @@
 -- What a clause says of a board and its seats.
-use Rattle.std.specs.Prelude.{◌≡◌, Option}
+use Rattle.std.specs.Prelude.{◌≡◌, ℕ, Option}
 use Rattle.atomic_table.specs.Seated.{TableId}
 use Rattle.atomic_table.specs.declared.shared.Seat.{Seat as Place}
 use Rattle.bq_board.specs.Graph.{Loads}
@@ -18,6 +18,10 @@ module _ {V B : Type 0} where
   -- the base by which the board's parcels belong to modules
   abbrev pub base_of : Board V B → B
   base_of b = b.table.shared.key.base.value
+
+  -- how many seats the board was opened for
+  abbrev pub seats_of : Board V B → ℕ
+  seats_of b = b.table.shared.key.seats.value
 
   -- what the seat has seen and done
   abbrev pub view_of : Seat V B → View B

@@ -50,9 +50,9 @@ module _ {B : Type 0} where
   abbrev pub Claimed : View B → ℕ → ℕ → View B → Type 0
   Claimed v m r w = (r ≡ 0 → (w ≡ with_claimed v m) × ¬ Has v.told (length v.plan) × IsNew v m) × (r ≢ 0 → w ≡ with_taken v m)
 
-  -- the number found: at least each one told before, and as many as this view finished
+  -- the number found: at least each one told before and as many as this view finished, and at most the number of modules
   abbrev pub Told : View B → ℕ → View B → Type 0
-  Told v r w = (w ≡ with_told v r) × (length v.finished ≤ r) × ((n : ℕ) → Has v.told n → n ≤ r)
+  Told v r w = (w ≡ with_told v r) × (length v.finished ≤ r) × ((n : ℕ) → Has v.told n → n ≤ r) × (r ≤ length v.plan)
 
 -- Of the step, the seat before, the number found and the seat after. A step on a word of another kind tells nothing
 abbrev pub Play : Type 0 → Type 0 → Type 1

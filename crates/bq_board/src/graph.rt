@@ -2,7 +2,7 @@
 ghost use Rattle.std.specs.Prelude.{◌≡◌, ℕ, ◌+◌, ◌<◌, ◌≤◌, ◌↔◌, List, [], length, vec_len, IfOk, OnOk, IfErr, IsTrue};
 ghost use Rattle.bq_board.specs.Counts.{Has};
 ghost use Rattle.bq_board.specs.Graph.{Loads, row, edges, Known, IsGraph, lists};
-ghost use Rattle.bq_board.specs.Cycles.{TellsPaths};
+ghost use Rattle.bq_board.specs.Cycles.{TestsPaths};
 ghost use Rattle.bq_board.specs.Refusal.{Refused};
 
 use crate::refusal::PlanErr;
@@ -10,10 +10,10 @@ use std::alloc::{AllocError, Global};
 use std::marker::Model;
 
 /// The most modules that a graph may have.
-pub const MODULES_MAX: usize = 4096;
+pub const MAX_MODULES: usize = 4096;
 
 /// The most edges that a graph may have: a module that is loaded twice makes two.
-pub const EDGES_MAX: usize = 65_536;
+pub const MAX_EDGES: usize = 65_536;
 
 /// For each module the modules that it loads. A contract sees it as the list of these lists.
 #[derive(Drop)]
@@ -34,10 +34,10 @@ impl Graph {
     /// P3 for too many modules or edges, then P2 for a loaded module that the graph hasn't.
     pub fn new(rows: Vec<Vec<u32>>) -> Result<Graph, PlanErr>
         ensures graph { IfOk result (λ g. g ≡ lists rows.items) }
-        ensures lawful { OnOk result (IsGraph (lists rows.items)) }
+        ensures valid { OnOk result (IsGraph (lists rows.items)) }
         ensures refused { IfErr result (λ e. Refused (lists rows.items) e) }
     {
-        if rows.len() > MODULES_MAX || !has_few_edges(rows.as_slice()) {
+        if rows.len() > MAX_MODULES || !has_few_edges(rows.as_slice()) {
             return Err(PlanErr::TooMany);
         }
         if !knows_all(rows.as_slice()) {
@@ -49,7 +49,7 @@ impl Graph {
     /// The number of modules.
     pub fn len(&self) -> usize
         ensures len { result ≡ length self.now }
-        ensures lawful { IsGraph self.now }
+        ensures valid { IsGraph self.now }
     {
         self.rows.len()
     }
@@ -58,7 +58,7 @@ impl Graph {
     pub fn row(&self, m: usize) -> &[u32]
         requires { m < length self.now }
         ensures row { result.now ≡ row self.now m }
-        ensures lawful { IsGraph self.now }
+        ensures valid { IsGraph self.now }
     {
         self.rows[m].as_slice()
     }
@@ -66,9 +66,9 @@ impl Graph {
 
 // Whether the rows have no more entries than a graph may have edges.
 fn has_few_edges(rows: &[Vec<u32>]) -> bool
-    ensures { IsTrue result ↔ (edges (lists rows.now) ≤ 65536) }
+    ensures { IsTrue result ↔ (edges (lists rows.now) ≤ MAX_EDGES) }
 {
-    let mut left = EDGES_MAX;
+    let mut left = MAX_EDGES;
     for row in rows {
         if row.len() > left {
             return false;
@@ -114,5 +114,5 @@ pub(crate) fn empty_rows(alloc: Global, n: usize) -> Result<Vec<Vec<u32>>, Alloc
 
 /// A module is cyclic by the test exactly where a path of one edge more than there are modules starts at it.
 pub fn cyclic_is_a_path()
-    ensures { (p : Loads) → TellsPaths p }
+    ensures { (p : Loads) → TestsPaths p }
 {}

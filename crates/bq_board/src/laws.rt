@@ -1,6 +1,6 @@
 //! The board's rule in its users' words: what holds between any two steps, whatever seats did in whatever order.
 //! Each function does nothing; its contract is the law.
-ghost use Rattle.bq_board.specs.Laws.{ByRule, EdgeLaw, ModuleLaw, LoadLaw, OwnerLaw, DoneLaw, SlotLaw, NoteLaw};
+ghost use Rattle.bq_board.specs.Laws.{ByRule, EdgeLaw, ModuleLaw, LoadLaw, OwnerLaw, DoneLaw, SlotLaw, NoteLaw, SeatLaw};
 
 use crate::parcel::Parcel;
 
@@ -39,4 +39,10 @@ pub fn slot_law<V: Parcel>()
 /// An edge that a seat saw posted is posted, and a module that a seat found taken is claimed.
 pub fn note_law<V: Parcel>()
     ensures { ByRule V.belongs NoteLaw }
+{}
+
+/// The seats, and those that may still be cut from them, are as many as the board was opened for.
+/// `Board::open` returns that many, from which none may be cut: so there is no other, and the words are free.
+pub fn seat_law<V: Parcel>()
+    ensures { ByRule V.belongs SeatLaw }
 {}

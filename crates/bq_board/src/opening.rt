@@ -1,8 +1,8 @@
 //! How a board begins, and its seats.
-ghost use Rattle.std.specs.Prelude.{◌≡◌, ◌+◌, ◌<◌, ◌≤◌, length, All, IfOk, vec_len};
-ghost use Rattle.bq_board.specs.Board.{blank, edge_word};
+ghost use Rattle.std.specs.Prelude.{◌≡◌, ◌+◌, ◌-◌, ◌<◌, ◌≤◌, length, All, IfOk, vec_len};
+ghost use Rattle.bq_board.specs.Board.{blank, blank_with, edge_word};
 ghost use Rattle.bq_board.specs.Graph.{edges};
-ghost use Rattle.bq_board.specs.Seats.{IsSeatOf, base_of, view_of};
+ghost use Rattle.bq_board.specs.Seats.{IsSeatOf, base_of, seats_of, view_of};
 
 use crate::board::{Board, Seat};
 use crate::parcel::Parcel;
@@ -13,51 +13,62 @@ use atomic_table::Table;
 use std::alloc::{AllocError, Global};
 use std::snapshot::Snapshot;
 
+/// The most seats that a board may have.
+pub const MAX_SEATS: usize = 65;
+
 impl<V: Parcel> Board<V> {
-    /// A board with all modules free and no edge posted, and its seats, 1 to 65, which have done nothing.
-    /// It makes the room for all that the seats' calls use.
+    /// A board with all modules free and no edge posted, and all its seats, 1 to `MAX_SEATS`, which have done nothing.
+    /// It takes the memory for all that the seats' calls use.
     pub fn open(
         alloc: Global,
         plan: Plan,
         seats: usize,
         base: &V::Base,
     ) -> Result<(Board<V>, Vec<Seat<V>>), AllocError>
-        requires { (0 < seats) × (seats ≤ 65) }
+        requires { (0 < seats) × (seats ≤ MAX_SEATS) }
         ensures count { IfOk result (λ r. vec_len r.1 ≡ seats) }
         ensures plan { IfOk result (λ r. (r.0.plan ≡ plan) × (base_of r.0 ≡ base.now)) }
+        // With `seat_law` the returned seats are all there are, so nothing was done before.
+        ensures all { IfOk result (λ r. seats_of r.0 ≡ seats) }
         ensures fresh { IfOk result (λ r. All (λ s. IsSeatOf r.0 s × (view_of s ≡ blank base.now plan)) r.1.items) }
     {
-        let (board, first) = Board::with_one(alloc, plan, base)?;
+        let (board, first) = Board::with_one(alloc, plan, seats, base)?;
         let all = board.cut(alloc, first, seats)?;
         Ok((board, all))
     }
 
+    // The board with one seat, from which the others are cut.
     fn with_one(
         alloc: Global,
         plan: Plan,
+        seats: usize,
         base: &V::Base,
     ) -> Result<(Board<V>, Seat<V>), AllocError>
+        requires { 0 < seats }
         ensures plan { IfOk result (λ r. (r.0.plan ≡ plan) × (base_of r.0 ≡ base.now)) }
-        ensures fresh { IfOk result (λ r. IsSeatOf r.0 r.1 × (view_of r.1 ≡ blank base.now plan)) }
+        ensures all { IfOk result (λ r. seats_of r.0 ≡ seats) }
+        ensures fresh { IfOk result (λ r. IsSeatOf r.0 r.1 × (view_of r.1 ≡ blank_with base.now plan (seats - 1))) }
     {
         let words = free_words(alloc, &plan)?;
         let edges = plan.edges();
         let key = Key {
             plan: Snapshot::of(&plan),
             base: Snapshot::of(base),
+            seats: Snapshot::of(&seats),
         };
         let (table, place) = Table::vacant(alloc, words.as_slice(), edges, &key)?;
         Ok((Board { plan, table }, Seat { place }))
     }
 
+    // The seats: `first`, and all that may be cut from it.
     fn cut(
         &self,
         alloc: Global,
         mut first: Seat<V>,
         seats: usize,
     ) -> Result<Vec<Seat<V>>, AllocError>
-        requires seats { (0 < seats) × (seats ≤ 65) }
-        requires fresh { IsSeatOf self.now first × (view_of first ≡ blank (base_of self.now) self.now.plan) }
+        requires seats { 0 < seats }
+        requires fresh { IsSeatOf self.now first × (view_of first ≡ blank_with (base_of self.now) self.now.plan (seats - 1)) }
         ensures count { IfOk result (λ v. vec_len v ≡ seats) }
         ensures fresh { IfOk result (λ v. All (λ s. IsSeatOf self.now s × (view_of s ≡ blank (base_of self.now) self.now.plan)) v.items) }
     {

@@ -34,7 +34,7 @@ impl Plan {
     /// It takes time linear in modules and edges.
     pub fn new(alloc: Global, loads: Vec<Vec<u32>>) -> Result<Plan, PlanErr>
         ensures plan { IfOk result (λ p. p ≡ lists loads.items) }
-        ensures lawful { OnOk result (IsPlan (lists loads.items)) }
+        ensures valid { OnOk result (IsPlan (lists loads.items)) }
         ensures refused { IfErr result (λ e. Refused (lists loads.items) e) }
     {
         let graph = Graph::new(loads)?;
@@ -53,7 +53,7 @@ impl Plan {
     /// The number of modules.
     pub fn modules(&self) -> usize
         ensures count { result ≡ length self.now }
-        ensures lawful { IsPlan self.now }
+        ensures valid { IsPlan self.now }
     {
         self.graph.len()
     }
@@ -61,7 +61,7 @@ impl Plan {
     /// The number of edges.
     pub fn edges(&self) -> usize
         ensures count { result ≡ edges self.now }
-        ensures lawful { IsPlan self.now }
+        ensures valid { IsPlan self.now }
     {
         self.starts[self.modules()]
     }
@@ -71,7 +71,7 @@ impl Plan {
         requires { m ≤ length self.now }
         ensures number { result ≡ start self.now m }
         ensures within { result ≤ edges self.now }
-        ensures lawful { IsPlan self.now }
+        ensures valid { IsPlan self.now }
     {
         self.starts[m]
     }

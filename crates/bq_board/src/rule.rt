@@ -1,5 +1,6 @@
 //! The rule that every step on the board's table keeps.
-ghost use Rattle.bq_board.specs.Board.{RuleHolds, blank};
+ghost use Rattle.std.specs.Prelude.{◌-◌};
+ghost use Rattle.bq_board.specs.Board.{RuleHolds, blank_with};
 
 use crate::parcel::Parcel;
 use crate::plan::Plan;
@@ -13,6 +14,7 @@ use std::snapshot::Snapshot;
 pub struct Key<B> {
     pub plan: Snapshot<Plan>,
     pub base: Snapshot<B>,
+    pub seats: Snapshot<usize>,
 }
 
 pub struct Rule<V> {
@@ -20,7 +22,7 @@ pub struct Rule<V> {
 }
 
 impl<V: Parcel> TableRule<Option<V>, View<V::Base>, Key<V::Base>> for Rule<V> {
-    ghost holds = { λ key. RuleHolds V.belongs key.base.value key.plan.value };
+    ghost holds = { λ key. RuleHolds V.belongs key.base.value key.plan.value key.seats.value };
 
-    ghost first = { λ key. blank key.base.value key.plan.value };
+    ghost first = { λ key. blank_with key.base.value key.plan.value (key.seats.value - 1) };
 }

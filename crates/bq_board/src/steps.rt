@@ -1,5 +1,5 @@
 //! The seven kinds of step on the board's table, and the cut of a seat: what each tells its seat.
-ghost use Rattle.std.specs.Prelude.{ℕ};
+ghost use Rattle.std.specs.Prelude.{ℕ, ◌-◌};
 ghost use Rattle.bq_board.specs.Board.{blank};
 ghost use Rattle.bq_board.specs.Steps.{looked, tried, opened, posted, fetched, added, counted};
 
@@ -70,11 +70,11 @@ impl<V, B> Play<Option<V>, View<B>> for LoadDone {
     ghost then = { counted };
 }
 
-/// One more seat, which has done nothing.
+/// One more seat, which has done nothing, cut from one that may still be cut.
 pub struct Fresh;
 
 impl<B> Split<View<B>> for Fresh {
-    ghost left = { λ v. v };
+    ghost left = { λ v. record v { spare = v.spare - 1 } };
 
     ghost right = { λ v. blank v.base v.plan };
 }

@@ -1,7 +1,7 @@
 //! Runs of the board on small plans by hand, and on a large one by four threads.
 ghost use Rattle.std.specs.Prelude.{◌≡◌, ◌<◌, ◌≤◌, length, vec_len, All, IfOk, IsTrue};
 ghost use Rattle.bq_board.specs.Seats.{IsSeatOf, base_of, view_of};
-ghost use Rattle.bq_board.specs.Tests.{Owes, Holds, KeepsAll, KeepsOthers, HoldsIfWon};
+ghost use Rattle.bq_board.specs.Conditions.{Owes, Holds, KeepsAll, KeepsOthers, HoldsIfWon};
 
 use crate::{Board, Claim, Parcel, Plan, PlanErr, Seat};
 use std::alloc::{AllocError, Global};
@@ -170,7 +170,7 @@ fn take(board: &Board<Note>, mut seat: Seat<Note>) -> (bool, Seat<Note>)
     requires module { 1 < length board.now.plan }
     ensures seat { IsSeatOf board.now result.1 }
 {
-    for _ in 0..TURNS_MAX {
+    for _ in 0..MAX_TURNS {
         if board.done(&mut seat) == 1 {
             break;
         }
@@ -182,7 +182,7 @@ fn take(board: &Board<Note>, mut seat: Seat<Note>) -> (bool, Seat<Note>)
     (right && board.done(&mut seat) == 1, seat)
 }
 
-const TURNS_MAX: u64 = 1_000_000_000;
+const MAX_TURNS: u64 = 1_000_000_000;
 
 fn give_and_take<R: Threads + Sync>(
     rt: &R,
@@ -214,7 +214,7 @@ fn a_seat_reads_what_another_wrote(rt: HostRuntime) -> Result<(), Fail> {
 }
 
 #[test]
-fn unlawful_loads_are_refused(rt: HostRuntime) -> Result<(), Fail> {
+fn invalid_loads_are_refused(rt: HostRuntime) -> Result<(), Fail> {
     let alloc = rt.alloc();
     let refusal = |loads: &[&[u32]]| -> Result<Option<PlanErr>, AllocError> {
         Ok(Plan::new(alloc, rows(alloc, loads)?).err())
@@ -242,7 +242,7 @@ fn work(
     ensures seat { IsSeatOf board.now seat.new }
 {
     let modules = board.plan().modules();
-    for _ in 0..ROUNDS_MAX {
+    for _ in 0..MAX_ROUNDS {
         for m in 0..modules {
             if wins(board, seat, m) {
                 marks[m].fetch_add(1, Ordering::SeqCst);
@@ -259,7 +259,7 @@ fn work(
 }
 
 // Rounds over all modules, far more than any run takes, so that a run ends by itself.
-const ROUNDS_MAX: u64 = 100_000;
+const MAX_ROUNDS: u64 = 100_000;
 
 const MODULES: u64 = 2000;
 

@@ -1,4 +1,4 @@
-//! What a seat has seen and done. It stands in contracts alone.
+//! What a seat has seen and done. It is in contracts alone.
 ghost use Rattle.std.specs.Prelude.{ℕ, List};
 ghost use Rattle.std.specs.Borrow.{ftrue};
 
@@ -21,8 +21,10 @@ pub struct View<B> {
     pub ghost claimed: { List ℕ },
     pub ghost taken: { List ℕ },
     pub ghost finished: { List ℕ },
-    // What `done` answered.
+    // What `done` returned.
     pub ghost told: { List ℕ },
+    // How many more seats may be cut from this one.
+    pub ghost spare: { ℕ },
 }
 
 impl<B> Model for View<B> {

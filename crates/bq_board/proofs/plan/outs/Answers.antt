@@ -9,13 +9,13 @@ few : (p : Loads) (m next : ℕ) (loaded : List ℕ) → m < length p → edges 
 few p m next loaded h all is same = omega (arith, start_next p m h, start_le p (m + 1), ap (length {A = ℕ}) same)
 
 pub add_outs-requires-clause-few : goal.add_outs-requires-clause-few
-add_outs-requires-clause-few c = omega (arith, few c.args.graph.now c.loop-m.m c.loop-m.next c.row-loaded.result.now (omega arith) c.row-loaded.ensures.lawful.0.1 c.loop-m.invariant.next c.row-loaded.ensures.row)
+add_outs-requires-clause-few c = omega (arith, few c.args.graph.now c.loop-m.m c.loop-m.next c.row-loaded.result.now (omega arith) c.row-loaded.ensures.valid.0.1 c.loop-m.invariant.next c.row-loaded.ensures.row)
 
 pub overflow_cast-next : goal.overflow_cast-next
-overflow_cast-next c = omega (arith, few c.args.graph.now c.loop-m.m c.loop-m.next c.row-loaded.result.now (omega arith) c.row-loaded.ensures.lawful.0.1 c.loop-m.invariant.next c.row-loaded.ensures.row)
+overflow_cast-next c = omega (arith, few c.args.graph.now c.loop-m.m c.loop-m.next c.row-loaded.result.now (omega arith) c.row-loaded.ensures.valid.0.1 c.loop-m.invariant.next c.row-loaded.ensures.row)
 
 pub overflow_add-next : goal.overflow_add-next
-overflow_add-next c = omega (arith, few c.args.graph.now c.loop-m.m c.loop-m.next c.row-loaded.result.now (omega arith) c.row-loaded.ensures.lawful.0.1 c.loop-m.invariant.next c.row-loaded.ensures.row)
+overflow_add-next c = omega (arith, few c.args.graph.now c.loop-m.m c.loop-m.next c.row-loaded.result.now (omega arith) c.row-loaded.ensures.valid.0.1 c.loop-m.invariant.next c.row-loaded.ensures.row)
 
 pub loop-m-preserved : goal.loop-m-preserved
 loop-m-preserved c =

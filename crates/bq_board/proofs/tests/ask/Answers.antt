@@ -1,4 +1,4 @@
-use Rattle.bq_board.proofs.Trials.{asked}
+use Rattle.bq_board.proofs.Conditions.{asked}
 use Rattle.bq_board.proofs.tests.ask.Goals as goal
 
 pub returns-clause-won : goal.returns-clause-won

@@ -1,7 +1,7 @@
 use Rattle.std.proofs.Common.{◌≡◌, ◌+◌, arith, ap, ◌∙◌}
 use Rattle.bq_board.specs.Graph.{Loads}
 use Rattle.bq_board.specs.Plan.{start, Into}
-use Rattle.bq_board.proofs.Trials.{collects_none, collects_more, collected}
+use Rattle.bq_board.proofs.Conditions.{collects_none, collects_more, collects_all}
 use Rattle.bq_board.proofs.tests.collect.Goals as goal
 
 pub loop-e-init : goal.loop-e-init
@@ -18,4 +18,4 @@ loop-e-preserved c =
     }
 
 pub returns-clause-keeps : goal.returns-clause-keeps
-returns-clause-keeps c = (collected c.args.board.now.plan _ _ c.args.m c.loop-e.e c.loop-e.invariant.done c.requires.holds).1
+returns-clause-keeps c = (collects_all c.args.board.now.plan _ _ c.args.m c.loop-e.e c.loop-e.invariant.done c.requires.holds).1

@@ -4,7 +4,7 @@ use Rattle.bq_board.specs.Counts.{Has}
 use Rattle.bq_board.specs.Graph.{Loads}
 use Rattle.bq_board.specs.Plan.{IsOut}
 use Rattle.bq_board.proofs.Settling.{Has-get_or}
-use Rattle.bq_board.proofs.Trials.{delivers_none, still_open, delivers_more, delivered}
+use Rattle.bq_board.proofs.Conditions.{delivers_none, not_yet_posted, delivers_more, delivers_all}
 use Rattle.bq_board.proofs.tests.deliver.Goals as goal
 
 pub loop-e-init : goal.loop-e-init
@@ -27,7 +27,7 @@ post-requires-clause-claimed c _ =
 pub post-requires-clause-once : goal.post-requires-clause-once
 post-requires-clause-once c _ =
     let es = c.edges_out-e-items.result.now in let out = subst (λ (q : Loads). IsOut q c.args.m es) c.plan.ensures c.edges_out-e-items.ensures.out in
-    still_open c.args.board.now.plan _ _ c.args.m es c.loop-e.e-index c.loop-e.invariant.done c.requires.owes out c.loop-e-test.true
+    not_yet_posted c.args.board.now.plan _ _ c.args.m es c.loop-e.e-index c.loop-e.invariant.done c.requires.owes out c.loop-e-test.true
 
 pub post-requires-clause-belongs : goal.post-requires-clause-belongs
 post-requires-clause-belongs c _ =
@@ -57,4 +57,4 @@ finish-requires-clause-out c _ e h from =
 pub returns-clause-keeps : goal.returns-clause-keeps
 returns-clause-keeps c =
     let es = c.edges_out-e-items.result.now in let out = subst (λ (q : Loads). IsOut q c.args.m es) c.plan.ensures c.edges_out-e-items.ensures.out in
-    delivered c.args.board.now.plan _ _ _ c.args.m es c.loop-e.e-index c.loop-e.invariant.done out c.finish.ensures.finished
+    delivers_all c.args.board.now.plan _ _ _ c.args.m es c.loop-e.e-index c.loop-e.invariant.done out c.finish.ensures.finished

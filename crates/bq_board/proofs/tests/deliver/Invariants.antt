@@ -1,5 +1,5 @@
 use Rattle.bq_board.specs.Seats.{IsSeatOf, view_of}
-use Rattle.bq_board.proofs.Trials.{Delivers}
+use Rattle.bq_board.proofs.Conditions.{Delivers}
 use Rattle.bq_board.proofs.tests.deliver.Given as goal
 
 abbrev pub invariant-loop-e : goal.invariant-loop-e

@@ -14,7 +14,7 @@ loop-e-init g c = record { seat = c.requires.seat; saw = saw_none _; fed = λ d 
 
 pub load-found-requires : goal.load-found-requires
 load-found-requires g c = let b = c.args.self.now in let at : 1 + c.modules-modules.result + c.loop-e.e ≡ edge_word b.plan c.loop-e.e = omega arith in
-    (c.loop-e.invariant.seat.table, omega arith, rw b.key (looks g.row.V-Base.Denot g.row.V.Denot g.V.Parcel.belongs b.table.shared.key.base.value b.plan _ _ c.loop-e.e _ _ at (omega arith)))
+    (c.loop-e.invariant.seat.table, omega arith, rw b.key (looks g.row.V-Base.Denot g.row.V.Denot g.V.Parcel.belongs b.table.shared.key.base.value b.plan b.table.shared.key.seats.value _ _ c.loop-e.e _ _ at (omega arith)))
 
 pub compare_exchange-found-requires : goal.compare_exchange-found-requires
 compare_exchange-found-requires g c =
@@ -22,7 +22,7 @@ compare_exchange-found-requires g c =
     let from : c.start-from.result ≡ start u.plan c.args.m = c.start-from.ensures.number ∙ ap (λ (q : Loads). start q c.args.m) (sym i.seat.plan) in
     let to : c.start-to.result ≡ start u.plan (c.args.m + 1) = c.start-to.ensures.number ∙ ap (λ (q : Loads). start q (c.args.m + 1)) (sym i.seat.plan) in
     let fed : Fed u c.args.m = fed_whole u c.args.m c.start-from.result c.start-to.result from to (λ d l h. i.fed d l (omega arith)) in
-    (i.seat.table, omega arith, rw b.key (tries g.row.V-Base.Denot g.row.V.Denot g.V.Parcel.belongs b.table.shared.key.base.value b.plan _ _ c.args.m _ c.requires.module fed))
+    (i.seat.table, omega arith, rw b.key (tries g.row.V-Base.Denot g.row.V.Denot g.V.Parcel.belongs b.table.shared.key.base.value b.plan b.table.shared.key.seats.value _ _ c.args.m _ c.requires.module fed))
 
 missed : (g : _) (c : goal.Then-not-is_posted g) → ¬ Posted c.load-found.result
 missed g c h = absurd (true≢false (sym (c.is_posted.ensures.1 h) ∙ c.if-not-is_posted.true))

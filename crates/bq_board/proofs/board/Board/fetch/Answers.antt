@@ -9,7 +9,7 @@ use Rattle.bq_board.proofs.board.Board.fetch.Goals as goal
 
 pub store-requires : goal.store-requires
 store-requires g c = let b = c.args.self.now in let t = c.requires.claimed in
-    (c.requires.seat.table, omega arith, rw (b.key, c.modules-modules.ensures.count) (fetches_edge g.row.V-Base.Denot g.row.V.Denot g.V.Parcel.belongs b.table.shared.key.base.value b.plan _ _ _ t.0 _ c.requires.edge t.1 t.2 c.requires.once))
+    (c.requires.seat.table, omega arith, rw (b.key, c.modules-modules.ensures.count) (fetches_edge g.row.V-Base.Denot g.row.V.Denot g.V.Parcel.belongs b.table.shared.key.base.value b.plan b.table.shared.key.seats.value _ _ _ t.0 _ c.requires.edge t.1 t.2 c.requires.once))
 
 pub exchange-requires : goal.exchange-requires
 exchange-requires g c =

@@ -12,7 +12,7 @@ pub store-requires : goal.store-requires
 store-requires g c = let b = c.args.self.now in let v = c.args.seat.now.place.me.0 in (
   c.requires.seat.table,
   omega arith,
-  rw (b.key, c.modules-modules.ensures.count) (opens_edge g.row.V-Base.Denot g.row.V.Denot g.V.Parcel.belongs b.table.shared.key.base.value b.plan _ _ _ _ c.requires.edge c.requires.claimed
+  rw (b.key, c.modules-modules.ensures.count) (opens_edge g.row.V-Base.Denot g.row.V.Denot g.V.Parcel.belongs b.table.shared.key.base.value b.plan b.table.shared.key.seats.value _ _ _ _ c.requires.edge c.requires.claimed
       (λ had. c.requires.once (subst (λ (l : List ℕ). Has l c.args.edge) c.requires.seat.even had))),
 )
 
@@ -29,7 +29,7 @@ store-requires-2 g c =
     let had : Has (with_opened v c.args.edge).opened c.args.edge = omega (arith, times_same c.args.edge v.opened) in (
       c.exchange.ensures.0 ∙ c.store.ensures.0 ∙ c.requires.seat.table,
       omega arith,
-      rw (b.key, c.modules-modules.ensures.count, is) (posts_edge g.row.V-Base.Denot g.row.V.Denot g.V.Parcel.belongs b.table.shared.key.base.value b.plan _ _ c.args.edge
+      rw (b.key, c.modules-modules.ensures.count, is) (posts_edge g.row.V-Base.Denot g.row.V.Denot g.V.Parcel.belongs b.table.shared.key.base.value b.plan b.table.shared.key.seats.value _ _ c.args.edge
           (with_opened v c.args.edge) c.args.parcel c.args.seat.now.place.me.1 c.requires.edge had c.requires.once c.requires.belongs),
     )
 

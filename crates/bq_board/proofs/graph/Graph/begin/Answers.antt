@@ -1,6 +1,6 @@
 use Rattle.std.proofs.Common.{◌≡◌, ℕ, ◌+◌, List, length, arith, sym, subst, ap, ◌∙◌}
 use Rattle.bq_board.specs.Graph.{row}
-use Rattle.bq_board.specs.Draining.{Begins}
+use Rattle.bq_board.specs.Sorting.{Begins}
 use Rattle.bq_board.proofs.Beginning.{begins_waits, begins_ready, begun}
 use Rattle.bq_board.proofs.graph.Graph.begin.Goals as goal
 use Rattle.bq_board.proofs.graph.Graph.begin.Goals.{then-count-eq0+in_ok-push-2, else-count-eq0}

@@ -1,4 +1,4 @@
-use Rattle.bq_board.specs.Draining.{Begins}
+use Rattle.bq_board.specs.Sorting.{Begins}
 use Rattle.bq_board.proofs.graph.Graph.begin.Given as goal
 
 abbrev pub invariant-loop-m : goal.invariant-loop-m

@@ -5,7 +5,7 @@ use Rattle.bq_board.specs.Graph.{Loads}
 use Rattle.bq_board.specs.Plan.{source, Into, IsOut}
 use Rattle.bq_board.specs.Steps.{with_missed, with_claimed, with_taken, with_opened, with_posted, with_fetched, with_finished, IsNew}
 use Rattle.bq_board.specs.Claims.{Answered}
-use Rattle.bq_board.specs.Tests.{Owes, Holds, KeepsAt, KeepsAll, KeepsOthers, HoldsIfWon}
+use Rattle.bq_board.specs.Conditions.{Owes, Holds, KeepsAt, KeepsAll, KeepsOthers, HoldsIfWon}
 use Rattle.bq_board.specs.declared.view.View.{View}
 use Rattle.bq_board.specs.declared.claim.Claim.{Claim}
 use Rattle.bq_board.specs.declared.claim.Claim.TheVariants.{Won, Taken, Waiting}
@@ -63,8 +63,8 @@ module _ {B : Type 0} (p : Loads) where
     fresh = λ d had. ⊎_elim (λ old. c.fresh d old) (λ same. inr (subst (Into p m) same into)) (Has_snoc u.fetched e d had);
   }
 
-  pub collected : (v u : View B) (m e : ℕ) → Collects v m e u → Holds p v m → Owes p u m × KeepsOthers p v m u
-  collected v u m e c h =
+  pub collects_all : (v u : View B) (m e : ℕ) → Collects v m e u → Holds p v m → Owes p u m × KeepsOthers p v m u
+  collects_all v u m e c h =
       let owes : (k : ℕ) → Owes p v k → Owes p (record v { fetched = u.fetched }) k = λ k o. record { claimed = o.claimed; finished = o.finished; posted = o.posted } in (
         subst (λ (x : View B). Owes p x m) (sym c.view) (owes m h.owes),
         (λ k ne. subst (λ (x : View B). KeepsAt p v x k) (sym c.view) (
@@ -83,8 +83,8 @@ module _ {B : Type 0} (p : Loads) where
   delivers_none v es = record { view = refl; all = λ d had. absurd (omega arith); fresh = λ d had. inl had }
 
   -- the edge at i isn't posted yet
-  pub still_open : (v u : View B) (m : ℕ) (es : List ℕ) (i : ℕ) → Delivers v es i u → Owes p v m → IsOut p m es → i < length es → ¬ Has u.posted (get_or es i 0)
-  still_open v u m es i d o out h had = let e : ℕ = get_or es i 0 in let here : Has es e = omega (arith, times_take_more es i e h, times_same e (take i es), times_take-le e (i + 1) es) in
+  pub not_yet_posted : (v u : View B) (m : ℕ) (es : List ℕ) (i : ℕ) → Delivers v es i u → Owes p v m → IsOut p m es → i < length es → ¬ Has u.posted (get_or es i 0)
+  not_yet_posted v u m es i d o out h had = let e : ℕ = get_or es i 0 in let here : Has es e = omega (arith, times_take_more es i e h, times_same e (take i es), times_take-le e (i + 1) es) in
       ⊎_elim (λ old. o.posted e (out.leaves e here).1 old)
       (λ twice. absurd (omega (arith, out.once e, times_take_more es i e h, times_same e (take i es), times_take-le e (i + 1) es))) (d.fresh e had)
 
@@ -97,8 +97,8 @@ module _ {B : Type 0} (p : Loads) where
         (λ same. inr (omega (arith, times_take_more es i x h, ap (λ y. times y (take i es ++ e ∷ [])) same, times_same e (take i es)))) (Has_snoc u.posted e x had);
   }
 
-  pub delivered : (v u w : View B) (m : ℕ) (es : List ℕ) (i : ℕ) → Delivers v es i u → IsOut p m es → w ≡ with_finished u m → KeepsOthers p v m w
-  delivered v u w m es i d out is k ne =
+  pub delivers_all : (v u w : View B) (m : ℕ) (es : List ℕ) (i : ℕ) → Delivers v es i u → IsOut p m es → w ≡ with_finished u m → KeepsOthers p v m w
+  delivers_all v u w m es i d out is k ne =
       let now : w ≡ with_finished (record v { opened = u.opened; posted = u.posted }) m = is ∙ ap (λ x. with_finished x m) d.view in
       let owes : Owes p v k → Owes p (with_finished (record v { opened = u.opened; posted = u.posted }) m) k = λ o. record {
         claimed = o.claimed;

@@ -1,0 +1,105 @@
+//! A topological order of the modules: each comes after all that it loads (Kahn's algorithm).
+ghost use Rattle.std.specs.Prelude.{◌≡◌, ℕ, ◌+◌, ◌<◌, ◌≤◌, ◌↔◌, length, IfOk, OnOk, IsTrue};
+ghost use Rattle.std.proofs.Common.{get_or};
+ghost use Rattle.bq_board.specs.Counts.{times, Has};
+ghost use Rattle.bq_board.specs.Cycles.{IsAcyclic};
+ghost use Rattle.bq_board.specs.Topological.{IsTopologicalOrder, MarksCycles};
+ghost use Rattle.bq_board.specs.Graph.{lists};
+ghost use Rattle.bq_board.specs.Sorting.{Sorting, IsDependents, Settles, Adds};
+
+use crate::graph::{Graph, empty_rows};
+use std::alloc::{AllocError, Global};
+
+/// An order for loading: the modules that aren't cyclic, each after all that it loads.
+#[derive(Drop)]
+pub struct Order {
+    pub modules: Vec<u32>,
+    /// For each module how many of its loads aren't in the order: 0 exactly where it isn't cyclic.
+    pub pending: Vec<usize>,
+}
+
+impl Graph {
+    /// The modules that aren't cyclic, each after all that it loads. It takes time linear in modules and edges.
+    pub fn topological_order(&self, alloc: Global) -> Result<Order, AllocError>
+        ensures order { IfOk result (λ o. IsTopologicalOrder self.now o.modules.items o.pending.items) }
+        ensures cyclic { IfOk result (λ o. MarksCycles self.now o.pending.items) }
+    {
+        let dependents = self.dependents(alloc)?;
+        let mut order = self.begin(alloc)?;
+        let _ = self.len();
+        let mut at = 0;
+        while at < order.modules.len() {
+            let m = order.modules[at] as usize;
+            let loaders = dependents[m].as_slice();
+            settle(&mut order.pending, &mut order.modules, loaders)?;
+            at += 1;
+        }
+        Ok(order)
+    }
+
+    /// Whether no module is cyclic.
+    pub fn is_acyclic(&self, alloc: Global) -> Result<bool, AllocError>
+        ensures { IfOk result (λ b. IsTrue b ↔ IsAcyclic self.now) }
+    {
+        let order = self.topological_order(alloc)?;
+        let _ = self.len();
+        Ok(order.pending.iter().all(|n| *n == 0))
+    }
+
+    // For each module, as often as it stands there, the modules that load it.
+    fn dependents(&self, alloc: Global) -> Result<Vec<Vec<u32>>, AllocError>
+        ensures { IfOk result (λ v. IsDependents self.now (lists v.items)) }
+    {
+        let mut dependents = empty_rows(alloc, self.len())?;
+        for u in 0..self.len() {
+            add_dependent(&mut dependents, u as u32, self.row(u))?;
+        }
+        Ok(dependents)
+    }
+
+    // How many loads each module has. Those that have none are the first of the order.
+    fn begin(&self, alloc: Global) -> Result<Order, AllocError>
+        ensures { IfOk result (λ o. Sorting self.now 0 o.modules.items o.pending.items) }
+    {
+        let mut order = Order {
+            modules: Vec::new(alloc),
+            pending: Vec::new(alloc),
+        };
+        for m in 0..self.len() {
+            let count = self.row(m).len();
+            order.pending.push(count)?;
+            if count == 0 {
+                order.modules.push(m as u32)?;
+            }
+        }
+        Ok(order)
+    }
+}
+
+// One more dependent, of each module that it loads.
+fn add_dependent(dependents: &mut Vec<Vec<u32>>, u: u32, loaded: &[u32]) -> Result<(), AllocError>
+    requires { (l : ℕ) → Has loaded.now l → l < length dependents.old.items }
+    ensures { OnOk result (Adds u loaded.now (lists dependents.old.items) (lists dependents.new.items)) }
+{
+    for l in loaded {
+        dependents[*l as usize].push(u)?;
+    }
+    Ok(())
+}
+
+// One pending load less for each dependent. Those that have none left join the order.
+fn settle(pending: &mut Vec<usize>, order: &mut Vec<u32>, dependents: &[u32]) -> Result<(), AllocError>
+    requires known { (u : ℕ) → Has dependents.now u → u < length pending.old.items }
+    requires pending { (u : ℕ) → times u dependents.now ≤ get_or pending.old.items u 0 }
+    ensures { OnOk result (Settles dependents.now pending.old.items pending.new.items order.old.items order.new.items) }
+{
+    for dependent in dependents {
+        let u = *dependent as usize;
+        let left = pending[u] - 1;
+        pending[u] = left;
+        if left == 0 {
+            order.push(*dependent)?;
+        }
+    }
+    Ok(())
+}
