@@ -1,11 +1,11 @@
--- What a seat still may do for the modules that it won, from call to call.
-use Rattle.std.proofs.Common.{◌≡◌, ℕ, ◌+◌, ◌<◌, ◌≤◌, ◌⊎◌, List, [], ◌∷◌, ◌++◌, length, take, get_or, sym, refl, ap, ◌∙◌, subst, inl, inr, ⊎_elim, arith}
+-- For crates above: a claim, fetches, posts and a finish keep the conditions of the calls that follow (specs/Conditions.antt).
+use Rattle.std.proofs.Common.{◌≡◌, ℕ, ◌+◌, ◌<◌, List, [], ◌∷◌, ◌++◌, length, take, get_or, sym, refl, ap, ◌∙◌, subst, inl, inr, ⊎_elim, arith}
 use Rattle.bq_board.specs.Counts.{times, Has}
 use Rattle.bq_board.specs.Graph.{Loads}
 use Rattle.bq_board.specs.Plan.{source, Into, IsOut}
 use Rattle.bq_board.specs.Steps.{with_missed, with_claimed, with_taken, with_opened, with_posted, with_fetched, with_finished, IsNew}
 use Rattle.bq_board.specs.Claims.{Answered}
-use Rattle.bq_board.specs.Conditions.{Owes, Holds, KeepsAt, KeepsAll, KeepsOthers, HoldsIfWon}
+use Rattle.bq_board.specs.Conditions.{Owes, Holds, KeepsAt, KeepsAll, KeepsOthers, HoldsIfWon, Collects, Delivers}
 use Rattle.bq_board.specs.declared.view.View.{View}
 use Rattle.bq_board.specs.declared.claim.Claim.{Claim}
 use Rattle.bq_board.specs.declared.claim.Claim.TheVariants.{Won, Taken, Waiting}
@@ -37,33 +37,34 @@ module _ {B : Type 0} (p : Loads) where
     fetched = subst (λ (q : Loads). (e : ℕ) → Into q m e → ¬ Has v.fetched e) is new.3;
   }
 
-  pub asked : (v w : View B) (m : ℕ) (r : Claim) → v.plan ≡ p → Answered v m r w → HoldsIfWon p w m r × KeepsAll p v w
-  asked v w m Won is t = let won : w ≡ with_claimed (record v { seen = v.seen ++ t.1.0 }) m = t.2.0 ∙ ap (λ u. with_claimed u m) t.1.1 in (
+  -- a claim: what was won is held, and what was held stays so
+  pub claims : (v w : View B) (m : ℕ) (r : Claim) → v.plan ≡ p → Answered v m r w → HoldsIfWon p w m r × KeepsAll p v w
+  claims v w m Won is t = let won : w ≡ with_claimed (record v { seen = v.seen ++ t.1.0 }) m = t.2.0 ∙ ap (λ u. with_claimed u m) t.1.1 in (
     subst (λ (u : View B). Holds p u m) (sym t.2.0) (holds_won t.0 m (ap (λ u. u.plan) t.1.1 ∙ is) t.2.3),
     subst (KeepsAll p v) (sym won) (keeps_won v m (v.seen ++ t.1.0)),
   )
-  asked v w m Taken is t = let lost : w ≡ with_taken (record v { seen = v.seen ++ t.1.0 }) m = t.2 ∙ ap (λ u. with_taken u m) t.1.1 in
+  claims v w m Taken is t = let lost : w ≡ with_taken (record v { seen = v.seen ++ t.1.0 }) m = t.2 ∙ ap (λ u. with_taken u m) t.1.1 in
       (tt, subst (KeepsAll p v) (sym lost) (keeps_noted v (v.seen ++ t.1.0) v.missed (v.taken ++ m ∷ [])))
-  asked v w m (Waiting e) is t = let late : w ≡ with_missed (record v { seen = v.seen ++ t.1.0 }) e = t.2.0 ∙ ap (λ u. with_missed u e) t.1.1 in
+  claims v w m (Waiting e) is t = let late : w ≡ with_missed (record v { seen = v.seen ++ t.1.0 }) e = t.2.0 ∙ ap (λ u. with_missed u e) t.1.1 in
       (tt, subst (KeepsAll p v) (sym late) (keeps_noted v (v.seen ++ t.1.0) (v.missed ++ e ∷ []) v.taken))
 
-  -- only edges into m were fetched
-  pub record Collects (v : View B) (m e : ℕ) (u : View B) : Type 0 where
-    pub view : u ≡ record v { fetched = u.fetched }
-    pub rest : (d : ℕ) → Into p m d → e ≤ d → ¬ Has u.fetched d
-    pub fresh : (d : ℕ) → Has u.fetched d → Has v.fetched d ⊎ Into p m d
-
-  pub collects_none : (v : View B) (m e : ℕ) → Holds p v m → Collects v m e v
+  -- fetches, edge by edge
+  pub collects_none : (v : View B) (m e : ℕ) → Holds p v m → Collects p v m e v
   collects_none v m e h = record { view = refl; rest = λ d into low. h.fetched d into; fresh = λ d had. inl had }
 
-  pub collects_more : (v u w : View B) (m e : ℕ) → Collects v m e u → Into p m e → w ≡ with_fetched u e → Collects v m (e + 1) w
-  collects_more v u w m e c into is = subst (Collects v m (e + 1)) (sym is) record {
+  pub collects_more : (v u w : View B) (m e : ℕ) → Collects p v m e u → Into p m e → w ≡ with_fetched u e → Collects p v m (e + 1) w
+  collects_more v u w m e c into is = subst (Collects p v m (e + 1)) (sym is) record {
     view = ap (λ (x : View B). with_fetched x e) c.view;
     rest = λ d i low had. ⊎_elim (λ old. c.rest d i (omega arith) old) (λ same. absurd (omega arith)) (Has_snoc u.fetched e d had);
     fresh = λ d had. ⊎_elim (λ old. c.fresh d old) (λ same. inr (subst (Into p m) same into)) (Has_snoc u.fetched e d had);
   }
 
-  pub collects_all : (v u : View B) (m e : ℕ) → Collects v m e u → Holds p v m → Owes p u m × KeepsOthers p v m u
+  -- the next edge into a module that was won may be fetched
+  pub may_fetch : (v u : View B) (m e : ℕ) → Collects p v m e u → Holds p v m → Into p m e → ((x : ℕ) × Has u.claimed x × Into p x e) × (¬ Has u.fetched e)
+  may_fetch v u m e c h into = ((m, subst (λ (x : View B). Has x.claimed m) (sym c.view) h.owes.claimed, into), c.rest e into (omega arith))
+
+  -- all are fetched: the posts are owed
+  pub collects_all : (v u : View B) (m e : ℕ) → Collects p v m e u → Holds p v m → Owes p u m × KeepsOthers p v m u
   collects_all v u m e c h =
       let owes : (k : ℕ) → Owes p v k → Owes p (record v { fetched = u.fetched }) k = λ k o. record { claimed = o.claimed; finished = o.finished; posted = o.posted } in (
         subst (λ (x : View B). Owes p x m) (sym c.view) (owes m h.owes),
@@ -73,12 +74,7 @@ module _ {B : Type 0} (p : Loads) where
         )),
       )
 
-  -- the first i of the edges out of m were posted, and no others
-  pub record Delivers (v : View B) (es : List ℕ) (i : ℕ) (u : View B) : Type 0 where
-    pub view : u ≡ record v { opened = u.opened; posted = u.posted }
-    pub all : (d : ℕ) → Has (take i es) d → Has u.posted d
-    pub fresh : (d : ℕ) → Has u.posted d → Has v.posted d ⊎ Has (take i es) d
-
+  -- posts, edge by edge
   pub delivers_none : (v : View B) (es : List ℕ) → Delivers v es 0 v
   delivers_none v es = record { view = refl; all = λ d had. absurd (omega arith); fresh = λ d had. inl had }
 
@@ -97,6 +93,7 @@ module _ {B : Type 0} (p : Loads) where
         (λ same. inr (omega (arith, times_take_more es i x h, ap (λ y. times y (take i es ++ e ∷ [])) same, times_same e (take i es)))) (Has_snoc u.posted e x had);
   }
 
+  -- all are posted, and the module is finished
   pub delivers_all : (v u w : View B) (m : ℕ) (es : List ℕ) (i : ℕ) → Delivers v es i u → IsOut p m es → w ≡ with_finished u m → KeepsOthers p v m w
   delivers_all v u w m es i d out is k ne =
       let now : w ≡ with_finished (record v { opened = u.opened; posted = u.posted }) m = is ∙ ap (λ x. with_finished x m) d.view in

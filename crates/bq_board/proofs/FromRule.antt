@@ -53,7 +53,7 @@ module _ (B V : Type 0) (fact : B → ℕ → V → Type 0) (b : B) (p : Loads) 
   owner_says j v at = let g = k.each j v at in (g.opens, g.posts, g.fetches, g.ends, g.ends_once)
 
   pub done_says : DoneLaw fact b p seats s
-  done_says = (k.done, done_le B V fact b p seats s k, λ j v at. (k.each j v at).told)
+  done_says = (k.done, done_le B V fact b p seats s k, λ j v at. (k.each j v at).counts)
 
   pub slot_says : SlotLaw fact b p seats s
   slot_says e h = let l = k.lies e h in (l.empty, l.out, l.full)

@@ -16,7 +16,7 @@ use Rattle.bq_board.specs.Counts.{total, times, Has, below}
 use Rattle.bq_board.specs.Graph.{Loads, edges, IsGraph}
 use Rattle.bq_board.specs.Plan.{source, Into}
 use Rattle.bq_board.specs.Board.{module_word, edge_word, Posted, Phase, SlotHolds, blank, blank_with, ViewHolds, RuleHolds}
-use Rattle.bq_board.specs.Steps.{with_seen, with_missed, with_opened, with_posted, with_fetched, with_claimed, with_taken, with_finished, with_told, Fed, Looked, Claimed, looked, tried, opened, posted, fetched, added, counted}
+use Rattle.bq_board.specs.Steps.{with_seen, with_missed, with_opened, with_posted, with_fetched, with_claimed, with_taken, with_finished, with_count, Fed, Looked, Claimed, looked, tried, opened, posted, fetched, added, counted}
 use Rattle.bq_board.specs.declared.view.View.{View}
 use Rattle.bq_board.proofs.Sums.{total-append, total-set, term_le, terms_le, some_term, total_below, times_same, times_other, Has_more, Has_snoc, below_le, below_full, total_times}
 use Rattle.bq_board.proofs.Edges.{into_once, source_known}
@@ -69,7 +69,7 @@ module _ (B V : Type 0) (fact : B → ℕ → V → Type 0) (b : B) (p : Loads) 
     fetches = g.fetches;
     ends = g.ends;
     ends_once = g.ends_once;
-    told = λ n h. let d = t.done in omega (arith, g.told n h);
+    counts = λ n h. let d = t.done in omega (arith, g.counts n h);
     seen = λ e h. let q = g.seen e h in (q.0, (t.edge e q.0).1 q.1);
     taken = λ m h. let q = g.taken m h in let r = t.claim m q.0 in (q.0, omega arith);
   }
@@ -141,11 +141,11 @@ module _ (B V : Type 0) (fact : B → ℕ → V → Type 0) (b : B) (p : Loads) 
   all_posted s k all e h = let t = ender s k all (source p e) (source_known p k.sound.1 e h) in (posted_is s k t.0 t.1 t.2 e (((k.each t.0 t.1 t.2).ends (source p e) t.3).1 e h refl)).1
 
   -- a view that notes more of what it found
-  noted : (ws : List ℕ) (v : View B) (seen missed taken told : List ℕ) → ViewHolds b p ws v → ((n : ℕ) → Has told n → n ≤ get_or ws 0 0)
+  noted : (ws : List ℕ) (v : View B) (seen missed taken counts : List ℕ) → ViewHolds b p ws v → ((n : ℕ) → Has counts n → n ≤ get_or ws 0 0)
       → ((e : ℕ) → Has seen e → (e < edges p) × Posted (get_or ws (edge_word p e) 0)) → ((m : ℕ) → Has taken m → (m < length p) × (get_or ws (module_word m) 0 ≡ 1))
-      → ViewHolds b p ws (record v { seen = seen; missed = missed; taken = taken; told = told })
-  noted ws v seen missed taken told g t x y =
-      record { base = g.base; plan = g.plan; claims = g.claims; opens = g.opens; posts = g.posts; fetches = g.fetches; ends = g.ends; ends_once = g.ends_once; told = t; seen = x; taken = y }
+      → ViewHolds b p ws (record v { seen = seen; missed = missed; taken = taken; counts = counts })
+  noted ws v seen missed taken counts g t x y =
+      record { base = g.base; plan = g.plan; claims = g.claims; opens = g.opens; posts = g.posts; fetches = g.fetches; ends = g.ends; ends_once = g.ends_once; counts = t; seen = x; taken = y }
 
   abbrev Sat : Type 0
   Sat = Me (Option V) (View B)
@@ -154,7 +154,7 @@ module _ (B V : Type 0) (fact : B → ℕ → V → Type 0) (b : B) (p : Loads) 
   pub looks : (n id e : ℕ) (m : Sat) (i : ℕ) → i ≡ edge_word p e → e < edges p → Allows (RuleHolds fact b p seats) n id m i (λ y. y) (looked (step n i 0 0 none) m)
   looks n id e m i is h s k _ at _ =
       let g = k.each id m.0 at in let x : ℕ = get_or s.words (edge_word p e) 0 in
-      let tells : (w : View B) → Looked m.0 e x w → looked (step n i 0 0 none) m (get_or s.words i 0) (w, m.1) = λ w t. (
+      let says : (w : View B) → Looked m.0 e x w → looked (step n i 0 0 none) m (get_or s.words i 0) (w, m.1) = λ w t. (
         refl,
         λ d ed.
             let same : d ≡ e = omega (arith, ed, is, ap (λ (q : Loads). length q) g.plan) in subst (λ (z : ℕ × ℕ). Looked m.0 z.0 z.1 w) (λ j. (sym same j, ap (λ (q : ℕ). get_or s.words q 0) (sym is) j)) t,
@@ -165,21 +165,21 @@ module _ (B V : Type 0) (fact : B → ℕ → V → Type 0) (b : B) (p : Loads) 
         keeps,
         tt,
         stays s k i id m.1 m.0 w at (λ d. refl) (λ d. refl) (λ d. refl) (λ d. refl) refl refl
-            (noted s.words m.0 w.seen w.missed w.taken w.told g g.told (along (λ z. (z < edges p) × Posted (get_or s.words (edge_word p z) 0)) m.0.seen e g.seen (h, hit)) g.taken),
-        tells w ((λ _. refl), λ no. absurd (no hit)),
+            (noted s.words m.0 w.seen w.missed w.taken w.counts g g.counts (along (λ z. (z < edges p) × Posted (get_or s.words (edge_word p z) 0)) m.0.seen e g.seen (h, hit)) g.taken),
+        says w ((λ _. refl), λ no. absurd (no hit)),
       ))
       (λ miss. let w : View B = with_missed m.0 e in (
         w,
         keeps,
         tt,
-        stays s k i id m.1 m.0 w at (λ d. refl) (λ d. refl) (λ d. refl) (λ d. refl) refl refl (noted s.words m.0 w.seen w.missed w.taken w.told g g.told g.seen g.taken),
-        tells w (
+        stays s k i id m.1 m.0 w at (λ d. refl) (λ d. refl) (λ d. refl) (λ d. refl) refl refl (noted s.words m.0 w.seen w.missed w.taken w.counts g g.counts g.seen g.taken),
+        says w (
           (λ yes. absurd (miss yes)),
           λ _. (
             refl,
             (λ had. miss (g.seen e had).1),
             (λ had. miss (posted_is s k id m.0 at e had).1),
-            (λ had. miss (all_posted s k (g.told (length p) (subst (λ (q : Loads). Has m.0.told (length q)) g.plan had)) e h)),
+            (λ had. miss (all_posted s k (g.counts (length p) (subst (λ (q : Loads). Has m.0.counts (length q)) g.plan had)) e h)),
           ),
         ),
       ))
@@ -188,7 +188,7 @@ module _ (B V : Type 0) (fact : B → ℕ → V → Type 0) (b : B) (p : Loads) 
   pub tries : (n id c : ℕ) (m : Sat) → c < length p → Fed m.0 c → Allows (RuleHolds fact b p seats) n id m (module_word c) (λ y. either (eqb y 0) 1 y) (tried (step n (module_word c) 0 1 none) m)
   tries n id c m h fed s k _ at _ =
       let g = k.each id m.0 at in let i : ℕ = module_word c in let x : ℕ = get_or s.words i 0 in let k-wide = k.wide in
-      let tells : (w : View B) → Claimed m.0 c x w → tried (step n i 0 1 none) m x (w, m.1) = λ w t. (refl, λ d ed. let same : c ≡ d = omega arith in subst (λ (z : ℕ). Claimed m.0 z x w) same t) in
+      let says : (w : View B) → Claimed m.0 c x w → tried (step n i 0 1 none) m x (w, m.1) = λ w t. (refl, λ d ed. let same : c ≡ d = omega arith in subst (λ (z : ℕ). Claimed m.0 z x w) same t) in
       dite (ℕ_discrete x 0)
       (λ free. let not-mine : ¬ Has m.0.claimed c = λ had. absurd (omega (arith, (claimed_is s k id m.0 at c had).1)) in let w : View B = with_claimed m.0 c in let ws : List ℕ = set s.words i 1 in
       let here : get_or ws i 0 ≡ 1 = get_or-set_same s.words i 1 0 (omega arith) in
@@ -220,15 +220,15 @@ module _ (B V : Type 0) (fact : B → ℕ → V → Type 0) (b : B) (p : Loads) 
             fetches = λ e had. let q = g.fetches e had in (q.0, Has_more m.0.claimed c q.0 q.1, q.2);
             ends = λ d had. let q = g.ends d had in (Has_more m.0.claimed c d q.0, q.1);
             ends_once = g.ends_once;
-            told = g.told;
+            counts = g.counts;
             seen = g.seen;
             taken = g.taken;
           };
         }),
-        tells w (
+        says w (
           (λ _. (
             refl,
-            (λ had. absurd (omega (arith, all_claimed s k (g.told (length p) (subst (λ (q : Loads). Has m.0.told (length q)) g.plan had)) c h))),
+            (λ had. absurd (omega (arith, all_claimed s k (g.counts (length p) (subst (λ (q : Loads). Has m.0.counts (length q)) g.plan had)) c h))),
             (
               not-mine,
               (λ had. not-mine (g.ends c had).0),
@@ -244,8 +244,8 @@ module _ (B V : Type 0) (fact : B → ℕ → V → Type 0) (b : B) (p : Loads) 
         keeps,
         tt,
         subst (λ z. RuleHolds fact b p seats (stepped s i (either z 1 x) id m.1 w keeps)) (sym (ne_eqb x 0 lost)) (stays s k i id m.1 m.0 w at (λ d. refl) (λ d. refl) (λ d. refl) (λ d. refl) refl refl
-            (noted s.words m.0 w.seen w.missed w.taken w.told g g.told g.seen (along (λ z. (z < length p) × (get_or s.words (module_word z) 0 ≡ 1)) m.0.taken c g.taken (h, one)))),
-        tells w ((λ yes. absurd (lost yes)), λ _. refl),
+            (noted s.words m.0 w.seen w.missed w.taken w.counts g g.counts g.seen (along (λ z. (z < length p) × (get_or s.words (module_word z) 0 ≡ 1)) m.0.taken c g.taken (h, one)))),
+        says w ((λ yes. absurd (lost yes)), λ _. refl),
       ))
 
   -- two seats that claimed one module are one seat
@@ -315,7 +315,7 @@ module _ (B V : Type 0) (fact : B → ℕ → V → Type 0) (b : B) (p : Loads) 
               fetches = g.fetches;
               ends = g.ends;
               ends_once = g.ends_once;
-              told = g.told;
+              counts = g.counts;
               seen = g.seen;
               taken = g.taken;
             }),
@@ -347,7 +347,7 @@ module _ (B V : Type 0) (fact : B → ℕ → V → Type 0) (b : B) (p : Loads) 
               fetches = g.fetches;
               ends = λ d y. let q = g.ends d y in (q.0, λ d' l is. Has_more v.posted e d' (q.1 d' l is));
               ends_once = g.ends_once;
-              told = g.told;
+              counts = g.counts;
               seen = g.seen;
               taken = g.taken;
             }),
@@ -378,7 +378,7 @@ module _ (B V : Type 0) (fact : B → ℕ → V → Type 0) (b : B) (p : Loads) 
               fetches = along (λ z. (q : ℕ) × Has m.0.claimed q × Into p q z) m.0.fetched e g.fetches (t, owns, into);
               ends = g.ends;
               ends_once = g.ends_once;
-              told = g.told;
+              counts = g.counts;
               seen = g.seen;
               taken = g.taken;
             }),
@@ -418,7 +418,7 @@ module _ (B V : Type 0) (fact : B → ℕ → V → Type 0) (b : B) (p : Loads) 
             ends_once = λ z. dite (ℕ_discrete z c)
                 (λ is. subst (λ (d : ℕ). times d w.finished ≤ 1) (sym is) (let t = times_same c m.0.finished in omega arith))
                 (λ ne. let t = times_other z m.0.finished c (λ d. ne (sym d)) in let o = g.ends_once z in omega arith);
-            told = g.told;
+            counts = g.counts;
             seen = g.seen;
             taken = g.taken;
           };
@@ -428,12 +428,12 @@ module _ (B V : Type 0) (fact : B → ℕ → V → Type 0) (b : B) (p : Loads) 
 
   -- the load of the count
   pub counts : (n id : ℕ) (m : Sat) → Allows (RuleHolds fact b p seats) n id m 0 (λ y. y) (counted (step n 0 0 0 none) m)
-  counts n id m s k _ at _ = let g = k.each id m.0 at in let x : ℕ = get_or s.words 0 0 in let w : View B = with_told m.0 x in (
+  counts n id m s k _ at _ = let g = k.each id m.0 at in let x : ℕ = get_or s.words 0 0 in let w : View B = with_count m.0 x in (
     w,
     keeps,
     tt,
-    stays s k 0 id m.1 m.0 w at (λ d. refl) (λ d. refl) (λ d. refl) (λ d. refl) refl refl (noted s.words m.0 w.seen w.missed w.taken w.told g (along (λ z. z ≤ x) m.0.told x g.told (omega arith)) g.seen g.taken),
-    (refl, (refl, (let t = term_le (λ v. length v.finished) s.views id m.0 at in let q = k.done in omega arith), g.told, omega (arith, done_le s k, ap (λ (q : Loads). length q) g.plan))),
+    stays s k 0 id m.1 m.0 w at (λ d. refl) (λ d. refl) (λ d. refl) (λ d. refl) refl refl (noted s.words m.0 w.seen w.missed w.taken w.counts g (along (λ z. z ≤ x) m.0.counts x g.counts (omega arith)) g.seen g.taken),
+    (refl, (refl, (let t = term_le (λ v. length v.finished) s.views id m.0 at in let q = k.done in omega arith), g.counts, omega (arith, done_le s k, ap (λ (q : Loads). length q) g.plan))),
   )
 
   fresh : (ws : List ℕ) (spare : ℕ) → ViewHolds b p ws (blank_with b p spare)
@@ -446,14 +446,14 @@ module _ (B V : Type 0) (fact : B → ℕ → V → Type 0) (b : B) (p : Loads) 
     fetches = λ e h. absurd (omega arith);
     ends = λ m h. absurd (omega arith);
     ends_once = λ m. omega arith;
-    told = λ n h. absurd (omega arith);
+    counts = λ n h. absurd (omega arith);
     seen = λ e h. absurd (omega arith);
     taken = λ m h. absurd (omega arith);
   }
 
   -- one seat less may be cut from a view
   less_spare : (ws : List ℕ) (v : View B) (spare : ℕ) → ViewHolds b p ws v → ViewHolds b p ws (record v { spare = spare })
-  less_spare ws v spare g = record { base = g.base; plan = g.plan; claims = g.claims; opens = g.opens; posts = g.posts; fetches = g.fetches; ends = g.ends; ends_once = g.ends_once; told = g.told; seen = g.seen; taken = g.taken }
+  less_spare ws v spare g = record { base = g.base; plan = g.plan; claims = g.claims; opens = g.opens; posts = g.posts; fetches = g.fetches; ends = g.ends; ends_once = g.ends_once; counts = g.counts; seen = g.seen; taken = g.taken }
 
   -- one more seat, which knows nothing yet
   pub splits : (id : ℕ) (v : View B) → v.base ≡ b → v.plan ≡ p → 0 < v.spare → Splits (RuleHolds fact b p seats) id v (record v { spare = v.spare - 1 }) (blank v.base v.plan)

@@ -14,7 +14,7 @@ items r = r.items
 pub row_is : (vs : List (Vec ℕ Global)) (k : ℕ) (v : Vec ℕ Global) → k < length vs → v ≡ get_or vs k v → row (lists vs) k ≡ v.items
 row_is vs k v h read = get_or-map items vs k v [] h ∙ ap items (sym read)
 
--- what stands in the first i + 1 entries stands in the first i, or is the entry at i
+-- what is in the first i + 1 entries is in the first i, or is the entry at i
 pub Has_take_more : (xs : List ℕ) (i x : ℕ) → i < length xs → Has (take (i + 1) xs) x → Has (take i xs) x ⊎ (get_or xs i 0 ≡ x)
 Has_take_more xs i x h k = Has_snoc (take i xs) (get_or xs i 0) x (omega (arith, times_take_more xs i x h))
 

@@ -1,4 +1,4 @@
--- Sums over lists that change at one place, and how often a number stands in a list.
+-- Sums over lists that change at one place, and how often a number occurs in a list.
 use Rattle.std.proofs.Common.{◌≡◌, ℕ, zero, suc, ◌+◌, ◌<◌, ◌≤◌, ◌≢◌, ◌⊎◌, List, [], ◌∷◌, ◌++◌, length, set, sym, refl, ap, ◌∙◌, inl, inr, arith, cond, eqb, eq-eqb, ne_eqb}
 use mathlib.Core.Logic.{dite}
 use native.Mathlib.Decide.{ℕ_discrete}
@@ -68,11 +68,11 @@ times_other x ys y n = omega (arith, times_more x ys y, at_other x y n)
 pub Has_more : (ys : List ℕ) (y x : ℕ) → Has ys x → Has (ys ++ y ∷ []) x
 Has_more ys y x h = omega (arith, times_more x ys y)
 
--- what stands in the longer list stood in the shorter, or is the new number
+-- what is in the longer list was in the shorter, or is the new number
 pub Has_snoc : (ys : List ℕ) (y x : ℕ) → Has (ys ++ y ∷ []) x → Has ys x ⊎ (y ≡ x)
 Has_snoc ys y x h = dite (ℕ_discrete y x) (λ e. inr e) (λ n. inl (omega (arith, times_other x ys y n)))
 
--- double counting: a list of numbers below n is as long as the numbers below n stand in it
+-- double counting: a list of numbers below n is as long as the numbers below n occur in it
 pub below_zero : (f : ℕ → ℕ) (n : ℕ) → ((k : ℕ) → k < n → f k ≡ 0) → below f n ≡ 0
 below_zero f zero h = refl
 below_zero f (suc n) h = omega (arith, h n (omega arith), below_zero f n (λ k l. h k (omega arith)))

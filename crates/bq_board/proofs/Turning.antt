@@ -32,7 +32,7 @@ head_in x xs = omega (arith, at_same x x refl)
 tail_in : (x : ℕ) (xs : List ℕ) (l : ℕ) → Has xs l → Has (x ∷ xs) l
 tail_in x xs l h = omega arith
 
--- where each stands at most once, no more are closed than there are
+-- where each occurs at most once, no more are closed than there are
 pub closed_le : (ms xs : List ℕ) → ((l : ℕ) → Has xs l → times l ms ≤ 1) → closed ms xs ≤ length xs
 closed_le ms [] h = omega arith
 closed_le ms (x ∷ xs) h = omega (arith, h x (head_in x xs), closed_le ms xs (λ l k. h l (tail_in x xs l k)))

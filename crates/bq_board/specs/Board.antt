@@ -1,5 +1,5 @@
 -- The board's words, slots and views, and the rule over them.
--- Word 0 counts the finished modules. Then comes a word for each module, then a word for each edge. Each edge has a slot, at home or out with a seat.
+-- Word 0 counts the finished modules. Then comes a word for each module, then a word for each edge. Each edge has a slot, which is with the board or with a seat.
 use Rattle.std.specs.Prelude.{◌≡◌, ℕ, ◌+◌, ◌*◌, ◌<◌, ◌≤◌, List, [], length, slice_index, Option, Some, None}
 use lib.ListN.{get_elem?}
 use mathlib.Core.Option.{none, some}
@@ -28,7 +28,7 @@ Phase w opened posted fetched = (w + 2 * posted ≡ 3 * opened + fetched) × (fe
 module _ {B : Type 0} where
   -- the view of a seat that has done nothing, and from which some more may be cut
   abbrev pub blank_with : B → Loads → ℕ → View B
-  blank_with b p spare = record { of = record {}; base = b; plan = p; seen = []; missed = []; opened = []; posted = []; fetched = []; claimed = []; taken = []; finished = []; told = []; spare = spare }
+  blank_with b p spare = record { of = record {}; base = b; plan = p; seen = []; missed = []; opened = []; posted = []; fetched = []; claimed = []; taken = []; finished = []; counts = []; spare = spare }
 
   -- and from which none may be cut
   abbrev pub blank : B → Loads → View B
@@ -44,7 +44,7 @@ module _ {B : Type 0} where
     pub fetches : (e : ℕ) → Has v.fetched e → (m : ℕ) × Has v.claimed m × Into p m e
     pub ends : (m : ℕ) → Has v.finished m → Has v.claimed m × ((e : ℕ) → e < edges p → source p e ≡ m → Has v.posted e)
     pub ends_once : (m : ℕ) → times m v.finished ≤ 1
-    pub told : (n : ℕ) → Has v.told n → n ≤ slice_index ws 0
+    pub counts : (n : ℕ) → Has v.counts n → n ≤ slice_index ws 0
     pub seen : (e : ℕ) → Has v.seen e → (e < edges p) × Posted (slice_index ws (edge_word p e))
     pub taken : (m : ℕ) → Has v.taken m → (m < length p) × (slice_index ws (module_word m) ≡ 1)
 

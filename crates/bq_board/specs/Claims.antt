@@ -13,9 +13,9 @@ module _ {B : Type 0} where
   Saw v w = (es : List ℕ) × (w ≡ record v { seen = v.seen ++ es })
 
   abbrev pub Answers : View B → ℕ → View B → Claim → View B → Type 0
-  Answers v m u Won w = (w ≡ with_claimed u m) × Fed u m × ¬ Has v.told (length v.plan) × IsNew u m
+  Answers v m u Won w = (w ≡ with_claimed u m) × Fed u m × ¬ Has v.counts (length v.plan) × IsNew u m
   Answers v m u Taken w = w ≡ with_taken u m
-  Answers v m u (Waiting e) w = (w ≡ with_missed u e) × Into v.plan m e × ¬ Has u.seen e × ¬ Has v.posted e × ¬ Has v.told (length v.plan)
+  Answers v m u (Waiting e) w = (w ≡ with_missed u e) × Into v.plan m e × ¬ Has u.seen e × ¬ Has v.posted e × ¬ Has v.counts (length v.plan)
 
   abbrev pub Answered : View B → ℕ → Claim → View B → Type 0
   Answered v m r w = (u : View B) × Saw v u × Answers v m u r w

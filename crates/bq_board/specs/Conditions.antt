@@ -1,5 +1,6 @@
--- What the tests know of a seat between its calls: what it still may and must do for the modules that it won.
-use Rattle.std.specs.Prelude.{◌≡◌, ◌≢◌, ℕ}
+-- The conditions of `fetch`, `post` and `finish`, from call to call: what a seat still may do, and must do, for the modules that it won.
+-- A worker that claims a module, fetches all edges into it, posts all edges out of it and finishes it meets them by the lemmas of proofs/Conditions.antt.
+use Rattle.std.specs.Prelude.{◌≡◌, ◌≢◌, ℕ, ◌≤◌, ◌⊎◌, List, take}
 use Rattle.bq_board.specs.Counts.{Has}
 use Rattle.bq_board.specs.Graph.{Loads}
 use Rattle.bq_board.specs.Plan.{source, Into}
@@ -8,13 +9,13 @@ use Rattle.bq_board.specs.declared.claim.Claim.{Claim}
 use Rattle.bq_board.specs.declared.claim.Claim.TheVariants.{Won, Taken, Waiting}
 
 module _ {B : Type 0} (p : Loads) where
-  -- m was won, and none of its edges out is posted yet
+  -- the seat won m, and has posted no edge out of it and not finished it
   pub record Owes (v : View B) (m : ℕ) : Type 0 where
     pub claimed : Has v.claimed m
     pub finished : ¬ Has v.finished m
     pub posted : (e : ℕ) → source p e ≡ m → ¬ Has v.posted e
 
-  -- and none of its edges in is fetched yet
+  -- and has fetched no edge into it
   pub record Holds (v : View B) (m : ℕ) : Type 0 where
     pub owes : Owes v m
     pub fetched : (e : ℕ) → Into p m e → ¬ Has v.fetched e
@@ -34,3 +35,15 @@ module _ {B : Type 0} (p : Loads) where
   HoldsIfWon w m Won = Holds w m
   HoldsIfWon w m Taken = Unit {0}
   HoldsIfWon w m (Waiting e) = Unit {0}
+
+  -- from v to u, edges into m were fetched: none from e on, and no others
+  pub record Collects (v : View B) (m e : ℕ) (u : View B) : Type 0 where
+    pub view : u ≡ record v { fetched = u.fetched }
+    pub rest : (d : ℕ) → Into p m d → e ≤ d → ¬ Has u.fetched d
+    pub fresh : (d : ℕ) → Has u.fetched d → Has v.fetched d ⊎ Into p m d
+
+-- from v to u, the first i edges of es were posted, and no others
+pub record Delivers {B : Type 0} (v : View B) (es : List ℕ) (i : ℕ) (u : View B) : Type 0 where
+  pub view : u ≡ record v { opened = u.opened; posted = u.posted }
+  pub all : (d : ℕ) → Has (take i es) d → Has u.posted d
+  pub fresh : (d : ℕ) → Has u.posted d → Has v.posted d ⊎ Has (take i es) d

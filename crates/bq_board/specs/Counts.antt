@@ -1,4 +1,4 @@
--- How often a number stands in a list, and a sum over a list.
+-- How often a number occurs in a list, and a sum over a list.
 use Rattle.std.specs.Prelude.{ℕ, zero, suc, ◌+◌, ◌<◌, ◌==◌, cond, List, [], ◌∷◌}
 
 abbrev pub total : {A : Type 0} → (A → ℕ) → List A → ℕ

@@ -22,11 +22,11 @@ module _ {B V : Type 0} where
   abbrev pub EachView : State (Option V) (View B) → (View B → Type 0) → Type 0
   EachView s says = (j : ℕ) (v : View B) → get_elem? s.views j ≡ some v → says v
 
-  -- x stands in this list of some seat's view
+  -- x is in this list of some seat's view
   abbrev pub SomeDid : State (Option V) (View B) → (View B → List ℕ) → ℕ → Type 0
   SomeDid s did x = (j : ℕ) × (v : View B) × (get_elem? s.views j ≡ some v) × Has (did v) x
 
-  -- it stands at most once in these lists of all views
+  -- it occurs at most once in these lists of all views
   abbrev pub Once : State (Option V) (View B) → (View B → List ℕ) → ℕ → Type 0
   Once s did x = total (λ v. times x (did v)) s.views ≤ 1
 
@@ -58,7 +58,7 @@ module _ {B V : Type 0} where
   abbrev pub DoneLaw : Law B V
   DoneLaw fact b p seats s = (slice_index s.words 0 ≡ total (λ v. length v.finished) s.views)
       × (slice_index s.words 0 ≤ length p)
-      × EachView s (λ v. (n : ℕ) → Has v.told n → n ≤ slice_index s.words 0)
+      × EachView s (λ v. (n : ℕ) → Has v.counts n → n ≤ slice_index s.words 0)
 
   abbrev pub SlotLaw : Law B V
   SlotLaw fact b p seats s = (e : ℕ) → e < edges p →

@@ -5,6 +5,7 @@ pub mod Refusal
 pub mod Topological
 pub mod Sorting
 pub mod Plan
+pub mod Cut
 pub mod Board
 pub mod Steps
 pub mod Claims

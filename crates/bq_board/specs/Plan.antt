@@ -24,6 +24,11 @@ pub record HasStarts (p : Loads) (starts : List ℕ) : Type 0 where
   pub wide : length starts ≡ length p + 1
   pub at : (m : ℕ) → m ≤ length p → slice_index starts m ≡ start p m
 
+-- for each edge the module that it runs into
+pub record HasTargets (p : Loads) (targets : List ℕ) : Type 0 where
+  pub wide : length targets ≡ edges p
+  pub at : (e : ℕ) → e < edges p → (slice_index targets e < length p) × Into p (slice_index targets e) e
+
 -- for each of n modules the edges out of it, of the edges with these sources
 pub record OutsOf (srcs : List ℕ) (n : ℕ) (outs : Loads) : Type 0 where
   pub wide : length outs ≡ n
@@ -46,6 +51,15 @@ pub record StartsBelow (p : Loads) (k end : ℕ) (starts : List ℕ) : Type 0 wh
   pub wide : length starts ≡ k + 1
   pub at : (m : ℕ) → m ≤ k → slice_index starts m ≡ start p m
   pub ends : end ≡ start p k
+
+-- the targets of the edges into the first k modules
+pub record TargetsBelow (p : Loads) (k : ℕ) (targets : List ℕ) : Type 0 where
+  pub wide : length targets ≡ start p k
+  pub at : (e : ℕ) → e < start p k → (slice_index targets e < k) × Into p (slice_index targets e) e
+
+-- the edges into m are as many as m's loads, and the next module's come right after them
+abbrev pub StartsAreSums : Loads → Type 0
+StartsAreSums p = (start p 0 ≡ 0) × ((m : ℕ) → m < length p → start p (m + 1) ≡ start p m + length (row p m)) × (start p (length p) ≡ edges p)
 
 -- the edge at place k of m's row
 abbrev pub edge_at : Loads → ℕ → ℕ → ℕ

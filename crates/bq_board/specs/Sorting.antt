@@ -5,11 +5,11 @@ use Rattle.bq_board.specs.Counts.{total, times, Has}
 use Rattle.bq_board.specs.Graph.{Loads, row}
 use Rattle.bq_board.specs.Topological.{is_zero}
 
--- how many entries of a row stand in ms
+-- how many entries of a row are in ms
 abbrev pub closed : List ℕ → List ℕ → ℕ
 closed ms xs = total (λ l. times l ms) xs
 
--- for each module, as often as it stands there, the modules that load it
+-- for each module, as often as they load it, the modules that load it
 pub record IsDependents (p : Loads) (dependents : List (List ℕ)) : Type 0 where
   pub wide : length dependents ≡ length p
   pub known : (m u : ℕ) → Has (get_or dependents m []) u → u < length p

@@ -1,4 +1,4 @@
--- What each step tells its seat: how its view changes, and which slot comes or goes.
+-- What each step means to its seat: how its view changes, and which slot comes or goes.
 use Rattle.std.specs.Prelude.{◌≡◌, ◌≢◌, ℕ, ◌≤◌, [], ◌∷◌, ◌++◌, length, Option, Some, None}
 use Rattle.atomic_table.specs.Table.{Me, Step, rest}
 use Rattle.bq_board.specs.Counts.{Has}
@@ -31,16 +31,16 @@ module _ {B : Type 0} where
   abbrev pub with_finished : View B → ℕ → View B
   with_finished v m = record v { finished = v.finished ++ m ∷ [] }
 
-  abbrev pub with_told : View B → ℕ → View B
-  with_told v n = record v { told = v.told ++ n ∷ [] }
+  abbrev pub with_count : View B → ℕ → View B
+  with_count v n = record v { counts = v.counts ++ n ∷ [] }
 
   -- all edges into m are seen or posted
   abbrev pub Fed : View B → ℕ → Type 0
   Fed v m = (e : ℕ) → Into v.plan m e → Has (v.seen ++ v.posted) e
 
-  -- the edge that was looked at was posted; or it was missed, is none that this view knows as posted, and not all modules were finished
+  -- the edge that was looked at was posted; or it was missed, isn't one that this view knows as posted, and not all modules were finished
   abbrev pub Looked : View B → ℕ → ℕ → View B → Type 0
-  Looked v e r w = (Posted r → w ≡ with_seen v e) × (¬ Posted r → (w ≡ with_missed v e) × ¬ Has v.seen e × ¬ Has v.posted e × ¬ Has v.told (length v.plan))
+  Looked v e r w = (Posted r → w ≡ with_seen v e) × (¬ Posted r → (w ≡ with_missed v e) × ¬ Has v.seen e × ¬ Has v.posted e × ¬ Has v.counts (length v.plan))
 
   -- the view has done nothing for m yet
   abbrev pub IsNew : View B → ℕ → Type 0
@@ -48,13 +48,13 @@ module _ {B : Type 0} where
 
   -- the exchange found the module free: it is this view's, and not all modules were finished; or it found it claimed
   abbrev pub Claimed : View B → ℕ → ℕ → View B → Type 0
-  Claimed v m r w = (r ≡ 0 → (w ≡ with_claimed v m) × ¬ Has v.told (length v.plan) × IsNew v m) × (r ≢ 0 → w ≡ with_taken v m)
+  Claimed v m r w = (r ≡ 0 → (w ≡ with_claimed v m) × ¬ Has v.counts (length v.plan) × IsNew v m) × (r ≢ 0 → w ≡ with_taken v m)
 
-  -- the number found: at least each one told before and as many as this view finished, and at most the number of modules
-  abbrev pub Told : View B → ℕ → View B → Type 0
-  Told v r w = (w ≡ with_told v r) × (length v.finished ≤ r) × ((n : ℕ) → Has v.told n → n ≤ r) × (r ≤ length v.plan)
+  -- the number found: at least each one found before and as many as this view finished, and at most the number of modules
+  abbrev pub Counted : View B → ℕ → View B → Type 0
+  Counted v r w = (w ≡ with_count v r) × (length v.finished ≤ r) × ((n : ℕ) → Has v.counts n → n ≤ r) × (r ≤ length v.plan)
 
--- Of the step, the seat before, the number found and the seat after. A step on a word of another kind tells nothing
+-- Of the step, the seat before, the number found and the seat after. A step on a word of another kind says nothing
 abbrev pub Play : Type 0 → Type 0 → Type 1
 Play B V = Step (Option V) → Me (Option V) (View B) → ℕ → Me (Option V) (View B) → Type 0
 
@@ -71,7 +71,7 @@ module _ {B V : Type 0} where
   abbrev pub opened : Play B V
   opened st m r n = (e : ℕ) → st.word ≡ edge_word m.0.plan e → n ≡ (with_opened m.0 e, (e, None) ∷ m.1)
 
-  -- the filled slot goes home
+  -- the filled slot goes back to the board
   abbrev pub posted : Play B V
   posted st m r n = (e : ℕ) → st.word ≡ edge_word m.0.plan e → n ≡ (with_posted m.0 e, rest m.1)
 
@@ -85,4 +85,4 @@ module _ {B V : Type 0} where
 
   -- the load of the count
   abbrev pub counted : Play B V
-  counted st m r n = (n.1 ≡ m.1) × Told m.0 r n.0
+  counted st m r n = (n.1 ≡ m.1) × Counted m.0 r n.0

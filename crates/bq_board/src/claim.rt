@@ -23,8 +23,8 @@ impl<V: Parcel> Board<V> {
     /// Claims module `m`, where all edges into it are posted and no seat has it.
     ///
     /// `Won`: a module that is new to this seat, at a step at which no seat had it, with all edges into it posted.
-    /// `Taken`: at a step of this call a seat had it. It is the answer once `done` has told the number of modules.
-    /// `Waiting(edge)`: that edge into `m` wasn't posted at a step of this call. It is none that this seat posted or saw posted.
+    /// `Taken`: at a step of this call a seat had it. It is the answer once `done` has returned the number of modules to this seat.
+    /// `Waiting(edge)`: that edge into `m` wasn't posted at a step of this call. This seat has neither posted it nor seen it posted.
     pub fn claim(&self, seat: &mut Seat<V>, m: usize) -> Claim
         requires seat { IsSeatOf self.now seat.old }
         requires module { m < length self.now.plan }

@@ -24,7 +24,7 @@ impl<V: Parcel> Board<V> {
         self.finish_as::<Brand>(seat, m);
     }
 
-    // The step tells its module by a type parameter, since the count doesn't name it.
+    // The step names its module by a type parameter, since the count doesn't.
     fn finish_as<M: Numbered>(&self, seat: &mut Seat<V>, _m: usize)
         requires seat { IsSeatOf self.now seat.old }
         requires number { _m ≡ M.number }

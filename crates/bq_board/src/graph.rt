@@ -46,6 +46,14 @@ impl Graph {
         Ok(Graph { rows })
     }
 
+    // The graph of rows that make one.
+    pub(crate) fn from_rows(rows: Vec<Vec<u32>>) -> Graph
+        requires { IsGraph (lists rows.items) }
+        ensures { result ≡ lists rows.items }
+    {
+        Graph { rows }
+    }
+
     /// The number of modules.
     pub fn len(&self) -> usize
         ensures len { result ≡ length self.now }

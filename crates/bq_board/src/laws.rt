@@ -26,12 +26,12 @@ pub fn owner_law<V: Parcel>()
     ensures { ByRule V.belongs OwnerLaw }
 {}
 
-/// The count of finished modules is how many all seats finished, and no seat was told more.
+/// The count of finished modules is how many all seats finished, and `done` returned no more to any seat.
 pub fn done_law<V: Parcel>()
     ensures { ByRule V.belongs DoneLaw }
 {}
 
-/// An edge's slot is at home and empty while its word is 0, out with a seat at 3 and 2, and at 1 at home with a parcel that belongs to the edge's source.
+/// An edge's slot is with the board and empty while its word is 0, with a seat at 3 and 2, and at 1 with the board and filled by a parcel that belongs to the edge's source.
 pub fn slot_law<V: Parcel>()
     ensures { ByRule V.belongs SlotLaw }
 {}

@@ -1,8 +1,9 @@
 //! Plans: load graphs without cyclic modules, with their edges numbered.
-ghost use Rattle.std.specs.Prelude.{◌≡◌, ℕ, ◌+◌, ◌<◌, ◌≤◌, ◌^◌, List, length, vec_len, IfOk, OnOk, IfErr};
+ghost use Rattle.std.specs.Prelude.{◌≡◌, ℕ, ◌+◌, ◌<◌, ◌≤◌, ◌^◌, ◌++◌, List, length, replicate, vec_len, IfOk, OnOk, IfErr};
 ghost use Rattle.bq_board.specs.Counts.{Has};
+ghost use Rattle.bq_board.specs.Cycles.{IsAcyclic};
 ghost use Rattle.bq_board.specs.Graph.{Loads, sources, edges, lists};
-ghost use Rattle.bq_board.specs.Plan.{start, IsPlan, HasStarts, OutsOf, IsOut, AddsOuts, EdgesAreLoads};
+ghost use Rattle.bq_board.specs.Plan.{start, Into, IsPlan, HasStarts, HasTargets, OutsOf, IsOut, AddsOuts, EdgesAreLoads, StartsAreSums};
 ghost use Rattle.bq_board.specs.Refusal.{Refused};
 
 use crate::graph::{Graph, empty_rows};
@@ -15,6 +16,7 @@ use std::marker::Model;
 pub struct Plan {
     graph: Graph,
     starts: Vec<usize>,
+    targets: Vec<u32>,
     outs: Vec<Vec<u32>>,
 }
 
@@ -23,14 +25,14 @@ impl Model for Plan {
 
     ghost view = { λ p. p.graph };
 
-    ghost invariant = { λ p. IsPlan p.graph × HasStarts p.graph p.starts.items
+    ghost invariant = { λ p. IsPlan p.graph × HasStarts p.graph p.starts.items × HasTargets p.graph p.targets.items
         × OutsOf (sources p.graph) (length p.graph) (lists p.outs.items) };
 }
 
 impl Plan {
     /// The plan in which module `m` loads the modules `loads[m]`, in this order. The empty list is a plan.
     /// Edges are numbered by `m`, then by place; an edge's source is the loaded module, its target is `m`.
-    /// P3 for too many modules or edges, then P2 for a loaded module that isn't there, then P1 for a cyclic module; P4 for want of memory.
+    /// P3 for too many modules or edges, then P2 for a loaded module that isn't there, then P1 for a cyclic module; P4 where it is out of memory.
     /// It takes time linear in modules and edges.
     pub fn new(alloc: Global, loads: Vec<Vec<u32>>) -> Result<Plan, PlanErr>
         ensures plan { IfOk result (λ p. p ≡ lists loads.items) }
@@ -41,11 +43,21 @@ impl Plan {
         if !graph.is_acyclic(alloc)? {
             return Err(PlanErr::Cyclic);
         }
+        Ok(Plan::of(alloc, graph)?)
+    }
+
+    // The plan of a graph without cyclic modules.
+    pub(crate) fn of(alloc: Global, graph: Graph) -> Result<Plan, AllocError>
+        requires { IsAcyclic graph }
+        ensures { IfOk result (λ p. p ≡ graph) }
+    {
         let starts = starts(alloc, &graph)?;
+        let targets = targets(alloc, &graph)?;
         let outs = outs(alloc, &graph)?;
         Ok(Plan {
             graph,
             starts,
+            targets,
             outs,
         })
     }
@@ -76,6 +88,16 @@ impl Plan {
         self.starts[m]
     }
 
+    /// The module that an edge runs into: one that loads the edge's source.
+    pub fn target(&self, edge: usize) -> usize
+        requires { edge < edges self.now }
+        ensures into { Into self.now result edge }
+        ensures within { result < length self.now }
+        ensures valid { IsPlan self.now }
+    {
+        self.targets[edge] as usize
+    }
+
     /// The numbers of the edges out of module `m`: those into the modules that load it.
     pub fn edges_out(&self, m: usize) -> &[u32]
         requires { m < length self.now }
@@ -90,6 +112,11 @@ pub fn edges_are_loads()
     ensures { (p : Loads) → EdgesAreLoads p }
 {}
 
+/// The edges into a module are as many as its loads, and those into the next module come right after them.
+pub fn starts_are_sums()
+    ensures { (p : Loads) → StartsAreSums p }
+{}
+
 // Where the edges into each module begin, and at last the number of edges.
 fn starts(alloc: Global, graph: &Graph) -> Result<Vec<usize>, AllocError>
     ensures { IfOk result (λ v. HasStarts graph.now v.items) }
@@ -102,6 +129,26 @@ fn starts(alloc: Global, graph: &Graph) -> Result<Vec<usize>, AllocError>
         starts.push(next)?;
     }
     Ok(starts)
+}
+
+// For each edge the module that it runs into.
+fn targets(alloc: Global, graph: &Graph) -> Result<Vec<u32>, AllocError>
+    ensures { IfOk result (λ v. HasTargets graph.now v.items) }
+{
+    let mut targets = Vec::new(alloc);
+    for m in 0..graph.len() {
+        push_times(&mut targets, m as u32, graph.row(m).len())?;
+    }
+    Ok(targets)
+}
+
+fn push_times(targets: &mut Vec<u32>, m: u32, count: usize) -> Result<(), AllocError>
+    ensures { OnOk result (targets.new.items ≡ targets.old.items ++ replicate count m) }
+{
+    for _ in 0..count {
+        targets.push(m)?;
+    }
+    Ok(())
 }
 
 // For each module the edges out of it.

@@ -1,13 +1,13 @@
 use std::alloc::AllocError;
 use thiserror::Error;
 
-/// Why loads make no plan. The first that applies of `TooMany`, `BadIndex`, `Cyclic`; `Memory` where a growth was refused.
+/// Why loads make no plan. The first that applies of `TooMany`, `BadIndex`, `Cyclic`; `Memory` where memory ran out.
 #[derive(Debug, Drop, Error)]
 pub enum PlanErr {
     /// A module is cyclic: loads lead from it round a cycle.
     #[error("P1 Cyclic")]
     Cyclic,
-    /// A loaded module is none of the plan's.
+    /// A loaded module isn't one of the plan's.
     #[error("P2 BadIndex")]
     BadIndex,
     /// More than 4,096 modules or 65,536 edges.

@@ -1,4 +1,4 @@
-//! The seven kinds of step on the board's table, and the cut of a seat: what each tells its seat.
+//! The seven kinds of step on the board's table, and the cut of a seat: what each means to its seat.
 ghost use Rattle.std.specs.Prelude.{ℕ, ◌-◌};
 ghost use Rattle.bq_board.specs.Board.{blank};
 ghost use Rattle.bq_board.specs.Steps.{looked, tried, opened, posted, fetched, added, counted};
@@ -29,7 +29,7 @@ impl<V, B> Play<Option<V>, View<B>> for OpenEdge {
     ghost then = { opened };
 }
 
-/// An edge's word, 3 to 1: its filled slot goes home.
+/// An edge's word, 3 to 1: its filled slot goes back to the board.
 pub struct PostEdge;
 
 impl<V, B> Play<Option<V>, View<B>> for PostEdge {

@@ -46,7 +46,7 @@ impl Graph {
         Ok(order.pending.iter().all(|n| *n == 0))
     }
 
-    // For each module, as often as it stands there, the modules that load it.
+    // For each module, as often as they load it, the modules that load it.
     fn dependents(&self, alloc: Global) -> Result<Vec<Vec<u32>>, AllocError>
         ensures { IfOk result (λ v. IsDependents self.now (lists v.items)) }
     {
@@ -88,7 +88,11 @@ fn add_dependent(dependents: &mut Vec<Vec<u32>>, u: u32, loaded: &[u32]) -> Resu
 }
 
 // One pending load less for each dependent. Those that have none left join the order.
-fn settle(pending: &mut Vec<usize>, order: &mut Vec<u32>, dependents: &[u32]) -> Result<(), AllocError>
+fn settle(
+    pending: &mut Vec<usize>,
+    order: &mut Vec<u32>,
+    dependents: &[u32],
+) -> Result<(), AllocError>
     requires known { (u : ℕ) → Has dependents.now u → u < length pending.old.items }
     requires pending { (u : ℕ) → times u dependents.now ≤ get_or pending.old.items u 0 }
     ensures { OnOk result (Settles dependents.now pending.old.items pending.new.items order.old.items order.new.items) }

@@ -22,8 +22,8 @@ pub struct View<B> {
     pub ghost taken: { List ℕ },
     pub ghost finished: { List ℕ },
     // What `done` returned.
-    pub ghost told: { List ℕ },
-    // How many more seats may be cut from this one.
+    pub ghost counts: { List ℕ },
+    // How many more seats may be cut from this one: none, once the board is open.
     pub ghost spare: { ℕ },
 }
 

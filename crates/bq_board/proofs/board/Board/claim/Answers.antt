@@ -47,7 +47,7 @@ returns-then-not-is_posted-clause-answer g c =
         (omega (arith, from, low), omega (arith, to, high)),
         t.1,
         (λ had. t.2 (subst (λ x. Has x.posted c.loop-e.e) (sym saw.1) had)),
-        (λ had. t.3 (subst (λ x. Has x.told (length x.plan)) (sym saw.1) had)),
+        (λ had. t.3 (subst (λ x. Has x.counts (length x.plan)) (sym saw.1) had)),
       ),
     )
 
@@ -72,7 +72,7 @@ returns-then-found-eq0-clause-answer g c =
     let to : c.start-to.result ≡ start u.plan (c.args.m + 1) = c.start-to.ensures.number ∙ ap (λ (q : Loads). start q (c.args.m + 1)) (sym i.seat.plan) in
     let fed : Fed u c.args.m = fed_whole u c.args.m c.start-from.result c.start-to.result from to (λ d l h. i.fed d l (omega arith)) in
     let t = (c.compare_exchange-found.ensures.2.1 c.args.m refl).0 c.if-found-eq0.true in
-    (u, i.saw, (t.0, fed, (λ had. t.1 (subst (λ x. Has x.told (length x.plan)) (sym i.saw.1) had)), t.2))
+    (u, i.saw, (t.0, fed, (λ had. t.1 (subst (λ x. Has x.counts (length x.plan)) (sym i.saw.1) had)), t.2))
 
 pub returns-else-found-eq0-clause-seat : goal.returns-else-found-eq0-clause-seat
 returns-else-found-eq0-clause-seat g c = let t = (c.compare_exchange-found.ensures.2.1 c.args.m refl).1 c.if-found-eq0.false in

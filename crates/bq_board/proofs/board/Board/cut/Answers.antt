@@ -1,6 +1,4 @@
-use Rattle.std.proofs.Common.{◌≡◌, ◌-◌, ◌<◌, arith, ap, refl, sym, subst, ◌∙◌}
-use Rattle.bq_board.specs.Board.{blank_with}
-use Rattle.bq_board.proofs.Hands.{sits_still}
+use Rattle.std.proofs.Common.{◌<◌, arith, ap}
 use Rattle.bq_board.proofs.Keeps.{splits}
 use Rattle.bq_board.proofs.board.Board.cut.Goals as goal
 

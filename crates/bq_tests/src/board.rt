@@ -1,10 +1,11 @@
-//! Runs of the board on small plans by hand, and on a large one by four threads.
+//! The board on small plans by hand, and on large ones by four threads.
 ghost use Rattle.std.specs.Prelude.{◌≡◌, ◌<◌, ◌≤◌, length, vec_len, All, IfOk, IsTrue};
 ghost use Rattle.bq_board.specs.Seats.{IsSeatOf, base_of, view_of};
 ghost use Rattle.bq_board.specs.Conditions.{Owes, Holds, KeepsAll, KeepsOthers, HoldsIfWon};
 
-use crate::{Board, Claim, Parcel, Plan, PlanErr, Seat};
+use bq_board::{Board, Claim, MAX_SEATS, Parcel, Plan, PlanErr, Seat};
 use std::alloc::{AllocError, Global};
+use std::fmt::Write;
 use std::sync::atomic::{AtomicU64, Ordering};
 use std::test::Fail;
 use std::thread::{Threads, for_each_mut, join};
@@ -83,7 +84,7 @@ fn opened(
     seats: usize,
     base: u64,
 ) -> Result<(Board<Note>, Vec<Seat<Note>>), PlanErr>
-    requires { (0 < seats) × (seats ≤ 65) }
+    requires { (0 < seats) × (seats ≤ MAX_SEATS) }
     ensures count { IfOk result (λ r. vec_len r.1 ≡ seats) }
     ensures base { IfOk result (λ r. base_of r.0 ≡ base) }
     ensures seats { IfOk result (λ r. All (λ s. IsSeatOf r.0 s) r.1.items) }
@@ -213,18 +214,32 @@ fn a_seat_reads_what_another_wrote(rt: HostRuntime) -> Result<(), Fail> {
     Ok(())
 }
 
+/// How many modules and edges a plan has, or why the loads make none.
+fn verdict(alloc: Global, loads: Vec<Vec<u32>>) -> Result<String, Fail> {
+    let mut written = String::new(alloc);
+    match Plan::new(alloc, loads) {
+        Ok(plan) => write!(written, "{} modules, {} edges", plan.modules(), plan.edges())?,
+        Err(refused) => write!(written, "{refused}")?,
+    }
+    Ok(written)
+}
+
+const LOADS: [(&[&[u32]], &str); 7] = [
+    (&[], "0 modules, 0 edges"),
+    (&[&[1], &[]], "2 modules, 1 edges"),
+    (&[&[], &[0, 0], &[1]], "3 modules, 3 edges"),
+    (&[&[0]], "P1 Cyclic"),
+    (&[&[1], &[0]], "P1 Cyclic"),
+    (&[&[2], &[]], "P2 BadIndex"),
+    (&[&[1], &[0, 2]], "P2 BadIndex"),
+];
+
 #[test]
-fn invalid_loads_are_refused(rt: HostRuntime) -> Result<(), Fail> {
-    let alloc = rt.alloc();
-    let refusal = |loads: &[&[u32]]| -> Result<Option<PlanErr>, AllocError> {
-        Ok(Plan::new(alloc, rows(alloc, loads)?).err())
-    };
-    assert!(rt; matches!(refusal(&[])?, None));
-    assert!(rt; matches!(refusal(&[&[1], &[]])?, None));
-    assert!(rt; matches!(refusal(&[&[0]])?, Some(PlanErr::Cyclic)));
-    assert!(rt; matches!(refusal(&[&[1], &[0]])?, Some(PlanErr::Cyclic)));
-    assert!(rt; matches!(refusal(&[&[2], &[]])?, Some(PlanErr::BadIndex)));
-    assert!(rt; matches!(refusal(&[&[1], &[0, 2]])?, Some(PlanErr::BadIndex)));
+fn loads_make_a_plan_or_are_refused(rt: HostRuntime) -> Result<(), Fail> {
+    for (loads, wanted) in LOADS {
+        let found = verdict(rt.alloc(), rows(rt.alloc(), loads)?)?;
+        assert_eq!(rt; found.as_str(), wanted);
+    }
     Ok(())
 }
 
@@ -370,21 +385,13 @@ fn chain(alloc: Global, modules: u32, more: u32) -> Result<Vec<Vec<u32>>, AllocE
 #[test]
 fn limits_hold(rt: HostRuntime) -> Result<(), Fail> {
     let alloc = rt.alloc();
-    assert!(rt;
-        matches!(
-            Plan::new(alloc, chain(alloc, 4096, 17)?),
-            Err(PlanErr::TooMany)
-        )
-    );
-    assert!(rt;
-        matches!(
-            Plan::new(alloc, chain(alloc, 4097, 0)?),
-            Err(PlanErr::TooMany)
-        )
-    );
+    let wide = verdict(alloc, chain(alloc, 4096, 17)?)?;
+    assert_eq!(rt; wide.as_str(), "P3 TooMany");
+    let long = verdict(alloc, chain(alloc, 4097, 0)?)?;
+    assert_eq!(rt; long.as_str(), "P3 TooMany");
     let plan = Plan::new(alloc, chain(alloc, 4096, 16)?)?;
     assert!(rt; plan.edges() == 65_536);
-    let (board, mut seats) = Board::<Note>::open(alloc, plan, 65, &7)?;
+    let (board, mut seats) = Board::<Note>::open(alloc, plan, MAX_SEATS, &7)?;
     let mut seat = seats.pop().unwrap();
     assert!(rt; board.plan().modules() == 4096);
     assert!(rt; ask(&board, &mut seat, 4095) == Claim::Waiting(65_504));

@@ -3,9 +3,9 @@ use Rattle.std.proofs.lemmas.List.{take_all}
 use Rattle.bq_board.specs.Counts.{Has}
 use Rattle.bq_board.specs.Graph.{Loads}
 use Rattle.bq_board.specs.Plan.{IsOut}
-use Rattle.bq_board.proofs.Settling.{Has-get_or}
+use Rattle.bq_board.proofs.Lemmas.{Has-get_or}
 use Rattle.bq_board.proofs.Conditions.{delivers_none, not_yet_posted, delivers_more, delivers_all}
-use Rattle.bq_board.proofs.tests.deliver.Goals as goal
+use Rattle.bq_tests.proofs.board.deliver.Goals as goal
 
 pub loop-e-init : goal.loop-e-init
 loop-e-init c = record { seat = c.requires.seat; done = delivers_none c.args.board.now.plan _ _ }

@@ -2,7 +2,7 @@ use Rattle.std.proofs.Common.{◌≡◌, ◌+◌, arith, ap, ◌∙◌}
 use Rattle.bq_board.specs.Graph.{Loads}
 use Rattle.bq_board.specs.Plan.{start, Into}
 use Rattle.bq_board.proofs.Conditions.{collects_none, collects_more, collects_all}
-use Rattle.bq_board.proofs.tests.collect.Goals as goal
+use Rattle.bq_tests.proofs.board.collect.Goals as goal
 
 pub loop-e-init : goal.loop-e-init
 loop-e-init c = record { seat = c.requires.seat; done = collects_none c.args.board.now.plan _ c.args.m _ c.requires.holds }

@@ -1,6 +1,6 @@
 use Rattle.bq_board.specs.Seats.{IsSeatOf, view_of}
-use Rattle.bq_board.proofs.Conditions.{Collects}
-use Rattle.bq_board.proofs.tests.collect.Given as goal
+use Rattle.bq_board.specs.Conditions.{Collects}
+use Rattle.bq_tests.proofs.board.collect.Given as goal
 
 abbrev pub invariant-loop-e : goal.invariant-loop-e
 invariant-loop-e l = record {

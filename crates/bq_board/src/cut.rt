@@ -1,0 +1,46 @@
+//! The plan of a load graph: its cyclic modules load nothing in it.
+ghost use Rattle.std.specs.Prelude.{IfOk};
+ghost use Rattle.bq_board.specs.Cut.{IsCut, CutsToPlan};
+ghost use Rattle.bq_board.specs.Graph.{Loads, lists};
+ghost use Rattle.bq_board.specs.Topological.{MarksCycles};
+
+use crate::graph::{Graph, cyclic_is_a_path};
+use crate::plan::Plan;
+use crate::topological::Order;
+use std::alloc::{AllocError, Global};
+
+impl Plan {
+    /// The plan of a load graph without the loads of its cyclic modules. `order` is the graph's topological order.
+    pub fn cut(alloc: Global, graph: &Graph, order: &Order) -> Result<Plan, AllocError>
+        requires { MarksCycles graph.now order.now.pending.items }
+        ensures { IfOk result (λ p. IsCut graph.now p) }
+    {
+        let rows = cut_rows(alloc, graph, order)?;
+        let _ = graph.len(); // for the proof: the graph is valid
+        cut_is_plan();
+        Plan::of(alloc, Graph::from_rows(rows))
+    }
+}
+
+/// A load graph without the loads of its cyclic modules is a plan: `Plan::new` refuses it for no reason but memory.
+pub fn cut_is_plan()
+    ensures { (p q : Loads) → CutsToPlan p q }
+{
+    cyclic_is_a_path();
+}
+
+fn cut_rows(alloc: Global, graph: &Graph, order: &Order) -> Result<Vec<Vec<u32>>, AllocError>
+    requires { MarksCycles graph.now order.now.pending.items }
+    ensures { IfOk result (λ v. IsCut graph.now (lists v.items)) }
+{
+    let mut rows = Vec::new(alloc);
+    for m in 0..graph.len() {
+        let row = if order.pending[m] == 0 {
+            graph.row(m).to_vec(alloc)?
+        } else {
+            Vec::new(alloc)
+        };
+        rows.push(row)?;
+    }
+    Ok(rows)
+}
