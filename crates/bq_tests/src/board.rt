@@ -218,7 +218,12 @@ fn a_seat_reads_what_another_wrote(rt: HostRuntime) -> Result<(), Fail> {
 fn verdict(alloc: Global, loads: Vec<Vec<u32>>) -> Result<String, Fail> {
     let mut written = String::new(alloc);
     match Plan::new(alloc, loads) {
-        Ok(plan) => write!(written, "{} modules, {} edges", plan.modules(), plan.edges())?,
+        Ok(plan) => write!(
+            written,
+            "{} modules, {} edges",
+            plan.modules(),
+            plan.edges()
+        )?,
         Err(refused) => write!(written, "{refused}")?,
     }
     Ok(written)
