@@ -8,6 +8,7 @@ pub mod Settling
 pub mod Turning
 pub mod Beginning
 pub mod Paths
+pub mod Going
 pub mod Rows
 pub mod Targets
 pub mod Outs

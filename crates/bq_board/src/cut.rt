@@ -4,7 +4,8 @@ ghost use Rattle.bq_board.specs.Cut.{IsCut, CutsToPlan};
 ghost use Rattle.bq_board.specs.Graph.{Loads, lists};
 ghost use Rattle.bq_board.specs.Topological.{MarksCycles};
 
-use crate::graph::{Graph, cyclic_is_a_path};
+use crate::cycles::cyclic_is_a_path;
+use crate::graph::Graph;
 use crate::plan::Plan;
 use crate::topological::Order;
 use std::alloc::{AllocError, Global};

@@ -1,8 +1,7 @@
 //! Load graphs: for each module, by number, the modules that it loads.
 ghost use Rattle.std.specs.Prelude.{◌≡◌, ℕ, ◌+◌, ◌<◌, ◌≤◌, ◌↔◌, List, [], length, vec_len, IfOk, OnOk, IfErr, IsTrue};
 ghost use Rattle.bq_board.specs.Counts.{Has};
-ghost use Rattle.bq_board.specs.Graph.{Loads, row, edges, Known, IsGraph, lists};
-ghost use Rattle.bq_board.specs.Cycles.{TestsPaths};
+ghost use Rattle.bq_board.specs.Graph.{row, edges, Known, IsGraph, lists};
 ghost use Rattle.bq_board.specs.Refusal.{Refused};
 
 use crate::refusal::PlanErr;
@@ -119,8 +118,3 @@ pub(crate) fn empty_rows(alloc: Global, n: usize) -> Result<Vec<Vec<u32>>, Alloc
     }
     Ok(rows)
 }
-
-/// A module is cyclic by the test exactly where a path of one edge more than there are modules starts at it.
-pub fn cyclic_is_a_path()
-    ensures { (p : Loads) → TestsPaths p }
-{}

@@ -5,7 +5,7 @@
 //! It holds for every number of seats and every order of their steps, with no lock: each step is one atomic step on one word.
 //!
 //! In reading order:
-//! `graph` and `topological` (load graphs, which modules are cyclic, an order for the others), `plan`, `cut` and `refusal` (graphs without cyclic modules, with numbered edges),
+//! `graph`, `cycles` and `topological` (load graphs, which modules are cyclic, an order for the others), `plan`, `cut` and `refusal` (graphs without cyclic modules, with numbered edges),
 //! `parcel` (what modules hand on), `board` and `opening` (the board, its words, slots and seats), `view` (what contracts know of a seat),
 //! `claim`, `fetch`, `post`, `finish`, `done`, `close` (the calls), `steps` and `rule` (the atomic steps, and the rule that each keeps), `laws` (that rule in words).
 #![tactic(auto)]
@@ -14,6 +14,7 @@ mod board;
 mod claim;
 mod close;
 mod cut;
+mod cycles;
 mod done;
 mod fetch;
 mod finish;
@@ -32,7 +33,8 @@ mod view;
 pub use board::{Board, Seat};
 pub use claim::Claim;
 pub use cut::cut_is_plan;
-pub use graph::{Graph, MAX_EDGES, MAX_MODULES, cyclic_is_a_path};
+pub use cycles::{cyclic_is_a_path, cyclic_loads_a_cyclic, cyclic_reaches_a_cycle};
+pub use graph::{Graph, MAX_EDGES, MAX_MODULES};
 pub use laws::{done_law, edge_law, load_law, module_law, note_law, owner_law, seat_law, slot_law};
 pub use opening::MAX_SEATS;
 pub use parcel::Parcel;
