@@ -1,5 +1,5 @@
 -- The modules that are in no topological order are the cyclic ones.
-use Rattle.std.proofs.Common.{◌≡◌, ℕ, zero, suc, ◌<◌, ◌≤◌, ◌⊎◌, Bool, true, false, List, [], ◌∷◌, length, take, get_or, sym, refl, ap, ◌∙◌, inl, inr, arith, length-take}
+use Rattle.std.proofs.Common.{◌≡◌, ℕ, zero, suc, ◌<◌, ◌≤◌, ◌⊎◌, Bool, true, false, List, [], ◌∷◌, ◌++◌, length, take, get_or, sym, refl, ap, ◌∙◌, inl, inr, arith, length-take}
 use mathlib.Core.Bool.{◌||◌}
 use mathlib.Core.Logic.{dite}
 use native.Mathlib.Decide.{ℕ_discrete}
@@ -41,6 +41,10 @@ tail_has x xs l h = omega arith
 
 pub cons_has : (x : ℕ) (xs : List ℕ) (l : ℕ) → Has (x ∷ xs) l → (x ≡ l) ⊎ Has xs l
 cons_has x xs l h = dite (ℕ_discrete x l) (λ e. inl e) (λ ne. inr (omega (arith, at_other l x ne)))
+
+pub at_split : (xs : List ℕ) (x : ℕ) (ys : List ℕ) → Has (xs ++ x ∷ ys) x
+at_split [] x ys = head_has x ys
+at_split (y ∷ xs) x ys = tail_has y (xs ++ x ∷ ys) x (at_split xs x ys)
 
 pub any_has : (f : ℕ → Bool) (xs : List ℕ) (l : ℕ) → Has xs l → f l ≡ true → list_any f xs ≡ true
 any_has f [] l h t = absurd (omega arith)
