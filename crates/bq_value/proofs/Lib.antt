@@ -1,0 +1,2 @@
+-- how the weights of a list change
+mod Weights

@@ -1,0 +1,50 @@
+-- What a value is (Starlark, "Value concepts"), as plain data: nothing of how it is shared or laid out.
+use Rattle.std.specs.Prelude.{◌≡◌, ℕ, ◌+◌, ℤ, Bool, List, [], ◌∷◌, refl}
+use Rattle.std.proofs.Common.{ap}
+
+mutual
+  -- a value; a list or dict is a cell, the number of which stands with its module
+  pub data Datum : Type 0 where
+    none : Datum
+    boolean : Bool → Datum
+    int : ℤ → Datum
+    string : List ℕ → Datum
+    tuple : Data → Datum
+    range : ℤ → ℤ → ℤ → Datum
+    cell : ℕ → ℕ → Datum
+    function : ℕ → ℕ → List ℕ → Data → Datum
+    built_in : List ℕ → Datum
+
+  -- the values of a tuple, or the defaults of a function, in order
+  pub data Data : Type 0 where
+    end : Data
+    datum : Datum → Data → Data
+
+abbrev pub data_of : List Datum → Data
+data_of [] = end
+data_of (x ∷ xs) = datum x (data_of xs)
+
+abbrev pub list_of : Data → List Datum
+list_of end = []
+list_of (datum x xs) = x ∷ list_of xs
+
+pub list_of_data_of : (xs : List Datum) → list_of (data_of xs) ≡ xs
+list_of_data_of [] = refl
+list_of_data_of (x ∷ xs) = ap (λ t. x ∷ t) (list_of_data_of xs)
+
+-- how many values a value has in it, itself too, and some more: what a walk over it counts down
+abbrev mutual
+  pub weight : Datum → ℕ
+  weight none = 1
+  weight (boolean b) = 1
+  weight (int n) = 1
+  weight (string s) = 1
+  weight (tuple xs) = weights xs + 1
+  weight (range a b c) = 1
+  weight (cell m n) = 1
+  weight (function m n name xs) = weights xs + 1
+  weight (built_in name) = 1
+
+  pub weights : Data → ℕ
+  weights end = 1
+  weights (datum x xs) = weight x + weights xs + 1

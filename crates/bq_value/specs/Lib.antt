@@ -1,0 +1,4 @@
+pub mod Datum
+pub mod Codes
+pub mod View
+pub mod Deep
