@@ -2,3 +2,12 @@ pub mod Datum
 pub mod Codes
 pub mod View
 pub mod Deep
+pub mod Same
+pub mod SameLaws
+pub mod Key
+pub mod Pairs
+pub mod Contents
+pub mod ContentOf
+pub mod Cells
+pub mod CellsOf
+pub mod StoreOf

@@ -1,0 +1,10 @@
+use Rattle.std.proofs.Common.{◌∙◌, ap, sym}
+use Rattle.bq_value.proofs.Lookups.{lookup_found, insert_put, remove_without}
+use Rattle.bq_value.specs.Pairs.{found, put, without}
+use Rattle.bq_value.proofs.dict.Dict.remove.Goals as goal
+
+pub returns-clause-before : goal.returns-clause-before
+returns-clause-before c = c.shift_remove.ensures.value ∙ (lookup_found c.args.key.now c.self.inside.entries.entries ∙ ap (found c.args.key.now) c.self.view_is)
+
+pub returns-clause-after : goal.returns-clause-after
+returns-clause-after c = c.shift_remove.ensures.entries ∙ (remove_without c.args.key.now c.self.inside.entries.entries ∙ ap (without c.args.key.now) c.self.view_is)

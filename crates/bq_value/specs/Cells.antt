@@ -1,0 +1,78 @@
+-- Stores and frozen modules as finite maps from cells to contents (Starlark, "Freezing a value").
+use Rattle.std.specs.Prelude.{ℕ, ◌++◌, cond, List, [], ◌∷◌, slice_get, Option, Some, None, ◌==◌, refl, is_some}
+use Rattle.std.specs.Option.{option_and_then}
+use Rattle.std.specs.Coded.{Coded, code_by, coded×, coded_ℕ, coded_list}
+use Rattle.bq_value.specs.Datum.{Datum}
+use Rattle.bq_value.specs.Codes.{coded_datum}
+use Rattle.bq_value.specs.Contents.{Contents, coded_contents}
+
+-- the cells of a frozen module, by number, and the values of its globals
+pub record FrozenCells : Type 0 where
+  pub cells : List Contents
+  pub globals : List Datum
+
+-- frozen modules, each with its number
+abbrev pub Modules : Type 0
+Modules = List (ℕ × FrozenCells)
+
+-- the running module's number, its cells by number, and the frozen modules that it reaches
+pub record StoreView : Type 0 where
+  pub own : ℕ
+  pub cells : List Contents
+  pub loaded : Modules
+
+-- a frozen module's number, its cells, and the frozen modules that it reaches
+pub record FrozenView : Type 0 where
+  pub own : ℕ
+  pub cells : FrozenCells
+  pub reached : Modules
+
+-- the module of that number
+abbrev pub module_at : ℕ → Modules → Option FrozenCells
+module_at home [] = None
+module_at home (m ∷ ms) = cond (home == m.0) (Some m.1) (module_at home ms)
+
+abbrev pub cell_of : ℕ → Option FrozenCells → Option Contents
+cell_of number None = None
+cell_of number (Some c) = slice_get c.cells number
+
+-- what a cell holds
+unfoldable pub content_at : StoreView → ℕ → ℕ → Option Contents
+content_at s home number = cond (home == s.own) (slice_get s.cells number) (cell_of number (module_at home s.loaded))
+
+unfoldable pub frozen_at : FrozenView → ℕ → ℕ → Option Contents
+frozen_at f home number = cond (home == f.own) (slice_get f.cells.cells number) (cell_of number (module_at home f.reached))
+
+-- the running module comes to its end, with these globals
+abbrev pub frozen : StoreView → List Datum → FrozenView
+frozen s gs = record { own = s.own; cells = record { cells = s.cells; globals = gs }; reached = s.loaded }
+
+-- a module that is there already is not taken again
+abbrev pub added : Modules → ℕ × FrozenCells → Modules
+added ms m = cond (is_some (module_at m.0 ms)) ms (ms ++ m ∷ [])
+
+-- all modules that a frozen one brings along, itself first
+abbrev pub brought : FrozenView → Modules
+brought f = (f.own, f.cells) ∷ f.reached
+
+abbrev pub with_loaded : Modules → StoreView → StoreView
+with_loaded ms s = record s { loaded = ms }
+
+abbrev pub with_cells : List Contents → StoreView → StoreView
+with_cells cs s = record s { cells = cs }
+
+abbrev pub coded_cells : Coded FrozenCells
+coded_cells = code_by (List Contents × List Datum) (coded× (coded_list coded_contents) (coded_list coded_datum)) (λ c. (c.cells, c.globals)) (λ p. record { cells = p.0; globals = p.1 }) (λ _. refl)
+
+abbrev pub coded_modules : Coded Modules
+coded_modules = coded_list (coded× coded_ℕ coded_cells)
+
+abbrev pub coded_store : Coded StoreView
+coded_store =
+    code_by (ℕ × (List Contents × Modules)) (coded× coded_ℕ (coded× (coded_list coded_contents) coded_modules))
+    (λ s. (s.own, (s.cells, s.loaded))) (λ p. record { own = p.0; cells = p.1.0; loaded = p.1.1 }) (λ _. refl)
+
+abbrev pub coded_frozen : Coded FrozenView
+coded_frozen =
+    code_by (ℕ × (FrozenCells × Modules)) (coded× coded_ℕ (coded× coded_cells coded_modules))
+    (λ f. (f.own, (f.cells, f.reached))) (λ p. record { own = p.0; cells = p.1.0; reached = p.1.1 }) (λ _. refl)

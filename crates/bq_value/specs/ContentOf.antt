@@ -1,0 +1,8 @@
+-- What the body of a cell stands for.
+use Rattle.bq_value.specs.Contents.{Contents, items, pairs}
+use Rattle.bq_value.specs.declared.content.Body.{Body}
+use Rattle.bq_value.specs.declared.content.Body.TheVariants.{List, Dict}
+
+abbrev pub contents_of : Body → Contents
+contents_of (List v) = items v.items
+contents_of (Dict d) = pairs d

@@ -1,0 +1,19 @@
+-- The pairs of a dict (Starlark, "Dictionaries"): their keys are distinct, and stand in the order in which they came.
+use Rattle.std.specs.Prelude.{cond, List, [], ◌∷◌, Option, Some, None}
+use Rattle.bq_value.specs.Datum.{Datum}
+use Rattle.bq_value.specs.Same.{same}
+
+-- the value of a key
+abbrev pub found : Datum → List (Datum × Datum) → Option Datum
+found k [] = None
+found k (p ∷ ps) = cond (same k p.0) (Some p.1) (found k ps)
+
+-- a key that is there keeps its place, and a new one goes last
+abbrev pub put : Datum → Datum → List (Datum × Datum) → List (Datum × Datum)
+put k v [] = (k, v) ∷ []
+put k v (p ∷ ps) = cond (same k p.0) ((p.0, v) ∷ ps) (p ∷ put k v ps)
+
+-- without the key; the others keep their order
+abbrev pub without : Datum → List (Datum × Datum) → List (Datum × Datum)
+without k [] = []
+without k (p ∷ ps) = cond (same k p.0) ps (p ∷ without k ps)

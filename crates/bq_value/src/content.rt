@@ -1,0 +1,50 @@
+//! What a cell holds.
+
+ghost use Rattle.std.specs.Prelude.{◌≡◌};
+ghost use Rattle.bq_value.specs.Contents.{items, pairs};
+
+use crate::dict::Dict;
+use crate::value::Value;
+use std::marker::Model;
+
+/// A list or a dict. Contracts see its `Contents`.
+#[derive(Drop)]
+pub struct Content {
+    pub body: Body,
+}
+
+#[derive(Drop)]
+pub enum Body {
+    List(Vec<Value>),
+    Dict(Dict),
+}
+
+impl Model for Content {
+    ghost use Rattle.bq_value.specs.Contents.{Contents, coded_contents};
+
+    ghost Value = { Contents };
+
+    ghost coded = { coded_contents };
+
+    ghost use Rattle.bq_value.specs.ContentOf.{contents_of};
+
+    ghost view = { λ c. contents_of c.body };
+}
+
+impl Content {
+    pub fn list(values: Vec<Value>) -> Content
+        ensures { result ≡ items values.items }
+    {
+        Content {
+            body: Body::List(values),
+        }
+    }
+
+    pub fn dict(dict: Dict) -> Content
+        ensures { result ≡ pairs dict }
+    {
+        Content {
+            body: Body::Dict(dict),
+        }
+    }
+}

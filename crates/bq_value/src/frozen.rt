@@ -1,0 +1,71 @@
+//! Modules whose evaluation has ended (Starlark, "Freezing a value").
+
+ghost use Rattle.std.specs.Prelude.{◌≡◌, None, Some, MatchOption, IfOk};
+ghost use Rattle.bq_value.specs.Cells.{frozen_at, frozen};
+
+use crate::content::Content;
+use crate::modules::{Modules, Shared};
+use crate::store::Store;
+use crate::value::{Cell, Value};
+use std::alloc::{AllocError, Global};
+use std::marker::Model;
+
+/// A module whose evaluation has ended, with those that it reaches. Nothing changes it. Contracts see its `FrozenView`.
+#[derive(Drop)]
+pub struct Frozen {
+    pub(crate) own: u32,
+    pub(crate) cells: Shared,
+    pub(crate) reached: Modules,
+}
+
+impl Model for Frozen {
+    ghost use Rattle.bq_value.specs.Cells.{FrozenView, coded_frozen};
+
+    ghost Value = { FrozenView };
+
+    ghost coded = { coded_frozen };
+
+    ghost use Rattle.bq_value.specs.StoreOf.{frozen_of};
+
+    ghost view = { frozen_of };
+}
+
+impl Frozen {
+    /// The module's number.
+    pub fn module(&self) -> u32
+        ensures { result ≡ self.now.own }
+    {
+        self.own
+    }
+
+    /// The values of its globals.
+    pub fn globals(&self) -> &[Value]
+        ensures { result.now ≡ self.now.cells.globals }
+    {
+        self.cells.globals()
+    }
+
+    /// What a cell holds.
+    #[tactic(auto, unfolding(crate::specs::Cells::frozen_at))]
+    pub fn content(&self, cell: Cell) -> Option<&Content>
+        ensures { MatchOption result (frozen_at self.now cell.module cell.number ≡ None) (λ c. frozen_at self.now cell.module cell.number ≡ Some c.now) }
+    {
+        if cell.module == self.own {
+            return self.cells.content(cell.number);
+        }
+        self.reached.content(cell)
+    }
+}
+
+/// Ends a module's evaluation: each cell stays as it is, and none is copied.
+pub fn freeze(alloc: Global, store: Store, globals: Vec<Value>) -> Result<Frozen, AllocError>
+    ensures { IfOk result (λ f. f ≡ frozen store globals.items) }
+{
+    let Store { own, cells, loaded } = store;
+    let cells = Shared::new(alloc, cells, globals)?;
+    Ok(Frozen {
+        own,
+        cells,
+        reached: loaded,
+    })
+}

@@ -1,0 +1,84 @@
+//! The store of a running module.
+
+ghost use Rattle.std.specs.Prelude.{◌≡◌, [], ◌∷◌, ◌++◌, None, Some, MatchOption, IfOk, OnOk, OnErr, fold, length};
+ghost use Rattle.bq_value.specs.Cells.{content_at, with_loaded, with_cells, added, brought};
+
+use crate::content::Content;
+use crate::frozen::Frozen;
+use crate::modules::Modules;
+use crate::value::Cell;
+use std::alloc::{AllocError, Global};
+use std::marker::Model;
+
+/// The cells of the running module, and the frozen modules that it reaches. Contracts see its `StoreView`.
+#[derive(Drop)]
+pub struct Store {
+    pub(crate) own: u32,
+    pub(crate) cells: Vec<Content>,
+    pub(crate) loaded: Modules,
+}
+
+impl Model for Store {
+    ghost use Rattle.bq_value.specs.Cells.{StoreView, coded_store};
+
+    ghost Value = { StoreView };
+
+    ghost coded = { coded_store };
+
+    ghost use Rattle.bq_value.specs.StoreOf.{store_of};
+
+    ghost view = { store_of };
+}
+
+impl Store {
+    /// The store of a module that has made no cell and loaded nothing.
+    pub fn new(alloc: Global, own: u32) -> Store
+        ensures { result ≡ record { own = own; cells = []; loaded = [] } }
+    {
+        Store {
+            own,
+            cells: Vec::new(alloc),
+            loaded: Modules::new(alloc),
+        }
+    }
+
+    /// The running module's number.
+    pub fn module(&self) -> u32
+        ensures { result ≡ self.now.own }
+    {
+        self.own
+    }
+
+    /// Makes the cells of a frozen module, and of those that it reaches, readable here: a share of each that isn't there.
+    pub fn load(&mut self, frozen: &Frozen) -> Result<(), AllocError>
+        ensures { OnOk result (self.new ≡ with_loaded (fold added self.old.loaded (brought frozen.now)) self.old) }
+    {
+        self.loaded.add(frozen.own, &frozen.cells)?;
+        self.loaded.add_all(&frozen.reached)
+    }
+
+    /// A new cell, numbered in order of creation.
+    pub fn make(&mut self, content: Content) -> Result<Cell, AllocError>
+        ensures cell { IfOk result (λ c. c ≡ record { «module» = self.old.own; number = length self.old.cells }) }
+        ensures ok { OnOk result (self.new ≡ with_cells (self.old.cells ++ content ∷ []) self.old) }
+        ensures err { OnErr result (self.new ≡ self.old) }
+    {
+        let number = self.cells.len();
+        self.cells.push(content)?;
+        Ok(Cell {
+            module: self.own,
+            number,
+        })
+    }
+
+    /// What a cell holds.
+    #[tactic(auto, unfolding(crate::specs::Cells::content_at))]
+    pub fn content(&self, cell: Cell) -> Option<&Content>
+        ensures { MatchOption result (content_at self.now cell.module cell.number ≡ None) (λ c. content_at self.now cell.module cell.number ≡ Some c.now) }
+    {
+        if cell.module == self.own {
+            return self.cells.get(cell.number);
+        }
+        self.loaded.content(cell)
+    }
+}
