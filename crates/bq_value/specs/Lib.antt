@@ -11,3 +11,4 @@ pub mod ContentOf
 pub mod Cells
 pub mod CellsOf
 pub mod StoreOf
+pub mod Lending

@@ -36,7 +36,11 @@ impl Model for Shared {
 }
 
 impl Shared {
-    pub(crate) fn new(alloc: Global, contents: Vec<Content>, globals: Vec<Value>) -> Result<Shared, AllocError>
+    pub(crate) fn new(
+        alloc: Global,
+        contents: Vec<Content>,
+        globals: Vec<Value>,
+    ) -> Result<Shared, AllocError>
         ensures { IfOk result (λ s. s ≡ record { cells = contents.items; globals = globals.items }) }
     {
         Ok(Shared {

@@ -18,7 +18,9 @@ pub(crate) fn is_same(a: &Value, b: &Value) -> bool
         (Node::Int(x), Node::Int(y)) => *x == *y,
         (Node::Text(x), Node::Text(y)) => x.as_slice() == y.as_slice(),
         (Node::Tuple(xs), Node::Tuple(ys)) => are_same(xs, ys),
-        (Node::Range(x), Node::Range(y)) => x.start == y.start && x.stop == y.stop && x.step == y.step,
+        (Node::Range(x), Node::Range(y)) => x.start == y.start
+            && x.stop == y.stop
+            && x.step == y.step,
         (Node::Cell(x), Node::Cell(y)) => x.module == y.module && x.number == y.number,
         (Node::Function(f), Node::Function(g)) => {
             f.module == g.module

@@ -1,12 +1,17 @@
 //! The store of a running module.
 
 ghost use Rattle.std.specs.Prelude.{◌≡◌, [], ◌∷◌, ◌++◌, None, Some, MatchOption, IfOk, OnOk, OnErr, fold, length};
+ghost use Rattle.std.specs.Prelude.{◌<◌, ◌≢◌, slice_get, IsOkAnd, IsErrOf};
+ghost use Rattle.std.specs.Borrow.{sem};
+ghost use Rattle.bq_value.specs.Lending.{LendsCell, LendsCellIfOk};
 ghost use Rattle.bq_value.specs.Cells.{content_at, with_loaded, with_cells, added, brought};
 
 use crate::content::Content;
+use crate::error::EvalErr;
 use crate::frozen::Frozen;
 use crate::modules::Modules;
 use crate::value::Cell;
+use bq_source::FaultKind;
 use std::alloc::{AllocError, Global};
 use std::marker::Model;
 
@@ -80,5 +85,27 @@ impl Store {
             return self.cells.get(cell.number);
         }
         self.loaded.content(cell)
+    }
+
+    /// A cell of the running module, to be changed.
+    fn own_cell(&mut self, number: usize) -> &mut Content
+        requires { number < length self.old.cells }
+        ensures* lends { sem 𝓛 (LendsCell self.entry number result) }
+        ensures now { slice_get self.old.cells number ≡ Some result.now }
+    {
+        &mut self.cells[number]
+    }
+
+    /// What a cell holds, to be changed. Nothing changes a cell of another module (F47).
+    pub fn change(&mut self, cell: Cell) -> Result<&mut Content, EvalErr>
+        requires { cell.module ≡ self.old.own → cell.number < length self.old.cells }
+        ensures* lends { sem 𝓛 (LendsCellIfOk self.entry cell.number result) }
+        ensures own { cell.module ≡ self.old.own → IsOkAnd result (λ c. slice_get self.old.cells cell.number ≡ Some c.now) }
+        ensures frozen { cell.module ≢ self.old.own → IsErrOf result (EvalErr.Bad FaultKind.Frozen) }
+    {
+        if cell.module != self.own {
+            return Err(EvalErr::Bad(FaultKind::Frozen));
+        }
+        Ok(self.own_cell(cell.number))
     }
 }

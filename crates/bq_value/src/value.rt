@@ -163,14 +163,18 @@ impl Value {
     pub fn none() -> Value
         ensures { result ≡ none }
     {
-        Value { node: Node::NoneValue }
+        Value {
+            node: Node::NoneValue,
+        }
     }
 
     /// `True` or `False`.
     pub fn bool(b: bool) -> Value
         ensures { result ≡ boolean b }
     {
-        Value { node: Node::Bool(b) }
+        Value {
+            node: Node::Bool(b),
+        }
     }
 
     pub fn int(n: i64) -> Value
@@ -182,38 +186,50 @@ impl Value {
     pub fn string(bytes: Bytes) -> Value
         ensures { result ≡ string bytes }
     {
-        Value { node: Node::Text(bytes) }
+        Value {
+            node: Node::Text(bytes),
+        }
     }
 
     pub fn tuple(alloc: Global, items: Vec<Value>) -> Result<Value, AllocError>
         ensures { IfOk result (λ v. v ≡ tuple (data_of items.items)) }
     {
-        Ok(Value { node: Node::Tuple(Arc::new(alloc, items)?) })
+        Ok(Value {
+            node: Node::Tuple(Arc::new(alloc, items)?),
+        })
     }
 
     pub fn range(bounds: Range) -> Value
         ensures { result ≡ range bounds.start bounds.stop bounds.step }
     {
-        Value { node: Node::Range(bounds) }
+        Value {
+            node: Node::Range(bounds),
+        }
     }
 
     /// The list or dict in this cell.
     pub fn cell(place: Cell) -> Value
         ensures { result ≡ cell place.module place.number }
     {
-        Value { node: Node::Cell(place) }
+        Value {
+            node: Node::Cell(place),
+        }
     }
 
     pub fn built_in(name: Bytes) -> Value
         ensures { result ≡ built_in name }
     {
-        Value { node: Node::BuiltIn(name) }
+        Value {
+            node: Node::BuiltIn(name),
+        }
     }
 
     pub fn function(alloc: Global, parts: Function) -> Result<Value, AllocError>
         ensures { IfOk result (λ v. v ≡ function parts.module parts.place parts.name (data_of parts.defaults.items)) }
     {
-        Ok(Value { node: Node::Function(Arc::new(alloc, parts)?) })
+        Ok(Value {
+            node: Node::Function(Arc::new(alloc, parts)?),
+        })
     }
 
     /// The same value once more. It is refused where 2^63 owners are alive.

@@ -7,6 +7,6 @@ use Rattle.bq_value.proofs.dict.Dict.pair.Goals as goal
 pub returns : goal.returns
 returns c =
     let at : slice_get c.self.inside.entries.entries c.args.index ≡ Some (deref_pair c.unwrap.result) =
-        sym c.get_index.ensures.entry ∙ ap (option_map deref_pair) c.unwrap.ensures in
+    sym c.get_index.ensures.entry ∙ ap (option_map deref_pair) c.unwrap.ensures in
     let P : List (Datum × Datum) → Type 0 = λ d. drop c.args.index d ≡ deref_pair c.unwrap.result ∷ drop (c.args.index + 1) d in
     subst P c.self.view_is (drop_found _ c.args.index _ at)
