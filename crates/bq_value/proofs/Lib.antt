@@ -2,5 +2,9 @@
 pub mod Weights
 -- lists of values that are compared as keys
 pub mod Keyed
--- the words of an IndexMap are those of a dict and of a list of modules
+-- the words of an `IndexMap` are those of a dict and of frozen modules
 pub mod Lookups
+-- what a dict has after a pair was put or taken out
+pub mod Puts
+-- what cells hold after a module was frozen or loaded, or a cell was changed
+pub mod Freezes

@@ -1,5 +1,5 @@
 -- The pairs of a dict (Starlark, "Dictionaries"): their keys are distinct, and stand in the order in which they came.
-use Rattle.std.specs.Prelude.{cond, List, [], ◌∷◌, Option, Some, None}
+use Rattle.std.specs.Prelude.{◌≡◌, cond, List, [], ◌∷◌, ◌++◌, map, Option, Some, None}
 use Rattle.bq_value.specs.Datum.{Datum}
 use Rattle.bq_value.specs.Same.{same}
 
@@ -17,3 +17,14 @@ put k v (p ∷ ps) = cond (same k p.0) ((p.0, v) ∷ ps) (p ∷ put k v ps)
 abbrev pub without : Datum → List (Datum × Datum) → List (Datum × Datum)
 without k [] = []
 without k (p ∷ ps) = cond (same k p.0) ps (p ∷ without k ps)
+
+-- the keys, in order
+abbrev pub keys : List (Datum × Datum) → List Datum
+keys ps = map (λ p. p.0) ps
+
+-- the new list is the old one but for this pair
+pub record TakenOut (k v : Datum) (old new : List (Datum × Datum)) : Type 0 where
+  pub before : List (Datum × Datum)
+  pub after : List (Datum × Datum)
+  pub was : old ≡ before ++ (k, v) ∷ after
+  pub left : new ≡ before ++ after

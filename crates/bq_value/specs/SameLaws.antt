@@ -1,5 +1,5 @@
 -- The laws of `same`: it says just when two values are one datum, so it is an equivalence, and the same keys feed the same.
-use Rattle.std.specs.Prelude.{◌≡◌, ℕ, Bool, true, false, ◌&&◌, ◌==◌, ℤ, List, refl, Decides}
+use Rattle.std.specs.Prelude.{◌≡◌, ◌≢◌, ℕ, Bool, true, false, ◌&&◌, ◌==◌, ℤ, List, refl, Decides}
 use Rattle.std.proofs.Common.{sym, ◌∙◌, ap, arith}
 use Rattle.std.proofs.lemmas.Bool.{eqb-true}
 use Rattle.std.specs.Ordering.{int_eq}
@@ -92,3 +92,10 @@ same_equivalence = decided same same_decides
 
 pub same_feed : (x y : Datum) → same x y ≡ true → feed x ≡ feed y
 same_feed x y h = ap feed (same-true x y h)
+
+same_by : (x y : Datum) (b : Bool) → same x y ≡ b → x ≢ y → b ≡ false
+same_by x y true e apart = absurd (apart (same-true x y e))
+same_by x y false e apart = refl
+
+pub same_apart : (x y : Datum) → x ≢ y → same x y ≡ false
+same_apart x y apart = same_by x y (same x y) refl apart

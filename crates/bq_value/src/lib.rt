@@ -6,6 +6,7 @@ mod dict;
 mod error;
 mod frozen;
 mod key;
+pub mod laws;
 mod modules;
 mod range;
 mod same;

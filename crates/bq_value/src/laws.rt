@@ -1,0 +1,49 @@
+//! Laws of the definitions. The gate proves what a contract names, so each law is the contract of a function that does
+//! nothing.
+
+ghost use Rattle.std.specs.Prelude.{◌≡◌, ◌≢◌, ◌↔◌, ◌++◌, ◌∷◌, [], List, ℕ, Some, None, cond, fold, is_some, true, false, ◌==◌};
+ghost use Rattle.bq_value.specs.Datum.{Datum};
+ghost use Rattle.bq_value.specs.Same.{same};
+ghost use Rattle.bq_value.specs.Pairs.{found, put, without, keys, TakenOut};
+ghost use Rattle.bq_value.specs.Contents.{Contents};
+ghost use Rattle.bq_value.specs.Cells.{StoreView, FrozenView, module_at, content_at, frozen_at, frozen, added, brought, with_loaded};
+ghost use Rattle.bq_value.specs.Lending.{with_cell};
+
+/// Keys are equal just where they are one value.
+pub fn equality_of_keys()
+    ensures { (j k : Datum) → (same j k ≡ true) ↔ (j ≡ k) }
+{}
+
+/// A key that was put has the new value; every other key has the value that it had.
+pub fn a_pair_that_is_put()
+    ensures value { (k v : Datum) (pairs : List (Datum × Datum)) → found k (put k v pairs) ≡ Some v }
+    ensures others { (j k v : Datum) (pairs : List (Datum × Datum)) → j ≢ k → found j (put k v pairs) ≡ found j pairs }
+{}
+
+/// A key that was there keeps its place, and a new one goes last.
+pub fn places_of_keys()
+    ensures { (k v : Datum) (pairs : List (Datum × Datum)) → keys (put k v pairs) ≡ cond (is_some (found k pairs)) (keys pairs) (keys pairs ++ k ∷ []) }
+{}
+
+/// Taking out a key takes out its pair alone, and keeps the order of the rest.
+pub fn a_key_that_is_taken_out()
+    ensures there { (k v : Datum) (pairs : List (Datum × Datum)) → found k pairs ≡ Some v → TakenOut k v pairs (without k pairs) }
+    ensures absent { (k : Datum) (pairs : List (Datum × Datum)) → found k pairs ≡ None → without k pairs ≡ pairs }
+{}
+
+/// Freezing keeps every cell.
+pub fn freezing_keeps_every_cell()
+    ensures { (s : StoreView) (globals : List Datum) (home number : ℕ) → frozen_at (frozen s globals) home number ≡ content_at s home number }
+{}
+
+/// Loading keeps the cells of all modules that are there, and brings those of the others as they were frozen.
+pub fn loading_a_module()
+    ensures keeps { (s : StoreView) (f : FrozenView) (home number : ℕ) → (home ≢ s.own → module_at home s.loaded ≢ None) → content_at (with_loaded (fold added s.loaded (brought f)) s) home number ≡ content_at s home number }
+    ensures brings { (s : StoreView) (f : FrozenView) (home number : ℕ) → home ≢ s.own → module_at home s.loaded ≡ None → content_at (with_loaded (fold added s.loaded (brought f)) s) home number ≡ frozen_at f home number }
+{}
+
+/// Changing a cell of the running module changes no cell of another module, and no other cell of its own.
+pub fn changing_a_cell()
+    ensures modules { (s : StoreView) (place : ℕ) (c : Contents) (home number : ℕ) → home ≢ s.own → content_at (with_cell s place c) home number ≡ content_at s home number }
+    ensures cells { (s : StoreView) (place : ℕ) (c : Contents) (home number : ℕ) → number ≢ place → content_at (with_cell s place c) home number ≡ content_at s home number }
+{}
