@@ -1,5 +1,5 @@
 -- Lists of values that are compared as keys.
-use Rattle.std.proofs.Common.{◌≡◌, ℕ, suc, zero, ◌<◌, ◌≢◌, ◌&&◌, Bool, false, List, [], ◌∷◌, length, get_or, refl, sym, ap, ◌∙◌, arith}
+use Rattle.std.proofs.Common.{◌≡◌, ℕ, suc, zero, ◌<◌, ◌≢◌, ◌&&◌, false, List, [], ◌∷◌, length, get_or, refl, ap, ◌∙◌, arith}
 use Rattle.std.proofs.Math.Bool.{and-false}
 use Rattle.bq_value.specs.Datum.{Datum, weight, weights, data_of}
 use Rattle.bq_value.specs.Same.{same, same_all}

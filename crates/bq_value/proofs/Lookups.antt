@@ -4,11 +4,11 @@ use Rattle.indexmap.specs.IndexMap.{insert_entry}
 use Rattle.bq_value.specs.Datum.{Datum}
 use Rattle.bq_value.specs.Same.{same}
 use Rattle.bq_value.specs.Pairs.{found, put, without}
-use Rattle.std.proofs.Common.{◌≡◌, cond, List, [], ◌∷◌, Option, Some, refl, ap, Bool, true, false, ℕ, zero, suc, ◌+◌, drop, slice_get, None, sym, ◌∙◌, get_or, ◌<◌, length, add-one}
+use Rattle.std.proofs.Common.{◌≡◌, cond, List, [], ◌∷◌, Some, refl, ap, Bool, true, false, ℕ, suc, ◌+◌, drop, slice_get, None, ◌∙◌, add-one}
 use Rattle.std.proofs.lemmas.Option.{get_or_from_slice_get, slice_get_within}
 use Rattle.std.proofs.Math.Seq.{drop-cons}
-use Rattle.std.specs.Prelude.{nat_eq, is_some, ◌++◌, ◌==◌}
-use Rattle.bq_value.specs.Cells.{FrozenCells, Modules, module_at, added}
+use Rattle.std.specs.Prelude.{nat_eq, ◌++◌, ◌==◌}
+use Rattle.bq_value.specs.Cells.{FrozenCells, Modules, module_at}
 
 pub lookup_found : (k : Datum) (ps : List (Datum × Datum)) → lookup (same k) ps ≡ found k ps
 lookup_found k [] = refl

@@ -1,5 +1,5 @@
 -- What a dict has after a pair was put into it or taken out of it.
-use Rattle.std.proofs.Common.{◌≡◌, ◌∙◌, ap, sym, refl, cond, Bool, true, false, List, [], ◌∷◌, ◌++◌, map, Option, Some, None, is_some}
+use Rattle.std.proofs.Common.{◌≡◌, ◌∙◌, ap, sym, refl, cond, Bool, true, false, List, [], ◌∷◌, ◌++◌, Some, None, is_some}
 use Rattle.bq_value.specs.Datum.{Datum}
 use Rattle.bq_value.specs.Same.{same}
 use Rattle.bq_value.specs.SameLaws.{same-refl, same-true}

@@ -1,5 +1,5 @@
 -- How the weights of a list change.
-use Rattle.std.proofs.Common.{◌≡◌, ℕ, ◌+◌, List, [], ◌∷◌, ◌++◌, ◌∙◌, ap, arith}
+use Rattle.std.proofs.Common.{◌≡◌, ◌+◌, List, [], ◌∷◌, ◌++◌, ◌∙◌, ap, arith}
 use Rattle.bq_value.specs.Datum.{Datum, data_of, weight, weights}
 
 weights_append : (xs ys : List Datum) → weights (data_of (xs ++ ys)) + 1 ≡ weights (data_of xs) + weights (data_of ys)

@@ -1,6 +1,5 @@
 -- Stores and frozen modules as finite maps from cells to contents (Starlark, "Freezing a value").
 use Rattle.std.specs.Prelude.{ℕ, ◌++◌, cond, List, [], ◌∷◌, slice_get, Option, Some, None, ◌==◌, refl, is_some}
-use Rattle.std.specs.Option.{option_and_then}
 use Rattle.std.specs.Coded.{Coded, code_by, coded×, coded_ℕ, coded_list}
 use Rattle.bq_value.specs.Datum.{Datum}
 use Rattle.bq_value.specs.Codes.{coded_datum}

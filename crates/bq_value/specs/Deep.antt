@@ -1,5 +1,5 @@
 -- That a value within a value is smaller.
-use Rattle.std.specs.Prelude.{ℕ, ◌≤◌}
+use Rattle.std.specs.Prelude.{◌≤◌}
 use Rattle.std.proofs.Common.{arith}
 use Rattle.bq_value.specs.Datum.{weight}
 use Rattle.bq_value.specs.View.{datum_of, most_le-weights}

@@ -1,6 +1,6 @@
 -- When two values are the same value in each part, and what a key feeds to a hash. Of two keys this is the equality of the
 -- language (Starlark, "Equality", "Hashing"): `1`, `"1"` and `True` are three keys.
-use Rattle.std.specs.Prelude.{ℕ, Bool, true, false, ◌&&◌, ℤ, List, [], ◌∷◌, ◌++◌, ◌==◌}
+use Rattle.std.specs.Prelude.{Bool, true, false, ◌&&◌, [], ◌∷◌, ◌++◌, ◌==◌}
 use Rattle.std.specs.Ordering.{int_eq}
 use Rattle.std.specs.Cmp.Lexicographic.{pointwise}
 use Rattle.std.specs.Hash as fed

@@ -1,7 +1,6 @@
 -- The laws of `same`: it says just when two values are one datum, so it is an equivalence, and the same keys feed the same.
 use Rattle.std.specs.Prelude.{◌≡◌, ◌≢◌, ℕ, Bool, true, false, ◌&&◌, ◌==◌, ℤ, List, refl, Decides}
-use Rattle.std.proofs.Common.{sym, ◌∙◌, ap, arith}
-use Rattle.std.proofs.lemmas.Bool.{eqb-true}
+use Rattle.std.proofs.Common.{sym, ◌∙◌, ap}
 use Rattle.std.specs.Ordering.{int_eq}
 use Rattle.std.specs.Cmp.{signed_Decides, unsigned_Decides, IsEquivalence, decided}
 use Rattle.std.specs.Cmp.Lexicographic.{pointwise}

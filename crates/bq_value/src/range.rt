@@ -33,7 +33,8 @@ impl Range {
     {
         let count = self.count();
         count == other.count()
-            && (count == 0 || (self.start == other.start && (count == 1 || self.step == other.step)))
+            && (count == 0
+                || (self.start == other.start && (count == 1 || self.step == other.step)))
     }
 }
 

@@ -1,4 +1,4 @@
-use Rattle.std.proofs.Common.{sym, arith, subst, get_or, ◌≡◌, ◌<◌, ℕ, length}
+use Rattle.std.proofs.Common.{sym, arith, subst, ◌<◌}
 use Rattle.bq_value.specs.Datum.{Datum, weight, weights, data_of}
 use Rattle.bq_value.proofs.Keyed.{apart, item_weight}
 use Rattle.bq_value.proofs.same.+same.Goals as goal

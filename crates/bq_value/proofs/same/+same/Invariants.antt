@@ -1,5 +1,5 @@
 -- what is left to compare has the answer
-use Rattle.std.proofs.Common.{◌≡◌, ◌+◌, ◌*◌, length, drop}
+use Rattle.std.proofs.Common.{◌≡◌, drop}
 use Rattle.bq_value.specs.Datum.{weight, weights, data_of}
 use Rattle.bq_value.specs.Same.{same_all}
 use Rattle.bq_value.proofs.same.+same.Given as goal

@@ -1,6 +1,6 @@
-use Rattle.std.proofs.Common.{◌∙◌, ap, sym}
-use Rattle.bq_value.proofs.Lookups.{lookup_found, insert_put, remove_without}
-use Rattle.bq_value.specs.Pairs.{found, put, without}
+use Rattle.std.proofs.Common.{◌∙◌, ap}
+use Rattle.bq_value.proofs.Lookups.{lookup_found}
+use Rattle.bq_value.specs.Pairs.{found}
 use Rattle.bq_value.proofs.dict.Dict.get.Goals as goal
 
 pub returns : goal.returns

@@ -1,6 +1,6 @@
-use Rattle.std.proofs.Common.{◌∙◌, ap, sym}
-use Rattle.bq_value.proofs.Lookups.{lookup_found, insert_put, remove_without}
-use Rattle.bq_value.specs.Pairs.{found, put, without}
+use Rattle.std.proofs.Common.{◌∙◌, ap}
+use Rattle.bq_value.proofs.Lookups.{lookup_found, insert_put}
+use Rattle.bq_value.specs.Pairs.{found, put}
 use Rattle.bq_value.proofs.dict.Dict.insert.Goals as goal
 
 pub returns-clause-before : goal.returns-clause-before

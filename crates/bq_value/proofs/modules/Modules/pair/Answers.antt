@@ -1,4 +1,4 @@
-use Rattle.std.proofs.Common.{◌≡◌, ◌∙◌, ◌+◌, ◌∷◌, ℕ, ap, sym, subst, option_map, slice_get, Some, List, drop}
+use Rattle.std.proofs.Common.{◌≡◌, ◌∙◌, ◌+◌, ◌∷◌, ap, sym, subst, option_map, slice_get, Some, drop}
 use Rattle.std.specs.Map.Iter.{deref_pair}
 use Rattle.bq_value.specs.Cells.{Modules}
 use Rattle.bq_value.proofs.Lookups.{drop_found}

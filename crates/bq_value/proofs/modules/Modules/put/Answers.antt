@@ -1,5 +1,5 @@
-use Rattle.std.proofs.Common.{◌≡◌, ◌∙◌, ◌++◌, ◌∷◌, [], None, ap, sym}
-use Rattle.bq_value.specs.Cells.{Modules, module_at}
+use Rattle.std.proofs.Common.{◌≡◌, ◌∙◌, ◌++◌, ◌∷◌, [], None, ap}
+use Rattle.bq_value.specs.Cells.{module_at}
 use Rattle.bq_value.proofs.Lookups.{insert_last}
 use Rattle.bq_value.proofs.modules.Modules.put.Goals as goal
 
