@@ -1,4 +1,25 @@
-//! Values.
+//! Values as data: what a value is, how it is shared and given up, the keys of dicts, and the lists and dicts that a module
+//! makes, while it runs and once it is frozen.
+//!
+//! The promise: a store and a frozen module are finite maps from cells to lists and dicts (`content_at`, `frozen_at`,
+//! `specs/Cells.antt`); nothing changes a cell of another module, and freezing keeps every cell.
+//!
+//! A list or dict is never in a value: the value is a *cell*, the number of the module that made it and its number there, and
+//! the *store* says what the cell holds. So values are trees without cycles, a list that holds itself is a cell whose list has
+//! that cell, and freezing a module is no walk over its values: the store of the running module changes its own cells alone,
+//! and its cells become those of a `Frozen`, which has no call that changes one.
+//!
+//! In reading order:
+//!
+//! - `value`: the nine kinds of values, their sharing and their end;
+//! - `range`: how many elements a range has, and when two have the same;
+//! - `same`, `key`: when two keys are one, and what they feed to a hash;
+//! - `dict`: pairs with distinct keys in the order in which the keys came;
+//! - `content`: what a cell holds;
+//! - `modules`, `frozen`: modules whose evaluation has ended;
+//! - `store`: the cells of the running module;
+//! - `error`: why an evaluation has no answer;
+//! - `laws`: what the definitions say together.
 #![tactic(auto)]
 
 mod content;
