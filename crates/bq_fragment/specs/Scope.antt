@@ -2,7 +2,7 @@
 use Rattle.std.specs.Prelude.{List, Bool, false, not, ◌&&◌, Option, None, Some, bytes_eq, if◌then◌else◌}
 use Rattle.bq_label.specs.declared.packages.BuildFile.{BuildFile}
 use Rattle.bq_label.specs.Label.{PackageParts, LabelParts}
-use Rattle.bq_label.specs.Packages.{path_of, owner_of}
+use Rattle.bq_label.specs.Packages.{label_path, owner_of}
 
 -- the label is of this package
 unfoldable pub is_own : PackageParts → LabelParts → Bool
@@ -14,7 +14,7 @@ is_owned_by_other l (Some b) = not (is_own b.id l)
 
 -- another package owns the path that the label names (Bazel, "Labels": a label "must not cross a package boundary")
 unfoldable pub crosses : List BuildFile → LabelParts → Bool
-crosses packages l = is_owned_by_other l (owner_of packages (path_of l))
+crosses packages l = is_owned_by_other l (owner_of packages (label_path l))
 
 -- the label is of this package, and crosses into another
 unfoldable pub own_label_crosses : PackageParts → List BuildFile → LabelParts → Bool

@@ -12,7 +12,7 @@ ghost use Rattle.bq_label.specs.Reading.{label_of};
 use crate::call_error::CallErr;
 use crate::rule::AttributeType;
 use crate::scope::Scope;
-use bq_label::{Label, is_name, read_label};
+use bq_label::{Label, is_path, read_label};
 use bq_parse::KeywordValue;
 use bq_source::{Bytes, FaultKind, SourceErr};
 use sqlite_items::Items;
@@ -104,7 +104,7 @@ pub fn labels_of(alloc: Global, scope: Scope<'_>, texts: &[Bytes]) -> Result<Ite
 fn are_names(texts: &[Bytes]) -> bool
     ensures { result ≡ list_all is_path texts.now }
 {
-    texts.iter().all(|text| is_name(text.as_slice()))
+    texts.iter().all(|text| is_path(text.as_slice()))
 }
 
 /// The names that a call declares.

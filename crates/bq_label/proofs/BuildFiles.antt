@@ -21,12 +21,12 @@ use Rattle.bq_label.specs.declared.packages.BuildFile.{BuildFile}
 use Rattle.bq_label.specs.Paths.{is_path, is_package, is_repository}
 use Rattle.bq_label.specs.Label.{PackageParts, package_at, IsPackage, last_segment}
 use Rattle.bq_label.specs.Workspace.{paths_of, path_cmp, file_at, are_paths, are_distinct, are_apart, IsWorkspace}
-use Rattle.bq_label.specs.Packages.{repository_root, home_of, directory_of, joined, wins, build_file, package_at_file, build_files_of, id_cmp, package_cmp, is_package_id, package_named, packages_of, path_of, build_path, IsBuildPath, IsPackageOf}
+use Rattle.bq_label.specs.Packages.{repository_root, split_repository, directory_of, joined, is_build_file, build_file, package_of_file, build_files, id_cmp, package_cmp, is_package_id, package_named, packages_of, label_path, build_path, IsBuildPath, IsPackageOf}
 use Rattle.bq_label.specs.Order.{in_order}
 use Rattle.bq_label.proofs.Readings.{first_of_two, second_of_two}
 use Rattle.bq_label.proofs.Above.{same_bytes, equal_bytes}
 use Rattle.bq_label.proofs.Segments.{joins}
-use Rattle.bq_label.proofs.Homes.{home}
+use Rattle.bq_label.proofs.Repositories.{in_repository}
 use Rattle.bq_label.proofs.Orders.{strict_from_sort, in_order_is, in_order_moves, in_order_ascends, at_head, in_tail, head_or_tail}
 use Rattle.bq_label.proofs.Searches.{find_here, find_nowhere}
 use Rattle.bq_label.proofs.Workspaces.{any_at_path}
@@ -34,31 +34,33 @@ use Rattle.bq_label.proofs.Workspaces.{any_at_path}
 -- what is known of the package that a file names
 pub record Named (paths : List (List ℕ)) (f : File) (b : BuildFile) : Type 0 where
   pub file : b.file ≡ f
-  pub won : wins paths f.path ≡ true
+  pub won : is_build_file paths f.path ≡ true
   pub whole : f.path ≡ repository_root b.id.repo ++ joined b.id.package (last_segment f.path)
-  pub lawful : IsPackage b.id
+  pub valid : IsPackage b.id
+  pub place : split_repository f.path ≡ Some (b.id.repo, joined b.id.package (last_segment f.path))
 
 some_same : {A : Type 0} {x y : A} → Some x ≡ Some y → x ≡ y
 some_same e = cc
 
-named_at : (paths : List (List ℕ)) (f : File) (b : BuildFile) (v : Option (List ℕ × List ℕ)) → is_path f.path ≡ true → wins paths f.path ≡ true → home_of f.path ≡ v → option_map (build_file f) v ≡ Some b → Named paths f b
+named_at : (paths : List (List ℕ)) (f : File) (b : BuildFile) (v : Option (List ℕ × List ℕ)) → is_path f.path ≡ true → is_build_file paths f.path ≡ true → split_repository f.path ≡ v → option_map (build_file f) v ≡ Some b → Named paths f b
 named_at paths f b None p w e h = absurd (cc)
 named_at paths f b (Some q) p w e h =
     let is : build_file f q ≡ b = some_same h in
-    let known = home f.path q.0 q.1 e in
-    let join = joins q.1 (known.lawful_rest p) in
+    let known = in_repository f.path q.0 q.1 e in
+    let join = joins q.1 (known.valid_rest p) in
     let named : Named paths f (build_file f q) = record {
       file = refl;
       won = w;
       whole = known.whole ∙ ap (λ (t : List ℕ). repository_root q.0 ++ t) (join.whole ∙ ap (λ (t : List ℕ). joined (directory_of q.1) t) (sym known.last));
-      lawful = record { lawful_repo = known.lawful; lawful_package = join.lawful };
+      valid = record { valid_repo = known.valid; valid_package = join.valid };
+      place = e ∙ ap (λ (t : List ℕ). Some (q.0, t)) (join.whole ∙ ap (λ (t : List ℕ). joined (directory_of q.1) t) (sym known.last));
     } in
     subst (λ (x : BuildFile). Named paths f x) is named
 
-pub named : (paths : List (List ℕ)) (f : File) (b : BuildFile) → is_path f.path ≡ true → package_at_file paths f ≡ Some b → Named paths f b
-unfolding package_at_file
-named paths f b p h = elim (cases_Bool (wins paths f.path)) [
-  | inl y ↦ named_at paths f b (home_of f.path) p y refl (sym (rw y refl) ∙ h)
+pub named : (paths : List (List ℕ)) (f : File) (b : BuildFile) → is_path f.path ≡ true → package_of_file paths f ≡ Some b → Named paths f b
+unfolding package_of_file
+named paths f b p h = elim (cases_Bool (is_build_file paths f.path)) [
+  | inl y ↦ named_at paths f b (split_repository f.path) p y refl (sym (rw y refl) ∙ h)
   | inr n ↦ let none : None ≡ Some b = sym (rw n refl) ∙ h in absurd (cc)
 ]
 
@@ -70,9 +72,9 @@ not_true : (b : Bool) → not b ≡ true → b ≡ false
 not_true true h = absurd (false≢true h)
 not_true false h = refl
 
--- the two names of a BUILD file that wins
-pub winner : (paths : List (List ℕ)) (path : List ℕ) → wins paths path ≡ true → (last_segment path ≡ codes "BUILD.bazel") ⊎ ((last_segment path ≡ codes "BUILD") × (list_any (bytes_eq (path ++ codes ".bazel")) paths ≡ false))
-unfolding wins
+-- the two names of a BUILD file that is_build_file
+pub winner : (paths : List (List ℕ)) (path : List ℕ) → is_build_file paths path ≡ true → (last_segment path ≡ codes "BUILD.bazel") ⊎ ((last_segment path ≡ codes "BUILD") × (list_any (bytes_eq (path ++ codes ".bazel")) paths ≡ false))
+unfolding is_build_file
 winner paths path h =
     let first : Bool = bytes_eq (last_segment path) (codes "BUILD.bazel") in
     let plain : Bool = bytes_eq (last_segment path) (codes "BUILD") in
@@ -140,12 +142,12 @@ same_id p q h =
 
 -- ---- no two of the packages have one name
 
--- each path is lawful, and among the paths
+-- each path is valid, and among the paths
 abbrev pub AreAmong : List (List ℕ) → List File → Type 0
 AreAmong paths fs = AllByRecursion (λ (g : File). (is_path g.path ≡ true) × (list_any (bytes_eq g.path) paths ≡ true)) fs
 
 apart_at : (paths : List (List ℕ)) (f g : File) (b : BuildFile) → Named paths f b → list_any (bytes_eq f.path) paths ≡ true → path_cmp f g ≡ Less → is_path g.path ≡ true → list_any (bytes_eq g.path) paths ≡ true
-    → (rest : List BuildFile) → AllByRecursion (λ c. eq_by_cmp package_cmp b c ≡ false) rest → (v : Option BuildFile) → package_at_file paths g ≡ v → AllByRecursion (λ c. eq_by_cmp package_cmp b c ≡ false) (cons_option v rest)
+    → (rest : List BuildFile) → AllByRecursion (λ c. eq_by_cmp package_cmp b c ≡ false) rest → (v : Option BuildFile) → package_of_file paths g ≡ v → AllByRecursion (λ c. eq_by_cmp package_cmp b c ≡ false) (cons_option v rest)
 apart_at paths f g b n hf l pg hg rest a None e = a
 apart_at paths f g b n hf l pg hg rest a (Some c) e = (
   elim (cases_Bool (eq_by_cmp package_cmp b c)) [
@@ -160,20 +162,20 @@ apart_at paths f g b n hf l pg hg rest a (Some c) e = (
 )
 
 apart_from : (paths : List (List ℕ)) (f : File) (b : BuildFile) → Named paths f b → list_any (bytes_eq f.path) paths ≡ true → (gs : List File)
-    → AllByRecursion (λ (g : File). path_cmp f g ≡ Less) gs → AreAmong paths gs → AllByRecursion (λ c. eq_by_cmp package_cmp b c ≡ false) (build_files_of paths gs)
+    → AllByRecursion (λ (g : File). path_cmp f g ≡ Less) gs → AreAmong paths gs → AllByRecursion (λ c. eq_by_cmp package_cmp b c ≡ false) (build_files paths gs)
 apart_from paths f b n hf [] l a = tt
-apart_from paths f b n hf (g ∷ gs) l a = apart_at paths f g b n hf l.0 a.0.0 a.0.1 (build_files_of paths gs) (apart_from paths f b n hf gs l.1 a.1) (package_at_file paths g) refl
+apart_from paths f b n hf (g ∷ gs) l a = apart_at paths f g b n hf l.0 a.0.0 a.0.1 (build_files paths gs) (apart_from paths f b n hf gs l.1 a.1) (package_of_file paths g) refl
 
 distinct_at : (paths : List (List ℕ)) (f : File) (fs : List File) → is_path f.path ≡ true → list_any (bytes_eq f.path) paths ≡ true → AllByRecursion (λ (g : File). path_cmp f g ≡ Less) fs → AreAmong paths fs
-    → IsDistinct (eq_by_cmp package_cmp) (build_files_of paths fs) → (v : Option BuildFile) → package_at_file paths f ≡ v → IsDistinct (eq_by_cmp package_cmp) (cons_option v (build_files_of paths fs))
+    → IsDistinct (eq_by_cmp package_cmp) (build_files paths fs) → (v : Option BuildFile) → package_of_file paths f ≡ v → IsDistinct (eq_by_cmp package_cmp) (cons_option v (build_files paths fs))
 unfolding IsDistinct
 distinct_at paths f fs pf hf l a d None e = d
 distinct_at paths f fs pf hf l a d (Some b) e = (apart_from paths f b (named paths f b pf e) hf fs l a, d)
 
-distinct_by : (paths : List (List ℕ)) (fs : List File) → IsStrictlySortedBy path_cmp fs → AreAmong paths fs → IsDistinct (eq_by_cmp package_cmp) (build_files_of paths fs)
+distinct_by : (paths : List (List ℕ)) (fs : List File) → IsStrictlySortedBy path_cmp fs → AreAmong paths fs → IsDistinct (eq_by_cmp package_cmp) (build_files paths fs)
 unfolding IsDistinct
 distinct_by paths [] s a = tt
-distinct_by paths (f ∷ fs) s a = distinct_at paths f fs a.0.0 a.0.1 (sorted_head path_cmp f fs s) a.1 (distinct_by paths fs (sorted_tail path_cmp f fs s) a.1) (package_at_file paths f) refl
+distinct_by paths (f ∷ fs) s a = distinct_at paths f fs a.0.0 a.0.1 (sorted_head path_cmp f fs s) a.1 (distinct_by paths fs (sorted_tail path_cmp f fs s) a.1) (package_of_file paths f) refl
 
 among : (paths more : List (List ℕ)) (fs : List File) → ((p : List ℕ) → list_any (bytes_eq p) (paths_of fs) ≡ true → list_any (bytes_eq p) paths ≡ true) → list_all is_path (paths_of fs) ≡ true → AreAmong paths fs
 among paths more [] up h = tt
@@ -186,49 +188,49 @@ among paths more (f ∷ fs) up h =
     later : (p q : List ℕ) (ps : List (List ℕ)) → list_any (bytes_eq p) ps ≡ true → (bytes_eq p q || list_any (bytes_eq p) ps) ≡ true
     later p q ps i = elim (cases_Bool (bytes_eq p q)) [ inl y ↦ rw y refl | inr n ↦ rw (n, i) refl ]
 
-lawful_paths : (files : List File) → IsWorkspace files → list_all is_path (paths_of files) ≡ true
+valid_paths : (files : List File) → IsWorkspace files → list_all is_path (paths_of files) ≡ true
 unfolding are_paths
-lawful_paths files w =
+valid_paths files w =
     let ps : List (List ℕ) = paths_of files in
-    first_of_two (list_all is_path ps) (are_distinct ps) (first_of_two (list_all is_path ps && are_distinct ps) (are_apart ps) w.lawful)
+    first_of_two (list_all is_path ps) (are_distinct ps) (first_of_two (list_all is_path ps && are_distinct ps) (are_apart ps) w.valid)
 
-pub distinct_build_files : (files : List File) → IsWorkspace files → IsDistinct (eq_by_cmp package_cmp) (build_files_of (paths_of files) files)
-distinct_build_files files w = distinct_by (paths_of files) files w.ascending (among (paths_of files) [] files (λ p i. i) (lawful_paths files w))
+pub distinct_build_files : (files : List File) → IsWorkspace files → IsDistinct (eq_by_cmp package_cmp) (build_files (paths_of files) files)
+distinct_build_files files w = distinct_by (paths_of files) files w.ascending (among (paths_of files) [] files (λ p i. i) (valid_paths files w))
 
-lawful_in : (fs : List File) (k : ℕ) (d : File) → list_all is_path (paths_of fs) ≡ true → k < length fs → is_path ((get_or fs k d).path) ≡ true
-lawful_in [] k d h l = absurd (omega arith)
-lawful_in (f ∷ fs) zero d h l = first_of_two (is_path f.path) (list_all is_path (paths_of fs)) h
-lawful_in (f ∷ fs) (suc k) d h l = lawful_in fs k d (second_of_two (is_path f.path) (list_all is_path (paths_of fs)) h) (omega arith)
+valid_in : (fs : List File) (k : ℕ) (d : File) → list_all is_path (paths_of fs) ≡ true → k < length fs → is_path ((get_or fs k d).path) ≡ true
+valid_in [] k d h l = absurd (omega arith)
+valid_in (f ∷ fs) zero d h l = first_of_two (is_path f.path) (list_all is_path (paths_of fs)) h
+valid_in (f ∷ fs) (suc k) d h l = valid_in fs k d (second_of_two (is_path f.path) (list_all is_path (paths_of fs)) h) (omega arith)
 
-pub lawful_path : (files : List File) (k : ℕ) (d : File) → IsWorkspace files → k < length files → is_path ((get_or files k d).path) ≡ true
-lawful_path files k d w l = lawful_in files k d (lawful_paths files w) l
+pub valid_path : (files : List File) (k : ℕ) (d : File) → IsWorkspace files → k < length files → is_path ((get_or files k d).path) ≡ true
+valid_path files k d w l = valid_in files k d (valid_paths files w) l
 
--- the package of a lawful path is lawful
-pub home_package : (path r rest : List ℕ) → is_path path ≡ true → home_of path ≡ Some (r, rest) → IsPackage (package_at r (directory_of rest))
-home_package path r rest p e =
-    let known = home path r rest e in
-    record { lawful_repo = known.lawful; lawful_package = (joins rest (known.lawful_rest p)).lawful }
+-- the package of a valid path is valid
+pub repository_package : (path r rest : List ℕ) → is_path path ≡ true → split_repository path ≡ Some (r, rest) → IsPackage (package_at r (directory_of rest))
+repository_package path r rest p e =
+    let known = in_repository path r rest e in
+    record { valid_repo = known.valid; valid_package = (joins rest (known.valid_rest p)).valid }
 
 -- the packages of a workspace, sorted
-pub packages_ascend : (files : List File) (ys : List BuildFile) → IsWorkspace files → IsPermutation (build_files_of (paths_of files) files) ys → IsSorted package_cmp ys → IsStrictlySortedBy package_cmp ys
-packages_ascend files ys w p s = strict_from_sort package_cmp by_package (build_files_of (paths_of files) files) ys p s (distinct_build_files files w)
+pub packages_ascend : (files : List File) (ys : List BuildFile) → IsWorkspace files → IsPermutation (build_files (paths_of files) files) ys → IsSorted package_cmp ys → IsStrictlySortedBy package_cmp ys
+packages_ascend files ys w p s = strict_from_sort package_cmp by_package (build_files (paths_of files) files) ys p s (distinct_build_files files w)
 
-pub packages_are : (files : List File) (ys : List BuildFile) → IsWorkspace files → IsPermutation (build_files_of (paths_of files) files) ys → IsSorted package_cmp ys → ys ≡ packages_of files
+pub packages_are : (files : List File) (ys : List BuildFile) → IsWorkspace files → IsPermutation (build_files (paths_of files) files) ys → IsSorted package_cmp ys → ys ≡ packages_of files
 unfolding packages_of
-packages_are files ys w p s = sym (in_order_is package_cmp by_package (build_files_of (paths_of files) files) ys p (packages_ascend files ys w p s))
+packages_are files ys w p s = sym (in_order_is package_cmp by_package (build_files (paths_of files) files) ys p (packages_ascend files ys w p s))
 
 -- one file further
-pub one_more : (paths : List (List ℕ)) (files : List File) (k : ℕ) (d : File) (done : List BuildFile) → k < length files → done ≡ build_files_of paths (take k files) → (v : Option BuildFile) → v ≡ package_at_file paths (get_or files k d) → done ++ cons_option v [] ≡ build_files_of paths (take (k + 1) files)
+pub one_more : (paths : List (List ℕ)) (files : List File) (k : ℕ) (d : File) (done : List BuildFile) → k < length files → done ≡ build_files paths (take k files) → (v : Option BuildFile) → v ≡ package_of_file paths (get_or files k d) → done ++ cons_option v [] ≡ build_files paths (take (k + 1) files)
 one_more paths files k d done l e v h =
     let more : take (k + 1) files ≡ take k files ++ get_or files k d ∷ [] = take_more files k d l in
-    ap (λ (t : List BuildFile). t ++ cons_option v []) e ∙ (ap (λ (u : Option BuildFile). build_files_of paths (take k files) ++ cons_option u []) h ∙ (sym (filter_map-append (package_at_file paths) (take k files) (get_or files k d ∷ [])) ∙ ap (build_files_of paths) (sym more)))
+    ap (λ (t : List BuildFile). t ++ cons_option v []) e ∙ (ap (λ (u : Option BuildFile). build_files paths (take k files) ++ cons_option u []) h ∙ (sym (filter_map-append (package_of_file paths) (take k files) (get_or files k d ∷ [])) ∙ ap (build_files paths) (sym more)))
 
 nil_right : {X : Type 0} (xs : List X) → xs ++ [] ≡ xs
 nil_right [] = refl
 nil_right (x ∷ xs) = ap (λ t. x ∷ t) (nil_right xs)
 
 -- one file further, which names no package
-pub none_more : (paths : List (List ℕ)) (files : List File) (k : ℕ) (d : File) (done : List BuildFile) → k < length files → done ≡ build_files_of paths (take k files) → None ≡ package_at_file paths (get_or files k d) → done ≡ build_files_of paths (take (k + 1) files)
+pub none_more : (paths : List (List ℕ)) (files : List File) (k : ℕ) (d : File) (done : List BuildFile) → k < length files → done ≡ build_files paths (take k files) → None ≡ package_of_file paths (get_or files k d) → done ≡ build_files paths (take (k + 1) files)
 none_more paths files k d done l e h = sym (nil_right done) ∙ one_more paths files k d done l e None h
 
 -- ---- the package of a name
@@ -241,16 +243,16 @@ pub package_nowhere : (packages : List BuildFile) (repo path : List ℕ) → IsS
 unfolding package_named
 package_nowhere packages repo path s i p = find_nowhere (λ (b : BuildFile). b.id) by_id (is_package_id repo path) (package_at repo path) (λ b. same_id_test b.id (package_at repo path)) packages s i p
 
-pub wins_preferred : (paths : List (List ℕ)) (path : List ℕ) → bytes_eq (last_segment path) (codes "BUILD.bazel") ≡ true → wins paths path ≡ true
-unfolding wins
+pub wins_preferred : (paths : List (List ℕ)) (path : List ℕ) → bytes_eq (last_segment path) (codes "BUILD.bazel") ≡ true → is_build_file paths path ≡ true
+unfolding is_build_file
 wins_preferred paths path h = rw h refl
 
-pub wins_not : (paths : List (List ℕ)) (path : List ℕ) → bytes_eq (last_segment path) (codes "BUILD.bazel") ≡ false → bytes_eq (last_segment path) (codes "BUILD") ≡ false → wins paths path ≡ false
-unfolding wins
+pub wins_not : (paths : List (List ℕ)) (path : List ℕ) → bytes_eq (last_segment path) (codes "BUILD.bazel") ≡ false → bytes_eq (last_segment path) (codes "BUILD") ≡ false → is_build_file paths path ≡ false
+unfolding is_build_file
 wins_not paths path h k = rw (h, k) refl
 
-pub wins_plain : (files : List File) (path : List ℕ) → bytes_eq (last_segment path) (codes "BUILD.bazel") ≡ false → bytes_eq (last_segment path) (codes "BUILD") ≡ true → wins (paths_of files) path ≡ not (is_some (file_at files (path ++ codes ".bazel")))
-unfolding wins
+pub wins_plain : (files : List File) (path : List ℕ) → bytes_eq (last_segment path) (codes "BUILD.bazel") ≡ false → bytes_eq (last_segment path) (codes "BUILD") ≡ true → is_build_file (paths_of files) path ≡ not (is_some (file_at files (path ++ codes ".bazel")))
+unfolding is_build_file
 wins_plain files path h k = rw (h, k) (ap not (any_at_path files (path ++ codes ".bazel")))
 
 pub none_is_not_some : (b s : Bool) → s ≡ not b → b ≡ not s
@@ -259,19 +261,19 @@ none_is_not_some false s h = sym (ap not h)
 
 -- ---- the packages in words
 
-any_known : (paths : List (List ℕ)) (fs : List File) (b : BuildFile) → Contains (build_files_of paths fs) b → (f : File) × (Contains fs f) × (package_at_file paths f ≡ Some b)
+any_known : (paths : List (List ℕ)) (fs : List File) (b : BuildFile) → Contains (build_files paths fs) b → (f : File) × (Contains fs f) × (package_of_file paths f ≡ Some b)
 any_known paths [] b c = absurd (omega arith)
-any_known paths (f ∷ fs) b c = known_by (package_at_file paths f) refl c (λ d. any_known paths fs b d)
+any_known paths (f ∷ fs) b c = known_by (package_of_file paths f) refl c (λ d. any_known paths fs b d)
   where
-    known_by : (v : Option BuildFile) → package_at_file paths f ≡ v → Contains (cons_option v (build_files_of paths fs)) b → (Contains (build_files_of paths fs) b → (g : File) × (Contains fs g) × (package_at_file paths g ≡ Some b)) → (g : File) × (Contains (f ∷ fs) g) × (package_at_file paths g ≡ Some b)
+    known_by : (v : Option BuildFile) → package_of_file paths f ≡ v → Contains (cons_option v (build_files paths fs)) b → (Contains (build_files paths fs) b → (g : File) × (Contains fs g) × (package_of_file paths g ≡ Some b)) → (g : File) × (Contains (f ∷ fs) g) × (package_of_file paths g ≡ Some b)
     known_by None e c ih = let r = ih c in (r.0, in_tail f fs r.0 r.1, r.2)
-    known_by (Some a) e c ih = elim (head_or_tail a (build_files_of paths fs) b c) [
+    known_by (Some a) e c ih = elim (head_or_tail a (build_files paths fs) b c) [
       | inl is ↦ (f, at_head f fs, e ∙ ap Some is)
       | inr d ↦ let r = ih d in (r.0, in_tail f fs r.0 r.1, r.2)
     ]
 
-contained_lawful : (files : List File) (f : File) → IsWorkspace files → Contains files f → is_path f.path ≡ true
-contained_lawful files f w c = sym (ap (λ (g : File). is_path g.path) c.2) ∙ lawful_path files c.0 f w c.1
+contained_valid : (files : List File) (f : File) → IsWorkspace files → Contains files f → is_path f.path ≡ true
+contained_valid files f w c = sym (ap (λ (g : File). is_path g.path) c.2) ∙ valid_path files c.0 f w c.1
 
 no_file_from : (files : List File) (path : List ℕ) → list_any (bytes_eq path) (paths_of files) ≡ false → file_at files path ≡ None
 no_file_from files path h = none_from (file_at files path) (sym (any_at_path files path) ∙ h)
@@ -281,7 +283,7 @@ no_file_from files path h = none_from (file_at files path) (sym (any_at_path fil
     none_from (Some f) e = absurd (false≢true (sym e))
 
 path_place : (p : PackageParts) (name : List ℕ) → place p name ≡ build_path p name
-unfolding path_of
+unfolding label_path
 path_place p name = refl
 
 build_words : (files : List File) (f : File) (b : BuildFile) → Named (paths_of files) f b → IsBuildPath files b.id f.path
@@ -296,14 +298,16 @@ build_words files f b n = elim (winner (paths_of files) f.path n.won) [
 pub package_words : (files : List File) (b : BuildFile) → IsWorkspace files → Contains (packages_of files) b → IsPackageOf files b
 unfolding packages_of
 package_words files b w c =
-    let found : List BuildFile = build_files_of (paths_of files) files in
+    let found : List BuildFile = build_files (paths_of files) files in
     let there : Contains found b = Contains-permutation (in_order package_cmp found) found b (IsPermutation-sym found (in_order package_cmp found) (in_order_moves package_cmp by_package found)) c in
     let r = any_known (paths_of files) files b there in
-    let n : Named (paths_of files) r.0 b = named (paths_of files) r.0 b (contained_lawful files r.0 w r.1) r.2 in
+    let n : Named (paths_of files) r.0 b = named (paths_of files) r.0 b (contained_valid files r.0 w r.1) r.2 in
     let known : Contains files b.file = subst (λ (g : File). Contains files g) (sym n.file) r.1 in
     let build : IsBuildPath files b.id b.file.path = subst (λ (g : File). IsBuildPath files b.id g.path) (sym n.file) (build_words files r.0 b n) in
-    record { known = known; lawful = n.lawful; build = build }
+    let place : split_repository b.file.path ≡ Some (b.id.repo, joined b.id.package (last_segment b.file.path)) =
+    subst (λ (g : File). split_repository g.path ≡ Some (b.id.repo, joined b.id.package (last_segment g.path))) (sym n.file) n.place in
+    record { known = known; valid = n.valid; build = build; repository = place }
 
 pub packages_apart : (files : List File) → IsWorkspace files → IsStrictlySortedBy package_cmp (packages_of files)
 unfolding packages_of
-packages_apart files w = in_order_ascends package_cmp by_package (build_files_of (paths_of files) files) (distinct_build_files files w)
+packages_apart files w = in_order_ascends package_cmp by_package (build_files (paths_of files) files) (distinct_build_files files w)

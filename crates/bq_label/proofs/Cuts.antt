@@ -7,7 +7,7 @@ use Rattle.std.specs.List.{list_any}
 use Rattle.std.specs.Option.{option_map}
 use Rattle.bq_label.specs.Paths.{is_slash}
 use Rattle.bq_label.specs.Label.{last_segment}
-use Rattle.bq_label.specs.Reading.{cut_at}
+use Rattle.bq_label.specs.Reading.{split_once}
 
 apart : (a b : ℕ) → a ≢ b → (a == b) ≡ false
 apart a b n = grind (arith, nat_tests)
@@ -16,8 +16,8 @@ same : (a b : ℕ) → a ≡ b → (a == b) ≡ true
 same a b e = grind (arith, nat_tests)
 
 -- the first such byte
-pub cut_here : (c : ℕ) (xs : List ℕ) (i : ℕ) → i < length xs → slice_index xs i ≡ c → ((k : ℕ) → k < i → slice_index xs k ≢ c) → cut_at c xs ≡ Some (take i xs, drop (suc i) xs)
-unfolding cut_at
+pub cut_here : (c : ℕ) (xs : List ℕ) (i : ℕ) → i < length xs → slice_index xs i ≡ c → ((k : ℕ) → k < i → slice_index xs k ≢ c) → split_once c xs ≡ Some (take i xs, drop (suc i) xs)
+unfolding split_once
 cut_here c [] i h p n = absurd (omega arith)
 cut_here c (b ∷ bs) zero h p n = rw (same b c p) refl
 cut_here c (b ∷ bs) (suc i) h p n =
@@ -25,8 +25,8 @@ cut_here c (b ∷ bs) (suc i) h p n =
     rw (other, cut_here c bs i (omega arith) p (λ k l. n (suc k) (omega arith))) refl
 
 -- no such byte
-pub cut_nowhere : (c : ℕ) (xs : List ℕ) → ((k : ℕ) → k < length xs → slice_index xs k ≢ c) → cut_at c xs ≡ None
-unfolding cut_at
+pub cut_nowhere : (c : ℕ) (xs : List ℕ) → ((k : ℕ) → k < length xs → slice_index xs k ≢ c) → split_once c xs ≡ None
+unfolding split_once
 cut_nowhere c [] n = refl
 cut_nowhere c (b ∷ bs) n =
     let other : (b == c) ≡ false = apart b c (n 0 (omega arith)) in
@@ -73,8 +73,8 @@ last_from xs zero e n = last_whole xs n
 last_from xs (suc i) e n = absurd (omega arith)
 
 -- the first such byte of joined texts
-pub cut_joined : (c : ℕ) (xs ys : List ℕ) → list_any (λ b. b == c) xs ≡ false → cut_at c (xs ++ c ∷ ys) ≡ Some (xs, ys)
-unfolding cut_at
+pub cut_joined : (c : ℕ) (xs ys : List ℕ) → list_any (λ b. b == c) xs ≡ false → split_once c (xs ++ c ∷ ys) ≡ Some (xs, ys)
+unfolding split_once
 cut_joined c [] ys n = rw (same c c refl) refl
 cut_joined c (b ∷ bs) ys n = elim (cases_Bool (b == c)) [
   | inl y ↦ absurd (false≢true (sym n ∙ rw y refl))
@@ -82,8 +82,8 @@ cut_joined c (b ∷ bs) ys n = elim (cases_Bool (b == c)) [
 ]
 
 -- a text without such a byte
-pub cut_none : (c : ℕ) (xs : List ℕ) → list_any (λ b. b == c) xs ≡ false → cut_at c xs ≡ None
-unfolding cut_at
+pub cut_none : (c : ℕ) (xs : List ℕ) → list_any (λ b. b == c) xs ≡ false → split_once c xs ≡ None
+unfolding split_once
 cut_none c [] n = refl
 cut_none c (b ∷ bs) n = elim (cases_Bool (b == c)) [
   | inl y ↦ absurd (false≢true (sym n ∙ rw y refl))
@@ -97,13 +97,13 @@ put_first c b bs (Some r) q ih e =
     subst (λ (t : List ℕ × List ℕ). b ∷ bs ≡ t.0 ++ c ∷ t.1) back (ap (λ t. b ∷ t) (ih r refl))
 
 -- the two parts and the byte are the whole text
-pub cut_whole : (c : ℕ) (xs : List ℕ) (q : List ℕ × List ℕ) → cut_at c xs ≡ Some q → xs ≡ q.0 ++ c ∷ q.1
-unfolding cut_at
+pub cut_whole : (c : ℕ) (xs : List ℕ) (q : List ℕ × List ℕ) → split_once c xs ≡ Some q → xs ≡ q.0 ++ c ∷ q.1
+unfolding split_once
 cut_whole c [] q e = cc
 cut_whole c (b ∷ bs) q e = elim (cases_Bool (b == c)) [
   | inl y ↦
       let here : ([], bs) ≡ q = let e' : Some ([], bs) ≡ Some q = sym (rw y refl) ∙ e in cc in
       let is : b ≡ c = grind (arith, nat_tests) in
       subst (λ (t : List ℕ × List ℕ). b ∷ bs ≡ t.0 ++ c ∷ t.1) here (ap (λ t. t ∷ bs) is)
-  | inr o ↦ put_first c b bs (cut_at c bs) q (λ r h. cut_whole c bs r h) (sym (rw o refl) ∙ e)
+  | inr o ↦ put_first c b bs (split_once c bs) q (λ r h. cut_whole c bs r h) (sym (rw o refl) ∙ e)
 ]

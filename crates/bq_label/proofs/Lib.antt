@@ -4,8 +4,9 @@ pub mod Orders
 pub mod Searches
 pub mod Above
 pub mod Workspaces
+pub mod Neighbours
 pub mod Segments
-pub mod Homes
+pub mod Repositories
 pub mod BuildFiles
 pub mod Owners
 pub mod FullForms

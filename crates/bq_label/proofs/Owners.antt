@@ -14,7 +14,7 @@ use Rattle.std.proofs.lemmas.Map.Keys.{sorted_head, sorted_tail}
 use Rattle.bq_label.specs.declared.packages.BuildFile.{BuildFile}
 use Rattle.bq_label.specs.Label.{PackageParts, package_at}
 use Rattle.bq_label.specs.Workspace.{is_above}
-use Rattle.bq_label.specs.Packages.{id_cmp, package_cmp, is_package_id, package_named, is_over, nearer, nearest, nearest_over, home_of, owner_of, IsOver, IsOwner, OwnerIs}
+use Rattle.bq_label.specs.Packages.{id_cmp, package_cmp, is_package_id, package_named, is_over, nearer, nearest, nearest_over, split_repository, owner_of, IsOver, IsOwner, OwnerIs}
 use Rattle.bq_label.proofs.Above.{same_bytes, equal_bytes, above_take, above_length, above_slash, above_front, above_whole, above_joined}
 use Rattle.bq_label.proofs.Orders.{at_head, in_tail, head_or_tail}
 use Rattle.bq_label.proofs.Readings.{first_of_two, second_of_two}
@@ -338,6 +338,6 @@ unfolding nearest_over
 owner_is packages repo rest = owner_words packages repo rest (nearest (filter (is_over repo rest) packages)) refl
 
 -- a path in no repository has no owner, and any other has that of its path there
-pub owner_at : (packages : List BuildFile) (path repo rest : List ℕ) → home_of path ≡ Some (repo, rest) → OwnerIs packages repo rest (owner_of packages path)
+pub owner_at : (packages : List BuildFile) (path repo rest : List ℕ) → split_repository path ≡ Some (repo, rest) → OwnerIs packages repo rest (owner_of packages path)
 unfolding owner_of
 owner_at packages path repo rest h = rw h (owner_is packages repo rest)

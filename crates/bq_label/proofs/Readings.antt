@@ -6,7 +6,7 @@ use Rattle.std.specs.List.{list_any, list_all, slice_split}
 use mathlib.Core.Bool.{false≢true}
 use Rattle.bq_label.specs.Paths.{is_slash, is_path_byte, is_segment, is_path, is_package, is_repository, is_repository_byte}
 use Rattle.bq_label.specs.Label.{PackageParts, LabelParts, label_at, label_in, package_of, IsLabel, IsWritten, absolute, short, own_name, bare_name, external, external_short, repository, ReadsAs, last_segment, full_form, at_sign, BeginsOther}
-use Rattle.bq_label.specs.Reading.{cut_at, label_of_parts, absolute_label, external_label, label_of_repository, first_is, parts_of, is_label, lawful_label, label_of}
+use Rattle.bq_label.specs.Reading.{split_once, label_of_parts, absolute_label, external_label, label_of_repository, first_is, parts_of, is_label, valid_label, label_of}
 use Rattle.bq_label.proofs.Cuts.{cut_joined, cut_none, cut_whole}
 
 -- a byte that fails a test isn't among those that pass
@@ -41,7 +41,7 @@ pub no_slash : (r : List ℕ) → is_repository r ≡ true → list_any (λ b. b
 unfolding is_repository
 no_slash r h = none_of is_repository_byte 47 refl r h
 
--- a lawful path begins with neither a slash nor a colon
+-- a valid path begins with neither a slash nor a colon
 pub path_begins : (b : ℕ) (bs : List ℕ) → is_path (b ∷ bs) ≡ true → ((b == 47) ≡ false) × ((b == 58) ≡ false)
 unfolding is_path
 path_begins b bs h =
@@ -86,33 +86,33 @@ bare own (b ∷ bs) h o =
 -- every form names its parts
 pub parts_written : (own : PackageParts) (text : List ℕ) (l : LabelParts) → IsLabel l → IsWritten own text l → parts_of own text ≡ Some l
 unfolding parts_of
-parts_written own text l h (absolute t r) = rw (t, ← r) (ap Some (absolute_whole l.repo l.package l.name h.lawful_package))
-parts_written own text l h (short t n r) = rw (t, ← r) (ap Some (absolute_short l.repo l.package h.lawful_package ∙ ap (λ (x : List ℕ). label_at l.repo l.package x) (sym n)))
+parts_written own text l h (absolute t r) = rw (t, ← r) (ap Some (absolute_whole l.repo l.package l.name h.valid_package))
+parts_written own text l h (short t n r) = rw (t, ← r) (ap Some (absolute_short l.repo l.package h.valid_package ∙ ap (λ (x : List ℕ). label_at l.repo l.package x) (sym n)))
 parts_written own text l h (own_name t p) = rw t (ap Some (own_label own l p))
-parts_written own text l h (bare_name t b p) = rw t (bare own l.name h.lawful_name (subst (λ (x : List ℕ). BeginsOther at_sign x) t b) ∙ ap Some (own_label own l p))
-parts_written own text l h (external t) = rw t (external_whole l.repo _ h.lawful_repo ∙ ap Some (absolute_whole l.repo l.package l.name h.lawful_package))
-parts_written own text l h (external_short t n) = rw t (external_whole l.repo _ h.lawful_repo ∙ ap Some (absolute_short l.repo l.package h.lawful_package ∙ ap (λ (x : List ℕ). label_at l.repo l.package x) (sym n)))
-parts_written own text l h (repository t p n) = rw t (external_alone l.repo h.lawful_repo ∙ ap Some (ap (λ (x : List ℕ). label_at l.repo x l.repo) (sym p) ∙ ap (λ (x : List ℕ). label_at l.repo l.package x) (sym n)))
+parts_written own text l h (bare_name t b p) = rw t (bare own l.name h.valid_name (subst (λ (x : List ℕ). BeginsOther at_sign x) t b) ∙ ap Some (own_label own l p))
+parts_written own text l h (external t) = rw t (external_whole l.repo _ h.valid_repo ∙ ap Some (absolute_whole l.repo l.package l.name h.valid_package))
+parts_written own text l h (external_short t n) = rw t (external_whole l.repo _ h.valid_repo ∙ ap Some (absolute_short l.repo l.package h.valid_package ∙ ap (λ (x : List ℕ). label_at l.repo l.package x) (sym n)))
+parts_written own text l h (repository t p n) = rw t (external_alone l.repo h.valid_repo ∙ ap Some (ap (λ (x : List ℕ). label_at l.repo x l.repo) (sym p) ∙ ap (λ (x : List ℕ). label_at l.repo l.package x) (sym n)))
 
 pub is_label_from : (l : LabelParts) → IsLabel l → is_label l ≡ true
 unfolding is_label
-is_label_from l h = rw (h.lawful_repo, h.lawful_package, h.lawful_name) refl
+is_label_from l h = rw (h.valid_repo, h.valid_package, h.valid_name) refl
 
-pub lawful_from : (l : LabelParts) → is_label l ≡ true → IsLabel l
+pub valid_from : (l : LabelParts) → is_label l ≡ true → IsLabel l
 unfolding is_label
-lawful_from l h = record {
-  lawful_repo = first_of_two _ _ (first_of_two _ _ h);
-  lawful_package = second_of_two _ _ (first_of_two _ _ h);
-  lawful_name = second_of_two _ _ h;
+valid_from l h = record {
+  valid_repo = first_of_two _ _ (first_of_two _ _ h);
+  valid_package = second_of_two _ _ (first_of_two _ _ h);
+  valid_name = second_of_two _ _ h;
 }
 
 -- what reads as a label is read as that label
 pub label_from_reading : (own : PackageParts) (text : List ℕ) (l : LabelParts) → ReadsAs own text l → label_of own text ≡ Some l
-unfolding label_of lawful_label
-label_from_reading own text l r = rw (parts_written own text l r.lawful r.written, is_label_from l r.lawful) refl
+unfolding label_of valid_label
+label_from_reading own text l r = rw (parts_written own text l r.valid r.written, is_label_from l r.valid) refl
 
 -- what stands behind `//`, cut at the first colon
-absolute_parts : (r t : List ℕ) (l : LabelParts) (v : Option (List ℕ × List ℕ)) → cut_at 58 t ≡ v → label_of_parts r t v ≡ l
+absolute_parts : (r t : List ℕ) (l : LabelParts) (v : Option (List ℕ × List ℕ)) → split_once 58 t ≡ v → label_of_parts r t v ≡ l
     → ((t ≡ l.package ++ 58 ∷ l.name) ⊎ ((t ≡ l.package) × (l.name ≡ last_segment l.package))) × (l.repo ≡ r)
 absolute_parts r t l None e h = (inr (ap (λ (x : LabelParts). x.package) h, sym (ap (λ (x : LabelParts). x.name) h) ∙ ap (λ (x : LabelParts). last_segment x.package) h), sym (ap (λ (x : LabelParts). x.repo) h))
 absolute_parts r t l (Some p) e h = (inl (cut_whole 58 t p e ∙ (ap (λ (x : LabelParts). x.package ++ 58 ∷ x.name) h)), sym (ap (λ (x : LabelParts). x.repo) h))
@@ -120,7 +120,7 @@ absolute_parts r t l (Some p) e h = (inl (cut_whole 58 t p e ∙ (ap (λ (x : La
 absolute_reads : (r t : List ℕ) (l : LabelParts) → absolute_label r t ≡ l
     → ((t ≡ l.package ++ 58 ∷ l.name) ⊎ ((t ≡ l.package) × (l.name ≡ last_segment l.package))) × (l.repo ≡ r)
 unfolding absolute_label
-absolute_reads r t l h = absolute_parts r t l (cut_at 58 t) refl h
+absolute_reads r t l h = absolute_parts r t l (split_once 58 t) refl h
 
 some_is : {A : Type 0} {x y : A} → Some x ≡ Some y → x ≡ y
 some_is e = cc
@@ -144,7 +144,7 @@ external_absolute own r t l e = let f = absolute_reads r t l e in elim f.0 [
 slashes : (r : List ℕ) (b : ℕ) (rest : List ℕ) → b ≡ 47 → (t : List ℕ) → t ≡ r ++ 47 ∷ b ∷ rest → t ≡ r ++ 47 ∷ 47 ∷ rest
 slashes r b rest is t e = e ∙ ap (λ x. r ++ 47 ∷ x ∷ rest) is
 
-external_of : (own : PackageParts) (t : List ℕ) (l : LabelParts) (v : Option (List ℕ × List ℕ)) → cut_at 47 t ≡ v → label_of_repository t v ≡ Some l → IsWritten own (64 ∷ t) l
+external_of : (own : PackageParts) (t : List ℕ) (l : LabelParts) (v : Option (List ℕ × List ℕ)) → split_once 47 t ≡ v → label_of_repository t v ≡ Some l → IsWritten own (64 ∷ t) l
 external_of own t l None e h =
     let is : label_at t [] t ≡ l = some_is h in
     repository (ap (λ (x : LabelParts). 64 ∷ x.repo) is) (sym (ap (λ (x : LabelParts). x.package) is)) (sym (ap (λ (x : LabelParts). x.name) is) ∙ ap (λ (x : LabelParts). x.repo) is)
@@ -159,7 +159,7 @@ external_of own t l (Some (r, b ∷ rest)) e h = elim (cases_Bool (b == 47)) [
 
 external_written : (own : PackageParts) (t : List ℕ) (l : LabelParts) → external_label t ≡ Some l → IsWritten own (64 ∷ t) l
 unfolding external_label
-external_written own t l h = external_of own t l (cut_at 47 t) refl h
+external_written own t l h = external_of own t l (split_once 47 t) refl h
 
 two_slashes : (b : ℕ) (bs : List ℕ) → (b == 47 && first_is 47 bs) ≡ true → b ∷ bs ≡ 47 ∷ 47 ∷ drop 1 bs
 two_slashes b [] h = absurd (false≢true (second_of_two (b == 47) false h))
@@ -192,20 +192,20 @@ written_from_parts own (b ∷ bs) l h = elim (cases_Bool (b == 64)) [
   ]
 ]
 
-lawful_is : (m l : LabelParts) → lawful_label m ≡ Some l → (m ≡ l) × (is_label m ≡ true)
-unfolding lawful_label
-lawful_is m l h = elim (cases_Bool (is_label m)) [
+valid_is : (m l : LabelParts) → valid_label m ≡ Some l → (m ≡ l) × (is_label m ≡ true)
+unfolding valid_label
+valid_is m l h = elim (cases_Bool (is_label m)) [
   | inl y ↦ (some_is (sym (rw y refl) ∙ h), y)
   | inr n ↦ let none : None ≡ Some l = sym (rw n refl) ∙ h in absurd (cc)
 ]
 
-both : (own : PackageParts) (text : List ℕ) (l : LabelParts) (v : Option LabelParts) → parts_of own text ≡ v → option_and_then lawful_label v ≡ Some l → ReadsAs own text l
+both : (own : PackageParts) (text : List ℕ) (l : LabelParts) (v : Option LabelParts) → parts_of own text ≡ v → option_and_then valid_label v ≡ Some l → ReadsAs own text l
 both own text l None e h = absurd (cc)
 both own text l (Some m) e h =
-    let f = lawful_is m l h in
+    let f = valid_is m l h in
     record {
       written = written_from_parts own text l (e ∙ ap Some f.0);
-      lawful = lawful_from l (sym (ap is_label f.0) ∙ f.1);
+      valid = valid_from l (sym (ap is_label f.0) ∙ f.1);
     }
 
 -- what is read as a label reads as that label
@@ -223,7 +223,7 @@ full_form_written own main (b ∷ bs) p n = external refl
 
 -- a label's full form reads as the label in every file of the main repository
 pub full_form_reads : (own : PackageParts) (l : LabelParts) → own.repo ≡ [] → IsLabel l → ReadsAs own (full_form l) l
-full_form_reads own l main h = record { written = full_form_written own main l.repo l.package l.name; lawful = h }
+full_form_reads own l main h = record { written = full_form_written own main l.repo l.package l.name; valid = h }
 
 pub one_full_form : (l m : LabelParts) → IsLabel l → IsLabel m → full_form l ≡ full_form m → l ≡ m
 one_full_form l m hl hm e =

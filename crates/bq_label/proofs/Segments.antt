@@ -1,4 +1,4 @@
--- Paths are joined of lawful paths.
+-- Paths are joined of valid paths.
 use Rattle.std.proofs.Common.{◌≡◌, ◌+◌, ◌-◌, ◌<◌, ◌≤◌, ◌++◌, ◌==◌, ◌&&◌, ◌||◌, ◌⊎◌, ℕ, zero, suc, Bool, true, false, List, [], ◌∷◌, length, take, drop, if◌then◌else◌, refl, sym, ap, subst, ◌∙◌, arith, length-append, append_assoc, inl, inr}
 use Rattle.std.proofs.Math.Seq.{take-append_seam}
 use Rattle.std.proofs.lemmas.Bool.{cases_Bool, false≢true}
@@ -102,14 +102,14 @@ package_path : (d : List ℕ) → is_path d ≡ true → is_package d ≡ true
 unfolding is_package
 package_path d h = rw h (or_true _)
 
--- a path's directory is lawful, and joined with the last segment it is the path
+-- a path's directory is valid, and joined with the last segment it is the path
 pub record Joins (path : List ℕ) : Type 0 where
   pub whole : path ≡ joined (directory_of path) (last_segment path)
-  pub lawful : is_package (directory_of path) ≡ true
+  pub valid : is_package (directory_of path) ≡ true
 
-root_lawful : is_package [] ≡ true
+root_valid : is_package [] ≡ true
 unfolding is_package
-root_lawful = refl
+root_valid = refl
 
 pub joins : (path : List ℕ) → is_path path ≡ true → Joins path
 joins path h = elim (last_cut path) [
@@ -117,13 +117,13 @@ joins path h = elim (last_cut path) [
       let at : directory_of path ≡ [] = directory_of_plain path none in
       record {
         whole = sym (last_whole path none) ∙ ap (λ (d : List ℕ). joined d (last_segment path)) (sym at);
-        lawful = ap is_package at ∙ root_lawful;
+        valid = ap is_package at ∙ root_valid;
       }
   | inr c ↦
       let f = path_joined c.directory c.name (sym (ap is_path c.whole) ∙ h) in
       let at : directory_of path ≡ c.directory = directory_of_cut path c in
       record {
         whole = c.whole ∙ (sym (path_some c.directory f.0 c.name) ∙ (ap (λ (d : List ℕ). joined d c.name) (sym at) ∙ ap (λ (n : List ℕ). joined (directory_of path) n) (sym (last_of_cut path c))));
-        lawful = ap is_package at ∙ package_path c.directory f.0;
+        valid = ap is_package at ∙ package_path c.directory f.0;
       }
 ]

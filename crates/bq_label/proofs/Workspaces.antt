@@ -19,7 +19,7 @@ use Rattle.std.proofs.lemmas.Map.Keys.{sorted_head, sorted_tail, sorted_from_all
 use Rattle.bq_label.specs.declared.workspace.File.{File}
 use Rattle.bq_label.specs.Paths.{is_path}
 use Rattle.bq_label.specs.Order.{in_order}
-use Rattle.bq_label.specs.Workspace.{is_above, are_distinct, are_apart, are_paths, paths_of, path_cmp, file_at, file_limit, workspace_of, IsWorkspace, IsWorkspaceOf}
+use Rattle.bq_label.specs.Workspace.{is_above, are_distinct, are_apart, are_paths, paths_of, path_cmp, file_at, max_files, workspace_of, IsWorkspace, IsWorkspaceOf}
 use Rattle.bq_label.proofs.Above.{same_bytes, equal_bytes, above_take, above_length, above_slash, above_front}
 use Rattle.bq_label.proofs.Orders.{in_order_is, in_order_moves, in_order_ascends}
 use Rattle.bq_label.proofs.Readings.{first_of_two, second_of_two}
@@ -125,7 +125,7 @@ not_ascending files k d s l n =
 pub strict_from_adjacent : (files : List File) → ((k : ℕ) (d : File) → k + 1 < length files → path_cmp (get_or files k d) (get_or files (k + 1) d) ≡ Less) → IsStrictlySortedBy path_cmp files
 strict_from_adjacent files f = sorted_from_all_adjacent by_path files no_file (λ k l. f k no_file l)
 
-same_default : (files : List File) (k : ℕ) (d e : File) → k < length files → get_or files k d ≡ get_or files k e
+pub same_default : (files : List File) (k : ℕ) (d e : File) → k < length files → get_or files k d ≡ get_or files k e
 same_default [] k d e l = absurd (omega arith)
 same_default (f ∷ fs) zero d e l = refl
 same_default (f ∷ fs) (suc k) d e l = same_default fs k d e (omega arith)
@@ -150,9 +150,9 @@ copied_some (Some f) = refl
 
 -- ---- the checks together, for files in any order
 
-pub are_paths_is : (files : List File) → are_paths (paths_of files) ≡ (list_all (λ (f : File). is_path f.path) files && are_distinct (paths_of files) && list_all (λ (f : File). not (list_any (λ d. is_above d f.path) (paths_of files))) files)
-unfolding are_paths are_apart
-are_paths_is files = rw (list_all-map is_path (λ (f : File). f.path) files, list_all-map (λ p. not (list_any (λ d. is_above d p) (paths_of files))) (λ (f : File). f.path) files) refl
+pub are_paths_is : (files : List File) → are_paths (paths_of files) ≡ (list_all (λ (f : File). is_path f.path) files && are_distinct (paths_of files) && are_apart (paths_of files))
+unfolding are_paths
+are_paths_is files = rw (list_all-map is_path (λ (f : File). f.path) files) refl
 
 list_all_not : {X : Type 0} (p : X → Bool) (xs : List X) → list_all p xs ≡ not (list_any (λ x. not (p x)) xs)
 list_all_not p [] = refl
@@ -220,24 +220,24 @@ paths_moved files moved m =
 
 -- ---- the workspace of files
 
-pub too_many : (files : List File) → file_limit < length files → workspace_of files ≡ None
+pub too_many : (files : List File) → max_files < length files → workspace_of files ≡ None
 unfolding workspace_of
-too_many files l = let no : nat_le (length files) file_limit ≡ false = grind (arith, nat_tests) in rw no refl
+too_many files l = let no : nat_le (length files) max_files ≡ false = grind (arith, nat_tests) in rw no refl
 
-pub no_workspace : (files moved : List File) → length files ≤ file_limit → IsPermutation files moved → are_paths (paths_of moved) ≡ false → workspace_of files ≡ None
+pub no_workspace : (files moved : List File) → length files ≤ max_files → IsPermutation files moved → are_paths (paths_of moved) ≡ false → workspace_of files ≡ None
 unfolding workspace_of
 no_workspace files moved l m h =
-    let few : nat_le (length files) file_limit ≡ true = grind (arith, nat_tests) in
+    let few : nat_le (length files) max_files ≡ true = grind (arith, nat_tests) in
     rw (few, paths_moved files moved m, h) refl
 
-pub workspace_is : (files moved : List File) → length files ≤ file_limit → IsPermutation files moved → IsStrictlySortedBy path_cmp moved → are_paths (paths_of moved) ≡ true → workspace_of files ≡ Some moved
+pub workspace_is : (files moved : List File) → length files ≤ max_files → IsPermutation files moved → IsStrictlySortedBy path_cmp moved → are_paths (paths_of moved) ≡ true → workspace_of files ≡ Some moved
 unfolding workspace_of
 workspace_is files moved l m s h =
-    let few : nat_le (length files) file_limit ≡ true = grind (arith, nat_tests) in
+    let few : nat_le (length files) max_files ≡ true = grind (arith, nat_tests) in
     rw (few, paths_moved files moved m, h) (ap Some (in_order_is path_cmp by_path files moved m s))
 
-pub is_workspace : (files moved : List File) → length files ≤ file_limit → IsPermutation files moved → IsStrictlySortedBy path_cmp moved → are_paths (paths_of moved) ≡ true → IsWorkspace moved
-is_workspace files moved l m s h = record { few = omega (arith, length_permutation files moved m); lawful = h; ascending = s }
+pub is_workspace : (files moved : List File) → length files ≤ max_files → IsPermutation files moved → IsStrictlySortedBy path_cmp moved → are_paths (paths_of moved) ≡ true → IsWorkspace moved
+is_workspace files moved l m s h = record { few = omega (arith, length_permutation files moved m); valid = h; ascending = s }
 
 -- no file is at a path
 pub any_at_path : (files : List File) (path : List ℕ) → list_any (bytes_eq path) (paths_of files) ≡ is_some (file_at files path)
@@ -277,17 +277,17 @@ some_list e = cc
 
 pub workspace_found : (files w : List File) → workspace_of files ≡ Some w → IsWorkspaceOf files w
 unfolding workspace_of
-workspace_found files w h = elim (cases_Bool (nat_le (length files) file_limit && are_paths (paths_of files))) [
+workspace_found files w h = elim (cases_Bool (nat_le (length files) max_files && are_paths (paths_of files))) [
   | inr n ↦ let none : None ≡ Some w = sym (rw n refl) ∙ h in absurd (cc)
   | inl y ↦
-      let few : length files ≤ file_limit = few_from (length files) file_limit (first_of_two (nat_le (length files) file_limit) (are_paths (paths_of files)) y) in
-      let lawful : are_paths (paths_of files) ≡ true = second_of_two (nat_le (length files) file_limit) (are_paths (paths_of files)) y in
+      let few : length files ≤ max_files = few_from (length files) max_files (first_of_two (nat_le (length files) max_files) (are_paths (paths_of files)) y) in
+      let valid : are_paths (paths_of files) ≡ true = second_of_two (nat_le (length files) max_files) (are_paths (paths_of files)) y in
       let is : in_order path_cmp files ≡ w = some_list (sym (rw y refl) ∙ h) in
       let moved : IsPermutation files (in_order path_cmp files) = in_order_moves path_cmp by_path files in
-      let strict : IsStrictlySortedBy path_cmp (in_order path_cmp files) = in_order_ascends path_cmp by_path files (distinct_files files (paths_distinct (paths_of files) lawful)) in
-      let whole : IsWorkspaceOf files (in_order path_cmp files) = record { moved = moved; lawful = is_workspace files (in_order path_cmp files) few moved strict (sym (paths_moved files (in_order path_cmp files) moved) ∙ lawful) } in
+      let strict : IsStrictlySortedBy path_cmp (in_order path_cmp files) = in_order_ascends path_cmp by_path files (distinct_files files (paths_distinct (paths_of files) valid)) in
+      let whole : IsWorkspaceOf files (in_order path_cmp files) = record { moved = moved; valid = is_workspace files (in_order path_cmp files) few moved strict (sym (paths_moved files (in_order path_cmp files) moved) ∙ valid) } in
       subst (λ (v : List File). IsWorkspaceOf files v) is whole
 ]
 
 pub workspace_from : (files w : List File) → IsWorkspaceOf files w → workspace_of files ≡ Some w
-workspace_from files w h = workspace_is files w (omega (arith, h.lawful.few, length_permutation files w h.moved)) h.moved h.lawful.ascending h.lawful.lawful
+workspace_from files w h = workspace_is files w (omega (arith, h.valid.few, length_permutation files w h.moved)) h.moved h.valid.ascending h.valid.valid

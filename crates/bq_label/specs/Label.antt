@@ -37,13 +37,13 @@ abbrev pub label_in : PackageParts → List ℕ → LabelParts
 label_in p n = label_at p.repo p.package n
 
 pub record IsPackage (p : PackageParts) : Type 0 where
-  pub lawful_repo : is_repository p.repo ≡ true
-  pub lawful_package : is_package p.package ≡ true
+  pub valid_repo : is_repository p.repo ≡ true
+  pub valid_package : is_package p.package ≡ true
 
 pub record IsLabel (l : LabelParts) : Type 0 where
-  pub lawful_repo : is_repository l.repo ≡ true
-  pub lawful_package : is_package l.package ≡ true
-  pub lawful_name : is_path l.name ≡ true
+  pub valid_repo : is_repository l.repo ≡ true
+  pub valid_package : is_package l.package ≡ true
+  pub valid_name : is_path l.name ≡ true
 
 abbrev pub at_sign : ℕ
 at_sign = 64
@@ -58,14 +58,14 @@ unfoldable pub full_form : LabelParts → List ℕ
 full_form l = repository_prefix l.repo ++ (codes "//" ++ (l.package ++ (codes ":" ++ l.name)))
 
 -- how texts compare that are followed by a byte that neither has
-unfoldable pub ended : ℕ → List ℕ → List ℕ → Ordering
-ended c xs ys = slice_cmp nat_cmp (xs ++ c ∷ []) (ys ++ c ∷ [])
+unfoldable pub cmp_ended : ℕ → List ℕ → List ℕ → Ordering
+cmp_ended c xs ys = slice_cmp nat_cmp (xs ++ c ∷ []) (ys ++ c ∷ [])
 
 -- how `package:name` of two labels compare
-abbrev pub names_of : LabelParts → LabelParts → Ordering
-names_of a b = ordering_then (ended 58 a.package b.package) (slice_cmp nat_cmp a.name b.name)
+abbrev pub cmp_names : LabelParts → LabelParts → Ordering
+cmp_names a b = ordering_then (cmp_ended 58 a.package b.package) (slice_cmp nat_cmp a.name b.name)
 
--- what stands behind the last slash of a path
+-- the text after the last slash of a path
 unfoldable pub last_segment : List ℕ → List ℕ
 last_segment [] = []
 last_segment (b ∷ bs) = if is_slash b || list_any is_slash bs then last_segment bs else b ∷ bs
@@ -95,4 +95,4 @@ pub data IsWritten (own : PackageParts) (text : List ℕ) (l : LabelParts) : Typ
 -- a text reads as a label in a file of the package `own`
 pub record ReadsAs (own : PackageParts) (text : List ℕ) (l : LabelParts) : Type 0 where
   pub written : IsWritten own text l
-  pub lawful : IsLabel l
+  pub valid : IsLabel l

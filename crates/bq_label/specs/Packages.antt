@@ -9,11 +9,11 @@ use Rattle.bq_label.specs.declared.workspace.File.{File}
 use Rattle.bq_label.specs.declared.packages.BuildFile.{BuildFile}
 use Rattle.bq_label.specs.Paths.{is_repository, is_slash, is_path}
 use Rattle.bq_label.specs.Label.{PackageParts, LabelParts, package_at, label_in, IsPackage, last_segment}
-use Rattle.bq_label.specs.Reading.{cut_at}
+use Rattle.bq_label.specs.Reading.{split_once}
 use Rattle.bq_label.specs.Order.{in_order}
 use Rattle.bq_label.specs.Workspace.{is_above, paths_of, file_at}
 
--- what stands in front of the path of a file of a repository
+-- what precedes the path of a file of a repository
 abbrev pub repository_root : List ℕ → List ℕ
 repository_root [] = []
 repository_root (b ∷ bs) = codes "external/" ++ (b ∷ bs ++ codes "/")
@@ -24,45 +24,45 @@ joined [] name = name
 joined (b ∷ bs) name = b ∷ bs ++ 47 ∷ name
 
 -- the path that a label names: its package's directory, then its name
-unfoldable pub path_of : LabelParts → List ℕ
-path_of l = repository_root l.repo ++ joined l.package l.name
+unfoldable pub label_path : LabelParts → List ℕ
+label_path l = repository_root l.repo ++ joined l.package l.name
 
--- the name of the directory of repositories, and the slash behind it
+-- the name of the directory of repositories, and the slash after it
 abbrev pub external_root : List ℕ
 external_root = codes "external/"
 
-abbrev pub home_behind : Option (List ℕ × List ℕ) → Option (List ℕ × List ℕ)
-home_behind None = None
-home_behind (Some p) = if not (bytes_eq p.0 []) && is_repository p.0 then Some p else None
+abbrev pub split_repository_by : Option (List ℕ × List ℕ) → Option (List ℕ × List ℕ)
+split_repository_by None = None
+split_repository_by (Some p) = if not (bytes_eq p.0 []) && is_repository p.0 then Some p else None
 
 -- the repository that a path lies in, and its path there: `external/NAME/REST` is REST of repository NAME, and any
 -- other path below `external` is in no repository
-unfoldable pub home_of : List ℕ → Option (List ℕ × List ℕ)
-home_of path = if starts_with nat_eq path external_root then home_behind (cut_at 47 (drop 9 path)) else Some ([], path)
+unfoldable pub split_repository : List ℕ → Option (List ℕ × List ℕ)
+split_repository path = if starts_with nat_eq path external_root then split_repository_by (split_once 47 (drop 9 path)) else Some ([], path)
 
--- what stands before the last slash
+-- the text before the last slash
 unfoldable pub directory_of : List ℕ → List ℕ
 directory_of path = take (length path - length (last_segment path) - 1) path
 
--- the file is its directory's BUILD file: `BUILD.bazel`, or `BUILD` where no `BUILD.bazel` stands beside it
-unfoldable pub wins : List (List ℕ) → List ℕ → Bool
-wins paths path = bytes_eq (last_segment path) (codes "BUILD.bazel")
+-- the file is its directory's BUILD file: `BUILD.bazel`, or `BUILD` where there is no `BUILD.bazel` beside it
+unfoldable pub is_build_file : List (List ℕ) → List ℕ → Bool
+is_build_file paths path = bytes_eq (last_segment path) (codes "BUILD.bazel")
     || (bytes_eq (last_segment path) (codes "BUILD") && not (list_any (bytes_eq (path ++ codes ".bazel")) paths))
 
 abbrev pub build_file : File → List ℕ × List ℕ → BuildFile
-build_file f home = record { id = package_at home.0 (directory_of home.1); file = f }
+build_file f found = record { id = package_at found.0 (directory_of found.1); file = f }
 
 -- the BUILD file's own label
 unfoldable pub build_label : BuildFile → Option LabelParts
 build_label b = if is_path (last_segment b.file.path) then Some (label_in b.id (last_segment b.file.path)) else None
 
 -- the package whose BUILD file this is
-unfoldable pub package_at_file : List (List ℕ) → File → Option BuildFile
-package_at_file paths f = if wins paths f.path then option_map (build_file f) (home_of f.path) else None
+unfoldable pub package_of_file : List (List ℕ) → File → Option BuildFile
+package_of_file paths f = if is_build_file paths f.path then option_map (build_file f) (split_repository f.path) else None
 
 -- the packages whose BUILD files these are, in the order of the files
-abbrev pub build_files_of : List (List ℕ) → List File → List BuildFile
-build_files_of paths files = filter_map (package_at_file paths) files
+abbrev pub build_files : List (List ℕ) → List File → List BuildFile
+build_files paths files = filter_map (package_of_file paths) files
 
 -- packages by the bytes of their repositories, and then of their paths
 abbrev pub id_cmp : PackageParts → PackageParts → Ordering
@@ -73,7 +73,7 @@ package_cmp a b = id_cmp a.id b.id
 
 -- the packages of a workspace, in their order
 unfoldable pub packages_of : List File → List BuildFile
-packages_of files = in_order package_cmp (build_files_of (paths_of files) files)
+packages_of files = in_order package_cmp (build_files (paths_of files) files)
 
 abbrev pub is_package_id : List ℕ → List ℕ → BuildFile → Bool
 is_package_id repo path b = bytes_eq b.id.repo repo && bytes_eq b.id.package path
@@ -101,11 +101,11 @@ nearest_over packages repo rest = nearest (filter (is_over repo rest) packages)
 
 -- a path's owner: the package whose directory is the nearest above it in its repository
 unfoldable pub owner_of : List BuildFile → List ℕ → Option BuildFile
-owner_of packages path = option_and_then (λ h. nearest_over packages h.0 h.1) (home_of path)
+owner_of packages path = option_and_then (λ h. nearest_over packages h.0 h.1) (split_repository path)
 
 -- the path of the BUILD file of this name
 abbrev pub build_path : PackageParts → List ℕ → List ℕ
-build_path p name = path_of (label_in p name)
+build_path p name = label_path (label_in p name)
 
 -- the file is the package's BUILD file: `BUILD.bazel`, or `BUILD` where there is no `BUILD.bazel`
 abbrev pub IsBuildPath : List File → PackageParts → List ℕ → Type 0
@@ -114,8 +114,9 @@ IsBuildPath files p path = (path ≡ build_path p (codes "BUILD.bazel")) ⊎ ((p
 -- a package of a workspace
 pub record IsPackageOf (files : List File) (b : BuildFile) : Type 0 where
   pub known : Contains files b.file
-  pub lawful : IsPackage b.id
+  pub valid : IsPackage b.id
   pub build : IsBuildPath files b.id b.file.path
+  pub repository : split_repository b.file.path ≡ Some (b.id.repo, joined b.id.package (last_segment b.file.path))
 
 -- the package's directory is above a path of the repository, or the repository's root
 pub record IsOver (repo rest : List ℕ) (b : BuildFile) : Type 0 where
@@ -143,7 +144,7 @@ pub record HasBuildFile (files : List File) (p : PackageParts) : Type 0 where
   pub known : Contains files file
   pub name : List ℕ
   pub build_name : IsBuildName name
-  pub home : home_of file.path ≡ Some (p.repo, joined p.package name)
+  pub repository : split_repository file.path ≡ Some (p.repo, joined p.package name)
 
 -- one of the packages has this name
 pub record IsListed (packages : List BuildFile) (p : PackageParts) : Type 0 where

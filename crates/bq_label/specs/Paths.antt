@@ -1,5 +1,5 @@
 -- Which texts are paths, names of targets and names of repositories (Bazel, "Labels", lexical specification).
-use Rattle.std.specs.Prelude.{◌≡◌, ℕ, ◌==◌, ◌&&◌, ◌||◌, Bool, true, not, nat_le, List, [], bytes_eq, codes}
+use Rattle.std.specs.Prelude.{◌≡◌, ℕ, suc, ◌==◌, ◌&&◌, ◌||◌, Bool, true, not, nat_le, List, [], ◌∷◌, bytes_eq, codes, if◌then◌else◌}
 use Rattle.std.specs.List.{list_all, slice_split}
 
 -- what parts the segments of a path
@@ -29,3 +29,9 @@ is_repository_byte b = (nat_le 97 b && nat_le b 122) || (nat_le 65 b && nat_le b
 -- a repository's name, which is empty for the main one
 unfoldable pub is_repository : List ℕ → Bool
 is_repository name = list_all is_repository_byte name
+
+-- how many bytes two texts have in common at the front
+unfoldable pub common_len : List ℕ → List ℕ → ℕ
+common_len [] ys = 0
+common_len (x ∷ xs) [] = 0
+common_len (x ∷ xs) (y ∷ ys) = if x == y then suc (common_len xs ys) else 0

@@ -1,4 +1,4 @@
--- How a label's text is read: a function that answers as the forms of `Label.antt` say (`proofs/Reading.antt`).
+-- How a label's text is read: a function that gives what the forms of `Label.antt` say (the law `forms_of_a_label`).
 use Rattle.std.specs.Prelude.{◌≡◌, ◌≢◌, ℕ, ◌==◌, ◌&&◌, Bool, true, false, List, [], ◌∷◌, Option, Some, None, Result, Ok, Err, drop, if◌then◌else◌, option_and_then}
 use Rattle.std.specs.Option.{option_map}
 use Rattle.bq_source.specs.Fault.{fault_at}
@@ -8,19 +8,19 @@ use Rattle.bq_source.specs.declared.fault.SourceErr.TheVariants.{Bad, Memory}
 use Rattle.bq_label.specs.Paths.{is_path, is_package, is_repository}
 use Rattle.bq_label.specs.Label.{PackageParts, LabelParts, label_at, label_in, last_segment, at_sign}
 
--- the text before the first such byte, and the text behind it
-unfoldable pub cut_at : ℕ → List ℕ → Option (List ℕ × List ℕ)
-cut_at c [] = None
-cut_at c (b ∷ bs) = if b == c then Some ([], bs) else option_map (λ p. (b ∷ p.0, p.1)) (cut_at c bs)
+-- the text before the first such byte, and the text after it
+unfoldable pub split_once : ℕ → List ℕ → Option (List ℕ × List ℕ)
+split_once c [] = None
+split_once c (b ∷ bs) = if b == c then Some ([], bs) else option_map (λ p. (b ∷ p.0, p.1)) (split_once c bs)
 
 -- `package:name` or `package`
 abbrev pub label_of_parts : List ℕ → List ℕ → Option (List ℕ × List ℕ) → LabelParts
 label_of_parts repo text None = label_at repo text (last_segment text)
 label_of_parts repo text (Some p) = label_at repo p.0 p.1
 
--- what stands behind `//`
+-- what follows `//`
 unfoldable pub absolute_label : List ℕ → List ℕ → LabelParts
-absolute_label repo text = label_of_parts repo text (cut_at 58 text)
+absolute_label repo text = label_of_parts repo text (split_once 58 text)
 
 abbrev pub first_is : ℕ → List ℕ → Bool
 first_is c [] = false
@@ -30,11 +30,11 @@ abbrev pub label_of_repository : List ℕ → Option (List ℕ × List ℕ) → 
 label_of_repository text None = Some (label_at text [] text)
 label_of_repository text (Some p) = if first_is 47 p.1 then Some (absolute_label p.0 (drop 1 p.1)) else None
 
--- what stands behind `@`
+-- what follows `@`
 unfoldable pub external_label : List ℕ → Option LabelParts
-external_label text = label_of_repository text (cut_at 47 text)
+external_label text = label_of_repository text (split_once 47 text)
 
--- the parts that a text names, which may be unlawful
+-- the parts that a text names, which may be invalid
 unfoldable pub parts_of : PackageParts → List ℕ → Option LabelParts
 parts_of own [] = Some (label_in own [])
 parts_of own (b ∷ bs) =
@@ -46,12 +46,12 @@ parts_of own (b ∷ bs) =
 unfoldable pub is_label : LabelParts → Bool
 is_label l = is_repository l.repo && is_package l.package && is_path l.name
 
-unfoldable pub lawful_label : LabelParts → Option LabelParts
-lawful_label l = if is_label l then Some l else None
+unfoldable pub valid_label : LabelParts → Option LabelParts
+valid_label l = if is_label l then Some l else None
 
 -- the label that a text reads as in a file of the package `own`
 unfoldable pub label_of : PackageParts → List ℕ → Option LabelParts
-label_of own text = option_and_then lawful_label (parts_of own text)
+label_of own text = option_and_then valid_label (parts_of own text)
 
 -- the label is read; or there is none, which is fault F78; or a growth was refused
 abbrev pub AnswersLabel : Option LabelParts → Result LabelParts SourceErr → Type 0

@@ -1,19 +1,19 @@
--- The files of a workspace: which lists are lawful, and the order that they stand in.
-use Rattle.std.specs.Prelude.{◌≡◌, ℕ, ◌++◌, ◌&&◌, ◌≤◌, Bool, true, not, nat_le, nat_eq, List, [], ◌∷◌, length, Option, Some, None, map, bytes_eq, if◌then◌else◌}
+-- The files of a workspace: which lists are valid, and their order.
+use Rattle.std.specs.Prelude.{◌≡◌, ℕ, ◌++◌, ◌&&◌, ◌==◌, ◌≤◌, Bool, true, not, nat_le, nat_lt, nat_eq, slice_index, take, is_some, List, [], ◌∷◌, length, Option, Some, None, map, bytes_eq, if◌then◌else◌}
 use Rattle.std.specs.List.{list_all, list_any, starts_with, find}
 use Rattle.std.specs.List.Sorted.{IsStrictlySortedBy, IsPermutation}
 use Rattle.std.specs.declared.cmp.Ordering.{Ordering}
 use Rattle.std.specs.Ordering.{nat_cmp}
 use Rattle.std.specs.Cmp.Lexicographic.{slice_cmp}
 use Rattle.bq_label.specs.declared.workspace.File.{File}
-use Rattle.bq_label.specs.Paths.{is_path}
+use Rattle.bq_label.specs.Paths.{is_path, common_len}
 use Rattle.bq_label.specs.Order.{in_order}
 
--- the path goes on behind the directory and a slash
+-- the path goes on after the directory and a slash
 unfoldable pub is_above : List ℕ → List ℕ → Bool
 is_above directory path = starts_with nat_eq path (directory ++ 47 ∷ [])
 
--- no text stands twice
+-- no text is there twice
 unfoldable pub are_distinct : List (List ℕ) → Bool
 are_distinct [] = true
 are_distinct (p ∷ ps) = not (list_any (bytes_eq p) ps) && are_distinct ps
@@ -26,10 +26,10 @@ abbrev pub paths_of : List File → List (List ℕ)
 paths_of files = map (λ f. f.path) files
 
 -- at most so many files
-abbrev pub file_limit : ℕ
-file_limit = 65536
+abbrev pub max_files : ℕ
+max_files = 65536
 
--- the paths are lawful and distinct, none is a directory of another, and they are not too many
+-- the paths are valid and distinct, none is a directory of another, and they are not too many
 unfoldable pub are_paths : List (List ℕ) → Bool
 are_paths paths = list_all is_path paths && are_distinct paths && are_apart paths
 
@@ -37,21 +37,28 @@ are_paths paths = list_all is_path paths && are_distinct paths && are_apart path
 abbrev pub path_cmp : File → File → Ordering
 path_cmp f g = slice_cmp nat_cmp f.path g.path
 
--- the files of a lawful list in the order of their paths
+-- the files of a valid list in the order of their paths
 unfoldable pub workspace_of : List File → Option (List File)
-workspace_of files = if nat_le (length files) file_limit && are_paths (paths_of files) then Some (in_order path_cmp files) else None
+workspace_of files = if nat_le (length files) max_files && are_paths (paths_of files) then Some (in_order path_cmp files) else None
 
 -- the files of a workspace, in their order
 pub record IsWorkspace (files : List File) : Type 0 where
-  pub few : length files ≤ file_limit
-  pub lawful : are_paths (paths_of files) ≡ true
+  pub few : length files ≤ max_files
+  pub valid : are_paths (paths_of files) ≡ true
   pub ascending : IsStrictlySortedBy path_cmp files
 
 -- the files, in the order of a workspace
 pub record IsWorkspaceOf (files workspace : List File) : Type 0 where
   pub moved : IsPermutation files workspace
-  pub lawful : IsWorkspace workspace
+  pub valid : IsWorkspace workspace
 
 -- the file at a path
 unfoldable pub file_at : List File → List ℕ → Option File
 file_at files path = find (λ f. bytes_eq f.path path) files
+
+-- a path goes on with a slash where it parts from another path, and a file is there
+unfoldable pub parts_at_file : List File → List ℕ → List ℕ → Bool
+parts_at_file files before path =
+    nat_lt (common_len before path) (length path)
+    && slice_index path (common_len before path) == 47
+    && is_some (file_at files (take (common_len before path) path))

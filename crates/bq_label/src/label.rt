@@ -39,7 +39,7 @@ impl Label {
     /// The repository's name, empty for the main one.
     pub fn repo(&self) -> &Bytes
         ensures value { result.now ≡ self.now.repo }
-        ensures lawful { IsLabel self.now }
+        ensures valid { IsLabel self.now }
     {
         let _name = &self.name;
         self.package.repo()
@@ -48,7 +48,7 @@ impl Label {
     /// The package's path in its repository, empty for the root.
     pub fn package(&self) -> &Bytes
         ensures value { result.now ≡ self.now.package }
-        ensures lawful { IsLabel self.now }
+        ensures valid { IsLabel self.now }
     {
         let _name = &self.name;
         self.package.package()
@@ -57,7 +57,7 @@ impl Label {
     /// The name in the package.
     pub fn name(&self) -> &Bytes
         ensures value { result.now ≡ self.now.name }
-        ensures lawful { IsLabel self.now }
+        ensures valid { IsLabel self.now }
     {
         &self.name
     }

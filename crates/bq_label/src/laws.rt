@@ -7,7 +7,7 @@ ghost use Rattle.std.specs.List.Sorted.{IsStrictlySortedBy};
 ghost use Rattle.bq_label.specs.declared.workspace.File.{File};
 ghost use Rattle.bq_label.specs.declared.packages.BuildFile.{BuildFile};
 ghost use Rattle.bq_label.specs.Workspace.{workspace_of, IsWorkspace, IsWorkspaceOf};
-ghost use Rattle.bq_label.specs.Packages.{packages_of, package_cmp, IsPackageOf, HasBuildFile, IsListed, home_of, owner_of, OwnerIs};
+ghost use Rattle.bq_label.specs.Packages.{packages_of, package_cmp, IsPackageOf, HasBuildFile, IsListed, split_repository, owner_of, OwnerIs};
 ghost use Rattle.bq_label.specs.Label.{PackageParts, LabelParts, IsLabel, ReadsAs, full_form};
 ghost use Rattle.bq_label.specs.Reading.{label_of};
 
@@ -32,7 +32,7 @@ pub fn one_full_form()
 {}
 
 /// A workspace of files is these files in the one order in which each path is below the next, where the paths are
-/// lawful and distinct and none is a directory of another.
+/// valid and distinct and none is a directory of another.
 pub fn one_order()
     ensures { (files w : List File) → (workspace_of files ≡ Some w) ↔ IsWorkspaceOf files w }
 {}
@@ -47,12 +47,12 @@ pub fn a_build_file_makes_a_package()
     ensures { (files : List File) (p : PackageParts) → HasBuildFile files p → IsListed (packages_of files) p }
 {}
 
-/// Each package stands once, and below the next.
+/// Each package is there once, and below the next.
 pub fn one_entry_each()
     ensures { (files : List File) → IsWorkspace files → IsStrictlySortedBy package_cmp (packages_of files) }
 {}
 
 /// A path's owner is the package above it in its repository that has the longest path.
 pub fn the_nearest_owner()
-    ensures { (packages : List BuildFile) (path repo rest : List ℕ) → home_of path ≡ Some (repo, rest) → OwnerIs packages repo rest (owner_of packages path) }
+    ensures { (packages : List BuildFile) (path repo rest : List ℕ) → split_repository path ≡ Some (repo, rest) → OwnerIs packages repo rest (owner_of packages path) }
 {}

@@ -9,13 +9,12 @@
 //! - `package_id`, `label`: what a package and a label are;
 //! - `split`, `read`: which label a text reads as in a package;
 //! - `print`, `order`: a label's full form, and the order of labels by it;
-//! - `workspace`: the files, and which lists of files are lawful;
-//! - `home`: the repository that a path lies in, and the path that a label names;
+//! - `workspace`: the files, and which lists of files are valid;
+//! - `repository`: the repository that a path lies in, and the path that a label names;
 //! - `packages`: the packages of a workspace, and the owner of a path;
 //! - `laws`: what the definitions say together.
 #![tactic(auto)]
 
-mod home;
 mod label;
 pub mod laws;
 mod order;
@@ -24,16 +23,15 @@ mod packages;
 mod path;
 mod print;
 mod read;
+mod repository;
 mod split;
-#[cfg(test)]
-mod tests;
 mod workspace;
 
-pub use home::label_path;
 pub use label::Label;
 pub use package_id::PackageId;
 pub use packages::{BuildFile, Packages};
-pub use path::{is_name, is_repository_name};
+pub use path::{is_path, is_repository};
 pub use print::print_label;
 pub use read::read_label;
-pub use workspace::{FILE_LIMIT, File, PathErr, Workspace};
+pub use repository::label_path;
+pub use workspace::{File, MAX_FILES, PathErr, Workspace};

@@ -2,7 +2,7 @@
 
 ghost use Rattle.std.specs.Prelude.{◌≡◌, ◌==◌, false, slice_index_or};
 ghost use Rattle.std.specs.List.{list_any};
-ghost use Rattle.bq_label.specs.Label.{ended, names_of};
+ghost use Rattle.bq_label.specs.Label.{cmp_ended, cmp_names};
 
 use crate::label::Label;
 use std::cmp::Ordering;
@@ -22,7 +22,7 @@ fn byte_or(text: &[u8], at: usize, end: u8) -> u8
 fn cmp_ended(a: &[u8], b: &[u8], end: u8) -> Ordering
     requires plain_a { list_any (λ x. x == end) a.now ≡ false }
     requires plain_b { list_any (λ x. x == end) b.now ≡ false }
-    ensures { result ≡ ended end a.now b.now }
+    ensures { result ≡ cmp_ended end a.now b.now }
 {
     let shared = a.len().min(b.len());
     let by_front = a[..shared].cmp(&b[..shared]);
@@ -31,7 +31,7 @@ fn cmp_ended(a: &[u8], b: &[u8], end: u8) -> Ordering
 
 /// How `package:name` of two labels compare.
 fn cmp_names(a: &Label, b: &Label) -> Ordering
-    ensures { result ≡ names_of a.now b.now }
+    ensures { result ≡ cmp_names a.now b.now }
 {
     let by_package = cmp_ended(a.package().as_slice(), b.package().as_slice(), b':');
     by_package.then(a.name().as_slice().cmp(b.name().as_slice()))

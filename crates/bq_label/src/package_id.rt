@@ -2,7 +2,7 @@
 
 ghost use Rattle.std.specs.Prelude.{◌≡◌, [], IfOk, MatchOption};
 
-use crate::path::{is_package_path, is_repository_name};
+use crate::path::{is_package, is_repository};
 use bq_source::Bytes;
 use std::alloc::AllocError;
 use std::marker::Model;
@@ -30,19 +30,19 @@ impl PackageId {
     ghost use Rattle.bq_label.specs.Label.{PackageParts, IsPackage, package_at};
 
     /// The package of a repository, whose name is empty for the main one, at a path, which is empty for the root. There
-    /// is none where one of them is not lawful.
+    /// is none where one of them is not valid.
     pub fn new(repo: Bytes, package: Bytes) -> Option<PackageId>
         ensures { MatchOption result (IsPackage (package_at repo «package») → ⊥) (λ p. (p ≡ package_at repo «package») × IsPackage p) }
     {
-        if is_repository_name(repo.as_slice()) && is_package_path(package.as_slice()) {
+        if is_repository(repo.as_slice()) && is_package(package.as_slice()) {
             Some(PackageId { repo, package })
         } else {
             None
         }
     }
 
-    /// The package, where both names are known to be lawful.
-    pub(crate) fn lawful(repo: Bytes, package: Bytes) -> PackageId
+    /// The package, where both names are known to be valid.
+    pub(crate) fn from_parts(repo: Bytes, package: Bytes) -> PackageId
         requires { IsPackage (package_at repo «package») }
         ensures { result ≡ package_at repo «package» }
     {
@@ -63,7 +63,7 @@ impl PackageId {
     /// The repository's name, empty for the main one.
     pub fn repo(&self) -> &Bytes
         ensures value { result.now ≡ self.now.repo }
-        ensures lawful { IsPackage self.now }
+        ensures valid { IsPackage self.now }
     {
         &self.repo
     }
@@ -71,7 +71,7 @@ impl PackageId {
     /// The path in the repository, empty for the root.
     pub fn package(&self) -> &Bytes
         ensures value { result.now ≡ self.now.package }
-        ensures lawful { IsPackage self.now }
+        ensures valid { IsPackage self.now }
     {
         &self.package
     }

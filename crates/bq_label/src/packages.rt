@@ -7,14 +7,14 @@ ghost use Rattle.std.specs.Option.{option_copied};
 ghost use Rattle.bq_label.specs.Paths.{is_path};
 ghost use Rattle.bq_label.specs.Label.{package_at, last_segment};
 ghost use Rattle.bq_label.specs.Workspace.{paths_of, IsWorkspace};
-ghost use Rattle.bq_label.specs.Packages.{wins, directory_of, package_at_file, build_files_of, packages_of, build_label};
+ghost use Rattle.bq_label.specs.Packages.{is_build_file, directory_of, package_of_file, build_files, packages_of, build_label};
 ghost use Rattle.bq_label.specs.Packages.{package_cmp, id_cmp, package_named, owner_of, nearest_over};
 
-use crate::home::home_of_path;
 use crate::label::Label;
 use crate::package_id::PackageId;
-use crate::path::is_name;
-use crate::split::{directory_part, last_part};
+use crate::path::is_path;
+use crate::repository::split_repository;
+use crate::split::{directory_of, last_segment};
 use crate::workspace::{File, Workspace};
 use bq_source::Bytes;
 use std::alloc::{AllocError, Global};
@@ -43,14 +43,14 @@ impl BuildFile {
     pub fn name(&self) -> &[u8]
         ensures { result.now ≡ last_segment self.now.file.path }
     {
-        last_part(self.file.path.as_slice())
+        last_segment(self.file.path.as_slice())
     }
 
     /// The package's directory in the workspace, which is empty for the root of the main repository.
     pub fn directory(&self) -> &[u8]
         ensures { result.now ≡ directory_of self.now.file.path }
     {
-        directory_part(self.file.path.as_slice())
+        directory_of(self.file.path.as_slice())
     }
 
     /// The BUILD file's own label, as `//a:BUILD.bazel`. There is none where the file's path does not end in a name.
@@ -59,7 +59,7 @@ impl BuildFile {
         ensures { IfOk result (λ l. l ≡ build_label self.now) }
     {
         let name = self.name();
-        if !is_name(name) {
+        if !is_path(name) {
             return Ok(None);
         }
         let name = Bytes::from_slice(alloc, name)?;
@@ -71,7 +71,7 @@ impl BuildFile {
 fn has_name(path: &[u8], name: &[u8]) -> bool
     ensures { result ≡ bytes_eq (last_segment path.now) name.now }
 {
-    last_part(path) == name
+    last_segment(path) == name
 }
 
 /// The path of a `BUILD.bazel` beside a `BUILD`.
@@ -85,7 +85,7 @@ fn preferred_path(alloc: Global, path: &[u8]) -> Result<Vec<u8>, AllocError>
 
 /// Whether the file at this path is its directory's BUILD file: `BUILD.bazel`, or `BUILD` with no `BUILD.bazel` beside it.
 fn is_build_file(alloc: Global, workspace: &Workspace, path: &[u8]) -> Result<bool, AllocError>
-    ensures { IfOk result (λ w. w ≡ wins (paths_of workspace.now) path.now) }
+    ensures { IfOk result (λ w. w ≡ is_build_file (paths_of workspace.now) path.now) }
 {
     if has_name(path, b"BUILD.bazel") {
         return Ok(true);
@@ -98,33 +98,33 @@ fn is_build_file(alloc: Global, workspace: &Workspace, path: &[u8]) -> Result<bo
 }
 
 /// The package whose BUILD file this is.
-#[tactic(auto, unfolding(crate::specs::Packages::package_at_file))]
+#[tactic(auto, unfolding(crate::specs::Packages::package_of_file))]
 fn package_of_file(
     alloc: Global,
     workspace: &Workspace,
     file: &File,
 ) -> Result<Option<BuildFile>, AllocError>
     requires { is_path file.now.path ≡ true }
-    ensures { IfOk result (λ b. b ≡ package_at_file (paths_of workspace.now) file.now) }
+    ensures { IfOk result (λ b. b ≡ package_of_file (paths_of workspace.now) file.now) }
 {
     if !is_build_file(alloc, workspace, file.path.as_slice())? {
         return Ok(None);
     }
-    let Some(home) = home_of_path(file.path.as_slice()) else {
+    let Some(found) = split_repository(file.path.as_slice()) else {
         return Ok(None);
     };
-    let repo = Bytes::from_slice(alloc, home.repo)?;
-    let path = Bytes::from_slice(alloc, directory_part(home.rest))?;
+    let repo = Bytes::from_slice(alloc, found.repo)?;
+    let path = Bytes::from_slice(alloc, directory_of(found.rest))?;
     Ok(Some(BuildFile {
-        id: PackageId::lawful(repo, path),
+        id: PackageId::from_parts(repo, path),
         file: file.share()?,
     }))
 }
 
 /// The packages of a workspace, in the order of their BUILD files' paths.
 fn build_files(alloc: Global, workspace: &Workspace) -> Result<Vec<BuildFile>, AllocError>
-    ensures found { IfOk result (λ found. found.items ≡ build_files_of (paths_of workspace.now) workspace.now) }
-    ensures lawful { IsWorkspace workspace.now }
+    ensures found { IfOk result (λ found. found.items ≡ build_files (paths_of workspace.now) workspace.now) }
+    ensures valid { IsWorkspace workspace.now }
 {
     let files = workspace.files();
     let mut found = Vec::new(alloc);
@@ -159,7 +159,7 @@ fn sorted(found: Vec<BuildFile>) -> Vec<BuildFile>
     found
 }
 
-/// Where the package of this name stands.
+/// The place of the package of this name.
 fn find_place(packages: &[BuildFile], repo: &[u8], path: &[u8]) -> Option<usize>
     requires { IsStrictlySortedBy package_cmp packages.now }
     ensures found { IfSome result (λ at. slice_get packages.now at ≡ package_named packages.now (package_at repo.now path.now)) }
@@ -221,7 +221,7 @@ impl Model for Packages {
 }
 
 impl Packages {
-    /// The packages of a workspace: the directories with a file `BUILD.bazel` or `BUILD`, of which the first wins.
+    /// The packages of a workspace: the directories with a file `BUILD.bazel` or `BUILD`, of which the first takes precedence.
     pub fn of(alloc: Global, workspace: &Workspace) -> Result<Packages, AllocError>
         ensures { IfOk result (λ p. p ≡ packages_of workspace.now) }
     {
@@ -239,7 +239,7 @@ impl Packages {
         self.packages.as_slice()
     }
 
-    /// Where the package of this name stands in `all`, in time logarithmic in the number of packages.
+    /// The place in `all` of the package of this name, in time logarithmic in the number of packages.
     pub fn place(&self, id: &PackageId) -> Option<usize>
         ensures found { IfSome result (λ at. slice_get self.now at ≡ package_named self.now id.now) }
         ensures none { IfNone result (package_named self.now id.now ≡ None) }
@@ -262,14 +262,21 @@ impl Packages {
         )
     }
 
+    /// The package of a repository at a path, in time logarithmic in the number of packages.
+    pub fn at(&self, repo: &[u8], path: &[u8]) -> Option<&BuildFile>
+        ensures { option_copied result ≡ package_named self.now (package_at repo.now path.now) }
+    {
+        find_package(&self.packages, repo, path)
+    }
+
     /// The owner of a path: the package whose directory is the nearest above it in its repository. It takes time
     /// logarithmic in the number of packages for each level of the path.
     #[tactic(auto, unfolding(crate::specs::Packages::owner_of))]
     pub fn owner_of(&self, path: &[u8]) -> Option<&BuildFile>
         ensures { option_copied result ≡ owner_of self.now path.now }
     {
-        match home_of_path(path) {
-            Some(home) => nearest_above(&self.packages, home.repo, home.rest),
+        match split_repository(path) {
+            Some(found) => nearest_above(&self.packages, found.repo, found.rest),
             None => None,
         }
     }

@@ -4,48 +4,48 @@ ghost use Rattle.std.specs.Prelude.{◌≡◌};
 ghost use Rattle.std.specs.List.{list_all, slice_split};
 ghost use Rattle.bq_label.specs.Paths.{is_path_byte, is_segment, is_slash, is_package, is_path, is_repository, is_repository_byte};
 
-fn is_path_char(byte: u8) -> bool
+fn is_path_byte(byte: u8) -> bool
     ensures { result ≡ is_path_byte byte }
 {
     (32..=126).contains(&byte) && byte != b':' && byte != b'\\'
 }
 
-fn are_path_chars(text: &[u8]) -> bool
+fn are_path_bytes(text: &[u8]) -> bool
     ensures { result ≡ list_all is_path_byte text.now }
 {
-    text.iter().all(|byte| is_path_char(*byte))
+    text.iter().all(|byte| is_path_byte(*byte))
 }
 
-fn is_lawful_segment(segment: &[u8]) -> bool
+fn is_segment(segment: &[u8]) -> bool
     ensures { result ≡ is_segment segment.now }
 {
     !segment.is_empty() && segment != b".".as_slice() && segment != b"..".as_slice()
 }
 
-fn are_lawful_segments(path: &[u8]) -> bool
+fn are_segments(path: &[u8]) -> bool
     ensures { result ≡ list_all is_segment (slice_split is_slash path.now) }
 {
-    path.split(|byte| *byte == b'/').all(is_lawful_segment)
+    path.split(|byte| *byte == b'/').all(is_segment)
 }
 
 /// Whether a target, a rule or an output may have this name: segments of printable ASCII but for `:` and `\`, joined
-/// by `/`, none of them empty, `.` or `..`. A file's path is lawful by the same test.
+/// by `/`, none of them empty, `.` or `..`. A file's path is valid by the same test.
 #[tactic(auto, unfolding(crate::specs::Paths::is_path))]
-pub fn is_name(text: &[u8]) -> bool
+pub fn is_path(text: &[u8]) -> bool
     ensures { result ≡ is_path text.now }
 {
-    are_path_chars(text) && are_lawful_segments(text)
+    are_path_bytes(text) && are_segments(text)
 }
 
 /// Whether a package may have this path in its repository: a name's segments, or the empty path of the root.
 #[tactic(auto, unfolding(crate::specs::Paths::is_package))]
-pub(crate) fn is_package_path(text: &[u8]) -> bool
+pub(crate) fn is_package(text: &[u8]) -> bool
     ensures { result ≡ is_package text.now }
 {
-    text.is_empty() || is_name(text)
+    text.is_empty() || is_path(text)
 }
 
-fn is_repository_char(byte: u8) -> bool
+fn is_repository_byte(byte: u8) -> bool
     ensures { result ≡ is_repository_byte byte }
 {
     matches!(byte, b'a'..=b'z' | b'A'..=b'Z' | b'0'..=b'9' | b'_' | b'-' | b'.' | b'+' | b'~')
@@ -53,8 +53,8 @@ fn is_repository_char(byte: u8) -> bool
 
 /// Whether this is the name of a repository: letters, digits and `_ - . + ~`; empty for the main one.
 #[tactic(auto, unfolding(crate::specs::Paths::is_repository))]
-pub fn is_repository_name(text: &[u8]) -> bool
+pub fn is_repository(text: &[u8]) -> bool
     ensures { result ≡ is_repository text.now }
 {
-    text.iter().all(|byte| is_repository_char(*byte))
+    text.iter().all(|byte| is_repository_byte(*byte))
 }

@@ -5,12 +5,12 @@ ghost use Rattle.bq_source.specs.Fault.{fault_at};
 ghost use Rattle.bq_source.specs.declared.fault.FaultKind.TheVariants.{BadLabel};
 ghost use Rattle.bq_source.specs.declared.fault.SourceErr.TheVariants.{Bad};
 ghost use Rattle.bq_label.specs.Label.{label_at, label_in};
-ghost use Rattle.bq_label.specs.Reading.{AnswersLabel, label_of, lawful_label, absolute_label, external_label};
+ghost use Rattle.bq_label.specs.Reading.{AnswersLabel, label_of, valid_label, absolute_label, external_label};
 
 use crate::label::Label;
 use crate::package_id::PackageId;
-use crate::path::is_name;
-use crate::split::{last_part, split_once};
+use crate::path::is_path;
+use crate::split::{last_segment, split_once};
 use bq_source::{Bytes, Fault, FaultKind, SourceErr};
 use std::alloc::Global;
 
@@ -21,20 +21,20 @@ fn bad_label() -> SourceErr
 }
 
 /// A name in a package.
-#[tactic(auto, unfolding(crate::specs::Reading::lawful_label, crate::specs::Reading::is_label))]
+#[tactic(auto, unfolding(crate::specs::Reading::valid_label, crate::specs::Reading::is_label))]
 fn read_name(alloc: Global, package: PackageId, name: &[u8]) -> Result<Label, SourceErr>
-    ensures { AnswersLabel (lawful_label (label_in «package» name.now)) result }
+    ensures { AnswersLabel (valid_label (label_in «package» name.now)) result }
 {
-    if !is_name(name) {
+    if !is_path(name) {
         return Err(bad_label());
     }
     let name = Bytes::from_slice(alloc, name)?;
     Ok(Label::new(package, name))
 }
 
-#[tactic(auto, unfolding(crate::specs::Reading::lawful_label, crate::specs::Reading::is_label))]
+#[tactic(auto, unfolding(crate::specs::Reading::valid_label, crate::specs::Reading::is_label))]
 fn read_parts(alloc: Global, repo: Bytes, package: &[u8], name: &[u8]) -> Result<Label, SourceErr>
-    ensures { AnswersLabel (lawful_label (label_at repo «package».now name.now)) result }
+    ensures { AnswersLabel (valid_label (label_at repo «package».now name.now)) result }
 {
     let package = Bytes::from_slice(alloc, package)?;
     match PackageId::new(repo, package) {
@@ -43,21 +43,21 @@ fn read_parts(alloc: Global, repo: Bytes, package: &[u8], name: &[u8]) -> Result
     }
 }
 
-/// What stands behind `//`.
+/// What follows `//`.
 #[tactic(auto, unfolding(crate::specs::Reading::absolute_label))]
 fn read_absolute(alloc: Global, repo: Bytes, text: &[u8]) -> Result<Label, SourceErr>
-    ensures { AnswersLabel (lawful_label (absolute_label repo text.now)) result }
+    ensures { AnswersLabel (valid_label (absolute_label repo text.now)) result }
 {
     match split_once(text, b':') {
         Some((package, name)) => read_parts(alloc, repo, package, name),
-        None => read_parts(alloc, repo, text, last_part(text)),
+        None => read_parts(alloc, repo, text, last_segment(text)),
     }
 }
 
-/// What stands behind `@`.
+/// What follows `@`.
 #[tactic(auto, unfolding(crate::specs::Reading::external_label, crate::specs::Reading::label_of))]
 fn read_external(alloc: Global, text: &[u8]) -> Result<Label, SourceErr>
-    ensures { AnswersLabel (option_and_then lawful_label (external_label text.now)) result }
+    ensures { AnswersLabel (option_and_then valid_label (external_label text.now)) result }
 {
     match split_once(text, b'/') {
         None => read_parts(alloc, Bytes::from_slice(alloc, text)?, &[], text),

@@ -2,7 +2,7 @@
 
 ghost use Rattle.std.specs.Prelude.{◌≡◌, ◌≢◌, ◌<◌, ℕ, Some, None, MatchOption, IfSome, IfNone, length, slice_index};
 ghost use Rattle.bq_label.specs.Label.{last_segment};
-ghost use Rattle.bq_label.specs.Reading.{cut_at};
+ghost use Rattle.bq_label.specs.Reading.{split_once};
 ghost use Rattle.bq_label.specs.Packages.{directory_of};
 
 /// The place of the first such byte.
@@ -13,9 +13,9 @@ fn first_place(text: &[u8], byte: u8) -> Option<usize>
     text.iter().position(|b| *b == byte)
 }
 
-/// What stands before the first such byte, and what stands behind it.
+/// The text before the first such byte, and the text after it.
 pub(crate) fn split_once(text: &[u8], byte: u8) -> Option<(&[u8], &[u8])>
-    ensures { MatchOption result (cut_at byte text.now ≡ None) (λ p. cut_at byte text.now ≡ Some (p.0.now, p.1.now)) }
+    ensures { MatchOption result (split_once byte text.now ≡ None) (λ p. split_once byte text.now ≡ Some (p.0.now, p.1.now)) }
 {
     match first_place(text, byte) {
         Some(at) => Some((&text[..at], &text[at + 1..])),
@@ -23,8 +23,8 @@ pub(crate) fn split_once(text: &[u8], byte: u8) -> Option<(&[u8], &[u8])>
     }
 }
 
-/// What stands behind the last slash.
-pub(crate) fn last_part(path: &[u8]) -> &[u8]
+/// The text after the last slash.
+pub(crate) fn last_segment(path: &[u8]) -> &[u8]
     ensures { result.now ≡ last_segment path.now }
 {
     let mut at = path.len();
@@ -34,12 +34,12 @@ pub(crate) fn last_part(path: &[u8]) -> &[u8]
     &path[at..]
 }
 
-/// What stands before the last slash; nothing where there is none.
+/// The text before the last slash; nothing where there is none.
 #[tactic(auto, unfolding(crate::specs::Packages::directory_of))]
-pub(crate) fn directory_part(path: &[u8]) -> &[u8]
+pub(crate) fn directory_of(path: &[u8]) -> &[u8]
     ensures { result.now ≡ directory_of path.now }
 {
-    let name = last_part(path);
+    let name = last_segment(path);
     let len = path.len().saturating_sub(name.len()).saturating_sub(1);
     &path[..len]
 }

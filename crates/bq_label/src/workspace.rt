@@ -1,14 +1,14 @@
 //! The files of a workspace.
 
-ghost use Rattle.std.specs.Prelude.{◌≡◌, List, Some, None, IfOk, MatchResult, true, not};
-ghost use Rattle.std.specs.List.{list_all, list_any};
+ghost use Rattle.std.specs.Prelude.{◌≡◌, List, Some, None, IfOk, MatchResult};
+ghost use Rattle.std.specs.List.{list_all};
 ghost use Rattle.std.specs.List.Sorted.{IsPermutation, IsSorted, IsStrictlySortedBy};
-ghost use Rattle.bq_label.specs.Paths.{is_path};
-ghost use Rattle.bq_label.specs.Workspace.{paths_of, path_cmp, file_at, is_above, are_distinct, are_paths, workspace_of, file_limit, IsWorkspace};
+ghost use Rattle.bq_label.specs.Paths.{is_path, common_len};
+ghost use Rattle.bq_label.specs.Workspace.{paths_of, path_cmp, file_at, are_apart, are_distinct, parts_at_file, are_paths, workspace_of, max_files, IsWorkspace};
 ghost use Rattle.std.specs.Option.{option_copied};
 ghost use Rattle.std.specs.Bool.{OnTrue};
 
-use crate::path::is_name;
+use crate::path::is_path;
 use bq_source::Bytes;
 use std::alloc::AllocError;
 use std::marker::Model;
@@ -36,13 +36,13 @@ impl File {
 /// Why files make no workspace.
 #[derive(Clone, Copy, Debug, PartialEq, Eq, Error)]
 pub enum PathErr {
-    /// A path is not lawful, stands twice or is a directory of another, or there are more than 65,536 files.
-    #[error("the paths of the files are no lawful paths of a workspace")]
+    /// A path is not valid, is there twice, or is a directory of another, or there are more than 65,536 files.
+    #[error("the paths of the files are not the valid paths of a workspace")]
     Bad,
 }
 
 /// The most files that a workspace has.
-pub const FILE_LIMIT: usize = 65_536;
+pub const MAX_FILES: usize = 65_536;
 
 /// The files of a workspace, by their paths. Contracts see the list of files, ascending by the bytes of the paths.
 #[derive(Debug, Drop)]
@@ -62,11 +62,11 @@ impl Model for Workspace {
     ghost invariant = { λ w. IsWorkspace w.files.items };
 }
 
-/// Whether every path is lawful.
-fn have_lawful_paths(files: &[File]) -> bool
+/// Whether every path is valid.
+fn have_valid_paths(files: &[File]) -> bool
     ensures { result ≡ list_all (λ f. is_path f.path) files.now }
 {
-    files.iter().all(|file| is_name(file.path.as_slice()))
+    files.iter().all(|file| is_path(file.path.as_slice()))
 }
 
 /// The file at a path.
@@ -80,30 +80,49 @@ fn find_file<'a>(files: &'a [File], path: &[u8]) -> Option<&'a File>
     }
 }
 
-/// Whether one of the files is where a directory above the path is.
-fn has_file_above(files: &[File], path: &[u8]) -> bool
-    requires { IsStrictlySortedBy path_cmp files.now }
-    ensures { result ≡ list_any (λ d. is_above d path.now) (paths_of files.now) }
+/// How many bytes two texts have in common at the front.
+#[tactic(auto, unfolding(crate::specs::Paths::common_len))]
+fn common_len(a: &[u8], b: &[u8]) -> usize
+    ensures { result ≡ common_len a.now b.now }
 {
-    for at in 0..path.len() {
-        if path[at] == b'/' && find_file(files, &path[..at]).is_some() {
-            return true;
-        }
+    let mut at = 0;
+    while at < a.len() && at < b.len() && a[at] == b[at] {
+        at += 1;
     }
-    false
+    at
+}
+
+/// Whether the path goes on with a slash where it parts from another path, and a file is there.
+#[tactic(auto, unfolding(crate::specs::Workspace::parts_at_file))]
+fn parts_at_file(files: &[File], before: &[u8], path: &[u8]) -> bool
+    requires { IsStrictlySortedBy path_cmp files.now }
+    ensures { result ≡ parts_at_file files.now before.now path.now }
+{
+    let at = common_len(before, path);
+    at < path.len() && path[at] == b'/' && find_file(files, &path[..at]).is_some()
 }
 
 /// Whether no file is where a directory of another is.
-fn stand_apart(files: &[File]) -> bool
+///
+/// A directory that the path before has too was looked up there, and no file is between two neighbours: so the only place
+/// to look at is the one where a path parts from the path before it.
+fn are_apart(files: &[File]) -> bool
     requires { IsStrictlySortedBy path_cmp files.now }
-    ensures { result ≡ list_all (λ f. not (list_any (λ d. is_above d f.path) (paths_of files.now))) files.now }
+    ensures { result ≡ are_apart (paths_of files.now) }
 {
-    files
-        .iter()
-        .all(|file| !has_file_above(files, file.path.as_slice()))
+    for at in 1..files.len() {
+        if parts_at_file(
+            files,
+            files[at - 1].path.as_slice(),
+            files[at].path.as_slice(),
+        ) {
+            return false;
+        }
+    }
+    true
 }
 
-/// Whether no path stands twice.
+/// Whether no path is there twice.
 fn are_ascending(files: &[File]) -> bool
     requires { IsSorted path_cmp files.now }
     ensures strict { OnTrue result (IsStrictlySortedBy path_cmp files.now) }
@@ -119,15 +138,15 @@ fn are_ascending(files: &[File]) -> bool
 
 /// Whether the paths are those of a workspace.
 #[tactic(auto, using(crate::proofs::Workspaces::are_paths_is))]
-fn are_lawful(files: &[File]) -> bool
+fn are_valid(files: &[File]) -> bool
     requires { IsSorted path_cmp files.now }
     ensures strict { OnTrue result (IsStrictlySortedBy path_cmp files.now) }
-    ensures lawful { result ≡ are_paths (paths_of files.now) }
+    ensures valid { result ≡ are_paths (paths_of files.now) }
 {
-    if !have_lawful_paths(files) || !are_ascending(files) {
+    if !have_valid_paths(files) || !are_ascending(files) {
         return false;
     }
-    stand_apart(files)
+    are_apart(files)
 }
 
 /// The files, ascending by their paths.
@@ -141,16 +160,16 @@ fn sorted(files: Vec<File>) -> Vec<File>
 }
 
 impl Workspace {
-    /// The workspace of these files, in any order. A path is refused where it is not lawful, stands twice or is a
-    /// directory of another, and so are more than [`FILE_LIMIT`] files.
+    /// The workspace of these files, in any order. A path is refused where it is not valid, is there twice, or is a
+    /// directory of another, and so are more than [`MAX_FILES`] files.
     pub fn new(files: Vec<File>) -> Result<Workspace, PathErr>
         ensures { MatchResult result (λ w. workspace_of files.items ≡ Some w) (λ _. workspace_of files.items ≡ None) }
     {
-        if files.len() > FILE_LIMIT {
+        if files.len() > MAX_FILES {
             return Err(PathErr::Bad);
         }
         let files = sorted(files);
-        if !are_lawful(&files) {
+        if !are_valid(&files) {
             return Err(PathErr::Bad);
         }
         Ok(Workspace { files })
@@ -159,7 +178,7 @@ impl Workspace {
     /// The files, ascending by the bytes of their paths.
     pub fn files(&self) -> &[File]
         ensures value { result.now ≡ self.now }
-        ensures lawful { IsWorkspace self.now }
+        ensures valid { IsWorkspace self.now }
     {
         self.files.as_slice()
     }

@@ -6,6 +6,8 @@
 #[cfg(test)]
 mod board;
 #[cfg(test)]
+mod label;
+#[cfg(test)]
 mod parse;
 #[cfg(test)]
 mod run;

@@ -1,8 +1,8 @@
 use Rattle.std.proofs.Common.{◌≡◌, ◌<◌, ◌-◌, ◌∙◌, ℕ, List, length, drop, sym, suc, slice_index, arith}
 use Rattle.bq_label.specs.Label.{last_segment}
 use Rattle.bq_label.proofs.Cuts.{last_from, last_at, rest_of}
-use Rattle.bq_label.proofs.split.last_part.Goals as goal
-use Rattle.bq_label.proofs.split.last_part.Goals.{then-loop-at-test+else-path-at-ne47, else-loop-at-test}
+use Rattle.bq_label.proofs.split.last_segment.Goals as goal
+use Rattle.bq_label.proofs.split.last_segment.Goals.{then-loop-at-test+else-path-at-ne47, else-loop-at-test}
 
 pub returns : goal.returns
 returns c = rest_of c.args.path.now c.loop-at.at ∙ sym (elim c.loop-at-test.branch [
