@@ -17,4 +17,5 @@ pub mod Cutting
 pub mod Keeps
 pub mod Looking
 pub mod Hands
+pub mod Seating
 pub mod FromRule

@@ -5,7 +5,7 @@ use Rattle.bq_board.specs.Graph.{Loads, row}
 use Rattle.bq_board.specs.Cycles.{is_cyclic, LoadsACyclic}
 use Rattle.bq_board.proofs.Lemmas.{bool_cases, cons_has, at_split}
 use Rattle.bq_outcome.specs.Outcome.{first, with_value, values, evaluated, outcome}
-use Rattle.bq_outcome.specs.Laws.{IsFirst, CyclicOutcome, FailedLoadOutcome, LoadedOutcome}
+use Rattle.bq_outcome.specs.Laws.{IsFirst, CyclicOutcome, FailedLoadOutcome, LoadedOutcome, OutcomeByPlan}
 use Rattle.bq_outcome.specs.declared.outcome.Outcome.{Outcome}
 use Rattle.bq_outcome.specs.declared.outcome.Outcome.TheVariants.{Loaded, Faulty, Cyclic, LoadFailed}
 use Rattle.bq_outcome.proofs.Solution.{cond_true, cond_false, cyclic_is, acyclic_is, outcome_is}
@@ -84,3 +84,6 @@ module _ {V F : Type 0} (means : ℕ → List V → Result V F) (p : Loads) wher
 
   pub loaded_says : LoadedOutcome means p
   loaded_says m vs e same = outcome_is means p m ∙ acyclic_is means p (outcome means p) m e ∙ ap (evaluated (means m)) (all_values (outcome means p) (row p m) vs same)
+
+  pub by_plan_says : (q : Loads) → OutcomeByPlan means p q
+  by_plan_says q cut m e = outcome_is means p m ∙ acyclic_is means p (outcome means p) m e ∙ ap (λ xs. evaluated (means m) (values (outcome means p) xs)) (sym (cut.rest m e))

@@ -3,7 +3,8 @@ use Rattle.std.specs.Prelude.{◌≡◌, ℕ, true, false, List, ◌∷◌, ◌+
 use Rattle.bq_board.specs.Counts.{Has}
 use Rattle.bq_board.specs.Graph.{Loads, row, Known}
 use Rattle.bq_board.specs.Cycles.{is_cyclic, Reaches}
-use Rattle.bq_outcome.specs.Outcome.{outcome, own}
+use Rattle.bq_board.specs.Cut.{IsCut}
+use Rattle.bq_outcome.specs.Outcome.{outcome, own, evaluated, values}
 use Rattle.bq_outcome.specs.declared.outcome.Outcome.TheVariants.{Loaded, Cyclic, LoadFailed}
 
 -- x is in the list with P, and all before it are with Q
@@ -24,6 +25,10 @@ module _ {V F : Type 0} (means : ℕ → List V → Result V F) (p : Loads) wher
   abbrev pub FailedLoadOutcome : Type 0
   FailedLoadOutcome = Known p → (m k : ℕ) → is_cyclic p m ≡ false → Has (row p m) k → ¬ HasValue k
       → (l : ℕ) × (outcome means p m ≡ LoadFailed l) × IsFirst (λ y. ¬ HasValue y) HasValue (row p m) l × (is_cyclic p l ≡ false)
+
+  -- over the plan q, in which cyclic modules load nothing: what the loads of m in q give decides the outcome of m
+  abbrev pub OutcomeByPlan : Loads → Type 0
+  OutcomeByPlan q = IsCut p q → (m : ℕ) → is_cyclic p m ≡ false → outcome means p m ≡ evaluated (means m) (values (outcome means p) (row q m))
 
   abbrev pub LoadedOutcome : Type 0
   LoadedOutcome = (m : ℕ) (vs : List V) → is_cyclic p m ≡ false → map (outcome means p) (row p m) ≡ map Loaded vs → outcome means p m ≡ own (means m vs)

@@ -2,7 +2,7 @@
 ghost use Rattle.std.specs.Prelude.{ℕ, List, Result};
 ghost use Rattle.bq_board.specs.Graph.{Loads};
 ghost use Rattle.bq_outcome.specs.Outcome.{HasOneSolution};
-ghost use Rattle.bq_outcome.specs.Laws.{CyclicOutcome, FailedLoadOutcome, LoadedOutcome, OutcomeOfReached};
+ghost use Rattle.bq_outcome.specs.Laws.{CyclicOutcome, FailedLoadOutcome, LoadedOutcome, OutcomeByPlan, OutcomeOfReached};
 
 use bq_board::{cyclic_loads_a_cyclic, cyclic_reaches_a_cycle};
 
@@ -28,6 +28,11 @@ pub fn failed_load_outcome<V, F>()
 /// Any other module is what it evaluates to by the values of its loads, in their order: a value or its own fault.
 pub fn loaded_outcome<V, F>()
     ensures { (means : ℕ → List V → Result V F) (p : Loads) → LoadedOutcome means p }
+{}
+
+/// The outcome of a module that isn't cyclic is decided by the loads that a plan without cyclic loads gives it: what workers over that plan make of it.
+pub fn outcome_by_the_plan<V, F>()
+    ensures { (means : ℕ → List V → Result V F) (p q : Loads) → OutcomeByPlan means p q }
 {}
 
 /// An outcome is a matter of the module and of what it reaches by loads: other modules change nothing.

@@ -13,6 +13,7 @@ mod laws;
 mod outcome;
 
 pub use laws::{
-    cyclic_outcome, failed_load_outcome, loaded_outcome, one_solution, outcome_of_what_it_reaches,
+    cyclic_outcome, failed_load_outcome, loaded_outcome, one_solution, outcome_by_the_plan,
+    outcome_of_what_it_reaches,
 };
 pub use outcome::Outcome;
