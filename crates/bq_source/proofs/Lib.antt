@@ -4,3 +4,5 @@ pub mod Reached
 pub mod Spelled
 pub mod Strings
 pub mod Unique
+pub mod Numerals
+pub mod Items

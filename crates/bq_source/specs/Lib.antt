@@ -4,6 +4,8 @@ pub mod Fault
 pub mod Shown
 pub mod Token
 pub mod Lexis
+pub mod Number
+pub mod StringLiteral
 pub mod Reading
 pub mod Tokens
 pub mod Lexing

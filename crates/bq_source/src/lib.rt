@@ -20,8 +20,10 @@ mod fault;
 mod laws;
 mod lexer;
 mod lexis;
+mod number;
 mod place;
 mod shown;
+mod string_literal;
 mod token;
 
 pub use bytes::Bytes;
@@ -31,4 +33,6 @@ pub use laws::{
     tokens_lie_within, tokens_spell_the_text,
 };
 pub use lexer::lex;
+pub use number::{begins_number, int_value, number_len};
+pub use string_literal::{StringLiteral, begins_string, scan_string};
 pub use token::{Token, TokenKind};

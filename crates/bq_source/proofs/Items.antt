@@ -1,0 +1,98 @@
+-- The items of a string literal's body, one at a time.
+use Rattle.std.proofs.Common.{◌≡◌, ℕ, zero, suc, ◌+◌, ◌<◌, ◌≤◌, List, [], ◌∷◌, ◌++◌, Bool, true, false, Option, Some, None, length, take, drop, cond, is_none, refl, sym, ap, ◌∙◌, arith, length-append, IfSome}
+use Rattle.std.proofs.lemmas.List.{drop-drop, length-take-le}
+use Rattle.std.specs.Prelude.{option_map}
+use Rattle.std.specs.Option.{option_or}
+use Rattle.bq_source.specs.declared.string_literal.Quoting.{Quoting}
+use Rattle.bq_source.specs.declared.string_literal.StringLiteral.{StringLiteral}
+use Rattle.bq_source.specs.declared.string_literal.ItemValue.{ItemValue}
+use Rattle.bq_source.specs.declared.string_literal.ItemValue.TheVariants.{Byte, BackslashAnd, Empty, BadEscape}
+use Rattle.bq_source.specs.declared.string_literal.BodyPart.{BodyPart}
+use Rattle.bq_source.specs.declared.string_literal.BodyPart.TheVariants.{Closing, Unclosed, Item}
+use Rattle.bq_source.specs.StringLiteral.{opening, opening_len, quotes_len, body_part, BodyItem, item_value, items, items_by, spelling, bad_escape, literal_from, scan_string, scan_string_by}
+
+skipped : (q : Quoting) (k : ℕ) (text : List ℕ) → items q k text ≡ items q 0 (drop k text)
+unfolding items
+skipped q zero text = refl
+skipped q (suc k) [] = refl
+skipped q (suc k) (b ∷ bs) = skipped q k bs
+
+-- the items, by the part that is next
+abbrev pub ahead : Quoting → BodyPart → List ℕ → Option (List BodyItem)
+ahead q Closing text = Some []
+ahead q Unclosed text = None
+ahead q (Item more value) text = option_map (λ is. record { spelled = take (suc more) text; value = item_value value } ∷ is) (items q 0 (drop (suc more) text))
+
+by_part : (q : Quoting) (part : BodyPart) (b : ℕ) (bs : List ℕ) → items_by part b bs (λ more. items q more bs) ≡ ahead q part (b ∷ bs)
+by_part q Closing b bs = refl
+by_part q Unclosed b bs = refl
+by_part q (Item more value) b bs = ap (option_map (λ is. record { spelled = b ∷ take more bs; value = item_value value } ∷ is)) (skipped q more bs)
+
+pub items_ahead : (q : Quoting) (text : List ℕ) → items q 0 text ≡ ahead q (body_part q text) text
+unfolding items body_part
+items_ahead q [] = refl
+items_ahead q (b ∷ bs) = by_part q (body_part q (b ∷ bs)) b bs
+
+-- an item's own bad escape, at this place
+abbrev own : ℕ → Option (List ℕ) → Option ℕ
+own at value = cond (is_none value) (Some at) None
+
+first : (bad later : Option ℕ) (at : ℕ) (value : Option (List ℕ)) → option_or bad (cond (is_none value) (Some at) later) ≡ option_or (option_or bad (own at value)) later
+first (Some k) later at value = refl
+first None later at None = refl
+first None later at (Some v) = refl
+
+passed : (q : Quoting) (at n : ℕ) (bad : Option ℕ) (i : BodyItem) (os : Option (List BodyItem)) → length i.spelled ≡ n
+    → literal_from q at bad (option_map (λ is. i ∷ is) os) ≡ literal_from q (at + n) (option_or bad (own at i.value)) os
+passed q at n bad i None e = refl
+passed q at n bad i (Some is) e =
+    let long : at + length (i.spelled ++ spelling is) + quotes_len q ≡ at + n + length (spelling is) + quotes_len q = omega (arith, length-append i.spelled (spelling is)) in
+    let fault : option_or bad (bad_escape at (i ∷ is)) ≡ option_or (option_or bad (own at i.value)) (bad_escape (at + n) is) =
+        rw (← e) (first bad (bad_escape (at + length i.spelled) is) at i.value) in
+    λ j. Some (record { len = long j; bad_escape = fault j })
+
+pub scanned : (text : List ℕ) (q : Quoting) → opening text ≡ Some q
+    → scan_string text ≡ literal_from q (opening_len q) None (items q 0 (drop (opening_len q) text))
+unfolding scan_string
+scanned text q e = ap (λ o. scan_string_by o text) e
+
+pub not_opened : (text : List ℕ) → opening text ≡ None → scan_string text ≡ None
+unfolding scan_string
+not_opened text e = ap (λ o. scan_string_by o text) e
+
+or_none : (o : Option ℕ) → option_or o None ≡ o
+or_none None = refl
+or_none (Some k) = refl
+
+pub at_closing : (q : Quoting) (at : ℕ) (bad : Option ℕ) (text : List ℕ) → body_part q text ≡ Closing
+    → literal_from q at bad (items q 0 text) ≡ Some (record { len = at + quotes_len q; bad_escape = bad })
+at_closing q at bad text e =
+    let none : items q 0 text ≡ Some [] = items_ahead q text ∙ ap (λ part. ahead q part text) e in
+    let long : at + 0 + quotes_len q ≡ at + quotes_len q = omega arith in
+    rw none (λ j. Some (record { len = long j; bad_escape = or_none bad j }))
+
+pub at_unclosed : (q : Quoting) (at : ℕ) (bad : Option ℕ) (text : List ℕ) → body_part q text ≡ Unclosed → literal_from q at bad (items q 0 text) ≡ None
+at_unclosed q at bad text e = ap (literal_from q at bad) (items_ahead q text ∙ ap (λ part. ahead q part text) e)
+
+item_drop : (at more : ℕ) (whole : List ℕ) → drop (suc more) (drop at whole) ≡ drop (at + (1 + more)) whole
+item_drop at more whole = drop-drop (suc more) at whole ∙ ap (λ n. drop n whole) (let e : at + suc more ≡ at + (1 + more) = omega arith in e)
+
+pub at_item : (q : Quoting) (at : ℕ) (bad : Option ℕ) (whole : List ℕ) (more : ℕ) (value : ItemValue)
+    → body_part q (drop at whole) ≡ Item more value → more < length (drop at whole)
+    → literal_from q at bad (items q 0 (drop at whole))
+        ≡ literal_from q (at + (1 + more)) (option_or bad (own at (item_value value))) (items q 0 (drop (at + (1 + more)) whole))
+at_item q at bad whole more value e within =
+    let i : BodyItem = record { spelled = take (suc more) (drop at whole); value = item_value value } in
+    let long : length (take (suc more) (drop at whole)) ≡ 1 + more = length-take-le (suc more) (drop at whole) (omega arith) ∙ omega arith in
+    ap (literal_from q at bad) (items_ahead q (drop at whole) ∙ ap (λ part. ahead q part (drop at whole)) e)
+    ∙ passed q at (1 + more) bad i (items q 0 (drop (suc more) (drop at whole))) long
+    ∙ ap (λ rest. literal_from q (at + (1 + more)) (option_or bad (own at (item_value value))) (items q 0 rest)) (item_drop at more whole)
+
+-- a bad escape lies before what comes after its item
+pub own_within : (bad : Option ℕ) (at more : ℕ) (value : ItemValue) → IfSome bad (λ k. k < at)
+    → IfSome (option_or bad (own at (item_value value))) (λ k. k < at + (1 + more))
+own_within (Some k) at more value h = omega arith
+own_within None at more (Byte b) h = tt
+own_within None at more (BackslashAnd b) h = tt
+own_within None at more Empty h = tt
+own_within None at more BadEscape h = omega arith

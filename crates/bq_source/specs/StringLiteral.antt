@@ -1,0 +1,150 @@
+-- String literals, by the Starlark specification, "Lexical elements": "String literals".
+use Rattle.std.specs.Prelude.{ℕ, zero, suc, ◌+◌, ◌<◌, ◌≤◌, List, [], ◌∷◌, ◌++◌, length, drop, take, Bool, true, false, not, ◌&&◌, ◌||◌, ◌==◌, nat_eq, Option, Some, None, is_none, is_some, option_map, unwrap_or, if◌then◌else◌}
+use Rattle.std.specs.Option.{option_or}
+use Rattle.std.specs.Map.{lookup}
+use Rattle.bq_source.specs.declared.string_literal.Quoting.{Quoting}
+use Rattle.bq_source.specs.declared.string_literal.StringLiteral.{StringLiteral}
+use Rattle.bq_source.specs.declared.string_literal.ItemValue.{ItemValue}
+use Rattle.bq_source.specs.declared.string_literal.ItemValue.TheVariants.{Byte, BackslashAnd, Empty, BadEscape}
+use Rattle.bq_source.specs.declared.string_literal.BodyPart.{BodyPart}
+use Rattle.bq_source.specs.declared.string_literal.BodyPart.TheVariants.{Closing, Unclosed, Item}
+
+-- a double or a single quote
+abbrev pub is_quote : ℕ → Bool
+is_quote b = b == 34 || b == 39
+
+abbrev pub begins : ℕ → List ℕ → Bool
+begins a [] = false
+begins a (b ∷ bs) = b == a
+
+-- two of this byte
+abbrev pub begins_pair : ℕ → List ℕ → Bool
+begins_pair a [] = false
+begins_pair a (b ∷ bs) = b == a && begins a bs
+
+-- How a literal opens: `r` where it is raw, then its quotes. What begins with three quotes is triple-quoted.
+abbrev pub opening_quotes : Bool → List ℕ → Option Quoting
+opening_quotes raw [] = None
+opening_quotes raw (q ∷ bs) = if is_quote q then Some (record { raw = raw; quote = q; triple = begins_pair q bs }) else None
+
+unfoldable pub opening : List ℕ → Option Quoting
+opening [] = None
+opening (b ∷ bs) = if b == 114 then opening_quotes true bs else opening_quotes false (b ∷ bs)
+
+abbrev pub begins_string : List ℕ → Bool
+begins_string text = is_some (opening text)
+
+abbrev pub quotes_len : Quoting → ℕ
+quotes_len q = if q.triple then 3 else 1
+
+abbrev pub opening_len : Quoting → ℕ
+opening_len q = (if q.raw then 1 else 0) + quotes_len q
+
+-- the closing quotes are next
+abbrev pub closes : Quoting → List ℕ → Bool
+closes q [] = false
+closes q (b ∷ bs) = b == q.quote && (not q.triple || begins_pair q.quote bs)
+
+-- how many bytes a newline takes that is next: LF, or CR LF
+abbrev pub newline_len : List ℕ → ℕ
+newline_len [] = 0
+newline_len (b ∷ bs) = if b == 10 then 1 else (if b == 13 && begins 10 bs then 2 else 0)
+
+-- the escapes `\n \r \t \\ \' \"`, each with the byte that it stands for (the specification has others, which are F5 here)
+abbrev pub escapes : List (ℕ × ℕ)
+escapes = (110, 10) ∷ (114, 13) ∷ (116, 9) ∷ (92, 92) ∷ (39, 39) ∷ (34, 34) ∷ []
+
+abbrev pub escape_by : Option ℕ → ItemValue
+escape_by None = BadEscape
+escape_by (Some b) = Byte b
+
+abbrev pub escape : ℕ → ItemValue
+escape c = escape_by (lookup (nat_eq c) escapes)
+
+-- What a backslash and what comes after it are, a newline of so many bytes or a byte. In a raw literal both stay, a newline as `\n`.
+abbrev pub after_backslash_by : Bool → ℕ → List ℕ → BodyPart
+after_backslash_by raw (suc n) bs = Item (suc n) (if raw then BackslashAnd 10 else Empty)
+after_backslash_by raw zero [] = Unclosed
+after_backslash_by raw zero (c ∷ cs) = Item 1 (if raw then BackslashAnd c else escape c)
+
+abbrev pub after_backslash : Bool → List ℕ → BodyPart
+after_backslash raw bs = after_backslash_by raw (newline_len bs) bs
+
+-- Any other byte stands for itself. A newline, which only a triple-quoted literal holds, stands for `\n` however it is spelled.
+abbrev pub plain_by : Quoting → ℕ → ℕ → BodyPart
+plain_by q b zero = Item 0 (Byte b)
+plain_by q b (suc n) = if q.triple then Item n (Byte 10) else Unclosed
+
+-- what is at one place of a literal's body
+unfoldable pub body_part : Quoting → List ℕ → BodyPart
+body_part q [] = Unclosed
+body_part q (b ∷ bs) =
+    if b == 92 then after_backslash q.raw bs else (if closes q (b ∷ bs) then Closing else plain_by q b (newline_len (b ∷ bs)))
+
+-- what is next is within so many bytes, the closing quotes being this many
+abbrev pub IsWithin : BodyPart → ℕ → ℕ → Type 0
+IsWithin Closing n quotes = quotes ≤ n
+IsWithin Unclosed n quotes = Unit {0}
+IsWithin (Item more value) n quotes = more < n
+
+-- An item of a body: how it is spelled, and what it stands for, which is nothing where it is an escape that there is not.
+pub record BodyItem : Type 0 where
+  pub spelled : List ℕ
+  pub value : Option (List ℕ)
+
+abbrev pub item_value : ItemValue → Option (List ℕ)
+item_value (Byte b) = Some (b ∷ [])
+item_value (BackslashAnd b) = Some (92 ∷ b ∷ [])
+item_value Empty = Some []
+item_value BadEscape = None
+
+abbrev pub items_by : BodyPart → ℕ → List ℕ → (ℕ → Option (List BodyItem)) → Option (List BodyItem)
+items_by Closing b bs later = Some []
+items_by Unclosed b bs later = None
+items_by (Item more value) b bs later = option_map (λ is. record { spelled = b ∷ take more bs; value = item_value value } ∷ is) (later more)
+
+-- The items up to the closing quotes, none where they never come. The number says how many bytes of the last item are still to come.
+unfoldable pub items : Quoting → ℕ → List ℕ → Option (List BodyItem)
+items q skip [] = None
+items q (suc skip) (b ∷ bs) = items q skip bs
+items q zero (b ∷ bs) = items_by (body_part q (b ∷ bs)) b bs (λ more. items q more bs)
+
+-- their spellings in a row
+abbrev pub spelling : List BodyItem → List ℕ
+spelling [] = []
+spelling (i ∷ is) = i.spelled ++ spelling is
+
+-- their values in a row
+abbrev pub values : List BodyItem → List ℕ
+values [] = []
+values (i ∷ is) = unwrap_or i.value [] ++ values is
+
+-- where the first one is that stands for nothing, of items that begin at this place
+abbrev pub bad_escape : ℕ → List BodyItem → Option ℕ
+bad_escape at [] = None
+bad_escape at (i ∷ is) = if is_none i.value then Some at else bad_escape (at + length i.spelled) is
+
+-- the literal, from these items on, which begin at this place; an earlier one may have been a bad escape
+abbrev pub literal_from : Quoting → ℕ → Option ℕ → Option (List BodyItem) → Option StringLiteral
+literal_from q at bad None = None
+literal_from q at bad (Some is) = Some (record { len = at + length (spelling is) + quotes_len q; bad_escape = option_or bad (bad_escape at is) })
+
+abbrev pub scan_string_by : Option Quoting → List ℕ → Option StringLiteral
+scan_string_by None text = None
+scan_string_by (Some q) text = literal_from q (opening_len q) None (items q 0 (drop (opening_len q) text))
+
+-- The literal that begins here: its length and the place of its first bad escape (F5), none where it does not end (F4).
+unfoldable pub scan_string : List ℕ → Option StringLiteral
+scan_string text = scan_string_by (opening text) text
+
+abbrev pub string_value_by : Option Quoting → List ℕ → Option (List ℕ)
+string_value_by None spelled = None
+string_value_by (Some q) spelled = option_map values (items q 0 (drop (opening_len q) spelled))
+
+abbrev pub is_whole : Option StringLiteral → ℕ → Bool
+is_whole None n = false
+is_whole (Some l) n = l.len == n && is_none l.bad_escape
+
+-- The value of a string literal, from its whole spelling, and none where that is not one literal.
+unfoldable pub string_value : List ℕ → Option (List ℕ)
+string_value spelled = if is_whole (scan_string spelled) (length spelled) then string_value_by (opening spelled) spelled else None
