@@ -1,15 +1,14 @@
 -- The items of a string literal's body, one at a time.
-use Rattle.std.proofs.Common.{◌≡◌, ℕ, zero, suc, ◌+◌, ◌<◌, ◌≤◌, List, [], ◌∷◌, ◌++◌, Bool, true, false, Option, Some, None, length, take, drop, cond, is_none, refl, sym, ap, ◌∙◌, arith, length-append, IfSome}
-use Rattle.std.proofs.lemmas.List.{drop-drop, length-take-le}
+use Rattle.std.proofs.Common.{◌≡◌, ℕ, zero, suc, ◌+◌, ◌<◌, List, [], ◌∷◌, ◌++◌, Option, Some, None, length, take, drop, cond, is_none, refl, sym, ap, ◌∙◌, arith, length-append, IfSome, IsSome, unwrap_or, subst, append_assoc}
+use Rattle.std.proofs.lemmas.List.{drop-drop, length-take-le, append-nil}
 use Rattle.std.specs.Prelude.{option_map}
 use Rattle.std.specs.Option.{option_or}
 use Rattle.bq_source.specs.declared.string_literal.Quoting.{Quoting}
-use Rattle.bq_source.specs.declared.string_literal.StringLiteral.{StringLiteral}
 use Rattle.bq_source.specs.declared.string_literal.ItemValue.{ItemValue}
 use Rattle.bq_source.specs.declared.string_literal.ItemValue.TheVariants.{Byte, BackslashAnd, Empty, BadEscape}
 use Rattle.bq_source.specs.declared.string_literal.BodyPart.{BodyPart}
 use Rattle.bq_source.specs.declared.string_literal.BodyPart.TheVariants.{Closing, Unclosed, Item}
-use Rattle.bq_source.specs.StringLiteral.{opening, opening_len, quotes_len, body_part, BodyItem, item_value, items, items_by, spelling, bad_escape, literal_from, scan_string, scan_string_by}
+use Rattle.bq_source.specs.StringLiteral.{opening, opening_len, quotes_len, body_part, BodyItem, item_value, items, items_by, spelling, values, bad_escape, literal_from, scan_string, scan_string_by}
 
 skipped : (q : Quoting) (k : ℕ) (text : List ℕ) → items q k text ≡ items q 0 (drop k text)
 unfolding items
@@ -48,7 +47,7 @@ passed q at n bad i None e = refl
 passed q at n bad i (Some is) e =
     let long : at + length (i.spelled ++ spelling is) + quotes_len q ≡ at + n + length (spelling is) + quotes_len q = omega (arith, length-append i.spelled (spelling is)) in
     let fault : option_or bad (bad_escape at (i ∷ is)) ≡ option_or (option_or bad (own at i.value)) (bad_escape (at + n) is) =
-        rw (← e) (first bad (bad_escape (at + length i.spelled) is) at i.value) in
+    rw (← e) (first bad (bad_escape (at + length i.spelled) is) at i.value) in
     λ j. Some (record { len = long j; bad_escape = fault j })
 
 pub scanned : (text : List ℕ) (q : Quoting) → opening text ≡ Some q
@@ -80,7 +79,7 @@ item_drop at more whole = drop-drop (suc more) at whole ∙ ap (λ n. drop n who
 pub at_item : (q : Quoting) (at : ℕ) (bad : Option ℕ) (whole : List ℕ) (more : ℕ) (value : ItemValue)
     → body_part q (drop at whole) ≡ Item more value → more < length (drop at whole)
     → literal_from q at bad (items q 0 (drop at whole))
-        ≡ literal_from q (at + (1 + more)) (option_or bad (own at (item_value value))) (items q 0 (drop (at + (1 + more)) whole))
+    ≡ literal_from q (at + (1 + more)) (option_or bad (own at (item_value value))) (items q 0 (drop (at + (1 + more)) whole))
 at_item q at bad whole more value e within =
     let i : BodyItem = record { spelled = take (suc more) (drop at whole); value = item_value value } in
     let long : length (take (suc more) (drop at whole)) ≡ 1 + more = length-take-le (suc more) (drop at whole) (omega arith) ∙ omega arith in
@@ -96,3 +95,41 @@ own_within None at more (Byte b) h = tt
 own_within None at more (BackslashAnd b) h = tt
 own_within None at more Empty h = tt
 own_within None at more BadEscape h = omega arith
+
+-- the value that these bytes begin and these items go on with
+abbrev pub joined : List ℕ → Option (List BodyItem) → Option (List ℕ)
+joined vs None = None
+joined vs (Some is) = Some (vs ++ values is)
+
+pub joined_item : (vs : List ℕ) (i : BodyItem) (os : Option (List BodyItem)) → joined vs (option_map (λ is. i ∷ is) os) ≡ joined (vs ++ unwrap_or i.value []) os
+joined_item vs i None = refl
+joined_item vs i (Some is) = ap Some (sym (append_assoc vs (unwrap_or i.value []) (values is)))
+
+pub joined_at_item : (q : Quoting) (vs : List ℕ) (at : ℕ) (whole : List ℕ) (more : ℕ) (value : ItemValue) → body_part q (drop at whole) ≡ Item more value
+    → joined vs (items q 0 (drop at whole)) ≡ joined (vs ++ unwrap_or (item_value value) []) (items q 0 (drop (at + (1 + more)) whole))
+joined_at_item q vs at whole more value e =
+    let i : BodyItem = record { spelled = take (suc more) (drop at whole); value = item_value value } in
+    ap (joined vs) (items_ahead q (drop at whole) ∙ ap (λ part. ahead q part (drop at whole)) e)
+    ∙ joined_item vs i (items q 0 (drop (suc more) (drop at whole)))
+    ∙ ap (λ rest. joined (vs ++ unwrap_or (item_value value) []) (items q 0 rest)) (item_drop at more whole)
+
+pub joined_nothing : (os : Option (List BodyItem)) → option_map values os ≡ joined [] os
+joined_nothing None = refl
+joined_nothing (Some is) = refl
+
+at_end : (q : Quoting) (vs : List ℕ) (text : List ℕ) (part : BodyPart) → ((more : ℕ) (value : ItemValue) → part ≡ Item more value → ⊥)
+    → IsSome (joined vs (ahead q part text)) → joined vs (ahead q part text) ≡ Some vs
+at_end q vs text Closing none some = ap Some (append-nil vs)
+at_end q vs text Unclosed none some = cc
+at_end q vs text (Item more value) none some = absurd (none more value refl)
+
+-- where no item is next, and the closing quotes come, all values are there
+pub joined_all : (q : Quoting) (vs : List ℕ) (text : List ℕ) → ((more : ℕ) (value : ItemValue) → body_part q text ≡ Item more value → ⊥)
+    → IsSome (joined vs (items q 0 text)) → joined vs (items q 0 text) ≡ Some vs
+joined_all q vs text none some =
+    let P : Option (List BodyItem) → Type 0 = λ os. IsSome (joined vs os) in
+    ap (joined vs) (items_ahead q text) ∙ at_end q vs text (body_part q text) none (subst P (items_ahead q text) some)
+
+pub mapped : (os : Option (List BodyItem)) → IsSome os → IsSome (option_map values os)
+mapped None some = cc
+mapped (Some is) some = refl

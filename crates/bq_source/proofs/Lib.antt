@@ -6,3 +6,9 @@ pub mod Strings
 pub mod Unique
 pub mod Numerals
 pub mod Items
+pub mod Bodies
+pub mod Values
+pub mod Cutting
+pub mod LiteralLaws
+pub mod Quoted
+pub mod NumberLaws

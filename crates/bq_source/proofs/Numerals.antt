@@ -1,5 +1,5 @@
 -- Numerals, a digit at a time.
-use Rattle.std.proofs.Common.{◌≡◌, ℕ, ◌+◌, ◌*◌, ◌<◌, ◌≤◌, ◌⊎◌, inl, inr, List, [], ◌∷◌, Bool, true, false, ◌&&◌, cond, ltb, leb, Option, Some, None, length, refl, ap, ◌∙◌, sym, arith, get_or, drop, drop-cons, add-one, ⊎_elim}
+use Rattle.std.proofs.Common.{◌≡◌, ℕ, ◌+◌, ◌*◌, ◌<◌, ◌≤◌, List, [], ◌∷◌, false, Some, None, length, refl, ap, ◌∙◌, arith, get_or, drop, drop-cons, add-one, ⊎_elim}
 use Rattle.std.proofs.Math.Nat.{mul-le-mul_left}
 use Rattle.std.proofs.lemmas.Bool.{lt-ltb, le-ltb, le-leb, lt-leb, cases_lt, and_right}
 use Rattle.std.specs.Char.{digit_value, is_digit}
@@ -27,7 +27,7 @@ off : (base n c : ℕ) (cs : List ℕ) → 1 ≤ base → ((digit_value c < base
 off base n c cs one bad =
     ⊎_elim
     (λ digit. on base n c cs digit ∙ too_large base (n * base + digit_value c) cs one
-        (⊎_elim (λ above. above) (λ fits. absurd (bad (digit, fits))) (cases_lt max_int (n * base + digit_value c))))
+    (⊎_elim (λ above. above) (λ fits. absurd (bad (digit, fits))) (cases_lt max_int (n * base + digit_value c))))
     (λ other. rw (le-ltb (digit_value c) base other) refl)
     (cases_lt (digit_value c) base)
 

@@ -1,6 +1,6 @@
 -- Integer literals, by the Starlark specification, "Lexical elements": "Literals".
-use Rattle.std.specs.Prelude.{ℕ, ◌≡◌, ◌≢◌, ◌+◌, ◌*◌, ◌-◌, ◌^◌, ◌≤◌, List, [], ◌∷◌, ◌++◌, length, Bool, false, ◌&&◌, ◌||◌, ◌==◌, nat_le, Option, Some, None, if◌then◌else◌, decimal}
-use Rattle.std.specs.Char.{digit_value, is_digit}
+use Rattle.std.specs.Prelude.{ℕ, ◌≡◌, ◌≢◌, ◌⊎◌, ◌-◌, ◌^◌, List, [], ◌∷◌, Bool, false, ◌&&◌, ◌||◌, ◌==◌, nat_le, Option, Some, None, if◌then◌else◌}
+use Rattle.std.specs.Char.{is_digit}
 use Rattle.std.specs.List.{list_all, prefix_len}
 use Rattle.std.specs.Str.Parse.{digits_value, digits_value_after, IsNumeral}
 use Rattle.bq_source.specs.Lexis.{is_word}
@@ -51,3 +51,10 @@ after_zero (b ∷ digits) =
 unfoldable pub int_value : List ℕ → Option ℕ
 int_value [] = None
 int_value (b ∷ bs) = if b == 48 then after_zero bs else numeral_value 10 (b ∷ bs)
+
+-- In words of the text alone: a spelling and the number that it stands for.
+pub data IsInt : List ℕ → ℕ → Type 0 where
+  zero_digit : IsInt (48 ∷ []) 0
+  decimal_digits : {c : ℕ} {cs : List ℕ} → c ≢ 48 → IsNumeral 10 (c ∷ cs) → IsInt (c ∷ cs) (digits_value 10 (c ∷ cs))
+  hexadecimal : {x : ℕ} {digits : List ℕ} → (x ≡ 120) ⊎ (x ≡ 88) → IsNumeral 16 digits → IsInt (48 ∷ x ∷ digits) (digits_value 16 digits)
+  octal : {o : ℕ} {digits : List ℕ} → (o ≡ 111) ⊎ (o ≡ 79) → IsNumeral 8 digits → IsInt (48 ∷ o ∷ digits) (digits_value 8 digits)

@@ -1,5 +1,6 @@
 -- String literals, by the Starlark specification, "Lexical elements": "String literals".
-use Rattle.std.specs.Prelude.{ℕ, zero, suc, ◌+◌, ◌<◌, ◌≤◌, List, [], ◌∷◌, ◌++◌, length, drop, take, Bool, true, false, not, ◌&&◌, ◌||◌, ◌==◌, nat_eq, Option, Some, None, is_none, is_some, option_map, unwrap_or, if◌then◌else◌}
+use Rattle.std.specs.Prelude.{◌≡◌, ◌≢◌, ◌⊎◌, ℕ, zero, suc, ◌+◌, ◌<◌, ◌≤◌, List, [], ◌∷◌, ◌++◌, length, drop, take, Bool, true, false, not, ◌&&◌, ◌||◌, ◌==◌, nat_eq, Option, Some, None, is_none, is_some, IsSome, option_map, unwrap_or, if◌then◌else◌}
+use Rattle.std.specs.List.{AllByRecursion}
 use Rattle.std.specs.Option.{option_or}
 use Rattle.std.specs.Map.{lookup}
 use Rattle.bq_source.specs.declared.string_literal.Quoting.{Quoting}
@@ -148,3 +149,130 @@ is_whole (Some l) n = l.len == n && is_none l.bad_escape
 -- The value of a string literal, from its whole spelling, and none where that is not one literal.
 unfoldable pub string_value : List ℕ → Option (List ℕ)
 string_value spelled = if is_whole (scan_string spelled) (length spelled) then string_value_by (opening spelled) spelled else None
+
+-- a byte that stands for itself wherever it is in a body
+abbrev pub stays : Bool → ℕ → Bool
+stays raw b = not (b == 13) && (raw || not (b == 92))
+
+-- In words of the text alone. A text begins with these bytes:
+abbrev pub BeginsWith : List ℕ → List ℕ → Type 0
+BeginsWith front text = (rest : List ℕ) × (text ≡ front ++ rest)
+
+-- LF, or CR LF
+abbrev pub IsNewline : List ℕ → Type 0
+IsNewline n = (n ≡ 10 ∷ []) ⊎ (n ≡ 13 ∷ 10 ∷ [])
+
+abbrev pub BeginsNewline : List ℕ → Type 0
+BeginsNewline text = BeginsWith (10 ∷ []) text ⊎ BeginsWith (13 ∷ 10 ∷ []) text
+
+abbrev pub prefix_by : Bool → List ℕ
+prefix_by true = 114 ∷ []
+prefix_by false = []
+
+abbrev pub prefix : Quoting → List ℕ
+prefix q = prefix_by q.raw
+
+abbrev pub quotes_by : Bool → ℕ → List ℕ
+quotes_by true quote = quote ∷ quote ∷ quote ∷ []
+quotes_by false quote = quote ∷ []
+
+abbrev pub quotes : Quoting → List ℕ
+quotes q = quotes_by q.triple q.quote
+
+-- These bytes, with these after them, are one item of a body, which stands for this.
+pub data IsItem (q : Quoting) : List ℕ → List ℕ → Option (List ℕ) → Type 0 where
+  -- any byte, but a backslash, the closing quotes and a newline
+  plain : {b : ℕ} {after : List ℕ} → b ≢ 92 → (BeginsWith (quotes q) (b ∷ after) → ⊥) → (BeginsNewline (b ∷ after) → ⊥)
+      → IsItem q (b ∷ []) after (Some (b ∷ []))
+  newline : {n after : List ℕ} → IsNewline n → q.triple ≡ true → IsItem q n after (Some (10 ∷ []))
+  escaped : {c b : ℕ} {after : List ℕ} → q.raw ≡ false → lookup (nat_eq c) escapes ≡ Some b → IsItem q (92 ∷ c ∷ []) after (Some (b ∷ []))
+  joined : {n after : List ℕ} → q.raw ≡ false → IsNewline n → IsItem q (92 ∷ n) after (Some [])
+  no_escape : {c : ℕ} {after : List ℕ} → q.raw ≡ false → lookup (nat_eq c) escapes ≡ None → (BeginsNewline (c ∷ after) → ⊥)
+      → IsItem q (92 ∷ c ∷ []) after None
+  raw_byte : {c : ℕ} {after : List ℕ} → q.raw ≡ true → (BeginsNewline (c ∷ after) → ⊥) → IsItem q (92 ∷ c ∷ []) after (Some (92 ∷ c ∷ []))
+  raw_newline : {n after : List ℕ} → q.raw ≡ true → IsNewline n → IsItem q (92 ∷ n) after (Some (92 ∷ 10 ∷ []))
+
+-- the text is these items, one after another, and this rest
+pub data Items (q : Quoting) : List ℕ → List BodyItem → List ℕ → Type 0 where
+  over : {rest : List ℕ} → Items q rest [] rest
+  more : {text mid rest : List ℕ} {i : BodyItem} {is : List BodyItem} → text ≡ i.spelled ++ mid → IsItem q i.spelled mid i.value
+      → Items q mid is rest → Items q text (i ∷ is) rest
+
+-- no item is next, nor the closing quotes: the text ends, or a newline comes that the literal may not hold
+abbrev pub IsUnclosed : Quoting → List ℕ → Type 0
+IsUnclosed q mid = (mid ≡ []) ⊎ ((mid ≡ 92 ∷ []) ⊎ ((q.triple ≡ false) × BeginsNewline mid))
+
+-- a double or a single quote
+abbrev pub IsQuote : ℕ → Type 0
+IsQuote a = (a ≡ 34) ⊎ (a ≡ 39)
+
+-- This opens a literal, whose body follows. What begins with three quotes is triple-quoted.
+pub record Opens (q : Quoting) (text body : List ℕ) : Type 0 where
+  pub quote : IsQuote q.quote
+  pub spelled : text ≡ prefix q ++ (quotes q ++ body)
+  pub longest : q.triple ≡ false → BeginsWith (q.quote ∷ q.quote ∷ []) body → ⊥
+
+-- The text is a literal with these items, and this rest: its prefix, its quotes, the items and its quotes, which are the first that
+-- come where an item could begin.
+pub record IsLiteral (q : Quoting) (text : List ℕ) (is : List BodyItem) (rest : List ℕ) : Type 0 where
+  pub body : List ℕ
+  pub opens : Opens q text body
+  pub cut : Items q body is (quotes q ++ rest)
+
+-- how long it is, and its first bad escape
+abbrev pub literal_of : Quoting → List BodyItem → StringLiteral
+literal_of q is = record { len = opening_len q + length (spelling is) + quotes_len q; bad_escape = bad_escape (opening_len q) is }
+
+-- The text is an opening, items, and then neither an item nor the closing quotes.
+pub record IsOpenLiteral (text : List ℕ) : Type 0 where
+  pub quoting : Quoting
+  pub body : List ℕ
+  pub opens : Opens quoting text body
+  pub is : List BodyItem
+  pub mid : List ℕ
+  pub cut : Items quoting body is mid
+  pub unclosed : IsUnclosed quoting mid
+
+-- each item stands for something
+abbrev pub AllStand : List BodyItem → Type 0
+AllStand is = AllByRecursion (λ i. IsSome i.value) is
+
+-- a text's literal, with all that is said of it
+pub record FoundLiteral (text : List ℕ) (l : StringLiteral) : Type 0 where
+  pub quoting : Quoting
+  pub is : List BodyItem
+  pub rest : List ℕ
+  pub literal : IsLiteral quoting text is rest
+  pub means : l ≡ literal_of quoting is
+
+-- a spelling with a value is a literal
+pub record ValuedLiteral (s v : List ℕ) : Type 0 where
+  pub quoting : Quoting
+  pub is : List BodyItem
+  pub literal : IsLiteral quoting s is []
+  pub stand : AllStand is
+  pub means : v ≡ values is
+
+-- two cuttings are one
+pub record SameCut (q p : Quoting) (is js : List BodyItem) (rest tail : List ℕ) : Type 0 where
+  pub quoting : q ≡ p
+  pub items : is ≡ js
+  pub after : rest ≡ tail
+
+-- The spelling of a string as `repr` writes it: double quotes, and escapes for a backslash, a double quote, LF, CR and tab.
+abbrev pub quoted_escapes : List (ℕ × ℕ)
+quoted_escapes = (92, 92) ∷ (34, 34) ∷ (10, 110) ∷ (13, 114) ∷ (9, 116) ∷ []
+
+abbrev pub quoted_byte_by : ℕ → Option ℕ → List ℕ
+quoted_byte_by b None = b ∷ []
+quoted_byte_by b (Some c) = 92 ∷ c ∷ []
+
+abbrev pub quoted_byte : ℕ → List ℕ
+quoted_byte b = quoted_byte_by b (lookup (nat_eq b) quoted_escapes)
+
+abbrev pub quoted_body : List ℕ → List ℕ
+quoted_body [] = []
+quoted_body (b ∷ bs) = quoted_byte b ++ quoted_body bs
+
+unfoldable pub quoted : List ℕ → List ℕ
+quoted bytes = 34 ∷ quoted_body bytes ++ 34 ∷ []

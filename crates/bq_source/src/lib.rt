@@ -33,6 +33,13 @@ pub use laws::{
     tokens_lie_within, tokens_spell_the_text,
 };
 pub use lexer::lex;
-pub use number::{begins_number, int_value, number_len};
-pub use string_literal::{StringLiteral, begins_string, scan_string};
+pub use number::{
+    begins_number, decimal_texts_read_back, each_digit_has_its_place, int_value, number_len,
+    values_are_those_of_the_digits,
+};
+pub use string_literal::{
+    StringLiteral, begins_string, each_literal_has_a_value, literals_are_cut_in_one_way,
+    literals_are_cut_into_items, open_literals_have_no_end, quoted_strings_read_back, scan_string,
+    string_value, values_are_those_of_the_items,
+};
 pub use token::{Token, TokenKind};

@@ -1,8 +1,10 @@
 //! Integer literals, by the Starlark specification, "Lexical elements": "Literals".
 
-ghost use Rattle.std.specs.Prelude.{◌≡◌, ◌≤◌, ◌<◌, ◌+◌, ◌*◌, length, pos, option_map, SomeIff};
+ghost use Rattle.std.specs.Prelude.{◌≡◌, ◌≤◌, ◌<◌, ◌+◌, ◌*◌, ◌++◌, ◌∷◌, [], ℕ, List, Some, decimal, length, pos, option_map, SomeIff};
 ghost use Rattle.std.specs.Char.{digit_value};
+ghost use Rattle.std.specs.Str.Parse.{digits_value};
 ghost use Rattle.bq_source.specs.Number as spec;
+ghost use Rattle.bq_source.specs.Number.{IsInt};
 
 use crate::lexis::is_letter;
 
@@ -88,3 +90,21 @@ pub fn int_value(spelling: &[u8]) -> Option<i64>
         _ => numeral_value(10, spelling),
     }
 }
+
+// What the values of numbers are, in words of the text alone. The functions do nothing: their contracts are the laws.
+
+/// A spelling has a value just where it is an integer, and the value is the one that it stands for.
+pub fn values_are_those_of_the_digits()
+    ensures found { (spelling : List ℕ) (n : ℕ) → spec.int_value spelling ≡ Some n → IsInt spelling n × (n ≤ spec.max_int) }
+    ensures complete { (spelling : List ℕ) (n : ℕ) → IsInt spelling n → n ≤ spec.max_int → spec.int_value spelling ≡ Some n }
+{}
+
+/// What digits stand for: one more digit counts itself, and makes the others count the base times as much.
+pub fn each_digit_has_its_place()
+    ensures { (base c : ℕ) (digits : List ℕ) → digits_value base (digits ++ c ∷ []) ≡ base * digits_value base digits + digit_value c }
+{}
+
+/// The decimal text of a number reads back.
+pub fn decimal_texts_read_back()
+    ensures { (n : ℕ) → n ≤ spec.max_int → spec.int_value (decimal n) ≡ Some n }
+{}

@@ -3,9 +3,13 @@
 //! A literal is an opening, a body and the closing quotes. The body is read item by item: a byte that stands for itself, a
 //! newline, or a backslash and what comes after it. The first closing quotes where an item could begin end the literal.
 
-ghost use Rattle.std.specs.Prelude.{◌≡◌, ◌<◌, ◌≤◌, ◌+◌, ℕ, length, IfOk, IfSome, IsSome, Some, None, if◌then◌else◌, is_none, unwrap_or, ◌++◌, drop};
+ghost use Rattle.std.specs.Prelude.{◌≡◌, ◌<◌, ◌≤◌, ◌+◌, ℕ, length, IfOk, IfSome, IsSome, Some, None, if◌then◌else◌, is_none, unwrap_or, ◌++◌, drop, take, OnOk, option_map, List, []};
 ghost use Rattle.std.specs.Option.{option_or};
+ghost use Rattle.std.specs.List.{list_all};
 ghost use Rattle.bq_source.specs.StringLiteral as spec;
+ghost use Rattle.bq_source.specs.StringLiteral.{BodyItem, values, FoundLiteral, SameCut, ValuedLiteral, IsLiteral, IsOpenLiteral, literal_of, AllStand, quoted};
+ghost use Rattle.bq_source.specs.declared.string_literal.Quoting.{Quoting};
+ghost use Rattle.bq_source.specs.declared.string_literal.StringLiteral.{StringLiteral};
 
 use crate::bytes::Bytes;
 use std::alloc::{AllocError, Global};
@@ -121,7 +125,8 @@ fn closes(quoting: Quoting, text: &[u8]) -> bool
     ensures { result ≡ spec.closes quoting text.now }
 {
     match text {
-        [first, after @ ..] => *first == quoting.quote && (!quoting.triple || begins_pair(quoting.quote, after)),
+        [first, after @ ..] => *first == quoting.quote
+            && (!quoting.triple || begins_pair(quoting.quote, after)),
         [] => false,
     }
 }
@@ -158,10 +163,24 @@ fn after_backslash(raw: bool, after: &[u8]) -> BodyPart
 {
     let newline = newline_len(after);
     if newline > 0 {
-        return BodyPart::Item(newline, if raw { ItemValue::BackslashAnd(b'\n') } else { ItemValue::Empty });
+        return BodyPart::Item(
+            newline,
+            if raw {
+                ItemValue::BackslashAnd(b'\n')
+            } else {
+                ItemValue::Empty
+            },
+        );
     }
     match after {
-        [c, ..] => BodyPart::Item(1, if raw { ItemValue::BackslashAnd(*c) } else { escape(*c) }),
+        [c, ..] => BodyPart::Item(
+            1,
+            if raw {
+                ItemValue::BackslashAnd(*c)
+            } else {
+                escape(*c)
+            },
+        ),
         [] => BodyPart::Unclosed,
     }
 }
@@ -238,3 +257,87 @@ pub fn scan_string(text: &[u8]) -> Option<StringLiteral>
         }
     }
 }
+
+/// Whether each byte stands for itself: no backslash means anything, and no newline is CR LF.
+fn is_verbatim(raw: bool, body: &[u8]) -> bool
+    ensures { result ≡ list_all (spec.stays raw) body.now }
+{
+    body.iter().all(|b| *b != b'\r' && (raw || *b != b'\\'))
+}
+
+/// Appends what an item stands for.
+fn push_item(value: &mut Vec<u8>, item: ItemValue) -> Result<(), AllocError>
+    ensures { OnOk result (value.new.items ≡ value.old.items ++ unwrap_or (spec.item_value item) []) }
+{
+    match item {
+        ItemValue::Byte(b) => value.push(b)?,
+        ItemValue::BackslashAnd(b) => value.extend_from_slice(&[b'\\', b])?,
+        ItemValue::Empty => {}
+        ItemValue::BadEscape => {}
+    }
+    Ok(())
+}
+
+/// What the items of a body stand for, which the closing quotes follow.
+fn unescaped(alloc: Global, quoting: Quoting, body: &[u8]) -> Result<Vec<u8>, AllocError>
+    requires { IsSome (spec.items quoting 0 body.now) }
+    ensures { IfOk result (λ value. option_map spec.values (spec.items quoting 0 body.now) ≡ Some value.items) }
+{
+    let mut value = Vec::with_capacity(alloc, body.len())?;
+    let mut at = 0;
+    'items: while let BodyPart::Item(more, item) = body_part(quoting, rest_of(body, at)) {
+        push_item(&mut value, item)?;
+        at += 1 + more;
+    }
+    Ok(value)
+}
+
+/// The value of a string literal, from its whole spelling. Where each byte stands for itself nothing is built beside it.
+pub fn string_value(alloc: Global, literal: &[u8]) -> Result<Bytes, AllocError>
+    requires { IsSome (spec.string_value literal.now) }
+    ensures { IfOk result (λ value. spec.string_value literal.now ≡ Some value) }
+{
+    let quoting = opening(literal).unwrap();
+    let body = rest_of(literal, quoting.opening_len());
+    if is_verbatim(quoting.raw, body) {
+        return Bytes::from_slice(alloc, &body[..body.len() - quoting.quotes_len()]);
+    }
+    Bytes::from_vec(alloc, unescaped(alloc, quoting, body)?)
+}
+
+// What string literals are, in words of the text alone. The functions do nothing: their contracts are the laws.
+
+/// A literal is found just where the text begins with one: an opening, items of which none is the closing quotes, and these.
+pub fn literals_are_cut_into_items()
+    ensures found { (text : List ℕ) (l : StringLiteral) → spec.scan_string text ≡ Some l → FoundLiteral text l }
+    ensures complete { (q : Quoting) (text : List ℕ) (is : List BodyItem) (rest : List ℕ) → IsLiteral q text is rest → spec.scan_string text ≡ Some (literal_of q is) }
+{}
+
+/// A text is cut into a literal's items in one way.
+pub fn literals_are_cut_in_one_way()
+    ensures { (text : List ℕ) (q p : Quoting) (is js : List BodyItem) (rest tail : List ℕ) → IsLiteral q text is rest → IsLiteral p text js tail → SameCut q p is js rest tail }
+{}
+
+/// Where a literal begins, none is found just where after some items the text ends, or a newline comes that it may not hold.
+pub fn open_literals_have_no_end()
+    ensures found { (text : List ℕ) → IsSome (spec.opening text) → spec.scan_string text ≡ None → IsOpenLiteral text }
+    ensures complete { (text : List ℕ) → IsOpenLiteral text → spec.scan_string text ≡ None }
+{}
+
+/// The value of a literal is what its items stand for, in a row, and a spelling has one just where it is a literal whose items
+/// all stand for something.
+pub fn values_are_those_of_the_items()
+    ensures found { (literal value : List ℕ) → spec.string_value literal ≡ Some value → ValuedLiteral literal value }
+    ensures complete { (q : Quoting) (literal : List ℕ) (is : List BodyItem) → IsLiteral q literal is [] → AllStand is → spec.string_value literal ≡ Some (values is) }
+{}
+
+/// Each literal that is found, and has no bad escape, has a value.
+pub fn each_literal_has_a_value()
+    ensures { (text : List ℕ) (l : StringLiteral) → spec.scan_string text ≡ Some l → l.bad_escape ≡ None → IsSome (spec.string_value (take l.len text)) }
+{}
+
+/// What `repr` writes of a string is one literal, whose value is the string.
+pub fn quoted_strings_read_back()
+    ensures literal { (bytes : List ℕ) → spec.scan_string (quoted bytes) ≡ Some (record { len = length (quoted bytes); bad_escape = None }) }
+    ensures value { (bytes : List ℕ) → spec.string_value (quoted bytes) ≡ Some bytes }
+{}

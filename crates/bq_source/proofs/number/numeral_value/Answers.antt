@@ -7,5 +7,5 @@ pub returns-in_err-value : goal.returns-in_err-value
 returns-in_err-value c =
     let one : 1 ≤ c.args.base = omega arith in
     let none : numeral_value c.args.base c.args.digits.now ≡ None =
-        c.loop-digit.invariant.same ∙ refused c.args.base c.loop-digit.value c.args.digits.now c.loop-digit.digit-index c.loop-digit-test.true one c.in_err-value.ensures in
+    c.loop-digit.invariant.same ∙ refused c.args.base c.loop-digit.value c.args.digits.now c.loop-digit.digit-index c.loop-digit-test.true one c.in_err-value.ensures in
     rw none (search rules)

@@ -1,4 +1,4 @@
-use Rattle.std.proofs.Common.{rules, ◌≡◌, ◌∙◌, ◌<◌, ◌≤◌, ◌+◌, length, drop, sym, arith, IfSome, Option, Some, None, cond, is_none, ℕ}
+use Rattle.std.proofs.Common.{rules, ◌≡◌, ◌∙◌, ◌<◌, length, drop, sym, arith}
 use Rattle.std.proofs.lemmas.List.{length-drop}
 use Rattle.bq_source.specs.declared.string_literal.BodyPart.TheVariants.{Closing, Unclosed, Item}
 use Rattle.bq_source.specs.StringLiteral.{body_part}
@@ -31,8 +31,8 @@ items-preserved c =
     let within : c.in-Item.more < length (drop c.items.at c.args.text.now) = rw (← c.rest_of.ensures) (c.in-Item.ensures.within) in
     record {
       same =
-        c.items.invariant.same
-        ∙ rw (c.first_bad-bad_escape.ensures) (at_item c.in_ok-quoting.quoting c.items.at c.items.bad_escape c.args.text.now c.in-Item.more c.in-Item.value here within);
+          c.items.invariant.same
+          ∙ rw (c.first_bad-bad_escape.ensures) (at_item c.in_ok-quoting.quoting c.items.at c.items.bad_escape c.args.text.now c.in-Item.more c.in-Item.value here within);
       within = let l = length-drop c.items.at c.args.text.now in omega arith;
       escape_within = rw (c.first_bad-bad_escape.ensures) (own_within c.items.bad_escape c.items.at c.in-Item.more c.in-Item.value c.items.invariant.escape_within);
     }
