@@ -10,6 +10,8 @@
 //! - `shown`: how these two are shown to people;
 //! - `token`: what a token is;
 //! - `lexis`: how the single tokens are spelled;
+//! - `number`: integer literals, and what they stand for;
+//! - `string_literal`: string literals, item by item, and what they stand for;
 //! - `place`: how far a text is cut into tokens;
 //! - `lexer`: one pass over the bytes, a piece at a time;
 //! - `laws`: what every reading of a text is, in words of the text alone.

@@ -91,9 +91,9 @@ pub fn int_value(spelling: &[u8]) -> Option<i64>
     }
 }
 
-// What the values of numbers are, in words of the text alone. The functions do nothing: their contracts are the laws.
+// What the values of numbers are, in words of the text alone. These functions do nothing: their contracts are the laws.
 
-/// A spelling has a value just where it is an integer, and the value is the one that it stands for.
+/// A spelling has a value exactly where it is an integer, and the value is the one that it stands for.
 pub fn values_are_those_of_the_digits()
     ensures found { (spelling : List ℕ) (n : ℕ) → spec.int_value spelling ≡ Some n → IsInt spelling n × (n ≤ spec.max_int) }
     ensures complete { (spelling : List ℕ) (n : ℕ) → IsInt spelling n → n ≤ spec.max_int → spec.int_value spelling ≡ Some n }

@@ -101,7 +101,7 @@ fn opening_quotes(raw: bool, text: &[u8]) -> Option<Quoting>
     }
 }
 
-/// How the string literal is quoted that begins here, if one does.
+/// How the string literal that begins here is quoted, if one does.
 #[tactic(auto, unfolding(crate::specs::StringLiteral::opening))]
 fn opening(text: &[u8]) -> Option<Quoting>
     ensures quoting { result ≡ spec.opening text.now }
@@ -163,29 +163,21 @@ fn after_backslash(raw: bool, after: &[u8]) -> BodyPart
 {
     let newline = newline_len(after);
     if newline > 0 {
-        return BodyPart::Item(
-            newline,
-            if raw {
-                ItemValue::BackslashAnd(b'\n')
-            } else {
-                ItemValue::Empty
-            },
-        );
+        let value = if raw {
+            ItemValue::BackslashAnd(b'\n')
+        } else {
+            ItemValue::Empty
+        };
+        return BodyPart::Item(newline, value);
     }
     match after {
-        [c, ..] => BodyPart::Item(
-            1,
-            if raw {
-                ItemValue::BackslashAnd(*c)
-            } else {
-                escape(*c)
-            },
-        ),
+        [c, ..] if raw => BodyPart::Item(1, ItemValue::BackslashAnd(*c)),
+        [c, ..] => BodyPart::Item(1, escape(*c)),
         [] => BodyPart::Unclosed,
     }
 }
 
-/// What a byte is that no backslash goes before, given how long the newline is that it begins.
+/// What a byte other than a backslash and the closing quotes is, given the length of the newline that begins with it, or 0.
 fn plain(quoting: Quoting, b: u8, newline: usize) -> BodyPart
     ensures { result ≡ spec.plain_by quoting b newline }
 {
@@ -198,6 +190,7 @@ fn plain(quoting: Quoting, b: u8, newline: usize) -> BodyPart
     }
 }
 
+/// What is at a place of a body, by the text from there.
 #[tactic(auto, unfolding(crate::specs::StringLiteral::body_part))]
 fn body_part(quoting: Quoting, text: &[u8]) -> BodyPart
     ensures part { result ≡ spec.body_part quoting text.now }
@@ -305,9 +298,10 @@ pub fn string_value(alloc: Global, literal: &[u8]) -> Result<Bytes, AllocError>
     Bytes::from_vec(alloc, unescaped(alloc, quoting, body)?)
 }
 
-// What string literals are, in words of the text alone. The functions do nothing: their contracts are the laws.
+// What string literals are, in words of the text alone. These functions do nothing: their contracts are the laws.
 
-/// A literal is found just where the text begins with one: an opening, items of which none is the closing quotes, and these.
+/// A literal is found exactly where the text begins with one: an opening, items, and the first closing quotes that come where an
+/// item could begin.
 pub fn literals_are_cut_into_items()
     ensures found { (text : List ℕ) (l : StringLiteral) → spec.scan_string text ≡ Some l → FoundLiteral text l }
     ensures complete { (q : Quoting) (text : List ℕ) (is : List BodyItem) (rest : List ℕ) → IsLiteral q text is rest → spec.scan_string text ≡ Some (literal_of q is) }
@@ -318,20 +312,21 @@ pub fn literals_are_cut_in_one_way()
     ensures { (text : List ℕ) (q p : Quoting) (is js : List BodyItem) (rest tail : List ℕ) → IsLiteral q text is rest → IsLiteral p text js tail → SameCut q p is js rest tail }
 {}
 
-/// Where a literal begins, none is found just where after some items the text ends, or a newline comes that it may not hold.
+/// A literal that begins has no end exactly where, after some of its items, the text ends or has a newline that the literal may
+/// not hold.
 pub fn open_literals_have_no_end()
     ensures found { (text : List ℕ) → IsSome (spec.opening text) → spec.scan_string text ≡ None → IsOpenLiteral text }
     ensures complete { (text : List ℕ) → IsOpenLiteral text → spec.scan_string text ≡ None }
 {}
 
-/// The value of a literal is what its items stand for, in a row, and a spelling has one just where it is a literal whose items
-/// all stand for something.
+/// The value of a literal is what its items stand for, in a row. A spelling has a value exactly where it is one literal and each
+/// item of it stands for something.
 pub fn values_are_those_of_the_items()
     ensures found { (literal value : List ℕ) → spec.string_value literal ≡ Some value → ValuedLiteral literal value }
     ensures complete { (q : Quoting) (literal : List ℕ) (is : List BodyItem) → IsLiteral q literal is [] → AllStand is → spec.string_value literal ≡ Some (values is) }
 {}
 
-/// Each literal that is found, and has no bad escape, has a value.
+/// Each literal that is found and has no bad escape has a value.
 pub fn each_literal_has_a_value()
     ensures { (text : List ℕ) (l : StringLiteral) → spec.scan_string text ≡ Some l → l.bad_escape ≡ None → IsSome (spec.string_value (take l.len text)) }
 {}

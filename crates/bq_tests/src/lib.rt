@@ -8,6 +8,8 @@ mod board;
 #[cfg(test)]
 mod label;
 #[cfg(test)]
+mod literals;
+#[cfg(test)]
 mod parse;
 #[cfg(test)]
 mod run;
