@@ -1,7 +1,8 @@
 //! Numbers and strings: values from outside.
 
 use bq_source::{
-    Bytes, StringLiteral, begins_number, begins_string, each_literal_has_a_value, int_value, number_len, scan_string, string_value,
+    Bytes, StringLiteral, begins_number, begins_string, each_literal_has_a_value, int_value,
+    number_len, scan_string, string_value,
 };
 use std::alloc::{AllocError, Global};
 use std::test::Fail;
@@ -123,12 +124,23 @@ fn strings(rt: HostRuntime) -> Result<(), Fail> {
         ("'\u{e9}\u{1f600}'", "", "\u{e9}\u{1f600}"),
         ("'\x01\t\x7f#$?@`!'", "", "\x01\t\x7f#$?@`!"),
         // Past the length of a short byte string.
-        ("'0123456789012345678901234567890'", "", "0123456789012345678901234567890"),
-        ("'0123456789\\n012345678901234567890'", "", "0123456789\n012345678901234567890"),
+        (
+            "'0123456789012345678901234567890'",
+            "",
+            "0123456789012345678901234567890",
+        ),
+        (
+            "'0123456789\\n012345678901234567890'",
+            "",
+            "0123456789\n012345678901234567890",
+        ),
     ] {
         let text = format!(in rt.alloc(); "{literal}{after}")?;
         assert!(rt; begins_string(text.as_bytes()), "{literal}");
-        let wanted = StringLiteral { len: literal.len(), bad_escape: None };
+        let wanted = StringLiteral {
+            len: literal.len(),
+            bad_escape: None,
+        };
         assert_eq!(rt; scan_string(text.as_bytes()), Some(wanted), "{literal}");
         match value_of(rt.alloc(), text.as_bytes())? {
             Some(found) => assert_eq!(rt; found.as_slice(), value.as_bytes(), "{literal}"),
@@ -154,7 +166,10 @@ fn bad_escapes(rt: HostRuntime) -> Result<(), Fail> {
         ("'''\n\\q'''", 9, 4),
         ("'\\u0041' 'b'", 8, 1),
     ] {
-        let wanted = StringLiteral { len, bad_escape: Some(at) };
+        let wanted = StringLiteral {
+            len,
+            bad_escape: Some(at),
+        };
         assert_eq!(rt; scan_string(text.as_bytes()), Some(wanted), "{text}");
     }
     Ok(())
@@ -164,13 +179,36 @@ fn bad_escapes(rt: HostRuntime) -> Result<(), Fail> {
 #[test]
 fn open_strings(rt: HostRuntime) -> Result<(), Fail> {
     for text in [
-        "'", "\"", "r'", "'a", "'a\"", "'a\n'", "'a\r\n'", "'\\", "'a\\'", "'''", "''''", "'''''", "'''a''", "'''a\\'''",
-        "'''\"\"\"", "r'\\'", "r'\\", "r'a\nb'", "'\\q", "'\\q\n'", "'\\\r\r\n'", "'\\\n", "\"'",
+        "'",
+        "\"",
+        "r'",
+        "'a",
+        "'a\"",
+        "'a\n'",
+        "'a\r\n'",
+        "'\\",
+        "'a\\'",
+        "'''",
+        "''''",
+        "'''''",
+        "'''a''",
+        "'''a\\'''",
+        "'''\"\"\"",
+        "r'\\'",
+        "r'\\",
+        "r'a\nb'",
+        "'\\q",
+        "'\\q\n'",
+        "'\\\r\r\n'",
+        "'\\\n",
+        "\"'",
     ] {
         assert!(rt; begins_string(text.as_bytes()), "{text}");
         assert_eq!(rt; scan_string(text.as_bytes()), None, "{text}");
     }
-    for text in ["", "a'", "R'a'", "b'a'", "rr'a'", "r", "r ''", "ra'b'", "\\'", "\u{e9}'"] {
+    for text in [
+        "", "a'", "R'a'", "b'a'", "rr'a'", "r", "r ''", "ra'b'", "\\'", "\u{e9}'",
+    ] {
         assert!(rt; !begins_string(text.as_bytes()), "{text}");
     }
     Ok(())
