@@ -4,3 +4,4 @@ pub mod Sources
 pub mod FaultLines
 pub mod Words
 pub mod LoadedPackages
+pub mod Crossings

@@ -27,10 +27,7 @@ pub struct Loaded {
 fn load_package(alloc: Global, packages: &Packages, build: &BuildFile) -> Result<Package, SourceErr>
     ensures { LoadsTo packages.now build.now result }
 {
-    let scope = Scope {
-        own: &build.id,
-        packages,
-    };
+    let scope = Scope::new(alloc, &build.id, packages)?;
     let file = statements(alloc, build.file.content.as_slice())?;
     let calls = resolve(alloc, file.statements.as_slice())?;
     targets(alloc, scope, build, &calls)

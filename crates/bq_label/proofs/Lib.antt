@@ -11,3 +11,4 @@ pub mod BuildFiles
 pub mod Owners
 pub mod FullForms
 pub mod Listings
+pub mod ShortNames

@@ -1,6 +1,6 @@
 -- Which texts are paths, names of targets and names of repositories (Bazel, "Labels", lexical specification).
-use Rattle.std.specs.Prelude.{◌≡◌, ℕ, suc, ◌==◌, ◌&&◌, ◌||◌, Bool, true, not, nat_le, List, [], ◌∷◌, bytes_eq, codes, if◌then◌else◌}
-use Rattle.std.specs.List.{list_all, slice_split}
+use Rattle.std.specs.Prelude.{◌≡◌, ℕ, suc, ◌==◌, ◌&&◌, ◌||◌, Bool, true, false, not, nat_le, List, [], ◌∷◌, bytes_eq, codes, if◌then◌else◌}
+use Rattle.std.specs.List.{list_all, list_any, slice_split}
 
 -- what parts the segments of a path
 abbrev pub is_slash : ℕ → Bool
@@ -29,6 +29,10 @@ is_repository_byte b = (nat_le 97 b && nat_le b 122) || (nat_le 65 b && nat_le b
 -- a repository's name, which is empty for the main one
 unfoldable pub is_repository : List ℕ → Bool
 is_repository name = list_all is_repository_byte name
+
+-- no byte of a name is a slash
+abbrev pub HasNoSlash : List ℕ → Type 0
+HasNoSlash name = list_any is_slash name ≡ false
 
 -- how many bytes two texts have in common at the front
 unfoldable pub common_len : List ℕ → List ℕ → ℕ

@@ -7,8 +7,9 @@ ghost use Rattle.std.specs.List.Sorted.{IsStrictlySortedBy};
 ghost use Rattle.bq_label.specs.declared.workspace.File.{File};
 ghost use Rattle.bq_label.specs.declared.packages.BuildFile.{BuildFile};
 ghost use Rattle.bq_label.specs.Workspace.{workspace_of, IsWorkspace, IsWorkspaceOf};
-ghost use Rattle.bq_label.specs.Packages.{packages_of, package_cmp, IsPackageOf, HasBuildFile, IsListed, split_repository, owner_of, OwnerIs};
-ghost use Rattle.bq_label.specs.Label.{PackageParts, LabelParts, IsLabel, ReadsAs, full_form};
+ghost use Rattle.bq_label.specs.Packages.{packages_of, package_cmp, IsPackageOf, HasBuildFile, IsListed, split_repository, label_path, owner_of, OwnerIs};
+ghost use Rattle.bq_label.specs.Label.{PackageParts, LabelParts, label_in, IsLabel, ReadsAs, full_form};
+ghost use Rattle.bq_label.specs.Paths.{HasNoSlash};
 ghost use Rattle.bq_label.specs.Reading.{label_of};
 
 /// [`crate::read_label`]'s function reads a text as a label exactly where one of the forms of a label does.
@@ -55,4 +56,9 @@ pub fn one_entry_each()
 /// A path's owner is the package above it in its repository that has the longest path.
 pub fn the_nearest_owner()
     ensures { (packages : List BuildFile) (path repo rest : List ℕ) → split_repository path ≡ Some (repo, rest) → OwnerIs packages repo rest (owner_of packages path) }
+{}
+
+/// Names without a slash are in their package's directory itself, so they all have one owner.
+pub fn short_names_have_one_owner()
+    ensures { (packages : List BuildFile) (own : PackageParts) (n m : List ℕ) → HasNoSlash n → HasNoSlash m → owner_of packages (label_path (label_in own n)) ≡ owner_of packages (label_path (label_in own m)) }
 {}
