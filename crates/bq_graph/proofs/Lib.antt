@@ -1,0 +1,12 @@
+pub mod Flats
+pub mod Counting
+pub mod Turned
+pub mod Grows
+pub mod Visits
+pub mod Walks
+pub mod Spreads
+pub mod Listings
+pub mod Answered
+pub mod Between
+pub mod Shortest
+pub mod Meets
