@@ -6,6 +6,8 @@
 #[cfg(test)]
 mod board;
 #[cfg(test)]
+mod graph;
+#[cfg(test)]
 mod label;
 #[cfg(test)]
 mod literals;

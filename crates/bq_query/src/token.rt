@@ -1,0 +1,37 @@
+//! The tokens of queries.
+
+/// What a token is.
+#[derive(Clone, Copy, PartialEq, Eq)]
+pub enum TokenKind {
+    /// A word without quotes that is no keyword and no variable.
+    Word,
+    /// A word in quotes, the quotes among it.
+    Quoted,
+    /// A word `$name`.
+    Variable,
+    /// `(`
+    Open,
+    /// `)`
+    Close,
+    /// `,`
+    Comma,
+    /// `=`
+    Equals,
+    /// `+` or `union`
+    Union,
+    /// `^` or `intersect`
+    Intersect,
+    /// `-` or `except`
+    Except,
+    In,
+    Let,
+    Set,
+}
+
+/// A token with its place: the bytes from `start` to `end`.
+#[derive(Clone, Copy)]
+pub struct Token {
+    pub kind: TokenKind,
+    pub start: usize,
+    pub end: usize,
+}
