@@ -1,0 +1,4 @@
+pub mod Looked
+pub mod Equality
+pub mod Truth
+pub mod KeyWalk

@@ -1,0 +1,127 @@
+//! `==` (Starlark, "Equality").
+
+ghost use Rattle.std.specs.Prelude.{◌≡◌};
+ghost use Rattle.bq_walk.specs.Looked.{max_levels};
+ghost use Rattle.bq_walk.specs.Equality.{equal_at, lists_equal, dicts_equal, contents_equal};
+
+use crate::MAX_LEVELS;
+use bq_source::FaultKind;
+use bq_value::{Body, Content, Dict, EvalErr, Node, Store, Value};
+
+/// Whether two values are equal, and the steps that are left of these.
+pub fn equal(store: &Store, steps: u64, a: &Value, b: &Value) -> Result<(bool, u64), EvalErr>
+    ensures { result ≡ equal_at max_levels store.now steps a.now b.now }
+{
+    values_equal(store, MAX_LEVELS, steps, a, b)
+}
+
+/// The same, with so many levels to go.
+#[cycle(equal)]
+#[tactic(auto, using(bq_value::specs::Datum::list_of_data_of))]
+pub(crate) fn values_equal(
+    store: &Store,
+    levels: u32,
+    steps: u64,
+    a: &Value,
+    b: &Value,
+) -> Result<(bool, u64), EvalErr>
+    ensures { result ≡ equal_at levels store.now steps a.now b.now }
+{
+    if steps == 0 {
+        return Err(EvalErr::Bad(FaultKind::StepLimit));
+    }
+    let steps = steps - 1;
+    if levels == 0 {
+        return Err(EvalErr::Bad(FaultKind::TooDeep));
+    }
+    let below = levels - 1;
+    match (&a.node, &b.node) {
+        (Node::NoneValue, Node::NoneValue) => Ok((true, steps)),
+        (Node::Bool(x), Node::Bool(y)) => Ok((*x == *y, steps)),
+        (Node::Int(x), Node::Int(y)) => Ok((*x == *y, steps)),
+        (Node::Text(x), Node::Text(y)) => Ok((x.as_slice() == y.as_slice(), steps)),
+        (Node::Tuple(xs), Node::Tuple(ys)) => slices_equal(store, below, steps, xs, ys),
+        (Node::Range(x), Node::Range(y)) => Ok((x.equals(*y), steps)),
+        (Node::Cell(x), Node::Cell(y)) => match (store.content(*x), store.content(*y)) {
+            (Some(c), Some(d)) => cells_equal(store, below, steps, c, d),
+            _ => Ok((false, steps)),
+        },
+        (Node::Function(f), Node::Function(g)) => Ok((
+            f.module == g.module && f.place == g.place,
+            steps,
+        )),
+        (Node::BuiltIn(x), Node::BuiltIn(y)) => Ok((x.as_slice() == y.as_slice(), steps)),
+        _ => Ok((false, steps)),
+    }
+}
+
+#[cycle(equal)]
+fn cells_equal(
+    store: &Store,
+    levels: u32,
+    steps: u64,
+    a: &Content,
+    b: &Content,
+) -> Result<(bool, u64), EvalErr>
+    ensures { result ≡ contents_equal (equal_at levels store.now) steps a.now b.now }
+{
+    match (&a.body, &b.body) {
+        (Body::List(xs), Body::List(ys)) => slices_equal(store, levels, steps, xs, ys),
+        (Body::Dict(ps), Body::Dict(qs)) => entries_equal(store, levels, steps, ps, qs),
+        _ => Ok((false, steps)),
+    }
+}
+
+#[cycle(equal)]
+fn slices_equal(
+    store: &Store,
+    levels: u32,
+    steps: u64,
+    xs: &[Value],
+    ys: &[Value],
+) -> Result<(bool, u64), EvalErr>
+    ensures { result ≡ lists_equal (equal_at levels store.now) steps xs.now ys.now }
+{
+    if xs.len() != ys.len() {
+        return Ok((false, steps));
+    }
+    let mut left = steps;
+    for (i, x) in xs.iter().enumerate() {
+        let (same, now) = values_equal(store, levels, left, x, &ys[i])?;
+        left = now;
+        if !same {
+            return Ok((false, left));
+        }
+    }
+    Ok((true, left))
+}
+
+#[cycle(equal)]
+fn entries_equal(
+    store: &Store,
+    levels: u32,
+    steps: u64,
+    ps: &Dict,
+    qs: &Dict,
+) -> Result<(bool, u64), EvalErr>
+    ensures { result ≡ dicts_equal (equal_at levels store.now) steps ps.now qs.now }
+{
+    if ps.len() != qs.len() {
+        return Ok((false, steps));
+    }
+    let mut left = steps;
+    for i in 0..ps.len() {
+        let (key, value) = ps.pair(i);
+        match qs.get(key) {
+            None => return Ok((false, left)),
+            Some(other) => {
+                let (same, now) = values_equal(store, levels, left, value, other)?;
+                left = now;
+                if !same {
+                    return Ok((false, left));
+                }
+            }
+        }
+    }
+    Ok((true, left))
+}

@@ -1,0 +1,50 @@
+//! The keys that values make (Starlark, "Hashing").
+
+ghost use Rattle.std.specs.Prelude.{◌≡◌};
+ghost use Rattle.bq_walk.specs.Looked.{max_levels};
+ghost use Rattle.bq_walk.specs.KeyWalk.{walked_at, all_walked, GivesKey};
+
+use crate::MAX_LEVELS;
+use bq_source::FaultKind;
+use bq_value::{EvalErr, Key, Node, Value};
+
+/// The key that a value makes, and the steps that are left of these. Other values than `None`, bools, integers, strings and
+/// tuples of these make none (F45).
+pub fn key_of(steps: u64, value: &Value) -> Result<(Key, u64), EvalErr>
+    ensures { GivesKey (walked_at max_levels steps value.now) value.now result }
+{
+    let left = walk(MAX_LEVELS, steps, value)?;
+    let value = value.share()?;
+    Ok((Key::new(value), left))
+}
+
+/// Visits a value with so many levels to go.
+#[cycle(walk)]
+#[tactic(auto, using(bq_value::specs::Datum::list_of_data_of))]
+fn walk(levels: u32, steps: u64, value: &Value) -> Result<u64, EvalErr>
+    ensures { result ≡ walked_at levels steps value.now }
+{
+    if steps == 0 {
+        return Err(EvalErr::Bad(FaultKind::StepLimit));
+    }
+    let steps = steps - 1;
+    if levels == 0 {
+        return Err(EvalErr::Bad(FaultKind::TooDeep));
+    }
+    match &value.node {
+        Node::NoneValue | Node::Bool(_) | Node::Int(_) | Node::Text(_) => Ok(steps),
+        Node::Tuple(items) => walk_all(levels - 1, steps, items),
+        _ => Err(EvalErr::Bad(FaultKind::Unhashable)),
+    }
+}
+
+#[cycle(walk)]
+fn walk_all(levels: u32, steps: u64, values: &[Value]) -> Result<u64, EvalErr>
+    ensures { result ≡ all_walked (walked_at levels) steps values.now }
+{
+    let mut left = steps;
+    for value in values {
+        left = walk(levels, left, value)?;
+    }
+    Ok(left)
+}
