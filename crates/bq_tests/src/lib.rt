@@ -14,6 +14,8 @@ mod literals;
 #[cfg(test)]
 mod parse;
 #[cfg(test)]
+mod query;
+#[cfg(test)]
 mod run;
 #[cfg(test)]
 mod source;
