@@ -1,0 +1,8 @@
+use Rattle.bq_graph.specs.Edges.{AreBetween}
+use Rattle.bench_graph.proofs.edges.Given as goal
+
+abbrev pub invariant-loop-from : goal.invariant-loop-from
+invariant-loop-from l = AreBetween l.count l.edges.items
+
+abbrev pub invariant-loop-step : goal.invariant-loop-step
+invariant-loop-step l = AreBetween l.count l.edges.items

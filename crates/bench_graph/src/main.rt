@@ -1,0 +1,117 @@
+//! Measures [`Graph::new`] and the operators: graphs of 80,000 and 320,000 targets with five edges each, to targets that come later.
+//!
+//! Standard output says how large the sets are, which doesn't change between runs; standard error says the processor time.
+#![tactic(auto)]
+
+ghost use Rattle.std.specs.Prelude.{◌≡◌, ◌<◌, length, vec_len, IfOk};
+ghost use Rattle.bq_graph.specs.Edges.{AreBetween};
+
+use anyhow::Result;
+use bq_graph::allpaths::allpaths;
+use bq_graph::deps::{deps, deps_within};
+use bq_graph::rdeps::rdeps;
+use bq_graph::{Edge, Graph, members};
+use std::alloc::{AllocError, Global};
+use std::time::CpuClock;
+
+/// How far the five edges of a target lead.
+const STEPS: [usize; 5] = [1, 2, 7, 40, 1000];
+
+/// The edges of all targets, as far as they lead to one.
+fn edges(alloc: Global, count: usize) -> Result<Vec<Edge>, AllocError>
+    requires { count < 1000000 }
+    ensures { IfOk result (λ v. AreBetween count v.items) }
+{
+    let mut edges = Vec::new(alloc);
+    for from in 0..count {
+        for step in STEPS {
+            let to = from.saturating_add(step);
+            if to < count {
+                edges.push(Edge { from, to })?;
+            }
+        }
+    }
+    Ok(edges)
+}
+
+/// The set of so many targets that has one of them.
+fn only(alloc: Global, count: usize, target: usize) -> Result<Vec<bool>, AllocError>
+    ensures { IfOk result (λ v. vec_len v ≡ count) }
+{
+    let mut marks = vec![in alloc; false; count]?;
+    if target < marks.len() {
+        marks[target] = true;
+    }
+    Ok(marks)
+}
+
+/// The operators that are measured.
+#[derive(Clone, Copy)]
+enum Form {
+    Deps,
+    DepsWithin,
+    Rdeps,
+    Allpaths,
+}
+
+fn set_of(
+    alloc: Global,
+    graph: &Graph,
+    form: Form,
+    a: &[bool],
+    b: &[bool],
+) -> Result<Vec<bool>, AllocError>
+    requires a { length a.now ≡ length graph.now }
+    requires b { length b.now ≡ length graph.now }
+{
+    match form {
+        Form::Deps => deps(alloc, graph, a),
+        Form::DepsWithin => deps_within(alloc, graph, a, 3),
+        Form::Rdeps => rdeps(alloc, graph, a, b),
+        Form::Allpaths => allpaths(alloc, graph, a, b),
+    }
+}
+
+/// Measures one operator: from the first target, to one in the middle.
+fn measure(
+    rt: &HostRuntime,
+    name: &str,
+    form: Form,
+    graph: &Graph,
+    a: &[bool],
+    b: &[bool],
+) -> Result<()>
+    requires a { length a.now ≡ length graph.now }
+    requires b { length b.now ≡ length graph.now }
+{
+    let alloc = rt.alloc();
+    let start = rt.thread_cpu_time()?;
+    let set = set_of(alloc, graph, form, a, b)?;
+    let size = members(alloc, &set)?.len();
+    let time = rt.thread_cpu_time()?.saturating_sub(start).as_micros();
+    println!(rt; "{name}: {size}")?;
+    eprintln!(rt; "{name}: {time} us")?;
+    Ok(())
+}
+
+fn measure_all(rt: &HostRuntime, count: usize) -> Result<()>
+    requires { count < 1000000 }
+{
+    let alloc = rt.alloc();
+    let edges = edges(alloc, count)?;
+    let start = rt.thread_cpu_time()?;
+    let graph = Graph::new(alloc, count, &edges)?;
+    let time = rt.thread_cpu_time()?.saturating_sub(start).as_micros();
+    eprintln!(rt; "graph of {count} targets: {time} us")?;
+    let a = only(alloc, count, 0)?;
+    let b = only(alloc, count, count / 2)?;
+    measure(rt, "deps", Form::Deps, &graph, &a, &b)?;
+    measure(rt, "deps within 3", Form::DepsWithin, &graph, &a, &b)?;
+    measure(rt, "rdeps", Form::Rdeps, &graph, &a, &b)?;
+    measure(rt, "allpaths", Form::Allpaths, &graph, &a, &b)
+}
+
+fn main(rt: HostRuntime) -> Result<()> {
+    measure_all(&rt, 80_000)?;
+    measure_all(&rt, 320_000)
+}
