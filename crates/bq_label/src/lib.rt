@@ -30,7 +30,7 @@ mod workspace;
 pub use label::Label;
 pub use package_id::PackageId;
 pub use packages::{BuildFile, Packages};
-pub use path::{is_path, is_repository};
+pub use path::{is_path, is_repository, is_segment};
 pub use print::print_label;
 pub use read::read_label;
 pub use repository::label_path;

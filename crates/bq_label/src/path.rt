@@ -16,7 +16,8 @@ fn are_path_bytes(text: &[u8]) -> bool
     text.iter().all(|byte| is_path_byte(*byte))
 }
 
-fn is_segment(segment: &[u8]) -> bool
+/// Whether a path may have this segment: it is not empty, and neither `.` nor `..`.
+pub fn is_segment(segment: &[u8]) -> bool
     ensures { result ≡ is_segment segment.now }
 {
     !segment.is_empty() && segment != b".".as_slice() && segment != b"..".as_slice()

@@ -1,0 +1,4 @@
+pub mod Greedy
+pub mod Segments
+pub mod Cuttings
+pub mod Literals
