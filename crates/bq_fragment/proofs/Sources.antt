@@ -6,7 +6,7 @@ use Rattle.bq_source.specs.declared.token.Token.{Token}
 use Rattle.bq_source.specs.declared.fault.Fault.{Fault}
 use Rattle.bq_source.specs.declared.fault.SourceErr.{SourceErr}
 use Rattle.bq_source.specs.Reading.{Lexes}
-use Rattle.bq_source.specs.Lexing as lexing
+use Rattle.bq_source.specs.Lexing.{the_tokens}
 use Rattle.bq_source.specs.Tokens.{tokens_of}
 use Rattle.bq_source.proofs.Reached.{every_text}
 use Rattle.bq_parse.specs.declared.tree.File.{File}
@@ -15,19 +15,19 @@ use Rattle.bq_parse.specs.Statements.{statements_of as parsed}
 use Rattle.bq_parse.specs.Verdict as verdict
 use Rattle.bq_parse.specs.Verdict.{Parses}
 use Rattle.bq_parse.proofs.Files.{has_its_reading}
-use Rattle.bq_source.specs.Gives.{Gives}
+use Rattle.bq_source.specs.Gives.{Gives, GivesOneOf}
 use Rattle.bq_source.specs.declared.fault.SourceErr.TheVariants.{Bad}
 use Rattle.bq_fragment.specs.Steps.{items}
 use Rattle.bq_fragment.specs.Source.{statements_in}
 
-tokens_found : (r : Result (Vec Token Global) SourceErr) (q : Result (List Token) Fault) → lexing.Returned r q → Gives items Bad r q
+tokens_found : (r : Result (Vec Token Global) SourceErr) (q : Result (List Token) Fault) → Gives the_tokens Bad r q → Gives items Bad r q
 tokens_found (Ok v) q h = h
 tokens_found (Err e) q h = h
 
-pub lexed : (text : List ℕ) (r : Result (Vec Token Global) SourceErr) → ((q : Result (List Token) Fault) → Lexes text q → lexing.Returned r q) → Gives items Bad r (tokens_of text)
+pub lexed : (text : List ℕ) (r : Result (Vec Token Global) SourceErr) → ((q : Result (List Token) Fault) → Lexes text q → Gives the_tokens Bad r q) → Gives items Bad r (tokens_of text)
 lexed text r only = tokens_found r (tokens_of text) (only (tokens_of text) (every_text text))
 
-pub lexes : (text : List ℕ) (r : Result (Vec Token Global) SourceErr) → lexing.Answers text r → IfOk r (λ v. Lexes text (Ok v.items))
+pub lexes : (text : List ℕ) (r : Result (Vec Token Global) SourceErr) → GivesOneOf the_tokens Bad r (Lexes text) → IfOk r (λ v. Lexes text (Ok v.items))
 lexes text (Ok v) h = h
 lexes text (Err e) h = tt
 

@@ -1,6 +1,7 @@
 -- What a token's spelling stands for.
-use Rattle.std.specs.Prelude.{ℕ, ◌-◌, List, length, slice_range}
+use Rattle.std.specs.Prelude.{ℕ, List, [], slice_range, unwrap_or}
 use Rattle.bq_source.specs.declared.token.Token.{Token}
+use Rattle.bq_source.specs.StringLiteral.{string_value}
 use Rattle.bq_parse.specs.declared.tree.Identifier.{Identifier}
 
 -- the bytes of a token
@@ -14,9 +15,6 @@ name_of text t = spelling text t
 abbrev pub identifier : List ℕ → Token → Identifier
 identifier text t = record { name = name_of text t; line = t.line }
 
--- "String literals": the bytes between the quotes. There are no escapes yet (ours).
-unfoldable pub string_value : List ℕ → List ℕ
-string_value literal = slice_range literal 1 (length literal - 1)
-
+-- the value of a string literal; each that is a token has one
 abbrev pub value_of : List ℕ → Token → List ℕ
-value_of text t = string_value (spelling text t)
+value_of text t = unwrap_or (string_value (spelling text t)) []

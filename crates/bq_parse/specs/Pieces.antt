@@ -6,9 +6,9 @@ use Rattle.bq_source.specs.declared.token.TokenKind.TheVariants as k
 use Rattle.bq_source.specs.Token.{same_kind}
 use Rattle.bq_parse.specs.Cursor.{sees}
 
--- a line of these tokens is of the statement above it
+-- a line of these tokens is of the statement above it; so is a block and what follows it, until there is a grammar of blocks
 abbrev pub goes_on : List Token → Bool
-goes_on ts = sees k.Elif ts || sees k.Else ts
+goes_on ts = sees k.Elif ts || sees k.Else ts || sees k.Indent ts || sees k.Outdent ts
 
 -- a statement ends with this token, which these follow
 unfoldable pub ends : Token → List Token → Bool

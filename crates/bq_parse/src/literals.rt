@@ -1,12 +1,12 @@
 //! What a token's spelling stands for.
 
-ghost use Rattle.std.specs.Prelude.{◌≡◌, ◌≤◌, length, IfOk};
+ghost use Rattle.std.specs.Prelude.{◌≡◌, IfOk};
 ghost use Rattle.bq_source.specs.Spelling.{Lies};
 ghost use Rattle.bq_parse.specs.Literals as spec;
 ghost use Rattle.bq_source.specs.declared.token.TokenKind.TheVariants as kind;
 
 use crate::tree::Identifier;
-use bq_source::{Bytes, Token};
+use bq_source::{Bytes, Token, string_value};
 use std::alloc::{AllocError, Global};
 
 /// The bytes of a token.
@@ -15,15 +15,6 @@ fn spelling<'a>(text: &'a [u8], token: Token) -> &'a [u8]
     ensures { result.now ≡ spec.spelling text.now token }
 {
     &text[token.start as usize..token.end as usize]
-}
-
-/// What a string literal stands for.
-#[tactic(auto, unfolding(crate::specs::Literals::string_value))]
-fn string_value(literal: &[u8]) -> &[u8]
-    requires { 2 ≤ length literal.now }
-    ensures { result.now ≡ spec.string_value literal.now }
-{
-    &literal[1..literal.len() - 1]
 }
 
 /// The name that a word is.
@@ -50,5 +41,5 @@ pub fn value_of(alloc: Global, text: &[u8], literal: Token) -> Result<Bytes, All
     requires quoted { literal.kind ≡ kind.String }
     ensures { IfOk result (λ value. value ≡ spec.value_of text.now literal) }
 {
-    Bytes::from_slice(alloc, string_value(spelling(text, literal)))
+    string_value(alloc, spelling(text, literal))
 }

@@ -10,7 +10,12 @@ fn goes_on(tokens: &[Token]) -> bool
     ensures { result ≡ spec.goes_on tokens.now }
 {
     match tokens.first() {
-        Some(token) => token.kind.is(TokenKind::Elif) || token.kind.is(TokenKind::Else),
+        Some(token) => {
+            token.kind.is(TokenKind::Elif)
+                || token.kind.is(TokenKind::Else)
+                || token.kind.is(TokenKind::Indent)
+                || token.kind.is(TokenKind::Outdent)
+        }
         None => false,
     }
 }

@@ -1,12 +1,17 @@
--- How the single tokens are spelled, by the Starlark specification, "Lexical elements".
-use Rattle.std.specs.Prelude.{ℕ, ◌+◌, List, [], ◌∷◌, Bool, true, false, ◌&&◌, ◌||◌, ◌==◌, nat_le, Option, Some, None, option_map, codes, if◌then◌else◌}
+-- How blanks, line ends and words are spelled, by the Starlark specification, "Lexical elements". "(ours)" marks where `bq`
+-- differs. Bytes by number: 9 is the tab, 10 the newline, 13 the carriage return, 32 the space, 35 `#`, 92 the backslash.
+use Rattle.std.specs.Prelude.{ℕ, ◌+◌, List, [], ◌∷◌, Bool, true, false, ◌&&◌, ◌||◌, ◌==◌, nat_le, count_by, Option, Some, None, codes, if◌then◌else◌}
 use Rattle.std.specs.Str.{bytes_eq}
 use Rattle.std.specs.List.{list_any}
 use Rattle.std.specs.Map.{lookup}
 use Rattle.bq_source.specs.declared.lexis.Class.{Class}
-use Rattle.bq_source.specs.declared.lexis.Class.TheVariants.{Space, Word}
+use Rattle.bq_source.specs.declared.lexis.Class.TheVariants.{Space, Blank, Word}
 use Rattle.bq_source.specs.declared.token.TokenKind.{TokenKind}
 use Rattle.bq_source.specs.declared.token.TokenKind.TheVariants as k
+
+-- "White space"
+abbrev pub is_blank : ℕ → Bool
+is_blank b = b == 32 || b == 9
 
 -- "Identifiers": letters, digits and underscores, the first no digit. Letters are ASCII (ours).
 abbrev pub is_letter : ℕ → Bool
@@ -20,7 +25,26 @@ is_word b = is_letter b || is_digit b
 
 abbrev pub has : Class → ℕ → Bool
 has Space b = b == 32
+has Blank b = is_blank b
 has Word b = is_word b
+
+abbrev pub newlines : List ℕ → ℕ
+newlines bs = count_by (λ b. b == 10) bs
+
+-- the first byte is this one
+abbrev pub begins_with : ℕ → List ℕ → Bool
+begins_with b [] = false
+begins_with b (c ∷ cs) = c == b
+
+-- how many bytes the line end at the front takes, 0 where there is none: a newline, or a carriage return before one (ours)
+abbrev pub newline_len : List ℕ → ℕ
+newline_len [] = 0
+newline_len (b ∷ bs) = if b == 10 then 1 else (if b == 13 && begins_with 10 bs then 2 else 0)
+
+-- "Comments" go on to the end of the line
+abbrev pub comment_len : List ℕ → ℕ
+comment_len [] = 0
+comment_len (b ∷ bs) = if newline_len (b ∷ bs) == 0 then 1 + comment_len bs else 0
 
 -- "Keywords"
 abbrev pub keywords : List (List ℕ × TokenKind)
@@ -51,15 +75,3 @@ word_kind_by None word = other_word (is_reserved word)
 
 unfoldable pub word_kind : List ℕ → TokenKind
 word_kind word = word_kind_by (keyword word) word
-
--- "String literals": the bytes behind the opening quote up to the closing one, that one among them. A backslash takes
--- the byte behind it along, so that `\"` closes nothing; a newline may stand only so.
-abbrev pub string_len : Bool → List ℕ → Option ℕ
-string_len escaped [] = None
-string_len true (b ∷ bs) = option_map (λ n. n + 1) (string_len false bs)
-string_len false (b ∷ bs) =
-    if b == 10 then None else (if b == 34 then Some 1 else option_map (λ n. n + 1) (string_len (b == 92) bs))
-
--- a backslash is among these bytes
-abbrev pub has_escape : List ℕ → Bool
-has_escape bs = list_any (λ b. b == 92) bs

@@ -4,10 +4,13 @@ pub mod Fault
 pub mod Shown
 pub mod Token
 pub mod Lexis
+pub mod Operators
 pub mod Number
 pub mod StringLiteral
+pub mod Piece
 pub mod Reading
 pub mod Tokens
 pub mod Lexing
 pub mod Spelling
-pub mod Faulty
+pub mod Indentation
+pub mod Layout

@@ -3,11 +3,11 @@ use Rattle.std.specs.Prelude.{ℕ, ◌≡◌, ◌≢◌, ◌⊎◌, ◌-◌, ◌
 use Rattle.std.specs.Char.{is_digit}
 use Rattle.std.specs.List.{list_all, prefix_len}
 use Rattle.std.specs.Str.Parse.{digits_value, digits_value_after, IsNumeral}
+use Rattle.bq_source.specs.Lexis as lexis
 use Rattle.bq_source.specs.Lexis.{is_word}
 
--- a digit, in base 10
 abbrev pub is_decimal : ℕ → Bool
-is_decimal b = is_digit b 10
+is_decimal b = lexis.is_digit b
 
 abbrev pub begins_decimal : List ℕ → Bool
 begins_decimal [] = false

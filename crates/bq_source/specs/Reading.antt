@@ -1,20 +1,28 @@
--- Which tokens a text reads as, or which fault it has: the relation `Lexes`. It stands on a step: what the next piece of a
--- text is, by the rule of the lexis that it falls under, and where the text goes on behind it.
+-- Which tokens a text reads as, or which fault it has: the relation `Lexes`. It stands on a step: what the next piece of the
+-- text adds to the tokens, and to the lines, brackets and widths that are open. Laws say what every reading is in words of the
+-- text and the tokens.
 --
 -- A rule names its paragraph of the Starlark specification, "Lexical elements"; "(ours)" marks where `bq` differs.
--- Bytes by number: 10 is the newline, 32 the space, 34 `"`, 40 `(`, 41 `)`, 44 `,`, 61 `=`, 91 `[`, 93 `]`, 92 the backslash.
-use Rattle.std.specs.Prelude.{ℕ, ◌+◌, ◌<◌, ◌≤◌, List, [], ◌∷◌, ◌++◌, length, take, drop, Bool, true, false, ◌==◌, count_by, Option, Some, None, Result, Ok, Err, ◌≡◌, if◌then◌else◌}
+use Rattle.std.specs.Prelude.{ℕ, ◌+◌, ◌<◌, ◌≤◌, List, [], ◌∷◌, ◌++◌, length, take, drop, Bool, true, false, ◌==◌, nat_lt, Option, Some, None, Result, Ok, Err, ◌≡◌, if◌then◌else◌}
 use Rattle.std.specs.List.{prefix_len}
-use Rattle.bq_source.specs.declared.lexis.Class.TheVariants.{Space, Word}
+use Rattle.bq_source.specs.declared.lexis.Class.TheVariants.{Space}
 use Rattle.bq_source.specs.declared.token.TokenKind.{TokenKind}
 use Rattle.bq_source.specs.declared.token.TokenKind.TheVariants as k
 use Rattle.bq_source.specs.declared.token.Token.{Token}
-use Rattle.bq_source.specs.declared.place.Open.{Open}
+use Rattle.bq_source.specs.declared.operators.Lexeme.{Lexeme}
+use Rattle.bq_source.specs.declared.operators.Lexeme.TheVariants.{Plain, Opens, Closes}
+use Rattle.bq_source.specs.declared.piece.Extent.{Extent}
+use Rattle.bq_source.specs.declared.piece.Piece.{Piece}
+use Rattle.bq_source.specs.declared.piece.Piece.TheVariants.{Gap, LineEnd, Lexed, Bad}
+use Rattle.bq_source.specs.declared.place.Margin.{Margin}
+use Rattle.bq_source.specs.declared.place.OpenBracket.{OpenBracket}
 use Rattle.bq_source.specs.declared.fault.Fault.{Fault}
 use Rattle.bq_source.specs.declared.fault.FaultKind.TheVariants as f
 use Rattle.bq_source.specs.Fault.{fault_at}
 use Rattle.bq_source.specs.Token.{same_kind}
-use Rattle.bq_source.specs.Lexis.{has, is_letter, word_kind, string_len, has_escape}
+use Rattle.bq_source.specs.Lexis.{has, begins_with, newlines}
+use Rattle.bq_source.specs.Operators.{kind_of}
+use Rattle.bq_source.specs.Piece.{next_piece}
 
 -- how far a text is cut
 pub record State : Type 0 where
@@ -23,137 +31,142 @@ pub record State : Type 0 where
   -- the line of the next byte, from 1
   pub line : ℕ
   pub rest : List ℕ
-  -- nothing of a logical line has come since the last one ended
-  pub fresh : Bool
+  -- the margin of the logical line, as long as it has no token
+  pub margin : Option Margin
   -- the brackets that are open, the innermost first
-  pub open_brackets : List Open
+  pub open_brackets : List OpenBracket
+  -- the widths above 0 that are open, the greatest first
+  pub widths : List ℕ
   pub tokens : List Token
 
+-- "Indentation": the spaces at the start of a logical line, and whether a tab follows them
+abbrev pub margin_of : List ℕ → ℕ → Margin
+margin_of text line =
+    let width = prefix_len (has Space) text in record { width = width; tab = begins_with 9 (drop width text); line = line }
+
+-- a logical line starts here
+abbrev pub begin_line : State → State
+begin_line s = record s { margin = Some (margin_of s.rest s.line) }
+
 abbrev pub start : List ℕ → State
-start text = record { at = 0; line = 1; rest = text; fresh = true; open_brackets = []; tokens = [] }
+start text = record { at = 0; line = 1; rest = text; margin = Some (margin_of text 1); open_brackets = []; widths = []; tokens = [] }
 
--- what a piece leads to
-pub data Next : Type 0 where
-  go : State → Next
-  done : List Token → Next
-  stop : Fault → Next
-
--- past n bytes of this line
-abbrev pub pass : ℕ → State → State
-pass n s = record s { at = s.at + n; rest = drop n s.rest }
-
--- past a newline
-abbrev pub pass_line : State → State
-pass_line s = record (pass 1 s) { line = s.line + 1 }
+abbrev pub skip : Extent → State → State
+skip extent s = record s { at = s.at + extent.len; line = s.line + extent.lines; rest = drop extent.len s.rest }
 
 abbrev pub token_at : TokenKind → ℕ → State → Token
 token_at kind n s = record { kind = kind; start = s.at; end = s.at + n; line = s.line }
 
--- a token of n bytes
-abbrev pub take_token : TokenKind → ℕ → State → State
-take_token kind n s = record s { at = s.at + n; rest = drop n s.rest; tokens = s.tokens ++ token_at kind n s ∷ [] }
+-- a token of no bytes
+abbrev pub push_empty : TokenKind → State → State
+push_empty kind s = record s { tokens = s.tokens ++ token_at kind 0 s ∷ [] }
 
--- "White space": spaces at the start of a line mean something. A line of spaces alone is blank and makes no token; any other
--- is a logical line, which begins with no space until there is indentation (ours).
-abbrev pub line_front : List ℕ → ℕ → State → Next
-line_front [] width s = go (pass width s)
-line_front (b ∷ bs) width s =
-    if b == 10 then go (pass_line (pass width s))
-    else (if width == 0 then go (record s { fresh = false }) else stop (fault_at f.Indent s.line))
+-- a token of the next bytes
+abbrev pub push_token : TokenKind → Extent → State → State
+push_token kind extent s = skip extent (record s { tokens = s.tokens ++ token_at kind extent.len s ∷ [] })
 
-unfoldable pub line_begins : State → Next
-line_begins s = let width = prefix_len (has Space) s.rest in line_front (drop width s.rest) width s
+-- "White space": a newline ends the logical line; in brackets it means nothing, nor where the line has no token
+abbrev pub end_line_by : List OpenBracket → Option Margin → Extent → State → State
+end_line_by (o ∷ os) margin extent s = skip extent s
+end_line_by [] (Some margin) extent s = begin_line (skip extent s)
+end_line_by [] None extent s = begin_line (push_token k.Newline extent s)
 
--- "White space": a newline ends the logical line; in brackets it means nothing
-abbrev pub line_ends_by : List Open → State → Next
-line_ends_by [] s = go (record (pass_line s) { fresh = true; tokens = s.tokens ++ token_at k.Newline 1 s ∷ [] })
-line_ends_by (o ∷ os) s = go (pass_line s)
+unfoldable pub end_line : Extent → State → State
+end_line extent s = end_line_by s.open_brackets s.margin extent s
 
-unfoldable pub line_ends : State → Next
-line_ends s = line_ends_by s.open_brackets s
+-- Every width above this one is closed.
+abbrev pub close_above : ℕ → List ℕ → State → State
+close_above width [] s = s
+close_above width (w ∷ ws) s =
+    if nat_lt width w then close_above width ws (push_empty k.Outdent (record s { widths = ws })) else record s { widths = w ∷ ws }
 
--- "Identifiers" and "Keywords": the longest run of letters, digits and underscores
-unfoldable pub word : State → Next
-word s = let n = prefix_len (has Word) s.rest in go (take_token (word_kind (take n s.rest)) n s)
+-- the width of the lines that are open
+abbrev pub width_of : List ℕ → ℕ
+width_of [] = 0
+width_of (w ∷ ws) = w
 
--- "String literals": one whose opening quote is the next byte; there are no escapes yet (ours). One without end goes before
--- its escapes.
-abbrev pub string_by : Option ℕ → List ℕ → State → Next
-string_by None bs s = stop (fault_at f.OpenString s.line)
-string_by (Some n) bs s = if has_escape (take n bs) then stop (fault_at f.Escape s.line) else go (take_token k.String (n + 1) s)
+-- "Indentation": a greater width is opened; a smaller one closes those above it, and has to be open
+abbrev pub at_width : ℕ → ℕ → State → Result State Fault
+at_width width line s =
+    if width_of s.widths == width then Ok s else Err (fault_at f.Indent line)
 
-unfoldable pub string : List ℕ → State → Next
-string bs s = string_by (string_len false bs) bs s
+unfoldable pub set_width : ℕ → ℕ → State → Result State Fault
+set_width width line s =
+    if nat_lt (width_of s.widths) width then Ok (record (push_empty k.Indent s) { widths = width ∷ s.widths })
+    else at_width width line (close_above width s.widths s)
 
--- "Punctuation": an opening bracket, with the kind that closes it
-abbrev pub open_by : TokenKind → TokenKind → State → Next
-open_by kind closing s = go (record (take_token kind 1 s) { open_brackets = record { closing = closing; line = s.line } ∷ s.open_brackets })
+-- The margin counts once a token comes. It has no tab (ours).
+abbrev pub indent_by : Option Margin → State → Result State Fault
+indent_by None s = Ok s
+indent_by (Some margin) s = if margin.tab then Err (fault_at f.Tab margin.line) else set_width margin.width margin.line (record s { margin = None })
+
+unfoldable pub indent : State → Result State Fault
+indent s = indent_by s.margin s
 
 -- a closing bracket must be of the innermost open one's kind
-abbrev pub close_by : List Open → TokenKind → State → Next
-close_by [] kind s = stop (fault_at f.Bracket s.line)
-close_by (o ∷ os) kind s = if same_kind o.closing kind then go (record (take_token kind 1 s) { open_brackets = os }) else stop (fault_at f.Bracket s.line)
+abbrev pub close_by : List OpenBracket → TokenKind → State → Result State Fault
+close_by [] kind s = Err (fault_at f.Bracket s.line)
+close_by (o ∷ os) kind s = if same_kind o.closing kind then Ok (record s { open_brackets = os }) else Err (fault_at f.Bracket s.line)
 
-unfoldable pub close : TokenKind → State → Next
-close kind s = close_by s.open_brackets kind s
+-- what a token does to the brackets
+abbrev pub nest_by : Lexeme → State → Result State Fault
+nest_by (Plain kind) s = Ok s
+nest_by (Opens kind closing) s = Ok (record s { open_brackets = record { closing = closing; line = s.line } ∷ s.open_brackets })
+nest_by (Closes kind) s = close_by s.open_brackets kind s
 
--- "Punctuation"; any other byte is none of the lexis
-unfoldable pub mark : ℕ → State → Next
-mark b s =
-    if b == 40 then open_by k.LeftParen k.RightParen s
-    else (if b == 41 then close k.RightParen s
-    else (if b == 91 then open_by k.LeftBracket k.RightBracket s
-    else (if b == 93 then close k.RightBracket s
-    else (if b == 44 then go (take_token k.Comma 1 s)
-    else (if b == 61 then go (take_token k.Assign 1 s)
-    else stop (fault_at f.BadByte s.line))))))
+unfoldable pub nest : Lexeme → State → Result State Fault
+nest lexeme s = nest_by lexeme s
 
--- what begins with this byte, inside a logical line, where spaces only part tokens
-unfoldable pub piece : ℕ → List ℕ → State → Next
-piece b bs s =
-    if b == 32 then go (pass 1 s)
-    else (if b == 10 then line_ends s
-    else (if is_letter b then word s
-    else (if b == 34 then string bs s
-    else mark b s)))
+abbrev pub and_then : Result State Fault → (State → Result State Fault) → Result State Fault
+and_then (Ok s) next = next s
+and_then (Err e) next = Err e
+
+unfoldable pub take_token : Lexeme → Extent → State → Result State Fault
+take_token lexeme extent s = and_then (indent s) (λ t. and_then (nest lexeme t) (λ u. Ok (push_token (kind_of lexeme) extent u)))
+
+-- a byte of the lexis at a wrong place takes precedence over one that is not of it
+unfoldable pub refuse : Fault → State → Result State Fault
+refuse fault s = and_then (indent s) (λ t. Err fault)
+
+abbrev pub advance : Piece → State → Result State Fault
+advance (Gap extent) s = Ok (skip extent s)
+advance (LineEnd extent) s = Ok (end_line extent s)
+advance (Lexed lexeme extent) s = take_token lexeme extent s
+advance (Bad kind lines) s = refuse (fault_at kind (s.line + lines)) s
+
+-- past the next piece of the text
+unfoldable pub step : State → Result State Fault
+step s = advance (next_piece s.rest) s
 
 -- the end of the text ends a logical line that no newline ended
-abbrev pub supplied : Bool → State → List Token
-supplied true s = s.tokens
-supplied false s = s.tokens ++ token_at k.Newline 0 s ∷ []
+abbrev pub end_text : Option Margin → State → State
+end_text (Some margin) s = s
+end_text None s = push_empty k.Newline s
 
--- a bracket that is open at the end is never closed: the innermost one is named
-abbrev pub finish_by : List Open → State → Next
-finish_by (o ∷ os) s = stop (fault_at f.Bracket o.line)
-finish_by [] s = done (supplied s.fresh s)
+-- At the end of the text every width is closed. A bracket that is open is never closed: the innermost one is named.
+abbrev pub finish_by : List OpenBracket → State → Result (List Token) Fault
+finish_by (o ∷ os) s = Err (fault_at f.Bracket o.line)
+finish_by [] s = Ok ((close_above 0 s.widths (end_text s.margin s)).tokens)
 
-unfoldable pub finish : State → Next
+unfoldable pub finish : State → Result (List Token) Fault
 finish s = finish_by s.open_brackets s
-
-abbrev pub step_by : List ℕ → State → Next
-step_by [] s = finish s
-step_by (b ∷ bs) s = if s.fresh then line_begins s else piece b bs s
-
--- the next piece of the text
-unfoldable pub step : State → Next
-step s = step_by s.rest s
 
 -- from a state the text is cut up to its end, or up to the first place from where it can't be cut
 pub data Runs : State → Result (List Token) Fault → Type 0 where
-  ends : {s : State} {ts : List Token} → step s ≡ done ts → Runs s (Ok ts)
-  stops : {s : State} {e : Fault} → step s ≡ stop e → Runs s (Err e)
-  goes : {s t : State} {r : Result (List Token) Fault} → step s ≡ go t → Runs t r → Runs s r
+  ends : {s : State} {r : Result (List Token) Fault} → s.rest ≡ [] → finish s ≡ r → Runs s r
+  stops : {s : State} {e : Fault} → 0 < length s.rest → step s ≡ Err e → Runs s (Err e)
+  goes : {s t : State} {r : Result (List Token) Fault} → 0 < length s.rest → step s ≡ Ok t → Runs t r → Runs s r
 
 -- the most bytes that a file may have
 abbrev pub max_file_bytes : ℕ
 max_file_bytes = 1048576
 
--- the line of the byte behind these, from 1
+-- the line of the byte after these, from 1
 abbrev pub line_behind : List ℕ → ℕ
-line_behind bs = 1 + count_by (λ b. b == 10) bs
+line_behind bs = 1 + newlines bs
 
--- A text reads as these tokens, or has this fault. A file that is too long goes before all, and names the line of the first
--- byte past the limit.
+-- A text reads as these tokens, or has this fault. A file that is too long takes precedence over all, and names the line of the
+-- first byte past the limit.
 pub data Lexes : List ℕ → Result (List Token) Fault → Type 0 where
   too_long : {text : List ℕ} → max_file_bytes < length text → Lexes text (Err (fault_at f.FileTooLong (line_behind (take max_file_bytes text))))
   cut : {text : List ℕ} {r : Result (List Token) Fault} → length text ≤ max_file_bytes → Runs (start text) r → Lexes text r

@@ -1,246 +1,227 @@
-//! The lexer: one pass over the bytes, a piece at a time, with the brackets that are open.
+//! The lexer: one pass over the bytes, a piece at a time, with the line, the brackets and the widths that are open.
 
-ghost use Rattle.std.specs.Prelude.{◌≡◌, ◌≤◌, ◌<◌, ◌+◌, ◌++◌, [], ◌∷◌, true, false, length, take, drop, count_by, ◌==◌, OnOk};
-ghost use Rattle.std.specs.List.{prefix_len};
+ghost use Rattle.std.specs.Prelude.{◌≡◌, ◌≤◌, ◌<◌, ◌+◌, ◌-◌, ◌*◌, [], length, take, IfOk};
 ghost use Rattle.bq_source.specs.Reading as spec;
 ghost use Rattle.bq_source.specs.Reading.{Lexes, max_file_bytes};
 ghost use Rattle.bq_source.specs.Fault.{fault_at};
-ghost use Rattle.bq_source.specs.Lexing.{state, Leads, Ends, Answers, Returned, weight};
-ghost use Rattle.bq_source.specs.Lexis.{has};
+ghost use Rattle.bq_source.specs.Gives.{Gives, GivesOneOf};
+ghost use Rattle.bq_source.specs.Lexing.{the_tokens};
+ghost use Rattle.bq_source.specs.Piece.{IsPart, Fits};
 
 use crate::fault::{Fault, FaultKind, SourceErr};
-use crate::lexis::{Class, has_escape, is_letter, run_len, string_len, word_kind};
-use crate::place::{Lexer, MAX_FILE_BYTES, Open};
+use crate::lexis::{Class, newlines, run_len};
+use crate::operators::Lexeme;
+use crate::piece::{Extent, Piece, next_piece};
+use crate::place::{Lexer, MAX_FILE_BYTES, Margin, OpenBracket};
 use crate::token::{Token, TokenKind};
 use std::alloc::{AllocError, Global};
 
+/// The start of a logical line that begins with this text.
+fn margin_of(text: &[u8], line: u32) -> Margin
+    ensures { result ≡ spec.margin_of text.now line }
+{
+    let width = run_len(text, Class::Space);
+    let tab = match &text[width..] {
+        [b'\t', ..] => true,
+        _ => false,
+    };
+    Margin { width, tab, line }
+}
+
 impl<'a> Lexer<'a> {
     fn rest(&self) -> &'a [u8]
-        ensures { result.now ≡ (state self.now).rest }
+        ensures { result.now ≡ self.now.rest }
     {
         &self.text[self.at..]
     }
 
-    fn fault(&self, kind: FaultKind) -> SourceErr
-        ensures { result ≡ SourceErr.Bad (fault_at kind self.now.line) }
+    /// Passes the next bytes.
+    fn skip(&mut self, extent: Extent)
+        requires { IsPart self.old.rest extent }
+        ensures { self.new ≡ spec.skip extent self.old }
     {
-        SourceErr::Bad(Fault::at(kind, self.line))
+        self.at += extent.len;
+        self.line += extent.lines as u32;
     }
 
-    /// Passes bytes of this line.
-    fn pass(&mut self, n: usize)
-        requires { n ≤ length (drop self.old.at self.old.text.now) }
-        ensures state { state self.new ≡ spec.pass n (state self.old) }
-        ensures text { self.new.text ≡ self.old.text }
+    fn push_empty(&mut self, kind: TokenKind) -> Result<(), AllocError>
+        ensures { IfOk result (λ _. self.new ≡ spec.push_empty kind self.old) }
     {
-        self.at += n;
-    }
-
-    /// Passes a newline that ends no logical line.
-    fn pass_line(&mut self)
-        requires { 1 ≤ length (drop self.old.at self.old.text.now) }
-        ensures state { state self.new ≡ spec.pass_line (state self.old) }
-        ensures text { self.new.text ≡ self.old.text }
-    {
-        self.pass(1);
-        self.line += 1;
+        let at = self.at as u32;
+        self.tokens.push(Token {
+            kind,
+            start: at,
+            end: at,
+            line: self.line,
+        })?;
+        Ok(())
     }
 
     /// A token of the next bytes.
-    fn take_token(&mut self, kind: TokenKind, n: usize) -> Result<(), AllocError>
-        requires { n ≤ length (drop self.old.at self.old.text.now) }
-        ensures state { OnOk result (state self.new ≡ spec.take_token kind n (state self.old)) }
-        ensures text { self.new.text ≡ self.old.text }
+    fn push_token(&mut self, kind: TokenKind, extent: Extent) -> Result<(), AllocError>
+        requires { IsPart self.old.rest extent }
+        ensures { IfOk result (λ _. self.new ≡ spec.push_token kind extent self.old) }
     {
         self.tokens.push(Token {
             kind,
             start: self.at as u32,
-            end: (self.at + n) as u32,
+            end: (self.at + extent.len) as u32,
             line: self.line,
         })?;
-        self.at += n;
+        self.skip(extent);
         Ok(())
     }
 
-    #[tactic(auto, unfolding(crate::specs::Reading::line_begins))]
-    fn line_begins(&mut self) -> Result<(), SourceErr>
-        requires room { 0 < length (drop self.old.at self.old.text.now) }
-        requires fresh { self.old.fresh ≡ true }
-        ensures leads { Leads (spec.line_begins (state self.old)) result (state self.new) }
-        ensures text { self.new.text ≡ self.old.text }
-        ensures onward { OnOk result (weight self.new < weight self.old) }
+    fn begin_line(&mut self)
+        ensures { self.new ≡ spec.begin_line self.old }
     {
-        let width = run_len(self.rest(), Class::Space);
-        match &self.rest()[width..] {
-            [] => self.pass(width),
-            [b'\n', ..] => {
-                self.pass(width);
-                self.pass_line();
+        self.margin = Some(margin_of(self.rest(), self.line));
+    }
+
+    #[tactic(auto, unfolding(crate::specs::Reading::end_line))]
+    fn end_line(&mut self, extent: Extent) -> Result<(), AllocError>
+        requires { IsPart self.old.rest extent }
+        ensures { IfOk result (λ _. self.new ≡ spec.end_line extent self.old) }
+    {
+        if !self.open_brackets.is_empty() {
+            self.skip(extent);
+            return Ok(());
+        }
+        match self.margin {
+            Some(_) => self.skip(extent),
+            None => self.push_token(TokenKind::Newline, extent)?,
+        }
+        self.begin_line();
+        Ok(())
+    }
+
+    /// Closes every width above this one.
+    fn close_above(&mut self, width: usize) -> Result<(), AllocError>
+        ensures { IfOk result (λ _. self.new ≡ spec.close_above width self.old.widths self.old) }
+    {
+        while let Some(innermost) = self.widths.pop() {
+            if innermost <= width {
+                self.widths.push(innermost)?;
+                return Ok(());
             }
-            _ => {
-                if width != 0 {
-                    return Err(self.fault(FaultKind::Indent));
-                }
-                self.fresh = false;
-            }
+            self.push_empty(TokenKind::Outdent)?;
         }
         Ok(())
     }
 
-    #[tactic(auto, unfolding(crate::specs::Reading::line_ends))]
-    fn line_ends(&mut self) -> Result<(), SourceErr>
-        requires { 1 ≤ length (drop self.old.at self.old.text.now) }
-        ensures leads { Leads (spec.line_ends (state self.old)) result (state self.new) }
-        ensures text { self.new.text ≡ self.old.text }
-        ensures onward { OnOk result (self.old.at < self.new.at) }
+    /// The width of the lines that are open.
+    fn width(&self) -> usize
+        ensures { result ≡ spec.width_of self.now.widths }
     {
-        if self.open_brackets.is_empty() {
-            self.take_token(TokenKind::Newline, 1)?;
-            self.fresh = true;
-            self.line += 1;
-        } else {
-            self.pass_line();
+        match self.widths.as_slice() {
+            [.., width] => *width,
+            [] => 0,
+        }
+    }
+
+    #[tactic(auto, unfolding(crate::specs::Reading::set_width))]
+    fn set_width(&mut self, width: usize, line: u32) -> Result<(), SourceErr>
+        ensures { Gives (λ _. self.new) SourceErr.Bad result (spec.set_width width line self.old) }
+    {
+        if self.width() < width {
+            self.push_empty(TokenKind::Indent)?;
+            self.widths.push(width)?;
+            return Ok(());
+        }
+        self.close_above(width)?;
+        if self.width() != width {
+            return Err(SourceErr::Bad(Fault::at(FaultKind::Indent, line)));
         }
         Ok(())
     }
 
-    #[tactic(auto, unfolding(crate::specs::Reading::word))]
-    fn word(&mut self) -> Result<(), SourceErr>
-        requires { 0 < prefix_len (has Class.Word) (drop self.old.at self.old.text.now) }
-        ensures leads { Leads (spec.word (state self.old)) result (state self.new) }
-        ensures text { self.new.text ≡ self.old.text }
-        ensures onward { OnOk result (self.old.at < self.new.at) }
+    /// The indentation of the line, where its first token is next.
+    #[tactic(auto, unfolding(crate::specs::Reading::indent))]
+    fn indent(&mut self) -> Result<(), SourceErr>
+        ensures { Gives (λ _. self.new) SourceErr.Bad result (spec.indent self.old) }
     {
-        let rest = self.rest();
-        let n = run_len(rest, Class::Word);
-        self.take_token(word_kind(&rest[..n]), n)?;
-        Ok(())
-    }
-
-    /// A string literal, whose opening quote stands before `behind`.
-    #[tactic(auto, unfolding(crate::specs::Reading::string))]
-    fn string(&mut self, behind: &[u8]) -> Result<(), SourceErr>
-        requires { length behind.now + 1 ≡ length (drop self.old.at self.old.text.now) }
-        ensures leads { Leads (spec.string behind.now (state self.old)) result (state self.new) }
-        ensures text { self.new.text ≡ self.old.text }
-        ensures onward { OnOk result (self.old.at < self.new.at) }
-    {
-        let Some(n) = string_len(behind) else {
-            return Err(self.fault(FaultKind::OpenString));
+        let Some(margin) = self.margin else {
+            return Ok(());
         };
-        if has_escape(&behind[..n]) {
-            return Err(self.fault(FaultKind::Escape));
+        if margin.tab {
+            return Err(SourceErr::Bad(Fault::at(FaultKind::Tab, margin.line)));
         }
-        self.take_token(TokenKind::String, n + 1)?;
-        Ok(())
+        self.margin = None;
+        self.set_width(margin.width, margin.line)
     }
 
-    fn open(&mut self, kind: TokenKind, closing: TokenKind) -> Result<(), SourceErr>
-        requires { 1 ≤ length (drop self.old.at self.old.text.now) }
-        ensures leads { Leads (spec.open_by kind closing (state self.old)) result (state self.new) }
-        ensures text { self.new.text ≡ self.old.text }
-        ensures onward { OnOk result (self.old.at < self.new.at) }
+    /// What a token does to the brackets.
+    #[tactic(auto, unfolding(crate::specs::Reading::nest))]
+    fn nest(&mut self, lexeme: Lexeme) -> Result<(), SourceErr>
+        ensures { Gives (λ _. self.new) SourceErr.Bad result (spec.nest lexeme self.old) }
     {
-        self.open_brackets.push(Open {
-            closing,
-            line: self.line,
-        })?;
-        self.take_token(kind, 1)?;
-        Ok(())
-    }
-
-    #[tactic(auto, unfolding(crate::specs::Reading::close))]
-    fn close(&mut self, kind: TokenKind) -> Result<(), SourceErr>
-        requires { 1 ≤ length (drop self.old.at self.old.text.now) }
-        ensures leads { Leads (spec.close kind (state self.old)) result (state self.new) }
-        ensures text { self.new.text ≡ self.old.text }
-        ensures onward { OnOk result (self.old.at < self.new.at) }
-    {
-        match self.open_brackets.pop() {
-            Some(open) if open.closing.is(kind) => {
-                self.take_token(kind, 1)?;
+        match lexeme {
+            Lexeme::Plain(_) => Ok(()),
+            Lexeme::Opens(_, closing) => {
+                let line = self.line;
+                self.open_brackets.push(OpenBracket { closing, line })?;
                 Ok(())
             }
-            _ => Err(self.fault(FaultKind::Bracket)),
+            Lexeme::Closes(kind) => match self.open_brackets.pop() {
+                Some(open) if open.closing.is(kind) => Ok(()),
+                _ => Err(SourceErr::Bad(Fault::at(FaultKind::Bracket, self.line))),
+            },
         }
     }
 
-    #[tactic(auto, unfolding(crate::specs::Reading::mark))]
-    fn mark(&mut self, b: u8) -> Result<(), SourceErr>
-        requires { 1 ≤ length (drop self.old.at self.old.text.now) }
-        ensures leads { Leads (spec.mark b (state self.old)) result (state self.new) }
-        ensures text { self.new.text ≡ self.old.text }
-        ensures onward { OnOk result (self.old.at < self.new.at) }
+    #[tactic(auto, unfolding(crate::specs::Reading::take_token))]
+    fn take_token(&mut self, lexeme: Lexeme, extent: Extent) -> Result<(), SourceErr>
+        requires { IsPart self.old.rest extent }
+        ensures { Gives (λ _. self.new) SourceErr.Bad result (spec.take_token lexeme extent self.old) }
     {
-        match b {
-            b'(' => self.open(TokenKind::LeftParen, TokenKind::RightParen),
-            b')' => self.close(TokenKind::RightParen),
-            b'[' => self.open(TokenKind::LeftBracket, TokenKind::RightBracket),
-            b']' => self.close(TokenKind::RightBracket),
-            b',' => Ok(self.take_token(TokenKind::Comma, 1)?),
-            b'=' => Ok(self.take_token(TokenKind::Assign, 1)?),
-            _ => Err(self.fault(FaultKind::BadByte)),
-        }
+        self.indent()?;
+        self.nest(lexeme)?;
+        self.push_token(lexeme.kind(), extent)?;
+        Ok(())
     }
 
-    /// What begins with the byte `b`, inside a logical line.
-    #[tactic(auto, unfolding(crate::specs::Reading::piece))]
-    fn piece(&mut self, b: u8, behind: &[u8]) -> Result<(), SourceErr>
-        requires { drop self.old.at self.old.text.now ≡ b ∷ behind.now }
-        ensures leads { Leads (spec.piece b behind.now (state self.old)) result (state self.new) }
-        ensures text { self.new.text ≡ self.old.text }
-        ensures onward { OnOk result (self.old.at < self.new.at) }
+    #[tactic(auto, unfolding(crate::specs::Reading::refuse))]
+    fn refuse(&mut self, fault: Fault) -> Result<(), SourceErr>
+        ensures { Gives (λ _. self.new) SourceErr.Bad result (spec.refuse fault self.old) }
     {
-        if b == b' ' {
-            self.pass(1);
-            Ok(())
-        } else if b == b'\n' {
-            self.line_ends()
-        } else if is_letter(b) {
-            self.word()
-        } else if b == b'"' {
-            self.string(behind)
-        } else {
-            self.mark(b)
-        }
+        self.indent()?;
+        Err(SourceErr::Bad(fault))
     }
 
-    /// The next piece of the text, which the byte `b` begins.
+    /// Passes the next piece of the text.
     #[tactic(auto, unfolding(crate::specs::Reading::step))]
-    fn step(&mut self, b: u8, behind: &[u8]) -> Result<(), SourceErr>
-        requires { drop self.old.at self.old.text.now ≡ b ∷ behind.now }
-        ensures leads { Leads (spec.step (state self.old)) result (state self.new) }
-        ensures text { self.new.text ≡ self.old.text }
-        ensures onward { OnOk result (weight self.new < weight self.old) }
+    fn step(&mut self) -> Result<(), SourceErr>
+        requires { 0 < length self.old.rest }
+        ensures { Gives (λ _. self.new) SourceErr.Bad result (spec.step self.old) }
     {
-        if self.fresh {
-            self.line_begins()
-        } else {
-            self.piece(b, behind)
+        match next_piece(self.rest()) {
+            Piece::Gap(extent) => {
+                self.skip(extent);
+                Ok(())
+            }
+            Piece::LineEnd(extent) => Ok(self.end_line(extent)?),
+            Piece::Lexed(lexeme, extent) => self.take_token(lexeme, extent),
+            Piece::Bad(kind, lines) => {
+                let line = self.line + lines as u32;
+                self.refuse(Fault::at(kind, line))
+            }
         }
     }
 
     /// The end of the text.
-    #[tactic(auto, unfolding(crate::specs::Reading::finish, crate::specs::Reading::step))]
+    #[tactic(auto, unfolding(crate::specs::Reading::finish))]
     fn finish(mut self) -> Result<Vec<Token>, SourceErr>
-        requires { drop self.at self.text.now ≡ [] }
-        ensures { Ends (spec.step (state self.entry)) result }
+        ensures { Gives the_tokens SourceErr.Bad result (spec.finish self.entry) }
     {
         if let Some(innermost) = self.open_brackets.pop() {
             return Err(SourceErr::Bad(Fault::at(FaultKind::Bracket, innermost.line)));
         }
-        if !self.fresh {
-            self.take_token(TokenKind::Newline, 0)?;
+        if self.margin.is_none() {
+            self.push_empty(TokenKind::Newline)?;
         }
+        self.close_above(0)?;
         Ok(self.tokens)
     }
-}
-
-fn newlines(bytes: &[u8]) -> usize
-    ensures count { result ≡ count_by (λ b. b == 10) bytes.now }
-    ensures within { result ≤ length bytes.now }
-{
-    bytes.iter().filter(|b| **b == b'\n').count()
 }
 
 /// The line of the first byte past the limit.
@@ -248,19 +229,19 @@ fn line_past_limit(text: &[u8]) -> u32
     requires { max_file_bytes < length text.now }
     ensures { result ≡ spec.line_behind (take max_file_bytes text.now) }
 {
-    let lawful = &text[..MAX_FILE_BYTES];
-    1 + newlines(lawful) as u32
+    let valid = &text[..MAX_FILE_BYTES];
+    1 + newlines(valid) as u32
 }
 
-/// The tokens of a file's text, or its first fault: F1 BadByte, F2 Indent, F4 OpenString, F5 Escape, F7 Bracket or
-/// F8 FileTooLong. Lines count from 1, places in bytes from 0. It takes time and memory in proportion to the text.
+/// The tokens of a file's text, or its first fault, F1 to F8. Lines count from 1, places in bytes from 0. It takes time and
+/// memory in proportion to the text.
 ///
-/// The lexis is that of the Starlark specification, "Lexical elements", as far as docs/LANGUAGE.md says.
+/// The lexis is that of the Starlark specification, "Lexical elements"; docs/LANGUAGE.md says where `bq` differs.
 pub fn lex(alloc: Global, text: &[u8]) -> Result<Vec<Token>, SourceErr>
-    // What is answered is a reading of the text.
-    ensures reads { Answers text.now result }
-    // Every reading of the text is the answer.
-    ensures only { (r : _) → Lexes text.now r → Returned result r }
+    // What is returned is a reading of the text.
+    ensures reads { GivesOneOf the_tokens SourceErr.Bad result (Lexes text.now) }
+    // Every reading of the text is what is returned.
+    ensures only { (r : _) → Lexes text.now r → Gives the_tokens SourceErr.Bad result r }
 {
     if text.len() > MAX_FILE_BYTES {
         return Err(SourceErr::Bad(Fault::at(FaultKind::FileTooLong, line_past_limit(text))));
@@ -269,12 +250,13 @@ pub fn lex(alloc: Global, text: &[u8]) -> Result<Vec<Token>, SourceErr>
         text,
         at: 0,
         line: 1,
-        fresh: true,
+        margin: Some(margin_of(text, 1)),
         open_brackets: Vec::new(alloc),
+        widths: Vec::new(alloc),
         tokens: Vec::new(alloc),
     };
-    while let [b, behind @ ..] = lexer.rest() {
-        lexer.step(*b, behind)?;
+    while !lexer.rest().is_empty() {
+        lexer.step()?;
     }
     lexer.finish()
 }

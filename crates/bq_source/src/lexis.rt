@@ -1,10 +1,18 @@
-//! How the single tokens are spelled.
+//! How blanks, line ends and words are spelled.
 
-ghost use Rattle.std.specs.Prelude.{◌≡◌, ◌≤◌, length, IfSome, false};
-ghost use Rattle.std.specs.List.{prefix_len};
-ghost use Rattle.bq_source.specs.Lexis.{is_digit, is_letter, is_word, has, keyword, is_reserved, word_kind, string_len, has_escape};
+ghost use Rattle.std.specs.Prelude.{◌≡◌, ◌≤◌, ◌-◌, length, map, false};
+ghost use Rattle.std.specs.List.{prefix_len, list_any};
+ghost use Rattle.std.specs.Map.{lookup};
+ghost use Rattle.std.specs.Str.{bytes_eq};
+ghost use Rattle.bq_source.specs.Lexis.{is_blank, is_letter, is_word, has, newlines, newline_len, comment_len, keyword, is_reserved, word_kind};
 
 use crate::token::TokenKind;
+
+pub fn is_blank(b: u8) -> bool
+    ensures { result ≡ is_blank b }
+{
+    b == b' ' || b == b'\t'
+}
 
 /// What a word may begin with.
 pub fn is_letter(b: u8) -> bool
@@ -13,23 +21,19 @@ pub fn is_letter(b: u8) -> bool
     b.is_ascii_lowercase() || b.is_ascii_uppercase() || b == b'_'
 }
 
-fn is_digit(b: u8) -> bool
-    ensures { result ≡ is_digit b }
-{
-    b.is_ascii_digit()
-}
-
 /// What a word is made of.
 fn is_word(b: u8) -> bool
     ensures { result ≡ is_word b }
 {
-    is_letter(b) || is_digit(b)
+    is_letter(b) || b.is_ascii_digit()
 }
 
 /// What a run of bytes is made of.
 #[derive(Clone, Copy)]
 pub enum Class {
     Space,
+    /// A space or a tab.
+    Blank,
     Word,
 }
 
@@ -38,6 +42,7 @@ fn has(class: Class, b: u8) -> bool
 {
     match class {
         Class::Space => b == b' ',
+        Class::Blank => is_blank(b),
         Class::Word => is_word(b),
     }
 }
@@ -54,63 +59,108 @@ pub fn run_len(bytes: &[u8], class: Class) -> usize
     n
 }
 
+pub fn newlines(bytes: &[u8]) -> usize
+    ensures count { result ≡ newlines bytes.now }
+    ensures within { result ≤ length bytes.now }
+{
+    bytes.iter().filter(|b| **b == b'\n').count()
+}
+
+/// How many bytes the line end at the front takes, 0 where there is none.
+pub fn newline_len(text: &[u8]) -> usize
+    ensures len { result ≡ newline_len text.now }
+    ensures within { result ≤ length text.now }
+{
+    match text {
+        [b'\n', ..] => 1,
+        [b'\r', b'\n', ..] => 2,
+        _ => 0,
+    }
+}
+
+/// How many bytes the comment at the front takes, up to the end of the line.
+pub fn comment_len(text: &[u8]) -> usize
+    ensures len { result ≡ comment_len text.now }
+    ensures within { result ≤ length text.now }
+{
+    let mut n = 0;
+    while n < text.len() && newline_len(&text[n..]) == 0 {
+        n += 1;
+    }
+    n
+}
+
+const KEYWORDS: [(&[u8], TokenKind); 15] = [
+    (b"and", TokenKind::And),
+    (b"break", TokenKind::Break),
+    (b"continue", TokenKind::Continue),
+    (b"def", TokenKind::Def),
+    (b"elif", TokenKind::Elif),
+    (b"else", TokenKind::Else),
+    (b"for", TokenKind::For),
+    (b"if", TokenKind::If),
+    (b"in", TokenKind::In),
+    (b"lambda", TokenKind::Lambda),
+    (b"load", TokenKind::Load),
+    (b"not", TokenKind::Not),
+    (b"or", TokenKind::Or),
+    (b"pass", TokenKind::Pass),
+    (b"return", TokenKind::Return),
+];
+
+const RESERVED_WORDS: [&[u8]; 16] = [
+    b"as",
+    b"assert",
+    b"class",
+    b"del",
+    b"except",
+    b"finally",
+    b"from",
+    b"global",
+    b"import",
+    b"is",
+    b"nonlocal",
+    b"raise",
+    b"try",
+    b"while",
+    b"with",
+    b"yield",
+];
+
+fn find(mut table: &[(&[u8], TokenKind)], word: &[u8]) -> Option<TokenKind>
+    ensures { result ≡ lookup (bytes_eq word.now) (map (λ k. (k.0.now, k.1)) table.entry.now) }
+{
+    while let [entry, rest @ ..] = table {
+        if word == entry.0 {
+            return Some(entry.1);
+        }
+        table = rest;
+    }
+    None
+}
+
+fn is_among(mut table: &[&[u8]], word: &[u8]) -> bool
+    ensures { result ≡ list_any (bytes_eq word.now) (map (λ k. k.now) table.entry.now) }
+{
+    while let [entry, rest @ ..] = table {
+        if word == *entry {
+            return true;
+        }
+        table = rest;
+    }
+    false
+}
+
 fn keyword(word: &[u8]) -> Option<TokenKind>
     ensures { result ≡ keyword word.now }
 {
-    if word == b"and".as_slice() {
-        Some(TokenKind::And)
-    } else if word == b"break".as_slice() {
-        Some(TokenKind::Break)
-    } else if word == b"continue".as_slice() {
-        Some(TokenKind::Continue)
-    } else if word == b"def".as_slice() {
-        Some(TokenKind::Def)
-    } else if word == b"elif".as_slice() {
-        Some(TokenKind::Elif)
-    } else if word == b"else".as_slice() {
-        Some(TokenKind::Else)
-    } else if word == b"for".as_slice() {
-        Some(TokenKind::For)
-    } else if word == b"if".as_slice() {
-        Some(TokenKind::If)
-    } else if word == b"in".as_slice() {
-        Some(TokenKind::In)
-    } else if word == b"lambda".as_slice() {
-        Some(TokenKind::Lambda)
-    } else if word == b"load".as_slice() {
-        Some(TokenKind::Load)
-    } else if word == b"not".as_slice() {
-        Some(TokenKind::Not)
-    } else if word == b"or".as_slice() {
-        Some(TokenKind::Or)
-    } else if word == b"pass".as_slice() {
-        Some(TokenKind::Pass)
-    } else if word == b"return".as_slice() {
-        Some(TokenKind::Return)
-    } else {
-        None
-    }
+    find(&KEYWORDS, word)
 }
 
 fn is_reserved(word: &[u8]) -> bool
     ensures { result ≡ is_reserved word.now }
 {
-    word == b"as".as_slice()
-        || word == b"assert".as_slice()
-        || word == b"class".as_slice()
-        || word == b"del".as_slice()
-        || word == b"except".as_slice()
-        || word == b"finally".as_slice()
-        || word == b"from".as_slice()
-        || word == b"global".as_slice()
-        || word == b"import".as_slice()
-        || word == b"is".as_slice()
-        || word == b"nonlocal".as_slice()
-        || word == b"raise".as_slice()
-        || word == b"try".as_slice()
-        || word == b"while".as_slice()
-        || word == b"with".as_slice()
-        || word == b"yield".as_slice()
+    is_among(&RESERVED_WORDS, word)
 }
 
 /// The kind of a word: a keyword, a reserved word or an identifier.
@@ -128,33 +178,4 @@ pub fn word_kind(word: &[u8]) -> TokenKind
             }
         }
     }
-}
-
-/// How many bytes a string literal takes behind its opening quote; none where it has no end.
-pub fn string_len(bytes: &[u8]) -> Option<usize>
-    ensures length { result ≡ string_len false bytes.now }
-    ensures within { IfSome result (λ n. n ≤ length bytes.now) }
-{
-    let mut escaped = false;
-    for (i, b) in bytes.iter().enumerate() {
-        if escaped {
-            escaped = false;
-            continue;
-        }
-        if *b == b'\n' {
-            return None;
-        }
-        if *b == b'"' {
-            return Some(i + 1);
-        }
-        escaped = *b == b'\\';
-    }
-    None
-}
-
-/// Whether a backslash is among the bytes.
-pub fn has_escape(bytes: &[u8]) -> bool
-    ensures { result ≡ has_escape bytes.now }
-{
-    bytes.iter().any(|b| *b == b'\\')
 }

@@ -1,7 +1,7 @@
 //! The bytes of a BUILD or .bzl file come in; its tokens go out, or its first fault.
 //!
-//! The promise: [`lex`] answers exactly the tokens that the text reads as, by the relation `Lexes` of
-//! `specs/Reading.antt`. A text that reads as no tokens has one fault there, and that one is answered.
+//! The promise: [`lex`] returns exactly the tokens that the text reads as, by the relation `Lexes` of
+//! `specs/Reading.antt`. A text that reads as no tokens has one fault there, and that one is returned.
 //!
 //! In reading order:
 //!
@@ -9,12 +9,13 @@
 //! - `fault`: the table of all faults that users see;
 //! - `shown`: how these two are shown to people;
 //! - `token`: what a token is;
-//! - `lexis`: how the single tokens are spelled;
+//! - `lexis`, `operators`: how blanks, words and operators are spelled;
 //! - `number`: integer literals, and what they stand for;
 //! - `string_literal`: string literals, item by item, and what they stand for;
+//! - `piece`: what a text begins with;
 //! - `place`: how far a text is cut into tokens;
 //! - `lexer`: one pass over the bytes, a piece at a time;
-//! - `laws`: what every reading of a text is, in words of the text alone.
+//! - `laws`: what every reading of a text is, in words of the text and the tokens.
 #![tactic(auto)]
 
 mod bytes;
@@ -23,6 +24,8 @@ mod laws;
 mod lexer;
 mod lexis;
 mod number;
+mod operators;
+mod piece;
 mod place;
 mod shown;
 mod string_literal;
@@ -31,8 +34,8 @@ mod token;
 pub use bytes::Bytes;
 pub use fault::{Fault, FaultKind, SourceErr};
 pub use laws::{
-    brackets_match, every_text_has_its_reading, faults_are_in_the_text, one_reading,
-    tokens_lie_within, tokens_spell_the_text,
+    every_text_has_its_reading, faults_are_in_the_text, one_reading, tokens_cut_the_text,
+    tokens_lie_within,
 };
 pub use lexer::lex;
 pub use number::{

@@ -76,6 +76,12 @@ fn reads(rt: HostRuntime) -> Result<(), Fail> {
         ),
         ("\nf()\n\ng(\n  a\n = \"x\"\n)\n", "2:f@2()4:g@4(a=\"x\";)"),
         ("f(a = \"\u{e9}\")", "1:f@1(a=\"\\xc3\\xa9\";)"),
+        // Values of strings, and comments.
+        ("# a\nf(a = 'x\\'y') # b", "2:f@2(a=\"x\\'y\";)"),
+        (
+            "f(a = r'\\n', b = '''\r\n\\\n''')",
+            "1:f@1(a=\"\\\\n\";b=\"\\n\";)",
+        ),
         // Faults: the first faulty statement, by its first line.
         ("f", "line 1: F12 LeftOut"),
         ("x = \"a\"", "line 1: F12 LeftOut"),
@@ -93,6 +99,9 @@ fn reads(rt: HostRuntime) -> Result<(), Fail> {
         ("f()\n\nf(\n\na)\nf(b)\n", "line 3: F12 LeftOut"),
         ("f()\ng()\nelse\n", "line 2: F12 LeftOut"),
         ("else\nelif\n", "line 1: F12 LeftOut"),
+        // A block is of the statement above it.
+        ("f()\ng()\n  h()\nf(b)\n", "line 2: F12 LeftOut"),
+        ("f(a = 1)", "line 1: F12 LeftOut"),
     ] {
         for kind in [FileKind::Build, FileKind::Bzl] {
             assert_eq!(rt;

@@ -1,4 +1,4 @@
-use Rattle.bq_source.proofs.Spelled.{all_lie}
+use Rattle.bq_source.proofs.Lying.{all_lie}
 use Rattle.bq_source.proofs.laws.tokens_lie_within.Goals as goal
 
 pub returns : goal.returns

@@ -1,15 +1,11 @@
-use Rattle.std.proofs.Common.{◌≡◌, List, Result}
+use Rattle.std.proofs.Common.{◌≡◌, ◌≤◌, List, Result, length}
 use Rattle.bq_source.specs.declared.token.Token.{Token}
 use Rattle.bq_source.specs.declared.fault.Fault.{Fault}
-use Rattle.bq_source.specs.Reading.{start, Runs}
-use Rattle.bq_source.specs.Lexing.{state, weight}
+use Rattle.bq_source.specs.Reading.{start, Runs, max_file_bytes}
 use Rattle.bq_source.proofs.lexer.lex.Given as goal
 
-abbrev pub invariant-loop-b : goal.invariant-loop-b
-invariant-loop-b l = record {
-  text : l.lexer.text.now ≡ l.text;
-  resumes : (r : Result (List Token) Fault) → Runs (state l.lexer) r → Runs (start l.text) r;
-}
+abbrev pub invariant-loop-lexer : goal.invariant-loop-lexer
+invariant-loop-lexer l = (r : Result (List Token) Fault) → Runs l.lexer r → Runs (start l.text) r
 
-abbrev pub decreases-loop-b : goal.decreases-loop-b
-decreases-loop-b l = weight l.lexer
+abbrev pub decreases-loop-lexer : goal.decreases-loop-lexer
+decreases-loop-lexer l = length l.lexer.rest

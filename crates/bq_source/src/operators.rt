@@ -1,0 +1,110 @@
+//! Operators and punctuation.
+
+ghost use Rattle.std.specs.Prelude.{◌≡◌, ◌∷◌, map, option_map};
+ghost use Rattle.bq_source.specs.Operators as spec;
+
+use crate::token::TokenKind;
+
+/// What a token is, and what it does to the brackets.
+#[derive(Clone, Copy)]
+pub enum Lexeme {
+    Plain(TokenKind),
+    /// An opening bracket, and the kind that closes it.
+    Opens(TokenKind, TokenKind),
+    Closes(TokenKind),
+}
+
+impl Lexeme {
+    pub fn kind(self) -> TokenKind
+        ensures { result ≡ spec.kind_of self }
+    {
+        match self {
+            Lexeme::Plain(kind) => kind,
+            Lexeme::Opens(kind, _) => kind,
+            Lexeme::Closes(kind) => kind,
+        }
+    }
+}
+
+/// The first byte of each spelling, and what follows it. The frequent ones come early; one that another begins with comes
+/// after it.
+const OPERATORS: [(u8, &[u8], Lexeme); 41] = [
+    (b',', b"", Lexeme::Plain(TokenKind::Comma)),
+    (
+        b'(',
+        b"",
+        Lexeme::Opens(TokenKind::LeftParen, TokenKind::RightParen),
+    ),
+    (b')', b"", Lexeme::Closes(TokenKind::RightParen)),
+    (b'=', b"=", Lexeme::Plain(TokenKind::EqualEqual)),
+    (b'=', b"", Lexeme::Plain(TokenKind::Assign)),
+    (
+        b'[',
+        b"",
+        Lexeme::Opens(TokenKind::LeftBracket, TokenKind::RightBracket),
+    ),
+    (b']', b"", Lexeme::Closes(TokenKind::RightBracket)),
+    (b':', b"", Lexeme::Plain(TokenKind::Colon)),
+    (b'.', b"", Lexeme::Plain(TokenKind::Dot)),
+    (
+        b'{',
+        b"",
+        Lexeme::Opens(TokenKind::LeftBrace, TokenKind::RightBrace),
+    ),
+    (b'}', b"", Lexeme::Closes(TokenKind::RightBrace)),
+    (b'+', b"=", Lexeme::Plain(TokenKind::PlusAssign)),
+    (b'+', b"", Lexeme::Plain(TokenKind::Plus)),
+    (b'%', b"=", Lexeme::Plain(TokenKind::PercentAssign)),
+    (b'%', b"", Lexeme::Plain(TokenKind::Percent)),
+    (b'-', b"=", Lexeme::Plain(TokenKind::MinusAssign)),
+    (b'-', b"", Lexeme::Plain(TokenKind::Minus)),
+    (b'*', b"*", Lexeme::Plain(TokenKind::StarStar)),
+    (b'*', b"=", Lexeme::Plain(TokenKind::StarAssign)),
+    (b'*', b"", Lexeme::Plain(TokenKind::Star)),
+    (b'/', b"/=", Lexeme::Plain(TokenKind::SlashSlashAssign)),
+    (b'/', b"/", Lexeme::Plain(TokenKind::SlashSlash)),
+    (b'/', b"=", Lexeme::Plain(TokenKind::SlashAssign)),
+    (b'/', b"", Lexeme::Plain(TokenKind::Slash)),
+    (b'<', b"<=", Lexeme::Plain(TokenKind::LessLessAssign)),
+    (b'<', b"<", Lexeme::Plain(TokenKind::LessLess)),
+    (b'<', b"=", Lexeme::Plain(TokenKind::LessEqual)),
+    (b'<', b"", Lexeme::Plain(TokenKind::Less)),
+    (b'>', b">=", Lexeme::Plain(TokenKind::GreaterGreaterAssign)),
+    (b'>', b">", Lexeme::Plain(TokenKind::GreaterGreater)),
+    (b'>', b"=", Lexeme::Plain(TokenKind::GreaterEqual)),
+    (b'>', b"", Lexeme::Plain(TokenKind::Greater)),
+    (b'!', b"=", Lexeme::Plain(TokenKind::NotEqual)),
+    (b'|', b"=", Lexeme::Plain(TokenKind::PipeAssign)),
+    (b'|', b"", Lexeme::Plain(TokenKind::Pipe)),
+    (b'&', b"=", Lexeme::Plain(TokenKind::AmpersandAssign)),
+    (b'&', b"", Lexeme::Plain(TokenKind::Ampersand)),
+    (b'^', b"=", Lexeme::Plain(TokenKind::CaretAssign)),
+    (b'^', b"", Lexeme::Plain(TokenKind::Caret)),
+    (b'~', b"", Lexeme::Plain(TokenKind::Tilde)),
+    (b';', b"", Lexeme::Plain(TokenKind::Semicolon)),
+];
+
+/// The first of these that the text begins with, with the number of its bytes.
+fn first_spelled(
+    mut table: &[(u8, &[u8], Lexeme)],
+    first: u8,
+    behind: &[u8],
+) -> Option<(usize, Lexeme)>
+    ensures { result ≡ option_map spec.with_len (spec.first_spelled (map (λ k. (k.0 ∷ k.1.now, k.2)) table.entry.now) (first ∷ behind.now)) }
+{
+    while let [entry, rest @ ..] = table {
+        if entry.0 == first && behind.starts_with(entry.1) {
+            return Some((entry.1.len() + 1, entry.2));
+        }
+        table = rest;
+    }
+    None
+}
+
+/// The operator at the front, in its longest spelling, with the number of its bytes.
+#[tactic(auto, unfolding(crate::specs::Operators::operator))]
+pub fn operator(first: u8, behind: &[u8]) -> Option<(usize, Lexeme)>
+    ensures { result ≡ option_map spec.with_len (spec.operator (first ∷ behind.now)) }
+{
+    first_spelled(&OPERATORS, first, behind)
+}

@@ -1,0 +1,146 @@
+//! What a text begins with: the next piece, by the rule of the lexis that it falls under.
+
+ghost use Rattle.std.specs.Prelude.{◌≡◌, ◌<◌, ◌∷◌, length};
+ghost use Rattle.std.specs.List.{prefix_len};
+ghost use Rattle.bq_source.specs.Lexis.{has, is_letter};
+ghost use Rattle.bq_source.specs.Number.{number_len};
+ghost use Rattle.bq_source.specs.Piece as spec;
+
+use crate::fault::FaultKind;
+use crate::lexis::{
+    Class, comment_len, is_blank, is_letter, newline_len, newlines, run_len, word_kind,
+};
+use crate::number::{begins_number, int_value, number_len};
+use crate::operators::{Lexeme, operator};
+use crate::string_literal::{begins_string, scan_string};
+use crate::token::TokenKind;
+
+/// How far a piece reaches.
+#[derive(Clone, Copy)]
+pub struct Extent {
+    /// In bytes.
+    pub len: usize,
+    /// How many newlines are among them.
+    pub lines: usize,
+}
+
+#[derive(Clone, Copy)]
+pub enum Piece {
+    /// Spaces and tabs, a comment, or the joint of two lines: it makes no token.
+    Gap(Extent),
+    LineEnd(Extent),
+    Lexed(Lexeme, Extent),
+    /// No piece begins here; the fault is so many lines further on.
+    Bad(FaultKind, usize),
+}
+
+/// Bytes of one line.
+fn bytes(len: usize) -> Extent
+    ensures { result ≡ spec.bytes len }
+{
+    Extent { len, lines: 0 }
+}
+
+#[tactic(auto, unfolding(crate::specs::Piece::word))]
+fn word(text: &[u8]) -> Piece
+    requires { 0 < prefix_len (has Class.Word) text.now }
+    ensures piece { result ≡ spec.word text.now }
+    ensures fits { spec.Fits text.now result }
+{
+    let n = run_len(text, Class::Word);
+    Piece::Lexed(Lexeme::Plain(word_kind(&text[..n])), bytes(n))
+}
+
+#[tactic(auto, unfolding(crate::specs::Piece::number))]
+fn number(text: &[u8]) -> Piece
+    requires { 0 < number_len text.now }
+    ensures piece { result ≡ spec.number text.now }
+    ensures fits { spec.Fits text.now result }
+{
+    let n = number_len(text);
+    match int_value(&text[..n]) {
+        Some(_) => Piece::Lexed(Lexeme::Plain(TokenKind::Int), bytes(n)),
+        None => Piece::Bad(FaultKind::BadInt, 0),
+    }
+}
+
+#[tactic(auto, unfolding(crate::specs::Piece::string))]
+fn string(text: &[u8]) -> Piece
+    ensures piece { result ≡ spec.string text.now }
+    ensures fits { spec.Fits text.now result }
+{
+    let Some(literal) = scan_string(text) else {
+        return Piece::Bad(FaultKind::OpenString, 0);
+    };
+    match literal.bad_escape {
+        Some(before) => Piece::Bad(FaultKind::Escape, newlines(&text[..before])),
+        None => {
+            let extent = Extent {
+                len: literal.len,
+                lines: newlines(&text[..literal.len]),
+            };
+            Piece::Lexed(Lexeme::Plain(TokenKind::String), extent)
+        }
+    }
+}
+
+#[tactic(auto, unfolding(crate::specs::Piece::mark))]
+fn mark(first: u8, behind: &[u8]) -> Piece
+    ensures piece { result ≡ spec.mark (first ∷ behind.now) }
+    ensures fits { spec.Fits (first ∷ behind.now) result }
+{
+    match operator(first, behind) {
+        Some((len, lexeme)) => Piece::Lexed(lexeme, bytes(len)),
+        None => Piece::Bad(FaultKind::BadByte, 0),
+    }
+}
+
+/// What a backslash begins that comes before these bytes.
+#[tactic(auto, unfolding(crate::specs::Piece::joined))]
+fn joined(behind: &[u8]) -> Piece
+    ensures piece { result ≡ spec.joined behind.now }
+    ensures fits { spec.Fits (92 ∷ behind.now) result }
+{
+    let n = newline_len(behind);
+    if n == 0 {
+        return Piece::Bad(FaultKind::BadByte, 0);
+    }
+    Piece::Gap(Extent {
+        len: n + 1,
+        lines: 1,
+    })
+}
+
+/// What the text begins with.
+#[tactic(auto, unfolding(crate::specs::Piece::next_piece))]
+pub fn next_piece(text: &[u8]) -> Piece
+    ensures piece { result ≡ spec.next_piece text.now }
+    ensures fits { spec.Fits text.now result }
+{
+    let [first, behind @ ..] = text else {
+        return Piece::Bad(FaultKind::BadByte, 0);
+    };
+    if is_blank(*first) {
+        return Piece::Gap(bytes(run_len(text, Class::Blank)));
+    }
+    if begins_string(text) {
+        return string(text);
+    }
+    if is_letter(*first) {
+        return word(text);
+    }
+    if begins_number(text) {
+        return number(text);
+    }
+    if *first == b'#' {
+        return Piece::Gap(bytes(comment_len(text)));
+    }
+    if *first == b'\\' {
+        return joined(behind);
+    }
+    let n = newline_len(text);
+    if n == 0 {
+        return mark(*first, behind);
+    }
+    Piece::LineEnd(Extent { len: n, lines: 1 })
+}
