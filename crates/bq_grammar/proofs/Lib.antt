@@ -1,0 +1,10 @@
+pub mod NextToken
+pub mod Classes
+pub mod Agrees
+pub mod Chains
+pub mod Lists
+pub mod Operands
+pub mod Suffixes
+pub mod Vars
+pub mod Lambdas
+pub mod Tests

@@ -1,0 +1,17 @@
+-- A token with its spelling, which is what the grammar reads.
+use Rattle.std.specs.Prelude.{ℕ, List, [], ◌∷◌, slice_range}
+use Rattle.bq_source.specs.declared.token.Token.{Token}
+use Rattle.bq_source.specs.declared.token.TokenKind.{TokenKind}
+
+pub record Lexeme : Type 0 where
+  pub kind : TokenKind
+  pub line : ℕ
+  pub spelling : List ℕ
+
+abbrev pub lexeme : List ℕ → Token → Lexeme
+lexeme text t = record { kind = t.kind; line = t.line; spelling = slice_range text t.start t.end }
+
+-- the tokens of a text, with their spellings
+abbrev pub lexemes : List ℕ → List Token → List Lexeme
+lexemes text [] = []
+lexemes text (t ∷ ts) = lexeme text t ∷ lexemes text ts

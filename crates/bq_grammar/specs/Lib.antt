@@ -1,0 +1,13 @@
+pub mod Lexeme
+pub mod Literals
+pub mod Operators
+pub mod Turns
+pub mod Phrases
+pub mod Grammar
+pub mod Statements
+pub mod Nesting
+pub mod Pieces
+pub mod LeftOut
+pub mod Verdict
+pub mod Reading
+pub mod Laws

@@ -1,0 +1,32 @@
+//! The grammar of BUILD and .bzl files: which tokens are which statement, and the trees of statements.
+//!
+//! `specs/Grammar.antt` (expressions) and `specs/Statements.antt` are the grammar, a case for each production under its
+//! production, by the Starlark specification, "Grammar reference". They relate tokens with their spellings (`specs/Lexeme.antt`)
+//! to trees: from the tokens `ts` a phrase takes those before `rest`. Only brackets and indents let a phrase stand in a phrase of
+//! its own kind, so the grammar comes in layers, by how many of them are in one another; `specs/Phrases.antt` has its two
+//! repetitions, `{ X }` and `[ X { ',' X } [','] ] close`. A `lambda` is a test that takes any tokens.
+//!
+//! `specs/Reading.antt` is reading by recursive descent, a function for each production of the same name and in the same order,
+//! which the parser of `bq_parse` is. The laws say that both agree: what is read the grammar has, what it has is read, and tokens
+//! without `lambda` have one tree.
+//!
+//! How the proofs go: `Agrees first ends X r` (`proofs/Agrees.antt`) says of a phrase `X` and a reader `r` that each `X` begins
+//! with a token of the class `first`, that what `r` reads is an `X`, and that each `X` that a token of the class `ends` follows is
+//! read whole, or cut at a `lambda`. Each production has one such fact, made of those of its parts; what must hold of the
+//! classes is computed over all kinds of tokens (`proofs/Classes.antt`). Operators are in `proofs/Chains.antt`, what stands in
+//! brackets in `proofs/Operands.antt`, calls, indexes and slices in `proofs/Suffixes.antt`; `proofs/Vars.antt` ties the layers.
+#![tactic(auto)]
+
+mod arguments;
+mod laws;
+mod refusal;
+mod tree;
+
+pub use arguments::{Allowed, ArgumentKind};
+pub use laws::{each_test_is_read, one_tree_of_a_test, what_is_read_is_a_test};
+pub use refusal::Refusal;
+pub use tree::{
+    Argument, Branch, Choice, Clause, Comparison, Expr, File, FileKind, Identifier, Load,
+    LoadClause, Nested, Operation, Operator, Pair, Parameter, SmallKind, SmallStmt, Stmt, Suffix,
+    Target, TopLevel, UnaryOperator,
+};
