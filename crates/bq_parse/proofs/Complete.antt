@@ -18,7 +18,7 @@ use Rattle.bq_parse.specs.declared.tree.TopLevel.{TopLevel}
 use Rattle.bq_parse.specs.Cursor.{sees, next, token}
 use Rattle.bq_parse.specs.Turns.{Found, Parse, ◌>>=◌, ended, last, item, failed}
 use Rattle.bq_parse.specs.Literals.{name_of, value_of, identifier}
-use Rattle.bq_parse.specs.Reading.{behind_item, listed, items, operand, test, argument, expr, small_stmt, stmt, placed, top_level}
+use Rattle.bq_parse.specs.Reading.{behind_item, listed, items, operand, test_expr, argument, expr, small_stmt, stmt, placed, top_level}
 use Rattle.bq_parse.specs.Grammar as G
 use Rattle.bq_parse.specs.Grammar.{IsOperand, AreElements, IsTest, IsArgument, AreArguments, IsExpr, IsSmall, IsStmt, IsTopLevel, line_of}
 use Rattle.bq_parse.proofs.SameKind.{kind_is, other_kind}
@@ -107,8 +107,8 @@ module _ (text : List ℕ) where
       one_more_is_read k.RightBracket (operand text) bracket_no_comma found ts x t mid (operand_no_bracket p) (operand_complete p) e (operand_shorter p)
       ∙ elements_complete ps (found ++ x ∷ []) ∙ ap (λ xs. Ok (xs, rest)) (append_assoc found (x ∷ []) xs)
 
-  test_complete : {ts rest : List Token} {x : Expr} → IsTest text ts rest x → test text ts ≡ Ok (x, rest)
-  unfolding test
+  test_complete : {ts rest : List Token} {x : Expr} → IsTest text ts rest x → test_expr text ts ≡ Ok (x, rest)
+  unfolding test_expr
   test_complete (G.operand {ts = ts} p) =
       ap (λ b. cond b (items k.RightBracket (operand text) [] (next ts) >>= λ xs rest. Ok (e.List xs, rest)) (operand text ts)) (operand_no_list p) ∙ operand_complete p
   test_complete (G.list {t = t} {ts = ts} {rest = rest} {xs = xs} is p f) =
@@ -118,9 +118,9 @@ module _ (text : List ℕ) where
   argument_complete : {ts rest : List Token} {a : Argument} → IsArgument text ts rest a → argument text ts ≡ Ok (a, rest)
   unfolding argument
   argument_complete (G.named {n = n} {q = q} {ts = ts} {rest = rest} {x = x} e f p h) =
-      after (token k.Identifier (n ∷ q ∷ ts)) (λ n behind. token k.Assign behind >>= λ q value. test text value >>= λ x rest. Ok (Named (name_of text n) x, rest)) n (q ∷ ts) _ (takes k.Identifier n (q ∷ ts) e)
-      (after (token k.Assign (q ∷ ts)) (λ q value. test text value >>= λ x rest. Ok (Named (name_of text n) x, rest)) q ts _ (takes k.Assign q ts f)
-      (after (test text ts) (λ x rest. Ok (Named (name_of text n) x, rest)) x rest _ (test_complete p) (ap (λ y. Ok (y, rest)) (sym h))))
+      after (token k.Identifier (n ∷ q ∷ ts)) (λ n behind. token k.Assign behind >>= λ q value. test_expr text value >>= λ x rest. Ok (Named (name_of text n) x, rest)) n (q ∷ ts) _ (takes k.Identifier n (q ∷ ts) e)
+      (after (token k.Assign (q ∷ ts)) (λ q value. test_expr text value >>= λ x rest. Ok (Named (name_of text n) x, rest)) q ts _ (takes k.Assign q ts f)
+      (after (test_expr text ts) (λ x rest. Ok (Named (name_of text n) x, rest)) x rest _ (test_complete p) (ap (λ y. Ok (y, rest)) (sym h))))
 
   arguments_complete : {ts rest : List Token} {as' : List Argument} → AreArguments text ts rest as' → (found : List Argument)
       → items k.RightParen (argument text) found ts ≡ Ok (found ++ as', rest)

@@ -15,7 +15,7 @@ use Rattle.bq_parse.specs.declared.tree.TopLevel.{TopLevel}
 use Rattle.bq_parse.specs.Cursor.{sees, next, token}
 use Rattle.bq_parse.specs.Turns.{Found, ◌>>=◌}
 use Rattle.bq_parse.specs.Literals.{name_of, value_of, identifier}
-use Rattle.bq_parse.specs.Reading.{items, operand, test, argument, expr, small_stmt, stmt, placed, whole, top_level}
+use Rattle.bq_parse.specs.Reading.{items, operand, test_expr, argument, expr, small_stmt, stmt, placed, whole, top_level}
 use Rattle.bq_parse.specs.Grammar as G
 use Rattle.bq_parse.specs.Grammar.{IsOperand, AreElements, IsTest, IsArgument, AreArguments, IsExpr, IsSmall, IsStmt, IsTopLevel, line_of}
 use Rattle.bq_parse.proofs.SameKind.{seen}
@@ -35,8 +35,8 @@ module _ (text : List ℕ) where
   elements_sound = items_sound k.RightBracket (operand text) (IsOperand text) (AreElements text) operand_sound
       (λ t rest. G.no_element) (λ t ts rest x. G.last_element) (λ t ts mid rest x xs. G.element)
 
-  test_sound : (ts : List Token) (z : Expr × List Token) → test text ts ≡ Ok z → IsTest text ts z.1 z.0
-  unfolding test
+  test_sound : (ts : List Token) (z : Expr × List Token) → test_expr text ts ≡ Ok z → IsTest text ts z.1 z.0
+  unfolding test_expr
   test_sound ts z h =
       elim (chosen (sees k.LeftBracket ts) (items k.RightBracket (operand text) [] (next ts) >>= λ xs rest. Ok (e.List xs, rest)) (operand text ts) (Ok z) h) [
         | inl w ↦
@@ -51,11 +51,11 @@ module _ (text : List ℕ) where
   argument_sound : (ts : List Token) (z : Argument × List Token) → argument text ts ≡ Ok z → IsArgument text ts z.1 z.0
   unfolding argument
   argument_sound ts z h =
-      let p = in_turn (token k.Identifier ts) (λ n behind. token k.Assign behind >>= λ q value. test text value >>= λ x rest. Ok (Named (name_of text n) x, rest)) z h in
+      let p = in_turn (token k.Identifier ts) (λ n behind. token k.Assign behind >>= λ q value. test_expr text value >>= λ x rest. Ok (Named (name_of text n) x, rest)) z h in
       let n = taken k.Identifier ts p.found p.first in
-      let q = in_turn (token k.Assign p.found.1) (λ q value. test text value >>= λ x rest. Ok (Named (name_of text p.found.0) x, rest)) z p.then_ in
+      let q = in_turn (token k.Assign p.found.1) (λ q value. test_expr text value >>= λ x rest. Ok (Named (name_of text p.found.0) x, rest)) z p.then_ in
       let m = taken k.Assign p.found.1 q.found q.first in
-      let r = in_turn (test text q.found.1) (λ x rest. Ok (Named (name_of text p.found.0) x, rest)) z q.then_ in
+      let r = in_turn (test_expr text q.found.1) (λ x rest. Ok (Named (name_of text p.found.0) x, rest)) z q.then_ in
       subst (λ us. IsArgument text us z.1 z.0) (sym (n.is ∙ ap (λ us. p.found.0 ∷ us) m.is))
       (subst (λ (a : Argument × List Token). IsArgument text (p.found.0 ∷ q.found.0 ∷ q.found.1) a.1 a.0) (let a : (Named (name_of text p.found.0) r.found.0, r.found.1) ≡ z = cc in a)
       (G.named n.kind_is m.kind_is (test_sound q.found.1 r.found r.first) refl))

@@ -39,15 +39,15 @@ items close one = many (listed close one)
 unfoldable pub operand : List ℕ → Parse Expr
 operand text ts = token k.String ts >>= λ t rest. Ok (e.String (value_of text t), rest)
 
-unfoldable pub test : List ℕ → Parse Expr
-test text ts =
+unfoldable pub test_expr : List ℕ → Parse Expr
+test_expr text ts =
     if sees k.LeftBracket ts then (items k.RightBracket (operand text) [] (next ts) >>= λ xs rest. Ok (e.List xs, rest))
     else operand text ts
 
 unfoldable pub argument : List ℕ → Parse Argument
 argument text ts =
     token k.Identifier ts >>= λ n behind. token k.Assign behind >>= λ q value.
-    test text value >>= λ x rest. Ok (Named (name_of text n) x, rest)
+    test_expr text value >>= λ x rest. Ok (Named (name_of text n) x, rest)
 
 unfoldable pub expr : List ℕ → Parse Expr
 expr text ts =

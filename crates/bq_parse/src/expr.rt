@@ -45,9 +45,9 @@ fn elements(alloc: Global, cursor: &mut Cursor<'_>) -> Result<Items<Expr>, Refus
 }
 
 /// Test = Operand | '[' [ Operand { ',' Operand } [','] ] ']'
-#[tactic(auto, unfolding(crate::specs::Reading::test))]
-fn test(alloc: Global, cursor: &mut Cursor<'_>) -> Result<Expr, Refusal>
-    ensures reads { Reads (spec.test cursor.old.text.now cursor.old.rest.now) result cursor.new.rest.now }
+#[tactic(auto, unfolding(crate::specs::Reading::test_expr))]
+fn test_expr(alloc: Global, cursor: &mut Cursor<'_>) -> Result<Expr, Refusal>
+    ensures reads { Reads (spec.test_expr cursor.old.text.now cursor.old.rest.now) result cursor.new.rest.now }
     ensures text { cursor.new.text ≡ cursor.old.text }
     ensures shorter { OnOk result (length cursor.new.rest.now < length cursor.old.rest.now) }
 {
@@ -67,7 +67,7 @@ fn argument(alloc: Global, cursor: &mut Cursor<'_>) -> Result<Argument, Refusal>
 {
     let name = cursor.expect(TokenKind::Identifier)?;
     cursor.expect(TokenKind::Assign)?;
-    let value = test(alloc, cursor)?;
+    let value = test_expr(alloc, cursor)?;
     Ok(Argument::Named(name_of(alloc, cursor.text, name)?, value))
 }
 
