@@ -1,0 +1,12 @@
+pub mod Turns
+pub mod Cursor
+pub mod Literals
+pub mod Grammar
+pub mod Reading
+pub mod Pieces
+pub mod Verdict
+pub mod Statements
+pub mod Layer
+pub mod Calls
+pub mod Tokens
+pub mod Nested

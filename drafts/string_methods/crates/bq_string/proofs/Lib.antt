@@ -1,0 +1,3 @@
+pub mod Apart
+pub mod Cut
+pub mod Marks
