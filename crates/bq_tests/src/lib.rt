@@ -8,8 +8,6 @@ mod board;
 #[cfg(test)]
 mod graph;
 #[cfg(test)]
-mod label;
-#[cfg(test)]
 mod literals;
 #[cfg(test)]
 mod parse;
