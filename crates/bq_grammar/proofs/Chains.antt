@@ -1,5 +1,5 @@
 -- Operators: chains, prefixes, comparisons, conditionals.
-use Rattle.std.proofs.Common.{◌≡◌, ℕ, zero, suc, ◌+◌, ◌≤◌, Bool, true, false, not, ◌||◌, cond, List, [], ◌∷◌, ◌++◌, length, Option, Some, None, Ok, Err, refl, sym, ap, ◌∙◌, subst, append_assoc, append-nil, arith}
+use Rattle.std.proofs.Common.{◌≡◌, ℕ, zero, suc, ◌≤◌, Bool, true, false, ◌||◌, cond, List, [], ◌∷◌, ◌++◌, length, Option, Some, None, Ok, Err, refl, sym, ap, ◌∙◌, subst, append_assoc, append-nil, arith}
 use Rattle.bq_source.specs.declared.token.TokenKind.{TokenKind}
 use Rattle.bq_source.specs.declared.token.TokenKind.TheVariants as k
 use Rattle.bq_source.specs.Token.{same_kind}
@@ -17,11 +17,11 @@ use Rattle.bq_grammar.specs.Operators.{operator_at, sign, negation, comparison}
 use Rattle.bq_grammar.specs.Phrases.{Phrase, Repeat, over, again}
 use Rattle.bq_grammar.specs.Grammar as G
 use Rattle.bq_grammar.specs.Grammar.{binary_of, unary_of, choices_of, last_of, conditional_of, IsPrefix, IsPrefixed, IsOperation, IsChain, IsUnary, IsBinary, IsCompOp, IsComp, IsNot, IsAnd, IsOr, IsChoice, IsTest}
-use Rattle.bq_grammar.specs.Turns.{Found, Parse, ◌>>=◌, sees, next, expect, Turn, ended, goes, failed, next_turn, turns, whole, repeat}
+use Rattle.bq_grammar.specs.Turns.{Found, Parse, ◌>>=◌, sees, next, expect, ended, next_turn, turns, whole, repeat}
 use Rattle.bq_grammar.specs.Reading.{is_known, has, known, looked_up, prefixed, operation, chain, unary, binary, begins_comparison, comp_op, comp_after, comp, not_test, and_test, or_test, choice, with_choice, choice_turn, chosen_of, conditional, test}
-use Rattle.bq_grammar.proofs.NextToken.{is_kind, sees_it, sees_no, sees_other, opened, tok, tok_kind}
-use Rattle.bq_grammar.proofs.Classes.{all_kinds, implies, excludes, implied, excluded, ends, any, is_operator, is_sign, is_negation, first_operand, first_unary, first_not, is_lambda, first_test, first_comparison, is_if, if_same}
-use Rattle.bq_grammar.proofs.Agrees.{Begins, Stops, Owes, Met, met, cut, Agrees, either, seq, Never, seq_never, never_then, never_expect, never_repeat, expects, opens, opens_if, then_token, then_is, owes_as, met_is, met_as, met_less, met_over, met_done, met_then, met_then0, met_then01, met_expect, met_yes, met_no, begins_no, stops_no, stops_wide, begins_stops, repeat_sound, repeat_stops, repeat_complete}
+use Rattle.bq_grammar.proofs.NextToken.{sees_it, sees_no, tok, tok_kind}
+use Rattle.bq_grammar.proofs.Classes.{all_kinds, implies, excludes, implied, excluded, ends, any, is_operator, is_negation, first_operand, first_unary, first_not, is_lambda, first_test, first_comparison, is_if, if_same}
+use Rattle.bq_grammar.proofs.Agrees.{Begins, Stops, Owes, Met, met, cut, Agrees, either, seq, Never, seq_never, never_then, never_expect, never_repeat, expects, opens, opens_if, then_is, owes_as, met_is, met_as, met_less, met_over, met_done, met_then, met_then0, met_then01, met_expect, met_yes, met_no, begins_no, stops_no, stops_wide, begins_stops, repeat_sound, repeat_stops, repeat_complete}
 
 known_is : {B : Type 0} (o : Option B) (y : B) → o ≡ Some y → is_known o ≡ true
 known_is o y e = ap is_known e

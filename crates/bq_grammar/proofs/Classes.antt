@@ -1,5 +1,5 @@
 -- Classes of kinds of tokens: what begins a phrase, what ends one, and how a claim about all kinds is computed.
-use Rattle.std.proofs.Common.{◌≡◌, ℕ, Bool, true, false, not, ◌&&◌, ◌||◌, nat_lt, refl, ap}
+use Rattle.std.proofs.Common.{◌≡◌, ℕ, Bool, true, false, not, ◌&&◌, ◌||◌, nat_lt, refl}
 use Rattle.bq_source.specs.declared.token.TokenKind.{TokenKind}
 use Rattle.bq_source.specs.declared.token.TokenKind.TheVariants as k
 use Rattle.bq_source.specs.Token.{same_kind}
@@ -404,6 +404,14 @@ first_argument q = first_test q
 pub paren_comma : same_kind k.RightParen k.Comma ≡ false
 unfolding same_kind
 paren_comma = refl
+
+pub paren_assign : same_kind k.RightParen k.Assign ≡ false
+unfolding same_kind
+paren_assign = refl
+
+pub comma_assign : same_kind k.Comma k.Assign ≡ false
+unfolding same_kind
+comma_assign = refl
 
 pub bracket_comma : same_kind k.RightBracket k.Comma ≡ false
 unfolding same_kind

@@ -1,5 +1,5 @@
 -- A reading stops at `lambda` only where one is among the tokens.
-use Rattle.std.proofs.Common.{◌≡◌, ℕ, zero, suc, Bool, true, false, ◌||◌, cond, List, [], ◌∷◌, ◌++◌, length, Option, Some, None, Ok, Err, refl, sym, ap, ◌∙◌}
+use Rattle.std.proofs.Common.{◌≡◌, ℕ, zero, suc, Bool, true, false, ◌||◌, cond, List, [], ◌∷◌, ◌++◌, length, Option, Some, None, Ok, Err, refl, ap}
 use Rattle.bq_source.specs.declared.token.TokenKind.{TokenKind}
 use Rattle.bq_source.specs.declared.token.TokenKind.TheVariants as k
 use Rattle.bq_source.specs.Token.{same_kind}
@@ -7,15 +7,13 @@ use Rattle.bq_grammar.specs.Lexeme.{Lexeme}
 use Rattle.bq_grammar.specs.declared.refusal.Refusal.TheVariants.{Memory, Syntax, Lambda}
 use Rattle.bq_grammar.specs.declared.tree.Nested.{Nested}
 use Rattle.bq_grammar.specs.declared.tree.Nested.TheVariants.{Or, Test}
-use Rattle.bq_grammar.specs.declared.tree.Identifier.{Identifier}
 use Rattle.bq_grammar.specs.declared.tree.Expr.{Expr}
 use Rattle.bq_grammar.specs.declared.tree.Expr.TheVariants as e
 use Rattle.bq_grammar.specs.declared.tree.UnaryOperator.{UnaryOperator}
-use Rattle.bq_grammar.specs.declared.tree.Comparison.{Comparison}
 use Rattle.bq_grammar.specs.declared.tree.Comparison.TheVariants as c
-use Rattle.bq_grammar.specs.declared.tree.Choice.{Choice, roll-Choice}
-use Rattle.bq_grammar.specs.declared.tree.Operation.{Operation, roll-Operation}
-use Rattle.bq_grammar.specs.declared.tree.Pair.{Pair, roll-Pair}
+use Rattle.bq_grammar.specs.declared.tree.Choice.{Choice}
+use Rattle.bq_grammar.specs.declared.tree.Operation.{roll-Operation}
+use Rattle.bq_grammar.specs.declared.tree.Pair.{roll-Pair}
 use Rattle.bq_grammar.specs.declared.tree.Suffix.{Suffix}
 use Rattle.bq_grammar.specs.declared.tree.Suffix.TheVariants as s
 use Rattle.bq_grammar.specs.declared.arguments.Allowed.{Allowed}
@@ -24,17 +22,18 @@ use Rattle.bq_grammar.specs.declared.arguments.ArgumentKind.{ArgumentKind}
 use Rattle.bq_grammar.specs.declared.arguments.ArgumentKind.TheVariants as ak
 use Rattle.bq_grammar.specs.declared.tree.Argument.{Argument}
 use Rattle.bq_grammar.specs.declared.tree.Argument.TheVariants as a
-use Rattle.bq_grammar.specs.declared.tree.Clause.{Clause}
 use Rattle.bq_grammar.specs.declared.tree.Clause.TheVariants as cl
 use Rattle.bq_grammar.specs.declared.tree.Target.{Target}
 use Rattle.bq_grammar.specs.declared.tree.Target.TheVariants as target
-use Rattle.bq_grammar.specs.Literals.{identifier, int_value, string_value}
+use Rattle.bq_source.specs.Number.{int_value}
+use Rattle.bq_source.specs.StringLiteral.{string_value}
+use Rattle.bq_grammar.specs.Literals.{identifier}
 use Rattle.bq_grammar.specs.Operators.{operator_at, sign, negation, comparison}
 use Rattle.bq_grammar.specs.Grammar.{binary_of, unary_of, primary_of, allowed_after}
 use Rattle.bq_grammar.specs.Laws.{is_lambda, NoLambda}
 use Rattle.bq_grammar.proofs.NextToken.{is_kind}
-use Rattle.bq_grammar.specs.Turns.{Found, Parse, ◌>>=◌, sees, next, expect, Turn, ended, goes, failed, next_turn, turns, whole, cut_off, repeat, listed_from, goes_with, repeat_turn, with_item, after_item, listed_turn}
-use Rattle.bq_grammar.specs.Reading.{word, is_known, has, known, looked_up, items_after, after_comma, chained, vars_after, var_in_parens, var_in_brackets, var_by, var, var_to, vars, pair, for_clause, clause, begins_clause, clauses, comprehension, parens_after, in_parens, brackets_after, in_brackets, braces_after, in_braces, int_of, string_of, operand_by, operand, argument_kind, spelling_of, argument_by, allowed_argument, argument, after_argument, with_argument, argument_turn, arguments, optional_test, slice_end, slice_after, subscript_after, subscript, member_after, member, begins_suffix, suffix, primary, prefixed, operation, chain, unary, binary, begins_comparison, comp_op, comp_after, comp, not_test, and_test, or_test, choice, with_choice, choice_turn, chosen_of, conditional, test, phrase_by, phrase}
+use Rattle.bq_grammar.specs.Turns.{Found, Parse, ◌>>=◌, sees, next, expect, Turn, ended, goes, failed, next_turn, turns, whole, cut_off, repeat, listed_from, goes_with, repeat_turn, with_item, listed_turn}
+use Rattle.bq_grammar.specs.Reading.{word, has, known, looked_up, items_after, after_comma, chained, vars_after, var_in_parens, var_in_brackets, var_by, var, var_to, vars, pair, for_clause, clause, begins_clause, clauses, comprehension, parens_after, in_parens, brackets_after, in_brackets, braces_after, in_braces, int_of, string_of, operand_by, operand, argument_kind, spelling_of, argument_by, allowed_argument, argument, with_argument, argument_turn, arguments, optional_test, slice_end, slice_after, subscript_after, subscript, member_after, member, begins_suffix, suffix, primary, prefixed, operation, chain, binary, begins_comparison, comp_op, comp_after, comp, not_test, and_test, or_test, choice, with_choice, choice_turn, chosen_of, conditional, test, phrase_by, phrase}
 
 absent : (q : TokenKind) → is_lambda q ≡ false → same_kind q k.Lambda ≡ false
 absent q f = go (same_kind q k.Lambda) (λ h. let w = ap is_lambda (is_kind q k.Lambda h) in cc)

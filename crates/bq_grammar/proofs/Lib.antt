@@ -4,6 +4,7 @@ pub mod Agrees
 pub mod Chains
 pub mod Lists
 pub mod Operands
+pub mod Unnamed
 pub mod Suffixes
 pub mod Vars
 pub mod Lambdas

@@ -1,16 +1,16 @@
 -- An item, and the further ones behind commas.
-use Rattle.std.proofs.Common.{◌≡◌, ℕ, zero, suc, ◌+◌, ◌≤◌, Bool, true, false, cond, List, [], ◌∷◌, ◌++◌, length, Ok, Err, refl, sym, ap, ◌∙◌, subst, arith}
+use Rattle.std.proofs.Common.{◌≡◌, Bool, true, false, List, [], ◌∷◌, ◌++◌, Ok, Err, refl, sym, ap, subst}
 use Rattle.bq_source.specs.declared.token.TokenKind.{TokenKind}
 use Rattle.bq_source.specs.declared.token.TokenKind.TheVariants as k
 use Rattle.bq_source.specs.Token.{same_kind}
 use Rattle.bq_grammar.specs.Lexeme.{Lexeme}
-use Rattle.bq_grammar.specs.declared.refusal.Refusal.TheVariants.{Memory, Syntax, Lambda}
-use Rattle.bq_grammar.specs.Phrases.{Phrase, none, Repeat, over, again, Listed, none_listed, last_listed, more_listed, CommaThen, comma_then}
-use Rattle.bq_grammar.specs.Turns.{Found, Parse, ◌>>=◌, sees, next, expect, repeat, listed_from}
+use Rattle.bq_grammar.specs.declared.refusal.Refusal.TheVariants.{Syntax}
+use Rattle.bq_grammar.specs.Phrases.{Phrase, none, Repeat, over, again, Listed, last_listed, more_listed, CommaThen, comma_then}
+use Rattle.bq_grammar.specs.Turns.{Parse, ◌>>=◌, sees, expect, repeat, listed_from}
 use Rattle.bq_grammar.specs.Reading.{items_after, after_comma, chained}
-use Rattle.bq_grammar.proofs.NextToken.{is_kind, kind_is, sees_it, sees_no, sees_other, tok, tok_kind}
-use Rattle.bq_grammar.proofs.Classes.{all_kinds, implies, implied, is_comma, comma_same}
-use Rattle.bq_grammar.proofs.Agrees.{Begins, Stops, Owes, Met, met, cut, Agrees, either, seq, Never, never_then, never_repeat, never_listed, expects, opens, opens_if, sees_owes, then_token, then_is, owes_as, met_is, met_as, met_less, met_over, met_done, met_then, met_then0, met_expect, met_yes, met_no, stops_no, begins_stops, repeat_sound, repeat_stops, repeat_complete, listed_sound, listed_complete}
+use Rattle.bq_grammar.proofs.NextToken.{sees_it, sees_other}
+use Rattle.bq_grammar.proofs.Classes.{implied, is_comma, comma_same}
+use Rattle.bq_grammar.proofs.Agrees.{Begins, Stops, Owes, Met, Agrees, either, seq, expects, opens, sees_owes, then_is, owes_as, met_as, met_less, met_over, met_done, met_then, met_then0, met_expect, met_yes, met_no, repeat_sound, repeat_stops, repeat_complete, listed_sound, listed_complete}
 
 -- nothing is read where nothing is a phrase
 pub none_agrees : {A : Type 0} (first ends : TokenKind → Bool) → Agrees first ends (none {A = A}) (λ ts. Err Syntax)

@@ -1,5 +1,5 @@
 -- Kinds of tokens, and the next token.
-use Rattle.std.proofs.Common.{◌≡◌, Bool, true, false, List, [], ◌∷◌, refl, sym, ap, ◌∙◌, rules}
+use Rattle.std.proofs.Common.{◌≡◌, Bool, true, false, List, [], ◌∷◌, refl, ap, ◌∙◌, rules}
 use denote.Enum.Bare.{same_true, true_same}
 use Rattle.bq_source.specs.contracts.token.TokenKind.{the_type}
 use Rattle.bq_source.specs.declared.token.TokenKind.{TokenKind}

@@ -1,33 +1,28 @@
 -- Operands, suffixes and arguments, over what stands in brackets.
-use Rattle.std.proofs.Common.{◌≡◌, ℕ, zero, suc, ◌+◌, ◌≤◌, ◌⊎◌, inl, inr, Bool, true, false, not, ◌||◌, ◌&&◌, cond, List, [], ◌∷◌, ◌++◌, length, Option, Some, None, Ok, Err, refl, sym, ap, ◌∙◌, subst, append_assoc, append-nil, arith}
+use Rattle.std.proofs.Common.{◌≡◌, ℕ, Bool, true, false, not, ◌||◌, List, [], ◌∷◌, ◌++◌, Option, Some, None, Ok, refl, sym, ap, ◌∙◌, subst, arith}
 use Rattle.bq_source.specs.declared.token.TokenKind.{TokenKind}
 use Rattle.bq_source.specs.declared.token.TokenKind.TheVariants as k
 use Rattle.bq_source.specs.Token.{same_kind}
 use Rattle.bq_grammar.specs.Lexeme.{Lexeme}
-use Rattle.bq_grammar.specs.declared.refusal.Refusal.TheVariants.{Memory, Syntax, Lambda}
 use Rattle.bq_grammar.specs.declared.tree.Nested.{Nested}
 use Rattle.bq_grammar.specs.declared.tree.Nested.TheVariants.{Or, Test}
-use Rattle.bq_grammar.specs.declared.tree.Identifier.{Identifier}
 use Rattle.bq_grammar.specs.declared.tree.Expr.{Expr}
 use Rattle.bq_grammar.specs.declared.tree.Expr.TheVariants as e
 use Rattle.bq_grammar.specs.declared.tree.Pair.{Pair, roll-Pair}
-use Rattle.bq_grammar.specs.declared.tree.Suffix.{Suffix}
-use Rattle.bq_grammar.specs.declared.tree.Suffix.TheVariants as s
-use Rattle.bq_grammar.specs.declared.tree.Argument.{Argument}
-use Rattle.bq_grammar.specs.declared.tree.Argument.TheVariants as a
 use Rattle.bq_grammar.specs.declared.tree.Clause.{Clause}
 use Rattle.bq_grammar.specs.declared.tree.Clause.TheVariants as cl
 use Rattle.bq_grammar.specs.declared.tree.Target.{Target}
-use Rattle.bq_grammar.specs.Literals.{identifier, int_value, string_value}
-use Rattle.bq_grammar.specs.Phrases.{Phrase, Repeat, over, again, Listed, none_listed, last_listed, more_listed, CommaThen}
+use Rattle.bq_source.specs.Number.{int_value}
+use Rattle.bq_source.specs.StringLiteral.{string_value}
+use Rattle.bq_grammar.specs.Phrases.{Phrase, Repeat, over, Listed, none_listed, last_listed}
 use Rattle.bq_grammar.specs.Grammar as G
 use Rattle.bq_grammar.specs.Grammar.{tuple_of, primary_of, IsPair, IsForClause, IsClause, AreClauses, IsOperand}
-use Rattle.bq_grammar.specs.Turns.{Found, Parse, ◌>>=◌, sees, next, expect, repeat, listed_from}
+use Rattle.bq_grammar.specs.Turns.{Found, Parse, ◌>>=◌, sees, expect, repeat, listed_from}
 use Rattle.bq_grammar.specs.Reading.{items_after, pair, for_clause, clause, begins_clause, clauses, comprehension, parens_after, in_parens, brackets_after, in_brackets, braces_after, in_braces, int_of, string_of, operand_by, operand}
-use Rattle.bq_grammar.proofs.NextToken.{is_kind, sees_it, sees_no, sees_other, tok, tok_kind}
-use Rattle.bq_grammar.proofs.Classes.{all_kinds, implies, excludes, implied, excluded, ends, any, first_operand, first_not, first_test, first_var, first_clause, is_for, is_if, is_comma, paren_comma, bracket_comma, brace_comma, comma_for, bracket_for, brace_for, bracket_if, brace_if, for_same, clause_same}
-use Rattle.bq_grammar.proofs.Agrees.{Begins, Stops, Owes, Met, met, cut, Agrees, either, seq, Never, seq_never, expects, opens, opens_if, sees_owes, then_token, then_is, owes_as, met_is, met_as, met_less, met_over, met_done, met_then, met_then0, met_then01, met_expect, met_yes, met_no, begins_no, stops_no, stops_wide, begins_stops, repeat_sound, repeat_stops, repeat_complete, listed_sound, listed_complete}
-use Rattle.bq_grammar.proofs.Lists.{items_sound, FirstItem, first_item}
+use Rattle.bq_grammar.proofs.NextToken.{sees_it, sees_other, tok, tok_kind}
+use Rattle.bq_grammar.proofs.Classes.{implied, ends, any, first_operand, first_not, first_test, first_var, first_clause, is_for, is_if, is_comma, paren_comma, bracket_comma, brace_comma, comma_for, bracket_for, brace_for, bracket_if, brace_if, for_same, clause_same}
+use Rattle.bq_grammar.proofs.Agrees.{Begins, Stops, Owes, Met, met, Agrees, either, seq, Never, seq_never, expects, opens, opens_if, sees_owes, then_token, then_is, owes_as, met_is, met_as, met_less, met_over, met_done, met_then, met_expect, met_yes, met_no, begins_no, begins_stops, repeat_sound, repeat_stops, repeat_complete, listed_sound, listed_complete}
+use Rattle.bq_grammar.proofs.Lists.{items_sound, first_item}
 
 -- tokens after the variables of a `for`
 abbrev pub ends_vars : TokenKind → Bool

@@ -1,6 +1,5 @@
 -- Arguments, suffixes and primaries, over what stands in brackets.
-use Rattle.std.proofs.Common.{◌≡◌, ℕ, zero, suc, ◌+◌, ◌≤◌, Bool, true, false, ◌||◌, ◌&&◌, cond, List, [], ◌∷◌, ◌++◌, length, Option, Some, None, Ok, Err, refl, sym, ap, ◌∙◌, subst, append_assoc, append-nil, arith}
-use Rattle.bq_source.specs.declared.token.TokenKind.{TokenKind}
+use Rattle.std.proofs.Common.{◌≡◌, ℕ, zero, suc, ◌≤◌, Bool, true, false, ◌||◌, ◌&&◌, cond, List, [], ◌∷◌, ◌++◌, length, Option, Some, None, Ok, Err, refl, sym, ap, ◌∙◌, subst, append_assoc, append-nil, arith}
 use Rattle.bq_source.specs.declared.token.TokenKind.TheVariants as k
 use Rattle.bq_source.specs.Token.{same_kind}
 use Rattle.bq_grammar.specs.Lexeme.{Lexeme}
@@ -23,13 +22,14 @@ use Rattle.bq_grammar.specs.Literals.{identifier}
 use Rattle.bq_grammar.specs.Phrases as P
 use Rattle.bq_grammar.specs.Phrases.{Phrase, Repeat, over, again, CommaThen}
 use Rattle.bq_grammar.specs.Grammar as G
-use Rattle.bq_grammar.specs.Grammar.{tuple_of, primary_of, IsOperand, allowed_after, is_named, IsArgument, AreArguments, IsOptionalTest, IsExpr, IsSuffix, IsPrimary}
+use Rattle.bq_grammar.specs.Grammar.{tuple_of, primary_of, IsOperand, allowed_after, IsArgument, AreArguments, IsOptionalTest, IsExpr, IsSuffix, IsPrimary}
 use Rattle.bq_grammar.specs.Turns.{Found, Parse, ◌>>=◌, sees, next, expect, Turn, ended, goes, failed, next_turn, turns, cut_off, repeat}
-use Rattle.bq_grammar.specs.Reading.{word, chained, operand, argument_kind, spelling_of, argument_by, allowed_argument, argument, after_argument, with_argument, argument_turn, arguments, optional_test, slice_end, slice_after, subscript_after, subscript, member_after, member, begins_suffix, suffix, primary}
+use Rattle.bq_grammar.specs.Reading.{word, chained, operand, is_named, argument_kind, argument_by, allowed_argument, argument, with_argument, argument_turn, arguments, optional_test, slice_end, slice_after, subscript_after, subscript, member_after, member, begins_suffix, suffix, primary}
 use Rattle.bq_grammar.proofs.NextToken.{is_kind, sees_it, sees_no, sees_other, opened, tok, tok_kind}
-use Rattle.bq_grammar.proofs.Classes.{all_kinds, implies, excludes, implied, excluded, ends, any, first_operand, first_not, first_test, first_var, first_suffix, first_argument, is_comma, paren_comma, bracket_comma, star_star_star, identifier_star, identifier_star_star, bracket_colon, comma_colon, paren_dot, open_dot, open_paren, suffix_same}
-use Rattle.bq_grammar.proofs.Agrees.{Begins, Stops, Owes, Met, met, cut, Agrees, either, seq, Never, seq_never, expects, opens, opens_if, sees_owes, then_token, then_is, owes_as, met_is, met_as, met_less, met_over, met_done, met_then, met_then0, met_then01, met_expect, met_yes, met_no, begins_no, stops_no, stops_wide, begins_stops, repeat_sound, repeat_stops, repeat_complete}
+use Rattle.bq_grammar.proofs.Classes.{implied, ends, any, first_operand, first_not, first_test, first_var, first_suffix, first_argument, paren_comma, bracket_comma, paren_assign, comma_assign, star_star_star, identifier_star, identifier_star_star, bracket_colon, comma_colon, paren_dot, open_dot, open_paren, suffix_same}
+use Rattle.bq_grammar.proofs.Agrees.{Begins, Stops, Owes, Met, met, cut, Agrees, either, seq, Never, seq_never, opens, opens_if, sees_owes, then_token, then_is, owes_as, met_is, met_as, met_less, met_over, met_done, met_then, met_then0, met_then01, met_expect, met_yes, met_no, begins_no, repeat_sound, repeat_complete}
 use Rattle.bq_grammar.proofs.Lists.{chain_of, chained_sound, chained_stops, chained_met}
+use Rattle.bq_grammar.proofs.Unnamed.{Unnamed, suffix_begins}
 use Rattle.bq_grammar.proofs.Operands.{ends_vars, operand_agrees}
 
 tuple_chain : (x : Expr) (xs : List Expr) → chain_of e.Tuple x xs ≡ tuple_of x xs
@@ -67,12 +67,6 @@ word_never (t ∷ ts) = either Never (sees k.Identifier (t ∷ ts)) (Ok (identif
 abbrev kind_by : Bool → Bool → Bool → ArgumentKind
 kind_by is_star is_star_star named = cond is_star ak.Star (cond is_star_star ak.StarStar (cond named ak.Named ak.Positional))
 
-positional_by : (p q r : Bool) → kind_by p q r ≡ ak.Positional → r ≡ false
-positional_by true q r h = absurd (cc)
-positional_by false true r h = absurd (cc)
-positional_by false false true h = absurd (cc)
-positional_by false false false h = refl
-
 named_by : (p q r : Bool) → kind_by p q r ≡ ak.Named → r ≡ true
 named_by true q r h = absurd (cc)
 named_by false true r h = absurd (cc)
@@ -101,12 +95,12 @@ is_it p q r p' q' r' e f g = ap (λ x. kind_by x q r) e ∙ ap (λ x. kind_by p'
 
 module _ (O T : Phrase Expr) (V : Phrase Target) (inner : Nested → Parse Expr) (variables : Parse Target)
     (ors : Agrees first_not (ends 10) O (inner Or)) (tests : Agrees first_test (ends 11) T (inner Test))
-    (vars_agree : Agrees first_var ends_vars V variables) (vars_never : (ts : List Lexeme) → Never (variables ts)) where
+    (vars_agree : Agrees first_var ends_vars V variables) (vars_never : (ts : List Lexeme) → Never (variables ts)) (unnamed : Unnamed T) where
   -- ---- arguments
 
   argument_owes : (q : ArgumentKind) (ts : List Lexeme) → argument_kind ts ≡ q → Owes Argument (IsArgument O T V q ts) (argument_by inner variables q ts)
   argument_owes ak.Positional ts h =
-      then_is (T ts) (IsArgument O T V ak.Positional ts) (inner Test ts) a.Positional (tests.sound ts) (λ x rest p. G.positional (positional_by (sees k.Star ts) (sees k.StarStar ts) (is_named ts) h) p refl)
+      then_is (T ts) (IsArgument O T V ak.Positional ts) (inner Test ts) a.Positional (tests.sound ts) (λ x rest p. G.positional p refl)
   argument_owes ak.Named [] h = absurd (cc)
   argument_owes ak.Named (n ∷ []) h = let w = named_by (sees k.Star (n ∷ [])) (sees k.StarStar (n ∷ [])) false h in absurd (cc)
   argument_owes ak.Named (n ∷ q ∷ ts) h =
@@ -137,7 +131,7 @@ module _ (O T : Phrase Expr) (V : Phrase Target) (inner : Nested → Parse Expr)
           (argument_owes (argument_kind ts) ts refl) (λ x rest p. (argument_kind ts, h, p))
 
   argument_begins : (q : ArgumentKind) (ts rest : List Lexeme) (x : Argument) → IsArgument O T V q ts rest x → Begins first_argument ts
-  argument_begins q ts rest x (G.positional {x = y} n p f) = begins_test ts (tests.begins ts rest y p)
+  argument_begins q ts rest x (G.positional {x = y} p f) = begins_test ts (tests.begins ts rest y p)
     where
       begins_test : (ts : List Lexeme) → Begins first_test ts → Begins first_argument ts
       begins_test [] b = absurd b
@@ -146,19 +140,20 @@ module _ (O T : Phrase Expr) (V : Phrase Target) (inner : Nested → Parse Expr)
   argument_begins q ts rest x (G.star f p h) = ap first_argument f
   argument_begins q ts rest x (G.star_star f p h) = ap first_argument f
 
-  kind_met : (q : ArgumentKind) (ts rest : List Lexeme) (x : Argument) → IsArgument O T V q ts rest x → argument_kind ts ≡ q
-  kind_met q ts rest x (G.positional {x = y} n p f) =
-      is_it (sees k.Star ts) (sees k.StarStar ts) (is_named ts) false false false (begins_no first_test ts k.Star (tests.begins ts rest y p) refl) (begins_no first_test ts k.StarStar (tests.begins ts rest y p) refl) n
-  kind_met q ts rest x (G.named {n = n} {q = w} {ts = us} f g p h) =
+  kind_met : (q : ArgumentKind) (ts rest : List Lexeme) (x : Argument) → IsArgument O T V q ts rest x → sees k.Assign rest ≡ false → argument_kind ts ≡ q
+  kind_met q ts rest x (G.positional {x = y} p f) unseen =
+      is_it (sees k.Star ts) (sees k.StarStar ts) (is_named ts) false false false (begins_no first_test ts k.Star (tests.begins ts rest y p) refl) (begins_no first_test ts k.StarStar (tests.begins ts rest y p) refl)
+      (unnamed ts rest y p unseen)
+  kind_met q ts rest x (G.named {n = n} {q = w} {ts = us} f g p h) unseen =
       is_it (sees k.Star (n ∷ w ∷ us)) (sees k.StarStar (n ∷ w ∷ us)) (is_named (n ∷ w ∷ us)) false false true
       (sees_other n (w ∷ us) k.Star k.Identifier f identifier_star) (sees_other n (w ∷ us) k.StarStar k.Identifier f identifier_star_star)
       (ap (λ b. b && same_kind w.kind k.Assign) (sees_it n (w ∷ us) k.Identifier f) ∙ sees_it w us k.Assign g)
-  kind_met q ts rest x (G.star {t = t} {ts = us} f p h) = ap (λ b. kind_by b (sees k.StarStar (t ∷ us)) (is_named (t ∷ us))) (sees_it t us k.Star f)
-  kind_met q ts rest x (G.star_star {t = t} {ts = us} f p h) =
+  kind_met q ts rest x (G.star {t = t} {ts = us} f p h) unseen = ap (λ b. kind_by b (sees k.StarStar (t ∷ us)) (is_named (t ∷ us))) (sees_it t us k.Star f)
+  kind_met q ts rest x (G.star_star {t = t} {ts = us} f p h) unseen =
       is_it (sees k.Star (t ∷ us)) (sees k.StarStar (t ∷ us)) (is_named (t ∷ us)) false true (is_named (t ∷ us)) (sees_other t us k.Star k.StarStar f star_star_star) (sees_it t us k.StarStar f) refl
 
   argument_by_met : (q : ArgumentKind) (ts rest : List Lexeme) (x : Argument) → IsArgument O T V q ts rest x → Stops (ends 11) rest → Met 1 ts (argument_by inner variables q ts) x rest
-  argument_by_met q ts rest x (G.positional {x = y} n p f) st = met_then (inner Test ts) (λ x rest. Ok (a.Positional x, rest)) (tests.complete ts rest y p st) (met_as (sym f) (met_done (a.Positional y) rest))
+  argument_by_met q ts rest x (G.positional {x = y} p f) st = met_then (inner Test ts) (λ x rest. Ok (a.Positional x, rest)) (tests.complete ts rest y p st) (met_as (sym f) (met_done (a.Positional y) rest))
   argument_by_met q ts rest x (G.named {n = n} {q = w} {ts = us} {x = y} f g p h) st =
       met_over n (w ∷ us) (met_less (met_over w us (met_less (met_then (inner Test us) (λ x rest. Ok (a.Named n.spelling x, rest)) (tests.complete us rest y p st) (met_as (sym h) (met_done (a.Named n.spelling y) rest))))))
   argument_by_met q ts rest x (G.star {t = t} {ts = us} {x = y} f p h) st =
@@ -167,11 +162,11 @@ module _ (O T : Phrase Expr) (V : Phrase Target) (inner : Nested → Parse Expr)
       met_over t us (met_less (met_then (inner Test us) (λ x rest. Ok (a.StarStar x, rest)) (tests.complete us rest y p st) (met_as (sym h) (met_done (a.StarStar y) rest))))
 
   argument_met : (s s' : Allowed) (q : ArgumentKind) (ts rest : List Lexeme) (x : Argument) → allowed_after s q ≡ Some s' → IsArgument O T V q ts rest x → Stops (ends 11) rest
-      → Met 1 ts (argument inner variables s ts) (x, s') rest
+      → sees k.Assign rest ≡ false → Met 1 ts (argument inner variables s ts) (x, s') rest
   unfolding argument
-  argument_met s s' q ts rest x ok p st =
+  argument_met s s' q ts rest x ok p st unseen =
       met_is _ (allowed_argument inner variables (Some s') q ts)
-      (ap (λ j. allowed_argument inner variables (allowed_after s j) j ts) (kind_met q ts rest x p) ∙ ap (λ o. allowed_argument inner variables o q ts) ok)
+      (ap (λ j. allowed_argument inner variables (allowed_after s j) j ts) (kind_met q ts rest x p unseen) ∙ ap (λ o. allowed_argument inner variables o q ts) ok)
       (met_then (argument_by inner variables q ts) (λ x rest. Ok ((x, s'), rest)) (argument_by_met q ts rest x p st) (met_done (x, s') rest))
 
   abbrev Given : List Argument → Allowed → List Lexeme → List Lexeme → List Argument × Allowed → Type 0
@@ -231,7 +226,7 @@ module _ (O T : Phrase Expr) (V : Phrase Target) (inner : Nested → Parse Expr)
     s',
     met_is _ (go_on n (with_argument found (argument inner variables s ts)))
         (ap (λ b. go_on n (cond b (ended (found, s) (next ts)) (with_argument found (argument inner variables s ts)))) (begins_no first_argument ts k.RightParen (argument_begins q ts (t ∷ rest) x p) refl))
-        (go (argument_met s s' q ts (t ∷ rest) x ok p (subst (λ q. ends 11 q ≡ true) (sym f) refl))),
+        (go (argument_met s s' q ts (t ∷ rest) x ok p (subst (λ q. ends 11 q ≡ true) (sym f) refl) (sees_other t rest k.Assign k.RightParen f paren_assign))),
   )
     where
       go : Met 1 ts (argument inner variables s ts) (x, s') (t ∷ rest) → Met 1 ts (go_on n (with_argument found (argument inner variables s ts))) (found ++ x ∷ [], s') rest
@@ -242,7 +237,7 @@ module _ (O T : Phrase Expr) (V : Phrase Target) (inner : Nested → Parse Expr)
   arguments_from zero found s [] rest xs (G.more_arguments {q = q} {t = t} {mid = mid} {x = x} ok p f ps) le = absurd (argument_begins q [] (t ∷ mid) x p)
   arguments_from zero found s (u ∷ us) rest xs (G.more_arguments ok p f ps) le = absurd (omega arith)
   arguments_from (suc n) found s ts rest xs (G.more_arguments {s' = s'} {q = q} {t = t} {mid = mid} {x = x} {xs = ys} ok p f ps) le =
-      go (λ below. arguments_from n (found ++ x ∷ []) s' mid rest ys ps below) (argument_met s s' q ts (t ∷ mid) x ok p (subst (λ q. ends 11 q ≡ true) (sym f) refl))
+      go (λ below. arguments_from n (found ++ x ∷ []) s' mid rest ys ps below) (argument_met s s' q ts (t ∷ mid) x ok p (subst (λ q. ends 11 q ≡ true) (sym f) refl) (sees_other t mid k.Assign k.Comma f comma_assign))
     where
       first : turns (argument_turn inner variables) cut_off (suc n) (found, s) ts ≡ go_on n (with_argument found (argument inner variables s ts))
       first = ap (λ b. go_on n (cond b (ended (found, s) (next ts)) (with_argument found (argument inner variables s ts)))) (begins_no first_argument ts k.RightParen (argument_begins q ts (t ∷ mid) x p) refl)
@@ -388,16 +383,8 @@ module _ (O T : Phrase Expr) (V : Phrase Target) (inner : Nested → Parse Expr)
 
   pub suffix_agrees : Agrees first_suffix any (IsSuffix O T V) (suffix inner variables)
   unfolding suffix member
-  suffix_agrees = record { begins = begins; sound = sound; complete = complete }
+  suffix_agrees = record { begins = suffix_begins O T V; sound = sound; complete = complete }
     where
-      begins : (ts rest : List Lexeme) (y : Suffix) → IsSuffix O T V ts rest y → Begins first_suffix ts
-      begins ts rest y (G.attribute f g h i) = ap first_suffix f
-      begins ts rest y (G.method f g h p i) = ap first_suffix f
-      begins ts rest y (G.call f p g) = ap first_suffix f
-      begins ts rest y (G.index f p g h) = ap first_suffix f
-      begins ts rest y (G.slice f p g q h i) = ap first_suffix f
-      begins ts rest y (G.stepped f p g q h w i j) = ap first_suffix f
-
       sound : (ts : List Lexeme) → Owes Suffix (IsSuffix O T V ts) (suffix inner variables ts)
       sound ts = opens_if (IsSuffix O T V) k.Dot ts (λ us. member inner variables us) _
           (λ d us f. member_sound d us f)

@@ -1,6 +1,5 @@
 -- The laws of tests.
-use Rattle.std.proofs.Common.{◌≡◌, ℕ, zero, suc, ◌⊎◌, inl, inr, true, false, List, [], ◌∷◌, Ok, Err, refl, sym, ap, ◌∙◌, subst}
-use Rattle.bq_source.specs.declared.token.TokenKind.{TokenKind}
+use Rattle.std.proofs.Common.{◌≡◌, ℕ, suc, ◌⊎◌, inl, inr, List, [], ◌∷◌, Ok, Err, refl, sym, ap, ◌∙◌, subst}
 use Rattle.bq_grammar.specs.Lexeme.{Lexeme}
 use Rattle.bq_grammar.specs.declared.refusal.Refusal.TheVariants.{Lambda}
 use Rattle.bq_grammar.specs.declared.tree.Expr.{Expr}
@@ -8,9 +7,9 @@ use Rattle.bq_grammar.specs.declared.tree.Nested.TheVariants.{Test}
 use Rattle.bq_grammar.specs.Grammar.{IsTestTo}
 use Rattle.bq_grammar.specs.Turns.{Found}
 use Rattle.bq_grammar.specs.Reading.{phrase}
-use Rattle.bq_grammar.specs.Laws.{Sound, ends_test, EndsTest, Complete, NoLambda, OneTest}
-use Rattle.bq_grammar.proofs.Classes.{all_kinds, implies, implied, ends}
-use Rattle.bq_grammar.proofs.Agrees.{Stops, Owes, Met, met, cut, Agrees}
+use Rattle.bq_grammar.specs.Laws.{Sound, ends_test, EndsTest, Complete, OneTest}
+use Rattle.bq_grammar.proofs.Classes.{implied, ends}
+use Rattle.bq_grammar.proofs.Agrees.{Stops, Owes, Met, met, cut}
 use Rattle.bq_grammar.proofs.Vars.{test_to_agrees}
 use Rattle.bq_grammar.proofs.Lambdas.{Plain, phrase_plain}
 

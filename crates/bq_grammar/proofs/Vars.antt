@@ -1,27 +1,25 @@
 -- The variables of a `for`, and the layers of the grammar.
-use Rattle.std.proofs.Common.{◌≡◌, ℕ, zero, suc, ◌+◌, ◌≤◌, Bool, true, false, ◌||◌, cond, List, [], ◌∷◌, ◌++◌, length, Ok, Err, refl, sym, ap, ◌∙◌, subst, arith}
+use Rattle.std.proofs.Common.{◌≡◌, ℕ, zero, suc, Bool, true, false, cond, List, [], ◌∷◌, ◌++◌, Ok, Err, refl, sym, ap, ◌∙◌, subst, arith}
 use Rattle.bq_source.specs.declared.token.TokenKind.{TokenKind}
 use Rattle.bq_source.specs.declared.token.TokenKind.TheVariants as k
-use Rattle.bq_source.specs.Token.{same_kind}
 use Rattle.bq_grammar.specs.Lexeme.{Lexeme}
-use Rattle.bq_grammar.specs.declared.refusal.Refusal.TheVariants.{Memory, Syntax, Lambda}
+use Rattle.bq_grammar.specs.declared.refusal.Refusal.TheVariants.{Syntax}
 use Rattle.bq_grammar.specs.declared.tree.Nested.{Nested}
 use Rattle.bq_grammar.specs.declared.tree.Nested.TheVariants.{Or, Test}
-use Rattle.bq_grammar.specs.declared.tree.Expr.{Expr}
 use Rattle.bq_grammar.specs.declared.tree.Target.{Target}
 use Rattle.bq_grammar.specs.declared.tree.Target.TheVariants as target
-use Rattle.bq_grammar.specs.Literals.{identifier}
-use Rattle.bq_grammar.specs.Phrases.{Phrase, none, Repeat, over, again, Listed, none_listed, last_listed, more_listed, CommaThen}
+use Rattle.bq_grammar.specs.Phrases.{Phrase, none, Repeat, over, Listed, last_listed, CommaThen}
 use Rattle.bq_grammar.specs.Grammar as G
 use Rattle.bq_grammar.specs.Grammar.{targets_of, IsVarOver, IsVar, IsVarsOver, IsVars, IsPrimary, IsPrimaryTo, IsOr, IsTest, IsOrTo, IsTestTo}
 use Rattle.bq_grammar.specs.Turns.{Found, Parse, ◌>>=◌, sees, next, expect, listed_from, repeat}
-use Rattle.bq_grammar.specs.Reading.{items_after, after_comma, chained, vars_after, var_in_parens, var_in_brackets, var_by, var, var_to, vars, primary, or_test, test, phrase_by, phrase}
-use Rattle.bq_grammar.proofs.NextToken.{sees_it, sees_no, sees_other, tok, tok_kind}
-use Rattle.bq_grammar.proofs.Classes.{all_kinds, implies, excludes, implied, excluded, ends, any, first_operand, first_not, first_test, first_var, is_comma, paren_comma, bracket_comma}
-use Rattle.bq_grammar.proofs.Agrees.{Begins, Stops, Owes, Met, met, cut, Agrees, either, seq, Never, never_then, never_expect, never_repeat, never_listed, expects, opens, opens_if, sees_owes, then_token, then_is, owes_as, met_is, met_as, met_less, met_over, met_done, met_then, met_then0, met_expect, met_yes, met_no, stops_no, stops_wide, listed_sound, listed_complete}
+use Rattle.bq_grammar.specs.Reading.{items_after, after_comma, chained, vars_after, var_in_parens, var_in_brackets, var_by, var, var_to, vars, primary, or_test, test, phrase}
+use Rattle.bq_grammar.proofs.NextToken.{sees_it, sees_other, tok, tok_kind}
+use Rattle.bq_grammar.proofs.Classes.{ends, any, first_operand, first_not, first_test, first_var, paren_comma, bracket_comma}
+use Rattle.bq_grammar.proofs.Agrees.{Begins, Stops, Owes, Met, met, Agrees, seq, Never, never_then, never_expect, never_repeat, never_listed, expects, sees_owes, then_is, owes_as, met_is, met_as, met_less, met_over, met_done, met_then, met_expect, met_yes, met_no, stops_no, listed_sound, listed_complete}
 use Rattle.bq_grammar.proofs.Chains.{or_agrees, test_agrees}
-use Rattle.bq_grammar.proofs.Lists.{none_agrees, items_sound, first_item, chain_of, chained_sound, chained_stops, chained_met}
+use Rattle.bq_grammar.proofs.Lists.{none_agrees, items_sound, first_item, chain_of, chained_sound, chained_met}
 use Rattle.bq_grammar.proofs.Operands.{ends_vars}
+use Rattle.bq_grammar.proofs.Unnamed.{none_unnamed, test_unnamed}
 use Rattle.bq_grammar.proofs.Suffixes.{primary_agrees}
 
 target_chain : (x : Target) (xs : List Target) → chain_of target.Tuple x xs ≡ targets_of x xs
@@ -174,11 +172,12 @@ none_phrase which first ends' = record { begins = λ ts rest x p. absurd p; soun
 -- the primaries in which so many brackets may be in one another
 primary_to_agrees : (depth : ℕ) → Agrees first_operand (ends 0) (IsPrimaryTo depth) (primary (phrase depth) (vars (var_to depth)))
 unfolding phrase
-primary_to_agrees zero = primary_agrees none none none (phrase 0) (vars (var_to 0)) (none_phrase Or first_not (ends 10)) (none_phrase Test first_test (ends 11)) none_vars (vars_never (var_to 0) (var_to_never 0))
+primary_to_agrees zero = primary_agrees none none none (phrase 0) (vars (var_to 0)) (none_phrase Or first_not (ends 10)) (none_phrase Test first_test (ends 11)) none_vars (vars_never (var_to 0) (var_to_never 0)) none_unnamed
 primary_to_agrees (suc depth) = primary_agrees (IsOr (IsPrimaryTo depth)) (IsTest (IsPrimaryTo depth)) (IsVars depth) (phrase (suc depth)) (vars (var_to (suc depth)))
     (agree_as (IsOr (IsPrimaryTo depth)) (or_test (primary (phrase depth) (vars (var_to depth)))) (phrase (suc depth) Or) (ors depth) (or_agrees (IsPrimaryTo depth) (primary (phrase depth) (vars (var_to depth))) (primary_to_agrees depth)))
     (agree_as (IsTest (IsPrimaryTo depth)) (test (primary (phrase depth) (vars (var_to depth)))) (phrase (suc depth) Test) (tests depth) (test_agrees (IsPrimaryTo depth) (primary (phrase depth) (vars (var_to depth))) (primary_to_agrees depth)))
     (vars_agree (IsVar depth) (var_to (suc depth)) (var_to_agrees depth)) (vars_never (var_to (suc depth)) (var_to_never (suc depth)))
+    (test_unnamed depth)
   where
     ors : (depth : ℕ) (ts : List Lexeme) → phrase (suc depth) Or ts ≡ or_test (primary (phrase depth) (vars (var_to depth))) ts
     ors depth ts = refl

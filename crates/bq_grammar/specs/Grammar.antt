@@ -1,10 +1,9 @@
 -- The grammar of expressions, by the Starlark specification, "Grammar reference": a case for each production, under its
 -- production. Brackets alone let a phrase stand in a phrase of its own kind, so the productions come in layers: `Inner` is what may
 -- stand in brackets, with one bracket fewer open.
-use Rattle.std.specs.Prelude.{ℕ, pos, zero, suc, List, [], ◌∷◌, Bool, false, ◌&&◌, ◌≡◌, Option, Some, None}
+use Rattle.std.specs.Prelude.{ℕ, pos, zero, suc, List, [], ◌∷◌, false, ◌≡◌, Option, Some, None}
 use Rattle.bq_source.specs.declared.token.TokenKind.{TokenKind}
 use Rattle.bq_source.specs.declared.token.TokenKind.TheVariants as k
-use Rattle.bq_source.specs.Token.{same_kind}
 use Rattle.bq_grammar.specs.Lexeme.{Lexeme}
 use Rattle.bq_grammar.specs.declared.tree.Expr.{Expr}
 use Rattle.bq_grammar.specs.declared.tree.Expr.TheVariants as e
@@ -27,7 +26,9 @@ use Rattle.bq_grammar.specs.declared.tree.Clause.{Clause}
 use Rattle.bq_grammar.specs.declared.tree.Clause.TheVariants as cl
 use Rattle.bq_grammar.specs.declared.tree.Target.{Target}
 use Rattle.bq_grammar.specs.declared.tree.Target.TheVariants as target
-use Rattle.bq_grammar.specs.Literals.{identifier, int_value, string_value}
+use Rattle.bq_source.specs.Number.{int_value}
+use Rattle.bq_source.specs.StringLiteral.{string_value}
+use Rattle.bq_grammar.specs.Literals.{identifier}
 use Rattle.bq_grammar.specs.Operators.{operator_at, sign, negation, comparison}
 use Rattle.bq_grammar.specs.Turns.{sees}
 use Rattle.bq_grammar.specs.Phrases.{Phrase, none, Repeat, Listed, CommaThen}
@@ -113,11 +114,6 @@ allowed_after al.AfterStar ak.Star = None
 allowed_after al.AfterStar ak.StarStar = Some al.AfterStarStar
 allowed_after al.AfterStarStar q = None
 
--- a named argument comes next
-abbrev pub is_named : List Lexeme → Bool
-is_named (t ∷ u ∷ us) = same_kind t.kind k.Identifier && same_kind u.kind k.Assign
-is_named _ = false
-
 -- ---- expressions over what stands in brackets
 
 module _ (InnerOr InnerTest : Phrase Expr) (InnerVars : Phrase Target) where
@@ -165,7 +161,7 @@ module _ (InnerOr InnerTest : Phrase Expr) (InnerVars : Phrase Target) where
 
   -- Argument = Test | identifier '=' Test | '*' Test | '**' Test
   pub data IsArgument : ArgumentKind → List Lexeme → List Lexeme → Argument → Type 0 where
-    positional : {ts rest : List Lexeme} {x : Expr} {y : Argument} → is_named ts ≡ false → InnerTest ts rest x → y ≡ a.Positional x
+    positional : {ts rest : List Lexeme} {x : Expr} {y : Argument} → InnerTest ts rest x → y ≡ a.Positional x
         → IsArgument ak.Positional ts rest y
     named : {n q : Lexeme} {ts rest : List Lexeme} {x : Expr} {y : Argument} → n.kind ≡ k.Identifier → q.kind ≡ k.Assign → InnerTest ts rest x
         → y ≡ a.Named n.spelling x → IsArgument ak.Named (n ∷ q ∷ ts) rest y
@@ -194,7 +190,7 @@ module _ (InnerOr InnerTest : Phrase Expr) (InnerVars : Phrase Target) where
 
   -- Suffix = '.' identifier [ '(' Arguments ')' ] | '(' Arguments ')' | '[' Expr ']' | '[' [Test] ':' [Test] [ ':' [Test] ] ']'
   pub data IsSuffix : List Lexeme → List Lexeme → Suffix → Type 0 where
-    -- without a call
+    -- Not before `(`: `.id(..)` is a method call, never an attribute whose value is called, or `a.b(c)` would have two trees.
     attribute : {d n : Lexeme} {rest : List Lexeme} {y : Suffix} → d.kind ≡ k.Dot → n.kind ≡ k.Identifier → sees k.LeftParen rest ≡ false
         → y ≡ s.Attribute (identifier n) → IsSuffix (d ∷ n ∷ rest) rest y
     method : {d n o : Lexeme} {ts rest : List Lexeme} {xs : List Argument} {y : Suffix} → d.kind ≡ k.Dot → n.kind ≡ k.Identifier → o.kind ≡ k.LeftParen

@@ -3,6 +3,7 @@
 use Rattle.std.specs.Prelude.{ℕ, pos, zero, suc, List, [], ◌∷◌, ◌++◌, length, Bool, true, false, ◌||◌, ◌&&◌, Option, Some, None, Ok, Err, if◌then◌else◌}
 use Rattle.bq_source.specs.declared.token.TokenKind.{TokenKind}
 use Rattle.bq_source.specs.declared.token.TokenKind.TheVariants as k
+use Rattle.bq_source.specs.Token.{same_kind}
 use Rattle.bq_grammar.specs.Lexeme.{Lexeme}
 use Rattle.bq_grammar.specs.declared.refusal.Refusal.TheVariants.{Syntax, Lambda}
 use Rattle.bq_grammar.specs.declared.tree.Nested.{Nested}
@@ -28,9 +29,11 @@ use Rattle.bq_grammar.specs.declared.tree.Clause.{Clause}
 use Rattle.bq_grammar.specs.declared.tree.Clause.TheVariants as cl
 use Rattle.bq_grammar.specs.declared.tree.Target.{Target}
 use Rattle.bq_grammar.specs.declared.tree.Target.TheVariants as target
-use Rattle.bq_grammar.specs.Literals.{identifier, int_value, string_value}
+use Rattle.bq_source.specs.Number.{int_value}
+use Rattle.bq_source.specs.StringLiteral.{string_value}
+use Rattle.bq_grammar.specs.Literals.{identifier}
 use Rattle.bq_grammar.specs.Operators.{operator_at, sign, negation, comparison}
-use Rattle.bq_grammar.specs.Grammar.{binary_of, unary_of, primary_of, allowed_after, is_named}
+use Rattle.bq_grammar.specs.Grammar.{binary_of, unary_of, primary_of, allowed_after}
 use Rattle.bq_grammar.specs.Turns.{Found, Parse, ◌>>=◌, sees, next, expect, Turn, ended, goes, failed, turns, whole, cut_off, repeat, listed_from}
 
 -- a word, and what it names
@@ -124,6 +127,11 @@ int_of (Some n) ts = Ok (e.Int (pos n), ts)
 abbrev pub string_of : Option (List ℕ) → Parse Expr
 string_of None ts = Err Syntax
 string_of (Some b) ts = Ok (e.String b, ts)
+
+-- `identifier =` comes next
+abbrev pub is_named : List Lexeme → Bool
+is_named (t ∷ u ∷ us) = same_kind t.kind k.Identifier && same_kind u.kind k.Assign
+is_named _ = false
 
 -- by the first tokens
 abbrev pub argument_kind : List Lexeme → ArgumentKind

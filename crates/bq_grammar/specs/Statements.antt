@@ -1,7 +1,6 @@
 -- The grammar of statements, by the Starlark specification, "Grammar reference": a case for each production, under its production.
 -- Indents count among the brackets: `depth` is how many of both may still be opened.
 use Rattle.std.specs.Prelude.{ℕ, zero, suc, List, [], ◌∷◌, Bool, true, false, ◌≡◌, Option, Some, None}
-use Rattle.bq_source.specs.declared.token.TokenKind.{TokenKind}
 use Rattle.bq_source.specs.declared.token.TokenKind.TheVariants as k
 use Rattle.bq_grammar.specs.Lexeme.{Lexeme}
 use Rattle.bq_grammar.specs.declared.tree.Expr.{Expr}
@@ -19,7 +18,8 @@ use Rattle.bq_grammar.specs.declared.tree.Branch.{Branch, roll-Branch}
 use Rattle.bq_grammar.specs.declared.tree.Stmt.{Stmt}
 use Rattle.bq_grammar.specs.declared.tree.Stmt.TheVariants as s
 use Rattle.bq_grammar.specs.declared.tree.TopLevel.{TopLevel}
-use Rattle.bq_grammar.specs.Literals.{identifier, string_value, is_identifier}
+use Rattle.bq_source.specs.StringLiteral.{string_value}
+use Rattle.bq_grammar.specs.Literals.{identifier, is_identifier}
 use Rattle.bq_grammar.specs.Operators.{augmented}
 use Rattle.bq_grammar.specs.Phrases.{Phrase, none, Repeat, Listed, CommaThen}
 use Rattle.bq_grammar.specs.Grammar.{primary_of, targets_of, IsTestTo, IsExprTo, IsOperandTo, IsSuffixTo, IsIndexTo, IsVars}

@@ -1,5 +1,5 @@
 -- What the tokens of a top-level statement read as.
-use Rattle.std.specs.Prelude.{ℕ, List, Bool, true, false, ◌||◌, Result, Ok, Err, ◌≡◌, ◌≢◌, ◌⊎◌}
+use Rattle.std.specs.Prelude.{List, true, false, ◌||◌, Result, Ok, Err, ◌≡◌}
 use Rattle.bq_source.specs.declared.fault.FaultKind.{FaultKind}
 use Rattle.bq_source.specs.declared.fault.FaultKind.TheVariants as f
 use Rattle.bq_grammar.specs.Lexeme.{Lexeme}
