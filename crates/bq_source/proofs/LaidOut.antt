@@ -154,7 +154,7 @@ opens_none : (t : Token) (os : List OpenBracket) → (t.kind ≡ k.Indent) ⊎ (
 opens_none t os (inl e) = let P : TokenKind → Type 0 = λ kind. opened_by kind t.line os ≡ Some os in subst P (sym e) refl
 opens_none t os (inr e) = let P : TokenKind → Type 0 = λ kind. opened_by kind t.line os ≡ Some os in subst P (sym e) refl
 
-marks_leave : (empty : Token → Type 0) (w : ℕ) (vs : List ℕ) (ts before : List Token) (os : List OpenBracket) → AreMarks empty w vs ts → Leaves before os → Leaves (before ++ ts) os
+pub marks_leave : (empty : Token → Type 0) (w : ℕ) (vs : List ℕ) (ts before : List Token) (os : List OpenBracket) → AreMarks empty w vs ts → Leaves before os → Leaves (before ++ ts) os
 marks_leave empty w vs ts before os (wider t less is bare whole) h = one_token t h (opens_none t os (inl is)) (ap (λ z. before ++ z) whole)
 marks_leave empty w vs ts before os (open_ us t le opened above is bare whole) h =
     let P : List Token → Type 0 = λ z. Leaves (before ++ z) os in

@@ -74,7 +74,7 @@ is_run p b bs h = record {
   longest = run_stops p (b ∷ bs);
 }
 
-plus_line : (b : ℕ) (xs : List ℕ) → (b == 10) ≡ false → newlines (b ∷ xs) ≡ newlines xs
+pub plus_line : (b : ℕ) (xs : List ℕ) → (b == 10) ≡ false → newlines (b ∷ xs) ≡ newlines xs
 plus_line b xs e = rw e refl
 
 no_newline : (p : ℕ → Bool) (b : ℕ) → p 10 ≡ false → p b ≡ true → (b == 10) ≡ false
@@ -83,7 +83,7 @@ no_newline p b none h = elim (by_bool (b == 10)) [
   | inl same ↦ let e = eqb-true b 10 same in let P : Bool → Type 0 = λ t. t ≡ true in let never : false ≡ true = subst P none (subst (λ c. p c ≡ true) e h) in cc
 ]
 
-no_newlines : (p : ℕ → Bool) (bs : List ℕ) → p 10 ≡ false → AllByRecursion (λ b. p b ≡ true) bs → newlines bs ≡ 0
+pub no_newlines : (p : ℕ → Bool) (bs : List ℕ) → p 10 ≡ false → AllByRecursion (λ b. p b ≡ true) bs → newlines bs ≡ 0
 no_newlines p [] none h = refl
 no_newlines p (b ∷ bs) none h = plus_line b bs (no_newline p b none h.0) ∙ no_newlines p bs none h.1
 
@@ -92,7 +92,7 @@ one_line p xs none = sym (no_newlines p (take (prefix_len p xs) xs) none (run_al
 
 -- ---- line ends
 
-abbrev EndMeans : List ℕ → ℕ → Type 0
+abbrev pub EndMeans : List ℕ → ℕ → Type 0
 EndMeans text zero = BeginsLineEnd text → ⊥
 EndMeans text (suc n) = IsLineEnd (take (suc n) text) × (1 ≡ newlines (take (suc n) text))
 
@@ -152,7 +152,7 @@ line_rest (b ∷ bs) =
 not_newline : (b : ℕ) (bs : List ℕ) → (newline_len (b ∷ bs) == 0) ≡ true → (b == 10) ≡ false
 not_newline b bs h = elim (by_bool (b == 10)) [ inr n ↦ n | inl t ↦ let never : false ≡ true = rw t at h in cc ]
 
-comment_line : (bs : List ℕ) → newlines (take (comment_len bs) bs) ≡ 0
+pub comment_line : (bs : List ℕ) → newlines (take (comment_len bs) bs) ≡ 0
 comment_line [] = refl
 comment_line (b ∷ bs) =
     by_test (λ n. newlines (take n (b ∷ bs)) ≡ 0) (newline_len (b ∷ bs) == 0) _ _
@@ -301,7 +301,7 @@ later_short e [] text p h = tt
 later_short e (y ∷ ys) text p h =
     (no_longer e y text p (left_of (short_of e y) (list_all (short_of e) ys) h), later_short e ys text p (right_of (short_of e y) (list_all (short_of e) ys) h))
 
-abbrev IsFirst : (List ℕ × Lexeme) → List (List ℕ × Lexeme) → List ℕ → Type 0
+abbrev pub IsFirst : (List ℕ × Lexeme) → List (List ℕ × Lexeme) → List ℕ → Type 0
 IsFirst x table text = (text ≡ x.0 ++ drop (length x.0) text) × IsListed x.1 x.0 table × NoneLonger text (length x.0) table
 
 first_means : (table : List (List ℕ × Lexeme)) (text : List ℕ) (x : List ℕ × Lexeme) → in_order table ≡ true → first_spelled table text ≡ Some x → IsFirst x table text
@@ -318,6 +318,10 @@ first_means (e ∷ es) text x sorted h = elim (by_bool (starts_with nat_eq text 
       let r = first_means es text x (right_of (list_all (short_of e) es) (in_order es) sorted) later in
       (r.0, inr r.1, ((λ yes. absurd (false_not_true (sym t ∙ yes))), r.2))
 ]
+
+-- the definition finds the longest
+pub first_operator : (text : List ℕ) (x : List ℕ × Lexeme) → first_spelled operators text ≡ Some x → IsFirst x operators text
+first_operator text x h = first_means operators text x ordered h
 
 -- no operator holds a newline
 abbrev all_plain : List (List ℕ × Lexeme) → Bool
