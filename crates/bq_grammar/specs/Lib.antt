@@ -10,4 +10,7 @@ pub mod Pieces
 pub mod LeftOut
 pub mod Verdict
 pub mod Reading
+pub mod Targets
+pub mod ReadingStatements
+pub mod Parses
 pub mod Laws

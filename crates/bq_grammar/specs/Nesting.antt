@@ -1,5 +1,5 @@
 -- How many brackets and indents are open.
-use Rattle.std.specs.Prelude.{ℕ, ◌+◌, ◌-◌, ◌≤◌, List, [], ◌∷◌}
+use Rattle.std.specs.Prelude.{ℕ, ◌+◌, ◌-◌, ◌≤◌, nat_le, Bool, ◌&&◌, List, [], ◌∷◌}
 use Rattle.bq_source.specs.declared.token.TokenKind.{TokenKind}
 use Rattle.bq_source.specs.declared.token.TokenKind.TheVariants as k
 use Rattle.bq_grammar.specs.Lexeme.{Lexeme}
@@ -18,6 +18,11 @@ open_after k.RightBracket n = n - 1
 open_after k.RightBrace n = n - 1
 open_after k.Outdent n = n - 1
 open_after _ n = n
+
+-- nowhere more than the limit
+abbrev pub nests : ℕ → List Lexeme → Bool
+nests n [] = nat_le n max_nesting
+nests n (t ∷ ts) = nat_le n max_nesting && nests (open_after t.kind n) ts
 
 -- nowhere more than the limit
 abbrev pub Nests : ℕ → List Lexeme → Type 0

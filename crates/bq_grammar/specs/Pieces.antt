@@ -20,7 +20,6 @@ indents_after _ n = n
 -- a line that begins with this token begins a statement
 abbrev pub begins_statement : TokenKind → Bool
 begins_statement k.Indent = false
-begins_statement k.Outdent = false
 begins_statement k.Elif = false
 begins_statement k.Else = false
 begins_statement _ = true

@@ -8,6 +8,10 @@ use Rattle.bq_grammar.specs.declared.tree.Suffix.{Suffix}
 use Rattle.bq_grammar.specs.declared.tree.Operator.{Operator}
 use Rattle.bq_grammar.specs.declared.tree.Target.{Target}
 use Rattle.bq_grammar.specs.declared.tree.Target.TheVariants as target
+use Rattle.bq_grammar.specs.declared.parameters.AllowedParameters.{AllowedParameters}
+use Rattle.bq_grammar.specs.declared.parameters.AllowedParameters.TheVariants as ap
+use Rattle.bq_grammar.specs.declared.parameters.ParameterKind.{ParameterKind}
+use Rattle.bq_grammar.specs.declared.parameters.ParameterKind.TheVariants as pk
 use Rattle.bq_grammar.specs.declared.tree.Parameter.{Parameter}
 use Rattle.bq_grammar.specs.declared.tree.Parameter.TheVariants as p
 use Rattle.bq_grammar.specs.declared.tree.SmallKind.{SmallKind}
@@ -65,70 +69,53 @@ IsTarget depth = IsTargetOver (IsItem depth)
 
 -- ---- parameters
 
--- what parameters have come
-pub data Came : Type 0 where
-  no_default : Came
-  some_default : Came
-  a_star : Came
-  -- a star without a name, after which a name must come
-  bare_star : Came
-  -- `**`, after which nothing comes
-  star_star : Came
-
-pub data ParameterKind : Type 0 where
-  plain_kind : ParameterKind
-  default_kind : ParameterKind
-  bare_star_kind : ParameterKind
-  star_kind : ParameterKind
-  star_star_kind : ParameterKind
-
--- At most one `*` and one `**`, which is the last; before `*` none without default after one with.
-abbrev pub came_after : Came → ParameterKind → Option Came
-came_after no_default plain_kind = Some no_default
-came_after no_default default_kind = Some some_default
-came_after no_default bare_star_kind = Some bare_star
-came_after no_default star_kind = Some a_star
-came_after no_default star_star_kind = Some star_star
-came_after some_default plain_kind = None
-came_after some_default default_kind = Some some_default
-came_after some_default bare_star_kind = Some bare_star
-came_after some_default star_kind = Some a_star
-came_after some_default star_star_kind = Some star_star
-came_after a_star plain_kind = Some a_star
-came_after a_star default_kind = Some a_star
-came_after a_star bare_star_kind = None
-came_after a_star star_kind = None
-came_after a_star star_star_kind = Some star_star
-came_after bare_star plain_kind = Some a_star
-came_after bare_star default_kind = Some a_star
-came_after bare_star bare_star_kind = None
-came_after bare_star star_kind = None
-came_after bare_star star_star_kind = None
-came_after star_star q = None
+-- At most one `*` and one `**`, which is the last; before `*` none without default after one with; a bare `*` has a name after it.
+abbrev pub parameters_after : AllowedParameters → ParameterKind → Option AllowedParameters
+parameters_after ap.All pk.Plain = Some ap.All
+parameters_after ap.All pk.Default = Some ap.AfterDefault
+parameters_after ap.All pk.BareStar = Some ap.AfterBareStar
+parameters_after ap.All pk.Star = Some ap.AfterStar
+parameters_after ap.All pk.StarStar = Some ap.AfterStarStar
+parameters_after ap.AfterDefault pk.Plain = None
+parameters_after ap.AfterDefault pk.Default = Some ap.AfterDefault
+parameters_after ap.AfterDefault pk.BareStar = Some ap.AfterBareStar
+parameters_after ap.AfterDefault pk.Star = Some ap.AfterStar
+parameters_after ap.AfterDefault pk.StarStar = Some ap.AfterStarStar
+parameters_after ap.AfterBareStar pk.Plain = Some ap.AfterStar
+parameters_after ap.AfterBareStar pk.Default = Some ap.AfterStar
+parameters_after ap.AfterBareStar pk.BareStar = None
+parameters_after ap.AfterBareStar pk.Star = None
+parameters_after ap.AfterBareStar pk.StarStar = None
+parameters_after ap.AfterStar pk.Plain = Some ap.AfterStar
+parameters_after ap.AfterStar pk.Default = Some ap.AfterStar
+parameters_after ap.AfterStar pk.BareStar = None
+parameters_after ap.AfterStar pk.Star = None
+parameters_after ap.AfterStar pk.StarStar = Some ap.AfterStarStar
+parameters_after ap.AfterStarStar q = None
 
 -- the parameters may end here
-abbrev pub may_end : Came → Bool
-may_end bare_star = false
+abbrev pub may_end : AllowedParameters → Bool
+may_end ap.AfterBareStar = false
 may_end _ = true
 
 -- Parameter = identifier | identifier '=' Test | '*' [identifier] | '**' identifier
 pub data IsParameter (Test : Phrase Expr) : ParameterKind → List Lexeme → List Lexeme → Parameter → Type 0 where
-  plain : {n : Lexeme} {rest : List Lexeme} {y : Parameter} → n.kind ≡ k.Identifier → y ≡ p.Plain (identifier n) → IsParameter Test plain_kind (n ∷ rest) rest y
+  plain : {n : Lexeme} {rest : List Lexeme} {y : Parameter} → n.kind ≡ k.Identifier → y ≡ p.Plain (identifier n) → IsParameter Test pk.Plain (n ∷ rest) rest y
   default : {n q : Lexeme} {ts rest : List Lexeme} {x : Expr} {y : Parameter} → n.kind ≡ k.Identifier → q.kind ≡ k.Assign → Test ts rest x
-      → y ≡ p.Default (identifier n) x → IsParameter Test default_kind (n ∷ q ∷ ts) rest y
-  bare : {t : Lexeme} {rest : List Lexeme} {y : Parameter} → t.kind ≡ k.Star → y ≡ p.BareStar → IsParameter Test bare_star_kind (t ∷ rest) rest y
+      → y ≡ p.Default (identifier n) x → IsParameter Test pk.Default (n ∷ q ∷ ts) rest y
+  bare : {t : Lexeme} {rest : List Lexeme} {y : Parameter} → t.kind ≡ k.Star → y ≡ p.BareStar → IsParameter Test pk.BareStar (t ∷ rest) rest y
   star : {t n : Lexeme} {rest : List Lexeme} {y : Parameter} → t.kind ≡ k.Star → n.kind ≡ k.Identifier → y ≡ p.Star (identifier n)
-      → IsParameter Test star_kind (t ∷ n ∷ rest) rest y
+      → IsParameter Test pk.Star (t ∷ n ∷ rest) rest y
   star_star : {t n : Lexeme} {rest : List Lexeme} {y : Parameter} → t.kind ≡ k.StarStar → n.kind ≡ k.Identifier → y ≡ p.StarStar (identifier n)
-      → IsParameter Test star_star_kind (t ∷ n ∷ rest) rest y
+      → IsParameter Test pk.StarStar (t ∷ n ∷ rest) rest y
 
 -- [ Parameter { ',' Parameter } [','] ] ')', each as those before it allow
-pub data AreParameters (Test : Phrase Expr) : Came → List Lexeme → List Lexeme → List Parameter → Type 0 where
-  no_parameter : {c : Came} {t : Lexeme} {rest : List Lexeme} → may_end c ≡ true → t.kind ≡ k.RightParen → AreParameters Test c (t ∷ rest) rest []
-  last_parameter : {c c' : Came} {q : ParameterKind} {t : Lexeme} {ts rest : List Lexeme} {x : Parameter} → came_after c q ≡ Some c'
+pub data AreParameters (Test : Phrase Expr) : AllowedParameters → List Lexeme → List Lexeme → List Parameter → Type 0 where
+  no_parameter : {c : AllowedParameters} {t : Lexeme} {rest : List Lexeme} → may_end c ≡ true → t.kind ≡ k.RightParen → AreParameters Test c (t ∷ rest) rest []
+  last_parameter : {c c' : AllowedParameters} {q : ParameterKind} {t : Lexeme} {ts rest : List Lexeme} {x : Parameter} → parameters_after c q ≡ Some c'
       → IsParameter Test q ts (t ∷ rest) x → may_end c' ≡ true → t.kind ≡ k.RightParen → AreParameters Test c ts rest (x ∷ [])
-  more_parameters : {c c' : Came} {q : ParameterKind} {t : Lexeme} {ts mid rest : List Lexeme} {x : Parameter} {xs : List Parameter}
-      → came_after c q ≡ Some c' → IsParameter Test q ts (t ∷ mid) x → t.kind ≡ k.Comma → AreParameters Test c' mid rest xs
+  more_parameters : {c c' : AllowedParameters} {q : ParameterKind} {t : Lexeme} {ts mid rest : List Lexeme} {x : Parameter} {xs : List Parameter}
+      → parameters_after c q ≡ Some c' → IsParameter Test q ts (t ∷ mid) x → t.kind ≡ k.Comma → AreParameters Test c' mid rest xs
       → AreParameters Test c ts rest (x ∷ xs)
 
 -- ---- small statements
@@ -209,7 +196,7 @@ module _ (depth : ℕ) (Inner : Phrase Stmt) where
         → IsVars depth ts (i ∷ mid) v → i.kind ≡ k.In → IsExprTo depth mid (c ∷ us) x → c.kind ≡ k.Colon → IsSuite us rest xs → y ≡ s.For v x xs
         → IsStmtOver (t ∷ ts) rest y
     def_stmt : {t n o c : Lexeme} {ts mid rest : List Lexeme} (ps : List Parameter) {xs : List Stmt} {y : Stmt} → t.kind ≡ k.Def → n.kind ≡ k.Identifier
-        → o.kind ≡ k.LeftParen → AreParameters (IsTestTo depth) no_default ts (c ∷ mid) ps → c.kind ≡ k.Colon → IsSuite mid rest xs
+        → o.kind ≡ k.LeftParen → AreParameters (IsTestTo depth) ap.All ts (c ∷ mid) ps → c.kind ≡ k.Colon → IsSuite mid rest xs
         → y ≡ s.Def (identifier n) ps xs → IsStmtOver (t ∷ n ∷ o ∷ ts) rest y
 
 -- with so many brackets and indents in one another

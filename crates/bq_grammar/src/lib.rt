@@ -6,9 +6,13 @@
 //! its own kind, so the grammar comes in layers, by how many of them are in one another; `specs/Phrases.antt` has its two
 //! repetitions, `{ X }` and `[ X { ',' X } [','] ] close`. A `lambda` is a test that takes any tokens.
 //!
-//! `specs/Reading.antt` is reading by recursive descent, a function for each production of the same name and in the same order,
-//! which the parser of `bq_parse` is. The laws say that both agree: what is read the grammar has, what it has is read, and tokens
-//! without `lambda` have one tree.
+//! `specs/Reading.antt` and `specs/ReadingStatements.antt` are reading by recursive descent, a function for each production of the
+//! same name and in the same order, which the parser of `bq_parse` is. The left side of an assignment is read as an expression and
+//! turned into a target (`specs/Targets.antt`). The laws say that both agree on expressions: what is read the grammar has, what it
+//! has is read, and tokens without `lambda` have one tree; those of statements and files are in `bq_statements`.
+//!
+//! A file's tokens are cut into top-level statements (`specs/Pieces.antt`); `specs/Verdict.antt` is what one of them reads as,
+//! and `Parses` (`specs/Parses.antt`) what the file does.
 //!
 //! How the proofs go: `Agrees first ends X r` (`proofs/Agrees.antt`) says of a phrase `X` and a reader `r` that each `X` begins
 //! with a token of the class `first`, that what `r` reads is an `X`, and that each `X` that a token of the class `ends` follows is
@@ -19,11 +23,13 @@
 
 mod arguments;
 mod laws;
+mod parameters;
 mod refusal;
 mod tree;
 
 pub use arguments::{Allowed, ArgumentKind};
 pub use laws::{each_test_is_read, one_tree_of_a_test, what_is_read_is_a_test};
+pub use parameters::{AllowedParameters, ParameterKind};
 pub use refusal::Refusal;
 pub use tree::{
     Argument, Branch, Choice, Clause, Comparison, Expr, File, FileKind, Identifier, Load,
