@@ -9,12 +9,12 @@ use Rattle.bq_source.specs.Reading.{Lexes}
 use Rattle.bq_source.specs.Lexing.{the_tokens}
 use Rattle.bq_source.specs.Tokens.{tokens_of}
 use Rattle.bq_source.proofs.Reached.{every_text}
-use Rattle.bq_parse.specs.declared.tree.File.{File}
-use Rattle.bq_parse.specs.declared.tree.TopLevel.{TopLevel}
-use Rattle.bq_parse.specs.Statements.{statements_of as parsed}
-use Rattle.bq_parse.specs.Verdict as verdict
-use Rattle.bq_parse.specs.Verdict.{Parses}
-use Rattle.bq_parse.proofs.Files.{has_its_reading}
+use Rattle.bq_fragment_parse.specs.declared.tree.File.{File}
+use Rattle.bq_fragment_parse.specs.declared.tree.TopLevel.{TopLevel}
+use Rattle.bq_fragment_parse.specs.Statements.{statements_of as parsed}
+use Rattle.bq_fragment_parse.specs.Verdict as verdict
+use Rattle.bq_fragment_parse.specs.Verdict.{Parses}
+use Rattle.bq_fragment_parse.proofs.Files.{has_its_reading}
 use Rattle.bq_source.specs.Gives.{Gives, GivesOneOf}
 use Rattle.bq_source.specs.declared.fault.SourceErr.TheVariants.{Bad}
 use Rattle.bq_fragment.specs.Steps.{items}

@@ -2,9 +2,9 @@
 use Rattle.std.specs.Prelude.{ℕ, List, Result}
 use Rattle.bq_source.specs.declared.fault.Fault.{Fault}
 use Rattle.bq_source.specs.Tokens.{tokens_of}
-use Rattle.bq_parse.specs.declared.tree.File.{File}
-use Rattle.bq_parse.specs.declared.tree.TopLevel.{TopLevel}
-use Rattle.bq_parse.specs.Statements.{statements_of as parsed}
+use Rattle.bq_fragment_parse.specs.declared.tree.File.{File}
+use Rattle.bq_fragment_parse.specs.declared.tree.TopLevel.{TopLevel}
+use Rattle.bq_fragment_parse.specs.Statements.{statements_of as parsed}
 use Rattle.bq_fragment.specs.Steps.{◌>>=◌}
 
 -- the fault of the tokens, else that of the statements

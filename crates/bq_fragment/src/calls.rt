@@ -8,7 +8,7 @@ ghost use Rattle.bq_fragment.specs.Calls.{call_at, calls_of, rule_call, rule_cal
 
 use crate::predeclared::is_predeclared;
 use crate::rule::Rule;
-use bq_parse::{KeywordCall, TopLevel, keyword_call};
+use bq_fragment_parse::{KeywordCall, TopLevel, keyword_call};
 use bq_source::{Fault, FaultKind, SourceErr};
 use std::alloc::Global;
 

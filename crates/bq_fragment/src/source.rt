@@ -5,11 +5,11 @@ ghost use Rattle.bq_source.specs.Gives.{Gives};
 ghost use Rattle.bq_source.specs.Reading.{Lexes};
 ghost use Rattle.bq_source.specs.declared.fault.SourceErr.TheVariants.{Bad};
 ghost use Rattle.bq_source.specs.Tokens.{tokens_of};
-ghost use Rattle.bq_parse.specs.Statements.{statements_of as parsed};
+ghost use Rattle.bq_fragment_parse.specs.Statements.{statements_of as parsed};
 ghost use Rattle.bq_fragment.specs.Source.{statements_in, statements_of};
 ghost use Rattle.bq_fragment.specs.Steps.{items};
 
-use bq_parse::{File, FileKind, parse};
+use bq_fragment_parse::{File, FileKind, parse};
 use bq_source::{SourceErr, Token, lex};
 use std::alloc::Global;
 

@@ -1,6 +1,6 @@
 //! Texts from the first byte to their trees, which were written by hand from the grammar of the Starlark specification.
 
-use bq_parse::{FileKind, KeywordCall, KeywordValue, keyword_call, parse};
+use bq_fragment_parse::{FileKind, KeywordCall, KeywordValue, keyword_call, parse};
 use bq_source::{SourceErr, lex};
 use std::alloc::{AllocError, Global};
 use std::test::Fail;
