@@ -1,11 +1,11 @@
 -- The function `takes` answers as the relation `Takes` says.
-use Rattle.std.proofs.Common.{◌≡◌, ◌+◌, ◌++◌, ◌==◌, ◌&&◌, ◌||◌, ◌⊎◌, ◌↔◌, ℕ, Bool, true, false, List, [], ◌∷◌, codes, refl, sym, ap, subst, ◌∙◌, arith, inl, inr, nat_eq}
+use Rattle.std.proofs.Common.{◌≡◌, ◌++◌, ◌↔◌, ℕ, Bool, true, List, [], ◌∷◌, codes, refl, sym, ap, subst, ◌∙◌, arith, inl, inr}
 use Rattle.std.proofs.lemmas.Bool.{cases_Bool, false≢true}
 use Rattle.std.proofs.lemmas.Bool.Decides.{nat_tests}
 use Rattle.std.specs.List.{slice_split}
 use Rattle.bq_label.specs.Paths.{is_slash}
 use Rattle.bq_label.proofs.Above.{same_bytes, equal_bytes}
-use Rattle.bq_glob.specs.Matching.{Takes, FitsSegment, Matches, any_tail, takes_one, is_nothing, takes, is_star, is_same, fits_segment, is_any_segments, matches}
+use Rattle.bq_glob.specs.Matching.{Takes, FitsSegment, Matches, takes, is_star, is_same, fits_segment, is_any_segments, matches}
 use Rattle.bq_glob.specs.Matching.Takes.{end, run, single}
 use Rattle.bq_glob.proofs.Greedy.{IsTail, any_from, any_found, one_of, opened, opened_one}
 

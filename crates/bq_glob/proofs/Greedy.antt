@@ -1,8 +1,8 @@
 -- Matching that tries only the last element that takes many anew gives what `takes` gives.
-use Rattle.std.proofs.Common.{◌≡◌, ◌+◌, ◌*◌, ◌<◌, ◌≤◌, ◌&&◌, ◌||◌, ◌⊎◌, ℕ, zero, suc, Bool, true, false, List, [], ◌∷◌, Option, Some, None, length, if◌then◌else◌, refl, sym, ap, subst, ◌∙◌, arith, inl, inr, suc-mul, mul-le-mul_right}
+use Rattle.std.proofs.Common.{◌≡◌, ◌+◌, ◌*◌, ◌<◌, ◌≤◌, ◌&&◌, ◌||◌, ◌⊎◌, ℕ, suc, Bool, true, false, List, [], ◌∷◌, Option, Some, None, length, refl, sym, ap, subst, ◌∙◌, arith, inl, inr, suc-mul, mul-le-mul_right}
 use Rattle.std.proofs.lemmas.Bool.{cases_Bool, false≢true}
 use Rattle.std.specs.Option.{option_map}
-use Rattle.bq_glob.specs.Matching.{any_tail, takes_one, is_nothing, takes}
+use Rattle.bq_glob.specs.Matching.{any_tail, takes}
 use Rattle.bq_glob.specs.Step.{StepIs}
 use Rattle.bq_glob.specs.declared.step.Retry.{Retry}
 use Rattle.bq_glob.specs.declared.step.Step.TheVariants.{Many, One, End, Fail}

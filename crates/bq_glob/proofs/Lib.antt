@@ -2,3 +2,6 @@ pub mod Greedy
 pub mod Segments
 pub mod Cuttings
 pub mod Literals
+pub mod Beneath
+pub mod Listing
+pub mod GivenNames

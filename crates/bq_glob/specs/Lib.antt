@@ -1,3 +1,4 @@
 pub mod Matching
 pub mod Step
 pub mod Pattern
+pub mod Names

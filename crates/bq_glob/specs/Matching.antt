@@ -1,6 +1,6 @@
 -- Which paths a pattern matches (Bazel, "Functions", the entry of glob): the path's segments can be cut so that each `**`
 -- takes a run of whole segments, an empty one too, and each other segment of the pattern takes one segment that it fits.
-use Rattle.std.specs.Prelude.{◌≡◌, ◌≢◌, ℕ, ◌++◌, ◌==◌, ◌&&◌, ◌||◌, Bool, true, false, List, [], ◌∷◌, bytes_eq, codes, nat_le, length, drop, if◌then◌else◌}
+use Rattle.std.specs.Prelude.{◌≡◌, ℕ, ◌++◌, ◌==◌, ◌&&◌, ◌||◌, Bool, true, false, List, [], ◌∷◌, bytes_eq, codes, nat_le, length, drop, if◌then◌else◌}
 use Rattle.std.specs.List.{slice_split}
 use Rattle.bq_label.specs.Paths.{is_slash}
 

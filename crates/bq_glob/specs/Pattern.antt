@@ -1,5 +1,5 @@
 -- Which texts are patterns of glob.
-use Rattle.std.specs.Prelude.{◌≡◌, ℕ, ◌&&◌, ◌||◌, Bool, true, false, not, nat_eq, List, [], ◌∷◌, Result, Ok, Err, bytes_eq, codes, if◌then◌else◌}
+use Rattle.std.specs.Prelude.{ℕ, ◌&&◌, ◌||◌, Bool, false, not, nat_eq, List, [], ◌∷◌, Result, Ok, Err, codes, if◌then◌else◌}
 use Rattle.std.specs.List.{list_all, slice_split, starts_with}
 use Rattle.bq_source.specs.Fault.{fault_at}
 use Rattle.bq_source.specs.declared.fault.Fault.{Fault}

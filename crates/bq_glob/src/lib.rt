@@ -8,12 +8,15 @@
 //! - `segment`: whether a segment of a path fits a segment of a pattern, and where a segment ends;
 //! - `step`: the state of a matching;
 //! - `pattern`: which texts are patterns, and which paths a pattern matches;
+//! - `names`: the names of a package's files that some pattern matches;
 //! - `laws`: what the definitions say together.
 #![tactic(auto)]
 
 pub mod laws;
+mod names;
 mod pattern;
 mod segment;
 mod step;
 
+pub use names::glob;
 pub use pattern::{Pattern, read_pattern};

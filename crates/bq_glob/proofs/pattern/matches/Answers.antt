@@ -1,4 +1,4 @@
-use Rattle.std.proofs.Common.{◌≡◌, ◌+◌, ℕ, Bool, List, None, length, sym, subst}
+use Rattle.std.proofs.Common.{◌+◌, ℕ, Bool, List, None, length, sym, subst}
 use Rattle.bq_glob.specs.Matching.{is_any_segments, fits_segment, segments_from, matches}
 use Rattle.bq_glob.proofs.Greedy.{Holds, start, many_holds, many_less, one_holds, end_is, fail_holds}
 use Rattle.bq_glob.proofs.Segments.{matches_from_start}

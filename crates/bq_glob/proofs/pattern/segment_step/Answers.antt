@@ -1,4 +1,4 @@
-use Rattle.std.proofs.Common.{◌≡◌, ◌∙◌, ◌+◌, ℕ, List, length, sym}
+use Rattle.std.proofs.Common.{◌∙◌, ◌+◌, length, sym}
 use Rattle.bq_glob.specs.Matching.{is_any_segments, fits_segment, segments_from}
 use Rattle.bq_glob.proofs.Greedy.{fails_without_pattern, fails_without_text, fails_misfit}
 use Rattle.bq_glob.proofs.pattern.segment_step.Goals as goal

@@ -1,4 +1,4 @@
-use Rattle.std.proofs.Common.{◌≡◌, ◌+◌, ℕ, List, false, drop, slice_index, arith}
+use Rattle.std.proofs.Common.{◌≡◌, ◌+◌, false, drop, slice_index, arith}
 use Rattle.std.proofs.lemmas.Bool.Decides.{nat_tests}
 use Rattle.bq_glob.specs.Matching.{is_star, is_same}
 use Rattle.bq_glob.proofs.Greedy.{fails_without_pattern, fails_without_text, fails_misfit}

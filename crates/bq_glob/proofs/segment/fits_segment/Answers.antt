@@ -1,4 +1,4 @@
-use Rattle.std.proofs.Common.{◌≡◌, ◌+◌, ℕ, List, length, drop, slice_index, sym, arith}
+use Rattle.std.proofs.Common.{◌+◌, length, drop, slice_index, sym, arith}
 use Rattle.bq_glob.specs.Matching.{is_star, is_same, fits_segment}
 use Rattle.bq_glob.proofs.Greedy.{start, many_holds, many_less, one_holds, end_is, fail_holds}
 use Rattle.bq_glob.proofs.Segments.{drop_first}

@@ -1,5 +1,4 @@
-use Rattle.std.proofs.Common.{◌≡◌, arith}
-use Rattle.std.proofs.lemmas.Bool.Decides.{nat_tests}
+use Rattle.std.proofs.Common.{arith}
 use Rattle.bq_glob.proofs.Segments.{past_end, segment_is}
 use Rattle.bq_glob.proofs.segment.segment_at.Goals as goal
 use Rattle.bq_glob.proofs.segment.segment_at.Goals.{then-loop-len-test+else-rest-len-ne47, else-loop-len-test}
