@@ -5,6 +5,8 @@ import tempfile
 from contextlib import contextmanager
 
 ROOT = os.path.dirname(os.path.dirname(os.path.realpath(__file__)))
+# the kit's command; the environment's RT names another that takes the same words
+RT = os.environ.get("RT", "rt")
 PARTS = ("src", "specs", "proofs")
 
 
