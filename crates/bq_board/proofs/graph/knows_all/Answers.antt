@@ -3,6 +3,7 @@ use Rattle.std.proofs.lemmas.List.{length-map}
 use Rattle.bq_board.specs.Counts.{Has}
 use Rattle.bq_board.specs.Graph.{lists}
 use Rattle.bq_board.proofs.Rows.{items, row_is, known_more}
+use Rattle.std.proofs.lemmas.Grind.{common_steps}
 use Rattle.bq_board.proofs.graph.knows_all.Goals as goal
 
 pub returns-then-not-is_below : goal.returns-then-not-is_below
@@ -19,3 +20,6 @@ loop-row-preserved c =
     let at = row_is c.args.rows.now c.loop-row.row-index c.row-item.result c.loop-row-test.true c.row-item.is in
     known_more (lists c.args.rows.now) c.loop-row.row-index _ c.loop-row.invariant
     (λ x k. omega (arith, c.is_below.ensures.0 c.if-not-is_below.false x (subst (λ (r : List ℕ). Has r x) (at ∙ sym c.as_slice.ensures.value) k)))
+
+pub returns : goal.returns
+returns c = grind (arith, common_steps)

@@ -5,6 +5,7 @@ use Rattle.bq_board.specs.Plan.{OutsOf, AddsOuts}
 use Rattle.bq_board.proofs.Settling.{Has-get_or}
 use Rattle.bq_board.proofs.Rows.{items, row_is}
 use Rattle.bq_board.proofs.Outs.{outs_more}
+use Rattle.std.proofs.lemmas.Grind.{common_steps}
 use Rattle.bq_board.proofs.plan.add_outs.Goals as goal
 
 pub index_mut-requires : goal.index_mut-requires
@@ -31,3 +32,6 @@ loop-l-preserved c =
       wide = length-set c.loop-l.outs.items (get_or c.args.loaded.now c.loop-l.l-index 0) c.push.new.self ∙ i.wide;
       next = omega (arith, i.next);
     }
+
+pub returns : goal.returns
+returns c = grind (arith, common_steps)

@@ -3,6 +3,7 @@ use Rattle.bq_board.specs.Graph.{Loads, row, sources, edges, lists}
 use Rattle.bq_board.specs.Plan.{start, OutsOf}
 use Rattle.bq_board.proofs.Edges.{start_next, start_le}
 use Rattle.bq_board.proofs.Outs.{sources_next, sources_start}
+use Rattle.std.proofs.lemmas.Grind.{common_steps}
 use Rattle.bq_board.proofs.plan.outs.Goals as goal
 
 few : (p : Loads) (m next : ℕ) (loaded : List ℕ) → m < length p → edges p ≤ 65536 → next ≡ start p m → loaded ≡ row p m → next + length loaded ≤ 65536
@@ -29,3 +30,12 @@ loop-m-preserved c =
       outs = subst (λ (t : List ℕ × ℕ). OutsOf t.0 t.1 new) (λ j. (whole j, is j)) got;
       next = omega (arith, start_next p m h, i.next, ap (length {A = ℕ}) c.row-loaded.ensures.row);
     }
+
+pub returns : goal.returns
+returns c = grind (arith, common_steps)
+
+pub add_outs-requires-clause-known : goal.add_outs-requires-clause-known
+add_outs-requires-clause-known c = grind (arith, common_steps)
+
+pub loop-m-init : goal.loop-m-init
+loop-m-init c = grind (arith, common_steps)

@@ -4,6 +4,7 @@ use Rattle.bq_board.specs.Counts.{Has}
 use Rattle.bq_board.specs.Sorting.{Adds}
 use Rattle.bq_board.proofs.Settling.{Has-get_or}
 use Rattle.bq_board.proofs.Beginning.{adds_more}
+use Rattle.std.proofs.lemmas.Grind.{common_steps}
 use Rattle.bq_board.proofs.topological.add_dependent.Goals as goal
 
 inside : (loaded : List ℕ) (i : ℕ) (old dependents : List (Vec ℕ Global)) (u : ℕ) → ((l : ℕ) → Has loaded l → l < length old) → i < length loaded → Adds u (take i loaded) (map (λ r. r.items) old) (map (λ r. r.items) dependents) → get_or loaded i 0 < length dependents
@@ -25,3 +26,6 @@ step u xs i old dependents a h lt was now read e =
 
 pub loop-l-preserved : goal.loop-l-preserved
 loop-l-preserved c = step c.args.u c.args.loaded.now c.loop-l.l-index c.args.dependents.now.items c.loop-l.dependents.items c.loop-l.invariant c.loop-l-test.true (inside c.args.loaded.now c.loop-l.l-index c.args.dependents.now.items c.loop-l.dependents.items c.args.u c.requires c.loop-l-test.true c.loop-l.invariant) c.index_mut.result.now c.push.new.self c.index_mut.ensures.value c.in_ok-push.ensures.items
+
+pub returns : goal.returns
+returns c = grind (arith, common_steps)

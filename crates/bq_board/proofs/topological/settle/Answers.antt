@@ -2,6 +2,7 @@ use Rattle.std.proofs.Common.{◌≡◌, ℕ, ◌<◌, ◌≤◌, List, length, 
 use Rattle.std.proofs.lemmas.List.{get_or_read}
 use Rattle.bq_board.specs.Counts.{Has}
 use Rattle.bq_board.proofs.Settling.{dependent_open, turn_open, turn_joins, Has-get_or}
+use Rattle.std.proofs.lemmas.Grind.{common_steps}
 use Rattle.bq_board.proofs.topological.settle.Goals as goal
 use Rattle.bq_board.proofs.topological.settle.Goals.{then-left-eq0+in_ok-push, else-left-eq0}
 
@@ -31,3 +32,6 @@ loop-dependent-preserved c =
       | then-left-eq0+in_ok-push w ↦ turn_joins c.args.dependents.now c.args.pending.now.items c.loop-dependent.pending.items c.args.order.now.items c.loop-dependent.order.items c.loop-dependent.dependent-index c.index.result.now c.loop-dependent.invariant c.loop-dependent-test.true k read one (omega arith) c.if-left-eq0.order.items (ap (λ v. v.items) w.order-is ∙ w.in_ok-push.ensures.items)
       | else-left-eq0 w ↦ turn_open c.args.dependents.now c.args.pending.now.items c.loop-dependent.pending.items c.args.order.now.items c.loop-dependent.order.items c.loop-dependent.dependent-index c.index.result.now c.loop-dependent.invariant c.loop-dependent-test.true k read one (omega arith) c.if-left-eq0.order.items (ap (λ v. v.items) w.order-is)
     ]
+
+pub returns : goal.returns
+returns c = grind (arith, common_steps)

@@ -4,6 +4,7 @@ use Rattle.bq_board.specs.Sorting.{Adds}
 use Rattle.bq_board.specs.Graph.{lists}
 use Rattle.bq_board.proofs.Rows.{items}
 use Rattle.bq_board.proofs.Beginning.{dependents_none, dependents_more, dependents_all}
+use Rattle.std.proofs.lemmas.Grind.{common_steps}
 use Rattle.bq_board.proofs.graph.Graph.dependents.Goals as goal
 
 pub loop-u-init : goal.loop-u-init
@@ -15,3 +16,6 @@ loop-u-preserved c = let A : List ℕ → Type 0 = λ r. Adds c.loop-u.u r (list
 
 pub returns : goal.returns
 returns c = dependents_all c.args.self.now _ c.loop-u.u (omega (arith, c.len-u-end.ensures.len, c.loop-u-test.false)) (omega (arith, c.len-u-end.ensures.len, c.loop-u.auto.u-end)) c.loop-u.invariant
+
+pub add_dependent-requires : goal.add_dependent-requires
+add_dependent-requires c = grind (arith, common_steps)
