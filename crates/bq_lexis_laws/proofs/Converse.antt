@@ -1,11 +1,9 @@
 -- The words and the definition give the same readings: the definition has one for each text, which the words describe, and they
 -- describe one only.
-use Rattle.std.proofs.Common.{◌≡◌, ℕ, ◌<◌, ◌≤◌, ◌⊎◌, inl, inr, List, length, take, Result, Ok, Err, refl, sym, subst, arith}
+use Rattle.std.proofs.Common.{ℕ, ◌≤◌, inl, inr, List, length, Result, Ok, Err, subst, arith}
 use Rattle.bq_source.specs.declared.token.Token.{Token}
 use Rattle.bq_source.specs.declared.fault.Fault.{Fault}
-use Rattle.bq_source.specs.declared.fault.FaultKind.TheVariants as f
-use Rattle.bq_source.specs.Fault.{fault_at}
-use Rattle.bq_source.specs.Reading.{Lexes, too_long as past_limit, cut, start, Runs, max_file_bytes, line_behind}
+use Rattle.bq_source.specs.Reading.{Lexes, too_long as past_limit, cut, max_file_bytes}
 use Rattle.bq_source.specs.Tokens.{tokens_of}
 use Rattle.bq_source.specs.Layout.{Reads, IsFaulty}
 use Rattle.bq_source.proofs.Reached.{every_text}

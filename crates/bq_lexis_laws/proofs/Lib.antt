@@ -6,3 +6,12 @@ pub mod Places
 pub mod OneWay
 -- The words and the definition give the same readings.
 pub mod Converse
+-- String literals and their faults, in words of their items.
+pub mod Literals
+-- The tables are those that the specification lists.
+pub mod Rows
+pub mod WordKinds
+pub mod MarkKinds
+pub mod Alone
+pub mod Escapes
+pub mod WordBytes

@@ -1,5 +1,5 @@
 -- From each place the words lead on in one way.
-use Rattle.std.proofs.Common.{◌≡◌, ℕ, zero, suc, ◌+◌, ◌<◌, ◌≤◌, ◌⊎◌, inl, inr, List, [], ◌∷◌, ◌++◌, length, take, drop, Option, Some, None, Result, Ok, Err, refl, sym, ap, ◌∙◌, subst, arith, append_assoc}
+use Rattle.std.proofs.Common.{◌≡◌, ℕ, ◌+◌, List, [], ◌∷◌, ◌++◌, length, take, drop, Option, Some, None, Result, Ok, Err, refl, sym, ap, ◌∙◌, subst, arith, append_assoc}
 use Rattle.std.proofs.lemmas.List.{take_at, drop_at}
 use Rattle.bq_source.specs.declared.token.TokenKind.{TokenKind}
 use Rattle.bq_source.specs.declared.token.TokenKind.TheVariants as k
@@ -15,7 +15,6 @@ use Rattle.bq_source.specs.declared.fault.FaultKind.{FaultKind}
 use Rattle.bq_source.specs.declared.fault.FaultKind.TheVariants as f
 use Rattle.bq_source.specs.Fault.{fault_at}
 use Rattle.bq_source.specs.Operators.{kind_of}
-use Rattle.bq_source.specs.Piece.{next_piece}
 use Rattle.bq_source.specs.Spelling.{IsSpelled, IsNoGap, spelled, misspelled}
 use Rattle.bq_source.specs.Layout as layout
 use Rattle.bq_source.specs.Layout.{closed_by, opened_by, Leaves, IsInLine, IsBetween, Before, beginning, past, line_from, token_of, with_tokens, width, has_tab, IsEmptyAt, IsIndented, Takes, Cut, here, on, Finishes, Reads, IsPlaced, FaultAfter, IsFaulty}

@@ -1,9 +1,9 @@
 -- What the words say of a piece is what the definition finds there.
-use Rattle.std.proofs.Common.{◌≡◌, ℕ, zero, suc, ◌+◌, ◌<◌, ◌≤◌, ◌⊎◌, inl, inr, List, [], ◌∷◌, ◌++◌, length, take, drop, Bool, true, false, cond, Option, Some, None, refl, sym, ap, ◌∙◌, subst, arith, nat_eq, nat_lt, eq-eqb}
+use Rattle.std.proofs.Common.{◌≡◌, ℕ, zero, suc, ◌+◌, ◌<◌, ◌≤◌, inl, inr, List, [], ◌∷◌, ◌++◌, length, take, drop, Bool, true, false, cond, Option, Some, None, refl, sym, ap, ◌∙◌, subst, arith, nat_eq, nat_lt, eq-eqb}
 use Rattle.std.specs.Prelude.{◌==◌, ◌&&◌, ◌||◌, not, nat_le, is_some}
 use Rattle.std.specs.Str.{bytes_eq}
 use Rattle.std.specs.List.{AllByRecursion, prefix_len, starts_with, list_all}
-use Rattle.std.proofs.lemmas.List.{take_at, drop_at, take-append-drop}
+use Rattle.std.proofs.lemmas.List.{take_at, take-append-drop}
 use Rattle.std.proofs.lemmas.Bool.{eqb-true, leb-true}
 use Rattle.std.proofs.lemmas.Bool.Decides.{Decides-eqb}
 use Rattle.std.proofs.lemmas.Slice.Eq.{starts_is}
@@ -17,14 +17,13 @@ use Rattle.bq_source.specs.declared.string_literal.StringLiteral.{StringLiteral}
 use Rattle.bq_source.specs.declared.token.TokenKind.TheVariants as k
 use Rattle.bq_source.specs.declared.fault.FaultKind.{FaultKind}
 use Rattle.bq_source.specs.declared.fault.FaultKind.TheVariants as f
-use Rattle.bq_source.specs.Lexis.{has, is_blank, is_letter, is_word, is_digit, newlines, begins_with, newline_len, comment_len, word_kind}
+use Rattle.bq_source.specs.Lexis.{has, is_blank, is_letter, is_word, is_digit, newlines, newline_len, comment_len, word_kind}
 use Rattle.bq_source.specs.Operators.{operators, first_spelled, operator as operator_at}
 use Rattle.bq_source.specs.Number.{begins_number, begins_decimal, number_len, is_number_byte, int_value}
 use Rattle.bq_source.specs.StringLiteral.{opening, is_quote, begins_string, scan_string}
-use Rattle.bq_source.specs.Piece.{bytes, word as word_piece, number as number_piece, string as string_piece, string_by, escapes_by, mark, mark_by, joined, line_end, piece_by, next_piece}
-use Rattle.bq_source.specs.Spelling.{BeginsNot, Begins, IsRun, IsLineEnd, lf, cr_lf, BeginsLineEnd, IsLineRest, at_end, at_line_end, further, IsGap, blank, comment, joint, IsWord, IsNumber, IsListed, NoneLonger, NoneBegins, IsOperator, IsSpelled, word, number, string, operator, BeginsNothing, IsMisspelled, bad_byte, bad_int, open_string, bad_escape}
+use Rattle.bq_source.specs.Piece.{word as word_piece, number as number_piece, string as string_piece, string_by, escapes_by, mark, mark_by, joined, piece_by, next_piece}
+use Rattle.bq_source.specs.Spelling.{BeginsNot, IsRun, IsLineEnd, lf, cr_lf, BeginsLineEnd, IsLineRest, at_end, at_line_end, further, IsGap, blank, comment, joint, IsWord, IsNumber, IsListed, NoneLonger, NoneBegins, IsOperator, IsSpelled, word, number, string, operator, BeginsNothing, IsMisspelled, bad_byte, bad_int, open_string, bad_escape}
 use Rattle.bq_source.proofs.Choices.{by_bool, left_of, right_of}
-use Rattle.bq_source.proofs.Fitting.{digit_counts, begins_so}
 use Rattle.bq_source.proofs.Items.{not_opened}
 use Rattle.bq_source.proofs.Spelled.{EndMeans, end_means, no_newlines, comment_line, false_not_true, IsFirst, first_operator}
 

@@ -1,1 +1,3 @@
 pub mod InWords
+pub mod Strings
+pub mod Tables

@@ -16,12 +16,12 @@ use std::alloc::{AllocError, Global};
 
 /// How a string literal is quoted.
 #[derive(Clone, Copy)]
-struct Quoting {
+pub struct Quoting {
     /// With the prefix `r`: a backslash stands for itself.
-    raw: bool,
-    quote: u8,
+    pub raw: bool,
+    pub quote: u8,
     /// In three quotes on each side: it may hold newlines.
-    triple: bool,
+    pub triple: bool,
 }
 
 impl Quoting {
