@@ -1,7 +1,7 @@
 //! Why an evaluation has no answer.
 
 ghost use Rattle.std.specs.Prelude.{◌≡◌};
-ghost use Rattle.bq_value.specs.declared.error.EvalErr.TheVariants.{Memory};
+ghost use Rattle.bq_value.specs.declared.error.EvalErr.TheVariants.{Bad, Memory};
 
 use bq_source::FaultKind;
 use std::alloc::{AllocError, AllocFailed};
@@ -13,6 +13,14 @@ pub enum EvalErr {
     Bad(FaultKind),
     /// Memory was refused. It says nothing of the program.
     Memory,
+}
+
+impl From<FaultKind> for EvalErr {
+    ghost from_gives = { λ kind e. e ≡ Bad kind };
+
+    fn from(kind: FaultKind) -> Self {
+        EvalErr::Bad(kind)
+    }
 }
 
 impl From<AllocError> for EvalErr {

@@ -9,7 +9,7 @@ use Rattle.bq_value.specs.Same.{bool_same}
 use Rattle.bq_value.specs.Contents.{Contents, items, pairs}
 use Rattle.bq_value.specs.Cells.{StoreView, content_at}
 use Rattle.bq_value.specs.Pairs.{found}
-use Rattle.bq_walk.specs.Looked.{Looked, fault, stepped}
+use Rattle.bq_walk.specs.Looked.{Looked, stepped}
 
 -- goes on where the answer is yes
 abbrev pub if_so : Looked Bool → (ℕ → Looked Bool) → Looked Bool
@@ -48,8 +48,10 @@ contents_equal same n (items xs) (items ys) = lists_equal same n xs ys
 contents_equal same n (pairs ps) (pairs qs) = dicts_equal same n ps qs
 contents_equal same n _ _ = Ok (false, n)
 
+-- Of cells that the store doesn't know, which no program has, it is said that they are equal.
 abbrev pub cells_equal : Compares → ℕ → Option Contents → Option Contents → Looked Bool
 cells_equal same n (Some c) (Some d) = contents_equal same n c d
+cells_equal same n None None = Ok (true, n)
 cells_equal same n _ _ = Ok (false, n)
 
 -- two values whose parts are compared by `same`: values of unlike types differ, functions are equal by identity, ranges by
@@ -68,5 +70,5 @@ parts_equal same s n _ _ = Ok (false, n)
 
 -- with so many levels to go
 abbrev pub equal_at : ℕ → StoreView → Compares
-equal_at zero s n a b = stepped n (λ m. fault TooDeep)
+equal_at zero s n a b = stepped n (λ m. Err TooDeep)
 equal_at (suc l) s n a b = stepped n (λ m. parts_equal (equal_at l s) s m a b)

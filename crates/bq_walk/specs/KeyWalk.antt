@@ -1,16 +1,16 @@
 -- Which values make keys (Starlark, "Hashing"), one step for each value visited.
-use Rattle.std.specs.Prelude.{◌≡◌, ℕ, zero, suc, List, [], ◌∷◌, Result, Ok, Err}
+use Rattle.std.specs.Prelude.{ℕ, zero, suc, List, [], ◌∷◌, Result, Ok, Err}
+use Rattle.bq_source.specs.declared.fault.FaultKind.{FaultKind}
 use Rattle.bq_source.specs.declared.fault.FaultKind.TheVariants.{StepLimit, TooDeep, Unhashable}
-use Rattle.bq_value.specs.declared.error.EvalErr.{EvalErr}
-use Rattle.bq_value.specs.declared.error.EvalErr.TheVariants.{Bad, Memory}
 use Rattle.bq_value.specs.Datum.{Datum, none, boolean, int, string, tuple, list_of}
+use Rattle.bq_walk.specs.Looked.{Looked}
 
 -- the steps that are left, or the fault
 abbrev pub Walked : Type 0
-Walked = Result ℕ EvalErr
+Walked = Result ℕ FaultKind
 
 abbrev pub walk_step : ℕ → (ℕ → Walked) → Walked
-walk_step zero next = Err (Bad StepLimit)
+walk_step zero next = Err StepLimit
 walk_step (suc n) next = next n
 
 abbrev pub and_walk : Walked → (ℕ → Walked) → Walked
@@ -27,15 +27,14 @@ parts_walked walk n (boolean b) = Ok n
 parts_walked walk n (int i) = Ok n
 parts_walked walk n (string s) = Ok n
 parts_walked walk n (tuple xs) = all_walked walk n (list_of xs)
-parts_walked walk n _ = Err (Bad Unhashable)
+parts_walked walk n _ = Err Unhashable
 
 -- with so many levels to go
 abbrev pub walked_at : ℕ → ℕ → Datum → Walked
-walked_at zero n v = walk_step n (λ m. Err (Bad TooDeep))
+walked_at zero n v = walk_step n (λ m. Err TooDeep)
 walked_at (suc l) n v = walk_step n (λ m. parts_walked (walked_at l) m v)
 
--- the key is the value, where the walk goes through; else its fault, out of memory aside
-abbrev pub GivesKey : Walked → Datum → Result (Datum × ℕ) EvalErr → Type 0
-GivesKey walk v (Ok r) = (r.0 ≡ v) × (walk ≡ Ok r.1)
-GivesKey walk v (Err Memory) = Unit {0}
-GivesKey walk v (Err (Bad kind)) = walk ≡ Err (Bad kind)
+-- the key is the value itself, where the walk goes through
+abbrev pub keyed : Datum → Walked → Looked Datum
+keyed v (Ok n) = Ok (v, n)
+keyed v (Err kind) = Err kind

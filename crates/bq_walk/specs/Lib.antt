@@ -1,4 +1,5 @@
 pub mod Looked
 pub mod Equality
+pub mod Order
 pub mod Truth
 pub mod KeyWalk

@@ -2,18 +2,13 @@
 use Rattle.std.specs.Prelude.{ℕ, zero, suc, Result, Err}
 use Rattle.bq_source.specs.declared.fault.FaultKind.{FaultKind}
 use Rattle.bq_source.specs.declared.fault.FaultKind.TheVariants.{StepLimit}
-use Rattle.bq_value.specs.declared.error.EvalErr.{EvalErr}
-use Rattle.bq_value.specs.declared.error.EvalErr.TheVariants.{Bad}
 
 abbrev pub Looked : Type 0 → Type 0
-Looked A = Result (A × ℕ) EvalErr
-
-abbrev pub fault : {A : Type 0} → FaultKind → Looked A
-fault kind = Err (Bad kind)
+Looked A = Result (A × ℕ) FaultKind
 
 -- one step, and then what comes after it
 abbrev pub stepped : {A : Type 0} → ℕ → (ℕ → Looked A) → Looked A
-stepped zero next = fault StepLimit
+stepped zero next = Err StepLimit
 stepped (suc n) next = next n
 
 -- at most this many levels of values are looked at, the outermost being the first

@@ -6,10 +6,10 @@ ghost use Rattle.bq_walk.specs.Equality.{equal_at, lists_equal, dicts_equal, con
 
 use crate::MAX_LEVELS;
 use bq_source::FaultKind;
-use bq_value::{Body, Content, Dict, EvalErr, Node, Store, Value};
+use bq_value::{Body, Content, Dict, Node, Store, Value};
 
 /// Whether two values are equal, and the steps that are left of these.
-pub fn equal(store: &Store, steps: u64, a: &Value, b: &Value) -> Result<(bool, u64), EvalErr>
+pub fn equal(store: &Store, steps: u64, a: &Value, b: &Value) -> Result<(bool, u64), FaultKind>
     ensures { result ≡ equal_at max_levels store.now steps a.now b.now }
 {
     values_equal(store, MAX_LEVELS, steps, a, b)
@@ -24,15 +24,15 @@ pub(crate) fn values_equal(
     steps: u64,
     a: &Value,
     b: &Value,
-) -> Result<(bool, u64), EvalErr>
+) -> Result<(bool, u64), FaultKind>
     ensures { result ≡ equal_at levels store.now steps a.now b.now }
 {
     if steps == 0 {
-        return Err(EvalErr::Bad(FaultKind::StepLimit));
+        return Err(FaultKind::StepLimit);
     }
     let steps = steps - 1;
     if levels == 0 {
-        return Err(EvalErr::Bad(FaultKind::TooDeep));
+        return Err(FaultKind::TooDeep);
     }
     let below = levels - 1;
     match (&a.node, &b.node) {
@@ -44,6 +44,7 @@ pub(crate) fn values_equal(
         (Node::Range(x), Node::Range(y)) => Ok((x.equals(*y), steps)),
         (Node::Cell(x), Node::Cell(y)) => match (store.content(*x), store.content(*y)) {
             (Some(c), Some(d)) => cells_equal(store, below, steps, c, d),
+            (None, None) => Ok((true, steps)),
             _ => Ok((false, steps)),
         },
         (Node::Function(f), Node::Function(g)) => Ok((
@@ -62,7 +63,7 @@ fn cells_equal(
     steps: u64,
     a: &Content,
     b: &Content,
-) -> Result<(bool, u64), EvalErr>
+) -> Result<(bool, u64), FaultKind>
     ensures { result ≡ contents_equal (equal_at levels store.now) steps a.now b.now }
 {
     match (&a.body, &b.body) {
@@ -79,7 +80,7 @@ fn slices_equal(
     steps: u64,
     xs: &[Value],
     ys: &[Value],
-) -> Result<(bool, u64), EvalErr>
+) -> Result<(bool, u64), FaultKind>
     ensures { result ≡ lists_equal (equal_at levels store.now) steps xs.now ys.now }
 {
     if xs.len() != ys.len() {
@@ -103,7 +104,7 @@ fn entries_equal(
     steps: u64,
     ps: &Dict,
     qs: &Dict,
-) -> Result<(bool, u64), EvalErr>
+) -> Result<(bool, u64), FaultKind>
     ensures { result ≡ dicts_equal (equal_at levels store.now) steps ps.now qs.now }
 {
     if ps.len() != qs.len() {

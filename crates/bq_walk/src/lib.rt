@@ -1,4 +1,4 @@
-//! Walks over values: when two are equal, what counts as true, and which key a value makes.
+//! Walks over values: when two are equal, how they are ordered, what counts as true, and which key a value makes.
 //!
 //! The promise: each walk gives exactly the answer or fault of its definition, and the steps that are left.
 //!
@@ -9,17 +9,20 @@
 //! In reading order:
 //!
 //! - `equality`: `==`;
+//! - `comparison`: `<` and its kin;
 //! - `boolean`: what counts as true;
 //! - `key`: the key that a value makes.
 #![tactic(auto)]
 
 mod boolean;
+mod comparison;
 mod equality;
 mod key;
 
 pub use boolean::truth;
+pub use comparison::{less, order};
 pub use equality::equal;
 pub use key::key_of;
 
 /// The most levels of values that a walk looks at, the outermost being the first.
-const MAX_LEVELS: u32 = 64;
+pub const MAX_LEVELS: u32 = 64;

@@ -1,0 +1,2 @@
+-- what is written in parts
+pub mod Pages

@@ -1,0 +1,20 @@
+-- What is written of a text: its bytes, or none once they are more than a text may have.
+use Rattle.std.specs.Prelude.{ℕ, ◌+◌, nat_le, cond, List, [], ◌++◌, length, Option, Some, None, Result, Ok, Err}
+use Rattle.bq_source.specs.declared.fault.FaultKind.{FaultKind}
+use Rattle.bq_source.specs.declared.fault.FaultKind.TheVariants.{TooLong}
+
+abbrev pub PageView : Type 0
+PageView = Option (List ℕ)
+
+abbrev pub max_text : ℕ
+max_text = 1048576
+
+-- these bytes after what is written
+unfoldable pub written : PageView → List ℕ → PageView
+written None bytes = None
+written (Some text) bytes = cond (nat_le (length text + length bytes) max_text) (Some (text ++ bytes)) None
+
+-- the text, or F54
+abbrev pub finished : PageView → Result (List ℕ) FaultKind
+finished (Some text) = Ok text
+finished None = Err TooLong
