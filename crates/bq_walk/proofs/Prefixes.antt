@@ -1,10 +1,9 @@
 -- Lists one of which ends where the other goes on.
-use Rattle.std.proofs.Common.{◌≡◌, ◌∙◌, ◌≤◌, ◌<◌, ℕ, suc, List, [], ◌∷◌, ap, Ok, length, drop, get_or}
+use Rattle.std.proofs.Common.{◌≡◌, ◌∙◌, ◌≤◌, ◌<◌, ℕ, List, [], ap, Ok, length, drop}
 use Rattle.std.proofs.Math.Seq.{drop-cons}
 use Rattle.std.proofs.Math.ListN.{drop_of_length-le}
 use Rattle.std.specs.declared.cmp.Ordering.TheVariants.{Less}
 use Rattle.bq_value.specs.Datum.{Datum, none}
-use Rattle.bq_walk.specs.Looked.{Looked}
 use Rattle.bq_walk.specs.Equality.{Compares}
 use Rattle.bq_walk.specs.Order.{Orders, lists_ordered}
 

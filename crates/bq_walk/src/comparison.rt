@@ -54,7 +54,9 @@ fn values_ordered(
         Node::Text(x) => strings(steps, x, b),
         Node::Tuple(xs) => tuples(store, below, steps, xs, b),
         Node::Cell(x) => cells(store, below, steps, store.content(*x), b),
-        _ => Err(FaultKind::WrongType),
+        Node::NoneValue | Node::Range(_) | Node::Function(_) | Node::BuiltIn(_) => {
+            Err(FaultKind::WrongType)
+        }
     }
 }
 

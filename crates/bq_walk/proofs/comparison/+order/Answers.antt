@@ -1,4 +1,4 @@
-use Rattle.std.proofs.Common.{◌≡◌, ◌∙◌, sym, arith}
+use Rattle.std.proofs.Common.{◌∙◌, sym, arith}
 use Rattle.bq_walk.specs.Equality.{equal_at}
 use Rattle.bq_walk.specs.Order.{ordered_at}
 use Rattle.bq_walk.proofs.Prefixes.{shorter_is_less}
