@@ -1,3 +1,3 @@
 pub mod Page
 pub mod Leaf
-pub mod Repr
+pub mod Shown

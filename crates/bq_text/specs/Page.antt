@@ -1,10 +1,14 @@
 -- What is written of a text: its bytes, or none once they are more than a text may have.
-use Rattle.std.specs.Prelude.{ℕ, ◌+◌, nat_le, cond, List, [], ◌++◌, length, Option, Some, None, Result, Ok, Err}
+use Rattle.std.specs.Prelude.{ℕ, ◌+◌, nat_le, Bool, true, false, cond, List, ◌++◌, length, Option, Some, None, Result, Ok, Err}
 use Rattle.bq_source.specs.declared.fault.FaultKind.{FaultKind}
 use Rattle.bq_source.specs.declared.fault.FaultKind.TheVariants.{TooLong}
 
 abbrev pub PageView : Type 0
 PageView = Option (List ℕ)
+
+abbrev pub page_of : Bool → List ℕ → PageView
+page_of true bytes = None
+page_of false bytes = Some bytes
 
 abbrev pub max_text : ℕ
 max_text = 1048576

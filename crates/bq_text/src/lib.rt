@@ -13,14 +13,14 @@
 //! - `page`: what is written of a text;
 //! - `quoted`: strings in quotes;
 //! - `leaf`: values that have no values in them;
-//! - `repr`: the walk over a value, and the two calls;
+//! - `shown`: the walk over a value, and the two calls;
 //! - `laws`: what the definitions say together.
 #![tactic(auto)]
 
 mod leaf;
 mod page;
 mod quoted;
-mod repr;
+mod shown;
 
 pub use page::{MAX_TEXT, Page};
-pub use repr::{repr, text, write_repr, write_text};
+pub use shown::{repr, text, write_repr, write_text};

@@ -1,6 +1,6 @@
 //! What is written of a text.
 
-ghost use Rattle.std.specs.Prelude.{◌≡◌, [], Some, cond, None, OnOk, IfOk};
+ghost use Rattle.std.specs.Prelude.{◌≡◌, [], Some, OnOk};
 ghost use Rattle.bq_source.specs.Gives.{Gives};
 ghost use Rattle.bq_value.specs.declared.error.EvalErr.TheVariants.{Bad};
 ghost use Rattle.bq_text.specs.Page.{written, finished};
@@ -22,11 +22,11 @@ pub struct Page {
 }
 
 impl Model for Page {
-    ghost use Rattle.bq_text.specs.Page.{PageView};
+    ghost use Rattle.bq_text.specs.Page.{PageView, page_of};
 
     ghost Value = { PageView };
 
-    ghost view = { λ p. cond p.is_over None (Some p.bytes.items) };
+    ghost view = { λ p. page_of p.is_over p.bytes.items };
 }
 
 impl Page {
@@ -41,6 +41,7 @@ impl Page {
     }
 
     /// Writes these bytes after what is written.
+    #[tactic(auto, using(std::proofs::lemmas::Bool::Decides::nat_tests), unfolding(crate::specs::Page::written))]
     pub fn write(&mut self, bytes: &[u8]) -> Result<(), AllocError>
         ensures { OnOk result (self.new ≡ written self.old bytes.now) }
     {

@@ -8,7 +8,6 @@ use crate::page::Page;
 use std::alloc::AllocError;
 
 /// Writes a string in double quotes, with escapes for a backslash, a double quote, LF, CR and tab.
-#[tactic(auto, using(crate::proofs::Pages::written_more), unfolding(bq_source::specs::StringLiteral::quoted))]
 pub(crate) fn write_quoted(bytes: &[u8], page: &mut Page) -> Result<(), AllocError>
     ensures { OnOk result (page.new ≡ written page.old (quoted bytes.now)) }
 {

@@ -1,10 +1,10 @@
 //! `str` and `repr` (Starlark, "str", "repr").
 
-ghost use Rattle.std.specs.Prelude.{◌≡◌};
+ghost use Rattle.std.specs.Prelude.{◌≡◌, option_copied};
 ghost use Rattle.bq_source.specs.Gives.{Gives};
 ghost use Rattle.bq_value.specs.declared.error.EvalErr.TheVariants.{Bad};
 ghost use Rattle.bq_walk.specs.Looked.{max_levels};
-ghost use Rattle.bq_text.specs.Repr.{shown_at, text_shown, list_shown, dict_shown, contents_shown, tuple_end, repr_of, text_of};
+ghost use Rattle.bq_text.specs.Shown.{shown_at, repr_shown, text_shown, string_in, list_shown, dict_shown, contents_shown, tuple_end, repr_of, text_of};
 
 use crate::leaf::write_leaf;
 use crate::page::Page;
@@ -42,8 +42,9 @@ pub fn text(
 }
 
 /// Writes the `repr` of a value, and gives the steps that are left of these.
+#[tactic(auto, unfolding(crate::specs::Shown::repr_shown))]
 pub fn write_repr(store: &Store, steps: u64, value: &Value, page: &mut Page) -> Result<u64, EvalErr>
-    ensures { Gives (λ left. (page.new, left)) Bad result (shown_at max_levels store.now page.old steps value.now) }
+    ensures { Gives (λ left. (page.new, left)) Bad result (repr_shown store.now page.old steps value.now) }
 {
     show(store, MAX_LEVELS, steps, value, page)
 }
@@ -52,15 +53,26 @@ pub fn write_repr(store: &Store, steps: u64, value: &Value, page: &mut Page) -> 
 pub fn write_text(store: &Store, steps: u64, value: &Value, page: &mut Page) -> Result<u64, EvalErr>
     ensures { Gives (λ left. (page.new, left)) Bad result (text_shown store.now page.old steps value.now) }
 {
-    match &value.node {
-        Node::Text(bytes) => {
+    match string_in(value) {
+        None => write_repr(store, steps, value, page),
+        Some(bytes) => {
             if steps == 0 {
                 return Err(EvalErr::Bad(FaultKind::StepLimit));
             }
             page.write(bytes.as_slice())?;
             Ok(steps - 1)
         }
-        _ => write_repr(store, steps, value, page),
+    }
+}
+
+/// The bytes of a string.
+fn string_in(value: &Value) -> Option<&Bytes>
+    ensures { option_copied result ≡ string_in value.now }
+{
+    match &value.node {
+        Node::Text(bytes) => Some(bytes),
+        Node::NoneValue | Node::Bool(_) | Node::Int(_) | Node::Tuple(_) | Node::Range(_) => None,
+        Node::Cell(_) | Node::Function(_) | Node::BuiltIn(_) => None,
     }
 }
 

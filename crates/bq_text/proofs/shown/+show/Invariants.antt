@@ -2,8 +2,8 @@
 use Rattle.std.proofs.Common.{◌≡◌, ◌+◌, ◌*◌, [], drop}
 use Rattle.std.specs.Prelude.{codes}
 use Rattle.bq_text.specs.Page.{written}
-use Rattle.bq_text.specs.Repr.{shown_at, all_shown, pairs_shown}
-use Rattle.bq_text.proofs.repr.+show.Given as goal
+use Rattle.bq_text.specs.Shown.{shown_at, all_shown, pairs_shown}
+use Rattle.bq_text.proofs.shown.+show.Given as goal
 
 abbrev pub decreases-show : goal.decreases-show
 decreases-show l = 3 * l.levels

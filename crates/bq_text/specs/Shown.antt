@@ -60,10 +60,22 @@ abbrev pub shown_at : ℕ → StoreView → Shows
 shown_at zero s page n v = stepped n (λ m. Err TooDeep)
 shown_at (suc l) s page n v = stepped n (λ m. parts_shown (shown_at l s) s page m v)
 
--- `str`: a string is itself, any other value its `repr`
+-- `repr`, with 64 levels to go
+unfoldable pub repr_shown : StoreView → Shows
+repr_shown s page n v = shown_at max_levels s page n v
+
+-- the bytes of a string
+abbrev pub string_in : Datum → Option (List ℕ)
+string_in (string bytes) = Some bytes
+string_in _ = None
+
+-- `str`: a string is itself, and takes one step as its `repr` does
+abbrev pub text_by : StoreView → PageView → ℕ → Datum → Option (List ℕ) → Looked PageView
+text_by s page n v (Some bytes) = stepped n (λ m. Ok (written page bytes, m))
+text_by s page n v None = repr_shown s page n v
+
 abbrev pub text_shown : StoreView → Shows
-text_shown s page n (string bytes) = stepped n (λ m. Ok (written page bytes, m))
-text_shown s page n v = shown_at max_levels s page n v
+text_shown s page n v = text_by s page n v (string_in v)
 
 abbrev pub finished_by : Looked PageView → Looked (List ℕ)
 finished_by (Ok (Some text, n)) = Ok (text, n)
@@ -72,7 +84,7 @@ finished_by (Err kind) = Err kind
 
 -- the text and the steps that are left, or the fault; F54 comes last
 abbrev pub repr_of : StoreView → ℕ → Datum → Looked (List ℕ)
-repr_of s n v = finished_by (shown_at max_levels s (Some []) n v)
+repr_of s n v = finished_by (repr_shown s (Some []) n v)
 
 abbrev pub text_of : StoreView → ℕ → Datum → Looked (List ℕ)
 text_of s n v = finished_by (text_shown s (Some []) n v)
