@@ -1,0 +1,55 @@
+//! The rules of expressions take the reader of those in brackets as a parameter, so that each rule is proved by itself.
+
+ghost use Rattle.bq_grammar.specs.Turns.{Reads};
+ghost use Rattle.bq_grammar.specs.Turns as turns;
+ghost use Rattle.bq_grammar.specs.Reading as spec;
+ghost use Rattle.bq_grammar.specs.declared.tree.Nested.TheVariants.{Test};
+ghost use Rattle.bq_expression.specs.Nested.{ReadsNested};
+
+use crate::tokens::Tokens;
+use bq_grammar::{Expr, Nested, Refusal};
+use bq_source::TokenKind;
+use sqlite_items::Items;
+use std::alloc::Global;
+
+#[derive(Clone, Copy)]
+pub struct Grammar<F> {
+    pub alloc: Global,
+    /// How many brackets may still be opened.
+    pub depth: usize,
+    pub phrase: F,
+}
+
+impl<F: Fn(Global, &mut Tokens<'_>, usize, Nested) -> Result<Expr, Refusal>> Grammar<F> {
+    pub fn nested(&self, tokens: &mut Tokens<'_>, which: Nested) -> Result<Expr, Refusal>
+        requires { ReadsNested self.now.depth (F.pre self.now.phrase) (F.post self.now.phrase) }
+        ensures { Reads (spec.phrase self.now.depth which tokens.old) result tokens.new }
+    {
+        (self.phrase)(self.alloc, tokens, self.depth, which)
+    }
+
+    /// The tests found, and all further ones up to the closing bracket.
+    #[tactic(auto, using(crate::proofs::LoopTurns::turns_more, crate::proofs::LoopTurns::turns_over), unfolding(bq_grammar::specs::Turns::listed_from))]
+    pub fn listed(
+        &self,
+        tokens: &mut Tokens<'_>,
+        close: TokenKind,
+        mut found: Items<Expr>,
+    ) -> Result<Items<Expr>, Refusal>
+        requires { ReadsNested self.now.depth (F.pre self.now.phrase) (F.post self.now.phrase) }
+        ensures { Reads (turns.listed_from close (spec.phrase self.now.depth Test) found tokens.old) result tokens.new }
+    {
+        // Each turn takes a token.
+        for _turn in 0..tokens.left() {
+            if tokens.eat(close) {
+                return Ok(found);
+            }
+            found.push(self.nested(tokens, Nested::Test)?)?;
+            if !tokens.eat(TokenKind::Comma) {
+                tokens.expect(close)?;
+                return Ok(found);
+            }
+        }
+        Err(Refusal::Syntax)
+    }
+}

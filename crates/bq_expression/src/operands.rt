@@ -1,0 +1,239 @@
+//! Operands: names, literals, and what stands in brackets.
+
+ghost use Rattle.std.specs.Prelude.{[], ◌∷◌};
+ghost use Rattle.bq_grammar.specs.Turns.{Reads};
+ghost use Rattle.bq_grammar.specs.Turns as turns;
+ghost use Rattle.bq_grammar.specs.Reading as spec;
+ghost use Rattle.bq_grammar.specs.declared.tree.Nested.TheVariants.{Test};
+ghost use Rattle.bq_source.specs.declared.token.TokenKind.TheVariants as kind;
+ghost use Rattle.bq_expression.specs.Nested.{ReadsNested};
+
+use crate::grammar::Grammar;
+use crate::tokens::Tokens;
+use crate::variables::vars;
+use bq_grammar::{Clause, Expr, Nested, Pair, Refusal};
+use bq_source::TokenKind;
+use sqlite_items::{Boxed, Items};
+use std::alloc::Global;
+
+impl<F: Fn(Global, &mut Tokens<'_>, usize, Nested) -> Result<Expr, Refusal>> Grammar<F> {
+    /// Pair = Test ':' Test
+    #[tactic(auto, unfolding(bq_grammar::specs::Reading::pair))]
+    fn pair(&self, tokens: &mut Tokens<'_>) -> Result<Pair, Refusal>
+        requires { ReadsNested self.now.depth (F.pre self.now.phrase) (F.post self.now.phrase) }
+        ensures { Reads (spec.pair (spec.phrase self.now.depth) (spec.variables_to self.now.depth) tokens.old) result tokens.new }
+    {
+        let key = self.nested(tokens, Nested::Test)?;
+        tokens.expect(TokenKind::Colon)?;
+        Ok(Pair {
+            key,
+            value: self.nested(tokens, Nested::Test)?,
+        })
+    }
+
+    /// ForClause = 'for' Vars 'in' Or
+    #[tactic(auto, unfolding(bq_grammar::specs::Reading::for_clause))]
+    fn for_clause(&self, tokens: &mut Tokens<'_>) -> Result<Clause, Refusal>
+        requires { ReadsNested self.now.depth (F.pre self.now.phrase) (F.post self.now.phrase) }
+        ensures { Reads (spec.for_clause (spec.phrase self.now.depth) (spec.variables_to self.now.depth) tokens.old) result tokens.new }
+    {
+        tokens.expect(TokenKind::For)?;
+        let variables = vars(self.alloc, tokens, self.depth)?;
+        tokens.expect(TokenKind::In)?;
+        Ok(Clause::For(variables, self.nested(tokens, Nested::Or)?))
+    }
+
+    /// Clause = ForClause | 'if' Or
+    #[tactic(auto, unfolding(bq_grammar::specs::Reading::clause))]
+    fn clause(&self, tokens: &mut Tokens<'_>) -> Result<Clause, Refusal>
+        requires { ReadsNested self.now.depth (F.pre self.now.phrase) (F.post self.now.phrase) }
+        ensures { Reads (spec.clause (spec.phrase self.now.depth) (spec.variables_to self.now.depth) tokens.old) result tokens.new }
+    {
+        if tokens.eat(TokenKind::If) {
+            Ok(Clause::If(self.nested(tokens, Nested::Or)?))
+        } else {
+            self.for_clause(tokens)
+        }
+    }
+
+    /// '(' ')' | '(' Test ')' | '(' Test ',' [ Test { ',' Test } [','] ] ')', after the first bracket
+    #[tactic(auto, unfolding(bq_grammar::specs::Reading::in_parens))]
+    fn in_parens(&self, tokens: &mut Tokens<'_>) -> Result<Expr, Refusal>
+        requires { ReadsNested self.now.depth (F.pre self.now.phrase) (F.post self.now.phrase) }
+        ensures { Reads (spec.in_parens (spec.phrase self.now.depth) (spec.variables_to self.now.depth) tokens.old) result tokens.new }
+    {
+        if tokens.eat(TokenKind::RightParen) {
+            return Ok(Expr::Tuple(Items::new(self.alloc)));
+        }
+        let first = self.nested(tokens, Nested::Test)?;
+        if !tokens.eat(TokenKind::Comma) {
+            tokens.expect(TokenKind::RightParen)?;
+            return Ok(first);
+        }
+        let mut found = Items::new(self.alloc);
+        found.push(first)?;
+        Ok(Expr::Tuple(self.listed(tokens, TokenKind::RightParen, found)?))
+    }
+    /// The clauses found, and all further ones.
+    #[tactic(auto, using(crate::proofs::LoopTurns::turns_more, crate::proofs::LoopTurns::turns_over), unfolding(bq_grammar::specs::Turns::repeat))]
+    fn further_clauses(
+        &self,
+        tokens: &mut Tokens<'_>,
+        mut found: Items<Clause>,
+    ) -> Result<Items<Clause>, Refusal>
+        requires { ReadsNested self.now.depth (F.pre self.now.phrase) (F.post self.now.phrase) }
+        ensures { Reads (turns.repeat spec.begins_clause (spec.clause (spec.phrase self.now.depth) (spec.variables_to self.now.depth)) found tokens.old) result tokens.new }
+    {
+        // Each turn takes a token.
+        for _turn in 0..tokens.left() {
+            if !(tokens.sees(TokenKind::For) || tokens.sees(TokenKind::If)) {
+                return Ok(found);
+            }
+            found.push(self.clause(tokens)?)?;
+        }
+        Ok(found)
+    }
+
+    /// Clauses = ForClause { Clause }
+    #[tactic(auto, unfolding(bq_grammar::specs::Reading::clauses))]
+    fn clauses(&self, tokens: &mut Tokens<'_>) -> Result<Items<Clause>, Refusal>
+        requires { ReadsNested self.now.depth (F.pre self.now.phrase) (F.post self.now.phrase) }
+        ensures { Reads (spec.clauses (spec.phrase self.now.depth) (spec.variables_to self.now.depth) tokens.old) result tokens.new }
+    {
+        let mut found = Items::new(self.alloc);
+        found.push(self.for_clause(tokens)?)?;
+        self.further_clauses(tokens, found)
+    }
+
+    /// A comprehension's clauses, and its closing bracket.
+    #[tactic(auto, unfolding(bq_grammar::specs::Reading::comprehension))]
+    fn comprehension(
+        &self,
+        tokens: &mut Tokens<'_>,
+        close: TokenKind,
+    ) -> Result<Items<Clause>, Refusal>
+        requires { ReadsNested self.now.depth (F.pre self.now.phrase) (F.post self.now.phrase) }
+        ensures { Reads (spec.comprehension (spec.phrase self.now.depth) (spec.variables_to self.now.depth) close tokens.old) result tokens.new }
+    {
+        let clauses = self.clauses(tokens)?;
+        tokens.expect(close)?;
+        Ok(clauses)
+    }
+
+    /// The items of a list in brackets after the first.
+    fn tests_after(
+        &self,
+        tokens: &mut Tokens<'_>,
+        close: TokenKind,
+        first: Expr,
+    ) -> Result<Items<Expr>, Refusal>
+        requires { ReadsNested self.now.depth (F.pre self.now.phrase) (F.post self.now.phrase) }
+        ensures { Reads (spec.items_after close (spec.phrase self.now.depth Test) first tokens.old) result tokens.new }
+    {
+        let mut found = Items::new(self.alloc);
+        found.push(first)?;
+        if tokens.eat(TokenKind::Comma) {
+            return self.listed(tokens, close, found);
+        }
+        tokens.expect(close)?;
+        Ok(found)
+    }
+
+    /// '[' [ Test { ',' Test } [','] ] ']' | '[' Test Clauses ']', after the first bracket
+    #[tactic(auto, unfolding(bq_grammar::specs::Reading::in_brackets))]
+    fn in_brackets(&self, tokens: &mut Tokens<'_>) -> Result<Expr, Refusal>
+        requires { ReadsNested self.now.depth (F.pre self.now.phrase) (F.post self.now.phrase) }
+        ensures { Reads (spec.in_brackets (spec.phrase self.now.depth) (spec.variables_to self.now.depth) tokens.old) result tokens.new }
+    {
+        if tokens.eat(TokenKind::RightBracket) {
+            return Ok(Expr::List(Items::new(self.alloc)));
+        }
+        let first = self.nested(tokens, Nested::Test)?;
+        if tokens.sees(TokenKind::For) {
+            let clauses = self.comprehension(tokens, TokenKind::RightBracket)?;
+            return Ok(Expr::ListComprehension(Boxed::new(self.alloc, first)?, clauses));
+        }
+        Ok(Expr::List(self.tests_after(tokens, TokenKind::RightBracket, first)?))
+    }
+
+    /// The pairs found, and all further ones up to the closing brace.
+    #[tactic(auto, using(crate::proofs::LoopTurns::turns_more, crate::proofs::LoopTurns::turns_over), unfolding(bq_grammar::specs::Turns::listed_from))]
+    fn listed_pairs(
+        &self,
+        tokens: &mut Tokens<'_>,
+        mut found: Items<Pair>,
+    ) -> Result<Items<Pair>, Refusal>
+        requires { ReadsNested self.now.depth (F.pre self.now.phrase) (F.post self.now.phrase) }
+        ensures { Reads (turns.listed_from kind.RightBrace (spec.pair (spec.phrase self.now.depth) (spec.variables_to self.now.depth)) found tokens.old) result tokens.new }
+    {
+        // Each turn takes a token.
+        for _turn in 0..tokens.left() {
+            if tokens.eat(TokenKind::RightBrace) {
+                return Ok(found);
+            }
+            found.push(self.pair(tokens)?)?;
+            if !tokens.eat(TokenKind::Comma) {
+                tokens.expect(TokenKind::RightBrace)?;
+                return Ok(found);
+            }
+        }
+        Err(Refusal::Syntax)
+    }
+
+    /// The pairs of a dict after the first.
+    fn pairs_after(&self, tokens: &mut Tokens<'_>, first: Pair) -> Result<Items<Pair>, Refusal>
+        requires { ReadsNested self.now.depth (F.pre self.now.phrase) (F.post self.now.phrase) }
+        ensures { Reads (spec.items_after kind.RightBrace (spec.pair (spec.phrase self.now.depth) (spec.variables_to self.now.depth)) first tokens.old) result tokens.new }
+    {
+        let mut found = Items::new(self.alloc);
+        found.push(first)?;
+        if tokens.eat(TokenKind::Comma) {
+            return self.listed_pairs(tokens, found);
+        }
+        tokens.expect(TokenKind::RightBrace)?;
+        Ok(found)
+    }
+
+    /// '{' [ Pair { ',' Pair } [','] ] '}' | '{' Pair Clauses '}', after the first brace
+    #[tactic(auto, unfolding(bq_grammar::specs::Reading::in_braces))]
+    fn in_braces(&self, tokens: &mut Tokens<'_>) -> Result<Expr, Refusal>
+        requires { ReadsNested self.now.depth (F.pre self.now.phrase) (F.post self.now.phrase) }
+        ensures { Reads (spec.in_braces (spec.phrase self.now.depth) (spec.variables_to self.now.depth) tokens.old) result tokens.new }
+    {
+        if tokens.eat(TokenKind::RightBrace) {
+            return Ok(Expr::Dict(Items::new(self.alloc)));
+        }
+        let first = self.pair(tokens)?;
+        if tokens.sees(TokenKind::For) {
+            let clauses = self.comprehension(tokens, TokenKind::RightBrace)?;
+            return Ok(Expr::DictComprehension(Boxed::new(self.alloc, first)?, clauses));
+        }
+        Ok(Expr::Dict(self.pairs_after(tokens, first)?))
+    }
+
+    /// Operand = identifier | int | string | what stands in brackets
+    #[tactic(auto, unfolding(bq_grammar::specs::Reading::operand))]
+    pub fn operand(&self, tokens: &mut Tokens<'_>) -> Result<Expr, Refusal>
+        requires { ReadsNested self.now.depth (F.pre self.now.phrase) (F.post self.now.phrase) }
+        ensures { Reads (spec.operand (spec.phrase self.now.depth) (spec.variables_to self.now.depth) tokens.old) result tokens.new }
+    {
+        match tokens.peek() {
+            Some(TokenKind::Identifier) => Ok(Expr::Name(tokens.word(self.alloc)?)),
+            Some(TokenKind::Int) => tokens.int(),
+            Some(TokenKind::String) => tokens.string(self.alloc),
+            Some(TokenKind::LeftParen) => {
+                tokens.advance();
+                self.in_parens(tokens)
+            }
+            Some(TokenKind::LeftBracket) => {
+                tokens.advance();
+                self.in_brackets(tokens)
+            }
+            Some(TokenKind::LeftBrace) => {
+                tokens.advance();
+                self.in_braces(tokens)
+            }
+            _ => Err(Refusal::Syntax),
+        }
+    }
+}
