@@ -1,0 +1,4 @@
+pub mod Places
+pub mod Pieces
+pub mod Joining
+pub mod Separated
