@@ -13,6 +13,8 @@ pub mod Runs
 pub mod Fitting
 pub mod Keeping
 pub mod Reached
+-- Long words are no keywords.
+pub mod LongWords
 -- A text has one reading.
 pub mod Unique
 -- Each piece is spelled as its kind says.

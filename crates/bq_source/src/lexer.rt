@@ -1,6 +1,6 @@
 //! The lexer: one pass over the bytes, a piece at a time, with the line, the brackets and the widths that are open.
 
-ghost use Rattle.std.specs.Prelude.{◌≡◌, ◌≤◌, ◌<◌, ◌+◌, ◌-◌, ◌*◌, [], length, take, IfOk};
+ghost use Rattle.std.specs.Prelude.{◌≡◌, ◌≤◌, ◌<◌, ◌+◌, ◌-◌, ◌*◌, [], Some, length, take, IfOk};
 ghost use Rattle.bq_source.specs.Reading as spec;
 ghost use Rattle.bq_source.specs.Reading.{Lexes, max_file_bytes};
 ghost use Rattle.bq_source.specs.Fault.{fault_at};
@@ -135,19 +135,26 @@ impl<'a> Lexer<'a> {
         Ok(())
     }
 
-    /// The indentation of the line, where its first token is next.
-    #[tactic(auto, unfolding(crate::specs::Reading::indent))]
-    fn indent(&mut self) -> Result<(), SourceErr>
-        ensures { Gives (λ _. self.new) SourceErr.Bad result (spec.indent self.old) }
+    /// The indentation of a line that has this margin, where its first token is next.
+    fn indent_by(&mut self, margin: Margin) -> Result<(), SourceErr>
+        ensures { Gives (λ _. self.new) SourceErr.Bad result (spec.indent_by (Some margin) self.old) }
     {
-        let Some(margin) = self.margin else {
-            return Ok(());
-        };
         if margin.tab {
             return Err(SourceErr::Bad(Fault::at(FaultKind::Tab, margin.line)));
         }
         self.margin = None;
         self.set_width(margin.width, margin.line)
+    }
+
+    /// The indentation of the line, where its first token is next.
+    #[tactic(auto, unfolding(crate::specs::Reading::indent))]
+    fn indent(&mut self) -> Result<(), SourceErr>
+        ensures { Gives (λ _. self.new) SourceErr.Bad result (spec.indent self.old) }
+    {
+        match self.margin {
+            None => Ok(()),
+            Some(margin) => self.indent_by(margin),
+        }
     }
 
     /// What a token does to the brackets.

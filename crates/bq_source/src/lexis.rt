@@ -127,6 +127,9 @@ const RESERVED_WORDS: [&[u8]; 16] = [
     b"yield",
 ];
 
+/// No keyword and no reserved word is longer.
+const MAX_KEYWORD_BYTES: usize = 8;
+
 fn find(mut table: &[(&[u8], TokenKind)], word: &[u8]) -> Option<TokenKind>
     ensures { result ≡ lookup (bytes_eq word.now) (map (λ k. (k.0.now, k.1)) table.entry.now) }
 {
@@ -164,10 +167,13 @@ fn is_reserved(word: &[u8]) -> bool
 }
 
 /// The kind of a word: a keyword, a reserved word or an identifier.
-#[tactic(auto, unfolding(crate::specs::Lexis::word_kind))]
+#[tactic(auto, using(crate::proofs::LongWords::long_word), unfolding(crate::specs::Lexis::word_kind))]
 pub fn word_kind(word: &[u8]) -> TokenKind
     ensures { result ≡ word_kind word.now }
 {
+    if word.len() > MAX_KEYWORD_BYTES {
+        return TokenKind::Identifier;
+    }
     match keyword(word) {
         Some(kind) => kind,
         None => {
