@@ -1,6 +1,6 @@
 -- What a call of a rule declares (Bazel, Build Encyclopedia, "Common definitions"). A call has keyword arguments alone, and its
 -- faults come in the order of these definitions (ours).
-use Rattle.std.specs.Prelude.{ℕ, ◌++◌, List, [], ◌∷◌, Bool, true, ◌&&◌, Option, Some, None, Result, Ok, Err, map, codes, bytes_eq, if◌then◌else◌}
+use Rattle.std.specs.Prelude.{ℕ, ◌++◌, List, [], ◌∷◌, Bool, true, ◌&&◌, Option, Some, None, Result, Ok, Err, map, codes, bytes_eq, slice_get, if◌then◌else◌}
 use Rattle.std.specs.List.{list_any}
 use Rattle.bq_source.specs.declared.fault.FaultKind.{FaultKind}
 use Rattle.bq_source.specs.declared.fault.FaultKind.TheVariants as f
@@ -18,11 +18,11 @@ use Rattle.bq_fragment.specs.Attributes.{value_texts, labels_of, target_names, w
 use Rattle.bq_fragment.specs.Steps.{◌>>=◌}
 
 abbrev pub begun : ℕ → Rule → Declaration
-begun line rule = record { line = line; rule = rule; names = []; outputs = []; labels = [] }
+begun line rule = record { line = line; rule = rule; name = None; outputs = []; labels = [] }
 
 -- what the texts of an attribute of this type add: a name, outputs or the labels of edges
 unfoldable pub with_texts : PackageParts → List BuildFile → AttributeType → List (List ℕ) → Declaration → Result Declaration FaultKind
-with_texts own packages t.Name ts d = target_names own packages ts >>= λ ns. Ok (record d { names = d.names ++ ns })
+with_texts own packages t.Name ts d = target_names own packages ts >>= λ ns. Ok (record d { name = slice_get ns 0 })
 with_texts own packages t.OutputList ts d = target_names own packages (map without_colon ts) >>= λ ns. Ok (record d { outputs = d.outputs ++ ns })
 with_texts own packages t.Label ts d = labels_of own packages ts >>= λ ls. Ok (record d { labels = d.labels ++ ls })
 with_texts own packages t.LabelList ts d = labels_of own packages ts >>= λ ls. Ok (record d { labels = d.labels ++ ls })

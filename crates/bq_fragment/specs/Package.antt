@@ -1,6 +1,6 @@
 -- The targets of a package (Bazel, "BUILD files"; "Dependencies"): those that its calls declare, its BUILD file, and the source
 -- files that they dependency.
-use Rattle.std.specs.Prelude.{◌≡◌, ℕ, ◌++◌, List, [], ◌∷◌, Bool, true, false, Result, Ok, Err, map, bytes_eq, if◌then◌else◌}
+use Rattle.std.specs.Prelude.{◌≡◌, ℕ, ◌++◌, List, [], ◌∷◌, Bool, true, false, Result, Ok, Err, map, bytes_eq, option_to_list, if◌then◌else◌}
 use Rattle.std.specs.Option.{is_some}
 use Rattle.std.specs.Map.{lookup}
 use Rattle.bq_source.specs.declared.fault.Fault.{Fault}
@@ -26,7 +26,7 @@ use Rattle.bq_fragment.specs.Steps.{in_turn, itself}
 
 -- the names that a declaration makes: the rule's, then those of its outputs
 abbrev pub entries : Declaration → List (List ℕ × TargetKind)
-entries d = map (λ n. (n, RuleOf d.rule)) d.names ++ map (λ o. (o, Generated)) d.outputs
+entries d = map (λ n. (n, RuleOf d.rule)) (option_to_list d.name) ++ map (λ o. (o, Generated)) d.outputs
 
 unfoldable pub entries_of : List Declaration → List (List ℕ × TargetKind)
 entries_of [] = []

@@ -67,6 +67,7 @@ pub fn value_texts(kind: AttributeType, value: &KeywordValue) -> Option<&[Bytes]
 }
 
 /// The label that the text reads as.
+#[tactic(auto, using(bq_label::proofs::BadLabels::or_bad_label_ok, bq_label::proofs::BadLabels::or_bad_label_err))]
 fn label_of(alloc: Global, scope: Scope<'_>, text: &Bytes) -> Result<Label, CallErr>
     ensures { Gives itself Bad result (label_found (label_of scope.entry.own.now text.now)) }
 {

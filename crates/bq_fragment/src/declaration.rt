@@ -1,6 +1,6 @@
 //! What a call of a rule declares.
 
-ghost use Rattle.std.specs.Prelude.{◌≡◌, [], IfOk, bytes_eq};
+ghost use Rattle.std.specs.Prelude.{◌≡◌, [], IfOk, bytes_eq, slice_get};
 ghost use Rattle.std.specs.List.{list_any};
 ghost use Rattle.bq_fragment.specs.Arguments.{argument_names};
 ghost use Rattle.bq_source.specs.Gives.{Gives};
@@ -17,7 +17,7 @@ use bq_fragment_parse::{Keyword, KeywordCall};
 use bq_label::Label;
 use bq_source::{Bytes, FaultKind};
 use sqlite_items::Items;
-use std::alloc::Global;
+use std::alloc::{AllocError, Global};
 
 /// A target that a call of a rule declares, with its outputs.
 #[derive(Drop)]
@@ -26,10 +26,20 @@ pub struct Declaration {
     pub line: u32,
     pub rule: Rule,
     /// The target's name, once it is read.
-    pub names: Items<Bytes>,
+    pub name: Option<Bytes>,
     pub outputs: Items<Bytes>,
     /// The labels of the attributes that make edges, in the order in which they are written.
     pub labels: Items<Label>,
+}
+
+/// The first name, if there is one. No byte is copied.
+fn first(names: &Items<Bytes>) -> Result<Option<Bytes>, AllocError>
+    ensures { IfOk result (λ name. name ≡ slice_get names.now 0) }
+{
+    match names.get(0) {
+        Some(name) => Ok(Some(name.share()?)),
+        None => Ok(None),
+    }
 }
 
 impl Declaration {
@@ -39,7 +49,7 @@ impl Declaration {
         Declaration {
             line,
             rule,
-            names: Items::new(alloc),
+            name: None,
             outputs: Items::new(alloc),
             labels: Items::new(alloc),
         }
@@ -59,7 +69,7 @@ impl Declaration {
         match kind {
             AttributeType::Name => {
                 let names = target_names(alloc, scope, texts)?;
-                self.names.append(names)?;
+                self.name = first(&names)?;
                 Ok(())
             }
             AttributeType::OutputList => {

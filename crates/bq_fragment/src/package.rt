@@ -51,7 +51,7 @@ fn add_declaration(names: &mut Names, declaration: &Declaration) -> Result<bool,
 {
     if !add_all(
         names,
-        declaration.names.as_slice(),
+        declaration.name.as_slice(),
         TargetKind::RuleOf(declaration.rule),
     )? {
         return Ok(false);

@@ -93,6 +93,7 @@ fn is_wildcard(name: &[u8]) -> bool
 }
 
 /// The label that a word names.
+#[tactic(auto, using(bq_label::proofs::BadLabels::or_bad_label_ok, bq_label::proofs::BadLabels::or_bad_label_err))]
 fn read_word(alloc: Global, word: &[u8]) -> Result<Result<Label, QueryErr>, AllocError>
     ensures { IfOk result (λ found. found ≡ query_by word.now) }
 {

@@ -1,10 +1,9 @@
 -- How a label's text is read: a function that gives what the forms of `Label.antt` say (the law `forms_of_a_label`).
-use Rattle.std.specs.Prelude.{◌≡◌, ◌≢◌, ℕ, ◌==◌, ◌&&◌, Bool, true, false, List, [], ◌∷◌, Option, Some, None, Result, Ok, Err, drop, if◌then◌else◌, option_and_then}
+use Rattle.std.specs.Prelude.{ℕ, ◌==◌, ◌&&◌, Bool, true, false, List, [], ◌∷◌, Option, Some, None, Result, Ok, Err, drop, if◌then◌else◌, option_and_then}
 use Rattle.std.specs.Option.{option_map}
 use Rattle.bq_source.specs.Fault.{fault_at}
+use Rattle.bq_source.specs.declared.fault.Fault.{Fault}
 use Rattle.bq_source.specs.declared.fault.FaultKind.TheVariants.{BadLabel}
-use Rattle.bq_source.specs.declared.fault.SourceErr.{SourceErr}
-use Rattle.bq_source.specs.declared.fault.SourceErr.TheVariants.{Bad, Memory}
 use Rattle.bq_label.specs.Paths.{is_path, is_package, is_repository}
 use Rattle.bq_label.specs.Label.{PackageParts, LabelParts, label_at, label_in, last_segment, at_sign}
 
@@ -53,7 +52,7 @@ valid_label l = if is_label l then Some l else None
 unfoldable pub label_of : PackageParts → List ℕ → Option LabelParts
 label_of own text = option_and_then valid_label (parts_of own text)
 
--- the label is read; or there is none, which is fault F78; or a growth was refused
-abbrev pub AnswersLabel : Option LabelParts → Result LabelParts SourceErr → Type 0
-AnswersLabel found (Ok l) = found ≡ Some l
-AnswersLabel found (Err e) = e ≢ Memory → (found ≡ None) × (e ≡ Bad (fault_at BadLabel 0))
+-- a label, or fault F78 where there is none
+abbrev pub or_bad_label : Option LabelParts → Result LabelParts Fault
+or_bad_label None = Err (fault_at BadLabel 0)
+or_bad_label (Some l) = Ok l

@@ -2,10 +2,11 @@
 
 ghost use Rattle.std.specs.Prelude.{◌≡◌, option_and_then};
 ghost use Rattle.bq_source.specs.Fault.{fault_at};
+ghost use Rattle.bq_source.specs.Gives.{Gives};
 ghost use Rattle.bq_source.specs.declared.fault.FaultKind.TheVariants.{BadLabel};
 ghost use Rattle.bq_source.specs.declared.fault.SourceErr.TheVariants.{Bad};
 ghost use Rattle.bq_label.specs.Label.{label_at, label_in};
-ghost use Rattle.bq_label.specs.Reading.{AnswersLabel, label_of, valid_label, absolute_label, external_label};
+ghost use Rattle.bq_label.specs.Reading.{or_bad_label, label_of, valid_label, absolute_label, external_label};
 
 use crate::label::Label;
 use crate::package_id::PackageId;
@@ -23,7 +24,7 @@ fn bad_label() -> SourceErr
 /// A name in a package.
 #[tactic(auto, unfolding(crate::specs::Reading::valid_label, crate::specs::Reading::is_label))]
 fn read_name(alloc: Global, package: PackageId, name: &[u8]) -> Result<Label, SourceErr>
-    ensures { AnswersLabel (valid_label (label_in «package» name.now)) result }
+    ensures { Gives (λ label. label) Bad result (or_bad_label (valid_label (label_in «package» name.now))) }
 {
     if !is_path(name) {
         return Err(bad_label());
@@ -34,7 +35,7 @@ fn read_name(alloc: Global, package: PackageId, name: &[u8]) -> Result<Label, So
 
 #[tactic(auto, unfolding(crate::specs::Reading::valid_label, crate::specs::Reading::is_label))]
 fn read_parts(alloc: Global, repo: Bytes, package: &[u8], name: &[u8]) -> Result<Label, SourceErr>
-    ensures { AnswersLabel (valid_label (label_at repo «package».now name.now)) result }
+    ensures { Gives (λ label. label) Bad result (or_bad_label (valid_label (label_at repo «package».now name.now))) }
 {
     let package = Bytes::from_slice(alloc, package)?;
     match PackageId::new(repo, package) {
@@ -46,7 +47,7 @@ fn read_parts(alloc: Global, repo: Bytes, package: &[u8], name: &[u8]) -> Result
 /// What follows `//`.
 #[tactic(auto, unfolding(crate::specs::Reading::absolute_label))]
 fn read_absolute(alloc: Global, repo: Bytes, text: &[u8]) -> Result<Label, SourceErr>
-    ensures { AnswersLabel (valid_label (absolute_label repo text.now)) result }
+    ensures { Gives (λ label. label) Bad result (or_bad_label (valid_label (absolute_label repo text.now))) }
 {
     match split_once(text, b':') {
         Some((package, name)) => read_parts(alloc, repo, package, name),
@@ -57,7 +58,7 @@ fn read_absolute(alloc: Global, repo: Bytes, text: &[u8]) -> Result<Label, Sourc
 /// What follows `@`.
 #[tactic(auto, unfolding(crate::specs::Reading::external_label, crate::specs::Reading::label_of))]
 fn read_external(alloc: Global, text: &[u8]) -> Result<Label, SourceErr>
-    ensures { AnswersLabel (option_and_then valid_label (external_label text.now)) result }
+    ensures { Gives (λ label. label) Bad result (or_bad_label (option_and_then valid_label (external_label text.now))) }
 {
     match split_once(text, b'/') {
         None => read_parts(alloc, Bytes::from_slice(alloc, text)?, &[], text),
@@ -76,7 +77,7 @@ fn read_external(alloc: Global, text: &[u8]) -> Result<Label, SourceErr>
 /// `@repository` in front of `//` or for `@repository//:repository`.
 #[tactic(auto, unfolding(crate::specs::Reading::parts_of, crate::specs::Reading::label_of))]
 pub fn read_label(alloc: Global, text: &[u8], package: &PackageId) -> Result<Label, SourceErr>
-    ensures { AnswersLabel (label_of «package».now text.now) result }
+    ensures { Gives (λ label. label) Bad result (or_bad_label (label_of «package».now text.now)) }
 {
     match text {
         [b'@', rest @ ..] => read_external(alloc, rest),
