@@ -7,5 +7,5 @@ pub mod Operands
 pub mod Unnamed
 pub mod Suffixes
 pub mod Vars
-pub mod Lambdas
+pub mod Keeping
 pub mod Tests

@@ -11,7 +11,7 @@ use Rattle.bq_grammar.specs.Laws.{Sound, ends_test, EndsTest, Complete, OneTest}
 use Rattle.bq_grammar.proofs.Classes.{implied, ends}
 use Rattle.bq_grammar.proofs.Agrees.{Stops, Owes, Met, met, cut}
 use Rattle.bq_grammar.proofs.Vars.{test_to_agrees}
-use Rattle.bq_grammar.proofs.Lambdas.{Plain, phrase_plain}
+use Rattle.bq_grammar.proofs.Keeping.{Plain, phrase_plain}
 
 pub sound : (depth : ℕ) (ts : List Lexeme) → Sound depth ts
 sound depth ts = (

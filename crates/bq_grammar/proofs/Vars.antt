@@ -6,21 +6,22 @@ use Rattle.bq_grammar.specs.Lexeme.{Lexeme}
 use Rattle.bq_grammar.specs.declared.refusal.Refusal.TheVariants.{Syntax}
 use Rattle.bq_grammar.specs.declared.tree.Nested.{Nested}
 use Rattle.bq_grammar.specs.declared.tree.Nested.TheVariants.{Or, Test}
+use Rattle.bq_grammar.specs.declared.tree.Expr.{Expr}
 use Rattle.bq_grammar.specs.declared.tree.Target.{Target}
 use Rattle.bq_grammar.specs.declared.tree.Target.TheVariants as target
 use Rattle.bq_grammar.specs.Phrases.{Phrase, none, Repeat, over, Listed, last_listed, CommaThen}
 use Rattle.bq_grammar.specs.Grammar as G
-use Rattle.bq_grammar.specs.Grammar.{targets_of, IsVarOver, IsVar, IsVarsOver, IsVars, IsPrimary, IsPrimaryTo, IsOr, IsTest, IsOrTo, IsTestTo}
+use Rattle.bq_grammar.specs.Grammar.{targets_of, IsVarOver, IsVar, IsVarsOver, IsVars, IsPrimary, IsPrimaryTo, IsOr, IsTest, IsOrTo, IsTestTo, IsOperandTo, IsSuffixTo}
 use Rattle.bq_grammar.specs.Turns.{Found, Parse, ◌>>=◌, sees, next, expect, listed_from, repeat}
-use Rattle.bq_grammar.specs.Reading.{items_after, after_comma, chained, vars_after, var_in_parens, var_in_brackets, var_by, var, var_to, vars, primary, or_test, test, phrase}
+use Rattle.bq_grammar.specs.Reading.{items_after, after_comma, chained, vars_after, var_in_parens, var_in_brackets, var_by, var, var_to, vars, variables_to, operand, suffix, primary, or_test, test, phrase}
 use Rattle.bq_grammar.proofs.NextToken.{sees_it, sees_other, tok, tok_kind}
-use Rattle.bq_grammar.proofs.Classes.{ends, any, first_operand, first_not, first_test, first_var, paren_comma, bracket_comma}
+use Rattle.bq_grammar.proofs.Classes.{ends, any, first_operand, first_suffix, first_not, first_test, first_var, paren_comma, bracket_comma}
 use Rattle.bq_grammar.proofs.Agrees.{Begins, Stops, Owes, Met, met, Agrees, seq, Never, never_then, never_expect, never_repeat, never_listed, expects, sees_owes, then_is, owes_as, met_is, met_as, met_less, met_over, met_done, met_then, met_expect, met_yes, met_no, stops_no, listed_sound, listed_complete}
 use Rattle.bq_grammar.proofs.Chains.{or_agrees, test_agrees}
 use Rattle.bq_grammar.proofs.Lists.{none_agrees, items_sound, first_item, chain_of, chained_sound, chained_met}
-use Rattle.bq_grammar.proofs.Operands.{ends_vars}
-use Rattle.bq_grammar.proofs.Unnamed.{none_unnamed, test_unnamed}
-use Rattle.bq_grammar.proofs.Suffixes.{primary_agrees}
+use Rattle.bq_grammar.proofs.Operands.{ends_vars, operand_agrees}
+use Rattle.bq_grammar.proofs.Unnamed.{Unnamed, none_unnamed, test_unnamed}
+use Rattle.bq_grammar.proofs.Suffixes.{suffix_agrees, primary_agrees}
 
 target_chain : (x : Target) (xs : List Target) → chain_of target.Tuple x xs ≡ targets_of x xs
 target_chain x [] = refl
@@ -134,7 +135,7 @@ module _ (r : Parse Target) (n : (ts : List Lexeme) → Never (r ts)) where
   comma_never : (ts : List Lexeme) → Never (after_comma r ts)
   comma_never ts = never_then (expect k.Comma ts) (λ _ us. r us) (never_expect k.Comma ts) (λ u mid. n mid)
 
-  vars_never : (ts : List Lexeme) → Never (vars r ts)
+  pub vars_never : (ts : List Lexeme) → Never (vars r ts)
   unfolding vars
   vars_never ts = never_then (r ts) (λ x mid. chained target.Tuple r x mid) (n ts)
       (λ x mid. never_if (sees k.Comma mid) (after_comma r mid >>= λ y us. repeat (sees k.Comma) (after_comma r) (x ∷ y ∷ []) us >>= λ xs rest. Ok (target.Tuple xs, rest)) (Ok (x, mid))
@@ -144,12 +145,12 @@ module _ (r : Parse Target) (n : (ts : List Lexeme) → Never (r ts)) where
 
 -- ---- layers
 
-var_to_never : (depth : ℕ) (ts : List Lexeme) → Never (var_to depth ts)
+pub var_to_never : (depth : ℕ) (ts : List Lexeme) → Never (var_to depth ts)
 unfolding var_to
 var_to_never zero ts = tt
 var_to_never (suc depth) ts = var_never (var_to depth) (var_to_never depth) ts
 
-agree_as : {A : Type 0} {first ends' : TokenKind → Bool} (X : Phrase A) (r q : Parse A) → ((ts : List Lexeme) → q ts ≡ r ts) → Agrees first ends' X r → Agrees first ends' X q
+pub agree_as : {A : Type 0} {first ends' : TokenKind → Bool} (X : Phrase A) (r q : Parse A) → ((ts : List Lexeme) → q ts ≡ r ts) → Agrees first ends' X r → Agrees first ends' X q
 agree_as {A = A} X r q same ag = record {
   begins = ag.begins;
   sound = λ ts. subst (Owes A (X ts)) (sym (same ts)) (ag.sound ts);
@@ -169,27 +170,52 @@ none_phrase : (which : Nested) (first ends' : TokenKind → Bool) → Agrees fir
 unfolding phrase
 none_phrase which first ends' = record { begins = λ ts rest x p. absurd p; sound = λ ts. tt; complete = λ ts rest x p st. absurd p }
 
--- the primaries in which so many brackets may be in one another
-primary_to_agrees : (depth : ℕ) → Agrees first_operand (ends 0) (IsPrimaryTo depth) (primary (phrase depth) (vars (var_to depth)))
-unfolding phrase
-primary_to_agrees zero = primary_agrees none none none (phrase 0) (vars (var_to 0)) (none_phrase Or first_not (ends 10)) (none_phrase Test first_test (ends 11)) none_vars (vars_never (var_to 0) (var_to_never 0)) none_unnamed
-primary_to_agrees (suc depth) = primary_agrees (IsOr (IsPrimaryTo depth)) (IsTest (IsPrimaryTo depth)) (IsVars depth) (phrase (suc depth)) (vars (var_to (suc depth)))
-    (agree_as (IsOr (IsPrimaryTo depth)) (or_test (primary (phrase depth) (vars (var_to depth)))) (phrase (suc depth) Or) (ors depth) (or_agrees (IsPrimaryTo depth) (primary (phrase depth) (vars (var_to depth))) (primary_to_agrees depth)))
-    (agree_as (IsTest (IsPrimaryTo depth)) (test (primary (phrase depth) (vars (var_to depth)))) (phrase (suc depth) Test) (tests depth) (test_agrees (IsPrimaryTo depth) (primary (phrase depth) (vars (var_to depth))) (primary_to_agrees depth)))
-    (vars_agree (IsVar depth) (var_to (suc depth)) (var_to_agrees depth)) (vars_never (var_to (suc depth)) (var_to_never (suc depth)))
-    (test_unnamed depth)
-  where
-    ors : (depth : ℕ) (ts : List Lexeme) → phrase (suc depth) Or ts ≡ or_test (primary (phrase depth) (vars (var_to depth))) ts
-    ors depth ts = refl
+abbrev pub primary_at : ℕ → Parse Expr
+primary_at depth = primary (phrase depth) (vars (var_to depth))
 
-    tests : (depth : ℕ) (ts : List Lexeme) → phrase (suc depth) Test ts ≡ test (primary (phrase depth) (vars (var_to depth))) ts
-    tests depth ts = refl
+-- what stands in the brackets of a layer agrees with its readers
+pub record Layer (O T : Phrase Expr) (V : Phrase Target) (depth : ℕ) : Type 0 where
+  pub ors : Agrees first_not (ends 10) O (phrase depth Or)
+  pub tests : Agrees first_test (ends 11) T (phrase depth Test)
+  pub variables : Agrees first_var ends_vars V (vars (var_to depth))
+  pub unnamed : Unnamed T
+
+no_layer : Layer none none none 0
+no_layer = record { ors = none_phrase Or first_not (ends 10); tests = none_phrase Test first_test (ends 11); variables = none_vars; unnamed = none_unnamed }
+
+layer_over : (depth : ℕ) → Agrees first_operand (ends 0) (IsPrimaryTo depth) (primary_at depth) → Layer (IsOrTo depth) (IsTestTo depth) (IsVars depth) (suc depth)
+unfolding phrase
+layer_over depth ag = record {
+  ors = agree_as (IsOrTo depth) (or_test (primary_at depth)) (phrase (suc depth) Or) (λ ts. refl) (or_agrees (IsPrimaryTo depth) (primary_at depth) ag);
+  tests = agree_as (IsTestTo depth) (test (primary_at depth)) (phrase (suc depth) Test) (λ ts. refl) (test_agrees (IsPrimaryTo depth) (primary_at depth) ag);
+  variables = vars_agree (IsVar depth) (var_to (suc depth)) (var_to_agrees depth);
+  unnamed = test_unnamed depth;
+}
+
+layer_primary : (O T : Phrase Expr) (V : Phrase Target) (depth : ℕ) → Layer O T V depth → Agrees first_operand (ends 0) (IsPrimary O T V) (primary_at depth)
+layer_primary O T V depth l = primary_agrees O T V (phrase depth) (vars (var_to depth)) l.ors l.tests l.variables (vars_never (var_to depth) (var_to_never depth)) l.unnamed
+
+-- the primaries in which so many brackets may be in one another
+primary_to_agrees : (depth : ℕ) → Agrees first_operand (ends 0) (IsPrimaryTo depth) (primary_at depth)
+primary_to_agrees zero = layer_primary none none none 0 no_layer
+primary_to_agrees (suc depth) = layer_primary (IsOrTo depth) (IsTestTo depth) (IsVars depth) (suc depth) (layer_over depth (primary_to_agrees depth))
+
+pub operand_to_agrees : (depth : ℕ) → Agrees first_operand any (IsOperandTo depth) (operand (phrase depth) (vars (var_to depth)))
+operand_to_agrees zero = let l = no_layer in
+    operand_agrees none none none (phrase 0) (vars (var_to 0)) l.ors l.tests l.variables (vars_never (var_to 0) (var_to_never 0))
+operand_to_agrees (suc depth) = let l = layer_over depth (primary_to_agrees depth) in
+    operand_agrees (IsOrTo depth) (IsTestTo depth) (IsVars depth) (phrase (suc depth)) (vars (var_to (suc depth))) l.ors l.tests l.variables (vars_never (var_to (suc depth)) (var_to_never (suc depth)))
+
+pub suffix_to_agrees : (depth : ℕ) → Agrees first_suffix any (IsSuffixTo depth) (suffix (phrase depth) (vars (var_to depth)))
+suffix_to_agrees zero = let l = no_layer in
+    suffix_agrees none none none (phrase 0) (vars (var_to 0)) l.ors l.tests l.variables (vars_never (var_to 0) (var_to_never 0)) l.unnamed
+suffix_to_agrees (suc depth) = let l = layer_over depth (primary_to_agrees depth) in
+    suffix_agrees (IsOrTo depth) (IsTestTo depth) (IsVars depth) (phrase (suc depth)) (vars (var_to (suc depth))) l.ors l.tests l.variables (vars_never (var_to (suc depth)) (var_to_never (suc depth))) l.unnamed
+
+-- the variables of a `for`
+pub variables_to_agree : (depth : ℕ) → Agrees first_var ends_vars (IsVars depth) (variables_to (suc depth))
+variables_to_agree depth = vars_agree (IsVar depth) (var_to (suc depth)) (var_to_agrees depth)
 
 -- What is read is what the grammar has.
 pub test_to_agrees : (depth : ℕ) → Agrees first_test (ends 11) (IsTestTo depth) (phrase (suc depth) Test)
-unfolding phrase
-test_to_agrees depth = agree_as (IsTest (IsPrimaryTo depth)) (test (primary (phrase depth) (vars (var_to depth)))) (phrase (suc depth) Test) same
-    (test_agrees (IsPrimaryTo depth) (primary (phrase depth) (vars (var_to depth))) (primary_to_agrees depth))
-  where
-    same : (ts : List Lexeme) → phrase (suc depth) Test ts ≡ test (primary (phrase depth) (vars (var_to depth))) ts
-    same ts = refl
+test_to_agrees depth = (layer_over depth (primary_to_agrees depth)).tests

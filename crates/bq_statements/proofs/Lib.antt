@@ -1,0 +1,11 @@
+pub mod Expressions
+pub mod Targets
+pub mod Calm
+pub mod Ending
+pub mod Loads
+pub mod Small
+pub mod Parameters
+pub mod Blocks
+pub mod Plain
+pub mod Cutting
+pub mod Verdicts

@@ -1,0 +1,7 @@
+use Rattle.std.proofs.Common.{◌≡◌, List, [], ◌∷◌}
+use Rattle.bq_grammar.specs.Lexeme.{Lexeme}
+use Rattle.bq_statements.proofs.Verdicts.{statement_met, ends_there}
+use Rattle.bq_statements.proofs.laws.each_statement_is_read.Goals as goal
+
+pub returns : goal.returns
+returns c depth ts rest x p h = statement_met depth ts rest x p (ends_there rest h)
