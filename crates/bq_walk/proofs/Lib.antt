@@ -2,3 +2,17 @@
 pub mod Keys
 -- lists one of which ends where the other goes on
 pub mod Prefixes
+-- ranges with the same elements
+pub mod Ranges
+-- what an answer of `==` says
+pub mod Alike
+-- dicts with distinct keys
+pub mod Keyed
+-- `==` is an equivalence
+pub mod Equivalence
+-- what an answer of the order says, and that it is strict
+pub mod Lesser
+-- the laws, by answers alone
+pub mod Orders
+-- a walk takes a number of steps of its own
+pub mod Counting

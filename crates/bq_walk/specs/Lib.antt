@@ -3,3 +3,4 @@ pub mod Equality
 pub mod Order
 pub mod Truth
 pub mod KeyWalk
+pub mod Laws

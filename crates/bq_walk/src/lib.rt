@@ -11,13 +11,15 @@
 //! - `equality`: `==`;
 //! - `comparison`: `<` and its kin;
 //! - `boolean`: what counts as true;
-//! - `key`: the key that a value makes.
+//! - `key`: the key that a value makes;
+//! - `laws`: what the definitions say together.
 #![tactic(auto)]
 
 mod boolean;
 mod comparison;
 mod equality;
 mod key;
+pub mod laws;
 
 pub use boolean::truth;
 pub use comparison::{less, order};
