@@ -17,6 +17,7 @@
 //! - `laws`: what the definitions say together.
 #![tactic(auto)]
 
+pub mod laws;
 mod leaf;
 mod page;
 mod quoted;

@@ -1,7 +1,7 @@
-use Rattle.std.proofs.Common.{◌≡◌, ◌∙◌, [], ◌∷◌, sym, ap, subst, arith, drop}
+use Rattle.std.proofs.Common.{◌≡◌, ◌∙◌, [], ap, subst, arith, drop}
 use Rattle.std.proofs.Math.ListN.{drop_of_length-le}
 use Rattle.std.specs.Prelude.{OnOk}
-use Rattle.bq_source.specs.StringLiteral.{quoted, quoted_body}
+use Rattle.bq_source.specs.StringLiteral.{quoted_body}
 use Rattle.bq_text.specs.Page.{PageView, written}
 use Rattle.bq_text.proofs.Pages.{first_quoted, next_quoted, last_quoted}
 use Rattle.bq_text.proofs.quoted.write_quoted.Goals as goal

@@ -1,5 +1,5 @@
 -- what is left to write completes the text
-use Rattle.std.proofs.Common.{◌≡◌, ◌++◌, ◌∷◌, [], drop}
+use Rattle.std.proofs.Common.{◌≡◌, ◌∷◌, drop}
 use Rattle.bq_source.specs.StringLiteral.{quoted_body}
 use Rattle.bq_text.specs.Page.{written}
 use Rattle.bq_text.proofs.quoted.write_quoted.Given as goal

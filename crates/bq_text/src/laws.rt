@@ -1,0 +1,27 @@
+//! Laws of the definitions: each is the contract of a function that does nothing.
+
+ghost use Rattle.std.specs.Prelude.{◌≡◌, ◌≤◌, ℕ, suc, ℤ, List, Ok, length};
+ghost use Rattle.std.specs.Fmt.{signed_decimal};
+ghost use Rattle.bq_source.specs.StringLiteral.{quoted};
+ghost use Rattle.bq_value.specs.Datum.{Datum, int, string};
+ghost use Rattle.bq_value.specs.Cells.{StoreView};
+ghost use Rattle.bq_walk.specs.Laws.{Takes};
+ghost use Rattle.bq_text.specs.Page.{max_text};
+ghost use Rattle.bq_text.specs.Shown.{repr_of, text_of};
+
+/// The `str` of a string is the string, and its `repr` is the literal that reads back as it; each takes one step.
+pub fn the_text_of_a_string()
+    ensures text { (s : StoreView) (n : ℕ) (bytes : List ℕ) → length bytes ≤ max_text → text_of s (suc n) (string bytes) ≡ Ok (bytes, n) }
+    ensures repr { (s : StoreView) (n : ℕ) (bytes : List ℕ) → length (quoted bytes) ≤ max_text → repr_of s (suc n) (string bytes) ≡ Ok (quoted bytes, n) }
+{}
+
+/// The `repr` of an integer is its decimal digits.
+pub fn the_text_of_an_integer()
+    ensures { (s : StoreView) (n : ℕ) (i : ℤ) → length (signed_decimal i) ≤ max_text → repr_of s (suc n) (int i) ≡ Ok (signed_decimal i, n) }
+{}
+
+/// A walk has a number of steps and an outcome of its own: with fewer it is F53, with more these are left.
+pub fn steps_are_the_texts_own()
+    ensures repr { (s : StoreView) (v : Datum) → Takes (λ n. repr_of s n v) }
+    ensures text { (s : StoreView) (v : Datum) → Takes (λ n. text_of s n v) }
+{}
