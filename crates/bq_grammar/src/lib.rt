@@ -19,6 +19,8 @@
 //! read whole, or cut at a `lambda`. Each production has one such fact, made of those of its parts; what must hold of the
 //! classes is computed over all kinds of tokens (`proofs/Classes.antt`). Operators are in `proofs/Chains.antt`, what stands in
 //! brackets in `proofs/Operands.antt`, calls, indexes and slices in `proofs/Suffixes.antt`; `proofs/Vars.antt` ties the layers.
+//! `proofs/Unnamed.antt` shows that a positional argument never looks like a named one, `proofs/Keeping.antt` that a reading leaves
+//! just the tokens after those it took, and stops at `lambda` only where one is among them.
 #![tactic(auto)]
 
 mod arguments;

@@ -1,11 +1,11 @@
 -- How a file is cut into statements.
-use Rattle.std.proofs.Common.{◌≡◌, ◌≢◌, ℕ, zero, suc, ◌⊎◌, inl, inr, Bool, true, false, ◌&&◌, cond, List, [], ◌∷◌, ◌++◌, refl, sym, ap, ◌∙◌, subst, append_assoc, append-nil}
+use Rattle.std.proofs.Common.{◌≡◌, ◌≢◌, ℕ, zero, suc, ◌⊎◌, inl, inr, Bool, true, false, ◌&&◌, cond, List, [], ◌∷◌, ◌++◌, refl, sym, ap, ◌∙◌, subst, append_assoc, append-nil, arith}
 use Rattle.bq_source.specs.declared.token.TokenKind.{TokenKind}
 use Rattle.bq_source.specs.declared.token.TokenKind.TheVariants as k
 use Rattle.bq_grammar.specs.Lexeme.{Lexeme}
 use Rattle.bq_grammar.specs.Pieces.{ends_line, indents_after, begins_statement, is_zero, onto, cut, pieces}
 use Rattle.bq_statements.specs.Pieces as P
-use Rattle.bq_statements.specs.Pieces.{joined, open_indents, EndsLine, BeginsStatement, first, at_margin, NoneBegins, AreStatements}
+use Rattle.bq_statements.specs.Pieces.{joined, with_indent, open_indents, EndsLine, BeginsStatement, first, at_margin, NoneBegins, AreStatements}
 
 -- ---- the pieces in a row are the tokens
 
@@ -37,9 +37,14 @@ last_more : (b : Bool) (ts : List Lexeme) (t : Lexeme) → last_ends b (ts ++ t 
 last_more b [] t = refl
 last_more b (u ∷ us) t = last_more (ends_line u.kind) us t
 
+indent_same : (q : TokenKind) (n : ℕ) → with_indent q n ≡ indents_after q n
+indent_same k.Indent n = omega arith
+indent_same k.Outdent n = refl
+indent_same _ n = refl
+
 open_more : (n : ℕ) (ts : List Lexeme) (t : Lexeme) → open_indents n (ts ++ t ∷ []) ≡ indents_after t.kind (open_indents n ts)
-open_more n [] t = refl
-open_more n (u ∷ us) t = open_more (indents_after u.kind n) us t
+open_more n [] t = indent_same t.kind n
+open_more n (u ∷ us) t = open_more (with_indent u.kind n) us t
 
 kind_ends : (q : TokenKind) → ends_line q ≡ true → (q ≡ k.Newline) ⊎ (q ≡ k.Outdent)
 kind_ends k.Newline h = inl refl
@@ -123,4 +128,4 @@ begin_as t (p ∷ ps) h = (first refl, h.0, h.1)
 
 pub pieces_begin : (ts : List Lexeme) → AreStatements [] (pieces ts)
 pieces_begin [] = tt
-pieces_begin (t ∷ ts) = begin_as t (cut (ends_line t.kind) (indents_after t.kind 0) ts) (cut_as t [] ts (ends_line t.kind) (indents_after t.kind 0) refl refl)
+pieces_begin (t ∷ ts) = begin_as t (cut (ends_line t.kind) (indents_after t.kind 0) ts) (cut_as t [] ts (ends_line t.kind) (indents_after t.kind 0) refl (sym (indent_same t.kind 0)))

@@ -1,18 +1,23 @@
 -- Where the top-level statements of a file begin, in words of the tokens before them.
-use Rattle.std.specs.Prelude.{ℕ, List, [], ◌∷◌, ◌++◌, ◌≡◌, ◌≢◌, ◌⊎◌}
+use Rattle.std.specs.Prelude.{ℕ, List, [], ◌∷◌, ◌++◌, ◌+◌, ◌-◌, ◌≡◌, ◌≢◌, ◌⊎◌}
+use Rattle.bq_source.specs.declared.token.TokenKind.{TokenKind}
 use Rattle.bq_source.specs.declared.token.TokenKind.TheVariants as k
 use Rattle.bq_grammar.specs.Lexeme.{Lexeme}
-use Rattle.bq_grammar.specs.Pieces.{indents_after}
 
 -- the pieces in a row
 abbrev pub joined : List (List Lexeme) → List Lexeme
 joined [] = []
 joined (p ∷ ps) = p ++ joined ps
 
+abbrev pub with_indent : TokenKind → ℕ → ℕ
+with_indent k.Indent n = n + 1
+with_indent k.Outdent n = n - 1
+with_indent _ n = n
+
 -- the indents that are open after these tokens, and `n` before them
 abbrev pub open_indents : ℕ → List Lexeme → ℕ
 open_indents n [] = n
-open_indents n (t ∷ ts) = open_indents (indents_after t.kind n) ts
+open_indents n (t ∷ ts) = open_indents (with_indent t.kind n) ts
 
 -- a newline or an outdent comes last
 pub data EndsLine (before : List Lexeme) : Type 0 where
