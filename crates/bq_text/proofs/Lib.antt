@@ -6,3 +6,5 @@ pub mod Steps
 pub mod Plain
 -- the walk of a text takes a number of steps of its own
 pub mod Counting
+-- plain values with one text are one value
+pub mod Apart

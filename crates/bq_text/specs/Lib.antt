@@ -1,3 +1,4 @@
 pub mod Page
 pub mod Leaf
 pub mod Shown
+pub mod Laws

@@ -6,6 +6,7 @@ ghost use Rattle.bq_source.specs.StringLiteral.{quoted};
 ghost use Rattle.bq_value.specs.Datum.{Datum, int, string};
 ghost use Rattle.bq_value.specs.Cells.{StoreView};
 ghost use Rattle.bq_walk.specs.Laws.{Takes};
+ghost use Rattle.bq_text.specs.Laws.{IsPlain};
 ghost use Rattle.bq_text.specs.Page.{max_text};
 ghost use Rattle.bq_text.specs.Shown.{repr_of, text_of};
 
@@ -24,4 +25,9 @@ pub fn the_text_of_an_integer()
 pub fn steps_are_the_texts_own()
     ensures repr { (s : StoreView) (v : Datum) → Takes (λ n. repr_of s n v) }
     ensures text { (s : StoreView) (v : Datum) → Takes (λ n. text_of s n v) }
+{}
+
+/// Plain values that have one `repr` are one value: `1`, `"1"` and `True` are told apart.
+pub fn plain_values_have_texts_of_their_own()
+    ensures { (s : StoreView) (n m k j : ℕ) (v w : Datum) (t : List ℕ) → IsPlain v → IsPlain w → repr_of s (suc n) v ≡ Ok (t, m) → repr_of s (suc k) w ≡ Ok (t, j) → v ≡ w }
 {}
