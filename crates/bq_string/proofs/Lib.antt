@@ -2,3 +2,4 @@ pub mod Places
 pub mod Pieces
 pub mod Joining
 pub mod Separated
+pub mod Marks
