@@ -3,6 +3,7 @@ use Rattle.std.proofs.lemmas.List.{length-drop}
 use Rattle.bq_source.specs.declared.string_literal.BodyPart.TheVariants.{Closing, Unclosed, Item}
 use Rattle.bq_source.specs.StringLiteral.{body_part}
 use Rattle.bq_source.proofs.Items.{scanned, not_opened, at_closing, at_unclosed, at_item, own_within}
+use Rattle.std.proofs.lemmas.Grind.{common_steps}
 use Rattle.bq_source.proofs.string_literal.scan_string.Goals as goal
 
 pub returns-in_err-quoting-clause-literal : goal.returns-in_err-quoting-clause-literal
@@ -36,3 +37,6 @@ items-preserved c =
       within = let l = length-drop c.items.at c.args.text.now in omega arith;
       escape_within = rw (c.first_bad-bad_escape.ensures) (own_within c.items.bad_escape c.items.at c.in-Item.more c.in-Item.value c.items.invariant.escape_within);
     }
+
+pub items-smaller : goal.items-smaller
+items-smaller c = grind (arith, common_steps)

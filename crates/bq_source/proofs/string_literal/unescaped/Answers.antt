@@ -4,6 +4,7 @@ use Rattle.bq_source.specs.declared.string_literal.ItemValue.{ItemValue}
 use Rattle.bq_source.specs.declared.string_literal.BodyPart.TheVariants.{Item}
 use Rattle.bq_source.specs.StringLiteral.{body_part, items}
 use Rattle.bq_source.proofs.Items.{joined_at_item, joined_all, mapped}
+use Rattle.std.proofs.lemmas.Grind.{common_steps}
 use Rattle.bq_source.proofs.string_literal.unescaped.Goals as goal
 
 pub items-preserved : goal.items-preserved
@@ -24,3 +25,6 @@ returns c =
     let P : Option (List ℕ) → Type 0 = λ o. IsSome o in
     let some = subst P c.items.invariant.same (mapped (items c.args.quoting 0 c.args.body.now) c.requires) in
     c.items.invariant.same ∙ joined_all c.args.quoting c.items.value.items (drop c.items.at c.args.body.now) none some
+
+pub items-smaller : goal.items-smaller
+items-smaller c = grind (arith, common_steps)
