@@ -3,9 +3,9 @@ ghost use Rattle.std.specs.Prelude.{◌≡◌, ◌<◌, ◌≤◌, length, vec_l
 ghost use Rattle.bq_board.specs.Seats.{IsSeatOf, base_of, view_of};
 ghost use Rattle.bq_board.specs.Conditions.{Owes, Holds, KeepsAll, KeepsOthers, HoldsIfWon};
 
+use crate::rows::{Row, Subject, check_rows, number_of};
 use bq_board::{Board, Claim, MAX_SEATS, Parcel, Plan, PlanErr, Seat};
 use std::alloc::{AllocError, Global};
-use std::fmt::Write;
 use std::sync::atomic::{AtomicU64, Ordering};
 use std::test::Fail;
 use std::thread::{Threads, for_each_mut, join};
@@ -77,30 +77,6 @@ fn deliver(board: &Board<Note>, base: u64, seat: &mut Seat<Note>, m: usize)
     board.finish(seat, m);
 }
 
-// One board with its seats, on a plan with these loads.
-fn opened(
-    alloc: Global,
-    loads: &[&[u32]],
-    seats: usize,
-    base: u64,
-) -> Result<(Board<Note>, Vec<Seat<Note>>), PlanErr>
-    requires { (0 < seats) × (seats ≤ MAX_SEATS) }
-    ensures count { IfOk result (λ r. vec_len r.1 ≡ seats) }
-    ensures base { IfOk result (λ r. base_of r.0 ≡ base) }
-    ensures seats { IfOk result (λ r. All (λ s. IsSeatOf r.0 s) r.1.items) }
-{
-    let plan = Plan::new(alloc, rows(alloc, loads)?)?;
-    Ok(Board::open(alloc, plan, seats, &base)?)
-}
-
-fn rows(alloc: Global, loads: &[&[u32]]) -> Result<Vec<Vec<u32>>, AllocError> {
-    let mut rows = Vec::new(alloc);
-    for loaded in loads {
-        rows.push(loaded.to_vec(alloc)?)?;
-    }
-    Ok(rows)
-}
-
 // Claims a module that is to be won.
 fn wins(board: &Board<Note>, seat: &mut Seat<Note>, m: usize) -> bool
     requires seat { IsSeatOf board.now seat.old }
@@ -116,40 +92,278 @@ fn wins(board: &Board<Note>, seat: &mut Seat<Note>, m: usize) -> bool
     }
 }
 
-#[test]
-fn one_seat_loads_two_modules(rt: HostRuntime) -> Result<(), Fail> {
-    let (board, mut seats) = opened(rt.alloc(), &[&[], &[0]], 1, 7)?;
+// Wins a module, and fetches all edges into it.
+fn gathers(board: &Board<Note>, seat: &mut Seat<Note>, m: usize) -> bool
+    requires seat { IsSeatOf board.now seat.old }
+    requires module { m < length board.now.plan }
+    ensures seat { IsSeatOf board.now seat.new }
+{
+    if !wins(board, seat, m) {
+        return false;
+    }
+    collect(board, seat, m)
+}
+
+// Wins a module, fetches all edges into it, posts all edges out of it, and finishes it.
+fn loads(board: &Board<Note>, base: u64, seat: &mut Seat<Note>, m: usize) -> bool
+    requires seat { IsSeatOf board.now seat.old }
+    requires base { base_of board.now ≡ base }
+    requires module { m < length board.now.plan }
+    ensures seat { IsSeatOf board.now seat.new }
+{
+    if !wins(board, seat, m) {
+        return false;
+    }
+    let right = collect(board, seat, m);
+    deliver(board, base, seat, m);
+    right
+}
+
+fn claimed(claim: Claim) -> (&'static str, u64) {
+    match claim {
+        Claim::Won => ("won", 0),
+        Claim::Taken => ("taken", 0),
+        Claim::Waiting(edge) => ("waiting", edge as u64),
+    }
+}
+
+// One step of a seat on a board with the base 7, by its letter, and what it answers: a claim, a load, a claim with all fetched, or how many modules are done.
+fn step_of(board: &Board<Note>, seat: &mut Seat<Note>, letter: u8, m: usize) -> (&'static str, u64)
+    requires seat { IsSeatOf board.now seat.old }
+    requires base { base_of board.now ≡ 7 }
+    ensures seat { IsSeatOf board.now seat.new }
+{
+    if m >= board.plan().modules() {
+        return ("no module", 0);
+    }
+    match letter {
+        b'c' => claimed(ask(board, seat, m)),
+        b'l' => ("loaded", u64::from(loads(board, 7, seat, m))),
+        b'g' => ("gathered", u64::from(gathers(board, seat, m))),
+        _ => ("done", board.done(seat)),
+    }
+}
+
+// The steps of a script, as `c1 l0`, and what each answers.
+fn played(
+    alloc: Global,
+    board: &Board<Note>,
+    seat: &mut Seat<Note>,
+    script: &[u8],
+) -> Result<String, AllocError>
+    requires seat { IsSeatOf board.now seat.old }
+    requires base { base_of board.now ≡ 7 }
+    ensures seat { IsSeatOf board.now seat.new }
+{
+    let mut out = String::new(alloc);
+    for word in script.split(|byte| *byte == b' ') {
+        if let [letter, digits @ ..] = word {
+            let (answer, number) = step_of(board, seat, *letter, number_of(digits) as usize);
+            write!(out, "{answer} {number};")?;
+        }
+    }
+    Ok(out)
+}
+
+// The modules that each module loads, by their digits, with a `;` after each module.
+fn loads_of(alloc: Global, text: &[u8]) -> Result<Vec<Vec<u32>>, AllocError> {
+    let mut rows = Vec::new(alloc);
+    let Some((_end, modules)) = text.split_last() else {
+        return Ok(rows);
+    };
+    for digits in modules.split(|byte| *byte == b';') {
+        rows.push(modules_of(alloc, digits)?)?;
+    }
+    Ok(rows)
+}
+
+fn modules_of(alloc: Global, digits: &[u8]) -> Result<Vec<u32>, AllocError> {
+    let mut modules = Vec::new(alloc);
+    for digit in digits {
+        modules.push(u32::from(digit.wrapping_sub(b'0')))?;
+    }
+    Ok(modules)
+}
+
+// A board of these loads, with its seats.
+fn opened(
+    alloc: Global,
+    loads: Vec<Vec<u32>>,
+    seats: usize,
+    base: u64,
+) -> Result<(Board<Note>, Vec<Seat<Note>>), PlanErr>
+    requires { (0 < seats) × (seats ≤ MAX_SEATS) }
+    ensures count { IfOk result (λ r. vec_len r.1 ≡ seats) }
+    ensures base { IfOk result (λ r. base_of r.0 ≡ base) }
+    ensures seats { IfOk result (λ r. All (λ s. IsSeatOf r.0 s) r.1.items) }
+{
+    let plan = Plan::new(alloc, loads)?;
+    Ok(Board::open(alloc, plan, seats, &base)?)
+}
+
+fn refusal(alloc: Global, error: &PlanErr) -> Result<Vec<u8>, AllocError> {
+    Ok(format!(in alloc; "{error}")?.into_bytes())
+}
+
+/// What one seat is answered on a board with these loads.
+struct Scripts;
+
+fn one_seat(alloc: Global, loads: &[u8], script: &[u8]) -> Result<String, PlanErr> {
+    let (board, mut seats) = opened(alloc, loads_of(alloc, loads)?, 1, 7)?;
     let mut seat = seats.pop().unwrap();
-    assert!(rt; board.plan().modules() == 2);
-    assert!(rt; ask(&board, &mut seat, 1) == Claim::Waiting(0));
-    assert!(rt; wins(&board, &mut seat, 0));
-    assert!(rt; ask(&board, &mut seat, 0) == Claim::Taken);
-    deliver(&board, 7, &mut seat, 0);
-    assert!(rt; wins(&board, &mut seat, 1));
-    assert!(rt; collect(&board, &mut seat, 1));
-    deliver(&board, 7, &mut seat, 1);
-    assert!(rt; board.done(&mut seat) == 2);
+    let out = played(alloc, &board, &mut seat, script)?;
     board.close(seat);
-    Ok(())
+    Ok(out)
+}
+
+impl Subject for Scripts {
+    fn answer(&self, alloc: Global, text: &[u8], row: Row) -> Result<Vec<u8>, AllocError> {
+        match one_seat(alloc, text, row.word(1)) {
+            Ok(out) => Ok(out.into_bytes()),
+            Err(error) => refusal(alloc, &error),
+        }
+    }
 }
 
 #[test]
-fn one_seat_loads_a_module_twice(rt: HostRuntime) -> Result<(), Fail> {
-    let (board, mut seats) = opened(rt.alloc(), &[&[], &[0], &[0]], 1, 7)?;
-    let mut seat = seats.pop().unwrap();
-    assert!(rt; board.plan().modules() == 3);
-    assert!(rt; ask(&board, &mut seat, 2) == Claim::Waiting(1));
-    assert!(rt; wins(&board, &mut seat, 0));
-    deliver(&board, 7, &mut seat, 0);
-    assert!(rt; wins(&board, &mut seat, 2));
-    assert!(rt; collect(&board, &mut seat, 2));
-    assert!(rt; wins(&board, &mut seat, 1));
-    assert!(rt; collect(&board, &mut seat, 1));
-    deliver(&board, 7, &mut seat, 2);
-    assert!(rt; board.done(&mut seat) == 2);
-    board.close(seat);
-    Ok(())
+fn one_seat_loads_modules(rt: HostRuntime) -> Result<(), AllocError> {
+    check_rows(&rt, rt.alloc(), SCRIPTS, &Scripts)
 }
+
+const SCRIPTS: &str = r#"
+# module 1 loads module 0
+;0; | c1 l0 c0 l1 d | waiting 0;loaded 1;taken 0;loaded 1;done 2;
+# two modules load module 0
+;0;0; | c2 l0 l2 g1 d | waiting 1;loaded 1;loaded 1;gathered 1;done 2;
+"#;
+
+// How many modules and edges a plan has.
+fn counted(alloc: Global, plan: &Plan) -> Result<Vec<u8>, AllocError> {
+    let modules = plan.modules();
+    Ok(format!(in alloc; "{modules} modules, {} edges", plan.edges())?.into_bytes())
+}
+
+// The same, or why the loads make no plan.
+fn verdict(alloc: Global, loads: Vec<Vec<u32>>) -> Result<Vec<u8>, AllocError> {
+    match Plan::new(alloc, loads) {
+        Ok(plan) => counted(alloc, &plan),
+        Err(error) => refusal(alloc, &error),
+    }
+}
+
+/// The plan of these loads.
+struct Plans;
+
+impl Subject for Plans {
+    fn answer(&self, alloc: Global, text: &[u8], _row: Row) -> Result<Vec<u8>, AllocError> {
+        verdict(alloc, loads_of(alloc, text)?)
+    }
+}
+
+#[test]
+fn loads_make_a_plan_or_are_refused(rt: HostRuntime) -> Result<(), AllocError> {
+    check_rows(&rt, rt.alloc(), PLANS, &Plans)
+}
+
+const PLANS: &str = r#"
+| 0 modules, 0 edges
+1;; | 2 modules, 1 edges
+;00;1; | 3 modules, 3 edges
+0; | P1 Cyclic
+1;0; | P1 Cyclic
+2;; | P2 BadIndex
+1;02; | P2 BadIndex
+"#;
+
+// A module that loads another so many times.
+fn repeated_load(alloc: Global, module: u32, times: u64) -> Result<Vec<u32>, AllocError> {
+    let mut loads = Vec::new(alloc);
+    for _ in 0..times {
+        loads.push(module)?;
+    }
+    Ok(loads)
+}
+
+// A chain of modules, each but the first loading the one before it 16 times; and a last one, which loads the one before it so many times.
+fn chain(alloc: Global, modules: u32, times: u64) -> Result<Vec<Vec<u32>>, AllocError> {
+    let mut rows = Vec::new(alloc);
+    rows.push(Vec::new(alloc))?;
+    for m in 0..modules {
+        rows.push(repeated_load(alloc, m, 16)?)?;
+    }
+    rows.push(repeated_load(alloc, modules, times)?)?;
+    Ok(rows)
+}
+
+/// The plan of a chain with this module before the last, which loads it so many times.
+struct Chains;
+
+impl Subject for Chains {
+    fn answer(&self, alloc: Global, _text: &[u8], row: Row) -> Result<Vec<u8>, AllocError> {
+        verdict(
+            alloc,
+            chain(alloc, row.number(0).min(5000) as u32, row.number(1))?,
+        )
+    }
+}
+
+#[test]
+fn limits_of_plans(rt: HostRuntime) -> Result<(), AllocError> {
+    check_rows(&rt, rt.alloc(), CHAINS, &Chains)
+}
+
+const CHAINS: &str = r#"
+4094 | 33 | P3 TooMany
+4095 | 16 | P3 TooMany
+4094 | 32 | 4096 modules, 65536 edges
+"#;
+
+/// What two of the most seats are answered on the largest board.
+struct LargestBoard;
+
+fn two_play(
+    alloc: Global,
+    board: &Board<Note>,
+    a: &mut Seat<Note>,
+    b: &mut Seat<Note>,
+) -> Result<String, AllocError>
+    requires a { IsSeatOf board.now a.old }
+    requires b { IsSeatOf board.now b.old }
+    requires base { base_of board.now ≡ 7 }
+    ensures a { IsSeatOf board.now a.new }
+{
+    let mut out = played(alloc, board, a, b"c4095 l0")?;
+    out.push_str(&played(alloc, board, b, b"c1")?)?;
+    out.push_str(&played(alloc, board, a, b"d0")?)?;
+    Ok(out)
+}
+
+fn largest(alloc: Global) -> Result<String, PlanErr> {
+    let (board, mut seats) = opened(alloc, chain(alloc, 4094, 32)?, MAX_SEATS, 7)?;
+    let mut a = seats.pop().unwrap();
+    let mut b = seats.pop().unwrap();
+    let out = two_play(alloc, &board, &mut a, &mut b)?;
+    board.close(a);
+    Ok(out)
+}
+
+impl Subject for LargestBoard {
+    fn answer(&self, alloc: Global, _text: &[u8], _row: Row) -> Result<Vec<u8>, AllocError> {
+        match largest(alloc) {
+            Ok(out) => Ok(out.into_bytes()),
+            Err(error) => refusal(alloc, &error),
+        }
+    }
+}
+
+#[test]
+fn limits_of_boards(rt: HostRuntime) -> Result<(), AllocError> {
+    check_rows(&rt, rt.alloc(), LARGEST, &LargestBoard)
+}
+
+const LARGEST: &str = r#"
+65 seats | waiting 65504;loaded 1;won 0;done 1;
+"#;
 
 // Loads module 0.
 fn give(board: &Board<Note>, base: u64, mut seat: Seat<Note>) -> (bool, Seat<Note>)
@@ -204,47 +418,13 @@ fn give_and_take<R: Threads + Sync>(
 
 #[test]
 fn a_seat_reads_what_another_wrote(rt: HostRuntime) -> Result<(), Fail> {
-    let (board, mut seats) = opened(rt.alloc(), &[&[], &[0]], 2, 7)?;
+    let (board, mut seats) = opened(rt.alloc(), loads_of(rt.alloc(), b";0;")?, 2, 7)?;
     let a = seats.pop().unwrap();
     let b = seats.pop().unwrap();
     assert!(rt; board.plan().modules() == 2);
     let (both, b) = give_and_take(&rt, &board, 7, a, b);
-    assert!(rt; both);
     board.close(b);
-    Ok(())
-}
-
-/// How many modules and edges a plan has, or why the loads make none.
-fn verdict(alloc: Global, loads: Vec<Vec<u32>>) -> Result<String, Fail> {
-    let mut written = String::new(alloc);
-    match Plan::new(alloc, loads) {
-        Ok(plan) => write!(
-            written,
-            "{} modules, {} edges",
-            plan.modules(),
-            plan.edges()
-        )?,
-        Err(refused) => write!(written, "{refused}")?,
-    }
-    Ok(written)
-}
-
-const LOADS: [(&[&[u32]], &str); 7] = [
-    (&[], "0 modules, 0 edges"),
-    (&[&[1], &[]], "2 modules, 1 edges"),
-    (&[&[], &[0, 0], &[1]], "3 modules, 3 edges"),
-    (&[&[0]], "P1 Cyclic"),
-    (&[&[1], &[0]], "P1 Cyclic"),
-    (&[&[2], &[]], "P2 BadIndex"),
-    (&[&[1], &[0, 2]], "P2 BadIndex"),
-];
-
-#[test]
-fn loads_make_a_plan_or_are_refused(rt: HostRuntime) -> Result<(), Fail> {
-    for (loads, wanted) in LOADS {
-        let found = verdict(rt.alloc(), rows(rt.alloc(), loads)?)?;
-        assert_eq!(rt; found.as_str(), wanted);
-    }
+    assert!(rt; both);
     Ok(())
 }
 
@@ -348,62 +528,43 @@ fn no_marks(alloc: Global, count: usize) -> Result<Vec<AtomicU64>, AllocError> {
     Ok(marks)
 }
 
-#[test]
-fn four_threads_load_each_module_once(rt: HostRuntime) -> Result<(), Fail> {
-    let alloc = rt.alloc();
-    for seed in 0..RUNS {
-        let plan = Plan::new(alloc, random_loads(alloc, seed)?)?;
-        let (board, mut seats) = Board::<Note>::open(alloc, plan, 4, &seed)?;
-        let marks = no_marks(alloc, MODULES as usize)?;
-        let wrong = AtomicU64::new(0);
-        assert!(rt; board.plan().modules() == marks.len());
-        work_in_threads(&rt, &board, seed, &marks, &wrong, &mut seats);
-        assert!(rt; wrong.load(Ordering::SeqCst) == 0);
-        assert!(rt; marks.iter().all(|n| n.load(Ordering::SeqCst) == 1));
-        let mut seat = seats.pop().unwrap();
-        assert!(rt; board.done(&mut seat) == MODULES);
-        board.close(seat);
+// Whether each module was won once, with the parcels of its loads.
+fn works_once<R: Threads + Sync>(
+    rt: &R,
+    alloc: Global,
+    board: &Board<Note>,
+    seed: u64,
+    seats: &mut [Seat<Note>],
+) -> Result<bool, AllocError>
+    requires seats { All (λ s. IsSeatOf board.now s) seats.old }
+    requires base { base_of board.now ≡ seed }
+    ensures seats { All (λ s. IsSeatOf board.now s) seats.new }
+{
+    let marks = no_marks(alloc, board.plan().modules())?;
+    if board.plan().modules() != marks.len() {
+        return Ok(false);
     }
-    Ok(())
+    let wrong = AtomicU64::new(0);
+    work_in_threads(rt, board, seed, &marks, &wrong, seats);
+    Ok(wrong.load(Ordering::SeqCst) == 0 && marks.iter().all(|n| n.load(Ordering::SeqCst) == 1))
 }
 
-// A chain of modules, each but the first loading the one before it 16 times, the last one so many times more.
-fn chain(alloc: Global, modules: u32, more: u32) -> Result<Vec<Vec<u32>>, AllocError> {
-    let mut rows = Vec::new(alloc);
-    for m in 0..modules {
-        let mut row = Vec::new(alloc);
-        if m > 0 {
-            let times = if m == modules - 1 {
-                16 + u64::from(more)
-            } else {
-                16
-            };
-            for _ in 0..times {
-                row.push(m - 1)?;
-            }
-        }
-        rows.push(row)?;
-    }
-    Ok(rows)
-}
-
-#[test]
-fn limits_hold(rt: HostRuntime) -> Result<(), Fail> {
-    let alloc = rt.alloc();
-    let wide = verdict(alloc, chain(alloc, 4096, 17)?)?;
-    assert_eq!(rt; wide.as_str(), "P3 TooMany");
-    let long = verdict(alloc, chain(alloc, 4097, 0)?)?;
-    assert_eq!(rt; long.as_str(), "P3 TooMany");
-    let plan = Plan::new(alloc, chain(alloc, 4096, 16)?)?;
-    assert!(rt; plan.edges() == 65_536);
-    let (board, mut seats) = Board::<Note>::open(alloc, plan, MAX_SEATS, &7)?;
+// One run by four threads.
+fn loads_all<R: Threads + Sync>(rt: &R, alloc: Global, seed: u64) -> Result<bool, PlanErr>
+    requires { seed < 2000 }
+{
+    let (board, mut seats) = opened(alloc, random_loads(alloc, seed)?, 4, seed)?;
+    let once = works_once(rt, alloc, &board, seed, &mut seats)?;
     let mut seat = seats.pop().unwrap();
-    assert!(rt; board.plan().modules() == 4096);
-    assert!(rt; ask(&board, &mut seat, 4095) == Claim::Waiting(65_504));
-    assert!(rt; wins(&board, &mut seat, 0));
-    deliver(&board, 7, &mut seat, 0);
-    assert!(rt; wins(&board, &mut seats[0], 1));
-    assert!(rt; board.done(&mut seat) == 1);
+    let done = board.done(&mut seat);
     board.close(seat);
+    Ok(once && done == MODULES)
+}
+
+#[test]
+fn four_threads_load_each_module_once(rt: HostRuntime) -> Result<(), PlanErr> {
+    for seed in 0..RUNS {
+        assert!(rt; loads_all(&rt, rt.alloc(), seed)?);
+    }
     Ok(())
 }

@@ -6,13 +6,19 @@
 #[cfg(test)]
 mod board;
 #[cfg(test)]
+mod glob;
+#[cfg(test)]
 mod graph;
+#[cfg(test)]
+mod label;
 #[cfg(test)]
 mod literals;
 #[cfg(test)]
 mod parse;
 #[cfg(test)]
 mod query;
+#[cfg(test)]
+mod rows;
 #[cfg(test)]
 mod run;
 #[cfg(test)]

@@ -1,59 +1,55 @@
-//! The corners of the options' ranges: none of them changes the answer of a run over BUILD files that load nothing.
+//! What a run is asked. None of the corners of the options' ranges changes the answer of a run over BUILD files that load nothing.
 
-ghost use Rattle.std.specs.Prelude.{◌≤◌};
+ghost use Rattle.std.specs.Prelude.{IfOk};
+ghost use Rattle.bq_run.specs.Run.{IsInRange};
 
-use crate::run::devices::{make_drip, make_sip};
-use bq_run::{Options, Output, Status, run};
-use std::alloc::Global;
-use std::process::Abort;
-use std::test::Fail;
+use crate::rows::{Row, Subject, check_rows};
+use crate::run::runs::{UNFAILING, written};
+use bq_run::{Options, Output};
+use std::alloc::{AllocError, Global};
 
-const BUNDLE: &[u8] = b"=== a/BUILD\nfilegroup(name = \"x\")\n";
-
-/// Workers, and steps for a module.
-const CORNERS: [(u32, u64); 9] = [
-    (1, 1),
-    (1, 7),
-    (2, 2),
-    (4, 1_000_000),
-    (7, 64),
-    (63, 999_999_999),
-    (64, 1_000_000_000),
-    (64, 1),
-    (1, 1_000_000_000),
-];
-
-fn expect_answer(rt: &impl Abort, alloc: Global, jobs: u32, max_steps: u64) -> Result<(), Fail>
-    requires some_job { 1 ≤ jobs }
-    requires jobs { jobs ≤ 64 }
-    requires some_step { 1 ≤ max_steps }
-    requires steps { max_steps ≤ 1000000000 }
+/// A query with these options, or the next that are in range.
+pub fn options(
+    alloc: Global,
+    query: &[u8],
+    output: Output,
+    jobs: u64,
+    max_steps: u64,
+) -> Result<Options, AllocError>
+    ensures { IfOk result IsInRange }
 {
-    let options = Options {
-        query: b"//a:x".to_vec(alloc)?,
-        jobs,
-        output: Output::Label,
-        max_steps,
-    };
-    let mut reader = make_drip(BUNDLE, 0);
-    let mut writer = make_sip(alloc, 0, false);
-    let mut faults = make_sip(alloc, 0, false);
-    let ended = run(rt, alloc, &mut reader, &mut writer, &mut faults, &options);
-    assert!(rt; matches!(ended, Ok(Status::Answered)), "{jobs} {max_steps}");
-    assert_eq!(rt; writer.device.held.as_slice(), b"//a:x\n".as_slice());
-    assert!(rt; faults.device.held.is_empty());
-    Ok(())
+    Ok(Options {
+        query: query.to_vec(alloc)?,
+        jobs: jobs.clamp(1, 64) as u32,
+        output,
+        max_steps: max_steps.clamp(1, 1_000_000_000),
+    })
+}
+
+/// What is written of `//a:x` with so many workers, and so many steps for a module.
+struct Corners;
+
+impl Subject for Corners {
+    fn answer(&self, alloc: Global, _text: &[u8], row: Row) -> Result<Vec<u8>, AllocError> {
+        let asked = options(alloc, b"//a:x", Output::Label, row.number(0), row.number(1))?;
+        let bundle = b"=== a/BUILD\nfilegroup(name = \"x\")\n";
+        written(alloc, bundle, &asked, UNFAILING)
+    }
 }
 
 #[test]
-fn answer_alike(rt: HostRuntime) -> Result<(), Fail> {
-    for (jobs, max_steps) in CORNERS {
-        expect_answer(
-            &rt,
-            rt.alloc(),
-            jobs.clamp(1, 64),
-            max_steps.clamp(1, 1_000_000_000),
-        )?;
-    }
-    Ok(())
+fn answer_alike(rt: HostRuntime) -> Result<(), AllocError> {
+    check_rows(&rt, rt.alloc(), CORNERS, &Corners)
 }
+
+const CORNERS: &str = r#"
+1 | 1 | >//a:x\n>>0 0
+1 | 7 | >//a:x\n>>0 0
+2 | 2 | >//a:x\n>>0 0
+4 | 1000000 | >//a:x\n>>0 0
+7 | 64 | >//a:x\n>>0 0
+63 | 999999999 | >//a:x\n>>0 0
+64 | 1000000000 | >//a:x\n>>0 0
+64 | 1 | >//a:x\n>>0 0
+1 | 1000000000 | >//a:x\n>>0 0
+"#;

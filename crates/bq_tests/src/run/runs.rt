@@ -1,13 +1,104 @@
 //! Whole runs, over devices that give little or fail.
 
-ghost use Rattle.std.specs.Prelude.{IfOk};
 ghost use Rattle.bq_run.specs.Run.{IsInRange};
 
+use crate::rows::{Row, Subject, check_rows};
 use crate::run::devices::{make_drip, make_sip};
+use crate::run::options::options;
 use bq_run::{Counted, Metered, Options, Output, RunErr, Status, run, status_of};
-use std::alloc::Global;
-use std::process::Abort;
-use std::test::Fail;
+use std::alloc::{AllocError, Global};
+
+/// The calls at which the devices of a run fail, 0 for none.
+#[derive(Clone, Copy)]
+pub struct Failing {
+    reader: u64,
+    writer: u64,
+    faults_writer: u64,
+    /// A writer fails by taking nothing, without an error.
+    quietly: bool,
+}
+
+pub const UNFAILING: Failing = Failing {
+    reader: 0,
+    writer: 0,
+    faults_writer: 0,
+    quietly: false,
+};
+
+/// What two writers hold, the line that names the error, the status and how many calls failed, as `FAULTS>ANSWER>LINE>STATUS FAILURES`.
+fn shown(
+    alloc: Global,
+    faults: &[u8],
+    answer: &[u8],
+    ended: &Result<Status, RunErr>,
+    failures: u64,
+) -> Result<Vec<u8>, AllocError> {
+    let (status, line) = status_of(alloc, ended)?;
+    let end = format!(in alloc; "{status} {failures}")?;
+    joined(alloc, &[faults, answer, &line, end.as_bytes()])
+}
+
+/// Texts with a `>` between them.
+fn joined(alloc: Global, texts: &[&[u8]]) -> Result<Vec<u8>, AllocError> {
+    let mut whole = Vec::new(alloc);
+    for (n, text) in texts.iter().enumerate() {
+        if n > 0 {
+            whole.push(b'>')?;
+        }
+        whole.extend_from_slice(text)?;
+    }
+    Ok(whole)
+}
+
+/// What a run over devices of one byte a call writes.
+pub fn written(
+    alloc: Global,
+    bundle: &[u8],
+    asked: &Options,
+    failing: Failing,
+) -> Result<Vec<u8>, AllocError>
+    requires { IsInRange asked.now }
+{
+    let mut reader = make_drip(bundle, failing.reader);
+    let mut writer = make_sip(alloc, failing.writer, failing.quietly);
+    let mut faults = make_sip(alloc, failing.faults_writer, failing.quietly);
+    let ended = run(&(), alloc, &mut reader, &mut writer, &mut faults, asked);
+    let failures = reader
+        .failures()
+        .wrapping_add(writer.failures())
+        .wrapping_add(faults.failures());
+    shown(
+        alloc,
+        &faults.device.held,
+        &writer.device.held,
+        &ended,
+        failures,
+    )
+}
+
+/// What a run over a bundle writes of a query.
+struct Runs;
+
+fn output_named(word: &[u8]) -> Output {
+    if word.is_empty() {
+        Output::Label
+    } else {
+        Output::LabelKind
+    }
+}
+
+impl Subject for Runs {
+    fn answer(&self, alloc: Global, text: &[u8], row: Row) -> Result<Vec<u8>, AllocError> {
+        let query = row.bytes(alloc, 1)?;
+        let asked = options(alloc, &query, output_named(row.word(2)), 4, 1_000_000)?;
+        written(alloc, text, &asked, UNFAILING)
+    }
+}
+
+#[test]
+fn writes_what_is_asked(rt: HostRuntime) -> Result<(), AllocError> {
+    check_rows(&rt, rt.alloc(), RUNS, &Runs)
+}
 
 /// Two packages, of which one is faulty.
 const BUNDLE: &[u8] =
@@ -15,257 +106,175 @@ const BUNDLE: &[u8] =
 
 const FAULTS: &[u8] = b"//b:BUILD:1: F20 UnknownName none\n";
 
-const ANSWER: &[u8] = b"//a:x\n";
-
-const SCHEMA: &[u8] = b"=== rules.schema\n";
-
-const GENERATED: &[u8] =
-    b"=== a/BUILD\ngenrule(name = \"g\", srcs = [\"in\"], outs = [\"out\"], cmd = \"cp\")\n";
-
-const SMALL: &[u8] = b"=== a/BUILD\nfilegroup(name = \"x\", srcs = [\"s.txt\"])\n";
-
-const TWICE: &[u8] = b"=== a/BUILD\nfilegroup(name = \"x\")\nfilegroup(name = \"x\")\n";
-
-const BOTH_NAMES: &[u8] =
-    b"=== a/BUILD\nfilegroup(name = \"x\")\n=== a/BUILD.bazel\nfilegroup(name = \"y\")\n";
-
-/// A name without a slash lies in its package, whatever packages lie below it.
-const NESTED: &[u8] =
-    b"=== a/BUILD\nfilegroup(name = \"x\", srcs = [\"b\", \"b/s.txt\"])\n=== a/b/BUILD\n";
-
-/// What a run writes.
-type Row = (
-    // the bundle, and what is asked of it
-    &'static [u8],
-    &'static [u8],
-    Output,
-    // the answer
-    &'static [u8],
-    // the faults, and the line that names the error
-    &'static [u8],
-    // the status
-    u8,
-);
-
-const ROWS: [Row; 14] = [
-    (SMALL, b"//a:x", Output::Label, b"//a:x\n", b"", 0),
-    (
-        SMALL,
-        b"//a:s.txt",
-        Output::LabelKind,
-        b"source file //a:s.txt\n",
-        b"",
-        0,
-    ),
-    (
-        GENERATED,
-        b"//a:out",
-        Output::LabelKind,
-        b"generated file //a:out\n",
-        b"",
-        0,
-    ),
-    (BUNDLE, b"//a:x", Output::Label, ANSWER, FAULTS, 3),
-    (
-        TWICE,
-        b"//a:x",
-        Output::Label,
-        b"",
-        b"//a:BUILD:2: F74 DoubleTarget\nbq: Q5 NoSuchTarget //a:x\n",
-        2,
-    ),
-    (
-        NESTED,
-        b"//a:BUILD",
-        Output::Label,
-        b"",
-        b"//a:BUILD:1: F37 CrossesPackage\nbq: Q5 NoSuchTarget //a:BUILD\n",
-        2,
-    ),
-    (
-        BOTH_NAMES,
-        b"//a:x",
-        Output::Label,
-        b"",
-        b"bq: Q5 NoSuchTarget //a:x\n",
-        2,
-    ),
-    (
-        b"",
-        b"//a:x",
-        Output::Label,
-        b"",
-        b"bq: Q6 NoSuchPackage //a:x\n",
-        2,
-    ),
-    (
-        b"=== a/BUILD",
-        b"//a:x",
-        Output::Label,
-        b"",
-        b"bq: E4 Bundle\n",
-        2,
-    ),
-    (
-        SCHEMA,
-        b"//a:x",
-        Output::Label,
-        b"",
-        b"bq: E6 Schema 1\n",
-        2,
-    ),
-    // The query is read before the schema.
-    (
-        SCHEMA,
-        b"deps(//a:x)",
-        Output::Label,
-        b"",
-        b"bq: Q3 LeftOut\n",
-        2,
-    ),
-    (
-        BUNDLE,
-        b"//a//b:x",
-        Output::Label,
-        b"",
-        b"bq: Q8 Arguments\n",
-        2,
-    ),
-    (BUNDLE, b" //a:x  ", Output::Label, ANSWER, FAULTS, 3),
-    (
-        BUNDLE,
-        b"//a:all",
-        Output::Label,
-        b"",
-        b"bq: Q3 LeftOut\n",
-        2,
-    ),
-];
-
-fn options(alloc: Global, query: &[u8], output: Output) -> Result<Options, Fail>
-    ensures { IfOk result IsInRange }
-{
-    Ok(Options {
-        query: query.to_vec(alloc)?,
-        jobs: 4,
-        output,
-        max_steps: 1_000_000,
-    })
+/// What a run over that bundle writes of `//a:x`.
+fn faulty(alloc: Global, failing: Failing) -> Result<Vec<u8>, AllocError> {
+    let asked = options(alloc, b"//a:x", Output::Label, 4, 1_000_000)?;
+    written(alloc, BUNDLE, &asked, failing)
 }
 
-/// Runs the query over a bundle, and compares what is written, the status and the error line.
-fn expect(rt: &impl Abort, alloc: Global, row: &Row) -> Result<(), Fail> {
-    let (bundle, query, output, answer, errors, status) = *row;
-    let asked = options(alloc, query, output)?;
-    let mut reader = make_drip(bundle, 0);
-    let mut writer = make_sip(alloc, 0, false);
-    let mut faults = make_sip(alloc, 0, false);
-    let ended = run(rt, alloc, &mut reader, &mut writer, &mut faults, &asked);
-    let (code, line) = status_of(alloc, &ended)?;
-    faults.device.held.extend_from_slice(&line)?;
-    assert_eq!(rt; writer.device.held.as_slice(), answer);
-    assert_eq!(rt; faults.device.held.as_slice(), errors);
-    assert_eq!(rt; code, status);
-    Ok(())
-}
+/// What a run over that bundle writes of a query, where one writer fails at this call, quietly or not.
+struct FailingWriters;
 
-#[test]
-fn writes_what_is_asked(rt: HostRuntime) -> Result<(), Fail> {
-    for row in &ROWS {
-        expect(&rt, rt.alloc(), row)?;
+fn failing_writers(row: Row) -> Failing {
+    Failing {
+        reader: 0,
+        writer: row.number(1),
+        faults_writer: row.number(2),
+        quietly: !row.word(3).is_empty(),
     }
-    Ok(())
+}
+
+impl Subject for FailingWriters {
+    fn answer(&self, alloc: Global, text: &[u8], row: Row) -> Result<Vec<u8>, AllocError> {
+        let asked = options(alloc, text, Output::Label, 4, 1_000_000)?;
+        written(alloc, BUNDLE, &asked, failing_writers(row))
+    }
+}
+
+/// A failed write of the answer ends the run: the writer holds a beginning of the answer, and the faults are whole.
+/// Where the query names no target, the faults are written and the writer gets nothing.
+#[test]
+fn fails_with_its_writer(rt: HostRuntime) -> Result<(), AllocError> {
+    check_rows(&rt, rt.alloc(), FAILING_WRITERS, &FailingWriters)
+}
+
+/// What a run writes whose reader fails at the calls from one number to another, where all of them write the same.
+struct FailingReader;
+
+fn failing_reader(alloc: Global, reader: u64) -> Result<Vec<u8>, AllocError> {
+    faulty(
+        alloc,
+        Failing {
+            reader,
+            ..UNFAILING
+        },
+    )
+}
+
+impl Subject for FailingReader {
+    fn answer(&self, alloc: Global, _text: &[u8], row: Row) -> Result<Vec<u8>, AllocError> {
+        let found = failing_reader(alloc, row.number(0))?;
+        for call in row.number(0)..=row.number(1) {
+            let other = failing_reader(alloc, call)?;
+            if found != other {
+                return Ok(other);
+            }
+        }
+        Ok(found)
+    }
 }
 
 /// A failed read ends the run, and nothing is written; the read at the end of the bundle is one too.
 #[test]
-fn fails_with_its_reader(rt: HostRuntime) -> Result<(), Fail> {
-    let alloc = rt.alloc();
-    let asked = options(alloc, b"//a:x", Output::Label)?;
-    let reads = BUNDLE.len() as u64 + 1;
-    for fails in 1..=reads {
-        let mut reader = make_drip(BUNDLE, fails);
-        let mut writer = make_sip(alloc, 0, false);
-        let mut faults = make_sip(alloc, 0, false);
-        let ended = run(&rt, alloc, &mut reader, &mut writer, &mut faults, &asked);
-        assert!(rt; matches!(ended, Err(RunErr::Read)), "at {fails}");
-        assert_eq!(rt; reader.failures(), 1);
-        assert!(rt; writer.device.held.is_empty() && faults.device.held.is_empty());
-    }
-    Ok(())
+fn fails_with_its_reader(rt: HostRuntime) -> Result<(), AllocError> {
+    check_rows(&rt, rt.alloc(), FAILING_READER, &FailingReader)
 }
 
-/// A failed write of the answer ends the run: the writer holds a beginning of the answer, and the faults are whole.
-#[test]
-fn fails_with_its_writer(rt: HostRuntime) -> Result<(), Fail> {
-    let alloc = rt.alloc();
-    let asked = options(alloc, b"//a:x", Output::Label)?;
-    for fails in 1..=ANSWER.len() as u64 {
-        for quietly in [false, true] {
-            let mut reader = Metered::new(BUNDLE);
-            let mut writer = make_sip(alloc, fails, quietly);
-            let mut faults = make_sip(alloc, 0, false);
-            let ended = run(&rt, alloc, &mut reader, &mut writer, &mut faults, &asked);
-            assert!(rt; matches!(ended, Err(RunErr::Write)), "at {fails}");
-            assert_eq!(rt; writer.failures(), 1);
-            assert_eq!(rt; writer.device.held.len() as u64 + 1, fails);
-            assert!(rt; ANSWER.starts_with(&writer.device.held));
-            assert_eq!(rt; faults.device.held.as_slice(), FAULTS);
+/// At how many calls from the first on the writer of the faults may fail, and holds the faults up to there, and nothing else is written.
+struct FailingFaults;
+
+fn fails_at(alloc: Global, faults_writer: u64) -> Result<Vec<u8>, AllocError> {
+    let quietly = faults_writer % 2 == 0;
+    faulty(
+        alloc,
+        Failing {
+            faults_writer,
+            quietly,
+            ..UNFAILING
+        },
+    )
+}
+
+fn is_beginning(found: &[u8], len: usize) -> bool {
+    match (found.split_at_checked(len), FAULTS.split_at_checked(len)) {
+        (Some((held, rest)), Some((begun, _))) => {
+            held == begun && rest == b">>bq: E3 Write\n>5 1".as_slice()
         }
+        _ => false,
     }
-    Ok(())
+}
+
+impl Subject for FailingFaults {
+    fn answer(&self, alloc: Global, _text: &[u8], _row: Row) -> Result<Vec<u8>, AllocError> {
+        for len in 0..FAULTS.len() {
+            let found = fails_at(alloc, len as u64 + 1)?;
+            if !is_beginning(&found, len) {
+                return Ok(found);
+            }
+        }
+        b"each".to_vec(alloc)
+    }
 }
 
 /// A failed write of the faults ends the run, and the writer holds nothing.
 #[test]
-fn fails_with_its_faults_writer(rt: HostRuntime) -> Result<(), Fail> {
-    let alloc = rt.alloc();
-    let asked = options(alloc, b"//a:x", Output::Label)?;
-    for fails in 1..=FAULTS.len() as u64 {
-        let mut reader = Metered::new(BUNDLE);
-        let mut writer = make_sip(alloc, 0, false);
-        let mut faults = make_sip(alloc, fails, fails % 2 == 0);
-        let ended = run(&rt, alloc, &mut reader, &mut writer, &mut faults, &asked);
-        assert!(rt; matches!(ended, Err(RunErr::Write)), "at {fails}");
-        assert_eq!(rt; faults.failures(), 1);
-        assert!(rt; FAULTS.starts_with(&faults.device.held));
-        assert_eq!(rt; faults.device.held.len() as u64 + 1, fails);
-        assert!(rt; writer.device.held.is_empty());
-    }
-    Ok(())
-}
-
-/// Where the query names no target, the faults are written and the writer gets nothing.
-#[test]
-fn writes_faults_alone_without_a_target(rt: HostRuntime) -> Result<(), Fail> {
-    let alloc = rt.alloc();
-    let missing = options(alloc, b"//a:none", Output::Label)?;
-    let mut reader = Metered::new(BUNDLE);
-    let mut writer = make_sip(alloc, 1, false);
-    let mut faults = make_sip(alloc, 0, false);
-    let ended = run(&rt, alloc, &mut reader, &mut writer, &mut faults, &missing);
-    assert!(rt; matches!(ended, Err(RunErr::Query(_))));
-    assert_eq!(rt; writer.failures(), 0);
-    assert_eq!(rt; faults.device.held.as_slice(), FAULTS);
-    let mut faults = make_sip(alloc, 3, false);
-    let mut reader = Metered::new(BUNDLE);
-    let ended = run(&rt, alloc, &mut reader, &mut writer, &mut faults, &missing);
-    assert!(rt; matches!(ended, Err(RunErr::Write)));
-    assert_eq!(rt; faults.device.held.as_slice(), b"//".as_slice());
-    Ok(())
+fn fails_with_its_faults_writer(rt: HostRuntime) -> Result<(), AllocError> {
+    check_rows(&rt, rt.alloc(), "all calls | each", &FailingFaults)
 }
 
 /// Over std's own readers and writers. A body that always answers E1 is caught here.
-#[test]
-fn runs_over_slices_and_vectors(rt: HostRuntime) -> Result<(), Fail> {
-    let alloc = rt.alloc();
-    let asked = options(alloc, b"//a:x", Output::Label)?;
-    let mut reader = Metered::new(BUNDLE);
-    let mut writer = Metered::new(Vec::new(alloc));
-    let mut faults = Metered::new(Vec::new(alloc));
-    let ended = run(&rt, alloc, &mut reader, &mut writer, &mut faults, &asked);
-    assert!(rt; matches!(ended, Ok(Status::WithFaults)));
-    assert_eq!(rt; writer.device.as_slice(), ANSWER);
-    assert_eq!(rt; faults.device.as_slice(), FAULTS);
-    Ok(())
+struct Plain;
+
+impl Subject for Plain {
+    fn answer(&self, alloc: Global, text: &[u8], _row: Row) -> Result<Vec<u8>, AllocError> {
+        let asked = options(alloc, text, Output::Label, 4, 1_000_000)?;
+        let mut reader = Metered::new(BUNDLE);
+        let mut writer = Metered::new(Vec::new(alloc));
+        let mut faults = Metered::new(Vec::new(alloc));
+        let ended = run(&(), alloc, &mut reader, &mut writer, &mut faults, &asked);
+        shown(alloc, &faults.device, &writer.device, &ended, 0)
+    }
 }
+
+#[test]
+fn runs_over_slices_and_vectors(rt: HostRuntime) -> Result<(), AllocError> {
+    check_rows(&rt, rt.alloc(), PLAIN, &Plain)
+}
+
+/// A bundle, a query, `kind` where kinds are printed, and what is written. A name without a slash lies in its package, whatever packages
+/// lie below it. The query is read before the schema.
+const RUNS: &str = r#"
+=== a/BUILD\nfilegroup(name = "x", srcs = ["s.txt"])\n | //a:x | | >//a:x\n>>0 0
+=== a/BUILD\nfilegroup(name = "x", srcs = ["s.txt"])\n | //a:s.txt | kind | >source file //a:s.txt\n>>0 0
+=== a/BUILD\ngenrule(name = "g", srcs = ["in"], outs = ["out"], cmd = "cp")\n | //a:out | kind | >generated file //a:out\n>>0 0
+=== a/BUILD\nfilegroup(name = "x", srcs = ["s.txt"])\n=== b/BUILD\nnone()\n | //a:x | | //b:BUILD:1: F20 UnknownName none\n>//a:x\n>>3 0
+=== a/BUILD\nfilegroup(name = "x")\nfilegroup(name = "x")\n | //a:x | | //a:BUILD:2: F74 DoubleTarget\n>>bq: Q5 NoSuchTarget //a:x\n>2 0
+=== a/BUILD\nfilegroup(name = "x", srcs = ["b", "b/s.txt"])\n=== a/b/BUILD\n | //a:BUILD | | //a:BUILD:1: F37 CrossesPackage\n>>bq: Q5 NoSuchTarget //a:BUILD\n>2 0
+=== a/BUILD\nfilegroup(name = "x")\n=== a/BUILD.bazel\nfilegroup(name = "y")\n | //a:x | | >>bq: Q5 NoSuchTarget //a:x\n>2 0
+| //a:x | | >>bq: Q6 NoSuchPackage //a:x\n>2 0
+=== a/BUILD | //a:x | | >>bq: E4 Bundle\n>2 0
+=== rules.schema\n | //a:x | | >>bq: E6 Schema 1\n>2 0
+# The query is read before the schema.
+=== rules.schema\n | deps(//a:x) | | >>bq: Q3 LeftOut\n>2 0
+=== a/BUILD\nfilegroup(name = "x", srcs = ["s.txt"])\n=== b/BUILD\nnone()\n | //a//b:x | | >>bq: Q8 Arguments\n>2 0
+=== a/BUILD\nfilegroup(name = "x", srcs = ["s.txt"])\n=== b/BUILD\nnone()\n | \x20//a:x \x20 | | //b:BUILD:1: F20 UnknownName none\n>//a:x\n>>3 0
+=== a/BUILD\nfilegroup(name = "x", srcs = ["s.txt"])\n=== b/BUILD\nnone()\n | //a:all | | >>bq: Q3 LeftOut\n>2 0
+"#;
+
+/// A query, the call at which the writer fails, the one at which the writer of the faults does, and what is written.
+const FAILING_WRITERS: &str = r#"
+//a:x | 1 | | | //b:BUILD:1: F20 UnknownName none\n>>bq: E3 Write\n>5 1
+//a:x | 2 | | | //b:BUILD:1: F20 UnknownName none\n>/>bq: E3 Write\n>5 1
+//a:x | 3 | | | //b:BUILD:1: F20 UnknownName none\n>//>bq: E3 Write\n>5 1
+//a:x | 4 | | | //b:BUILD:1: F20 UnknownName none\n>//a>bq: E3 Write\n>5 1
+//a:x | 5 | | | //b:BUILD:1: F20 UnknownName none\n>//a:>bq: E3 Write\n>5 1
+//a:x | 6 | | | //b:BUILD:1: F20 UnknownName none\n>//a:x>bq: E3 Write\n>5 1
+//a:x | 1 | | quietly | //b:BUILD:1: F20 UnknownName none\n>>bq: E3 Write\n>5 1
+//a:x | 2 | | quietly | //b:BUILD:1: F20 UnknownName none\n>/>bq: E3 Write\n>5 1
+//a:x | 3 | | quietly | //b:BUILD:1: F20 UnknownName none\n>//>bq: E3 Write\n>5 1
+//a:x | 4 | | quietly | //b:BUILD:1: F20 UnknownName none\n>//a>bq: E3 Write\n>5 1
+//a:x | 5 | | quietly | //b:BUILD:1: F20 UnknownName none\n>//a:>bq: E3 Write\n>5 1
+//a:x | 6 | | quietly | //b:BUILD:1: F20 UnknownName none\n>//a:x>bq: E3 Write\n>5 1
+//a:none | 1 | | | //b:BUILD:1: F20 UnknownName none\n>>bq: Q5 NoSuchTarget //a:none\n>2 0
+//a:none | | 3 | | //>>bq: E3 Write\n>5 1
+"#;
+
+/// The bundle has 71 bytes.
+const FAILING_READER: &str = r#"
+1 | 72 | >>bq: E2 Read\n>5 1
+73 | 73 | //b:BUILD:1: F20 UnknownName none\n>//a:x\n>>3 0
+"#;
+
+const PLAIN: &str = r#"
+//a:x | //b:BUILD:1: F20 UnknownName none\n>//a:x\n>>3 0
+"#;
