@@ -1,1 +1,2 @@
 pub mod LoopTurns
+pub mod Reversed
