@@ -2,8 +2,8 @@
 use Rattle.std.proofs.Common.{◌≡◌, ◌∙◌, ap, sym, refl, cond, Bool, true, false, List, [], ◌∷◌, ◌++◌, Some, None, is_some}
 use Rattle.bq_value.specs.Datum.{Datum}
 use Rattle.bq_value.specs.Same.{same}
-use Rattle.bq_value.specs.SameLaws.{same-refl, same-true}
-use Rattle.bq_value.specs.Pairs.{found, put, without, keys, TakenOut}
+use Rattle.bq_value.specs.SameLaws.{same-refl, same-true, same_apart}
+use Rattle.bq_value.specs.Pairs.{found, put, without, keys, TakenOut, HasNoKeyTwice}
 
 abbrev Dict : Type 0
 Dict = List (Datum × Datum)
@@ -65,3 +65,46 @@ absent_by k p ps false f h = ap (λ r. p ∷ r) (h f)
 pub absent : (k : Datum) (ps : Dict) → found k ps ≡ None → without k ps ≡ ps
 absent k [] f = refl
 absent k (p ∷ ps) f = absent_by k p ps (same k p.0) f (absent k ps)
+
+-- two keys differ both ways
+turned : (j k : Datum) → same j k ≡ false → same k j ≡ false
+turned j k e = same_apart k j (λ is. no (sym (same-refl j) ∙ (ap (same j) (sym is) ∙ e)))
+  where
+    no : true ≡ false → ⊥
+    no e = cc
+
+once_put_by : (k v : Datum) (p : Datum × Datum) (ps : Dict) (b : Bool) → same k p.0 ≡ b → HasNoKeyTwice (p ∷ ps) → HasNoKeyTwice (put k v ps)
+    → HasNoKeyTwice (cond b ((p.0, v) ∷ ps) (p ∷ put k v ps))
+once_put_by k v p ps true e once more = once
+once_put_by k v p ps false e once more = (other_put p.0 k v ps (turned k p.0 e) ∙ once.0, more)
+
+-- a pair that is put makes no key stand twice
+pub once_put : (k v : Datum) (ps : Dict) → HasNoKeyTwice ps → HasNoKeyTwice (put k v ps)
+once_put k v [] once = (refl, tt)
+once_put k v (p ∷ ps) once = once_put_by k v p ps (same k p.0) refl once (once_put k v ps once.1)
+
+not_first : (j : Datum) (p : Datum × Datum) (rest new : Dict) (b : Bool) → cond b (Some p.1) (found j rest) ≡ None → (found j rest ≡ None → found j new ≡ None) → cond b (Some p.1) (found j new) ≡ None
+not_first j p rest new true e h = cc
+not_first j p rest new false e h = h e
+
+rest_absent : (j : Datum) (p : Datum × Datum) (rest : Dict) (b : Bool) → cond b (Some p.1) (found j rest) ≡ None → found j rest ≡ None
+rest_absent j p rest true e = absurd (cc)
+rest_absent j p rest false e = e
+
+absent_without_by : (j k : Datum) (p : Datum × Datum) (ps : Dict) (b : Bool) → found j (p ∷ ps) ≡ None → (found j ps ≡ None → found j (without k ps) ≡ None)
+    → found j (cond b ps (p ∷ without k ps)) ≡ None
+absent_without_by j k p ps true e h = rest_absent j p ps (same j p.0) e
+absent_without_by j k p ps false e h = not_first j p ps (without k ps) (same j p.0) e h
+
+-- what isn't there is not there either once another key is taken out
+absent_without : (j k : Datum) (ps : Dict) → found j ps ≡ None → found j (without k ps) ≡ None
+absent_without j k [] e = refl
+absent_without j k (p ∷ ps) e = absent_without_by j k p ps (same k p.0) e (absent_without j k ps)
+
+once_without_by : (k : Datum) (p : Datum × Datum) (ps : Dict) (b : Bool) → HasNoKeyTwice (p ∷ ps) → HasNoKeyTwice (without k ps) → HasNoKeyTwice (cond b ps (p ∷ without k ps))
+once_without_by k p ps true once more = once.1
+once_without_by k p ps false once more = (absent_without p.0 k ps once.0, more)
+
+pub once_without : (k : Datum) (ps : Dict) → HasNoKeyTwice ps → HasNoKeyTwice (without k ps)
+once_without k [] once = tt
+once_without k (p ∷ ps) once = once_without_by k p ps (same k p.0) once (once_without k ps once.1)

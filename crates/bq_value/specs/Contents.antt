@@ -1,13 +1,19 @@
 -- What a cell holds: the values of a list, or the pairs of a dict.
-use Rattle.std.specs.Prelude.{◌≡◌, List, refl}
+use Rattle.std.specs.Prelude.{◌≡◌, List, Option, Some, refl}
 use Rattle.std.specs.Coded.{Coded, code_by, coded×, coded⊎, coded_list}
 use Rattle.std.proofs.Common.{◌⊎◌, inl, inr}
 use Rattle.bq_value.specs.Datum.{Datum}
 use Rattle.bq_value.specs.Codes.{coded_datum}
+use Rattle.bq_value.specs.Pairs.{HasNoKeyTwice}
 
 pub data Contents : Type 0 where
   items : List Datum → Contents
   pairs : List (Datum × Datum) → Contents
+
+-- a dict has no key twice
+abbrev pub KeysDiffer : Option Contents → Type 0
+KeysDiffer (Some (pairs ps)) = HasNoKeyTwice ps
+KeysDiffer _ = Unit {0}
 
 abbrev to_sum : Contents → List Datum ⊎ List (Datum × Datum)
 to_sum (items v) = inl v

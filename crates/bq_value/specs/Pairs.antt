@@ -18,6 +18,11 @@ abbrev pub without : Datum → List (Datum × Datum) → List (Datum × Datum)
 without k [] = []
 without k (p ∷ ps) = cond (same k p.0) ps (p ∷ without k ps)
 
+-- no key is twice
+abbrev pub HasNoKeyTwice : List (Datum × Datum) → Type 0
+HasNoKeyTwice [] = Unit {0}
+HasNoKeyTwice (p ∷ ps) = (found p.0 ps ≡ None) × HasNoKeyTwice ps
+
 -- the keys, in order
 abbrev pub keys : List (Datum × Datum) → List Datum
 keys ps = map (λ p. p.0) ps

@@ -1,7 +1,7 @@
 //! What a cell holds.
 
-ghost use Rattle.std.specs.Prelude.{◌≡◌};
-ghost use Rattle.bq_value.specs.Contents.{items, pairs};
+ghost use Rattle.std.specs.Prelude.{◌≡◌, Some};
+ghost use Rattle.bq_value.specs.Contents.{items, pairs, KeysDiffer};
 
 use crate::dict::Dict;
 use crate::value::Value;
@@ -37,6 +37,16 @@ impl Content {
     {
         Content {
             body: Body::List(values),
+        }
+    }
+
+    /// A dict has no key twice.
+    pub(crate) fn keys_differ(&self)
+        ensures { KeysDiffer (Some self.now) }
+    {
+        match &self.body {
+            Body::List(_) => {}
+            Body::Dict(dict) => dict.has_no_key_twice(),
         }
     }
 

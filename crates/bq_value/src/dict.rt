@@ -2,7 +2,7 @@
 
 ghost use Rattle.std.specs.Prelude.{◌≡◌, [], length, option_copied, drop, ◌∷◌, ◌+◌, ◌<◌, IfOk, OnOk, OnErr};
 ghost use Rattle.std.specs.Map.Iter.{deref_pair};
-ghost use Rattle.bq_value.specs.Pairs.{found, put, without};
+ghost use Rattle.bq_value.specs.Pairs.{found, put, without, HasNoKeyTwice};
 
 use crate::key::Key;
 use crate::value::Value;
@@ -26,6 +26,10 @@ impl Model for Dict {
     ghost coded = { coded_pairs };
 
     ghost view = { λ d. d.entries.entries };
+
+    ghost use Rattle.bq_value.specs.Pairs.{HasNoKeyTwice};
+
+    ghost invariant = { λ d. HasNoKeyTwice d.entries.entries };
 }
 
 impl Dict {
@@ -36,6 +40,13 @@ impl Dict {
         Dict {
             entries: IndexMap::new(alloc),
         }
+    }
+
+    /// No key is twice.
+    pub(crate) fn has_no_key_twice(&self)
+        ensures { HasNoKeyTwice self.now }
+    {
+        let _ = &self.entries; // for the proof: opens the invariant
     }
 
     /// How many pairs.

@@ -4,10 +4,13 @@
 ghost use Rattle.std.specs.Prelude.{◌≡◌, ◌≢◌, ◌↔◌, ◌++◌, ◌∷◌, [], List, ℕ, Some, None, cond, fold, is_some, true, false, ◌==◌};
 ghost use Rattle.bq_value.specs.Datum.{Datum};
 ghost use Rattle.bq_value.specs.Same.{same};
-ghost use Rattle.bq_value.specs.Pairs.{found, put, without, keys, TakenOut};
-ghost use Rattle.bq_value.specs.Contents.{Contents};
+ghost use Rattle.bq_value.specs.Pairs.{found, put, without, keys, TakenOut, HasNoKeyTwice};
+ghost use Rattle.bq_value.specs.Contents.{Contents, KeysDiffer};
 ghost use Rattle.bq_value.specs.Cells.{StoreView, FrozenView, module_at, content_at, frozen_at, frozen, added, brought, with_loaded};
 ghost use Rattle.bq_value.specs.Lending.{with_cell};
+
+use crate::store::Store;
+use crate::value::Cell;
 
 /// Keys are equal just where they are one value.
 pub fn equality_of_keys()
@@ -30,6 +33,22 @@ pub fn a_key_that_is_taken_out()
     ensures there { (k v : Datum) (pairs : List (Datum × Datum)) → found k pairs ≡ Some v → TakenOut k v pairs (without k pairs) }
     ensures absent { (k : Datum) (pairs : List (Datum × Datum)) → found k pairs ≡ None → without k pairs ≡ pairs }
 {}
+
+/// No key is twice in `{}`, and putting a pair and taking one out keep it so.
+pub fn keys_stay_distinct()
+    ensures empty { HasNoKeyTwice [] }
+    ensures put { (k v : Datum) (pairs : List (Datum × Datum)) → HasNoKeyTwice pairs → HasNoKeyTwice (put k v pairs) }
+    ensures without { (k : Datum) (pairs : List (Datum × Datum)) → HasNoKeyTwice pairs → HasNoKeyTwice (without k pairs) }
+{}
+
+/// No dict of a store has a key twice, whatever was done to the store.
+pub fn dicts_of_stores_have_distinct_keys(store: &Store, cell: Cell)
+    ensures { KeysDiffer (content_at store.now cell.module cell.number) }
+{
+    if let Some(content) = store.content(cell) {
+        content.keys_differ();
+    }
+}
 
 /// Freezing keeps every cell.
 pub fn freezing_keeps_every_cell()
