@@ -7,12 +7,12 @@ use lib.Pointwise.{bytes_decides}
 use Rattle.bq_value.specs.Datum.{Datum, none, boolean, int, string, tuple, range, cell, function, built_in, Data, list_of}
 use Rattle.bq_value.specs.Range.{ranges_same}
 use Rattle.bq_value.specs.Same.{bool_same}
-use Rattle.bq_value.specs.Contents.{Contents, items, pairs}
+use Rattle.bq_value.specs.Contents.{Contents, items, pairs, KeysDiffer}
 use Rattle.bq_value.specs.Cells.{StoreView, content_at}
-use Rattle.bq_value.specs.Pairs.{found}
+use Rattle.bq_value.specs.Pairs.{found, HasNoKeyTwice}
 use Rattle.bq_walk.specs.Looked.{Looked, stepped}
 use Rattle.bq_walk.specs.Equality.{Compares, if_so, all_equal, lists_equal, partner_equal, pairs_equal, dicts_equal, contents_equal, cells_equal, parts_equal, equal_at}
-use Rattle.bq_walk.specs.Laws.{HasNoKeyTwice, KeysDiffer, KeysAreDistinct}
+use Rattle.bq_walk.specs.Laws.{KeysAreDistinct}
 use Rattle.bq_walk.proofs.Ranges.{AreRangesSame, ranges_back, ranges_on, ranges_itself, nat_test, int_test, all_true}
 use Rattle.bq_walk.proofs.Alike.{Relates, AllAlike, PartnerAlike, PartnersAlike, ContentsAlike, CellsAlike, PartsAlike, Alike, bool_test, answer_of, Tells, equality_tells}
 use Rattle.bq_walk.proofs.Keyed.{HavePartners, partners, partners_all, flipped}

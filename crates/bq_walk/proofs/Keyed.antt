@@ -3,8 +3,7 @@ use Rattle.std.proofs.Common.{◌≡◌, ◌≢◌, ◌∙◌, ◌≤◌, ℕ, z
 use Rattle.bq_value.specs.Datum.{Datum}
 use Rattle.bq_value.specs.Same.{same}
 use Rattle.bq_value.specs.SameLaws.{same-refl, same-true}
-use Rattle.bq_value.specs.Pairs.{found, without}
-use Rattle.bq_walk.specs.Laws.{HasNoKeyTwice}
+use Rattle.bq_value.specs.Pairs.{found, without, HasNoKeyTwice}
 use Rattle.bq_walk.proofs.Alike.{Relates, PartnerAlike, PartnersAlike}
 
 abbrev Dict : Type 0

@@ -16,3 +16,5 @@ pub mod Lesser
 pub mod Orders
 -- a walk takes a number of steps of its own
 pub mod Counting
+-- and so does the walk of a key
+pub mod KeySteps

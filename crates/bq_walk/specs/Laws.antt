@@ -5,9 +5,8 @@ use Rattle.std.specs.declared.cmp.Ordering.TheVariants.{Less, Equal, Greater}
 use Rattle.bq_source.specs.declared.fault.FaultKind.{FaultKind}
 use Rattle.bq_source.specs.declared.fault.FaultKind.TheVariants.{StepLimit}
 use Rattle.bq_value.specs.Datum.{Datum, none, boolean, int, string, tuple, range, cell, function, built_in}
-use Rattle.bq_value.specs.Contents.{Contents, items, pairs}
+use Rattle.bq_value.specs.Contents.{Contents, items, pairs, KeysDiffer}
 use Rattle.bq_value.specs.Cells.{StoreView, content_at}
-use Rattle.bq_value.specs.Pairs.{found}
 use Rattle.bq_walk.specs.Looked.{Looked, max_levels}
 use Rattle.bq_walk.specs.Equality.{equal_at}
 use Rattle.bq_walk.specs.Order.{ordered_at}
@@ -26,16 +25,7 @@ Equals s a b so = Answers (λ n. equal_at max_levels s n a b) so
 abbrev pub Ordered : StoreView → Datum → Datum → Ordering → Type 0
 Ordered s a b so = Answers (λ n. ordered_at max_levels s n a b) so
 
--- the pairs of a dict have distinct keys
-abbrev pub HasNoKeyTwice : List (Datum × Datum) → Type 0
-HasNoKeyTwice [] = Unit {0}
-HasNoKeyTwice (p ∷ ps) = (found p.0 ps ≡ None) × HasNoKeyTwice ps
-
-abbrev pub KeysDiffer : Option Contents → Type 0
-KeysDiffer (Some (pairs ps)) = HasNoKeyTwice ps
-KeysDiffer _ = Unit {0}
-
--- so have all dicts of the store
+-- no dict of the store has a key twice
 abbrev pub KeysAreDistinct : StoreView → Type 0
 KeysAreDistinct s = (home number : ℕ) → KeysDiffer (content_at s home number)
 

@@ -12,6 +12,7 @@ ghost use Rattle.bq_value.specs.Cells.{StoreView, content_at};
 ghost use Rattle.bq_walk.specs.Looked.{max_levels};
 ghost use Rattle.bq_walk.specs.Equality.{equal_at};
 ghost use Rattle.bq_walk.specs.Order.{ordered_at};
+ghost use Rattle.bq_walk.specs.KeyWalk.{walked_at, keyed};
 ghost use Rattle.bq_walk.specs.Laws.{Equals, Ordered, KeysAreDistinct, kind_of, Decided, Takes};
 
 /// Where `==` answers, it is an equivalence.
@@ -56,4 +57,5 @@ pub fn first_unequal_place_decides()
 pub fn steps_are_the_walks_own()
     ensures equality { (s : StoreView) (a b : Datum) → Takes (λ n. equal_at max_levels s n a b) }
     ensures order { (s : StoreView) (a b : Datum) → Takes (λ n. ordered_at max_levels s n a b) }
+    ensures key { (v : Datum) → Takes (λ n. keyed v (walked_at max_levels n v)) }
 {}
