@@ -6,5 +6,7 @@ pub mod Steps
 pub mod Plain
 -- the walk of a text takes a number of steps of its own
 pub mod Counting
--- plain values with one text are one value
+-- the text of a key in one piece
+pub mod KeyTexts
+-- keys with one text are one key
 pub mod Apart

@@ -1,12 +1,12 @@
 //! Laws of the definitions: each is the contract of a function that does nothing.
 
-ghost use Rattle.std.specs.Prelude.{◌≡◌, ◌≤◌, ℕ, suc, ℤ, List, Ok, length};
+ghost use Rattle.std.specs.Prelude.{◌≡◌, ◌↔◌, ◌≤◌, ℕ, suc, ℤ, List, Ok, length};
 ghost use Rattle.std.specs.Fmt.{signed_decimal};
 ghost use Rattle.bq_source.specs.StringLiteral.{quoted};
 ghost use Rattle.bq_value.specs.Datum.{Datum, int, string};
 ghost use Rattle.bq_value.specs.Cells.{StoreView};
 ghost use Rattle.bq_walk.specs.Laws.{Takes};
-ghost use Rattle.bq_text.specs.Laws.{IsPlain};
+ghost use Rattle.bq_text.specs.Laws.{IsKeyInRange};
 ghost use Rattle.bq_text.specs.Page.{max_text};
 ghost use Rattle.bq_text.specs.Shown.{repr_of, text_of};
 
@@ -27,7 +27,7 @@ pub fn steps_are_the_texts_own()
     ensures text { (s : StoreView) (v : Datum) → Takes (λ n. text_of s n v) }
 {}
 
-/// Plain values that have one `repr` are one value: `1`, `"1"` and `True` are told apart.
-pub fn plain_values_have_texts_of_their_own()
-    ensures { (s : StoreView) (n m k j : ℕ) (v w : Datum) (t : List ℕ) → IsPlain v → IsPlain w → repr_of s (suc n) v ≡ Ok (t, m) → repr_of s (suc k) w ≡ Ok (t, j) → v ≡ w }
+/// Two keys have one `repr` just where they are one key, tuples too: `1`, `"1"`, `True` and `(1,)` are told apart.
+pub fn keys_have_texts_of_their_own()
+    ensures { (s : StoreView) (n m k j : ℕ) (v w : Datum) (t u : List ℕ) → IsKeyInRange v → IsKeyInRange w → repr_of s n v ≡ Ok (t, m) → repr_of s k w ≡ Ok (u, j) → (t ≡ u) ↔ (v ≡ w) }
 {}
