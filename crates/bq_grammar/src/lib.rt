@@ -25,12 +25,14 @@
 
 mod arguments;
 mod laws;
+mod literals;
 mod parameters;
 mod refusal;
 mod tree;
 
 pub use arguments::{Allowed, ArgumentKind};
 pub use laws::{each_test_is_read, one_tree_of_a_test, what_is_read_is_a_test};
+pub use literals::is_identifier;
 pub use parameters::{AllowedParameters, ParameterKind};
 pub use refusal::Refusal;
 pub use tree::{

@@ -22,7 +22,7 @@ pub fn is_letter(b: u8) -> bool
 }
 
 /// What a word is made of.
-fn is_word(b: u8) -> bool
+pub fn is_word(b: u8) -> bool
     ensures { result ≡ is_word b }
 {
     is_letter(b) || b.is_ascii_digit()

@@ -38,6 +38,7 @@ pub use laws::{
     tokens_lie_within,
 };
 pub use lexer::lex;
+pub use lexis::{is_letter, is_word, word_kind};
 pub use number::{
     begins_number, decimal_texts_read_back, each_digit_has_its_place, int_value, number_len,
     values_are_those_of_the_digits,
