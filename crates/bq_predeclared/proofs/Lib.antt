@@ -1,0 +1,2 @@
+-- `Found`: a look-up by name finds what has the name, and nothing else.
+mod Found

@@ -1,0 +1,2 @@
+pub mod Predeclared
+pub mod Laws

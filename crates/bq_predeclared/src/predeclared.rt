@@ -1,0 +1,147 @@
+//! The predeclared names (Starlark specification, "Built-in constants and functions"; Bazel, Build Encyclopedia, "Functions").
+
+ghost use Rattle.std.specs.Prelude.{◌≡◌, option_copied};
+ghost use Rattle.bq_predeclared.specs.Predeclared.{predeclared_named, first_named, is_named, name_of};
+
+/// What a predeclared name stands for.
+#[derive(Clone, Copy, Debug, PartialEq, Eq)]
+pub enum Predeclared {
+    // Constants.
+    None,
+    True,
+    False,
+    // Functions of the language.
+    All,
+    Any,
+    Bool,
+    Dict,
+    Enumerate,
+    Fail,
+    Int,
+    Len,
+    List,
+    Max,
+    Min,
+    Print,
+    Range,
+    Repr,
+    Reversed,
+    Select,
+    Sorted,
+    Str,
+    Tuple,
+    Type,
+    Zip,
+    /// A function that the host carries out, by its id: 0 to 5 are the build functions, and 6 + r is rule r of the schema.
+    Host(u32),
+}
+
+/// The build functions, in the order of their ids.
+const BUILD_FUNCTIONS: [&[u8]; 6] = [
+    b"glob",
+    b"package_name",
+    b"package",
+    b"licenses",
+    b"exports_files",
+    b"package_group",
+];
+
+/// All but the rules.
+const PREDECLARED: [Predeclared; 30] = [
+    Predeclared::None,
+    Predeclared::True,
+    Predeclared::False,
+    Predeclared::All,
+    Predeclared::Any,
+    Predeclared::Bool,
+    Predeclared::Dict,
+    Predeclared::Enumerate,
+    Predeclared::Fail,
+    Predeclared::Int,
+    Predeclared::Len,
+    Predeclared::List,
+    Predeclared::Max,
+    Predeclared::Min,
+    Predeclared::Print,
+    Predeclared::Range,
+    Predeclared::Repr,
+    Predeclared::Reversed,
+    Predeclared::Select,
+    Predeclared::Sorted,
+    Predeclared::Str,
+    Predeclared::Tuple,
+    Predeclared::Type,
+    Predeclared::Zip,
+    Predeclared::Host(0),
+    Predeclared::Host(1),
+    Predeclared::Host(2),
+    Predeclared::Host(3),
+    Predeclared::Host(4),
+    Predeclared::Host(5),
+];
+
+impl Predeclared {
+    /// Its name; none for a rule, whose name is the schema's.
+    pub fn name(self) -> Option<&'static [u8]>
+        ensures { option_copied result ≡ name_of self }
+    {
+        match self {
+            Predeclared::None => Some(b"None"),
+            Predeclared::True => Some(b"True"),
+            Predeclared::False => Some(b"False"),
+            Predeclared::All => Some(b"all"),
+            Predeclared::Any => Some(b"any"),
+            Predeclared::Bool => Some(b"bool"),
+            Predeclared::Dict => Some(b"dict"),
+            Predeclared::Enumerate => Some(b"enumerate"),
+            Predeclared::Fail => Some(b"fail"),
+            Predeclared::Int => Some(b"int"),
+            Predeclared::Len => Some(b"len"),
+            Predeclared::List => Some(b"list"),
+            Predeclared::Max => Some(b"max"),
+            Predeclared::Min => Some(b"min"),
+            Predeclared::Print => Some(b"print"),
+            Predeclared::Range => Some(b"range"),
+            Predeclared::Repr => Some(b"repr"),
+            Predeclared::Reversed => Some(b"reversed"),
+            Predeclared::Select => Some(b"select"),
+            Predeclared::Sorted => Some(b"sorted"),
+            Predeclared::Str => Some(b"str"),
+            Predeclared::Tuple => Some(b"tuple"),
+            Predeclared::Type => Some(b"type"),
+            Predeclared::Zip => Some(b"zip"),
+            Predeclared::Host(id) => BUILD_FUNCTIONS.get(id as usize).copied(),
+        }
+    }
+}
+
+/// Whether it has this name.
+fn is_named(predeclared: Predeclared, name: &[u8]) -> bool
+    ensures { result ≡ is_named name.now predeclared }
+{
+    match predeclared.name() {
+        Some(own) => name == own,
+        None => false,
+    }
+}
+
+#[tactic(auto, unfolding(crate::specs::Predeclared::first_named))]
+fn first_named(mut table: &[Predeclared], name: &[u8]) -> Option<Predeclared>
+    ensures { result ≡ first_named name.now table.entry.now }
+{
+    while let [entry, rest @ ..] = table {
+        if is_named(*entry, name) {
+            return Some(*entry);
+        }
+        table = rest;
+    }
+    None
+}
+
+/// What the name stands for; none for the name of a rule, and for one that nothing has.
+#[tactic(auto, unfolding(crate::specs::Predeclared::predeclared_named))]
+pub fn predeclared_named(name: &[u8]) -> Option<Predeclared>
+    ensures { result ≡ predeclared_named name.now }
+{
+    first_named(&PREDECLARED, name)
+}
