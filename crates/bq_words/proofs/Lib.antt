@@ -1,0 +1,6 @@
+-- One word after another.
+pub mod Cuts
+-- One line after another.
+pub mod LineCuts
+-- The words are the longest runs of bytes that are not space.
+pub mod Between

@@ -1,0 +1,4 @@
+pub mod Class
+pub mod Case
+pub mod Word
+pub mod Line
