@@ -94,21 +94,36 @@ fn measure(
     Ok(())
 }
 
+fn measure_each(rt: &HostRuntime, graph: &Graph, a: &[bool], b: &[bool]) -> Result<()>
+    requires a { length a.now ≡ length graph.now }
+    requires b { length b.now ≡ length graph.now }
+{
+    measure(rt, "deps", Form::Deps, graph, a, b)?;
+    measure(rt, "deps within 3", Form::DepsWithin, graph, a, b)?;
+    measure(rt, "rdeps", Form::Rdeps, graph, a, b)?;
+    measure(rt, "allpaths", Form::Allpaths, graph, a, b)
+}
+
+/// Builds the graph of so many targets.
+fn measured_graph(rt: &HostRuntime, count: usize) -> Result<Graph>
+    requires { count < 1000000 }
+    ensures { IfOk result (λ g. length g ≡ count) }
+{
+    let edges = edges(rt.alloc(), count)?;
+    let start = rt.thread_cpu_time()?;
+    let graph = Graph::new(rt.alloc(), count, &edges)?;
+    let time = rt.thread_cpu_time()?.saturating_sub(start).as_micros();
+    eprintln!(rt; "graph of {count} targets: {time} us")?;
+    Ok(graph)
+}
+
 fn measure_all(rt: &HostRuntime, count: usize) -> Result<()>
     requires { count < 1000000 }
 {
-    let alloc = rt.alloc();
-    let edges = edges(alloc, count)?;
-    let start = rt.thread_cpu_time()?;
-    let graph = Graph::new(alloc, count, &edges)?;
-    let time = rt.thread_cpu_time()?.saturating_sub(start).as_micros();
-    eprintln!(rt; "graph of {count} targets: {time} us")?;
-    let a = only(alloc, count, 0)?;
-    let b = only(alloc, count, count / 2)?;
-    measure(rt, "deps", Form::Deps, &graph, &a, &b)?;
-    measure(rt, "deps within 3", Form::DepsWithin, &graph, &a, &b)?;
-    measure(rt, "rdeps", Form::Rdeps, &graph, &a, &b)?;
-    measure(rt, "allpaths", Form::Allpaths, &graph, &a, &b)
+    let graph = measured_graph(rt, count)?;
+    let a = only(rt.alloc(), count, 0)?;
+    let b = only(rt.alloc(), count, count / 2)?;
+    measure_each(rt, &graph, &a, &b)
 }
 
 fn main(rt: HostRuntime) -> Result<()> {

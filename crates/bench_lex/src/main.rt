@@ -32,24 +32,57 @@ fn build_file(alloc: Global, length: usize) -> Result<String, AllocError> {
     Ok(text)
 }
 
-fn main(rt: HostRuntime) -> anyhow::Result<()> {
-    let mut files = Vec::new(rt.alloc());
+/// A file, and what was measured of it.
+#[derive(Drop)]
+struct Measured {
+    file: String,
+    tokens: usize,
+    fastest: Duration,
+}
+
+fn files(alloc: Global) -> Result<Vec<Measured>, AllocError> {
+    let mut files = Vec::new(alloc);
     for length in FILE_LENGTHS {
-        files.push(build_file(rt.alloc(), length)?)?;
+        files.push(Measured {
+            file: build_file(alloc, length)?,
+            tokens: 0,
+            fastest: Duration::MAX,
+        })?;
     }
-    let mut fastest = [Duration::MAX; 3];
-    let mut counts = [0; 3];
+    Ok(files)
+}
+
+/// Reads a file once more.
+fn read(rt: &HostRuntime, measured: &mut Measured) -> anyhow::Result<()> {
+    let start = rt.thread_cpu_time()?;
+    measured.tokens = lex(rt.alloc(), measured.file.as_bytes())?.len();
+    let time = rt.thread_cpu_time()?.saturating_sub(start);
+    measured.fastest = time.min(measured.fastest);
+    Ok(())
+}
+
+fn read_all(rt: &HostRuntime, files: &mut [Measured]) -> anyhow::Result<()> {
+    for file in files {
+        read(rt, file)?;
+    }
+    Ok(())
+}
+
+fn show(rt: &HostRuntime, measured: &Measured) -> anyhow::Result<()> {
+    let length = measured.file.len();
+    println!(rt; "{length} bytes: {} tokens", measured.tokens)?;
+    eprintln!(rt; "{length} bytes: {:?}", measured.fastest)?;
+    Ok(())
+}
+
+fn main(rt: HostRuntime) -> anyhow::Result<()> {
+    let mut files = files(rt.alloc())?;
     // Rounds over all the files, so that a slow moment of the machine falls on each alike.
     for _ in 0..ROUNDS {
-        for ((file, time), count) in files.iter().zip(&mut fastest).zip(&mut counts) {
-            let start = rt.thread_cpu_time()?;
-            *count = lex(rt.alloc(), file.as_bytes())?.len();
-            *time = rt.thread_cpu_time()?.saturating_sub(start).min(*time);
-        }
+        read_all(&rt, &mut files)?;
     }
-    for ((file, time), count) in files.iter().zip(&fastest).zip(&counts) {
-        println!(rt; "{} bytes: {count} tokens", file.len())?;
-        eprintln!(rt; "{} bytes: {time:?}", file.len())?;
+    for file in &files {
+        show(&rt, file)?;
     }
     Ok(())
 }
