@@ -1,4 +1,4 @@
--- What a value is (Starlark, "Value concepts"), as plain data: nothing of how it is shared or laid out.
+-- What a value is (Starlark, "Data types"), as plain data: nothing of how it is shared or laid out.
 use Rattle.std.specs.Prelude.{◌≡◌, ℕ, ◌+◌, ℤ, Bool, List, [], ◌∷◌, refl}
 use Rattle.std.proofs.Common.{ap}
 

@@ -1,5 +1,5 @@
 -- When two values are the same value in each part, and what a key feeds to a hash. Of two keys this is the equality of the
--- language (Starlark, "Equality", "Hashing"): `1`, `"1"` and `True` are three keys.
+-- language (Starlark, "Comparisons", "Hashing"): `1`, `"1"` and `True` are three keys.
 use Rattle.std.specs.Prelude.{Bool, true, false, ◌&&◌, [], ◌∷◌, ◌++◌, ◌==◌}
 use Rattle.std.specs.Ordering.{int_eq}
 use Rattle.std.specs.Cmp.Lexicographic.{pointwise}

@@ -26,7 +26,7 @@ impl Range {
         }
     }
 
-    /// Whether two ranges have the same elements (Starlark, "Equality").
+    /// Whether two ranges have the same elements (Starlark, "Comparisons").
     #[tactic(auto, unfolding(crate::specs::Range::ranges_same))]
     pub fn equals(self, other: Range) -> bool
         ensures { result ≡ ranges_same self.start self.stop self.step other.start other.stop other.step }

@@ -1,34 +1,121 @@
 //! When two values are the same in each part, and what one feeds to a hash. Dicts look keys up by these.
 
 ghost use Rattle.std.specs.Prelude.{◌≡◌, fold};
-ghost use Rattle.bq_value.specs.Datum.{data_of};
+ghost use Rattle.bq_value.specs.Datum.{none, boolean, int, string, tuple, range, cell, function, built_in, data_of};
 ghost use Rattle.bq_value.specs.Same.{same, same_all, feed, feed_all};
 
-use crate::value::{Node, Value};
+use crate::range::Range;
+use crate::value::{Cell, Function, Node, Value};
 use std::hash::{Hash, Hasher};
 
+impl Value {
+    /// Whether this is `None`.
+    pub fn is_none(&self) -> bool
+        ensures { result ≡ same none self.now }
+    {
+        match &self.node {
+            Node::NoneValue => true,
+            _ => false,
+        }
+    }
+
+    /// Whether this is that truth value.
+    pub fn is_bool(&self, b: bool) -> bool
+        ensures { result ≡ same (boolean b) self.now }
+    {
+        match &self.node {
+            Node::Bool(c) => b == *c,
+            _ => false,
+        }
+    }
+
+    /// Whether this is that integer.
+    pub fn is_int(&self, n: i64) -> bool
+        ensures { result ≡ same (int n) self.now }
+    {
+        match &self.node {
+            Node::Int(m) => n == *m,
+            _ => false,
+        }
+    }
+
+    /// Whether this is the string of these bytes.
+    pub fn is_string(&self, bytes: &[u8]) -> bool
+        ensures { result ≡ same (string bytes.now) self.now }
+    {
+        match &self.node {
+            Node::Text(others) => bytes == others.as_slice(),
+            _ => false,
+        }
+    }
+
+    /// Whether this is the built-in function of that name.
+    pub fn is_built_in(&self, name: &[u8]) -> bool
+        ensures { result ≡ same (built_in name.now) self.now }
+    {
+        match &self.node {
+            Node::BuiltIn(other) => name == other.as_slice(),
+            _ => false,
+        }
+    }
+}
+
+fn is_same_range(x: Range, b: &Value) -> bool
+    ensures { result ≡ same (range x.start x.stop x.step) b.now }
+{
+    match &b.node {
+        Node::Range(y) => x.start == y.start && x.stop == y.stop && x.step == y.step,
+        _ => false,
+    }
+}
+
+fn is_same_cell(x: Cell, b: &Value) -> bool
+    ensures { result ≡ same (cell x.module x.number) b.now }
+{
+    match &b.node {
+        Node::Cell(y) => x.module == y.module && x.number == y.number,
+        _ => false,
+    }
+}
+
 #[cycle(same)]
-#[tactic(auto, using(crate::specs::Datum::list_of_data_of))]
 pub(crate) fn is_same(a: &Value, b: &Value) -> bool
     ensures { result ≡ same a.now b.now }
 {
-    match (&a.node, &b.node) {
-        (Node::NoneValue, Node::NoneValue) => true,
-        (Node::Bool(x), Node::Bool(y)) => *x == *y,
-        (Node::Int(x), Node::Int(y)) => *x == *y,
-        (Node::Text(x), Node::Text(y)) => x.as_slice() == y.as_slice(),
-        (Node::Tuple(xs), Node::Tuple(ys)) => are_same(xs, ys),
-        (Node::Range(x), Node::Range(y)) => x.start == y.start
-            && x.stop == y.stop
-            && x.step == y.step,
-        (Node::Cell(x), Node::Cell(y)) => x.module == y.module && x.number == y.number,
-        (Node::Function(f), Node::Function(g)) => {
+    match &a.node {
+        Node::NoneValue => b.is_none(),
+        Node::Bool(x) => b.is_bool(*x),
+        Node::Int(x) => b.is_int(*x),
+        Node::Text(x) => b.is_string(x.as_slice()),
+        Node::Tuple(xs) => is_same_tuple(xs, b),
+        Node::Range(x) => is_same_range(*x, b),
+        Node::Cell(x) => is_same_cell(*x, b),
+        Node::Function(f) => is_same_function(f, b),
+        Node::BuiltIn(x) => b.is_built_in(x.as_slice()),
+    }
+}
+
+#[cycle(same)]
+fn is_same_tuple(xs: &[Value], b: &Value) -> bool
+    ensures { result ≡ same (tuple (data_of xs.now)) b.now }
+{
+    match &b.node {
+        Node::Tuple(ys) => are_same(xs, ys),
+        _ => false,
+    }
+}
+
+#[cycle(same)]
+fn is_same_function(f: &Function, b: &Value) -> bool
+    ensures { result ≡ same (function f.now.module f.now.place f.now.name (data_of f.now.defaults.items)) b.now }
+{
+    match &b.node {
+        Node::Function(g) => {
             f.module == g.module
                 && f.place == g.place
                 && f.name.as_slice() == g.name.as_slice()
                 && are_same(&f.defaults, &g.defaults)
         }
-        (Node::BuiltIn(x), Node::BuiltIn(y)) => x.as_slice() == y.as_slice(),
         _ => false,
     }
 }

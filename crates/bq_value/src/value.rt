@@ -1,4 +1,4 @@
-//! Values (Starlark, "Value concepts").
+//! Values (Starlark, "Data types").
 
 ghost use Rattle.std.specs.Prelude.{◌≡◌, ◌+◌, ◌<◌, ◌≤◌, IfOk, IfSome};
 ghost use Rattle.bq_value.specs.Datum.{Datum, none, boolean, int, string, tuple, range, cell, function, built_in, data_of, weight, weights};

@@ -1,12 +1,12 @@
-//! `==` (Starlark, "Equality").
+//! `==` (Starlark, "Comparisons").
 
-ghost use Rattle.std.specs.Prelude.{◌≡◌};
+ghost use Rattle.std.specs.Prelude.{◌≡◌, option_copied};
 ghost use Rattle.bq_walk.specs.Looked.{max_levels};
-ghost use Rattle.bq_walk.specs.Equality.{equal_at, lists_equal, dicts_equal, contents_equal};
+ghost use Rattle.bq_walk.specs.Equality.{equal_at, range_equal, function_equal, tuple_equal, cell_equal, lists_equal, dicts_equal, contents_equal};
 
 use crate::MAX_LEVELS;
 use bq_source::FaultKind;
-use bq_value::{Body, Content, Dict, Node, Store, Value};
+use bq_value::{Body, Content, Dict, Function, Node, Range, Store, Value};
 
 /// Whether two values are equal, and the steps that are left of these.
 pub fn equal(store: &Store, steps: u64, a: &Value, b: &Value) -> Result<(bool, u64), FaultKind>
@@ -35,23 +35,70 @@ pub(crate) fn values_equal(
         return Err(FaultKind::TooDeep);
     }
     let below = levels - 1;
-    match (&a.node, &b.node) {
-        (Node::NoneValue, Node::NoneValue) => Ok((true, steps)),
-        (Node::Bool(x), Node::Bool(y)) => Ok((*x == *y, steps)),
-        (Node::Int(x), Node::Int(y)) => Ok((*x == *y, steps)),
-        (Node::Text(x), Node::Text(y)) => Ok((x.as_slice() == y.as_slice(), steps)),
-        (Node::Tuple(xs), Node::Tuple(ys)) => slices_equal(store, below, steps, xs, ys),
-        (Node::Range(x), Node::Range(y)) => Ok((x.equals(*y), steps)),
-        (Node::Cell(x), Node::Cell(y)) => match (store.content(*x), store.content(*y)) {
-            (Some(c), Some(d)) => cells_equal(store, below, steps, c, d),
+    match &a.node {
+        Node::NoneValue => Ok((b.is_none(), steps)),
+        Node::Bool(x) => Ok((b.is_bool(*x), steps)),
+        Node::Int(x) => Ok((b.is_int(*x), steps)),
+        Node::Text(x) => Ok((b.is_string(x.as_slice()), steps)),
+        Node::Tuple(xs) => tuple_equal(store, below, steps, xs, b),
+        Node::Range(x) => Ok((range_equal(*x, b), steps)),
+        Node::Cell(x) => cell_equal(store, below, steps, store.content(*x), b),
+        Node::Function(f) => Ok((function_equal(f, b), steps)),
+        Node::BuiltIn(x) => Ok((b.is_built_in(x.as_slice()), steps)),
+    }
+}
+
+fn range_equal(x: Range, b: &Value) -> bool
+    ensures { result ≡ range_equal x.start x.stop x.step b.now }
+{
+    match &b.node {
+        Node::Range(y) => x.equals(*y),
+        _ => false,
+    }
+}
+
+fn function_equal(f: &Function, b: &Value) -> bool
+    ensures { result ≡ function_equal f.now.module f.now.place b.now }
+{
+    match &b.node {
+        Node::Function(g) => f.module == g.module && f.place == g.place,
+        _ => false,
+    }
+}
+
+#[cycle(equal)]
+#[tactic(auto, using(bq_value::specs::Datum::list_of_data_of))]
+fn tuple_equal(
+    store: &Store,
+    levels: u32,
+    steps: u64,
+    xs: &[Value],
+    b: &Value,
+) -> Result<(bool, u64), FaultKind>
+    ensures { result ≡ tuple_equal (equal_at levels store.now) steps xs.now b.now }
+{
+    match &b.node {
+        Node::Tuple(ys) => slices_equal(store, levels, steps, xs, ys),
+        _ => Ok((false, steps)),
+    }
+}
+
+#[cycle(equal)]
+fn cell_equal(
+    store: &Store,
+    levels: u32,
+    steps: u64,
+    a: Option<&Content>,
+    b: &Value,
+) -> Result<(bool, u64), FaultKind>
+    ensures { result ≡ cell_equal (equal_at levels store.now) store.now steps (option_copied a.entry) b.now }
+{
+    match &b.node {
+        Node::Cell(y) => match (a, store.content(*y)) {
+            (Some(c), Some(d)) => cells_equal(store, levels, steps, c, d),
             (None, None) => Ok((true, steps)),
             _ => Ok((false, steps)),
         },
-        (Node::Function(f), Node::Function(g)) => Ok((
-            f.module == g.module && f.place == g.place,
-            steps,
-        )),
-        (Node::BuiltIn(x), Node::BuiltIn(y)) => Ok((x.as_slice() == y.as_slice(), steps)),
         _ => Ok((false, steps)),
     }
 }

@@ -6,8 +6,8 @@ use Rattle.bq_walk.proofs.equality.+equal.Goals as goal
 pub slices_equal-loop-i-preserved : goal.slices_equal-loop-i-preserved
 slices_equal-loop-i-preserved t c = grind (arith, common_steps)
 
-pub values_equal-returns-in-Tuple-Tuple : goal.values_equal-returns-in-Tuple-Tuple
-values_equal-returns-in-Tuple-Tuple t c = grind (arith, common_steps, list_of_data_of)
+pub values_equal-returns-in-Tuple : goal.values_equal-returns-in-Tuple
+values_equal-returns-in-Tuple t c = grind (arith, common_steps, list_of_data_of)
 
 pub slices_equal-returns-then-not-same : goal.slices_equal-returns-then-not-same
 slices_equal-returns-then-not-same t c = grind (arith, common_steps)

@@ -4,16 +4,22 @@ use Rattle.bq_walk.specs.Equality.{equal_at, all_equal, pairs_equal}
 use Rattle.bq_walk.proofs.equality.+equal.Given as goal
 
 abbrev pub decreases-values_equal : goal.decreases-values_equal
-decreases-values_equal l = 3 * l.levels
+decreases-values_equal l = 4 * l.levels
+
+abbrev pub decreases-tuple_equal : goal.decreases-tuple_equal
+decreases-tuple_equal l = 4 * l.levels + 2
+
+abbrev pub decreases-cell_equal : goal.decreases-cell_equal
+decreases-cell_equal l = 4 * l.levels + 3
 
 abbrev pub decreases-cells_equal : goal.decreases-cells_equal
-decreases-cells_equal l = 3 * l.levels + 2
+decreases-cells_equal l = 4 * l.levels + 2
 
 abbrev pub decreases-slices_equal : goal.decreases-slices_equal
-decreases-slices_equal l = 3 * l.levels + 1
+decreases-slices_equal l = 4 * l.levels + 1
 
 abbrev pub decreases-entries_equal : goal.decreases-entries_equal
-decreases-entries_equal l = 3 * l.levels + 1
+decreases-entries_equal l = 4 * l.levels + 1
 
 abbrev pub invariant-slices_equal-loop-i : goal.invariant-slices_equal-loop-i
 invariant-slices_equal-loop-i l =
