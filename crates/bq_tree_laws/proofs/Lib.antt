@@ -1,0 +1,5 @@
+pub mod Layers
+pub mod Operators
+pub mod Expressions
+pub mod Statements
+pub mod Files
