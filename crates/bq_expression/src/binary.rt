@@ -10,9 +10,9 @@ ghost use Rattle.bq_grammar.specs.declared.tree.Expr.TheVariants as e;
 ghost use Rattle.bq_expression.specs.Nested.{ReadsNested};
 
 use crate::grammar::Grammar;
-use crate::tokens::Tokens;
 use bq_grammar::{Choice, Comparison, Expr, Nested, Operation, Operator, Refusal, UnaryOperator};
 use bq_source::TokenKind;
+use bq_tokens::Tokens;
 use sqlite_items::{Boxed, Items};
 use std::alloc::{AllocError, Global};
 

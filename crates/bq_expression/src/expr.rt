@@ -5,8 +5,8 @@ ghost use Rattle.bq_grammar.specs.Reading as spec;
 ghost use Rattle.bq_grammar.specs.ReadingStatements as statements;
 
 use crate::grammar::Grammar;
-use crate::tokens::Tokens;
 use bq_grammar::{Expr, Nested, Refusal};
+use bq_tokens::Tokens;
 use std::alloc::Global;
 
 /// A phrase in which so many brackets less one may be open.

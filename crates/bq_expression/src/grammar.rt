@@ -6,9 +6,9 @@ ghost use Rattle.bq_grammar.specs.Reading as spec;
 ghost use Rattle.bq_grammar.specs.declared.tree.Nested.TheVariants.{Test};
 ghost use Rattle.bq_expression.specs.Nested.{ReadsNested};
 
-use crate::tokens::Tokens;
 use bq_grammar::{Expr, Nested, Refusal};
 use bq_source::TokenKind;
+use bq_tokens::Tokens;
 use sqlite_items::Items;
 use std::alloc::Global;
 

@@ -4,8 +4,8 @@
 //! of memory aside: the tree, with the tokens after it left, or the refusal. The laws of `bq_grammar` say that this is the tree that
 //! the grammar relates to the tokens, and that there is none where it is refused as syntax.
 //!
-//! What a contract sees: [`Tokens`], a place in the tokens of a text, is the list of the tokens from there on, with their spellings
-//! (`Lexeme`). So a function that reads says in one line what it makes of `tokens.old`, and that `tokens.new` is what is left.
+//! What a contract sees: `Tokens` of `bq_tokens`, a place in the tokens of a text, is the list of the tokens from there on, with their
+//! spellings (`Lexeme`). So a function that reads says in one line what it makes of `tokens.old`, and that `tokens.new` is what is left.
 //!
 //! Each production is a function of the name that its reading function has, with the production above it. Those over expressions in
 //! brackets are methods of `Grammar`, which holds the reader of these, so that each is proved by itself; only [`phrase`] closes the
@@ -16,8 +16,6 @@
 //!
 //! In reading order:
 //!
-//! - `tokens`: a place in the tokens, and the steps that every production is made of;
-//! - `operators`: which token is which operator, and how tightly it binds;
 //! - `variables`: the variables of a `for`;
 //! - `grammar`: the reader of what stands in brackets, and lists of it;
 //! - `operands`, `suffixes`, `binary`: the productions, from what binds tightest;
@@ -28,11 +26,8 @@ mod binary;
 mod expr;
 mod grammar;
 mod operands;
-mod operators;
 mod suffixes;
-mod tokens;
 mod variables;
 
 pub use expr::{expr_list, phrase};
-pub use tokens::Tokens;
 pub use variables::{var, vars};

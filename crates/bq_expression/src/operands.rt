@@ -9,10 +9,10 @@ ghost use Rattle.bq_source.specs.declared.token.TokenKind.TheVariants as kind;
 ghost use Rattle.bq_expression.specs.Nested.{ReadsNested};
 
 use crate::grammar::Grammar;
-use crate::tokens::Tokens;
 use crate::variables::vars;
 use bq_grammar::{Clause, Expr, Nested, Pair, Refusal};
 use bq_source::TokenKind;
+use bq_tokens::Tokens;
 use sqlite_items::{Boxed, Items};
 use std::alloc::Global;
 

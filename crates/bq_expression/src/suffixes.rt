@@ -11,9 +11,9 @@ ghost use Rattle.bq_source.specs.declared.token.TokenKind.TheVariants as kind;
 ghost use Rattle.bq_expression.specs.Nested.{ReadsNested};
 
 use crate::grammar::Grammar;
-use crate::tokens::Tokens;
 use bq_grammar::{Allowed, Argument, ArgumentKind, Expr, Identifier, Nested, Refusal, Suffix};
 use bq_source::{Bytes, TokenKind};
+use bq_tokens::Tokens;
 use sqlite_items::{Boxed, Items};
 use std::alloc::Global;
 

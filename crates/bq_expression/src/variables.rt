@@ -8,9 +8,9 @@ ghost use Rattle.bq_grammar.specs.declared.tree.Target.TheVariants as target;
 ghost use Rattle.bq_source.specs.declared.token.TokenKind.TheVariants as kind;
 ghost use Rattle.bq_expression.specs.Nested.{ReadsVar};
 
-use crate::tokens::Tokens;
 use bq_grammar::{Refusal, Target};
 use bq_source::TokenKind;
+use bq_tokens::Tokens;
 use sqlite_items::Items;
 use std::alloc::Global;
 

@@ -6,9 +6,10 @@ ghost use Rattle.bq_grammar.specs.Turns.{Reads};
 ghost use Rattle.bq_grammar.specs.Statements as grammar;
 ghost use Rattle.bq_grammar.specs.ReadingStatements as spec;
 
-use bq_expression::{Tokens, phrase};
+use bq_expression::phrase;
 use bq_grammar::{AllowedParameters, Nested, Parameter, ParameterKind, Refusal};
 use bq_source::TokenKind;
+use bq_tokens::Tokens;
 use sqlite_items::Items;
 use std::alloc::Global;
 

@@ -3,9 +3,10 @@
 ghost use Rattle.bq_grammar.specs.Turns.{Reads};
 ghost use Rattle.bq_grammar.specs.ReadingStatements as spec;
 
-use bq_expression::{Tokens, expr_list};
+use bq_expression::expr_list;
 use bq_grammar::{Refusal, SmallKind};
 use bq_source::TokenKind;
+use bq_tokens::Tokens;
 use std::alloc::Global;
 
 /// 'return' [Expr], after 'return'

@@ -74,3 +74,23 @@ pub fn comparison(kind: TokenKind) -> Option<Comparison>
         _ => None,
     }
 }
+
+/// The operator of an augmented assignment.
+pub fn augmented(kind: TokenKind) -> Option<Operator>
+    ensures { result ≡ spec.augmented kind }
+{
+    match kind {
+        TokenKind::PlusAssign => Some(Operator::Add),
+        TokenKind::MinusAssign => Some(Operator::Subtract),
+        TokenKind::StarAssign => Some(Operator::Multiply),
+        TokenKind::SlashAssign => Some(Operator::Divide),
+        TokenKind::SlashSlashAssign => Some(Operator::FloorDivide),
+        TokenKind::PercentAssign => Some(Operator::Modulo),
+        TokenKind::AmpersandAssign => Some(Operator::BitAnd),
+        TokenKind::PipeAssign => Some(Operator::BitOr),
+        TokenKind::CaretAssign => Some(Operator::BitXor),
+        TokenKind::LessLessAssign => Some(Operator::ShiftLeft),
+        TokenKind::GreaterGreaterAssign => Some(Operator::ShiftRight),
+        _ => None,
+    }
+}

@@ -2,9 +2,9 @@ use Rattle.std.proofs.Common.{◌≡◌, Some, arith}
 use Rattle.bq_source.specs.declared.token.TokenKind.TheVariants as k
 use Rattle.bq_grammar.specs.Lexeme.{lexemes}
 use Rattle.bq_grammar.specs.Reading.{spelling_of}
-use Rattle.bq_expression.specs.Tokens.{kind_ahead}
-use Rattle.bq_expression.proofs.Ahead.{string_ahead}
-use Rattle.bq_expression.proofs.tokens.Tokens.string.Goals as goal
+use Rattle.bq_tokens.specs.Tokens.{kind_ahead}
+use Rattle.bq_tokens.proofs.Ahead.{string_ahead}
+use Rattle.bq_tokens.proofs.tokens.Tokens.text.Goals as goal
 
 pub string_value-requires : goal.string_value-requires
 string_value-requires c =

@@ -6,13 +6,15 @@ ghost use Rattle.bq_grammar.specs.Lexeme.{lexemes};
 ghost use Rattle.bq_grammar.specs.Turns.{Reads};
 ghost use Rattle.bq_grammar.specs.Turns as spec;
 ghost use Rattle.bq_grammar.specs.Reading as reading;
+ghost use Rattle.bq_grammar.specs.ReadingStatements as statements;
+ghost use Rattle.bq_grammar.specs.Statements as grammar;
 ghost use Rattle.bq_grammar.specs.Operators as operators;
 ghost use Rattle.bq_source.specs.Number as numbers;
 ghost use Rattle.bq_source.specs.StringLiteral as strings;
 ghost use Rattle.bq_source.specs.declared.token.TokenKind.TheVariants as kind;
-ghost use Rattle.bq_expression.specs.Tokens as ahead;
+ghost use Rattle.bq_tokens.specs.Tokens as ahead;
 
-use crate::operators::{comparison, negation, operator_at, sign};
+use crate::operators::{augmented, comparison, negation, operator_at, sign};
 use bq_grammar::{Comparison, Expr, Identifier, Operator, Refusal, UnaryOperator};
 use bq_source::{Bytes, Token, TokenKind, int_value, string_value};
 use std::alloc::Global;
@@ -30,7 +32,7 @@ impl<'a> Model for Tokens<'a> {
 
     ghost Value = { List Lexeme };
 
-    ghost use Rattle.bq_expression.specs.Tokens.{lexemes_ahead, IsInText};
+    ghost use Rattle.bq_tokens.specs.Tokens.{lexemes_ahead, IsInText};
 
     ghost view = { lexemes_ahead };
 
@@ -68,6 +70,43 @@ impl<'a> Tokens<'a> {
             Some(token) => token.kind.is(kind),
             None => false,
         }
+    }
+
+    /// The line of the next token; 0 where there is none.
+    pub fn line(&self) -> u32
+        ensures { result ≡ grammar.line_of self.now }
+    {
+        match self.rest.first() {
+            Some(token) => token.line,
+            None => 0,
+        }
+    }
+
+    /// The same place.
+    pub fn here(&self) -> Tokens<'a>
+        ensures { result ≡ self.now }
+    {
+        Tokens {
+            text: self.text,
+            rest: self.rest,
+        }
+    }
+
+    /// The last of the tokens from here to `rest` is of this kind.
+    #[tactic(auto, using(crate::proofs::Ahead::ended))]
+    pub fn ended_by(&self, kind: TokenKind, rest: &Tokens<'_>) -> bool
+        ensures { result ≡ statements.ended_by kind self.now rest.now }
+    {
+        let at = self
+            .rest
+            .len()
+            .saturating_sub(rest.left())
+            .saturating_sub(1);
+        let last = Tokens {
+            text: self.text,
+            rest: &self.rest[at..],
+        };
+        last.sees(kind)
     }
 
     /// The place after the next token.
@@ -173,6 +212,18 @@ impl<'a> Tokens<'a> {
         Ok(Expr::String(value))
     }
 
+    /// What the next token, a string literal, stands for.
+    pub fn text(&mut self, alloc: Global) -> Result<Bytes, Refusal>
+        requires { ahead.kind_ahead self.old ≡ Some kind.String }
+        ensures { Reads (statements.text_of (strings.string_value (reading.spelling_of self.old)) (spec.next self.old)) result self.new }
+    {
+        // for the proof: it looks into the place.
+        let _ = self.rest.len();
+        let value = string_value(alloc, self.spelling())?;
+        self.advance();
+        Ok(value)
+    }
+
     /// A sign comes next.
     pub fn sees_sign(&self) -> bool
         ensures { result ≡ reading.has operators.sign self.now }
@@ -263,6 +314,31 @@ impl<'a> Tokens<'a> {
     {
         match self.rest.first() {
             Some(token) => match operator_at(level, token.kind) {
+                Some(found) => {
+                    self.advance();
+                    Ok(found)
+                }
+                None => Err(Refusal::Syntax),
+            },
+            None => Err(Refusal::Syntax),
+        }
+    }
+
+    /// The operator of an augmented assignment comes next.
+    pub fn sees_augmented(&self) -> bool
+        ensures { result ≡ reading.has operators.augmented self.now }
+    {
+        match self.rest.first() {
+            Some(token) => augmented(token.kind).is_some(),
+            None => false,
+        }
+    }
+
+    pub fn augmented(&mut self) -> Result<Operator, Refusal>
+        ensures { Reads (reading.looked_up operators.augmented self.old) result self.new }
+    {
+        match self.rest.first() {
+            Some(token) => match augmented(token.kind) {
                 Some(found) => {
                     self.advance();
                     Ok(found)

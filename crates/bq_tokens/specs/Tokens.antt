@@ -3,7 +3,7 @@ use Rattle.std.specs.Prelude.{List, [], ◌∷◌, Option, Some, None, All}
 use Rattle.bq_source.specs.Spelling.{Lies}
 use Rattle.bq_source.specs.declared.token.TokenKind.{TokenKind}
 use Rattle.bq_grammar.specs.Lexeme.{Lexeme, lexemes}
-use Rattle.bq_expression.specs.declared.tokens.Tokens.TheInside.{Inside}
+use Rattle.bq_tokens.specs.declared.tokens.Tokens.TheInside.{Inside}
 
 abbrev pub lexemes_ahead : Inside → List Lexeme
 lexemes_ahead t = lexemes t.text.now t.rest.now
