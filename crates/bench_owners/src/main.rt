@@ -14,14 +14,15 @@ fn file(alloc: Global, i: u32) -> Result<File, AllocError> {
     let package = i / 6;
     let top = package % 10;
     let mid = package % 100;
-    let path = match i % 6 {
-        0 => format!(in alloc; "d{top}/e{mid}/p{package}/BUILD")?,
-        1 => format!(in alloc; "d{top}/e{mid}/p{package}/a.c")?,
-        2 => format!(in alloc; "d{top}/e{mid}/p{package}/src/b.c")?,
-        3 => format!(in alloc; "d{top}/e{mid}/p{package}/src/lib/c.c")?,
-        4 => format!(in alloc; "d{top}/e{mid}/p{package}/src/lib/deep/d.c")?,
-        _ => format!(in alloc; "d{top}/e{mid}/p{package}/test/e.c")?,
+    let rest = match i % 6 {
+        0 => "BUILD",
+        1 => "a.c",
+        2 => "src/b.c",
+        3 => "src/lib/c.c",
+        4 => "src/lib/deep/d.c",
+        _ => "test/e.c",
     };
+    let path = format!(in alloc; "d{top}/e{mid}/p{package}/{rest}")?;
     Ok(File {
         path: Bytes::from_slice(alloc, path.as_bytes())?,
         content: Bytes::empty(),
@@ -48,29 +49,45 @@ fn owned(workspace: &Workspace, packages: &Packages) -> u64 {
     owned
 }
 
-fn measure(rt: &HostRuntime, alloc: Global, count: u32) -> Result<()> {
-    let made = files(alloc, count)?;
+fn measured_workspace(rt: &HostRuntime, count: u32) -> Result<Workspace> {
+    let made = files(rt.alloc(), count)?;
     let start = Instant::now(rt)?;
     let Ok(workspace) = Workspace::new(made) else {
         return Err(anyhow!("no workspace"));
     };
-    let sorted = start.elapsed(rt)?.as_micros();
+    let time = start.elapsed(rt)?.as_micros();
+    eprintln!(rt; "{count} files: workspace {time} us")?;
+    Ok(workspace)
+}
+
+fn measured_packages(rt: &HostRuntime, workspace: &Workspace) -> Result<Packages> {
     let start = Instant::now(rt)?;
-    let packages = Packages::of(alloc, &workspace)?;
-    let found = start.elapsed(rt)?.as_micros();
+    let packages = Packages::of(rt.alloc(), workspace)?;
+    let time = start.elapsed(rt)?.as_micros();
+    eprintln!(rt; "their packages {time} us")?;
+    Ok(packages)
+}
+
+fn measure_owners(rt: &HostRuntime, workspace: &Workspace, packages: &Packages) -> Result<()> {
     let start = Instant::now(rt)?;
-    let owned = owned(&workspace, &packages);
-    let owners = start.elapsed(rt)?.as_micros();
-    let count_found = packages.all().len();
-    println!(rt; "{count} files: {count_found} packages, {owned} owners")?;
-    eprintln!(rt; "{count} files: workspace {sorted} us, packages {found} us, owners {owners} us")?;
+    let owned = owned(workspace, packages);
+    let time = start.elapsed(rt)?.as_micros();
+    let files = workspace.files().len();
+    let found = packages.all().len();
+    println!(rt; "{files} files: {found} packages, {owned} owners")?;
+    eprintln!(rt; "their owners {time} us")?;
     Ok(())
 }
 
+fn measure(rt: &HostRuntime, count: u32) -> Result<()> {
+    let workspace = measured_workspace(rt, count)?;
+    let packages = measured_packages(rt, &workspace)?;
+    measure_owners(rt, &workspace, &packages)
+}
+
 fn main(rt: HostRuntime) -> Result<()> {
-    let alloc = rt.alloc();
-    measure(&rt, alloc, 15_000)?;
-    measure(&rt, alloc, 60_000)?;
-    measure(&rt, alloc, 15_000)?;
-    measure(&rt, alloc, 60_000)
+    for count in [15_000, 60_000, 15_000, 60_000] {
+        measure(&rt, count)?;
+    }
+    Ok(())
 }
