@@ -1,2 +1,4 @@
 pub mod LoopTurns
 pub mod Reversed
+pub mod Strings
+pub mod Taken

@@ -1,7 +1,8 @@
 -- A recursion on a count of turns, beside a loop that counts up.
-use Rattle.std.proofs.Common.{◌≡◌, ℕ, suc, ◌+◌, ◌-◌, ◌<◌, ◌≤◌, List, ap, arith}
+use Rattle.std.proofs.Common.{◌≡◌, ℕ, suc, ◌+◌, ◌-◌, ◌<◌, ◌≤◌, ◌∙◌, List, sym, ap, arith}
 use Rattle.bq_grammar.specs.Lexeme.{Lexeme}
 use Rattle.bq_grammar.specs.Turns.{Parse, Turn, next_turn, turns}
+use Rattle.bq_grammar.specs.ReadingStatements.{stmt, statement}
 
 -- a turn more
 pub turns_more : {S : Type 0} (turn : S → List Lexeme → Turn S) (finish : S → Parse S) (n at : ℕ) (s : S) (ts : List Lexeme) → at < n
@@ -17,3 +18,8 @@ turns_over turn finish n at s ts done = let none : n - at ≡ 0 = omega arith in
 
 pub deeper : {X : Type 0} (f : ℕ → X) (n : ℕ) → 0 < n → f n ≡ f (suc (n - 1))
 deeper f n some = let e : n ≡ suc (n - 1) = omega arith in ap f e
+
+pub statement_above : (n : ℕ) (ts : List Lexeme) → 0 < n → statement n ts ≡ stmt n (statement (n - 1)) ts
+unfolding statement
+statement_above n ts some =
+    let one : n ≡ suc (n - 1) = omega arith in ap (λ m. statement m ts) one ∙ ap (λ m. stmt m (statement (n - 1)) ts) (sym one)

@@ -1,6 +1,6 @@
 //! What is assigned to: the target that an expression is.
 
-ghost use Rattle.std.specs.Prelude.{◌≡◌, [], ◌∷◌, reverse, IfOk};
+ghost use Rattle.std.specs.Prelude.{◌≡◌, suc, [], ◌∷◌, reverse, IfOk};
 ghost use Rattle.bq_grammar.specs.Grammar as grammar;
 ghost use Rattle.bq_grammar.specs.Targets as spec;
 ghost use Rattle.bq_grammar.specs.declared.tree.Expr.{out-Expr};
@@ -126,7 +126,7 @@ impl<F: Fn(Global, usize, Expr) -> Result<Target, Refusal>> Targets<F> {
 }
 
 /// The target that an expression is, which holds so many lists and tuples in one another less one.
-pub fn target_to(alloc: Global, depth: usize, expr: Expr) -> Result<Target, Refusal>
+fn target_to(alloc: Global, depth: usize, expr: Expr) -> Result<Target, Refusal>
     ensures { Makes (spec.target_to depth expr) result }
 {
     if depth == 0 {
@@ -135,6 +135,19 @@ pub fn target_to(alloc: Global, depth: usize, expr: Expr) -> Result<Target, Refu
     Targets {
         alloc,
         depth: depth - 1,
+        target: target_to,
+    }
+    .target(expr)
+}
+
+/// The target that an expression is, which holds so many lists and tuples in one another.
+#[tactic(auto, unfolding(bq_grammar::specs::Targets::target_to))]
+pub fn target(alloc: Global, depth: usize, expr: Expr) -> Result<Target, Refusal>
+    ensures { Makes (spec.target_to (suc depth) expr) result }
+{
+    Targets {
+        alloc,
+        depth,
         target: target_to,
     }
     .target(expr)

@@ -1,0 +1,39 @@
+//! Statements, with the reader of those in blocks.
+
+ghost use Rattle.bq_grammar.specs.Turns.{Reads};
+ghost use Rattle.bq_grammar.specs.ReadingStatements as spec;
+ghost use Rattle.bq_parse.specs.Makes.{Makes};
+
+use crate::blocks::Blocks;
+use bq_grammar::{Refusal, Stmt, TopLevel};
+use bq_tokens::Tokens;
+use std::alloc::Global;
+
+/// A statement in which so many brackets and indents less one may be open.
+pub fn statement(alloc: Global, tokens: &mut Tokens<'_>, depth: usize) -> Result<Stmt, Refusal>
+    ensures { Reads (spec.statement depth tokens.old) result tokens.new }
+{
+    if depth == 0 {
+        return Err(Refusal::Syntax);
+    }
+    Blocks {
+        alloc,
+        depth,
+        inside: depth - 1,
+        statement,
+    }
+    .stmt(tokens)
+}
+
+/// The top-level statement that all of these tokens are.
+#[tactic(auto, using(crate::proofs::Taken::none_left, crate::proofs::Taken::some_left), unfolding(bq_grammar::specs::ReadingStatements::top_level))]
+pub fn top_level(alloc: Global, tokens: &mut Tokens<'_>, depth: usize) -> Result<TopLevel, Refusal>
+    ensures { Makes (spec.top_level depth tokens.old) result }
+{
+    let line = tokens.line();
+    let statement = statement(alloc, tokens, depth)?;
+    match tokens.peek() {
+        None => Ok(TopLevel { line, statement }),
+        Some(_) => Err(Refusal::Syntax),
+    }
+}
