@@ -23,3 +23,5 @@ mod rows;
 mod run;
 #[cfg(test)]
 mod source;
+#[cfg(test)]
+mod value;
