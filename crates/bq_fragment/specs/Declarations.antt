@@ -20,12 +20,24 @@ use Rattle.bq_fragment.specs.Steps.{◌>>=◌}
 abbrev pub begun : ℕ → Rule → Declaration
 begun line rule = record { line = line; rule = rule; name = None; outputs = []; labels = [] }
 
+-- the first of the texts as the target's name
+unfoldable pub with_name : PackageParts → List BuildFile → List (List ℕ) → Declaration → Result Declaration FaultKind
+with_name own packages ts d = target_names own packages ts >>= λ ns. Ok (record d { name = slice_get ns 0 })
+
+-- the texts as outputs
+unfoldable pub with_outputs : PackageParts → List BuildFile → List (List ℕ) → Declaration → Result Declaration FaultKind
+with_outputs own packages ts d = target_names own packages (map without_colon ts) >>= λ ns. Ok (record d { outputs = d.outputs ++ ns })
+
+-- the texts as labels of edges
+unfoldable pub with_labels : PackageParts → List BuildFile → List (List ℕ) → Declaration → Result Declaration FaultKind
+with_labels own packages ts d = labels_of own packages ts >>= λ ls. Ok (record d { labels = d.labels ++ ls })
+
 -- what the texts of an attribute of this type add: a name, outputs or the labels of edges
 unfoldable pub with_texts : PackageParts → List BuildFile → AttributeType → List (List ℕ) → Declaration → Result Declaration FaultKind
-with_texts own packages t.Name ts d = target_names own packages ts >>= λ ns. Ok (record d { name = slice_get ns 0 })
-with_texts own packages t.OutputList ts d = target_names own packages (map without_colon ts) >>= λ ns. Ok (record d { outputs = d.outputs ++ ns })
-with_texts own packages t.Label ts d = labels_of own packages ts >>= λ ls. Ok (record d { labels = d.labels ++ ls })
-with_texts own packages t.LabelList ts d = labels_of own packages ts >>= λ ls. Ok (record d { labels = d.labels ++ ls })
+with_texts own packages t.Name ts d = with_name own packages ts d
+with_texts own packages t.OutputList ts d = with_outputs own packages ts d
+with_texts own packages t.Label ts d = with_labels own packages ts d
+with_texts own packages t.LabelList ts d = with_labels own packages ts d
 with_texts own packages _ ts d = Ok d
 
 abbrev pub with_value : PackageParts → List BuildFile → AttributeType → Option (List (List ℕ)) → Declaration → Result Declaration FaultKind

@@ -6,7 +6,7 @@ ghost use Rattle.bq_fragment.specs.Arguments.{argument_names};
 ghost use Rattle.bq_source.specs.Gives.{Gives};
 ghost use Rattle.bq_fragment.specs.declared.call_error.CallErr.TheVariants.{Bad};
 ghost use Rattle.bq_fragment.specs.Steps.{itself};
-ghost use Rattle.bq_fragment.specs.Declarations.{begun, with_texts, with_argument, with_arguments, gives_all, declaration};
+ghost use Rattle.bq_fragment.specs.Declarations.{begun, with_name, with_outputs, with_labels, with_texts, with_argument, with_arguments, gives_all, declaration};
 
 use crate::arguments::{gives, repeats};
 use crate::attribute::{labels_of, output_names, target_names, value_texts};
@@ -55,6 +55,47 @@ impl Declaration {
         }
     }
 
+    /// Takes the first of the texts as the target's name.
+    #[tactic(auto, unfolding(crate::specs::Declarations::with_name))]
+    fn take_name(&mut self, alloc: Global, scope: Scope<'_>, texts: &[Bytes]) -> Result<(), CallErr>
+        ensures { Gives (λ _. self.new) Bad result (with_name scope.entry.own.now scope.entry.packages.now texts.now self.old) }
+    {
+        let names = target_names(alloc, scope, texts)?;
+        self.name = first(&names)?;
+        Ok(())
+    }
+
+    /// Takes the texts as outputs.
+    #[tactic(auto, unfolding(crate::specs::Declarations::with_outputs))]
+    fn take_outputs(
+        &mut self,
+        alloc: Global,
+        scope: Scope<'_>,
+        texts: &[Bytes],
+    ) -> Result<(), CallErr>
+        ensures { Gives (λ _. self.new) Bad result (with_outputs scope.entry.own.now scope.entry.packages.now texts.now self.old) }
+    {
+        let outputs = output_names(alloc, texts)?;
+        let outputs = target_names(alloc, scope, outputs.as_slice())?;
+        self.outputs.append(outputs)?;
+        Ok(())
+    }
+
+    /// Takes the texts as labels of edges.
+    #[tactic(auto, unfolding(crate::specs::Declarations::with_labels))]
+    fn take_labels(
+        &mut self,
+        alloc: Global,
+        scope: Scope<'_>,
+        texts: &[Bytes],
+    ) -> Result<(), CallErr>
+        ensures { Gives (λ _. self.new) Bad result (with_labels scope.entry.own.now scope.entry.packages.now texts.now self.old) }
+    {
+        let labels = labels_of(alloc, scope, texts)?;
+        self.labels.append(labels)?;
+        Ok(())
+    }
+
     /// Takes the texts of an attribute of this type.
     #[tactic(auto, unfolding(crate::specs::Declarations::with_texts))]
     fn take_texts(
@@ -67,27 +108,10 @@ impl Declaration {
         ensures { Gives (λ _. self.new) Bad result (with_texts scope.entry.own.now scope.entry.packages.now kind texts.now self.old) }
     {
         match kind {
-            AttributeType::Name => {
-                let names = target_names(alloc, scope, texts)?;
-                self.name = first(&names)?;
-                Ok(())
-            }
-            AttributeType::OutputList => {
-                let outputs = output_names(alloc, texts)?;
-                let outputs = target_names(alloc, scope, outputs.as_slice())?;
-                self.outputs.append(outputs)?;
-                Ok(())
-            }
-            AttributeType::Label => {
-                let labels = labels_of(alloc, scope, texts)?;
-                self.labels.append(labels)?;
-                Ok(())
-            }
-            AttributeType::LabelList => {
-                let labels = labels_of(alloc, scope, texts)?;
-                self.labels.append(labels)?;
-                Ok(())
-            }
+            AttributeType::Name => self.take_name(alloc, scope, texts),
+            AttributeType::OutputList => self.take_outputs(alloc, scope, texts),
+            AttributeType::Label => self.take_labels(alloc, scope, texts),
+            AttributeType::LabelList => self.take_labels(alloc, scope, texts),
             AttributeType::String => Ok(()),
             AttributeType::Bool => Ok(()),
             AttributeType::StringList => Ok(()),

@@ -92,11 +92,12 @@ fn report_packages(
     } else {
         Status::WithFaults
     };
-    let Reply { text, end } = reply_to(alloc, packages, &loaded, label, output, status)?;
+    let faults = fault_text(alloc, lines)?;
+    let reply = reply_to(alloc, packages, &loaded, label, output, status)?;
     Ok(Report {
-        faults: fault_text(alloc, lines)?,
-        answer: text,
-        end,
+        faults,
+        answer: reply.text,
+        end: reply.end,
     })
 }
 

@@ -25,6 +25,18 @@ pub struct Dependency {
     pub label: Label,
 }
 
+impl Dependency {
+    /// The same dependency. No byte is copied.
+    fn share(&self) -> Result<Dependency, AllocError>
+        ensures { IfOk result (λ dependency. dependency ≡ self.now) }
+    {
+        Ok(Dependency {
+            line: self.line,
+            label: self.label.share()?,
+        })
+    }
+}
+
 /// The targets of a package, and the labels of other packages that they name.
 #[derive(Drop)]
 pub struct Package {
@@ -139,10 +151,7 @@ fn add_source_files(
             let _new = names.add(dependency.label.name().share()?, TargetKind::Source)?;
             continue;
         }
-        cross_package.push(Dependency {
-            line: dependency.line,
-            label: dependency.label.share()?,
-        })?;
+        cross_package.push(dependency.share()?)?;
     }
     Ok(cross_package)
 }

@@ -1,7 +1,9 @@
 //! The queries of this version: one word that is a label.
 
-ghost use Rattle.std.specs.Prelude.{◌≡◌, ◌↔◌, ◌++◌, ℕ, List, true, codes, IfOk};
+ghost use Rattle.std.specs.Prelude.{◌≡◌, ◌↔◌, ◌++◌, ℕ, List, [], true, codes, IfOk};
 ghost use Rattle.std.specs.List.{list_all};
+ghost use Rattle.bq_label.specs.Label.{package_at};
+ghost use Rattle.bq_label.specs.Reading.{label_of};
 ghost use Rattle.bq_fragment.specs.Query.{begins_label, begins_word, cut_back, cut_front, cut_spaces, has_dots, is_space, is_wildcard, is_word, is_word_byte, query_by, query_of, OccursIn};
 
 use crate::query_error::QueryErr;
@@ -92,8 +94,19 @@ fn is_wildcard(name: &[u8]) -> bool
     name == b"all".as_slice() || name == b"*".as_slice() || name == b"all-targets".as_slice()
 }
 
-/// The label that a word names.
+/// The label that a word is, if it is one.
 #[tactic(auto, using(bq_label::proofs::BadLabels::or_bad_label_ok, bq_label::proofs::BadLabels::or_bad_label_err))]
+fn word_label(alloc: Global, word: &[u8]) -> Result<Option<Label>, AllocError>
+    ensures { IfOk result (λ found. found ≡ label_of (package_at [] []) word.now) }
+{
+    match read_label(alloc, word, &PackageId::root()) {
+        Ok(label) => Ok(Some(label)),
+        Err(SourceErr::Bad(_)) => Ok(None),
+        Err(SourceErr::Memory) => Err(AllocError),
+    }
+}
+
+/// The label that a word names.
 fn read_word(alloc: Global, word: &[u8]) -> Result<Result<Label, QueryErr>, AllocError>
     ensures { IfOk result (λ found. found ≡ query_by word.now) }
 {
@@ -103,10 +116,8 @@ fn read_word(alloc: Global, word: &[u8]) -> Result<Result<Label, QueryErr>, Allo
     if !begins_label(word) {
         return Ok(Err(QueryErr::LeftOut));
     }
-    let label = match read_label(alloc, word, &PackageId::root()) {
-        Ok(label) => label,
-        Err(SourceErr::Bad(_)) => return Ok(Err(QueryErr::Arguments)),
-        Err(SourceErr::Memory) => return Err(AllocError),
+    let Some(label) = word_label(alloc, word)? else {
+        return Ok(Err(QueryErr::Arguments));
     };
     if has_dots(word) {
         return Ok(Err(QueryErr::LeftOut));

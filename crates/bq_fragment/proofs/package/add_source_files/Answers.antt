@@ -38,7 +38,7 @@ loop-dependency-preserved c =
     record {
       here = subst P (sym (source_same own ms l.dependency-index m c.loop-dependency-test.true c.dependency-item.is t)) l.invariant.here;
       elsewhere = c.in_ok-push.ensures.ok
-          ∙ ap (λ z. z ++ record { line = m.line; label = c.in_ok-share-2.field-0 } ∷ []) l.invariant.elsewhere
-          ∙ ap (λ z. cross_package own (take l.dependency-index ms) ++ record { line = m.line; label = z } ∷ []) c.in_ok-share-2.ensures
+          ∙ ap (λ z. z ++ c.in_ok-share-2.field-0 ∷ []) l.invariant.elsewhere
+          ∙ ap (λ z. cross_package own (take l.dependency-index ms) ++ z ∷ []) c.in_ok-share-2.ensures
           ∙ sym (cross_package_more own ms l.dependency-index m c.loop-dependency-test.true c.dependency-item.is t);
     }

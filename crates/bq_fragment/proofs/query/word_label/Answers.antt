@@ -2,7 +2,7 @@ use Rattle.std.proofs.Common.{◌≡◌, None, arith}
 use Rattle.std.proofs.lemmas.Grind.{common_steps}
 use Rattle.bq_label.specs.Reading.{label_of}
 use Rattle.bq_label.proofs.BadLabels.{or_bad_label_err}
-use Rattle.bq_fragment.proofs.query.read_word.Goals as goal
+use Rattle.bq_fragment.proofs.query.word_label.Goals as goal
 
 pub returns-in-Err-Bad : goal.returns-in-Err-Bad
 returns-in-Err-Bad c =
