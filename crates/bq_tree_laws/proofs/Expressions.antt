@@ -1,5 +1,5 @@
 -- Each phrase of expressions takes what its tree writes.
-use Rattle.std.proofs.Common.{◌≡◌, ℕ, pos, zero, suc, List, [], ◌∷◌, Option, Some, None, refl, sym, ap, ◌∙◌, subst}
+use Rattle.std.proofs.Common.{◌≡◌, ℕ, pos, zero, suc, Bool, true, false, List, [], ◌∷◌, Option, Some, None, refl, sym, ap, ◌∙◌, subst}
 use Rattle.bq_source.specs.declared.token.TokenKind.{TokenKind}
 use Rattle.bq_source.specs.declared.token.TokenKind.TheVariants as k
 use Rattle.bq_grammar.specs.Lexeme.{Lexeme}
@@ -22,7 +22,7 @@ use Rattle.bq_grammar.specs.Phrases.{Phrase, none, Repeat, Listed, CommaThen}
 use Rattle.bq_grammar.specs.Grammar as G
 use Rattle.bq_grammar.specs.Grammar.{choices_of, last_of, IsVarOver, IsVar, IsVarsOver, IsVars, IsPair, IsForClause, IsClause, AreClauses, IsOperand, IsArgument, AreArguments, IsOptionalTest, IsExpr, IsSuffix, IsPrimary, IsPrefix, IsPrefixed, IsOperation, IsChain, IsBinary, IsCompOp, IsComp, IsOr, IsChoice, IsTest, IsPrimaryTo, IsOrTo, IsTestTo, IsExprTo, IsOperandTo, IsSuffixTo, IsIndexTo}
 use Rattle.bq_tree_laws.specs.Parts as parts
-use Rattle.bq_tree_laws.specs.Parts.{Part, row, listed, commas, unary, operator_kind, comparison, ExprLayer, expr_parts_by, optional_expr, SuffixLayer, suffix_parts_by, ArgumentLayer, argument_parts_by, ClauseLayer, clause_parts_by, TargetLayer, target_parts_by}
+use Rattle.bq_tree_laws.specs.Parts.{Part, row, listed, commas, unary, operator_kind, comparison, ExprLayer, expr_parts_by, optional_expr, SuffixLayer, suffix_parts_by, arguments, opening, ArgumentLayer, argument_parts_by, ClauseLayer, clause_parts_by, TargetLayer, target_parts_by}
 use Rattle.bq_tree_laws.specs.Writes as W
 use Rattle.bq_tree_laws.specs.Writes.{Writes, tokens}
 use Rattle.bq_tree_laws.proofs.Operators.{operator_token, IsTable, sign_token, negation_token, comparison_kind, comparison_token}
@@ -67,8 +67,9 @@ same_expr {ps = ps} {ts = ts} f w = subst (λ z. Writes (parts.expr z ∷ ps) ts
 made_suffix : {y : Suffix} {l : SuffixLayer} {ps : List Part} {ts : List Lexeme} → out-Suffix y ≡ l → Writes (suffix_parts_by l ps) ts → Writes (parts.suffix y ∷ ps) ts
 made_suffix {ps = ps} {ts = ts} f w = W.suffix (subst (λ m. Writes (suffix_parts_by m ps) ts) (sym f) w)
 
-made_argument : {y : Argument} {l : ArgumentLayer} {ps : List Part} {ts : List Lexeme} → out-Argument y ≡ l → Writes (argument_parts_by l ps) ts → Writes (parts.argument y ∷ ps) ts
-made_argument {ps = ps} {ts = ts} f w = W.argument (subst (λ m. Writes (argument_parts_by m ps) ts) (sym f) w)
+made_argument : {first : Bool} {y : Argument} {l : ArgumentLayer} {ps : List Part} {ts : List Lexeme} → out-Argument y ≡ l → Writes (argument_parts_by first l ps) ts
+    → Writes (parts.argument first y ∷ ps) ts
+made_argument {first = b} {ps = ps} {ts = ts} f w = W.argument (subst (λ m. Writes (argument_parts_by b m ps) ts) (sym f) w)
 
 made_clause : {y : Clause} {l : ClauseLayer} {ps : List Part} {ts : List Lexeme} → out-Clause y ≡ l → Writes (clause_parts_by l ps) ts → Writes (parts.clause y ∷ ps) ts
 made_clause {ps = ps} {ts = ts} f w = W.clause (subst (λ m. Writes (clause_parts_by m ps) ts) (sym f) w)
@@ -142,21 +143,31 @@ module _ (O T : Phrase Expr) (V : Phrase Target) (ors : Tells parts.expr O) (tes
   operand_tells ts rest y (G.a_dict_comprehension {c = c} {ts = us} {mid = mid} {p = x} {cs = cs} f p q g h) ps w = made_expr (ap out-Expr h ∙ L.out-DictComprehension x cs)
       (W.token f (pair_tells us mid x p (row parts.clause cs (parts.token k.RightBrace ∷ ps)) (clauses_tell mid (c ∷ rest) cs q (parts.token k.RightBrace ∷ ps) (W.token g w))))
 
-  argument_tells : (q : ArgumentKind) → Tells parts.argument (IsArgument O T V q)
-  argument_tells q ts rest y (G.positional {x = x} p g) ps w = made_argument (ap out-Argument g ∙ L.out-Positional x) (tests ts rest x p ps w)
-  argument_tells q ts rest y (G.named {n = n} {ts = us} {x = x} f g p h) ps w = made_argument (ap out-Argument h ∙ L.out-Named n.spelling x) (W.spelled f refl (W.token g (tests us rest x p ps w)))
-  argument_tells q ts rest y (G.star {ts = us} {x = x} f p g) ps w = made_argument (ap out-Argument g ∙ L.out-Star x) (W.token f (tests us rest x p ps w))
-  argument_tells q ts rest y (G.star_star {ts = us} {x = x} f p g) ps w = made_argument (ap out-Argument g ∙ L.out-StarStar x) (W.token f (tests us rest x p ps w))
+  -- after the token before it
+  argument_tells : (first : Bool) (q : ArgumentKind) (o : Lexeme) → o.kind ≡ opening first → (ts rest : List Lexeme) (x : Argument) → IsArgument O T V q ts rest x → (ps : List Part)
+      → Writes ps rest → Writes (parts.argument first x ∷ ps) (o ∷ ts)
+  argument_tells b q o e ts rest y (G.positional {x = x} p g) ps w = made_argument (ap out-Argument g ∙ L.out-Positional x) (W.token e (tests ts rest x p ps w))
+  argument_tells b q o e ts rest y (G.named {n = n} {ts = us} {x = x} f g p h) ps w =
+      made_argument (ap out-Argument h ∙ L.out-Named n.spelling x) (W.token e (W.spelled f refl (W.token g (tests us rest x p ps w))))
+  argument_tells b q o e ts rest y (G.star {ts = us} {x = x} f p g) ps w = made_argument (ap out-Argument g ∙ L.out-Star x) (W.both e f (tests us rest x p ps w))
+  argument_tells b q o e ts rest y (G.star_star {ts = us} {x = x} f p g) ps w = made_argument (ap out-Argument g ∙ L.out-StarStar x) (W.both e f (tests us rest x p ps w))
 
-  arguments_tell : (s : Allowed) (ts rest : List Lexeme) (xs : List Argument) → AreArguments O T V s ts rest xs → (ps : List Part) → Writes ps rest
-      → Writes (listed k.Comma parts.argument xs (parts.token k.RightParen ∷ ps)) ts
-  arguments_tell s ts rest xs (G.no_argument f) ps w = W.token f w
-  arguments_tell s ts rest xs (G.last_argument {q = q} {t = t} {x = x} e p f) ps w =
-      argument_tells q ts (t ∷ rest) x p (parts.maybe k.Comma ∷ parts.token k.RightParen ∷ ps) (W.absent (W.token f w))
-  arguments_tell s ts rest xs (G.more_arguments {s' = s'} {q = q} {t = t} {mid = mid} {x = x} {xs = []} e p f r) ps w =
-      argument_tells q ts (t ∷ mid) x p (parts.maybe k.Comma ∷ parts.token k.RightParen ∷ ps) (W.there (W.token f (arguments_tell s' mid rest [] r ps w)))
-  arguments_tell s ts rest xs (G.more_arguments {s' = s'} {q = q} {t = t} {mid = mid} {x = x} {xs = z ∷ zs} e p f r) ps w =
-      argument_tells q ts (t ∷ mid) x p (parts.token k.Comma ∷ listed k.Comma parts.argument (z ∷ zs) (parts.token k.RightParen ∷ ps)) (W.token f (arguments_tell s' mid rest (z ∷ zs) r ps w))
+  -- after a comma
+  others_tell : (s : Allowed) (o : Lexeme) → o.kind ≡ k.Comma → (ts rest : List Lexeme) (xs : List Argument) → AreArguments O T V s ts rest xs → (ps : List Part) → Writes ps rest
+      → Writes (row (parts.argument false) xs (parts.maybe k.Comma ∷ parts.token k.RightParen ∷ ps)) (o ∷ ts)
+  others_tell s o h ts rest xs (G.no_argument f) ps w = W.there (W.token h (W.token f w))
+  others_tell s o h ts rest xs (G.last_argument {q = q} {t = t} {x = x} e p f) ps w =
+      argument_tells false q o h ts (t ∷ rest) x p (parts.maybe k.Comma ∷ parts.token k.RightParen ∷ ps) (W.absent (W.token f w))
+  others_tell s o h ts rest xs (G.more_arguments {s' = s'} {q = q} {t = t} {mid = mid} {x = x} {xs = zs} e p f r) ps w =
+      argument_tells false q o h ts (t ∷ mid) x p (row (parts.argument false) zs (parts.maybe k.Comma ∷ parts.token k.RightParen ∷ ps)) (others_tell s' t f mid rest zs r ps w)
+
+  arguments_tell : (s : Allowed) (o : Lexeme) → o.kind ≡ k.LeftParen → (ts rest : List Lexeme) (xs : List Argument) → AreArguments O T V s ts rest xs → (ps : List Part) → Writes ps rest
+      → Writes (arguments xs ps) (o ∷ ts)
+  arguments_tell s o h ts rest xs (G.no_argument f) ps w = W.token h (W.token f w)
+  arguments_tell s o h ts rest xs (G.last_argument {q = q} {t = t} {x = x} e p f) ps w =
+      argument_tells true q o h ts (t ∷ rest) x p (parts.maybe k.Comma ∷ parts.token k.RightParen ∷ ps) (W.absent (W.token f w))
+  arguments_tell s o h ts rest xs (G.more_arguments {s' = s'} {q = q} {t = t} {mid = mid} {x = x} {xs = zs} e p f r) ps w =
+      argument_tells true q o h ts (t ∷ mid) x p (row (parts.argument false) zs (parts.maybe k.Comma ∷ parts.token k.RightParen ∷ ps)) (others_tell s' t f mid rest zs r ps w)
 
   optional_tells : (ts rest : List Lexeme) (x : Option Expr) → IsOptionalTest O T V ts rest x → (ps : List Part) → Writes ps rest → Writes (optional_expr x ps) ts
   optional_tells ts rest x G.absent ps w = w
@@ -174,10 +185,10 @@ module _ (O T : Phrase Expr) (V : Phrase Target) (ors : Tells parts.expr O) (tes
   stepped_tells us rest c (Some z) p f q g ps w = W.token g (optional_tells us (c ∷ rest) (Some z) p (parts.token k.RightBracket ∷ ps) (W.token f w))
 
   pub suffix_tells : Tells parts.suffix (IsSuffix O T V)
-  suffix_tells ts rest y (G.attribute {n = n} f g h i) ps w = made_suffix (ap out-Suffix i ∙ L.out-Attribute (identifier n)) (W.token f (W.word g refl w))
-  suffix_tells ts rest y (G.method {n = n} {ts = us} {xs = xs} f g h p i) ps w = made_suffix (ap out-Suffix i ∙ L.out-Method (identifier n) xs)
-      (W.token f (W.word g refl (W.token h (arguments_tell _ us rest xs p ps w))))
-  suffix_tells ts rest y (G.call {ts = us} {xs = xs} f p g) ps w = made_suffix (ap out-Suffix g ∙ L.out-Call xs) (W.token f (arguments_tell _ us rest xs p ps w))
+  suffix_tells ts rest y (G.attribute {n = n} f g h i) ps w = made_suffix (ap out-Suffix i ∙ L.out-Attribute (identifier n)) (W.attribute f g refl h w)
+  suffix_tells ts rest y (G.method {n = n} {o = o} {ts = us} {xs = xs} f g h p i) ps w = made_suffix (ap out-Suffix i ∙ L.out-Method (identifier n) xs)
+      (W.token f (W.word g refl (arguments_tell _ o h us rest xs p ps w)))
+  suffix_tells ts rest y (G.call {o = o} {ts = us} {xs = xs} f p g) ps w = made_suffix (ap out-Suffix g ∙ L.out-Call xs) (arguments_tell _ o f us rest xs p ps w)
   suffix_tells ts rest y (G.index {c = c} {ts = us} {x = x} f p g h) ps w = made_suffix (ap out-Suffix h ∙ L.out-Index x)
       (W.token f (expr_tells us (c ∷ rest) x p (parts.token k.RightBracket ∷ ps) (W.token g w)))
   suffix_tells ts rest y (G.slice {p = d} {c = c} {ts = us} {mid = mid} {x = a} {y = b} f p g q h i) ps w = made_suffix (ap out-Suffix i ∙ L.out-Slice a b None)

@@ -3,3 +3,11 @@ pub mod Operators
 pub mod Expressions
 pub mod Statements
 pub mod Files
+pub mod Steps
+pub mod Depths
+pub mod StmtDepths
+pub mod LeftLayers
+pub mod LeftParts
+pub mod Left
+pub mod FileDepths
+pub mod Simple

@@ -1,2 +1,4 @@
 pub mod Parts
 pub mod Writes
+pub mod Depth
+pub mod LeftOut

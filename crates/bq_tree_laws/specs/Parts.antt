@@ -1,6 +1,6 @@
 -- What each node of a tree writes: tokens and smaller nodes, in the order of the text. Nothing here is recursive, and nothing knows of
 -- levels of precedence: a node says its own words and names its children.
-use Rattle.std.specs.Prelude.{ℕ, ℤ, List, [], ◌∷◌, Option, Some, None}
+use Rattle.std.specs.Prelude.{ℕ, ℤ, Bool, true, false, List, [], ◌∷◌, Option, Some, None}
 use Rattle.bq_source.specs.declared.token.TokenKind.{TokenKind}
 use Rattle.bq_source.specs.declared.token.TokenKind.TheVariants as k
 use Rattle.bq_grammar.specs.declared.tree.Identifier.{Identifier}
@@ -34,6 +34,10 @@ pub data Part : Type 0 where
   token : TokenKind → Part
   -- a token, or nothing
   maybe : TokenKind → Part
+  -- two tokens
+  both : TokenKind → TokenKind → Part
+  -- `.name`, and no `(` after it
+  attribute : Identifier → Part
   -- the word that names this, on its line; and a word of which the tree has the bytes alone
   word : Identifier → Part
   spelled : List ℕ → Part
@@ -49,7 +53,8 @@ pub data Part : Type 0 where
   operation : Operation → Part
   choice : Choice → Part
   suffix : Suffix → Part
-  argument : Argument → Part
+  -- the first argument, with the `(` before it, or a further one, with the comma before it
+  argument : Bool → Argument → Part
   clause : Clause → Part
   target : Target → Part
   -- a target where a tuple needs no parentheses
@@ -183,10 +188,14 @@ abbrev pub step_parts : Option Expr → List Part → List Part
 step_parts None more = maybe k.Colon ∷ more
 step_parts (Some x) more = token k.Colon ∷ expr x ∷ more
 
+abbrev pub arguments : List Argument → List Part → List Part
+arguments [] more = token k.LeftParen ∷ token k.RightParen ∷ more
+arguments (x ∷ xs) more = argument true x ∷ row (argument false) xs (maybe k.Comma ∷ token k.RightParen ∷ more)
+
 abbrev pub suffix_parts_by : SuffixLayer → List Part → List Part
-suffix_parts_by (Suffix-F.Call xs) more = token k.LeftParen ∷ listed k.Comma argument xs (token k.RightParen ∷ more)
-suffix_parts_by (Suffix-F.Method n xs) more = token k.Dot ∷ word n ∷ token k.LeftParen ∷ listed k.Comma argument xs (token k.RightParen ∷ more)
-suffix_parts_by (Suffix-F.Attribute n) more = token k.Dot ∷ word n ∷ more
+suffix_parts_by (Suffix-F.Call xs) more = arguments xs more
+suffix_parts_by (Suffix-F.Method n xs) more = token k.Dot ∷ word n ∷ arguments xs more
+suffix_parts_by (Suffix-F.Attribute n) more = attribute n ∷ more
 suffix_parts_by (Suffix-F.Suffix::Index x) more = token k.LeftBracket ∷ open_expr x ∷ token k.RightBracket ∷ more
 suffix_parts_by (Suffix-F.Slice x y z) more =
     token k.LeftBracket ∷ optional_expr x (token k.Colon ∷ optional_expr y (step_parts z (token k.RightBracket ∷ more)))
@@ -197,14 +206,18 @@ suffix_parts x more = suffix_parts_by (out-Suffix x) more
 abbrev pub ArgumentLayer : Type 0
 ArgumentLayer = Argument-F Argument Clause Expr Suffix Target Choice Operation Pair
 
-abbrev pub argument_parts_by : ArgumentLayer → List Part → List Part
-argument_parts_by (Argument-F.Positional x) more = expr x ∷ more
-argument_parts_by (Argument-F.Named b x) more = spelled b ∷ token k.Assign ∷ expr x ∷ more
-argument_parts_by (Argument-F.Star x) more = token k.Star ∷ expr x ∷ more
-argument_parts_by (Argument-F.StarStar x) more = token k.StarStar ∷ expr x ∷ more
+abbrev pub opening : Bool → TokenKind
+opening true = k.LeftParen
+opening false = k.Comma
 
-abbrev pub argument_parts : Argument → List Part → List Part
-argument_parts x more = argument_parts_by (out-Argument x) more
+abbrev pub argument_parts_by : Bool → ArgumentLayer → List Part → List Part
+argument_parts_by first (Argument-F.Positional x) more = token (opening first) ∷ expr x ∷ more
+argument_parts_by first (Argument-F.Named b x) more = token (opening first) ∷ spelled b ∷ token k.Assign ∷ expr x ∷ more
+argument_parts_by first (Argument-F.Star x) more = both (opening first) k.Star ∷ expr x ∷ more
+argument_parts_by first (Argument-F.StarStar x) more = both (opening first) k.StarStar ∷ expr x ∷ more
+
+abbrev pub argument_parts : Bool → Argument → List Part → List Part
+argument_parts first x more = argument_parts_by first (out-Argument x) more
 
 abbrev pub ClauseLayer : Type 0
 ClauseLayer = Clause-F Argument Clause Expr Suffix Target Choice Operation Pair

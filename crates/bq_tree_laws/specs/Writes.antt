@@ -2,7 +2,7 @@
 -- expression or a target there may be parentheses, where a list of tests may stand a tuple of two or more needs none, after the last
 -- item of a list there may be a comma, after a slice's second part a colon, and after a line's last statement a semicolon; a suite of
 -- one line may stand on the line of its head, and a load may name a symbol once where the name is the same.
-use Rattle.std.specs.Prelude.{ℕ, pos, List, [], ◌∷◌, Some, ◌≡◌}
+use Rattle.std.specs.Prelude.{ℕ, pos, Bool, false, List, [], ◌∷◌, Some, ◌≡◌}
 use Rattle.bq_source.specs.declared.token.TokenKind.{TokenKind}
 use Rattle.bq_source.specs.declared.token.TokenKind.TheVariants as k
 use Rattle.bq_source.specs.Number.{int_value}
@@ -10,6 +10,7 @@ use Rattle.bq_source.specs.StringLiteral.{string_value}
 use Rattle.bq_grammar.specs.Lexeme.{Lexeme}
 use Rattle.bq_grammar.specs.Literals.{identifier}
 use Rattle.bq_grammar.specs.Statements.{line_of}
+use Rattle.bq_grammar.specs.Turns.{sees}
 use Rattle.bq_grammar.specs.declared.tree.Identifier.{Identifier}
 use Rattle.bq_grammar.specs.declared.tree.Argument.{Argument}
 use Rattle.bq_grammar.specs.declared.tree.Choice.{Choice}
@@ -37,6 +38,9 @@ pub data Writes : List Part → List Lexeme → Type 0 where
   token : {q : TokenKind} {w : Lexeme} {ps : List Part} {ts : List Lexeme} → w.kind ≡ q → Writes ps ts → Writes (parts.token q ∷ ps) (w ∷ ts)
   there : {q : TokenKind} {ps : List Part} {ts : List Lexeme} → Writes (parts.token q ∷ ps) ts → Writes (parts.maybe q ∷ ps) ts
   absent : {q : TokenKind} {ps : List Part} {ts : List Lexeme} → Writes ps ts → Writes (parts.maybe q ∷ ps) ts
+  both : {q r : TokenKind} {v w : Lexeme} {ps : List Part} {ts : List Lexeme} → v.kind ≡ q → w.kind ≡ r → Writes ps ts → Writes (parts.both q r ∷ ps) (v ∷ w ∷ ts)
+  attribute : {n : Identifier} {v w : Lexeme} {ps : List Part} {ts : List Lexeme} → v.kind ≡ k.Dot → w.kind ≡ k.Identifier → n ≡ identifier w
+      → sees k.LeftParen ts ≡ false → Writes ps ts → Writes (parts.attribute n ∷ ps) (v ∷ w ∷ ts)
   word : {n : Identifier} {w : Lexeme} {ps : List Part} {ts : List Lexeme} → w.kind ≡ k.Identifier → n ≡ identifier w → Writes ps ts
       → Writes (parts.word n ∷ ps) (w ∷ ts)
   spelled : {b : List ℕ} {w : Lexeme} {ps : List Part} {ts : List Lexeme} → w.kind ≡ k.Identifier → b ≡ w.spelling → Writes ps ts
@@ -45,7 +49,7 @@ pub data Writes : List Part → List Lexeme → Type 0 where
       → Writes (parts.number (pos n) ∷ ps) (w ∷ ts)
   text : {b : List ℕ} {w : Lexeme} {ps : List Part} {ts : List Lexeme} → w.kind ≡ k.String → string_value w.spelling ≡ Some b → Writes ps ts
       → Writes (parts.text b ∷ ps) (w ∷ ts)
-  anything : {ps : List Part} {ts : List Lexeme} → Writes (parts.anything ∷ ps) ts
+  anything : {ts : List Lexeme} → Writes (parts.anything ∷ []) ts
   -- expressions
   expr : {x : Expr} {ps : List Part} {ts : List Lexeme} → Writes (parts.expr_parts x ps) ts → Writes (parts.expr x ∷ ps) ts
   in_parentheses : {x : Expr} {ps : List Part} {ts : List Lexeme}
@@ -57,7 +61,8 @@ pub data Writes : List Part → List Lexeme → Type 0 where
   operation : {x : Operation} {ps : List Part} {ts : List Lexeme} → Writes (parts.operation_parts x ps) ts → Writes (parts.operation x ∷ ps) ts
   choice : {x : Choice} {ps : List Part} {ts : List Lexeme} → Writes (parts.choice_parts x ps) ts → Writes (parts.choice x ∷ ps) ts
   suffix : {x : Suffix} {ps : List Part} {ts : List Lexeme} → Writes (parts.suffix_parts x ps) ts → Writes (parts.suffix x ∷ ps) ts
-  argument : {x : Argument} {ps : List Part} {ts : List Lexeme} → Writes (parts.argument_parts x ps) ts → Writes (parts.argument x ∷ ps) ts
+  argument : {first : Bool} {x : Argument} {ps : List Part} {ts : List Lexeme} → Writes (parts.argument_parts first x ps) ts
+      → Writes (parts.argument first x ∷ ps) ts
   clause : {x : Clause} {ps : List Part} {ts : List Lexeme} → Writes (parts.clause_parts x ps) ts → Writes (parts.clause x ∷ ps) ts
   -- targets
   target : {x : Target} {ps : List Part} {ts : List Lexeme} → Writes (parts.target_parts x ps) ts → Writes (parts.target x ∷ ps) ts

@@ -1,0 +1,288 @@
+-- How many nodes that are left out stand in parts, and that the parts of a node hold those of the node.
+use Rattle.std.proofs.Common.{◌≡◌, ℕ, ◌+◌, Bool, true, false, List, [], ◌∷◌, map, Option, Some, None, refl, sym, ap, ◌∙◌, arith}
+use Rattle.bq_source.specs.declared.token.TokenKind.{TokenKind}
+use Rattle.bq_source.specs.declared.token.TokenKind.TheVariants as k
+use Rattle.bq_grammar.specs.declared.tree.Argument.TheOpen.{Argument-F, Clause-F, Expr-F, Suffix-F, Target-F}
+use Rattle.bq_grammar.specs.declared.tree.Argument.{Argument, out-Argument}
+use Rattle.bq_grammar.specs.declared.tree.Choice.{Choice, out-Choice}
+use Rattle.bq_grammar.specs.declared.tree.Clause.{Clause, out-Clause}
+use Rattle.bq_grammar.specs.declared.tree.Expr.{Expr, out-Expr}
+use Rattle.bq_grammar.specs.declared.tree.Operation.{Operation, out-Operation}
+use Rattle.bq_grammar.specs.declared.tree.Operator.{Operator}
+use Rattle.bq_grammar.specs.declared.tree.Operator.TheVariants as o
+use Rattle.bq_grammar.specs.declared.tree.UnaryOperator.{UnaryOperator}
+use Rattle.bq_grammar.specs.declared.tree.UnaryOperator.TheVariants as u
+use Rattle.bq_grammar.specs.declared.tree.Comparison.{Comparison}
+use Rattle.bq_grammar.specs.declared.tree.Comparison.TheVariants as c
+use Rattle.bq_grammar.specs.declared.tree.Pair.{Pair, out-Pair}
+use Rattle.bq_grammar.specs.declared.tree.Suffix.{Suffix, out-Suffix}
+use Rattle.bq_grammar.specs.declared.tree.Target.{Target, out-Target}
+use Rattle.bq_grammar.specs.declared.tree.Parameter.{Parameter}
+use Rattle.bq_grammar.specs.declared.tree.Parameter.TheVariants as p
+use Rattle.bq_grammar.specs.declared.tree.SmallKind.{SmallKind}
+use Rattle.bq_grammar.specs.declared.tree.SmallKind.TheVariants as small
+use Rattle.bq_grammar.specs.declared.tree.SmallStmt.{SmallStmt}
+use Rattle.bq_grammar.specs.declared.tree.LoadClause.{LoadClause}
+use Rattle.bq_grammar.specs.declared.tree.Branch.{Branch, out-Branch}
+use Rattle.bq_grammar.specs.declared.tree.Stmt.{Stmt, out-Stmt}
+use Rattle.bq_grammar.specs.declared.tree.Stmt.TheOpen.{Stmt-F}
+use Rattle.bq_grammar.specs.declared.tree.Expr.TheVariants as e
+use Rattle.bq_grammar.specs.declared.tree.Target.TheVariants as t
+use Rattle.bq_tree_laws.specs.Parts as parts
+use Rattle.bq_tree_laws.specs.Parts.{Part, row, listed, commas, operator_kind, unary_kind, unary, comparison, assignment_kind, token_of, ExprLayer, expr_parts_by, expr_parts, pair_parts, operation_parts, choice_parts, SuffixLayer, optional_expr, step_parts, arguments, suffix_parts_by, suffix_parts, opening, ArgumentLayer, argument_parts_by, argument_parts, ClauseLayer, clause_parts_by, clause_parts, TargetLayer, target_parts_by, target_parts, parameter_parts, load_parts, small_parts, branch_parts, else_parts, if_parts, stmt_parts_by, stmt_parts}
+use Rattle.bq_tree_laws.specs.LeftOut.{sum_of, division, star, expr_count, target_count, argument_count, clause_count, suffix_count, choice_count, operation_count, pair_count, parameter_count, kind_count, small_count, stmt_count, branch_count}
+use Rattle.bq_tree_laws.proofs.Layers.{out-Tuple, out-target_Tuple}
+use Rattle.bq_tree_laws.proofs.LeftLayers as L
+use Rattle.bq_tree_laws.proofs.LeftLayers.{expr_by, optional_by, suffix_by, argument_by, clause_by, target_by, stmt_by}
+
+-- what a token alone tells
+abbrev pub token_count : TokenKind → ℕ
+token_count k.Lambda = 1
+token_count k.Slash = 1
+token_count k.SlashAssign = 1
+token_count _ = 0
+
+abbrev pub both_count : Bool → TokenKind → TokenKind → ℕ
+both_count b k.LeftParen k.Star = star b
+both_count b k.LeftParen k.StarStar = star b
+both_count b k.Comma k.Star = star b
+both_count b k.Comma k.StarStar = star b
+both_count b _ _ = 0
+
+module _ (b : Bool) where
+  abbrev pub part_count : Part → ℕ
+  part_count (parts.token q) = token_count q
+  part_count (parts.maybe q) = 0
+  part_count (parts.both q r) = both_count b q r
+  part_count (parts.attribute n) = 1
+  part_count (parts.word n) = 0
+  part_count (parts.spelled s) = 0
+  part_count (parts.number n) = 0
+  part_count (parts.text s) = 0
+  part_count parts.anything = 0
+  part_count (parts.expr x) = expr_count b x
+  part_count (parts.open_expr x) = expr_count b x
+  part_count (parts.pair x) = pair_count b x
+  part_count (parts.operation x) = operation_count b x
+  part_count (parts.choice x) = choice_count b x
+  part_count (parts.suffix x) = suffix_count b x
+  part_count (parts.argument first x) = argument_count b x
+  part_count (parts.clause x) = clause_count b x
+  part_count (parts.target x) = target_count b x
+  part_count (parts.open_target x) = target_count b x
+  part_count (parts.parameter x) = parameter_count b x
+  part_count (parts.load_clause x) = 0
+  part_count (parts.small_stmt x) = small_count b x
+  part_count (parts.branch x) = branch_count b x
+  part_count (parts.elif x) = branch_count b x
+  part_count (parts.suite xs) = sum_of (map (stmt_count b) xs)
+  part_count (parts.stmt x) = stmt_count b x
+
+  abbrev pub total : List Part → ℕ
+  total [] = 0
+  total (x ∷ xs) = part_count x + total xs
+
+  module _ {A : Type 0} (f : A → Part) (g : A → ℕ) (same : (x : A) → part_count (f x) ≡ g x) where
+    pub row_total : (xs : List A) (more : List Part) → total (row f xs more) ≡ sum_of (map g xs) + total more
+    row_total [] more = omega arith
+    row_total (x ∷ xs) more = let e = same x in let i = row_total xs more in omega arith
+
+    pub commas_total : (xs : List A) (more : List Part) → total (commas f xs more) ≡ sum_of (map g xs) + total more
+    commas_total [] more = omega arith
+    commas_total (x ∷ xs) more = let e = same x in let i = commas_total xs more in omega arith
+
+    pub listed_total : (q : TokenKind) → token_count q ≡ 0 → (xs : List A) (more : List Part) → total (listed q f xs more) ≡ sum_of (map g xs) + total more
+    listed_total q z [] more = omega arith
+    listed_total q z (x ∷ []) more = let e = same x in omega arith
+    listed_total q z (x ∷ y ∷ ys) more = let e = same x in let i = listed_total q z (y ∷ ys) more in omega arith
+
+  -- ---- operators
+
+  operator_count : (o : Operator) → token_count (operator_kind o) ≡ division o
+  operator_count o.Divide = refl
+  operator_count o.Multiply = refl
+  operator_count o.FloorDivide = refl
+  operator_count o.Modulo = refl
+  operator_count o.Add = refl
+  operator_count o.Subtract = refl
+  operator_count o.ShiftLeft = refl
+  operator_count o.ShiftRight = refl
+  operator_count o.BitAnd = refl
+  operator_count o.BitXor = refl
+  operator_count o.BitOr = refl
+  operator_count o.And = refl
+  operator_count o.Or = refl
+
+  unary_total : (os : List UnaryOperator) (more : List Part) → total (row unary os more) ≡ total more
+  unary_total [] more = refl
+  unary_total (u.Plus ∷ os) more = let i = unary_total os more in omega arith
+  unary_total (u.Minus ∷ os) more = let i = unary_total os more in omega arith
+  unary_total (u.Invert ∷ os) more = let i = unary_total os more in omega arith
+  unary_total (u.Not ∷ os) more = let i = unary_total os more in omega arith
+
+  comparison_total : (o : Comparison) (more : List Part) → total (comparison o more) ≡ total more
+  comparison_total c.Equal more = omega arith
+  comparison_total c.NotEqual more = omega arith
+  comparison_total c.Less more = omega arith
+  comparison_total c.Greater more = omega arith
+  comparison_total c.LessEqual more = omega arith
+  comparison_total c.GreaterEqual more = omega arith
+  comparison_total c.In more = omega arith
+  comparison_total c.NotIn more = omega arith
+
+  assignment_total : (o : Operator) (more : List Part) → total (token_of (assignment_kind o) more) ≡ division o + total more
+  assignment_total o.Divide more = omega arith
+  assignment_total o.Multiply more = omega arith
+  assignment_total o.FloorDivide more = omega arith
+  assignment_total o.Modulo more = omega arith
+  assignment_total o.Add more = omega arith
+  assignment_total o.Subtract more = omega arith
+  assignment_total o.ShiftLeft more = omega arith
+  assignment_total o.ShiftRight more = omega arith
+  assignment_total o.BitAnd more = omega arith
+  assignment_total o.BitXor more = omega arith
+  assignment_total o.BitOr more = omega arith
+  assignment_total o.And more = omega arith
+  assignment_total o.Or more = omega arith
+
+  -- ---- expressions: where the parts hold none, neither does the node nor what follows
+
+  abbrev pub None_in : List Part → Type 0
+  None_in ps = total ps ≡ 0
+
+  expr_none_by : (l : ExprLayer) (ps : List Part) → None_in (expr_parts_by l ps) → expr_by b l + total ps ≡ 0
+  expr_none_by (Expr-F.Expr::Name n) ps h = omega arith
+  expr_none_by (Expr-F.Int n) ps h = omega arith
+  expr_none_by (Expr-F.String s) ps h = omega arith
+  expr_none_by (Expr-F.Expr::List xs) ps h = let i = listed_total parts.expr (expr_count b) (λ x. refl) k.Comma refl xs (parts.token k.RightBracket ∷ ps) in omega arith
+  expr_none_by (Expr-F.Expr::Tuple []) ps h = omega arith
+  expr_none_by (Expr-F.Expr::Tuple (x ∷ xs)) ps h = let i = listed_total parts.expr (expr_count b) (λ x. refl) k.Comma refl xs (parts.token k.RightParen ∷ ps) in omega arith
+  expr_none_by (Expr-F.Dict xs) ps h = let i = listed_total parts.pair (pair_count b) (λ x. refl) k.Comma refl xs (parts.token k.RightBrace ∷ ps) in omega arith
+  expr_none_by (Expr-F.ListComprehension x cs) ps h = let e = row_total parts.clause (clause_count b) (λ x. refl) cs (parts.token k.RightBracket ∷ ps) in omega arith
+  expr_none_by (Expr-F.DictComprehension x cs) ps h = let e = row_total parts.clause (clause_count b) (λ x. refl) cs (parts.token k.RightBrace ∷ ps) in omega arith
+  expr_none_by (Expr-F.Primary x xs) ps h = let e = row_total parts.suffix (suffix_count b) (λ x. refl) xs ps in omega arith
+  expr_none_by (Expr-F.Unary os x) ps h = let e = unary_total os (parts.expr x ∷ ps) in omega arith
+  expr_none_by (Expr-F.Binary x os) ps h = let e = row_total parts.operation (operation_count b) (λ x. refl) os ps in omega arith
+  expr_none_by (Expr-F.Compare x o y) ps h = let e = comparison_total o (parts.expr y ∷ ps) in omega arith
+  expr_none_by (Expr-F.Conditional cs x) ps h = let e = row_total parts.choice (choice_count b) (λ x. refl) cs (parts.expr x ∷ ps) in omega arith
+  expr_none_by Expr-F.Lambda ps h = absurd (omega arith)
+
+  pub expr_none : (x : Expr) (ps : List Part) → None_in (expr_parts x ps) → None_in (parts.expr x ∷ ps)
+  expr_none x ps h = let e = L.expr_opened b x in let i = expr_none_by (out-Expr x) ps h in omega arith
+
+  pub pair_none : (x : Pair) (ps : List Part) → None_in (pair_parts x ps) → None_in (parts.pair x ∷ ps)
+  pair_none x ps h = let e = L.pair_opened b x in omega arith
+
+  pub operation_none : (x : Operation) (ps : List Part) → None_in (operation_parts x ps) → None_in (parts.operation x ∷ ps)
+  operation_none x ps h = let e = L.operation_opened b x in let i = operator_count (out-Operation x).operator in omega arith
+
+  pub choice_none : (x : Choice) (ps : List Part) → None_in (choice_parts x ps) → None_in (parts.choice x ∷ ps)
+  choice_none x ps h = let e = L.choice_opened b x in omega arith
+
+  optional_total : (x : Option Expr) (ps : List Part) → total (optional_expr x ps) ≡ optional_by b x + total ps
+  optional_total None ps = omega arith
+  optional_total (Some x) ps = refl
+
+  step_total : (x : Option Expr) (ps : List Part) → total (step_parts x ps) ≡ optional_by b x + total ps
+  step_total None ps = omega arith
+  step_total (Some x) ps = omega arith
+
+  arguments_total : (xs : List Argument) (ps : List Part) → total (arguments xs ps) ≡ sum_of (map (argument_count b) xs) + total ps
+  arguments_total [] ps = omega arith
+  arguments_total (x ∷ xs) ps = let e = row_total (parts.argument false) (argument_count b) (λ x. refl) xs (parts.maybe k.Comma ∷ parts.token k.RightParen ∷ ps) in omega arith
+
+  suffix_none_by : (l : SuffixLayer) (ps : List Part) → None_in (suffix_parts_by l ps) → suffix_by b l + total ps ≡ 0
+  suffix_none_by (Suffix-F.Call xs) ps h = let e = arguments_total xs ps in omega arith
+  suffix_none_by (Suffix-F.Method n xs) ps h = let e = arguments_total xs ps in omega arith
+  suffix_none_by (Suffix-F.Attribute n) ps h = absurd (omega arith)
+  suffix_none_by (Suffix-F.Suffix::Index x) ps h = omega arith
+  suffix_none_by (Suffix-F.Slice x y z) ps h =
+      let e = step_total z (parts.token k.RightBracket ∷ ps) in
+      let f = optional_total y (step_parts z (parts.token k.RightBracket ∷ ps)) in
+      let g = optional_total x (parts.token k.Colon ∷ optional_expr y (step_parts z (parts.token k.RightBracket ∷ ps))) in
+      omega arith
+
+  pub suffix_none : (x : Suffix) (ps : List Part) → None_in (suffix_parts x ps) → None_in (parts.suffix x ∷ ps)
+  suffix_none x ps h = let e = L.suffix_opened b x in let i = suffix_none_by (out-Suffix x) ps h in omega arith
+
+  argument_none_by : (first : Bool) (l : ArgumentLayer) (ps : List Part) → None_in (argument_parts_by first l ps) → argument_by b l + total ps ≡ 0
+  argument_none_by first (Argument-F.Positional x) ps h = omega arith
+  argument_none_by first (Argument-F.Named s x) ps h = omega arith
+  argument_none_by true (Argument-F.Star x) ps h = omega arith
+  argument_none_by false (Argument-F.Star x) ps h = omega arith
+  argument_none_by true (Argument-F.StarStar x) ps h = omega arith
+  argument_none_by false (Argument-F.StarStar x) ps h = omega arith
+
+  pub argument_none : (first : Bool) (x : Argument) (ps : List Part) → None_in (argument_parts first x ps) → None_in (parts.argument first x ∷ ps)
+  argument_none first x ps h = let e = L.argument_opened b x in let i = argument_none_by first (out-Argument x) ps h in omega arith
+
+  clause_none_by : (l : ClauseLayer) (ps : List Part) → None_in (clause_parts_by l ps) → clause_by b l + total ps ≡ 0
+  clause_none_by (Clause-F.For v x) ps h = omega arith
+  clause_none_by (Clause-F.If x) ps h = omega arith
+
+  pub clause_none : (x : Clause) (ps : List Part) → None_in (clause_parts x ps) → None_in (parts.clause x ∷ ps)
+  clause_none x ps h = let e = L.clause_opened b x in let i = clause_none_by (out-Clause x) ps h in omega arith
+
+  target_none_by : (l : TargetLayer) (ps : List Part) → None_in (target_parts_by l ps) → target_by b l + total ps ≡ 0
+  target_none_by (Target-F.Target::Name n) ps h = omega arith
+  target_none_by (Target-F.Target::Index x i) ps h = omega arith
+  target_none_by (Target-F.Target::Tuple []) ps h = omega arith
+  target_none_by (Target-F.Target::Tuple (x ∷ xs)) ps h = let i = listed_total parts.target (target_count b) (λ x. refl) k.Comma refl xs (parts.token k.RightParen ∷ ps) in omega arith
+  target_none_by (Target-F.Target::List xs) ps h = let i = listed_total parts.target (target_count b) (λ x. refl) k.Comma refl xs (parts.token k.RightBracket ∷ ps) in omega arith
+
+  pub target_none : (x : Target) (ps : List Part) → None_in (target_parts x ps) → None_in (parts.target x ∷ ps)
+  target_none x ps h = let e = L.target_opened b x in let i = target_none_by (out-Target x) ps h in omega arith
+
+  pub tuple_count : (xs : List Expr) → expr_count b (e.Tuple xs) ≡ sum_of (map (expr_count b) xs)
+  tuple_count xs = L.expr_opened b (e.Tuple xs) ∙ ap (expr_by b) (out-Tuple xs)
+
+  pub tuple_target_count : (xs : List Target) → target_count b (t.Tuple xs) ≡ sum_of (map (target_count b) xs)
+  tuple_target_count xs = L.target_opened b (t.Tuple xs) ∙ ap (target_by b) (out-target_Tuple xs)
+
+  -- ---- statements
+
+  pub parameter_none : (x : Parameter) (ps : List Part) → None_in (parameter_parts x ps) → None_in (parts.parameter x ∷ ps)
+  parameter_none (p.Plain n) ps h = omega arith
+  parameter_none (p.Default n x) ps h = omega arith
+  parameter_none p.BareStar ps h = omega arith
+  parameter_none (p.Star n) ps h = omega arith
+  parameter_none (p.StarStar n) ps h = omega arith
+
+  zeros : (xs : List LoadClause) → sum_of (map (λ x. 0) xs) ≡ 0
+  zeros [] = refl
+  zeros (x ∷ xs) = let i = zeros xs in omega arith
+
+  load_total : (xs : List LoadClause) (ps : List Part) → total (load_parts xs ps) ≡ total ps
+  load_total [] ps = omega arith
+  load_total (x ∷ xs) ps = let j = listed_total parts.load_clause (λ x. 0) (λ x. refl) k.Comma refl (x ∷ xs) ps in let i = zeros (x ∷ xs) in omega arith
+
+  pub small_none : (x : SmallKind) (ps : List Part) → None_in (small_parts x ps) → kind_count b x + total ps ≡ 0
+  small_none (small.Expr x) ps h = omega arith
+  small_none (small.Assign t x) ps h = omega arith
+  small_none (small.Augment t o x) ps h = let e = assignment_total o (parts.open_expr x ∷ ps) in omega arith
+  small_none (small.Return None) ps h = omega arith
+  small_none (small.Return (Some x)) ps h = omega arith
+  small_none small.Break ps h = omega arith
+  small_none small.Continue ps h = omega arith
+  small_none small.Pass ps h = omega arith
+  small_none (small.Load l) ps h = let e = load_total l.clauses (parts.token k.RightParen ∷ ps) in omega arith
+
+  pub branch_none : (x : Branch) (ps : List Part) → None_in (branch_parts x ps) → None_in (parts.branch x ∷ ps)
+  branch_none x ps h = let e = L.branch_opened b x in omega arith
+
+  else_total : (xs : List Stmt) (ps : List Part) → total (else_parts xs ps) ≡ sum_of (map (stmt_count b) xs) + total ps
+  else_total [] ps = omega arith
+  else_total (x ∷ xs) ps = omega arith
+
+  if_total : (xs : List Branch) (zs : List Stmt) (ps : List Part) → total (if_parts xs zs ps) ≡ sum_of (map (branch_count b) xs) + (sum_of (map (stmt_count b) zs) + total ps)
+  if_total [] zs ps = let e = else_total zs ps in omega arith
+  if_total (x ∷ xs) zs ps = let e = else_total zs ps in let i = row_total parts.elif (branch_count b) (λ x. refl) xs (else_parts zs ps) in omega arith
+
+  stmt_none_by : (l : Stmt-F Stmt Branch) (ps : List Part) → None_in (stmt_parts_by l ps) → stmt_by b l + total ps ≡ 0
+  stmt_none_by (Stmt-F.Simple xs) ps h = let i = listed_total parts.small_stmt (small_count b) (λ x. refl) k.Semicolon refl xs (parts.token k.Newline ∷ ps) in omega arith
+  stmt_none_by (Stmt-F.If xs zs) ps h = let e = if_total xs zs ps in omega arith
+  stmt_none_by (Stmt-F.For v x xs) ps h = omega arith
+  stmt_none_by (Stmt-F.Def n qs xs) ps h = let i = listed_total parts.parameter (parameter_count b) (λ x. refl) k.Comma refl qs (parts.token k.RightParen ∷ parts.token k.Colon ∷ parts.suite xs ∷ ps) in omega arith
+
+  pub stmt_none : (x : Stmt) (ps : List Part) → None_in (stmt_parts x ps) → None_in (parts.stmt x ∷ ps)
+  stmt_none x ps h = let e = L.stmt_opened b x in let i = stmt_none_by (out-Stmt x) ps h in omega arith
