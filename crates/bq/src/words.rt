@@ -30,38 +30,50 @@ const MAX_STEPS: u64 = 1_000_000_000;
 
 const DEFAULT_STEPS: u64 = 1_000_000;
 
-/// The command, before it has seen any words.
-fn command<'a>(alloc: Global) -> Result<Command<'a>, AllocError> {
-    let jobs = Arg::new(alloc, "jobs")
+fn jobs<'a>(alloc: Global) -> Arg<'a> {
+    Arg::new(alloc, "jobs")
         .long("jobs")
         .value_name("N")
         .help("How many workers load modules, 1 to 64; no effect yet")
         .value_parser(value_parser!(u32).range(1..=MAX_JOBS as i64))
-        .default_value("4");
-    let output = Arg::new(alloc, "output")
+        .default_value("4")
+}
+
+fn output<'a>(alloc: Global) -> Arg<'a> {
+    Arg::new(alloc, "output")
         .long("output")
         .value_name("FORM")
         .help("What is printed of a target")
         .value_parser(["label", "label_kind"].as_slice())
-        .default_value("label");
-    let max_steps = Arg::new(alloc, "max-steps")
+        .default_value("label")
+}
+
+fn max_steps<'a>(alloc: Global) -> Arg<'a> {
+    Arg::new(alloc, "max-steps")
         .long("max-steps")
         .value_name("N")
         .help("How many steps a module may take, 1 to 1000000000; no effect yet")
         .value_parser(value_parser!(u64).range(1..=MAX_STEPS as i64))
-        .default_value("1000000");
-    let query = Arg::new(alloc, "query")
+        .default_value("1000000")
+}
+
+fn query<'a>(alloc: Global) -> Arg<'a> {
+    Arg::new(alloc, "query")
         .value_name("QUERY")
         .help("The query: a label, as //package:name")
         .required(true)
-        .action(ArgAction::Set);
+        .action(ArgAction::Set)
+}
+
+/// The command, before it has seen any words.
+fn command<'a>(alloc: Global) -> Result<Command<'a>, AllocError> {
     Command::new(alloc, "bq")
         .about("Answers a query over the targets of a workspace of BUILD files")
         .after_help(NOTES)
-        .arg(jobs)?
-        .arg(output)?
-        .arg(max_steps)?
-        .arg(query)
+        .arg(jobs(alloc))?
+        .arg(output(alloc))?
+        .arg(max_steps(alloc))?
+        .arg(query(alloc))
 }
 
 /// What the words ask for. The error has clap's text, for standard error or, with `--help`, for standard output.
