@@ -1,17 +1,23 @@
 //! How a board begins, and its seats.
-ghost use Rattle.std.specs.Prelude.{◌≡◌, ◌+◌, ◌-◌, ◌<◌, ◌≤◌, length, All, IfOk, vec_len};
+ghost use Rattle.std.specs.Prelude.{◌≡◌, ◌+◌, ◌-◌, ◌<◌, ◌≤◌, [], length, All, IfOk, vec_len};
 ghost use Rattle.bq_board.specs.Board.{blank, blank_with, edge_word};
 ghost use Rattle.bq_board.specs.Graph.{edges};
 ghost use Rattle.bq_board.specs.Seats.{IsSeatOf, base_of, seats_of, view_of};
 
-use crate::board::{Board, Seat};
+use crate::board::{Board, Place, Seat};
 use crate::parcel::Parcel;
 use crate::plan::Plan;
-use crate::rule::Key;
+use crate::rule::{Key, Rule};
 use crate::steps::Fresh;
+use crate::view::View;
 use atomic_table::Table;
 use std::alloc::{AllocError, Global};
 use std::snapshot::Snapshot;
+
+type Opened<V> = (
+    Table<Option<V>, View<<V as Parcel>::Base>, Key<<V as Parcel>::Base>, Rule<V>, Global>,
+    Place<V, <V as Parcel>::Base>,
+);
 
 /// The most seats that a board may have.
 pub const MAX_SEATS: usize = 65;
@@ -49,14 +55,7 @@ impl<V: Parcel> Board<V> {
         ensures all { IfOk result (λ r. seats_of r.0 ≡ seats) }
         ensures fresh { IfOk result (λ r. IsSeatOf r.0 r.1 × (view_of r.1 ≡ blank_with base.now plan (seats - 1))) }
     {
-        let words = free_words(alloc, &plan)?;
-        let edges = plan.edges();
-        let key = Key {
-            plan: Snapshot::of(&plan),
-            base: Snapshot::of(base),
-            seats: Snapshot::of(&seats),
-        };
-        let (table, place) = Table::vacant(alloc, words.as_slice(), edges, &key)?;
+        let (table, place) = free_table(alloc, &plan, seats, base)?;
         Ok((Board { plan, table }, Seat { place }))
     }
 
@@ -80,6 +79,28 @@ impl<V: Parcel> Board<V> {
         all.push(first)?;
         Ok(all)
     }
+}
+
+// The table of a board on which nothing was done yet, and the place of its one seat.
+fn free_table<V: Parcel>(
+    alloc: Global,
+    plan: &Plan,
+    seats: usize,
+    base: &V::Base,
+) -> Result<Opened<V>, AllocError>
+    requires { 0 < seats }
+    ensures key { IfOk result (λ t. (t.0.shared.key.plan.value ≡ plan.now) × (t.0.shared.key.base.value ≡ base.now) × (t.0.shared.key.seats.value ≡ seats)) }
+    ensures size { IfOk result (λ t. (t.0.shared.table_id.words ≡ edge_word plan.now (edges plan.now)) × (t.0.shared.table_id.slots ≡ edges plan.now)) }
+    ensures place { IfOk result (λ t. (t.1.table_id ≡ t.0.shared.table_id) × (t.1.me ≡ (blank_with base.now plan.now (seats - 1), []))) }
+{
+    let words = free_words(alloc, plan)?;
+    let edges = plan.edges();
+    let key = Key {
+        plan: Snapshot::of(plan),
+        base: Snapshot::of(base),
+        seats: Snapshot::of(&seats),
+    };
+    Table::vacant(alloc, words.as_slice(), edges, &key)
 }
 
 fn free_words(alloc: Global, plan: &Plan) -> Result<Vec<u64>, AllocError>
