@@ -1,0 +1,4 @@
+-- `Places`: the place of a name among names. `Layers`: one layer of a tree. `Uses`: what a use stands for, and which names share a slot.
+mod Places
+mod Layers
+mod Uses

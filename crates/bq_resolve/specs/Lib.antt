@@ -1,0 +1,9 @@
+pub mod Names
+pub mod Keys
+pub mod Universe
+pub mod Scope
+pub mod Visit
+pub mod Expressions
+pub mod Statements
+pub mod Files
+pub mod Laws
