@@ -90,16 +90,26 @@ fn found_of(dict: &Dict, keys: &[Key]) -> usize {
     found
 }
 
-fn measure_dict(rt: &HostRuntime, name: &str, keys: &[Key]) -> Result<()> {
+fn measure_put(rt: &HostRuntime, name: &str, keys: &[Key]) -> Result<Dict> {
     let start = rt.thread_cpu_time()?;
     let dict = put_all(rt.alloc(), keys)?;
-    let put = each(rt, start)?;
+    let time = each(rt, start)?;
+    eprintln!(rt; "dict of {name}: put {time} ns")?;
+    Ok(dict)
+}
+
+fn measure_get(rt: &HostRuntime, name: &str, dict: &Dict, keys: &[Key]) -> Result<()> {
     let start = rt.thread_cpu_time()?;
-    let found = found_of(&dict, keys);
-    let get = each(rt, start)?;
+    let found = found_of(dict, keys);
+    let time = each(rt, start)?;
     println!(rt; "dict of {name}: {} pairs, {found} found", dict.len())?;
-    eprintln!(rt; "dict of {name}: put {put} ns, get {get} ns")?;
+    eprintln!(rt; "dict of {name}: get {time} ns")?;
     Ok(())
+}
+
+fn measure_dict(rt: &HostRuntime, name: &str, keys: &[Key]) -> Result<()> {
+    let dict = measure_put(rt, name, keys)?;
+    measure_get(rt, name, &dict, keys)
 }
 
 fn integers(alloc: Global) -> std::result::Result<Vec<Value>, AllocError> {
@@ -110,13 +120,15 @@ fn integers(alloc: Global) -> std::result::Result<Vec<Value>, AllocError> {
     Ok(values)
 }
 
-fn measure_equal(rt: &HostRuntime) -> Result<()> {
-    let alloc = rt.alloc();
-    let mut store = Store::new(alloc, 0);
-    let a = Value::cell(store.make(Content::list(integers(alloc)?))?);
-    let b = Value::cell(store.make(Content::list(integers(alloc)?))?);
+/// A new cell with these many integers.
+fn list_cell(alloc: Global, store: &mut Store) -> std::result::Result<Value, AllocError> {
+    let content = Content::list(integers(alloc)?);
+    Ok(Value::cell(store.make(content)?))
+}
+
+fn compare(rt: &HostRuntime, store: &Store, a: &Value, b: &Value) -> Result<()> {
     let start = rt.thread_cpu_time()?;
-    let answer = equal(&store, 2_000_000, &a, &b);
+    let answer = equal(store, 2_000_000, a, b);
     let time = each(rt, start)?;
     match answer {
         Ok((same, left)) => println!(rt; "lists: {same}, {left} steps left")?,
@@ -124,6 +136,13 @@ fn measure_equal(rt: &HostRuntime) -> Result<()> {
     }
     eprintln!(rt; "equal: {time} ns an element")?;
     Ok(())
+}
+
+fn measure_equal(rt: &HostRuntime) -> Result<()> {
+    let mut store = Store::new(rt.alloc(), 0);
+    let a = list_cell(rt.alloc(), &mut store)?;
+    let b = list_cell(rt.alloc(), &mut store)?;
+    compare(rt, &store, &a, &b)
 }
 
 /// A store of so many empty lists.
