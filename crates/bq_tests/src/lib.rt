@@ -6,6 +6,8 @@
 #[cfg(test)]
 mod board;
 #[cfg(test)]
+mod expressions;
+#[cfg(test)]
 mod glob;
 #[cfg(test)]
 mod graph;
@@ -23,5 +25,7 @@ mod rows;
 mod run;
 #[cfg(test)]
 mod source;
+#[cfg(test)]
+mod trees;
 #[cfg(test)]
 mod value;
