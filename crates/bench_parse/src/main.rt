@@ -145,8 +145,14 @@ fn read_all(rt: &HostRuntime, files: &mut [Measured]) -> anyhow::Result<()> {
 fn show(rt: &HostRuntime, measured: &Measured) -> anyhow::Result<()> {
     let length = measured.file.len();
     let fastest = measured.fastest;
-    println!(rt; "{length} bytes: {} tokens, {} statements", fastest.tokens, fastest.statements)?;
-    eprintln!(rt; "{length} bytes: lexed {:?}, both {:?}", fastest.lexed, fastest.parsed)?;
+    println!(rt;
+        "{length} bytes: {} tokens, {} statements",
+        fastest.tokens, fastest.statements
+    )?;
+    eprintln!(rt;
+        "{length} bytes: lexed {:?}, both {:?}",
+        fastest.lexed, fastest.parsed
+    )?;
     Ok(())
 }
 

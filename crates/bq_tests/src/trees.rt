@@ -111,12 +111,7 @@ fn node3<'a>(
     [after, Part::Close, third, second, first, Part::Open(name)]
 }
 
-fn node2<'a>(
-    name: &'static str,
-    first: Part<'a>,
-    second: Part<'a>,
-    after: Part<'a>,
-) -> Parts<'a> {
+fn node2<'a>(name: &'static str, first: Part<'a>, second: Part<'a>, after: Part<'a>) -> Parts<'a> {
     node3(name, first, second, Part::Nothing, after)
 }
 
@@ -192,7 +187,11 @@ fn target_parts(target: &Target) -> Parts<'_> {
     match target {
         Target::Name(word) => one(Part::Name(&word.name)),
         Target::Index(operand, index) => {
-            node("element", Part::Expr(operand.get()), Part::Expr(index.get()))
+            node(
+                "element",
+                Part::Expr(operand.get()),
+                Part::Expr(index.get()),
+            )
         }
         Target::Tuple(items) => node("tuple", Part::Targets(items.as_slice()), Part::Nothing),
         Target::List(items) => node("list", Part::Targets(items.as_slice()), Part::Nothing),
@@ -217,7 +216,12 @@ fn choice_parts<'a>(choice: &'a Choice, after: Part<'a>) -> Parts<'a> {
 }
 
 fn pair_parts<'a>(pair: &'a Pair, after: Part<'a>) -> Parts<'a> {
-    node2("pair", Part::Expr(&pair.key), Part::Expr(&pair.value), after)
+    node2(
+        "pair",
+        Part::Expr(&pair.key),
+        Part::Expr(&pair.value),
+        after,
+    )
 }
 
 fn suffix_parts<'a>(suffix: &'a Suffix, after: Part<'a>) -> Parts<'a> {
