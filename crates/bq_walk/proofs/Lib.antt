@@ -1,4 +1,4 @@
--- a value that the walk goes through may be a key
+-- a value that the walk goes through may be a key, and one that may be a key is never F45
 pub mod Keys
 -- lists one of which ends where the other goes on
 pub mod Prefixes
@@ -18,3 +18,7 @@ pub mod Orders
 pub mod Counting
 -- and so does the walk of a key
 pub mod KeySteps
+-- ranges are equal by their elements, functions by their `def`
+pub mod Elements
+-- a step for each level, and at most 64
+pub mod Deep

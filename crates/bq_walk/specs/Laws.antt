@@ -1,10 +1,11 @@
 -- The words of the laws of walks.
-use Rattle.std.specs.Prelude.{◌≡◌, ℕ, ◌+◌, ◌<◌, Bool, true, false, List, [], ◌∷◌, Option, Some, None, Result, Ok, Err}
+use Rattle.std.specs.Prelude.{◌≡◌, ℕ, zero, suc, ◌+◌, ◌<◌, ℤ, Bool, true, false, List, [], ◌∷◌, Option, Some, None, Result, Ok, Err}
 use Rattle.std.specs.declared.cmp.Ordering.{Ordering}
 use Rattle.std.specs.declared.cmp.Ordering.TheVariants.{Less, Equal, Greater}
 use Rattle.bq_source.specs.declared.fault.FaultKind.{FaultKind}
 use Rattle.bq_source.specs.declared.fault.FaultKind.TheVariants.{StepLimit}
-use Rattle.bq_value.specs.Datum.{Datum, none, boolean, int, string, tuple, range, cell, function, built_in}
+use Rattle.bq_value.specs.Datum.{Datum, none, boolean, int, string, tuple, range, cell, function, built_in, end, datum}
+use Rattle.bq_value.specs.Range.{range_count, range_element}
 use Rattle.bq_value.specs.Contents.{Contents, items, pairs, KeysDiffer}
 use Rattle.bq_value.specs.Cells.{StoreView, content_at}
 use Rattle.bq_walk.specs.Looked.{Looked, max_levels}
@@ -29,7 +30,7 @@ Ordered s a b so = Answers (λ n. ordered_at max_levels s n a b) so
 abbrev pub KeysAreDistinct : StoreView → Type 0
 KeysAreDistinct s = (home number : ℕ) → KeysDiffer (content_at s home number)
 
--- the types of the language (Starlark, "Value concepts"); a cell that the store doesn't know has none
+-- the types of the language (Starlark, "Data types"); a cell that the store doesn't know has none
 pub data Kind : Type 0 where
   none_type : Kind
   bool_type : Kind
@@ -79,3 +80,12 @@ pub record Takes {A : Type 0} (walk : ℕ → Looked A) : Type 0 where
   pub outcome : Result A FaultKind
   pub enough : (more : ℕ) → walk (steps + more) ≡ with_left outcome more
   pub short : (n : ℕ) → n < steps → walk n ≡ Err StepLimit
+
+-- as many elements, and the same ones at the same places
+abbrev pub HaveSameElements : ℤ → ℤ → ℤ → ℤ → ℤ → ℤ → Type 0
+HaveSameElements a b c d e f = (range_count a b c ≡ range_count d e f) × ((k : ℕ) → k < range_count a b c → range_element a c k ≡ range_element d f k)
+
+-- `None` in so many tuples of one, in one another
+unfoldable pub nested : ℕ → Datum
+nested zero = none
+nested (suc k) = tuple (datum (nested k) end)

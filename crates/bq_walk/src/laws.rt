@@ -1,11 +1,12 @@
 //! Laws of the definitions: each is the contract of a function that does nothing.
 
-ghost use Rattle.std.specs.Prelude.{◌≡◌, ◌≢◌, ◌↔◌, ℕ, ℤ, Bool, true, false, List, Some};
+ghost use Rattle.std.specs.Prelude.{◌≡◌, ◌≢◌, ◌↔◌, ◌+◌, ℕ, ℤ, Bool, true, false, List, Some, Ok, Err};
 ghost use Rattle.std.specs.declared.cmp.Ordering.{Ordering};
 ghost use Rattle.std.specs.declared.cmp.Ordering.TheVariants.{Less, Equal};
 ghost use Rattle.std.specs.Ordering.{int_cmp, nat_cmp, bool_cmp, ordering_reverse};
 ghost use Rattle.std.specs.Cmp.Lexicographic.{slice_cmp};
-ghost use Rattle.bq_value.specs.Datum.{Datum, boolean, int, string, tuple, cell, Data, list_of};
+ghost use Rattle.bq_source.specs.declared.fault.FaultKind.TheVariants.{TooDeep, Unhashable};
+ghost use Rattle.bq_value.specs.Datum.{Datum, boolean, int, string, tuple, range, cell, function, Data, list_of};
 ghost use Rattle.bq_value.specs.Key.{IsKey};
 ghost use Rattle.bq_value.specs.Contents.{items};
 ghost use Rattle.bq_value.specs.Cells.{StoreView, content_at};
@@ -13,7 +14,7 @@ ghost use Rattle.bq_walk.specs.Looked.{max_levels};
 ghost use Rattle.bq_walk.specs.Equality.{equal_at};
 ghost use Rattle.bq_walk.specs.Order.{ordered_at};
 ghost use Rattle.bq_walk.specs.KeyWalk.{walked_at, keyed};
-ghost use Rattle.bq_walk.specs.Laws.{Equals, Ordered, KeysAreDistinct, kind_of, Decided, Takes};
+ghost use Rattle.bq_walk.specs.Laws.{Equals, Ordered, KeysAreDistinct, kind_of, Decided, Takes, HaveSameElements, nested};
 
 /// Where `==` answers, it is an equivalence.
 pub fn equality_is_an_equivalence()
@@ -58,4 +59,31 @@ pub fn steps_are_the_walks_own()
     ensures equality { (s : StoreView) (a b : Datum) → Takes (λ n. equal_at max_levels s n a b) }
     ensures order { (s : StoreView) (a b : Datum) → Takes (λ n. ordered_at max_levels s n a b) }
     ensures key { (v : Datum) → Takes (λ n. keyed v (walked_at max_levels n v)) }
+{}
+
+/// Ranges are equal where they have the same elements, whatever their bounds and steps.
+pub fn ranges_are_equal_by_their_elements()
+    ensures { (s : StoreView) (a b c d e f : ℤ) (so : Bool) → Equals s (range a b c) (range d e f) so → (so ≡ true) ↔ HaveSameElements a b c d e f }
+{}
+
+/// Functions are equal where they come from one `def` of one module, whatever their defaults.
+pub fn functions_are_equal_by_their_def()
+    ensures { (s : StoreView) (a i b j : ℕ) (t u : List ℕ) (vs ws : Data) (so : Bool) → Equals s (function a i t vs) (function b j u ws) so → (so ≡ true) ↔ ((a ≡ b) × (i ≡ j)) }
+{}
+
+/// A key is the value that it is made of. Only a value that may be a key makes one, and none of these is F45.
+pub fn a_key_is_its_value()
+    ensures value { (v k : Datum) (n m : ℕ) → keyed v (walked_at max_levels n v) ≡ Ok (k, m) → k ≡ v }
+    ensures kind { (v k : Datum) (n m : ℕ) → keyed v (walked_at max_levels n v) ≡ Ok (k, m) → IsKey v }
+    ensures accepted { (v : Datum) (n : ℕ) → IsKey v → keyed v (walked_at max_levels n v) ≢ Err Unhashable }
+{}
+
+/// Each level of two values takes a step, and 64 levels are looked at: the 65th is F55.
+pub fn levels_and_steps()
+    ensures equality { (s : StoreView) (n : ℕ) → equal_at max_levels s (64 + n) (nested 63) (nested 63) ≡ Ok (true, n) }
+    ensures equality_ends { (s : StoreView) (n : ℕ) → equal_at max_levels s (65 + n) (nested 64) (nested 64) ≡ Err TooDeep }
+    ensures order { (s : StoreView) (n : ℕ) → ordered_at max_levels s (64 + n) (nested 63) (nested 63) ≡ Ok (Equal, n) }
+    ensures order_ends { (s : StoreView) (n : ℕ) → ordered_at max_levels s (65 + n) (nested 64) (nested 64) ≡ Err TooDeep }
+    ensures key { (n : ℕ) → walked_at max_levels (64 + n) (nested 63) ≡ Ok n }
+    ensures key_ends { (n : ℕ) → walked_at max_levels (65 + n) (nested 64) ≡ Err TooDeep }
 {}
