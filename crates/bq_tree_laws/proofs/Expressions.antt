@@ -21,6 +21,7 @@ use Rattle.bq_grammar.specs.Phrases as P
 use Rattle.bq_grammar.specs.Phrases.{Phrase, none, Repeat, Listed, CommaThen}
 use Rattle.bq_grammar.specs.Grammar as G
 use Rattle.bq_grammar.specs.Grammar.{choices_of, last_of, IsVarOver, IsVar, IsVarsOver, IsVars, IsPair, IsForClause, IsClause, AreClauses, IsOperand, IsArgument, AreArguments, IsOptionalTest, IsExpr, IsSuffix, IsPrimary, IsPrefix, IsPrefixed, IsOperation, IsChain, IsBinary, IsCompOp, IsComp, IsOr, IsChoice, IsTest, IsPrimaryTo, IsOrTo, IsTestTo, IsExprTo, IsOperandTo, IsSuffixTo, IsIndexTo}
+use Rattle.bq_grammar.proofs.NextToken.{sees_it}
 use Rattle.bq_tree_laws.specs.Parts as parts
 use Rattle.bq_tree_laws.specs.Parts.{Part, row, listed, commas, unary, operator_kind, comparison, ExprLayer, expr_parts_by, optional_expr, SuffixLayer, suffix_parts_by, arguments, opening, ArgumentLayer, argument_parts_by, ClauseLayer, clause_parts_by, TargetLayer, target_parts_by}
 use Rattle.bq_tree_laws.specs.Writes as W
@@ -187,7 +188,7 @@ module _ (O T : Phrase Expr) (V : Phrase Target) (ors : Tells parts.expr O) (tes
   pub suffix_tells : Tells parts.suffix (IsSuffix O T V)
   suffix_tells ts rest y (G.attribute {n = n} f g h i) ps w = made_suffix (ap out-Suffix i ∙ L.out-Attribute (identifier n)) (W.attribute f g refl h w)
   suffix_tells ts rest y (G.method {n = n} {o = o} {ts = us} {xs = xs} f g h p i) ps w = made_suffix (ap out-Suffix i ∙ L.out-Method (identifier n) xs)
-      (W.token f (W.word g refl (arguments_tell _ o h us rest xs p ps w)))
+      (W.method f g refl (sees_it o us k.LeftParen h) (arguments_tell _ o h us rest xs p ps w))
   suffix_tells ts rest y (G.call {o = o} {ts = us} {xs = xs} f p g) ps w = made_suffix (ap out-Suffix g ∙ L.out-Call xs) (arguments_tell _ o f us rest xs p ps w)
   suffix_tells ts rest y (G.index {c = c} {ts = us} {x = x} f p g h) ps w = made_suffix (ap out-Suffix h ∙ L.out-Index x)
       (W.token f (expr_tells us (c ∷ rest) x p (parts.token k.RightBracket ∷ ps) (W.token g w)))

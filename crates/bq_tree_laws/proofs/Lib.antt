@@ -11,3 +11,4 @@ pub mod LeftParts
 pub mod Left
 pub mod FileDepths
 pub mod Simple
+pub mod Nested

@@ -1,6 +1,11 @@
 -- How many nodes of a tree the language leaves out: `lambda`, `/` and `/=`, and `.name` without a call; in a BUILD file also arguments
 -- with a star.
-use Rattle.std.specs.Prelude.{ℕ, ◌+◌, Bool, true, false, List, [], ◌∷◌, map, Option, Some, None}
+use Rattle.std.specs.Prelude.{ℕ, ◌+◌, Bool, true, false, ◌||◌, ◌&&◌, not, List, [], ◌∷◌, map, Option, Some, None}
+use Rattle.std.specs.Str.{bytes_eq}
+use Rattle.bq_source.specs.declared.token.TokenKind.{TokenKind}
+use Rattle.bq_source.specs.declared.token.TokenKind.TheVariants as k
+use Rattle.bq_grammar.specs.Lexeme.{Lexeme}
+use Rattle.bq_grammar.specs.LeftOut.{native, calls_method, kinds, any}
 use Rattle.bq_grammar.specs.declared.tree.Operator.{Operator}
 use Rattle.bq_grammar.specs.declared.tree.Operator.TheVariants as o
 use Rattle.bq_grammar.specs.declared.tree.Argument.TheFolds.{fold-Argument, fold-Choice, fold-Clause, fold-Expr, fold-Operation, fold-Pair, fold-Suffix, fold-Target}
@@ -145,3 +150,33 @@ stmt_count build = fold-Stmt ℕ ℕ (stmt_left build) (branch_left build)
 
 abbrev pub branch_count : Bool → Branch → ℕ
 branch_count build = fold-Branch ℕ ℕ (stmt_left build) (branch_left build)
+
+-- ---- a `def` in a `def`
+
+-- what each block gives, where it stands in a `def` and where it doesn't
+abbrev pub branch_nested : Branch-F (Bool → Bool) (Bool → Bool) → Bool → Bool
+branch_nested x inside = any (λ f. f inside) x.block
+
+abbrev pub stmt_nested : Stmt-F (Bool → Bool) (Bool → Bool) → Bool → Bool
+stmt_nested (Stmt-F.Simple xs) inside = false
+stmt_nested (Stmt-F.If fs gs) inside = any (λ f. f inside) fs || any (λ f. f inside) gs
+stmt_nested (Stmt-F.For v x fs) inside = any (λ f. f inside) fs
+stmt_nested (Stmt-F.Def n ps fs) inside = inside || any (λ f. f true) fs
+
+-- the statement, inside a `def` or not, makes a `def` stand in a `def`
+abbrev pub has_nested : Stmt → Bool → Bool
+has_nested = fold-Stmt (Bool → Bool) (Bool → Bool) stmt_nested branch_nested
+
+abbrev pub branch_has_nested : Branch → Bool → Bool
+branch_has_nested = fold-Branch (Bool → Bool) (Bool → Bool) stmt_nested branch_nested
+
+-- ---- what the tokens alone tell
+
+-- the name `native`, but before `.name(`
+abbrev pub lone_native_by : TokenKind → Lexeme → List Lexeme → Bool
+lone_native_by k.Identifier t ts = bytes_eq t.spelling native && not (calls_method (kinds ts))
+lone_native_by _ t ts = false
+
+abbrev pub lone_native : List Lexeme → Bool
+lone_native [] = false
+lone_native (t ∷ ts) = lone_native_by t.kind t ts || lone_native ts

@@ -36,7 +36,8 @@ pub data Part : Type 0 where
   maybe : TokenKind → Part
   -- two tokens
   both : TokenKind → TokenKind → Part
-  -- `.name`, and no `(` after it
+  -- `.name` before a `(`, and before no `(`
+  method : Identifier → Part
   attribute : Identifier → Part
   -- the word that names this, on its line; and a word of which the tree has the bytes alone
   word : Identifier → Part
@@ -194,7 +195,7 @@ arguments (x ∷ xs) more = argument true x ∷ row (argument false) xs (maybe k
 
 abbrev pub suffix_parts_by : SuffixLayer → List Part → List Part
 suffix_parts_by (Suffix-F.Call xs) more = arguments xs more
-suffix_parts_by (Suffix-F.Method n xs) more = token k.Dot ∷ word n ∷ arguments xs more
+suffix_parts_by (Suffix-F.Method n xs) more = method n ∷ arguments xs more
 suffix_parts_by (Suffix-F.Attribute n) more = attribute n ∷ more
 suffix_parts_by (Suffix-F.Suffix::Index x) more = token k.LeftBracket ∷ open_expr x ∷ token k.RightBracket ∷ more
 suffix_parts_by (Suffix-F.Slice x y z) more =

@@ -2,7 +2,7 @@
 -- expression or a target there may be parentheses, where a list of tests may stand a tuple of two or more needs none, after the last
 -- item of a list there may be a comma, after a slice's second part a colon, and after a line's last statement a semicolon; a suite of
 -- one line may stand on the line of its head, and a load may name a symbol once where the name is the same.
-use Rattle.std.specs.Prelude.{ℕ, pos, Bool, false, List, [], ◌∷◌, Some, ◌≡◌}
+use Rattle.std.specs.Prelude.{ℕ, pos, Bool, true, false, List, [], ◌∷◌, Some, ◌≡◌}
 use Rattle.bq_source.specs.declared.token.TokenKind.{TokenKind}
 use Rattle.bq_source.specs.declared.token.TokenKind.TheVariants as k
 use Rattle.bq_source.specs.Number.{int_value}
@@ -39,6 +39,8 @@ pub data Writes : List Part → List Lexeme → Type 0 where
   there : {q : TokenKind} {ps : List Part} {ts : List Lexeme} → Writes (parts.token q ∷ ps) ts → Writes (parts.maybe q ∷ ps) ts
   absent : {q : TokenKind} {ps : List Part} {ts : List Lexeme} → Writes ps ts → Writes (parts.maybe q ∷ ps) ts
   both : {q r : TokenKind} {v w : Lexeme} {ps : List Part} {ts : List Lexeme} → v.kind ≡ q → w.kind ≡ r → Writes ps ts → Writes (parts.both q r ∷ ps) (v ∷ w ∷ ts)
+  method : {n : Identifier} {v w : Lexeme} {ps : List Part} {ts : List Lexeme} → v.kind ≡ k.Dot → w.kind ≡ k.Identifier → n ≡ identifier w
+      → sees k.LeftParen ts ≡ true → Writes ps ts → Writes (parts.method n ∷ ps) (v ∷ w ∷ ts)
   attribute : {n : Identifier} {v w : Lexeme} {ps : List Part} {ts : List Lexeme} → v.kind ≡ k.Dot → w.kind ≡ k.Identifier → n ≡ identifier w
       → sees k.LeftParen ts ≡ false → Writes ps ts → Writes (parts.attribute n ∷ ps) (v ∷ w ∷ ts)
   word : {n : Identifier} {w : Lexeme} {ps : List Part} {ts : List Lexeme} → w.kind ≡ k.Identifier → n ≡ identifier w → Writes ps ts

@@ -1,14 +1,13 @@
 //! What holds of trees. The functions do nothing: their contracts are the laws.
 
-ghost use Rattle.std.specs.Prelude.{◌∷◌, ◌≡◌, ◌≤◌, ◌+◌, ◌*◌, List, Ok, false, ℕ};
+ghost use Rattle.std.specs.Prelude.{◌∷◌, ◌≡◌, ◌≤◌, ◌+◌, ◌*◌, ◌⊎◌, List, Ok, false, true, ℕ};
 ghost use Rattle.std.specs.List.{AllByRecursion};
 ghost use Rattle.bq_grammar.specs.Grammar.{IsTestTo};
-ghost use Rattle.bq_grammar.specs.LeftOut.{nested_def};
+ghost use Rattle.bq_grammar.specs.LeftOut.{leaves_out};
 ghost use Rattle.bq_grammar.specs.Lexeme.{Lexeme};
-ghost use Rattle.bq_grammar.specs.Nesting.{max_nesting};
 ghost use Rattle.bq_grammar.specs.Parses.{Parses, is_build};
 ghost use Rattle.bq_grammar.specs.Pieces.{pieces};
-ghost use Rattle.bq_grammar.specs.Statements.{IsStmt};
+ghost use Rattle.bq_grammar.specs.Statements.{IsStmt, IsTopLevel};
 ghost use Rattle.bq_grammar.specs.Verdict.{ReadsAs};
 ghost use Rattle.bq_grammar.specs.declared.tree.Expr.{Expr};
 ghost use Rattle.bq_grammar.specs.declared.tree.FileKind.{FileKind};
@@ -18,7 +17,7 @@ ghost use Rattle.bq_grammar.specs.declared.tree.Stmt.{Stmt};
 ghost use Rattle.bq_grammar.specs.declared.tree.Stmt.TheVariants as s;
 ghost use Rattle.bq_grammar.specs.declared.tree.TopLevel.{TopLevel};
 ghost use Rattle.bq_tree_laws.specs.Depth.{expr_depth, max_depth, stmt_depth};
-ghost use Rattle.bq_tree_laws.specs.LeftOut.{stmt_count};
+ghost use Rattle.bq_tree_laws.specs.LeftOut.{has_nested, lone_native, stmt_count};
 ghost use Rattle.bq_tree_laws.specs.Parts.{expr, stmt};
 ghost use Rattle.bq_tree_laws.specs.Writes.{EachWrites, Writes, tokens};
 
@@ -41,8 +40,14 @@ pub fn a_file_is_what_its_statements_write()
 /// a call, no `def` in a `def`; in a BUILD file no argument with a star, and it is a line of small statements.
 pub fn no_tree_holds_what_is_left_out()
     ensures none { (kind : FileKind) (ts : List Lexeme) (x : TopLevel) → ReadsAs kind ts (Ok x) → stmt_count (is_build kind) x.statement ≡ 0 }
-    ensures flat { (kind : FileKind) (ts : List Lexeme) (x : TopLevel) → ReadsAs kind ts (Ok x) → nested_def max_nesting false x.statement ≡ false }
+    ensures flat { (kind : FileKind) (ts : List Lexeme) (x : TopLevel) → ReadsAs kind ts (Ok x) → has_nested x.statement false ≡ false }
     ensures simple { (ts : List Lexeme) (x : TopLevel) → ReadsAs file.Build ts (Ok x) → (xs : List SmallStmt) × (x.statement ≡ s.Simple xs) }
+{}
+
+/// Tokens that are left out for themselves (F12) have a tree that holds what is left out, or the name `native` is among them,
+/// elsewhere than before `.name(`, which trees don't tell.
+pub fn what_is_left_out_is_in_the_tree()
+    ensures { (depth : ℕ) (ts : List Lexeme) (x : TopLevel) → IsTopLevel depth ts x → leaves_out ts ≡ true → (1 ≤ stmt_count false x.statement) ⊎ (lone_native ts ≡ true) }
 {}
 
 /// With so many brackets in one another an expression is at most 14 levels deeper; no statement is deeper than `max_depth`.

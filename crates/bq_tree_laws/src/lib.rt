@@ -17,4 +17,5 @@ mod laws;
 pub use laws::{
     a_file_is_what_its_statements_write, a_statement_writes_its_tokens,
     an_expression_writes_its_tokens, no_tree_holds_what_is_left_out, no_tree_is_deeper,
+    what_is_left_out_is_in_the_tree,
 };
