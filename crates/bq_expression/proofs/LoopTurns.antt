@@ -1,9 +1,9 @@
 -- A recursion on a count of turns, beside a loop that counts up.
-use Rattle.std.proofs.Common.{◌≡◌, ℕ, suc, ◌+◌, ◌-◌, ◌<◌, ◌≤◌, ◌∙◌, List, sym, ap, arith}
+use Rattle.std.proofs.Common.{◌≡◌, ℕ, suc, ◌+◌, ◌-◌, ◌<◌, ◌≤◌, ◌∙◌, Bool, false, if◌then◌else◌, List, [], ◌∷◌, length, Ok, refl, sym, ap, arith}
 use Rattle.bq_grammar.specs.Lexeme.{Lexeme}
 use Rattle.bq_grammar.specs.declared.tree.Expr.{Expr}
 use Rattle.bq_grammar.specs.Reading.{binary, chain}
-use Rattle.bq_grammar.specs.Turns.{Parse, Turn, next_turn, turns}
+use Rattle.bq_grammar.specs.Turns.{Parse, Turn, ended, goes_with, next_turn, turns, repeat, repeat_from}
 
 -- a turn more
 pub turns_more : {S : Type 0} (turn : S → List Lexeme → Turn S) (finish : S → Parse S) (n at : ℕ) (s : S) (ts : List Lexeme) → at < n
@@ -23,3 +23,11 @@ deeper f n some = let e : n ≡ suc (n - 1) = omega arith in ap f e
 pub level_above : (base : Parse Expr) (l : ℕ) (ts : List Lexeme) → 0 < l → binary base l ts ≡ chain l (binary base (l - 1)) ts
 level_above base l ts some =
     let one : l ≡ suc (l - 1) = omega arith in ap (λ n. binary base n ts) one ∙ ap (λ n. chain n (binary base (l - 1)) ts) (sym one)
+
+-- where no further item begins, none is found
+pub none_follow : {A : Type 0} (begins : List Lexeme → Bool) (one : Parse A) (found : List A) (ts : List Lexeme) → begins ts ≡ false
+    → repeat begins one found ts ≡ Ok (found, ts)
+unfolding repeat turns
+none_follow begins one found [] none = refl
+none_follow begins one found (t ∷ ts) none =
+    ap (λ b. next_turn (repeat_from begins one (length ts)) (if b then goes_with found (one (t ∷ ts)) else ended found (t ∷ ts))) none

@@ -6,7 +6,6 @@ ghost use Rattle.bq_grammar.specs.Turns as turns;
 ghost use Rattle.bq_grammar.specs.Operators as operators;
 ghost use Rattle.bq_grammar.specs.Grammar as grammar;
 ghost use Rattle.bq_grammar.specs.Reading as spec;
-ghost use Rattle.bq_grammar.specs.declared.tree.Expr.TheVariants as e;
 ghost use Rattle.bq_expression.specs.Nested.{ReadsNested};
 
 use crate::grammar::Grammar;
@@ -17,13 +16,14 @@ use sqlite_items::{Boxed, Items};
 use std::alloc::{AllocError, Global};
 
 /// An operand and what is done to it; the operand alone where nothing is.
-fn binary_of(alloc: Global, first: Expr, operations: Items<Operation>) -> Result<Expr, AllocError>
-    ensures { IfOk result (λ x. x ≡ grammar.binary_of first operations) }
+fn binary_of(first: Boxed<Expr>, operations: Items<Operation>) -> Expr
+    ensures { result ≡ grammar.binary_of first operations }
 {
+    // for the proof: it is called where an operator was seen, so at least one operation was read.
     if operations.is_empty() {
-        return Ok(first);
+        return first.into_inner();
     }
-    Ok(Expr::Binary(Boxed::new(alloc, first)?, operations))
+    Expr::Binary(first, operations)
 }
 
 fn unary_of(
@@ -71,18 +71,6 @@ fn negations(alloc: Global, tokens: &mut Tokens<'_>) -> Result<Items<UnaryOperat
     Ok(found)
 }
 
-fn compared(
-    alloc: Global,
-    left: Expr,
-    comparison: Comparison,
-    right: Expr,
-) -> Result<Expr, AllocError>
-    ensures { IfOk result (λ x. x ≡ e.Compare left comparison right) }
-{
-    let left = Boxed::new(alloc, left)?;
-    Ok(Expr::Compare(left, comparison, Boxed::new(alloc, right)?))
-}
-
 /// The choices and the last value; the value alone where there is no choice.
 fn chosen_of(alloc: Global, choices: Items<Choice>, value: Expr) -> Result<Expr, AllocError>
     ensures { IfOk result (λ x. x ≡ spec.chosen_of (choices, value)) }
@@ -107,7 +95,7 @@ impl<F: Fn(Global, &mut Tokens<'_>, usize, Nested) -> Result<Expr, Refusal>> Gra
 
     /// Bor = Xor { '|' Xor }, and so on down to Prod = Unary { ('*' | '//' | '%' | '/') Unary }: Prod is level 1, Bor level 6
     #[cycle(binary)]
-    #[tactic(auto, using(crate::proofs::LoopTurns::level_above), unfolding(bq_grammar::specs::Reading::chain))]
+    #[tactic(auto, using(crate::proofs::LoopTurns::level_above, crate::proofs::LoopTurns::none_follow), unfolding(bq_grammar::specs::Reading::chain))]
     fn binary(&self, tokens: &mut Tokens<'_>, level: usize) -> Result<Expr, Refusal>
         requires { ReadsNested self.now.depth (F.pre self.now.phrase) (F.post self.now.phrase) }
         ensures { Reads (spec.binary (spec.primary (spec.phrase self.now.depth) (spec.variables_to self.now.depth)) level tokens.old) result tokens.new }
@@ -116,8 +104,12 @@ impl<F: Fn(Global, &mut Tokens<'_>, usize, Nested) -> Result<Expr, Refusal>> Gra
             return self.unary(tokens);
         }
         let first = self.binary(tokens, level - 1)?;
+        if !tokens.sees_operator(level) {
+            return Ok(first);
+        }
+        let first = Boxed::new(self.alloc, first)?;
         let operations = self.operations(tokens, level)?;
-        Ok(binary_of(self.alloc, first, operations)?)
+        Ok(binary_of(first, operations))
     }
 
     /// { operator Operand }
@@ -176,9 +168,10 @@ impl<F: Fn(Global, &mut Tokens<'_>, usize, Nested) -> Result<Expr, Refusal>> Gra
         if !(tokens.sees_comparison() || tokens.sees(TokenKind::Not)) {
             return Ok(left);
         }
+        let left = Boxed::new(self.alloc, left)?;
         let comparison = self.comp_op(tokens)?;
         let right = self.binary(tokens, 6)?;
-        Ok(compared(self.alloc, left, comparison, right)?)
+        Ok(Expr::Compare(left, comparison, Boxed::new(self.alloc, right)?))
     }
 
     /// Not = { 'not' } Comp
@@ -223,14 +216,18 @@ impl<F: Fn(Global, &mut Tokens<'_>, usize, Nested) -> Result<Expr, Refusal>> Gra
     }
 
     /// And = not_test { 'and' not_test }
-    #[tactic(auto, unfolding(bq_grammar::specs::Reading::chain))]
+    #[tactic(auto, using(crate::proofs::LoopTurns::none_follow), unfolding(bq_grammar::specs::Reading::chain))]
     fn and_test(&self, tokens: &mut Tokens<'_>) -> Result<Expr, Refusal>
         requires { ReadsNested self.now.depth (F.pre self.now.phrase) (F.post self.now.phrase) }
         ensures { Reads (spec.and_test (spec.primary (spec.phrase self.now.depth) (spec.variables_to self.now.depth)) tokens.old) result tokens.new }
     {
         let first = self.not_test(tokens)?;
+        if !tokens.sees_operator(9) {
+            return Ok(first);
+        }
+        let first = Boxed::new(self.alloc, first)?;
         let operations = self.and_operations(tokens)?;
-        Ok(binary_of(self.alloc, first, operations)?)
+        Ok(binary_of(first, operations))
     }
 
     /// 'or' and_test
@@ -264,14 +261,18 @@ impl<F: Fn(Global, &mut Tokens<'_>, usize, Nested) -> Result<Expr, Refusal>> Gra
     }
 
     /// Or = and_test { 'or' and_test }
-    #[tactic(auto, unfolding(bq_grammar::specs::Reading::chain))]
+    #[tactic(auto, using(crate::proofs::LoopTurns::none_follow), unfolding(bq_grammar::specs::Reading::chain))]
     fn or_test(&self, tokens: &mut Tokens<'_>) -> Result<Expr, Refusal>
         requires { ReadsNested self.now.depth (F.pre self.now.phrase) (F.post self.now.phrase) }
         ensures { Reads (spec.or_test (spec.primary (spec.phrase self.now.depth) (spec.variables_to self.now.depth)) tokens.old) result tokens.new }
     {
         let first = self.and_test(tokens)?;
+        if !tokens.sees_operator(10) {
+            return Ok(first);
+        }
+        let first = Boxed::new(self.alloc, first)?;
         let operations = self.or_operations(tokens)?;
-        Ok(binary_of(self.alloc, first, operations)?)
+        Ok(binary_of(first, operations))
     }
 
     /// Choice = 'if' Or 'else' Or
@@ -281,9 +282,10 @@ impl<F: Fn(Global, &mut Tokens<'_>, usize, Nested) -> Result<Expr, Refusal>> Gra
         ensures { Reads (spec.choice (spec.primary (spec.phrase self.now.depth) (spec.variables_to self.now.depth)) tokens.old) result tokens.new }
     {
         tokens.expect(TokenKind::If)?;
-        let condition = self.or_test(tokens)?;
+        let condition = Boxed::new(self.alloc, self.or_test(tokens)?)?;
         tokens.expect(TokenKind::Else)?;
-        Ok((condition, self.or_test(tokens)?))
+        let value = self.or_test(tokens)?;
+        Ok((condition.into_inner(), value))
     }
 
     /// { Choice }, after a first value: the choices, and the last value

@@ -14,6 +14,9 @@
 //! How a loop is proved: its invariant says that what is left from here, with what was found so far, gives what all gave from the
 //! start; `proofs/LoopTurns.antt` has the two lemmas that this takes.
 //!
+//! A tree that is held while more is read stands in a box, for the proof: where the rest is refused, to let go of a box is one step,
+//! and to let go of a tree in place is one for each of its variants.
+//!
 //! In reading order:
 //!
 //! - `variables`: the variables of a `for`;

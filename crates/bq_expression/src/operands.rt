@@ -67,8 +67,9 @@ impl<F: Fn(Global, &mut Tokens<'_>, usize, Nested) -> Result<Expr, Refusal>> Gra
         }
         let first = self.nested(tokens, Nested::Test)?;
         if !tokens.eat(TokenKind::Comma) {
+            let first = Boxed::new(self.alloc, first)?;
             tokens.expect(TokenKind::RightParen)?;
-            return Ok(first);
+            return Ok(first.into_inner());
         }
         let mut found = Items::new(self.alloc);
         found.push(first)?;
@@ -150,8 +151,9 @@ impl<F: Fn(Global, &mut Tokens<'_>, usize, Nested) -> Result<Expr, Refusal>> Gra
         }
         let first = self.nested(tokens, Nested::Test)?;
         if tokens.sees(TokenKind::For) {
+            let element = Boxed::new(self.alloc, first)?;
             let clauses = self.comprehension(tokens, TokenKind::RightBracket)?;
-            return Ok(Expr::ListComprehension(Boxed::new(self.alloc, first)?, clauses));
+            return Ok(Expr::ListComprehension(element, clauses));
         }
         Ok(Expr::List(self.tests_after(tokens, TokenKind::RightBracket, first)?))
     }
@@ -205,8 +207,9 @@ impl<F: Fn(Global, &mut Tokens<'_>, usize, Nested) -> Result<Expr, Refusal>> Gra
         }
         let first = self.pair(tokens)?;
         if tokens.sees(TokenKind::For) {
+            let element = Boxed::new(self.alloc, first)?;
             let clauses = self.comprehension(tokens, TokenKind::RightBrace)?;
-            return Ok(Expr::DictComprehension(Boxed::new(self.alloc, first)?, clauses));
+            return Ok(Expr::DictComprehension(element, clauses));
         }
         Ok(Expr::Dict(self.pairs_after(tokens, first)?))
     }

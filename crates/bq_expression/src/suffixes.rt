@@ -50,6 +50,26 @@ fn argument_kind(tokens: &Tokens<'_>) -> ArgumentKind
     }
 }
 
+/// A suffix comes next.
+fn sees_suffix(tokens: &Tokens<'_>) -> bool
+    ensures { result ≡ spec.begins_suffix tokens.now }
+{
+    tokens.sees(TokenKind::Dot)
+        || tokens.sees(TokenKind::LeftParen)
+        || tokens.sees(TokenKind::LeftBracket)
+}
+
+/// An operand and what is done to it; the operand alone where nothing is.
+fn primary_of(operand: Boxed<Expr>, suffixes: Items<Suffix>) -> Expr
+    ensures { result ≡ grammar.primary_of operand suffixes }
+{
+    // for the proof: it is called where a suffix was seen, so at least one was read.
+    if suffixes.is_empty() {
+        return operand.into_inner();
+    }
+    Expr::Primary(operand, suffixes)
+}
+
 impl<F: Fn(Global, &mut Tokens<'_>, usize, Nested) -> Result<Expr, Refusal>> Grammar<F> {
     /// Argument = Test | identifier '=' Test | '*' Test | '**' Test
     fn argument_by(&self, tokens: &mut Tokens<'_>, kind: ArgumentKind) -> Result<Argument, Refusal>
@@ -222,9 +242,9 @@ impl<F: Fn(Global, &mut Tokens<'_>, usize, Nested) -> Result<Expr, Refusal>> Gra
             let start = Boxed::new(self.alloc, first)?;
             return self.slice_after(tokens, Some(start));
         }
-        let index = self.expr_after(tokens, first)?;
+        let index = Boxed::new(self.alloc, self.expr_after(tokens, first)?)?;
         tokens.expect(TokenKind::RightBracket)?;
-        Ok(Suffix::Index(Boxed::new(self.alloc, index)?))
+        Ok(Suffix::Index(index))
     }
 
     /// '.' identifier [ '(' Arguments ')' ], after the dot
@@ -266,10 +286,7 @@ impl<F: Fn(Global, &mut Tokens<'_>, usize, Nested) -> Result<Expr, Refusal>> Gra
         let mut found = Items::new(self.alloc);
         // Each turn takes a token.
         for _turn in 0..tokens.left() {
-            if !(tokens.sees(TokenKind::Dot)
-                || tokens.sees(TokenKind::LeftParen)
-                || tokens.sees(TokenKind::LeftBracket))
-            {
+            if !sees_suffix(tokens) {
                 return Ok(found);
             }
             found.push(self.suffix(tokens)?)?;
@@ -278,16 +295,17 @@ impl<F: Fn(Global, &mut Tokens<'_>, usize, Nested) -> Result<Expr, Refusal>> Gra
     }
 
     /// Primary = Operand { Suffix }
-    #[tactic(auto, unfolding(bq_grammar::specs::Reading::primary))]
+    #[tactic(auto, using(crate::proofs::LoopTurns::none_follow), unfolding(bq_grammar::specs::Reading::primary))]
     pub fn primary(&self, tokens: &mut Tokens<'_>) -> Result<Expr, Refusal>
         requires { ReadsNested self.now.depth (F.pre self.now.phrase) (F.post self.now.phrase) }
         ensures { Reads (spec.primary (spec.phrase self.now.depth) (spec.variables_to self.now.depth) tokens.old) result tokens.new }
     {
         let operand = self.operand(tokens)?;
-        let suffixes = self.suffixes(tokens)?;
-        if suffixes.is_empty() {
+        if !sees_suffix(tokens) {
             return Ok(operand);
         }
-        Ok(Expr::Primary(Boxed::new(self.alloc, operand)?, suffixes))
+        let operand = Boxed::new(self.alloc, operand)?;
+        let suffixes = self.suffixes(tokens)?;
+        Ok(primary_of(operand, suffixes))
     }
 }
