@@ -6,31 +6,31 @@ use Rattle.bq_resolve.specs.declared.code.Binding.{Binding}
 use Rattle.bq_resolve.specs.declared.code.Binding.TheVariants as b
 use Rattle.bq_resolve.specs.Universe.{universe_has}
 use Rattle.bq_resolve.specs.Names.{Name, has, place_among}
-use Rattle.bq_resolve.specs.Scope.{Block, FileNames, or_else, slot_in, slot_of, file_has, use_of}
+use Rattle.bq_resolve.specs.Scope.{BlockParts, FileParts, or_else, slot_in, slot_of, file_has, use_of}
 use Rattle.bq_resolve.specs.Laws.{StandsFor, held, outside, of_file, of_load, of_all, of_none, EachUseStandsForOne, HeldNamesAreLocal, NamesHaveSlots, BlocksHaveSlots}
 use Rattle.bq_resolve.proofs.Places.{absent, unplaced, placed, within, there}
 
 -- ---- the slot of a name in a block
 
-slot_at : (block : Block) (name : Name) (i : ℕ) → place_among name block.names ≡ Some i → slot_in block name ≡ Some (block.base + i)
+slot_at : (block : BlockParts) (name : Name) (i : ℕ) → place_among name block.names ≡ Some i → slot_in block name ≡ Some (block.base + i)
 unfolding slot_in
 slot_at block name i h = rw h refl
 
-no_slot : (block : Block) (name : Name) → place_among name block.names ≡ None → slot_in block name ≡ None
+no_slot : (block : BlockParts) (name : Name) → place_among name block.names ≡ None → slot_in block name ≡ None
 unfolding slot_in
 no_slot block name h = rw h refl
 
-slot_by : (block : Block) (o : Option ℕ) (slot : ℕ) → option_map (λ i. block.base + i) o ≡ Some slot → (i : ℕ) × (o ≡ Some i) × (slot ≡ block.base + i)
+slot_by : (block : BlockParts) (o : Option ℕ) (slot : ℕ) → option_map (λ i. block.base + i) o ≡ Some slot → (i : ℕ) × (o ≡ Some i) × (slot ≡ block.base + i)
 slot_by block None slot h = absurd (let no : ⊥ = cc in no)
 slot_by block (Some i) slot h = (i, refl, cc)
 
-slot_is : (block : Block) (name : Name) (slot : ℕ) → slot_in block name ≡ Some slot → (i : ℕ) × (place_among name block.names ≡ Some i) × (slot ≡ block.base + i)
+slot_is : (block : BlockParts) (name : Name) (slot : ℕ) → slot_in block name ≡ Some slot → (i : ℕ) × (place_among name block.names ≡ Some i) × (slot ≡ block.base + i)
 unfolding slot_in
 slot_is block name slot h = slot_by block (place_among name block.names) slot h
 
 -- ---- what a use stands for
 
-means : {file : FileNames} {name : Name} {blocks : List Block} {x : Option Binding} → StandsFor file name blocks x → use_of file blocks name ≡ x
+means : {file : FileParts} {name : Name} {blocks : List BlockParts} {x : Option Binding} → StandsFor file name blocks x → use_of file blocks name ≡ x
 unfolding use_of slot_of file_has
 means {file} {name} (held {block} {blocks} {i} h) = rw (slot_at block name i h) refl
 means {file} {name} (outside {block} {blocks} {x} h d) = rw (no_slot block name (absent name block.names h)) (means d)
@@ -39,29 +39,29 @@ means {file} {name} (of_load g h) = rw (absent name file.globals g) (rw h refl)
 means {file} {name} (of_all g l h) = rw (absent name file.globals g) (rw (absent name file.loaded l) (rw h refl))
 means {file} {name} (of_none g l h) = rw (absent name file.globals g) (rw (absent name file.loaded l) (rw h refl))
 
-of_universe : (file : FileNames) (name : Name) (o : Option Predeclared) → universe_has file.universe name ≡ o → has file.globals name ≡ false → has file.loaded name ≡ false
+of_universe : (file : FileParts) (name : Name) (o : Option Predeclared) → universe_has file.universe name ≡ o → has file.globals name ≡ false → has file.loaded name ≡ false
     → StandsFor file name [] (option_map b.Predeclared o)
 of_universe file name None h g l = of_none g l h
 of_universe file name (Some x) h g l = of_all g l h
 
-of_loads : (file : FileNames) (name : Name) (o : Option ℕ) → place_among name file.loaded ≡ o → has file.globals name ≡ false
+of_loads : (file : FileParts) (name : Name) (o : Option ℕ) → place_among name file.loaded ≡ o → has file.globals name ≡ false
     → StandsFor file name [] (or_else (option_map b.Loaded o) (option_map b.Predeclared (universe_has file.universe name)))
 of_loads file name None h g = of_universe file name (universe_has file.universe name) refl g (unplaced name file.loaded h)
 of_loads file name (Some k) h g = of_load g h
 
-of_globals : (file : FileNames) (name : Name) (o : Option ℕ) → place_among name file.globals ≡ o
+of_globals : (file : FileParts) (name : Name) (o : Option ℕ) → place_among name file.globals ≡ o
     → StandsFor file name [] (or_else (option_map b.Global o) (or_else (option_map b.Loaded (place_among name file.loaded)) (option_map b.Predeclared (universe_has file.universe name))))
 of_globals file name None h = of_loads file name (place_among name file.loaded) refl (unplaced name file.globals h)
 of_globals file name (Some k) h = of_file h
 
-in_block : (file : FileNames) (name : Name) (block : Block) (blocks : List Block) (o : Option ℕ) → place_among name block.names ≡ o
+in_block : (file : FileParts) (name : Name) (block : BlockParts) (blocks : List BlockParts) (o : Option ℕ) → place_among name block.names ≡ o
     → StandsFor file name blocks (use_of file blocks name)
     → StandsFor file name (block ∷ blocks) (or_else (option_map b.Local (or_else (option_map (λ i. block.base + i) o) (slot_of blocks name))) (file_has file name))
 unfolding use_of
 in_block file name block blocks None h d = outside (unplaced name block.names h) d
 in_block file name block blocks (Some i) h d = held h
 
-stands : (file : FileNames) (name : Name) (blocks : List Block) → StandsFor file name blocks (use_of file blocks name)
+stands : (file : FileParts) (name : Name) (blocks : List BlockParts) → StandsFor file name blocks (use_of file blocks name)
 unfolding use_of slot_of slot_in file_has
 stands file name [] = of_globals file name (place_among name file.globals) refl
 stands file name (block ∷ blocks) = in_block file name block blocks (place_among name block.names) refl (stands file name blocks)

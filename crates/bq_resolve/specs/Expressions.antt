@@ -33,7 +33,7 @@ use Rattle.bq_resolve.specs.declared.code.CodeTarget.{CodeTarget}
 use Rattle.bq_resolve.specs.declared.code.CodeTarget.TheVariants as target
 use Rattle.bq_resolve.specs.Universe.{native, host_named}
 use Rattle.bq_resolve.specs.Names.{Name, max_layers, has, with_name, TargetLayer, ClauseLayer, comprehension_names}
-use Rattle.bq_resolve.specs.Scope.{Block, FileNames, use_of}
+use Rattle.bq_resolve.specs.Scope.{BlockParts, FileParts, use_of}
 use Rattle.bq_resolve.specs.Visit.{Passed, Visit, ◌>>=◌, pure, stop, given, fault_of, each, optional}
 
 -- ---- names
@@ -53,14 +53,14 @@ bind_global kind n s =
     if is_bzl kind && (has s.bound n.name || has s.loaded n.name) then Err (fault_of f.Rebound n) else Ok (tt, record s { bound = with_name s.bound n.name })
 
 -- outside functions and comprehensions, where no block is round, a name that is bound is a global
-abbrev pub bind_in : FileKind → List Block → Identifier → Visit (Unit {0})
+abbrev pub bind_in : FileKind → List BlockParts → Identifier → Visit (Unit {0})
 bind_in kind [] n = bind_global kind n
 bind_in kind (block ∷ blocks) n = pure tt
 
 -- ---- comprehensions
 
 -- a block opens: its names get the next slots of the frame
-abbrev pub open_block : {A : Type 0} → List Name → (Block → Visit A) → Visit A
+abbrev pub open_block : {A : Type 0} → List Name → (BlockParts → Visit A) → Visit A
 open_block names go = λ s. go (record { base = length s.slots; names = names }) (record s { slots = s.slots ++ names })
 
 abbrev pub framed : List Name → Result (Code × Passed) Fault → Result (Code × Passed) Fault
@@ -68,7 +68,7 @@ framed slots (Err why) = Err why
 framed slots (Ok r) = Ok (c.Framed (length r.1.slots) r.0, record r.1 { slots = slots })
 
 -- outside functions a comprehension has a frame of its own
-abbrev pub in_frame : List Block → Visit Code → Visit Code
+abbrev pub in_frame : List BlockParts → Visit Code → Visit Code
 in_frame [] v = λ s. framed s.slots (v (record s { slots = [] }))
 in_frame (block ∷ blocks) v = v
 
@@ -89,50 +89,50 @@ abbrev pub is_unbound : Option Binding → Bool
 is_unbound None = true
 is_unbound (Some x) = false
 
-module _ (file : FileNames) (visit : List Block → Expr → Visit Code) where
+module _ (file : FileParts) (visit : List BlockParts → Expr → Visit Code) where
   -- the use of a name: of the innermost block that holds it, else F20
-  unfoldable pub use_at : List Block → Identifier → Visit Binding
+  unfoldable pub use_at : List BlockParts → Identifier → Visit Binding
   use_at blocks n = given (fault_of f.UnknownName n) (use_of file blocks n.name)
 
   -- ---- targets
 
   -- a name that is bound: its block holds it
-  unfoldable pub name_target : List Block → Identifier → Visit CodeTarget
+  unfoldable pub name_target : List BlockParts → Identifier → Visit CodeTarget
   name_target blocks n = bind_in file.universe.kind blocks n >>= λ _. given (fault_of f.UnknownName n) (place_of (use_of file blocks n.name))
 
-  abbrev pub target_by : (Target → Visit CodeTarget) → List Block → TargetLayer → Visit CodeTarget
+  abbrev pub target_by : (Target → Visit CodeTarget) → List BlockParts → TargetLayer → Visit CodeTarget
   target_by inner blocks (Target-F.Target::Name n) = name_target blocks n
   target_by inner blocks (Target-F.Target::Index x i) = visit blocks x >>= λ y. visit blocks i >>= λ j. pure (target.Index y j)
   target_by inner blocks (Target-F.Target::Tuple ts) = each inner [] ts >>= λ us. pure (target.Tuple us)
   target_by inner blocks (Target-F.Target::List ts) = each inner [] ts >>= λ us. pure (target.List us)
 
   -- of targets that are no deeper than so many layers; no tree that is parsed holds a deeper one
-  unfoldable pub target_to : ℕ → List Block → Target → Visit CodeTarget
+  unfoldable pub target_to : ℕ → List BlockParts → Target → Visit CodeTarget
   target_to zero blocks t = stop (fault_at f.Nesting 0)
   target_to (suc n) blocks t = target_by (target_to n blocks) blocks (out-Target t)
 
   -- ---- what stands in an expression
 
-  unfoldable pub pair : List Block → Pair → Visit CodePair
+  unfoldable pub pair : List BlockParts → Pair → Visit CodePair
   pair blocks p = visit blocks (out-Pair p).key >>= λ k. visit blocks (out-Pair p).value >>= λ v. pure (roll-CodePair (record { key = k; value = v }))
 
-  unfoldable pub operation : List Block → Operation → Visit CodeOperation
+  unfoldable pub operation : List BlockParts → Operation → Visit CodeOperation
   operation blocks o = visit blocks (out-Operation o).operand >>= λ x. pure (roll-CodeOperation (record { operator = (out-Operation o).operator; operand = x }))
 
   -- `value if condition`: the value stands before the condition
-  unfoldable pub choice : List Block → Choice → Visit CodeChoice
+  unfoldable pub choice : List BlockParts → Choice → Visit CodeChoice
   choice blocks o = visit blocks (out-Choice o).value >>= λ v. visit blocks (out-Choice o).condition >>= λ x. pure (roll-CodeChoice (record { value = v; condition = x }))
 
-  abbrev pub argument_by : List Block → Argument-F Argument Clause Expr Suffix Target Choice Operation Pair → Visit CodeArgument
+  abbrev pub argument_by : List BlockParts → Argument-F Argument Clause Expr Suffix Target Choice Operation Pair → Visit CodeArgument
   argument_by blocks (Argument-F.Positional x) = visit blocks x >>= λ y. pure (argument.Positional y)
   argument_by blocks (Argument-F.Named name x) = visit blocks x >>= λ y. pure (argument.Named name y)
   argument_by blocks (Argument-F.Star x) = visit blocks x >>= λ y. pure (argument.Star y)
   argument_by blocks (Argument-F.StarStar x) = visit blocks x >>= λ y. pure (argument.StarStar y)
 
-  unfoldable pub arguments : List Block → List Argument → Visit (List CodeArgument)
+  unfoldable pub arguments : List BlockParts → List Argument → Visit (List CodeArgument)
   arguments blocks xs = each (λ x. argument_by blocks (out-Argument x)) [] xs
 
-  abbrev pub suffix_by : List Block → SuffixLayer → Visit CodeSuffix
+  abbrev pub suffix_by : List BlockParts → SuffixLayer → Visit CodeSuffix
   suffix_by blocks (Suffix-F.Call xs) = arguments blocks xs >>= λ ys. pure (suffix.Call ys)
   suffix_by blocks (Suffix-F.Method m xs) = arguments blocks xs >>= λ ys. pure (suffix.Method m.name ys)
   suffix_by blocks (Suffix-F.Attribute m) = pure (suffix.Attribute m.name)
@@ -141,42 +141,42 @@ module _ (file : FileNames) (visit : List Block → Expr → Visit Code) where
       optional (visit blocks) i >>= λ x. optional (visit blocks) j >>= λ y. optional (visit blocks) k >>= λ z. pure (suffix.Slice x y z)
 
   -- these suffixes so far, and all of those
-  unfoldable pub suffixes : List Block → List CodeSuffix → List Suffix → Visit (List CodeSuffix)
+  unfoldable pub suffixes : List BlockParts → List CodeSuffix → List Suffix → Visit (List CodeSuffix)
   suffixes blocks done ss = each (λ s. suffix_by blocks (out-Suffix s)) done ss
 
   -- In a .bzl file that binds no such name, `native.name(..)` is the build function or rule `name`, else F20 at `name`.
-  abbrev pub is_native : List Block → ExprLayer → Bool
+  abbrev pub is_native : List BlockParts → ExprLayer → Bool
   is_native blocks (Expr-F.Expr::Name n) = is_bzl file.universe.kind && (bytes_eq n.name native && is_unbound (use_of file blocks n.name))
   is_native blocks _ = false
 
-  abbrev pub primary_by : List Block → Expr → List Suffix → Option (Identifier × List Argument × List Suffix) → Visit Code
+  abbrev pub primary_by : List BlockParts → Expr → List Suffix → Option (Identifier × List Argument × List Suffix) → Visit Code
   primary_by blocks x ss None = visit blocks x >>= λ y. suffixes blocks [] ss >>= λ ts. pure (c.Primary y ts)
   primary_by blocks x ss (Some (m, xs, rest)) =
       given (fault_of f.UnknownName m) (host_named file.universe.rules m.name) >>= λ id. arguments blocks xs
       >>= λ ys. suffixes blocks (suffix.Call ys ∷ []) rest >>= λ ts. pure (c.Primary (c.Native id) ts)
 
-  unfoldable pub primary : List Block → Expr → List Suffix → Visit Code
+  unfoldable pub primary : List BlockParts → Expr → List Suffix → Visit Code
   primary blocks x ss = primary_by blocks x ss (native_call (is_native blocks (out-Expr x)) ss)
 
   -- ---- comprehensions: an iterable is resolved among `round`, all else among `blocks`
 
-  abbrev pub clause_by : List Block → List Block → ClauseLayer → Visit CodeClause
+  abbrev pub clause_by : List BlockParts → List BlockParts → ClauseLayer → Visit CodeClause
   clause_by round blocks (Clause-F.For t x) = target_to max_layers blocks t >>= λ u. visit round x >>= λ y. pure (clause.For u y)
   clause_by round blocks (Clause-F.If x) = visit blocks x >>= λ y. pure (clause.If y)
 
   -- the first iterable lies outside the comprehension, all others inside it
-  unfoldable pub clauses : List Block → List Block → List Clause → Visit (List CodeClause)
+  unfoldable pub clauses : List BlockParts → List BlockParts → List Clause → Visit (List CodeClause)
   clauses round blocks [] = pure []
   clauses round blocks (x ∷ xs) = clause_by round blocks (out-Clause x) >>= λ y. each (λ z. clause_by blocks blocks (out-Clause z)) (y ∷ []) xs
 
   -- the element stands before the clauses, and inside
-  unfoldable pub comprehension : {A : Type 0} → (List Block → Visit A) → (A → List CodeClause → Code) → List Block → List Clause → Visit Code
+  unfoldable pub comprehension : {A : Type 0} → (List BlockParts → Visit A) → (A → List CodeClause → Code) → List BlockParts → List Clause → Visit Code
   comprehension element make blocks xs =
       in_frame blocks (open_block (comprehension_names xs) (λ block. element (block ∷ blocks) >>= λ x. clauses blocks (block ∷ blocks) xs >>= λ ys. pure (make x ys)))
 
   -- ---- expressions
 
-  abbrev pub expr_by : List Block → ExprLayer → Visit Code
+  abbrev pub expr_by : List BlockParts → ExprLayer → Visit Code
   expr_by blocks (Expr-F.Expr::Name n) = use_at blocks n >>= λ x. pure (c.Use x)
   expr_by blocks (Expr-F.Int i) = pure (c.Int i)
   expr_by blocks (Expr-F.String s) = pure (c.String s)
@@ -193,6 +193,6 @@ module _ (file : FileNames) (visit : List Block → Expr → Visit Code) where
   expr_by blocks Expr-F.Lambda = pure c.Lambda
 
 -- of expressions that are no deeper than so many layers; no tree that is parsed holds a deeper one
-unfoldable pub expr_to : ℕ → FileNames → List Block → Expr → Visit Code
+unfoldable pub expr_to : ℕ → FileParts → List BlockParts → Expr → Visit Code
 expr_to zero file blocks x = stop (fault_at f.Nesting 0)
 expr_to (suc depth) file blocks x = expr_by file (expr_to depth file) blocks (out-Expr x)

@@ -12,17 +12,17 @@ use Rattle.bq_resolve.specs.declared.code.FileStmt.{FileStmt}
 use Rattle.bq_resolve.specs.declared.code.FileStmt.TheVariants as s
 use Rattle.bq_resolve.specs.declared.code.Resolved.{Resolved}
 use Rattle.bq_resolve.specs.Universe.{UniverseParts}
-use Rattle.bq_resolve.specs.Names.{max_layers, function_names, global_names, load_clauses, local_names}
-use Rattle.bq_resolve.specs.Scope.{FileNames}
+use Rattle.bq_resolve.specs.Names.{max_layers, function_names, global_names, loaded_names}
+use Rattle.bq_resolve.specs.Scope.{FileParts}
 use Rattle.bq_resolve.specs.Visit.{Passed, Visit, ◌>>=◌, pure, each, nothing_passed}
 use Rattle.bq_resolve.specs.Expressions.{name_target, expr_to}
 use Rattle.bq_resolve.specs.Statements.{misplaced, small_stmt, parameters, function}
 
 -- all names of a file, wherever in it they are bound: they shadow those that every file has in all of it
-unfoldable pub file_names : UniverseParts → List TopLevel → FileNames
-file_names universe ts = record { universe = universe; globals = global_names ts; loaded = local_names (load_clauses ts) }
+unfoldable pub file_names : UniverseParts → List TopLevel → FileParts
+file_names universe ts = record { universe = universe; globals = global_names ts; loaded = loaded_names ts }
 
-module _ (file : FileNames) where
+module _ (file : FileParts) where
   -- the name of a function is bound before its parameters are looked at
   unfoldable pub def_stmt : Identifier → List Parameter → List Stmt → Visit FileStmt
   def_stmt n ps body =
@@ -39,11 +39,11 @@ module _ (file : FileNames) where
   unfoldable pub top_level : TopLevel → Visit CodeTopLevel
   top_level t = file_stmt t.line (out-Stmt t.statement) >>= λ x. pure (record { line = t.line; statement = x })
 
-abbrev pub resolved_by : FileNames → Result (List CodeTopLevel × Passed) Fault → Result Resolved Fault
+abbrev pub resolved_by : FileParts → Result (List CodeTopLevel × Passed) Fault → Result Resolved Fault
 resolved_by file (Err why) = Err why
 resolved_by file (Ok r) = Ok (record { statements = r.0; functions = r.1.functions; globals = file.globals; loads = r.1.loads })
 
-abbrev pub resolved_in : FileNames → List TopLevel → Result Resolved Fault
+abbrev pub resolved_in : FileParts → List TopLevel → Result Resolved Fault
 resolved_in file ts = resolved_by file (each (top_level file) [] ts nothing_passed)
 
 unfoldable pub resolved : UniverseParts → List TopLevel → Result Resolved Fault

@@ -130,23 +130,23 @@ function_names ps body = with_each with_stmt (with_each with_parameter [] ps) bo
 unfoldable pub global_names : List TopLevel → List Name
 global_names ts = with_each (λ names t. with_stmt names t.statement) [] ts
 
-abbrev pub load_clauses_by : SmallKind → List LoadClause
-load_clauses_by (small.Load l) = l.clauses
-load_clauses_by _ = []
+abbrev pub with_load_clause : List Name → LoadClause → List Name
+with_load_clause names c = with_name names c.local.name
 
-abbrev pub load_clauses_in : List SmallStmt → List LoadClause
-load_clauses_in [] = []
-load_clauses_in (s ∷ ss) = load_clauses_by s.kind ++ load_clauses_in ss
+abbrev pub with_load_by : List Name → SmallKind → List Name
+with_load_by names (small.Load l) = with_each with_load_clause names l.clauses
+with_load_by names _ = names
 
-abbrev pub load_clauses_of : Stmt-F Stmt Branch → List LoadClause
-load_clauses_of (Stmt-F.Simple xs) = load_clauses_in xs
-load_clauses_of _ = []
+unfoldable pub with_load : List Name → SmallStmt → List Name
+with_load names s = with_load_by names s.kind
 
--- the clauses of a file's loads, which stand outside all blocks
-unfoldable pub load_clauses : List TopLevel → List LoadClause
-load_clauses [] = []
-load_clauses (t ∷ ts) = load_clauses_of (out-Stmt t.statement) ++ load_clauses ts
+abbrev pub with_loads_by : List Name → Stmt-F Stmt Branch → List Name
+with_loads_by names (Stmt-F.Simple xs) = with_each with_load names xs
+with_loads_by names _ = names
 
-abbrev pub local_names : List LoadClause → List Name
-local_names [] = []
-local_names (c ∷ cs) = c.local.name ∷ local_names cs
+unfoldable pub with_loads : List Name → TopLevel → List Name
+with_loads names t = with_loads_by names (out-Stmt t.statement)
+
+-- what a file's loads bind, which stand outside all blocks
+unfoldable pub loaded_names : List TopLevel → List Name
+loaded_names ts = with_each with_loads [] ts

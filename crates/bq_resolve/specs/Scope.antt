@@ -8,12 +8,12 @@ use Rattle.bq_resolve.specs.Universe.{UniverseParts, universe_has}
 use Rattle.bq_resolve.specs.Names.{Name, place_among}
 
 -- A block: its names in order of first binding, which have the slots from `base` on.
-pub record Block : Type 0 where
+pub record BlockParts : Type 0 where
   pub base : ℕ
   pub names : List Name
 
--- A file's names: those that it binds, and those of its load clauses, in order.
-pub record FileNames : Type 0 where
+-- A file's names: those that every file of its kind has, those that it binds, and those that its loads bind.
+pub record FileParts : Type 0 where
   pub universe : UniverseParts
   pub globals : List Name
   pub loaded : List Name
@@ -23,20 +23,20 @@ or_else None y = y
 or_else (Some x) y = Some x
 
 -- the slot of a name in a block that holds it
-unfoldable pub slot_in : Block → Name → Option ℕ
+unfoldable pub slot_in : BlockParts → Name → Option ℕ
 slot_in block name = option_map (λ i. block.base + i) (place_among name block.names)
 
 -- the slot of a name in the innermost block that holds it; the blocks stand innermost first
-unfoldable pub slot_of : List Block → Name → Option ℕ
+unfoldable pub slot_of : List BlockParts → Name → Option ℕ
 slot_of [] name = None
 slot_of (block ∷ blocks) name = or_else (slot_in block name) (slot_of blocks name)
 
 -- A file's own names take precedence over loaded ones: in a BUILD file a loaded name that is bound again is one global.
-unfoldable pub file_has : FileNames → Name → Option Binding
+unfoldable pub file_has : FileParts → Name → Option Binding
 file_has file name =
     or_else (option_map b.Global (place_among name file.globals))
     (or_else (option_map b.Loaded (place_among name file.loaded)) (option_map b.Predeclared (universe_has file.universe name)))
 
 -- what a use of the name stands for; none: no such name is known
-unfoldable pub use_of : FileNames → List Block → Name → Option Binding
+unfoldable pub use_of : FileParts → List BlockParts → Name → Option Binding
 use_of file blocks name = or_else (option_map b.Local (slot_of blocks name)) (file_has file name)

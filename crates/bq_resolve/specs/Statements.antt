@@ -27,7 +27,7 @@ use Rattle.bq_resolve.specs.declared.code.CodeStmt.TheVariants as s
 use Rattle.bq_resolve.specs.declared.code.CodeTarget.{CodeTarget}
 use Rattle.bq_resolve.specs.declared.code.LoadedSymbol.{LoadedSymbol}
 use Rattle.bq_resolve.specs.Names.{Name, max_layers, has, with_name, place_among}
-use Rattle.bq_resolve.specs.Scope.{Block, FileNames}
+use Rattle.bq_resolve.specs.Scope.{BlockParts, FileParts}
 use Rattle.bq_resolve.specs.Visit.{Passed, Visit, ◌>>=◌, pure, stop, fault_of, each, optional}
 use Rattle.bq_resolve.specs.Expressions.{is_bzl, target_to, expr_to}
 
@@ -35,11 +35,11 @@ use Rattle.bq_resolve.specs.Expressions.{is_bzl, target_to, expr_to}
 abbrev pub misplaced : {A : Type 0} → ℕ → Visit A
 misplaced line = stop (fault_at f.BadFlow line)
 
-module _ (file : FileNames) where
-  unfoldable pub expr : List Block → Expr → Visit Code
+module _ (file : FileParts) where
+  unfoldable pub expr : List BlockParts → Expr → Visit Code
   expr blocks x = expr_to max_layers file blocks x
 
-  unfoldable pub target : List Block → Target → Visit CodeTarget
+  unfoldable pub target : List BlockParts → Target → Visit CodeTarget
   target blocks t = target_to file (expr_to max_layers file) max_layers blocks t
 
   -- ---- loads
@@ -60,12 +60,12 @@ module _ (file : FileNames) where
   -- ---- small statements: `looping` inside a `for` of the function
 
   -- `return` stands in a function
-  abbrev pub return : List Block → ℕ → Option Expr → Visit CodeSmall
+  abbrev pub return : List BlockParts → ℕ → Option Expr → Visit CodeSmall
   return [] line x = misplaced line
   return (b ∷ bs) line x = optional (expr (b ∷ bs)) x >>= λ y. pure (c.Return y)
 
   -- `load` stands outside functions
-  abbrev pub load_in : List Block → ℕ → Load → Visit CodeSmall
+  abbrev pub load_in : List BlockParts → ℕ → Load → Visit CodeSmall
   load_in [] line l = load line l
   load_in (b ∷ bs) line l = misplaced line
 
@@ -73,7 +73,7 @@ module _ (file : FileNames) where
   in_loop true line x = pure x
   in_loop false line x = misplaced line
 
-  abbrev pub small_by : List Block → Bool → ℕ → SmallKind → Visit CodeSmall
+  abbrev pub small_by : List BlockParts → Bool → ℕ → SmallKind → Visit CodeSmall
   small_by blocks looping line (small.Expr x) = expr blocks x >>= λ y. pure (c.Expr y)
   small_by blocks looping line (small.Assign t x) = target blocks t >>= λ u. expr blocks x >>= λ y. pure (c.Assign u y)
   small_by blocks looping line (small.Augment t o x) = target blocks t >>= λ u. expr blocks x >>= λ y. pure (c.Augment u o y)
@@ -83,23 +83,23 @@ module _ (file : FileNames) where
   small_by blocks looping line small.Pass = pure c.Pass
   small_by blocks looping line (small.Load l) = load_in blocks line l
 
-  unfoldable pub small_stmt : List Block → Bool → SmallStmt → Visit CodeSmall
+  unfoldable pub small_stmt : List BlockParts → Bool → SmallStmt → Visit CodeSmall
   small_stmt blocks looping x = small_by blocks looping x.line x.kind
 
   -- ---- statements of a function
 
-  abbrev pub branch : List Block → (Stmt → Visit CodeStmt) → Branch → Visit CodeBranch
+  abbrev pub branch : List BlockParts → (Stmt → Visit CodeStmt) → Branch → Visit CodeBranch
   branch blocks inner b = expr blocks (out-Branch b).condition >>= λ x. each inner [] (out-Branch b).block >>= λ ys. pure (roll-CodeBranch (record { condition = x; block = ys }))
 
   -- a `def` in a `def` is left out before names are looked at
-  abbrev pub stmt_by : (Bool → Stmt → Visit CodeStmt) → List Block → Bool → Stmt-F Stmt Branch → Visit CodeStmt
+  abbrev pub stmt_by : (Bool → Stmt → Visit CodeStmt) → List BlockParts → Bool → Stmt-F Stmt Branch → Visit CodeStmt
   stmt_by inner blocks looping (Stmt-F.Simple xs) = each (small_stmt blocks looping) [] xs >>= λ ys. pure (s.Simple ys)
   stmt_by inner blocks looping (Stmt-F.If bs zs) = each (branch blocks (inner looping)) [] bs >>= λ xs. each (inner looping) [] zs >>= λ ys. pure (s.If xs ys)
   stmt_by inner blocks looping (Stmt-F.For t x body) = target blocks t >>= λ u. expr blocks x >>= λ y. each (inner true) [] body >>= λ zs. pure (s.For u y zs)
   stmt_by inner blocks looping (Stmt-F.Def n ps body) = misplaced n.line
 
   -- of statements that are no deeper than so many layers; no tree that is parsed holds a deeper one
-  unfoldable pub stmt_to : ℕ → List Block → Bool → Stmt → Visit CodeStmt
+  unfoldable pub stmt_to : ℕ → List BlockParts → Bool → Stmt → Visit CodeStmt
   stmt_to zero blocks looping x = stop (fault_at f.Nesting 0)
   stmt_to (suc depth) blocks looping x = stmt_by (stmt_to depth blocks) blocks looping (out-Stmt x)
 

@@ -4,7 +4,9 @@ ghost use Rattle.std.specs.Prelude.{◌≡◌, [], IfOk, OnOk};
 ghost use Rattle.bq_resolve.specs.Names as spec;
 
 use crate::names::Names;
-use bq_grammar::{Branch, Clause, Parameter, SmallKind, SmallStmt, Stmt, Target, TopLevel};
+use bq_grammar::{
+    Branch, Clause, LoadClause, Parameter, SmallKind, SmallStmt, Stmt, Target, TopLevel,
+};
 use std::alloc::{AllocError, Global};
 
 /// How many layers of a tree are looked at; a tree that is parsed has fewer.
@@ -193,6 +195,58 @@ pub fn global_names(alloc: Global, file: &[TopLevel]) -> Result<Names, AllocErro
     let mut names = Names::new(alloc);
     for statement in file {
         add_stmt(&mut names, &statement.statement)?;
+    }
+    Ok(names)
+}
+
+fn add_load_clauses(names: &mut Names, clauses: &[LoadClause]) -> Result<(), AllocError>
+    ensures { OnOk result (names.new ≡ spec.with_each spec.with_load_clause names.old clauses.now) }
+{
+    for clause in clauses {
+        names.add(&clause.local.name)?;
+    }
+    Ok(())
+}
+
+/// Adds what a small statement loads.
+#[tactic(auto, unfolding(crate::specs::Names::with_load))]
+fn add_load(names: &mut Names, statement: &SmallStmt) -> Result<(), AllocError>
+    ensures { OnOk result (names.new ≡ spec.with_load names.old statement.now) }
+{
+    match &statement.kind {
+        SmallKind::Load(load) => add_load_clauses(names, load.clauses.as_slice()),
+        _ => Ok(()),
+    }
+}
+
+fn add_line_loads(names: &mut Names, statements: &[SmallStmt]) -> Result<(), AllocError>
+    ensures { OnOk result (names.new ≡ spec.with_each spec.with_load names.old statements.now) }
+{
+    for statement in statements {
+        add_load(names, statement)?;
+    }
+    Ok(())
+}
+
+/// Adds what a top-level statement loads.
+#[tactic(auto, unfolding(crate::specs::Names::with_loads))]
+fn add_loads(names: &mut Names, top_level: &TopLevel) -> Result<(), AllocError>
+    ensures { OnOk result (names.new ≡ spec.with_loads names.old top_level.now) }
+{
+    match &top_level.statement {
+        Stmt::Simple(line) => add_line_loads(names, line.as_slice()),
+        _ => Ok(()),
+    }
+}
+
+/// What a file's loads bind.
+#[tactic(auto, unfolding(crate::specs::Names::loaded_names))]
+pub fn loaded_names(alloc: Global, file: &[TopLevel]) -> Result<Names, AllocError>
+    ensures { IfOk result (λ names. names ≡ spec.loaded_names file.now) }
+{
+    let mut names = Names::new(alloc);
+    for top_level in file {
+        add_loads(&mut names, top_level)?;
     }
     Ok(names)
 }

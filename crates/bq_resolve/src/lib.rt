@@ -19,9 +19,10 @@ mod binding;
 mod code;
 mod laws;
 mod names;
+mod scope;
 mod universe;
 
-pub use binding::{comprehension_names, function_names, global_names};
+pub use binding::{comprehension_names, function_names, global_names, loaded_names};
 pub use code::{
     Binding, Code, CodeArgument, CodeBranch, CodeChoice, CodeClause, CodeDef, CodeFunction,
     CodeOperation, CodePair, CodeParameter, CodeSmall, CodeStmt, CodeSuffix, CodeTarget,
@@ -32,4 +33,5 @@ pub use laws::{
     names_have_slots_of_their_own,
 };
 pub use names::Names;
+pub use scope::{Block, FileNames, inside};
 pub use universe::Universe;

@@ -1,6 +1,6 @@
 //! Sets of names.
 
-ghost use Rattle.std.specs.Prelude.{◌≡◌, [], length, nat_eq, IfOk, OnOk, fold, ◌∷◌};
+ghost use Rattle.std.specs.Prelude.{◌≡◌, [], length, nat_eq, IfOk, OnOk, fold, ◌∷◌, IfSome, ◌<◌};
 ghost use Rattle.std.specs.Cmp.Lexicographic.{pointwise, nat_list_eq_equiv};
 ghost use Rattle.std.specs.Cmp.{partial_equiv_from_equiv};
 ghost use Rattle.bq_resolve.specs.Names.{has, place_among, with_name};
@@ -101,7 +101,8 @@ impl Names {
     /// The place of a name.
     #[tactic(auto, using(crate::proofs::Places::place_position))]
     pub fn place(&self, name: &Bytes) -> Result<Option<usize>, AllocError>
-        ensures { IfOk result (λ place. place ≡ place_among name.now self.now) }
+        ensures place { IfOk result (λ place. place ≡ place_among name.now self.now) }
+        ensures within { IfOk result (λ place. IfSome place (λ i. i < length self.now)) }
     {
         let key = Key {
             bytes: name.share()?,
