@@ -27,8 +27,7 @@ pub loop-file-preserved : goal.loop-file-preserved
 loop-file-preserved c =
     let named : name_in c.args.packages.now c.args.id.now c.file-item.result.path ≡ Some c.in-Some.name.now = ap (name_in c.args.packages.now c.args.id.now) (sym c.as_slice.ensures) ∙ c.in-Some.ensures in
     let left : List (List ℕ) = glob (drop (c.loop-file.file-index + 1) c.files_beneath-files.result.now) c.args.packages.now c.args.id.now c.args.include.now c.args.exclude.now in
-    let made : c.push.new.self.items ≡ c.loop-file.names.items ++ c.in-Some.name.now ∷ [] = c.in_ok-push.ensures.items ∙ ap (λ (n : List ℕ). c.loop-file.names.items ++ n ∷ []) c.in_ok-from_slice.ensures in
-    ap (λ (v : List (List ℕ)). v ++ left) made
+    ap (λ (v : List (List ℕ)). v ++ left) c.in_ok-push_name.ensures
     ∙ gives c.args.packages.now c.args.id.now c.args.include.now c.args.exclude.now c.files_beneath-files.result.now c.loop-file.file-index c.file-item.result c.in-Some.name.now c.loop-file.names.items _ c.loop-file-test.true c.file-item.is
     (wanted c.args.packages.now c.args.id.now c.args.include.now c.args.exclude.now c.file-item.result (drop (c.loop-file.file-index + 1) c.files_beneath-files.result.now) c.in-Some.name.now named (sym c.is_wanted.ensures ∙ c.if-not-is_wanted.false)) c.loop-file.invariant
 
