@@ -41,7 +41,7 @@ abbrev mutual
 abbrev Writes : Looked PageView → PageView → Type 0
 Writes r page = (p : PageView) (m : ℕ) → r ≡ Ok (p, m) → p ≡ page
 
-abbrev page_in : Looked PageView → PageView
+abbrev pub page_in : Looked PageView → PageView
 page_in (Ok p) = p.0
 page_in (Err kind) = None
 
@@ -51,7 +51,7 @@ closed_by : (r : Looked PageView) (rest : PageView → ℕ → Looked PageView) 
 closed_by (Ok q) rest close mid last first later p m e = later q.1 p m (ap (λ (z : PageView). closed close (rest z q.1)) (sym (first q.0 q.1 refl)) ∙ e)
 closed_by (Err kind) rest close mid last first later p m e = absurd (cc)
 
-two_end : (v w : Datum) (ws : List Datum) → tuple_end (v ∷ w ∷ ws) ≡ codes ")"
+pub two_end : (v w : Datum) (ws : List Datum) → tuple_end (v ∷ w ∷ ws) ≡ codes ")"
 two_end v w ws = ap (λ (b : Bool). cond b (codes ",)") (codes ")")) (ne_eqb (length (v ∷ w ∷ ws)) 1 (λ e. omega (arith, e)))
 
 module _ (show : Shows) (h : (page : PageView) (n : ℕ) (v : Datum) → IsKeyInRange v → Writes (show page n v) (written page (key_text v))) where
@@ -97,7 +97,7 @@ shown_written zero s page (suc n) v ks = λ p m e. absurd (cc)
 shown_written (suc l) s page zero v ks = λ p m e. absurd (cc)
 shown_written (suc l) s page (suc n) v ks = parts_written (shown_at l s) (shown_written l s) s page n v ks
 
-abbrev text_in : Looked (List ℕ) → List ℕ
+abbrev pub text_in : Looked (List ℕ) → List ℕ
 text_in (Ok p) = p.0
 text_in (Err kind) = []
 
@@ -105,7 +105,7 @@ written_by : (x y : List ℕ) (b : Bool) → Some y ≡ cond b (Some x) None →
 written_by x y true e = cc
 written_by x y false e = absurd (cc)
 
-written_is : (x y : List ℕ) → Some y ≡ written (Some []) x → y ≡ x
+pub written_is : (x y : List ℕ) → Some y ≡ written (Some []) x → y ≡ x
 unfolding written
 written_is x y e = written_by x y (nat_le (length {A = ℕ} [] + length x) max_text) e
 

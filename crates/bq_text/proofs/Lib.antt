@@ -10,3 +10,7 @@ pub mod Counting
 pub mod KeyTexts
 -- keys with one text are one key
 pub mod Apart
+-- what is written has the form of the value's text
+pub mod Forms
+-- a step for each level, and at most 64
+pub mod Deep

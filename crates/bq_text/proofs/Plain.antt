@@ -8,7 +8,7 @@ use Rattle.bq_value.specs.Cells.{StoreView}
 use Rattle.bq_walk.specs.Looked.{Looked}
 use Rattle.bq_text.specs.Page.{PageView, written, max_text}
 use Rattle.bq_text.specs.Leaf.{leaf_written}
-use Rattle.bq_text.specs.Shown.{repr_shown, finished_by, repr_of, text_of}
+use Rattle.bq_text.specs.Shown.{repr_shown, string_in, text_by, finished_by, repr_of, text_of}
 
 -- a text that fits is what is written onto an empty page
 fits : (text : List ℕ) → length text ≤ max_text → written (Some []) text ≡ Some text
@@ -30,3 +30,6 @@ repr_of_string s n bytes h = finished_text n (written (Some []) (quoted bytes)) 
 pub repr_of_int : (s : StoreView) (n : ℕ) (i : ℤ) → length (signed_decimal i) ≤ max_text → repr_of s (suc n) (int i) ≡ Ok (signed_decimal i, n)
 unfolding repr_shown leaf_written
 repr_of_int s n i h = finished_text n (written (Some []) (signed_decimal i)) (signed_decimal i) (fits (signed_decimal i) h)
+
+pub text_of_other : (s : StoreView) (n : ℕ) (v : Datum) → string_in v ≡ None → text_of s n v ≡ repr_of s n v
+text_of_other s n v e = ap (λ (o : Option (List ℕ)). finished_by (text_by s (Some []) n v o)) e

@@ -8,3 +8,5 @@ pub mod Lookups
 pub mod Puts
 -- what cells hold after a module was frozen or loaded, or a cell was changed
 pub mod Freezes
+-- how many elements a range has
+pub mod Elements

@@ -1,9 +1,10 @@
 //! Laws of the definitions. The gate proves what a contract names, so each law is the contract of a function that does
 //! nothing.
 
-ghost use Rattle.std.specs.Prelude.{◌≡◌, ◌≢◌, ◌↔◌, ◌++◌, ◌∷◌, [], List, ℕ, Some, None, cond, fold, is_some, true, false, ◌==◌};
+ghost use Rattle.std.specs.Prelude.{◌≡◌, ◌≢◌, ◌↔◌, ◌<◌, ◌++◌, ◌∷◌, [], List, ℕ, ℤ, pos, Some, None, cond, fold, is_some, true, false, ◌==◌};
 ghost use Rattle.bq_value.specs.Datum.{Datum};
 ghost use Rattle.bq_value.specs.Same.{same};
+ghost use Rattle.bq_value.specs.Range.{IsBefore, range_element, range_count};
 ghost use Rattle.bq_value.specs.Pairs.{found, put, without, keys, TakenOut, HasNoKeyTwice};
 ghost use Rattle.bq_value.specs.Contents.{Contents, KeysDiffer};
 ghost use Rattle.bq_value.specs.Cells.{StoreView, FrozenView, module_at, content_at, frozen_at, frozen, added, brought, with_loaded};
@@ -15,6 +16,11 @@ use crate::value::Cell;
 /// Keys are equal just where they are one value.
 pub fn equality_of_keys()
     ensures { (j k : Datum) → (same j k ≡ true) ↔ (j ≡ k) }
+{}
+
+/// A range has just the elements that lie before its end.
+pub fn elements_of_a_range()
+    ensures { (start stop step : ℤ) (k : ℕ) → step ≢ pos 0 → (k < range_count start stop step) ↔ IsBefore (range_element start step k) stop step }
 {}
 
 /// A key that was put has the new value; every other key has the value that it had.
