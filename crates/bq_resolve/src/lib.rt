@@ -1,6 +1,7 @@
 //! Scopes: which binding each use of a name in a file stands for.
 //!
-//! So far the definition, and its first laws; the code comes next. The trees of `bq_grammar` come in; trees of the same shape go
+//! So far the definition, its first laws, and the code of what blocks bind and of what a name stands for; the code that goes
+//! along a file comes next. The trees of `bq_grammar` come in; trees of the same shape go
 //! out, in which each use says where its value is (`code`), or the file's first fault, F20 to F24.
 //!
 //! The idea. A *block* is what binds names: a function, a comprehension, the file. Which names a block binds is known before any
