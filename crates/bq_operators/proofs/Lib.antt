@@ -1,0 +1,2 @@
+-- What a checked operation answers.
+pub mod Fits

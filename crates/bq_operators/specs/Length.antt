@@ -1,0 +1,16 @@
+-- How long a joined or a repeated list or string is (Starlark, "String concatenation", "String repetition").
+use Rattle.std.specs.Prelude.{ℕ, nat_le, cond, ℤ, pos, negsuc, Result, Ok, Err}
+use Rattle.bq_source.specs.declared.fault.FaultKind.{FaultKind}
+use Rattle.bq_source.specs.declared.fault.FaultKind.TheVariants.{TooLong}
+
+abbrev pub max_len : ℕ
+max_len = 1048576
+
+-- the length, or F54
+abbrev pub within : ℕ → Result ℕ FaultKind
+within n = cond (nat_le n max_len) (Ok n) (Err TooLong)
+
+-- below 1: never
+abbrev pub times_of : ℤ → ℕ
+times_of (pos n) = n
+times_of (negsuc n) = 0
