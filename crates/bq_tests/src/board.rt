@@ -1,5 +1,5 @@
 //! The board on small plans by hand, and on large ones by four threads.
-ghost use Rattle.std.specs.Prelude.{◌≡◌, ◌<◌, ◌≤◌, length, vec_len, All, IfOk, IsTrue};
+ghost use Rattle.std.specs.Prelude.{◌≡◌, ◌<◌, ◌≤◌, length, vec_len, All, IfOk, IfSome, IsTrue};
 ghost use Rattle.bq_board.specs.Seats.{IsSeatOf, base_of, view_of};
 ghost use Rattle.bq_board.specs.Conditions.{Owes, Holds, KeepsAll, KeepsOthers, HoldsIfWon};
 
@@ -201,6 +201,17 @@ fn opened(
     Ok(Board::open(alloc, plan, seats, &base)?)
 }
 
+// The last two seats.
+fn last_two(board: &Board<Note>, seats: &mut Vec<Seat<Note>>) -> Option<(Seat<Note>, Seat<Note>)>
+    requires { All (λ s. IsSeatOf board.now s) seats.old.items }
+    ensures { IfSome result (λ p. IsSeatOf board.now p.0 × IsSeatOf board.now p.1) }
+{
+    // for the proof: it says whose seats they are.
+    let _ = board;
+    let last = seats.pop()?;
+    Some((last, seats.pop()?))
+}
+
 fn refusal(alloc: Global, error: &PlanErr) -> Result<Vec<u8>, AllocError> {
     Ok(format!(in alloc; "{error}")?.into_bytes())
 }
@@ -340,8 +351,9 @@ fn two_play(
 
 fn largest(alloc: Global) -> Result<String, PlanErr> {
     let (board, mut seats) = opened(alloc, chain(alloc, 4094, 32)?, MAX_SEATS, 7)?;
-    let mut a = seats.pop().unwrap();
-    let mut b = seats.pop().unwrap();
+    let Some((mut a, mut b)) = last_two(&board, &mut seats) else {
+        return Ok(String::from_str(alloc, "fewer than two seats")?);
+    };
     let out = two_play(alloc, &board, &mut a, &mut b)?;
     board.close(a);
     Ok(out)
@@ -419,9 +431,11 @@ fn give_and_take<R: Threads + Sync>(
 #[test]
 fn a_seat_reads_what_another_wrote(rt: HostRuntime) -> Result<(), Fail> {
     let (board, mut seats) = opened(rt.alloc(), loads_of(rt.alloc(), b";0;")?, 2, 7)?;
-    let a = seats.pop().unwrap();
-    let b = seats.pop().unwrap();
     assert!(rt; board.plan().modules() == 2);
+    let Some((a, b)) = last_two(&board, &mut seats) else {
+        assert!(rt; false, "fewer than two seats");
+        return Ok(());
+    };
     let (both, b) = give_and_take(&rt, &board, 7, a, b);
     board.close(b);
     assert!(rt; both);

@@ -5,7 +5,7 @@ use crate::source::refusal;
 use bq_label::{
     BuildFile, File, Label, PackageId, Packages, Workspace, label_path, print_label, read_label,
 };
-use bq_source::Bytes;
+use bq_source::{Bytes, SourceErr};
 use std::alloc::{AllocError, Global};
 use std::cmp::Ordering;
 
@@ -20,9 +20,10 @@ pub fn package(alloc: Global, repo: &[u8], path: &[u8]) -> Result<PackageId, All
 }
 
 fn printed(alloc: Global, text: &[u8], own: &PackageId) -> Result<Vec<u8>, AllocError> {
-    match read_label(alloc, text, own) {
-        Ok(label) => print_label(alloc, &label),
-        Err(error) => refusal(alloc, &error),
+    let found = read_label(alloc, text, own);
+    match &found {
+        Ok(label) => print_label(alloc, label),
+        Err(error) => refusal(alloc, error),
     }
 }
 
@@ -191,7 +192,10 @@ fn build_labels(alloc: Global, packages: &[BuildFile]) -> Result<Vec<u8>, AllocE
     Ok(text)
 }
 
-fn order_of(less: &Label, more: &Label) -> &'static str {
+fn order_of(less: &Result<Label, SourceErr>, more: &Result<Label, SourceErr>) -> &'static str {
+    let (Ok(less), Ok(more)) = (less, more) else {
+        return "no label";
+    };
     match less.cmp(more) {
         Ordering::Less => "less",
         Ordering::Equal => "equal",
@@ -199,20 +203,12 @@ fn order_of(less: &Label, more: &Label) -> &'static str {
     }
 }
 
-/// How a label compares with the one that a text reads as.
-fn order_before(alloc: Global, less: &Label, more: &[u8]) -> &'static str {
-    match read_label(alloc, more, &PackageId::root()) {
-        Ok(more) => order_of(less, &more),
-        Err(_) => "no label",
-    }
-}
-
 /// How the labels that two texts read as compare.
 fn compared(alloc: Global, less: &[u8], more: &[u8]) -> &'static str {
-    match read_label(alloc, less, &PackageId::root()) {
-        Ok(less) => order_before(alloc, &less, more),
-        Err(_) => "no label",
-    }
+    let root = PackageId::root();
+    let less = read_label(alloc, less, &root);
+    let more = read_label(alloc, more, &root);
+    order_of(&less, &more)
 }
 
 /// The order of two labels.
