@@ -1,0 +1,13 @@
+use Rattle.bq_grammar.specs.Lexeme.{lexemes}
+use Rattle.bq_file.proofs.Files.{is_read, is_given}
+use Rattle.bq_file.proofs.file.parse.Goals as goal
+
+pub returns-clause-reads : goal.returns-clause-reads
+returns-clause-reads c =
+    let ts = lexemes c.args.text.now c.args.tokens.now in
+    is_read c.args.kind ts c.statements.result c.statements.ensures (c.each_file_has_one_reading.ensures c.args.kind ts).0
+
+pub returns-clause-only : goal.returns-clause-only
+returns-clause-only c r p =
+    let ts = lexemes c.args.text.now c.args.tokens.now in
+    is_given c.args.kind ts c.statements.result r c.statements.ensures ((c.each_file_has_one_reading.ensures c.args.kind ts).1 r p)

@@ -1,0 +1,20 @@
+-- What the calls of this crate answer.
+use Rattle.std.specs.Prelude.{List, Result, Ok, Err}
+use Rattle.bq_source.specs.declared.fault.Fault.{Fault}
+use Rattle.bq_source.specs.declared.fault.FaultKind.{FaultKind}
+use Rattle.bq_source.specs.Fault.{fault_at}
+use Rattle.bq_grammar.specs.Lexeme.{Lexeme}
+use Rattle.bq_grammar.specs.Statements.{line_of}
+use Rattle.bq_grammar.specs.declared.tree.File.{File}
+use Rattle.bq_grammar.specs.declared.tree.TopLevel.{TopLevel}
+
+-- a statement, or its fault at its first line
+abbrev pub at_line : List Lexeme → Result TopLevel FaultKind → Result TopLevel Fault
+at_line ts (Ok x) = Ok x
+at_line ts (Err why) = Err (fault_at why (line_of ts))
+
+abbrev pub itself : TopLevel → TopLevel
+itself x = x
+
+abbrev pub statements_in : File → List TopLevel
+statements_in file = file.statements

@@ -1,0 +1,4 @@
+pub mod Pieces
+pub mod LeftOut
+pub mod Nested
+pub mod Answers

@@ -1,0 +1,60 @@
+//! What a top-level statement reads as.
+
+ghost use Rattle.std.specs.Prelude.{◌≡◌};
+ghost use Rattle.bq_file.specs.Answers.{at_line, itself};
+ghost use Rattle.bq_grammar.specs.Parses as spec;
+ghost use Rattle.bq_source.specs.Gives.{Gives};
+ghost use Rattle.bq_source.specs.declared.fault.SourceErr.TheVariants.{Bad};
+
+use crate::left_out::{barred_in_build, leaves_out};
+use crate::nested::nested_def;
+use crate::nesting::{MAX_NESTING, nests};
+use bq_grammar::{FileKind, Refusal, TopLevel};
+use bq_parse::top_level;
+use bq_source::{Fault, FaultKind, SourceErr};
+use bq_tokens::Tokens;
+use std::alloc::Global;
+
+fn is_build(kind: FileKind) -> bool
+    ensures { result ≡ spec.is_build kind }
+{
+    match kind {
+        FileKind::Build => true,
+        FileKind::Bzl => false,
+    }
+}
+
+/// A statement that has a tree: F12 where the language leaves it out, else F13 where it may not stand in a BUILD file.
+fn allowed(kind: FileKind, tokens: &Tokens<'_>, statement: TopLevel) -> Result<TopLevel, FaultKind>
+    ensures { result ≡ spec.allowed kind tokens.now statement }
+{
+    if leaves_out(tokens) || nested_def(MAX_NESTING, false, &statement.statement) {
+        return Err(FaultKind::LeftOut);
+    }
+    if is_build(kind) && barred_in_build(tokens) {
+        return Err(FaultKind::NotInBuild);
+    }
+    Ok(statement)
+}
+
+/// The top-level statement that these tokens are. At its first line: F11 where too many brackets and indents are open, else F10
+/// where it has no tree, else F12, else F13.
+#[tactic(auto, unfolding(bq_grammar::specs::Parses::verdict))]
+pub fn verdict(alloc: Global, kind: FileKind, tokens: &Tokens<'_>) -> Result<TopLevel, SourceErr>
+    ensures { Gives itself Bad result (at_line tokens.now (spec.verdict kind tokens.now)) }
+{
+    let line = tokens.line();
+    if !nests(tokens) {
+        return Err(SourceErr::Bad(Fault::at(FaultKind::Nesting, line)));
+    }
+    let mut rest = tokens.here();
+    match top_level(alloc, &mut rest, MAX_NESTING + 1) {
+        Ok(found) => match allowed(kind, tokens, found) {
+            Ok(statement) => Ok(statement),
+            Err(why) => Err(SourceErr::Bad(Fault::at(why, line))),
+        },
+        Err(Refusal::Memory) => Err(SourceErr::Memory),
+        Err(Refusal::Syntax) => Err(SourceErr::Bad(Fault::at(FaultKind::Syntax, line))),
+        Err(Refusal::Lambda) => Err(SourceErr::Bad(Fault::at(FaultKind::LeftOut, line))),
+    }
+}
