@@ -1,0 +1,2 @@
+-- One conversion after another.
+pub mod Filling
