@@ -9,7 +9,7 @@ use Rattle.bq_label.specs.declared.packages.BuildFile.{BuildFile}
 use Rattle.bq_label.specs.Label.{LabelParts, package_of, full_form}
 use Rattle.bq_source.specs.declared.fault.FaultKind.TheVariants as f
 use Rattle.bq_label.specs.Packages.{package_named}
-use Rattle.bq_fragment_parse.specs.declared.tree.TopLevel.{TopLevel}
+use Rattle.bq_grammar.specs.declared.tree.TopLevel.{TopLevel}
 use Rattle.bq_fragment.specs.declared.calls.RuleCall.{RuleCall}
 use Rattle.bq_fragment.specs.declared.declaration.Declaration.{Declaration}
 use Rattle.bq_fragment.specs.declared.fault_lines.FaultLine.{FaultLine}

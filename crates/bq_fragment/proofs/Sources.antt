@@ -1,4 +1,4 @@
--- What the lexer and the parser answer, by the functions that read.
+-- What the lexer answers, by the function that reads.
 use Rattle.std.proofs.Common.{◌≡◌, ℕ, List, Result, Ok, Err, Vec}
 use Rattle.std.specs.Prelude.{IfOk}
 use Rattle.std.specs.Global.{Global}
@@ -9,16 +9,9 @@ use Rattle.bq_source.specs.Reading.{Lexes}
 use Rattle.bq_source.specs.Lexing.{the_tokens}
 use Rattle.bq_source.specs.Tokens.{tokens_of}
 use Rattle.bq_source.proofs.Reached.{every_text}
-use Rattle.bq_fragment_parse.specs.declared.tree.File.{File}
-use Rattle.bq_fragment_parse.specs.declared.tree.TopLevel.{TopLevel}
-use Rattle.bq_fragment_parse.specs.Statements.{statements_of as parsed}
-use Rattle.bq_fragment_parse.specs.Verdict as verdict
-use Rattle.bq_fragment_parse.specs.Verdict.{Parses}
-use Rattle.bq_fragment_parse.proofs.Files.{has_its_reading}
 use Rattle.bq_source.specs.Gives.{Gives, GivesOneOf}
 use Rattle.bq_source.specs.declared.fault.SourceErr.TheVariants.{Bad}
 use Rattle.bq_fragment.specs.Steps.{items}
-use Rattle.bq_fragment.specs.Source.{statements_in}
 
 tokens_found : (r : Result (Vec Token Global) SourceErr) (q : Result (List Token) Fault) → Gives the_tokens Bad r q → Gives items Bad r q
 tokens_found (Ok v) q h = h
@@ -30,10 +23,3 @@ lexed text r only = tokens_found r (tokens_of text) (only (tokens_of text) (ever
 pub lexes : (text : List ℕ) (r : Result (Vec Token Global) SourceErr) → GivesOneOf the_tokens Bad r (Lexes text) → IfOk r (λ v. Lexes text (Ok v.items))
 lexes text (Ok v) h = h
 lexes text (Err e) h = tt
-
-file_found : (r : Result File SourceErr) (q : Result (List TopLevel) Fault) → verdict.Returned r q → Gives statements_in Bad r q
-file_found (Ok file) q h = h
-file_found (Err e) q h = h
-
-pub parsed_by : (text : List ℕ) (ts : List Token) (r : Result File SourceErr) → ((q : Result (List TopLevel) Fault) → Parses text ts q → verdict.Returned r q) → Gives statements_in Bad r (parsed text ts)
-parsed_by text ts r only = file_found r (parsed text ts) (only (parsed text ts) (has_its_reading text ts))

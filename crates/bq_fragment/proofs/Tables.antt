@@ -13,7 +13,7 @@ use Rattle.std.proofs.lemmas.List.{take_more}
 use Rattle.std.proofs.lemmas.List.Folds.{list_any-append}
 use Rattle.bq_fragment.specs.declared.names.Names.{Names}
 use Rattle.bq_fragment.specs.declared.target_kind.TargetKind.{TargetKind}
-use Rattle.bq_fragment_parse.specs.declared.calls.Keyword.{Keyword}
+use Rattle.bq_fragment.specs.declared.keyword_call.Keyword.{Keyword}
 use Rattle.bq_fragment.specs.Names.{kind_of, is_known, Knows, Adds}
 use Rattle.bq_fragment.specs.Arguments.{repeats, argument_names}
 

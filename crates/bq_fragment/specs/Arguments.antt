@@ -1,7 +1,7 @@
 -- The names of a call's arguments.
 use Rattle.std.specs.Prelude.{ℕ, ◌++◌, List, [], ◌∷◌, Bool, false, ◌||◌, map, bytes_eq}
 use Rattle.std.specs.List.{list_any}
-use Rattle.bq_fragment_parse.specs.declared.calls.Keyword.{Keyword}
+use Rattle.bq_fragment.specs.declared.keyword_call.Keyword.{Keyword}
 
 -- a name is among those before it
 unfoldable pub repeats : List (List ℕ) → List (List ℕ) → Bool

@@ -7,8 +7,8 @@ use Rattle.bq_label.specs.declared.packages.BuildFile.{BuildFile}
 use Rattle.bq_label.specs.Paths.{is_path}
 use Rattle.bq_label.specs.Label.{PackageParts, LabelParts, label_in}
 use Rattle.bq_label.specs.Reading.{label_of}
-use Rattle.bq_fragment_parse.specs.declared.calls.KeywordValue.{KeywordValue}
-use Rattle.bq_fragment_parse.specs.declared.calls.KeywordValue.TheVariants as v
+use Rattle.bq_fragment.specs.declared.keyword_call.KeywordValue.{KeywordValue}
+use Rattle.bq_fragment.specs.declared.keyword_call.KeywordValue.TheVariants as v
 use Rattle.bq_fragment.specs.declared.rule.AttributeType.{AttributeType}
 use Rattle.bq_fragment.specs.declared.rule.AttributeType.TheVariants as t
 use Rattle.bq_fragment.specs.Scope.{crosses, own_label_crosses}

@@ -3,9 +3,9 @@ use Rattle.std.specs.Prelude.{ℕ, List, [], Option, Some, None, Result, Ok, Err
 use Rattle.bq_source.specs.declared.fault.Fault.{Fault}
 use Rattle.bq_source.specs.declared.fault.FaultKind.TheVariants as f
 use Rattle.bq_source.specs.Fault.{fault_at}
-use Rattle.bq_fragment_parse.specs.declared.tree.TopLevel.{TopLevel}
-use Rattle.bq_fragment_parse.specs.declared.calls.KeywordCall.{KeywordCall}
-use Rattle.bq_fragment_parse.specs.Calls.{keyword_call}
+use Rattle.bq_grammar.specs.declared.tree.TopLevel.{TopLevel}
+use Rattle.bq_fragment.specs.declared.keyword_call.KeywordCall.{KeywordCall}
+use Rattle.bq_fragment.specs.KeywordCalls.{keyword_call}
 use Rattle.bq_fragment.specs.declared.rule.Rule.{Rule}
 use Rattle.bq_fragment.specs.declared.calls.RuleCall.{RuleCall}
 use Rattle.bq_fragment.specs.Schema.{rule_named}

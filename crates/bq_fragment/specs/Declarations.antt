@@ -6,8 +6,8 @@ use Rattle.bq_source.specs.declared.fault.FaultKind.{FaultKind}
 use Rattle.bq_source.specs.declared.fault.FaultKind.TheVariants as f
 use Rattle.bq_label.specs.declared.packages.BuildFile.{BuildFile}
 use Rattle.bq_label.specs.Label.{PackageParts}
-use Rattle.bq_fragment_parse.specs.declared.calls.Keyword.{Keyword}
-use Rattle.bq_fragment_parse.specs.declared.calls.KeywordCall.{KeywordCall}
+use Rattle.bq_fragment.specs.declared.keyword_call.Keyword.{Keyword}
+use Rattle.bq_fragment.specs.declared.keyword_call.KeywordCall.{KeywordCall}
 use Rattle.bq_fragment.specs.declared.rule.Rule.{Rule}
 use Rattle.bq_fragment.specs.declared.rule.AttributeType.{AttributeType}
 use Rattle.bq_fragment.specs.declared.rule.AttributeType.TheVariants as t

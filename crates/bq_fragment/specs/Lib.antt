@@ -6,6 +6,7 @@ pub mod Scope
 pub mod Steps
 pub mod Attributes
 pub mod Declarations
+pub mod KeywordCalls
 pub mod Calls
 pub mod Package
 pub mod Source

@@ -4,7 +4,7 @@ ghost use Rattle.std.specs.Prelude.{◌≡◌, [], IfOk, bytes_eq};
 ghost use Rattle.std.specs.List.{list_any};
 ghost use Rattle.bq_fragment.specs.Arguments.{argument_names, repeats};
 
-use bq_fragment_parse::Keyword;
+use crate::keyword_call::Keyword;
 use bq_source::Bytes;
 use std::alloc::{AllocError, Global};
 use std::collections::BTreeSet;

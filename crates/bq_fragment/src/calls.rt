@@ -6,9 +6,10 @@ ghost use Rattle.bq_source.specs.declared.fault.SourceErr.TheVariants.{Bad};
 ghost use Rattle.bq_fragment.specs.Steps.{items, itself};
 ghost use Rattle.bq_fragment.specs.Calls.{call_at, calls_of, rule_call, rule_calls, resolved};
 
+use crate::keyword_call::{KeywordCall, keyword_call};
 use crate::predeclared::is_predeclared;
 use crate::rule::Rule;
-use bq_fragment_parse::{KeywordCall, TopLevel, keyword_call};
+use bq_grammar::TopLevel;
 use bq_source::{Fault, FaultKind, SourceErr};
 use std::alloc::Global;
 

@@ -13,7 +13,7 @@ use crate::attribute::{labels_of, output_names, target_names, value_texts};
 use crate::call_error::CallErr;
 use crate::rule::{AttributeType, Rule};
 use crate::scope::Scope;
-use bq_fragment_parse::{Keyword, KeywordCall};
+use crate::keyword_call::{Keyword, KeywordCall};
 use bq_label::Label;
 use bq_source::{Bytes, FaultKind};
 use sqlite_items::Items;

@@ -12,7 +12,7 @@
 //! - `query_error`, `report`: how a run ends, and what it writes;
 //! - `query`: the query's text;
 //! - `rule`, `predeclared`: the built-in rules and the other predeclared names;
-//! - `source`, `calls`: the statements of a file, and the calls of rules that they are;
+//! - `source`, `keyword_call`, `calls`: the statements of a file, and the calls of rules that they are;
 //! - `arguments`, `scope`, `call_error`, `attribute`, `declaration`: what one call declares;
 //! - `target_kind`, `names`, `package`, `loading`: the targets of one package, and of all;
 //! - `fault_lines`, `line_text`, `answer`: what is printed;
@@ -27,6 +27,7 @@ mod calls;
 mod declaration;
 mod fault_lines;
 mod fragment;
+mod keyword_call;
 mod line_text;
 mod loading;
 mod names;

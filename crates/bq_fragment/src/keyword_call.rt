@@ -1,9 +1,9 @@
-//! Calls with keyword arguments: how a rule is declared, and the one statement that the grammar has so far.
+//! Calls with keyword arguments: how a rule is declared, and all that the fragment takes of the statements.
 
 ghost use Rattle.std.specs.Prelude.{◌≡◌, IfOk};
-ghost use Rattle.bq_fragment_parse.specs.Calls as spec;
+ghost use Rattle.bq_fragment.specs.KeywordCalls as spec;
 
-use crate::tree::{Argument, Expr, Identifier, SmallKind, Stmt, Suffix, TopLevel};
+use bq_grammar::{Argument, Expr, Identifier, SmallKind, SmallStmt, Stmt, Suffix, TopLevel};
 use bq_source::Bytes;
 use sqlite_items::Items;
 use std::alloc::{AllocError, Global};
@@ -31,7 +31,7 @@ pub enum KeywordValue {
     Strings(Items<Bytes>),
 }
 
-#[tactic(auto, unfolding(crate::specs::Calls::string_of))]
+#[tactic(auto, unfolding(crate::specs::KeywordCalls::string_of))]
 fn string_of(expr: &Expr) -> Result<Option<Bytes>, AllocError>
     ensures { IfOk result (λ x. x ≡ spec.string_of expr.now) }
 {
@@ -54,7 +54,7 @@ fn strings_of(alloc: Global, exprs: &[Expr]) -> Result<Option<Items<Bytes>>, All
     Ok(Some(found))
 }
 
-#[tactic(auto, unfolding(crate::specs::Calls::value_of))]
+#[tactic(auto, unfolding(crate::specs::KeywordCalls::value_of))]
 fn value_of(alloc: Global, expr: &Expr) -> Result<Option<KeywordValue>, AllocError>
     ensures { IfOk result (λ x. x ≡ spec.value_of expr.now) }
 {
@@ -68,7 +68,7 @@ fn value_of(alloc: Global, expr: &Expr) -> Result<Option<KeywordValue>, AllocErr
     }
 }
 
-#[tactic(auto, unfolding(crate::specs::Calls::keyword_of))]
+#[tactic(auto, unfolding(crate::specs::KeywordCalls::keyword_of))]
 fn keyword_of(alloc: Global, argument: &Argument) -> Result<Option<Keyword>, AllocError>
     ensures { IfOk result (λ x. x ≡ spec.keyword_of argument.now) }
 {
@@ -80,6 +80,7 @@ fn keyword_of(alloc: Global, argument: &Argument) -> Result<Option<Keyword>, All
             })),
             None => Ok(None),
         },
+        _ => Ok(None),
     }
 }
 
@@ -96,7 +97,7 @@ fn keywords(alloc: Global, arguments: &[Argument]) -> Result<Option<Items<Keywor
     Ok(Some(found))
 }
 
-#[tactic(auto, unfolding(crate::specs::Calls::keywords_of))]
+#[tactic(auto, unfolding(crate::specs::KeywordCalls::keywords_of))]
 fn keywords_of(alloc: Global, suffixes: &[Suffix]) -> Result<Option<Items<Keyword>>, AllocError>
     ensures { IfOk result (λ x. x ≡ spec.keywords_of suffixes.now) }
 {
@@ -106,7 +107,7 @@ fn keywords_of(alloc: Global, suffixes: &[Suffix]) -> Result<Option<Items<Keywor
     }
 }
 
-#[tactic(auto, unfolding(crate::specs::Calls::callee_of))]
+#[tactic(auto, unfolding(crate::specs::KeywordCalls::callee_of))]
 fn callee_of(expr: &Expr) -> Result<Option<Identifier>, AllocError>
     ensures { IfOk result (λ x. x ≡ spec.callee_of expr.now) }
 {
@@ -119,7 +120,7 @@ fn callee_of(expr: &Expr) -> Result<Option<Identifier>, AllocError>
     }
 }
 
-#[tactic(auto, unfolding(crate::specs::Calls::call_of))]
+#[tactic(auto, unfolding(crate::specs::KeywordCalls::call_of))]
 fn call_of(alloc: Global, line: u32, expr: &Expr) -> Result<Option<KeywordCall>, AllocError>
     ensures { IfOk result (λ x. x ≡ spec.call_of line expr.now) }
 {
@@ -139,18 +140,30 @@ fn call_of(alloc: Global, line: u32, expr: &Expr) -> Result<Option<KeywordCall>,
     }))
 }
 
+fn call_of_line(
+    alloc: Global,
+    line: u32,
+    statements: &[SmallStmt],
+) -> Result<Option<KeywordCall>, AllocError>
+    ensures { IfOk result (λ call. call ≡ spec.of_line line statements.now) }
+{
+    match statements {
+        [only] => match &only.kind {
+            SmallKind::Expr(expr) => call_of(alloc, line, expr),
+            _ => Ok(None),
+        },
+        _ => Ok(None),
+    }
+}
+
 /// The call that a statement is, if it is one: a name called with keyword arguments, each a string or a list of strings. It
 /// shares the names and strings of the tree.
-#[tactic(auto, unfolding(crate::specs::Calls::keyword_call))]
+#[tactic(auto, unfolding(crate::specs::KeywordCalls::keyword_call))]
 pub fn keyword_call(alloc: Global, statement: &TopLevel) -> Result<Option<KeywordCall>, AllocError>
     ensures { IfOk result (λ call. call ≡ spec.keyword_call statement.now) }
 {
-    let Stmt::Simple(line) = &statement.statement;
-    match line.as_slice() {
-        [small] => {
-            let SmallKind::Expr(expr) = &small.kind;
-            call_of(alloc, statement.line, expr)
-        }
+    match &statement.statement {
+        Stmt::Simple(line) => call_of_line(alloc, statement.line, line.as_slice()),
         _ => Ok(None),
     }
 }

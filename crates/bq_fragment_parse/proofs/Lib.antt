@@ -1,8 +1,0 @@
-pub mod SameKind
-pub mod Turns
-pub mod Phrases
-pub mod Sound
-pub mod Complete
-pub mod Cutting
-pub mod Files
-pub mod KeywordCalls
