@@ -8,6 +8,8 @@ mod board;
 #[cfg(test)]
 mod expressions;
 #[cfg(test)]
+mod files;
+#[cfg(test)]
 mod glob;
 #[cfg(test)]
 mod graph;
@@ -15,8 +17,6 @@ mod graph;
 mod label;
 #[cfg(test)]
 mod literals;
-#[cfg(test)]
-mod parse;
 #[cfg(test)]
 mod query;
 #[cfg(test)]

@@ -44,7 +44,7 @@ enum Part<'a> {
 /// The parts that a part is made of, the last one first.
 type Parts<'a> = [Part<'a>; 6];
 
-fn binary_sign(operator: Operator) -> &'static str {
+pub fn binary_sign(operator: Operator) -> &'static str {
     match operator {
         Operator::Multiply => "*",
         Operator::FloorDivide => "//",
