@@ -499,13 +499,13 @@ const DEEP_FILES: &str = r#"
 "#;
 
 const CALLS: &str = r#"
-filegroup(name = "x", srcs = ["s.txt"])\n | 1 (simple 1:(expr (primary filegroup (call (= name "x") (= srcs (list "s.txt"))))))
+filegroup(name = "x", srcs = ["s.txt"])\n | 1 (simple 1:(expr (primary filegroup (call (= name \\"x\\") (= srcs (list \\"s.txt\\"))))))
 f() | 1 (simple 1:(expr (primary f (call))))
-f(a = "",) | 1 (simple 1:(expr (primary f (call (= a "")))))
-f(a = [], b = ["x", "y",]) | 1 (simple 1:(expr (primary f (call (= a (list)) (= b (list "x" "y"))))))
-f(b = "1", a = "2", b = "3") | 1 (simple 1:(expr (primary f (call (= b "1") (= a "2") (= b "3")))))
-\nf()\n\ng(\n  a\n = "x"\n)\n | 2 (simple 2:(expr (primary f (call)))) 4 (simple 4:(expr (primary g (call (= a "x")))))
-f("x") | 1 (simple 1:(expr (primary f (call "x"))))
+f(a = "",) | 1 (simple 1:(expr (primary f (call (= a \\"\\")))))
+f(a = [], b = ["x", "y",]) | 1 (simple 1:(expr (primary f (call (= a (list)) (= b (list \\"x\\" \\"y\\"))))))
+f(b = "1", a = "2", b = "3") | 1 (simple 1:(expr (primary f (call (= b \\"1\\") (= a \\"2\\") (= b \\"3\\")))))
+\nf()\n\ng(\n  a\n = "x"\n)\n | 2 (simple 2:(expr (primary f (call)))) 4 (simple 4:(expr (primary g (call (= a \\"x\\")))))
+f("x") | 1 (simple 1:(expr (primary f (call \\"x\\"))))
 f(a = b) | 1 (simple 1:(expr (primary f (call (= a b)))))
 f(a = [[]]) | 1 (simple 1:(expr (primary f (call (= a (list (list)))))))
 f(a = 1) | 1 (simple 1:(expr (primary f (call (= a 1)))))
