@@ -10,9 +10,9 @@ ghost use Rattle.bq_label.specs.Paths.{is_path};
 ghost use Rattle.bq_label.specs.Reading.{label_of};
 
 use crate::call_error::CallErr;
+use crate::keyword_call::KeywordValue;
 use crate::rule::AttributeType;
 use crate::scope::Scope;
-use crate::keyword_call::KeywordValue;
 use bq_label::{Label, is_path, read_label};
 use bq_source::{Bytes, FaultKind, SourceErr};
 use sqlite_items::Items;

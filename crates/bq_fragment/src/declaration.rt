@@ -11,9 +11,9 @@ ghost use Rattle.bq_fragment.specs.Declarations.{begun, with_name, with_outputs,
 use crate::arguments::{gives, repeats};
 use crate::attribute::{labels_of, output_names, target_names, value_texts};
 use crate::call_error::CallErr;
+use crate::keyword_call::{Keyword, KeywordCall};
 use crate::rule::{AttributeType, Rule};
 use crate::scope::Scope;
-use crate::keyword_call::{Keyword, KeywordCall};
 use bq_label::Label;
 use bq_source::{Bytes, FaultKind};
 use sqlite_items::Items;

@@ -6,11 +6,9 @@
 
 use crate::rows::{Row, Subject, check_rows, number_of};
 use crate::source::{refusal, repeated};
-use crate::trees::{expr_text, binary_sign, target_text};
+use crate::trees::{binary_sign, expr_text, target_text};
 use bq_file::parse;
-use bq_grammar::{
-    Branch, Expr, FileKind, Load, Parameter, SmallKind, SmallStmt, Stmt, Target,
-};
+use bq_grammar::{Branch, Expr, FileKind, Load, Parameter, SmallKind, SmallStmt, Stmt, Target};
 use bq_source::{Bytes, SourceErr, lex};
 use std::alloc::{AllocError, Global};
 use std::fmt::Write;
@@ -184,11 +182,7 @@ impl<'a> Printer<'a> {
     }
 }
 
-fn write_statement(
-    alloc: Global,
-    out: &mut String,
-    statement: &Stmt,
-) -> Result<(), AllocError> {
+fn write_statement(alloc: Global, out: &mut String, statement: &Stmt) -> Result<(), AllocError> {
     let mut printer = Printer {
         alloc,
         out: String::new(alloc),
@@ -275,8 +269,18 @@ fn shortened(alloc: Global, whole: &[u8]) -> Result<Vec<u8>, AllocError> {
 
 impl<R: Threads> Subject for LongFiles<'_, R> {
     fn answer(&self, alloc: Global, text: &[u8], row: Row) -> Result<Vec<u8>, AllocError> {
-        let middle = repeated(alloc, &row.bytes(alloc, 1)?, row.number(2), &row.bytes(alloc, 3)?)?;
-        let rest = repeated(alloc, &middle, 1, &repeated(alloc, &row.bytes(alloc, 4)?, row.number(5), b"")?)?;
+        let middle = repeated(
+            alloc,
+            &row.bytes(alloc, 1)?,
+            row.number(2),
+            &row.bytes(alloc, 3)?,
+        )?;
+        let rest = repeated(
+            alloc,
+            &middle,
+            1,
+            &repeated(alloc, &row.bytes(alloc, 4)?, row.number(5), b"")?,
+        )?;
         let whole = repeated(alloc, text, 1, &rest)?;
         let thread = Builder::new().stack_size(STACK);
         match thread.spawn(self.0, move || shortened(alloc, &whole)) {
