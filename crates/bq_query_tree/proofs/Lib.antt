@@ -1,0 +1,6 @@
+pub mod NextToken
+pub mod Agrees
+pub mod Classes
+pub mod Operands
+pub mod Chains
+pub mod Queries

@@ -1,0 +1,31 @@
+-- A token with its spelling, which is what the grammar reads.
+use Rattle.std.specs.Prelude.{ℕ, ◌-◌, Bool, List, [], ◌∷◌, length, take, slice_range}
+use denote.Enum.Bare.{sameb}
+use Rattle.bq_query.specs.contracts.token.TokenKind.{the_type}
+use Rattle.bq_query.specs.declared.token.Token.{Token}
+use Rattle.bq_query.specs.declared.token.TokenKind.{TokenKind}
+
+pub record Lexeme : Type 0 where
+  pub kind : TokenKind
+  pub spelling : List ℕ
+
+abbrev pub lexeme : List ℕ → Token → Lexeme
+lexeme text t = record { kind = t.kind; spelling = slice_range text t.start t.end }
+
+-- the tokens of a text, with their spellings
+abbrev pub lexemes : List ℕ → List Token → List Lexeme
+lexemes text [] = []
+lexemes text (t ∷ ts) = lexeme text t ∷ lexemes text ts
+
+unfoldable pub same_kind : TokenKind → TokenKind → Bool
+same_kind = sameb the_type
+
+-- what is between the quotes
+abbrev pub unquoted : List ℕ → List ℕ
+unquoted [] = []
+unquoted (q ∷ bs) = take (length bs - 1) bs
+
+-- what comes after `$`
+abbrev pub variable_name : List ℕ → List ℕ
+variable_name [] = []
+variable_name (d ∷ bs) = bs
