@@ -1,0 +1,3 @@
+pub mod Ahead
+pub mod LoopTurns
+pub mod Texts

@@ -1,0 +1,40 @@
+-- Which tree a text has.
+use Rattle.std.specs.Prelude.{ℕ, List, [], ◌∷◌, Option, Some, None, Result, Ok, Err, ◌≡◌, ◌≢◌, ◌+◌}
+use Rattle.bq_query.specs.declared.token.Token.{Token}
+use Rattle.bq_query.specs.Reading as tokens
+use Rattle.bq_query_tree.specs.Lexeme.{Lexeme, lexemes}
+use Rattle.bq_query_tree.specs.declared.refusal.Refusal.{Refusal}
+use Rattle.bq_query_tree.specs.declared.refusal.Refusal.TheVariants.{Memory}
+use Rattle.bq_query_tree.specs.declared.tree.Query.{Query}
+use Rattle.bq_query_tree.specs.Grammar.{IsQueryTo, max_open}
+use Rattle.bq_query_tree.specs.Turns.{Found}
+use Rattle.bq_query_tree.specs.Reading.{query_to}
+
+-- the text is cut into tokens, and all of them are a query of this tree
+pub record IsQuery (text : List ℕ) (x : Query) : Type 0 where
+  pub cut : List Token
+  pub reads : tokens.Reads text 0 (Some cut)
+  pub derives : IsQueryTo max_open (lexemes text cut) [] x
+
+-- what a parser ensures: the tree, or that there is none
+abbrev pub Parses : List ℕ → Result Query Refusal → Type 0
+Parses text (Ok x) = IsQuery text x
+Parses text (Err e) = e ≢ Memory → (x : Query) → IsQuery text x → ⊥
+
+-- ---- tokens
+
+abbrev pub whole : Found Query → Option Query
+whole None = None
+whole (Some (x, [])) = Some x
+whole (Some (x, t ∷ ts)) = None
+
+-- what all these tokens are read as
+abbrev pub whole_query : List Lexeme → Option Query
+whole_query ts = whole (query_to (max_open + 1) ts)
+
+abbrev pub Gives : Option Query → Result Query Refusal → Type 0
+Gives found (Ok x) = found ≡ Some x
+Gives found (Err e) = e ≢ Memory → found ≡ None
+
+abbrev pub OneTree : List ℕ → Type 0
+OneTree text = (x y : Query) → IsQuery text x → IsQuery text y → x ≡ y

@@ -1,0 +1,26 @@
+-- What a place in the tokens of a query shows: the tokens from it on, with their spellings.
+use Rattle.std.specs.Prelude.{ℕ, ◌≤◌, List, [], ◌∷◌, length, Bool, Option, Some, None, All}
+use Rattle.bq_query.specs.declared.token.Token.{Token}
+use Rattle.bq_query.specs.declared.token.TokenKind.{TokenKind}
+use Rattle.bq_query.specs.declared.token.TokenKind.TheVariants as k
+use Rattle.bq_query_tree.specs.Lexeme.{Lexeme, lexemes}
+use Rattle.bq_query_tree.specs.Turns.{sees, next}
+use Rattle.bq_query_parse.specs.declared.tokens.Tokens.TheInside.{Inside}
+
+-- a token is a part of the text
+abbrev pub IsInText : List ℕ → Token → Type 0
+IsInText text t = (t.start ≤ t.end) × (t.end ≤ length text)
+
+abbrev pub lexemes_ahead : Inside → List Lexeme
+lexemes_ahead t = lexemes t.text.now t.rest.now
+
+abbrev pub AreInText : Inside → Type 0
+AreInText t = All (IsInText t.text.now) t.rest.now
+
+-- the kind of the next token
+abbrev pub kind_ahead : List Lexeme → Option TokenKind
+kind_ahead [] = None
+kind_ahead (t ∷ ts) = Some t.kind
+
+abbrev pub let_is_next : List Lexeme → Bool
+let_is_next ts = sees k.Let (next ts)

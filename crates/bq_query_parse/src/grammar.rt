@@ -1,0 +1,262 @@
+//! The productions, over the reader of the queries inside one more parenthesis or let.
+
+ghost use Rattle.std.specs.Prelude.{◌≡◌, [], ◌∷◌, IfOk};
+ghost use Rattle.bq_query.specs.declared.token.TokenKind.TheVariants as kind;
+ghost use Rattle.bq_query_tree.specs.Turns.{Reads};
+ghost use Rattle.bq_query_tree.specs.Turns as turns;
+ghost use Rattle.bq_query_tree.specs.Grammar as grammar;
+ghost use Rattle.bq_query_tree.specs.Reading as spec;
+ghost use Rattle.bq_query_parse.specs.Nested.{ReadsQuery};
+
+use crate::tokens::Tokens;
+use bq_query::TokenKind;
+use bq_query_tree::{Operation, Query, Refusal};
+use bq_source::Bytes;
+use sqlite_items::{Boxed, Items};
+use std::alloc::{AllocError, Global};
+
+#[derive(Clone, Copy)]
+pub struct Grammar<F> {
+    pub alloc: Global,
+    /// How many parentheses and lets may still be opened.
+    pub depth: usize,
+    pub query: F,
+}
+
+/// A query and what is done to it; the query alone where nothing is.
+fn chain_of(first: Boxed<Query>, operations: Items<Operation>) -> Query
+    ensures { result ≡ grammar.chain_of first operations }
+{
+    if operations.is_empty() {
+        return first.into_inner();
+    }
+    Query::Chain(first, operations)
+}
+
+/// One query, as the first of a list.
+fn alone(alloc: Global, query: Query) -> Result<Items<Query>, AllocError>
+    ensures { IfOk result (λ xs. xs ≡ query ∷ []) }
+{
+    let mut found = Items::new(alloc);
+    found.push(query)?;
+    Ok(found)
+}
+
+/// { Word }
+#[tactic(auto, using(crate::proofs::LoopTurns::turns_more, crate::proofs::LoopTurns::turns_over), unfolding(bq_query_tree::specs::Turns::repeat))]
+fn words(alloc: Global, tokens: &mut Tokens<'_>) -> Result<Items<Bytes>, Refusal>
+    ensures { Reads (turns.repeat spec.begins_word spec.a_word [] tokens.old) result tokens.new }
+{
+    let mut found = Items::new(alloc);
+    // Each turn takes a token.
+    for _turn in 0..tokens.left() {
+        if !tokens.sees_word() {
+            return Ok(found);
+        }
+        found.push(tokens.word(alloc)?)?;
+    }
+    Ok(found)
+}
+
+impl<F: Fn(Global, &mut Tokens<'_>, usize) -> Result<Query, Refusal>> Grammar<F> {
+    fn nested(&self, tokens: &mut Tokens<'_>) -> Result<Query, Refusal>
+        requires { ReadsQuery self.now.depth (F.pre self.now.query) (F.post self.now.query) }
+        ensures { Reads (spec.query_to self.now.depth tokens.old) result tokens.new }
+    {
+        (self.query)(self.alloc, tokens, self.depth)
+    }
+
+    /// ',' Query
+    fn after_comma(&self, tokens: &mut Tokens<'_>) -> Result<Query, Refusal>
+        requires { ReadsQuery self.now.depth (F.pre self.now.query) (F.post self.now.query) }
+        ensures { Reads (spec.after_comma (spec.query_to self.now.depth) tokens.old) result tokens.new }
+    {
+        tokens.expect(TokenKind::Comma)?;
+        self.nested(tokens)
+    }
+
+    /// The arguments found, and all further ones.
+    #[tactic(auto, using(crate::proofs::LoopTurns::turns_more, crate::proofs::LoopTurns::turns_over), unfolding(bq_query_tree::specs::Turns::repeat))]
+    fn further_arguments(
+        &self,
+        tokens: &mut Tokens<'_>,
+        mut found: Items<Query>,
+    ) -> Result<Items<Query>, Refusal>
+        requires { ReadsQuery self.now.depth (F.pre self.now.query) (F.post self.now.query) }
+        ensures { Reads (turns.repeat (turns.sees kind.Comma) (spec.after_comma (spec.query_to self.now.depth)) found tokens.old) result tokens.new }
+    {
+        // Each turn takes a token.
+        for _turn in 0..tokens.left() {
+            if !tokens.sees(TokenKind::Comma) {
+                return Ok(found);
+            }
+            found.push(self.after_comma(tokens)?)?;
+        }
+        Ok(found)
+    }
+
+    /// Arguments = [ Query { ',' Query } ] ')'
+    #[tactic(auto, unfolding(bq_query_tree::specs::Reading::arguments))]
+    fn arguments(&self, tokens: &mut Tokens<'_>) -> Result<Items<Query>, Refusal>
+        requires { ReadsQuery self.now.depth (F.pre self.now.query) (F.post self.now.query) }
+        ensures { Reads (spec.arguments (spec.query_to self.now.depth) tokens.old) result tokens.new }
+    {
+        if tokens.eat(TokenKind::Close) {
+            return Ok(Items::new(self.alloc));
+        }
+        let first = self.nested(tokens)?;
+        let found = self.further_arguments(tokens, alone(self.alloc, first)?)?;
+        tokens.expect(TokenKind::Close)?;
+        Ok(found)
+    }
+
+    /// word '(' Arguments, after the word
+    #[tactic(auto, unfolding(bq_query_tree::specs::Reading::call))]
+    fn call(&self, tokens: &mut Tokens<'_>, name: Bytes) -> Result<Query, Refusal>
+        requires { ReadsQuery self.now.depth (F.pre self.now.query) (F.post self.now.query) }
+        ensures { Reads (spec.call self.now.depth (spec.query_to self.now.depth) name tokens.old) result tokens.new }
+    {
+        tokens.opening(self.depth)?;
+        Ok(Query::Call(name, self.arguments(tokens)?))
+    }
+
+    /// A word without quotes, or the function that it names before `(`.
+    fn word_or_call(&self, tokens: &mut Tokens<'_>) -> Result<Query, Refusal>
+        requires { ReadsQuery self.now.depth (F.pre self.now.query) (F.post self.now.query) }
+        ensures { Reads (spec.word_or_call self.now.depth (spec.query_to self.now.depth) (spec.spelling_of tokens.old) (turns.next tokens.old)) result tokens.new }
+    {
+        let word = tokens.bare(self.alloc)?;
+        if tokens.sees(TokenKind::Open) {
+            return self.call(tokens, word);
+        }
+        Ok(Query::Word(word))
+    }
+
+    /// '(' Query ')'
+    #[tactic(auto, unfolding(bq_query_tree::specs::Reading::parenthesized))]
+    fn parenthesized(&self, tokens: &mut Tokens<'_>) -> Result<Query, Refusal>
+        requires { ReadsQuery self.now.depth (F.pre self.now.query) (F.post self.now.query) }
+        ensures { Reads (spec.parenthesized self.now.depth (spec.query_to self.now.depth) tokens.old) result tokens.new }
+    {
+        tokens.opening(self.depth)?;
+        let query = Boxed::new(self.alloc, self.nested(tokens)?)?;
+        tokens.expect(TokenKind::Close)?;
+        Ok(Query::Parenthesized(query))
+    }
+
+    /// 'set' '(' { Word } ')', after 'set'
+    #[tactic(auto, unfolding(bq_query_tree::specs::Reading::set_of))]
+    fn set_of(&self, tokens: &mut Tokens<'_>) -> Result<Query, Refusal>
+        ensures { Reads (spec.set_of self.now.depth tokens.old) result tokens.new }
+    {
+        tokens.opening(self.depth)?;
+        let words = words(self.alloc, tokens)?;
+        tokens.expect(TokenKind::Close)?;
+        Ok(Query::Set(words))
+    }
+
+    /// Operand = Word | variable | '(' Query ')' | 'set' '(' { Word } ')' | word '(' Arguments
+    #[tactic(auto, unfolding(bq_query_tree::specs::Reading::operand))]
+    fn operand(&self, tokens: &mut Tokens<'_>) -> Result<Query, Refusal>
+        requires { ReadsQuery self.now.depth (F.pre self.now.query) (F.post self.now.query) }
+        ensures { Reads (spec.operand self.now.depth (spec.query_to self.now.depth) tokens.old) result tokens.new }
+    {
+        match tokens.peek() {
+            Some(TokenKind::Word) => self.word_or_call(tokens),
+            Some(TokenKind::Quoted) => Ok(Query::Word(tokens.quoted(self.alloc)?)),
+            Some(TokenKind::Variable) => Ok(Query::Variable(tokens.variable(self.alloc)?)),
+            Some(TokenKind::Open) => self.parenthesized(tokens),
+            Some(TokenKind::Set) => {
+                tokens.advance();
+                self.set_of(tokens)
+            }
+            Some(_) => Err(Refusal::Syntax),
+            None => Err(Refusal::Syntax),
+        }
+    }
+
+    /// Query 'in' Query
+    #[tactic(auto, unfolding(bq_query_tree::specs::Reading::binding))]
+    fn binding(&self, tokens: &mut Tokens<'_>, name: Bytes) -> Result<Query, Refusal>
+        requires { ReadsQuery self.now.depth (F.pre self.now.query) (F.post self.now.query) }
+        ensures { Reads (spec.binding (spec.query_to self.now.depth) name tokens.old) result tokens.new }
+    {
+        let value = Boxed::new(self.alloc, self.nested(tokens)?)?;
+        tokens.expect(TokenKind::In)?;
+        let body = Boxed::new(self.alloc, self.nested(tokens)?)?;
+        Ok(Query::Let(name, value, body))
+    }
+
+    /// 'let' name '=' Query 'in' Query, after 'let'
+    #[tactic(auto, unfolding(bq_query_tree::specs::Reading::let_in))]
+    fn let_in(&self, tokens: &mut Tokens<'_>) -> Result<Query, Refusal>
+        requires { ReadsQuery self.now.depth (F.pre self.now.query) (F.post self.now.query) }
+        ensures { Reads (spec.let_in self.now.depth (spec.query_to self.now.depth) tokens.old) result tokens.new }
+    {
+        if self.depth == 0 {
+            return Err(Refusal::Syntax);
+        }
+        let name = tokens.name(self.alloc)?;
+        tokens.expect(TokenKind::Equals)?;
+        self.binding(tokens, name)
+    }
+
+    /// Let | Operand
+    fn term(&self, tokens: &mut Tokens<'_>) -> Result<Query, Refusal>
+        requires { ReadsQuery self.now.depth (F.pre self.now.query) (F.post self.now.query) }
+        ensures { Reads (spec.term self.now.depth (spec.query_to self.now.depth) tokens.old) result tokens.new }
+    {
+        if tokens.eat(TokenKind::Let) {
+            return self.let_in(tokens);
+        }
+        self.operand(tokens)
+    }
+
+    /// operator Operand | operator Let
+    #[tactic(auto, unfolding(bq_query_tree::specs::Reading::an_operation))]
+    fn an_operation(&self, tokens: &mut Tokens<'_>) -> Result<Operation, Refusal>
+        requires { ReadsQuery self.now.depth (F.pre self.now.query) (F.post self.now.query) }
+        ensures { Reads (spec.an_operation self.now.depth (spec.query_to self.now.depth) tokens.old) result tokens.new }
+    {
+        let operator = tokens.operator()?;
+        Ok(Operation {
+            operator,
+            operand: self.term(tokens)?,
+        })
+    }
+
+    /// Operations = { operator Operand } [ operator Let ]
+    #[tactic(auto, using(crate::proofs::LoopTurns::turns_more, crate::proofs::LoopTurns::turns_over), unfolding(bq_query_tree::specs::Reading::operations))]
+    fn operations(&self, tokens: &mut Tokens<'_>) -> Result<Items<Operation>, Refusal>
+        requires { ReadsQuery self.now.depth (F.pre self.now.query) (F.post self.now.query) }
+        ensures { Reads (spec.operations self.now.depth (spec.query_to self.now.depth) [] tokens.old) result tokens.new }
+    {
+        let mut found = Items::new(self.alloc);
+        // Each turn takes a token.
+        for _turn in 0..tokens.left() {
+            if !tokens.sees_operator() {
+                return Ok(found);
+            }
+            let is_last = tokens.sees_let_next();
+            found.push(self.an_operation(tokens)?)?;
+            if is_last {
+                return Ok(found);
+            }
+        }
+        Ok(found)
+    }
+
+    /// Query = Let | Operand Operations
+    #[tactic(auto, unfolding(bq_query_tree::specs::Reading::query_in))]
+    pub fn query_in(&self, tokens: &mut Tokens<'_>) -> Result<Query, Refusal>
+        requires { ReadsQuery self.now.depth (F.pre self.now.query) (F.post self.now.query) }
+        ensures { Reads (spec.query_in self.now.depth (spec.query_to self.now.depth) tokens.old) result tokens.new }
+    {
+        if tokens.eat(TokenKind::Let) {
+            return self.let_in(tokens);
+        }
+        let first = Boxed::new(self.alloc, self.operand(tokens)?)?;
+        let operations = self.operations(tokens)?;
+        Ok(chain_of(first, operations))
+    }
+}

@@ -1,0 +1,268 @@
+//! A place in the tokens of a query, and the steps that every production is made of.
+
+ghost use Rattle.std.specs.Prelude.{◌≡◌, All, length, IfOk};
+ghost use Rattle.bq_query_tree.specs.Lexeme as lexeme;
+ghost use Rattle.bq_query_tree.specs.Turns.{Reads};
+ghost use Rattle.bq_query_tree.specs.Turns as turns;
+ghost use Rattle.bq_query_tree.specs.Grammar as grammar;
+ghost use Rattle.bq_query_tree.specs.Reading as spec;
+ghost use Rattle.bq_query_parse.specs.Tokens as ahead;
+
+use bq_query::{Token, TokenKind, is_variable_name};
+use bq_query_tree::{Operator, Refusal};
+use bq_source::Bytes;
+use std::alloc::{AllocError, Global};
+use std::marker::Model;
+
+fn same_kind(kind: TokenKind, other: TokenKind) -> bool
+    ensures { result ≡ lexeme.same_kind kind other }
+{
+    kind == other
+}
+
+fn is_word(kind: TokenKind) -> bool
+    ensures { result ≡ spec.is_word kind }
+{
+    match kind {
+        TokenKind::Word => true,
+        TokenKind::Quoted => true,
+        _ => false,
+    }
+}
+
+fn operator(kind: TokenKind) -> Option<Operator>
+    ensures { result ≡ grammar.operator kind }
+{
+    match kind {
+        TokenKind::Union => Some(Operator::Union),
+        TokenKind::Intersect => Some(Operator::Intersect),
+        TokenKind::Except => Some(Operator::Except),
+        _ => None,
+    }
+}
+
+/// What is between the quotes.
+fn unquoted(spelling: &[u8]) -> &[u8]
+    ensures { result.now ≡ lexeme.unquoted spelling.now }
+{
+    match spelling {
+        [] => &[],
+        [_, rest @ ..] => &rest[..rest.len().saturating_sub(1)],
+    }
+}
+
+/// What comes after `$`.
+fn variable_name(spelling: &[u8]) -> &[u8]
+    ensures { result.now ≡ lexeme.variable_name spelling.now }
+{
+    match spelling {
+        [] => &[],
+        [_, name @ ..] => name,
+    }
+}
+
+#[derive(Drop)]
+pub struct Tokens<'a> {
+    text: &'a [u8],
+    rest: &'a [Token],
+}
+
+impl<'a> Model for Tokens<'a> {
+    ghost use Rattle.std.specs.Prelude.{List};
+    ghost use Rattle.bq_query_tree.specs.Lexeme.{Lexeme};
+
+    ghost Value = { List Lexeme };
+
+    ghost use Rattle.bq_query_parse.specs.Tokens.{lexemes_ahead, AreInText};
+
+    ghost view = { lexemes_ahead };
+
+    ghost invariant = { AreInText };
+}
+
+impl<'a> Tokens<'a> {
+    pub fn new(text: &'a [u8], rest: &'a [Token]) -> Tokens<'a>
+        requires { All (ahead.IsInText text.now) rest.now }
+        ensures { result ≡ lexeme.lexemes text.now rest.now }
+    {
+        Tokens { text, rest }
+    }
+
+    /// How many tokens are left.
+    #[tactic(auto, using(crate::proofs::Ahead::as_many))]
+    pub fn left(&self) -> usize
+        ensures { result ≡ length self.now }
+    {
+        self.rest.len()
+    }
+
+    pub fn peek(&self) -> Option<TokenKind>
+        ensures { result ≡ ahead.kind_ahead self.now }
+    {
+        match self.rest.first() {
+            Some(token) => Some(token.kind),
+            None => None,
+        }
+    }
+
+    pub fn sees(&self, kind: TokenKind) -> bool
+        ensures { result ≡ turns.sees kind self.now }
+    {
+        match self.rest.first() {
+            Some(token) => same_kind(token.kind, kind),
+            None => false,
+        }
+    }
+
+    /// The bytes of the next token.
+    fn spelling(&self) -> &'a [u8]
+        ensures { result.now ≡ spec.spelling_of self.now }
+    {
+        match self.rest.first() {
+            Some(token) => &self.text[token.start..token.end],
+            None => &[],
+        }
+    }
+
+    /// Passes the next token.
+    pub fn advance(&mut self)
+        ensures { self.new ≡ turns.next self.old }
+    {
+        if !self.rest.is_empty() {
+            self.rest = &self.rest[1..];
+        }
+    }
+
+    /// After the next token comes `let`.
+    pub fn sees_let_next(&self) -> bool
+        ensures { result ≡ ahead.let_is_next self.now }
+    {
+        let mut next = Tokens {
+            text: self.text,
+            rest: self.rest,
+        };
+        next.advance();
+        next.sees(TokenKind::Let)
+    }
+
+    /// Passes the next token if it is of this kind.
+    pub fn eat(&mut self, kind: TokenKind) -> bool
+        ensures found { result ≡ turns.sees kind self.old }
+        ensures after { self.new ≡ turns.after kind self.old }
+    {
+        let found = self.sees(kind);
+        if found {
+            self.advance();
+        }
+        found
+    }
+
+    /// Passes the next token, which must be of this kind.
+    pub fn expect(&mut self, kind: TokenKind) -> Result<(), Refusal>
+        ensures { Reads (turns.expect kind self.old) result self.new }
+    {
+        if self.sees(kind) {
+            self.advance();
+            Ok(())
+        } else {
+            Err(Refusal::Syntax)
+        }
+    }
+
+    /// `(`, where one more may be opened
+    pub fn opening(&mut self, depth: usize) -> Result<(), Refusal>
+        ensures { Reads (spec.opening depth self.old) result self.new }
+    {
+        if depth == 0 {
+            return Err(Refusal::Syntax);
+        }
+        self.expect(TokenKind::Open)
+    }
+
+    /// The next token, as it is written.
+    pub fn bare(&mut self, alloc: Global) -> Result<Bytes, AllocError>
+        ensures { IfOk result (λ w. (w ≡ spec.spelling_of self.old) × (self.new ≡ turns.next self.old)) }
+    {
+        let word = Bytes::from_slice(alloc, self.spelling())?;
+        self.advance();
+        Ok(word)
+    }
+
+    /// The next token, without its quotes.
+    pub fn quoted(&mut self, alloc: Global) -> Result<Bytes, AllocError>
+        ensures { IfOk result (λ w. (w ≡ lexeme.unquoted (spec.spelling_of self.old)) × (self.new ≡ turns.next self.old)) }
+    {
+        let word = Bytes::from_slice(alloc, unquoted(self.spelling()))?;
+        self.advance();
+        Ok(word)
+    }
+
+    /// The next token, without its `$`.
+    pub fn variable(&mut self, alloc: Global) -> Result<Bytes, AllocError>
+        ensures { IfOk result (λ w. (w ≡ lexeme.variable_name (spec.spelling_of self.old)) × (self.new ≡ turns.next self.old)) }
+    {
+        let name = Bytes::from_slice(alloc, variable_name(self.spelling()))?;
+        self.advance();
+        Ok(name)
+    }
+
+    /// A word comes next, in quotes or not.
+    pub fn sees_word(&self) -> bool
+        ensures { result ≡ spec.begins_word self.now }
+    {
+        match self.rest.first() {
+            Some(token) => is_word(token.kind),
+            None => false,
+        }
+    }
+
+    /// Word = word | quoted
+    pub fn word(&mut self, alloc: Global) -> Result<Bytes, Refusal>
+        ensures { Reads (spec.a_word self.old) result self.new }
+    {
+        match self.peek() {
+            Some(TokenKind::Word) => Ok(self.bare(alloc)?),
+            Some(TokenKind::Quoted) => Ok(self.quoted(alloc)?),
+            Some(_) => Err(Refusal::Syntax),
+            None => Err(Refusal::Syntax),
+        }
+    }
+
+    /// The name of a variable, without quotes.
+    pub fn name(&mut self, alloc: Global) -> Result<Bytes, Refusal>
+        ensures { Reads (spec.a_name self.old) result self.new }
+    {
+        if !self.sees(TokenKind::Word) {
+            return Err(Refusal::Syntax);
+        }
+        if !is_variable_name(self.spelling()) {
+            return Err(Refusal::Syntax);
+        }
+        Ok(self.bare(alloc)?)
+    }
+
+    /// An operator comes next.
+    pub fn sees_operator(&self) -> bool
+        ensures { result ≡ spec.begins_operation self.now }
+    {
+        match self.rest.first() {
+            Some(token) => operator(token.kind).is_some(),
+            None => false,
+        }
+    }
+
+    pub fn operator(&mut self) -> Result<Operator, Refusal>
+        ensures { Reads (spec.an_operator self.old) result self.new }
+    {
+        match self.rest.first() {
+            Some(token) => match operator(token.kind) {
+                Some(found) => {
+                    self.advance();
+                    Ok(found)
+                }
+                None => Err(Refusal::Syntax),
+            },
+            None => Err(Refusal::Syntax),
+        }
+    }
+}
