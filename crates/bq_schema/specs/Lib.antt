@@ -1,0 +1,5 @@
+pub mod Attribute
+pub mod Line
+pub mod Schema
+pub mod Reading
+pub mod Laws

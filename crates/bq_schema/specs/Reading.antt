@@ -1,0 +1,42 @@
+-- What the lines of a text declare (ours).
+use Rattle.std.specs.Prelude.{ℕ, ◌+◌, List, [], ◌∷◌, ◌==◌, Option, Some, None, Result, Ok, Err, codes, nat_lt, if◌then◌else◌}
+use Rattle.std.specs.List.{slice_split}
+use Rattle.bq_source.specs.Fault.{fault_at}
+use Rattle.bq_source.specs.declared.fault.Fault.{Fault}
+use Rattle.bq_source.specs.declared.fault.FaultKind.TheVariants as f
+use Rattle.bq_schema.specs.Line.{line_of}
+use Rattle.bq_schema.specs.Schema.{Rules, no_rules, after}
+
+-- Each newline ends a line. A text that ends with one has an empty line after it.
+abbrev pub lines : List ℕ → List (List ℕ)
+lines text = slice_split (λ b. b == 10) text
+
+-- The number of the line after so many, from 1. A line past 2 ^ 32 - 1 has that number.
+abbrev pub line_number : ℕ → ℕ
+line_number before = if nat_lt before 4294967295 then before + 1 else 4294967295
+
+abbrev pub bad_line : ℕ → Fault
+bad_line before = fault_at f.Schema (line_number before)
+
+abbrev pub go_on : (Rules → Result Rules Fault) → ℕ → Option Rules → Result Rules Fault
+go_on further before None = Err (bad_line before)
+go_on further before (Some rules) = further rules
+
+-- what these lines make of the rules so far, or the fault of the first bad one; so many lines precede them
+unfoldable pub declared_by : Rules → ℕ → List (List ℕ) → Result Rules Fault
+declared_by rules before [] = Ok rules
+declared_by rules before (line ∷ lines) = go_on (λ next. declared_by next (before + 1) lines) before (after rules (line_of line))
+
+-- the schema that the text is, or its fault
+unfoldable pub schema_of : List ℕ → Result Rules Fault
+schema_of text = declared_by no_rules 0 (lines text)
+
+-- the schema of a workspace without a file of its own
+abbrev pub standard_lines : List (List ℕ)
+standard_lines =
+    codes "rule filegroup" ∷ codes "attr srcs label_list" ∷ codes "attr data label_list" ∷ codes "attr output_group string"
+    ∷ codes "rule genrule" ∷ codes "attr srcs label_list" ∷ codes "attr outs output_list mandatory" ∷ codes "attr cmd string"
+    ∷ codes "attr cmd_bash string" ∷ codes "attr cmd_bat string" ∷ codes "attr cmd_ps string" ∷ codes "attr output_to_bindir bool"
+    ∷ codes "attr executable bool" ∷ codes "attr local bool" ∷ codes "attr message string" ∷ codes "attr tools label_list"
+    ∷ codes "rule alias" ∷ codes "attr actual label mandatory"
+    ∷ codes "rule test_suite" ∷ codes "attr tests label_list" ∷ []

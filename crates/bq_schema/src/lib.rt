@@ -1,0 +1,32 @@
+//! The text of a schema comes in; the rules that it declares go out, with their typed attributes, or its first bad line.
+//!
+//! The promise: [`read_schema`] gives exactly what the lines of the text declare (`specs/Reading.antt`). A text that is no schema
+//! has fault F80 at its first bad line, and that one is returned. A name is found in the time of its length.
+//!
+//! In reading order:
+//!
+//! - `attribute`: the types of attributes, and the attributes that all rules have;
+//! - `line`: what one line of a schema says;
+//! - `names`, `attributes`: names with their places, and the attributes of a rule by their names;
+//! - `schema`: the rules declared so far, and what a further line makes of them;
+//! - `read`: the lines of a whole text, and the schema of a workspace that has none;
+//! - `laws`: what holds of every schema, in words of its lines and names.
+#![tactic(auto)]
+
+mod attribute;
+mod attributes;
+mod laws;
+mod line;
+mod names;
+mod read;
+mod schema;
+
+pub use attribute::{Attribute, AttributeType, common_attribute, type_named};
+pub use attributes::Attributes;
+pub use laws::{
+    attributes_are_of_a_rule, each_line_has_a_form, faults_name_the_first_bad_line,
+    standard_lines_declare_them,
+};
+pub use line::{Line, line_of};
+pub use read::{read_schema, standard};
+pub use schema::{Schema, rule_names};

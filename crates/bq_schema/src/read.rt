@@ -1,0 +1,99 @@
+//! The lines of a whole text, and the schema of a workspace that has none of its own.
+
+ghost use Rattle.std.specs.Prelude.{◌≡◌, ◌==◌, map, drop, IfOk, IfErr};
+ghost use Rattle.std.specs.List.{slice_split};
+ghost use Rattle.bq_source.specs.Gives.{Gives};
+ghost use Rattle.bq_source.specs.declared.fault.SourceErr.TheVariants.{Bad, Memory};
+ghost use Rattle.bq_schema.specs.Schema.{no_rules, after};
+ghost use Rattle.bq_schema.specs.Line.{line_of};
+ghost use Rattle.bq_schema.specs.Reading.{lines, line_number, declared_by, schema_of, standard_lines};
+
+use crate::line::line_of;
+use crate::schema::Schema;
+use bq_source::{Fault, FaultKind, SourceErr};
+use std::alloc::{AllocError, Global};
+
+/// The lines of a text.
+fn lines(alloc: Global, text: &[u8]) -> Result<Vec<&[u8]>, AllocError>
+    ensures { IfOk result (λ v. map (λ l. l.now) v.items ≡ lines text.now) }
+{
+    text.split(|byte| *byte == b'\n').collect(alloc)
+}
+
+/// The number of the line after so many.
+fn line_number(before: usize) -> u32
+    ensures { result ≡ line_number before }
+{
+    if before < u32::MAX as usize {
+        before as u32 + 1
+    } else {
+        u32::MAX
+    }
+}
+
+/// What a schema is with one more line; none where the line is a bad one.
+fn read_line(alloc: Global, schema: Schema, line: &[u8]) -> Result<Option<Schema>, AllocError>
+    ensures { IfOk result (λ s. s ≡ after schema (line_of line.now)) }
+{
+    let line = line_of(alloc, line)?;
+    schema.after(alloc, line)
+}
+
+/// What the lines declare.
+#[tactic(auto, unfolding(crate::specs::Reading::declared_by))]
+fn read_lines(alloc: Global, lines: &[&[u8]]) -> Result<Schema, SourceErr>
+    ensures { Gives (λ s. s) Bad result (declared_by no_rules 0 (map (λ l. l.now) lines.now)) }
+{
+    let mut schema = Schema::empty(alloc);
+    for (before, line) in lines.iter().enumerate() {
+        match read_line(alloc, schema, line)? {
+            Some(next) => schema = next,
+            None => {
+                return Err(SourceErr::Bad(Fault::at(FaultKind::Schema, line_number(before))));
+            }
+        }
+    }
+    Ok(schema)
+}
+
+/// The schema that a text is. A text that is none has fault F80 at its first bad line: one that declares nothing and is neither
+/// blank nor a comment, an attribute before any rule, a name that comes twice, that is no identifier, that is an attribute of all
+/// rules, or that is predeclared and would be a rule's. It takes time linear in the text.
+#[tactic(auto, unfolding(crate::specs::Reading::schema_of))]
+pub fn read_schema(alloc: Global, text: &[u8]) -> Result<Schema, SourceErr>
+    ensures { Gives (λ s. s) Bad result (schema_of text.now) }
+{
+    let lines = lines(alloc, text)?;
+    read_lines(alloc, &lines)
+}
+
+/// The schema of a workspace without a file of its own (ours: a part of Bazel's rules).
+const STANDARD: [&[u8]; 20] = [
+    b"rule filegroup",
+    b"attr srcs label_list",
+    b"attr data label_list",
+    b"attr output_group string",
+    b"rule genrule",
+    b"attr srcs label_list",
+    b"attr outs output_list mandatory",
+    b"attr cmd string",
+    b"attr cmd_bash string",
+    b"attr cmd_bat string",
+    b"attr cmd_ps string",
+    b"attr output_to_bindir bool",
+    b"attr executable bool",
+    b"attr local bool",
+    b"attr message string",
+    b"attr tools label_list",
+    b"rule alias",
+    b"attr actual label mandatory",
+    b"rule test_suite",
+    b"attr tests label_list",
+];
+
+/// The schema of a workspace without a file of its own.
+pub fn standard(alloc: Global) -> Result<Schema, SourceErr>
+    ensures { Gives (λ s. s) Bad result (declared_by no_rules 0 standard_lines) }
+{
+    read_lines(alloc, &STANDARD)
+}

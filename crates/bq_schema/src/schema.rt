@@ -1,0 +1,130 @@
+//! The rules that the lines of a schema have declared so far, and what a further line makes of them.
+
+ghost use Rattle.std.specs.Prelude.{◌≡◌, position, slice_get, option_copied, bytes_eq, IfOk};
+ghost use Rattle.bq_schema.specs.Schema.{no_rules, with_rule, with_attribute_of_last, after};
+
+use crate::attribute::Attribute;
+use crate::attributes::Attributes;
+use crate::line::Line;
+use crate::names::Names;
+use bq_source::Bytes;
+use std::alloc::{AllocError, Global};
+use std::marker::Model;
+
+/// Rules with their typed attributes. Contracts see the names of the rules in the order in which they are declared, and the
+/// attributes of each in the same order.
+#[derive(Drop)]
+pub struct Schema {
+    names: Vec<Bytes>,
+    /// The same names, where each is found.
+    places: Names,
+    attributes: Vec<Attributes>,
+}
+
+impl Model for Schema {
+    ghost use Rattle.std.specs.Prelude.{◌≡◌};
+    ghost use Rattle.bq_schema.specs.Schema.{Rules};
+
+    ghost Value = { Rules };
+
+    ghost view = { λ s. record { names = s.names.items; attributes = s.attributes.items } };
+
+    ghost invariant = { λ s. s.places ≡ s.names.items };
+}
+
+/// The names of the rules, in the order in which they are declared.
+pub fn rule_names(schema: &Schema) -> &[Bytes]
+    ensures { result.now ≡ schema.now.names }
+{
+    &schema.names
+}
+
+impl Schema {
+    pub(crate) fn empty(alloc: Global) -> Schema
+        ensures { result ≡ no_rules }
+    {
+        Schema {
+            names: Vec::new(alloc),
+            places: Names::new(alloc),
+            attributes: Vec::new(alloc),
+        }
+    }
+
+    /// The number of the rule of this name: its place in the order of declaration.
+    pub fn rule(&self, name: &[u8]) -> Option<usize>
+        ensures { result ≡ position (bytes_eq name.now) self.now.names }
+    {
+        self.places.place(name)
+    }
+
+    /// The attributes that the rule of this number has of its own.
+    pub fn attributes(&self, rule: usize) -> Option<&Attributes>
+        ensures { option_copied result ≡ slice_get self.now.attributes rule }
+    {
+        self.attributes.get(rule)
+    }
+
+    /// One more rule; none where one has the name.
+    #[tactic(auto, unfolding(crate::specs::Schema::with_rule, crate::specs::Schema::with_name))]
+    fn with_rule(self, alloc: Global, name: Bytes) -> Result<Option<Schema>, AllocError>
+        ensures { IfOk result (λ s. s ≡ with_rule self name) }
+    {
+        let Schema {
+            mut names,
+            mut places,
+            mut attributes,
+        } = self;
+        if !places.add(alloc, name.as_slice())? {
+            return Ok(None);
+        }
+        names.push(name)?;
+        attributes.push(Attributes::new(alloc))?;
+        Ok(Some(Schema {
+            names,
+            places,
+            attributes,
+        }))
+    }
+
+    /// One more attribute of the last rule; none where there is no rule, or it has one of the name.
+    #[tactic(auto, unfolding(crate::specs::Schema::with_attribute_of_last, crate::specs::Schema::with_attribute))]
+    fn with_attribute(
+        self,
+        alloc: Global,
+        name: Bytes,
+        attribute: Attribute,
+    ) -> Result<Option<Schema>, AllocError>
+        ensures { IfOk result (λ s. s ≡ with_attribute_of_last self name attribute) }
+    {
+        let Schema {
+            names,
+            places,
+            mut attributes,
+        } = self;
+        let Some(mut last) = attributes.pop() else {
+            return Ok(None);
+        };
+        if !last.add(alloc, name.as_slice(), attribute)? {
+            return Ok(None);
+        }
+        attributes.push(last)?;
+        Ok(Some(Schema {
+            names,
+            places,
+            attributes,
+        }))
+    }
+
+    /// With what a line declares; none where the line is a bad one.
+    #[tactic(auto, unfolding(crate::specs::Schema::after))]
+    pub(crate) fn after(self, alloc: Global, line: Line) -> Result<Option<Schema>, AllocError>
+        ensures { IfOk result (λ s. s ≡ after self line) }
+    {
+        match line {
+            Line::Skipped => Ok(Some(self)),
+            Line::Rule(name) => self.with_rule(alloc, name),
+            Line::Attribute(name, attribute) => self.with_attribute(alloc, name, attribute),
+            Line::Other => Ok(None),
+        }
+    }
+}
