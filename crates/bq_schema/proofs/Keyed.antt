@@ -1,5 +1,5 @@
 -- Keys are seen as names: what a hashed map or set answers of its keys is what its names answer.
-use Rattle.std.proofs.Common.{◌≡◌, ◌∙◌, ◌||◌, ◌+◌, ℕ, suc, Bool, true, false, cond, not, nat_lt, List, [], ◌∷◌, ◌++◌, length, map, Option, Some, None, refl, sym, ap}
+use Rattle.std.proofs.Common.{◌≡◌, ◌∙◌, ◌||◌, ◌+◌, ℕ, zero, suc, Bool, true, false, cond, not, nat_lt, List, [], ◌∷◌, ◌++◌, length, map, Option, Some, None, option_map, slice_get, refl, sym, ap}
 use Rattle.std.specs.List.{list_any, position, position_or_len}
 use Rattle.std.specs.Map.{lookup}
 use Rattle.indexmap.specs.IndexMap.{insert_entry}
@@ -48,6 +48,11 @@ module _ {K N V : Type 0} (f : K → N) where
   pub lookup_mapped : (p : N → Bool) (es : List (K × V)) → lookup (λ k. p (f k)) es ≡ lookup p (named es)
   lookup_mapped p [] = refl
   lookup_mapped p (e ∷ es) = ap (λ o. cond (p (f e.0)) (Some e.1) o) (lookup_mapped p es)
+
+  pub at_mapped : (es : List (K × V)) (i : ℕ) → option_map (λ e. (f e.0, e.1)) (slice_get es i) ≡ slice_get (named es) i
+  at_mapped [] i = refl
+  at_mapped (e ∷ es) zero = refl
+  at_mapped (e ∷ es) (suc i) = at_mapped es i
 
   entry_by : (b : Bool) (e : K × V) (v : V) (es more : List (K × V)) (o : Option V) (rest : List (N × V)) → cond b (Some e.1) o ≡ None → (o ≡ None → named more ≡ rest)
       → named (cond b ((e.0, v) ∷ es) (e ∷ more)) ≡ (f e.0, e.1) ∷ rest

@@ -1,12 +1,12 @@
 -- Words of the laws.
-use Rattle.std.specs.Prelude.{◌≡◌, ◌≢◌, ℕ, List, [], ◌∷◌, ◌++◌, length, false, true, None, Ok, Err, codes}
+use Rattle.std.specs.Prelude.{◌≡◌, ◌≢◌, ℕ, List, [], ◌∷◌, ◌++◌, length, map, false, true, None, Ok, Err, codes}
 use Rattle.bq_source.specs.declared.fault.Fault.{Fault}
 use Rattle.bq_schema.specs.declared.attribute.Attribute.{Attribute}
 use Rattle.bq_schema.specs.declared.attribute.AttributeType.{AttributeType}
 use Rattle.bq_schema.specs.declared.attribute.AttributeType.TheVariants as t
 use Rattle.bq_schema.specs.declared.line.Line.TheVariants as line
 use Rattle.bq_schema.specs.Line.{line_of}
-use Rattle.bq_schema.specs.Schema.{Rules, no_rules, after}
+use Rattle.bq_schema.specs.Schema.{Rules, Table, no_rules, has, after}
 use Rattle.bq_schema.specs.Reading.{lines, bad_line, declared_by, schema_of, standard_lines}
 
 -- the lines before this one declare rules, and it is a bad one after them
@@ -28,6 +28,27 @@ abbrev pub EachLineHasAForm : Type 0
 EachLineHasAForm =
     (text : List ℕ) (rules : Rules) (before : List (List ℕ)) (here : List ℕ) (behind : List (List ℕ)) → schema_of text ≡ Ok rules → lines text ≡ before ++ here ∷ behind
     → line_of here ≢ line.Other
+
+-- no name is there twice
+abbrev pub NoneTwice : List (List ℕ) → Type 0
+NoneTwice [] = Unit {0}
+NoneTwice (name ∷ names) = (has names name ≡ false) × NoneTwice names
+
+abbrev pub names_of : Table → List (List ℕ)
+names_of table = map (λ e. e.0) table
+
+abbrev pub EachNoneTwice : List Table → Type 0
+EachNoneTwice [] = Unit {0}
+EachNoneTwice (table ∷ tables) = NoneTwice (names_of table) × EachNoneTwice tables
+
+-- No two rules have one name, nor have two attributes of a rule. Each rule has its attributes.
+pub record AreRules (rules : Rules) : Type 0 where
+  pub rules_differ : NoneTwice rules.names
+  pub attributes_differ : EachNoneTwice rules.attributes
+  pub as_many : length rules.attributes ≡ length rules.names
+
+abbrev pub NamesDiffer : Type 0
+NamesDiffer = (text : List ℕ) (rules : Rules) → schema_of text ≡ Ok rules → AreRules rules
 
 -- an attribute without a rule before it is a bad line
 abbrev pub AttributesAreOfARule : Type 0

@@ -1,6 +1,6 @@
 //! The attributes of a rule by their names.
 
-ghost use Rattle.std.specs.Prelude.{◌≡◌, [], not, is_some, bytes_eq, IfOk, OnOk};
+ghost use Rattle.std.specs.Prelude.{◌≡◌, [], not, is_some, bytes_eq, option_map, slice_get, IfOk, OnOk};
 ghost use Rattle.std.specs.Map.{lookup};
 ghost use Rattle.bq_schema.specs.Schema.{has_attribute, with_attribute};
 
@@ -39,6 +39,16 @@ impl Attributes {
         ensures { result ≡ lookup (bytes_eq name.now) self.now }
     {
         self.entries.get(name).copied()
+    }
+
+    /// The attribute at a place in the order of declaration, with its name.
+    pub fn entry(&self, place: usize) -> Option<(&[u8], Attribute)>
+        ensures { option_map (λ e. (e.0.now, e.1)) result ≡ slice_get self.now place }
+    {
+        match self.entries.get_index(place) {
+            Some((name, attribute)) => Some((name.as_slice(), *attribute)),
+            None => None,
+        }
     }
 
     /// Adds an attribute as the last, and answers whether there was none of its name.

@@ -1,6 +1,6 @@
 //! What holds of schemas. The functions do nothing: their contracts are the laws.
 
-ghost use Rattle.bq_schema.specs.Laws.{FaultsNameTheFirstBadLine, EachLineHasAForm, AttributesAreOfARule, StandardLinesDeclareThem};
+ghost use Rattle.bq_schema.specs.Laws.{FaultsNameTheFirstBadLine, EachLineHasAForm, NamesDiffer, AttributesAreOfARule, StandardLinesDeclareThem};
 
 /// A text that is no schema has lines that are one, and then a bad line, which its fault names.
 pub fn faults_name_the_first_bad_line()
@@ -10,6 +10,11 @@ pub fn faults_name_the_first_bad_line()
 /// Each line of a schema is of one of the forms.
 pub fn each_line_has_a_form()
     ensures { EachLineHasAForm }
+{}
+
+/// No two rules of a schema have one name, nor have two attributes of a rule.
+pub fn names_differ()
+    ensures { NamesDiffer }
 {}
 
 /// Before any rule there is no attribute.

@@ -24,9 +24,8 @@ mod schema;
 pub use attribute::{Attribute, AttributeType, common_attribute, type_named};
 pub use attributes::Attributes;
 pub use laws::{
-    attributes_are_of_a_rule, each_line_has_a_form, faults_name_the_first_bad_line,
+    attributes_are_of_a_rule, each_line_has_a_form, faults_name_the_first_bad_line, names_differ,
     standard_lines_declare_them,
 };
-pub use line::{Line, line_of};
 pub use read::{read_schema, standard};
 pub use schema::{Schema, rule_names};
