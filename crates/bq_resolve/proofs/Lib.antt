@@ -2,3 +2,4 @@
 mod Places
 mod Layers
 mod Uses
+mod Examples

@@ -1,5 +1,5 @@
 -- The place of a name among names.
-use Rattle.std.proofs.Common.{◌≡◌, ◌<◌, ◌+◌, ℕ, suc, Bool, true, false, List, [], ◌∷◌, length, Option, Some, None, refl, sym, ◌∙◌, ap, cond, ◌||◌, not, nat_lt, bytes_eq, slice_get, arith}
+use Rattle.std.proofs.Common.{◌≡◌, ◌<◌, ◌+◌, ℕ, suc, Bool, true, false, List, [], ◌∷◌, length, Option, Some, None, is_some, refl, sym, ◌∙◌, ap, cond, ◌||◌, not, nat_lt, bytes_eq, slice_get, arith}
 use Rattle.std.specs.List.{position, position_or_len}
 use Rattle.std.specs.Option.{option_map}
 use Rattle.std.proofs.lemmas.Slice.Eq.{bytes_eq-Decides}
@@ -59,6 +59,17 @@ pub there : (name : Name) (names : List Name) → has names name ≡ true → (i
 unfolding place_among
 there name [] h = absurd (let no : ⊥ = cc in no)
 there name (x ∷ xs) h = there_by (bytes_eq name x) (has xs name) (place_among name xs) h (there name xs)
+
+has_place_by : (t rest : Bool) (o : Option ℕ) → is_some o ≡ rest → is_some (cond t (Some 0) (option_map suc o)) ≡ (t || rest)
+has_place_by true rest o h = refl
+has_place_by false rest None h = h
+has_place_by false rest (Some i) h = h
+
+-- what has a place is there, and nothing else
+pub has_place : (name : Name) (names : List Name) → is_some (place_among name names) ≡ has names name
+unfolding place_among
+has_place name [] = refl
+has_place name (x ∷ xs) = has_place_by (bytes_eq name x) (has xs name) (place_among name xs) (has_place name xs)
 
 -- ---- the place as a hashed set answers it
 

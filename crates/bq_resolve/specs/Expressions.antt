@@ -1,5 +1,5 @@
 -- What an expression resolves to, a case for each form, in the order of its text. `visit` resolves the expressions in it.
-use Rattle.std.specs.Prelude.{ℕ, zero, suc, List, [], ◌∷◌, ◌++◌, length, Bool, true, false, ◌||◌, ◌&&◌, Option, Some, None, Result, Ok, Err, bytes_eq, if◌then◌else◌}
+use Rattle.std.specs.Prelude.{ℕ, zero, suc, ◌+◌, List, [], ◌∷◌, length, Bool, true, false, ◌||◌, ◌&&◌, Option, Some, None, Result, Ok, Err, bytes_eq, if◌then◌else◌}
 use Rattle.bq_source.specs.declared.fault.Fault.{Fault}
 use Rattle.bq_source.specs.declared.fault.FaultKind.TheVariants as f
 use Rattle.bq_source.specs.Fault.{fault_at}
@@ -61,15 +61,15 @@ bind_in kind (block ∷ blocks) n = pure tt
 
 -- a block opens: its names get the next slots of the frame
 abbrev pub open_block : {A : Type 0} → List Name → (BlockParts → Visit A) → Visit A
-open_block names go = λ s. go (record { base = length s.slots; names = names }) (record s { slots = s.slots ++ names })
+open_block names go = λ s. go (record { base = s.slots; names = names }) (record s { slots = s.slots + length names })
 
-abbrev pub framed : List Name → Result (Code × Passed) Fault → Result (Code × Passed) Fault
+abbrev pub framed : ℕ → Result (Code × Passed) Fault → Result (Code × Passed) Fault
 framed slots (Err why) = Err why
-framed slots (Ok r) = Ok (c.Framed (length r.1.slots) r.0, record r.1 { slots = slots })
+framed slots (Ok r) = Ok (c.Framed r.1.slots r.0, record r.1 { slots = slots })
 
 -- outside functions a comprehension has a frame of its own
 abbrev pub in_frame : List BlockParts → Visit Code → Visit Code
-in_frame [] v = λ s. framed s.slots (v (record s { slots = [] }))
+in_frame [] v = λ s. framed s.slots (v (record s { slots = 0 }))
 in_frame (block ∷ blocks) v = v
 
 -- `native.name(arguments)`, and what is done to its result
@@ -89,19 +89,19 @@ abbrev pub is_unbound : Option Binding → Bool
 is_unbound None = true
 is_unbound (Some x) = false
 
-module _ (file : FileParts) (visit : List BlockParts → Expr → Visit Code) where
-  -- the use of a name: of the innermost block that holds it, else F20
-  unfoldable pub use_at : List BlockParts → Identifier → Visit Binding
-  use_at blocks n = given (fault_of f.UnknownName n) (use_of file blocks n.name)
+-- the use of a name: of the innermost block that holds it, else F20
+unfoldable pub use_at : FileParts → List BlockParts → Identifier → Visit Binding
+use_at file blocks n = given (fault_of f.UnknownName n) (use_of file blocks n.name)
 
+-- a name that is bound: its block holds it
+unfoldable pub name_target : FileParts → List BlockParts → Identifier → Visit CodeTarget
+name_target file blocks n = bind_in file.universe.kind blocks n >>= λ _. given (fault_of f.UnknownName n) (place_of (use_of file blocks n.name))
+
+module _ (file : FileParts) (visit : List BlockParts → Expr → Visit Code) where
   -- ---- targets
 
-  -- a name that is bound: its block holds it
-  unfoldable pub name_target : List BlockParts → Identifier → Visit CodeTarget
-  name_target blocks n = bind_in file.universe.kind blocks n >>= λ _. given (fault_of f.UnknownName n) (place_of (use_of file blocks n.name))
-
   abbrev pub target_by : (Target → Visit CodeTarget) → List BlockParts → TargetLayer → Visit CodeTarget
-  target_by inner blocks (Target-F.Target::Name n) = name_target blocks n
+  target_by inner blocks (Target-F.Target::Name n) = name_target file blocks n
   target_by inner blocks (Target-F.Target::Index x i) = visit blocks x >>= λ y. visit blocks i >>= λ j. pure (target.Index y j)
   target_by inner blocks (Target-F.Target::Tuple ts) = each inner [] ts >>= λ us. pure (target.Tuple us)
   target_by inner blocks (Target-F.Target::List ts) = each inner [] ts >>= λ us. pure (target.List us)
@@ -177,7 +177,7 @@ module _ (file : FileParts) (visit : List BlockParts → Expr → Visit Code) wh
   -- ---- expressions
 
   abbrev pub expr_by : List BlockParts → ExprLayer → Visit Code
-  expr_by blocks (Expr-F.Expr::Name n) = use_at blocks n >>= λ x. pure (c.Use x)
+  expr_by blocks (Expr-F.Expr::Name n) = use_at file blocks n >>= λ x. pure (c.Use x)
   expr_by blocks (Expr-F.Int i) = pure (c.Int i)
   expr_by blocks (Expr-F.String s) = pure (c.String s)
   expr_by blocks (Expr-F.Expr::List xs) = each (visit blocks) [] xs >>= λ ys. pure (c.List ys)

@@ -12,10 +12,10 @@ use Rattle.bq_resolve.specs.declared.code.FileStmt.{FileStmt}
 use Rattle.bq_resolve.specs.declared.code.FileStmt.TheVariants as s
 use Rattle.bq_resolve.specs.declared.code.Resolved.{Resolved}
 use Rattle.bq_resolve.specs.Universe.{UniverseParts}
-use Rattle.bq_resolve.specs.Names.{max_layers, function_names, global_names, loaded_names}
+use Rattle.bq_resolve.specs.Names.{function_names, global_names, loaded_names}
 use Rattle.bq_resolve.specs.Scope.{FileParts}
 use Rattle.bq_resolve.specs.Visit.{Passed, Visit, ◌>>=◌, pure, each, nothing_passed}
-use Rattle.bq_resolve.specs.Expressions.{name_target, expr_to}
+use Rattle.bq_resolve.specs.Expressions.{name_target}
 use Rattle.bq_resolve.specs.Statements.{misplaced, small_stmt, parameters, function}
 
 -- all names of a file, wherever in it they are bound: they shadow those that every file has in all of it
@@ -26,7 +26,7 @@ module _ (file : FileParts) where
   -- the name of a function is bound before its parameters are looked at
   unfoldable pub def_stmt : Identifier → List Parameter → List Stmt → Visit FileStmt
   def_stmt n ps body =
-      name_target file (expr_to max_layers file) [] n >>= λ t. parameters file [] [] [] ps
+      name_target file [] n >>= λ t. parameters file [] [] [] ps
       >>= λ r. function file n.name r.0 (function_names ps body) body >>= λ k. pure (s.Def (record { target = t; function = k; defaults = r.1 }))
 
   -- `if` and `for` stand in functions

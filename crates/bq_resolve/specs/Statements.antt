@@ -123,11 +123,11 @@ module _ (file : FileParts) where
   abbrev pub statements_in : List Name → List Stmt → Visit (List CodeStmt)
   statements_in names body = each (stmt_to max_layers (record { base = 0; names = names } ∷ []) false) [] body
 
-  abbrev pub with_function : Name → List CodeParameter → List Name → Result (List CodeStmt × Passed) Fault → Result (ℕ × Passed) Fault
+  abbrev pub with_function : Name → List CodeParameter → ℕ → Result (List CodeStmt × Passed) Fault → Result (ℕ × Passed) Fault
   with_function name ps slots (Err why) = Err why
   with_function name ps slots (Ok r) =
-      Ok (length r.1.functions, record r.1 { slots = slots; functions = r.1.functions ++ record { name = name; parameters = ps; slots = length r.1.slots; body = r.0 } ∷ [] })
+      Ok (length r.1.functions, record r.1 { slots = slots; functions = r.1.functions ++ record { name = name; parameters = ps; slots = r.1.slots; body = r.0 } ∷ [] })
 
   -- a function of the file, which has a frame of its own: its number
   unfoldable pub function : Name → List CodeParameter → List Name → List Stmt → Visit ℕ
-  function name ps names body p = with_function name ps p.slots (statements_in names body (record p { slots = names }))
+  function name ps names body p = with_function name ps p.slots (statements_in names body (record p { slots = length names }))

@@ -1,5 +1,5 @@
 -- A walk along a tree in the order of its text, which ends at the first fault.
-use Rattle.std.specs.Prelude.{List, [], ◌∷◌, ◌++◌, Option, Some, None, Result, Ok, Err}
+use Rattle.std.specs.Prelude.{ℕ, List, [], ◌∷◌, ◌++◌, Option, Some, None, Result, Ok, Err}
 use Rattle.bq_source.specs.declared.fault.Fault.{Fault}
 use Rattle.bq_source.specs.declared.fault.FaultKind.{FaultKind}
 use Rattle.bq_grammar.specs.declared.tree.Identifier.{Identifier}
@@ -9,8 +9,8 @@ use Rattle.bq_resolve.specs.Names.{Name}
 
 -- what was passed so far
 pub record Passed : Type 0 where
-  -- the names of the slots of the frame
-  pub slots : List Name
+  -- how many slots the frame has
+  pub slots : ℕ
   -- the names that the file bound
   pub bound : List Name
   -- the names of its load clauses
@@ -19,7 +19,7 @@ pub record Passed : Type 0 where
   pub loads : List LoadStmt
 
 abbrev pub nothing_passed : Passed
-nothing_passed = record { slots = []; bound = []; loaded = []; functions = []; loads = [] }
+nothing_passed = record { slots = 0; bound = []; loaded = []; functions = []; loads = [] }
 
 abbrev pub Visit : Type 0 → Type 0
 Visit A = Passed → Result (A × Passed) Fault

@@ -1,6 +1,7 @@
 //! What holds of scopes. The functions do nothing: their contracts are the laws.
 
 ghost use Rattle.bq_resolve.specs.Laws.{EachUseStandsForOne, HeldNamesAreLocal, NamesHaveSlots, BlocksHaveSlots};
+ghost use Rattle.bq_resolve.specs.Examples.{Examples};
 
 /// A use stands for one thing, that of the innermost block whose set holds its name.
 pub fn each_use_stands_for_one()
@@ -20,4 +21,9 @@ pub fn names_have_slots_of_their_own()
 /// Names of two blocks of a frame share no slot.
 pub fn blocks_have_slots_of_their_own()
     ensures { BlocksHaveSlots }
+{}
+
+/// Some files, resolved by hand.
+pub fn files_resolve_by_hand()
+    ensures { Examples }
 {}

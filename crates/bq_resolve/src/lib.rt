@@ -1,8 +1,9 @@
 //! Scopes: which binding each use of a name in a file stands for.
 //!
-//! So far the definition, its first laws, and the code of what blocks bind and of what a name stands for; the code that goes
-//! along a file comes next. The trees of `bq_grammar` come in; trees of the same shape go
-//! out, in which each use says where its value is (`code`), or the file's first fault, F20 to F24.
+//! So far the definition, its first laws, and the code of what blocks bind, of what a name stands for, of what is carried along
+//! (`walk`) and of the first rules of expressions (`rules`, `identifier`); the other rules come next. The trees of `bq_grammar`
+//! come in; trees of the same shape go out, in which each use says where its value is (`code`), or the file's first fault, F20 to
+//! F24.
 //!
 //! The idea. A *block* is what binds names: a function, a comprehension, the file. Which names a block binds is known before any
 //! use is looked at, since a name that is bound anywhere in a function or file is bound in all of it (`specs/Names.antt`). A use
@@ -18,10 +19,14 @@
 
 mod binding;
 mod code;
+mod identifier;
 mod laws;
 mod names;
+mod rules;
 mod scope;
+mod suffixes;
 mod universe;
+mod walk;
 
 pub use binding::{comprehension_names, function_names, global_names, loaded_names};
 pub use code::{
@@ -30,8 +35,8 @@ pub use code::{
     CodeTopLevel, FileStmt, LoadStmt, LoadedSymbol, Resolved,
 };
 pub use laws::{
-    blocks_have_slots_of_their_own, each_use_stands_for_one, held_names_are_local,
-    names_have_slots_of_their_own,
+    blocks_have_slots_of_their_own, each_use_stands_for_one, files_resolve_by_hand,
+    held_names_are_local, names_have_slots_of_their_own,
 };
 pub use names::Names;
 pub use scope::{Block, FileNames, inside};

@@ -98,6 +98,14 @@ impl Names {
         Ok(())
     }
 
+    /// The name is one of them.
+    #[tactic(auto, using(crate::proofs::Places::has_place))]
+    pub fn has(&self, name: &Bytes) -> Result<bool, AllocError>
+        ensures { IfOk result (λ there. there ≡ has self.now name.now) }
+    {
+        Ok(self.place(name)?.is_some())
+    }
+
     /// The place of a name.
     #[tactic(auto, using(crate::proofs::Places::place_position))]
     pub fn place(&self, name: &Bytes) -> Result<Option<usize>, AllocError>

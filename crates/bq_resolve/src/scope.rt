@@ -8,7 +8,7 @@ use crate::binding::{global_names, loaded_names};
 use crate::code::Binding;
 use crate::names::Names;
 use crate::universe::Universe;
-use bq_grammar::TopLevel;
+use bq_grammar::{FileKind, TopLevel};
 use bq_source::Bytes;
 use std::alloc::{AllocError, Global};
 use std::marker::Model;
@@ -123,6 +123,12 @@ impl FileNames {
             globals: global_names(alloc, statements)?,
             loaded: loaded_names(alloc, statements)?,
         })
+    }
+
+    pub fn kind(&self) -> FileKind
+        ensures { result ≡ self.now.universe.kind }
+    {
+        self.universe.kind()
     }
 
     /// What the name stands for outside all blocks.

@@ -42,6 +42,12 @@ impl Universe {
         Ok(Universe { kind, rules: names })
     }
 
+    pub fn kind(&self) -> FileKind
+        ensures { result ≡ self.now.kind }
+    {
+        self.kind
+    }
+
     /// The id of the rule of this name.
     fn rule(&self, name: &Bytes) -> Result<Option<u32>, AllocError>
         ensures { IfOk result (λ id. id ≡ rule_named self.now.rules name.now) }
