@@ -1,0 +1,166 @@
+-- What is wrong with the tree of a query: the first fault in the order of its text, at one place that of the least number; and the
+-- patterns that come before it, in order. A pattern that is no regular expression is a fault at its place (Q4).
+use Rattle.std.specs.Prelude.{ℕ, ◌+◌, ◌==◌, ◌&&◌, ◌||◌, nat_le, not, Bool, List, [], ◌∷◌, ◌++◌, length, Option, Some, None, is_some, Result, Ok, Err, bytes_eq, if◌then◌else◌, ◌≡◌, ◌≢◌}
+use Rattle.std.specs.List.{list_any, list_all}
+use Rattle.bq_label.specs.Label.{package_at}
+use Rattle.bq_label.specs.Reading.{label_of}
+use Rattle.bq_query.specs.declared.query_error.QueryErr.{QueryErr}
+use Rattle.bq_query.specs.declared.query_error.QueryErr.TheVariants as e
+use Rattle.bq_query.specs.declared.function.Function.{Function}
+use Rattle.bq_query.specs.declared.function.ArgumentKind.{ArgumentKind}
+use Rattle.bq_query.specs.declared.function.ArgumentKind.TheVariants as kind
+use Rattle.bq_query.specs.Functions.{function_named, is_left_out, arguments_of, takes_number}
+use Rattle.bq_query.specs.TargetPatterns.{begins_pattern}
+use Rattle.bq_query_tree.specs.declared.tree.Query.{Query, fold-Query}
+use Rattle.bq_query_tree.specs.declared.tree.Operation.{Operation, fold-Operation}
+use Rattle.bq_query_tree.specs.declared.tree.Query.TheOpen as tree
+use Rattle.bq_query_tree.specs.declared.tree.Query.TheOpen.{Query-F, Operation-F}
+
+-- nothing, or a fault
+abbrev pub Fault : Type 0
+Fault = Option QueryErr
+
+-- what a test ensures, out of memory aside
+abbrev pub Tells : Fault → Result (Unit {0}) QueryErr → Type 0
+Tells fault (Ok x) = fault ≡ None
+Tells fault (Err why) = why ≢ e.Memory → fault ≡ Some why
+
+-- ---- words and names
+
+-- a word as a target pattern
+abbrev pub word : List ℕ → Fault
+word w = if begins_pattern w then (if is_some (label_of (package_at [] []) w) then None else Some e.Arguments) else Some (e.LeftOut w)
+
+abbrev pub first_of : Fault → Fault → Fault
+first_of None g = g
+first_of (Some why) g = Some why
+
+abbrev pub words : List (List ℕ) → Fault
+words [] = None
+words (w ∷ ws) = first_of (word w) (words ws)
+
+-- the names are those that the lets around it bind
+abbrev pub variable : List (List ℕ) → List ℕ → Fault
+variable names name = if list_any (bytes_eq name) names then None else Some (e.UnboundVariable name)
+
+abbrev pub unknown : List ℕ → QueryErr
+unknown name = if is_left_out name then e.LeftOut name else e.UnknownFunction name
+
+abbrev pub fits : Function → ℕ → Bool
+fits f n = (n == length (arguments_of f)) || (takes_number f && (n == length (arguments_of f) + 1))
+
+abbrev pub function_by : Option Function → List ℕ → ℕ → Fault
+function_by None name n = Some (unknown name)
+function_by (Some f) name n = if fits f n then None else Some e.Arguments
+
+-- a function with so many arguments
+abbrev pub function : List ℕ → ℕ → Fault
+function name n = function_by (function_named name) name n
+
+abbrev pub is_digit : ℕ → Bool
+is_digit b = nat_le 48 b && nat_le b 57
+
+-- a number of edges: 1 to 9 digits
+abbrev pub is_number : List ℕ → Bool
+is_number w = not (length w == 0) && (nat_le (length w) 9 && list_all is_digit w)
+
+-- ---- trees
+
+-- the patterns found so far, and the first fault after them
+abbrev pub Judged : Type 0
+Judged = List (List ℕ) × Fault
+
+-- the first fault ends it
+infixl 10 ◌>>=◌
+abbrev pub ◌>>=◌ : Judged → (List (List ℕ) → Judged) → Judged
+(ps, None) >>= f = f ps
+(ps, Some why) >>= f = (ps, Some why)
+
+-- what a walk ensures of the patterns found so far, out of memory aside
+abbrev pub Says : Judged → Result (Unit {0}) QueryErr → List (List ℕ) → Type 0
+Says judged (Ok x) ps = judged ≡ (ps, None)
+Says judged (Err why) ps = why ≢ e.Memory → judged ≡ (ps, Some why)
+
+-- what is known of a part of a tree: the word that it is, if it is one; the faults at its first token; and what is wrong in all of it,
+-- where the lets around it bind these names and these patterns were found before it
+pub record Part : Type 0 where
+  pub word : Option (List ℕ)
+  pub at_first : List (List ℕ) → Fault
+  pub all : List (List ℕ) → List (List ℕ) → Judged
+
+-- an argument that has to be one word and is not: Q8 at its first token, where a lesser number is a fault of the token too
+abbrev pub no_word : Part → List (List ℕ) → Fault
+no_word x names = first_of (x.at_first names) (Some e.Arguments)
+
+abbrev pub pattern_by : Option (List ℕ) → Part → List (List ℕ) → List (List ℕ) → Judged
+pattern_by (Some w) x names ps = (ps ++ w ∷ [], None)
+pattern_by None x names ps = (ps, no_word x names)
+
+abbrev pub attribute_by : Option (List ℕ) → Part → List (List ℕ) → Fault
+attribute_by (Some w) x names = None
+attribute_by None x names = no_word x names
+
+abbrev pub number_by : Option (List ℕ) → Part → List (List ℕ) → Fault
+number_by (Some w) x names = if is_number w then None else Some e.Arguments
+number_by None x names = no_word x names
+
+-- an argument of a kind; a number of edges has none
+abbrev pub argument : Option ArgumentKind → Part → List (List ℕ) → List (List ℕ) → Judged
+argument (Some kind.Query) x names ps = x.all names ps
+argument (Some kind.Pattern) x names ps = pattern_by x.word x names ps
+argument (Some kind.Attribute) x names ps = (ps, attribute_by x.word x names)
+argument None x names ps = (ps, number_by x.word x names)
+
+abbrev pub first_kind : List ArgumentKind → Option ArgumentKind
+first_kind [] = None
+first_kind (k ∷ ks) = Some k
+
+abbrev pub other_kinds : List ArgumentKind → List ArgumentKind
+other_kinds [] = []
+other_kinds (k ∷ ks) = ks
+
+abbrev pub arguments : List ArgumentKind → List Part → List (List ℕ) → List (List ℕ) → Judged
+arguments ks [] names ps = (ps, None)
+arguments ks (x ∷ xs) names ps = argument (first_kind ks) x names ps >>= λ qs. arguments (other_kinds ks) xs names qs
+
+abbrev pub kinds_by : Option Function → List ArgumentKind
+kinds_by None = []
+kinds_by (Some f) = arguments_of f
+
+abbrev pub parts : List Part → List (List ℕ) → List (List ℕ) → Judged
+parts [] names ps = (ps, None)
+parts (x ∷ xs) names ps = x.all names ps >>= λ qs. parts xs names qs
+
+-- a part that is no word, with no fault at its first token
+abbrev pub larger : (List (List ℕ) → List (List ℕ) → Judged) → Part
+larger all = record { word = None; at_first = λ names. None; all = all }
+
+abbrev pub operation_step : Operation-F Part Part → Part
+operation_step o = o.operand
+
+abbrev pub query_step : Query-F Part Part → Part
+query_step (tree.Word w) = record { word = Some w; at_first = λ names. word w; all = λ names ps. (ps, word w) }
+query_step (tree.Variable n) = record { word = None; at_first = λ names. variable names n; all = λ names ps. (ps, variable names n) }
+query_step (tree.Parenthesized x) = larger x.all
+query_step (tree.Set ws) = larger (λ names ps. (ps, words ws))
+query_step (tree.Call f xs) = record {
+  word = None;
+  at_first = λ names. function f (length xs);
+  all = λ names ps. (ps, function f (length xs)) >>= λ qs. arguments (kinds_by (function_named f)) xs names qs;
+}
+query_step (tree.Let n x y) = larger (λ names ps. x.all names ps >>= λ qs. y.all (names ++ n ∷ []) qs)
+query_step (tree.Chain x os) = record {
+  word = None;
+  at_first = x.at_first;
+  all = λ names ps. x.all names ps >>= λ qs. parts os names qs;
+}
+
+abbrev pub part_of : Query → Part
+part_of = fold-Query Part Part query_step operation_step
+
+abbrev pub operation_part : Operation → Part
+operation_part = fold-Operation Part Part query_step operation_step
+
+-- a whole query: no name is bound, and no pattern is found
+abbrev pub verdict : Query → Judged
+verdict x = (part_of x).all [] []

@@ -1,0 +1,129 @@
+//! Words, variables and the names of functions, each by itself.
+
+ghost use Rattle.std.specs.Prelude.{◌≡◌, ◌++◌, [], ◌∷◌, IfOk, bytes_eq, is_some};
+ghost use Rattle.std.specs.List.{list_any, list_all};
+ghost use Rattle.bq_label.specs.Label.{package_at};
+ghost use Rattle.bq_label.specs.Reading.{label_of};
+ghost use Rattle.bq_query_verdict.specs.Verdict as spec;
+ghost use Rattle.bq_query_verdict.specs.Verdict.{Tells};
+
+use bq_label::{PackageId, read_label};
+use bq_query::{Function, QueryErr, begins_pattern, function_named, is_left_out};
+use bq_source::{Bytes, SourceErr};
+use std::alloc::{AllocError, Global};
+
+/// Whether the text reads as a label in the root package.
+fn is_label(alloc: Global, text: &[u8]) -> Result<bool, AllocError>
+    ensures { IfOk result (λ b. b ≡ is_some (label_of (package_at [] []) text.now)) }
+{
+    match read_label(alloc, text, &PackageId::root()) {
+        Ok(_) => Ok(true),
+        Err(SourceErr::Bad(_)) => Ok(false),
+        Err(SourceErr::Memory) => Err(AllocError),
+    }
+}
+
+/// A word as a target pattern: Q3 where it begins as none that can be answered, Q8 where it can't be read.
+pub fn word(alloc: Global, word: &Bytes) -> Result<(), QueryErr>
+    ensures { Tells (spec.word word.now) result }
+{
+    if !begins_pattern(word.as_slice()) {
+        return Err(QueryErr::LeftOut(word.share()?));
+    }
+    if !is_label(alloc, word.as_slice())? {
+        return Err(QueryErr::Arguments);
+    }
+    Ok(())
+}
+
+pub fn words(alloc: Global, mut rest: &[Bytes]) -> Result<(), QueryErr>
+    ensures { Tells (spec.words rest.now) result }
+{
+    while let [first, more @ ..] = rest {
+        word(alloc, first)?;
+        rest = more;
+    }
+    Ok(())
+}
+
+fn is_among(mut names: &[Bytes], name: &[u8]) -> bool
+    ensures { result ≡ list_any (bytes_eq name.now) names.now }
+{
+    while let [first, rest @ ..] = names {
+        if name == first.as_slice() {
+            return true;
+        }
+        names = rest;
+    }
+    false
+}
+
+/// Q7 where no `let` around it binds the variable.
+pub fn variable(names: &[Bytes], name: &Bytes) -> Result<(), QueryErr>
+    ensures { Tells (spec.variable names.now name.now) result }
+{
+    if is_among(names, name.as_slice()) {
+        return Ok(());
+    }
+    Err(QueryErr::UnboundVariable(name.share()?))
+}
+
+fn unknown(name: &Bytes) -> Result<QueryErr, AllocError>
+    ensures { IfOk result (λ e. e ≡ spec.unknown name.now) }
+{
+    if is_left_out(name.as_slice()) {
+        return Ok(QueryErr::LeftOut(name.share()?));
+    }
+    Ok(QueryErr::UnknownFunction(name.share()?))
+}
+
+fn fits(function: Function, count: usize) -> bool
+    ensures { result ≡ spec.fits function count }
+{
+    let wanted = function.arguments().len();
+    if count == wanted {
+        return true;
+    }
+    function.takes_number() && count == wanted + 1
+}
+
+/// Q2 or Q3 where the name is no function's that can be answered, Q8 where the number of its arguments is wrong.
+pub fn function(name: &Bytes, count: usize) -> Result<(), QueryErr>
+    ensures { Tells (spec.function name.now count) result }
+{
+    match function_named(name.as_slice()) {
+        Some(function) => {
+            if fits(function, count) {
+                Ok(())
+            } else {
+                Err(QueryErr::Arguments)
+            }
+        }
+        None => Err(unknown(name)?),
+    }
+}
+
+fn is_digit(b: u8) -> bool
+    ensures { result ≡ spec.is_digit b }
+{
+    b.is_ascii_digit()
+}
+
+fn are_digits(word: &[u8]) -> bool
+    ensures { result ≡ list_all spec.is_digit word.now }
+{
+    word.iter().all(|b| is_digit(*b))
+}
+
+/// 1 to 9 digits.
+pub fn is_number(word: &[u8]) -> bool
+    ensures { result ≡ spec.is_number word.now }
+{
+    if word.is_empty() {
+        return false;
+    }
+    if word.len() > 9 {
+        return false;
+    }
+    are_digits(word)
+}
