@@ -2,3 +2,4 @@ pub mod Keyed
 pub mod Lasts
 pub mod Lines
 pub mod Differ
+pub mod StandardRules

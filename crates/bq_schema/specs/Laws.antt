@@ -1,13 +1,11 @@
 -- Words of the laws.
-use Rattle.std.specs.Prelude.{◌≡◌, ◌≢◌, ℕ, List, [], ◌∷◌, ◌++◌, length, map, false, true, None, Ok, Err, codes}
+use Rattle.std.specs.Prelude.{◌≡◌, ◌≢◌, ℕ, List, [], ◌∷◌, ◌++◌, length, map, false, None, Ok, Err}
 use Rattle.bq_source.specs.declared.fault.Fault.{Fault}
 use Rattle.bq_schema.specs.declared.attribute.Attribute.{Attribute}
-use Rattle.bq_schema.specs.declared.attribute.AttributeType.{AttributeType}
-use Rattle.bq_schema.specs.declared.attribute.AttributeType.TheVariants as t
 use Rattle.bq_schema.specs.declared.line.Line.TheVariants as line
 use Rattle.bq_schema.specs.Line.{line_of}
 use Rattle.bq_schema.specs.Schema.{Rules, Table, no_rules, has, after}
-use Rattle.bq_schema.specs.Reading.{lines, bad_line, declared_by, schema_of, standard_lines}
+use Rattle.bq_schema.specs.Reading.{lines, bad_line, declared_by, schema_of}
 
 -- the lines before this one declare rules, and it is a bad one after them
 pub record IsFirstBad (text : List (List ℕ)) (fault : Fault) : Type 0 where
@@ -53,25 +51,3 @@ NamesDiffer = (text : List ℕ) (rules : Rules) → schema_of text ≡ Ok rules 
 -- an attribute without a rule before it is a bad line
 abbrev pub AttributesAreOfARule : Type 0
 AttributesAreOfARule = (rules : Rules) (name : List ℕ) (attribute : Attribute) → rules.attributes ≡ [] → after rules (line.Attribute name attribute) ≡ None
-
-abbrev optional : List ℕ → AttributeType → List ℕ × Attribute
-optional name kind = (name, record { kind = kind; is_mandatory = false })
-
-abbrev mandatory : List ℕ → AttributeType → List ℕ × Attribute
-mandatory name kind = (name, record { kind = kind; is_mandatory = true })
-
--- the rules of a workspace without a schema of its own
-abbrev pub standard_rules : Rules
-standard_rules = record {
-  names = codes "filegroup" ∷ codes "genrule" ∷ codes "alias" ∷ codes "test_suite" ∷ [];
-  attributes =
-      (optional (codes "srcs") t.LabelList ∷ optional (codes "data") t.LabelList ∷ optional (codes "output_group") t.String ∷ [])
-      ∷ (optional (codes "srcs") t.LabelList ∷ mandatory (codes "outs") t.OutputList ∷ optional (codes "cmd") t.String ∷ optional (codes "cmd_bash") t.String
-      ∷ optional (codes "cmd_bat") t.String ∷ optional (codes "cmd_ps") t.String ∷ optional (codes "output_to_bindir") t.Bool ∷ optional (codes "executable") t.Bool
-      ∷ optional (codes "local") t.Bool ∷ optional (codes "message") t.String ∷ optional (codes "tools") t.LabelList ∷ [])
-      ∷ (mandatory (codes "actual") t.Label ∷ [])
-      ∷ (optional (codes "tests") t.LabelList ∷ []) ∷ [];
-}
-
-abbrev pub StandardLinesDeclareThem : Type 0
-StandardLinesDeclareThem = declared_by no_rules 0 standard_lines ≡ Ok standard_rules

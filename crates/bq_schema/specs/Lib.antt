@@ -2,4 +2,5 @@ pub mod Attribute
 pub mod Line
 pub mod Schema
 pub mod Reading
+pub mod Standard
 pub mod Laws

@@ -1,5 +1,5 @@
 -- What the lines of a text declare (ours).
-use Rattle.std.specs.Prelude.{ℕ, ◌+◌, List, [], ◌∷◌, ◌==◌, Option, Some, None, Result, Ok, Err, codes, nat_lt, if◌then◌else◌}
+use Rattle.std.specs.Prelude.{ℕ, ◌+◌, List, [], ◌∷◌, ◌==◌, Option, Some, None, Result, Ok, Err, nat_lt, if◌then◌else◌}
 use Rattle.std.specs.List.{slice_split}
 use Rattle.bq_source.specs.Fault.{fault_at}
 use Rattle.bq_source.specs.declared.fault.Fault.{Fault}
@@ -30,13 +30,3 @@ declared_by rules before (line ∷ lines) = go_on (λ next. declared_by next (be
 -- the schema that the text is, or its fault
 unfoldable pub schema_of : List ℕ → Result Rules Fault
 schema_of text = declared_by no_rules 0 (lines text)
-
--- the schema of a workspace without a file of its own
-abbrev pub standard_lines : List (List ℕ)
-standard_lines =
-    codes "rule filegroup" ∷ codes "attr srcs label_list" ∷ codes "attr data label_list" ∷ codes "attr output_group string"
-    ∷ codes "rule genrule" ∷ codes "attr srcs label_list" ∷ codes "attr outs output_list mandatory" ∷ codes "attr cmd string"
-    ∷ codes "attr cmd_bash string" ∷ codes "attr cmd_bat string" ∷ codes "attr cmd_ps string" ∷ codes "attr output_to_bindir bool"
-    ∷ codes "attr executable bool" ∷ codes "attr local bool" ∷ codes "attr message string" ∷ codes "attr tools label_list"
-    ∷ codes "rule alias" ∷ codes "attr actual label mandatory"
-    ∷ codes "rule test_suite" ∷ codes "attr tests label_list" ∷ []

@@ -1,6 +1,6 @@
 //! What holds of schemas. The functions do nothing: their contracts are the laws.
 
-ghost use Rattle.bq_schema.specs.Laws.{FaultsNameTheFirstBadLine, EachLineHasAForm, NamesDiffer, AttributesAreOfARule, StandardLinesDeclareThem};
+ghost use Rattle.bq_schema.specs.Laws.{FaultsNameTheFirstBadLine, EachLineHasAForm, NamesDiffer, AttributesAreOfARule};
 
 /// A text that is no schema has lines that are one, and then a bad line, which its fault names.
 pub fn faults_name_the_first_bad_line()
@@ -20,9 +20,4 @@ pub fn names_differ()
 /// Before any rule there is no attribute.
 pub fn attributes_are_of_a_rule()
     ensures { AttributesAreOfARule }
-{}
-
-/// The rules of a workspace without a schema of its own.
-pub fn standard_lines_declare_them()
-    ensures { StandardLinesDeclareThem }
 {}

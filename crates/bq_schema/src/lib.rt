@@ -9,7 +9,8 @@
 //! - `line`: what one line of a schema says;
 //! - `names`, `attributes`: names with their places, and the attributes of a rule by their names;
 //! - `schema`: the rules declared so far, and what a further line makes of them;
-//! - `read`: the lines of a whole text, and the schema of a workspace that has none;
+//! - `read`: the lines of a whole text;
+//! - `standard`: the schema of a workspace without a file of its own;
 //! - `laws`: what holds of every schema, in words of its lines and names.
 #![tactic(auto)]
 
@@ -20,12 +21,12 @@ mod line;
 mod names;
 mod read;
 mod schema;
+mod standard;
 
 pub use attribute::{Attribute, AttributeType, common_attribute, type_named};
 pub use attributes::Attributes;
 pub use laws::{
     attributes_are_of_a_rule, each_line_has_a_form, faults_name_the_first_bad_line, names_differ,
-    standard_lines_declare_them,
 };
-pub use read::{read_schema, standard};
+pub use read::read_schema;
 pub use schema::{Schema, rule_names};

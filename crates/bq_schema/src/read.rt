@@ -1,4 +1,4 @@
-//! The lines of a whole text, and the schema of a workspace that has none of its own.
+//! The lines of a whole text.
 
 ghost use Rattle.std.specs.Prelude.{◌≡◌, ◌==◌, map, drop, IfOk, IfErr};
 ghost use Rattle.std.specs.List.{slice_split};
@@ -6,7 +6,7 @@ ghost use Rattle.bq_source.specs.Gives.{Gives};
 ghost use Rattle.bq_source.specs.declared.fault.SourceErr.TheVariants.{Bad, Memory};
 ghost use Rattle.bq_schema.specs.Schema.{no_rules, after};
 ghost use Rattle.bq_schema.specs.Line.{line_of};
-ghost use Rattle.bq_schema.specs.Reading.{lines, line_number, declared_by, schema_of, standard_lines};
+ghost use Rattle.bq_schema.specs.Reading.{lines, line_number, declared_by, schema_of};
 
 use crate::line::line_of;
 use crate::schema::Schema;
@@ -41,7 +41,7 @@ fn read_line(alloc: Global, schema: Schema, line: &[u8]) -> Result<Option<Schema
 
 /// What the lines declare.
 #[tactic(auto, unfolding(crate::specs::Reading::declared_by))]
-fn read_lines(alloc: Global, lines: &[&[u8]]) -> Result<Schema, SourceErr>
+pub(crate) fn read_lines(alloc: Global, lines: &[&[u8]]) -> Result<Schema, SourceErr>
     ensures { Gives (λ s. s) Bad result (declared_by no_rules 0 (map (λ l. l.now) lines.now)) }
 {
     let mut schema = Schema::empty(alloc);
@@ -65,35 +65,4 @@ pub fn read_schema(alloc: Global, text: &[u8]) -> Result<Schema, SourceErr>
 {
     let lines = lines(alloc, text)?;
     read_lines(alloc, &lines)
-}
-
-/// The schema of a workspace without a file of its own (ours: a part of Bazel's rules).
-const STANDARD: [&[u8]; 20] = [
-    b"rule filegroup",
-    b"attr srcs label_list",
-    b"attr data label_list",
-    b"attr output_group string",
-    b"rule genrule",
-    b"attr srcs label_list",
-    b"attr outs output_list mandatory",
-    b"attr cmd string",
-    b"attr cmd_bash string",
-    b"attr cmd_bat string",
-    b"attr cmd_ps string",
-    b"attr output_to_bindir bool",
-    b"attr executable bool",
-    b"attr local bool",
-    b"attr message string",
-    b"attr tools label_list",
-    b"rule alias",
-    b"attr actual label mandatory",
-    b"rule test_suite",
-    b"attr tests label_list",
-];
-
-/// The schema of a workspace without a file of its own.
-pub fn standard(alloc: Global) -> Result<Schema, SourceErr>
-    ensures { Gives (λ s. s) Bad result (declared_by no_rules 0 standard_lines) }
-{
-    read_lines(alloc, &STANDARD)
 }
