@@ -4,15 +4,15 @@ use Rattle.bq_source.specs.declared.fault.Fault.{Fault}
 use Rattle.bq_source.specs.declared.fault.FaultKind.{FaultKind}
 use Rattle.bq_source.specs.declared.fault.SourceErr.{SourceErr}
 use Rattle.bq_source.specs.declared.fault.SourceErr.TheVariants.{Bad}
+use Rattle.std.specs.Prelude.{IfOk}
 use Rattle.bq_source.specs.Gives.{Gives, GivesOneOf}
 use Rattle.bq_source.specs.declared.token.Token.{Token}
 use Rattle.bq_grammar.specs.Lexeme.{Lexeme, lexeme, lexemes}
 use Rattle.bq_grammar.specs.Parses.{Parses, verdict, first_and, all_read, statements_of}
 use Rattle.bq_grammar.specs.Pieces.{pieces}
-use Rattle.bq_grammar.specs.declared.tree.File.{File}
 use Rattle.bq_grammar.specs.declared.tree.FileKind.{FileKind}
 use Rattle.bq_grammar.specs.declared.tree.TopLevel.{TopLevel}
-use Rattle.bq_file.specs.Answers.{at_line, itself, statements_in}
+use Rattle.bq_file.specs.Answers.{at_line, itself, AreShallow}
 use Rattle.bq_file.specs.Pieces.{piece_len}
 use Rattle.bq_file.proofs.Cutting.{first_piece, some_taken}
 
@@ -91,7 +91,7 @@ module _ (kind : FileKind) (text : List ℕ) (rest piece further : List Token) w
     goes_on some parts x e = same ∙ resumed some parts found x (subst (λ us. at_line us (verdict kind us) ≡ Ok x) is e)
 
     pub ends : 0 < length rest → Parted → (err : SourceErr) → Gives itself Bad (Err err) (at_line first (verdict kind first))
-        → Gives statements_in Bad (Err err) whole
+        → Gives itself Bad (Err err) whole
     ends some parts err e = λ why named. same ∙ stopped some parts found why (subst (λ us. at_line us (verdict kind us) ≡ Err why) is (e why named))
 
 pub finished : (kind : FileKind) (text : List ℕ) (rest : List Token) (found : List TopLevel) → length rest ≡ 0
@@ -105,12 +105,18 @@ some_left text rest some = some_taken (lexemes text rest) (rw (as_many text rest
 
 -- ---- the answer, and what the tokens read as
 
-pub is_read : (kind : FileKind) (ts : List Lexeme) (answer : Result File SourceErr) → Gives statements_in Bad answer (statements_of kind ts)
-    → Parses kind ts (statements_of kind ts) → GivesOneOf statements_in Bad answer (Parses kind ts)
+pub is_read : (kind : FileKind) (ts : List Lexeme) (answer : Result (List TopLevel) SourceErr) → Gives itself Bad answer (statements_of kind ts)
+    → Parses kind ts (statements_of kind ts) → GivesOneOf itself Bad answer (Parses kind ts)
 is_read kind ts (Ok file) e reads = subst (Parses kind ts) e reads
 is_read kind ts (Err err) e reads = λ why same. subst (Parses kind ts) (e why same) reads
 
-pub is_given : (kind : FileKind) (ts : List Lexeme) (answer : Result File SourceErr) (r : Result (List TopLevel) Fault)
-    → Gives statements_in Bad answer (statements_of kind ts) → r ≡ statements_of kind ts → Gives statements_in Bad answer r
+pub is_given : (kind : FileKind) (ts : List Lexeme) (answer : Result (List TopLevel) SourceErr) (r : Result (List TopLevel) Fault)
+    → Gives itself Bad answer (statements_of kind ts) → r ≡ statements_of kind ts → Gives itself Bad answer r
 is_given kind ts (Ok file) r e same = same ∙ e
 is_given kind ts (Err err) r e same = λ why named. same ∙ e why named
+
+-- a file that is read has trees, and no tree of a file is deeper
+pub is_shallow : (kind : FileKind) (ts : List Lexeme) (answer : Result (List TopLevel) SourceErr) → Gives itself Bad answer (statements_of kind ts)
+    → Parses kind ts (statements_of kind ts) → ((xs : List TopLevel) → Parses kind ts (Ok xs) → AreShallow xs) → IfOk answer AreShallow
+is_shallow kind ts (Ok xs) e reads shallow = shallow xs (subst (Parses kind ts) e reads)
+is_shallow kind ts (Err err) e reads shallow = tt

@@ -1,11 +1,12 @@
 -- What the calls of this crate answer.
-use Rattle.std.specs.Prelude.{List, Result, Ok, Err}
+use Rattle.std.specs.Prelude.{◌≤◌, List, Result, Ok, Err}
+use Rattle.std.specs.List.{AllByRecursion}
 use Rattle.bq_source.specs.declared.fault.Fault.{Fault}
 use Rattle.bq_source.specs.declared.fault.FaultKind.{FaultKind}
 use Rattle.bq_source.specs.Fault.{fault_at}
 use Rattle.bq_grammar.specs.Lexeme.{Lexeme}
 use Rattle.bq_grammar.specs.Statements.{line_of}
-use Rattle.bq_grammar.specs.declared.tree.File.{File}
+use Rattle.bq_tree_laws.specs.Depth.{max_depth, stmt_depth}
 use Rattle.bq_grammar.specs.declared.tree.TopLevel.{TopLevel}
 
 -- a statement, or its fault at its first line
@@ -13,8 +14,9 @@ abbrev pub at_line : List Lexeme → Result TopLevel FaultKind → Result TopLev
 at_line ts (Ok x) = Ok x
 at_line ts (Err why) = Err (fault_at why (line_of ts))
 
-abbrev pub itself : TopLevel → TopLevel
+abbrev pub itself : {A : Type 0} → A → A
 itself x = x
 
-abbrev pub statements_in : File → List TopLevel
-statements_in file = file.statements
+-- none is deeper than the brackets and indents that may be open, times the levels of the grammar
+abbrev pub AreShallow : List TopLevel → Type 0
+AreShallow statements = AllByRecursion (λ x. stmt_depth x.statement ≤ max_depth) statements

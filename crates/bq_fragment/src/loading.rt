@@ -29,7 +29,7 @@ fn load_package(alloc: Global, packages: &Packages, build: &BuildFile) -> Result
 {
     let scope = Scope::new(alloc, &build.id, packages)?;
     let file = statements(alloc, build.file.content.as_slice())?;
-    let calls = resolve(alloc, file.statements.as_slice())?;
+    let calls = resolve(alloc, file.statements())?;
     targets(alloc, scope, build, &calls)
 }
 

@@ -5,12 +5,11 @@ ghost use Rattle.bq_source.specs.Gives.{Gives};
 ghost use Rattle.bq_source.specs.Reading.{Lexes};
 ghost use Rattle.bq_source.specs.declared.fault.SourceErr.TheVariants.{Bad};
 ghost use Rattle.bq_source.specs.Tokens.{tokens_of};
-ghost use Rattle.bq_file.specs.Answers.{statements_in};
 ghost use Rattle.bq_fragment.specs.Source.{statements_of};
-ghost use Rattle.bq_fragment.specs.Steps.{items};
+ghost use Rattle.bq_fragment.specs.Steps.{items, itself};
 
-use bq_file::parse;
-use bq_grammar::{File, FileKind};
+use bq_file::{File, parse};
+use bq_grammar::FileKind;
 use bq_source::{SourceErr, Token, lex};
 use std::alloc::Global;
 
@@ -24,7 +23,7 @@ fn tokens(alloc: Global, text: &[u8]) -> Result<Vec<Token>, SourceErr>
 /// The statements of a BUILD file, or its first fault.
 #[tactic(auto, unfolding(crate::specs::Source::statements_of))]
 pub fn statements(alloc: Global, text: &[u8]) -> Result<File, SourceErr>
-    ensures { Gives statements_in Bad result (statements_of text.now) }
+    ensures { Gives itself Bad result (statements_of text.now) }
 {
     let tokens = tokens(alloc, text)?;
     parse(alloc, &tokens, text, FileKind::Build)

@@ -168,12 +168,6 @@ pub enum Target {
     List(Items<Target>),
 }
 
-/// A file: its top-level statements, in the order in which they are written.
-#[derive(Drop)]
-pub struct File {
-    pub statements: Items<TopLevel>,
-}
-
 /// A top-level statement.
 #[derive(Drop)]
 pub struct TopLevel {

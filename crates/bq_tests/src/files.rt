@@ -203,7 +203,7 @@ fn statements(alloc: Global, text: &[u8], kind: FileKind) -> Result<String, Sour
     let tokens = lex(alloc, text)?;
     let file = parse(alloc, &tokens, text, kind)?;
     let mut out = String::new(alloc);
-    for top_level in file.statements.as_slice() {
+    for top_level in file.statements() {
         write!(out, " {}", top_level.line)?;
         write_statement(alloc, &mut out, &top_level.statement)?;
     }
