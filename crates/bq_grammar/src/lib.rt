@@ -36,7 +36,7 @@ pub use literals::is_identifier;
 pub use parameters::{AllowedParameters, ParameterKind};
 pub use refusal::Refusal;
 pub use tree::{
-    Argument, Branch, Choice, Clause, Comparison, Expr, FileKind, Identifier, Load,
-    LoadClause, Nested, Operation, Operator, Pair, Parameter, SmallKind, SmallStmt, Stmt, Suffix,
-    Target, TopLevel, UnaryOperator,
+    Argument, Branch, Choice, Clause, Comparison, Expr, FileKind, Identifier, Load, LoadClause,
+    Nested, Operation, Operator, Pair, Parameter, SmallKind, SmallStmt, Stmt, Suffix, Target,
+    TopLevel, UnaryOperator,
 };
