@@ -2,6 +2,11 @@
 use Rattle.std.proofs.Common.{◌≡◌, ◌-◌, ℕ, zero, suc, List, refl, arith}
 use Rattle.bq_grammar.specs.declared.tree.Stmt.{Stmt, out-Stmt}
 use Rattle.bq_grammar.specs.declared.tree.Target.{Target, out-Target}
+use Rattle.bq_grammar.specs.declared.tree.Expr.{Expr}
+use Rattle.bq_resolve.specs.declared.code.Code.{Code}
+use Rattle.bq_resolve.specs.Scope.{BlockParts, FileParts}
+use Rattle.bq_resolve.specs.Visit.{Passed, Visit}
+use Rattle.bq_resolve.specs.Expressions.{target_by, target_to}
 use Rattle.bq_resolve.specs.Names.{Name, with_target_by, with_target_to, with_stmt_by, with_stmt_to}
 
 pub target_layer : (depth : ℕ) (names : List Name) (t : Target) → (depth ≡ 0 → ⊥)
@@ -15,3 +20,9 @@ pub stmt_layer : (depth : ℕ) (names : List Name) (s : Stmt) → (depth ≡ 0 �
 unfolding with_stmt_to
 stmt_layer zero names s some = absurd (some refl)
 stmt_layer (suc depth) names s some = let e : suc depth - 1 ≡ depth = omega arith in rw e refl
+
+pub code_target_layer : (file : FileParts) (visit : List BlockParts → Expr → Visit Code) (layers : ℕ) (blocks : List BlockParts) (t : Target) (s : Passed) → (layers ≡ 0 → ⊥)
+    → target_to file visit layers blocks t s ≡ target_by file visit (target_to file visit (layers - 1) blocks) blocks (out-Target t) s
+unfolding target_to
+code_target_layer file visit zero blocks t s some = absurd (some refl)
+code_target_layer file visit (suc layers) blocks t s some = let e : suc layers - 1 ≡ layers = omega arith in rw e refl

@@ -25,6 +25,7 @@ mod names;
 mod rules;
 mod scope;
 mod suffixes;
+mod targets;
 mod universe;
 mod walk;
 
