@@ -1,0 +1,45 @@
+//! Division that rounds down (Starlark, "Arithmetic").
+
+ghost use Rattle.std.specs.Prelude.{◌≡◌};
+ghost use Rattle.bq_operators.specs.Division.{divided, remainder};
+
+use crate::integer::negate;
+use bq_source::FaultKind;
+
+/// `x // y`, which rounds down; F42 where `y` is 0.
+pub fn floor_divide(x: i64, y: i64) -> Result<i64, FaultKind>
+    ensures { result ≡ divided x y }
+{
+    if y == 0 {
+        return Err(FaultKind::DivZero);
+    }
+    if y > 0 {
+        return Ok(x.div_euclid(y));
+    }
+    if x > 0 {
+        return Ok((x - 1) / y - 1);
+    }
+    if y == -1 {
+        return negate(x);
+    }
+    Ok(x / y)
+}
+
+/// `x % y`, which has the sign of `y`; F42 where `y` is 0.
+pub fn modulo(x: i64, y: i64) -> Result<i64, FaultKind>
+    ensures { result ≡ remainder x y }
+{
+    if y == 0 {
+        return Err(FaultKind::DivZero);
+    }
+    if y > 0 {
+        return Ok(x.rem_euclid(y));
+    }
+    if x > 0 {
+        return Ok((x - 1) % y + y + 1);
+    }
+    if y == -1 {
+        return Ok(0);
+    }
+    Ok(x % y)
+}

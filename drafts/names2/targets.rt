@@ -1,0 +1,87 @@
+//! Targets of assignments and loops.
+
+ghost use Rattle.std.specs.Prelude.{[]};
+ghost use Rattle.bq_resolve.specs.Visit.{◌>>=◌, pure};
+ghost use Rattle.bq_resolve.specs.Visit as visit;
+ghost use Rattle.bq_resolve.specs.Expressions as spec;
+ghost use Rattle.bq_resolve.specs.Walks.{Walks, WalksNested};
+ghost use Rattle.bq_resolve.specs.declared.code.CodeTarget.TheVariants as code;
+
+use crate::code::{Code, CodeTarget};
+use crate::rules::Rules;
+use crate::scope::{Block, FileNames};
+use crate::identifier::name_target;
+use crate::walk::Walk;
+use bq_grammar::{Expr, Target};
+use bq_source::{Fault, FaultKind, SourceErr};
+use sqlite_items::{Boxed, Items};
+use std::alloc::Global;
+
+impl<F: Fn(Global, &FileNames, usize, &[Block], &mut Walk, &Expr) -> Result<Code, SourceErr>> Rules<F> {
+    /// `operand[index]`
+    fn index_target(
+        &self,
+        file: &FileNames,
+        blocks: &[Block],
+        walk: &mut Walk,
+        operand: &Expr,
+        index: &Expr,
+    ) -> Result<CodeTarget, SourceErr>
+        requires { WalksNested self.now.depth (F.pre self.now.visit) (F.post self.now.visit) }
+        ensures { Walks ((spec.expr_to self.now.depth file.now blocks.now operand.now >>= λ x. spec.expr_to self.now.depth file.now blocks.now index.now >>= λ i. pure (code.Index x i)) walk.old) result walk.new }
+    {
+        let operand = Boxed::new(self.alloc, self.expr(file, blocks, walk, operand)?)?;
+        let index = Boxed::new(self.alloc, self.expr(file, blocks, walk, index)?)?;
+        Ok(CodeTarget::Index(operand, index))
+    }
+
+    #[cycle(targets)]
+    fn targets_to(
+        &self,
+        file: &FileNames,
+        layers: usize,
+        blocks: &[Block],
+        walk: &mut Walk,
+        targets: &[Target],
+    ) -> Result<Items<CodeTarget>, SourceErr>
+        requires { WalksNested self.now.depth (F.pre self.now.visit) (F.post self.now.visit) }
+        ensures { Walks (visit.each (spec.target_to file.now (spec.expr_to self.now.depth file.now) layers blocks.now) [] targets.now walk.old) result walk.new }
+    {
+        let mut done = Items::new(self.alloc);
+        for target in targets {
+            done.push(self.target_to(file, layers, blocks, walk, target)?)?;
+        }
+        Ok(done)
+    }
+
+    /// A target that is no deeper than so many layers.
+    #[cycle(targets)]
+    #[tactic(auto, using(crate::proofs::Layers::code_target_layer), unfolding(crate::specs::Expressions::target_to, crate::specs::Visit::each))]
+    pub fn target_to(
+        &self,
+        file: &FileNames,
+        layers: usize,
+        blocks: &[Block],
+        walk: &mut Walk,
+        target: &Target,
+    ) -> Result<CodeTarget, SourceErr>
+        requires { WalksNested self.now.depth (F.pre self.now.visit) (F.post self.now.visit) }
+        ensures { Walks (spec.target_to file.now (spec.expr_to self.now.depth file.now) layers blocks.now target.now walk.old) result walk.new }
+    {
+        if layers == 0 {
+            return Err(SourceErr::Bad(Fault::at(FaultKind::Nesting, 0)));
+        }
+        match target {
+            Target::Name(name) => name_target(file, blocks, walk, name),
+            Target::Index(operand, index) => self.index_target(file, blocks, walk, operand.get(), index.get()),
+            Target::Tuple(targets) => {
+                let targets = self.targets_to(file, layers - 1, blocks, walk, targets.as_slice())?;
+                Ok(CodeTarget::Tuple(targets))
+            }
+            Target::List(targets) => {
+                let targets = self.targets_to(file, layers - 1, blocks, walk, targets.as_slice())?;
+                Ok(CodeTarget::List(targets))
+            }
+        }
+    }
+}
