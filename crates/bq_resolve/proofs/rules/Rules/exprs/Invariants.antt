@@ -1,7 +1,0 @@
-use Rattle.std.proofs.Common.{◌≡◌, [], drop}
-use Rattle.bq_resolve.specs.Visit.{each}
-use Rattle.bq_resolve.specs.Expressions.{expr_to}
-use Rattle.bq_resolve.proofs.rules.Rules.exprs.Given as goal
-
-abbrev pub invariant-loop-expr : goal.invariant-loop-expr
-invariant-loop-expr g l = each (expr_to l.self.depth l.file l.blocks) l.done (drop l.expr-index l.exprs) l.walk ≡ each (expr_to l.self.depth l.file l.blocks) [] l.exprs l.fn.walk

@@ -1,7 +1,0 @@
-use Rattle.std.proofs.Common.{◌≡◌, [], drop}
-use Rattle.bq_resolve.specs.Visit.{each}
-use Rattle.bq_resolve.specs.Expressions.{operation, expr_to}
-use Rattle.bq_resolve.proofs.rules.Rules.operations.Given as goal
-
-abbrev pub invariant-loop-operation : goal.invariant-loop-operation
-invariant-loop-operation g l = each (operation l.file (expr_to l.self.depth l.file) l.blocks) l.done (drop l.operation-index l.operations) l.walk ≡ each (operation l.file (expr_to l.self.depth l.file) l.blocks) [] l.operations l.fn.walk

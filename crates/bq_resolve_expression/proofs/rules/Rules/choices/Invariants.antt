@@ -1,0 +1,7 @@
+use Rattle.std.proofs.Common.{◌≡◌, [], drop}
+use Rattle.bq_scope.specs.Visit.{each}
+use Rattle.bq_scope.specs.Expressions.{choice, expr_to}
+use Rattle.bq_resolve_expression.proofs.rules.Rules.choices.Given as goal
+
+abbrev pub invariant-loop-choice : goal.invariant-loop-choice
+invariant-loop-choice g l = each (choice l.file (expr_to l.self.depth l.file) l.blocks) l.done (drop l.choice-index l.choices) l.walk ≡ each (choice l.file (expr_to l.self.depth l.file) l.blocks) [] l.choices l.fn.walk

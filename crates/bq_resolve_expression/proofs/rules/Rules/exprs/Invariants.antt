@@ -1,0 +1,7 @@
+use Rattle.std.proofs.Common.{◌≡◌, [], drop}
+use Rattle.bq_scope.specs.Visit.{each}
+use Rattle.bq_scope.specs.Expressions.{expr_to}
+use Rattle.bq_resolve_expression.proofs.rules.Rules.exprs.Given as goal
+
+abbrev pub invariant-loop-expr : goal.invariant-loop-expr
+invariant-loop-expr g l = each (expr_to l.self.depth l.file l.blocks) l.done (drop l.expr-index l.exprs) l.walk ≡ each (expr_to l.self.depth l.file l.blocks) [] l.exprs l.fn.walk

@@ -1,0 +1,91 @@
+//! Uses of names, and names that are bound.
+
+ghost use Rattle.std.specs.Prelude.{◌≡◌, IfOk};
+ghost use Rattle.bq_source.specs.declared.fault.Fault.{Fault};
+ghost use Rattle.bq_source.specs.declared.fault.SourceErr.TheVariants.{Bad};
+ghost use Rattle.bq_scope.specs.Visit.{Passed, fault_of};
+ghost use Rattle.bq_scope.specs.Expressions as spec;
+ghost use Rattle.bq_resolve_expression.specs.Walks.{Walks};
+
+use crate::walk::Walk;
+use bq_grammar::{FileKind, Identifier};
+use bq_scope::{Binding, Block, CodeTarget, FileNames};
+use bq_source::{Fault, FaultKind, SourceErr};
+use std::alloc::AllocError;
+
+/// A fault at a name.
+pub fn fault_of(kind: FaultKind, name: &Identifier) -> Result<Fault, AllocError>
+    ensures { IfOk result (λ f. f ≡ fault_of kind name.now) }
+{
+    Ok(Fault {
+        kind,
+        line: name.line,
+        detail: name.name.share()?,
+    })
+}
+
+/// The use of a name: of the innermost block that holds it, else F20.
+#[tactic(auto, unfolding(bq_scope::specs::Expressions::use_at))]
+pub fn use_at(file: &FileNames, blocks: &[Block], name: &Identifier) -> Result<Binding, SourceErr>
+    ensures { (s : Passed) → Walks (spec.use_at file.now blocks.now name.now s) result s }
+{
+    match file.use_of(blocks, &name.name)? {
+        Some(binding) => Ok(binding),
+        None => Err(SourceErr::Bad(fault_of(FaultKind::UnknownName, name)?)),
+    }
+}
+
+/// Where a name is bound.
+fn place_of(binding: Option<Binding>) -> Option<CodeTarget>
+    ensures { result ≡ spec.place_of binding }
+{
+    match binding {
+        Some(Binding::Local(slot)) => Some(CodeTarget::Local(slot)),
+        Some(Binding::Global(k)) => Some(CodeTarget::Global(k)),
+        _ => None,
+    }
+}
+
+/// Binds a name of the file, which in a .bzl file is not bound before.
+#[tactic(auto, unfolding(bq_scope::specs::Expressions::bind_global))]
+fn bind_global(kind: FileKind, walk: &mut Walk, name: &Identifier) -> Result<(), SourceErr>
+    ensures { Walks (spec.bind_global kind name.now walk.old) result walk.new }
+{
+    if walk.is_rebound(kind, &name.name)? {
+        return Err(SourceErr::Bad(fault_of(FaultKind::Rebound, name)?));
+    }
+    walk.bind(&name.name)?;
+    Ok(())
+}
+
+/// Binds a name: outside functions and comprehensions, where no block is round, it is the file's.
+fn bind_in(
+    kind: FileKind,
+    blocks: &[Block],
+    walk: &mut Walk,
+    name: &Identifier,
+) -> Result<(), SourceErr>
+    ensures { Walks (spec.bind_in kind blocks.now name.now walk.old) result walk.new }
+{
+    if blocks.is_empty() {
+        return bind_global(kind, walk, name);
+    }
+    Ok(())
+}
+
+/// A name that is bound: its block holds it.
+#[tactic(auto, unfolding(bq_scope::specs::Expressions::name_target))]
+pub fn name_target(
+    file: &FileNames,
+    blocks: &[Block],
+    walk: &mut Walk,
+    name: &Identifier,
+) -> Result<CodeTarget, SourceErr>
+    ensures { Walks (spec.name_target file.now blocks.now name.now walk.old) result walk.new }
+{
+    bind_in(file.kind(), blocks, walk, name)?;
+    match place_of(file.use_of(blocks, &name.name)?) {
+        Some(target) => Ok(target),
+        None => Err(SourceErr::Bad(fault_of(FaultKind::UnknownName, name)?)),
+    }
+}

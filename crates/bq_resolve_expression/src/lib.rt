@@ -1,0 +1,30 @@
+//! The trees of expressions and targets come in; trees in which each use of a name says where its value is go out, or the first
+//! fault in the order of the text, F20 or F21.
+//!
+//! The promise: each rule answers just what the definition of its name in `bq_scope` (`specs/Expressions.antt`) gives, out of memory
+//! aside. The head of `bq_scope` says what scopes are.
+//!
+//! What a contract sees: a [`Walk`] is what was passed so far (`Passed`): the slots of the frame, the names that the file bound and
+//! loaded, its functions and its loads. So a rule says in one line what it makes of `walk.old`, and that `walk.new` is what was
+//! passed then (`Walks`).
+//!
+//! Each rule over the expressions inside is a method of [`Rules`], which holds the resolver of these, so that each is proved by
+//! itself.
+//!
+//! In reading order:
+//!
+//! - `walk`: what is carried along a file;
+//! - `identifier`: uses of names, and names that are bound;
+//! - `rules`: the resolver of what stands inside, and lists of it;
+//! - `suffixes`, `targets`: the rules.
+#![tactic(auto)]
+
+mod identifier;
+mod rules;
+mod suffixes;
+mod targets;
+mod walk;
+
+pub use identifier::{fault_of, name_target, use_at};
+pub use rules::Rules;
+pub use walk::Walk;

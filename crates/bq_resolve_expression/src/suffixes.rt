@@ -1,0 +1,148 @@
+//! Operands, and what is done to them.
+
+ghost use Rattle.bq_grammar.specs.declared.tree.Argument.{out-Argument};
+ghost use Rattle.bq_grammar.specs.declared.tree.Argument.TheOpen.{Suffix-F};
+ghost use Rattle.bq_grammar.specs.declared.tree.Suffix.{out-Suffix};
+ghost use Rattle.bq_scope.specs.Visit as visit;
+ghost use Rattle.bq_scope.specs.Expressions as spec;
+ghost use Rattle.bq_resolve_expression.specs.Walks.{Walks, WalksNested};
+
+use crate::rules::Rules;
+use crate::walk::Walk;
+use bq_grammar::{Argument, Expr, Suffix};
+use bq_scope::{Block, Code, CodeArgument, CodeSuffix, FileNames};
+use bq_source::SourceErr;
+use sqlite_items::{Boxed, Items};
+use std::alloc::Global;
+
+impl<F: Fn(Global, &FileNames, usize, &[Block], &mut Walk, &Expr) -> Result<Code, SourceErr>> Rules<
+    F,
+> {
+    fn argument(
+        &self,
+        file: &FileNames,
+        blocks: &[Block],
+        walk: &mut Walk,
+        argument: &Argument,
+    ) -> Result<CodeArgument, SourceErr>
+        requires { WalksNested self.now.depth (F.pre self.now.visit) (F.post self.now.visit) }
+        ensures { Walks (spec.argument_by file.now (spec.expr_to self.now.depth file.now) blocks.now (out-Argument argument.now) walk.old) result walk.new }
+    {
+        match argument {
+            Argument::Positional(value) => {
+                Ok(CodeArgument::Positional(self.expr(file, blocks, walk, value)?))
+            }
+            Argument::Named(name, value) => {
+                let value = self.expr(file, blocks, walk, value)?;
+                Ok(CodeArgument::Named(name.share()?, value))
+            }
+            Argument::Star(value) => Ok(CodeArgument::Star(self.expr(file, blocks, walk, value)?)),
+            Argument::StarStar(value) => {
+                Ok(CodeArgument::StarStar(self.expr(file, blocks, walk, value)?))
+            }
+        }
+    }
+
+    #[tactic(auto, unfolding(bq_scope::specs::Expressions::arguments, bq_scope::specs::Visit::each))]
+    pub fn arguments(
+        &self,
+        file: &FileNames,
+        blocks: &[Block],
+        walk: &mut Walk,
+        arguments: &[Argument],
+    ) -> Result<Items<CodeArgument>, SourceErr>
+        requires { WalksNested self.now.depth (F.pre self.now.visit) (F.post self.now.visit) }
+        ensures { Walks (spec.arguments file.now (spec.expr_to self.now.depth file.now) blocks.now arguments.now walk.old) result walk.new }
+    {
+        let mut done = Items::new(self.alloc);
+        for argument in arguments {
+            done.push(self.argument(file, blocks, walk, argument)?)?;
+        }
+        Ok(done)
+    }
+
+    fn optional(
+        &self,
+        file: &FileNames,
+        blocks: &[Block],
+        walk: &mut Walk,
+        part: &Option<Boxed<Expr>>,
+    ) -> Result<Option<Boxed<Code>>, SourceErr>
+        requires { WalksNested self.now.depth (F.pre self.now.visit) (F.post self.now.visit) }
+        ensures { Walks (visit.optional (spec.expr_to self.now.depth file.now blocks.now) part.now walk.old) result walk.new }
+    {
+        match part {
+            None => Ok(None),
+            Some(part) => {
+                let part = self.expr(file, blocks, walk, part.get())?;
+                Ok(Some(Boxed::new(self.alloc, part)?))
+            }
+        }
+    }
+
+    /// `[start:stop:step]`
+    fn slice(
+        &self,
+        file: &FileNames,
+        blocks: &[Block],
+        walk: &mut Walk,
+        start: &Option<Boxed<Expr>>,
+        stop: &Option<Boxed<Expr>>,
+        step: &Option<Boxed<Expr>>,
+    ) -> Result<CodeSuffix, SourceErr>
+        requires { WalksNested self.now.depth (F.pre self.now.visit) (F.post self.now.visit) }
+        ensures { Walks (spec.suffix_by file.now (spec.expr_to self.now.depth file.now) blocks.now (Suffix-F.Slice start.now stop.now step.now) walk.old) result walk.new }
+    {
+        let start = self.optional(file, blocks, walk, start)?;
+        let stop = self.optional(file, blocks, walk, stop)?;
+        let step = self.optional(file, blocks, walk, step)?;
+        Ok(CodeSuffix::Slice(start, stop, step))
+    }
+
+    fn suffix(
+        &self,
+        file: &FileNames,
+        blocks: &[Block],
+        walk: &mut Walk,
+        suffix: &Suffix,
+    ) -> Result<CodeSuffix, SourceErr>
+        requires { WalksNested self.now.depth (F.pre self.now.visit) (F.post self.now.visit) }
+        ensures { Walks (spec.suffix_by file.now (spec.expr_to self.now.depth file.now) blocks.now (out-Suffix suffix.now) walk.old) result walk.new }
+    {
+        match suffix {
+            Suffix::Call(arguments) => {
+                let arguments = self.arguments(file, blocks, walk, arguments.as_slice())?;
+                Ok(CodeSuffix::Call(arguments))
+            }
+            Suffix::Method(method, arguments) => {
+                let arguments = self.arguments(file, blocks, walk, arguments.as_slice())?;
+                Ok(CodeSuffix::Method(method.name.share()?, arguments))
+            }
+            Suffix::Attribute(name) => Ok(CodeSuffix::Attribute(name.name.share()?)),
+            Suffix::Index(index) => {
+                let index = self.expr(file, blocks, walk, index.get())?;
+                Ok(CodeSuffix::Index(Boxed::new(self.alloc, index)?))
+            }
+            Suffix::Slice(start, stop, step) => self.slice(file, blocks, walk, start, stop, step),
+        }
+    }
+
+    /// The suffixes done, and all of these.
+    #[tactic(auto, unfolding(bq_scope::specs::Expressions::suffixes, bq_scope::specs::Visit::each))]
+    pub fn suffixes(
+        &self,
+        file: &FileNames,
+        blocks: &[Block],
+        walk: &mut Walk,
+        mut done: Items<CodeSuffix>,
+        suffixes: &[Suffix],
+    ) -> Result<Items<CodeSuffix>, SourceErr>
+        requires { WalksNested self.now.depth (F.pre self.now.visit) (F.post self.now.visit) }
+        ensures { Walks (spec.suffixes file.now (spec.expr_to self.now.depth file.now) blocks.now done suffixes.now walk.old) result walk.new }
+    {
+        for suffix in suffixes {
+            done.push(self.suffix(file, blocks, walk, suffix)?)?;
+        }
+        Ok(done)
+    }
+}

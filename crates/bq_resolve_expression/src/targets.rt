@@ -1,0 +1,75 @@
+//! Targets of assignments and loops.
+
+ghost use Rattle.std.specs.Prelude.{[]};
+ghost use Rattle.bq_scope.specs.Visit as visit;
+ghost use Rattle.bq_scope.specs.Expressions as spec;
+ghost use Rattle.bq_resolve_expression.specs.Walks.{Walks, WalksNested};
+
+use crate::identifier::name_target;
+use crate::rules::Rules;
+use crate::walk::Walk;
+use bq_grammar::{Expr, Target};
+use bq_scope::{Block, Code, CodeTarget, FileNames};
+use bq_source::{Fault, FaultKind, SourceErr};
+use sqlite_items::{Boxed, Items};
+use std::alloc::Global;
+
+impl<F: Fn(Global, &FileNames, usize, &[Block], &mut Walk, &Expr) -> Result<Code, SourceErr>> Rules<
+    F,
+> {
+    #[cycle(targets)]
+    #[tactic(auto, unfolding(bq_scope::specs::Visit::each))]
+    fn targets_to(
+        &self,
+        file: &FileNames,
+        layers: usize,
+        blocks: &[Block],
+        walk: &mut Walk,
+        targets: &[Target],
+    ) -> Result<Items<CodeTarget>, SourceErr>
+        requires { WalksNested self.now.depth (F.pre self.now.visit) (F.post self.now.visit) }
+        ensures { Walks (visit.each (spec.target_to file.now (spec.expr_to self.now.depth file.now) layers blocks.now) [] targets.now walk.old) result walk.new }
+    {
+        let mut done = Items::new(self.alloc);
+        for target in targets {
+            done.push(self.target_to(file, layers, blocks, walk, target)?)?;
+        }
+        Ok(done)
+    }
+
+    /// A target that is no deeper than so many layers.
+    #[cycle(targets)]
+    #[tactic(auto, using(crate::proofs::Layers::code_target_layer), unfolding(bq_scope::specs::Expressions::target_to))]
+    pub fn target_to(
+        &self,
+        file: &FileNames,
+        layers: usize,
+        blocks: &[Block],
+        walk: &mut Walk,
+        target: &Target,
+    ) -> Result<CodeTarget, SourceErr>
+        requires { WalksNested self.now.depth (F.pre self.now.visit) (F.post self.now.visit) }
+        ensures { Walks (spec.target_to file.now (spec.expr_to self.now.depth file.now) layers blocks.now target.now walk.old) result walk.new }
+    {
+        if layers == 0 {
+            return Err(SourceErr::Bad(Fault::at(FaultKind::Nesting, 0)));
+        }
+        match target {
+            Target::Name(name) => name_target(file, blocks, walk, name),
+            Target::Index(operand, index) => {
+                let operand = self.expr(file, blocks, walk, operand.get())?;
+                let operand = Boxed::new(self.alloc, operand)?;
+                let index = self.expr(file, blocks, walk, index.get())?;
+                Ok(CodeTarget::Index(operand, Boxed::new(self.alloc, index)?))
+            }
+            Target::Tuple(targets) => {
+                let targets = self.targets_to(file, layers - 1, blocks, walk, targets.as_slice())?;
+                Ok(CodeTarget::Tuple(targets))
+            }
+            Target::List(targets) => {
+                let targets = self.targets_to(file, layers - 1, blocks, walk, targets.as_slice())?;
+                Ok(CodeTarget::List(targets))
+            }
+        }
+    }
+}

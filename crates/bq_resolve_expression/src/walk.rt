@@ -1,0 +1,84 @@
+//! What is carried along a file.
+
+ghost use Rattle.std.specs.Prelude.{◌≡◌, ◌+◌, ◌∷◌, ◌&&◌, ◌||◌, length, IfOk, OnOk};
+ghost use Rattle.bq_scope.specs.Names.{has, with_name};
+ghost use Rattle.bq_scope.specs.Expressions.{is_bzl};
+
+use bq_grammar::FileKind;
+use bq_scope::{Block, CodeFunction, LoadStmt, Names, inside};
+use bq_source::Bytes;
+use sqlite_items::Items;
+use std::alloc::{AllocError, Global};
+use std::marker::Model;
+
+/// What was passed so far.
+#[derive(Drop)]
+pub struct Walk {
+    /// How many slots the frame has.
+    slots: usize,
+    bound: Names,
+    loaded: Names,
+    functions: Items<CodeFunction>,
+    loads: Items<LoadStmt>,
+}
+
+impl Model for Walk {
+    ghost use Rattle.bq_scope.specs.Visit.{Passed};
+    ghost use Rattle.bq_scope.specs.contracts.code.CodeStmt as block;
+    ghost use Rattle.std.specs.Coded.{codes};
+
+    ghost Value = { Passed };
+
+    ghost coded = { Prim.hlevel (codes, block.the_row.coded) };
+
+    ghost view = { λ w. record { slots = w.slots; bound = w.bound; loaded = w.loaded; functions = w.functions; loads = w.loads } };
+}
+
+impl Walk {
+    /// The frame has so many slots from here on; how many it had.
+    pub fn frame(&mut self, slots: usize) -> usize
+        ensures had { result ≡ self.old.slots }
+        ensures has { self.new ≡ record self.old { slots = slots } }
+    {
+        let had = self.slots;
+        self.slots = slots;
+        had
+    }
+
+    /// The name is bound in a .bzl file.
+    pub fn is_rebound(&self, kind: FileKind, name: &Bytes) -> Result<bool, AllocError>
+        ensures { IfOk result (λ b. b ≡ (is_bzl kind && (has self.now.bound name.now || has self.now.loaded name.now))) }
+    {
+        match kind {
+            FileKind::Build => Ok(false),
+            FileKind::Bzl => Ok(self.bound.has(name)? || self.loaded.has(name)?),
+        }
+    }
+
+    /// Adds a name that the file binds.
+    pub fn bind(&mut self, name: &Bytes) -> Result<(), AllocError>
+        ensures { OnOk result (self.new ≡ record self.old { bound = with_name self.old.bound name.now }) }
+    {
+        self.bound.add(name)
+    }
+
+    /// Opens a block, whose names get the next slots: these blocks, and it inside them.
+    pub fn open(
+        &mut self,
+        alloc: Global,
+        names: Names,
+        blocks: &[Block],
+    ) -> Result<Vec<Block>, AllocError>
+        ensures blocks { IfOk result (λ all. all.items ≡ record { base = self.old.slots; names = names } ∷ blocks.now) }
+        ensures slots { OnOk result (self.new ≡ record self.old { slots = self.old.slots + length names }) }
+    {
+        let base = self.slots;
+        // No frame has so many slots: their names would not fit into memory.
+        let Some(slots) = base.checked_add(names.len()) else {
+            return Err(AllocError);
+        };
+        self.slots = slots;
+        let block = Block::new(alloc, base, names)?;
+        inside(alloc, block, blocks)
+    }
+}
