@@ -72,7 +72,7 @@ abbrev pub in_frame : List BlockParts → Visit Code → Visit Code
 in_frame [] v = λ s. framed s.slots (v (record s { slots = 0 }))
 in_frame (block ∷ blocks) v = v
 
--- `native.name(arguments)`, and what is done to its result
+-- `.name(arguments)` after `native`, and what is done to its result
 abbrev pub native_by : SuffixLayer → List Suffix → Option (Identifier × List Argument × List Suffix)
 native_by (Suffix-F.Method m xs) ss = Some (m, xs, ss)
 native_by _ ss = None
@@ -88,6 +88,11 @@ native_call false ss = None
 abbrev pub is_unbound : Option Binding → Bool
 is_unbound None = true
 is_unbound (Some x) = false
+
+-- `native` of a .bzl file that binds no such name
+abbrev pub is_native : FileParts → List BlockParts → ExprLayer → Bool
+is_native file blocks (Expr-F.Expr::Name n) = is_bzl file.universe.kind && (bytes_eq n.name native && is_unbound (use_of file blocks n.name))
+is_native file blocks _ = false
 
 -- the use of a name: of the innermost block that holds it, else F20
 unfoldable pub use_at : FileParts → List BlockParts → Identifier → Visit Binding
@@ -144,19 +149,21 @@ module _ (file : FileParts) (visit : List BlockParts → Expr → Visit Code) wh
   unfoldable pub suffixes : List BlockParts → List CodeSuffix → List Suffix → Visit (List CodeSuffix)
   suffixes blocks done ss = each (λ s. suffix_by blocks (out-Suffix s)) done ss
 
-  -- In a .bzl file that binds no such name, `native.name(..)` is the build function or rule `name`, else F20 at `name`.
-  abbrev pub is_native : List BlockParts → ExprLayer → Bool
-  is_native blocks (Expr-F.Expr::Name n) = is_bzl file.universe.kind && (bytes_eq n.name native && is_unbound (use_of file blocks n.name))
-  is_native blocks _ = false
+  unfoldable pub operand : List BlockParts → Expr → List Suffix → Visit Code
+  operand blocks x ss = visit blocks x >>= λ y. suffixes blocks [] ss >>= λ ts. pure (c.Primary y ts)
+
+  -- `native.name(arguments)` is the build function or rule `name`, else F20 at `name`
+  unfoldable pub host_call : List BlockParts → Identifier → List Argument → List Suffix → Visit Code
+  host_call blocks m xs ss =
+      given (fault_of f.UnknownName m) (host_named file.universe.rules m.name) >>= λ id. arguments blocks xs
+      >>= λ ys. suffixes blocks (suffix.Call ys ∷ []) ss >>= λ ts. pure (c.Primary (c.Native id) ts)
 
   abbrev pub primary_by : List BlockParts → Expr → List Suffix → Option (Identifier × List Argument × List Suffix) → Visit Code
-  primary_by blocks x ss None = visit blocks x >>= λ y. suffixes blocks [] ss >>= λ ts. pure (c.Primary y ts)
-  primary_by blocks x ss (Some (m, xs, rest)) =
-      given (fault_of f.UnknownName m) (host_named file.universe.rules m.name) >>= λ id. arguments blocks xs
-      >>= λ ys. suffixes blocks (suffix.Call ys ∷ []) rest >>= λ ts. pure (c.Primary (c.Native id) ts)
+  primary_by blocks x ss None = operand blocks x ss
+  primary_by blocks x ss (Some (m, xs, rest)) = host_call blocks m xs rest
 
   unfoldable pub primary : List BlockParts → Expr → List Suffix → Visit Code
-  primary blocks x ss = primary_by blocks x ss (native_call (is_native blocks (out-Expr x)) ss)
+  primary blocks x ss = primary_by blocks x ss (native_call (is_native file blocks (out-Expr x)) ss)
 
   -- ---- comprehensions: an iterable is resolved among `round`, all else among `blocks`
 
@@ -169,10 +176,13 @@ module _ (file : FileParts) (visit : List BlockParts → Expr → Visit Code) wh
   clauses round blocks [] = pure []
   clauses round blocks (x ∷ xs) = clause_by round blocks (out-Clause x) >>= λ y. each (λ z. clause_by blocks blocks (out-Clause z)) (y ∷ []) xs
 
-  -- the element stands before the clauses, and inside
+  -- in the frame that is open: the element stands before the clauses, and inside
+  unfoldable pub in_block : {A : Type 0} → (List BlockParts → Visit A) → (A → List CodeClause → Code) → List BlockParts → List Clause → Visit Code
+  in_block element make blocks xs =
+      open_block (comprehension_names xs) (λ block. element (block ∷ blocks) >>= λ x. clauses blocks (block ∷ blocks) xs >>= λ ys. pure (make x ys))
+
   unfoldable pub comprehension : {A : Type 0} → (List BlockParts → Visit A) → (A → List CodeClause → Code) → List BlockParts → List Clause → Visit Code
-  comprehension element make blocks xs =
-      in_frame blocks (open_block (comprehension_names xs) (λ block. element (block ∷ blocks) >>= λ x. clauses blocks (block ∷ blocks) xs >>= λ ys. pure (make x ys)))
+  comprehension element make blocks xs = in_frame blocks (in_block element make blocks xs)
 
   -- ---- expressions
 

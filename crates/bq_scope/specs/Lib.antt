@@ -4,7 +4,6 @@ pub mod Universe
 pub mod Scope
 pub mod Visit
 pub mod Expressions
-pub mod Walks
 pub mod Statements
 pub mod Files
 pub mod Laws

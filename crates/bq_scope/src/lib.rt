@@ -32,7 +32,7 @@ mod names;
 mod scope;
 mod universe;
 
-pub use binding::{comprehension_names, function_names, global_names, loaded_names};
+pub use binding::{MAX_LAYERS, comprehension_names, function_names, global_names, loaded_names};
 pub use code::{
     Binding, Code, CodeArgument, CodeBranch, CodeChoice, CodeClause, CodeDef, CodeFunction,
     CodeOperation, CodePair, CodeParameter, CodeSmall, CodeStmt, CodeSuffix, CodeTarget,

@@ -3,6 +3,7 @@
 ghost use Rattle.std.specs.Prelude.{◌≡◌, ◌+◌, ◌<◌, ◌^◌, ◌∷◌, length, IfOk};
 ghost use Rattle.bq_scope.specs.Scope.{slot_in, slot_of, file_has, use_of};
 ghost use Rattle.bq_scope.specs.Files.{file_names};
+ghost use Rattle.bq_scope.specs.Universe.{host_named};
 
 use crate::binding::{global_names, loaded_names};
 use crate::code::Binding;
@@ -129,6 +130,13 @@ impl FileNames {
         ensures { result ≡ self.now.universe.kind }
     {
         self.universe.kind()
+    }
+
+    /// The id of the build function or rule of this name: of `native.NAME`, in a .bzl file.
+    pub fn host(&self, name: &Bytes) -> Result<Option<u32>, AllocError>
+        ensures { IfOk result (λ id. id ≡ host_named self.now.universe.rules name.now) }
+    {
+        self.universe.host(name)
     }
 
     /// What the name stands for outside all blocks.
