@@ -1,14 +1,20 @@
 -- One layer of a tree, where more than none are looked at.
-use Rattle.std.proofs.Common.{◌≡◌, ◌-◌, ℕ, zero, suc, List, refl, arith}
+use Rattle.std.proofs.Common.{◌≡◌, ◌-◌, ◌<◌, ℕ, zero, suc, List, refl, arith}
 use Rattle.bq_grammar.specs.declared.tree.Target.{Target, out-Target}
-use Rattle.bq_grammar.specs.declared.tree.Expr.{Expr}
+use Rattle.bq_grammar.specs.declared.tree.Expr.{Expr, out-Expr}
 use Rattle.bq_scope.specs.declared.code.Code.{Code}
 use Rattle.bq_scope.specs.Scope.{BlockParts, FileParts}
 use Rattle.bq_scope.specs.Visit.{Passed, Visit}
-use Rattle.bq_scope.specs.Expressions.{target_by, target_to}
+use Rattle.bq_scope.specs.Expressions.{target_by, target_to, expr_by, expr_to}
 
 pub code_target_layer : (file : FileParts) (visit : List BlockParts → Expr → Visit Code) (layers : ℕ) (blocks : List BlockParts) (t : Target) (s : Passed) → (layers ≡ 0 → ⊥)
     → target_to file visit layers blocks t s ≡ target_by file visit (target_to file visit (layers - 1) blocks) blocks (out-Target t) s
 unfolding target_to
 code_target_layer file visit zero blocks t s some = absurd (some refl)
 code_target_layer file visit (suc layers) blocks t s some = let e : suc layers - 1 ≡ layers = omega arith in rw e refl
+
+pub expr_layer : (depth : ℕ) (file : FileParts) (blocks : List BlockParts) (x : Expr) (s : Passed) → 0 < depth
+    → expr_to depth file blocks x s ≡ expr_by file (expr_to (depth - 1) file) blocks (out-Expr x) s
+unfolding expr_to
+expr_layer zero file blocks x s some = absurd (omega (arith, some))
+expr_layer (suc depth) file blocks x s some = let e : suc depth - 1 ≡ depth = omega arith in rw e refl

@@ -97,7 +97,7 @@ impl<F: Fn(Global, &FileNames, usize, &[Block], &mut Walk, &Expr) -> Result<Code
     }
 
     #[tactic(auto, unfolding(bq_scope::specs::Visit::each))]
-    fn operations(
+    pub fn operations(
         &self,
         file: &FileNames,
         blocks: &[Block],
@@ -154,7 +154,7 @@ impl<F: Fn(Global, &FileNames, usize, &[Block], &mut Walk, &Expr) -> Result<Code
     }
 
     #[tactic(auto, unfolding(bq_scope::specs::Visit::each))]
-    fn choices(
+    pub fn choices(
         &self,
         file: &FileNames,
         blocks: &[Block],
