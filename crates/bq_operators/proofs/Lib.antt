@@ -1,2 +1,14 @@
 -- What a checked operation answers.
 pub mod Fits
+-- what a quotient leaves
+pub mod Rests
+-- division by the signs of what is divided
+pub mod Rounding
+-- shifts as products and quotients by powers of two
+pub mod Shifts
+-- the bounds of slices and of ranges
+pub mod Bounds
+-- what is left of a sum and a product in 64 bits
+pub mod Wrapping
+-- what a slice takes
+pub mod Slices

@@ -5,11 +5,24 @@ ghost use Rattle.bq_operators.specs.Integer.{Fitted, fitted, both, either, one_o
 
 use bq_source::FaultKind;
 
+/// The greatest integer.
+const MAX: u64 = 9_223_372_036_854_775_807;
+
 /// The answer where it fits.
-fn fit(answer: Option<i64>) -> Result<i64, FaultKind>
+pub(crate) fn fit(answer: Option<i64>) -> Result<i64, FaultKind>
     ensures { (z : ℤ) → Fitted answer z → result ≡ fitted z }
 {
     answer.ok_or(FaultKind::Overflow)
+}
+
+/// A count as an integer, where it fits.
+pub(crate) fn from_count(count: u64) -> Result<i64, FaultKind>
+    ensures { result ≡ fitted (pos count) }
+{
+    if MAX < count {
+        return Err(FaultKind::Overflow);
+    }
+    Ok(count as i64)
 }
 
 /// `x + y`.

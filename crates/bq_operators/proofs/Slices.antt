@@ -1,0 +1,54 @@
+-- What a slice takes.
+use Rattle.std.proofs.Common.{◌≢◌, ◌*◌, ◌<◌, ℕ, zero, suc, ℤ, pos, Option, Some, None, refl, arith}
+use Rattle.std.specs.Prelude.{negsuc, neg_ℤ, ◌+ℤ◌, ◌-ℤ◌, ◌<ℤ◌, ◌≤ℤ◌}
+use Rattle.std.proofs.lemmas.Int.{ints, clamps}
+use Rattle.bq_value.specs.Range.{range_count, range_element}
+use Rattle.bq_value.proofs.Elements.{elements_counted}
+use Rattle.bq_operators.specs.Slice.{nearest, slice_start, slice_stop}
+use Rattle.bq_operators.proofs.Bounds.{lt_false}
+
+low_end : (len low high other : ℤ) (index : Option ℤ) → low ≤ℤ high → low ≤ℤ other → low ≤ℤ nearest len low high index other
+low_end len low high other None l m = m
+low_end len low high other (Some i) l m = omega (arith, ints, clamps)
+
+high_end : (len low high other : ℤ) (index : Option ℤ) → low ≤ℤ high → other ≤ℤ high → nearest len low high index other ≤ℤ high
+high_end len low high other None l m = m
+high_end len low high other (Some i) l m = omega (arith, ints, clamps)
+
+start_up : (len : ℕ) (c : ℕ) (start : Option ℤ) → pos 0 ≤ℤ slice_start (pos len) (pos (suc c)) start
+start_up len c start = rw (lt_false (pos (suc c)) (pos 0) (omega (arith, ints))) (low_end (pos len) (pos 0) (pos len) (pos 0) start (omega (arith, ints)) (omega (arith, ints)))
+
+stop_up : (len : ℕ) (c : ℕ) (stop : Option ℤ) → slice_stop (pos len) (pos (suc c)) stop ≤ℤ pos len
+stop_up len c stop = rw (lt_false (pos (suc c)) (pos 0) (omega (arith, ints))) (high_end (pos len) (pos 0) (pos len) (pos len) stop (omega (arith, ints)) (omega (arith, ints)))
+
+start_down : (len : ℕ) (c : ℕ) (start : Option ℤ) → slice_start (pos len) (negsuc c) start ≤ℤ (pos len -ℤ pos 1)
+start_down len c start = high_end (pos len) (negsuc 0) (pos len -ℤ pos 1) (pos len -ℤ pos 1) start (omega (arith, ints)) (omega (arith, ints))
+
+stop_down : (len : ℕ) (c : ℕ) (stop : Option ℤ) → negsuc 0 ≤ℤ slice_stop (pos len) (negsuc c) stop
+stop_down len c stop = low_end (pos len) (negsuc 0) (pos len -ℤ pos 1) (negsuc 0) stop (omega (arith, ints)) (omega (arith, ints))
+
+up_within : (len k c : ℕ) (start stop : ℤ) → pos 0 ≤ℤ start → stop ≤ℤ pos len → k < range_count start stop (pos (suc c))
+    → (pos 0 ≤ℤ range_element start (pos (suc c)) k) × (range_element start (pos (suc c)) k <ℤ pos len)
+up_within len k c start stop low high l =
+    let before : (start +ℤ pos (k * suc c)) <ℤ stop = (elements_counted start stop (pos (suc c)) k (λ e. cc)).0 l in
+    let from : pos 0 ≤ℤ (start +ℤ pos (k * suc c)) = omega (arith, ints, low) in
+    let to : (start +ℤ pos (k * suc c)) <ℤ pos len = omega (arith, ints, before, high) in
+    (from, to)
+
+down_within : (len k c : ℕ) (start stop : ℤ) → start ≤ℤ (pos len -ℤ pos 1) → negsuc 0 ≤ℤ stop → k < range_count start stop (negsuc c)
+    → (pos 0 ≤ℤ range_element start (negsuc c) k) × (range_element start (negsuc c) k <ℤ pos len)
+down_within len k c start stop high low l =
+    let after : stop <ℤ (start +ℤ neg_ℤ (pos (k * suc c))) = (elements_counted start stop (negsuc c) k (λ e. cc)).0 l in
+    let from : pos 0 ≤ℤ (start +ℤ neg_ℤ (pos (k * suc c))) = omega (arith, ints, after, low) in
+    let to : (start +ℤ neg_ℤ (pos (k * suc c))) <ℤ pos len = omega (arith, ints, high) in
+    (from, to)
+
+-- each place is that of an element
+pub places_within : (len : ℕ) (start stop : Option ℤ) (step : ℤ) (k : ℕ) → (step ≢ pos 0)
+    → k < range_count (slice_start (pos len) step start) (slice_stop (pos len) step stop) step
+    → (pos 0 ≤ℤ range_element (slice_start (pos len) step start) step k) × (range_element (slice_start (pos len) step start) step k <ℤ pos len)
+places_within len start stop (pos zero) k apart l = absurd (apart refl)
+places_within len start stop (pos (suc c)) k apart l =
+    up_within len k c (slice_start (pos len) (pos (suc c)) start) (slice_stop (pos len) (pos (suc c)) stop) (start_up len c start) (stop_up len c stop) l
+places_within len start stop (negsuc c) k apart l =
+    down_within len k c (slice_start (pos len) (negsuc c) start) (slice_stop (pos len) (negsuc c) stop) (start_down len c start) (stop_down len c stop) l

@@ -1,0 +1,41 @@
+-- The places of a slice (Starlark, "Slice expressions"): a range that goes from the first bound by the step, up to before the second
+-- bound, or down to after it where the step is negative. A negative bound counts from the end.
+use Rattle.std.specs.Prelude.{ℕ, zero, suc, cond, ℤ, pos, negsuc, ◌+ℤ◌, ◌-ℤ◌, int_lt, List, [], ◌∷◌, slice_get, Option, Some, None}
+use Rattle.std.specs.Int.{int_min, int_max}
+use Rattle.bq_value.specs.Range.{range_count}
+
+-- counted from the start
+abbrev pub from_start : ℤ → ℤ → ℤ
+from_start len index = cond (int_lt index (pos 0)) (index +ℤ len) index
+
+-- the nearest number from the low end to the high one; another where no index is given
+abbrev pub nearest : ℤ → ℤ → ℤ → Option ℤ → ℤ → ℤ
+nearest len low high (Some index) other = int_min (int_max (from_start len index) low) high
+nearest len low high None other = other
+
+-- where a slice starts: going up, at the first element, if no bound is given, and at most after the last; going down, at the last,
+-- and at least before the first
+abbrev pub slice_start : ℤ → ℤ → Option ℤ → ℤ
+slice_start len step start = cond (int_lt step (pos 0)) (nearest len (negsuc 0) (len -ℤ pos 1) start (len -ℤ pos 1)) (nearest len (pos 0) len start (pos 0))
+
+-- where it stops: going up, after the last element; going down, before the first
+abbrev pub slice_stop : ℤ → ℤ → Option ℤ → ℤ
+slice_stop len step stop = cond (int_lt step (pos 0)) (nearest len (negsuc 0) (len -ℤ pos 1) stop (negsuc 0)) (nearest len (pos 0) len stop len)
+
+-- the element at a place, where there is one
+abbrev pub element_at : {A : Type 0} → List A → ℤ → Option A
+element_at xs (pos k) = slice_get xs k
+element_at xs (negsuc k) = None
+
+abbrev pub with_first : {A : Type 0} → Option A → List A → List A
+with_first (Some x) xs = x ∷ xs
+with_first None xs = xs
+
+-- the elements at so many places, from one on by a step
+abbrev pub taken : {A : Type 0} → List A → ℕ → ℤ → ℤ → List A
+taken xs zero at step = []
+taken xs (suc count) at step = with_first (element_at xs at) (taken xs count (at +ℤ step) step)
+
+-- the elements at the places of a range
+unfoldable pub taken_by : {A : Type 0} → List A → ℤ → ℤ → ℤ → List A
+taken_by xs start stop step = taken xs (range_count start stop step) start step
