@@ -1,0 +1,45 @@
+-- The file that a load names (Bazel, "Load statements": "a label that identifies a Starlark file", a .bzl file).
+use Rattle.std.specs.Prelude.{ℕ, List, Bool, ◌||◌, nat_eq, Option, None, Some, Result, Ok, Err, is_some, codes, if◌then◌else◌}
+use Rattle.std.specs.List.{starts_with, ends_with}
+use Rattle.bq_source.specs.declared.fault.Fault.{Fault}
+use Rattle.bq_source.specs.declared.fault.FaultKind.{FaultKind}
+use Rattle.bq_source.specs.declared.fault.FaultKind.TheVariants as f
+use Rattle.bq_source.specs.Fault.{fault_at}
+use Rattle.bq_label.specs.declared.workspace.File.{File}
+use Rattle.bq_label.specs.declared.packages.BuildFile.{BuildFile}
+use Rattle.bq_label.specs.Label.{PackageParts, LabelParts, package_of, full_form}
+use Rattle.bq_label.specs.Reading.{label_of}
+use Rattle.bq_label.specs.Packages.{label_path, package_named}
+use Rattle.bq_label.specs.Workspace.{file_at}
+use Rattle.bq_load_label.specs.Crossing.{crosses}
+
+-- the text begins as labels of loads do: a bare name is none (ours)
+unfoldable pub has_load_form : List ℕ → Bool
+has_load_form text = starts_with nat_eq text (codes "//") || starts_with nat_eq text (codes "@") || starts_with nat_eq text (codes ":")
+
+abbrev pub if_bzl : Option LabelParts → Option LabelParts
+if_bzl None = None
+if_bzl (Some l) = if ends_with nat_eq l.name (codes ".bzl") then Some l else None
+
+-- the label of a .bzl file that the text reads as in this package
+unfoldable pub bzl_label : PackageParts → List ℕ → Option LabelParts
+bzl_label own text = if has_load_form text then if_bzl (label_of own text) else None
+
+-- why the label names no file that can be loaded, the first that applies
+unfoldable pub fault_of_file : List File → List BuildFile → LabelParts → Option FaultKind
+fault_of_file files packages l =
+    if is_some (package_named packages (package_of l))
+    then (if crosses packages l then Some f.CrossesPackage else (if is_some (file_at files (label_path l)) then None else Some f.NoSuchFile))
+    else Some f.NoPackage
+
+abbrev pub unless_fault : ℕ → LabelParts → Option FaultKind → Result LabelParts Fault
+unless_fault line l None = Ok l
+unless_fault line l (Some kind) = Err (record { kind = kind; line = line; detail = full_form l })
+
+abbrev pub file_named : List File → List BuildFile → ℕ → Option LabelParts → Result LabelParts Fault
+file_named files packages line None = Err (fault_at f.BadLoadLabel line)
+file_named files packages line (Some l) = unless_fault line l (fault_of_file files packages l)
+
+-- the label of the file that a load in the package `own`, in this line, names by this text
+unfoldable pub load_label : List File → List BuildFile → PackageParts → ℕ → List ℕ → Result LabelParts Fault
+load_label files packages own line text = file_named files packages line (bzl_label own text)

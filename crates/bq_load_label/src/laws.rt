@@ -1,0 +1,14 @@
+//! Laws of the definition. The gate proves what a contract names, so each law is the contract of a function that does nothing.
+
+ghost use Rattle.bq_load_label.specs.Laws.{LoadsNameFiles};
+
+use bq_label::laws::forms_of_a_label;
+
+/// A load is given a label exactly where its text names a .bzl file of the workspace by that label: the text begins with
+/// `//`, `@` or `:` and reads as the label, the file's path is the label's, and lies in the label's package and in none beneath.
+pub fn loads_name_files()
+    ensures { LoadsNameFiles }
+{
+    // for the proof: which texts read as which labels.
+    forms_of_a_label();
+}

@@ -1,0 +1,89 @@
+//! The file that a load names.
+
+ghost use Rattle.std.specs.Prelude.{◌≡◌, IfOk, codes};
+ghost use Rattle.std.specs.List.{starts_with, ends_with};
+ghost use Rattle.bq_source.specs.Gives.{Gives};
+ghost use Rattle.bq_source.specs.declared.fault.SourceErr.TheVariants.{Bad};
+ghost use Rattle.bq_load_label.specs.NamedFile.{bzl_label, has_load_form, fault_of_file, load_label};
+
+use crate::crossing::crosses;
+use bq_label::{Label, PackageId, Packages, Workspace, label_path, print_label, read_label};
+use bq_source::{Bytes, Fault, FaultKind, SourceErr};
+use std::alloc::{AllocError, Global};
+
+/// Whether the text may be the label of a load: it begins with `//`, `@` or `:`.
+#[tactic(auto, unfolding(crate::specs::NamedFile::has_load_form))]
+fn has_load_form(text: &[u8]) -> bool
+    ensures { result ≡ has_load_form text.now }
+{
+    text.starts_with(b"//") || text.starts_with(b"@") || text.starts_with(b":")
+}
+
+/// The label of a .bzl file that the text reads as.
+#[tactic(auto, unfolding(crate::specs::NamedFile::bzl_label))]
+fn bzl_label(alloc: Global, own: &PackageId, text: &[u8]) -> Result<Option<Label>, AllocError>
+    ensures { IfOk result (λ label. label ≡ bzl_label own.now text.now) }
+{
+    if !has_load_form(text) {
+        return Ok(None);
+    }
+    match read_label(alloc, text, own) {
+        Ok(label) => {
+            if !label.name().as_slice().ends_with(b".bzl") {
+                return Ok(None);
+            }
+            Ok(Some(label))
+        }
+        Err(SourceErr::Bad(_)) => Ok(None),
+        Err(SourceErr::Memory) => Err(AllocError),
+    }
+}
+
+/// Why the label names no file that can be loaded: F32 where it has no package, F37 where another package owns its path,
+/// F31 where there is no such file.
+#[tactic(auto, unfolding(crate::specs::NamedFile::fault_of_file))]
+fn fault_of_file(
+    alloc: Global,
+    workspace: &Workspace,
+    packages: &Packages,
+    label: &Label,
+) -> Result<Option<FaultKind>, AllocError>
+    ensures { IfOk result (λ fault. fault ≡ fault_of_file workspace.now packages.now label.now) }
+{
+    if packages.named(label.package_id()).is_none() {
+        return Ok(Some(FaultKind::NoPackage));
+    }
+    if crosses(alloc, packages, label)? {
+        return Ok(Some(FaultKind::CrossesPackage));
+    }
+    if workspace.file(&label_path(alloc, label)?).is_none() {
+        return Ok(Some(FaultKind::NoSuchFile));
+    }
+    Ok(None)
+}
+
+/// The label of the file that a load in the package `own` names by this text. The fault names the line of the load. F30, whose
+/// detail is empty, where the text is no label of a .bzl file that begins with `//`, `@` or `:`; then F32, F37 and F31, whose
+/// detail is the label in full form.
+#[tactic(auto, unfolding(crate::specs::NamedFile::load_label))]
+pub fn load_label(
+    alloc: Global,
+    workspace: &Workspace,
+    packages: &Packages,
+    own: &PackageId,
+    line: u32,
+    text: &[u8],
+) -> Result<Label, SourceErr>
+    ensures { Gives (λ label. label) Bad result (load_label workspace.now packages.now own.now line text.now) }
+{
+    let Some(label) = bzl_label(alloc, own, text)? else {
+        return Err(SourceErr::Bad(Fault::at(FaultKind::BadLoadLabel, line)));
+    };
+    match fault_of_file(alloc, workspace, packages, &label)? {
+        None => Ok(label),
+        Some(kind) => {
+            let detail = Bytes::from_vec(alloc, print_label(alloc, &label)?)?;
+            Err(SourceErr::Bad(Fault { kind, line, detail }))
+        }
+    }
+}
