@@ -1,2 +1,8 @@
--- One conversion after another.
+-- One conversion of `%` after another.
 pub mod Filling
+-- One piece of a format after another.
+pub mod Cutting
+-- The number of a field, a digit at a time.
+pub mod Digits
+-- One field of a format after another.
+pub mod Fields

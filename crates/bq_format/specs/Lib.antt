@@ -1,1 +1,4 @@
 pub mod Percent
+pub mod Piece
+pub mod Argument
+pub mod Method

@@ -1,7 +1,7 @@
-//! A format and values come in; the text that the operator `%` makes of them goes out.
+//! A format and values come in; the text that the operator `%` or the method `format` makes of them goes out.
 //!
-//! The promise: `percent` gives exactly the text or the fault of its definition, and the steps that are left, unless memory runs
-//! out.
+//! The promise: `percent` and `format` give exactly the text or the fault of their definitions, and the steps that are left, unless
+//! memory runs out.
 //!
 //! What is malformed is noted in a `Draft` and the walk goes on, so that F59 comes after all that the visits find (F53, F55), and
 //! F54 last.
@@ -9,10 +9,17 @@
 //! In reading order:
 //!
 //! - `draft`: what is written, and whether something was malformed;
-//! - `operator`: conversions, and the operator.
+//! - `operator`: conversions, and the operator `%`;
+//! - `piece`: what a format of the method is cut into;
+//! - `argument`: which value a field names;
+//! - `method`: the method `format`.
 #![tactic(auto)]
 
+mod argument;
 mod draft;
+mod method;
 mod operator;
+mod piece;
 
+pub use method::format;
 pub use operator::percent;
