@@ -1,7 +1,8 @@
 //! What is carried along a file.
 
-ghost use Rattle.std.specs.Prelude.{◌≡◌, ◌+◌, ◌∷◌, ◌&&◌, ◌||◌, length, IfOk, OnOk};
+ghost use Rattle.std.specs.Prelude.{◌≡◌, ◌+◌, ◌++◌, [], ◌∷◌, ◌&&◌, ◌||◌, length, IfOk, OnOk};
 ghost use Rattle.bq_scope.specs.Names.{has, with_name};
+ghost use Rattle.bq_scope.specs.Visit.{nothing_passed};
 ghost use Rattle.bq_scope.specs.Expressions.{is_bzl};
 
 use bq_grammar::FileKind;
@@ -35,6 +36,34 @@ impl Model for Walk {
 }
 
 impl Walk {
+    /// Before the first statement.
+    pub fn new(alloc: Global) -> Walk
+        ensures { result ≡ nothing_passed }
+    {
+        Walk {
+            slots: 0,
+            bound: Names::new(alloc),
+            loaded: Names::new(alloc),
+            functions: Items::new(alloc),
+            loads: Items::new(alloc),
+        }
+    }
+
+    /// The functions and the loads.
+    pub fn into_parts(self) -> (Items<CodeFunction>, Items<LoadStmt>)
+        ensures functions { result.0 ≡ self.functions }
+        ensures loads { result.1 ≡ self.loads }
+    {
+        let Walk {
+            slots: _,
+            bound: _,
+            loaded: _,
+            functions,
+            loads,
+        } = self;
+        (functions, loads)
+    }
+
     /// The frame has so many slots from here on; how many it had.
     pub fn frame(&mut self, slots: usize) -> usize
         ensures had { result ≡ self.old.slots }
@@ -60,6 +89,47 @@ impl Walk {
         ensures { OnOk result (self.new ≡ record self.old { bound = with_name self.old.bound name.now }) }
     {
         self.bound.add(name)
+    }
+
+    /// A load clause before has the name.
+    pub fn is_loaded(&self, name: &Bytes) -> Result<bool, AllocError>
+        ensures { IfOk result (λ b. b ≡ has self.now.loaded name.now) }
+    {
+        self.loaded.has(name)
+    }
+
+    /// A statement of a .bzl file bound the name.
+    pub fn is_bound(&self, kind: FileKind, name: &Bytes) -> Result<bool, AllocError>
+        ensures { IfOk result (λ b. b ≡ (is_bzl kind && has self.now.bound name.now)) }
+    {
+        match kind {
+            FileKind::Build => Ok(false),
+            FileKind::Bzl => self.bound.has(name),
+        }
+    }
+
+    /// Adds a name of a load clause.
+    pub fn load(&mut self, name: &Bytes) -> Result<(), AllocError>
+        ensures { OnOk result (self.new ≡ record self.old { loaded = with_name self.old.loaded name.now }) }
+    {
+        self.loaded.add(name)
+    }
+
+    /// Adds a load.
+    pub fn add_load(&mut self, load: LoadStmt) -> Result<(), AllocError>
+        ensures { OnOk result (self.new ≡ record self.old { loads = self.old.loads ++ load ∷ [] }) }
+    {
+        self.loads.push(load)
+    }
+
+    /// Adds a function: its number.
+    pub fn add_function(&mut self, function: CodeFunction) -> Result<usize, AllocError>
+        ensures number { IfOk result (λ k. k ≡ length self.old.functions) }
+        ensures added { OnOk result (self.new ≡ record self.old { functions = self.old.functions ++ function ∷ [] }) }
+    {
+        let number = self.functions.len();
+        self.functions.push(function)?;
+        Ok(number)
     }
 
     /// Opens a block, whose names get the next slots: these blocks, and it inside them.

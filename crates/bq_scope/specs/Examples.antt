@@ -35,7 +35,7 @@ use Rattle.bq_scope.specs.Names.{max_layers}
 use Rattle.bq_scope.specs.Scope.{FileParts}
 use Rattle.bq_scope.specs.Visit.{nothing_passed}
 use Rattle.bq_scope.specs.Expressions.{expr_to}
-use Rattle.bq_scope.specs.Statements.{parameters}
+use Rattle.bq_scope.specs.Statements.{no_parameters, parameters}
 use Rattle.bq_scope.specs.Files.{resolved}
 
 -- ---- trees
@@ -110,8 +110,8 @@ OneNameThrice =
 abbrev pub Default : Type 0
 Default =
     let a = codes "a" in let b = codes "b" in
-    parameters (record { universe = bzl; globals = b ∷ []; loaded = [] }) [] [] [] (parameter.Default (word 1 a) (named 1 b) ∷ []) nothing_passed
-    ≡ Ok ((code_parameter.Default a 0 ∷ [], code.Use (binding.Global 0) ∷ []), nothing_passed)
+    parameters (record { universe = bzl; globals = b ∷ []; loaded = [] }) no_parameters (parameter.Default (word 1 a) (named 1 b) ∷ []) nothing_passed
+    ≡ Ok (record { names = a ∷ []; parameters = code_parameter.Default a 0 ∷ []; defaults = code.Use (binding.Global 0) ∷ [] }, nothing_passed)
 
 -- `load(":m", "a")`, then `a = 1`: in a BUILD file one global, whose first value is the loaded one
 abbrev pub LoadedAndBound : Type 0

@@ -16,7 +16,7 @@ use Rattle.bq_scope.specs.Names.{function_names, global_names, loaded_names}
 use Rattle.bq_scope.specs.Scope.{FileParts}
 use Rattle.bq_scope.specs.Visit.{Passed, Visit, ◌>>=◌, pure, each, nothing_passed}
 use Rattle.bq_scope.specs.Expressions.{name_target}
-use Rattle.bq_scope.specs.Statements.{misplaced, small_stmt, parameters, function}
+use Rattle.bq_scope.specs.Statements.{misplaced, small_stmt, no_parameters, parameters, function}
 
 -- all names of a file, wherever in it they are bound: they shadow those that every file has in all of it
 unfoldable pub file_names : UniverseParts → List TopLevel → FileParts
@@ -26,8 +26,8 @@ module _ (file : FileParts) where
   -- the name of a function is bound before its parameters are looked at
   unfoldable pub def_stmt : Identifier → List Parameter → List Stmt → Visit FileStmt
   def_stmt n ps body =
-      name_target file [] n >>= λ t. parameters file [] [] [] ps
-      >>= λ r. function file n.name r.0 (function_names ps body) body >>= λ k. pure (s.Def (record { target = t; function = k; defaults = r.1 }))
+      name_target file [] n >>= λ t. parameters file no_parameters ps
+      >>= λ l. function file n.name l.parameters (function_names ps body) body >>= λ k. pure (s.Def (record { target = t; function = k; defaults = l.defaults }))
 
   -- `if` and `for` stand in functions
   abbrev pub file_stmt : ℕ → Stmt-F Stmt Branch → Visit FileStmt

@@ -8,6 +8,7 @@ use Rattle.bq_grammar.specs.declared.tree.Expr.{Expr}
 use Rattle.bq_grammar.specs.declared.tree.Identifier.{Identifier}
 use Rattle.bq_grammar.specs.declared.tree.Load.{Load}
 use Rattle.bq_grammar.specs.declared.tree.LoadClause.{LoadClause}
+use Rattle.bq_grammar.specs.declared.tree.Operator.{Operator}
 use Rattle.bq_grammar.specs.declared.tree.Parameter.{Parameter}
 use Rattle.bq_grammar.specs.declared.tree.Parameter.TheVariants as parameter
 use Rattle.bq_grammar.specs.declared.tree.SmallKind.{SmallKind}
@@ -35,6 +36,15 @@ use Rattle.bq_scope.specs.Expressions.{is_bzl, target_to, expr_to}
 abbrev pub misplaced : {A : Type 0} → ℕ → Visit A
 misplaced line = stop (fault_at f.BadFlow line)
 
+-- a function's parameters: their names, which have its first slots, what they resolve to, and their defaults
+pub record ParameterParts : Type 0 where
+  pub names : List Name
+  pub parameters : List CodeParameter
+  pub defaults : List Code
+
+abbrev pub no_parameters : ParameterParts
+no_parameters = record { names = []; parameters = []; defaults = [] }
+
 module _ (file : FileParts) where
   unfoldable pub expr : List BlockParts → Expr → Visit Code
   expr blocks x = expr_to max_layers file blocks x
@@ -59,25 +69,34 @@ module _ (file : FileParts) where
 
   -- ---- small statements: `looping` inside a `for` of the function
 
-  -- `return` stands in a function
-  abbrev pub return : List BlockParts → ℕ → Option Expr → Visit CodeSmall
-  return [] line x = misplaced line
-  return (b ∷ bs) line x = optional (expr (b ∷ bs)) x >>= λ y. pure (c.Return y)
+  -- `t = x`: the target comes first
+  unfoldable pub assign : List BlockParts → Target → Expr → Visit CodeSmall
+  assign blocks t x = target blocks t >>= λ u. expr blocks x >>= λ y. pure (c.Assign u y)
 
-  -- `load` stands outside functions
-  abbrev pub load_in : List BlockParts → ℕ → Load → Visit CodeSmall
+  -- `t += x`
+  unfoldable pub augment : List BlockParts → Target → Operator → Expr → Visit CodeSmall
+  augment blocks t o x = target blocks t >>= λ u. expr blocks x >>= λ y. pure (c.Augment u o y)
+
+  -- `return` is allowed in functions alone
+  unfoldable pub returned : List BlockParts → ℕ → Option Expr → Visit CodeSmall
+  returned [] line x = misplaced line
+  returned (b ∷ bs) line x = optional (expr (b ∷ bs)) x >>= λ y. pure (c.Return y)
+
+  -- `load` is allowed outside functions alone
+  unfoldable pub load_in : List BlockParts → ℕ → Load → Visit CodeSmall
   load_in [] line l = load line l
   load_in (b ∷ bs) line l = misplaced line
 
-  abbrev pub in_loop : Bool → ℕ → CodeSmall → Visit CodeSmall
+  -- `break` and `continue` are allowed in loops alone
+  unfoldable pub in_loop : Bool → ℕ → CodeSmall → Visit CodeSmall
   in_loop true line x = pure x
   in_loop false line x = misplaced line
 
   abbrev pub small_by : List BlockParts → Bool → ℕ → SmallKind → Visit CodeSmall
   small_by blocks looping line (small.Expr x) = expr blocks x >>= λ y. pure (c.Expr y)
-  small_by blocks looping line (small.Assign t x) = target blocks t >>= λ u. expr blocks x >>= λ y. pure (c.Assign u y)
-  small_by blocks looping line (small.Augment t o x) = target blocks t >>= λ u. expr blocks x >>= λ y. pure (c.Augment u o y)
-  small_by blocks looping line (small.Return x) = return blocks line x
+  small_by blocks looping line (small.Assign t x) = assign blocks t x
+  small_by blocks looping line (small.Augment t o x) = augment blocks t o x
+  small_by blocks looping line (small.Return x) = returned blocks line x
   small_by blocks looping line small.Break = in_loop looping line c.Break
   small_by blocks looping line small.Continue = in_loop looping line c.Continue
   small_by blocks looping line small.Pass = pure c.Pass
@@ -86,16 +105,22 @@ module _ (file : FileParts) where
   unfoldable pub small_stmt : List BlockParts → Bool → SmallStmt → Visit CodeSmall
   small_stmt blocks looping x = small_by blocks looping x.line x.kind
 
-  -- ---- statements of a function
+  -- ---- statements of a function: `inner` resolves those in blocks
 
-  abbrev pub branch : List BlockParts → (Stmt → Visit CodeStmt) → Branch → Visit CodeBranch
-  branch blocks inner b = expr blocks (out-Branch b).condition >>= λ x. each inner [] (out-Branch b).block >>= λ ys. pure (roll-CodeBranch (record { condition = x; block = ys }))
+  unfoldable pub branch : (Stmt → Visit CodeStmt) → List BlockParts → Branch → Visit CodeBranch
+  branch inner blocks b = expr blocks (out-Branch b).condition >>= λ x. each inner [] (out-Branch b).block >>= λ ys. pure (roll-CodeBranch (record { condition = x; block = ys }))
+
+  unfoldable pub if_stmt : (Stmt → Visit CodeStmt) → List BlockParts → List Branch → List Stmt → Visit CodeStmt
+  if_stmt inner blocks bs zs = each (branch inner blocks) [] bs >>= λ xs. each inner [] zs >>= λ ys. pure (s.If xs ys)
+
+  unfoldable pub for_stmt : (Stmt → Visit CodeStmt) → List BlockParts → Target → Expr → List Stmt → Visit CodeStmt
+  for_stmt inner blocks t x body = target blocks t >>= λ u. expr blocks x >>= λ y. each inner [] body >>= λ zs. pure (s.For u y zs)
 
   -- a `def` in a `def` is left out before names are looked at
   abbrev pub stmt_by : (Bool → Stmt → Visit CodeStmt) → List BlockParts → Bool → Stmt-F Stmt Branch → Visit CodeStmt
   stmt_by inner blocks looping (Stmt-F.Simple xs) = each (small_stmt blocks looping) [] xs >>= λ ys. pure (s.Simple ys)
-  stmt_by inner blocks looping (Stmt-F.If bs zs) = each (branch blocks (inner looping)) [] bs >>= λ xs. each (inner looping) [] zs >>= λ ys. pure (s.If xs ys)
-  stmt_by inner blocks looping (Stmt-F.For t x body) = target blocks t >>= λ u. expr blocks x >>= λ y. each (inner true) [] body >>= λ zs. pure (s.For u y zs)
+  stmt_by inner blocks looping (Stmt-F.If bs zs) = if_stmt (inner looping) blocks bs zs
+  stmt_by inner blocks looping (Stmt-F.For t x body) = for_stmt (inner true) blocks t x body
   stmt_by inner blocks looping (Stmt-F.Def n ps body) = misplaced n.line
 
   -- of statements that are no deeper than so many layers; no tree that is parsed holds a deeper one
@@ -106,18 +131,27 @@ module _ (file : FileParts) where
   -- ---- functions
 
   -- A parameter takes the next slot; two of one name are F24.
-  abbrev pub new_parameter : List Name → Identifier → Visit ℕ
-  new_parameter names n = if has names n.name then stop (fault_of f.DoubleParameter n) else pure (length names)
+  unfoldable pub named_parameter : ParameterParts → Identifier → CodeParameter → Visit ParameterParts
+  named_parameter l n x =
+      if has l.names n.name then stop (fault_of f.DoubleParameter n) else pure (record l { names = l.names ++ n.name ∷ []; parameters = l.parameters ++ x ∷ [] })
 
-  -- the parameters and defaults so far, which have these names, and all of those; a default lies outside the function
-  unfoldable pub parameters : List Name → List CodeParameter → List Code → List Parameter → Visit (List CodeParameter × List Code)
-  parameters names done values [] = pure (done, values)
-  parameters names done values (parameter.Plain n ∷ ps) = new_parameter names n >>= λ k. parameters (names ++ n.name ∷ []) (done ++ slot.Plain n.name k ∷ []) values ps
-  parameters names done values (parameter.Default n x ∷ ps) =
-      new_parameter names n >>= λ k. expr [] x >>= λ y. parameters (names ++ n.name ∷ []) (done ++ slot.Default n.name k ∷ []) (values ++ y ∷ []) ps
-  parameters names done values (parameter.BareStar ∷ ps) = parameters names (done ++ slot.BareStar ∷ []) values ps
-  parameters names done values (parameter.Star n ∷ ps) = new_parameter names n >>= λ k. parameters (names ++ n.name ∷ []) (done ++ slot.Star k ∷ []) values ps
-  parameters names done values (parameter.StarStar n ∷ ps) = new_parameter names n >>= λ k. parameters (names ++ n.name ∷ []) (done ++ slot.StarStar k ∷ []) values ps
+  -- A default lies outside the function.
+  unfoldable pub default_parameter : ParameterParts → Identifier → Expr → Visit ParameterParts
+  default_parameter l n x =
+      named_parameter l n (slot.Default n.name (length l.names)) >>= λ m. expr [] x >>= λ y. pure (record m { defaults = m.defaults ++ y ∷ [] })
+
+  -- the parameters so far, and this one
+  unfoldable pub next_parameter : ParameterParts → Parameter → Visit ParameterParts
+  next_parameter l (parameter.Plain n) = named_parameter l n (slot.Plain n.name (length l.names))
+  next_parameter l (parameter.Default n x) = default_parameter l n x
+  next_parameter l parameter.BareStar = pure (record l { parameters = l.parameters ++ slot.BareStar ∷ [] })
+  next_parameter l (parameter.Star n) = named_parameter l n (slot.Star (length l.names))
+  next_parameter l (parameter.StarStar n) = named_parameter l n (slot.StarStar (length l.names))
+
+  -- the parameters so far, and all of those
+  unfoldable pub parameters : ParameterParts → List Parameter → Visit ParameterParts
+  parameters l [] = pure l
+  parameters l (p ∷ ps) = next_parameter l p >>= λ m. parameters m ps
 
   -- a function's statements, among its own names
   abbrev pub statements_in : List Name → List Stmt → Visit (List CodeStmt)

@@ -8,6 +8,7 @@ ghost use Rattle.bq_scope.specs.Keys.{feed, same_feed};
 
 use bq_source::Bytes;
 use indexmap::IndexSet;
+use sqlite_items::Items;
 use std::alloc::{AllocError, Global};
 use std::hash::{Hash, Hasher};
 use std::marker::Model;
@@ -116,5 +117,16 @@ impl Names {
             bytes: name.share()?,
         };
         Ok(self.keys.get_index_of(&key))
+    }
+
+    /// The names, in this order.
+    pub fn list(&self, alloc: Global) -> Result<Items<Bytes>, AllocError>
+        ensures { IfOk result (λ names. names ≡ self.now) }
+    {
+        let mut names = Items::new(alloc);
+        for key in self.keys.as_slice() {
+            names.push(key.bytes.share()?)?;
+        }
+        Ok(names)
     }
 }

@@ -1,6 +1,7 @@
 //! What a name stands for, among the blocks round it and in its file.
 
 ghost use Rattle.std.specs.Prelude.{◌≡◌, ◌+◌, ◌<◌, ◌^◌, ◌∷◌, length, IfOk};
+ghost use Rattle.bq_scope.specs.Names.{place_among};
 ghost use Rattle.bq_scope.specs.Scope.{slot_in, slot_of, file_has, use_of};
 ghost use Rattle.bq_scope.specs.Files.{file_names};
 ghost use Rattle.bq_scope.specs.Universe.{host_named};
@@ -11,6 +12,7 @@ use crate::names::Names;
 use crate::universe::Universe;
 use bq_grammar::{FileKind, TopLevel};
 use bq_source::Bytes;
+use sqlite_items::Items;
 use std::alloc::{AllocError, Global};
 use std::marker::Model;
 use std::sync::Arc;
@@ -114,13 +116,13 @@ impl FileNames {
     #[tactic(auto, unfolding(crate::specs::Files::file_names))]
     pub fn new(
         alloc: Global,
-        universe: Universe,
+        universe: &Universe,
         statements: &[TopLevel],
     ) -> Result<FileNames, AllocError>
-        ensures { IfOk result (λ f. f ≡ file_names universe statements.now) }
+        ensures { IfOk result (λ f. f ≡ file_names universe.now statements.now) }
     {
         Ok(FileNames {
-            universe,
+            universe: universe.share()?,
             globals: global_names(alloc, statements)?,
             loaded: loaded_names(alloc, statements)?,
         })
@@ -137,6 +139,20 @@ impl FileNames {
         ensures { IfOk result (λ id. id ≡ host_named self.now.universe.rules name.now) }
     {
         self.universe.host(name)
+    }
+
+    /// The names that the file binds, but for its loads, in order of first binding.
+    pub fn globals(&self, alloc: Global) -> Result<Items<Bytes>, AllocError>
+        ensures { IfOk result (λ names. names ≡ self.now.globals) }
+    {
+        self.globals.list(alloc)
+    }
+
+    /// The place of a name among these.
+    pub fn global(&self, name: &Bytes) -> Result<Option<usize>, AllocError>
+        ensures { IfOk result (λ place. place ≡ place_among name.now self.now.globals) }
+    {
+        self.globals.place(name)
     }
 
     /// What the name stands for outside all blocks.

@@ -10,6 +10,7 @@ use bq_predeclared::{Predeclared, predeclared_named};
 use bq_source::Bytes;
 use std::alloc::{AllocError, Global};
 use std::marker::Model;
+use std::sync::Arc;
 
 /// An id is below 2^32: rules past that have none.
 const MAX_RULES: usize = 4_294_967_290;
@@ -18,7 +19,7 @@ const MAX_RULES: usize = 4_294_967_290;
 #[derive(Drop)]
 pub struct Universe {
     kind: FileKind,
-    rules: Names,
+    rules: Arc<Names>,
 }
 
 impl Model for Universe {
@@ -26,7 +27,7 @@ impl Model for Universe {
 
     ghost Value = { UniverseParts };
 
-    ghost view = { λ u. record { kind = u.kind; rules = u.rules } };
+    ghost view = { λ u. record { kind = u.kind; rules = u.rules.value } };
 }
 
 impl Universe {
@@ -39,7 +40,20 @@ impl Universe {
         for rule in rules {
             names.add(rule)?;
         }
-        Ok(Universe { kind, rules: names })
+        Ok(Universe {
+            kind,
+            rules: Arc::new(alloc, names)?,
+        })
+    }
+
+    /// The same names once more.
+    pub fn share(&self) -> Result<Universe, AllocError>
+        ensures { IfOk result (λ u. u ≡ self.now) }
+    {
+        Ok(Universe {
+            kind: self.kind,
+            rules: self.rules.clone()?,
+        })
     }
 
     pub fn kind(&self) -> FileKind
