@@ -1,0 +1,191 @@
+//! Statements with blocks, over the resolver of the statements in them.
+
+ghost use Rattle.std.specs.Prelude.{[], true};
+ghost use Rattle.bq_grammar.specs.declared.tree.Stmt.{out-Stmt};
+ghost use Rattle.bq_scope.specs.Names.{max_layers};
+ghost use Rattle.bq_scope.specs.Visit as visit;
+ghost use Rattle.bq_scope.specs.Statements as spec;
+ghost use Rattle.bq_resolve_expression.specs.Walks.{Walks, WalksNested};
+ghost use Rattle.bq_resolve.specs.Inner.{WalksStatement};
+
+use crate::small::{Lines, misplaced};
+use bq_grammar::{Branch, Expr, Stmt, Target};
+use bq_resolve_expression::Walk;
+use bq_scope::{Block, Code, CodeBranch, CodeStmt, FileNames};
+use bq_source::SourceErr;
+use sqlite_items::{Boxed, Items};
+use std::alloc::Global;
+
+/// The rules of blocks take the resolver of the statements in them as a parameter, so that each rule is proved by itself.
+#[derive(Clone, Copy)]
+pub struct Blocks<F, G> {
+    pub alloc: Global,
+    pub lines: Lines<F>,
+    /// How many layers of the statements inside are still looked at.
+    pub layers: usize,
+    pub inner: G,
+}
+
+impl<
+    F: Fn(Global, &FileNames, usize, &[Block], &mut Walk, &Expr) -> Result<Code, SourceErr> + Copy,
+    G: Fn(
+        Global,
+        &FileNames,
+        usize,
+        &[Block],
+        bool,
+        &mut Walk,
+        &Stmt,
+    ) -> Result<CodeStmt, SourceErr>,
+> Blocks<F, G> {
+    /// The statements of a block; `looping` inside a `for` of the function.
+    #[tactic(auto, unfolding(bq_scope::specs::Visit::each))]
+    pub fn block(
+        &self,
+        file: &FileNames,
+        blocks: &[Block],
+        looping: bool,
+        walk: &mut Walk,
+        statements: &[Stmt],
+    ) -> Result<Items<CodeStmt>, SourceErr>
+        requires { WalksStatement self.now.layers (G.pre self.now.inner) (G.post self.now.inner) }
+        ensures { Walks (visit.each (spec.stmt_to file.now self.now.layers blocks.now looping) [] statements.now walk.old) result walk.new }
+    {
+        let mut done = Items::new(self.alloc);
+        for statement in statements {
+            done.push(
+                (self.inner)(
+                    self.alloc,
+                    file,
+                    self.layers,
+                    blocks,
+                    looping,
+                    walk,
+                    statement,
+                )?,
+            )?;
+        }
+        Ok(done)
+    }
+
+    /// `if condition:`, or `elif`, and its block.
+    #[tactic(auto, unfolding(bq_scope::specs::Statements::branch))]
+    fn branch(
+        &self,
+        file: &FileNames,
+        blocks: &[Block],
+        looping: bool,
+        walk: &mut Walk,
+        branch: &Branch,
+    ) -> Result<CodeBranch, SourceErr>
+        requires exprs { WalksNested max_layers (F.pre self.now.lines.visit) (F.post self.now.lines.visit) }
+        requires inner { WalksStatement self.now.layers (G.pre self.now.inner) (G.post self.now.inner) }
+        ensures { Walks (spec.branch file.now (spec.stmt_to file.now self.now.layers blocks.now looping) blocks.now branch.now walk.old) result walk.new }
+    {
+        let condition = self.lines.expr(file, blocks, walk, &branch.condition)?;
+        let condition = Boxed::new(self.alloc, condition)?;
+        let block = self.block(file, blocks, looping, walk, branch.block.as_slice())?;
+        Ok(CodeBranch {
+            condition: condition.into_inner(),
+            block,
+        })
+    }
+
+    #[tactic(auto, unfolding(bq_scope::specs::Visit::each))]
+    fn branches(
+        &self,
+        file: &FileNames,
+        blocks: &[Block],
+        looping: bool,
+        walk: &mut Walk,
+        branches: &[Branch],
+    ) -> Result<Items<CodeBranch>, SourceErr>
+        requires exprs { WalksNested max_layers (F.pre self.now.lines.visit) (F.post self.now.lines.visit) }
+        requires inner { WalksStatement self.now.layers (G.pre self.now.inner) (G.post self.now.inner) }
+        ensures { Walks (visit.each (spec.branch file.now (spec.stmt_to file.now self.now.layers blocks.now looping) blocks.now) [] branches.now walk.old) result walk.new }
+    {
+        let mut done = Items::new(self.alloc);
+        for branch in branches {
+            done.push(self.branch(file, blocks, looping, walk, branch)?)?;
+        }
+        Ok(done)
+    }
+
+    /// The branches of an `if`, and the block of its `else`.
+    #[tactic(auto, unfolding(bq_scope::specs::Statements::if_stmt))]
+    fn if_stmt(
+        &self,
+        file: &FileNames,
+        blocks: &[Block],
+        looping: bool,
+        walk: &mut Walk,
+        branches: &[Branch],
+        otherwise: &[Stmt],
+    ) -> Result<CodeStmt, SourceErr>
+        requires exprs { WalksNested max_layers (F.pre self.now.lines.visit) (F.post self.now.lines.visit) }
+        requires inner { WalksStatement self.now.layers (G.pre self.now.inner) (G.post self.now.inner) }
+        ensures { Walks (spec.if_stmt file.now (spec.stmt_to file.now self.now.layers blocks.now looping) blocks.now branches.now otherwise.now walk.old) result walk.new }
+    {
+        let branches = self.branches(file, blocks, looping, walk, branches)?;
+        let otherwise = self.block(file, blocks, looping, walk, otherwise)?;
+        Ok(CodeStmt::If(branches, otherwise))
+    }
+
+    /// A `for`.
+    #[tactic(auto, unfolding(bq_scope::specs::Statements::for_stmt))]
+    fn for_stmt(
+        &self,
+        file: &FileNames,
+        blocks: &[Block],
+        walk: &mut Walk,
+        variables: &Target,
+        iterable: &Expr,
+        body: &[Stmt],
+    ) -> Result<CodeStmt, SourceErr>
+        requires exprs { WalksNested max_layers (F.pre self.now.lines.visit) (F.post self.now.lines.visit) }
+        requires inner { WalksStatement self.now.layers (G.pre self.now.inner) (G.post self.now.inner) }
+        ensures { Walks (spec.for_stmt file.now (spec.stmt_to file.now self.now.layers blocks.now true) blocks.now variables.now iterable.now body.now walk.old) result walk.new }
+    {
+        let variables = self.lines.target(file, blocks, walk, variables)?;
+        let variables = Boxed::new(self.alloc, variables)?;
+        let iterable = self.lines.expr(file, blocks, walk, iterable)?;
+        let iterable = Boxed::new(self.alloc, iterable)?;
+        let body = self.block(file, blocks, true, walk, body)?;
+        Ok(CodeStmt::For(variables.into_inner(), iterable.into_inner(), body))
+    }
+
+    /// A statement of a function.
+    pub fn stmt(
+        &self,
+        file: &FileNames,
+        blocks: &[Block],
+        looping: bool,
+        walk: &mut Walk,
+        statement: &Stmt,
+    ) -> Result<CodeStmt, SourceErr>
+        requires exprs { WalksNested max_layers (F.pre self.now.lines.visit) (F.post self.now.lines.visit) }
+        requires inner { WalksStatement self.now.layers (G.pre self.now.inner) (G.post self.now.inner) }
+        ensures { Walks (spec.stmt_by file.now (spec.stmt_to file.now self.now.layers blocks.now) blocks.now looping (out-Stmt statement.now) walk.old) result walk.new }
+    {
+        match statement {
+            Stmt::Simple(line) => {
+                let line = self
+                    .lines
+                    .line(file, blocks, looping, walk, line.as_slice())?;
+                Ok(CodeStmt::Simple(line))
+            }
+            Stmt::If(branches, otherwise) => self.if_stmt(
+                file,
+                blocks,
+                looping,
+                walk,
+                branches.as_slice(),
+                otherwise.as_slice(),
+            ),
+            Stmt::For(variables, iterable, body) => {
+                self.for_stmt(file, blocks, walk, variables, iterable, body.as_slice())
+            }
+            Stmt::Def(name, _, _) => misplaced(name.line),
+        }
+    }
+}

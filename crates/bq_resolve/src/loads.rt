@@ -1,0 +1,75 @@
+//! Loads: what a file takes from other files.
+
+ghost use Rattle.std.specs.Prelude.{[]};
+ghost use Rattle.bq_scope.specs.Visit as visit;
+ghost use Rattle.bq_scope.specs.Statements as spec;
+ghost use Rattle.bq_resolve_expression.specs.Walks.{Walks};
+
+use bq_grammar::{Load, LoadClause};
+use bq_resolve_expression::{Walk, fault_of};
+use bq_scope::{CodeSmall, FileNames, LoadStmt, LoadedSymbol};
+use bq_source::{FaultKind, SourceErr};
+use sqlite_items::Items;
+use std::alloc::Global;
+
+/// A load clause: F22 where another clause before it has its name, F21 where a statement of a .bzl file bound it.
+#[tactic(auto, unfolding(bq_scope::specs::Statements::load_clause))]
+fn load_clause(
+    file: &FileNames,
+    walk: &mut Walk,
+    clause: &LoadClause,
+) -> Result<LoadedSymbol, SourceErr>
+    ensures { Walks (spec.load_clause file.now clause.now walk.old) result walk.new }
+{
+    let name = &clause.local;
+    if walk.is_loaded(&name.name)? {
+        return Err(SourceErr::Bad(fault_of(FaultKind::BoundTwice, name)?));
+    }
+    if walk.is_bound(file.kind(), &name.name)? {
+        return Err(SourceErr::Bad(fault_of(FaultKind::Rebound, name)?));
+    }
+    walk.load(&name.name)?;
+    let global = file.global(&name.name)?;
+    Ok(LoadedSymbol {
+        local: name.name.share()?,
+        symbol: clause.symbol.share()?,
+        global,
+    })
+}
+
+#[tactic(auto, unfolding(bq_scope::specs::Visit::each))]
+fn load_clauses(
+    alloc: Global,
+    file: &FileNames,
+    walk: &mut Walk,
+    clauses: &[LoadClause],
+) -> Result<Items<LoadedSymbol>, SourceErr>
+    ensures { Walks (visit.each (spec.load_clause file.now) [] clauses.now walk.old) result walk.new }
+{
+    let mut done = Items::new(alloc);
+    for clause in clauses {
+        done.push(load_clause(file, walk, clause)?)?;
+    }
+    Ok(done)
+}
+
+/// A load, which is carried along.
+#[tactic(auto, unfolding(bq_scope::specs::Statements::load))]
+pub fn load(
+    alloc: Global,
+    file: &FileNames,
+    walk: &mut Walk,
+    line: u32,
+    load: &Load,
+) -> Result<CodeSmall, SourceErr>
+    ensures { Walks (spec.load file.now line load.now walk.old) result walk.new }
+{
+    let clauses = load_clauses(alloc, file, walk, load.clauses.as_slice())?;
+    let label = load.label.share()?;
+    walk.add_load(LoadStmt {
+        label,
+        line,
+        clauses,
+    })?;
+    Ok(CodeSmall::Load)
+}
