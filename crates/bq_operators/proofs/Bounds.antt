@@ -54,7 +54,7 @@ pub has_no_step : (start stop step n : ℤ) → step ≡ pos 0 → false ≡ ran
 unfolding range_has
 has_no_step start stop step n e = rw (eq_true step (pos 0) e) refl
 
-has_by : (start stop step n : ℤ) → (step ≢ pos 0) → range_has start stop step n ≡ (is_between start stop step n && (unsigned_abs (n -ℤ start) % unsigned_abs step == 0))
+pub has_by : (start stop step n : ℤ) → (step ≢ pos 0) → range_has start stop step n ≡ (is_between start stop step n && (unsigned_abs (n -ℤ start) % unsigned_abs step == 0))
 unfolding range_has
 has_by start stop step n apart = rw (eq_false_by step (pos 0) (int_eq step (pos 0)) refl apart) refl
 

@@ -12,3 +12,7 @@ pub mod Bounds
 pub mod Wrapping
 -- what a slice takes
 pub mod Slices
+-- the elements at the places of a range
+pub mod Taken
+-- which integers are in a range
+pub mod Items

@@ -1,11 +1,13 @@
 -- What a slice takes.
-use Rattle.std.proofs.Common.{◌≢◌, ◌*◌, ◌<◌, ℕ, zero, suc, ℤ, pos, Option, Some, None, refl, arith}
+use Rattle.std.proofs.Common.{◌≡◌, ◌≢◌, ◌∙◌, ◌*◌, ◌≤◌, List, [], ◌∷◌, length, take, ap, ◌<◌, ℕ, zero, suc, ℤ, pos, Option, Some, None, refl, inl, inr, arith}
 use Rattle.std.specs.Prelude.{negsuc, neg_ℤ, ◌+ℤ◌, ◌-ℤ◌, ◌<ℤ◌, ◌≤ℤ◌}
 use Rattle.std.proofs.lemmas.Int.{ints, clamps}
+use Rattle.std.proofs.lemmas.Bool.{cases_lt}
 use Rattle.bq_value.specs.Range.{range_count, range_element}
 use Rattle.bq_value.proofs.Elements.{elements_counted}
-use Rattle.bq_operators.specs.Slice.{nearest, slice_start, slice_stop}
+use Rattle.bq_operators.specs.Slice.{nearest, slice_start, slice_stop, taken, taken_by, slice_of, AreElements}
 use Rattle.bq_operators.proofs.Bounds.{lt_false}
+use Rattle.bq_operators.proofs.Taken.{taken_elements, taken_run}
 
 low_end : (len low high other : ℤ) (index : Option ℤ) → low ≤ℤ high → low ≤ℤ other → low ≤ℤ nearest len low high index other
 low_end len low high other None l m = m
@@ -52,3 +54,30 @@ places_within len start stop (pos (suc c)) k apart l =
     up_within len k c (slice_start (pos len) (pos (suc c)) start) (slice_stop (pos len) (pos (suc c)) stop) (start_up len c start) (stop_up len c stop) l
 places_within len start stop (negsuc c) k apart l =
     down_within len k c (slice_start (pos len) (negsuc c) start) (slice_stop (pos len) (negsuc c) stop) (start_down len c start) (stop_down len c stop) l
+
+-- as many elements as places, each that of its place
+pub elements_of_slice : {A : Type 0} (xs : List A) (start stop : Option ℤ) (step : ℤ) → (step ≢ pos 0)
+    → AreElements xs (range_count (slice_start (pos (length xs)) step start) (slice_stop (pos (length xs)) step stop) step) (slice_start (pos (length xs)) step start) step (slice_of xs start stop step)
+unfolding taken_by
+elements_of_slice xs start stop step apart =
+    taken_elements xs (range_count (slice_start (pos (length xs)) step start) (slice_stop (pos (length xs)) step stop) step) (slice_start (pos (length xs)) step start) step
+    (λ k l. places_within (length xs) start stop step k apart l)
+
+at_most : (m n : ℕ) → (n < m → ⊥) → m ≤ n
+at_most m n h = elim (cases_lt n m) [ inl l ↦ absurd (h l) | inr l ↦ l ]
+
+take_all : {A : Type 0} (xs : List A) → take (length xs) xs ≡ xs
+take_all [] = refl
+take_all (x ∷ xs) = ap (λ ys. x ∷ ys) (take_all xs)
+
+full_count : (n : ℕ) → range_count (pos 0) (pos n) (pos 1) ≡ n
+full_count n =
+    let c : ℕ = range_count (pos 0) (pos n) (pos 1) in
+    let up : c ≤ n = at_most c n (λ l. let b : (pos 0 +ℤ pos (n * 1)) <ℤ pos n = (elements_counted (pos 0) (pos n) (pos 1) n (λ e. cc)).0 l in omega (arith, ints, b)) in
+    let down : n ≤ c = at_most n c (λ l. let b : (pos 0 +ℤ pos (c * 1)) <ℤ pos n = omega (arith, ints, l) in
+    let m : c < c = (elements_counted (pos 0) (pos n) (pos 1) c (λ e. cc)).1 b in omega (arith, m)) in
+    omega (arith, up, down)
+
+pub whole_slice : {A : Type 0} (xs : List A) → slice_of xs None None (pos 1) ≡ xs
+unfolding taken_by
+whole_slice xs = ap (λ (n : ℕ). taken xs n (pos 0) (pos 1)) (full_count (length xs)) ∙ (taken_run xs (length xs) 0 (omega arith) ∙ take_all xs)

@@ -1,6 +1,6 @@
 -- The places of a slice (Starlark, "Slice expressions"): a range that goes from the first bound by the step, up to before the second
 -- bound, or down to after it where the step is negative. A negative bound counts from the end.
-use Rattle.std.specs.Prelude.{ℕ, zero, suc, cond, ℤ, pos, negsuc, ◌+ℤ◌, ◌-ℤ◌, int_lt, List, [], ◌∷◌, slice_get, Option, Some, None}
+use Rattle.std.specs.Prelude.{◌≡◌, ◌<◌, ℕ, zero, suc, cond, ℤ, pos, negsuc, ◌+ℤ◌, ◌-ℤ◌, ◌*ℤ◌, int_lt, List, [], ◌∷◌, slice_get, length, Option, Some, None}
 use Rattle.std.specs.Int.{int_min, int_max}
 use Rattle.bq_value.specs.Range.{range_count}
 
@@ -39,3 +39,12 @@ taken xs (suc count) at step = with_first (element_at xs at) (taken xs count (at
 -- the elements at the places of a range
 unfoldable pub taken_by : {A : Type 0} → List A → ℤ → ℤ → ℤ → List A
 taken_by xs start stop step = taken xs (range_count start stop step) start step
+
+-- `xs[start:stop:step]`, where the step isn't 0
+abbrev pub slice_of : {A : Type 0} → List A → Option ℤ → Option ℤ → ℤ → List A
+slice_of xs start stop step = taken_by xs (slice_start (pos (length xs)) step start) (slice_stop (pos (length xs)) step stop) step
+
+-- these are the elements at so many places, in their order, and no other
+pub record AreElements {A : Type 0} (xs : List A) (n : ℕ) (at step : ℤ) (ys : List A) : Type 0 where
+  pub count : length ys ≡ n
+  pub each : (k : ℕ) → k < n → slice_get ys k ≡ element_at xs (at +ℤ (pos k *ℤ step))

@@ -1,4 +1,17 @@
-//! Numbers, and places in lists and strings, come in; what the operators of the language make of them goes out.
+//! Integers, ranges, and places in lists and strings come in; what the operators of the language make of them goes out.
+//!
+//! The promise: each call gives exactly the answer or the fault of its definition. None takes memory, and none walks a range.
+//!
+//! In reading order:
+//!
+//! - `integer`: arithmetic of integers of 64 bits;
+//! - `division`: quotients that are rounded down, and what they leave;
+//! - `shift`: products and quotients by powers of two;
+//! - `length`: how long what is joined or repeated is;
+//! - `place`: the places of an index and of a searched region;
+//! - `slice`: the places that a slice takes;
+//! - `range`: the elements of a range;
+//! - `laws`: what the definitions say together.
 #![tactic(auto)]
 
 mod division;
