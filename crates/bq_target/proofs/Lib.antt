@@ -1,0 +1,4 @@
+pub mod Taking
+pub mod Walking
+pub mod Finding
+pub mod States

@@ -1,0 +1,6 @@
+pub mod Value
+pub mod Target
+pub mod Names
+pub mod Package
+pub mod Calls
+pub mod Files

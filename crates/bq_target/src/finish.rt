@@ -1,0 +1,98 @@
+//! Files that a BUILD file exports, and the package once it is evaluated.
+
+ghost use Rattle.std.specs.Prelude.{◌≡◌, true, IfOk};
+ghost use Rattle.std.specs.List.{list_any, list_all};
+ghost use Rattle.bq_target.specs.Target.{is_of, names_of};
+ghost use Rattle.bq_target.specs.Package.{is_taken};
+
+use crate::files::Files;
+use crate::names::Names;
+use crate::package::Package;
+use crate::state::{Declared, PackageState};
+use crate::target::Target;
+use bq_label::Label;
+use sqlite_items::{Items, at};
+use std::alloc::{AllocError, Global};
+
+/// Whether a rule, an output or a group has the label's name.
+#[tactic(auto, unfolding(crate::specs::Package::is_taken))]
+fn is_taken(targets: &[Target], names: &Names, label: &Label) -> Result<bool, AllocError>
+    requires { names.now ≡ names_of targets.now }
+    ensures { IfOk result (λ taken. taken ≡ is_taken targets.now label.now) }
+{
+    match names.place(label.name())? {
+        None => Ok(false),
+        Some(place) => match at(targets, place) {
+            None => Ok(false),
+            Some(target) => Ok(!target.kind.is_source()),
+        },
+    }
+}
+
+/// Whether this is so of one of the labels.
+fn any_is_taken(targets: &[Target], names: &Names, labels: &[Label]) -> Result<bool, AllocError>
+    requires { names.now ≡ names_of targets.now }
+    ensures { IfOk result (λ taken. taken ≡ list_any (is_taken targets.now) labels.now) }
+{
+    for label in labels {
+        if is_taken(targets, names, label)? {
+            return Ok(true);
+        }
+    }
+    Ok(false)
+}
+
+impl PackageState {
+    ghost use Rattle.bq_label.specs.Label.{package_of};
+    ghost use Rattle.bq_target.specs.Package.{finished};
+    ghost use Rattle.bq_target.specs.Calls.{exported};
+
+    /// Declares source files. A file may be declared again; the call is refused, F74, where a rule, an output or a group has one of
+    /// the names.
+    pub fn export(self, alloc: Global, labels: &[Label], line: u32) -> Result<Declared, AllocError>
+        requires { list_all (is_of (package_of self.build_file)) labels.now ≡ true }
+        ensures { IfOk result (λ d. d ≡ exported self labels.now line) }
+    {
+        if any_is_taken(self.targets.as_slice(), &self.names, labels)? {
+            return Ok(Declared::Refused(self));
+        }
+        let PackageState {
+            build_file,
+            mut targets,
+            names,
+        } = self;
+        let mut files = Files {
+            names,
+            found: Items::new(alloc),
+        };
+        files.add_all(alloc, labels, line)?;
+        let Files { names, found } = files;
+        targets.append(found)?;
+        Ok(Declared::Accepted(PackageState {
+            build_file,
+            targets,
+            names,
+        }))
+    }
+
+    /// The package once its BUILD file is evaluated: what the accepted calls declare, then the BUILD file and the files of the package
+    /// that these targets name, where nothing declares them.
+    pub fn finish(self, alloc: Global) -> Result<Package, AllocError>
+        ensures { IfOk result (λ p. p ≡ finished self) }
+    {
+        let PackageState {
+            build_file,
+            mut targets,
+            names,
+        } = self;
+        let mut files = Files {
+            names,
+            found: Items::new(alloc),
+        };
+        files.add(alloc, &build_file, 0)?;
+        files.add_named(alloc, build_file.package_id(), targets.as_slice())?;
+        let Files { names: _, found } = files;
+        targets.append(found)?;
+        Ok(Package::of(build_file, targets))
+    }
+}

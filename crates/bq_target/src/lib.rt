@@ -1,0 +1,33 @@
+//! What the accepted calls of a BUILD file declare comes in; a package and its targets go out.
+//!
+//! The promise: a call that is refused leaves the package as it was ([`PackageState::declare`], [`PackageState::export`]), and
+//! [`PackageState::finish`] gives the targets that the accepted calls declare, in their order, and after them the BUILD file and each
+//! file of the package that one of them names and none declares (`specs/Package.antt`). Every call takes time linear in what it
+//! declares; no text is copied that is longer than 22 bytes.
+//!
+//! In reading order:
+//!
+//! - `value`: typed values of attributes, and the attributes that rules have;
+//! - `target`: what a target is, and which targets it names;
+//! - `names`: the names that are taken;
+//! - `package`: a package and its targets;
+//! - `state`: the package of a BUILD file that is being evaluated;
+//! - `declare`: the calls of rules and of `package_group`;
+//! - `files`: the files that labels name and nothing declares;
+//! - `finish`: exported files, and the package once its BUILD file is evaluated;
+//! - `laws`: what holds of every package.
+#![tactic(auto)]
+
+mod declare;
+mod files;
+mod finish;
+mod names;
+mod package;
+mod state;
+mod target;
+mod value;
+
+pub use package::Package;
+pub use state::{Declared, PackageState};
+pub use target::{Target, TargetKind};
+pub use value::{AttributeValue, GivenAttribute, attribute_type};
