@@ -1,2 +1,3 @@
--- `Layers`: one layer of a tree.
+-- `Layers`: one layer of a tree. `Frames`: the frame that a comprehension is in.
 mod Layers
+mod Frames

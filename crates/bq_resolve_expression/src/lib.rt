@@ -9,22 +9,27 @@
 //! passed then (`Walks`).
 //!
 //! Each rule over the expressions inside is a method of [`Rules`], which holds the resolver of these, so that each is proved by
-//! itself.
+//! itself; only [`expr_to`] closes the circle. `depth` is how many layers of a tree are looked at.
 //!
 //! In reading order:
 //!
 //! - `walk`: what is carried along a file;
 //! - `identifier`: uses of names, and names that are bound;
 //! - `rules`: the resolver of what stands inside, and lists of it;
-//! - `suffixes`, `targets`: the rules.
+//! - `suffixes`, `primary`, `targets`, `comprehensions`: the rules;
+//! - `expressions`: all forms of expressions.
 #![tactic(auto)]
 
+mod comprehensions;
+mod expressions;
 mod identifier;
+mod primary;
 mod rules;
 mod suffixes;
 mod targets;
 mod walk;
 
+pub use expressions::expr_to;
 pub use identifier::{fault_of, name_target, use_at};
 pub use rules::Rules;
 pub use walk::Walk;

@@ -115,7 +115,7 @@ impl<F: Fn(Global, &FileNames, usize, &[Block], &mut Walk, &Expr) -> Result<Code
     }
 
     #[tactic(auto, unfolding(bq_scope::specs::Visit::each))]
-    fn pairs(
+    pub fn pairs(
         &self,
         file: &FileNames,
         blocks: &[Block],

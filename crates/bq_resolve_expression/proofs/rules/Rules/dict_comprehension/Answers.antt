@@ -1,0 +1,24 @@
+use Rattle.std.proofs.Common.{◌≡◌, Ok, true, false, sym, ◌∙◌, length, rules, arith}
+use Rattle.std.proofs.lemmas.Grind.{common_steps}
+use Rattle.std.specs.Bool.{◌==◌}
+use Rattle.bq_scope.specs.declared.code.Code.{Code}
+use Rattle.bq_scope.specs.declared.code.Code.TheVariants as code
+use Rattle.bq_scope.specs.Visit.{Visit}
+use Rattle.bq_scope.specs.Expressions.{pair, in_block, comprehension, expr_to}
+use Rattle.bq_resolve_expression.proofs.Frames.{inside_block, own_frame}
+use Rattle.bq_resolve_expression.proofs.rules.Rules.dict_comprehension.Goals as goal
+
+pub returns-then-not-is_empty : goal.returns-then-not-is_empty
+unfolding comprehension
+returns-then-not-is_empty g c =
+    let v : Visit Code = in_block c.args.file.now (expr_to c.args.self.now.depth c.args.file.now) (λ bs. pair c.args.file.now (expr_to c.args.self.now.depth c.args.file.now) bs c.args.pair.now) code.DictComprehension c.args.blocks.now c.args.clauses.now in
+    let some : (length c.args.blocks.now == 0) ≡ false = sym c.is_empty.ensures ∙ c.if-not-is_empty.true in
+    inside_block c.args.blocks.now v c.args.walk.now c.dict_in_block.new.walk c.dict_in_block.result some c.dict_in_block.ensures
+
+pub returns : goal.returns
+unfolding comprehension
+returns g c =
+    let v : Visit Code = in_block c.args.file.now (expr_to c.args.self.now.depth c.args.file.now) (λ bs. pair c.args.file.now (expr_to c.args.self.now.depth c.args.file.now) bs c.args.pair.now) code.DictComprehension c.args.blocks.now c.args.clauses.now in
+    let none : (length c.args.blocks.now == 0) ≡ true = sym c.is_empty.ensures ∙ c.if-not-is_empty.false in
+    let inside : v (record c.args.walk.now { slots = 0 }) ≡ Ok (c.in_ok-code.code, c.dict_in_block-2.new.walk) = first_of (search rules, grind (arith, common_steps)) in
+    own_frame c.args.blocks.now v c.args.walk.now c.framed.new.walk c.framed.result none (rw (inside, ← c.frame-had.ensures.had) c.framed.ensures)

@@ -1,0 +1,159 @@
+//! All forms of expressions, with the resolver of those inside.
+
+ghost use Rattle.bq_grammar.specs.declared.tree.Argument.TheOpen.{Expr-F};
+ghost use Rattle.bq_grammar.specs.declared.tree.Expr.{out-Expr};
+ghost use Rattle.bq_scope.specs.Expressions as spec;
+ghost use Rattle.bq_resolve_expression.specs.Walks.{Walks, WalksNested};
+
+use crate::identifier::use_at;
+use crate::rules::Rules;
+use crate::walk::Walk;
+use bq_grammar::{Choice, Comparison, Expr, Operation, UnaryOperator};
+use bq_scope::{Block, Code, FileNames};
+use bq_source::{Fault, FaultKind, SourceErr};
+use sqlite_items::{Boxed, Items};
+use std::alloc::Global;
+
+impl<F: Fn(Global, &FileNames, usize, &[Block], &mut Walk, &Expr) -> Result<Code, SourceErr>> Rules<
+    F,
+> {
+    /// The operators before an operand, and it.
+    fn unary(
+        &self,
+        file: &FileNames,
+        blocks: &[Block],
+        walk: &mut Walk,
+        operators: &[UnaryOperator],
+        operand: &Expr,
+    ) -> Result<Code, SourceErr>
+        requires { WalksNested self.now.depth (F.pre self.now.visit) (F.post self.now.visit) }
+        ensures { Walks (spec.expr_by file.now (spec.expr_to self.now.depth file.now) blocks.now (Expr-F.Unary operators.now operand.now) walk.old) result walk.new }
+    {
+        let operand = self.expr(file, blocks, walk, operand)?;
+        let operand = Boxed::new(self.alloc, operand)?;
+        Ok(Code::Unary(Items::from_slice(self.alloc, operators)?, operand))
+    }
+
+    /// An operand, and the operations on it.
+    fn binary(
+        &self,
+        file: &FileNames,
+        blocks: &[Block],
+        walk: &mut Walk,
+        first: &Expr,
+        operations: &[Operation],
+    ) -> Result<Code, SourceErr>
+        requires { WalksNested self.now.depth (F.pre self.now.visit) (F.post self.now.visit) }
+        ensures { Walks (spec.expr_by file.now (spec.expr_to self.now.depth file.now) blocks.now (Expr-F.Binary first.now operations.now) walk.old) result walk.new }
+    {
+        let first = self.expr(file, blocks, walk, first)?;
+        let first = Boxed::new(self.alloc, first)?;
+        Ok(Code::Binary(first, self.operations(file, blocks, walk, operations)?))
+    }
+
+    fn compare(
+        &self,
+        file: &FileNames,
+        blocks: &[Block],
+        walk: &mut Walk,
+        left: &Expr,
+        comparison: Comparison,
+        right: &Expr,
+    ) -> Result<Code, SourceErr>
+        requires { WalksNested self.now.depth (F.pre self.now.visit) (F.post self.now.visit) }
+        ensures { Walks (spec.expr_by file.now (spec.expr_to self.now.depth file.now) blocks.now (Expr-F.Compare left.now comparison right.now) walk.old) result walk.new }
+    {
+        let left = self.expr(file, blocks, walk, left)?;
+        let left = Boxed::new(self.alloc, left)?;
+        let right = self.expr(file, blocks, walk, right)?;
+        Ok(Code::Compare(left, comparison, Boxed::new(self.alloc, right)?))
+    }
+
+    /// Choices, and the last value.
+    fn conditional(
+        &self,
+        file: &FileNames,
+        blocks: &[Block],
+        walk: &mut Walk,
+        choices: &[Choice],
+        last: &Expr,
+    ) -> Result<Code, SourceErr>
+        requires { WalksNested self.now.depth (F.pre self.now.visit) (F.post self.now.visit) }
+        ensures { Walks (spec.expr_by file.now (spec.expr_to self.now.depth file.now) blocks.now (Expr-F.Conditional choices.now last.now) walk.old) result walk.new }
+    {
+        let choices = self.choices(file, blocks, walk, choices)?;
+        let last = self.expr(file, blocks, walk, last)?;
+        Ok(Code::Conditional(choices, Boxed::new(self.alloc, last)?))
+    }
+
+    /// An expression, of any form.
+    fn expr_by(
+        &self,
+        file: &FileNames,
+        blocks: &[Block],
+        walk: &mut Walk,
+        expr: &Expr,
+    ) -> Result<Code, SourceErr>
+        requires { WalksNested self.now.depth (F.pre self.now.visit) (F.post self.now.visit) }
+        ensures { Walks (spec.expr_by file.now (spec.expr_to self.now.depth file.now) blocks.now (out-Expr expr.now) walk.old) result walk.new }
+    {
+        match expr {
+            Expr::Name(name) => Ok(Code::Use(use_at(file, blocks, name)?)),
+            Expr::Int(value) => Ok(Code::Int(*value)),
+            Expr::String(text) => Ok(Code::String(text.share()?)),
+            Expr::List(items) => Ok(Code::List(self.exprs(file, blocks, walk, items.as_slice())?)),
+            Expr::Tuple(items) => Ok(Code::Tuple(self.exprs(
+                file,
+                blocks,
+                walk,
+                items.as_slice(),
+            )?)),
+            Expr::Dict(pairs) => Ok(Code::Dict(self.pairs(file, blocks, walk, pairs.as_slice())?)),
+            Expr::ListComprehension(element, clauses) => {
+                self.list_comprehension(file, blocks, walk, element.get(), clauses.as_slice())
+            }
+            Expr::DictComprehension(pair, clauses) => {
+                self.dict_comprehension(file, blocks, walk, pair.get(), clauses.as_slice())
+            }
+            Expr::Primary(operand, suffixes) => {
+                self.primary(file, blocks, walk, operand.get(), suffixes.as_slice())
+            }
+            Expr::Unary(operators, operand) => {
+                self.unary(file, blocks, walk, operators.as_slice(), operand.get())
+            }
+            Expr::Binary(first, operations) => {
+                self.binary(file, blocks, walk, first.get(), operations.as_slice())
+            }
+            Expr::Compare(left, comparison, right) => {
+                self.compare(file, blocks, walk, left.get(), *comparison, right.get())
+            }
+            Expr::Conditional(choices, last) => {
+                self.conditional(file, blocks, walk, choices.as_slice(), last.get())
+            }
+            Expr::Lambda => Ok(Code::Lambda),
+        }
+    }
+}
+
+/// An expression that is no deeper than so many layers.
+#[tactic(auto, using(crate::proofs::Layers::expr_layer), unfolding(bq_scope::specs::Expressions::expr_to))]
+pub fn expr_to(
+    alloc: Global,
+    file: &FileNames,
+    depth: usize,
+    blocks: &[Block],
+    walk: &mut Walk,
+    expr: &Expr,
+) -> Result<Code, SourceErr>
+    ensures { Walks (spec.expr_to depth file.now blocks.now expr.now walk.old) result walk.new }
+{
+    if depth == 0 {
+        return Err(SourceErr::Bad(Fault::at(FaultKind::Nesting, 0)));
+    }
+    Rules {
+        alloc,
+        depth: depth - 1,
+        visit: expr_to,
+    }
+    .expr_by(file, blocks, walk, expr)
+}
