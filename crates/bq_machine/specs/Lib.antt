@@ -1,0 +1,12 @@
+pub mod State
+pub mod Action
+pub mod StateOf
+pub mod Machine
+pub mod Calls
+pub mod Cells
+pub mod Lending
+pub mod Iteration
+pub mod Fitting
+pub mod ElementsOf
+pub mod Args
+pub mod ArgsOf

@@ -1,0 +1,32 @@
+//! The state of a module's evaluation, and the actions that change it.
+//!
+//! The promise: a [`Machine`] is seen as its `State` (`specs/State.antt`), and each call gives exactly what the action of its name
+//! gives of that state, unless memory runs out: a value and the state after it, or why the program stops there.
+//!
+//! An *action* (`specs/Action.antt`) goes from a state to a value and a state, or to a `Stop`: the fault, the line that was running,
+//! the message of `fail`, and what was printed by then. Actions are put one after another by `>>=`. They are for any state: what is
+//! done on a machine alone is an action on a `State`, and where a host keeps something beside, `on_machine` makes it one on both.
+//! `Does` and `HostDoes` say in a contract that a call gave what an action gives.
+//!
+//! In reading order:
+//!
+//! - `machine`: the state; steps, prints, `fail`, the line that is running;
+//! - `walks`: equality, order, texts and keys, with the machine's steps;
+//! - `cells`: new lists and dicts, what they hold, and leave to change it;
+//! - `range_walk`, `iteration`: the elements of an iterable, and walks over them;
+//! - `calls`: which functions are active;
+//! - `args`: what a call passes.
+#![tactic(auto)]
+
+mod args;
+mod calls;
+mod cells;
+mod iteration;
+mod machine;
+mod range_walk;
+mod walks;
+
+pub use args::Args;
+pub use calls::MAX_ACTIVE;
+pub use iteration::{Elements, copies, keys_of};
+pub use machine::Machine;
