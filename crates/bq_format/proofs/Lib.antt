@@ -6,3 +6,5 @@ pub mod Cutting
 pub mod Digits
 -- One field of a format after another.
 pub mod Fields
+-- Formats in words, and formats without fields.
+pub mod Fieldless

@@ -1,7 +1,7 @@
 -- What a format is cut into (Starlark, "string·format"): bytes that stand for themselves, fields in braces, and braces that are
 -- alone. Two braces of one kind stand for one; a field goes from an opening brace to the next closing one.
 use Rattle.std.specs.Prelude.{◌≡◌, ◌≢◌, ℕ, zero, suc, Bool, not, ◌||◌, ◌==◌, List, [], ◌∷◌, ◌++◌, length, take, drop, Option, Some, None, if◌then◌else◌}
-use Rattle.std.specs.List.{All, prefix_len, flat_map}
+use Rattle.std.specs.List.{All, prefix_len}
 use Rattle.bq_format.specs.Percent.{DraftView, and_write, spoiled}
 
 pub data Piece : Type 0 where
@@ -85,9 +85,19 @@ piece_written d (field name) = d
 
 -- ---- for the laws
 
--- each brace twice
-abbrev pub brace_twice : ℕ → List ℕ
-brace_twice b = if is_brace b then b ∷ b ∷ [] else b ∷ []
+-- no brace is alone
+abbrev pub HasNoLone : List Piece → Type 0
+HasNoLone [] = Unit {0}
+HasNoLone (lone ∷ ps) = ⊥
+HasNoLone (byte b ∷ ps) = HasNoLone ps
+HasNoLone (field name ∷ ps) = HasNoLone ps
 
+-- pieces that are these bytes, and no fields
+abbrev pub bytes : List ℕ → List Piece
+bytes [] = []
+bytes (b ∷ bs) = byte b ∷ bytes bs
+
+-- each brace twice
 abbrev pub with_doubled_braces : List ℕ → List ℕ
-with_doubled_braces text = flat_map brace_twice text
+with_doubled_braces [] = []
+with_doubled_braces (b ∷ bs) = if is_brace b then b ∷ b ∷ with_doubled_braces bs else b ∷ with_doubled_braces bs

@@ -12,11 +12,13 @@
 //! - `operator`: conversions, and the operator `%`;
 //! - `piece`: what a format of the method is cut into;
 //! - `argument`: which value a field names;
-//! - `method`: the method `format`.
+//! - `method`: the method `format`;
+//! - `laws`: what the definitions say together.
 #![tactic(auto)]
 
 mod argument;
 mod draft;
+pub mod laws;
 mod method;
 mod operator;
 mod piece;
