@@ -2,3 +2,4 @@
 pub mod Reversed
 pub mod Within
 pub mod Integers
+pub mod Placing

@@ -4,12 +4,12 @@ use Rattle.std.specs.List.{list_any}
 use Rattle.bq_source.specs.declared.fault.FaultKind.{FaultKind}
 use Rattle.bq_source.specs.declared.fault.FaultKind.TheVariants.{WrongType, Frozen, Iterating}
 use Rattle.bq_value.specs.Datum.{Datum, cell}
-use Rattle.bq_value.specs.Contents.{Contents}
+use Rattle.bq_value.specs.Contents.{Contents, items, pairs}
 use Rattle.bq_value.specs.Cells.{StoreView, content_at, with_cells}
 use Rattle.bq_value.specs.Lending.{with_cell}
 use Rattle.bq_value.specs.declared.value.Cell.{Cell}
 use Rattle.bq_machine.specs.State.{State}
-use Rattle.bq_machine.specs.Action.{Action, done, ◌>>◌, stop, look}
+use Rattle.bq_machine.specs.Action.{Action, done, ◌>>=◌, ◌>>◌, pure, stop, given, look, change}
 
 abbrev pub with_store : StoreView → State → State
 with_store store s = record s { store = store }
@@ -41,3 +41,20 @@ may_change home number s = cond (home == s.store.own) (cond (is_walked home numb
 -- a list or dict that may be changed
 unfoldable pub can_change : ℕ → ℕ → Action State (Unit {0})
 can_change home number = content home number >> may_change home number
+
+abbrev pub put_content : ℕ → Contents → Action State (Unit {0})
+put_content number c = change (λ s. with_content s number c)
+
+-- What changes a list or dict that may be changed: from what it holds to what it holds then and an answer, or a fault.
+abbrev pub Change : Type 0 → Type 0
+Change A = Contents → Result (A × Contents) FaultKind
+
+unfoldable pub changing : {A : Type 0} → ℕ → ℕ → Change A → Action State A
+changing home number f = can_change home number >> (content home number >>= λ c. given (f c) >>= λ r. put_content number r.1 >> pure r.0)
+
+-- new lists and dicts
+unfoldable pub new_list : List Datum → Action State Datum
+new_list xs = new_content (items xs)
+
+unfoldable pub new_dict : List (Datum × Datum) → Action State Datum
+new_dict ps = new_content (pairs ps)

@@ -9,4 +9,6 @@ pub mod Iteration
 pub mod Fitting
 pub mod ElementsOf
 pub mod Args
+pub mod Parameters
+pub mod Binding
 pub mod ArgsOf

@@ -4,12 +4,12 @@ ghost use Rattle.std.specs.Prelude.{◌≡◌, ◌<◌, IfOk, OnOk, Some, length
 ghost use Rattle.std.specs.Borrow.{sem};
 ghost use Rattle.bq_value.specs.Cells.{content_at};
 ghost use Rattle.bq_machine.specs.Action.{Does};
-ghost use Rattle.bq_machine.specs.Cells.{new_content, content, is_walked, may_change, can_change};
+ghost use Rattle.bq_machine.specs.Cells.{new_content, new_list, new_dict, content, is_walked, may_change, can_change};
 ghost use Rattle.bq_machine.specs.Lending.{LendsContent};
 
 use crate::machine::Machine;
 use bq_source::FaultKind;
-use bq_value::{Cell, Content, EvalErr, Value};
+use bq_value::{Cell, Content, Dict, EvalErr, Value};
 
 impl Machine {
     /// A new list or dict.
@@ -18,6 +18,22 @@ impl Machine {
         ensures { Does (λ v. v) result self.new (new_content content self.old) }
     {
         Ok(Value::cell(self.store.make(content)?))
+    }
+
+    /// A new list.
+    #[tactic(auto, unfolding(crate::specs::Cells::new_list))]
+    pub fn new_list(&mut self, values: Vec<Value>) -> Result<Value, EvalErr>
+        ensures { Does (λ v. v) result self.new (new_list values.items self.old) }
+    {
+        self.new_content(Content::list(values))
+    }
+
+    /// A new dict.
+    #[tactic(auto, unfolding(crate::specs::Cells::new_dict))]
+    pub fn new_dict(&mut self, pairs: Dict) -> Result<Value, EvalErr>
+        ensures { Does (λ v. v) result self.new (new_dict pairs self.old) }
+    {
+        self.new_content(Content::dict(pairs))
     }
 
     /// What a list or dict holds.

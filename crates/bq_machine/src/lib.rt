@@ -15,18 +15,22 @@
 //! - `cells`: new lists and dicts, what they hold, and leave to change it;
 //! - `range_walk`, `iteration`: the elements of an iterable, and walks over them;
 //! - `calls`: which functions are active;
-//! - `args`: what a call passes.
+//! - `args`, `parameters`, `binding`: what a call passes, what a function takes, and which argument goes to which parameter.
 #![tactic(auto)]
 
 mod args;
+mod binding;
 mod calls;
 mod cells;
 mod iteration;
 mod machine;
+mod parameters;
 mod range_walk;
 mod walks;
 
 pub use args::Args;
+pub use binding::{Bound, bind};
 pub use calls::MAX_ACTIVE;
 pub use iteration::{Elements, copies, keys_of};
 pub use machine::Machine;
+pub use parameters::{Parameter, Signature};
