@@ -1,0 +1,2 @@
+-- `Layers`: one layer of a statement.
+mod Layers

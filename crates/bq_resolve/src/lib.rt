@@ -2,10 +2,12 @@
 #![tactic(auto)]
 
 mod blocks;
+mod file;
 mod functions;
-mod loads;
+mod load;
 mod outside;
 mod parameters;
 mod small;
+mod statements;
 
-pub use functions::Outside;
+pub use file::{loads, resolve};

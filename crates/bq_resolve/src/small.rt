@@ -8,7 +8,7 @@ ghost use Rattle.bq_scope.specs.Visit as visit;
 ghost use Rattle.bq_scope.specs.Statements as spec;
 ghost use Rattle.bq_resolve_expression.specs.Walks.{Walks, WalksNested};
 
-use crate::loads::load;
+use crate::load::load;
 use bq_grammar::{Expr, Load, Operator, SmallKind, SmallStmt, Target};
 use bq_resolve_expression::{Rules, Walk};
 use bq_scope::{Block, Code, CodeSmall, CodeTarget, FileNames, MAX_LAYERS};

@@ -1,7 +1,7 @@
 use Rattle.std.proofs.Common.{◌≡◌, [], drop}
 use Rattle.bq_scope.specs.Visit.{each}
 use Rattle.bq_scope.specs.Statements.{load_clause}
-use Rattle.bq_resolve.proofs.loads.load_clauses.Given as goal
+use Rattle.bq_resolve.proofs.load.load_clauses.Given as goal
 
 abbrev pub invariant-loop-clause : goal.invariant-loop-clause
 invariant-loop-clause l = each (load_clause l.file) l.done (drop l.clause-index l.clauses) l.walk ≡ each (load_clause l.file) [] l.clauses l.fn.walk

@@ -1,0 +1,60 @@
+//! Files.
+
+ghost use Rattle.std.specs.Prelude.{◌≡◌};
+ghost use Rattle.bq_source.specs.Gives.{Gives};
+ghost use Rattle.bq_source.specs.declared.fault.SourceErr.TheVariants.{Bad};
+ghost use Rattle.bq_scope.specs.Files.{resolved, resolved_in};
+ghost use Rattle.bq_resolve.specs.Resolved.{itself};
+
+use crate::functions::Outside;
+use crate::small::Lines;
+use crate::statements::stmt_to;
+use bq_file::File;
+use bq_grammar::TopLevel;
+use bq_resolve_expression::{Walk, expr_to};
+use bq_scope::{FileNames, LoadStmt, Resolved, Universe};
+use bq_source::SourceErr;
+use std::alloc::Global;
+
+/// What statements resolve to among the names of their file.
+fn resolve_in(
+    alloc: Global,
+    file: &FileNames,
+    statements: &[TopLevel],
+) -> Result<Resolved, SourceErr>
+    ensures { Gives itself Bad result (resolved_in file.now statements.now) }
+{
+    let visit = expr_to;
+    let outside = Outside {
+        alloc,
+        lines: Lines { alloc, visit },
+        inner: stmt_to,
+    };
+    let mut walk = Walk::new(alloc);
+    let statements = outside.statements(file, &mut walk, statements)?;
+    let (functions, loads) = walk.into_parts();
+    let globals = file.globals(alloc)?;
+    Ok(Resolved {
+        statements,
+        functions,
+        globals,
+        loads,
+    })
+}
+
+/// What the file resolves to, or the first fault of its names in the order of its text, F20 to F24. It takes time and memory in
+/// proportion to the file.
+#[tactic(auto, unfolding(bq_scope::specs::Files::resolved))]
+pub fn resolve(alloc: Global, file: &File, universe: &Universe) -> Result<Resolved, SourceErr>
+    ensures { Gives itself Bad result (resolved universe.now file.now) }
+{
+    let names = FileNames::new(alloc, universe, file.statements())?;
+    resolve_in(alloc, &names, file.statements())
+}
+
+/// The loads of a file, in the order in which they are written.
+pub fn loads(resolved: &Resolved) -> &[LoadStmt]
+    ensures { result.now ≡ resolved.now.loads }
+{
+    resolved.loads.as_slice()
+}

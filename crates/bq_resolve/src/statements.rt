@@ -1,0 +1,37 @@
+//! Statements of functions, with the resolver of those in blocks.
+
+ghost use Rattle.bq_scope.specs.Statements as spec;
+ghost use Rattle.bq_resolve_expression.specs.Walks.{Walks};
+
+use crate::blocks::Blocks;
+use crate::small::Lines;
+use bq_grammar::Stmt;
+use bq_resolve_expression::{Walk, expr_to};
+use bq_scope::{Block, CodeStmt, FileNames};
+use bq_source::{Fault, FaultKind, SourceErr};
+use std::alloc::Global;
+
+/// A statement of a function that is no deeper than so many layers; `looping` inside a `for` of the function.
+pub fn stmt_to(
+    alloc: Global,
+    file: &FileNames,
+    layers: usize,
+    blocks: &[Block],
+    looping: bool,
+    walk: &mut Walk,
+    statement: &Stmt,
+) -> Result<CodeStmt, SourceErr>
+    ensures { Walks (spec.stmt_to file.now layers blocks.now looping statement.now walk.old) result walk.new }
+{
+    if layers == 0 {
+        return Err(SourceErr::Bad(Fault::at(FaultKind::Nesting, 0)));
+    }
+    let visit = expr_to;
+    Blocks {
+        alloc,
+        lines: Lines { alloc, visit },
+        layers: layers - 1,
+        inner: stmt_to,
+    }
+    .stmt(file, blocks, looping, walk, statement)
+}
