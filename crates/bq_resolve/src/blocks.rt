@@ -2,33 +2,31 @@
 
 ghost use Rattle.std.specs.Prelude.{[], true};
 ghost use Rattle.bq_grammar.specs.declared.tree.Stmt.{out-Stmt};
-ghost use Rattle.bq_scope.specs.Names.{max_layers};
 ghost use Rattle.bq_scope.specs.Visit as visit;
 ghost use Rattle.bq_scope.specs.Statements as spec;
-ghost use Rattle.bq_resolve_expression.specs.Walks.{Walks, WalksNested};
+ghost use Rattle.bq_resolve_expression.specs.Walks.{Walks};
 ghost use Rattle.bq_resolve.specs.Inner.{WalksStatement};
 
-use crate::small::{Lines, misplaced};
+use crate::expressions::{expr, target};
+use crate::small::{line, misplaced};
 use bq_grammar::{Branch, Expr, Stmt, Target};
 use bq_resolve_expression::Walk;
-use bq_scope::{Block, Code, CodeBranch, CodeStmt, FileNames};
+use bq_scope::{Block, CodeBranch, CodeStmt, FileNames};
 use bq_source::SourceErr;
 use sqlite_items::{Boxed, Items};
 use std::alloc::Global;
 
 /// The rules of blocks take the resolver of the statements in them as a parameter, so that each rule is proved by itself.
 #[derive(Clone, Copy)]
-pub struct Blocks<F, G> {
+pub struct Blocks<F> {
     pub alloc: Global,
-    pub lines: Lines<F>,
     /// How many layers of the statements inside are still looked at.
     pub layers: usize,
-    pub inner: G,
+    pub inner: F,
 }
 
 impl<
-    F: Fn(Global, &FileNames, usize, &[Block], &mut Walk, &Expr) -> Result<Code, SourceErr> + Copy,
-    G: Fn(
+    F: Fn(
         Global,
         &FileNames,
         usize,
@@ -37,7 +35,7 @@ impl<
         &mut Walk,
         &Stmt,
     ) -> Result<CodeStmt, SourceErr>,
-> Blocks<F, G> {
+> Blocks<F> {
     /// The statements of a block; `looping` inside a `for` of the function.
     #[tactic(auto, unfolding(bq_scope::specs::Visit::each))]
     pub fn block(
@@ -48,7 +46,7 @@ impl<
         walk: &mut Walk,
         statements: &[Stmt],
     ) -> Result<Items<CodeStmt>, SourceErr>
-        requires { WalksStatement self.now.layers (G.pre self.now.inner) (G.post self.now.inner) }
+        requires { WalksStatement self.now.layers (F.pre self.now.inner) (F.post self.now.inner) }
         ensures { Walks (visit.each (spec.stmt_to file.now self.now.layers blocks.now looping) [] statements.now walk.old) result walk.new }
     {
         let mut done = Items::new(self.alloc);
@@ -78,11 +76,10 @@ impl<
         walk: &mut Walk,
         branch: &Branch,
     ) -> Result<CodeBranch, SourceErr>
-        requires exprs { WalksNested max_layers (F.pre self.now.lines.visit) (F.post self.now.lines.visit) }
-        requires inner { WalksStatement self.now.layers (G.pre self.now.inner) (G.post self.now.inner) }
+        requires { WalksStatement self.now.layers (F.pre self.now.inner) (F.post self.now.inner) }
         ensures { Walks (spec.branch file.now (spec.stmt_to file.now self.now.layers blocks.now looping) blocks.now branch.now walk.old) result walk.new }
     {
-        let condition = self.lines.expr(file, blocks, walk, &branch.condition)?;
+        let condition = expr(self.alloc, file, blocks, walk, &branch.condition)?;
         let condition = Boxed::new(self.alloc, condition)?;
         let block = self.block(file, blocks, looping, walk, branch.block.as_slice())?;
         Ok(CodeBranch {
@@ -100,8 +97,7 @@ impl<
         walk: &mut Walk,
         branches: &[Branch],
     ) -> Result<Items<CodeBranch>, SourceErr>
-        requires exprs { WalksNested max_layers (F.pre self.now.lines.visit) (F.post self.now.lines.visit) }
-        requires inner { WalksStatement self.now.layers (G.pre self.now.inner) (G.post self.now.inner) }
+        requires { WalksStatement self.now.layers (F.pre self.now.inner) (F.post self.now.inner) }
         ensures { Walks (visit.each (spec.branch file.now (spec.stmt_to file.now self.now.layers blocks.now looping) blocks.now) [] branches.now walk.old) result walk.new }
     {
         let mut done = Items::new(self.alloc);
@@ -122,8 +118,7 @@ impl<
         branches: &[Branch],
         otherwise: &[Stmt],
     ) -> Result<CodeStmt, SourceErr>
-        requires exprs { WalksNested max_layers (F.pre self.now.lines.visit) (F.post self.now.lines.visit) }
-        requires inner { WalksStatement self.now.layers (G.pre self.now.inner) (G.post self.now.inner) }
+        requires { WalksStatement self.now.layers (F.pre self.now.inner) (F.post self.now.inner) }
         ensures { Walks (spec.if_stmt file.now (spec.stmt_to file.now self.now.layers blocks.now looping) blocks.now branches.now otherwise.now walk.old) result walk.new }
     {
         let branches = self.branches(file, blocks, looping, walk, branches)?;
@@ -142,13 +137,12 @@ impl<
         iterable: &Expr,
         body: &[Stmt],
     ) -> Result<CodeStmt, SourceErr>
-        requires exprs { WalksNested max_layers (F.pre self.now.lines.visit) (F.post self.now.lines.visit) }
-        requires inner { WalksStatement self.now.layers (G.pre self.now.inner) (G.post self.now.inner) }
+        requires { WalksStatement self.now.layers (F.pre self.now.inner) (F.post self.now.inner) }
         ensures { Walks (spec.for_stmt file.now (spec.stmt_to file.now self.now.layers blocks.now true) blocks.now variables.now iterable.now body.now walk.old) result walk.new }
     {
-        let variables = self.lines.target(file, blocks, walk, variables)?;
+        let variables = target(self.alloc, file, blocks, walk, variables)?;
         let variables = Boxed::new(self.alloc, variables)?;
-        let iterable = self.lines.expr(file, blocks, walk, iterable)?;
+        let iterable = expr(self.alloc, file, blocks, walk, iterable)?;
         let iterable = Boxed::new(self.alloc, iterable)?;
         let body = self.block(file, blocks, true, walk, body)?;
         Ok(CodeStmt::For(variables.into_inner(), iterable.into_inner(), body))
@@ -163,16 +157,13 @@ impl<
         walk: &mut Walk,
         statement: &Stmt,
     ) -> Result<CodeStmt, SourceErr>
-        requires exprs { WalksNested max_layers (F.pre self.now.lines.visit) (F.post self.now.lines.visit) }
-        requires inner { WalksStatement self.now.layers (G.pre self.now.inner) (G.post self.now.inner) }
+        requires { WalksStatement self.now.layers (F.pre self.now.inner) (F.post self.now.inner) }
         ensures { Walks (spec.stmt_by file.now (spec.stmt_to file.now self.now.layers blocks.now) blocks.now looping (out-Stmt statement.now) walk.old) result walk.new }
     {
         match statement {
-            Stmt::Simple(line) => {
-                let line = self
-                    .lines
-                    .line(file, blocks, looping, walk, line.as_slice())?;
-                Ok(CodeStmt::Simple(line))
+            Stmt::Simple(small) => {
+                let small = line(self.alloc, file, blocks, looping, walk, small.as_slice())?;
+                Ok(CodeStmt::Simple(small))
             }
             Stmt::If(branches, otherwise) => self.if_stmt(
                 file,

@@ -4,14 +4,12 @@ ghost use Rattle.std.specs.Prelude.{◌≡◌};
 ghost use Rattle.bq_source.specs.Gives.{Gives};
 ghost use Rattle.bq_source.specs.declared.fault.SourceErr.TheVariants.{Bad};
 ghost use Rattle.bq_scope.specs.Files.{resolved, resolved_in};
-ghost use Rattle.bq_resolve.specs.Resolved.{itself};
+ghost use Rattle.bq_file.specs.Answers.{itself};
 
-use crate::functions::Outside;
-use crate::small::Lines;
-use crate::statements::stmt_to;
+use crate::outside::top_levels;
 use bq_file::File;
 use bq_grammar::TopLevel;
-use bq_resolve_expression::{Walk, expr_to};
+use bq_resolve_expression::Walk;
 use bq_scope::{FileNames, LoadStmt, Resolved, Universe};
 use bq_source::SourceErr;
 use std::alloc::Global;
@@ -24,14 +22,8 @@ fn resolve_in(
 ) -> Result<Resolved, SourceErr>
     ensures { Gives itself Bad result (resolved_in file.now statements.now) }
 {
-    let visit = expr_to;
-    let outside = Outside {
-        alloc,
-        lines: Lines { alloc, visit },
-        inner: stmt_to,
-    };
     let mut walk = Walk::new(alloc);
-    let statements = outside.statements(file, &mut walk, statements)?;
+    let statements = top_levels(alloc, file, &mut walk, statements)?;
     let (functions, loads) = walk.into_parts();
     let globals = file.globals(alloc)?;
     Ok(Resolved {

@@ -4,9 +4,8 @@ ghost use Rattle.bq_scope.specs.Statements as spec;
 ghost use Rattle.bq_resolve_expression.specs.Walks.{Walks};
 
 use crate::blocks::Blocks;
-use crate::small::Lines;
 use bq_grammar::Stmt;
-use bq_resolve_expression::{Walk, expr_to};
+use bq_resolve_expression::Walk;
 use bq_scope::{Block, CodeStmt, FileNames};
 use bq_source::{Fault, FaultKind, SourceErr};
 use std::alloc::Global;
@@ -26,10 +25,8 @@ pub fn stmt_to(
     if layers == 0 {
         return Err(SourceErr::Bad(Fault::at(FaultKind::Nesting, 0)));
     }
-    let visit = expr_to;
     Blocks {
         alloc,
-        lines: Lines { alloc, visit },
         layers: layers - 1,
         inner: stmt_to,
     }

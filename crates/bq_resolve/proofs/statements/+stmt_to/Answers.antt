@@ -1,8 +1,6 @@
 use Rattle.std.proofs.Common.{◌≡◌, ◌∙◌, Err, ap, arith}
-use Rattle.bq_source.specs.declared.fault.Fault.{Fault}
 use Rattle.bq_source.specs.declared.fault.FaultKind.TheVariants as f
 use Rattle.bq_source.specs.Fault.{fault_at}
-use Rattle.bq_scope.specs.Statements.{stmt_to}
 use Rattle.bq_resolve.proofs.Layers.{stmt_layer, no_layer}
 use Rattle.bq_resolve.proofs.statements.+stmt_to.Goals as goal
 

@@ -1,7 +1,0 @@
-use Rattle.std.proofs.Common.{◌≡◌, [], drop}
-use Rattle.bq_scope.specs.Visit.{each}
-use Rattle.bq_scope.specs.Files.{top_level}
-use Rattle.bq_resolve.proofs.functions.Outside.statements.Given as goal
-
-abbrev pub invariant-loop-statement : goal.invariant-loop-statement
-invariant-loop-statement g l = each (top_level l.file) l.done (drop l.statement-index l.statements) l.walk ≡ each (top_level l.file) [] l.statements l.fn.walk
