@@ -1,6 +1,5 @@
 -- Expressions need no more slots than the frame has after them.
-use Rattle.std.proofs.Common.{◌≡◌, ◌≤◌, ℕ, zero, suc, ◌+◌, max, List, [], ◌∷◌, map, length, Option, Some, None, Result, Ok, Err, refl, sym, ap, ◌∙◌, arith, nat_lt, false}
-use Rattle.std.specs.Prelude.{if◌then◌else◌}
+use Rattle.std.proofs.Common.{◌≡◌, ◌≤◌, ℕ, zero, suc, ◌+◌, max, List, [], ◌∷◌, map, length, Option, Some, None, Result, Ok, Err, refl, ◌∙◌, arith}
 use Rattle.bq_source.specs.declared.fault.Fault.{Fault}
 use Rattle.bq_source.specs.declared.fault.FaultKind.TheVariants as f
 use Rattle.bq_source.specs.Fault.{fault_at}
@@ -19,11 +18,11 @@ use Rattle.bq_scope.specs.declared.code.Code.{Code}
 use Rattle.bq_scope.specs.declared.code.Code.TheVariants as c
 use Rattle.bq_scope.specs.declared.code.CodeArgument.{CodeArgument}
 use Rattle.bq_scope.specs.declared.code.CodeArgument.TheVariants as a
-use Rattle.bq_scope.specs.declared.code.CodeChoice.{CodeChoice, roll-CodeChoice}
+use Rattle.bq_scope.specs.declared.code.CodeChoice.{roll-CodeChoice}
 use Rattle.bq_scope.specs.declared.code.CodeClause.{CodeClause}
 use Rattle.bq_scope.specs.declared.code.CodeClause.TheVariants as cl
-use Rattle.bq_scope.specs.declared.code.CodeOperation.{CodeOperation, roll-CodeOperation}
-use Rattle.bq_scope.specs.declared.code.CodePair.{CodePair, roll-CodePair}
+use Rattle.bq_scope.specs.declared.code.CodeOperation.{roll-CodeOperation}
+use Rattle.bq_scope.specs.declared.code.CodePair.{roll-CodePair}
 use Rattle.bq_scope.specs.declared.code.CodeSuffix.{CodeSuffix}
 use Rattle.bq_scope.specs.declared.code.CodeSuffix.TheVariants as s
 use Rattle.bq_scope.specs.declared.code.CodeTarget.{CodeTarget}
@@ -32,12 +31,11 @@ use Rattle.bq_scope.specs.Names.{Name, TargetLayer, ClauseLayer, max_layers, com
 use Rattle.bq_scope.specs.Scope.{BlockParts, FileParts}
 use Rattle.bq_scope.specs.Universe.{host_named}
 use Rattle.bq_scope.specs.Visit.{Passed, Visit, ◌>>=◌, pure, given, fault_of, each, optional}
-use Rattle.bq_scope.specs.Expressions as e
-use Rattle.bq_scope.specs.Expressions.{framed, in_frame, native_call, is_native, use_at, name_target, target_by, target_to, pair, operation, choice, argument_by, arguments, suffix_by, suffixes, operand, host_call, primary_by, primary, clause_by, clauses, in_block, comprehension, expr_by, expr_to}
+use Rattle.bq_scope.specs.Expressions.{framed, in_frame, native_call, is_native, use_at, target_by, target_to, pair, operation, choice, argument_by, arguments, suffix_by, suffixes, operand, host_call, primary_by, primary, clause_by, clauses, in_block, comprehension, expr_by, expr_to}
 use Rattle.bq_scope_laws.specs.Slots.{most, binding_slots, framed_slots, code_slots, argument_slots, clause_slots, suffix_slots, target_slots, choice_slots, operation_slots, pair_slots}
 use Rattle.bq_scope_laws.proofs.Steps as S
 use Rattle.bq_scope_laws.proofs.Steps.{part_slots}
-use Rattle.bq_scope_laws.proofs.Needs.{Within, within_more, room, Made, Needs, ended, moved, weaker, needs_pure, needs_stop, needs_given, needs_bind, needs_map, needs_two, needs_three, needs_each, needs_all, part, needs_optional, needs_inside}
+use Rattle.bq_scope_laws.proofs.Needs.{Within, within_more, Made, Needs, moved, weaker, needs_pure, needs_stop, needs_given, needs_bind, needs_map, needs_two, needs_three, needs_each, needs_all, part, needs_optional, needs_inside}
 use Rattle.bq_scope_laws.proofs.Uses.{use_needs, name_needs}
 
 -- of all of these

@@ -1,5 +1,5 @@
 -- Functions have frames for all of their slots, and what stands outside functions needs none.
-use Rattle.std.proofs.Common.{◌≡◌, ◌≤◌, ℕ, suc, ◌+◌, max, Bool, true, false, List, [], ◌∷◌, ◌++◌, map, length, length-append, Result, Ok, Err, refl, sym, ap, ◌∙◌, subst, arith}
+use Rattle.std.proofs.Common.{◌≡◌, ◌≤◌, ℕ, ◌+◌, Bool, true, false, List, [], ◌∷◌, ◌++◌, map, length, length-append, Result, Ok, Err, refl, sym, ap, ◌∙◌, subst, arith}
 use Rattle.std.specs.Prelude.{if◌then◌else◌}
 use Rattle.std.specs.List.{AllByRecursion}
 use Rattle.bq_source.specs.declared.fault.Fault.{Fault}
@@ -13,18 +13,14 @@ use Rattle.bq_grammar.specs.declared.tree.Parameter.TheVariants as parameter
 use Rattle.bq_grammar.specs.declared.tree.Stmt.{Stmt, out-Stmt}
 use Rattle.bq_grammar.specs.declared.tree.Stmt.TheOpen.{Stmt-F}
 use Rattle.bq_grammar.specs.declared.tree.TopLevel.{TopLevel}
-use Rattle.bq_scope.specs.declared.code.Code.{Code}
 use Rattle.bq_scope.specs.declared.code.CodeFunction.{CodeFunction}
 use Rattle.bq_scope.specs.declared.code.CodeParameter.{CodeParameter}
 use Rattle.bq_scope.specs.declared.code.CodeParameter.TheVariants as slot
-use Rattle.bq_scope.specs.declared.code.CodeSmall.{CodeSmall}
 use Rattle.bq_scope.specs.declared.code.CodeStmt.{CodeStmt}
-use Rattle.bq_scope.specs.declared.code.CodeTarget.{CodeTarget}
 use Rattle.bq_scope.specs.declared.code.CodeTopLevel.{CodeTopLevel}
 use Rattle.bq_scope.specs.declared.code.FileStmt.{FileStmt}
 use Rattle.bq_scope.specs.declared.code.FileStmt.TheVariants as s
 use Rattle.bq_scope.specs.declared.code.Resolved.{Resolved}
-use Rattle.bq_scope.specs.Universe.{UniverseParts}
 use Rattle.bq_scope.specs.Names.{Name, max_layers, has, with_name, with_each, with_parameter, function_names}
 use Rattle.bq_scope.specs.Scope.{BlockParts, FileParts}
 use Rattle.bq_scope.specs.Visit.{Passed, Visit, following, ◌>>=◌, pure, stop, fault_of, each, nothing_passed}

@@ -1,12 +1,11 @@
 -- What is bound stays bound: the names of a function are at least as many as its parameters.
-use Rattle.std.proofs.Common.{◌≡◌, ◌≤◌, ℕ, zero, suc, ◌+◌, Bool, true, false, List, [], ◌∷◌, ◌++◌, length, length-append, arith}
+use Rattle.std.proofs.Common.{◌≤◌, ℕ, zero, suc, Bool, true, false, List, [], ◌∷◌, ◌++◌, length, length-append, arith}
 use Rattle.std.specs.Prelude.{if◌then◌else◌}
 use Rattle.bq_grammar.specs.declared.tree.Argument.TheOpen.{Target-F}
 use Rattle.bq_grammar.specs.declared.tree.Branch.{Branch, out-Branch}
 use Rattle.bq_grammar.specs.declared.tree.Parameter.{Parameter}
 use Rattle.bq_grammar.specs.declared.tree.SmallKind.{SmallKind}
 use Rattle.bq_grammar.specs.declared.tree.SmallKind.TheVariants as small
-use Rattle.bq_grammar.specs.declared.tree.SmallStmt.{SmallStmt}
 use Rattle.bq_grammar.specs.declared.tree.Stmt.{Stmt, out-Stmt}
 use Rattle.bq_grammar.specs.declared.tree.Stmt.TheOpen.{Stmt-F}
 use Rattle.bq_grammar.specs.declared.tree.Target.{Target, out-Target}

@@ -1,5 +1,5 @@
 -- Statements of functions need no more slots than the frame has after them.
-use Rattle.std.proofs.Common.{◌≡◌, ◌≤◌, ℕ, zero, suc, ◌+◌, max, Bool, true, false, List, [], ◌∷◌, ◌++◌, map, Option, Some, None, Ok, Err, refl, ◌&&◌, arith}
+use Rattle.std.proofs.Common.{◌≡◌, ◌≤◌, ℕ, zero, suc, max, Bool, true, false, List, [], ◌∷◌, ◌++◌, map, Option, Some, None, Err, refl, arith}
 use Rattle.std.specs.Prelude.{if◌then◌else◌}
 use Rattle.bq_source.specs.declared.fault.Fault.{Fault}
 use Rattle.bq_source.specs.declared.fault.FaultKind.TheVariants as f
@@ -16,21 +16,20 @@ use Rattle.bq_grammar.specs.declared.tree.Stmt.{Stmt, out-Stmt}
 use Rattle.bq_grammar.specs.declared.tree.Stmt.TheOpen.{Stmt-F}
 use Rattle.bq_grammar.specs.declared.tree.Target.{Target}
 use Rattle.bq_scope.specs.declared.code.Code.{Code}
-use Rattle.bq_scope.specs.declared.code.CodeBranch.{CodeBranch, roll-CodeBranch}
+use Rattle.bq_scope.specs.declared.code.CodeBranch.{roll-CodeBranch}
 use Rattle.bq_scope.specs.declared.code.CodeSmall.{CodeSmall}
 use Rattle.bq_scope.specs.declared.code.CodeSmall.TheVariants as c
 use Rattle.bq_scope.specs.declared.code.CodeStmt.{CodeStmt}
 use Rattle.bq_scope.specs.declared.code.CodeStmt.TheVariants as s
-use Rattle.bq_scope.specs.declared.code.CodeTarget.{CodeTarget}
 use Rattle.bq_scope.specs.declared.code.LoadedSymbol.{LoadedSymbol}
-use Rattle.bq_scope.specs.Names.{Name, max_layers, has, with_name, place_among}
+use Rattle.bq_scope.specs.Names.{Name, max_layers, has, with_name}
 use Rattle.bq_scope.specs.Scope.{BlockParts, FileParts}
-use Rattle.bq_scope.specs.Visit.{Passed, Visit, ◌>>=◌, pure, stop, fault_of, each, optional}
-use Rattle.bq_scope.specs.Expressions.{is_bzl, target_to, expr_to}
+use Rattle.bq_scope.specs.Visit.{Passed, Visit, ◌>>=◌, pure, fault_of, each, optional}
+use Rattle.bq_scope.specs.Expressions.{expr_to}
 use Rattle.bq_scope.specs.Statements.{expr, target, load_clause, with_load, load, assign, augment, returned, load_in, in_loop, small_by, small_stmt, branch, if_stmt, for_stmt, stmt_by, stmt_to}
 use Rattle.bq_scope_laws.specs.Slots.{most, code_slots, target_slots, small_slots, stmt_slots, branch_slots}
 use Rattle.bq_scope_laws.proofs.Steps as S
-use Rattle.bq_scope_laws.proofs.Needs.{Within, room, Made, Needs, ends, moved, needs_pure, needs_stop, needs_bind, needs_map, needs_two, needs_three, needs_all, part, needs_optional}
+use Rattle.bq_scope_laws.proofs.Needs.{room, Made, Needs, ends, moved, needs_pure, needs_stop, needs_bind, needs_map, needs_two, needs_three, needs_all, part, needs_optional}
 use Rattle.bq_scope_laws.proofs.Expressions.{expr_needs, target_needs}
 
 -- what is no code needs nothing

@@ -1,5 +1,5 @@
 -- What a made node needs.
-use Rattle.std.proofs.Common.{◌≡◌, ℕ, ◌+◌, max, ℤ, List, [], ◌∷◌, map, Option, Some, None, rules}
+use Rattle.std.proofs.Common.{◌≡◌, ℕ, ◌+◌, max, ℤ, List, map, Option, Some, None, rules}
 use Rattle.bq_grammar.specs.declared.tree.Comparison.{Comparison}
 use Rattle.bq_grammar.specs.declared.tree.Operator.{Operator}
 use Rattle.bq_grammar.specs.declared.tree.UnaryOperator.{UnaryOperator}
@@ -22,7 +22,7 @@ use Rattle.bq_scope.specs.declared.code.CodeSmall.{CodeSmall}
 use Rattle.bq_scope.specs.declared.code.CodeStmt as stmt
 use Rattle.bq_scope.specs.declared.code.CodeStmt.{CodeStmt}
 use Rattle.bq_scope.specs.declared.code.CodeStmt.TheVariants as st
-use Rattle.bq_scope_laws.specs.Slots.{most, optional_slots, binding_slots, framed_slots, code_slots, argument_slots, clause_slots, suffix_slots, target_slots, choice_slots, operation_slots, pair_slots, small_slots, stmt_slots, branch_slots}
+use Rattle.bq_scope_laws.specs.Slots.{most, binding_slots, framed_slots, code_slots, argument_slots, clause_slots, suffix_slots, target_slots, choice_slots, operation_slots, pair_slots, small_slots, stmt_slots, branch_slots}
 
 pub slots-Use : (x : Binding) → code_slots (c.Use x) ≡ binding_slots x
 slots-Use x = search (rules, the_lemmas)
