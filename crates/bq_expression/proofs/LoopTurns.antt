@@ -2,8 +2,9 @@
 use Rattle.std.proofs.Common.{◌≡◌, ℕ, suc, ◌+◌, ◌-◌, ◌<◌, ◌≤◌, ◌∙◌, Bool, false, if◌then◌else◌, List, [], ◌∷◌, length, Ok, refl, sym, ap, arith}
 use Rattle.bq_grammar.specs.Lexeme.{Lexeme}
 use Rattle.bq_grammar.specs.declared.tree.Expr.{Expr}
-use Rattle.bq_grammar.specs.Reading.{binary, chain}
-use Rattle.bq_grammar.specs.Turns.{Parse, Turn, ended, goes_with, next_turn, turns, repeat, repeat_from}
+use Rattle.bq_source.specs.declared.token.TokenKind.TheVariants as k
+use Rattle.bq_grammar.specs.Reading.{binary, chain, choice, with_choice, choice_turn, chosen_of, conditional}
+use Rattle.bq_grammar.specs.Turns.{Parse, Turn, ◌>>=◌, sees, whole, ended, goes_with, next_turn, turns, repeat, repeat_from}
 
 -- a turn more
 pub turns_more : {S : Type 0} (turn : S → List Lexeme → Turn S) (finish : S → Parse S) (n at : ℕ) (s : S) (ts : List Lexeme) → at < n
@@ -31,3 +32,10 @@ unfolding repeat turns
 none_follow begins one found [] none = refl
 none_follow begins one found (t ∷ ts) none =
     ap (λ b. next_turn (repeat_from begins one (length ts)) (if b then goes_with found (one (t ∷ ts)) else ended found (t ∷ ts))) none
+
+-- where no `if` comes next, there is no choice
+pub no_choice : (base : Parse Expr) (x : Expr) (ts : List Lexeme) → sees k.If ts ≡ false → conditional base x ts ≡ Ok (x, ts)
+unfolding conditional turns
+no_choice base x [] none = refl
+no_choice base x (t ∷ ts) none =
+    ap (λ b. next_turn (turns (choice_turn base) whole (length ts)) (if b then with_choice ([], x) (choice base (t ∷ ts)) else ended ([], x) (t ∷ ts)) >>= λ p rest. Ok (chosen_of p, rest)) none

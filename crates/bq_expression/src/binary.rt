@@ -6,6 +6,7 @@ ghost use Rattle.bq_grammar.specs.Turns as turns;
 ghost use Rattle.bq_grammar.specs.Operators as operators;
 ghost use Rattle.bq_grammar.specs.Grammar as grammar;
 ghost use Rattle.bq_grammar.specs.Reading as spec;
+ghost use Rattle.bq_grammar.specs.declared.tree.Choice.{roll-Choice};
 ghost use Rattle.bq_expression.specs.Nested.{ReadsNested};
 
 use crate::grammar::Grammar;
@@ -72,13 +73,23 @@ fn negations(alloc: Global, tokens: &mut Tokens<'_>) -> Result<Items<UnaryOperat
 }
 
 /// The choices and the last value; the value alone where there is no choice.
-fn chosen_of(alloc: Global, choices: Items<Choice>, value: Expr) -> Result<Expr, AllocError>
-    ensures { IfOk result (λ x. x ≡ spec.chosen_of (choices, value)) }
+fn chosen_of(choices: Items<Choice>, value: Boxed<Expr>) -> Expr
+    ensures { result ≡ spec.chosen_of (choices, value) }
 {
+    // for the proof: it is called where `if` was seen, so at least one choice was read.
     if choices.is_empty() {
-        return Ok(value);
+        return value.into_inner();
     }
-    Ok(Expr::Conditional(choices, Boxed::new(alloc, value)?))
+    Expr::Conditional(choices, value)
+}
+
+fn choice_of(value: Boxed<Expr>, condition: Boxed<Expr>) -> Choice
+    ensures { result ≡ roll-Choice (record { value = value; condition = condition }) }
+{
+    Choice {
+        value: value.into_inner(),
+        condition: condition.into_inner(),
+    }
 }
 
 impl<F: Fn(Global, &mut Tokens<'_>, usize, Nested) -> Result<Expr, Refusal>> Grammar<F> {
@@ -277,7 +288,7 @@ impl<F: Fn(Global, &mut Tokens<'_>, usize, Nested) -> Result<Expr, Refusal>> Gra
 
     /// Choice = 'if' Or 'else' Or
     #[tactic(auto, unfolding(bq_grammar::specs::Reading::choice))]
-    fn choice(&self, tokens: &mut Tokens<'_>) -> Result<(Expr, Expr), Refusal>
+    fn choice(&self, tokens: &mut Tokens<'_>) -> Result<(Boxed<Expr>, Boxed<Expr>), Refusal>
         requires { ReadsNested self.now.depth (F.pre self.now.phrase) (F.post self.now.phrase) }
         ensures { Reads (spec.choice (spec.primary (spec.phrase self.now.depth) (spec.variables_to self.now.depth)) tokens.old) result tokens.new }
     {
@@ -285,7 +296,7 @@ impl<F: Fn(Global, &mut Tokens<'_>, usize, Nested) -> Result<Expr, Refusal>> Gra
         let condition = Boxed::new(self.alloc, self.or_test(tokens)?)?;
         tokens.expect(TokenKind::Else)?;
         let value = self.or_test(tokens)?;
-        Ok((condition.into_inner(), value))
+        Ok((condition, Boxed::new(self.alloc, value)?))
     }
 
     /// { Choice }, after a first value: the choices, and the last value
@@ -293,8 +304,8 @@ impl<F: Fn(Global, &mut Tokens<'_>, usize, Nested) -> Result<Expr, Refusal>> Gra
     fn choices(
         &self,
         tokens: &mut Tokens<'_>,
-        mut value: Expr,
-    ) -> Result<(Items<Choice>, Expr), Refusal>
+        mut value: Boxed<Expr>,
+    ) -> Result<(Items<Choice>, Boxed<Expr>), Refusal>
         requires { ReadsNested self.now.depth (F.pre self.now.phrase) (F.post self.now.phrase) }
         ensures { Reads (turns.turns (spec.choice_turn (spec.primary (spec.phrase self.now.depth) (spec.variables_to self.now.depth))) turns.whole (length tokens.old) ([], value) tokens.old) result tokens.new }
     {
@@ -305,20 +316,24 @@ impl<F: Fn(Global, &mut Tokens<'_>, usize, Nested) -> Result<Expr, Refusal>> Gra
                 return Ok((choices, value));
             }
             let (condition, other) = self.choice(tokens)?;
-            choices.push(Choice { value, condition })?;
+            choices.push(choice_of(value, condition))?;
             value = other;
         }
         Ok((choices, value))
     }
 
     /// { Choice }, after a first value
-    #[tactic(auto, unfolding(bq_grammar::specs::Reading::conditional))]
+    #[tactic(auto, using(crate::proofs::LoopTurns::no_choice), unfolding(bq_grammar::specs::Reading::conditional))]
     fn conditional(&self, tokens: &mut Tokens<'_>, value: Expr) -> Result<Expr, Refusal>
         requires { ReadsNested self.now.depth (F.pre self.now.phrase) (F.post self.now.phrase) }
         ensures { Reads (spec.conditional (spec.primary (spec.phrase self.now.depth) (spec.variables_to self.now.depth)) value tokens.old) result tokens.new }
     {
+        if !tokens.sees(TokenKind::If) {
+            return Ok(value);
+        }
+        let value = Boxed::new(self.alloc, value)?;
         let (choices, last) = self.choices(tokens, value)?;
-        Ok(chosen_of(self.alloc, choices, last)?)
+        Ok(chosen_of(choices, last))
     }
 
     /// Test = Or { Choice } | 'lambda' ..

@@ -23,11 +23,12 @@ impl<F: Fn(Global, &mut Tokens<'_>, usize, Nested) -> Result<Expr, Refusal>> Gra
         requires { ReadsNested self.now.depth (F.pre self.now.phrase) (F.post self.now.phrase) }
         ensures { Reads (spec.pair (spec.phrase self.now.depth) (spec.variables_to self.now.depth) tokens.old) result tokens.new }
     {
-        let key = self.nested(tokens, Nested::Test)?;
+        let key = Boxed::new(self.alloc, self.nested(tokens, Nested::Test)?)?;
         tokens.expect(TokenKind::Colon)?;
+        let value = self.nested(tokens, Nested::Test)?;
         Ok(Pair {
-            key,
-            value: self.nested(tokens, Nested::Test)?,
+            key: key.into_inner(),
+            value,
         })
     }
 

@@ -5,6 +5,7 @@ ghost use Rattle.bq_grammar.specs.Turns.{Reads};
 ghost use Rattle.bq_grammar.specs.Turns as turns;
 ghost use Rattle.bq_grammar.specs.Grammar as grammar;
 ghost use Rattle.bq_grammar.specs.Reading as spec;
+ghost use Rattle.bq_grammar.specs.declared.arguments.ArgumentKind.TheVariants as argument_kind;
 ghost use Rattle.bq_grammar.specs.declared.tree.Expr.TheVariants as e;
 ghost use Rattle.bq_grammar.specs.declared.tree.Nested.TheVariants.{Test};
 ghost use Rattle.bq_source.specs.declared.token.TokenKind.TheVariants as kind;
@@ -71,6 +72,17 @@ fn primary_of(operand: Boxed<Expr>, suffixes: Items<Suffix>) -> Expr
 }
 
 impl<F: Fn(Global, &mut Tokens<'_>, usize, Nested) -> Result<Expr, Refusal>> Grammar<F> {
+    /// identifier '=' Test
+    fn named(&self, tokens: &mut Tokens<'_>) -> Result<Argument, Refusal>
+        requires { ReadsNested self.now.depth (F.pre self.now.phrase) (F.post self.now.phrase) }
+        ensures { Reads (spec.argument_by (spec.phrase self.now.depth) (spec.variables_to self.now.depth) argument_kind.Named tokens.old) result tokens.new }
+    {
+        let name = Bytes::from_slice(self.alloc, tokens.spelling())?;
+        tokens.advance();
+        tokens.advance();
+        Ok(Argument::Named(name, self.nested(tokens, Nested::Test)?))
+    }
+
     /// Argument = Test | identifier '=' Test | '*' Test | '**' Test
     fn argument_by(&self, tokens: &mut Tokens<'_>, kind: ArgumentKind) -> Result<Argument, Refusal>
         requires { ReadsNested self.now.depth (F.pre self.now.phrase) (F.post self.now.phrase) }
@@ -81,12 +93,7 @@ impl<F: Fn(Global, &mut Tokens<'_>, usize, Nested) -> Result<Expr, Refusal>> Gra
                 tokens,
                 Nested::Test,
             )?)),
-            ArgumentKind::Named => {
-                let name = Bytes::from_slice(self.alloc, tokens.spelling())?;
-                tokens.advance();
-                tokens.advance();
-                Ok(Argument::Named(name, self.nested(tokens, Nested::Test)?))
-            }
+            ArgumentKind::Named => self.named(tokens),
             ArgumentKind::Star => {
                 tokens.advance();
                 Ok(Argument::Star(self.nested(tokens, Nested::Test)?))
