@@ -4,3 +4,4 @@ pub mod Names
 pub mod Package
 pub mod Calls
 pub mod Files
+pub mod Laws

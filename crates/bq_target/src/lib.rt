@@ -21,12 +21,18 @@
 mod declare;
 mod files;
 mod finish;
+mod laws;
 mod names;
 mod package;
 mod state;
 mod target;
 mod value;
 
+pub use files::is_of;
+pub use laws::{
+    calls_come_first, calls_keep_their_order, distinct_names_are_accepted,
+    each_generated_file_is_made,
+};
 pub use package::Package;
 pub use state::{Declared, PackageState};
 pub use target::{Target, TargetKind};

@@ -64,6 +64,17 @@ impl Package {
         self.build_file.package_id()
     }
 
+    pub fn into_targets(self) -> Items<Target>
+        ensures value { result ≡ self.targets }
+        ensures valid { AreTargetsOf (package_of self.build_file) self.targets }
+    {
+        let Package {
+            build_file: _,
+            targets,
+        } = self;
+        targets
+    }
+
     /// The targets. No two of them have one name.
     pub fn targets(&self) -> &[Target]
         ensures value { result.now ≡ self.now.targets }
