@@ -1,0 +1,4 @@
+-- sequences that are joined, repeated and sliced
+pub mod Sequences
+-- which values unions have
+pub mod Unions

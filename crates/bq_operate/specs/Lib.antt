@@ -1,0 +1,12 @@
+pub mod Operand
+pub mod Integers
+pub mod Sequence
+pub mod Membership
+pub mod Comparing
+pub mod Subscript
+pub mod Slicing
+pub mod Sum
+pub mod Product
+pub mod Remainder
+pub mod Union
+pub mod Operate

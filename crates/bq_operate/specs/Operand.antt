@@ -1,0 +1,43 @@
+-- Operands by their types (Starlark, "Data types"); one of another type is F40.
+use Rattle.std.specs.Prelude.{ℕ, ℤ, List, Option, Some, None, Result, Ok, Err}
+use Rattle.bq_source.specs.declared.fault.FaultKind.{FaultKind}
+use Rattle.bq_source.specs.declared.fault.FaultKind.TheVariants.{WrongType}
+use Rattle.bq_value.specs.Datum.{Datum, int, string, tuple, cell, data_of}
+use Rattle.bq_value.specs.Contents.{Contents, items, pairs}
+use Rattle.bq_value.specs.Cells.{StoreView, content_at}
+
+-- goes on with an answer
+abbrev pub and_then : {A B : Type 0} → Result A FaultKind → (A → Result B FaultKind) → Result B FaultKind
+and_then (Ok a) next = next a
+and_then (Err kind) next = Err kind
+
+abbrev pub as_int : Result ℤ FaultKind → Result Datum FaultKind
+as_int r = and_then r (λ n. Ok (int n))
+
+abbrev pub as_string : Result (List ℕ) FaultKind → Result Datum FaultKind
+as_string r = and_then r (λ text. Ok (string text))
+
+abbrev pub as_tuple : Result (List Datum) FaultKind → Result Datum FaultKind
+as_tuple r = and_then r (λ xs. Ok (tuple (data_of xs)))
+
+abbrev pub int_of : Datum → Result ℤ FaultKind
+int_of (int n) = Ok n
+int_of _ = Err WrongType
+
+abbrev pub list_of_content : Option Contents → Result (List Datum) FaultKind
+list_of_content (Some (items xs)) = Ok xs
+list_of_content _ = Err WrongType
+
+abbrev pub dict_of_content : Option Contents → Result (List (Datum × Datum)) FaultKind
+dict_of_content (Some (pairs ps)) = Ok ps
+dict_of_content _ = Err WrongType
+
+-- the values of a list
+abbrev pub list_in : StoreView → Datum → Result (List Datum) FaultKind
+list_in s (cell home number) = list_of_content (content_at s home number)
+list_in s _ = Err WrongType
+
+-- the pairs of a dict
+abbrev pub dict_in : StoreView → Datum → Result (List (Datum × Datum)) FaultKind
+dict_in s (cell home number) = dict_of_content (content_at s home number)
+dict_in s _ = Err WrongType
