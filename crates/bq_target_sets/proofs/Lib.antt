@@ -1,0 +1,12 @@
+-- how texts are ordered, and which of them begin alike
+pub mod Cuts
+-- targets in the order of their labels, and places among them
+pub mod Ranks
+-- tests of targets, as marks
+pub mod Tests
+-- the targets that words name
+pub mod Named
+-- packages and targets that are found, or not
+pub mod Found
+-- the targets that attributes name, one rule after another
+pub mod LabelSets

@@ -1,0 +1,6 @@
+pub mod Order
+pub mod Words
+pub mod Missing
+pub mod Texts
+pub mod Matching
+pub mod Labels

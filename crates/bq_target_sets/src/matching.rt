@@ -1,0 +1,52 @@
+//! The members of a set whose text has a match of a pattern.
+
+ghost use Rattle.std.specs.Prelude.{◌≡◌, length, IfOk};
+ghost use Rattle.regex.specs.Bytes.{regex_pattern, matcher_pattern};
+ghost use Rattle.bq_target_sets.specs.Texts.{subject_text};
+ghost use Rattle.bq_target_sets.specs.Matching.{is_match, Keeps};
+
+use crate::text::{Subject, write_subject};
+use bq_target::Target;
+use regex::bytes::{Matcher, Regex};
+use std::alloc::{AllocError, Global};
+
+/// Whether the pattern is found in the text of the target.
+fn is_match(
+    matcher: &mut Matcher<'_>,
+    subject: Subject<'_>,
+    target: &Target,
+    text: &mut Vec<u8>,
+) -> Result<bool, AllocError>
+    ensures found { IfOk result (λ b. b ≡ is_match (matcher_pattern matcher.old) (subject_text subject.entry target.now)) }
+    ensures same { matcher_pattern matcher.new ≡ matcher_pattern matcher.old }
+{
+    text.clear();
+    if !write_subject(subject, target, text)? {
+        return Ok(false);
+    }
+    Ok(matcher.is_match(text))
+}
+
+/// Of a set, the targets whose text has a match of the pattern. The pattern's tables are made once, and so is the room for the texts.
+pub fn matching(
+    alloc: Global,
+    targets: &[Target],
+    subject: Subject<'_>,
+    pattern: &Regex,
+    x: &[bool],
+) -> Result<Vec<bool>, AllocError>
+    requires { length x.now ≡ length targets.now }
+    ensures { IfOk result (λ r. Keeps (λ t. is_match (regex_pattern pattern.now) (subject_text subject.entry t)) targets.now x.now r.items) }
+{
+    let mut matcher = pattern.matcher(alloc)?;
+    let mut text = Vec::new(alloc);
+    let mut found = Vec::with_capacity(alloc, targets.len())?;
+    for at in 0..targets.len() {
+        if !x[at] {
+            found.push(false)?;
+            continue;
+        }
+        found.push(is_match(&mut matcher, subject, &targets[at], &mut text)?)?;
+    }
+    Ok(found)
+}
