@@ -1,0 +1,41 @@
+-- Arguments by place alone: another number of them is F52, and a value of the wrong type F40.
+use Rattle.std.specs.Prelude.{ℤ, negsuc, List, [], ◌∷◌, Option, Some, None, Result, Ok, Err}
+use Rattle.bq_source.specs.declared.fault.FaultKind.{FaultKind}
+use Rattle.bq_source.specs.declared.fault.FaultKind.TheVariants.{WrongType, Args}
+use Rattle.bq_value.specs.Datum.{Datum, none, int}
+
+unfoldable pub no_argument : List Datum → Result (Unit {0}) FaultKind
+no_argument [] = Ok tt
+no_argument _ = Err Args
+
+unfoldable pub one_argument : List Datum → Result Datum FaultKind
+one_argument (v ∷ []) = Ok v
+one_argument _ = Err Args
+
+unfoldable pub two_arguments : List Datum → Result (Datum × Datum) FaultKind
+two_arguments (v ∷ w ∷ []) = Ok (v, w)
+two_arguments _ = Err Args
+
+unfoldable pub optional_argument : List Datum → Result (Option Datum) FaultKind
+optional_argument [] = Ok None
+optional_argument (v ∷ []) = Ok (Some v)
+optional_argument _ = Err Args
+
+-- the second may be left out
+unfoldable pub one_or_two : List Datum → Result (Datum × Option Datum) FaultKind
+one_or_two (v ∷ []) = Ok (v, None)
+one_or_two (v ∷ w ∷ []) = Ok (v, Some w)
+one_or_two _ = Err Args
+
+unfoldable pub integer : Datum → Result ℤ FaultKind
+integer (int i) = Ok i
+integer _ = Err WrongType
+
+-- an index; where it is left out, that of the last element
+unfoldable pub index_or_last : Option Datum → Result ℤ FaultKind
+index_or_last None = Ok (negsuc 0)
+index_or_last (Some v) = integer v
+
+abbrev pub or_none : Option Datum → Datum
+or_none None = none
+or_none (Some v) = v
