@@ -22,10 +22,10 @@ fn resolve_in(
 ) -> Result<Resolved, SourceErr>
     ensures { Gives itself Bad result (resolved_in file.now statements.now) }
 {
+    let globals = file.globals(alloc)?;
     let mut walk = Walk::new(alloc);
     let statements = top_levels(alloc, file, &mut walk, statements)?;
     let (functions, loads) = walk.into_parts();
-    let globals = file.globals(alloc)?;
     Ok(Resolved {
         statements,
         functions,

@@ -14,7 +14,7 @@ use bq_scope::{
     function_names, inside,
 };
 use bq_source::{Bytes, SourceErr};
-use sqlite_items::Items;
+use sqlite_items::{Boxed, Items};
 use std::alloc::Global;
 
 /// A function's statements, among its own names.
@@ -78,12 +78,12 @@ pub fn def_stmt(
 ) -> Result<FileStmt, SourceErr>
     ensures { Walks (files.def_stmt file.now name.now listed.now body.now walk.old) result walk.new }
 {
-    let target = name_target(file, &[], walk, name)?;
+    let target = Boxed::new(alloc, name_target(file, &[], walk, name)?)?;
     let (parameters, defaults) = parameters(alloc, file, walk, listed)?.into_parts();
     let names = function_names(alloc, listed, body)?;
     let function = function(alloc, file, walk, &name.name, parameters, names, body)?;
     Ok(FileStmt::Def(CodeDef {
-        target,
+        target: target.into_inner(),
         function,
         defaults,
     }))

@@ -1,6 +1,8 @@
 //! The parameters of a function, and their defaults.
 
 ghost use Rattle.std.specs.Prelude.{◌≡◌};
+ghost use Rattle.bq_source.specs.Gives.{Gives};
+ghost use Rattle.bq_source.specs.declared.fault.SourceErr.TheVariants.{Bad};
 ghost use Rattle.bq_scope.specs.Scope.{FileParts};
 ghost use Rattle.bq_scope.specs.Visit.{Passed};
 ghost use Rattle.bq_scope.specs.Statements as spec;
@@ -59,68 +61,62 @@ impl ParameterList {
         (parameters, defaults)
     }
 
-    /// With a parameter of a name, which no other has: else F24.
+    /// Adds a parameter of a name, which no other has: else F24.
     #[tactic(auto, unfolding(bq_scope::specs::Statements::named_parameter, bq_scope::specs::Names::with_name))]
-    fn with_named(
-        mut self,
-        name: &Identifier,
-        parameter: CodeParameter,
-    ) -> Result<ParameterList, SourceErr>
-        ensures { (file : FileParts) (s : Passed) → Walks (spec.named_parameter file self name.now parameter s) result s }
+    fn add_named(&mut self, name: &Identifier, parameter: CodeParameter) -> Result<(), SourceErr>
+        ensures { (file : FileParts) (s : Passed) → Gives (λ _. (self.new, s)) Bad result (spec.named_parameter file self.old name.now parameter s) }
     {
         if self.names.has(&name.name)? {
             return Err(SourceErr::Bad(fault_of(FaultKind::DoubleParameter, name)?));
         }
         self.names.add(&name.name)?;
         self.parameters.push(parameter)?;
-        Ok(self)
+        Ok(())
     }
 
-    /// With a parameter that has a default, which lies outside the function.
+    /// Adds a parameter that has a default, which lies outside the function.
     #[tactic(auto, unfolding(bq_scope::specs::Statements::default_parameter))]
-    fn with_default(
-        self,
+    fn add_default(
+        &mut self,
         alloc: Global,
         file: &FileNames,
         walk: &mut Walk,
         name: &Identifier,
         default: &Expr,
-    ) -> Result<ParameterList, SourceErr>
-        ensures { Walks (spec.default_parameter file.now self name.now default.now walk.old) result walk.new }
+    ) -> Result<(), SourceErr>
+        ensures { Gives (λ _. (self.new, walk.new)) Bad result (spec.default_parameter file.now self.old name.now default.now walk.old) }
     {
         let slot = self.names.len();
-        let mut more = self.with_named(name, CodeParameter::Default(name.name.share()?, slot))?;
+        self.add_named(name, CodeParameter::Default(name.name.share()?, slot))?;
         let default = expr(alloc, file, &[], walk, default)?;
-        more.defaults.push(default)?;
-        Ok(more)
+        self.defaults.push(default)?;
+        Ok(())
     }
 
-    /// With one parameter more.
+    /// Adds a parameter.
     #[tactic(auto, unfolding(bq_scope::specs::Statements::next_parameter))]
-    fn with(
-        mut self,
+    fn add(
+        &mut self,
         alloc: Global,
         file: &FileNames,
         walk: &mut Walk,
         parameter: &Parameter,
-    ) -> Result<ParameterList, SourceErr>
-        ensures { Walks (spec.next_parameter file.now self parameter.now walk.old) result walk.new }
+    ) -> Result<(), SourceErr>
+        ensures { Gives (λ _. (self.new, walk.new)) Bad result (spec.next_parameter file.now self.old parameter.now walk.old) }
     {
         let slot = self.names.len();
         match parameter {
             Parameter::Plain(name) => {
                 let plain = CodeParameter::Plain(name.name.share()?, slot);
-                self.with_named(name, plain)
+                self.add_named(name, plain)
             }
-            Parameter::Default(name, default) => self.with_default(
-                alloc, file, walk, name, default,
-            ),
+            Parameter::Default(name, default) => self.add_default(alloc, file, walk, name, default),
             Parameter::BareStar => {
                 self.parameters.push(CodeParameter::BareStar)?;
-                Ok(self)
+                Ok(())
             }
-            Parameter::Star(name) => self.with_named(name, CodeParameter::Star(slot)),
-            Parameter::StarStar(name) => self.with_named(name, CodeParameter::StarStar(slot)),
+            Parameter::Star(name) => self.add_named(name, CodeParameter::Star(slot)),
+            Parameter::StarStar(name) => self.add_named(name, CodeParameter::StarStar(slot)),
         }
     }
 }
@@ -137,7 +133,7 @@ pub fn parameters(
 {
     let mut so_far = ParameterList::new(alloc);
     for parameter in parameters {
-        so_far = so_far.with(alloc, file, walk, parameter)?;
+        so_far.add(alloc, file, walk, parameter)?;
     }
     Ok(so_far)
 }
