@@ -15,10 +15,10 @@ pub length-integers : (first step : ℤ) (n : ℕ) → length (integers first st
 length-integers first step zero = refl
 length-integers first step (suc n) = ap suc (length-integers (first +ℤ step) step n)
 
-first_element : (first step : ℤ) → range_element first step 0 ≡ first
+pub first_element : (first step : ℤ) → range_element first step 0 ≡ first
 first_element first step = omega (arith, ints, zero-*ℤ step)
 
-next_element : (first step : ℤ) (k : ℕ) → range_element (first +ℤ step) step k ≡ range_element first step (suc k)
+pub next_element : (first step : ℤ) (k : ℕ) → range_element (first +ℤ step) step k ≡ range_element first step (suc k)
 next_element first step k = omega (arith, ints, suc_ℤ-*ℤ (pos k) step)
 
 -- Where each element of a range fits, all of its integers do.

@@ -3,3 +3,11 @@ pub mod Reversed
 pub mod Within
 pub mod Integers
 pub mod Placing
+-- runs that are done
+pub mod Runs
+-- the newest walk and function are there, and go first
+pub mod Newest
+-- steps, walks and functions come and go
+pub mod Walking
+-- arguments go where they belong
+pub mod Bindings

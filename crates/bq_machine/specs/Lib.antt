@@ -12,3 +12,4 @@ pub mod Args
 pub mod Parameters
 pub mod Binding
 pub mod ArgsOf
+pub mod Laws

@@ -15,7 +15,8 @@
 //! - `cells`: new lists and dicts, what they hold, and leave to change it;
 //! - `range_walk`, `iteration`: the elements of an iterable, and walks over them;
 //! - `calls`: which functions are active;
-//! - `args`, `parameters`, `binding`: what a call passes, what a function takes, and which argument goes to which parameter.
+//! - `args`, `parameters`, `binding`: what a call passes, what a function takes, and which argument goes to which parameter;
+//! - `laws`: what the definitions say together.
 #![tactic(auto)]
 
 mod args;
@@ -23,6 +24,7 @@ mod binding;
 mod calls;
 mod cells;
 mod iteration;
+pub mod laws;
 mod machine;
 mod parameters;
 mod range_walk;
