@@ -1,6 +1,6 @@
 -- Sequences that are joined, repeated and sliced.
-use Rattle.std.proofs.Common.{◌≡◌, ◌≢◌, ◌∙◌, ◌+◌, ◌-◌, ◌*◌, ◌<◌, ◌≤◌, ℕ, zero, suc, ℤ, pos, to_z, of_z, w64, FitsSigned, get_or, Bool, true, false, cond, List, [], ◌∷◌, ◌++◌, Option, Some, None, Ok, Err, length, refl, sym, ap, subst, arith, length-append, append_assoc, zero-add}
-use Rattle.std.specs.Prelude.{negsuc, neg_ℤ, nat_le, ◌==◌, ◌+ℤ◌, ◌*ℤ◌, ◌≤ℤ◌, ◌<ℤ◌, unsigned_abs}
+use Rattle.std.proofs.Common.{◌≡◌, ◌≢◌, ◌∙◌, ◌+◌, ◌-◌, ◌*◌, ◌<◌, ◌≤◌, ℕ, zero, suc, ℤ, pos, to_z, of_z, w64, FitsSigned, get_or, Bool, true, false, cond, List, [], ◌∷◌, ◌++◌, Option, Some, Ok, Err, length, refl, sym, ap, arith, length-append, append_assoc, zero-add}
+use Rattle.std.specs.Prelude.{negsuc, neg_ℤ, nat_le, ◌==◌, ◌+ℤ◌, ◌≤ℤ◌, ◌<ℤ◌, unsigned_abs}
 use Rattle.std.proofs.lemmas.Int.{ints, to_z-of_z}
 use Rattle.std.proofs.lemmas.Option.{slice_get-get_or, slice_get_read}
 use Rattle.std.proofs.lemmas.List.{append-nil}
@@ -9,7 +9,7 @@ use Rattle.std.proofs.Math.Nat.{mul-suc, add-mul, one-mul}
 use Rattle.bq_source.specs.declared.fault.FaultKind.TheVariants.{TooLong}
 use Rattle.bq_value.specs.Range.{range_count, range_element}
 use Rattle.bq_operators.specs.Length.{max_len, within, times_of}
-use Rattle.bq_operators.specs.Slice.{slice_start, slice_stop, slice_of, element_at, taken, taken_by}
+use Rattle.bq_operators.specs.Slice.{slice_start, slice_stop, element_at, taken, taken_by}
 use Rattle.bq_operators.proofs.Slices.{places_within}
 use Rattle.bq_operators.proofs.Taken.{taken_next, first_element}
 use Rattle.bq_operate.specs.Operand.{and_then}

@@ -1,5 +1,5 @@
 -- Comparisons of two values (Starlark, "Comparisons", "Membership tests"), and the steps that are left.
-use Rattle.std.specs.Prelude.{ℕ, Bool, true, false, not, Result, Ok, Err}
+use Rattle.std.specs.Prelude.{ℕ, Bool, not, Ok, Err}
 use Rattle.std.specs.declared.cmp.Ordering.{Ordering}
 use Rattle.std.specs.Ordering.{is_lt, is_le, is_gt, is_ge}
 use Rattle.bq_grammar.specs.declared.tree.Comparison.{Comparison}

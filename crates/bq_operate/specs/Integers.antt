@@ -6,7 +6,7 @@ use Rattle.bq_grammar.specs.declared.tree.Operator.{Operator}
 use Rattle.bq_grammar.specs.declared.tree.Operator.TheVariants as op
 use Rattle.bq_grammar.specs.declared.tree.UnaryOperator.{UnaryOperator}
 use Rattle.bq_grammar.specs.declared.tree.UnaryOperator.TheVariants as sign
-use Rattle.bq_value.specs.Datum.{Datum, boolean, int}
+use Rattle.bq_value.specs.Datum.{Datum, boolean}
 use Rattle.bq_value.specs.Cells.{StoreView}
 use Rattle.bq_walk.specs.Truth.{truth_of}
 use Rattle.bq_operators.specs.Integer.{fitted, both, either, one_of}

@@ -10,3 +10,4 @@ pub mod Product
 pub mod Remainder
 pub mod Union
 pub mod Operate
+pub mod InPlace

@@ -1,5 +1,5 @@
 -- Operands by their types (Starlark, "Data types"); one of another type is F40.
-use Rattle.std.specs.Prelude.{ℕ, ℤ, List, Option, Some, None, Result, Ok, Err}
+use Rattle.std.specs.Prelude.{ℕ, ℤ, List, Option, Some, Result, Ok, Err}
 use Rattle.bq_source.specs.declared.fault.FaultKind.{FaultKind}
 use Rattle.bq_source.specs.declared.fault.FaultKind.TheVariants.{WrongType}
 use Rattle.bq_value.specs.Datum.{Datum, int, string, tuple, cell, data_of}

@@ -1,15 +1,15 @@
 -- What each operator does (Starlark, "Unary operators", "Binary operators", "Index expressions", "Slice expressions"), a word for
 -- each kind of operator.
-use Rattle.std.specs.Prelude.{ℕ, List, Result, Ok, Err}
+use Rattle.std.specs.Prelude.{List, Result}
 use Rattle.bq_grammar.specs.declared.tree.Operator.{Operator}
 use Rattle.bq_grammar.specs.declared.tree.Operator.TheVariants as op
 use Rattle.bq_grammar.specs.declared.tree.UnaryOperator.{UnaryOperator}
 use Rattle.bq_grammar.specs.declared.tree.Comparison.{Comparison}
 use Rattle.bq_source.specs.declared.fault.FaultKind.{FaultKind}
-use Rattle.bq_value.specs.Datum.{Datum, boolean, string, tuple, cell, list_of}
+use Rattle.bq_value.specs.Datum.{Datum, boolean, string, tuple, list_of}
 use Rattle.bq_value.specs.Cells.{StoreView}
 use Rattle.bq_machine.specs.State.{State}
-use Rattle.bq_machine.specs.Action.{Action, Run, following, ◌>>=◌, pure, stop, given, look}
+use Rattle.bq_machine.specs.Action.{Action, ◌>>=◌, pure, stop, given, look}
 use Rattle.bq_machine.specs.Machine.{walk}
 use Rattle.bq_operate.specs.Operand.{and_then, as_string, as_tuple, list_in}
 use Rattle.bq_operate.specs.Integers.{integers, signed}

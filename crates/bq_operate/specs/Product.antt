@@ -1,12 +1,12 @@
 -- `*` (Starlark, "Arithmetic", "String repetition").
-use Rattle.std.specs.Prelude.{ℤ, List, Result, Ok, Err}
+use Rattle.std.specs.Prelude.{ℤ, List, Result}
 use Rattle.bq_source.specs.declared.fault.FaultKind.{FaultKind}
 use Rattle.bq_source.specs.declared.fault.FaultKind.TheVariants.{WrongType}
 use Rattle.bq_grammar.specs.declared.tree.Operator.TheVariants as op
 use Rattle.bq_value.specs.Datum.{Datum, int, string, tuple, cell, list_of}
 use Rattle.bq_value.specs.Cells.{StoreView}
 use Rattle.bq_machine.specs.State.{State}
-use Rattle.bq_machine.specs.Action.{Action, Run, following, ◌>>=◌, stop, given}
+use Rattle.bq_machine.specs.Action.{Action, ◌>>=◌, stop, given}
 use Rattle.bq_operate.specs.Operand.{and_then, as_int, as_string, as_tuple, int_of, list_in}
 use Rattle.bq_operate.specs.Integers.{arithmetic}
 use Rattle.bq_operate.specs.Sequence.{repeated}

@@ -3,7 +3,7 @@ use Rattle.bq_grammar.specs.declared.tree.Operator.TheVariants as op
 use Rattle.bq_value.specs.Datum.{Datum, string}
 use Rattle.bq_format.specs.Percent.{percent_of}
 use Rattle.bq_machine.specs.State.{State}
-use Rattle.bq_machine.specs.Action.{Action, Run, following, ◌>>=◌, pure, given}
+use Rattle.bq_machine.specs.Action.{Action, ◌>>=◌, pure, given}
 use Rattle.bq_machine.specs.Machine.{walk}
 use Rattle.bq_operate.specs.Integers.{integers}
 

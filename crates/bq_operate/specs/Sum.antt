@@ -1,13 +1,13 @@
 -- `+` (Starlark, "Arithmetic", "String concatenation").
-use Rattle.std.specs.Prelude.{ℕ, List, Result, Ok, Err}
+use Rattle.std.specs.Prelude.{ℕ, List, Result, Err}
 use Rattle.bq_source.specs.declared.fault.FaultKind.{FaultKind}
 use Rattle.bq_source.specs.declared.fault.FaultKind.TheVariants.{WrongType}
 use Rattle.bq_grammar.specs.declared.tree.Operator.TheVariants as op
 use Rattle.bq_value.specs.Datum.{Datum, string, tuple, cell, list_of}
-use Rattle.bq_value.specs.Contents.{Contents, items}
+use Rattle.bq_value.specs.Contents.{items}
 use Rattle.bq_value.specs.Cells.{StoreView}
 use Rattle.bq_machine.specs.State.{State}
-use Rattle.bq_machine.specs.Action.{Action, Run, following, ◌>>=◌, given, look}
+use Rattle.bq_machine.specs.Action.{Action, ◌>>=◌, given, look}
 use Rattle.bq_machine.specs.Cells.{new_content}
 use Rattle.bq_operate.specs.Operand.{and_then, as_string, as_tuple, list_in}
 use Rattle.bq_operate.specs.Integers.{integers}

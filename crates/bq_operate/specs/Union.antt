@@ -1,13 +1,13 @@
 -- `|` (Starlark, "Arithmetic", "Dictionaries").
-use Rattle.std.specs.Prelude.{List, [], ◌∷◌, Option, Some, None, Result, Ok, Err}
+use Rattle.std.specs.Prelude.{List, [], ◌∷◌, Option, Some, None, Result}
 use Rattle.bq_source.specs.declared.fault.FaultKind.{FaultKind}
 use Rattle.bq_grammar.specs.declared.tree.Operator.TheVariants as op
 use Rattle.bq_value.specs.Datum.{Datum, cell}
-use Rattle.bq_value.specs.Contents.{Contents, pairs}
+use Rattle.bq_value.specs.Contents.{pairs}
 use Rattle.bq_value.specs.Pairs.{put}
 use Rattle.bq_value.specs.Cells.{StoreView}
 use Rattle.bq_machine.specs.State.{State}
-use Rattle.bq_machine.specs.Action.{Action, Run, following, ◌>>=◌, given, look}
+use Rattle.bq_machine.specs.Action.{Action, ◌>>=◌, given, look}
 use Rattle.bq_machine.specs.Cells.{new_content}
 use Rattle.bq_operate.specs.Operand.{and_then, dict_in}
 use Rattle.bq_operate.specs.Integers.{integers}

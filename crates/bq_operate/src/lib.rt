@@ -16,10 +16,12 @@
 //! - `subscript`: the item at an index or a key;
 //! - `slicing`: slices;
 //! - `operate`: a call for each kind of operator;
+//! - `in_place`: what changes a list or dict in place;
 //! - `laws`: what the definitions say together.
 #![tactic(auto)]
 
 mod comparing;
+mod in_place;
 mod integers;
 pub mod laws;
 mod membership;
@@ -34,4 +36,5 @@ mod sum;
 mod union;
 mod walks;
 
+pub use in_place::{augment, set_index};
 pub use operate::{binary, compare, index, slice, unary};

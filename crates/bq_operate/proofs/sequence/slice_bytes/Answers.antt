@@ -1,4 +1,4 @@
-use Rattle.std.proofs.Common.{ℤ, pos, FitsSigned, w64, arith}
+use Rattle.std.proofs.Common.{FitsSigned, w64, arith}
 use Rattle.std.proofs.lemmas.Int.{ints, to_z-of_z}
 use Rattle.bq_operate.proofs.Sequences.{slice_within}
 use Rattle.bq_operate.proofs.sequence.slice_bytes.Goals as goal

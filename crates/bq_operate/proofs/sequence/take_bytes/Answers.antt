@@ -2,7 +2,7 @@ use Rattle.std.proofs.Common.{◌≡◌, ◌∙◌, ◌++◌, ◌-◌, ◌<◌, 
 use Rattle.std.specs.Prelude.{◌≤ℤ◌, ◌<ℤ◌, unsigned_abs}
 use Rattle.bq_value.specs.Range.{range_count, range_element}
 use Rattle.bq_operators.specs.Slice.{taken, taken_by}
-use Rattle.bq_operate.proofs.Sequences.{none_taken, places_go_on, places_end, byte_found, value_found}
+use Rattle.bq_operate.proofs.Sequences.{none_taken, places_go_on, byte_found}
 use Rattle.bq_operate.proofs.sequence.take_bytes.Goals as goal
 
 pub loop-number-init : goal.loop-number-init

@@ -1,5 +1,5 @@
 use Rattle.std.proofs.Common.{◌≡◌, ◌++◌, ◌-◌}
-use Rattle.bq_value.specs.Range.{range_count, range_element}
+use Rattle.bq_value.specs.Range.{range_element}
 use Rattle.bq_operators.specs.Slice.{taken, taken_by}
 use Rattle.bq_operate.proofs.sequence.take_bytes.Given as goal
 

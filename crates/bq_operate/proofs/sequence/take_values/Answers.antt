@@ -1,8 +1,8 @@
-use Rattle.std.proofs.Common.{◌≡◌, ◌∙◌, ◌++◌, ◌-◌, ◌<◌, [], ℕ, ℤ, pos, ap, length, get_or, FitsSigned, w64, to_z, of_z, rules, arith}
-use Rattle.std.specs.Prelude.{◌≤ℤ◌, ◌<ℤ◌, unsigned_abs}
+use Rattle.std.proofs.Common.{◌≡◌, ◌∙◌, ◌++◌, ◌-◌, ◌<◌, [], ℕ, ℤ, pos, ap, length, FitsSigned, w64, rules, arith}
+use Rattle.std.specs.Prelude.{◌≤ℤ◌, ◌<ℤ◌}
 use Rattle.bq_value.specs.Range.{range_count, range_element}
 use Rattle.bq_operators.specs.Slice.{taken, taken_by}
-use Rattle.bq_operate.proofs.Sequences.{none_taken, places_go_on, places_end, byte_found, value_found}
+use Rattle.bq_operate.proofs.Sequences.{none_taken, places_go_on, value_found}
 use Rattle.bq_operate.proofs.sequence.take_values.Goals as goal
 
 pub loop-number-init : goal.loop-number-init
