@@ -1,0 +1,5 @@
+pub mod Lists
+pub mod Ascends
+pub mod EdgeWalks
+pub mod Depends
+pub mod Whole

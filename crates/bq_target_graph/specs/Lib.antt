@@ -1,0 +1,4 @@
+pub mod Labels
+pub mod Order
+pub mod Graph
+pub mod Edges

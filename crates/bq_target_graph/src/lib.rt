@@ -1,0 +1,21 @@
+//! The packages of a workspace come in; the graph of their targets goes out, and a fault line for each label that names none.
+//!
+//! The promise: the targets are those of all packages in the order of their labels, so that a target's number orders it; an edge leads
+//! from one to another exactly where the first depends on the second (`specs/Edges.antt`). A label of another package that names no
+//! target there is fault F79 (`specs/Dangling.antt`). It takes time n log n in the targets and linear in the labels that they name.
+//!
+//! In reading order:
+//!
+//! - `labels`: labels with their numbers, found by their hash;
+//! - `order`: the targets of all packages in order;
+//! - `edges`: which targets depend on which;
+//! - `graph`, `build`: the graph, and how it is made of packages.
+#![tactic(auto)]
+
+mod build;
+mod edges;
+mod graph;
+mod labels;
+mod order;
+
+pub use graph::TargetGraph;
