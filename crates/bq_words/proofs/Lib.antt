@@ -4,3 +4,5 @@ pub mod Cuts
 pub mod LineCuts
 -- The words are the longest runs of bytes that are not space.
 pub mod Between
+-- The words from the right are the words.
+pub mod Right

@@ -3,12 +3,17 @@
 
 ghost use Rattle.std.specs.Prelude.{◌≡◌, ◌≤◌, List, ℕ, length};
 ghost use Rattle.std.specs.List.{concat, All};
-ghost use Rattle.bq_words.specs.Word.{words, AreWords};
+ghost use Rattle.bq_words.specs.Word.{words, rwords, AreWords};
 ghost use Rattle.bq_words.specs.Line.{lines};
 
 /// Where the cuts are not too few, the words are the longest runs of bytes that are not space, in their order.
 pub fn the_words()
     ensures { (text : List ℕ) (most : ℕ) → length text ≤ most → AreWords text (words most text) }
+{}
+
+/// Where the cuts are not too few, the words from the right are the words.
+pub fn the_words_from_the_right()
+    ensures { (text : List ℕ) (most : ℕ) → length text ≤ most → rwords most text ≡ words most text }
 {}
 
 /// The lines of a text, one after another, are the text.
