@@ -1,0 +1,12 @@
+use Rattle.std.proofs.Common.{◌≡◌, arith}
+use Rattle.bq_meaning.specs.Targets.{bind_to}
+use Rattle.bq_eval.specs.Acts.{Acts}
+use Rattle.bq_eval.specs.Slots.{slots_of}
+use Rattle.bq_eval.proofs.Depth.{deeper}
+use Rattle.bq_eval.proofs.targets.+targets.Goals as goal
+
+pub bind_to-returns : goal.bind_to-returns
+unfolding bind_to
+bind_to-returns g t c =
+    let h = g.R.Runtime in
+    rw (deeper (λ n. bind_to h.means n c.args.target.now c.args.value (slots_of c.args.frame.now) c.args.places.now (h.seen c.args.runtime.now)) c.args.depth (omega arith)) c.bind_target.ensures

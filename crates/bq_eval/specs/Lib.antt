@@ -1,0 +1,9 @@
+pub mod Acts
+pub mod Slots
+pub mod Round
+pub mod Operands
+pub mod Nests
+pub mod Flows
+pub mod Runs
+pub mod Fillings
+pub mod CodeUnits

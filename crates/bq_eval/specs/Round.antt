@@ -1,0 +1,57 @@
+-- What a context says of what is round an expression or a statement.
+use Rattle.std.specs.Prelude.{ℕ, List, Option, Some, None, slice_get, if◌then◌else◌}
+use Rattle.bq_scope.specs.Names.{max_layers}
+use Rattle.bq_value.specs.Datum.{Datum}
+use Rattle.bq_meaning.specs.Frame.{Frame, Surroundings, empty}
+use Rattle.bq_meaning.specs.Primitives.{Primitives}
+use Rattle.bq_meaning.specs.Trees.{Eval, Calls}
+use Rattle.bq_meaning.specs.Expressions.{expr_to}
+use Rattle.bq_meaning.specs.Calls.{CodeUnit, Units, calls, inner_calls}
+use Rattle.bq_meaning.specs.Module.{Own, own_round, with_own}
+use Rattle.bq_eval.specs.declared.context.Globals.{Globals}
+use Rattle.bq_eval.specs.declared.context.Globals.TheVariants as g
+use Rattle.bq_eval.specs.declared.context.FrozenUnit.{FrozenUnit}
+use Rattle.bq_eval.specs.declared.context.Program.{Program}
+use Rattle.bq_eval.specs.declared.context.Context.{Context}
+use Rattle.bq_eval.specs.Slots.{slots_of}
+
+unfoldable pub globals_of : Globals → Frame
+globals_of g.Absent = empty
+globals_of (g.Running frame) = slots_of frame.now
+globals_of (g.Frozen vs) = λ k. slice_get vs.now k
+
+unfoldable pub round_of : Context → Surroundings
+round_of c = record { globals = globals_of c.globals; loaded = λ k. slice_get c.loaded.now k }
+
+-- ---- the modules of a program
+
+abbrev pub own_of : Program → Own
+own_of p = record { number = p.number; functions = p.functions.now; loaded = p.loaded.now }
+
+abbrev pub frozen_unit : Option (Option FrozenUnit) → Option CodeUnit
+frozen_unit (Some (Some u)) = Some (record { functions = u.functions.now; round = record { globals = λ k. slice_get u.globals.now k; loaded = λ k. slice_get u.loaded.now k } })
+frozen_unit _ = None
+
+unfoldable pub frozen_units : Program → Units
+frozen_units p = λ n. frozen_unit (slice_get p.frozen.now n)
+
+-- where the own module's globals are these
+unfoldable pub units_at : Program → Frame → Units
+units_at p globals = with_own (frozen_units p) (own_of p) globals
+
+-- what calls mean
+unfoldable pub inside : {S : Type 0} → Primitives S → Context → Calls S
+inside m c = calls c.left m (units_at c.program.now (globals_of c.own))
+
+-- ---- statements
+
+-- what an expression means that stands outside functions, where the frame is the globals
+unfoldable pub outside_functions : {S : Type 0} → Primitives S → Context → Eval S
+outside_functions m c = λ x env. expr_to max_layers m (calls c.left m (units_at c.program.now env)) (own_round (own_of c.program.now) env) x empty
+
+unfoldable pub in_function : {S : Type 0} → Primitives S → Context → Eval S
+in_function m c = expr_to max_layers m (inside m c) (round_of c)
+
+-- what an expression of a statement means
+unfoldable pub evals : {S : Type 0} → Primitives S → Context → Eval S
+evals m c = if c.outside then outside_functions m c else in_function m c

@@ -1,0 +1,69 @@
+//! What is round an expression.
+
+ghost use Rattle.std.specs.Prelude.{◌≡◌, option_copied};
+ghost use Rattle.bq_eval.specs.Round.{globals_of};
+
+use crate::frame::Frame;
+use bq_scope::CodeFunction;
+use bq_value::Value;
+use std::alloc::Global;
+
+/// The globals of a file.
+#[derive(Clone, Copy)]
+pub enum Globals<'a> {
+    /// None is bound.
+    Absent,
+    /// Those of the file that is evaluated, of which some are not bound yet.
+    Running(&'a Frame),
+    /// Those of a frozen module.
+    Frozen(&'a [Value]),
+}
+
+impl<'a> Globals<'a> {
+    #[tactic(auto, unfolding(crate::specs::Round::globals_of, bq_meaning::specs::Frame::empty))]
+    #[inline(always)]
+    pub fn get(self, k: usize) -> Option<&'a Value>
+        ensures { option_copied result ≡ globals_of self.entry k }
+    {
+        match self {
+            Globals::Absent => None,
+            Globals::Running(frame) => frame.get(k),
+            Globals::Frozen(values) => values.get(k),
+        }
+    }
+}
+
+/// A frozen module: its functions in the order of their `def`s, the values of its globals, and what its loads bound.
+#[derive(Clone, Copy)]
+pub struct FrozenUnit<'a> {
+    pub functions: &'a [CodeFunction],
+    pub globals: &'a [Value],
+    pub loaded: &'a [Value],
+}
+
+/// The module that is evaluated, and the frozen ones that it reaches, by their numbers.
+#[derive(Clone, Copy)]
+pub struct Program<'a> {
+    pub number: u32,
+    pub functions: &'a [CodeFunction],
+    /// What its loads bind.
+    pub loaded: &'a [Value],
+    pub frozen: &'a [Option<FrozenUnit<'a>>],
+}
+
+/// What is round an expression or a statement.
+#[derive(Clone, Copy)]
+pub struct Context<'a> {
+    pub alloc: Global,
+    /// How many functions may still become active.
+    pub left: usize,
+    pub program: &'a Program<'a>,
+    /// The globals of the module that is evaluated.
+    pub own: Globals<'a>,
+    /// A statement stands outside functions: its frame is the globals of the module that is evaluated.
+    pub outside: bool,
+    /// The globals of the file that the code stands in.
+    pub globals: Globals<'a>,
+    /// What the loads of the file that the code stands in bind.
+    pub loaded: &'a [Value],
+}

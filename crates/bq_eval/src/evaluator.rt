@@ -1,0 +1,66 @@
+//! The rules to a depth. Each rule takes what evaluates the expressions inside, so that it is proved by itself.
+
+ghost use Rattle.std.specs.Prelude.{◌≡◌};
+ghost use Rattle.bq_eval.specs.Acts.{Acts};
+ghost use Rattle.bq_eval.specs.Slots.{slots_of};
+ghost use Rattle.bq_eval.specs.Operands.{read_of};
+ghost use Rattle.bq_eval.specs.Nests.{Nests, nested};
+
+use crate::context::Context;
+use crate::frame::Frame;
+use crate::operand::{Operand, use_of};
+use crate::runtime::Runtime;
+use bq_scope::Code;
+use bq_value::{EvalErr, Value};
+use std::marker::PhantomData;
+
+#[derive(Clone, Copy)]
+pub struct Evaluator<R, C, F> {
+    /// How many layers inside are still looked at.
+    pub depth: usize,
+    pub call: C,
+    pub eval: F,
+    pub of: PhantomData<R>,
+}
+
+impl<
+    R: Runtime,
+    C: Copy,
+    F: Fn(&Context<'_>, usize, C, &Frame, &mut R, &Code) -> Result<Value, EvalErr>,
+> Evaluator<R, C, F> {
+    /// The value of an expression inside.
+    #[inline(always)]
+    pub fn value(
+        &self,
+        context: &Context<'_>,
+        frame: &Frame,
+        runtime: &mut R,
+        code: &Code,
+    ) -> Result<Value, EvalErr>
+        requires { Nests R.means R.seen context.now.left self.now.depth self.now.call (F.pre self.now.eval) (F.post self.now.eval) }
+        ensures { Acts R.means (λ v. v) result (R.seen runtime.new) (nested R.means self.now.depth context.now code.now (slots_of frame.now) (R.seen runtime.old)) }
+    {
+        (self.eval)(context, self.depth, self.call, frame, runtime, code)
+    }
+
+    /// The value of an expression inside that is only read: a frame lends it.
+    #[tactic(auto, using(crate::proofs::Layers::use_layer))]
+    #[inline(always)]
+    pub fn operand<'f>(
+        &self,
+        context: &'f Context<'_>,
+        frame: &'f Frame,
+        runtime: &mut R,
+        code: &Code,
+    ) -> Result<Operand<'f>, EvalErr>
+        requires { Nests R.means R.seen context.now.left self.now.depth self.now.call (F.pre self.now.eval) (F.post self.now.eval) }
+        ensures { Acts R.means read_of result (R.seen runtime.new) (nested R.means self.now.depth context.now code.now (slots_of frame.now) (R.seen runtime.old)) }
+    {
+        if self.depth > 0 {
+            if let Code::Use(binding) = code {
+                return use_of(context, frame, runtime, *binding);
+            }
+        }
+        Ok(Operand::Own(self.value(context, frame, runtime, code)?))
+    }
+}

@@ -1,0 +1,136 @@
+//! Expressions.
+
+ghost use Rattle.std.specs.Prelude.{◌≡◌};
+ghost use Rattle.bq_meaning.specs.Expressions as meaning;
+ghost use Rattle.bq_eval.specs.Acts.{Acts};
+ghost use Rattle.bq_eval.specs.Slots.{slots_of};
+ghost use Rattle.bq_eval.specs.Nests.{Nests, Answers, nested};
+ghost use Rattle.bq_eval.specs.Round.{inside, round_of};
+
+use crate::context::Context;
+use crate::evaluator::Evaluator;
+use crate::frame::Frame;
+use crate::operand::use_of;
+use crate::runtime::Runtime;
+use bq_machine::Args;
+use bq_predeclared::Predeclared;
+use bq_scope::{Binding, Code};
+use bq_source::FaultKind;
+use bq_value::{Content, Dict, EvalErr, Value};
+use std::marker::PhantomData;
+
+/// The value of an expression that is no deeper than so many layers.
+#[tactic(auto, unfolding(bq_meaning::specs::Expressions::expr_to))]
+pub fn expr_to<
+    R: Runtime,
+    C: Copy + Fn(&Context<'_>, &mut R, &Value, Args) -> Result<Value, EvalErr>,
+>(
+    context: &Context<'_>,
+    depth: usize,
+    call: C,
+    frame: &Frame,
+    runtime: &mut R,
+    code: &Code,
+) -> Result<Value, EvalErr>
+    requires { Answers R.means R.seen context.now.left (C.pre call) (C.post call) }
+    ensures { Acts R.means (λ v. v) result (R.seen runtime.new) (nested R.means depth context.now code.now (slots_of frame.now) (R.seen runtime.old)) }
+{
+    if depth == 0 {
+        return Err(EvalErr::Bad(FaultKind::Nesting));
+    }
+    Evaluator {
+        depth: depth - 1,
+        call,
+        eval: expr_to::<R, C>,
+        of: PhantomData,
+    }
+    .expr(context, frame, runtime, code)
+}
+
+impl<
+    R: Runtime,
+    C: Copy + Fn(&Context<'_>, &mut R, &Value, Args) -> Result<Value, EvalErr>,
+    F: Fn(&Context<'_>, usize, C, &Frame, &mut R, &Code) -> Result<Value, EvalErr>,
+> Evaluator<R, C, F> {
+    /// The use of a name.
+    #[inline(always)]
+    fn use_of(
+        &self,
+        context: &Context<'_>,
+        frame: &Frame,
+        runtime: &mut R,
+        binding: Binding,
+    ) -> Result<Value, EvalErr>
+        ensures { Acts R.means (λ v. v) result (R.seen runtime.new) (meaning.use_of R.means (round_of context.now) binding (slots_of frame.now) (R.seen runtime.old)) }
+    {
+        Ok(use_of(context, frame, runtime, binding)?.own()?)
+    }
+
+    /// A literal.
+    #[tactic(auto, unfolding(bq_meaning::specs::Expressions::literal))]
+    fn literal(&self, runtime: &mut R, value: Value) -> Result<Value, EvalErr>
+        ensures { Acts R.means (λ v. v) result (R.seen runtime.new) (meaning.literal R.means value (R.seen runtime.old)) }
+    {
+        runtime.step(1)?;
+        Ok(value)
+    }
+
+    /// An expression.
+    #[tactic(auto, unfolding(bq_meaning::specs::Expressions::expr))]
+    pub fn expr(
+        &self,
+        context: &Context<'_>,
+        frame: &Frame,
+        runtime: &mut R,
+        code: &Code,
+    ) -> Result<Value, EvalErr>
+        requires nests { Nests R.means R.seen context.now.left self.now.depth self.now.call (F.pre self.now.eval) (F.post self.now.eval) }
+        requires answers { Answers R.means R.seen context.now.left (C.pre self.now.call) (C.post self.now.call) }
+        ensures { Acts R.means (λ v. v) result (R.seen runtime.new) (meaning.expr R.means (nested R.means self.now.depth context.now) (inside R.means context.now) (round_of context.now) code.now (slots_of frame.now) (R.seen runtime.old)) }
+    {
+        match code {
+            Code::Use(binding) => self.use_of(context, frame, runtime, *binding),
+            Code::Native(id) => Ok(runtime.predeclared(Predeclared::Host(*id))?),
+            Code::Int(n) => self.literal(runtime, Value::int(*n)),
+            Code::String(text) => self.literal(runtime, Value::string(text.share()?)),
+            Code::List(codes) => self.list_display(context, frame, runtime, codes.as_slice()),
+            Code::Tuple(codes) => self.tuple_display(context, frame, runtime, codes.as_slice()),
+            Code::Dict(pairs) => self.dict_display(context, frame, runtime, pairs.as_slice()),
+            Code::ListComprehension(_, clauses) => {
+                let empty = Content::list(Vec::new(context.alloc));
+                self.comprehension(context, frame, runtime, empty, code, clauses.as_slice())
+            }
+            Code::DictComprehension(_, clauses) => {
+                let empty = Content::dict(Dict::new(context.alloc));
+                self.comprehension(context, frame, runtime, empty, code, clauses.as_slice())
+            }
+            Code::Framed(_, code) => self.framed(context, runtime, code.get()),
+            Code::Primary(code, suffixes) => {
+                self.primary(context, frame, runtime, code.get(), suffixes.as_slice())
+            }
+            Code::Unary(operators, code) => {
+                self.unary(context, frame, runtime, operators.as_slice(), code.get())
+            }
+            Code::Binary(code, operations) => {
+                self.binary(context, frame, runtime, code.get(), operations.as_slice())
+            }
+            Code::Compare(left, operator, right) => {
+                self.compare(context, frame, runtime, left.get(), *operator, right.get())
+            }
+            Code::Conditional(choices, otherwise) => {
+                self.conditional(context, frame, runtime, choices.as_slice(), otherwise.get())
+            }
+            Code::Lambda => Err(EvalErr::Bad(FaultKind::LeftOut)),
+        }
+    }
+
+    /// A comprehension outside functions, in a frame of its own.
+    #[tactic(auto, unfolding(bq_meaning::specs::Expressions::framed), using(crate::proofs::Slots::none_filled))]
+    fn framed(&self, context: &Context<'_>, runtime: &mut R, code: &Code) -> Result<Value, EvalErr>
+        requires { Nests R.means R.seen context.now.left self.now.depth self.now.call (F.pre self.now.eval) (F.post self.now.eval) }
+        ensures { Acts R.means (λ v. v) result (R.seen runtime.new) (meaning.framed R.means (nested R.means self.now.depth context.now) code.now (R.seen runtime.old)) }
+    {
+        let frame = Frame::new(context.alloc);
+        self.value(context, &frame, runtime, code)
+    }
+}

@@ -1,0 +1,119 @@
+//! Putting what parameters hold into the frame of a function.
+
+ghost use Rattle.std.specs.Prelude.{◌≡◌};
+ghost use Rattle.bq_meaning.specs.Calls as meaning;
+ghost use Rattle.bq_eval.specs.Acts.{Acts};
+ghost use Rattle.bq_eval.specs.Fillings.{filling_of};
+ghost use Rattle.bq_eval.specs.Slots.{slots_of};
+
+use crate::frame::Frame;
+use crate::runtime::Runtime;
+use bq_scope::CodeParameter;
+use bq_source::FaultKind;
+use bq_value::{EvalErr, Value};
+
+/// What is still to go into a frame, from the next parameter on.
+#[derive(Clone, Copy)]
+pub struct Filling<'a> {
+    pub values: &'a [Option<Value>],
+    pub defaults: &'a [Value],
+    /// What `*` holds.
+    pub rest: &'a Value,
+    /// What `**` holds.
+    pub keywords: &'a Value,
+}
+
+/// A parameter without default.
+fn fill_plain<'a, R: Runtime>(
+    runtime: &R,
+    filling: Filling<'a>,
+    frame: &mut Frame,
+    slot: usize,
+) -> Result<Filling<'a>, EvalErr>
+    ensures { Acts R.means (λ x. filling_of x (slots_of frame.new)) result (R.seen runtime.now) (meaning.with_value R.means slot filling.entry.values.now (filling_of filling.entry (slots_of frame.old)) (R.seen runtime.now)) }
+{
+    let _ = runtime;
+    match filling.values.split_first() {
+        Some((Some(value), values)) => {
+            frame.fill(slot, value.share()?)?;
+            Ok(Filling {
+                values,
+                defaults: filling.defaults,
+                rest: filling.rest,
+                keywords: filling.keywords,
+            })
+        }
+        Some((None, _)) => Err(EvalErr::Bad(FaultKind::Args)),
+        None => Err(EvalErr::Bad(FaultKind::Args)),
+    }
+}
+
+/// A parameter with a default, which is its value where it has no argument.
+fn fill_default<'a, R: Runtime>(
+    runtime: &R,
+    filling: Filling<'a>,
+    frame: &mut Frame,
+    slot: usize,
+) -> Result<Filling<'a>, EvalErr>
+    ensures { Acts R.means (λ x. filling_of x (slots_of frame.new)) result (R.seen runtime.now) (meaning.with_default R.means slot filling.entry.values.now filling.entry.defaults.now (filling_of filling.entry (slots_of frame.old)) (R.seen runtime.now)) }
+{
+    let _ = runtime;
+    let Some((argument, values)) = filling.values.split_first() else {
+        return Err(EvalErr::Bad(FaultKind::Args));
+    };
+    let Some((default, defaults)) = filling.defaults.split_first() else {
+        return Err(EvalErr::Bad(FaultKind::Args));
+    };
+    match argument {
+        Some(value) => frame.fill(slot, value.share()?)?,
+        None => frame.fill(slot, default.share()?)?,
+    }
+    Ok(Filling {
+        values,
+        defaults,
+        rest: filling.rest,
+        keywords: filling.keywords,
+    })
+}
+
+/// Puts one parameter into the frame.
+#[tactic(auto, unfolding(bq_meaning::specs::Calls::fill_parameter))]
+fn fill_parameter<'a, R: Runtime>(
+    runtime: &R,
+    filling: Filling<'a>,
+    frame: &mut Frame,
+    parameter: &CodeParameter,
+) -> Result<Filling<'a>, EvalErr>
+    ensures { Acts R.means (λ x. filling_of x (slots_of frame.new)) result (R.seen runtime.now) (meaning.fill_parameter R.means parameter.now (filling_of filling.entry (slots_of frame.old)) (R.seen runtime.now)) }
+{
+    match parameter {
+        CodeParameter::Plain(_, slot) => fill_plain(runtime, filling, frame, *slot),
+        CodeParameter::Default(_, slot) => fill_default(runtime, filling, frame, *slot),
+        CodeParameter::BareStar => Ok(filling),
+        CodeParameter::Star(slot) => {
+            frame.fill(*slot, filling.rest.share()?)?;
+            Ok(filling)
+        }
+        CodeParameter::StarStar(slot) => {
+            frame.fill(*slot, filling.keywords.share()?)?;
+            Ok(filling)
+        }
+    }
+}
+
+/// Puts these parameters into the frame.
+#[tactic(auto, unfolding(bq_meaning::specs::Calls::fill_parameters))]
+pub fn fill_parameters<'a, R: Runtime>(
+    runtime: &R,
+    filling: Filling<'a>,
+    frame: &mut Frame,
+    parameters: &[CodeParameter],
+) -> Result<Filling<'a>, EvalErr>
+    ensures { Acts R.means (λ x. filling_of x (slots_of frame.new)) result (R.seen runtime.now) (meaning.fill_parameters R.means parameters.now (filling_of filling.entry (slots_of frame.old)) (R.seen runtime.now)) }
+{
+    let mut left = filling;
+    for parameter in parameters {
+        left = fill_parameter(runtime, left, frame, parameter)?;
+    }
+    Ok(left)
+}

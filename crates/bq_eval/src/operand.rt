@@ -1,0 +1,78 @@
+//! Values that are only read.
+
+ghost use Rattle.std.specs.Prelude.{◌≡◌, IfOk, option_copied};
+ghost use Rattle.bq_meaning.specs.Targets.{bound};
+ghost use Rattle.bq_meaning.specs.Expressions as meaning;
+ghost use Rattle.bq_eval.specs.Acts.{Acts};
+ghost use Rattle.bq_eval.specs.Slots.{slots_of};
+ghost use Rattle.bq_eval.specs.Round.{round_of};
+ghost use Rattle.bq_eval.specs.Operands.{read_of};
+
+use crate::context::Context;
+use crate::frame::Frame;
+use crate::runtime::Runtime;
+use bq_scope::Binding;
+use bq_source::FaultKind;
+use bq_value::{EvalErr, Value};
+use std::alloc::AllocError;
+
+/// A value that a frame lends, or one of its own.
+#[derive(Drop)]
+pub enum Operand<'f> {
+    Lent(&'f Value),
+    Own(Value),
+}
+
+impl<'f> Operand<'f> {
+    #[inline(always)]
+    pub fn get(&self) -> &Value
+        ensures { result.now ≡ read_of self.now }
+    {
+        match self {
+            Operand::Lent(value) => value,
+            Operand::Own(value) => value,
+        }
+    }
+
+    /// The value itself.
+    pub fn own(self) -> Result<Value, AllocError>
+        ensures { IfOk result (λ v. v ≡ read_of self.entry) }
+    {
+        match self {
+            Operand::Lent(value) => value.share(),
+            Operand::Own(value) => Ok(value),
+        }
+    }
+}
+
+/// The value of a name, or F49.
+#[tactic(auto, unfolding(bq_meaning::specs::Targets::bound))]
+#[inline(always)]
+fn lent<'f, R: Runtime>(runtime: &R, value: Option<&'f Value>) -> Result<Operand<'f>, EvalErr>
+    ensures { Acts R.means read_of result (R.seen runtime.now) (bound R.means (option_copied value.entry) (R.seen runtime.now)) }
+{
+    match value {
+        None => Err(EvalErr::Bad(FaultKind::Unbound)),
+        Some(value) => Ok(Operand::Lent(value)),
+    }
+}
+
+/// The use of a name.
+#[tactic(auto, unfolding(bq_meaning::specs::Expressions::use_of, crate::specs::Round::round_of))]
+#[inline(always)]
+pub fn use_of<'f, R: Runtime>(
+    context: &'f Context<'_>,
+    frame: &'f Frame,
+    runtime: &mut R,
+    binding: Binding,
+) -> Result<Operand<'f>, EvalErr>
+    ensures { Acts R.means read_of result (R.seen runtime.new) (meaning.use_of R.means (round_of context.now) binding (slots_of frame.now) (R.seen runtime.old)) }
+{
+    runtime.step(1)?;
+    match binding {
+        Binding::Local(slot) => lent(&*runtime, frame.get(slot)),
+        Binding::Global(k) => lent(&*runtime, context.globals.get(k)),
+        Binding::Loaded(k) => lent(&*runtime, context.loaded.get(k)),
+        Binding::Predeclared(name) => Ok(Operand::Own(runtime.predeclared(name)?)),
+    }
+}

@@ -1,0 +1,188 @@
+//! Operators, comparisons and conditionals.
+
+ghost use Rattle.std.specs.Prelude.{◌≡◌, reverse};
+ghost use Rattle.bq_meaning.specs.Expressions as meaning;
+ghost use Rattle.bq_eval.specs.Acts.{Acts};
+ghost use Rattle.bq_eval.specs.Slots.{slots_of};
+ghost use Rattle.bq_eval.specs.Nests.{Nests, nested};
+
+use crate::context::Context;
+use crate::evaluator::Evaluator;
+use crate::frame::Frame;
+use crate::runtime::Runtime;
+use bq_grammar::{Comparison, Operator, UnaryOperator};
+use bq_scope::{Code, CodeChoice, CodeOperation};
+use bq_value::{EvalErr, Value};
+
+/// What these operators make of a value, the last one first.
+#[tactic(auto, unfolding(bq_meaning::specs::Expressions::unary_each))]
+fn unary_each<R: Runtime>(
+    runtime: &mut R,
+    operators: &[UnaryOperator],
+    value: Value,
+) -> Result<Value, EvalErr>
+    ensures { Acts R.means (λ v. v) result (R.seen runtime.new) (meaning.unary_each R.means (reverse operators.now) value (R.seen runtime.old)) }
+{
+    let mut value = value;
+    let mut rest = operators;
+    while let [before @ .., operator] = rest {
+        value = runtime.unary(*operator, &value)?;
+        rest = before;
+    }
+    Ok(value)
+}
+
+impl<
+    R: Runtime,
+    C: Copy,
+    F: Fn(&Context<'_>, usize, C, &Frame, &mut R, &Code) -> Result<Value, EvalErr>,
+> Evaluator<R, C, F> {
+    /// Operators before an operand.
+    #[tactic(auto, unfolding(bq_meaning::specs::Expressions::unary))]
+    pub fn unary(
+        &self,
+        context: &Context<'_>,
+        frame: &Frame,
+        runtime: &mut R,
+        operators: &[UnaryOperator],
+        code: &Code,
+    ) -> Result<Value, EvalErr>
+        requires { Nests R.means R.seen context.now.left self.now.depth self.now.call (F.pre self.now.eval) (F.post self.now.eval) }
+        ensures { Acts R.means (λ v. v) result (R.seen runtime.new) (meaning.unary R.means (nested R.means self.now.depth context.now) operators.now code.now (slots_of frame.now) (R.seen runtime.old)) }
+    {
+        runtime.step(operators.len() as u64)?;
+        let value = self.value(context, frame, runtime, code)?;
+        unary_each(runtime, operators, value)
+    }
+
+    /// One operation on the value so far.
+    #[tactic(auto, unfolding(bq_meaning::specs::Expressions::operation))]
+    fn operation(
+        &self,
+        context: &Context<'_>,
+        frame: &Frame,
+        runtime: &mut R,
+        operation: &CodeOperation,
+        left: Value,
+    ) -> Result<Value, EvalErr>
+        requires { Nests R.means R.seen context.now.left self.now.depth self.now.call (F.pre self.now.eval) (F.post self.now.eval) }
+        ensures { Acts R.means (λ v. v) result (R.seen runtime.new) (meaning.operation R.means (nested R.means self.now.depth context.now) operation.now (slots_of frame.now) left (R.seen runtime.old)) }
+    {
+        match operation.operator {
+            Operator::And => {
+                if runtime.truth(&left) {
+                    return self.value(context, frame, runtime, &operation.operand);
+                }
+                Ok(left)
+            }
+            Operator::Or => {
+                if runtime.truth(&left) {
+                    return Ok(left);
+                }
+                self.value(context, frame, runtime, &operation.operand)
+            }
+            operator => {
+                let right = self.operand(context, frame, runtime, &operation.operand)?;
+                runtime.binary(operator, &left, right.get())
+            }
+        }
+    }
+
+    #[tactic(auto, unfolding(bq_meaning::specs::Expressions::operations))]
+    fn operations(
+        &self,
+        context: &Context<'_>,
+        frame: &Frame,
+        runtime: &mut R,
+        operations: &[CodeOperation],
+        first: Value,
+    ) -> Result<Value, EvalErr>
+        requires { Nests R.means R.seen context.now.left self.now.depth self.now.call (F.pre self.now.eval) (F.post self.now.eval) }
+        ensures { Acts R.means (λ v. v) result (R.seen runtime.new) (meaning.operations R.means (nested R.means self.now.depth context.now) operations.now (slots_of frame.now) first (R.seen runtime.old)) }
+    {
+        let mut value = first;
+        for operation in operations {
+            value = self.operation(context, frame, runtime, operation, value)?;
+        }
+        Ok(value)
+    }
+
+    /// A chain of operators.
+    #[tactic(auto, unfolding(bq_meaning::specs::Expressions::binary))]
+    pub fn binary(
+        &self,
+        context: &Context<'_>,
+        frame: &Frame,
+        runtime: &mut R,
+        code: &Code,
+        operations: &[CodeOperation],
+    ) -> Result<Value, EvalErr>
+        requires { Nests R.means R.seen context.now.left self.now.depth self.now.call (F.pre self.now.eval) (F.post self.now.eval) }
+        ensures { Acts R.means (λ v. v) result (R.seen runtime.new) (meaning.binary R.means (nested R.means self.now.depth context.now) code.now operations.now (slots_of frame.now) (R.seen runtime.old)) }
+    {
+        runtime.step(operations.len() as u64)?;
+        let value = self.value(context, frame, runtime, code)?;
+        self.operations(context, frame, runtime, operations, value)
+    }
+
+    #[tactic(auto, unfolding(bq_meaning::specs::Expressions::compare))]
+    pub fn compare(
+        &self,
+        context: &Context<'_>,
+        frame: &Frame,
+        runtime: &mut R,
+        left: &Code,
+        operator: Comparison,
+        right: &Code,
+    ) -> Result<Value, EvalErr>
+        requires { Nests R.means R.seen context.now.left self.now.depth self.now.call (F.pre self.now.eval) (F.post self.now.eval) }
+        ensures { Acts R.means (λ v. v) result (R.seen runtime.new) (meaning.compare R.means (nested R.means self.now.depth context.now) left.now operator right.now (slots_of frame.now) (R.seen runtime.old)) }
+    {
+        runtime.step(1)?;
+        let left = self.operand(context, frame, runtime, left)?;
+        let right = self.operand(context, frame, runtime, right)?;
+        runtime.compare(operator, left.get(), right.get())
+    }
+
+    /// The value of a choice, if its condition holds.
+    #[tactic(auto, unfolding(bq_meaning::specs::Expressions::choice))]
+    fn choice(
+        &self,
+        context: &Context<'_>,
+        frame: &Frame,
+        runtime: &mut R,
+        choice: &CodeChoice,
+    ) -> Result<Option<Value>, EvalErr>
+        requires { Nests R.means R.seen context.now.left self.now.depth self.now.call (F.pre self.now.eval) (F.post self.now.eval) }
+        ensures { Acts R.means (λ o. o) result (R.seen runtime.new) (meaning.choice R.means (nested R.means self.now.depth context.now) choice.now (slots_of frame.now) (R.seen runtime.old)) }
+    {
+        runtime.step(1)?;
+        let condition = self.operand(context, frame, runtime, &choice.condition)?;
+        if runtime.truth(condition.get()) {
+            let value = self.value(context, frame, runtime, &choice.value)?;
+            return Ok(Some(value));
+        }
+        Ok(None)
+    }
+
+    /// `x if y else ..`
+    #[tactic(auto, unfolding(bq_meaning::specs::Expressions::conditional))]
+    pub fn conditional(
+        &self,
+        context: &Context<'_>,
+        frame: &Frame,
+        runtime: &mut R,
+        choices: &[CodeChoice],
+        otherwise: &Code,
+    ) -> Result<Value, EvalErr>
+        requires { Nests R.means R.seen context.now.left self.now.depth self.now.call (F.pre self.now.eval) (F.post self.now.eval) }
+        ensures { Acts R.means (λ v. v) result (R.seen runtime.new) (meaning.conditional R.means (nested R.means self.now.depth context.now) choices.now otherwise.now (slots_of frame.now) (R.seen runtime.old)) }
+    {
+        for choice in choices {
+            if let Some(value) = self.choice(context, frame, runtime, choice)? {
+                return Ok(value);
+            }
+        }
+        self.value(context, frame, runtime, otherwise)
+    }
+}

@@ -1,0 +1,244 @@
+//! What is done to an operand.
+
+ghost use Rattle.std.specs.Prelude.{◌≡◌};
+ghost use Rattle.bq_meaning.specs.Expressions as meaning;
+ghost use Rattle.bq_eval.specs.Acts.{Acts};
+ghost use Rattle.bq_eval.specs.Slots.{slots_of};
+ghost use Rattle.bq_eval.specs.Nests.{Nests, Answers, nested};
+ghost use Rattle.bq_eval.specs.Round.{inside};
+
+use crate::context::Context;
+use crate::evaluator::Evaluator;
+use crate::frame::Frame;
+use crate::runtime::Runtime;
+use bq_machine::Args;
+use bq_scope::{Code, CodeArgument, CodeSuffix};
+use bq_source::{Bytes, FaultKind};
+use bq_value::{EvalErr, Value};
+use sqlite_items::Boxed;
+
+impl<
+    R: Runtime,
+    C: Copy,
+    F: Fn(&Context<'_>, usize, C, &Frame, &mut R, &Code) -> Result<Value, EvalErr>,
+> Evaluator<R, C, F> {
+    /// `value[index]`
+    #[tactic(auto, unfolding(bq_meaning::specs::Expressions::index))]
+    pub fn index(
+        &self,
+        context: &Context<'_>,
+        frame: &Frame,
+        runtime: &mut R,
+        index: &Code,
+        value: &Value,
+    ) -> Result<Value, EvalErr>
+        requires { Nests R.means R.seen context.now.left self.now.depth self.now.call (F.pre self.now.eval) (F.post self.now.eval) }
+        ensures { Acts R.means (λ v. v) result (R.seen runtime.new) (meaning.index R.means (nested R.means self.now.depth context.now) index.now (slots_of frame.now) value.now (R.seen runtime.old)) }
+    {
+        let index = self.operand(context, frame, runtime, index)?;
+        runtime.index(value, index.get())
+    }
+
+    /// A part of a slice.
+    #[tactic(auto, unfolding(bq_meaning::specs::Expressions::part))]
+    fn part(
+        &self,
+        context: &Context<'_>,
+        frame: &Frame,
+        runtime: &mut R,
+        part: &Option<Boxed<Code>>,
+    ) -> Result<Value, EvalErr>
+        requires { Nests R.means R.seen context.now.left self.now.depth self.now.call (F.pre self.now.eval) (F.post self.now.eval) }
+        ensures { Acts R.means (λ v. v) result (R.seen runtime.new) (meaning.part R.means (nested R.means self.now.depth context.now) part.now (slots_of frame.now) (R.seen runtime.old)) }
+    {
+        match part {
+            None => Ok(Value::none()),
+            Some(code) => self.value(context, frame, runtime, code.get()),
+        }
+    }
+
+    /// `value[start:stop:step]`
+    #[tactic(auto, unfolding(bq_meaning::specs::Expressions::slice))]
+    pub fn slice(
+        &self,
+        context: &Context<'_>,
+        frame: &Frame,
+        runtime: &mut R,
+        start: &Option<Boxed<Code>>,
+        stop: &Option<Boxed<Code>>,
+        step: &Option<Boxed<Code>>,
+        value: &Value,
+    ) -> Result<Value, EvalErr>
+        requires { Nests R.means R.seen context.now.left self.now.depth self.now.call (F.pre self.now.eval) (F.post self.now.eval) }
+        ensures { Acts R.means (λ v. v) result (R.seen runtime.new) (meaning.slice R.means (nested R.means self.now.depth context.now) start.now stop.now step.now (slots_of frame.now) value.now (R.seen runtime.old)) }
+    {
+        let start = self.part(context, frame, runtime, start)?;
+        let stop = self.part(context, frame, runtime, stop)?;
+        let step = self.part(context, frame, runtime, step)?;
+        runtime.slice(value, &start, &stop, &step)
+    }
+
+    /// One more argument.
+    #[tactic(auto, unfolding(bq_meaning::specs::Expressions::argument))]
+    fn argument(
+        &self,
+        context: &Context<'_>,
+        frame: &Frame,
+        runtime: &mut R,
+        args: &mut Args,
+        argument: &CodeArgument,
+    ) -> Result<(), EvalErr>
+        requires { Nests R.means R.seen context.now.left self.now.depth self.now.call (F.pre self.now.eval) (F.post self.now.eval) }
+        ensures { Acts R.means (λ _. args.new) result (R.seen runtime.new) (meaning.argument R.means (nested R.means self.now.depth context.now) argument.now (slots_of frame.now) args.old (R.seen runtime.old)) }
+    {
+        match argument {
+            CodeArgument::Positional(code) => {
+                let value = self.value(context, frame, runtime, code)?;
+                runtime.pass(args, value)
+            }
+            CodeArgument::Named(name, code) => {
+                let value = self.value(context, frame, runtime, code)?;
+                runtime.pass_named(args, name, value)
+            }
+            CodeArgument::Star(code) => {
+                let value = self.value(context, frame, runtime, code)?;
+                runtime.pass_all(args, &value)
+            }
+            CodeArgument::StarStar(code) => {
+                let value = self.value(context, frame, runtime, code)?;
+                runtime.pass_all_named(args, &value)
+            }
+        }
+    }
+
+    /// The arguments so far, and all of these.
+    #[tactic(auto, unfolding(bq_meaning::specs::Expressions::arguments))]
+    fn arguments(
+        &self,
+        context: &Context<'_>,
+        frame: &Frame,
+        runtime: &mut R,
+        args: &mut Args,
+        arguments: &[CodeArgument],
+    ) -> Result<(), EvalErr>
+        requires { Nests R.means R.seen context.now.left self.now.depth self.now.call (F.pre self.now.eval) (F.post self.now.eval) }
+        ensures { Acts R.means (λ _. args.new) result (R.seen runtime.new) (meaning.arguments R.means (nested R.means self.now.depth context.now) arguments.now (slots_of frame.now) args.old (R.seen runtime.old)) }
+    {
+        for argument in arguments {
+            self.argument(context, frame, runtime, args, argument)?;
+        }
+        Ok(())
+    }
+
+    /// `value.name(..)`
+    #[tactic(auto, unfolding(bq_meaning::specs::Expressions::method))]
+    fn method(
+        &self,
+        context: &Context<'_>,
+        frame: &Frame,
+        runtime: &mut R,
+        name: &Bytes,
+        arguments: &[CodeArgument],
+        value: &Value,
+    ) -> Result<Value, EvalErr>
+        requires { Nests R.means R.seen context.now.left self.now.depth self.now.call (F.pre self.now.eval) (F.post self.now.eval) }
+        ensures { Acts R.means (λ v. v) result (R.seen runtime.new) (meaning.method R.means (nested R.means self.now.depth context.now) name.now arguments.now (slots_of frame.now) value.now (R.seen runtime.old)) }
+    {
+        let mut args = Args::new(context.alloc);
+        self.arguments(context, frame, runtime, &mut args, arguments)?;
+        runtime.call_method(context.alloc, name, value, args)
+    }
+}
+
+impl<
+    R: Runtime,
+    C: Copy + Fn(&Context<'_>, &mut R, &Value, Args) -> Result<Value, EvalErr>,
+    F: Fn(&Context<'_>, usize, C, &Frame, &mut R, &Code) -> Result<Value, EvalErr>,
+> Evaluator<R, C, F> {
+    /// `value(..)`
+    #[tactic(auto, unfolding(bq_meaning::specs::Expressions::call_of))]
+    fn call_of(
+        &self,
+        context: &Context<'_>,
+        frame: &Frame,
+        runtime: &mut R,
+        arguments: &[CodeArgument],
+        value: &Value,
+    ) -> Result<Value, EvalErr>
+        requires nests { Nests R.means R.seen context.now.left self.now.depth self.now.call (F.pre self.now.eval) (F.post self.now.eval) }
+        requires answers { Answers R.means R.seen context.now.left (C.pre self.now.call) (C.post self.now.call) }
+        ensures { Acts R.means (λ v. v) result (R.seen runtime.new) (meaning.call_of R.means (nested R.means self.now.depth context.now) (inside R.means context.now) arguments.now (slots_of frame.now) value.now (R.seen runtime.old)) }
+    {
+        let mut args = Args::new(context.alloc);
+        self.arguments(context, frame, runtime, &mut args, arguments)?;
+        (self.call)(context, runtime, value, args)
+    }
+
+    /// What is done to a value.
+    #[tactic(auto, unfolding(bq_meaning::specs::Expressions::suffix))]
+    fn suffix(
+        &self,
+        context: &Context<'_>,
+        frame: &Frame,
+        runtime: &mut R,
+        suffix: &CodeSuffix,
+        value: &Value,
+    ) -> Result<Value, EvalErr>
+        requires nests { Nests R.means R.seen context.now.left self.now.depth self.now.call (F.pre self.now.eval) (F.post self.now.eval) }
+        requires answers { Answers R.means R.seen context.now.left (C.pre self.now.call) (C.post self.now.call) }
+        ensures { Acts R.means (λ v. v) result (R.seen runtime.new) (meaning.suffix R.means (nested R.means self.now.depth context.now) (inside R.means context.now) suffix.now (slots_of frame.now) value.now (R.seen runtime.old)) }
+    {
+        match suffix {
+            CodeSuffix::Call(arguments) => {
+                self.call_of(context, frame, runtime, arguments.as_slice(), value)
+            }
+            CodeSuffix::Method(name, arguments) => {
+                self.method(context, frame, runtime, name, arguments.as_slice(), value)
+            }
+            CodeSuffix::Attribute(_) => Err(EvalErr::Bad(FaultKind::LeftOut)),
+            CodeSuffix::Index(index) => self.index(context, frame, runtime, index.get(), value),
+            CodeSuffix::Slice(start, stop, step) => {
+                self.slice(context, frame, runtime, start, stop, step, value)
+            }
+        }
+    }
+
+    #[tactic(auto, unfolding(bq_meaning::specs::Expressions::suffixes))]
+    fn suffixes(
+        &self,
+        context: &Context<'_>,
+        frame: &Frame,
+        runtime: &mut R,
+        suffixes: &[CodeSuffix],
+        first: Value,
+    ) -> Result<Value, EvalErr>
+        requires nests { Nests R.means R.seen context.now.left self.now.depth self.now.call (F.pre self.now.eval) (F.post self.now.eval) }
+        requires answers { Answers R.means R.seen context.now.left (C.pre self.now.call) (C.post self.now.call) }
+        ensures { Acts R.means (λ v. v) result (R.seen runtime.new) (meaning.suffixes R.means (nested R.means self.now.depth context.now) (inside R.means context.now) suffixes.now (slots_of frame.now) first (R.seen runtime.old)) }
+    {
+        let mut value = first;
+        for suffix in suffixes {
+            value = self.suffix(context, frame, runtime, suffix, &value)?;
+        }
+        Ok(value)
+    }
+
+    /// An operand, and what is done to it.
+    #[tactic(auto, unfolding(bq_meaning::specs::Expressions::primary))]
+    pub fn primary(
+        &self,
+        context: &Context<'_>,
+        frame: &Frame,
+        runtime: &mut R,
+        code: &Code,
+        suffixes: &[CodeSuffix],
+    ) -> Result<Value, EvalErr>
+        requires nests { Nests R.means R.seen context.now.left self.now.depth self.now.call (F.pre self.now.eval) (F.post self.now.eval) }
+        requires answers { Answers R.means R.seen context.now.left (C.pre self.now.call) (C.post self.now.call) }
+        ensures { Acts R.means (λ v. v) result (R.seen runtime.new) (meaning.primary R.means (nested R.means self.now.depth context.now) (inside R.means context.now) code.now suffixes.now (slots_of frame.now) (R.seen runtime.old)) }
+    {
+        runtime.step(suffixes.len() as u64)?;
+        let value = self.value(context, frame, runtime, code)?;
+        self.suffixes(context, frame, runtime, suffixes, value)
+    }
+}

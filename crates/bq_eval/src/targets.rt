@@ -1,0 +1,163 @@
+//! Binding the parts of targets.
+
+ghost use Rattle.std.specs.Prelude.{◌≡◌, []};
+ghost use Rattle.bq_meaning.specs.Targets as meaning;
+ghost use Rattle.bq_eval.specs.Acts.{Acts};
+ghost use Rattle.bq_eval.specs.Slots.{slots_of};
+
+use crate::frame::Frame;
+use crate::places::Places;
+use crate::runtime::Runtime;
+use bq_machine::Elements;
+use bq_scope::CodeTarget;
+use bq_source::FaultKind;
+use bq_value::{EvalErr, Value};
+use std::alloc::Global;
+
+/// How many layers of a tree are looked at.
+pub const MAX_LAYERS: usize = 1024;
+
+/// `x[i] = value`
+#[tactic(auto, unfolding(bq_meaning::specs::Targets::bind_place))]
+fn bind_place<R: Runtime>(
+    runtime: &mut R,
+    frame: &Frame,
+    places: &mut Places,
+    value: Value,
+) -> Result<(), EvalErr>
+    ensures { Acts R.means (λ _. (slots_of frame.now, places.new)) result (R.seen runtime.new) (meaning.bind_place R.means value (slots_of frame.now) places.old (R.seen runtime.old)) }
+{
+    match places.next() {
+        None => Err(EvalErr::Bad(FaultKind::Syntax)),
+        Some((operand, index)) => runtime.set_index(&operand, &index, value),
+    }
+}
+
+/// Each of these targets gets one of the elements.
+#[cycle(targets)]
+#[tactic(auto, unfolding(bq_meaning::specs::Targets::bind_each))]
+fn bind_each<R: Runtime>(
+    alloc: Global,
+    runtime: &mut R,
+    frame: &mut Frame,
+    places: &mut Places,
+    depth: usize,
+    targets: &[CodeTarget],
+    elements: &mut Elements,
+) -> Result<(), EvalErr>
+    ensures { Acts R.means (λ _. (slots_of frame.new, places.new)) result (R.seen runtime.new) (meaning.bind_each R.means (meaning.bind_to R.means depth) targets.now elements.old (slots_of frame.old) places.old (R.seen runtime.old)) }
+{
+    for target in targets {
+        match elements.next() {
+            None => return Ok(()),
+            Some(value) => bind_to(alloc, runtime, frame, places, depth, target, value)?,
+        }
+    }
+    Ok(())
+}
+
+/// Unpacking.
+#[cycle(targets)]
+#[tactic(auto, unfolding(bq_meaning::specs::Targets::unpack))]
+fn unpack<R: Runtime>(
+    alloc: Global,
+    runtime: &mut R,
+    frame: &mut Frame,
+    places: &mut Places,
+    depth: usize,
+    targets: &[CodeTarget],
+    value: Value,
+) -> Result<(), EvalErr>
+    ensures { Acts R.means (λ _. (slots_of frame.new, places.new)) result (R.seen runtime.new) (meaning.unpack R.means (meaning.bind_to R.means depth) targets.now value (slots_of frame.old) places.old (R.seen runtime.old)) }
+{
+    let mut elements = runtime.elements(alloc, &value)?;
+    if elements.len() != targets.len() {
+        return Err(EvalErr::Bad(FaultKind::BadValue));
+    }
+    bind_each(alloc, runtime, frame, places, depth, targets, &mut elements)
+}
+
+#[cycle(targets)]
+#[tactic(auto, unfolding(bq_meaning::specs::Targets::bind_target))]
+fn bind_target<R: Runtime>(
+    alloc: Global,
+    runtime: &mut R,
+    frame: &mut Frame,
+    places: &mut Places,
+    depth: usize,
+    target: &CodeTarget,
+    value: Value,
+) -> Result<(), EvalErr>
+    ensures { Acts R.means (λ _. (slots_of frame.new, places.new)) result (R.seen runtime.new) (meaning.bind_target R.means (meaning.bind_to R.means depth) target.now value (slots_of frame.old) places.old (R.seen runtime.old)) }
+{
+    match target {
+        CodeTarget::Local(slot) => Ok(frame.fill(*slot, value)?),
+        CodeTarget::Global(slot) => Ok(frame.fill(*slot, value)?),
+        CodeTarget::Index(_, _) => bind_place(runtime, frame, places, value),
+        CodeTarget::Tuple(targets) => {
+            unpack(
+                alloc,
+                runtime,
+                frame,
+                places,
+                depth,
+                targets.as_slice(),
+                value,
+            )
+        }
+        CodeTarget::List(targets) => {
+            unpack(
+                alloc,
+                runtime,
+                frame,
+                places,
+                depth,
+                targets.as_slice(),
+                value,
+            )
+        }
+    }
+}
+
+/// Binds the parts of a target that is no deeper than so many layers.
+#[cycle(targets)]
+#[tactic(auto, unfolding(bq_meaning::specs::Targets::bind_to))]
+pub fn bind_to<R: Runtime>(
+    alloc: Global,
+    runtime: &mut R,
+    frame: &mut Frame,
+    places: &mut Places,
+    depth: usize,
+    target: &CodeTarget,
+    value: Value,
+) -> Result<(), EvalErr>
+    ensures { Acts R.means (λ _. (slots_of frame.new, places.new)) result (R.seen runtime.new) (meaning.bind_to R.means depth target.now value (slots_of frame.old) places.old (R.seen runtime.old)) }
+{
+    if depth == 0 {
+        return Err(EvalErr::Bad(FaultKind::Nesting));
+    }
+    bind_target(alloc, runtime, frame, places, depth - 1, target, value)
+}
+
+/// Binds the variables of a `for`.
+#[tactic(auto, unfolding(bq_meaning::specs::Targets::bind_variables, bq_scope::specs::Names::max_layers))]
+pub fn bind_variables<R: Runtime>(
+    alloc: Global,
+    runtime: &mut R,
+    frame: &mut Frame,
+    target: &CodeTarget,
+    value: Value,
+) -> Result<(), EvalErr>
+    ensures { Acts R.means (λ _. slots_of frame.new) result (R.seen runtime.new) (meaning.bind_variables R.means target.now value (slots_of frame.old) (R.seen runtime.old)) }
+{
+    let mut places = Places::new(alloc);
+    bind_to(
+        alloc,
+        runtime,
+        frame,
+        &mut places,
+        MAX_LAYERS,
+        target,
+        value,
+    )
+}
