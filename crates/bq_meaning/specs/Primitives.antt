@@ -19,7 +19,6 @@ pub record Primitives (S : Type 0) : Type 0 where
   pub step : ℕ → Action S (Unit {0})
   -- the top-level statement that runs is on this line
   pub at_line : ℕ → S → S
-
   -- whether a value counts as true
   pub truth : Datum → S → Bool
   -- the value of a predeclared name
@@ -36,7 +35,6 @@ pub record Primitives (S : Type 0) : Type 0 where
   pub set_index : Datum → Datum → Datum → Action S (Unit {0})
   -- `x[start:stop:step]`, where a part that is left out is `None`
   pub slice : Datum → Datum → Datum → Datum → Action S Datum
-
   -- a new list or dict
   pub make : Contents → Action S Datum
   -- a list with one more element (F54)
@@ -51,7 +49,6 @@ pub record Primitives (S : Type 0) : Type 0 where
   pub begin_walk : Datum → Action S (List Datum)
   -- it may be changed again
   pub end_walk : Datum → S → S
-
   -- `f(.. , v ..)`, `name = v`, `*v` and `**v`: the arguments so far, and these (F40, F54)
   pub pass : Passed → Datum → Action S Passed
   pub pass_named : Passed → List ℕ → Datum → Action S Passed
