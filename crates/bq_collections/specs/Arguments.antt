@@ -39,3 +39,17 @@ index_or_last (Some v) = integer v
 abbrev pub or_none : Option Datum → Datum
 or_none None = none
 or_none (Some v) = v
+
+-- the second and the third may be left out
+unfoldable pub one_to_three : List Datum → Result (Datum × (Option Datum × Option Datum)) FaultKind
+one_to_three (v ∷ []) = Ok (v, (None, None))
+one_to_three (v ∷ w ∷ []) = Ok (v, (Some w, None))
+one_to_three (v ∷ w ∷ x ∷ []) = Ok (v, (Some w, Some x))
+one_to_three _ = Err Args
+
+-- an integer, or none where it is left out or `None`
+unfoldable pub optional_integer : Option Datum → Result (Option ℤ) FaultKind
+optional_integer None = Ok None
+optional_integer (Some none) = Ok None
+optional_integer (Some (int i)) = Ok (Some i)
+optional_integer (Some _) = Err WrongType

@@ -1,3 +1,4 @@
 pub mod Arguments
+pub mod Search
 pub mod List
 pub mod Dict

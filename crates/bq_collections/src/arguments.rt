@@ -3,7 +3,7 @@
 ghost use Rattle.std.specs.Prelude.{option_copied};
 ghost use Rattle.bq_source.specs.Gives.{Gives};
 ghost use Rattle.bq_value.specs.declared.error.EvalErr.TheVariants.{Bad};
-ghost use Rattle.bq_collections.specs.Arguments.{no_argument, one_argument, two_arguments, optional_argument, one_or_two, integer, index_or_last};
+ghost use Rattle.bq_collections.specs.Arguments.{no_argument, one_argument, two_arguments, optional_argument, one_or_two, one_to_three, integer, optional_integer, index_or_last};
 
 use bq_source::FaultKind;
 use bq_value::{EvalErr, Node, Value};
@@ -84,5 +84,35 @@ pub(crate) fn index_or_last(value: Option<&Value>) -> Result<i64, EvalErr>
     match value {
         None => Ok(-1),
         Some(value) => integer(value),
+    }
+}
+
+/// Three arguments, the second and the third of which may be left out.
+#[tactic(auto, unfolding(crate::specs::Arguments::one_to_three))]
+pub(crate) fn one_to_three(
+    args: &[Value],
+) -> Result<(&Value, Option<&Value>, Option<&Value>), EvalErr>
+    ensures { Gives (λ r. (r.0.now, (option_copied r.1, option_copied r.2))) Bad result (one_to_three args.now) }
+{
+    match args {
+        [first] => Ok((first, None, None)),
+        [first, second] => Ok((first, Some(second), None)),
+        [first, second, third] => Ok((first, Some(second), Some(third))),
+        _ => Err(EvalErr::Bad(FaultKind::Args)),
+    }
+}
+
+/// An integer, or none where it is left out or `None`.
+#[tactic(auto, unfolding(crate::specs::Arguments::optional_integer))]
+pub(crate) fn optional_integer(value: Option<&Value>) -> Result<Option<i64>, EvalErr>
+    ensures { Gives (λ o. o) Bad result (optional_integer (option_copied value.entry)) }
+{
+    match value {
+        None => Ok(None),
+        Some(value) => match &value.node {
+            Node::NoneValue => Ok(None),
+            Node::Int(n) => Ok(Some(*n)),
+            _ => Err(EvalErr::Bad(FaultKind::WrongType)),
+        },
     }
 }

@@ -8,6 +8,7 @@
 //!
 //! - `arguments`: how many arguments there are, and of which types;
 //! - `list_edit`, `dict_edit`: what changes a list, and a dict;
+//! - `search`: the first element that is equal to a value;
 //! - `list`, `dict`: the methods.
 #![tactic(auto)]
 
@@ -16,3 +17,4 @@ pub mod dict;
 mod dict_edit;
 pub mod list;
 mod list_edit;
+mod search;

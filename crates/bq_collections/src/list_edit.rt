@@ -5,7 +5,7 @@ ghost use Rattle.bq_source.specs.Gives.{Gives};
 ghost use Rattle.bq_value.specs.declared.error.EvalErr.TheVariants.{Bad};
 ghost use Rattle.bq_machine.specs.Action.{Does};
 ghost use Rattle.bq_machine.specs.Cells.{changing};
-ghost use Rattle.bq_collections.specs.List.{on_items, appended, extended, inserted, popped, cleared, edited};
+ghost use Rattle.bq_collections.specs.List.{on_items, appended, extended, inserted, popped, cleared, dropped, edited};
 
 use bq_machine::{Elements, Machine};
 use bq_operators::{clamp, index, joined_len};
@@ -20,6 +20,8 @@ pub(crate) enum ListEdit {
     Insert(i64, Value),
     Pop(i64),
     Clear,
+    /// Takes out the element of that place.
+    Drop(usize),
 }
 
 /// Changes a list that may be changed.
@@ -54,6 +56,7 @@ fn edit_values(values: &mut Vec<Value>, edit: ListEdit) -> Result<Value, EvalErr
         ListEdit::Insert(place, value) => insert(values, place, value),
         ListEdit::Pop(place) => pop(values, place),
         ListEdit::Clear => clear(values),
+        ListEdit::Drop(at) => drop_at(values, at),
     }
 }
 
@@ -107,5 +110,16 @@ fn clear(values: &mut Vec<Value>) -> Result<Value, EvalErr>
     ensures { Gives (λ v. (v, values.new.items)) Bad result (cleared values.old.items) }
 {
     values.clear();
+    Ok(Value::none())
+}
+
+#[tactic(auto, using(std::proofs::lemmas::Option::slice_get_read, std::proofs::lemmas::Option::slice_get_past), unfolding(crate::specs::List::dropped))]
+fn drop_at(values: &mut Vec<Value>, at: usize) -> Result<Value, EvalErr>
+    ensures { Gives (λ v. (v, values.new.items)) Bad result (dropped at values.old.items) }
+{
+    if at >= values.len() {
+        return Err(EvalErr::Bad(FaultKind::Index));
+    }
+    let _taken = values.remove(at);
     Ok(Value::none())
 }
