@@ -26,6 +26,8 @@ mod run;
 #[cfg(test)]
 mod source;
 #[cfg(test)]
+mod string_methods;
+#[cfg(test)]
 mod trees;
 #[cfg(test)]
 mod value;

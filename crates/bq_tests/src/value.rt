@@ -1,7 +1,7 @@
 //! What no clause says of values: how many steps the walks over them take, which texts they have, and that a value may be given up
 //! however deep it nests.
 
-mod words;
+pub mod words;
 
 use crate::rows::{Row, Subject, check_rows, number_of};
 use bq_source::{Bytes, FaultKind};
@@ -15,7 +15,7 @@ fn fault(alloc: Global, kind: FaultKind) -> Result<Vec<u8>, AllocError> {
     Ok(format!(in alloc; "F{} {}", kind.number(), kind.name())?.into_bytes())
 }
 
-fn refusal(alloc: Global, error: EvalErr) -> Result<Vec<u8>, AllocError> {
+pub fn refusal(alloc: Global, error: EvalErr) -> Result<Vec<u8>, AllocError> {
     match error {
         EvalErr::Bad(kind) => fault(alloc, kind),
         EvalErr::Memory => b"out of memory".to_vec(alloc),
