@@ -10,6 +10,8 @@ mod expressions;
 #[cfg(test)]
 mod files;
 #[cfg(test)]
+mod format;
+#[cfg(test)]
 mod glob;
 #[cfg(test)]
 mod graph;

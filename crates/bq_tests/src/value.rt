@@ -47,7 +47,7 @@ fn shown(alloc: Global, taken: u64, text: &[u8]) -> Result<Vec<u8>, AllocError> 
     Ok(whole)
 }
 
-fn written(
+pub fn written(
     alloc: Global,
     steps: u64,
     found: Result<(Bytes, u64), EvalErr>,
