@@ -18,19 +18,19 @@ use Rattle.bq_target_graph.specs.Edges.{DependsOn, edge_by, edges_to, edges_from
 none_in : {X : Type 0} (z : X) → Contains [] z → ⊥
 none_in z c = omega arith
 
-record InPart {X Y : Type 0} (f : X → List Y) (xs : List X) (y : Y) : Type 0 where
-  part : X
-  known : Contains xs part
-  inside : Contains (f part) y
+pub record InPart {X Y : Type 0} (f : X → List Y) (xs : List X) (y : Y) : Type 0 where
+  pub part : X
+  pub known : Contains xs part
+  pub inside : Contains (f part) y
 
-in_flat : {X Y : Type 0} (f : X → List Y) (xs : List X) (y : Y) → Contains (flat_map f xs) y → InPart f xs y
+pub in_flat : {X Y : Type 0} (f : X → List Y) (xs : List X) (y : Y) → Contains (flat_map f xs) y → InPart f xs y
 in_flat f [] y c = absurd (none_in y c)
 in_flat f (x ∷ xs) y c = elim (Contains-append_cases (f x) (flat_map f xs) y c) [
   | inl here ↦ record { part = x; known = at_head x xs; inside = here }
   | inr later ↦ let r = in_flat f xs y later in record { part = r.part; known = in_tail x xs r.part r.known; inside = r.inside }
 ]
 
-flat_in : {X Y : Type 0} (f : X → List Y) (xs : List X) (x : X) (y : Y) → Contains xs x → Contains (f x) y → Contains (flat_map f xs) y
+pub flat_in : {X Y : Type 0} (f : X → List Y) (xs : List X) (x : X) (y : Y) → Contains xs x → Contains (f x) y → Contains (flat_map f xs) y
 flat_in f [] x y c d = absurd (none_in x c)
 flat_in {X} {Y} f (z ∷ xs) x y c d = elim (head_or_tail z xs x c) [
   | inl e ↦ Contains-append_left (f z) (flat_map f xs) y (subst (λ (w : X). Contains (f w) y) (sym e) d)

@@ -3,3 +3,4 @@ pub mod Ascends
 pub mod EdgeWalks
 pub mod Depends
 pub mod Whole
+pub mod Danglings

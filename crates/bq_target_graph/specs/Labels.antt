@@ -57,3 +57,8 @@ has_label ls l = list_any (same_label l) ls
 -- the label as the last, where it isn't there
 unfoldable pub with_label : List LabelParts → LabelParts → List LabelParts
 with_label ls l = if has_label ls l then ls else ls ++ l ∷ []
+
+-- labels put in turn
+unfoldable pub with_labels : List LabelParts → List LabelParts → List LabelParts
+with_labels ls [] = ls
+with_labels ls (m ∷ ms) = with_labels (with_label ls m) ms

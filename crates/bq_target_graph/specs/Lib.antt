@@ -2,3 +2,4 @@ pub mod Labels
 pub mod Order
 pub mod Graph
 pub mod Edges
+pub mod Dangling

@@ -2,7 +2,7 @@
 
 ghost use Rattle.std.specs.Prelude.{◌≡◌, [], position, IfOk, OnOk};
 ghost use Rattle.std.specs.Cmp.{partial_equiv_from_equiv};
-ghost use Rattle.bq_target_graph.specs.Labels.{same_label, same_label-equiv, hashed, hashed_alike, with_label};
+ghost use Rattle.bq_target_graph.specs.Labels.{same_label, same_label-equiv, hashed, hashed_alike, has_label, with_label};
 
 use bq_label::Label;
 use indexmap::IndexSet;
@@ -90,6 +90,14 @@ impl Labels {
         let label = label.share()?;
         let _new = self.keys.insert(Key { label })?;
         Ok(())
+    }
+
+    /// Whether this is one of them.
+    pub fn has(&self, label: &Label) -> Result<bool, AllocError>
+        ensures { IfOk result (λ has. has ≡ has_label self.now label.now) }
+    {
+        let label = label.share()?;
+        Ok(self.keys.contains(&Key { label }))
     }
 
     /// The number of a label: its place in the order in which they came.

@@ -9,13 +9,16 @@
 //! - `labels`: labels with their numbers, found by their hash;
 //! - `order`: the targets of all packages in order;
 //! - `edges`: which targets depend on which;
-//! - `graph`, `build`: the graph, and how it is made of packages.
+//! - `graph`, `build`: the graph, and how it is made of packages;
+//! - `dangling`: the labels of other packages that name no target.
 #![tactic(auto)]
 
 mod build;
+mod dangling;
 mod edges;
 mod graph;
 mod labels;
 mod order;
 
+pub use dangling::{add_dangling, dangling_in_words};
 pub use graph::TargetGraph;
