@@ -4,3 +4,4 @@ pub mod Layers
 pub mod Reversed
 pub mod Clauses
 pub mod ParameterLists
+pub mod CallSteps

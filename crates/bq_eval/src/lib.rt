@@ -5,7 +5,7 @@
 //!
 //! The form. A rule takes what evaluates the expressions inside as a function value, a field of `Evaluator`, and what runs the
 //! statements inside as one of `Runner`; `specs/Nests.antt` and `specs/Runs.antt` say what these promise. So each rule is proved by
-//! itself, and only `expr_to` and `run_to` pass themselves on. Operators, lists, walks and built-in functions are a
+//! itself, and only `expr_to`, `run_to` and `call` pass themselves on. Operators, lists, walks and built-in functions are a
 //! `Runtime`, of which a rule knows no more than its meaning. Expressions read a frame and change none; an operand that is only read
 //! is lent by it (`operand`).
 //!
@@ -16,10 +16,11 @@
 //! - `evaluator`, `displays`, `operators`, `suffixes`, `comprehensions`, `expressions`: the rules of expressions;
 //! - `places`, `targets`, `reader`: what is assigned to;
 //! - `flow`, `small`, `statements`: the rules of statements;
-//! - `parameters`, `filling`, `units`: what calls begin with; calls themselves come next;
+//! - `parameters`, `filling`, `units`, `calls`: calls;
 //! - `file`: the top-level statements of a file.
 #![tactic(auto)]
 
+mod calls;
 mod comprehensions;
 mod context;
 mod displays;
@@ -41,6 +42,7 @@ mod suffixes;
 mod targets;
 mod units;
 
+pub use calls::call;
 pub use context::{Context, FrozenUnit, Globals, Program};
 pub use evaluator::Evaluator;
 pub use flow::Flow;
