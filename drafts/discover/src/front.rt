@@ -1,0 +1,97 @@
+//! What a file gives on its own.
+
+ghost use Rattle.std.specs.Prelude.{◌≡◌, [], IfOk};
+ghost use Rattle.bq_source.specs.Gives.{Gives};
+ghost use Rattle.bq_source.specs.declared.fault.SourceErr.TheVariants.{Bad};
+ghost use Rattle.bq_label.specs.Label.{package_of};
+ghost use Rattle.bq_discover.specs.Front.{code_of, labels_of, kind_of, front_by, front_of};
+
+use crate::inputs::Inputs;
+use bq_file::parse;
+use bq_grammar::FileKind;
+use bq_label::{Label, PackageId, label_path};
+use bq_load_label::load_label;
+use bq_resolve::resolve;
+use bq_scope::{LoadStmt, Resolved, Universe};
+use bq_source::{Fault, FaultKind, SourceErr, lex};
+use sqlite_items::Items;
+use std::alloc::Global;
+
+/// The code of a file, and the labels of the files that it loads: one for each load statement, in the order in which they are
+/// written.
+#[derive(Drop)]
+pub struct Front {
+    pub code: Resolved,
+    pub loads: Items<Label>,
+}
+
+/// The code of a text, or its first fault (F1 to F24).
+#[tactic(auto, unfolding(crate::specs::Front::code_of))]
+fn code_of(alloc: Global, universe: &Universe, text: &[u8]) -> Result<Resolved, SourceErr>
+    ensures { Gives (λ code. code) Bad result (code_of universe.now text.now) }
+{
+    let tokens = lex(alloc, text)?;
+    let file = parse(alloc, &tokens, text, universe.kind())?;
+    resolve(alloc, &file, universe)
+}
+
+/// The labels of the files that loads in this package name, or the fault of the first bad load (F30, F31, F32, F37).
+#[tactic(auto, unfolding(crate::specs::Front::labels_of))]
+fn labels_of(
+    alloc: Global,
+    inputs: &Inputs<'_>,
+    own: &PackageId,
+    loads: &[LoadStmt],
+) -> Result<Items<Label>, SourceErr>
+    ensures { Gives (λ labels. labels) Bad result (labels_of inputs.now own.now [] loads.now) }
+{
+    let mut labels = Items::new(alloc);
+    for load in loads {
+        labels.push(load_label(
+            alloc,
+            inputs.workspace(),
+            inputs.packages(),
+            own,
+            load.line,
+            load.label.as_slice(),
+        )?)?;
+    }
+    Ok(labels)
+}
+
+/// The kind of the file of this label: a .bzl file where its name ends so, a BUILD file otherwise.
+#[tactic(auto, unfolding(crate::specs::Front::kind_of))]
+fn kind_of(label: &Label) -> FileKind
+    ensures { result ≡ kind_of label.now }
+{
+    if label.name().as_slice().ends_with(b".bzl") {
+        FileKind::Bzl
+    } else {
+        FileKind::Build
+    }
+}
+
+fn front_by(
+    alloc: Global,
+    inputs: &Inputs<'_>,
+    label: &Label,
+    text: &[u8],
+) -> Result<Front, SourceErr>
+    ensures { Gives (λ front. front) Bad result (front_by inputs.now label.now text.now) }
+{
+    let code = code_of(alloc, inputs.universe(kind_of(label)), text)?;
+    let loads = labels_of(alloc, inputs, label.package_id(), code.loads.as_slice())?;
+    Ok(Front { code, loads })
+}
+
+/// What the file of this label gives on its own. A label that names no file is F31, which no module is.
+#[tactic(auto, unfolding(crate::specs::Front::front_of))]
+pub fn read_front(alloc: Global, inputs: &Inputs<'_>, label: &Label) -> Result<Front, SourceErr>
+    ensures { Gives (λ front. front) Bad result (front_of inputs.now label.now) }
+{
+    let path = label_path(alloc, label)?;
+    match inputs.workspace().file(&path) {
+        None => Err(SourceErr::Bad(Fault::at(FaultKind::NoSuchFile, 0))),
+        Some(file) => front_by(alloc, inputs, label, file.content.as_slice()),
+    }
+}

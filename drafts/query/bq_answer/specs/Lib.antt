@@ -1,0 +1,8 @@
+pub mod World
+pub mod Formula
+pub mod Stands
+pub mod Bindings
+pub mod Faults
+pub mod Answer
+pub mod Printed
+pub mod Laws
