@@ -1,8 +1,0 @@
-pub mod World
-pub mod Formula
-pub mod Stands
-pub mod Bindings
-pub mod Faults
-pub mod Answer
-pub mod Printed
-pub mod Laws
