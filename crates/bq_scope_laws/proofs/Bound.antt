@@ -15,17 +15,17 @@ there_by true rest o h inner = (0, refl)
 there_by false rest o h inner = let j = inner h in (suc j.0, rw j.1 refl)
 
 -- what is there has a place
-there : (name : Name) (names : List Name) → has names name ≡ true → (i : ℕ) × (place_among name names ≡ Some i)
+pub there : (name : Name) (names : List Name) → has names name ≡ true → (i : ℕ) × (place_among name names ≡ Some i)
 unfolding place_among
 there name [] h = absurd (let no : ⊥ = cc in no)
 there name (x ∷ xs) h = there_by (bytes_eq name x) (has xs name) (place_among name xs) h (there name xs)
 
-local_at : (file : FileParts) (block : BlockParts) (blocks : List BlockParts) (name : Name) → has block.names name ≡ true
+pub local_at : (file : FileParts) (block : BlockParts) (blocks : List BlockParts) (name : Name) → has block.names name ≡ true
     → (i : ℕ) × (i < length block.names) × (use_of file (block ∷ blocks) name ≡ Some (b.Local (block.base + i)))
 unfolding use_of slot_of slot_in
 local_at file block blocks name h = let t = there name block.names h in (t.0, place_within name block.names t.0 t.1, rw t.1 refl)
 
-global_at : (file : FileParts) (name : Name) → has file.globals name ≡ true → (k : ℕ) × (k < length file.globals) × (use_of file [] name ≡ Some (b.Global k))
+pub global_at : (file : FileParts) (name : Name) → has file.globals name ≡ true → (k : ℕ) × (k < length file.globals) × (use_of file [] name ≡ Some (b.Global k))
 unfolding use_of slot_of file_has
 global_at file name h = let t = there name file.globals h in (t.0, place_within name file.globals t.0 t.1, rw t.1 refl)
 

@@ -1,6 +1,6 @@
 -- Which names a block binds, in words (Starlark specification, "Name binding and variables"): whether a name is bound by a target, a
 -- clause, a statement, a parameter or a load. Of a tree so many layers are looked at as `bq_scope` does (`max_layers`).
-use Rattle.std.specs.Prelude.{◌≡◌, ◌<◌, ℕ, zero, suc, ◌+◌, List, [], ◌∷◌, length, true, Some, ◌⊎◌, ◌↔◌}
+use Rattle.std.specs.Prelude.{◌≡◌, ◌≢◌, ◌<◌, ℕ, zero, suc, ◌+◌, List, [], ◌∷◌, length, true, false, Some, ◌⊎◌, ◌↔◌}
 use Rattle.bq_grammar.specs.declared.tree.Argument.TheOpen.{Clause-F, Target-F}
 use Rattle.bq_grammar.specs.declared.tree.Branch.{Branch, out-Branch}
 use Rattle.bq_grammar.specs.declared.tree.Clause.{Clause, out-Clause}
@@ -14,7 +14,9 @@ use Rattle.bq_grammar.specs.declared.tree.Stmt.TheOpen.{Stmt-F}
 use Rattle.bq_grammar.specs.declared.tree.Target.{Target, out-Target}
 use Rattle.bq_grammar.specs.declared.tree.TopLevel.{TopLevel}
 use Rattle.bq_scope.specs.declared.code.Binding.TheVariants as b
-use Rattle.bq_scope.specs.Universe.{UniverseParts}
+use Rattle.bq_grammar.specs.declared.tree.FileKind.TheVariants as kinds
+use Rattle.bq_predeclared.specs.declared.predeclared.Predeclared.TheVariants as pre
+use Rattle.bq_scope.specs.Universe.{UniverseParts, universe_has}
 use Rattle.bq_scope.specs.Scope.{BlockParts, FileParts, use_of}
 use Rattle.bq_scope.specs.Files.{file_names}
 use Rattle.bq_scope.specs.Names.{Name, TargetLayer, ClauseLayer, max_layers, has, comprehension_names, function_names, global_names, loaded_names}
@@ -119,3 +121,12 @@ ComprehensionNamesAreLocal = (file : FileParts) (base : ℕ) (blocks : List Bloc
 abbrev pub FileNamesAreGlobal : Type 0
 FileNamesAreGlobal = (universe : UniverseParts) (ts : List TopLevel) (name : Name) → AnyOf (λ t. StmtBinds name t.statement) ts
     → (k : ℕ) × (k < length (global_names ts)) × (use_of (file_names universe ts) [] name ≡ Some (b.Global k))
+
+-- Outside all blocks one of a name that the file loads and doesn't bind is what it loads ..
+abbrev pub LoadedNamesAreLoaded : Type 0
+LoadedNamesAreLoaded = (universe : UniverseParts) (ts : List TopLevel) (name : Name) → AnyOf (λ t. loads_bind_by name (out-Stmt t.statement)) ts → has (global_names ts) name ≡ false
+    → (k : ℕ) × (k < length (loaded_names ts)) × (use_of (file_names universe ts) [] name ≡ Some (b.Loaded k))
+
+-- .. and in a .bzl file no name is a build function or a rule that the file doesn't bind.
+abbrev pub BzlFilesHaveNoBuildFunctions : Type 0
+BzlFilesHaveNoBuildFunctions = (rules : List Name) (name : Name) (id : ℕ) → universe_has (record { kind = kinds.Bzl; rules = rules }) name ≢ Some (pre.Host id)

@@ -1,2 +1,4 @@
 pub mod Binds
 pub mod Slots
+pub mod Violations
+pub mod Resolution
