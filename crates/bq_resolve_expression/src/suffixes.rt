@@ -33,8 +33,8 @@ impl<F: Fn(Global, &FileNames, usize, &[Block], &mut Walk, &Expr) -> Result<Code
                 Ok(CodeArgument::Positional(self.expr(file, blocks, walk, value)?))
             }
             Argument::Named(name, value) => {
-                let value = self.expr(file, blocks, walk, value)?;
-                Ok(CodeArgument::Named(name.share()?, value))
+                let name = name.share()?;
+                Ok(CodeArgument::Named(name, self.expr(file, blocks, walk, value)?))
             }
             Argument::Star(value) => Ok(CodeArgument::Star(self.expr(file, blocks, walk, value)?)),
             Argument::StarStar(value) => {
