@@ -1,0 +1,18 @@
+//! Labels come in; the set of them goes out, in which each has a number: its place in the order in which they first came.
+//!
+//! The promise: a set holds just the labels that were added, each once (`specs/Labels.antt`). A label is found by its hash, in the
+//! time of its length.
+//!
+//! In reading order:
+//!
+//! - `label_set`: sets of labels;
+//! - `laws`: what holds of every set.
+#![tactic(auto)]
+
+mod label_set;
+mod laws;
+
+pub use label_set::LabelSet;
+pub use laws::{
+    each_label_once, labels_with_numbers, numbers_stay, the_labels_added, those_that_differ,
+};
