@@ -1,0 +1,4 @@
+pub mod Code
+pub mod Inputs
+pub mod Front
+pub mod Laws
