@@ -35,12 +35,20 @@ abbrev pub cell_of : ℕ → Option FrozenCells → Option Contents
 cell_of number None = None
 cell_of number (Some c) = slice_get c.cells number
 
+abbrev pub globals_of : Option FrozenCells → Option (List Datum)
+globals_of None = None
+globals_of (Some c) = Some c.globals
+
 -- what a cell holds
 unfoldable pub content_at : StoreView → ℕ → ℕ → Option Contents
 content_at s home number = cond (home == s.own) (slice_get s.cells number) (cell_of number (module_at home s.loaded))
 
 unfoldable pub frozen_at : FrozenView → ℕ → ℕ → Option Contents
 frozen_at f home number = cond (home == f.own) (slice_get f.cells.cells number) (cell_of number (module_at home f.reached))
+
+-- the values of the globals of a module: of the frozen one, or of one that it reaches
+unfoldable pub globals_at : FrozenView → ℕ → Option (List Datum)
+globals_at f home = cond (home == f.own) (Some f.cells.globals) (globals_of (module_at home f.reached))
 
 -- the running module comes to its end, with these globals
 abbrev pub frozen : StoreView → List Datum → FrozenView

@@ -1,7 +1,7 @@
 //! Modules whose evaluation has ended (Starlark, "Freezing a value").
 
 ghost use Rattle.std.specs.Prelude.{◌≡◌, None, Some, MatchOption, IfOk};
-ghost use Rattle.bq_value.specs.Cells.{frozen_at, frozen};
+ghost use Rattle.bq_value.specs.Cells.{frozen_at, globals_at, frozen};
 
 use crate::content::Content;
 use crate::modules::{Modules, Shared};
@@ -43,6 +43,17 @@ impl Frozen {
         ensures { result.now ≡ self.now.cells.globals }
     {
         self.cells.globals()
+    }
+
+    /// The values of the globals of a module: of this one, or of one that it reaches.
+    #[tactic(auto, unfolding(crate::specs::Cells::globals_at))]
+    pub fn globals_of(&self, home: u32) -> Option<&[Value]>
+        ensures { MatchOption result (globals_at self.now home ≡ None) (λ g. globals_at self.now home ≡ Some g.now) }
+    {
+        if home == self.own {
+            return Some(self.cells.globals());
+        }
+        self.reached.globals(home)
     }
 
     /// What a cell holds.

@@ -1,7 +1,7 @@
 //! Frozen modules by their numbers, each shared.
 
 ghost use Rattle.std.specs.Prelude.{◌≡◌, [], None, Some, MatchOption, option_copied, IfOk, OnOk, OnErr, drop, ◌∷◌, ◌++◌, ◌+◌, ◌<◌, length, slice_get, fold};
-ghost use Rattle.bq_value.specs.Cells.{module_at, cell_of, added};
+ghost use Rattle.bq_value.specs.Cells.{module_at, cell_of, globals_of, added};
 
 use crate::content::Content;
 use crate::value::{Cell, Value};
@@ -101,6 +101,16 @@ impl Modules {
         match self.get(cell.module) {
             None => None,
             Some(shared) => shared.content(cell.number),
+        }
+    }
+
+    /// The values of the globals of one of these modules.
+    pub(crate) fn globals(&self, home: u32) -> Option<&[Value]>
+        ensures { MatchOption result (globals_of (module_at home self.now) ≡ None) (λ g. globals_of (module_at home self.now) ≡ Some g.now) }
+    {
+        match self.get(home) {
+            None => None,
+            Some(shared) => Some(shared.globals()),
         }
     }
 
