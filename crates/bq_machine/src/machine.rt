@@ -116,4 +116,20 @@ impl Machine {
         self.message = message;
         Err(EvalErr::Bad(FaultKind::Fail))
     }
+
+    /// The message of `fail`, empty until it is called.
+    pub fn message(&self) -> &Bytes
+        ensures { result.now ≡ self.now.message }
+    {
+        &self.message
+    }
+
+    /// The evaluation is over: its store, and the texts that it printed, in order.
+    pub fn into_parts(self) -> (Store, Vec<Bytes>)
+        ensures store { result.0 ≡ self.store }
+        ensures prints { result.1.items ≡ self.prints }
+    {
+        let Machine { store, prints, .. } = self;
+        (store, prints)
+    }
 }
