@@ -1,0 +1,2 @@
+-- built-in functions and their names
+mod Named
