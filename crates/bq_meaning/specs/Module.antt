@@ -1,6 +1,6 @@
 -- What a file's evaluation gives: the values of its globals, in the state that its statements leave (Starlark specification, "Module
 -- execution").
-use Rattle.std.specs.Prelude.{ℕ, List, [], ◌∷◌, ◌==◌, Option, Some, None, slice_get, if◌then◌else◌}
+use Rattle.std.specs.Prelude.{ℕ, List, [], ◌∷◌, length, take, drop, ◌==◌, Option, Some, None, slice_get, if◌then◌else◌}
 use Rattle.bq_scope.specs.declared.code.CodeDef.{CodeDef}
 use Rattle.bq_scope.specs.declared.code.CodeFunction.{CodeFunction}
 use Rattle.bq_scope.specs.declared.code.CodeTopLevel.{CodeTopLevel}
@@ -9,6 +9,7 @@ use Rattle.bq_scope.specs.declared.code.FileStmt.TheVariants as s
 use Rattle.bq_scope.specs.declared.code.LoadStmt.{LoadStmt}
 use Rattle.bq_scope.specs.declared.code.LoadedSymbol.{LoadedSymbol}
 use Rattle.bq_scope.specs.declared.code.Resolved.{Resolved}
+use Rattle.bq_value.specs.Cells.{FrozenView, globals_at}
 use Rattle.bq_value.specs.Datum.{Datum, function, data_of}
 use Rattle.bq_machine.specs.Action.{Action, ◌>>=◌, pure}
 use Rattle.bq_meaning.specs.Frame.{Frame, empty, fill, Surroundings}
@@ -31,6 +32,25 @@ own_round own globals = record { globals = globals; loaded = λ k. slice_get own
 -- the frozen modules, and the file's own, whose globals are as they are now
 abbrev pub with_own : Units → Own → Frame → Units
 with_own units own globals = λ n. if n == own.number then Some (record { functions = own.functions; round = own_round own globals }) else units n
+
+-- a frozen module: the values of its globals, after which come those of what its loads bind, are those that it ended with
+abbrev pub frozen_unit : Option (Option Resolved) → Option (List Datum) → Option CodeUnit
+frozen_unit (Some (Some file)) (Some values) =
+    Some (record { functions = file.functions; round = record { globals = λ k. slice_get (take (length file.globals) values) k; loaded = λ k. slice_get (drop (length file.globals) values) k } })
+frozen_unit _ _ = None
+
+-- the values of the globals of a module: of one of these frozen modules, or of one that they reach
+abbrev pub or_else : {A : Type 0} → Option A → Option A → Option A
+or_else (Some x) other = Some x
+or_else None other = other
+
+unfoldable pub globals_among : ℕ → List FrozenView → Option (List Datum)
+globals_among n [] = None
+globals_among n (f ∷ fs) = or_else (globals_at f n) (globals_among n fs)
+
+-- the modules that these frozen ones reach, by their files
+unfoldable pub frozen_units : List (Option Resolved) → List FrozenView → Units
+frozen_units code loaded = λ n. frozen_unit (slice_get code n) (globals_among n loaded)
 
 abbrev pub name_of : Option CodeFunction → List ℕ
 name_of None = []
