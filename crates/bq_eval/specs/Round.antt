@@ -1,16 +1,18 @@
 -- What a context says of what is round an expression or a statement.
-use Rattle.std.specs.Prelude.{ℕ, List, Option, Some, None, slice_get, if◌then◌else◌}
+use Rattle.std.specs.Prelude.{ℕ, List, map, Option, Some, None, slice_get, if◌then◌else◌}
+use Rattle.std.specs.declared.alloc.Global.{Global}
+use Rattle.std.specs.declared.sync.Arc.{Arc}
 use Rattle.bq_scope.specs.Names.{max_layers}
+use Rattle.bq_value.specs.Cells.{FrozenView}
 use Rattle.bq_value.specs.Datum.{Datum}
 use Rattle.bq_meaning.specs.Frame.{Frame, Surroundings, empty}
 use Rattle.bq_meaning.specs.Primitives.{Primitives}
 use Rattle.bq_meaning.specs.Trees.{Eval, Calls}
 use Rattle.bq_meaning.specs.Expressions.{expr_to}
 use Rattle.bq_meaning.specs.Calls.{CodeUnit, Units, calls, inner_calls}
-use Rattle.bq_meaning.specs.Module.{Own, own_round, with_own}
+use Rattle.bq_meaning.specs.Module.{Own, own_round, with_own, frozen_units}
 use Rattle.bq_eval.specs.declared.context.Globals.{Globals}
 use Rattle.bq_eval.specs.declared.context.Globals.TheVariants as g
-use Rattle.bq_eval.specs.declared.context.FrozenUnit.{FrozenUnit}
 use Rattle.bq_eval.specs.declared.context.Program.{Program}
 use Rattle.bq_eval.specs.declared.context.Context.{Context}
 use Rattle.bq_eval.specs.Slots.{slots_of}
@@ -28,16 +30,13 @@ round_of c = record { globals = globals_of c.globals; loaded = λ k. slice_get c
 abbrev pub own_of : Program → Own
 own_of p = record { number = p.number; functions = p.functions.now; loaded = p.loaded.now }
 
-abbrev pub frozen_unit : Option (Option FrozenUnit) → Option CodeUnit
-frozen_unit (Some (Some u)) = Some (record { functions = u.functions.now; round = record { globals = λ k. slice_get u.globals.now k; loaded = λ k. slice_get u.loaded.now k } })
-frozen_unit _ = None
-
-unfoldable pub frozen_units : Program → Units
-frozen_units p = λ n. frozen_unit (slice_get p.frozen.now n)
+-- the frozen modules that a program loads
+abbrev pub views_of : List (Arc FrozenView Global) → List FrozenView
+views_of fs = map (λ f. f.value) fs
 
 -- where the own module's globals are these
 unfoldable pub units_at : Program → Frame → Units
-units_at p globals = with_own (frozen_units p) (own_of p) globals
+units_at p globals = with_own (frozen_units p.code.now (views_of p.frozen.now)) (own_of p) globals
 
 -- what calls mean
 unfoldable pub inside : {S : Type 0} → Primitives S → Context → Calls S

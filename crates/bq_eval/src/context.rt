@@ -4,9 +4,10 @@ ghost use Rattle.std.specs.Prelude.{◌≡◌, option_copied};
 ghost use Rattle.bq_eval.specs.Round.{globals_of};
 
 use crate::frame::Frame;
-use bq_scope::CodeFunction;
-use bq_value::Value;
+use bq_scope::{CodeFunction, Resolved};
+use bq_value::{Frozen, Value};
 use std::alloc::Global;
+use std::sync::Arc;
 
 /// The globals of a file.
 #[derive(Clone, Copy)]
@@ -33,22 +34,17 @@ impl<'a> Globals<'a> {
     }
 }
 
-/// A frozen module: its functions in the order of their `def`s, the values of its globals, and what its loads bound.
-#[derive(Clone, Copy)]
-pub struct FrozenUnit<'a> {
-    pub functions: &'a [CodeFunction],
-    pub globals: &'a [Value],
-    pub loaded: &'a [Value],
-}
-
-/// The module that is evaluated, and the frozen ones that it reaches, by their numbers.
+/// The module that is evaluated, and the frozen ones that it reaches.
 #[derive(Clone, Copy)]
 pub struct Program<'a> {
     pub number: u32,
     pub functions: &'a [CodeFunction],
     /// What its loads bind.
     pub loaded: &'a [Value],
-    pub frozen: &'a [Option<FrozenUnit<'a>>],
+    /// The resolved files, by the numbers of their modules.
+    pub code: &'a [Option<Resolved>],
+    /// The modules that it loads.
+    pub frozen: &'a [Arc<Frozen>],
 }
 
 /// What is round an expression or a statement.

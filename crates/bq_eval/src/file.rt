@@ -9,6 +9,7 @@ ghost use Rattle.bq_eval.specs.Slots.{slots_of};
 ghost use Rattle.bq_eval.specs.Nests.{Answers};
 ghost use Rattle.bq_eval.specs.Round.{evals, own_of};
 
+use crate::calls::call;
 use crate::context::Context;
 use crate::flow::Flow;
 use crate::frame::Frame;
@@ -19,6 +20,7 @@ use bq_scope::{Code, CodeDef, CodeFunction, CodeTopLevel, FileStmt};
 use bq_source::Bytes;
 use bq_value::{EvalErr, Function, Value};
 use std::alloc::AllocError;
+use std::marker::PhantomData;
 
 /// The name of a function of the file.
 fn name_of(functions: &[CodeFunction], place: usize) -> Result<Bytes, AllocError>
@@ -139,4 +141,20 @@ impl<R: Runtime, C: Copy + Fn(&Context<'_>, &mut R, &Value, Args) -> Result<Valu
         }
         Ok(Flow::Next)
     }
+}
+
+/// Runs the statements of a file. Its frame holds the globals.
+pub fn run_file<R: Runtime>(
+    context: &Context<'_>,
+    frame: &mut Frame,
+    runtime: &mut R,
+    stmts: &[CodeTopLevel],
+) -> Result<Flow, EvalErr>
+    ensures { Acts R.means (λ f. (flow_of f, slots_of frame.new)) result (R.seen runtime.new) (meaning.top_levels R.means (own_of context.now.program.now) (evals R.means context.now) stmts.now (slots_of frame.old) (R.seen runtime.old)) }
+{
+    let reader = Reader {
+        call: call::<R>,
+        of: PhantomData,
+    };
+    reader.top_levels(context, frame, runtime, stmts)
 }

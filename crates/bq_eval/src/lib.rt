@@ -43,8 +43,9 @@ mod targets;
 mod units;
 
 pub use calls::call;
-pub use context::{Context, FrozenUnit, Globals, Program};
+pub use context::{Context, Globals, Program};
 pub use evaluator::Evaluator;
+pub use file::run_file;
 pub use flow::Flow;
 pub use frame::Frame;
 pub use operand::Operand;
