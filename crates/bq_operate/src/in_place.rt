@@ -125,8 +125,9 @@ fn pairs_of(alloc: Global, dict: &Dict) -> Result<Vec<(Key, Value)>, AllocError>
     Ok(pairs)
 }
 
+/// Puts these pairs in turn into a dict that may be changed (F47, F48, F54).
 #[tactic(auto, unfolding(bq_machine::specs::Cells::changing))]
-fn unite(machine: &mut Machine, dict: Cell, more: &[(Key, Value)]) -> Result<(), EvalErr>
+pub fn unite(machine: &mut Machine, dict: Cell, more: &[(Key, Value)]) -> Result<(), EvalErr>
     ensures { Does (λ _. tt) result machine.new (changing dict.module dict.number (dict_united more.now) machine.old) }
 {
     let content = machine.change(dict)?;
@@ -139,15 +140,19 @@ fn dict_united(content: &mut Content, more: &[(Key, Value)]) -> Result<(), EvalE
 {
     match &mut content.body {
         Body::List(_) => Err(EvalErr::Bad(FaultKind::WrongType)),
-        Body::Dict(dict) => {
-            put_pairs(dict, more)?;
-            check_len(dict)
-        }
+        Body::Dict(dict) => put_pairs(dict, more),
     }
 }
 
-/// These pairs put in turn.
-fn put_pairs(dict: &mut Dict, more: &[(Key, Value)]) -> Result<(), AllocError>
+/// Puts these pairs in turn (F54).
+pub fn put_pairs(dict: &mut Dict, more: &[(Key, Value)]) -> Result<(), EvalErr>
+    ensures { Gives (λ _. dict.new) Bad result (limited (put_all dict.old more.now)) }
+{
+    put_each(dict, more)?;
+    check_len(dict)
+}
+
+fn put_each(dict: &mut Dict, more: &[(Key, Value)]) -> Result<(), AllocError>
     ensures { OnOk result (dict.new ≡ put_all dict.old more.now) }
 {
     for pair in more {

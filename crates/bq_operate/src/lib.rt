@@ -36,5 +36,5 @@ mod sum;
 mod union;
 mod walks;
 
-pub use in_place::{augment, set_index};
+pub use in_place::{augment, put_pairs, set_index, unite};
 pub use operate::{binary, compare, index, slice, unary};
