@@ -8,15 +8,17 @@ use Rattle.bq_value.specs.Contents.{Contents, items, pairs}
 use Rattle.bq_value.specs.Pairs.{found, put, without, keys}
 use Rattle.bq_machine.specs.State.{State}
 use Rattle.bq_machine.specs.Action.{Action, ◌>>=◌, ◌>>◌, pure, given}
-use Rattle.bq_machine.specs.Cells.{Change, changing, may_change, content, new_list}
+use Rattle.bq_machine.specs.Args.{Passed}
+use Rattle.bq_machine.specs.Cells.{Change, changing, may_change, content, new_list, new_dict}
 use Rattle.bq_machine.specs.Machine.{key}
+use Rattle.bq_operate.specs.Sequence.{limited}
+use Rattle.bq_operate.specs.Union.{put_all}
+use Rattle.bq_operate.specs.InPlace.{dict_united}
 use Rattle.bq_collections.specs.declared.dict_edit.DictEdit.{DictEdit}
 use Rattle.bq_collections.specs.declared.dict_edit.DictEdit.TheVariants as edit
 use Rattle.bq_collections.specs.Arguments.{no_argument, one_or_two, or_none}
 use Rattle.bq_collections.specs.List.{and_then}
-
-abbrev pub Pairs : Type 0
-Pairs = List (Datum × Datum)
+use Rattle.bq_collections.specs.PairsGiven.{Pairs, pairs_given, all_pairs}
 
 -- a change of a dict: an answer, and the dict then
 abbrev pub DictChange : Type 0
@@ -110,3 +112,12 @@ popitem home number args = given (no_argument args) >> changing home number (on_
 
 unfoldable pub setdefault : ℕ → ℕ → List Datum → Action State Datum
 setdefault home number args = given (one_or_two args) >>= λ r. key_to_change home number r.0 >>= λ q. changing home number (on_pairs (with_default q (or_none r.1)))
+
+-- `update(pairs, **keywords)`: the pairs that are given are put in turn, as by `|=`
+unfoldable pub update : ℕ → ℕ → Passed → Action State Datum
+update home number args =
+    pairs_given args >>= λ g. may_change home number >> (all_pairs g >>= λ ps. changing home number (dict_united ps) >> pure none)
+
+-- the function `dict(pairs, **keywords)`: a new dict, into which the pairs that are given are put in turn
+unfoldable pub dict_made : Passed → Action State Datum
+dict_made args = pairs_given args >>= λ g. all_pairs g >>= λ ps. given (limited (put_all [] ps)) >>= λ qs. new_dict qs

@@ -3,11 +3,13 @@
 ghost use Rattle.std.specs.Prelude.{◌≡◌, map, IfOk, option_copied};
 ghost use Rattle.bq_machine.specs.Action.{Does};
 ghost use Rattle.bq_collections.specs.Arguments.{or_none};
-ghost use Rattle.bq_collections.specs.Dict.{pairs_in, pair_tuple, clear, get, dict_items, dict_keys, dict_values, key_to_change, pop, popitem, setdefault};
+ghost use Rattle.bq_collections.specs.Dict.{pairs_in, pair_tuple, clear, get, dict_items, dict_keys, dict_values, key_to_change, pop, popitem, setdefault, update, dict_made};
 
 use crate::arguments::{no_argument, one_or_two};
 use crate::dict_edit::{DictEdit, change_dict, pair_tuple};
-use bq_machine::{Machine, keys_of};
+use crate::pairs_given::PairsGiven;
+use bq_machine::{Args, Machine, keys_of};
+use bq_operate::{put_pairs, unite};
 use bq_source::FaultKind;
 use bq_value::{Body, Cell, Dict, EvalErr, Key, Value};
 use std::alloc::{AllocError, Global};
@@ -191,4 +193,33 @@ pub fn setdefault(
     let default = or_none(default)?;
     let key = key_to_change(machine, dict, key)?;
     change_dict(alloc, machine, dict, DictEdit::SetDefault(key, default))
+}
+
+/// `update(pairs = [], **keywords)`: each pair is put in turn; a key that is there keeps its place.
+#[tactic(auto, unfolding(crate::specs::Dict::update))]
+pub fn update(
+    alloc: Global,
+    machine: &mut Machine,
+    dict: Cell,
+    args: Args,
+) -> Result<Value, EvalErr>
+    ensures { Does (λ v. v) result machine.new (update dict.module dict.number args machine.old) }
+{
+    let given = PairsGiven::of(alloc, machine, args)?;
+    machine.may_change(dict)?;
+    let pairs = given.into_pairs(machine)?;
+    unite(machine, dict, &pairs)?;
+    Ok(Value::none())
+}
+
+/// The function `dict(pairs = [], **keywords)`: a new dict, into which each pair is put in turn.
+#[tactic(auto, unfolding(crate::specs::Dict::dict_made))]
+pub fn new_dict(alloc: Global, machine: &mut Machine, args: Args) -> Result<Value, EvalErr>
+    ensures { Does (λ v. v) result machine.new (dict_made args machine.old) }
+{
+    let given = PairsGiven::of(alloc, machine, args)?;
+    let pairs = given.into_pairs(machine)?;
+    let mut dict = Dict::new(alloc);
+    put_pairs(&mut dict, &pairs)?;
+    machine.new_dict(dict)
 }

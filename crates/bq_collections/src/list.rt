@@ -1,6 +1,5 @@
 //! The methods of lists (Starlark, "Built-in methods").
 
-ghost use Rattle.std.specs.Prelude.{◌≡◌};
 ghost use Rattle.bq_source.specs.Gives.{Gives};
 ghost use Rattle.bq_value.specs.declared.error.EvalErr.TheVariants.{Bad};
 ghost use Rattle.bq_machine.specs.Action.{Does};
