@@ -1,0 +1,5 @@
+pub mod Placed
+pub mod ListMethod
+pub mod DictMethod
+pub mod Call
+pub mod Laws
