@@ -1,0 +1,9 @@
+pub mod Arguments
+pub mod Elements
+pub mod Truths
+pub mod Integers
+pub mod Order
+pub mod Choosing
+pub mod Sequences
+pub mod Texts
+pub mod Call
