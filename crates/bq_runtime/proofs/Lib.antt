@@ -1,0 +1,2 @@
+-- actions of a machine, beside what a host keeps
+pub mod Lifting

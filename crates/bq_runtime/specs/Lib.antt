@@ -1,0 +1,4 @@
+pub mod Making
+pub mod Passing
+pub mod Calling
+pub mod Runtime

@@ -1,0 +1,18 @@
+//! What the evaluator asks for, carried out on a machine and a host.
+//!
+//! The promise: an [`Evaluation`] is a `Runtime` of bq_eval whose meaning is `primitives` (`specs/Runtime.antt`), one line for each
+//! operation: the operators of bq_operate, the walks of bq_machine, the methods and functions of the language, and the functions
+//! of the host, which are called by their names.
+//!
+//! In reading order:
+//!
+//! - `making`: lists and dicts that are being made;
+//! - `passing`: the arguments of a call, one after another;
+//! - `evaluation`: the operations.
+#![tactic(auto)]
+
+mod evaluation;
+mod making;
+mod passing;
+
+pub use evaluation::{Evaluation, RuleNames};
