@@ -1,0 +1,18 @@
+//! How the evaluation of a file ends.
+
+use bq_source::{Bytes, Fault};
+use bq_value::Frozen;
+
+/// The outcome for a module, with what it printed, in order.
+#[derive(Drop)]
+pub enum Outcome {
+    Module(Frozen, Vec<Bytes>),
+    Failed(Fault, Vec<Bytes>),
+}
+
+/// The outcome, and the host that the file called.
+#[derive(Drop)]
+pub struct Evaluated<H> {
+    pub outcome: Outcome,
+    pub host: H,
+}
