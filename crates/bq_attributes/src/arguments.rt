@@ -1,0 +1,153 @@
+//! What the arguments of a call of a rule give.
+
+ghost use Rattle.std.specs.Prelude.{◌≡◌, IfOk, OnOk};
+ghost use Rattle.bq_source.specs.Gives.{Gives};
+ghost use Rattle.bq_value.specs.declared.error.EvalErr.TheVariants.{Bad};
+ghost use Rattle.bq_attributes.specs.Arguments.{nothing_given, is_none, keyword, with_value, with_label, with_name, with_attribute, with_argument, with_arguments};
+
+use crate::label_texts::{TextKind, label};
+use crate::scope::Scope;
+use crate::texts::text_in;
+use crate::values::value_as;
+use bq_label::Label;
+use bq_schema::Schema;
+use bq_source::{Bytes, FaultKind};
+use bq_target::{AttributeValue, GivenAttribute, attribute_type};
+use bq_value::{Dict, EvalErr, Key, Node, Store, Value};
+use sqlite_items::Items;
+use std::alloc::{AllocError, Global};
+
+/// What the arguments give so far.
+#[derive(Drop)]
+pub struct Given {
+    /// The target's label, once its name is read.
+    pub name: Option<Label>,
+    /// The attributes, in the order in which they are written.
+    pub attributes: Items<GivenAttribute>,
+}
+
+/// The rule that is called, from where, and what its values are read in.
+#[derive(Clone, Copy)]
+pub struct Callee<'a> {
+    pub scope: Scope<'a>,
+    pub store: &'a Store,
+    pub schema: &'a Schema,
+    /// The rule's name.
+    pub rule: &'a Bytes,
+}
+
+/// The name of a keyword argument.
+fn keyword(key: &Key) -> Result<Bytes, AllocError>
+    ensures { IfOk result (λ name. name ≡ keyword key.now) }
+{
+    match &key.value().node {
+        Node::Text(name) => name.share(),
+        _ => Ok(Bytes::empty()),
+    }
+}
+
+/// Whether the value is `None`, which gives nothing.
+pub(crate) fn is_none(value: &Value) -> bool
+    ensures { result ≡ is_none value.now }
+{
+    matches!(&value.node, Node::NoneValue)
+}
+
+impl Given {
+    pub fn nothing(alloc: Global) -> Given
+        ensures { result ≡ nothing_given }
+    {
+        Given {
+            name: None,
+            attributes: Items::new(alloc),
+        }
+    }
+
+    /// One attribute more.
+    fn push(&mut self, name: Bytes, value: AttributeValue) -> Result<(), AllocError>
+        ensures { OnOk result (self.new ≡ with_value name value self.old) }
+    {
+        self.attributes.push(GivenAttribute { name, value })?;
+        Ok(())
+    }
+
+    /// The name of the target, which is an attribute too.
+    fn set_name(&mut self, alloc: Global, label: Label, text: Bytes) -> Result<(), AllocError>
+        ensures { OnOk result (self.new ≡ with_label text label self.old) }
+    {
+        self.name = Some(label);
+        let name = Bytes::from_slice(alloc, b"name")?;
+        self.push(name, AttributeValue::String(text))
+    }
+
+    /// Takes the argument `name`: F73, F75, F37.
+    #[tactic(auto, unfolding(crate::specs::Arguments::with_name))]
+    fn take_name(&mut self, alloc: Global, scope: Scope<'_>, value: &Value) -> Result<(), EvalErr>
+        ensures { Gives (λ _. self.new) Bad result (with_name scope.entry.own.now scope.entry.packages.now value.now self.old) }
+    {
+        if is_none(value) {
+            return Ok(());
+        }
+        let text = text_in(value)?;
+        let label = label(alloc, scope, TextKind::Name, &text)?;
+        self.set_name(alloc, label, text)?;
+        Ok(())
+    }
+
+    /// Takes any other argument: F71, then the faults of its value.
+    #[tactic(auto, unfolding(crate::specs::Arguments::with_attribute))]
+    fn take_attribute(
+        &mut self,
+        alloc: Global,
+        callee: Callee<'_>,
+        name: &Bytes,
+        value: &Value,
+    ) -> Result<(), EvalErr>
+        ensures { Gives (λ _. self.new) Bad result (with_attribute callee.entry.scope.own.now callee.entry.scope.packages.now callee.entry.store.now callee.entry.schema.now callee.entry.rule.now name.now value.now self.old) }
+    {
+        let kind = attribute_type(callee.schema, callee.rule.as_slice(), name.as_slice());
+        let Some(kind) = kind else {
+            return Err(EvalErr::Bad(FaultKind::NoAttribute));
+        };
+        if is_none(value) {
+            return Ok(());
+        }
+        let given = value_as(alloc, callee.scope, callee.store, kind, value)?;
+        self.push(name.share()?, given)?;
+        Ok(())
+    }
+
+    #[tactic(auto, unfolding(crate::specs::Arguments::with_argument))]
+    fn take_argument(
+        &mut self,
+        alloc: Global,
+        callee: Callee<'_>,
+        key: &Key,
+        value: &Value,
+    ) -> Result<(), EvalErr>
+        ensures { Gives (λ _. self.new) Bad result (with_argument callee.entry.scope.own.now callee.entry.scope.packages.now callee.entry.store.now callee.entry.schema.now callee.entry.rule.now self.old (key.now, value.now)) }
+    {
+        let name = keyword(key)?;
+        if name.as_slice() == b"name".as_slice() {
+            return self.take_name(alloc, callee.scope, value);
+        }
+        self.take_attribute(alloc, callee, &name, value)
+    }
+
+    /// Takes the arguments in the order in which they are written.
+    #[tactic(auto, unfolding(crate::specs::Arguments::with_arguments))]
+    pub fn take_arguments(
+        &mut self,
+        alloc: Global,
+        callee: Callee<'_>,
+        keywords: &Dict,
+    ) -> Result<(), EvalErr>
+        ensures { Gives (λ _. self.new) Bad result (with_arguments callee.entry.scope.own.now callee.entry.scope.packages.now callee.entry.store.now callee.entry.schema.now callee.entry.rule.now self.old keywords.now) }
+    {
+        for i in 0..keywords.len() {
+            let (key, value) = keywords.pair(i);
+            self.take_argument(alloc, callee, key, value)?;
+        }
+        Ok(())
+    }
+}

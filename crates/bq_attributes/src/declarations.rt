@@ -1,0 +1,159 @@
+//! The target that a call of a rule declares.
+
+ghost use Rattle.std.specs.Prelude.{◌≡◌, map, IfOk};
+ghost use Rattle.std.specs.List.{list_all};
+ghost use Rattle.bq_source.specs.Gives.{Gives};
+ghost use Rattle.bq_value.specs.declared.error.EvalErr.TheVariants.{Bad};
+ghost use Rattle.bq_machine.specs.Binding.{bind};
+ghost use Rattle.std.specs.Prelude.{Ok};
+ghost use Rattle.bq_attributes.specs.Steps.{and_then};
+ghost use Rattle.bq_attributes.specs.Arguments.{nothing_given, with_arguments};
+ghost use Rattle.bq_attributes.specs.Declarations.{keywords_alone, gives, is_met, gives_mandatory, own_attributes, if_whole, target, declaration};
+
+use crate::arguments::{Callee, Given, is_none};
+use bq_machine::{Args, Signature, bind};
+use bq_schema::{Attribute, Attributes, Schema};
+use bq_source::{Bytes, FaultKind};
+use bq_target::{Target, TargetKind};
+use bq_value::{Dict, EvalErr, Key, Value};
+use std::alloc::{AllocError, Global};
+
+/// The arguments of a call that has keyword arguments alone, or F52.
+fn keywords(alloc: Global, args: Args) -> Result<Dict, EvalErr>
+    ensures { Gives (λ keywords. keywords) Bad result (and_then (bind keywords_alone args) (λ b. Ok b.keywords)) }
+{
+    let signature = Signature {
+        parameters: &[],
+        placed: 0,
+        takes_rest: false,
+        takes_keywords: true,
+    };
+    let bound = bind(alloc, &signature, args)?;
+    Ok(bound.keywords)
+}
+
+/// Whether a keyword argument of that name is there, and isn't `None`.
+fn gives(alloc: Global, keywords: &Dict, name: &[u8]) -> Result<bool, AllocError>
+    ensures { IfOk result (λ given. given ≡ gives keywords.now name.now) }
+{
+    let key = Key::new(Value::string(Bytes::from_slice(alloc, name)?));
+    match keywords.get(&key) {
+        None => Ok(false),
+        Some(value) => Ok(!is_none(value)),
+    }
+}
+
+/// Whether the attribute is given, if it has to be.
+fn is_met(
+    alloc: Global,
+    keywords: &Dict,
+    name: &[u8],
+    attribute: Attribute,
+) -> Result<bool, AllocError>
+    ensures { IfOk result (λ met. met ≡ is_met keywords.now (name.now, attribute)) }
+{
+    if !attribute.is_mandatory {
+        return Ok(true);
+    }
+    gives(alloc, keywords, name)
+}
+
+/// Which of the attributes are given or need not be.
+#[tactic(auto, using(crate::proofs::Entries::entry_end))]
+fn are_met(alloc: Global, table: &Attributes, keywords: &Dict) -> Result<Vec<bool>, AllocError>
+    ensures { IfOk result (λ met. met.items ≡ map (is_met keywords.now) table.now) }
+{
+    let mut met = Vec::new(alloc);
+    'entries: loop {
+        let Some((name, attribute)) = table.entry(met.len()) else {
+            return Ok(met);
+        };
+        met.push(is_met(alloc, keywords, name, attribute)?)?;
+    }
+}
+
+fn are_all(met: &[bool]) -> bool
+    ensures { result ≡ list_all (λ met. met) met.now }
+{
+    met.iter().all(|met| *met)
+}
+
+/// Whether each attribute that has to be given is.
+fn gives_all(alloc: Global, table: &Attributes, keywords: &Dict) -> Result<bool, AllocError>
+    ensures { IfOk result (λ all. all ≡ gives_mandatory table.now keywords.now) }
+{
+    let met = are_met(alloc, table, keywords)?;
+    Ok(are_all(&met))
+}
+
+#[tactic(auto, unfolding(crate::specs::Declarations::gives_mandatory))]
+fn gives_mandatory(
+    alloc: Global,
+    schema: &Schema,
+    rule: &Bytes,
+    keywords: &Dict,
+) -> Result<bool, AllocError>
+    ensures { IfOk result (λ all. all ≡ gives_mandatory (own_attributes schema.now rule.now) keywords.now) }
+{
+    match schema.rule(rule.as_slice()) {
+        None => Ok(true),
+        Some(number) => match schema.attributes(number) {
+            None => Ok(true),
+            Some(table) => gives_all(alloc, table, keywords),
+        },
+    }
+}
+
+/// What keyword arguments give.
+fn given(alloc: Global, callee: Callee<'_>, keywords: &Dict) -> Result<Given, EvalErr>
+    ensures { Gives (λ g. g) Bad result (with_arguments callee.entry.scope.own.now callee.entry.scope.packages.now callee.entry.store.now callee.entry.schema.now callee.entry.rule.now nothing_given keywords.now) }
+{
+    let mut given = Given::nothing(alloc);
+    match given.take_arguments(alloc, callee, keywords) {
+        Ok(()) => Ok(given),
+        Err(why) => Err(why),
+    }
+}
+
+/// The target of what is given: F72 where its name isn't given, or another attribute that has to be.
+fn whole(rule: &Bytes, line: u32, is_whole: bool, given: Given) -> Result<Target, EvalErr>
+    ensures { Gives (λ t. t) Bad result (if_whole is_whole rule.now line given.name given) }
+{
+    let Given { name, attributes } = given;
+    let Some(label) = name else {
+        return Err(EvalErr::Bad(FaultKind::MissingAttribute));
+    };
+    if !is_whole {
+        return Err(EvalErr::Bad(FaultKind::MissingAttribute));
+    }
+    Ok(Target {
+        label,
+        kind: TargetKind::Rule(rule.share()?),
+        attributes,
+        line,
+    })
+}
+
+/// The target of these keyword arguments.
+#[tactic(auto, unfolding(crate::specs::Declarations::target))]
+fn target(alloc: Global, callee: Callee<'_>, line: u32, keywords: &Dict) -> Result<Target, EvalErr>
+    ensures { Gives (λ t. t) Bad result (target callee.entry.scope.own.now callee.entry.scope.packages.now callee.entry.store.now callee.entry.schema.now callee.entry.rule.now line keywords.now) }
+{
+    let given = given(alloc, callee, keywords)?;
+    let is_whole = gives_mandatory(alloc, callee.schema, callee.rule, keywords)?;
+    whole(callee.rule, line, is_whole, given)
+}
+
+/// The target that a call of a rule declares, with the line of the call; or F52, the faults of the arguments, F72.
+#[tactic(auto, unfolding(crate::specs::Declarations::declaration))]
+pub fn declaration(
+    alloc: Global,
+    callee: Callee<'_>,
+    line: u32,
+    args: Args,
+) -> Result<Target, EvalErr>
+    ensures { Gives (λ t. t) Bad result (declaration callee.entry.scope.own.now callee.entry.scope.packages.now callee.entry.store.now callee.entry.schema.now callee.entry.rule.now line args) }
+{
+    let keywords = keywords(alloc, args)?;
+    target(alloc, callee, line, &keywords)
+}

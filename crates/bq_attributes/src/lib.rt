@@ -1,0 +1,34 @@
+//! The arguments of a call of a rule come in; the target that it declares goes out, with its typed attributes, or its first fault.
+//!
+//! The promise: [`declaration`] gives exactly the target of `specs/Declaration.antt`, unless memory runs out. The faults come in this
+//! order: F52; then the arguments in the order in which they are written, each F71, F73, F78, F75, F37; then F72. No text is copied
+//! that is longer than 22 bytes, and a call takes time linear in what it passes.
+//!
+//! In reading order:
+//!
+//! - `scope`: the package among the others, and which labels cross into another one;
+//! - `texts`: strings, and lists of strings, in values;
+//! - `label_texts`: the labels that texts stand for;
+//! - `values`: what a value is as the value of an attribute;
+//! - `arguments`: what the arguments of a call give;
+//! - `declarations`: the target that a call declares;
+//! - `laws`: what holds of all calls.
+#![tactic(auto)]
+
+mod arguments;
+mod declarations;
+mod label_texts;
+mod laws;
+mod scope;
+mod texts;
+mod values;
+
+pub use arguments::Callee;
+pub use declarations::declaration;
+pub use label_texts::{TextKind, label, labels};
+pub use laws::{
+    calls_declare_targets_of_their_package, keywords_keep_their_order,
+    mandatory_attributes_are_given, the_first_faulty_argument_decides,
+};
+pub use scope::Scope;
+pub use texts::{text_in, texts_in};

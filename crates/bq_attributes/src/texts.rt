@@ -1,0 +1,59 @@
+//! Strings, and lists of strings, in the values that a call passes.
+
+ghost use Rattle.std.specs.Prelude.{◌≡◌, Some};
+ghost use Rattle.bq_source.specs.Gives.{Gives};
+ghost use Rattle.bq_value.specs.declared.error.EvalErr.TheVariants.{Bad};
+ghost use Rattle.bq_attributes.specs.Steps.{and_then};
+ghost use Rattle.bq_attributes.specs.Texts.{text_in, listed, all_texts, texts_in};
+
+use bq_source::{Bytes, FaultKind};
+use bq_value::{Body, Content, EvalErr, Node, Store, Value};
+use sqlite_items::Items;
+use std::alloc::Global;
+
+/// A string, or F73.
+#[tactic(auto, unfolding(crate::specs::Texts::text_in))]
+pub fn text_in(value: &Value) -> Result<Bytes, EvalErr>
+    ensures { Gives (λ text. text) Bad result (text_in value.now) }
+{
+    match &value.node {
+        Node::Text(text) => Ok(text.share()?),
+        _ => Err(EvalErr::Bad(FaultKind::AttributeType)),
+    }
+}
+
+/// The strings that all of the values are.
+#[tactic(auto, unfolding(crate::specs::Texts::all_texts, crate::specs::Steps::in_turn))]
+fn all_texts(alloc: Global, values: &[Value]) -> Result<Items<Bytes>, EvalErr>
+    ensures { Gives (λ texts. texts) Bad result (all_texts values.now) }
+{
+    let mut texts = Items::new(alloc);
+    for value in values {
+        texts.push(text_in(value)?)?;
+    }
+    Ok(texts)
+}
+
+fn content_texts(alloc: Global, content: &Content) -> Result<Items<Bytes>, EvalErr>
+    ensures { Gives (λ texts. texts) Bad result (and_then (listed (Some content.now)) all_texts) }
+{
+    match &content.body {
+        Body::List(values) => all_texts(alloc, values),
+        Body::Dict(_) => Err(EvalErr::Bad(FaultKind::AttributeType)),
+    }
+}
+
+/// A list or a tuple of strings, or F73.
+#[tactic(auto, using(bq_value::specs::Datum::list_of_data_of), unfolding(crate::specs::Texts::texts_in))]
+pub fn texts_in(alloc: Global, store: &Store, value: &Value) -> Result<Items<Bytes>, EvalErr>
+    ensures { Gives (λ texts. texts) Bad result (texts_in store.now value.now) }
+{
+    match &value.node {
+        Node::Tuple(values) => all_texts(alloc, values),
+        Node::Cell(cell) => match store.content(*cell) {
+            Some(content) => content_texts(alloc, content),
+            None => Err(EvalErr::Bad(FaultKind::AttributeType)),
+        },
+        _ => Err(EvalErr::Bad(FaultKind::AttributeType)),
+    }
+}
