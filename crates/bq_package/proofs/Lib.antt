@@ -1,0 +1,12 @@
+-- what an answer in place of a pattern says
+pub mod Patterns
+-- each fault for which a call is refused is one that a host may refuse a call for
+pub mod Refusals
+-- what calls mean, one function at a time
+pub mod Meaning
+-- what is kept after a call that declares
+pub mod Settling
+-- what calls declare is of the package that is kept
+pub mod Owning
+-- what is declared stays
+pub mod Staying

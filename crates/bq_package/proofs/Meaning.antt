@@ -1,0 +1,170 @@
+-- What calls mean, one function at a time, from what is read of their arguments.
+use Rattle.std.proofs.Common.{◌≡◌, ℕ, true, List, Some, None, Result, Ok, Err, refl, subst}
+use Rattle.bq_source.specs.Gives.{Gives}
+use Rattle.bq_source.specs.declared.fault.FaultKind.{FaultKind}
+use Rattle.bq_source.specs.declared.fault.FaultKind.TheVariants as f
+use Rattle.bq_label.specs.Label.{LabelParts}
+use Rattle.bq_value.specs.Datum.{Datum, none, string}
+use Rattle.bq_value.specs.declared.error.EvalErr.{EvalErr}
+use Rattle.bq_value.specs.declared.error.EvalErr.TheVariants.{Bad}
+use Rattle.bq_machine.specs.Args.{Passed}
+use Rattle.bq_machine.specs.Binding.{bind}
+use Rattle.bq_machine.specs.Cells.{new_list, new_content}
+use Rattle.bq_machine.specs.State.{State, Stop, stop_at}
+use Rattle.bq_machine.specs.Action.{Run, stopped, ◌>>=◌, given, on_machine, Does, HostDoes}
+use Rattle.bq_host.specs.Refusals.{is_refusal, Refuses}
+use Rattle.bq_target.specs.declared.target.Target.{Target}
+use Rattle.bq_target.specs.declared.state.Declared.{Declared}
+use Rattle.bq_target.specs.declared.state.Declared.TheVariants.{Accepted, Refused}
+use Rattle.bq_target.specs.Calls.{declared, exported}
+use Rattle.bq_package.specs.declared.function.BuildFunction.{BuildFunction}
+use Rattle.bq_package.specs.declared.function.BuildFunction.TheVariants as b
+use Rattle.bq_package.specs.Place.{PlaceView}
+use Rattle.bq_package.specs.Bound.{any_parameters, no_parameters}
+use Rattle.bq_package.specs.Glob.{globbed}
+use Rattle.bq_package.specs.Files.{files_named}
+use Rattle.bq_package.specs.Groups.{group_named}
+use Rattle.bq_package.specs.Rules.{rule_target}
+use Rattle.bq_package.specs.Calls.{HeldPackage, Declaring, place_in, new_strings, package_name, ignored, settled, declares, call_in, call_by}
+use Rattle.bq_package.specs.Keeping.{IsSettled}
+use Rattle.bq_package.proofs.Refusals.{IsRefusable, of_glob, of_files, of_group, of_rule, of_both, of_bind}
+
+abbrev Answer : Type 0
+Answer = Result Datum EvalErr
+
+-- no BUILD file is evaluated
+pub outside : (s : State) (kept : HeldPackage) (function : BuildFunction) (passed : Passed) (why : FaultKind) → place_in kept ≡ Err why → call_by s kept function passed ≡ stopped (stop_at why s)
+outside s None function passed why h = let e : f.NotInPackage ≡ why = cc in subst (λ (w : FaultKind). call_by s None function passed ≡ stopped (stop_at w s)) e refl
+outside s (Some d) function passed why h = absurd (cc)
+
+pub glob_refused : (s : State) (kept : HeldPackage) (p : PlaceView) (passed : Passed) (why : FaultKind) → place_in kept ≡ Ok p → globbed p s.store passed ≡ Err why → call_by s kept b.Glob passed ≡ stopped (stop_at why s)
+unfolding call_in
+glob_refused s None p passed why inside h = absurd (cc)
+glob_refused s (Some d) p passed why inside h = let e : d.place ≡ p = cc in rw (e, h) refl
+
+pub files_refused : (s : State) (kept : HeldPackage) (p : PlaceView) (passed : Passed) (why : FaultKind) → place_in kept ≡ Ok p → files_named p s.store passed ≡ Err why → call_by s kept b.ExportsFiles passed ≡ stopped (stop_at why s)
+unfolding call_in
+files_refused s None p passed why inside h = absurd (cc)
+files_refused s (Some d) p passed why inside h = let e : d.place ≡ p = cc in rw (e, h) refl
+
+pub group_refused : (s : State) (kept : HeldPackage) (p : PlaceView) (passed : Passed) (why : FaultKind) → place_in kept ≡ Ok p → group_named p s.store s.line passed ≡ Err why → call_by s kept b.PackageGroup passed ≡ stopped (stop_at why s)
+unfolding call_in
+group_refused s None p passed why inside h = absurd (cc)
+group_refused s (Some d) p passed why inside h = let e : d.place ≡ p = cc in rw (e, h) refl
+
+pub rule_refused : (s : State) (kept : HeldPackage) (p : PlaceView) (passed : Passed) (rule : ℕ) (why : FaultKind) → place_in kept ≡ Ok p → rule_target p s.store s.line rule passed ≡ Err why
+    → call_by s kept (b.Rule rule) passed ≡ stopped (stop_at why s)
+unfolding call_in
+rule_refused s None p passed rule why inside h = absurd (cc)
+rule_refused s (Some d) p passed rule why inside h = let e : d.place ≡ p = cc in rw (e, h) refl
+
+-- the names that `glob` gives become a new list
+pub glob_done : (s m : State) (kept : HeldPackage) (p : PlaceView) (passed : Passed) (names : List (List ℕ)) (result : Answer) → place_in kept ≡ Ok p → globbed p s.store passed ≡ Ok names
+    → Does (λ v. v) result m (new_strings names s) → HostDoes (λ v. v) result m kept (call_by s kept b.Glob passed)
+unfolding call_in
+glob_done s m None p passed names result inside h does = absurd (cc)
+glob_done s m (Some d) p passed names (Ok v) inside h does = let e : d.place ≡ p = cc in rw (e, h, does) refl
+glob_done s m (Some d) p passed names (Err x) inside h does = λ why is. let e : d.place ≡ p = cc in rw (e, h, does why is) refl
+
+pub name_done : (kept : HeldPackage) (p : PlaceView) (passed : Passed) (result : Answer) → place_in kept ≡ Ok p → Gives (λ v. v) Bad result (package_name p passed)
+    → (s : State) → HostDoes (λ v. v) result s kept (call_by s kept b.PackageName passed)
+unfolding call_in
+name_done None p passed result inside gives s = absurd (cc)
+name_done (Some d) p passed (Ok v) inside gives s = let e : d.place ≡ p = cc in rw (e, gives) refl
+name_done (Some d) p passed (Err x) inside gives s = λ why is. let e : d.place ≡ p = cc in rw (e, gives why is) refl
+
+pub package_done : (kept : HeldPackage) (p : PlaceView) (passed : Passed) (result : Answer) → place_in kept ≡ Ok p → Gives (λ v. v) Bad result (ignored passed)
+    → (s : State) → HostDoes (λ v. v) result s kept (call_by s kept b.Package passed)
+unfolding call_in
+package_done None p passed result inside gives s = absurd (cc)
+package_done (Some d) p passed (Ok v) inside gives s = rw gives refl
+package_done (Some d) p passed (Err x) inside gives s = λ why is. rw (gives why is) refl
+
+pub licenses_done : (kept : HeldPackage) (p : PlaceView) (passed : Passed) (result : Answer) → place_in kept ≡ Ok p → Gives (λ v. v) Bad result (ignored passed)
+    → (s : State) → HostDoes (λ v. v) result s kept (call_by s kept b.Licenses passed)
+unfolding call_in
+licenses_done None p passed result inside gives s = absurd (cc)
+licenses_done (Some d) p passed (Ok v) inside gives s = rw gives refl
+licenses_done (Some d) p passed (Err x) inside gives s = λ why is. rw (gives why is) refl
+
+-- a call that declares
+pub files_done : (s : State) (kept after : HeldPackage) (p : PlaceView) (passed : Passed) (ls : List LabelParts) (result : Answer) → place_in kept ≡ Ok p → files_named p s.store passed ≡ Ok ls
+    → IsSettled result kept after (λ q. exported q ls s.line) → HostDoes (λ v. v) result s after (call_by s kept b.ExportsFiles passed)
+unfolding call_in
+files_done s None after p passed ls result inside h settles = absurd (cc)
+files_done s (Some d) after p passed ls result inside h settles =
+    let e : p ≡ d.place = cc in
+    let here : files_named d.place s.store passed ≡ Ok ls = subst (λ (q : PlaceView). files_named q s.store passed ≡ Ok ls) e h in
+    rw here (settles.says s d refl)
+
+pub group_done : (s : State) (kept after : HeldPackage) (p : PlaceView) (passed : Passed) (t : Target) (result : Answer) → place_in kept ≡ Ok p → group_named p s.store s.line passed ≡ Ok t
+    → IsSettled result kept after (λ q. declared q t) → HostDoes (λ v. v) result s after (call_by s kept b.PackageGroup passed)
+unfolding call_in
+group_done s None after p passed t result inside h settles = absurd (cc)
+group_done s (Some d) after p passed t result inside h settles =
+    let e : p ≡ d.place = cc in
+    let here : group_named d.place s.store s.line passed ≡ Ok t = subst (λ (q : PlaceView). group_named q s.store s.line passed ≡ Ok t) e h in
+    rw here (settles.says s d refl)
+
+pub rule_done : (s : State) (kept after : HeldPackage) (p : PlaceView) (passed : Passed) (rule : ℕ) (t : Target) (result : Answer) → place_in kept ≡ Ok p
+    → rule_target p s.store s.line rule passed ≡ Ok t → IsSettled result kept after (λ q. declared q t) → HostDoes (λ v. v) result s after (call_by s kept (b.Rule rule) passed)
+unfolding call_in
+rule_done s None after p passed rule t result inside h settles = absurd (cc)
+rule_done s (Some d) after p passed rule t result inside h settles =
+    let e : p ≡ d.place = cc in
+    let here : rule_target d.place s.store s.line rule passed ≡ Ok t = subst (λ (q : PlaceView). rule_target q s.store s.line rule passed ≡ Ok t) e h in
+    rw here (settles.says s d refl)
+
+-- ---- refusals
+
+abbrev halted : Stop → Run (State × HeldPackage) Datum
+halted why = stopped why
+
+stops : (s : State) (kind : FaultKind) (why : Stop) → halted (stop_at kind s) ≡ halted why → is_refusal kind ≡ true → is_refusal why.kind ≡ true
+stops s kind why h is = let e : stop_at kind s ≡ why = cc in subst (λ (w : Stop). is_refusal w.kind ≡ true) e is
+
+of_answer : (s : State) (d : Declaring) (r : Result Datum FaultKind) (why : Stop) → IsRefusable r → on_machine {W = HeldPackage} (given r) (s, Some d) ≡ stopped why → is_refusal why.kind ≡ true
+of_answer s d (Ok v) why is h = absurd (cc)
+of_answer s d (Err kind) why is h = stops s kind why h is
+
+of_names : (s : State) (d : Declaring) (r : Result (List (List ℕ)) FaultKind) (why : Stop) → IsRefusable r → on_machine {W = HeldPackage} (given r >>= new_strings) (s, Some d) ≡ stopped why
+    → is_refusal why.kind ≡ true
+unfolding new_strings new_list new_content
+of_names s d (Ok names) why is h = absurd (cc)
+of_names s d (Err kind) why is h = stops s kind why h is
+
+of_settled : (s : State) (d : Declaring) (after : Declared) (why : Stop) → settled s d after ≡ stopped why → is_refusal why.kind ≡ true
+of_settled s d (Accepted q) why h = absurd (cc)
+of_settled s d (Refused q) why h = stops s f.DoubleTarget why h refl
+
+of_declares : {A : Type 0} (s : State) (d : Declaring) (r : Result A FaultKind) (declare : A → Declared) (why : Stop) → IsRefusable r → declares s d r declare ≡ stopped why
+    → is_refusal why.kind ≡ true
+of_declares s d (Ok x) declare why is h = of_settled s d (declare x) why h
+of_declares s d (Err kind) declare why is h = stops s kind why h is
+
+of_name : (p : PlaceView) (passed : Passed) → IsRefusable (package_name p passed)
+unfolding package_name
+of_name p passed = of_both (bind no_parameters passed) (λ b. Ok (string p.own.package)) (of_bind no_parameters passed) (λ b. tt)
+
+of_ignored : (passed : Passed) → IsRefusable (ignored passed)
+unfolding ignored
+of_ignored passed = of_both (bind any_parameters passed) (λ b. Ok none) (of_bind any_parameters passed) (λ b. tt)
+
+of_call : (s : State) (d : Declaring) (function : BuildFunction) (passed : Passed) (why : Stop) → call_in d s function passed ≡ stopped why → is_refusal why.kind ≡ true
+unfolding call_in
+of_call s d b.Glob passed why h = of_names s d (globbed d.place s.store passed) why (of_glob d.place s.store passed) h
+of_call s d b.PackageName passed why h = of_answer s d (package_name d.place passed) why (of_name d.place passed) h
+of_call s d b.Package passed why h = of_answer s d (ignored passed) why (of_ignored passed) h
+of_call s d b.Licenses passed why h = of_answer s d (ignored passed) why (of_ignored passed) h
+of_call s d b.ExportsFiles passed why h = of_declares s d (files_named d.place s.store passed) (λ ls. exported d.package ls s.line) why (of_files d.place s.store passed) h
+of_call s d b.PackageGroup passed why h = of_declares s d (group_named d.place s.store s.line passed) (declared d.package) why (of_group d.place s.store s.line passed) h
+of_call s d (b.Rule rule) passed why h = of_declares s d (rule_target d.place s.store s.line rule passed) (declared d.package) why (of_rule d.place s.store s.line rule passed) h
+
+of_kept : (s : State) (kept : HeldPackage) (function : BuildFunction) (passed : Passed) (why : Stop) → call_by s kept function passed ≡ stopped why → is_refusal why.kind ≡ true
+of_kept s None function passed why h = stops s f.NotInPackage why h refl
+of_kept s (Some d) function passed why h = of_call s d function passed why h
+
+-- a call is refused for a fault of the table
+pub refuses : (result : Answer) (s m : State) (kept after : HeldPackage) (function : BuildFunction) (passed : Passed) → HostDoes (λ v. v) result m after (call_by s kept function passed) → Refuses result
+refuses (Ok v) s m kept after function passed does = tt
+refuses (Err e) s m kept after function passed does = λ kind is. of_kept s kept function passed (stop_at kind m) (does kind is)

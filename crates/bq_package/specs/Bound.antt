@@ -1,0 +1,67 @@
+-- The parameters of the build functions (Bazel, Build Encyclopedia, "Functions"), and what is read of the arguments that they take.
+use Rattle.std.specs.Prelude.{ℕ, true, false, List, [], ◌∷◌, Option, Some, None, Result, Ok, Err, slice_get, codes}
+use Rattle.bq_source.specs.declared.fault.FaultKind.{FaultKind}
+use Rattle.bq_source.specs.declared.fault.FaultKind.TheVariants.{AttributeType}
+use Rattle.bq_value.specs.Datum.{Datum}
+use Rattle.bq_value.specs.Cells.{StoreView}
+use Rattle.bq_machine.specs.Parameters.{ParameterView, SignatureView}
+use Rattle.bq_attributes.specs.Texts.{text_in, texts_in}
+
+abbrev pub required : List ℕ → ParameterView
+required name = record { name = Some name; is_required = true }
+
+abbrev pub optional : List ℕ → ParameterView
+optional name = record { name = Some name; is_required = false }
+
+-- `(include, exclude = [], exclude_directories = 1, allow_empty = True)`
+abbrev pub glob_parameters : SignatureView
+glob_parameters = record {
+  parameters = required (codes "include") ∷ optional (codes "exclude") ∷ optional (codes "exclude_directories") ∷ optional (codes "allow_empty") ∷ [];
+  placed = 4;
+  takes_rest = false;
+  takes_keywords = false;
+}
+
+-- `()`
+abbrev pub no_parameters : SignatureView
+no_parameters = record { parameters = []; placed = 0; takes_rest = false; takes_keywords = false }
+
+-- `(*args, **kwargs)`
+abbrev pub any_parameters : SignatureView
+any_parameters = record { parameters = []; placed = 0; takes_rest = true; takes_keywords = true }
+
+-- `(srcs, visibility = None, licenses = None)`
+abbrev pub exports_parameters : SignatureView
+exports_parameters = record {
+  parameters = required (codes "srcs") ∷ optional (codes "visibility") ∷ optional (codes "licenses") ∷ [];
+  placed = 3;
+  takes_rest = false;
+  takes_keywords = false;
+}
+
+-- `(name, packages = [], includes = [])`
+abbrev pub group_parameters : SignatureView
+group_parameters = record {
+  parameters = required (codes "name") ∷ optional (codes "packages") ∷ optional (codes "includes") ∷ [];
+  placed = 3;
+  takes_rest = false;
+  takes_keywords = false;
+}
+
+abbrev pub given_by : Option (Option Datum) → Option Datum
+given_by (Some v) = v
+given_by None = None
+
+-- the argument of a parameter, where it has one
+abbrev pub argument : List (Option Datum) → ℕ → Option Datum
+argument values i = given_by (slice_get values i)
+
+-- a string (F73)
+abbrev pub text_of : Option Datum → Result (List ℕ) FaultKind
+text_of None = Err AttributeType
+text_of (Some v) = text_in v
+
+-- a list or a tuple of strings (F73); none where the argument is left out
+abbrev pub texts_of : StoreView → Option Datum → Result (List (List ℕ)) FaultKind
+texts_of store None = Ok []
+texts_of store (Some v) = texts_in store v

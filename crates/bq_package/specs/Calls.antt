@@ -1,0 +1,86 @@
+-- What the calls of build functions and of rules mean (Bazel, Build Encyclopedia, "Functions"). While no BUILD file is evaluated each of
+-- them is F70, before any other fault.
+use Rattle.std.specs.Prelude.{ℕ, List, map, Option, Some, None, Result, Ok, Err, option_map}
+use Rattle.bq_source.specs.declared.fault.FaultKind.{FaultKind}
+use Rattle.bq_source.specs.declared.fault.FaultKind.TheVariants.{NotInPackage, DoubleTarget}
+use Rattle.bq_value.specs.Datum.{Datum, none, string}
+use Rattle.bq_machine.specs.Args.{Passed}
+use Rattle.bq_machine.specs.State.{State, stop_at}
+use Rattle.bq_machine.specs.Action.{Run, Action, done, stopped, ◌>>=◌, given, on_machine}
+use Rattle.bq_machine.specs.Binding.{bind}
+use Rattle.bq_machine.specs.Cells.{new_list}
+use Rattle.bq_target.specs.declared.state.Declared.{Declared}
+use Rattle.bq_target.specs.declared.state.Declared.TheVariants.{Accepted, Refused}
+use Rattle.bq_target.specs.Package.{PackageTargets}
+use Rattle.bq_target.specs.Calls.{declared, exported}
+use Rattle.bq_attributes.specs.Steps.{and_then}
+use Rattle.bq_package.specs.declared.building.BuildHost.{BuildHost}
+use Rattle.bq_package.specs.declared.building.Building.{Building}
+use Rattle.bq_package.specs.declared.function.BuildFunction.{BuildFunction}
+use Rattle.bq_package.specs.declared.function.BuildFunction.TheVariants as b
+use Rattle.bq_package.specs.Place.{PlaceView, place_of}
+use Rattle.bq_package.specs.Bound.{no_parameters, any_parameters}
+use Rattle.bq_package.specs.Glob.{globbed}
+use Rattle.bq_package.specs.Files.{files_named}
+use Rattle.bq_package.specs.Groups.{group_named}
+use Rattle.bq_package.specs.Rules.{rule_target}
+use Rattle.bq_package.specs.Functions.{function_of}
+
+-- a package whose BUILD file is evaluated: where it is, and what the calls have declared
+pub record Declaring : Type 0 where
+  pub place : PlaceView
+  pub «package» : PackageTargets
+
+-- what is kept: the package of the BUILD file that is evaluated, where one is
+abbrev pub HeldPackage : Type 0
+HeldPackage = Option Declaring
+
+abbrev pub declaring_of : Building → Declaring
+declaring_of b = record { place = place_of b.place; «package» = b.package }
+
+abbrev pub held_by : BuildHost → HeldPackage
+held_by h = option_map declaring_of h.building
+
+-- where the BUILD file is evaluated, or F70
+abbrev pub place_in : HeldPackage → Result PlaceView FaultKind
+place_in None = Err NotInPackage
+place_in (Some d) = Ok d.place
+
+-- a new list of strings
+unfoldable pub new_strings : List (List ℕ) → Action State Datum
+new_strings texts = new_list (map string texts)
+
+-- what a call of `package_name` gives (F52)
+unfoldable pub package_name : PlaceView → Passed → Result Datum FaultKind
+package_name p passed = and_then (bind no_parameters passed) (λ b. Ok (string p.own.package))
+
+-- what a call gives that takes any arguments and changes nothing (F52 where a keyword is there twice)
+unfoldable pub ignored : Passed → Result Datum FaultKind
+ignored passed = and_then (bind any_parameters passed) (λ b. Ok none)
+
+-- a call that declares targets gives `None`; a call that is refused, F74, leaves all as it was
+abbrev pub settled : State → Declaring → Declared → Run (State × HeldPackage) Datum
+settled s d (Accepted after) = done none (s, Some (record d { «package» = after }))
+settled s d (Refused after) = stopped (stop_at DoubleTarget s)
+
+-- a call that declares what its arguments say, or their fault
+abbrev pub declares : {A : Type 0} → State → Declaring → Result A FaultKind → (A → Declared) → Run (State × HeldPackage) Datum
+declares s d (Ok a) declare = settled s d (declare a)
+declares s d (Err why) declare = stopped (stop_at why s)
+
+unfoldable pub call_in : Declaring → State → BuildFunction → Passed → Run (State × HeldPackage) Datum
+call_in d s b.Glob passed = on_machine (given (globbed d.place s.store passed) >>= new_strings) (s, Some d)
+call_in d s b.PackageName passed = on_machine (given (package_name d.place passed)) (s, Some d)
+call_in d s b.Package passed = on_machine (given (ignored passed)) (s, Some d)
+call_in d s b.Licenses passed = on_machine (given (ignored passed)) (s, Some d)
+call_in d s b.ExportsFiles passed = declares s d (files_named d.place s.store passed) (λ ls. exported d.package ls s.line)
+call_in d s b.PackageGroup passed = declares s d (group_named d.place s.store s.line passed) (declared d.package)
+call_in d s (b.Rule rule) passed = declares s d (rule_target d.place s.store s.line rule passed) (declared d.package)
+
+abbrev pub call_by : State → HeldPackage → BuildFunction → Passed → Run (State × HeldPackage) Datum
+call_by s None function passed = stopped (stop_at NotInPackage s)
+call_by s (Some d) function passed = call_in d s function passed
+
+-- a call of the function of an id
+unfoldable pub meaning : ℕ → Passed → Action (State × HeldPackage) Datum
+meaning id passed q = call_by q.0 q.1 (function_of id) passed

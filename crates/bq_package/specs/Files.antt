@@ -1,0 +1,17 @@
+-- Calls of `exports_files` (Bazel, Build Encyclopedia, "Functions"): F52, F73, F75, F37.
+use Rattle.std.specs.Prelude.{List, Result}
+use Rattle.bq_source.specs.declared.fault.FaultKind.{FaultKind}
+use Rattle.bq_label.specs.Label.{LabelParts}
+use Rattle.bq_value.specs.Cells.{StoreView}
+use Rattle.bq_machine.specs.Args.{Passed}
+use Rattle.bq_machine.specs.Binding.{bind}
+use Rattle.bq_attributes.specs.declared.label_texts.TextKind.TheVariants as k
+use Rattle.bq_attributes.specs.Steps.{and_then}
+use Rattle.bq_attributes.specs.LabelTexts.{labels}
+use Rattle.bq_package.specs.Place.{PlaceView}
+use Rattle.bq_package.specs.Bound.{exports_parameters, argument, texts_of}
+
+-- the files that a call names
+unfoldable pub files_named : PlaceView → StoreView → Passed → Result (List LabelParts) FaultKind
+files_named p store passed =
+    and_then (bind exports_parameters passed) (λ b. and_then (texts_of store (argument b.values 0)) (labels p.own p.packages k.Name))

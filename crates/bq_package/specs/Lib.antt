@@ -1,0 +1,10 @@
+pub mod Place
+pub mod Bound
+pub mod Glob
+pub mod Files
+pub mod Groups
+pub mod Rules
+pub mod Functions
+pub mod Calls
+pub mod Keeping
+pub mod Laws

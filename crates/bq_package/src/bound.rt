@@ -1,0 +1,47 @@
+//! What is read of the arguments that the parameters of a build function take.
+
+ghost use Rattle.std.specs.Prelude.{◌≡◌, option_copied};
+ghost use Rattle.bq_source.specs.Gives.{Gives};
+ghost use Rattle.bq_value.specs.declared.error.EvalErr.TheVariants.{Bad};
+ghost use Rattle.bq_package.specs.Bound.{argument, text_of, texts_of};
+
+use bq_attributes::{text_in, texts_in};
+use bq_source::{Bytes, FaultKind};
+use bq_value::{EvalErr, Store, Value};
+use sqlite_items::Items;
+use std::alloc::Global;
+
+/// The argument of the parameter at this place, where it has one.
+pub fn argument(values: &[Option<Value>], index: usize) -> Option<&Value>
+    ensures { option_copied result ≡ argument values.now index }
+{
+    match values.get(index) {
+        Some(Some(value)) => Some(value),
+        _ => None,
+    }
+}
+
+/// A string, or F73.
+pub fn text_of(values: &[Option<Value>], index: usize) -> Result<Bytes, EvalErr>
+    ensures { Gives (λ text. text) Bad result (text_of (argument values.now index)) }
+{
+    match argument(values, index) {
+        None => Err(EvalErr::Bad(FaultKind::AttributeType)),
+        Some(value) => text_in(value),
+    }
+}
+
+/// A list or a tuple of strings, or F73; none where the argument is left out.
+pub fn texts_of(
+    alloc: Global,
+    store: &Store,
+    values: &[Option<Value>],
+    index: usize,
+) -> Result<Items<Bytes>, EvalErr>
+    ensures { Gives (λ texts. texts) Bad result (texts_of store.now (argument values.now index)) }
+{
+    match argument(values, index) {
+        None => Ok(Items::new(alloc)),
+        Some(value) => texts_in(alloc, store, value),
+    }
+}

@@ -1,0 +1,21 @@
+//! What a host keeps.
+
+ghost use Rattle.std.specs.Prelude.{◌≡◌};
+ghost use Rattle.bq_label.specs.Label.{package_of};
+
+use crate::place::Place;
+use bq_target::PackageState;
+
+/// Carries out the calls of build functions and of rules, in a BUILD file or outside of one. Contracts see what it keeps by `held_by`.
+#[derive(Drop)]
+pub struct BuildHost<'a> {
+    pub(crate) building: Option<Building<'a>>,
+}
+
+/// A package whose BUILD file is evaluated.
+#[derive(Drop)]
+pub struct Building<'a> {
+    pub(crate) place: Place<'a>,
+    pub(crate) package: PackageState,
+    ghost own: { package_of «package».build_file ≡ place.scope.own.now },
+}

@@ -1,0 +1,207 @@
+//! Calls of `glob`.
+
+ghost use Rattle.std.specs.Prelude.{◌≡◌, option_copied, IfOk};
+ghost use Rattle.std.specs.List.{list_any};
+ghost use Rattle.bq_source.specs.Gives.{Gives};
+ghost use Rattle.bq_value.specs.declared.error.EvalErr.TheVariants.{Bad};
+ghost use Rattle.bq_machine.specs.Binding.{bind};
+ghost use Rattle.bq_package.specs.Place.{place_of};
+ghost use Rattle.bq_package.specs.Bound.{glob_parameters, argument};
+ghost use Rattle.bq_package.specs.Glob.{pattern, patterns, excludes_directories, allows_empty, request_by, request_of, is_nothing, names_of, is_idle, found, globbed};
+
+use crate::bound::{argument, texts_of};
+use crate::place::Place;
+use bq_glob::{Pattern, glob, read_pattern};
+use bq_machine::{Args, Bound, Parameter, Signature, bind};
+use bq_source::{Bytes, FaultKind, SourceErr};
+use bq_value::{EvalErr, Node, Store, Value};
+use bq_walk::truth;
+use sqlite_items::Items;
+use std::alloc::{AllocError, Global};
+use std::slice;
+
+/// What a call of `glob` asks for.
+#[derive(Drop)]
+pub struct GlobRequest {
+    pub include: Items<Pattern>,
+    pub exclude: Items<Pattern>,
+    /// Whether nothing may be given.
+    pub allows_empty: bool,
+}
+
+/// `(include, exclude = [], exclude_directories = 1, allow_empty = True)`
+const GLOB: Signature<'static> = Signature {
+    parameters: &[
+        Parameter {
+            name: Some(b"include"),
+            is_required: true,
+        },
+        Parameter {
+            name: Some(b"exclude"),
+            is_required: false,
+        },
+        Parameter {
+            name: Some(b"exclude_directories"),
+            is_required: false,
+        },
+        Parameter {
+            name: Some(b"allow_empty"),
+            is_required: false,
+        },
+    ],
+    placed: 4,
+    takes_rest: false,
+    takes_keywords: false,
+};
+
+fn bind_glob(alloc: Global, args: Args) -> Result<Bound, EvalErr>
+    ensures { Gives (λ b. b) Bad result (bind glob_parameters args) }
+{
+    bind(alloc, &GLOB, args)
+}
+
+/// A text as a pattern, or F77.
+#[tactic(auto, using(crate::proofs::Patterns::pattern_ok, crate::proofs::Patterns::pattern_err))]
+fn pattern(alloc: Global, text: &Bytes) -> Result<Pattern, EvalErr>
+    ensures { Gives (λ p. p) Bad result (pattern text.now) }
+{
+    match read_pattern(alloc, text.as_slice()) {
+        Ok(pattern) => Ok(pattern),
+        Err(SourceErr::Memory) => Err(EvalErr::Memory),
+        Err(SourceErr::Bad(_)) => Err(EvalErr::Bad(FaultKind::GlobPattern)),
+    }
+}
+
+/// Texts as patterns, or F77.
+#[tactic(auto, unfolding(crate::specs::Glob::patterns, bq_attributes::specs::Steps::in_turn))]
+fn patterns(alloc: Global, texts: &[Bytes]) -> Result<Items<Pattern>, EvalErr>
+    ensures { Gives (λ ps. ps) Bad result (patterns texts.now) }
+{
+    let mut patterns = Items::new(alloc);
+    for text in texts {
+        patterns.push(pattern(alloc, text)?)?;
+    }
+    Ok(patterns)
+}
+
+fn excludes_directories(value: Option<&Value>) -> bool
+    ensures { result ≡ excludes_directories (option_copied value.entry) }
+{
+    match value {
+        None => true,
+        Some(value) => match &value.node {
+            Node::Int(n) => *n == 1,
+            Node::Bool(b) => *b,
+            _ => false,
+        },
+    }
+}
+
+fn allows_empty(store: &Store, value: Option<&Value>) -> bool
+    ensures { result ≡ allows_empty store.now (option_copied value.entry) }
+{
+    match value {
+        None => true,
+        Some(value) => truth(store, value),
+    }
+}
+
+/// What a call asks for, of the arguments of its parameters: F73, F57, F77.
+#[tactic(auto, unfolding(crate::specs::Glob::request_of, crate::specs::Glob::request_by))]
+fn request_of(
+    alloc: Global,
+    store: &Store,
+    values: &[Option<Value>],
+) -> Result<GlobRequest, EvalErr>
+    ensures { Gives (λ r. r) Bad result (request_of store.now values.now) }
+{
+    let include = texts_of(alloc, store, values, 0)?;
+    let exclude = texts_of(alloc, store, values, 1)?;
+    if !excludes_directories(argument(values, 2)) {
+        return Err(EvalErr::Bad(FaultKind::BadValue));
+    }
+    Ok(GlobRequest {
+        include: patterns(alloc, include.as_slice())?,
+        exclude: patterns(alloc, exclude.as_slice())?,
+        allows_empty: allows_empty(store, argument(values, 3)),
+    })
+}
+
+fn is_nothing(names: &[Bytes]) -> bool
+    ensures { result ≡ is_nothing names.now }
+{
+    match names {
+        [] => true,
+        [_, ..] => false,
+    }
+}
+
+impl<'a> Place<'a> {
+    /// The names of the package's files that some pattern matches and no excluded one.
+    fn names_of(
+        &self,
+        alloc: Global,
+        include: &[Pattern],
+        exclude: &[Pattern],
+    ) -> Result<Vec<Bytes>, AllocError>
+        ensures { IfOk result (λ names. names.items ≡ names_of (place_of self.now) include.now exclude.now) }
+    {
+        glob(
+            alloc,
+            self.workspace,
+            self.scope.packages,
+            self.scope.own,
+            include,
+            exclude,
+        )
+    }
+
+    /// Whether the pattern matches no file of the package.
+    fn is_idle(&self, alloc: Global, pattern: &Pattern) -> Result<bool, AllocError>
+        ensures { IfOk result (λ idle. idle ≡ is_idle (place_of self.now) pattern.now) }
+    {
+        let names = self.names_of(alloc, slice::from_ref(pattern), &[])?;
+        Ok(is_nothing(&names))
+    }
+
+    /// Whether one of the patterns matches no file of the package.
+    fn any_is_idle(&self, alloc: Global, patterns: &[Pattern]) -> Result<bool, AllocError>
+        ensures { IfOk result (λ idle. idle ≡ list_any (is_idle (place_of self.now)) patterns.now) }
+    {
+        for pattern in patterns {
+            if self.is_idle(alloc, pattern)? {
+                return Ok(true);
+            }
+        }
+        Ok(false)
+    }
+
+    /// What a call gives that asks for this: F76 where nothing may not be given, and some pattern matches no file, or nothing is given.
+    #[tactic(auto, unfolding(crate::specs::Glob::found))]
+    fn found(&self, alloc: Global, request: &GlobRequest) -> Result<Vec<Bytes>, EvalErr>
+        ensures { Gives (λ names. names.items) Bad result (found (place_of self.now) request.now) }
+    {
+        let names = self.names_of(
+            alloc,
+            request.include.as_slice(),
+            request.exclude.as_slice(),
+        )?;
+        if request.allows_empty {
+            return Ok(names);
+        }
+        if self.any_is_idle(alloc, request.include.as_slice())? || is_nothing(&names) {
+            return Err(EvalErr::Bad(FaultKind::GlobEmpty));
+        }
+        Ok(names)
+    }
+
+    /// The names that a call of `glob` gives.
+    #[tactic(auto, unfolding(crate::specs::Glob::globbed))]
+    pub fn globbed(&self, alloc: Global, store: &Store, args: Args) -> Result<Vec<Bytes>, EvalErr>
+        ensures { Gives (λ names. names.items) Bad result (globbed (place_of self.now) store.now args) }
+    {
+        let bound = bind_glob(alloc, args)?;
+        let request = request_of(alloc, store, &bound.values)?;
+        self.found(alloc, &request)
+    }
+}

@@ -1,0 +1,132 @@
+//! Calls of `package_group`.
+
+ghost use Rattle.std.specs.Prelude.{◌≡◌, ◌||◌, IfOk};
+ghost use Rattle.bq_source.specs.Gives.{Gives};
+ghost use Rattle.bq_value.specs.declared.error.EvalErr.TheVariants.{Bad};
+ghost use Rattle.bq_machine.specs.Binding.{bind};
+ghost use Rattle.bq_package.specs.Place.{place_of};
+ghost use Rattle.bq_package.specs.Bound.{group_parameters};
+ghost use Rattle.bq_package.specs.Groups.{is_name_first, names_first, group, group_labels, group_named};
+
+use crate::bound::{text_of, texts_of};
+use crate::place::Place;
+use bq_attributes::{TextKind, label, labels};
+use bq_label::Label;
+use bq_machine::{Args, Bound, Parameter, Signature, bind};
+use bq_source::Bytes;
+use bq_target::{AttributeValue, GivenAttribute, Target, TargetKind};
+use bq_value::{EvalErr, Store, Value};
+use sqlite_items::Items;
+use std::alloc::{AllocError, Global};
+
+/// `(name, packages = [], includes = [])`
+const PACKAGE_GROUP: Signature<'static> = Signature {
+    parameters: &[
+        Parameter {
+            name: Some(b"name"),
+            is_required: true,
+        },
+        Parameter {
+            name: Some(b"packages"),
+            is_required: false,
+        },
+        Parameter {
+            name: Some(b"includes"),
+            is_required: false,
+        },
+    ],
+    placed: 3,
+    takes_rest: false,
+    takes_keywords: false,
+};
+
+fn bind_group(alloc: Global, args: Args) -> Result<Bound, EvalErr>
+    ensures { Gives (λ b. b) Bad result (bind group_parameters args) }
+{
+    bind(alloc, &PACKAGE_GROUP, args)
+}
+
+/// Whether the name isn't written after the included groups, among named arguments.
+#[tactic(auto, unfolding(crate::specs::Groups::is_name_first))]
+fn is_name_first(named: &[(Bytes, Value)]) -> bool
+    ensures { result ≡ is_name_first named.now }
+{
+    for (name, _) in named {
+        if name.as_slice() == b"includes".as_slice() {
+            return false;
+        }
+        if name.as_slice() == b"name".as_slice() {
+            return true;
+        }
+    }
+    true
+}
+
+/// Whether the name isn't written after the included groups. A positional argument is the name.
+fn names_first(args: &Args) -> bool
+    ensures { result ≡ names_first args.now }
+{
+    !args.positional.is_empty() || is_name_first(&args.named)
+}
+
+/// A group of packages.
+fn group(
+    alloc: Global,
+    line: u32,
+    label: Label,
+    includes: Items<Label>,
+) -> Result<Target, AllocError>
+    ensures { IfOk result (λ t. t ≡ group line label includes) }
+{
+    let mut attributes = Items::new(alloc);
+    attributes.push(GivenAttribute {
+        name: Bytes::from_slice(alloc, b"includes")?,
+        value: AttributeValue::LabelList(includes),
+    })?;
+    Ok(Target {
+        label,
+        kind: TargetKind::Group,
+        attributes,
+        line,
+    })
+}
+
+impl<'a> Place<'a> {
+    /// The labels of a group and of those that it includes.
+    #[tactic(auto, unfolding(crate::specs::Groups::group_labels))]
+    fn group_labels(
+        &self,
+        alloc: Global,
+        first: bool,
+        name: &Bytes,
+        includes: &[Bytes],
+    ) -> Result<(Label, Items<Label>), EvalErr>
+        ensures { Gives (λ r. r) Bad result (group_labels (place_of self.now) first name.now includes.now) }
+    {
+        if first {
+            let group = label(alloc, self.scope, TextKind::Name, name)?;
+            return Ok((group, labels(alloc, self.scope, TextKind::Label, includes)?));
+        }
+        let includes = labels(alloc, self.scope, TextKind::Label, includes)?;
+        Ok((label(alloc, self.scope, TextKind::Name, name)?, includes))
+    }
+
+    /// The group that a call of `package_group` declares: F52, F73, F75, F78, F37.
+    #[tactic(auto, unfolding(crate::specs::Groups::group_named))]
+    pub fn group_named(
+        &self,
+        alloc: Global,
+        store: &Store,
+        line: u32,
+        args: Args,
+    ) -> Result<Target, EvalErr>
+        ensures { Gives (λ t. t) Bad result (group_named (place_of self.now) store.now line args) }
+    {
+        let first = names_first(&args);
+        let bound = bind_group(alloc, args)?;
+        let name = text_of(&bound.values, 0)?;
+        let includes = texts_of(alloc, store, &bound.values, 2)?;
+        let (label, includes) = self.group_labels(alloc, first, &name, includes.as_slice())?;
+        Ok(group(alloc, line, label, includes)?)
+    }
+}

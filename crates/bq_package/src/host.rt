@@ -1,0 +1,303 @@
+//! The host of a BUILD file's evaluation.
+
+ghost use Rattle.std.specs.Prelude.{◌≡◌, map, option_map, IfOk};
+ghost use Rattle.bq_source.specs.Gives.{Gives};
+ghost use Rattle.bq_value.specs.declared.error.EvalErr.TheVariants.{Bad};
+ghost use Rattle.bq_label.specs.Label.{package_of};
+ghost use Rattle.bq_machine.specs.State.{State};
+ghost use Rattle.bq_machine.specs.Action.{Does, HostDoes};
+ghost use Rattle.bq_host.specs.Refusals.{KeepsIfRefused};
+ghost use Rattle.bq_value.specs.Datum.{string};
+ghost use Rattle.bq_target.specs.Package.{no_targets};
+ghost use Rattle.bq_target.specs.Calls.{declared, exported};
+ghost use Rattle.bq_package.specs.Place.{place_of};
+ghost use Rattle.bq_package.specs.Calls.{HeldPackage, held_by, place_in, new_strings, package_name, ignored, call_by, meaning};
+ghost use Rattle.bq_package.specs.Keeping.{IsDeclaredIn, Settles, IsSettled, OwnsTarget, OwnsFiles};
+
+use crate::building::{BuildHost, Building};
+use crate::function::{BuildFunction, function_of};
+use crate::place::Place;
+use bq_attributes::Scope;
+use bq_host::Host;
+use bq_label::{Label, PackageId, Packages, Workspace};
+use bq_machine::{Args, Machine, Signature, bind};
+use bq_schema::Schema;
+use bq_source::{Bytes, FaultKind};
+use bq_target::{Declared, PackageState, Target};
+use bq_value::{EvalErr, Value};
+use std::alloc::{AllocError, Global};
+
+/// `()`
+const NO_PARAMETERS: Signature<'static> = Signature {
+    parameters: &[],
+    placed: 0,
+    takes_rest: false,
+    takes_keywords: false,
+};
+
+/// `(*args, **kwargs)`
+const ANY_PARAMETERS: Signature<'static> = Signature {
+    parameters: &[],
+    placed: 0,
+    takes_rest: true,
+    takes_keywords: true,
+};
+
+/// A new list of strings.
+#[tactic(auto, unfolding(crate::specs::Calls::new_strings))]
+fn new_strings(alloc: Global, machine: &mut Machine, texts: Vec<Bytes>) -> Result<Value, EvalErr>
+    ensures { Does (λ v. v) result machine.new (new_strings texts.items machine.old) }
+{
+    let values = strings(alloc, texts)?;
+    machine.new_list(values)
+}
+
+fn strings(alloc: Global, texts: Vec<Bytes>) -> Result<Vec<Value>, AllocError>
+    ensures { IfOk result (λ vs. vs.items ≡ map string texts.items) }
+{
+    let mut values = Vec::with_capacity(alloc, texts.len())?;
+    for text in texts {
+        values.push(Value::string(text))?;
+    }
+    Ok(values)
+}
+
+/// What a call of `package_name` gives.
+#[tactic(auto, unfolding(crate::specs::Calls::package_name))]
+fn package_name(alloc: Global, place: Place<'_>, args: Args) -> Result<Value, EvalErr>
+    ensures { Gives (λ v. v) Bad result (package_name (place_of place.entry) args) }
+{
+    let _none = bind(alloc, &NO_PARAMETERS, args)?;
+    let name = place.scope.own.package().share()?;
+    Ok(Value::string(name))
+}
+
+/// What a call gives that takes any arguments and changes nothing.
+#[tactic(auto, unfolding(crate::specs::Calls::ignored))]
+fn ignored(alloc: Global, args: Args) -> Result<Value, EvalErr>
+    ensures { Gives (λ v. v) Bad result (ignored args) }
+{
+    let _any = bind(alloc, &ANY_PARAMETERS, args)?;
+    Ok(Value::none())
+}
+
+impl<'a> BuildHost<'a> {
+    /// No BUILD file is evaluated: every call is F70.
+    pub fn outside() -> BuildHost<'a>
+        ensures { held_by result ≡ None }
+    {
+        BuildHost { building: None }
+    }
+
+    /// The BUILD file of that label is evaluated.
+    pub fn inside(
+        alloc: Global,
+        workspace: &'a Workspace,
+        packages: &'a Packages,
+        schema: &'a Schema,
+        own: &'a PackageId,
+        build_file: Label,
+    ) -> Result<BuildHost<'a>, AllocError>
+        requires { package_of build_file ≡ own.now }
+        ensures { IfOk result (λ h. held_by h ≡ Some (record { place = record { own = own.now; files = workspace.now; packages = packages.now; rules = schema.now }; «package» = no_targets build_file })) }
+    {
+        let scope = Scope::new(alloc, own, packages)?;
+        Ok(BuildHost {
+            building: Some(Building {
+                place: Place {
+                    workspace,
+                    scope,
+                    schema,
+                },
+                package: PackageState::new(alloc, build_file),
+            }),
+        })
+    }
+
+    /// What the accepted calls have declared, where a BUILD file is evaluated.
+    pub fn into_package(self) -> Option<PackageState>
+        ensures { result ≡ option_map (λ d. d.package) (held_by self.entry) }
+    {
+        let BuildHost { building } = self;
+        match building {
+            None => None,
+            Some(Building { place: _, package }) => Some(package),
+        }
+    }
+
+    /// Where the BUILD file is evaluated, or F70.
+    fn place(&self) -> Result<Place<'a>, EvalErr>
+        ensures { Gives place_of Bad result (place_in (held_by self.now)) }
+    {
+        match &self.building {
+            None => Err(EvalErr::Bad(FaultKind::NotInPackage)),
+            Some(building) => Ok(building.place),
+        }
+    }
+
+    /// Keeps the package that a call leaves. A call that is refused is F74.
+    fn settle(&mut self, place: Place<'a>, declared: Declared) -> Result<Value, EvalErr>
+        requires { IsDeclaredIn place.scope.own.now declared }
+        ensures { Settles result (held_by self.new) (place_of place.entry) declared }
+    {
+        match declared {
+            Declared::Accepted(package) => {
+                self.building = Some(Building { place, package });
+                Ok(Value::none())
+            }
+            Declared::Refused(package) => {
+                self.building = Some(Building { place, package });
+                Err(EvalErr::Bad(FaultKind::DoubleTarget))
+            }
+        }
+    }
+
+    /// Declares a target, and the files that the rule makes.
+    #[tactic(auto, using(crate::proofs::Owning::declared_in, crate::proofs::Owning::target_here, crate::proofs::Settling::declare_settles, crate::proofs::Settling::memory_settles, crate::proofs::Settling::none_settles))]
+    fn declare(&mut self, alloc: Global, target: Target) -> Result<Value, EvalErr>
+        requires { OwnsTarget (held_by self.old) target }
+        ensures { IsSettled result (held_by self.old) (held_by self.new) (λ p. declared p target) }
+    {
+        let Some(building) = self.building.take() else {
+            return Err(EvalErr::Bad(FaultKind::NotInPackage));
+        };
+        let Building { place, package } = building;
+        let declared = package.declare(alloc, target)?;
+        self.settle(place, declared)
+    }
+
+    /// Declares source files.
+    #[tactic(auto, using(crate::proofs::Owning::exported_in, crate::proofs::Owning::files_here, crate::proofs::Settling::export_settles, crate::proofs::Settling::memory_settles, crate::proofs::Settling::none_settles))]
+    fn export(&mut self, alloc: Global, labels: &[Label], line: u32) -> Result<Value, EvalErr>
+        requires { OwnsFiles (held_by self.old) labels.now }
+        ensures { IsSettled result (held_by self.old) (held_by self.new) (λ p. exported p labels.now line) }
+    {
+        let Some(building) = self.building.take() else {
+            return Err(EvalErr::Bad(FaultKind::NotInPackage));
+        };
+        let Building { place, package } = building;
+        let declared = package.export(alloc, labels, line)?;
+        self.settle(place, declared)
+    }
+
+    /// A call of `glob`.
+    #[tactic(auto, using(crate::proofs::Meaning::outside, crate::proofs::Meaning::glob_refused, crate::proofs::Meaning::glob_done))]
+    fn glob(&self, alloc: Global, args: Args, machine: &mut Machine) -> Result<Value, EvalErr>
+        ensures { HostDoes (λ v. v) result machine.new (held_by self.now) (call_by machine.old (held_by self.now) BuildFunction.Glob args) }
+    {
+        let place = self.place()?;
+        let names = place.globbed(alloc, machine.store(), args)?;
+        new_strings(alloc, machine, names)
+    }
+
+    /// A call of `exports_files`.
+    #[tactic(auto, using(crate::proofs::Meaning::outside, crate::proofs::Meaning::files_refused, crate::proofs::Meaning::files_done, crate::proofs::Owning::files_owned))]
+    fn exports_files(
+        &mut self,
+        alloc: Global,
+        args: Args,
+        machine: &Machine,
+    ) -> Result<Value, EvalErr>
+        ensures says { HostDoes (λ v. v) result machine.now (held_by self.new) (call_by machine.now (held_by self.old) BuildFunction.ExportsFiles args) }
+        ensures keeps { KeepsIfRefused result (held_by self.old) (held_by self.new) }
+    {
+        let place = self.place()?;
+        let labels = place.files_named(alloc, machine.store(), args)?;
+        self.export(alloc, labels.as_slice(), machine.line())
+    }
+
+    /// A call of `package_group`.
+    #[tactic(auto, using(crate::proofs::Meaning::outside, crate::proofs::Meaning::group_refused, crate::proofs::Meaning::group_done, crate::proofs::Owning::group_owned))]
+    fn package_group(
+        &mut self,
+        alloc: Global,
+        args: Args,
+        machine: &Machine,
+    ) -> Result<Value, EvalErr>
+        ensures says { HostDoes (λ v. v) result machine.now (held_by self.new) (call_by machine.now (held_by self.old) BuildFunction.PackageGroup args) }
+        ensures keeps { KeepsIfRefused result (held_by self.old) (held_by self.new) }
+    {
+        let place = self.place()?;
+        let target = place.group_named(alloc, machine.store(), machine.line(), args)?;
+        self.declare(alloc, target)
+    }
+
+    /// A call of the rule of this number.
+    #[tactic(auto, using(crate::proofs::Meaning::outside, crate::proofs::Meaning::rule_refused, crate::proofs::Meaning::rule_done, crate::proofs::Owning::rule_owned))]
+    fn rule(
+        &mut self,
+        alloc: Global,
+        rule: u32,
+        args: Args,
+        machine: &Machine,
+    ) -> Result<Value, EvalErr>
+        ensures says { HostDoes (λ v. v) result machine.now (held_by self.new) (call_by machine.now (held_by self.old) (BuildFunction.Rule rule) args) }
+        ensures keeps { KeepsIfRefused result (held_by self.old) (held_by self.new) }
+    {
+        let place = self.place()?;
+        let line = machine.line();
+        let target = place.rule_target(alloc, machine.store(), line, rule as usize, args)?;
+        self.declare(alloc, target)
+    }
+
+    /// A call of `package_name`.
+    #[tactic(auto, using(crate::proofs::Meaning::outside, crate::proofs::Meaning::name_done))]
+    fn name(&self, alloc: Global, args: Args) -> Result<Value, EvalErr>
+        ensures { (s : State) → HostDoes (λ v. v) result s (held_by self.now) (call_by s (held_by self.now) BuildFunction.PackageName args) }
+    {
+        let place = self.place()?;
+        package_name(alloc, place, args)
+    }
+
+    /// A call that takes any arguments and changes nothing.
+    #[tactic(auto, using(crate::proofs::Meaning::outside, crate::proofs::Meaning::package_done, crate::proofs::Meaning::licenses_done))]
+    fn nothing(&self, alloc: Global, args: Args) -> Result<Value, EvalErr>
+        ensures as_package { (s : State) → HostDoes (λ v. v) result s (held_by self.now) (call_by s (held_by self.now) BuildFunction.Package args) }
+        ensures as_licenses { (s : State) → HostDoes (λ v. v) result s (held_by self.now) (call_by s (held_by self.now) BuildFunction.Licenses args) }
+    {
+        let _place = self.place()?;
+        ignored(alloc, args)
+    }
+
+    /// A call of a function.
+    #[tactic(auto, using(crate::proofs::Settling::keeps_same))]
+    fn carry_out(
+        &mut self,
+        alloc: Global,
+        function: BuildFunction,
+        args: Args,
+        machine: &mut Machine,
+    ) -> Result<Value, EvalErr>
+        ensures says { HostDoes (λ v. v) result machine.new (held_by self.new) (call_by machine.old (held_by self.old) function args) }
+        ensures keeps { KeepsIfRefused result (held_by self.old) (held_by self.new) }
+    {
+        match function {
+            BuildFunction::Glob => self.glob(alloc, args, machine),
+            BuildFunction::PackageName => self.name(alloc, args),
+            BuildFunction::Package => self.nothing(alloc, args),
+            BuildFunction::Licenses => self.nothing(alloc, args),
+            BuildFunction::ExportsFiles => self.exports_files(alloc, args, machine),
+            BuildFunction::PackageGroup => self.package_group(alloc, args, machine),
+            BuildFunction::Rule(rule) => self.rule(alloc, rule, args, machine),
+        }
+    }
+}
+
+impl<'a> Host for BuildHost<'a> {
+    ghost Kept = { HeldPackage };
+
+    ghost seen = { held_by };
+
+    ghost means = { meaning };
+
+    #[tactic(auto, using(crate::proofs::Meaning::refuses), unfolding(crate::specs::Calls::meaning))]
+    fn call(
+        &mut self,
+        alloc: Global,
+        id: u32,
+        args: Args,
+        machine: &mut Machine,
+    ) -> Result<Value, EvalErr> {
+        self.carry_out(alloc, function_of(id), args, machine)
+    }
+}

@@ -1,0 +1,33 @@
+//! The calls of build functions and of rules come in, with their arguments as values; what they declare goes out, a package with its
+//! targets.
+//!
+//! The promise: [`BuildHost`] carries out each call as its meaning says (`meaning`, `specs/Calls.antt`), unless memory runs out. A call
+//! that is refused leaves the package as it was. While no BUILD file is evaluated every call is F70.
+//!
+//! In reading order:
+//!
+//! - `place`: the package of a BUILD file that is being evaluated, in its workspace;
+//! - `bound`: what is read of the arguments that parameters take;
+//! - `glob`: calls of `glob`;
+//! - `files`: calls of `exports_files`;
+//! - `groups`: calls of `package_group`;
+//! - `rules`: calls of rules;
+//! - `function`: the build functions by their ids;
+//! - `building`: what a host keeps;
+//! - `host`: the host of a BUILD file's evaluation;
+//! - `laws`: what holds of all calls.
+#![tactic(auto)]
+
+mod bound;
+mod building;
+mod files;
+mod function;
+mod glob;
+mod groups;
+mod host;
+mod laws;
+mod place;
+mod rules;
+
+pub use building::BuildHost;
+pub use laws::{calls_outside_are_refused, what_is_declared_stays};

@@ -1,0 +1,14 @@
+//! A package in its workspace, with the rules that its BUILD file may call.
+
+use bq_attributes::Scope;
+use bq_label::Workspace;
+use bq_schema::Schema;
+
+/// Where a BUILD file is evaluated.
+#[derive(Clone, Copy)]
+pub struct Place<'a> {
+    pub workspace: &'a Workspace,
+    /// The package among the others.
+    pub scope: Scope<'a>,
+    pub schema: &'a Schema,
+}
