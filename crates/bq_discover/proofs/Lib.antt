@@ -1,0 +1,9 @@
+pub mod Lists
+pub mod Exploring
+pub mod Ordered
+pub mod Rows
+pub mod Steps
+pub mod Graphs
+pub mod Inputs
+pub mod OneGraph
+pub mod Files

@@ -1,0 +1,15 @@
+use Rattle.std.proofs.Common.{Bool, false, length, subst, arith}
+use Rattle.bq_discover.specs.Exploring.{AfterReading}
+use Rattle.bq_discover.proofs.Exploring.{ends, too_many}
+use Rattle.bq_discover.proofs.exploration.explore.Goals as goal
+
+pub returns-then-not-branch : goal.returns-then-not-branch
+returns-then-not-branch c =
+    let ls = c.read_next.new.self.found in
+    let ms = c.read_next.new.self.read.items in
+    let n = length c.loop.exploration.read.items in
+    let a : AfterReading false n ls ms = subst (λ (b : Bool). AfterReading b n ls ms) c.if-not-branch.true c.in_ok-read_next.ensures.more in
+    ends c.args.inputs.now ls ms c.in_ok-read_next.ensures.explores (omega (arith, a.0, a.1)) (omega (arith, a.0, c.loop.invariant.read, c.loop-test.true))
+
+pub returns : goal.returns
+returns c = too_many c.args.inputs.now c.loop.exploration.found c.loop.exploration.read.items c.loop.invariant.explores (omega (arith, c.loop.invariant.read, c.loop-test.false))

@@ -1,0 +1,23 @@
+-- Words of the laws.
+use Rattle.std.specs.Prelude.{◌≡◌, List}
+use Rattle.std.specs.List.{Contains}
+use Rattle.bq_label.specs.declared.workspace.File.{File}
+use Rattle.bq_label.specs.Label.{LabelParts}
+use Rattle.bq_label.specs.Packages.{label_path}
+use Rattle.bq_label.specs.Workspace.{IsWorkspace}
+use Rattle.bq_schema.specs.Schema.{Rules}
+use Rattle.bq_front.specs.Inputs.{InputParts}
+use Rattle.bq_discover.specs.Modules.{IsModule, AreTooMany}
+use Rattle.bq_discover.specs.LoadGraph.{GraphParts, IsLoadGraph, inputs_of}
+
+-- two load graphs of one workspace are one
+abbrev pub OneLoadGraph : Type 0
+OneLoadGraph = (inputs : InputParts) (g h : GraphParts) → IsLoadGraph inputs g → IsLoadGraph inputs h → g ≡ h
+
+-- where there are too many modules or edges there is no load graph
+abbrev pub TooManyForALoadGraph : Type 0
+TooManyForALoadGraph = (inputs : InputParts) (g : GraphParts) → AreTooMany inputs → ¬ IsLoadGraph inputs g
+
+-- each module has a file of its label
+abbrev pub ModulesHaveFiles : Type 0
+ModulesHaveFiles = (files : List File) (rules : Rules) (l : LabelParts) → IsWorkspace files → IsModule (inputs_of files rules) l → (f : File) × Contains files f × (f.path ≡ label_path l)

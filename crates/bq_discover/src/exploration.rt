@@ -1,0 +1,89 @@
+//! The modules of a workspace, found along loads.
+
+ghost use Rattle.std.specs.Prelude.{◌≡◌, [], ◌++◌, length, Option, IfOk, OnOk, option_to_list};
+ghost use Rattle.bq_label.specs.Packages.{build_label};
+ghost use Rattle.bq_label_set.specs.Labels.{with_labels};
+ghost use Rattle.bq_discover.specs.Modules.{build_labels};
+ghost use Rattle.bq_discover.specs.Exploring.{Explores, AfterReading, Finds};
+
+use crate::modules::Module;
+use bq_board::MAX_MODULES;
+use bq_front::Inputs;
+use bq_label::{BuildFile, Packages};
+use bq_label_set::LabelSet;
+use std::alloc::{AllocError, Global};
+
+/// The labels of modules that were found, and the modules of the first of them, which are read.
+#[derive(Drop)]
+struct Exploration {
+    found: LabelSet,
+    read: Vec<Module>,
+}
+
+/// Finds the package's BUILD file.
+#[tactic(auto, unfolding(bq_label_set::specs::Labels::with_labels))]
+fn add_build_file(alloc: Global, build: &BuildFile, found: &mut LabelSet) -> Result<(), AllocError>
+    ensures { OnOk result (found.new ≡ with_labels found.old (option_to_list (build_label build.now))) }
+{
+    match build.label(alloc)? {
+        None => Ok(()),
+        Some(label) => {
+            found.add(&label)?;
+            Ok(())
+        }
+    }
+}
+
+/// The labels of the BUILD files.
+#[tactic(auto, unfolding(bq_label_set::specs::Labels::with_labels))]
+fn build_labels(alloc: Global, packages: &Packages) -> Result<LabelSet, AllocError>
+    ensures { IfOk result (λ found. found ≡ with_labels [] (build_labels packages.now)) }
+{
+    let mut found = LabelSet::new(alloc);
+    let all = packages.all();
+    for build in all {
+        add_build_file(alloc, build, &mut found)?;
+    }
+    Ok(found)
+}
+
+impl Exploration {
+    /// The BUILD files are found, and nothing is read.
+    fn new(alloc: Global, inputs: &Inputs<'_>) -> Result<Exploration, AllocError>
+        ensures begins { IfOk result (λ e. Explores inputs.now e.found e.read.items) }
+        ensures unread { IfOk result (λ e. e.read.items ≡ []) }
+    {
+        Ok(Exploration {
+            found: build_labels(alloc, inputs.packages())?,
+            read: Vec::new(alloc),
+        })
+    }
+
+    /// Reads the next module and finds what it loads. It is false where all that was found is read.
+    fn read_next(&mut self, alloc: Global, inputs: &Inputs<'_>) -> Result<bool, AllocError>
+        requires { Explores inputs.now self.old.found self.old.read.items }
+        ensures explores { OnOk result (Explores inputs.now self.new.found self.new.read.items) }
+        ensures more { IfOk result (λ more. AfterReading more (length self.old.read.items) self.new.found self.new.read.items) }
+    {
+        let Some(label) = self.found.get(self.read.len()) else {
+            return Ok(false);
+        };
+        let next = Module::of(alloc, inputs, label)?;
+        self.found.add_all(next.loads())?;
+        self.read.push(next)?;
+        Ok(true)
+    }
+}
+
+/// The modules of a workspace in the order in which they are found; none where there are too many.
+pub(crate) fn explore(alloc: Global, inputs: &Inputs<'_>) -> Result<Option<Vec<Module>>, AllocError>
+    ensures { IfOk result (Finds inputs.now) }
+{
+    let mut exploration = Exploration::new(alloc, inputs)?;
+    for _ in 0..MAX_MODULES + 1 {
+        if !exploration.read_next(alloc, inputs)? {
+            return Ok(Some(exploration.read));
+        }
+    }
+    Ok(None)
+}
