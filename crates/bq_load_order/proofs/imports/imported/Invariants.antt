@@ -1,0 +1,11 @@
+use Rattle.std.proofs.Common.{◌≡◌, drop, map}
+use Rattle.bq_outcome.specs.Outcome.{values}
+use Rattle.bq_load_order.specs.Shown.{slot}
+use Rattle.bq_load_order.specs.Slots.{found_at}
+use Rattle.bq_load_order.proofs.Values.{before}
+use Rattle.bq_load_order.proofs.imports.imported.Given as goal
+
+abbrev pub invariant-loop-l : goal.invariant-loop-l
+invariant-loop-l g l =
+    values (found_at (map (slot g.E.Evaluate.see g.E.Evaluate.see_fault) l.found)) l.loads
+    ≡ before (map (λ a. g.E.Evaluate.see a.value) l.imports.items) (values (found_at (map (slot g.E.Evaluate.see g.E.Evaluate.see_fault) l.found)) (drop l.l-index l.loads))

@@ -1,0 +1,78 @@
+//! The outcomes that are known, in a slot for each module.
+ghost use Rattle.std.specs.Prelude.{◌≡◌, ℕ, ◌<◌, None, length, map, vec_len, get_or, IfOk};
+ghost use Rattle.bq_board.specs.Counts.{Has};
+ghost use Rattle.bq_board.specs.Cycles.{is_cyclic};
+ghost use Rattle.bq_board.specs.Topological.{MarksCycles};
+ghost use Rattle.bq_outcome.specs.Outcome.{first};
+ghost use Rattle.bq_load_order.specs.Shown.{shown, slot};
+ghost use Rattle.bq_load_order.specs.Slots.{Tabulates, or_cyclic};
+
+use crate::evaluate::Evaluate;
+use crate::shared::{Shared, share};
+use bq_board::{Graph, Order};
+use bq_outcome::Outcome;
+use std::alloc::{AllocError, Global};
+
+/// A slot for each of so many modules, without outcomes.
+pub fn empty_slots<V: Drop, F: Drop>(
+    alloc: Global,
+    modules: usize,
+) -> Result<Vec<Option<Shared<V, F>>>, AllocError>
+    ensures { IfOk result (λ v. (vec_len v ≡ modules) × ((m : ℕ) → get_or v.items m None ≡ None)) }
+{
+    let mut slots = Vec::new(alloc);
+    for _ in 0..modules {
+        slots.push(None)?;
+    }
+    Ok(slots)
+}
+
+/// The first of these loads that is cyclic, or 0 where none is. `order` is the graph's topological order.
+pub fn first_cyclic(order: &Order, graph: &Graph, loads: &[u32]) -> u32
+    requires cyclic { MarksCycles graph.now order.now.pending.items }
+    requires known { (l : ℕ) → Has loads.now l → l < length graph.now }
+    ensures { result ≡ first (is_cyclic graph.now) loads.now }
+{
+    for l in loads {
+        if order.pending[*l as usize] > 0 {
+            return *l;
+        }
+    }
+    0
+}
+
+// What was found for a module. A module for which nothing was found counts as cyclic.
+fn settled<E: Evaluate>(
+    graph: &Graph,
+    order: &Order,
+    found: &[Option<Shared<E::Value, E::Fault>>],
+    m: usize,
+) -> Result<Shared<E::Value, E::Fault>, AllocError>
+    requires cyclic { MarksCycles graph.now order.now.pending.items }
+    requires wide { length found.now ≡ length graph.now }
+    requires known { m < length graph.now }
+    ensures { IfOk result (λ o. shown E.see E.see_fault o ≡ or_cyclic graph.now (map (slot E.see E.see_fault) found.now) m) }
+{
+    match &found[m] {
+        Some(outcome) => share::<E>(outcome),
+        None => Ok(Outcome::Cyclic(first_cyclic(order, graph, graph.row(m)))),
+    }
+}
+
+/// What was found, for each module. Modules for which nothing was found count as cyclic.
+pub fn all_settled<E: Evaluate>(
+    alloc: Global,
+    graph: &Graph,
+    order: &Order,
+    found: &[Option<Shared<E::Value, E::Fault>>],
+) -> Result<Vec<Shared<E::Value, E::Fault>>, AllocError>
+    requires cyclic { MarksCycles graph.now order.now.pending.items }
+    requires wide { length found.now ≡ length graph.now }
+    ensures { IfOk result (λ v. Tabulates (length graph.now) (or_cyclic graph.now (map (slot E.see E.see_fault) found.now)) (map (shown E.see E.see_fault) v.items)) }
+{
+    let mut all = Vec::new(alloc);
+    for m in 0..graph.len() {
+        all.push(settled::<E>(graph, order, found, m)?)?;
+    }
+    Ok(all)
+}
