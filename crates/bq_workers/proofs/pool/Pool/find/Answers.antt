@@ -1,0 +1,20 @@
+use Rattle.std.proofs.Common.{◌≡◌, get_or, arith, true, false}
+use Rattle.std.proofs.lemmas.List.{get_or_read}
+use Rattle.bq_board.specs.Cycles.{is_cyclic}
+use Rattle.bq_load_order.specs.Shown.{seen, shown}
+use Rattle.bq_workers.proofs.Finding.{found_cyclic, found_acyclic}
+use Rattle.bq_workers.proofs.pool.Pool.find.Goals as goal
+
+pub returns-then-index-gt0-clause-outcome : goal.returns-then-index-gt0-clause-outcome
+returns-then-index-gt0-clause-outcome g c =
+    let pool = c.args.self.now in
+    let read : c.index.result.now ≡ get_or pool.order.pending.items c.args.m 0 = get_or_read pool.order.pending.items c.args.m c.index.result.now (omega (arith, pool.cyclic.wide, pool.plan.wide, c.requires.known)) c.index.ensures 0 in
+    let is : is_cyclic pool.graph.now c.args.m ≡ true = pool.cyclic.some c.args.m (omega (arith, c.requires.known, pool.plan.wide)) (omega (arith, read, c.if-index-gt0.true)) in
+    found_cyclic (g.E.Evaluate.means pool.evaluator.now) pool.graph.now c.args.m is c.first_cyclic.result c.row-loads.result.now c.first_cyclic.ensures c.row-loads.ensures.row
+
+pub returns-clause-outcome : goal.returns-clause-outcome
+returns-clause-outcome g c =
+    let pool = c.args.self.now in
+    let read : c.index.result.now ≡ get_or pool.order.pending.items c.args.m 0 = get_or_read pool.order.pending.items c.args.m c.index.result.now (omega (arith, pool.cyclic.wide, pool.plan.wide, c.requires.known)) c.index.ensures 0 in
+    let not : is_cyclic pool.graph.now c.args.m ≡ false = pool.cyclic.none c.args.m (omega (arith, c.requires.known, pool.plan.wide)) (omega (arith, read, c.if-index-gt0.false)) in
+    found_acyclic (g.E.Evaluate.means pool.evaluator.now) pool.graph.now c.args.m not pool.board.plan pool.plan (seen g.E.Evaluate.see c.in_ok-imports.imports) c.in_ok-imports.ensures.values (shown g.E.Evaluate.see g.E.Evaluate.see_fault c.in_ok-outcome_by.field-0) c.in_ok-outcome_by.ensures

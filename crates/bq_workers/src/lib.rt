@@ -1,0 +1,27 @@
+//! The outcomes of all modules of a load graph, by several workers.
+//!
+//! In: a load graph, what evaluates a module by the values of what it loads, and a number of workers. Out: the outcome of each module.
+//! The promise: for every number of workers and every order of their steps, they are the outcomes that the recursion along loads defines, as by one thread.
+//!
+//! The workers share a board (bq_board), which gives each module to one of them, once, when all that it loads is there. The parcel along an edge is the loaded
+//! module's value, if it has one. Which module a worker tries next is a matter of lists of candidates, from which idle workers steal; nothing rests on them.
+//! What no worker brought, since one couldn't be started or a list couldn't grow, the calling thread evaluates at the end.
+//!
+//! In reading order: `import` (the parcels), `pool` (the board and its seats), `opening` (how a pool begins),
+//! `find` (the outcome of a module that was won), `bring` (a module from its claim to its end), `candidates` (what to try next),
+//! `work` (what a worker does), `load` (all workers, and what is left).
+#![tactic(auto)]
+
+mod bring;
+mod candidates;
+mod find;
+mod import;
+mod load;
+mod opening;
+mod pool;
+mod work;
+
+pub use import::{Base, Import};
+pub use load::outcomes_by_workers;
+pub use opening::MAX_WORKERS;
+pub use pool::{Evaluated, Pool, PoolSeat, Worked};

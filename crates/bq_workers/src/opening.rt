@@ -1,0 +1,107 @@
+//! How a pool begins, and its seats.
+ghost use Rattle.std.specs.Prelude.{◌≡◌, ◌+◌, ◌<◌, ◌≤◌, length, All, IfOk, vec_len};
+ghost use Rattle.bq_board.specs.Board.{blank};
+ghost use Rattle.bq_board.specs.Seats.{IsSeatOf, base_of, view_of};
+ghost use Rattle.bq_board.specs.Topological.{IsTopologicalOrder};
+
+use crate::import::{Base, Import};
+use crate::pool::{Pool, PoolSeat};
+use bq_board::{Board, Graph, MAX_SEATS, Plan, Seat};
+use bq_load_order::Evaluate;
+use crossbeam_deque::{Stealer, Worker};
+use std::alloc::{AllocError, Global};
+use std::snapshot::Snapshot;
+use std::sync::atomic::{AtomicBool, Ordering};
+
+/// The most workers that may be started.
+pub const MAX_WORKERS: usize = 64;
+
+impl<'a, E: Evaluate> Pool<'a, E> {
+    /// A pool of a graph's modules, none of them begun, and its seats, which have done nothing.
+    pub fn open(
+        alloc: Global,
+        evaluator: &'a E,
+        graph: &'a Graph,
+        seats: usize,
+    ) -> Result<(Pool<'a, E>, Vec<PoolSeat<E>>), AllocError>
+        requires { (0 < seats) × (seats ≤ MAX_SEATS) }
+        ensures of { IfOk result (λ r. (r.0.evaluator.now ≡ evaluator.now) × (r.0.graph.now ≡ graph.now)) }
+        ensures order { IfOk result (λ r. IsTopologicalOrder graph.now r.0.order.modules.items r.0.order.pending.items) }
+        ensures count { IfOk result (λ r. vec_len r.1 ≡ seats) }
+        ensures fresh { IfOk result (λ r. All (λ s. IsSeatOf r.0.board s.place × (view_of s.place ≡ blank (base_of r.0.board) r.0.board.plan)) r.1.items) }
+    {
+        let order = graph.topological_order(alloc)?;
+        let plan = Plan::cut(alloc, graph, &order)?;
+        let base = Base {
+            evaluator: Snapshot::of(evaluator),
+            graph: Snapshot::of(graph),
+        };
+        let (board, places) = Board::open(alloc, plan, seats, &base)?;
+        let stop = AtomicBool::new(false);
+        let seats = seated(alloc, &board, &stop, places)?;
+        let stealers = stealers_of(alloc, seats.as_slice())?;
+        let pool = Pool {
+            evaluator,
+            graph,
+            order,
+            board,
+            stop,
+            stealers,
+        };
+        Ok((pool, seats))
+    }
+}
+
+// The list of seat `i` of `seats`: its share of the modules that load nothing.
+fn list_of(
+    alloc: Global,
+    plan: &Plan,
+    stop: &AtomicBool,
+    i: usize,
+    seats: usize,
+) -> Result<Worker<u32>, AllocError>
+    requires { 0 < seats }
+{
+    let mut list = Worker::new_fifo(alloc, 64)?;
+    for m in 0..plan.modules() {
+        if plan.start(m) != plan.start(m + 1) || m % seats != i {
+            continue;
+        }
+        if list.push(m as u32).is_err() {
+            stop.store(true, Ordering::SeqCst);
+        }
+    }
+    Ok(list)
+}
+
+// Each place with its list.
+fn seated<E: Evaluate>(
+    alloc: Global,
+    board: &Board<Import<E>>,
+    stop: &AtomicBool,
+    mut places: Vec<Seat<Import<E>>>,
+) -> Result<Vec<PoolSeat<E>>, AllocError>
+    requires { All (λ s. IsSeatOf board.now s × (view_of s ≡ blank (base_of board.now) board.now.plan)) places.items }
+    ensures count { IfOk result (λ v. vec_len v ≡ vec_len places) }
+    ensures fresh { IfOk result (λ v. All (λ s. IsSeatOf board.now s.place × (view_of s.place ≡ blank (base_of board.now) board.now.plan)) v.items) }
+{
+    let count = places.len();
+    let mut seats = Vec::new(alloc);
+    for i in 0..count {
+        let place = places.pop().unwrap();
+        let list = list_of(alloc, board.plan(), stop, i, count)?;
+        seats.push(PoolSeat { place, list })?;
+    }
+    Ok(seats)
+}
+
+fn stealers_of<E: Evaluate>(
+    alloc: Global,
+    seats: &[PoolSeat<E>],
+) -> Result<Vec<Stealer<u32>>, AllocError> {
+    let mut stealers = Vec::new(alloc);
+    for seat in seats {
+        stealers.push(seat.list.stealer()?)?;
+    }
+    Ok(stealers)
+}

@@ -1,0 +1,48 @@
+//! The pool: a board of a load graph's modules.
+ghost use Rattle.std.specs.Prelude.{◌≡◌};
+ghost use Rattle.bq_board.specs.Cut.{IsCut};
+ghost use Rattle.bq_board.specs.Seats.{base_of};
+ghost use Rattle.bq_board.specs.Topological.{MarksCycles};
+
+use crate::import::Import;
+use bq_board::{Board, Graph, Order, Seat};
+use bq_load_order::{Evaluate, Shared};
+use crossbeam_deque::{Stealer, Worker};
+use std::sync::atomic::AtomicBool;
+
+/// The modules of a load graph, to be evaluated by several workers.
+#[derive(Drop)]
+pub struct Pool<'a, E: Evaluate> {
+    pub(crate) evaluator: &'a E,
+    pub(crate) graph: &'a Graph,
+    pub(crate) order: Order,
+    pub(crate) board: Board<Import<E>>,
+    /// A worker was refused memory, or a list of candidates: all workers stop.
+    pub(crate) stop: AtomicBool,
+    pub(crate) stealers: Vec<Stealer<u32>>,
+    ghost by: { (base_of board).evaluator.value ≡ evaluator.now },
+    ghost of: { (base_of board).graph.value ≡ graph.now },
+    ghost plan: { IsCut graph.now board.plan },
+    ghost cyclic: { MarksCycles graph.now order.pending.items },
+}
+
+/// The right to work in one pool, and this worker's list of modules to try.
+#[derive(Drop)]
+pub struct PoolSeat<E: Evaluate> {
+    pub(crate) place: Seat<Import<E>>,
+    pub(crate) list: Worker<u32>,
+}
+
+/// A module, and its outcome.
+#[derive(Drop)]
+pub struct Evaluated<V, F> {
+    pub number: u32,
+    pub outcome: Shared<V, F>,
+}
+
+/// What a worker brought, and whether it found all modules finished.
+#[derive(Drop)]
+pub struct Worked<V, F> {
+    pub all: bool,
+    pub modules: Vec<Evaluated<V, F>>,
+}

@@ -1,0 +1,94 @@
+//! What a worker does.
+ghost use Rattle.std.specs.Prelude.{◌≡◌, ℕ, List, length, IfOk, OnOk, IsTrue};
+ghost use Rattle.bq_board.specs.Counts.{Has};
+ghost use Rattle.bq_board.specs.Seats.{IsSeatOf, view_of};
+ghost use Rattle.bq_outcome.specs.Outcome.{outcome};
+ghost use Rattle.bq_workers.specs.Brought.{Brought};
+
+use crate::pool::{Evaluated, Pool, PoolSeat, Worked};
+use bq_load_order::Evaluate;
+use std::alloc::{AllocError, Global};
+use std::sync::Wait;
+use std::sync::atomic::Ordering;
+use std::thread;
+
+impl<'a, E: Evaluate> Pool<'a, E> {
+    /// Evaluates modules that nobody else has, each after all that it loads, until all are finished, or a worker stopped all.
+    /// It returns just the modules that this seat finished in this call, in that order, each with its outcome, and `all` only where this seat found all modules finished.
+    pub fn work<R: Wait>(
+        &self,
+        rt: &R,
+        alloc: Global,
+        seat: &mut PoolSeat<E>,
+    ) -> Result<Worked<E::Value, E::Fault>, AllocError>
+        requires seat { IsSeatOf self.now.board seat.old.place }
+        ensures seat { IsSeatOf self.now.board seat.new.place }
+        ensures brought { IfOk result (λ w. Brought E.see E.see_fault (outcome (E.means self.now.evaluator.now) self.now.graph.now) (length self.now.graph.now) (view_of seat.old.place).finished (view_of seat.new.place).finished w.modules.items) }
+        ensures all { IfOk result (λ w. IsTrue w.all → Has (view_of seat.new.place).counts (length self.now.graph.now)) }
+    {
+        let worked = self.run(rt, alloc, seat);
+        if worked.is_err() {
+            self.stop.store(true, Ordering::SeqCst);
+        }
+        worked
+    }
+
+    // Works until all modules are finished, all workers are to stop, or memory is refused.
+    fn run<R: Wait>(
+        &self,
+        rt: &R,
+        alloc: Global,
+        seat: &mut PoolSeat<E>,
+    ) -> Result<Worked<E::Value, E::Fault>, AllocError>
+        requires seat { IsSeatOf self.now.board seat.old.place }
+        ensures seat { IsSeatOf self.now.board seat.new.place }
+        ensures brought { IfOk result (λ w. Brought E.see E.see_fault (outcome (E.means self.now.evaluator.now) self.now.graph.now) (length self.now.graph.now) (view_of seat.old.place).finished (view_of seat.new.place).finished w.modules.items) }
+        ensures all { IfOk result (λ w. IsTrue w.all → Has (view_of seat.new.place).counts (length self.now.graph.now)) }
+    {
+        let count = self.graph.len() as u64;
+        let mut modules = Vec::new(alloc);
+        for _ in rt.forever() {
+            if self.stop.load(Ordering::SeqCst) {
+                return Ok(Worked {
+                    all: false,
+                    modules,
+                });
+            }
+            let done = self.board.done(&mut seat.place);
+            if done == count {
+                return Ok(Worked { all: true, modules });
+            }
+            self.turn(alloc, seat, &mut modules)?;
+        }
+        unreachable!()
+    }
+
+    // Tries one candidate.
+    fn turn(
+        &self,
+        alloc: Global,
+        seat: &mut PoolSeat<E>,
+        modules: &mut Vec<Evaluated<E::Value, E::Fault>>,
+    ) -> Result<(), AllocError>
+        requires seat { IsSeatOf self.now.board seat.old.place }
+        ensures seat { IsSeatOf self.now.board seat.new.place }
+        ensures brought { (before : List ℕ) → Brought E.see E.see_fault (outcome (E.means self.now.evaluator.now) self.now.graph.now) (length self.now.graph.now) before (view_of seat.old.place).finished modules.old.items → OnOk result (Brought E.see E.see_fault (outcome (E.means self.now.evaluator.now) self.now.graph.now) (length self.now.graph.now) before (view_of seat.new.place).finished modules.new.items) }
+    {
+        let m = match self.next(&mut seat.list) {
+            Some(candidate) => candidate as usize,
+            None => {
+                thread::yield_now();
+                return Ok(());
+            }
+        };
+        if m >= self.board.plan().modules() {
+            return Ok(());
+        }
+        let had = modules.len();
+        self.bring(alloc, &mut seat.place, m, modules)?;
+        if modules.len() > had {
+            self.offer(&mut seat.list, m);
+        }
+        Ok(())
+    }
+}
