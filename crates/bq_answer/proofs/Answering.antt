@@ -1,0 +1,85 @@
+-- What answering a tree ensures, where its parts are answered.
+use Rattle.std.proofs.Common.{◌≡◌, ◌∙◌, ℕ, Bool, List, [], ◌∷◌, ◌++◌, Option, Some, None, Result, Ok, Err, sym, ap, subst}
+use Rattle.std.specs.Prelude.{MatchOption}
+use Rattle.bq_graph.specs.Marks.{IsSet, Marked}
+use Rattle.bq_query.specs.declared.query_error.QueryErr.{QueryErr}
+use Rattle.bq_query_verdict.specs.Verdict.{first_of}
+use Rattle.bq_answer.specs.declared.bindings.Binding.{Binding}
+use Rattle.bq_answer.specs.declared.functions.Binary.{Binary}
+use Rattle.bq_answer.specs.World.{Facts, count_of}
+use Rattle.bq_query.specs.declared.function.Function.{Function}
+use Rattle.bq_answer.specs.Formula.{Formula, Part, binding, call_by}
+use Rattle.bq_answer.specs.Stands.{Environment}
+use Rattle.bq_answer.specs.Functions.{OfTwo, called_with}
+use Rattle.bq_answer.specs.Bindings.{environment}
+use Rattle.bq_answer.specs.Faults.{Has, Answers, fault_in}
+use Rattle.bq_answer.proofs.Calls.{both_fault, has_both}
+use Rattle.bq_answer.proofs.Formulas.{let_stands, bound_more, popped}
+
+-- the formula in other words
+pub reworded : {A : Type 0} (marks : A → List Bool) (w : Facts) (x y : Formula) (env : Environment) (before : List Binding) (result : Result A QueryErr) (after : List Binding) → x ≡ y
+    → Answers marks w y env before result after → Answers marks w x env before result after
+reworded marks w x y env before result after e h = subst (λ (z : Formula). Answers marks w z env before result after) (sym e) h
+
+-- the bindings were kept before
+pub kept_before : {A : Type 0} (marks : A → List Bool) (w : Facts) (x : Formula) (start before : List Binding) (result : Result A QueryErr) (after : List Binding) → before ≡ start
+    → Answers marks w x (environment before) before result after → Answers marks w x (environment start) start result after
+kept_before marks w x start before result after e h = subst (λ (bs : List Binding). Answers marks w x (environment bs) bs result after) e h
+
+-- the first of two sets fails, or the second
+pub first_fails : (w : Facts) (f : Binary) (a b : Formula) (why : QueryErr) → fault_in w a ≡ Some why → fault_in w (called_with f a b) ≡ Some why
+first_fails w f a b why h = both_fault w f a b ∙ ap (λ e. first_of e (fault_in w b)) h
+
+pub second_fails : (w : Facts) (f : Binary) (a b : Formula) (why : QueryErr) → fault_in w a ≡ None → fault_in w b ≡ Some why → fault_in w (called_with f a b) ≡ Some why
+second_fails w f a b why none h = both_fault w f a b ∙ (ap (λ e. first_of e (fault_in w b)) none ∙ h)
+
+-- both have sets
+pub both_answered : (w : Facts) (f : Binary) (a b : Formula) (before middle after : List Binding) (x y r : List Bool) → Has w (environment before) a x × (middle ≡ before)
+    → Has w (environment middle) b y × (after ≡ middle) → IsSet (count_of w) r (OfTwo w f (Marked x) (Marked y)) → Has w (environment before) (called_with f a b) r × (after ≡ before)
+both_answered w f a b before middle after x y r h k t =
+    (has_both w (environment before) f a b x y r h.0 (subst (λ (bs : List Binding). Has w (environment bs) b y) h.1 k.0) t, k.1 ∙ h.1)
+
+-- ---- lets
+
+let_known : {A : Type 0} (marks : A → List Bool) (w : Facts) (name : List ℕ) (a b : Formula) (before : List Binding) (set : List Bool) (result : Result A QueryErr) (after : List Binding)
+    → Has w (environment before) a set → Answers marks w b ((name, set) ∷ environment before) before result after
+    → Answers marks w (binding name a b) (environment before) before result after
+let_known marks w name a b before set (Ok r) after h k = (
+  record {
+    none = ap (λ e. first_of e (fault_in w b)) h.none ∙ k.0.none;
+    stands = let_stands w name a b (environment before) set (marks r) h.stands k.0.stands;
+  },
+  k.1,
+)
+let_known marks w name a b before set (Err why) after h k = λ other. ap (λ e. first_of e (fault_in w b)) h.none ∙ k other
+
+-- something is missing from the value
+pub value_fails : (w : Facts) (name : List ℕ) (a b : Formula) (why : QueryErr) → fault_in w a ≡ Some why → fault_in w (binding name a b) ≡ Some why
+value_fails w name a b why h = ap (λ e. first_of e (fault_in w b)) h
+
+-- the value has a set
+pub let_answered : {A : Type 0} (marks : A → List Bool) (w : Facts) (name : List ℕ) (a b : Formula) (before middle : List Binding) (set : List Bool) (result : Result A QueryErr) (after : List Binding)
+    → Has w (environment before) a set × (middle ≡ before) → Answers marks w b ((name, set) ∷ environment middle) middle result after
+    → Answers marks w (binding name a b) (environment before) before result after
+let_answered marks w name a b before middle set result after h k =
+    let_known marks w name a b before set result after h.0 (subst (λ (bs : List Binding). Answers marks w b ((name, set) ∷ environment bs) bs result after) h.1 k)
+
+-- the set is bound for the body
+pub bound_env : (before more : List Binding) (b : Binding) → more ≡ before ++ b ∷ [] → environment more ≡ (b.name, b.set) ∷ environment before
+bound_env before more b e = ap environment e ∙ bound_more before b
+
+-- ---- calls
+
+pub call_answered : {A : Type 0} (marks : A → List Bool) (w : Facts) (o : Option Function) (f : Function) (xs : List Part) (env : Environment) (before : List Binding) (result : Result A QueryErr)
+    (after : List Binding) → o ≡ Some f → Answers marks w (call_by (Some f) xs) env before result after → Answers marks w (call_by o xs) env before result after
+call_answered marks w o f xs env before result after e h = reworded marks w (call_by o xs) (call_by (Some f) xs) env before result after (ap (λ p. call_by p xs) e) h
+
+not_empty : {X : Type 0} (xs : List X) (y : X) → (xs ++ y ∷ []) ≡ [] → ⊥
+not_empty [] y e = let h : (y ∷ []) ≡ [] = e in cc
+not_empty (x ∷ xs) y e = let h : (x ∷ (xs ++ y ∷ [])) ≡ [] = e in cc
+
+-- the last binding is popped
+pub popped_kept : (before old new : List Binding) (b : Binding) (result : Option Binding) → MatchOption result ((old ≡ []) × (new ≡ [])) (λ last. old ≡ new ++ last ∷ []) → old ≡ before ++ b ∷ []
+    → new ≡ before
+popped_kept before old new b None h e = absurd (not_empty before b (sym e ∙ h.0))
+popped_kept before old new b (Some last) h e = popped before old new b last e h

@@ -1,0 +1,82 @@
+-- The sets of formulas whose parts' sets are known.
+use Rattle.std.proofs.Common.{◌≡◌, ◌∙◌, ℕ, Bool, List, [], ◌∷◌, ◌++◌, map, reverse, Some, None, refl, sym, ap, subst}
+use Rattle.bq_graph.specs.Marks.{IsSet, Marked}
+use Rattle.bq_answer.specs.World.{Facts, count_of}
+use Rattle.bq_answer.specs.Formula.{Formula, binding, combined, Step, chained}
+use Rattle.bq_query.specs.declared.query_error.QueryErr.{QueryErr}
+use Rattle.bq_query_verdict.specs.Verdict.{first_of}
+use Rattle.bq_answer.specs.Stands.{Stands, Environment, Combined}
+use Rattle.std.proofs.lemmas.List.{map-append, reverse-append}
+use Rattle.bq_answer.specs.declared.bindings.Binding.{Binding}
+use Rattle.bq_answer.specs.Bindings.{environment}
+use Rattle.bq_answer.specs.Faults.{fault_in, Has}
+use Rattle.bq_answer.proofs.Same.{set_as, one_list, combined_stands}
+use Rattle.bq_answer.proofs.Firsts.{fault_stays}
+
+-- `let name = a in b`, where `set` is that of `a`
+pub let_stands : (w : Facts) (name : List ℕ) (a b : Formula) (env : Environment) (set r : List Bool) → IsSet (count_of w) set (Stands w a env)
+    → IsSet (count_of w) r (Stands w b ((name, set) ∷ env)) → IsSet (count_of w) r (Stands w (binding name a b) env)
+let_stands w name a b env set r s t =
+    set_as (Stands w b ((name, set) ∷ env)) (Stands w (binding name a b) env) (count_of w) r (λ y h. (set, s, h))
+    (λ y h. subst (λ (xs : List Bool). Stands w b ((name, xs) ∷ env) y) (one_list (Stands w a env) (count_of w) h.0 set h.1 s) h.2) t
+
+-- a part of a chain is done, and has these marks: what is left makes of it what the whole chain says
+pub record SoFar (w : Facts) (env : Environment) (whole : Formula) (left : List Step) (set : List Bool) : Type 0 where
+  pub done : Formula
+  pub goes_on : chained done left ≡ whole
+  pub has : Has w env done set
+
+-- nothing of it
+pub none_done : (w : Facts) (env : Environment) (x : Formula) (steps : List Step) (set : List Bool) → Has w env x set → SoFar w env (chained x steps) steps set
+none_done w env x steps set h = record { done = x; goes_on = refl; has = h }
+
+-- one operation more
+pub one_more : (w : Facts) (env : Environment) (whole : Formula) (o : Step) (left : List Step) (set operand r : List Bool) → SoFar w env whole (o ∷ left) set → fault_in w o.formula ≡ None
+    → IsSet (count_of w) operand (Stands w o.formula env) → IsSet (count_of w) r (Combined o.operator (Marked set) (Marked operand)) → SoFar w env whole left r
+one_more w env whole o left set operand r so_far none s t = record {
+  done = combined o.operator so_far.done o.formula;
+  goes_on = so_far.goes_on;
+  has = record {
+    none = ap (λ f. first_of f (fault_in w o.formula)) so_far.has.none ∙ none;
+    stands = combined_stands (count_of w) (count_of w) set operand r (Stands w so_far.done env) (Stands w o.formula env) so_far.has.stands s o.operator t;
+  };
+}
+
+-- an operand of which something is missing
+pub fails_there : (w : Facts) (env : Environment) (whole : Formula) (o : Step) (left : List Step) (set : List Bool) (why : QueryErr) → SoFar w env whole (o ∷ left) set → fault_in w o.formula ≡ Some why
+    → fault_in w whole ≡ Some why
+fails_there w env whole o left set why so_far h =
+    ap (fault_in w) (sym so_far.goes_on) ∙ fault_stays w (combined o.operator so_far.done o.formula) left why (ap (λ f. first_of f (fault_in w o.formula)) so_far.has.none ∙ h)
+
+-- all of it
+pub all_done : (w : Facts) (env : Environment) (whole : Formula) (set : List Bool) → SoFar w env whole [] set → Has w env whole set
+all_done w env whole set so_far = subst (λ (x : Formula). Has w env x set) so_far.goes_on so_far.has
+
+-- ---- lets
+
+-- one more set is bound
+pub bound_more : (bindings : List Binding) (b : Binding) → environment (bindings ++ b ∷ []) ≡ (b.name, b.set) ∷ environment bindings
+bound_more bindings b =
+    ap reverse (map-append (λ (x : Binding). (x.name, x.set)) bindings (b ∷ [])) ∙ reverse-append (map (λ (x : Binding). (x.name, x.set)) bindings) ((b.name, b.set) ∷ [])
+
+-- the set of what one more is bound for
+pub bound_set : (w : Facts) (x : Formula) (bindings more : List Binding) (b : Binding) (r : List Bool) → more ≡ bindings ++ b ∷ []
+    → IsSet (count_of w) r (Stands w x (environment more)) → IsSet (count_of w) r (Stands w x ((b.name, b.set) ∷ environment bindings))
+bound_set w x bindings more b r e s = subst (λ (env : Environment). IsSet (count_of w) r (Stands w x env)) (ap environment e ∙ bound_more bindings b) s
+
+cons_same : {X : Type 0} (x y : X) (xs ys : List X) → (x ∷ xs) ≡ (y ∷ ys) → (x ≡ y) × (xs ≡ ys)
+cons_same x y xs ys e = (cc, cc)
+
+no_more : {X : Type 0} (bs : List X) (x y b : X) → (x ∷ []) ≡ (b ∷ (bs ++ y ∷ [])) → ⊥
+no_more [] x y b e = let h = (cons_same x b [] (y ∷ []) e).1 in cc
+no_more (c ∷ cs) x y b e = let h = (cons_same x b [] (c ∷ (cs ++ y ∷ [])) e).1 in cc
+
+same_front : {X : Type 0} (before after : List X) (x y : X) → (before ++ x ∷ []) ≡ (after ++ y ∷ []) → before ≡ after
+same_front [] [] x y e = refl
+same_front [] (b ∷ bs) x y e = absurd (no_more bs x y b e)
+same_front (a ∷ rest) [] x y e = absurd (no_more rest y x a (sym e))
+same_front (a ∷ rest) (b ∷ bs) x y e = let h = cons_same a b (rest ++ x ∷ []) (bs ++ y ∷ []) e in ap (λ c. c ∷ rest) h.0 ∙ ap (λ cs. b ∷ cs) (same_front rest bs x y h.1)
+
+-- the last one that is pushed is popped
+pub popped : {X : Type 0} (before pushed after : List X) (x y : X) → pushed ≡ before ++ x ∷ [] → pushed ≡ after ++ y ∷ [] → after ≡ before
+popped before pushed after x y e f = sym (same_front before after x y (sym e ∙ f))

@@ -1,0 +1,9 @@
+pub mod World
+pub mod Formula
+pub mod Stands
+pub mod Functions
+pub mod Bindings
+pub mod Faults
+pub mod Answer
+pub mod Printed
+pub mod Laws

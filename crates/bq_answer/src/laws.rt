@@ -1,0 +1,36 @@
+//! What the definitions of queries say together. The functions do nothing: their contracts are the laws.
+
+ghost use Rattle.std.specs.Prelude.{ℕ, ◌<◌, List, length};
+ghost use Rattle.std.specs.List.{All};
+ghost use Rattle.std.specs.List.Sorted.{IsStrictlyIncreasing};
+ghost use Rattle.bq_target.specs.declared.target.Target.{Target};
+ghost use Rattle.bq_target_sets.specs.Order.{AreInOrder};
+ghost use Rattle.bq_answer.specs.World.{Facts};
+ghost use Rattle.bq_answer.specs.Formula.{Formula};
+ghost use Rattle.bq_answer.specs.Stands.{Environment};
+ghost use Rattle.bq_answer.specs.Laws.{AreOfSets, LieWithin, Keep, IsItself, LabelsAscend};
+
+/// Union, intersection and difference are those of sets.
+pub fn operators_are_of_sets()
+    ensures { (w : Facts) (a b : Formula) (env : Environment) (y : ℕ) → AreOfSets w a b env y }
+{}
+
+/// `deps(x)` holds `x`; `rdeps(u, x)` and `allpaths(u, x)` lie within `deps(u)`; with a number of edges there are no more.
+pub fn dependents_lie_within_dependencies()
+    ensures { (w : Facts) (a b : Formula) (n : ℕ) (env : Environment) (y : ℕ) → LieWithin w a b n env y }
+{}
+
+/// `kind`, `filter` and `attr` keep members of their argument.
+pub fn patterns_keep_members()
+    ensures { (w : Facts) (a : Formula) (name pattern : List ℕ) (env : Environment) (y : ℕ) → Keep w a name pattern env y }
+{}
+
+/// `let v = x in $v` is `x`.
+pub fn a_name_is_its_value()
+    ensures { (w : Facts) (name : List ℕ) (a : Formula) (env : Environment) → IsItself w name a env }
+{}
+
+/// The labels of an answer ascend, none of them twice.
+pub fn labels_ascend()
+    ensures { (targets : List Target) (answer : List ℕ) → AreInOrder targets → IsStrictlyIncreasing answer → All (λ at. at < length targets) answer → LabelsAscend targets answer }
+{}

@@ -1,0 +1,30 @@
+//! A query that was checked, and the targets of a workspace, come in; the targets that the query stands for go out, and their text.
+//!
+//! The promise: [`answer`] gives exactly the targets of the set that the definition of queries says (`specs/Stands.antt`), in the order
+//! of their labels, or the first fault of the words in the order of the text: Q5 or Q6 (`specs/Faults.antt`).
+//!
+//! In reading order:
+//!
+//! - `world`: what a query is answered over;
+//! - `bindings`: the sets that lets bind;
+//! - `number`: numbers of edges;
+//! - `leaves`: the sets of words, and of functions whose arguments are known;
+//! - `functions`: what functions of sets make of them;
+//! - `sets`: the sets of trees;
+//! - `whole`: whole queries;
+//! - `print`: the text of an answer;
+//! - `laws`: what the definitions say together.
+#![tactic(auto)]
+
+mod bindings;
+mod functions;
+pub mod laws;
+mod leaves;
+mod number;
+mod print;
+mod sets;
+mod whole;
+mod world;
+
+pub use print::{OutputForm, print_answer};
+pub use whole::answer;

@@ -1,0 +1,41 @@
+//! Whole queries.
+
+ghost use Rattle.std.specs.Prelude.{◌≡◌, ℕ, ◌<◌, [], length, IfOk};
+ghost use Rattle.std.specs.List.{All};
+ghost use Rattle.std.specs.List.Sorted.{IsStrictlyIncreasing};
+ghost use Rattle.bq_answer.specs.Formula.{formula_of};
+ghost use Rattle.bq_answer.specs.Stands.{Stands};
+ghost use Rattle.bq_answer.specs.Faults.{Meets, fault_in};
+ghost use Rattle.bq_answer.specs.Answer.{facts_of, AreThose};
+
+use crate::sets::set_of;
+use crate::world::World;
+use bq_graph::members;
+use bq_query::QueryErr;
+use bq_query_check::CheckedQuery;
+use bq_schema::Schema;
+use bq_target_graph::TargetGraph;
+use sqlite_items::Items;
+use std::alloc::Global;
+
+/// The targets that the query stands for, by number, in the order of their labels.
+pub fn answer(
+    alloc: Global,
+    graph: &TargetGraph,
+    schema: &Schema,
+    query: &CheckedQuery,
+) -> Result<Vec<usize>, QueryErr>
+    ensures fault { Meets (fault_in (facts_of graph.now schema.now query.now) (formula_of query.now.tree)) result }
+    ensures within { IfOk result (λ v. All (λ at. at < length graph.now.targets) v.items) }
+    ensures ascending { IfOk result (λ v. IsStrictlyIncreasing v.items) }
+    ensures members { IfOk result (λ v. AreThose (Stands (facts_of graph.now schema.now query.now) (formula_of query.now.tree) []) v.items) }
+{
+    let world = World {
+        graph,
+        schema,
+        patterns: &query.patterns,
+    };
+    let mut bindings = Items::new(alloc);
+    let set = set_of(alloc, &world, &mut bindings, &query.tree)?;
+    Ok(members(alloc, &set)?)
+}
