@@ -12,6 +12,8 @@ mod files;
 #[cfg(test)]
 mod format;
 #[cfg(test)]
+mod functions;
+#[cfg(test)]
 mod glob;
 #[cfg(test)]
 mod graph;
@@ -20,13 +22,21 @@ mod label;
 #[cfg(test)]
 mod literals;
 #[cfg(test)]
+mod methods;
+#[cfg(test)]
+mod operators;
+#[cfg(test)]
 mod query;
+#[cfg(test)]
+mod resolve;
 #[cfg(test)]
 mod rows;
 #[cfg(test)]
 mod run;
 #[cfg(test)]
 mod source;
+#[cfg(test)]
+mod string;
 #[cfg(test)]
 mod string_methods;
 #[cfg(test)]
