@@ -41,7 +41,8 @@ fn args_of(
 ) -> Result<Args, EvalErr> {
     let mut args = Args::new(alloc);
     if let Some(name) = name {
-        args.named.push((Bytes::from_slice(alloc, name)?, top(stack)))?;
+        args.named
+            .push((Bytes::from_slice(alloc, name)?, top(stack)))?;
     }
     for _ in 0..count {
         args.positional.push(top(stack))?;
