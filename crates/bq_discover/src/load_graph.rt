@@ -73,4 +73,18 @@ impl LoadGraph {
         let _labels = &self.labels; // for the proof: the invariant
         &self.edges
     }
+
+    /// The modules by their numbers, and the edges.
+    pub fn into_parts(self) -> (Vec<Module>, Graph)
+        ensures modules { result.0.items ≡ self.modules }
+        ensures edges { result.1 ≡ self.edges }
+        ensures valid { IsNumbered self }
+    {
+        let LoadGraph {
+            labels: _,
+            modules,
+            edges,
+        } = self;
+        (modules, edges)
+    }
 }
