@@ -1,0 +1,14 @@
+-- what is in a tree
+pub mod Anything
+-- relations between actions that respect the rules, and then each group of rules
+pub mod Respects
+pub mod TargetRules
+pub mod ComprehensionRules
+pub mod ExpressionRules
+pub mod StatementRules
+pub mod CallRules
+pub mod ModuleRules
+-- the law of depth
+pub mod Depths
+-- the laws of frames
+pub mod Frames

@@ -1,0 +1,14 @@
+//! Laws of the meaning of programs, by the definition of `bq_meaning`.
+//!
+//! In: nothing; the functions do nothing, and their contracts are the laws. The promise: no number of layers is part of what a program
+//! means, a call leaves the frame of the caller as it was, and a function begins with one that holds its parameters alone.
+//!
+//! `specs/Layers.antt` says how many layers a tree has. How the proofs go: `Respects` (`proofs/Respects.antt`) says of a relation
+//! between actions that it holds of what the rules ask for, and of actions made of others where it holds of these; such a relation
+//! holds of each rule, and so of expressions, statements, calls and files (`proofs/*Rules.antt`). A law is one such relation: the law of
+//! depth is that two actions run alike.
+#![tactic(auto)]
+
+mod laws;
+
+pub use laws::{depth_changes_nothing, expressions_bind_nothing, functions_begin_with_parameters};
