@@ -12,3 +12,5 @@ pub mod ModuleRules
 pub mod Depths
 -- the laws of frames
 pub mod Frames
+-- the laws of order
+pub mod InOrder

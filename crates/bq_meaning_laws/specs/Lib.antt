@@ -1,3 +1,4 @@
 pub mod Layers
 pub mod Depth
 pub mod Frames
+pub mod Order

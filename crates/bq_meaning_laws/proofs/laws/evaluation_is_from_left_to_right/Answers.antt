@@ -1,0 +1,26 @@
+use Rattle.bq_meaning_laws.proofs.InOrder.{displays, displays_stop, pairs, operands, compares, indexed, sliced, places}
+use Rattle.bq_meaning_laws.proofs.laws.evaluation_is_from_left_to_right.Goals as goal
+
+pub returns-clause-displays : goal.returns-clause-displays
+returns-clause-displays c k m = displays m
+
+pub returns-clause-stops : goal.returns-clause-stops
+returns-clause-stops c k m = displays_stop m
+
+pub returns-clause-pairs : goal.returns-clause-pairs
+returns-clause-pairs c k m = pairs m
+
+pub returns-clause-operands : goal.returns-clause-operands
+returns-clause-operands c k m = operands m
+
+pub returns-clause-comparisons : goal.returns-clause-comparisons
+returns-clause-comparisons c k m = compares m
+
+pub returns-clause-index : goal.returns-clause-index
+returns-clause-index c k m = indexed m
+
+pub returns-clause-slice : goal.returns-clause-slice
+returns-clause-slice c k m = sliced m
+
+pub returns-clause-places : goal.returns-clause-places
+returns-clause-places c k m = places m
