@@ -1,0 +1,6 @@
+-- sets over graphs with the same pairs
+pub mod SamePairs
+-- lists of numbers in order, with the same members
+pub mod OneList
+-- a workspace and a query have one report
+pub mod OneReport

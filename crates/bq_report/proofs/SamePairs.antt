@@ -1,0 +1,136 @@
+-- What a formula stands for hangs on the pairs of a graph alone, and not on how its rows are written.
+use Rattle.std.proofs.Common.{◌≡◌, ℕ, List, [], ◌∷◌, inl, inr, refl, length}
+use Rattle.std.specs.List.{AllByRecursion}
+use Rattle.bq_graph.specs.Paths.{Pair, IsPath, Deps, DepsWithin, Rdeps, RdepsWithin, OnPaths}
+use Rattle.bq_label.specs.Label.{PackageParts}
+use Rattle.bq_query_check.specs.Patterns.{Table}
+use Rattle.bq_query_tree.specs.declared.tree.Operator.{Operator}
+use Rattle.bq_query_tree.specs.declared.tree.Operator.TheVariants as op
+use Rattle.bq_schema.specs.Schema.{Rules}
+use Rattle.bq_target.specs.declared.target.Target.{Target}
+use Rattle.bq_answer.specs.Faults.{fault_in}
+use Rattle.bq_answer.specs.Formula.{Formula, nothing, named, bound, binding, combined, deps, deps_within, rdeps, rdeps_within, allpaths, chosen, attr}
+use Rattle.bq_answer.specs.Stands.{Stands, Environment, Combined, Chosen}
+use Rattle.bq_answer.specs.World.{Facts}
+use Rattle.bq_answer.specs.declared.leaves.Choice.{Choice}
+use Rattle.bq_answer.specs.declared.leaves.Choice.TheVariants as choice
+use Rattle.bq_answer.proofs.Same.{Within, set_as}
+
+-- the same targets
+abbrev pub Same : (ℕ → Type 0) → (ℕ → Type 0) → Type 0
+Same P Q = Within P Q × Within Q P
+
+turned : (P Q : ℕ → Type 0) → Same P Q → Same Q P
+turned P Q s = (s.1, s.0)
+
+-- every pair of the one graph is a pair of the other
+abbrev pub PairsIn : List (List ℕ) → List (List ℕ) → Type 0
+PairsIn g h = (a b : ℕ) → Pair g a b → Pair h a b
+
+-- ---- paths
+
+module _ (g h : List (List ℕ)) (to : PairsIn g h) where
+  path_in : (x : ℕ) (us : List ℕ) (z : ℕ) → IsPath (Pair g) x us z → IsPath (Pair h) x us z
+  path_in x [] z p = p
+  path_in x (u ∷ us) z p = (to x u p.0, path_in u us z p.1)
+
+  deps_in : (P Q : ℕ → Type 0) → Within P Q → Within (Deps g P) (Deps h Q)
+  deps_in P Q f y e = record { from = e.from; starts = f e.from e.starts; through = e.through; path = path_in e.from e.through y e.path }
+
+  deps_within_in : (n : ℕ) (P Q : ℕ → Type 0) → Within P Q → Within (DepsWithin g P n) (DepsWithin h Q n)
+  deps_within_in n P Q f y e = record { from = e.from; starts = f e.from e.starts; through = e.through; path = path_in e.from e.through y e.path; few = e.few }
+
+  all_in : (U V : ℕ → Type 0) → Within U V → (xs : List ℕ) → AllByRecursion (Deps g U) xs → AllByRecursion (Deps h V) xs
+  all_in U V f [] a = tt
+  all_in U V f (x ∷ xs) a = (deps_in U V f x a.0, all_in U V f xs a.1)
+
+  rdeps_in : (U V X Y : ℕ → Type 0) → Within U V → Within X Y → Within (Rdeps g U X) (Rdeps h V Y)
+  rdeps_in U V X Y f k y e =
+      record { to = e.to; ends = k e.to e.ends; through = e.through; path = path_in y e.through e.to e.path; inside = all_in U V f (y ∷ e.through) e.inside }
+
+  rdeps_within_in : (n : ℕ) (U V X Y : ℕ → Type 0) → Within U V → Within X Y → Within (RdepsWithin g U X n) (RdepsWithin h V Y n)
+  rdeps_within_in n U V X Y f k y e =
+      record { to = e.to; ends = k e.to e.ends; through = e.through; path = path_in y e.through e.to e.path; inside = all_in U V f (y ∷ e.through) e.inside; few = e.few }
+
+  paths_in : (A C B D : ℕ → Type 0) → Within A C → Within B D → Within (OnPaths g A B) (OnPaths h C D)
+  paths_in A C B D f k y e = record { reached = deps_in A C f y e.reached; to = e.to; ends = k e.to e.ends; through = e.through; path = path_in y e.through e.to e.path }
+
+combined_in : (o : Operator) (A C B D : ℕ → Type 0) → Same A C → Same B D → Within (Combined o A B) (Combined o C D)
+combined_in op.Union A C B D f k y e = elim e [ inl a ↦ inl (f.0 y a) | inr b ↦ inr (k.0 y b) ]
+combined_in op.Intersect A C B D f k y e = (f.0 y e.0, k.0 y e.1)
+combined_in op.Except A C B D f k y e = (f.0 y e.0, λ d. e.1 (k.1 y d))
+
+-- ---- worlds that differ in their edges
+
+abbrev pub world : List Target → List PackageParts → Rules → Table → List (List ℕ) → Facts
+world ts ps rules table edges = record { graph = record { targets = ts; packages = ps; edges = edges }; schema = rules; patterns = table }
+
+module _ (ts : List Target) (ps : List PackageParts) (rules : Rules) (table : Table) (g h : List (List ℕ)) where
+  chosen_in : (c : Choice) (word : List ℕ) (P Q : ℕ → Type 0) → Within P Q → Within (Chosen (world ts ps rules table g) c word P) (Chosen (world ts ps rules table h) c word Q)
+  chosen_in choice.Kind word P Q f y e = (f y e.0, e.1)
+  chosen_in choice.Filter word P Q f y e = (f y e.0, e.1)
+  chosen_in choice.Labels word P Q f y e = (e.0, f e.0 e.1, e.2)
+
+  -- what is missing hangs on the targets and packages alone
+  pub same_fault : (x : Formula) → fault_in (world ts ps rules table g) x ≡ fault_in (world ts ps rules table h) x
+  same_fault nothing = refl
+  same_fault (named words) = refl
+  same_fault (bound name) = refl
+  same_fault (binding name a b) = rw (same_fault a, same_fault b) refl
+  same_fault (combined o a b) = rw (same_fault a, same_fault b) refl
+  same_fault (deps a) = same_fault a
+  same_fault (deps_within n a) = same_fault a
+  same_fault (rdeps u a) = rw (same_fault u, same_fault a) refl
+  same_fault (rdeps_within n u a) = rw (same_fault u, same_fault a) refl
+  same_fault (allpaths a b) = rw (same_fault a, same_fault b) refl
+  same_fault (chosen c word a) = same_fault a
+  same_fault (attr name p a) = same_fault a
+
+module _ (ts : List Target) (ps : List PackageParts) (rules : Rules) (table : Table) (g h : List (List ℕ)) (to : PairsIn g h) (from : PairsIn h g) where
+  abbrev left : Formula → Environment → ℕ → Type 0
+  left x env y = Stands (world ts ps rules table g) x env y
+
+  abbrev right : Formula → Environment → ℕ → Type 0
+  right x env y = Stands (world ts ps rules table h) x env y
+
+  pub same_set : (x : Formula) (env : Environment) → Same (left x env) (right x env)
+  same_set nothing env = (λ y e. e, λ y e. e)
+  same_set (named words) env = (λ y e. e, λ y e. e)
+  same_set (bound name) env = (λ y e. e, λ y e. e)
+  same_set (binding name a b) env =
+      let s = same_set a env in (
+        λ y e. (e.0, set_as (left a env) (right a env) (length ts) e.0 s.0 s.1 e.1, (same_set b ((name, e.0) ∷ env)).0 y e.2),
+        λ y e. (e.0, set_as (right a env) (left a env) (length ts) e.0 s.1 s.0 e.1, (same_set b ((name, e.0) ∷ env)).1 y e.2),
+      )
+  same_set (combined o a b) env =
+      let s = same_set a env in
+      let t = same_set b env in (
+        combined_in o (left a env) (right a env) (left b env) (right b env) s t,
+        combined_in o (right a env) (left a env) (right b env) (left b env) (turned (left a env) (right a env) s) (turned (left b env) (right b env) t),
+      )
+  same_set (deps a) env =
+      let s = same_set a env in
+      (deps_in g h to (left a env) (right a env) s.0, deps_in h g from (right a env) (left a env) s.1)
+  same_set (deps_within n a) env =
+      let s = same_set a env in
+      (deps_within_in g h to n (left a env) (right a env) s.0, deps_within_in h g from n (right a env) (left a env) s.1)
+  same_set (rdeps u a) env =
+      let s = same_set u env in
+      let t = same_set a env in
+      (rdeps_in g h to (left u env) (right u env) (left a env) (right a env) s.0 t.0, rdeps_in h g from (right u env) (left u env) (right a env) (left a env) s.1 t.1)
+  same_set (rdeps_within n u a) env =
+      let s = same_set u env in
+      let t = same_set a env in (
+        rdeps_within_in g h to n (left u env) (right u env) (left a env) (right a env) s.0 t.0,
+        rdeps_within_in h g from n (right u env) (left u env) (right a env) (left a env) s.1 t.1,
+      )
+  same_set (allpaths a b) env =
+      let s = same_set a env in
+      let t = same_set b env in
+      (paths_in g h to (left a env) (right a env) (left b env) (right b env) s.0 t.0, paths_in h g from (right a env) (left a env) (right b env) (left b env) s.1 t.1)
+  same_set (chosen c word a) env =
+      let s = same_set a env in
+      (chosen_in ts ps rules table g h c word (left a env) (right a env) s.0, chosen_in ts ps rules table h g c word (right a env) (left a env) s.1)
+  same_set (attr name p a) env =
+      let s = same_set a env in
+      (λ y e. (s.0 y e.0, e.1), λ y e. (s.1 y e.0, e.1))

@@ -1,0 +1,26 @@
+//! A workspace that is loaded and a query come in; the texts of the run, and how it ends once they are written, go out.
+//!
+//! The promise: [`report_on`] gives the definition's texts and ending (`specs/Report.antt`): what the modules printed and then the lines of
+//! all faults in their order, each once; and the lines of the targets that the query stands for, or the first of its words that names
+//! what is not there (Q5, Q6).
+//!
+//! In reading order:
+//!
+//! - `ending`: how a run over a workspace ends;
+//! - `contents`: what is in a workspace that is loaded;
+//! - `reply`: the answer to the query, over the graph of the targets;
+//! - `whole`: the whole report;
+//! - `laws`: there is one.
+#![tactic(auto)]
+
+mod contents;
+mod ending;
+mod laws;
+mod reply;
+mod whole;
+
+pub use contents::Contents;
+pub use ending::{Refusal, Status, refusal_of};
+pub use laws::one_report;
+pub use reply::Question;
+pub use whole::{Report, report_on};

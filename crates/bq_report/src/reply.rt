@@ -1,0 +1,49 @@
+//! The answer to the query, over the graph of the targets.
+
+ghost use Rattle.std.specs.Prelude.{IfOk};
+ghost use Rattle.bq_answer.specs.Formula.{formula_of};
+ghost use Rattle.bq_answer.specs.Answer.{facts_of};
+ghost use Rattle.bq_report.specs.Report.{Replies, reply_view};
+
+use crate::ending::{Refusal, Status, refusal_of};
+use bq_answer::{OutputForm, answer, print_answer};
+use bq_query_check::CheckedQuery;
+use bq_schema::Schema;
+use bq_target_graph::TargetGraph;
+use std::alloc::{AllocError, Global};
+
+/// What is asked of a workspace.
+#[derive(Clone, Copy)]
+pub struct Question<'a> {
+    pub schema: &'a Schema,
+    pub query: &'a CheckedQuery,
+    pub form: OutputForm,
+}
+
+/// The answer's text, and how the run ends.
+#[derive(Drop)]
+pub struct Reply {
+    pub text: Vec<u8>,
+    pub end: Result<Status, Refusal>,
+}
+
+/// The reply to a query. With a status the run ends so.
+pub fn reply_to(
+    alloc: Global,
+    graph: &TargetGraph,
+    question: Question<'_>,
+    status: Status,
+) -> Result<Reply, AllocError>
+    ensures { IfOk result (λ r. Replies (facts_of graph.now question.entry.schema.now question.entry.query.now) (formula_of question.entry.query.now.tree) question.entry.form status (reply_view r)) }
+{
+    match answer(alloc, graph, question.schema, question.query) {
+        Ok(numbers) => Ok(Reply {
+            text: print_answer(alloc, question.form, graph.targets(), &numbers)?,
+            end: Ok(status),
+        }),
+        Err(why) => Ok(Reply {
+            text: Vec::new(alloc),
+            end: Err(refusal_of(why)?),
+        }),
+    }
+}

@@ -1,0 +1,59 @@
+//! The report on a workspace that is loaded.
+
+ghost use Rattle.std.specs.Prelude.{◌≡◌, IfOk};
+ghost use Rattle.bq_target_graph.specs.Order.{PackagesAscend};
+ghost use Rattle.bq_report.specs.Ending.{status_by};
+ghost use Rattle.bq_report.specs.Report.{Reports, inside, report_view};
+
+use crate::contents::Contents;
+use crate::ending::{Refusal, Status};
+use crate::reply::{Question, reply_to};
+use bq_fault_line::FaultLines;
+use bq_target_graph::{TargetGraph, add_dangling};
+use std::alloc::{AllocError, Global};
+
+/// The texts of a run, and how it ends once they are written.
+#[derive(Drop)]
+pub struct Report {
+    /// The lines for the faults writer.
+    pub faults: Vec<u8>,
+    /// The lines for the writer.
+    pub answer: Vec<u8>,
+    pub end: Result<Status, Refusal>,
+}
+
+fn status_by(lines: &FaultLines) -> Status
+    ensures { result ≡ status_by lines.now }
+{
+    if lines.is_empty() {
+        Status::Answered
+    } else {
+        Status::WithFaults
+    }
+}
+
+/// The report on what is in a workspace. A label that names no target is one more fault, F79. Only a lack of memory is an error; Q5 and
+/// Q6 are in the ending.
+pub fn report_on(
+    alloc: Global,
+    contents: Contents,
+    question: Question<'_>,
+) -> Result<Report, AllocError>
+    requires { PackagesAscend contents.packages.items }
+    ensures { IfOk result (λ r. Reports (inside contents) question.entry.schema.now question.entry.query.now question.entry.form (report_view r)) }
+{
+    let Contents {
+        mut prints,
+        mut faults,
+        packages,
+    } = contents;
+    add_dangling(alloc, &packages, &mut faults)?;
+    let graph = TargetGraph::new(alloc, packages)?;
+    let reply = reply_to(alloc, &graph, question, status_by(&faults))?;
+    prints.extend_from_slice(&faults.text(alloc)?)?;
+    Ok(Report {
+        faults: prints,
+        answer: reply.text,
+        end: reply.end,
+    })
+}
