@@ -1,5 +1,5 @@
-//! The program `bq`: words and a bundle on standard input come in; the answer goes to standard output, and the faults
-//! and the error line to standard error. All that it promises is `bq_run::run`'s.
+//! The program `bq`: words, and a bundle on standard input or a directory come in; the answer goes to standard output, and the
+//! faults and the error line to standard error. All that it promises is `bq_run::run`'s, and `bq_run::run_files`' of a directory.
 //!
 //! - `words`: the command line.
 #![tactic(auto)]
@@ -8,16 +8,17 @@ mod words;
 
 ghost use Rattle.bq_run.specs.Run.{IsInRange};
 
+use bq_directory::{DirectoryErr, read_directory};
 use bq_run::{
-    ANSWERED, DEVICE_FAILED, Metered, NO_MEMORY, Options, REFUSED, RunErr, run, status_code,
-    write_status_line,
+    ANSWERED, DEVICE_FAILED, Metered, NO_MEMORY, Options, REFUSED, RunErr, Status, run, run_files,
+    status_code, write_status_line,
 };
 use clap::Error;
 use clap::error::ErrorKind;
 use std::alloc::Global;
 use std::process::ExitCode;
 use std::{env, io};
-use words::options_of;
+use words::{Words, words_of};
 
 /// Writes the error line of a lack of memory, which takes none.
 fn report_no_memory(rt: &impl Eprint) -> u8 {
@@ -47,14 +48,51 @@ fn show<R: Print + Eprint>(rt: &R, error: &Error) -> u8 {
     }
 }
 
-/// Runs on the standard streams.
-fn run_on_streams(rt: &HostRuntime, alloc: Global, options: &Options) -> u8
+/// Why a run over a directory has no answer.
+fn run_err(error: DirectoryErr) -> RunErr {
+    match error {
+        DirectoryErr::Memory => RunErr::Memory,
+        DirectoryErr::Read => RunErr::Read,
+        DirectoryErr::TooManyFiles => RunErr::Bundle,
+    }
+}
+
+/// Runs over the bundle on standard input.
+fn run_on_bundle(rt: &HostRuntime, alloc: Global, options: &Options) -> Result<Status, RunErr>
     requires { IsInRange options.now }
 {
     let mut reader = Metered::new(rt.stdin());
     let mut writer = Metered::new(rt.stdout());
     let mut faults = Metered::new(rt.stderr());
-    let ended = run(rt, alloc, &mut reader, &mut writer, &mut faults, options);
+    run(rt, alloc, &mut reader, &mut writer, &mut faults, options)
+}
+
+/// Runs over the files of a directory.
+fn run_on_directory(
+    rt: &HostRuntime,
+    alloc: Global,
+    directory: &str,
+    options: &Options,
+) -> Result<Status, RunErr>
+    requires { IsInRange options.now }
+{
+    let workspace = match read_directory(rt, directory) {
+        Ok(workspace) => workspace,
+        Err(error) => return Err(run_err(error)),
+    };
+    let mut writer = Metered::new(rt.stdout());
+    let mut faults = Metered::new(rt.stderr());
+    run_files(rt, alloc, &workspace, &mut writer, &mut faults, options)
+}
+
+/// Runs as the words say, and ends with the error line, if there is one.
+fn run_by_words(rt: &HostRuntime, alloc: Global, words: &Words) -> u8
+    requires { IsInRange words.now.options }
+{
+    let ended = match &words.directory {
+        None => run_on_bundle(rt, alloc, &words.options),
+        Some(directory) => run_on_directory(rt, alloc, directory.as_str(), &words.options),
+    };
     let mut errors = Metered::new(rt.stderr());
     let _ = write_status_line(&mut errors, &ended);
     status_code(&ended)
@@ -69,8 +107,8 @@ fn main(rt: HostRuntime) -> ExitCode {
     let Ok(words) = arguments.collect::<Vec<String>>(alloc) else {
         return ExitCode::from(report_no_memory(&rt));
     };
-    match options_of(alloc, &words) {
-        Ok(options) => ExitCode::from(run_on_streams(&rt, alloc, &options)),
+    match words_of(alloc, &words) {
+        Ok(words) => ExitCode::from(run_by_words(&rt, alloc, &words)),
         Err(error) => ExitCode::from(show(&rt, &error)),
     }
 }

@@ -4,12 +4,13 @@ ghost use Rattle.std.specs.Prelude.{IfOk};
 ghost use Rattle.bq_run.specs.Run.{IsInRange};
 
 use bq_run::{Options, Output};
-use clap::{Arg, ArgAction, Command, Error, value_parser};
+use clap::{Arg, ArgAction, ArgMatches, Command, Error, value_parser};
 use std::alloc::{AllocError, Global};
 
 /// What `--help` says after the options.
 const NOTES: &str = "\
 The workspace is read from standard input: for each file a line `=== PATH`, and then its bytes.
+With --dir it is read from a directory instead.
 The answer goes to standard output, one target a line. Faults go to standard error.
 
 Example:
@@ -57,6 +58,14 @@ fn max_steps<'a>(alloc: Global) -> Arg<'a> {
         .default_value("1000000")
 }
 
+fn directory<'a>(alloc: Global) -> Arg<'a> {
+    Arg::new(alloc, "dir")
+        .long("dir")
+        .value_name("DIR")
+        .help("Reads the workspace from this directory")
+        .action(ArgAction::Set)
+}
+
 fn query<'a>(alloc: Global) -> Arg<'a> {
     Arg::new(alloc, "query")
         .value_name("QUERY")
@@ -73,14 +82,21 @@ fn command<'a>(alloc: Global) -> Result<Command<'a>, AllocError> {
         .arg(jobs(alloc))?
         .arg(output(alloc))?
         .arg(max_steps(alloc))?
+        .arg(directory(alloc))?
         .arg(query(alloc))
 }
 
-/// What the words ask for. The error has clap's text, for standard error or, with `--help`, for standard output.
-pub fn options_of(alloc: Global, words: &[String]) -> Result<Options, Error>
+/// What the words ask for.
+#[derive(Debug, Drop)]
+pub struct Words {
+    pub options: Options,
+    /// The directory that holds the workspace; without one it is on standard input.
+    pub directory: Option<String>,
+}
+
+fn options_of(alloc: Global, matches: &ArgMatches) -> Result<Options, AllocError>
     ensures { IfOk result IsInRange }
 {
-    let matches = command(alloc)?.try_get_matches_from(words)?;
     let jobs = matches.get_one::<u32>("jobs").unwrap_or(DEFAULT_JOBS);
     let max_steps = matches.get_one::<u64>("max-steps").unwrap_or(DEFAULT_STEPS);
     let output = match matches.get_str("output") {
@@ -96,5 +112,20 @@ pub fn options_of(alloc: Global, words: &[String]) -> Result<Options, Error>
         jobs: jobs.clamp(1, MAX_JOBS),
         output,
         max_steps: max_steps.clamp(1, MAX_STEPS),
+    })
+}
+
+/// Reads the words. The error has clap's text, for standard error or, with `--help`, for standard output.
+pub fn words_of(alloc: Global, words: &[String]) -> Result<Words, Error>
+    ensures { IfOk result (λ w. IsInRange w.options) }
+{
+    let matches = command(alloc)?.try_get_matches_from(words)?;
+    let directory = match matches.get_str("dir") {
+        Some(directory) => Some(String::from_str(alloc, directory)?),
+        None => None,
+    };
+    Ok(Words {
+        options: options_of(alloc, &matches)?,
+        directory,
     })
 }

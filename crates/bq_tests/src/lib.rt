@@ -6,6 +6,8 @@
 #[cfg(test)]
 mod board;
 #[cfg(test)]
+mod directory;
+#[cfg(test)]
 mod expressions;
 #[cfg(test)]
 mod files;
