@@ -9,11 +9,12 @@
 //!
 //! In reading order: `import` (the parcels), `pool` (the board and its seats), `opening` (how a pool begins),
 //! `find` (the outcome of a module that was won), `bring` (a module from its claim to its end), `candidates` (what to try next),
-//! `work` (what a worker does), `load` (all workers, and what is left).
+//! `work` (what a worker does), `load` (all workers, and what is left), `close` (the end of a pool).
 #![tactic(auto)]
 
 mod bring;
 mod candidates;
+mod close;
 mod find;
 mod import;
 mod load;
