@@ -1,0 +1,15 @@
+//! The tests of whole programs and of packages: what no clause says of them, as values from outside.
+//!
+//! They stand in a crate beside bq_tests, since a crate with tests is proved once more for each change of them.
+#![tactic(auto)]
+
+#[cfg(test)]
+mod chunks;
+#[cfg(test)]
+mod module;
+#[cfg(test)]
+mod package;
+#[cfg(test)]
+mod program;
+#[cfg(test)]
+mod workspace;
