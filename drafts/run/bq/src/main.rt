@@ -1,0 +1,90 @@
+//! The program `bq`: words and a bundle on standard input come in; the answer goes to standard output, and the faults
+//! and the error line to standard error. All that it promises is `bq_run::run`'s.
+//!
+//! - `words`: the command line.
+#![tactic(auto)]
+
+mod words;
+
+ghost use Rattle.bq_run.specs.Run.{IsInRange};
+
+use bq_run::{
+    ANSWERED, DEVICE_FAILED, Metered, NO_MEMORY, Options, REFUSED, RunErr, run, status_code,
+    write_status_line,
+};
+use clap::Error;
+use clap::error::ErrorKind;
+use std::alloc::Global;
+use std::process::ExitCode;
+use std::sync::Wait;
+use std::thread::Threads;
+use std::{env, io};
+use words::options_of;
+
+/// Writes the error line of a lack of memory, which takes none.
+fn report_no_memory(rt: &impl Eprint) -> u8 {
+    let _ = eprintln!(rt; "bq: {}", RunErr::Memory);
+    NO_MEMORY
+}
+
+/// Why the arguments could not be read: they are not UTF-8, or there is no memory for them.
+fn refuse_arguments(rt: &impl Eprint, error: &io::Error) -> u8 {
+    if error.kind() == io::ErrorKind::OutOfMemory {
+        return report_no_memory(rt);
+    }
+    let _ = eprintln!(rt; "error: an argument is no text in UTF-8");
+    REFUSED
+}
+
+/// Prints help on standard output, and why words are refused on standard error.
+fn show<R: Print + Eprint>(rt: &R, error: &Error) -> u8 {
+    if error.kind() == ErrorKind::OutOfMemory {
+        return report_no_memory(rt);
+    }
+    let printed = error.print(rt);
+    match error.kind() {
+        ErrorKind::DisplayHelp if printed.is_err() => DEVICE_FAILED,
+        ErrorKind::DisplayHelp => ANSWERED,
+        _ => REFUSED,
+    }
+}
+
+/// Runs on the standard streams, with threads of that handle.
+fn run_on_streams<T: Threads + Wait + Sync>(
+    rt: &HostRuntime,
+    threads: &T,
+    alloc: Global,
+    options: &Options,
+) -> u8
+    requires { IsInRange options.now }
+{
+    let mut reader = Metered::new(rt.stdin());
+    let mut writer = Metered::new(rt.stdout());
+    let mut faults = Metered::new(rt.stderr());
+    let ended = run(
+        threads,
+        alloc,
+        &mut reader,
+        &mut writer,
+        &mut faults,
+        options,
+    );
+    let mut errors = Metered::new(rt.stderr());
+    let _ = write_status_line(&mut errors, &ended);
+    status_code(&ended)
+}
+
+fn main(rt: HostRuntime) -> ExitCode {
+    let alloc = rt.alloc();
+    let arguments = match env::args(&rt) {
+        Ok(arguments) => arguments,
+        Err(error) => return ExitCode::from(refuse_arguments(&rt, &error)),
+    };
+    let Ok(words) = arguments.collect::<Vec<String>>(alloc) else {
+        return ExitCode::from(report_no_memory(&rt));
+    };
+    match options_of(alloc, &words) {
+        Ok(options) => ExitCode::from(run_on_streams(&rt, &rt, alloc, &options)),
+        Err(error) => ExitCode::from(show(&rt, &error)),
+    }
+}

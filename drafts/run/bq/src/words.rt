@@ -1,0 +1,100 @@
+//! The command line.
+
+ghost use Rattle.std.specs.Prelude.{IfOk};
+ghost use Rattle.bq_run.specs.Run.{IsInRange};
+
+use bq_run::{Options, OutputForm};
+use clap::{Arg, ArgAction, Command, Error, value_parser};
+use std::alloc::{AllocError, Global};
+
+/// What `--help` says after the options.
+const NOTES: &str = "\
+The workspace is read from standard input: for each file a line `=== PATH`, and then its bytes.
+The answer goes to standard output, one target a line. Faults go to standard error.
+
+Example:
+  printf '=== a/BUILD\\nfilegroup(name = \"x\", srcs = [\"s.txt\"])\\n' | bq 'deps(//a:x)'
+
+Exit status:
+  0  the query was answered, and no file has a fault
+  2  the arguments, the bundle, the query or the schema was refused
+  3  the query was answered, and standard error lists faults
+  4  out of memory
+  5  reading the input or writing the output failed";
+
+const MAX_JOBS: u32 = 64;
+
+const DEFAULT_JOBS: u32 = 4;
+
+const MAX_STEPS: u64 = 1_000_000_000;
+
+const DEFAULT_STEPS: u64 = 1_000_000;
+
+fn jobs<'a>(alloc: Global) -> Arg<'a> {
+    Arg::new(alloc, "jobs")
+        .long("jobs")
+        .value_name("N")
+        .help("How many workers load modules, 1 to 64")
+        .value_parser(value_parser!(u32).range(1..=MAX_JOBS as i64))
+        .default_value("4")
+}
+
+fn output<'a>(alloc: Global) -> Arg<'a> {
+    Arg::new(alloc, "output")
+        .long("output")
+        .value_name("FORM")
+        .help("What is printed of a target")
+        .value_parser(["label", "label_kind"].as_slice())
+        .default_value("label")
+}
+
+fn max_steps<'a>(alloc: Global) -> Arg<'a> {
+    Arg::new(alloc, "max-steps")
+        .long("max-steps")
+        .value_name("N")
+        .help("How many steps a module may take, 1 to 1000000000")
+        .value_parser(value_parser!(u64).range(1..=MAX_STEPS as i64))
+        .default_value("1000000")
+}
+
+fn query<'a>(alloc: Global) -> Arg<'a> {
+    Arg::new(alloc, "query")
+        .value_name("QUERY")
+        .help("The query, as //package:name or deps(//...)")
+        .required(true)
+        .action(ArgAction::Set)
+}
+
+/// The command, before it has seen any words.
+fn command<'a>(alloc: Global) -> Result<Command<'a>, AllocError> {
+    Command::new(alloc, "bq")
+        .about("Answers a query over the targets of a workspace of BUILD files")
+        .after_help(NOTES)
+        .arg(jobs(alloc))?
+        .arg(output(alloc))?
+        .arg(max_steps(alloc))?
+        .arg(query(alloc))
+}
+
+/// What the words ask for. The error has clap's text, for standard error or, with `--help`, for standard output.
+pub fn options_of(alloc: Global, words: &[String]) -> Result<Options, Error>
+    ensures { IfOk result IsInRange }
+{
+    let matches = command(alloc)?.try_get_matches_from(words)?;
+    let jobs = matches.get_one::<u32>("jobs").unwrap_or(DEFAULT_JOBS);
+    let max_steps = matches.get_one::<u64>("max-steps").unwrap_or(DEFAULT_STEPS);
+    let output = match matches.get_str("output") {
+        Some("label_kind") => OutputForm::LabelKind,
+        _ => OutputForm::Label,
+    };
+    Ok(Options {
+        query: matches
+            .get_str("query")
+            .unwrap_or("")
+            .as_bytes()
+            .to_vec(alloc)?,
+        jobs: jobs.clamp(1, MAX_JOBS),
+        output,
+        max_steps: max_steps.clamp(1, MAX_STEPS),
+    })
+}

@@ -1,0 +1,61 @@
+//! What a run is asked. None of the corners of the options' ranges changes the answer of a run over a BUILD file of few steps.
+
+ghost use Rattle.std.specs.Prelude.{IfOk};
+ghost use Rattle.bq_run.specs.Run.{IsInRange};
+
+use crate::rows::{Row, Subject, check_rows};
+use crate::run::runs::{UNFAILING, written};
+use bq_run::{Options, OutputForm};
+use std::alloc::{AllocError, Global};
+use std::sync::Wait;
+use std::thread::Threads;
+
+/// A query with these options, or the next that are in range.
+pub fn options(
+    alloc: Global,
+    query: &[u8],
+    output: OutputForm,
+    jobs: u64,
+    max_steps: u64,
+) -> Result<Options, AllocError>
+    ensures { IfOk result IsInRange }
+{
+    Ok(Options {
+        query: query.to_vec(alloc)?,
+        jobs: jobs.clamp(1, 64) as u32,
+        output,
+        max_steps: max_steps.clamp(1, 1_000_000_000),
+    })
+}
+
+/// What is written of `//a:x` with so many workers, and so many steps for a module.
+struct Corners<'a, R> {
+    rt: &'a R,
+}
+
+impl<R: Threads + Wait + Sync> Subject for Corners<'_, R> {
+    fn answer(&self, alloc: Global, _text: &[u8], row: Row) -> Result<Vec<u8>, AllocError> {
+        let asked = options(alloc, b"//a:x", OutputForm::Label, row.number(0), row.number(1))?;
+        let bundle = b"=== a/BUILD\nfilegroup(name = \"x\")\n";
+        written(self.rt, alloc, bundle, &asked, UNFAILING)
+    }
+}
+
+#[test]
+fn answer_alike(rt: HostRuntime) -> Result<(), AllocError> {
+    check_rows(&rt, rt.alloc(), CORNERS, &Corners { rt: &rt })
+}
+
+const CORNERS: &str = r#"
+1 | 4 | >//a:x\n>>0 0
+2 | 4 | >//a:x\n>>0 0
+4 | 1000000 | >//a:x\n>>0 0
+7 | 64 | >//a:x\n>>0 0
+63 | 999999999 | >//a:x\n>>0 0
+64 | 1000000000 | >//a:x\n>>0 0
+64 | 4 | >//a:x\n>>0 0
+1 | 1000000000 | >//a:x\n>>0 0
+# too few steps
+1 | 1 | //a:BUILD:1: F53 StepLimit\n>>bq: Q5 NoSuchTarget //a:x\n>2 0
+64 | 2 | //a:BUILD:1: F53 StepLimit\n>>bq: Q5 NoSuchTarget //a:x\n>2 0
+"#;

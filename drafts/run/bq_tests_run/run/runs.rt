@@ -1,0 +1,322 @@
+//! Whole runs, over devices that give little or fail.
+
+ghost use Rattle.bq_run.specs.Run.{IsInRange};
+
+use crate::rows::{Row, Subject, check_rows};
+use crate::run::devices::{make_drip, make_sip};
+use crate::run::options::options;
+use bq_run::{Counted, Metered, Options, OutputForm, RunErr, Status, run, status_of};
+use std::alloc::{AllocError, Global};
+use std::sync::Wait;
+use std::thread::Threads;
+
+/// The calls at which the devices of a run fail, 0 for none.
+#[derive(Clone, Copy)]
+pub struct Failing {
+    reader: u64,
+    writer: u64,
+    faults_writer: u64,
+    /// A writer fails by taking nothing, without an error.
+    quietly: bool,
+}
+
+pub const UNFAILING: Failing = Failing {
+    reader: 0,
+    writer: 0,
+    faults_writer: 0,
+    quietly: false,
+};
+
+/// What two writers hold, the line that names the error, the status and how many calls failed, as `FAULTS>ANSWER>LINE>STATUS FAILURES`.
+fn shown(
+    alloc: Global,
+    faults: &[u8],
+    answer: &[u8],
+    ended: &Result<Status, RunErr>,
+    failures: u64,
+) -> Result<Vec<u8>, AllocError> {
+    let (status, line) = status_of(alloc, ended)?;
+    let end = format!(in alloc; "{status} {failures}")?;
+    joined(alloc, &[faults, answer, &line, end.as_bytes()])
+}
+
+/// Texts with a `>` between them.
+fn joined(alloc: Global, texts: &[&[u8]]) -> Result<Vec<u8>, AllocError> {
+    let mut whole = Vec::new(alloc);
+    for (n, text) in texts.iter().enumerate() {
+        if n > 0 {
+            whole.push(b'>')?;
+        }
+        whole.extend_from_slice(text)?;
+    }
+    Ok(whole)
+}
+
+/// What a run over devices of one byte a call writes.
+pub fn written<R: Threads + Wait + Sync>(
+    rt: &R,
+    alloc: Global,
+    bundle: &[u8],
+    asked: &Options,
+    failing: Failing,
+) -> Result<Vec<u8>, AllocError>
+    requires { IsInRange asked.now }
+{
+    let mut reader = make_drip(bundle, failing.reader);
+    let mut writer = make_sip(alloc, failing.writer, failing.quietly);
+    let mut faults = make_sip(alloc, failing.faults_writer, failing.quietly);
+    let ended = run(rt, alloc, &mut reader, &mut writer, &mut faults, asked);
+    let failures = reader
+        .failures()
+        .wrapping_add(writer.failures())
+        .wrapping_add(faults.failures());
+    shown(
+        alloc,
+        &faults.device.held,
+        &writer.device.held,
+        &ended,
+        failures,
+    )
+}
+
+/// What a run over a bundle writes of a query.
+struct Runs<'a, R> {
+    rt: &'a R,
+}
+
+fn output_named(word: &[u8]) -> OutputForm {
+    if word.is_empty() {
+        OutputForm::Label
+    } else {
+        OutputForm::LabelKind
+    }
+}
+
+impl<R: Threads + Wait + Sync> Subject for Runs<'_, R> {
+    fn answer(&self, alloc: Global, text: &[u8], row: Row) -> Result<Vec<u8>, AllocError> {
+        let query = row.bytes(alloc, 1)?;
+        let asked = options(alloc, &query, output_named(row.word(2)), 4, 1_000_000)?;
+        written(self.rt, alloc, text, &asked, UNFAILING)
+    }
+}
+
+#[test]
+fn writes_what_is_asked(rt: HostRuntime) -> Result<(), AllocError> {
+    check_rows(&rt, rt.alloc(), RUNS, &Runs { rt: &rt })
+}
+
+/// Two packages, of which one is faulty.
+const BUNDLE: &[u8] =
+    b"=== a/BUILD\nfilegroup(name = \"x\", srcs = [\"s.txt\"])\n=== b/BUILD\nnone()\n";
+
+const FAULTS: &[u8] = b"//b:BUILD:1: F20 UnknownName none\n";
+
+/// What a run over that bundle writes of `//a:x`.
+fn faulty<R: Threads + Wait + Sync>(
+    rt: &R,
+    alloc: Global,
+    failing: Failing,
+) -> Result<Vec<u8>, AllocError> {
+    let asked = options(alloc, b"//a:x", OutputForm::Label, 4, 1_000_000)?;
+    written(rt, alloc, BUNDLE, &asked, failing)
+}
+
+/// What a run over that bundle writes of a query, where one writer fails at this call, quietly or not.
+struct FailingWriters<'a, R> {
+    rt: &'a R,
+}
+
+fn failing_writers(row: Row) -> Failing {
+    Failing {
+        reader: 0,
+        writer: row.number(1),
+        faults_writer: row.number(2),
+        quietly: !row.word(3).is_empty(),
+    }
+}
+
+impl<R: Threads + Wait + Sync> Subject for FailingWriters<'_, R> {
+    fn answer(&self, alloc: Global, text: &[u8], row: Row) -> Result<Vec<u8>, AllocError> {
+        let asked = options(alloc, text, OutputForm::Label, 4, 1_000_000)?;
+        written(self.rt, alloc, BUNDLE, &asked, failing_writers(row))
+    }
+}
+
+/// A failed write of the answer ends the run: the writer holds a beginning of the answer, and the faults are whole.
+/// Where the query names no target, the faults are written and the writer gets nothing.
+#[test]
+fn fails_with_its_writer(rt: HostRuntime) -> Result<(), AllocError> {
+    check_rows(&rt, rt.alloc(), FAILING_WRITERS, &FailingWriters { rt: &rt })
+}
+
+/// What a run writes whose reader fails at the calls from one number to another, where all of them write the same.
+struct FailingReader<'a, R> {
+    rt: &'a R,
+}
+
+fn failing_reader<R: Threads + Wait + Sync>(
+    rt: &R,
+    alloc: Global,
+    reader: u64,
+) -> Result<Vec<u8>, AllocError> {
+    faulty(
+        rt,
+        alloc,
+        Failing {
+            reader,
+            ..UNFAILING
+        },
+    )
+}
+
+impl<R: Threads + Wait + Sync> Subject for FailingReader<'_, R> {
+    fn answer(&self, alloc: Global, _text: &[u8], row: Row) -> Result<Vec<u8>, AllocError> {
+        let found = failing_reader(self.rt, alloc, row.number(0))?;
+        for call in row.number(0)..=row.number(1) {
+            let other = failing_reader(self.rt, alloc, call)?;
+            if found != other {
+                return Ok(other);
+            }
+        }
+        Ok(found)
+    }
+}
+
+/// A failed read ends the run, and nothing is written; the read at the end of the bundle is one too.
+#[test]
+fn fails_with_its_reader(rt: HostRuntime) -> Result<(), AllocError> {
+    check_rows(&rt, rt.alloc(), FAILING_READER, &FailingReader { rt: &rt })
+}
+
+/// At how many calls from the first on the writer of the faults may fail, and holds the faults up to there, and nothing else is written.
+struct FailingFaults<'a, R> {
+    rt: &'a R,
+}
+
+fn fails_at<R: Threads + Wait + Sync>(
+    rt: &R,
+    alloc: Global,
+    faults_writer: u64,
+) -> Result<Vec<u8>, AllocError> {
+    let quietly = faults_writer % 2 == 0;
+    faulty(
+        rt,
+        alloc,
+        Failing {
+            faults_writer,
+            quietly,
+            ..UNFAILING
+        },
+    )
+}
+
+fn is_beginning(found: &[u8], len: usize) -> bool {
+    match (found.split_at_checked(len), FAULTS.split_at_checked(len)) {
+        (Some((held, rest)), Some((begun, _))) => {
+            held == begun && rest == b">>bq: E3 Write\n>5 1".as_slice()
+        }
+        _ => false,
+    }
+}
+
+impl<R: Threads + Wait + Sync> Subject for FailingFaults<'_, R> {
+    fn answer(&self, alloc: Global, _text: &[u8], _row: Row) -> Result<Vec<u8>, AllocError> {
+        for len in 0..FAULTS.len() {
+            let found = fails_at(self.rt, alloc, len as u64 + 1)?;
+            if !is_beginning(&found, len) {
+                return Ok(found);
+            }
+        }
+        b"each".to_vec(alloc)
+    }
+}
+
+/// A failed write of the faults ends the run, and the writer holds nothing.
+#[test]
+fn fails_with_its_faults_writer(rt: HostRuntime) -> Result<(), AllocError> {
+    check_rows(&rt, rt.alloc(), "all calls | each", &FailingFaults { rt: &rt })
+}
+
+/// Over std's own readers and writers. A body that always answers E1 is caught here.
+struct Plain<'a, R> {
+    rt: &'a R,
+}
+
+impl<R: Threads + Wait + Sync> Subject for Plain<'_, R> {
+    fn answer(&self, alloc: Global, text: &[u8], _row: Row) -> Result<Vec<u8>, AllocError> {
+        let asked = options(alloc, text, OutputForm::Label, 4, 1_000_000)?;
+        let mut reader = Metered::new(BUNDLE);
+        let mut writer = Metered::new(Vec::new(alloc));
+        let mut faults = Metered::new(Vec::new(alloc));
+        let ended = run(self.rt, alloc, &mut reader, &mut writer, &mut faults, &asked);
+        shown(alloc, &faults.device, &writer.device, &ended, 0)
+    }
+}
+
+#[test]
+fn runs_over_slices_and_vectors(rt: HostRuntime) -> Result<(), AllocError> {
+    check_rows(&rt, rt.alloc(), PLAIN, &Plain { rt: &rt })
+}
+
+/// A bundle, a query, `kind` where kinds are printed, and what is written. The query is read before the schema.
+const RUNS: &str = r#"
+=== a/BUILD\nfilegroup(name = "x", srcs = ["s.txt"])\n | //a:x | | >//a:x\n>>0 0
+=== a/BUILD\nfilegroup(name = "x", srcs = ["s.txt"])\n | //a:s.txt | kind | >source file //a:s.txt\n>>0 0
+=== a/BUILD\nfilegroup(name = "x", srcs = ["s.txt"])\n | deps(//a:x) | | >//a:s.txt\n//a:x\n>>0 0
+=== a/BUILD\nfilegroup(name = "x", srcs = ["s.txt"])\n | //a:* | | >//a:BUILD\n//a:s.txt\n//a:x\n>>0 0
+=== a/BUILD\ngenrule(name = "g", srcs = ["in"], outs = ["out"], cmd = "cp")\n | deps(//a:out) | kind | >genrule rule //a:g\nsource file //a:in\ngenerated file //a:out\n>>0 0
+=== a/BUILD\nfilegroup(name = "x")\n=== b/BUILD\nnone()\n | //a:x | | //b:BUILD:1: F20 UnknownName none\n>//a:x\n>>3 0
+=== a/BUILD\nfilegroup(name = "x")\nfilegroup(name = "x")\n | //a:x | | //a:BUILD:2: F74 DoubleTarget\n>>bq: Q5 NoSuchTarget //a:x\n>2 0
+=== a/BUILD\nfilegroup(name = "x")\n=== a/BUILD.bazel\nfilegroup(name = "y")\n | //a:* | | >//a:BUILD.bazel\n//a:y\n>>0 0
+=== a/BUILD\nfilegroup(name = "x", srcs = ["//b:none"])\n | deps(//a:x) | | //a:BUILD:1: F79 DanglingLabel //b:none\n>//a:x\n>>3 0
+# zero bytes
+| //... | | >>>0 0
+| //a:x | | >>bq: Q6 NoSuchPackage //a:x\n>2 0
+=== a/BUILD | //a:x | | >>bq: E4 Bundle\n>2 0
+# prints come before faults, and are kept
+=== BUILD\nprint(-7 // 2, -7 % 2, 1 << 62)\nx = 1 << 63\n | //... | | //:BUILD: -4 1 4611686018427387904\n//:BUILD:2: F41 Overflow\n>>>3 0
+=== m.bzl\nl = []\ndef add():\n    l.append(1)\n=== BUILD\nload(":m.bzl", "add")\nfilegroup(name = "x")\nadd()\n | //... | | //:BUILD:3: F47 Frozen\n>>>3 0
+=== p/d.bzl\nprint("once")\nv = 1\n=== p/BUILD\nload(":d.bzl", "v")\n=== q/BUILD\nload("//p:d.bzl", "v")\n | //...:* | | //p:d.bzl: once\n>//p:BUILD\n//q:BUILD\n>>0 0
+=== a.bzl\nload(":b.bzl")\n=== b.bzl\nload(":a.bzl")\n=== BUILD\nload(":a.bzl")\n=== p/BUILD\nfilegroup(name = "x")\n | //... | | //:BUILD:1: F35 CycleReached //:a.bzl\n//:a.bzl:1: F35 CycleReached //:b.bzl\n//:b.bzl:1: F35 CycleReached //:a.bzl\n>//p:x\n>>3 0
+=== external/r/BUILD\nfilegroup(name = "r")\n=== a/BUILD\nfilegroup(name = "x", srcs = ["@r"])\n | deps(//a:x) | | >//a:x\n@r//:r\n>>0 0
+# the schema
+=== rules.schema\nrule a\nattr x float\n | //... | | >>bq: E6 Schema 2\n>2 0
+=== rules.schema\nrule mine\nattr deps label_list\n=== a/BUILD\nmine(name = "x", deps = ["f"])\n | deps(//a:x) | kind | >source file //a:f\nmine rule //a:x\n>>0 0
+=== rules.schema\nattr x int\n | deps( | | >>bq: Q1 Syntax\n>2 0
+# queries without answers
+=== a/BUILD\nfilegroup(name = "x")\n | somepath(//a:x, //a:x) | | >>bq: Q3 LeftOut somepath\n>2 0
+=== a/BUILD\nfilegroup(name = "x")\n | foo(//a:x) | | >>bq: Q2 UnknownFunction foo\n>2 0
+=== a/BUILD\nfilegroup(name = "x")\n | kind("(", //...) | | >>bq: Q4 BadRegex\n>2 0
+=== a/BUILD\nfilegroup(name = "x")\n | $v | | >>bq: Q7 UnboundVariable v\n>2 0
+=== a/BUILD\nfilegroup(name = "x")\n | //a//b:x | | >>bq: Q8 Arguments\n>2 0
+=== a/BUILD\nfilegroup(name = "x")\n=== b/BUILD\nnone()\n | deps(//a:none) | | //b:BUILD:1: F20 UnknownName none\n>>bq: Q5 NoSuchTarget //a:none\n>2 0
+=== a/BUILD\nfilegroup(name = "x")\n | //zz:all | | >>bq: Q6 NoSuchPackage //zz:all\n>2 0
+"#;
+
+/// A query, the call at which the writer fails, the one at which the writer of the faults does, and what is written.
+const FAILING_WRITERS: &str = r#"
+//a:x | 1 | | | //b:BUILD:1: F20 UnknownName none\n>>bq: E3 Write\n>5 1
+//a:x | 2 | | | //b:BUILD:1: F20 UnknownName none\n>/>bq: E3 Write\n>5 1
+//a:x | 3 | | | //b:BUILD:1: F20 UnknownName none\n>//>bq: E3 Write\n>5 1
+//a:x | 4 | | | //b:BUILD:1: F20 UnknownName none\n>//a>bq: E3 Write\n>5 1
+//a:x | 5 | | | //b:BUILD:1: F20 UnknownName none\n>//a:>bq: E3 Write\n>5 1
+//a:x | 6 | | | //b:BUILD:1: F20 UnknownName none\n>//a:x>bq: E3 Write\n>5 1
+//a:x | 1 | | quietly | //b:BUILD:1: F20 UnknownName none\n>>bq: E3 Write\n>5 1
+//a:x | 2 | | quietly | //b:BUILD:1: F20 UnknownName none\n>/>bq: E3 Write\n>5 1
+//a:x | 3 | | quietly | //b:BUILD:1: F20 UnknownName none\n>//>bq: E3 Write\n>5 1
+//a:x | 4 | | quietly | //b:BUILD:1: F20 UnknownName none\n>//a>bq: E3 Write\n>5 1
+//a:x | 5 | | quietly | //b:BUILD:1: F20 UnknownName none\n>//a:>bq: E3 Write\n>5 1
+//a:x | 6 | | quietly | //b:BUILD:1: F20 UnknownName none\n>//a:x>bq: E3 Write\n>5 1
+//a:none | 1 | | | //b:BUILD:1: F20 UnknownName none\n>>bq: Q5 NoSuchTarget //a:none\n>2 0
+//a:none | | 3 | | //>>bq: E3 Write\n>5 1
+"#;
+
+/// The bundle has 71 bytes.
+const FAILING_READER: &str = r#"
+1 | 72 | >>bq: E2 Read\n>5 1
+73 | 73 | //b:BUILD:1: F20 UnknownName none\n>//a:x\n>>3 0
+"#;
+
+const PLAIN: &str = r#"
+//a:x | //b:BUILD:1: F20 UnknownName none\n>//a:x\n>>3 0
+"#;
