@@ -1,2 +1,0 @@
-pub mod Mixing
-pub mod Noting
