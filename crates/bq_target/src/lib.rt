@@ -15,6 +15,7 @@
 //! - `declare`: the calls of rules and of `package_group`;
 //! - `files`: the files that labels name and nothing declares;
 //! - `finish`: exported files, and the package once its BUILD file is evaluated;
+//! - `share`: the same package once more;
 //! - `laws`: what holds of every package.
 #![tactic(auto)]
 
@@ -24,6 +25,7 @@ mod finish;
 mod laws;
 mod names;
 mod package;
+mod share;
 mod state;
 mod target;
 mod value;
