@@ -86,11 +86,11 @@ pub trait Runtime {
     fn put_pair(&mut self, content: &mut Content, key: &Value, value: Value) -> Result<(), EvalErr>
         ensures { Acts means (λ _. content.new) result (seen self.new) (means.put_pair content.old key.now value (seen self.old)) };
 
-    /// The elements of an iterable.
-    fn elements(&mut self, alloc: Global, value: &Value) -> Result<Elements, EvalErr>
-        ensures { Acts means (λ xs. xs) result (seen self.new) (means.elements value.now (seen self.old)) };
+    /// The elements of an iterable that has just so many.
+    fn parts(&mut self, alloc: Global, count: usize, value: &Value) -> Result<Elements, EvalErr>
+        ensures { Acts means (λ xs. xs) result (seen self.new) (means.parts count value.now (seen self.old)) };
 
-    /// The same. A list or dict may not be changed from now on.
+    /// The elements of an iterable. A list or dict may not be changed from now on.
     fn begin_walk(&mut self, alloc: Global, value: &Value) -> Result<Elements, EvalErr>
         ensures { Acts means (λ xs. xs) result (seen self.new) (means.begin_walk value.now (seen self.old)) };
 

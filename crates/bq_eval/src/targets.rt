@@ -70,10 +70,7 @@ fn unpack<R: Runtime>(
 ) -> Result<(), EvalErr>
     ensures { Acts R.means (λ _. (slots_of frame.new, places.new)) result (R.seen runtime.new) (meaning.unpack R.means (meaning.bind_to R.means depth) targets.now value (slots_of frame.old) places.old (R.seen runtime.old)) }
 {
-    let mut elements = runtime.elements(alloc, &value)?;
-    if elements.len() != targets.len() {
-        return Err(EvalErr::Bad(FaultKind::BadValue));
-    }
+    let mut elements = runtime.parts(alloc, targets.len(), &value)?;
     bind_each(alloc, runtime, frame, places, depth, targets, &mut elements)
 }
 

@@ -43,9 +43,9 @@ pub record Primitives (S : Type 0) : Type 0 where
   pub add_pair : Contents → Datum → Datum → Action S Contents
   -- a dict in which the key has this value
   pub put_pair : Contents → Datum → Datum → Action S Contents
-  -- the elements of an iterable (F40)
-  pub elements : Datum → Action S (List Datum)
-  -- the same; a list or dict may not be changed from now on (F48)
+  -- the elements of an iterable that has just so many (F57)
+  pub parts : ℕ → Datum → Action S (List Datum)
+  -- the elements of an iterable (F40); a list or dict may not be changed from now on (F48)
   pub begin_walk : Datum → Action S (List Datum)
   -- it may be changed again
   pub end_walk : Datum → S → S

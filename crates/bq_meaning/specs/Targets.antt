@@ -1,6 +1,6 @@
 -- What is assigned to (Starlark specification, "Assignments"): the operands and indices of a target are evaluated first, from left to
 -- right, and then its parts are bound from left to right.
-use Rattle.std.specs.Prelude.{ℕ, zero, suc, List, [], ◌∷◌, ◌++◌, length, Option, Some, None, ◌==◌, if◌then◌else◌}
+use Rattle.std.specs.Prelude.{ℕ, zero, suc, List, [], ◌∷◌, ◌++◌, length, Option, Some, None}
 use Rattle.bq_source.specs.declared.fault.FaultKind.TheVariants as f
 use Rattle.bq_grammar.specs.declared.tree.Operator.{Operator}
 use Rattle.bq_scope.specs.declared.code.Code.{Code}
@@ -39,9 +39,9 @@ module _ {S : Type 0} (m : Primitives S) where
   bind_each inner (t ∷ ts) (v ∷ vs) env ps = inner t v env ps >>= λ r. bind_each inner ts vs r.0 r.1
   bind_each inner _ _ env ps = pure (env, ps)
 
-  -- Unpacking: an iterable of just as many elements (F40, F57).
+  -- Unpacking: an iterable of just as many elements (F57).
   unfoldable pub unpack : (CodeTarget → Binds) → List CodeTarget → Binds
-  unpack inner ts v env ps = m.elements v >>= λ vs. (if length vs == length ts then bind_each inner ts vs env ps else stop m f.BadValue)
+  unpack inner ts v env ps = m.parts (length ts) v >>= λ vs. bind_each inner ts vs env ps
 
   abbrev pub bind_by : (CodeTarget → Binds) → TargetLayer → Binds
   bind_by inner (CodeTarget-F.Local slot) v env ps = pure (fill env slot v, ps)

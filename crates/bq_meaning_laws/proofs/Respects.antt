@@ -37,7 +37,7 @@ pub record Respects {S : Type 0} (m : Primitives S) (K : Relation S) : Type 1 wh
   pub of_add : (c : Contents) (v : Datum) → K Contents (m.add c v) (m.add c v)
   pub of_add_pair : (c : Contents) (k v : Datum) → K Contents (m.add_pair c k v) (m.add_pair c k v)
   pub of_put_pair : (c : Contents) (k v : Datum) → K Contents (m.put_pair c k v) (m.put_pair c k v)
-  pub of_elements : (v : Datum) → K (List Datum) (m.elements v) (m.elements v)
+  pub of_parts : (count : ℕ) (v : Datum) → K (List Datum) (m.parts count v) (m.parts count v)
   pub of_begin_walk : (v : Datum) → K (List Datum) (m.begin_walk v) (m.begin_walk v)
   pub of_end_walk : (v : Datum) → K (Unit {0}) (change m (m.end_walk v)) (change m (m.end_walk v))
   pub of_pass : (p : Passed) (v : Datum) → K Passed (m.pass p v) (m.pass p v)

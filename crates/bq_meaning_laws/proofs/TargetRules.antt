@@ -1,6 +1,5 @@
 -- A relation that respects the rules holds of what targets do.
-use Rattle.std.proofs.Common.{ℕ, zero, suc, List, [], ◌∷◌, ◌++◌, Bool, true, false, length, ◌==◌, Option, Some, None, ◌≤◌, not-suc-le-zero, le_of_suc-le-suc}
-use Rattle.std.specs.Prelude.{if◌then◌else◌}
+use Rattle.std.proofs.Common.{ℕ, zero, suc, List, [], ◌∷◌, ◌++◌, length, Option, Some, None, ◌≤◌, not-suc-le-zero, le_of_suc-le-suc}
 use Rattle.std.specs.List.{AllByRecursion}
 use Rattle.bq_source.specs.declared.fault.FaultKind.TheVariants as f
 use Rattle.bq_grammar.specs.declared.tree.Operator.{Operator}
@@ -19,10 +18,6 @@ use Rattle.bq_meaning_laws.proofs.Anything.{Holds, target}
 use Rattle.bq_meaning_laws.proofs.Respects.{Relation, Respects}
 
 module _ {S : Type 0} (m : Primitives S) (K : Relation S) (R : Respects m K) where
-  if_rule : (A : Type 0) (b : Bool) (a c d e : Action S A) → K A a c → K A d e → K A (if b then a else d) (if b then c else e)
-  if_rule A true a c d e h k = h
-  if_rule A false a c d e h k = k
-
   pub bound_rule : (o : Option Datum) → K Datum (bound m o) (bound m o)
   unfolding bound
   bound_rule None = R.of_stop Datum f.Unbound
@@ -45,9 +40,7 @@ module _ {S : Type 0} (m : Primitives S) (K : Relation S) (R : Respects m K) whe
 
     unpack_rule : (ts : List CodeTarget) (v : Datum) (env : Frame) (ps : Places) → AllByRecursion P ts → K (Frame × Places) (unpack m inner ts v env ps) (unpack m other ts v env ps)
     unfolding unpack
-    unpack_rule ts v env ps all =
-        R.of_both _ _ _ _ _ _ (R.of_elements v)
-        (λ vs. if_rule (Frame × Places) (length vs == length ts) _ _ _ _ (bind_each_rule ts vs env ps all) (R.of_stop (Frame × Places) f.BadValue))
+    unpack_rule ts v env ps all = R.of_both _ _ _ _ _ _ (R.of_parts (length ts) v) (λ vs. bind_each_rule ts vs env ps all)
 
     bind_by_rule : (o : TargetLayer) (v : Datum) (env : Frame) (ps : Places) → TargetParts P o → K (Frame × Places) (bind_by m inner o v env ps) (bind_by m other o v env ps)
     bind_by_rule (CodeTarget-F.Local slot) v env ps all = R.of_value (Frame × Places) (fill env slot v, ps)

@@ -26,9 +26,9 @@ use Rattle.bq_module_laws.specs.Files.{HostTakes}
 use Rattle.bq_step_laws.specs.Steps.{machine, hosted, Begins, leaving, printed, IsCutShort, Leaves, Takes}
 use Rattle.bq_step_laws.proofs.Owning.{begins_itself, at_no_cost, at_state, followed}
 use Rattle.bq_step_laws.specs.Laws.{Own}
-use Rattle.bq_step_laws.proofs.Machine.{stop_owns, step_owns, enter_owns, leave_owns, new_owns, elements_owns, begin_owns, end_owns, line_owns}
+use Rattle.bq_step_laws.proofs.Machine.{stop_owns, step_owns, enter_owns, leave_owns, new_owns, begin_owns, end_owns, line_owns}
 use Rattle.bq_step_laws.proofs.Operators.{binary_owns, unary_owns, compare_owns, index_owns, slice_owns, augment_owns, set_index_owns}
-use Rattle.bq_module_laws.proofs.Making.{add_owns, put_pair_owns, add_pair_owns, pass_owns, pass_named_owns, pass_all_owns, pass_all_named_owns}
+use Rattle.bq_module_laws.proofs.Making.{add_owns, put_pair_owns, add_pair_owns, pass_owns, pass_named_owns, pass_all_owns, pass_all_named_owns, parts_owns}
 use Rattle.bq_step_laws.proofs.Collections.{method_owns}
 use Rattle.bq_step_laws.proofs.Functions.{function_owns}
 
@@ -102,7 +102,7 @@ module _ {W : Type 0} (names : List Name) (host : HostCalls W) (hosts : HostTake
     of_add = λ c v. lifted _ _ (add_owns c v);
     of_add_pair = λ c k v. lifted _ _ (add_pair_owns c k v);
     of_put_pair = λ c k v. lifted _ _ (put_pair_owns c k v);
-    of_elements = λ v. lifted (List Datum) _ (elements_owns v);
+    of_parts = λ count v. lifted (List Datum) _ (parts_owns count v);
     of_begin_walk = λ v. lifted (List Datum) _ (begin_owns v);
     of_end_walk = λ v. lifted (Unit {0}) _ (end_owns v);
     of_pass = λ q v. lifted Passed _ (pass_owns q v);

@@ -4,11 +4,12 @@ use Rattle.bq_value.specs.Contents.{Contents}
 use Rattle.bq_value.specs.Datum.{Datum}
 use Rattle.bq_machine.specs.Action.{◌>>=◌, given, look}
 use Rattle.bq_machine.specs.Args.{Passed}
-use Rattle.bq_machine.specs.Iteration.{elements}
+use Rattle.bq_machine.specs.Iteration.{elements, elements_in}
 use Rattle.bq_machine.specs.Machine.{key}
 use Rattle.bq_operate.specs.Operand.{and_then, dict_in}
 use Rattle.bq_runtime.specs.Making.{with_element, with_pair, with_new_pair, add, put_pair, add_pair}
 use Rattle.bq_runtime.specs.Passing.{if_few, with_positional, with_named, with_pairs, pass, pass_named, pass_all, pass_all_named}
+use Rattle.bq_runtime.specs.Unpacking.{just, parts}
 use Rattle.bq_step_laws.specs.Laws.{Own}
 use Rattle.bq_step_laws.proofs.Machine.{given_owns, bind_owns, look_owns, elements_owns}
 use Rattle.bq_step_laws.proofs.Operators.{key_owns}
@@ -41,3 +42,7 @@ pub pass_all_named_owns : (p : Passed) (v : Datum) → Own (pass_all_named p v)
 unfolding pass_all_named
 pass_all_named_owns p v =
     bind_owns (look (λ s. dict_in s.store v)) (λ ps. given (and_then (with_pairs p ps) if_few)) (look_owns (λ s. dict_in s v)) (λ ps. given_owns (and_then (with_pairs p ps) if_few))
+
+pub parts_owns : (count : ℕ) (v : Datum) → Own (parts count v)
+unfolding parts
+parts_owns count v = look_owns (λ s. just count (elements_in s v))

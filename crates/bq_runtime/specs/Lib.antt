@@ -1,4 +1,5 @@
 pub mod Making
 pub mod Passing
+pub mod Unpacking
 pub mod Calling
 pub mod Runtime

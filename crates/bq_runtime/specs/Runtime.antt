@@ -16,6 +16,7 @@ use Rattle.bq_meaning.specs.Primitives.{Primitives}
 use Rattle.bq_host.specs.BuiltIns.{predeclared_value}
 use Rattle.bq_runtime.specs.Making as making
 use Rattle.bq_runtime.specs.Passing as passing
+use Rattle.bq_runtime.specs.Unpacking as unpacking
 use Rattle.bq_runtime.specs.Calling.{HostCalls, call_built_in}
 
 -- a change of the machine, which leaves alone what a host keeps
@@ -41,7 +42,7 @@ primitives rules host = record {
   add = λ content v. on_machine (making.add content v);
   add_pair = λ content k v. on_machine (making.add_pair content k v);
   put_pair = λ content k v. on_machine (making.put_pair content k v);
-  elements = λ v. on_machine (iteration.elements v);
+  parts = λ count v. on_machine (unpacking.parts count v);
   begin_walk = λ v. on_machine (iteration.begin_walk v);
   end_walk = λ v. of_machine (iteration.end_walk v);
   pass = λ args v. on_machine (passing.pass args v);

@@ -6,6 +6,7 @@ ghost use Rattle.bq_runtime.specs.Runtime.{primitives};
 
 use crate::making::{with_element, with_new_pair, with_pair};
 use crate::passing;
+use crate::unpacking::parts_of;
 use bq_eval::Runtime;
 use bq_grammar::{Comparison, Operator, UnaryOperator};
 use bq_host::{BuiltIns, Host};
@@ -178,8 +179,8 @@ impl<'a, H: Host, K: RuleNames> Runtime for Evaluation<'a, H, K> {
     }
 
     #[tactic(auto, using(crate::proofs::Lifting::lifted), unfolding(crate::specs::Runtime::primitives))]
-    fn elements(&mut self, alloc: Global, value: &Value) -> Result<Elements, EvalErr> {
-        self.machine.elements(alloc, value)
+    fn parts(&mut self, alloc: Global, count: usize, value: &Value) -> Result<Elements, EvalErr> {
+        parts_of(&self.machine, alloc, count, value)
     }
 
     #[tactic(auto, using(crate::proofs::Lifting::lifted), unfolding(crate::specs::Runtime::primitives))]

@@ -8,11 +8,13 @@
 //!
 //! - `making`: lists and dicts that are being made;
 //! - `passing`: the arguments of a call, one after another;
+//! - `unpacking`: the elements that so many targets take;
 //! - `evaluation`: the operations.
 #![tactic(auto)]
 
 mod evaluation;
 mod making;
 mod passing;
+mod unpacking;
 
 pub use evaluation::{Evaluation, RuleNames};

@@ -75,6 +75,12 @@ x = [y for y in "ab"] #! F40 Type
 ---
 x = [1 for a, b in [(1, 2, 3)]] #! F57 BadValue
 ---
+x = [1 for a, b in [3]] #! F57 BadValue
+---
+x = {a: c for a, (b, c) in {"k": "bc"}.items()} #! F57 BadValue
+---
+print([a + b for a, b in [range(2), {3: 4, 5: 6}]]) #> [1, 8]
+---
 x = {[]: 1 for y in [1]} #! F45 Unhashable
 ---
 x = [1 // y for y in [1, 0]] #! F42 DivZero

@@ -203,6 +203,12 @@ def f():
 f() #! F57 BadValue
 ---
 def f():
+    for a, b in [(1, 2), 3]:
+        print(a, b)
+#> 1 2
+f() #! F57 BadValue
+---
+def f():
     pass; pass
     x = 1; y = 2; return x + y
 print(f()) #> 3
@@ -310,6 +316,31 @@ l[0], x = [1] #! F57 BadValue
 a, b = 1, 2, 3 #! F57 BadValue
 ---
 (a,) = () #! F57 BadValue
+---
+[a, b] = {"k": 1} #! F57 BadValue
+---
+a, b = range(3) #! F57 BadValue
+---
+a, (b, c) = 1, [2, 3, 4] #! F57 BadValue
+---
+a, b = {"k": 1, "l": 2}
+(c, d), [e, (f,)] = range(2), ([3], (5,))
+print(a, b, c, d, e, f) #> k l 0 1 [3] 5
+---
+# As many as none: a value that is no iterable.
+a, b = 1 #! F57 BadValue
+---
+a, b = "ab" #! F57 BadValue
+---
+(a,) = None #! F57 BadValue
+---
+a, [b] = 1, len #! F57 BadValue
+---
+# It is found when the parts are bound, after those of the targets were evaluated.
+l = [0]
+#> value
+#> index
+l[print("index") or 0], (a, b) = print("value") or (1, 2) #! F57 BadValue
 ---
 # Nothing is bound where the number is wrong.
 l = [0]
