@@ -1,2 +1,2 @@
 -- built-in functions and their names
-mod Named
+pub mod Named

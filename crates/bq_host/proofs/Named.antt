@@ -1,5 +1,5 @@
 -- A built-in function is called by the name that it prints as.
-use Rattle.std.proofs.Common.{◌≡◌, ◌<◌, ◌+◌, ◌-◌, ℕ, zero, suc, true, List, Option, Some, None, refl, ◌∙◌, ap, length, slice_get, nat_lt, arith}
+use Rattle.std.proofs.Common.{◌≡◌, ◌<◌, ◌+◌, ◌-◌, ℕ, zero, suc, true, List, Option, Some, None, refl, ◌∙◌, ap, sym, length, slice_get, nat_lt, arith}
 use Rattle.std.proofs.lemmas.Option.{slice_get_within}
 use Rattle.bq_predeclared.specs.declared.predeclared.Predeclared.{Predeclared}
 use Rattle.bq_predeclared.specs.declared.predeclared.Predeclared.TheVariants as p
@@ -18,6 +18,11 @@ function_name (Some own) name h = cc
 named : (rules : List Name) (x : Predeclared) (name : Name) → EachNameIsFound → function_of (name_of x) ≡ built_in name → function_named rules name ≡ Some x
 unfolding function_named
 named rules x name each h = ap (in_build rules name) (each x name (function_name (name_of x) name h))
+
+-- what has the name is what is called by it
+pub found_name : (rules : List Name) (x : Predeclared) (name : Name) → EachNameIsFound → name_of x ≡ Some name → Some x ≡ function_named rules name
+unfolding function_named
+found_name rules x name each is = sym (ap (in_build rules name) (each x name is))
 
 past_build : (id : ℕ) → slice_get build_functions id ≡ None → 6 + (id - 6) ≡ id
 past_build zero h = cc

@@ -5,6 +5,7 @@ ghost use Rattle.bq_predeclared.specs.Predeclared.{name_of};
 ghost use Rattle.bq_scope.specs.Names.{with_each, with_name};
 ghost use Rattle.bq_host.specs.BuiltIns.{host_name, function_of, predeclared_value, function_named};
 
+use crate::found::found;
 use bq_grammar::FileKind;
 use bq_predeclared::Predeclared;
 use bq_scope::{Names, Universe};
@@ -96,8 +97,20 @@ impl BuiltIns {
     }
 
     /// The built-in function of that name.
-    #[tactic(auto, unfolding(crate::specs::BuiltIns::function_named, bq_scope::specs::Universe::universe_has))]
+    #[tactic(auto, using(crate::proofs::Named::found_name))]
     pub fn function(&self, name: &Bytes) -> Result<Option<Predeclared>, AllocError>
+        ensures { IfOk result (λ function. function ≡ function_named self.now name.now) }
+    {
+        bq_predeclared::each_name_is_found(); // for the proof: so no other function has the name
+        match found(name.as_slice()) {
+            Some(function) => Ok(Some(function)),
+            None => self.looked_up(name),
+        }
+    }
+
+    /// The same, by a walk along all names.
+    #[tactic(auto, unfolding(crate::specs::BuiltIns::function_named, bq_scope::specs::Universe::universe_has))]
+    fn looked_up(&self, name: &Bytes) -> Result<Option<Predeclared>, AllocError>
         ensures { IfOk result (λ function. function ≡ function_named self.now name.now) }
     {
         self.universe.has(name)

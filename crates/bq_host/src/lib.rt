@@ -9,11 +9,13 @@
 //! In reading order:
 //!
 //! - `host`: what carries out the functions;
+//! - `found`: predeclared names that are found at once;
 //! - `built_ins`: the values of predeclared names, and which function a name calls;
 //! - `laws`: what holds of built-in functions.
 #![tactic(auto)]
 
 mod built_ins;
+mod found;
 mod host;
 mod laws;
 
