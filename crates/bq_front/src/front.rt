@@ -50,7 +50,7 @@ fn labels_of(
 
 /// The kind of the file of this label: a .bzl file where its name ends so, a BUILD file otherwise.
 #[tactic(auto, unfolding(crate::specs::Front::kind_of))]
-fn kind_of(label: &Label) -> FileKind
+pub fn kind_of(label: &Label) -> FileKind
     ensures { result ≡ kind_of label.now }
 {
     if label.name().as_slice().ends_with(b".bzl") {

@@ -18,6 +18,6 @@ mod inputs;
 mod laws;
 
 pub use code::code_of;
-pub use front::{Front, front_of};
+pub use front::{Front, front_of, kind_of};
 pub use inputs::Inputs;
 pub use laws::{codes_of_files, faults_of_files, loaded_files, loads_of_files};
