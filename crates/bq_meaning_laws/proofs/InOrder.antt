@@ -13,17 +13,17 @@ use Rattle.bq_machine.specs.State.{Stop}
 use Rattle.bq_meaning.specs.Frame.{Frame}
 use Rattle.bq_meaning.specs.Primitives.{Primitives}
 use Rattle.bq_meaning.specs.Targets.{place}
-use Rattle.bq_meaning.specs.Comprehensions.{for_clause}
-use Rattle.bq_meaning.specs.Expressions.{values, list_display, tuple_display, pair, operation_by, compare, choice, chosen, conditional, index, part, slice}
+use Rattle.bq_meaning.specs.Comprehensions.{pair_element, for_clause}
+use Rattle.bq_meaning.specs.Expressions.{values, list_display, tuple_display, pair, pairs_each, operation_by, operation, operations, binary, compare, choice, chosen, conditional, index, part, slice}
 use Rattle.bq_meaning.specs.Statements.{next, assign_stmt}
 use Rattle.bq_meaning.specs.Trees.{Eval}
-use Rattle.bq_meaning_laws.specs.Order.{Evaluates, none_left, and_then, Stops, here, later, DisplaysInOrder, DisplaysStop, PairsInOrder, OperandsInOrder, ComparesInOrder, IndexedInOrder, SlicedInOrder, ConditionsFirst, RightSidesFirst, PlacesInOrder, IterablesFirst}
+use Rattle.bq_meaning_laws.specs.Order.{Evaluates, none_left, and_then, Stops, here, later, DisplaysInOrder, DisplaysStop, PairsInOrder, DictDisplaysInOrder, ChainsInOrder, OperatorsInOrder, MadePairsInOrder, OperandsInOrder, ComparesInOrder, IndexedInOrder, SlicedInOrder, ConditionsFirst, RightSidesFirst, PlacesInOrder, IterablesFirst}
 
 -- what follows a run that is known
-goes : {S A B : Type 0} (r : Run S A) (f : A → Action S B) (x : A) (t : S) → r ≡ done x t → following r f ≡ f x t
+pub goes : {S A B : Type 0} (r : Run S A) (f : A → Action S B) (x : A) (t : S) → r ≡ done x t → following r f ≡ f x t
 goes r f x t h = ap (λ q. following q f) h
 
-ends : {S A B : Type 0} (r : Run S A) (f : A → Action S B) (why : Stop) → r ≡ stopped why → following r f ≡ stopped why
+pub ends : {S A B : Type 0} (r : Run S A) (f : A → Action S B) (why : Stop) → r ≡ stopped why → following r f ≡ stopped why
 ends r f why h = ap (λ q. following q f) h
 
 module _ {S : Type 0} (m : Primitives S) (eval : Eval S) (env : Frame) where
@@ -61,6 +61,22 @@ module _ {S : Type 0} (m : Primitives S) where
   pairs eval env p c k v s t (and_then {t = u} h (and_then g none_left)) =
       goes (eval (out-CodePair p).key env s) (λ a. eval (out-CodePair p).value env >>= λ b. m.add_pair c a b) k u h
       ∙ goes (eval (out-CodePair p).value env u) (λ b. m.add_pair c k b) v t g
+
+  pub dict_displays : DictDisplaysInOrder m
+  unfolding pairs_each
+  dict_displays eval env p ps c d s t h = goes (pair m eval p env c s) (λ e. pairs_each m eval ps env e) d t h
+
+  pub made_pairs : MadePairsInOrder m
+  unfolding pair_element
+  made_pairs eval env p c k v s t (and_then {t = u} h (and_then g none_left)) = goes (eval (out-CodePair p).key env s) _ k u h ∙ goes (eval (out-CodePair p).value env u) _ v t g
+
+  pub chains : ChainsInOrder m
+  unfolding binary
+  chains eval env x os v r s t step h = goes (m.step _ r) _ tt s step ∙ goes (eval x env s) (λ w. operations m eval os env w) v t h
+
+  pub operators : OperatorsInOrder m
+  unfolding operations
+  operators eval env o os v w s t h = goes (operation m eval o env v s) (λ u. operations m eval os env u) w t h
 
   pub compares : ComparesInOrder m
   unfolding compare

@@ -14,3 +14,6 @@ pub mod Depths
 pub mod Frames
 -- the laws of order
 pub mod InOrder
+pub mod Passing
+pub mod Deciding
+pub mod Updating

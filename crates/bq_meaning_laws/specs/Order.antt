@@ -1,11 +1,12 @@
 -- The laws of order: expressions in an expression are evaluated from left to right, each in the state that those before it leave
 -- (Starlark specification, "Expressions").
-use Rattle.std.specs.Prelude.{◌≡◌, ◌≢◌, ℕ, suc, List, [], ◌∷◌, Bool, true, false, Option, Some}
+use Rattle.std.specs.Prelude.{◌≡◌, ◌≢◌, ℕ, suc, List, [], ◌∷◌, length, Bool, true, false, Option, Some}
 use Rattle.bq_grammar.specs.declared.tree.Comparison.{Comparison}
 use Rattle.bq_grammar.specs.declared.tree.Operator.{Operator}
 use Rattle.bq_grammar.specs.declared.tree.Operator.TheVariants as operator
 use Rattle.bq_scope.specs.declared.code.Code.{Code}
 use Rattle.bq_scope.specs.declared.code.CodeChoice.{CodeChoice, out-CodeChoice}
+use Rattle.bq_scope.specs.declared.code.CodeOperation.{CodeOperation}
 use Rattle.bq_scope.specs.declared.code.CodePair.{CodePair, out-CodePair}
 use Rattle.bq_scope.specs.declared.code.CodeTarget.{CodeTarget}
 use Rattle.bq_value.specs.Contents.{Contents, items}
@@ -15,8 +16,8 @@ use Rattle.bq_machine.specs.State.{Stop}
 use Rattle.bq_meaning.specs.Frame.{Frame}
 use Rattle.bq_meaning.specs.Primitives.{Primitives, change}
 use Rattle.bq_meaning.specs.Targets.{place, Places, assign}
-use Rattle.bq_meaning.specs.Comprehensions.{Turn, turns, for_clause}
-use Rattle.bq_meaning.specs.Expressions.{list_display, tuple_display, pair, operation_by, compare, conditional, index, slice}
+use Rattle.bq_meaning.specs.Comprehensions.{Turn, turns, for_clause, pair_element}
+use Rattle.bq_meaning.specs.Expressions.{list_display, tuple_display, pair, pairs_each, operation_by, operation, operations, binary, compare, conditional, index, slice}
 use Rattle.bq_meaning.specs.Statements.{Flow, next, assign_stmt}
 use Rattle.bq_meaning.specs.Trees.{Eval}
 
@@ -47,6 +48,28 @@ module _ {S : Type 0} (m : Primitives S) where
   PairsInOrder =
       (eval : Eval S) (env : Frame) (p : CodePair) (c : Contents) (k v : Datum) (s t : S) → Evaluates eval env ((out-CodePair p).key ∷ (out-CodePair p).value ∷ []) s (k ∷ v ∷ []) t
       → pair m eval p env c s ≡ m.add_pair c k v t
+
+  -- one pair after another
+  abbrev pub DictDisplaysInOrder : Type 0
+  DictDisplaysInOrder =
+      (eval : Eval S) (env : Frame) (p : CodePair) (ps : List CodePair) (c d : Contents) (s t : S) → pair m eval p env c s ≡ done d t → pairs_each m eval (p ∷ ps) env c s ≡ pairs_each m eval ps env d t
+
+  -- the first operand of a chain, and then its operators, one after another
+  abbrev pub ChainsInOrder : Type 0
+  ChainsInOrder =
+      (eval : Eval S) (env : Frame) (x : Code) (os : List CodeOperation) (v : Datum) (r s t : S) → m.step (length os) r ≡ done tt s → eval x env s ≡ done v t
+      → binary m eval x os env r ≡ operations m eval os env v t
+
+  abbrev pub OperatorsInOrder : Type 0
+  OperatorsInOrder =
+      (eval : Eval S) (env : Frame) (o : CodeOperation) (os : List CodeOperation) (v w : Datum) (s t : S) → operation m eval o env v s ≡ done w t
+      → operations m eval (o ∷ os) env v s ≡ operations m eval os env w t
+
+  -- a key of a comprehension, and then its value
+  abbrev pub MadePairsInOrder : Type 0
+  MadePairsInOrder =
+      (eval : Eval S) (env : Frame) (p : CodePair) (c : Contents) (k v : Datum) (s t : S) → Evaluates eval env ((out-CodePair p).key ∷ (out-CodePair p).value ∷ []) s (k ∷ v ∷ []) t
+      → pair_element m eval p env c s ≡ (m.put_pair c k v >>= λ d. pure (d, env)) t
 
   -- the left operand, which has the value `v` in this state, and then the right one
   abbrev pub OperandsInOrder : Type 0

@@ -1,4 +1,4 @@
-use Rattle.bq_meaning_laws.proofs.InOrder.{displays, displays_stop, pairs, operands, compares, indexed, sliced, places}
+use Rattle.bq_meaning_laws.proofs.InOrder.{displays, displays_stop, pairs, dict_displays, made_pairs, chains, operators, operands, compares, indexed, sliced, places}
 use Rattle.bq_meaning_laws.proofs.laws.evaluation_is_from_left_to_right.Goals as goal
 
 pub returns-clause-displays : goal.returns-clause-displays
@@ -9,6 +9,18 @@ returns-clause-stops c k m = displays_stop m
 
 pub returns-clause-pairs : goal.returns-clause-pairs
 returns-clause-pairs c k m = pairs m
+
+pub returns-clause-dicts : goal.returns-clause-dicts
+returns-clause-dicts c k m = dict_displays m
+
+pub returns-clause-made : goal.returns-clause-made
+returns-clause-made c k m = made_pairs m
+
+pub returns-clause-chains : goal.returns-clause-chains
+returns-clause-chains c k m = chains m
+
+pub returns-clause-operators : goal.returns-clause-operators
+returns-clause-operators c k m = operators m
 
 pub returns-clause-operands : goal.returns-clause-operands
 returns-clause-operands c k m = operands m
