@@ -40,15 +40,14 @@ pub fn entry<R: Runtime>(
         keywords,
     } = bound;
     let keywords = keywords_of(runtime, has_star_star(parameters), keywords)?;
-    let rest = Value::tuple(alloc, rest)?;
     let filling = Filling {
         values: values.as_slice(),
         defaults,
-        rest: &rest,
+        rest: rest.as_slice(),
         keywords: &keywords,
     };
-    let mut frame = Frame::new(alloc);
-    let _filled = fill_parameters(&*runtime, filling, &mut frame, parameters)?;
+    let mut frame = Frame::with_room(alloc, function.slots)?;
+    let _filled = fill_parameters(alloc, &*runtime, filling, &mut frame, parameters)?;
     Ok(frame)
 }
 

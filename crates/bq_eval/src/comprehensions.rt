@@ -1,6 +1,7 @@
 //! Comprehensions.
 
-ghost use Rattle.std.specs.Prelude.{◌≡◌};
+ghost use Rattle.std.specs.Prelude.{◌≡◌, []};
+ghost use Rattle.bq_value.specs.Contents.{items, pairs};
 ghost use Rattle.bq_meaning.specs.Comprehensions as meaning;
 ghost use Rattle.bq_eval.specs.Acts.{Acts};
 ghost use Rattle.bq_eval.specs.Slots.{slots_of};
@@ -13,7 +14,7 @@ use crate::runtime::Runtime;
 use crate::targets::bind_variables;
 use bq_machine::Elements;
 use bq_scope::{Code, CodeClause, CodePair, CodeTarget};
-use bq_value::{Content, EvalErr, Value};
+use bq_value::{Content, Dict, EvalErr, Value};
 
 impl<
     R: Runtime,
@@ -262,7 +263,7 @@ impl<
 
     /// A comprehension, from an empty list or dict. It runs on a copy of the frame.
     #[tactic(auto, unfolding(bq_meaning::specs::Comprehensions::comprehension))]
-    pub fn comprehension(
+    fn comprehension(
         &self,
         context: &Context<'_>,
         frame: &Frame,
@@ -286,5 +287,39 @@ impl<
             comprehension,
         )?;
         runtime.make(content)
+    }
+
+    /// `[x for ..]`
+    #[inline(never)]
+    pub fn list_comprehension(
+        &self,
+        context: &Context<'_>,
+        frame: &Frame,
+        runtime: &mut R,
+        comprehension: &Code,
+        clauses: &[CodeClause],
+    ) -> Result<Value, EvalErr>
+        requires { Nests R.means R.seen context.now.left self.now.depth self.now.call (F.pre self.now.eval) (F.post self.now.eval) }
+        ensures { Acts R.means (λ v. v) result (R.seen runtime.new) (meaning.comprehension R.means (nested R.means self.now.depth context.now) (items []) comprehension.now clauses.now (slots_of frame.now) (R.seen runtime.old)) }
+    {
+        let empty = Content::list(Vec::new(context.alloc));
+        self.comprehension(context, frame, runtime, empty, comprehension, clauses)
+    }
+
+    /// `{key: value for ..}`
+    #[inline(never)]
+    pub fn dict_comprehension(
+        &self,
+        context: &Context<'_>,
+        frame: &Frame,
+        runtime: &mut R,
+        comprehension: &Code,
+        clauses: &[CodeClause],
+    ) -> Result<Value, EvalErr>
+        requires { Nests R.means R.seen context.now.left self.now.depth self.now.call (F.pre self.now.eval) (F.post self.now.eval) }
+        ensures { Acts R.means (λ v. v) result (R.seen runtime.new) (meaning.comprehension R.means (nested R.means self.now.depth context.now) (pairs []) comprehension.now clauses.now (slots_of frame.now) (R.seen runtime.old)) }
+    {
+        let empty = Content::dict(Dict::new(context.alloc));
+        self.comprehension(context, frame, runtime, empty, comprehension, clauses)
     }
 }

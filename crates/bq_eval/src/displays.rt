@@ -38,6 +38,7 @@ impl<
     }
 
     /// `[x, ..]`
+    #[inline(never)]
     #[tactic(auto, unfolding(bq_meaning::specs::Expressions::list_display))]
     pub fn list_display(
         &self,
@@ -55,6 +56,7 @@ impl<
     }
 
     /// `(x, ..)`
+    #[inline(never)]
     #[tactic(auto, unfolding(bq_meaning::specs::Expressions::tuple_display))]
     pub fn tuple_display(
         &self,
@@ -108,6 +110,7 @@ impl<
     }
 
     /// `{key: value, ..}`
+    #[inline(never)]
     #[tactic(auto, unfolding(bq_meaning::specs::Expressions::dict_display))]
     pub fn dict_display(
         &self,

@@ -16,7 +16,7 @@ use bq_machine::Args;
 use bq_predeclared::Predeclared;
 use bq_scope::{Binding, Code};
 use bq_source::FaultKind;
-use bq_value::{Content, Dict, EvalErr, Value};
+use bq_value::{EvalErr, Value};
 use std::marker::PhantomData;
 
 /// The value of an expression that is no deeper than so many layers.
@@ -97,12 +97,10 @@ impl<
             Code::Tuple(codes) => self.tuple_display(context, frame, runtime, codes.as_slice()),
             Code::Dict(pairs) => self.dict_display(context, frame, runtime, pairs.as_slice()),
             Code::ListComprehension(_, clauses) => {
-                let empty = Content::list(Vec::new(context.alloc));
-                self.comprehension(context, frame, runtime, empty, code, clauses.as_slice())
+                self.list_comprehension(context, frame, runtime, code, clauses.as_slice())
             }
             Code::DictComprehension(_, clauses) => {
-                let empty = Content::dict(Dict::new(context.alloc));
-                self.comprehension(context, frame, runtime, empty, code, clauses.as_slice())
+                self.dict_comprehension(context, frame, runtime, code, clauses.as_slice())
             }
             Code::Framed(_, code) => self.framed(context, runtime, code.get()),
             Code::Primary(code, suffixes) => {
@@ -125,6 +123,7 @@ impl<
     }
 
     /// A comprehension outside functions, in a frame of its own.
+    #[inline(never)]
     #[tactic(auto, unfolding(bq_meaning::specs::Expressions::framed), using(crate::proofs::Slots::none_filled))]
     fn framed(&self, context: &Context<'_>, runtime: &mut R, code: &Code) -> Result<Value, EvalErr>
         requires { Nests R.means R.seen context.now.left self.now.depth self.now.call (F.pre self.now.eval) (F.post self.now.eval) }

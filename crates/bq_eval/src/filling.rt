@@ -8,17 +8,19 @@ ghost use Rattle.bq_eval.specs.Slots.{slots_of};
 
 use crate::frame::Frame;
 use crate::runtime::Runtime;
+use bq_machine::copies;
 use bq_scope::CodeParameter;
 use bq_source::FaultKind;
 use bq_value::{EvalErr, Value};
+use std::alloc::Global;
 
 /// What is still to go into a frame, from the next parameter on.
 #[derive(Clone, Copy)]
 pub struct Filling<'a> {
     pub values: &'a [Option<Value>],
     pub defaults: &'a [Value],
-    /// What `*` holds.
-    pub rest: &'a Value,
+    /// The elements of what `*` holds.
+    pub rest: &'a [Value],
     /// What `**` holds.
     pub keywords: &'a Value,
 }
@@ -79,6 +81,7 @@ fn fill_default<'a, R: Runtime>(
 /// Puts one parameter into the frame.
 #[tactic(auto, unfolding(bq_meaning::specs::Calls::fill_parameter))]
 fn fill_parameter<'a, R: Runtime>(
+    alloc: Global,
     runtime: &R,
     filling: Filling<'a>,
     frame: &mut Frame,
@@ -91,7 +94,8 @@ fn fill_parameter<'a, R: Runtime>(
         CodeParameter::Default(_, slot) => fill_default(runtime, filling, frame, *slot),
         CodeParameter::BareStar => Ok(filling),
         CodeParameter::Star(slot) => {
-            frame.fill(*slot, filling.rest.share()?)?;
+            let rest = copies(alloc, filling.rest)?;
+            frame.fill(*slot, Value::tuple(alloc, rest)?)?;
             Ok(filling)
         }
         CodeParameter::StarStar(slot) => {
@@ -104,6 +108,7 @@ fn fill_parameter<'a, R: Runtime>(
 /// Puts these parameters into the frame.
 #[tactic(auto, unfolding(bq_meaning::specs::Calls::fill_parameters))]
 pub fn fill_parameters<'a, R: Runtime>(
+    alloc: Global,
     runtime: &R,
     filling: Filling<'a>,
     frame: &mut Frame,
@@ -113,7 +118,7 @@ pub fn fill_parameters<'a, R: Runtime>(
 {
     let mut left = filling;
     for parameter in parameters {
-        left = fill_parameter(runtime, left, frame, parameter)?;
+        left = fill_parameter(alloc, runtime, left, frame, parameter)?;
     }
     Ok(left)
 }

@@ -42,11 +42,20 @@ impl Frame {
         }
     }
 
+    /// A frame whose slots are empty, with room for so many.
+    pub fn with_room(alloc: Global, slots: usize) -> Result<Frame, AllocError>
+        ensures { IfOk result (λ f. f ≡ []) }
+    {
+        Ok(Frame {
+            slots: Vec::with_capacity(alloc, slots)?,
+        })
+    }
+
     /// The same values.
     pub fn copy(&self, alloc: Global) -> Result<Frame, AllocError>
         ensures { IfOk result (λ f. f ≡ self.now) }
     {
-        let mut slots = Vec::new(alloc);
+        let mut slots = Vec::with_capacity(alloc, self.slots.len())?;
         for slot in &self.slots {
             slots.push(share(slot)?)?;
         }

@@ -38,6 +38,7 @@ impl<
     F: Fn(&Context<'_>, usize, C, &Frame, &mut R, &Code) -> Result<Value, EvalErr>,
 > Evaluator<R, C, F> {
     /// Operators before an operand.
+    #[inline(never)]
     #[tactic(auto, unfolding(bq_meaning::specs::Expressions::unary))]
     pub fn unary(
         &self,
@@ -63,27 +64,27 @@ impl<
         frame: &Frame,
         runtime: &mut R,
         operation: &CodeOperation,
-        left: Value,
+        left: &Value,
     ) -> Result<Value, EvalErr>
         requires { Nests R.means R.seen context.now.left self.now.depth self.now.call (F.pre self.now.eval) (F.post self.now.eval) }
-        ensures { Acts R.means (λ v. v) result (R.seen runtime.new) (meaning.operation R.means (nested R.means self.now.depth context.now) operation.now (slots_of frame.now) left (R.seen runtime.old)) }
+        ensures { Acts R.means (λ v. v) result (R.seen runtime.new) (meaning.operation R.means (nested R.means self.now.depth context.now) operation.now (slots_of frame.now) left.now (R.seen runtime.old)) }
     {
         match operation.operator {
             Operator::And => {
-                if runtime.truth(&left) {
+                if runtime.truth(left) {
                     return self.value(context, frame, runtime, &operation.operand);
                 }
-                Ok(left)
+                Ok(left.share()?)
             }
             Operator::Or => {
-                if runtime.truth(&left) {
-                    return Ok(left);
+                if runtime.truth(left) {
+                    return Ok(left.share()?);
                 }
                 self.value(context, frame, runtime, &operation.operand)
             }
             operator => {
                 let right = self.operand(context, frame, runtime, &operation.operand)?;
-                runtime.binary(operator, &left, right.get())
+                runtime.binary(operator, left, right.get())
             }
         }
     }
@@ -102,13 +103,13 @@ impl<
     {
         let mut value = first;
         for operation in operations {
-            value = self.operation(context, frame, runtime, operation, value)?;
+            value = self.operation(context, frame, runtime, operation, &value)?;
         }
         Ok(value)
     }
 
-    /// A chain of operators.
-    #[tactic(auto, unfolding(bq_meaning::specs::Expressions::binary))]
+    /// A chain of operators. Its first operand is only read.
+    #[tactic(auto, unfolding(bq_meaning::specs::Expressions::binary, bq_meaning::specs::Expressions::operations))]
     pub fn binary(
         &self,
         context: &Context<'_>,
@@ -121,8 +122,14 @@ impl<
         ensures { Acts R.means (λ v. v) result (R.seen runtime.new) (meaning.binary R.means (nested R.means self.now.depth context.now) code.now operations.now (slots_of frame.now) (R.seen runtime.old)) }
     {
         runtime.step(operations.len() as u64)?;
-        let value = self.value(context, frame, runtime, code)?;
-        self.operations(context, frame, runtime, operations, value)
+        let first = self.operand(context, frame, runtime, code)?;
+        match operations.split_first() {
+            None => Ok(first.own()?),
+            Some((operation, rest)) => {
+                let value = self.operation(context, frame, runtime, operation, first.get())?;
+                self.operations(context, frame, runtime, rest, value)
+            }
+        }
     }
 
     #[tactic(auto, unfolding(bq_meaning::specs::Expressions::compare))]
@@ -166,6 +173,7 @@ impl<
     }
 
     /// `x if y else ..`
+    #[inline(never)]
     #[tactic(auto, unfolding(bq_meaning::specs::Expressions::conditional))]
     pub fn conditional(
         &self,

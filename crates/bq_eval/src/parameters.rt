@@ -50,7 +50,7 @@ fn singles<'a>(
 ) -> Result<Vec<Parameter<'a>>, AllocError>
     ensures { IfOk result (λ all. map parameter_of all.items ≡ meaning.singles parameters.now) }
 {
-    let mut all = Vec::new(alloc);
+    let mut all = Vec::with_capacity(alloc, parameters.len())?;
     for parameter in parameters {
         add_single(&mut all, parameter)?;
     }

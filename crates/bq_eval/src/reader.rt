@@ -50,6 +50,7 @@ impl<R: Runtime, C: Copy + Fn(&Context<'_>, &mut R, &Value, Args) -> Result<Valu
     }
 
     /// The value of an expression that stands outside functions.
+    #[inline(never)]
     #[tactic(auto, using(crate::proofs::Slots::none_filled), unfolding(crate::specs::Round::outside_functions, crate::specs::Round::inside, crate::specs::Round::round_of, crate::specs::Round::globals_of, bq_scope::specs::Names::max_layers))]
     fn outside(
         &self,
@@ -168,9 +169,30 @@ impl<R: Runtime, C: Copy + Fn(&Context<'_>, &mut R, &Value, Args) -> Result<Valu
 
     // ---- assignments
 
-    /// `target = value`: the operands and indices of the target first.
-    #[tactic(auto, unfolding(bq_meaning::specs::Targets::assign, bq_scope::specs::Names::max_layers))]
+    /// `target = value`. A name has no operands, and is bound at once.
+    #[tactic(auto, unfolding(bq_meaning::specs::Targets::assign, bq_meaning::specs::Targets::places_to, bq_meaning::specs::Targets::places_of, bq_meaning::specs::Targets::bind_to, bq_meaning::specs::Targets::bind_target, bq_scope::specs::Names::max_layers))]
     pub fn assign(
+        &self,
+        context: &Context<'_>,
+        frame: &mut Frame,
+        runtime: &mut R,
+        target: &CodeTarget,
+        value: Value,
+    ) -> Result<(), EvalErr>
+        requires { Answers R.means R.seen context.now.left (C.pre self.now.call) (C.post self.now.call) }
+        ensures { Acts R.means (λ _. slots_of frame.new) result (R.seen runtime.new) (meaning.assign R.means (evals R.means context.now) target.now value (slots_of frame.old) (R.seen runtime.old)) }
+    {
+        match target {
+            CodeTarget::Local(slot) => Ok(frame.fill(*slot, value)?),
+            CodeTarget::Global(slot) => Ok(frame.fill(*slot, value)?),
+            _ => self.assign_parts(context, frame, runtime, target, value),
+        }
+    }
+
+    /// The same of any target: its operands and indices first.
+    #[inline(never)]
+    #[tactic(auto, unfolding(bq_meaning::specs::Targets::assign, bq_scope::specs::Names::max_layers))]
+    fn assign_parts(
         &self,
         context: &Context<'_>,
         frame: &mut Frame,
@@ -217,6 +239,7 @@ impl<R: Runtime, C: Copy + Fn(&Context<'_>, &mut R, &Value, Args) -> Result<Valu
     }
 
     /// `y[i] op= x`
+    #[inline(never)]
     #[tactic(auto, unfolding(bq_meaning::specs::Targets::augment_index))]
     fn augment_index(
         &self,

@@ -193,6 +193,7 @@ impl<
     }
 
     /// `for target in iterable`
+    #[inline(never)]
     #[tactic(auto, unfolding(bq_meaning::specs::Statements::for_loop))]
     fn for_loop(
         &self,

@@ -58,6 +58,7 @@ impl<
     }
 
     /// `value[start:stop:step]`
+    #[inline(never)]
     #[tactic(auto, unfolding(bq_meaning::specs::Expressions::slice))]
     pub fn slice(
         &self,
@@ -131,6 +132,7 @@ impl<
     }
 
     /// `value.name(..)`
+    #[inline(never)]
     #[tactic(auto, unfolding(bq_meaning::specs::Expressions::method))]
     fn method(
         &self,
@@ -156,6 +158,7 @@ impl<
     F: Fn(&Context<'_>, usize, C, &Frame, &mut R, &Code) -> Result<Value, EvalErr>,
 > Evaluator<R, C, F> {
     /// `value(..)`
+    #[inline(never)]
     #[tactic(auto, unfolding(bq_meaning::specs::Expressions::call_of))]
     fn call_of(
         &self,
@@ -223,8 +226,8 @@ impl<
         Ok(value)
     }
 
-    /// An operand, and what is done to it.
-    #[tactic(auto, unfolding(bq_meaning::specs::Expressions::primary))]
+    /// An operand, which is only read, and what is done to it.
+    #[tactic(auto, unfolding(bq_meaning::specs::Expressions::primary, bq_meaning::specs::Expressions::suffixes))]
     pub fn primary(
         &self,
         context: &Context<'_>,
@@ -238,7 +241,13 @@ impl<
         ensures { Acts R.means (λ v. v) result (R.seen runtime.new) (meaning.primary R.means (nested R.means self.now.depth context.now) (inside R.means context.now) code.now suffixes.now (slots_of frame.now) (R.seen runtime.old)) }
     {
         runtime.step(suffixes.len() as u64)?;
-        let value = self.value(context, frame, runtime, code)?;
-        self.suffixes(context, frame, runtime, suffixes, value)
+        let first = self.operand(context, frame, runtime, code)?;
+        match suffixes.split_first() {
+            None => Ok(first.own()?),
+            Some((suffix, rest)) => {
+                let value = self.suffix(context, frame, runtime, suffix, first.get())?;
+                self.suffixes(context, frame, runtime, rest, value)
+            }
+        }
     }
 }

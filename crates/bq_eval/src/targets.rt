@@ -58,6 +58,7 @@ fn bind_each<R: Runtime>(
 
 /// Unpacking.
 #[cycle(targets)]
+#[inline(never)]
 #[tactic(auto, unfolding(bq_meaning::specs::Targets::unpack))]
 fn unpack<R: Runtime>(
     alloc: Global,
@@ -136,9 +137,28 @@ pub fn bind_to<R: Runtime>(
     bind_target(alloc, runtime, frame, places, depth - 1, target, value)
 }
 
-/// Binds the variables of a `for`.
-#[tactic(auto, unfolding(bq_meaning::specs::Targets::bind_variables, bq_scope::specs::Names::max_layers))]
+/// Binds the variables of a `for`, most often one name.
+#[tactic(auto, unfolding(bq_meaning::specs::Targets::bind_variables, bq_meaning::specs::Targets::bind_to, bq_meaning::specs::Targets::bind_target, bq_scope::specs::Names::max_layers))]
 pub fn bind_variables<R: Runtime>(
+    alloc: Global,
+    runtime: &mut R,
+    frame: &mut Frame,
+    target: &CodeTarget,
+    value: Value,
+) -> Result<(), EvalErr>
+    ensures { Acts R.means (λ _. slots_of frame.new) result (R.seen runtime.new) (meaning.bind_variables R.means target.now value (slots_of frame.old) (R.seen runtime.old)) }
+{
+    match target {
+        CodeTarget::Local(slot) => Ok(frame.fill(*slot, value)?),
+        CodeTarget::Global(slot) => Ok(frame.fill(*slot, value)?),
+        _ => bind_parts(alloc, runtime, frame, target, value),
+    }
+}
+
+/// The same of any target.
+#[inline(never)]
+#[tactic(auto, unfolding(bq_meaning::specs::Targets::bind_variables, bq_scope::specs::Names::max_layers))]
+fn bind_parts<R: Runtime>(
     alloc: Global,
     runtime: &mut R,
     frame: &mut Frame,
