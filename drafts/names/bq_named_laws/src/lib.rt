@@ -1,0 +1,2 @@
+//! Laws of names: not stated yet as contracts.
+#![tactic(auto)]

@@ -1,0 +1,6 @@
+//! Fake.
+#![tactic(auto)]
+
+mod print;
+
+pub use print::OutputForm;

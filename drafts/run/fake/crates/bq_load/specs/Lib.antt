@@ -1,0 +1,3 @@
+pub mod Sources
+pub mod Results
+pub mod Loaded

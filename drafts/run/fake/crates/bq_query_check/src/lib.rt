@@ -1,0 +1,6 @@
+//! Fake.
+#![tactic(auto)]
+
+mod parse;
+
+pub use parse::{CheckedQuery, parse_query};
