@@ -1,6 +1,0 @@
-pub mod Views
-pub mod Sources
-pub mod Imports
-pub mod Evaluation
-pub mod Results
-pub mod Loaded

@@ -1,2 +1,0 @@
-//! Laws of names: not stated yet as contracts.
-#![tactic(auto)]

@@ -1,6 +1,0 @@
-//! Fake.
-#![tactic(auto)]
-
-mod print;
-
-pub use print::OutputForm;

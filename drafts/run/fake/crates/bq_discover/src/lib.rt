@@ -1,8 +1,0 @@
-//! Fake.
-#![tactic(auto)]
-
-mod load_err;
-mod schema;
-
-pub use load_err::LoadErr;
-pub use schema::schema_of;

@@ -1,6 +1,0 @@
-//! Fake.
-#![tactic(auto)]
-
-mod parse;
-
-pub use parse::{CheckedQuery, parse_query};
