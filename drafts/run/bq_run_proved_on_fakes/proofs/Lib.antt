@@ -1,0 +1,6 @@
+pub mod Lines
+pub mod Reading
+pub mod Transfers
+pub mod Writing
+pub mod Deeds
+pub mod Loads

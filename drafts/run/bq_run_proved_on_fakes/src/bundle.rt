@@ -1,0 +1,146 @@
+//! A workspace from the text form that holds it: header lines `=== PATH`, each followed by the bytes of its file.
+
+ghost use Rattle.std.specs.Prelude.{◌≡◌, ◌⊎◌, ◌+◌, ◌-◌, ◌^◌, ◌<◌, ◌≤◌, ◌∷◌, [], Some, None, true, false, take, drop, length, IfOk, IfSome, IfNone, IsErr, IsErrOf};
+ghost use Rattle.std.specs.List.{list_all};
+ghost use Rattle.bq_run.specs.Bundle.{BeginsWith, max_bundle_bytes, bundle_of, cut, files_of, is_whole, lines};
+
+use crate::device::Source;
+use crate::error::RunErr;
+use crate::transfer::{ReadFault, read_all};
+use bq_label::{File, Workspace};
+use bq_source::Bytes;
+use memchr::memchr;
+use std::alloc::{AllocError, Global};
+
+/// What a header line begins with.
+const MARKER: &[u8] = b"=== ";
+
+/// The most bytes that a bundle has.
+const MAX_BUNDLE_BYTES: usize = 1 << 30;
+
+/// How long the first line is, with its newline.
+fn line_len(text: &[u8]) -> usize
+    requires { 0 < length text.now }
+    ensures some { 0 < result }
+    ensures within { result ≤ length text.now }
+    ensures first { lines text.now ≡ take result text.now ∷ lines (drop result text.now) }
+{
+    match memchr(b'\n', text) {
+        Some(at) => at + 1,
+        None => text.len(),
+    }
+}
+
+/// How many bytes there are before the first header.
+fn lead(text: &[u8]) -> usize
+    ensures within { result ≤ length text.now }
+    ensures bytes { (cut (lines text.now)).before ≡ take result text.now }
+    ensures parts { (cut (lines text.now)).parts ≡ (cut (lines (drop result text.now))).parts }
+    ensures stops { (cut (lines (drop result text.now))).before ≡ [] }
+{
+    let mut at = 0;
+    while at < text.len() {
+        let rest = &text[at..];
+        let n = line_len(rest);
+        if rest[..n].starts_with(MARKER) {
+            return at;
+        }
+        at += n;
+    }
+    at
+}
+
+/// A file as the text has it: its path, its content, and the text from the next header on.
+#[derive(Clone, Copy)]
+struct Piece<'a> {
+    path: &'a [u8],
+    content: &'a [u8],
+    rest: &'a [u8],
+}
+
+/// The first piece of a text that begins with a header; none where that header has no newline.
+fn first_piece(text: &[u8]) -> Option<Piece<'_>>
+    requires some { 0 < length text.now }
+    requires header { (cut (lines text.now)).before ≡ [] }
+    ensures found { IfSome result (λ p. BeginsWith text.now p.path.now p.content.now p.rest.now) }
+    ensures none { IfNone result (list_all is_whole (cut (lines text.now)).parts ≡ false) }
+{
+    let n = line_len(text);
+    let line = &text[..n];
+    if n < 5 || line[n - 1] != b'\n' {
+        return None;
+    }
+    let body = &text[n..];
+    let size = lead(body);
+    Some(Piece {
+        path: &line[4..n - 1],
+        content: &body[..size],
+        rest: &body[size..],
+    })
+}
+
+fn make_file(alloc: Global, path: &[u8], content: &[u8]) -> Result<File, AllocError>
+    ensures { IfOk result (λ file. file ≡ record { path = path.now; content = content.now }) }
+{
+    let path = Bytes::from_slice(alloc, path)?;
+    let content = Bytes::from_slice(alloc, content)?;
+    Ok(File { path, content })
+}
+
+/// The files of a text in their order there.
+fn files_in(alloc: Global, text: &[u8]) -> Result<Vec<File>, RunErr>
+    ensures found { IfOk result (λ files. files_of text.now ≡ Some files.items) }
+    ensures none { IsErrOf result RunErr.Bundle → files_of text.now ≡ None }
+    ensures only { IsErr result → IsErrOf result RunErr.Bundle ⊎ IsErrOf result RunErr.Memory }
+{
+    if lead(text) != 0 {
+        return Err(RunErr::Bundle);
+    }
+    let mut files = Vec::new(alloc);
+    let mut rest = text;
+    while !rest.is_empty() {
+        let Some(piece) = first_piece(rest) else {
+            return Err(RunErr::Bundle);
+        };
+        files.push(make_file(alloc, piece.path, piece.content)?)?;
+        rest = piece.rest;
+    }
+    Ok(files)
+}
+
+/// The workspace of a bundle in hand. The text is given back before the files are put in order.
+#[tactic(auto, unfolding(crate::specs::Bundle::bundle_of))]
+fn workspace_in(alloc: Global, text: Vec<u8>) -> Result<Workspace, RunErr>
+    requires { length text.items ≤ max_bundle_bytes }
+    ensures found { IfOk result (λ w. bundle_of text.items ≡ Some w) }
+    ensures none { IsErrOf result RunErr.Bundle → bundle_of text.items ≡ None }
+    ensures only { IsErr result → IsErrOf result RunErr.Bundle ⊎ IsErrOf result RunErr.Memory }
+{
+    let files = files_in(alloc, &text)?;
+    drop(text);
+    match Workspace::new(files) {
+        Ok(workspace) => Ok(workspace),
+        Err(_) => Err(RunErr::Bundle),
+    }
+}
+
+/// Reads a bundle to its end.
+///
+/// E2: a read failed; it is not tried again. E4: the bytes are no bundle, or are more than 1,073,741,824, which a
+/// reader that never ends meets. E1: a growth was refused.
+#[tactic(auto, unfolding(crate::specs::Bundle::bundle_of))]
+pub fn read_bundle<R: Source>(alloc: Global, reader: &mut R) -> Result<Workspace, RunErr>
+    requires { R.failed reader.old < 2 ^ 64 - 1 }
+    ensures found { IfOk result (λ w. IfSome (R.remaining reader.old) (λ input. bundle_of input ≡ Some w)) }
+    ensures none { IsErrOf result RunErr.Bundle → IfSome (R.remaining reader.old) (λ input. bundle_of input ≡ None) }
+    ensures device { IsErrOf result RunErr.Read → R.failed reader.new ≡ R.failed reader.old + 1 }
+    ensures quiet { (IsErrOf result RunErr.Read → ⊥) → R.failed reader.new ≡ R.failed reader.old }
+    ensures only { IsErr result → IsErrOf result RunErr.Bundle ⊎ IsErrOf result RunErr.Memory ⊎ IsErrOf result RunErr.Read }
+{
+    match read_all(alloc, reader, MAX_BUNDLE_BYTES) {
+        Ok(text) => workspace_in(alloc, text),
+        Err(ReadFault::Memory) => Err(RunErr::Memory),
+        Err(ReadFault::Device) => Err(RunErr::Read),
+        Err(ReadFault::TooLong) => Err(RunErr::Bundle),
+    }
+}

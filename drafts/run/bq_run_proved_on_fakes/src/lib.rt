@@ -1,0 +1,41 @@
+//! The bytes of a bundle and a query come in; the bytes of the faults and of the answer go out.
+//!
+//! [`run`] promises that the two texts, and how it ends, are those of the definition for the bytes that are read: `IsRunOf`, in
+//! `specs/Run.antt`.
+//!
+//! In reading order:
+//!
+//! - `device`: readers and writers that count their failures;
+//! - `transfer`: reading to the end, and writing a whole text;
+//! - `error`: the errors of runs;
+//! - `bundle`: the text form of a workspace;
+//! - `options`: what a run is asked;
+//! - `reports`: the report on a workspace in hand;
+//! - `runs`: the run;
+//! - `status`: the exit status and the error line;
+//! - `laws`: what the definitions say together.
+#![tactic(auto)]
+
+mod bundle;
+mod device;
+mod error;
+pub mod laws;
+mod options;
+mod reports;
+mod runs;
+mod status;
+mod transfer;
+
+pub use bq_answer::OutputForm;
+pub use bq_query::QueryErr;
+pub use bq_report::Status;
+pub use bundle::read_bundle;
+pub use device::{Counted, Metered, Sink, Source};
+pub use error::RunErr;
+pub use options::Options;
+pub use runs::{run, run_files};
+pub use status::{
+    ANSWERED, DEVICE_FAILED, NO_MEMORY, REFUSED, WITH_FAULTS, status_code, status_of,
+    write_status_line,
+};
+pub use transfer::{ReadFault, WriteFault, read_all, write_all};

@@ -1,0 +1,111 @@
+//! A run: the bytes of a bundle are read, and the texts of the faults and of the answer are written.
+
+ghost use Rattle.std.specs.Prelude.{◌≡◌, ◌+◌, ◌-◌, ◌^◌, ◌<◌, IfSome, IsErrOf};
+ghost use Rattle.std.specs.Io.KnownBytes.{Keeps};
+ghost use Rattle.bq_report.specs.Report.{report_view};
+ghost use Rattle.bq_run.specs.Device.{OneFailed};
+ghost use Rattle.bq_run.specs.Run.{Does, DoesOne, IsInRange, IsRunOf, IsRunOver, IsSilent, run_report};
+
+use crate::bundle::read_bundle;
+use crate::device::{Sink, Source};
+use crate::error::RunErr;
+use crate::options::Options;
+use crate::reports::report_workspace;
+use crate::transfer::write_all;
+use bq_label::Workspace;
+use bq_report::{Report, Status};
+use std::alloc::Global;
+use std::sync::Wait;
+use std::thread::Threads;
+
+/// Writes a report, the faults first.
+fn send<W: Sink, F: Sink>(
+    report: Report,
+    writer: &mut W,
+    faults_writer: &mut F,
+) -> Result<Status, RunErr>
+    requires writer { W.failed writer.old < 2 ^ 64 - 1 }
+    requires faults_writer { F.failed faults_writer.old < 2 ^ 64 - 1 }
+    ensures does { Does (run_report (report_view report)) result (F.contents faults_writer.old) (F.contents faults_writer.new) (W.contents writer.old) (W.contents writer.new) }
+    ensures silent { IsSilent result → Keeps (F.contents faults_writer.old) (F.contents faults_writer.new) × Keeps (W.contents writer.old) (W.contents writer.new) }
+    ensures no_read { IsErrOf result RunErr.Read → ⊥ }
+    ensures write { IsErrOf result RunErr.Write → OneFailed (F.failed faults_writer.old) (F.failed faults_writer.new) (W.failed writer.old) (W.failed writer.new) }
+    ensures quiet { (IsErrOf result RunErr.Write → ⊥) → (F.failed faults_writer.new ≡ F.failed faults_writer.old) × (W.failed writer.new ≡ W.failed writer.old) }
+{
+    let Report {
+        faults,
+        answer,
+        end,
+    } = report;
+    match end {
+        Ok(status) => {
+            write_all(faults_writer, &faults)?;
+            write_all(writer, &answer)?;
+            Ok(status)
+        }
+        Err(refusal) => {
+            if refusal.is_unanswered() && write_all(faults_writer, &faults).is_err() {
+                return Err(RunErr::Write);
+            }
+            Err(RunErr::from(refusal))
+        }
+    }
+}
+
+/// A run over a workspace in hand: [`run`] without its reader.
+pub fn run_files<T: Threads + Wait + Sync, W: Sink, F: Sink>(
+    rt: &T,
+    alloc: Global,
+    workspace: &Workspace,
+    writer: &mut W,
+    faults_writer: &mut F,
+    options: &Options,
+) -> Result<Status, RunErr>
+    requires in_range { IsInRange options.now }
+    requires writer { W.failed writer.old < 2 ^ 64 - 1 }
+    requires faults_writer { F.failed faults_writer.old < 2 ^ 64 - 1 }
+
+    ensures does { DoesOne (IsRunOver options.now workspace.now) result (F.contents faults_writer.old) (F.contents faults_writer.new) (W.contents writer.old) (W.contents writer.new) }
+    ensures silent { IsSilent result → Keeps (F.contents faults_writer.old) (F.contents faults_writer.new) × Keeps (W.contents writer.old) (W.contents writer.new) }
+    ensures no_read { IsErrOf result RunErr.Read → ⊥ }
+    ensures write { IsErrOf result RunErr.Write → OneFailed (F.failed faults_writer.old) (F.failed faults_writer.new) (W.failed writer.old) (W.failed writer.new) }
+    ensures quiet { (IsErrOf result RunErr.Write → ⊥) → (F.failed faults_writer.new ≡ F.failed faults_writer.old) × (W.failed writer.new ≡ W.failed writer.old) }
+{
+    let report = report_workspace(rt, alloc, workspace, options)?;
+    send(report, writer, faults_writer)
+}
+
+/// A run: the bundle is read to its end, the query and the schema are read, the modules are loaded by as many workers as there are jobs,
+/// and the query is answered. Then the faults writer gets the faults, and after it the writer gets the answer.
+///
+/// E4, E5 with Q1 to Q4, Q7 or Q8, E6 and E7 take precedence in this order, and nothing is written with them. With Q5 or Q6 only the
+/// faults are written. E1 comes before the first byte is written.
+#[tactic(auto, unfolding(crate::specs::Run::IsRunOf))]
+pub fn run<T: Threads + Wait + Sync, R: Source, W: Sink, F: Sink>(
+    rt: &T,
+    alloc: Global,
+    reader: &mut R,
+    writer: &mut W,
+    faults_writer: &mut F,
+    options: &Options,
+) -> Result<Status, RunErr>
+    requires in_range { IsInRange options.now }
+    requires reader { R.failed reader.old < 2 ^ 64 - 1 }
+    requires writer { W.failed writer.old < 2 ^ 64 - 1 }
+    requires faults_writer { F.failed faults_writer.old < 2 ^ 64 - 1 }
+
+    // What is written, and how the run ends, are the definition's for the bytes that the reader had.
+    ensures does { IfSome (R.remaining reader.old) (λ input. DoesOne (IsRunOf options.now input) result (F.contents faults_writer.old) (F.contents faults_writer.new) (W.contents writer.old) (W.contents writer.new)) }
+
+    // With such an error nothing is written, whatever is known of the reader.
+    ensures silent { IsSilent result → Keeps (F.contents faults_writer.old) (F.contents faults_writer.new) × Keeps (W.contents writer.old) (W.contents writer.new) }
+
+    // E2 and E3 come exactly after one failed call of a device, which is not tried again.
+    ensures read { IsErrOf result RunErr.Read → R.failed reader.new ≡ R.failed reader.old + 1 }
+    ensures quiet_reader { (IsErrOf result RunErr.Read → ⊥) → R.failed reader.new ≡ R.failed reader.old }
+    ensures write { IsErrOf result RunErr.Write → OneFailed (F.failed faults_writer.old) (F.failed faults_writer.new) (W.failed writer.old) (W.failed writer.new) }
+    ensures quiet { (IsErrOf result RunErr.Write → ⊥) → (F.failed faults_writer.new ≡ F.failed faults_writer.old) × (W.failed writer.new ≡ W.failed writer.old) }
+{
+    let workspace = read_bundle(alloc, reader)?;
+    run_files(rt, alloc, &workspace, writer, faults_writer, options)
+}
