@@ -1,6 +1,0 @@
-pub mod Lines
-pub mod Reading
-pub mod Transfers
-pub mod Writing
-pub mod Deeds
-pub mod Loads
