@@ -1,7 +1,7 @@
 -- Modules that are found along loads: what is found when nothing is left to read is all modules.
-use Rattle.std.proofs.Common.{◌≡◌, ◌∙◌, ◌<◌, ◌≤◌, ◌+◌, ◌⊎◌, ℕ, Bool, true, false, List, [], ◌∷◌, ◌++◌, Option, None, Some, length, map, take, get_or, slice_get, refl, sym, ap, subst, inl, inr, arith, length-append}
+use Rattle.std.proofs.Common.{◌≡◌, ◌∙◌, ◌<◌, ◌≤◌, ◌+◌, ◌⊎◌, ℕ, List, [], ◌∷◌, ◌++◌, Some, length, map, take, slice_get, refl, sym, ap, subst, inl, inr, arith, length-append}
 use Rattle.std.specs.List.{All, AllByRecursion, Contains, IsDistinct}
-use Rattle.std.proofs.lemmas.List.{take_more, take_all, take-append-le, map-append, length-map}
+use Rattle.std.proofs.lemmas.List.{take_more, take_all, take-append-le, map-append}
 use Rattle.std.proofs.lemmas.List.Elements.{Contains-append_left, Contains-push_cases, All-from_recursion}
 use Rattle.std.proofs.lemmas.Option.{slice_get_within, get_or_from_slice_get}
 use Rattle.bq_label.specs.declared.packages.BuildFile.{BuildFile}
@@ -11,7 +11,7 @@ use Rattle.bq_label_set.specs.Labels.{same_label, with_labels}
 use Rattle.bq_label_set.proofs.Added.{numbers_stay, the_labels_added, each_label_once, still_distinct}
 use Rattle.bq_board.specs.Graph.{max_modules}
 use Rattle.bq_front.specs.Inputs.{InputParts}
-use Rattle.bq_front.specs.Front.{front_of, loads_by, loads_of}
+use Rattle.bq_front.specs.Front.{loads_by, loads_of}
 use Rattle.bq_discover.specs.declared.modules.Module.{Module}
 use Rattle.bq_discover.specs.Module.{module_of, labels_of, IsRead}
 use Rattle.bq_discover.specs.Modules.{IsModule, AreTooMany, build_labels}

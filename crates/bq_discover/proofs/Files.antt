@@ -1,5 +1,5 @@
 -- Each module has a file of its label.
-use Rattle.std.proofs.Common.{◌≡◌, ◌∙◌, ◌++◌, List, Some, None, inl, inr, refl, sym, ap, if◌then◌else◌}
+use Rattle.std.proofs.Common.{◌≡◌, ◌∙◌, ◌++◌, List, Some, None, inl, inr, refl, sym, ap}
 use Rattle.std.specs.List.{Contains}
 use Rattle.std.proofs.lemmas.Bool.{cases_Bool}
 use Rattle.bq_label.specs.declared.workspace.File.{File}
@@ -7,12 +7,10 @@ use Rattle.bq_label.specs.declared.packages.BuildFile.{BuildFile}
 use Rattle.bq_label.specs.Paths.{is_path}
 use Rattle.bq_label.specs.Label.{LabelParts, label_in, last_segment, package_of}
 use Rattle.bq_label.specs.Packages.{build_label, label_path, packages_of, repository_root, joined, IsPackageOf}
-use Rattle.bq_label.specs.Workspace.{IsWorkspace}
 use Rattle.bq_label.proofs.BuildFiles.{package_words}
 use Rattle.bq_label.proofs.Repositories.{in_repository}
 use Rattle.bq_load_label.proofs.Loads.{named}
 use Rattle.bq_load_label.proofs.Tests.{file_is_there}
-use Rattle.bq_schema.specs.Schema.{Rules}
 use Rattle.bq_front.specs.Inputs.{InputParts}
 use Rattle.bq_front.proofs.Loads.{loaded_files}
 use Rattle.bq_discover.specs.Modules.{IsModule}

@@ -12,8 +12,8 @@ use Rattle.bq_board.specs.Graph.{Loads, edges, max_modules, max_edges, Fits, IsG
 use Rattle.bq_front.specs.Inputs.{InputParts}
 use Rattle.bq_front.specs.Front.{loads_by, loads_of}
 use Rattle.bq_discover.specs.declared.modules.Module.{Module}
-use Rattle.bq_discover.specs.Module.{module_of, labels_of, AreValid, label_cmp, module_cmp}
-use Rattle.bq_discover.specs.Modules.{IsModule, AreModules, AreTooMany, edges_from}
+use Rattle.bq_discover.specs.Module.{labels_of, AreValid, label_cmp, module_cmp}
+use Rattle.bq_discover.specs.Modules.{IsModule, AreTooMany, edges_from}
 use Rattle.bq_discover.specs.Exploring.{AreFound}
 use Rattle.bq_discover.specs.Edges.{row_of, rows_of}
 use Rattle.bq_discover.specs.LoadGraph.{GraphParts, IsNumbered, IsLoadGraph}

@@ -1,5 +1,5 @@
 -- A workspace has one load graph at most, and none where there are too many modules or edges.
-use Rattle.std.proofs.Common.{◌≡◌, ◌∙◌, ◌≤◌, ◌<◌, ℕ, List, [], ◌∷◌, Option, Some, length, map, slice_get, refl, sym, ap, subst, arith}
+use Rattle.std.proofs.Common.{◌≡◌, ◌∙◌, ◌≤◌, ℕ, List, [], ◌∷◌, Option, Some, length, map, slice_get, refl, sym, ap, subst, arith}
 use Rattle.std.specs.List.{Contains, IsDistinct, flat_map}
 use Rattle.std.proofs.lemmas.List.{length-map}
 use Rattle.std.proofs.lemmas.Map.Made.{length-le_from_is_member}
@@ -12,8 +12,8 @@ use Rattle.bq_board.specs.Graph.{Loads, edges}
 use Rattle.bq_front.specs.Inputs.{InputParts}
 use Rattle.bq_discover.specs.declared.modules.Module.{Module}
 use Rattle.bq_discover.specs.Module.{module_of, label_cmp, label_cmp_total}
-use Rattle.bq_discover.specs.Modules.{IsModule, AreModules, AreTooMany, edges_from}
-use Rattle.bq_discover.specs.LoadGraph.{GraphParts, IsLoadGraph}
+use Rattle.bq_discover.specs.Modules.{AreModules, AreTooMany, edges_from}
+use Rattle.bq_discover.specs.LoadGraph.{GraphParts}
 use Rattle.bq_discover.specs.Laws.{OneLoadGraph, TooManyForALoadGraph}
 use Rattle.bq_discover.proofs.Ordered.{differ}
 use Rattle.bq_discover.proofs.Rows.{edges_count}

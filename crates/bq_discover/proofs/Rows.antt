@@ -1,5 +1,5 @@
 -- The numbers in a row are those of the labels that are loaded.
-use Rattle.std.proofs.Common.{◌≡◌, ◌∙◌, ◌<◌, ◌≤◌, ◌+◌, ℕ, Bool, true, false, not, List, [], ◌∷◌, ◌++◌, Option, None, Some, length, map, take, drop, get_or, slice_get, position, refl, sym, ap, inl, inr, arith, length-append}
+use Rattle.std.proofs.Common.{◌≡◌, ◌∙◌, ◌<◌, ◌+◌, ℕ, true, false, not, List, [], ◌∷◌, ◌++◌, Option, None, Some, length, map, take, get_or, slice_get, refl, sym, ap, inl, inr, length-append}
 use Rattle.std.specs.List.{Contains, IsDistinct, filter_map, flat_map, cons_option}
 use Rattle.std.specs.Prelude.{option_to_list}
 use Rattle.std.proofs.lemmas.Bool.{cases_Bool}
@@ -10,9 +10,9 @@ use Rattle.bq_label.proofs.Orders.{at_head, in_tail}
 use Rattle.bq_label_set.specs.Labels.{same_label, has_label, with_label, with_labels}
 use Rattle.bq_label_set.proofs.Added.{known_label, new_label, with_labels-append, the_labels_added}
 use Rattle.bq_label_set.proofs.Numbers.{the_number}
-use Rattle.bq_board.specs.Graph.{Loads, sources, edges, lists}
+use Rattle.bq_board.specs.Graph.{Loads, sources, edges}
 use Rattle.bq_front.specs.Inputs.{InputParts}
-use Rattle.bq_front.specs.Front.{front_of, loads_by, loads_of}
+use Rattle.bq_front.specs.Front.{loads_by, loads_of}
 use Rattle.bq_discover.specs.declared.modules.Module.{Module}
 use Rattle.bq_discover.specs.Module.{module_of}
 use Rattle.bq_discover.specs.Modules.{edges_from}

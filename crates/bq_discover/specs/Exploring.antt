@@ -1,5 +1,5 @@
 -- Modules that are found along loads.
-use Rattle.std.specs.Prelude.{◌≡◌, ◌+◌, ◌≤◌, ℕ, Bool, true, false, List, length, map, take, Option, None, Some}
+use Rattle.std.specs.Prelude.{◌≡◌, ◌+◌, ◌≤◌, ℕ, Bool, true, false, List, length, map, take, Option, None, Some, slice_get}
 use Rattle.std.specs.List.{All, Contains, IsDistinct}
 use Rattle.bq_label.specs.declared.packages.BuildFile.{BuildFile}
 use Rattle.bq_label.specs.Label.{LabelParts}
@@ -23,6 +23,10 @@ pub record Explores (inputs : InputParts) (ls : List LabelParts) (ms : List Modu
   pub only : (l : LabelParts) → Contains ls l → IsModule inputs l
   pub builds : (b : BuildFile) (l : LabelParts) → Contains inputs.packages b → build_label b ≡ Some l → Contains ls l
   pub closed : (m l : LabelParts) → Contains (take (length ms) ls) m → Contains (loads_of inputs m) l → Contains ls l
+
+-- the module is that of the label at this place
+abbrev pub IsModuleAt : InputParts → List LabelParts → ℕ → Module → Type 0
+IsModuleAt inputs ls place m = (l : LabelParts) × (slice_get ls place ≡ Some l) × (m ≡ module_of inputs l)
 
 -- one more module is read, where so many were; or all that was found is read
 abbrev pub AfterReading : Bool → ℕ → List LabelParts → List Module → Type 0

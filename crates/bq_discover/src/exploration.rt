@@ -1,10 +1,12 @@
 //! The modules of a workspace, found along loads.
 
-ghost use Rattle.std.specs.Prelude.{◌≡◌, [], ◌++◌, length, Option, IfOk, OnOk, option_to_list};
+ghost use Rattle.std.specs.Prelude.{◌≡◌, ◌+◌, [], ◌++◌, length, Option, IfOk, OnOk, option_to_list};
 ghost use Rattle.bq_label.specs.Packages.{build_label};
 ghost use Rattle.bq_label_set.specs.Labels.{with_labels};
+ghost use Rattle.bq_front.specs.Front.{loads_by};
+ghost use Rattle.bq_front.specs.Inputs.{InputParts};
 ghost use Rattle.bq_discover.specs.Modules.{build_labels};
-ghost use Rattle.bq_discover.specs.Exploring.{Explores, AfterReading, Finds};
+ghost use Rattle.bq_discover.specs.Exploring.{Explores, IsModuleAt, AfterReading, Finds};
 
 use crate::modules::Module;
 use bq_board::MAX_MODULES;
@@ -15,9 +17,9 @@ use std::alloc::{AllocError, Global};
 
 /// The labels of modules that were found, and the modules of the first of them, which are read.
 #[derive(Drop)]
-struct Exploration {
-    found: LabelSet,
-    read: Vec<Module>,
+pub(crate) struct Exploration {
+    pub(crate) found: LabelSet,
+    pub(crate) read: Vec<Module>,
 }
 
 /// Finds the package's BUILD file.
@@ -49,14 +51,24 @@ fn build_labels(alloc: Global, packages: &Packages) -> Result<LabelSet, AllocErr
 
 impl Exploration {
     /// The BUILD files are found, and nothing is read.
-    fn new(alloc: Global, inputs: &Inputs<'_>) -> Result<Exploration, AllocError>
-        ensures begins { IfOk result (λ e. Explores inputs.now e.found e.read.items) }
-        ensures unread { IfOk result (λ e. e.read.items ≡ []) }
+    pub(crate) fn new(alloc: Global, inputs: &Inputs<'_>) -> Result<Exploration, AllocError>
+        ensures { IfOk result (λ e. Explores inputs.now e.found e.read.items) }
     {
         Ok(Exploration {
             found: build_labels(alloc, inputs.packages())?,
             read: Vec::new(alloc),
         })
+    }
+
+    /// The next module is read: finds what it loads.
+    pub(crate) fn put(&mut self, next: Module) -> Result<(), AllocError>
+        ensures explores { (inputs : InputParts) → Explores inputs self.old.found self.old.read.items → IsModuleAt inputs self.old.found (length self.old.read.items) next → OnOk result (Explores inputs self.new.found self.new.read.items) }
+        ensures more { OnOk result (length self.new.read.items ≡ length self.old.read.items + 1) }
+        ensures found { OnOk result (self.new.found ≡ with_labels self.old.found (loads_by next.front)) }
+    {
+        self.found.add_all(next.loads())?;
+        self.read.push(next)?;
+        Ok(())
     }
 
     /// Reads the next module and finds what it loads. It is false where all that was found is read.
@@ -69,21 +81,35 @@ impl Exploration {
             return Ok(false);
         };
         let next = Module::of(alloc, inputs, label)?;
-        self.found.add_all(next.loads())?;
-        self.read.push(next)?;
+        self.put(next)?;
         Ok(true)
     }
+}
+
+/// All modules of a workspace, where some are read; none where there are too many.
+pub(crate) fn read_rest(
+    alloc: Global,
+    inputs: &Inputs<'_>,
+    mut exploration: Exploration,
+) -> Result<Option<Vec<Module>>, AllocError>
+    requires { Explores inputs.now exploration.found exploration.read.items }
+    ensures { IfOk result (Finds inputs.now) }
+{
+    for _ in 0..MAX_MODULES + 1 {
+        if exploration.read.len() > MAX_MODULES {
+            return Ok(None);
+        }
+        if !exploration.read_next(alloc, inputs)? {
+            return Ok(Some(exploration.read));
+        }
+    }
+    Ok(None)
 }
 
 /// The modules of a workspace in the order in which they are found; none where there are too many.
 pub(crate) fn explore(alloc: Global, inputs: &Inputs<'_>) -> Result<Option<Vec<Module>>, AllocError>
     ensures { IfOk result (Finds inputs.now) }
 {
-    let mut exploration = Exploration::new(alloc, inputs)?;
-    for _ in 0..MAX_MODULES + 1 {
-        if !exploration.read_next(alloc, inputs)? {
-            return Ok(Some(exploration.read));
-        }
-    }
-    Ok(None)
+    let exploration = Exploration::new(alloc, inputs)?;
+    read_rest(alloc, inputs, exploration)
 }

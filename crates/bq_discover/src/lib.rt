@@ -4,7 +4,8 @@
 //! that two spellings of a label are one module. A module's number is its place in the order of the bytes of the labels' full forms.
 //!
 //! The promise: [`discover`] gives the one load graph of the workspace, or finds that it has more modules or edges than a load graph
-//! may have (`specs/LoadGraph.antt`). Each file is read once, and nothing recurs along loads.
+//! may have (`specs/LoadGraph.antt`), and [`discover_by_workers`] the same by several threads. Each file is read once, and nothing
+//! recurs along loads.
 //!
 //! In reading order:
 //!
@@ -12,6 +13,7 @@
 //! - `schema`: the schema of a workspace;
 //! - `modules`: a module, and what its file gives;
 //! - `exploration`: the modules, found along loads;
+//! - `waves`: the same by several threads, which read at once what is found;
 //! - `order`: the modules in the order of their labels;
 //! - `edges`: which module loads which, by their numbers;
 //! - `load_graph`, `discovery`: the load graph, and how it is made of a workspace;
@@ -27,8 +29,9 @@ mod load_graph;
 mod modules;
 mod order;
 mod schema;
+mod waves;
 
-pub use discovery::discover;
+pub use discovery::{discover, discover_by_workers};
 pub use laws::{modules_have_files, one_load_graph, too_many_for_a_load_graph};
 pub use load_err::LoadErr;
 pub use load_graph::LoadGraph;
