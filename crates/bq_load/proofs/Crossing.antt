@@ -1,0 +1,10 @@
+-- values, and modules whose evaluation has ended
+pub mod Values
+-- the trees of resolved files
+pub mod Trees
+-- files, packages and schemas
+pub mod Workspaces
+-- the targets of packages
+pub mod Targets
+-- modules that were evaluated, and what decides their outcomes
+pub mod Modules

@@ -1,0 +1,33 @@
+-- Modules that were evaluated may cross threads, and what decides the outcomes of all may be shared by them.
+use denote.Ref.{NamedLft}
+use denote.RattleType.{RattleType}
+use denote.Param.Send.{IsSend, IsSync, sendable}
+use Rattle.std.proofs.Crossing.{crosses}
+use Rattle.std.proofs.hash.BuildHasherDefault.TheSendSync as Builder
+use Rattle.std.proofs.hash.FoldHasher.TheSendSync as Hasher
+use Rattle.bq_source.proofs.fault.Fault.TheSendSync as Fault
+use Rattle.bq_host.specs.contracts.built_ins.BuiltIns as BuiltIns
+use Rattle.bq_load.specs.contracts.outcome.LoadedModule as LoadedModule
+use Rattle.bq_load.specs.contracts.source.Source as Source
+use Rattle.bq_load.specs.contracts.evaluator.Evaluator as Evaluator
+use Rattle.bq_load.proofs.Crossing.Values.{frozen_send, frozen_sync}
+use Rattle.bq_load.proofs.Crossing.Trees.{resolved_sync}
+use Rattle.bq_load.proofs.Crossing.Targets.{package_send, package_sync}
+use Rattle.bq_load.proofs.Crossing.Workspaces.{label_send, label_sync, workspace_sync, packages_sync, schema_sync}
+
+pub loaded_send : IsSend (LoadedModule.the_field).row
+loaded_send = let fs = frozen_send in let fy = frozen_sync in let p = package_send in search (crosses, sendable) depth 60 fits 20000
+
+pub loaded_sync : IsSync (LoadedModule.the_field).row
+loaded_sync = let fs = frozen_send in let fy = frozen_sync in let p = package_sync in search (crosses, sendable) depth 60 fits 20000
+
+pub built_ins_sync : IsSync (BuiltIns.the_field).row
+built_ins_sync = search (Builder.the_sync, Hasher.the_sync, crosses, sendable) depth 60 fits 100000
+
+pub source_sync : IsSync (Source.the_field).row
+source_sync = let ls = label_send in let ly = label_sync in search (Fault.the_sync, crosses, sendable) depth 60 fits 20000
+
+pub evaluator_sync : (a : NamedLft) (T : RattleType) → IsSync T → IsSync (Evaluator.the_row a T)
+evaluator_sync a T gate =
+    let w = workspace_sync in let p = packages_sync in let s = schema_sync in let b = built_ins_sync in let o = source_sync in let r = resolved_sync in
+    search (crosses, sendable) depth 60 fits 20000

@@ -1,0 +1,39 @@
+-- Targets and packages may cross threads.
+use denote.Param.Send.{IsSend, IsSync, sendable}
+use Rattle.std.proofs.Crossing.{crosses}
+use Rattle.bq_target.specs.contracts.value.AttributeValue as AttributeValue
+use Rattle.bq_target.specs.contracts.value.GivenAttribute as GivenAttribute
+use Rattle.bq_target.specs.contracts.target.TargetKind as TargetKind
+use Rattle.bq_target.specs.contracts.target.Target as Target
+use Rattle.bq_target.specs.contracts.package.Package as Package
+use Rattle.bq_load.proofs.Crossing.Workspaces.{label_send, label_sync}
+
+pub value_send : IsSend (AttributeValue.the_field).row
+value_send = let l = label_send in search (crosses, sendable) depth 60 fits 20000
+
+pub value_sync : IsSync (AttributeValue.the_field).row
+value_sync = let l = label_sync in search (crosses, sendable) depth 60 fits 20000
+
+pub given_send : IsSend (GivenAttribute.the_field).row
+given_send = let v = value_send in search (crosses, sendable) depth 60 fits 20000
+
+pub given_sync : IsSync (GivenAttribute.the_field).row
+given_sync = let v = value_sync in search (crosses, sendable) depth 60 fits 20000
+
+pub kind_send : IsSend (TargetKind.the_field).row
+kind_send = let l = label_send in search (crosses, sendable) depth 60 fits 20000
+
+pub kind_sync : IsSync (TargetKind.the_field).row
+kind_sync = let l = label_sync in search (crosses, sendable) depth 60 fits 20000
+
+pub target_send : IsSend (Target.the_field).row
+target_send = let l = label_send in let k = kind_send in let g = given_send in search (crosses, sendable) depth 60 fits 20000
+
+pub target_sync : IsSync (Target.the_field).row
+target_sync = let l = label_sync in let k = kind_sync in let g = given_sync in search (crosses, sendable) depth 60 fits 20000
+
+pub package_send : IsSend (Package.the_field).row
+package_send = let l = label_send in let t = target_send in search (crosses, sendable) depth 60 fits 20000
+
+pub package_sync : IsSync (Package.the_field).row
+package_sync = let l = label_sync in let t = target_sync in search (crosses, sendable) depth 60 fits 20000

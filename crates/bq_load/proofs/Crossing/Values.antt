@@ -1,0 +1,46 @@
+-- Values and frozen modules may cross threads.
+use denote.Param.Send.{IsSend, IsSync, sendable}
+use Rattle.std.proofs.Crossing.{crosses}
+use Rattle.std.proofs.hash.BuildHasherDefault.TheSendSync as Builder
+use Rattle.std.proofs.hash.FoldHasher.TheSendSync as Hasher
+use Rattle.indexmap.proofs.map.IndexMap.TheSendSync as Map
+use Rattle.bq_value.proofs.value.Value.TheLaws.TheKnot as Knot
+use Rattle.bq_value.specs.contracts.value.Value as Value
+use Rattle.bq_value.specs.contracts.key.Key as Key
+use Rattle.bq_value.specs.contracts.dict.Dict as Dict
+use Rattle.bq_value.specs.contracts.content.Content as Content
+use Rattle.bq_value.specs.contracts.frozen.Frozen as Frozen
+
+pub value_send : IsSend (Value.the_field).row
+value_send = search (crosses, Knot.crosses, sendable) depth 60 fits 20000
+
+pub value_sync : IsSync (Value.the_field).row
+value_sync = search (crosses, Knot.crosses, sendable) depth 60 fits 20000
+
+pub key_send : IsSend (Key.the_field).row
+key_send = let s = value_send in search (crosses, sendable) depth 60 fits 20000
+
+pub key_sync : IsSync (Key.the_field).row
+key_sync = let y = value_sync in search (crosses, sendable) depth 60 fits 20000
+
+pub dict_send : IsSend (Dict.the_field).row
+dict_send = let v = value_send in let k = key_send in search (Map.the_send, Builder.the_send, Hasher.the_send, crosses, sendable) depth 60 fits 20000
+
+pub dict_sync : IsSync (Dict.the_field).row
+dict_sync = let v = value_sync in let k = key_sync in search (Map.the_sync, Builder.the_sync, Hasher.the_sync, crosses, sendable) depth 60 fits 20000
+
+pub content_send : IsSend (Content.the_field).row
+content_send = let v = value_send in let k = dict_send in search (crosses, sendable) depth 60 fits 20000
+
+pub content_sync : IsSync (Content.the_field).row
+content_sync = let v = value_sync in let k = dict_sync in search (crosses, sendable) depth 60 fits 20000
+
+pub frozen_send : IsSend (Frozen.the_field).row
+frozen_send =
+    let vs = value_send in let vy = value_sync in let cs = content_send in let cy = content_sync in
+    search (Map.the_send, Builder.the_send, Hasher.the_send, crosses, sendable) depth 60 fits 20000
+
+pub frozen_sync : IsSync (Frozen.the_field).row
+frozen_sync =
+    let vs = value_send in let vy = value_sync in let cs = content_send in let cy = content_sync in
+    search (Map.the_sync, Builder.the_sync, Hasher.the_sync, crosses, sendable) depth 60 fits 20000

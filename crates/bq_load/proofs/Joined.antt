@@ -1,0 +1,43 @@
+-- What is read of a workspace is what its load graph decides, and what that gives is what loading the workspace gives.
+use Rattle.std.proofs.Common.{◌≡◌, ◌∙◌, ℕ, List, [], map, length, Option, Ok, sym, ap, subst}
+use Rattle.std.proofs.lemmas.List.{length-map}
+use Rattle.bq_label.specs.declared.workspace.File.{File}
+use Rattle.bq_label.specs.declared.packages.BuildFile.{BuildFile}
+use Rattle.bq_label.specs.Packages.{packages_of}
+use Rattle.bq_scope.specs.Names.{Name, with_each, with_name}
+use Rattle.bq_scope.specs.declared.code.Resolved.{Resolved}
+use Rattle.bq_schema.specs.Schema.{Rules}
+use Rattle.bq_board.specs.Graph.{Loads}
+use Rattle.bq_discover.specs.declared.modules.Module.{Module}
+use Rattle.bq_discover.specs.LoadGraph.{GraphParts, IsNumbered, IsLoadGraph, inputs_of}
+use Rattle.bq_load.specs.declared.source.Source.{Source}
+use Rattle.bq_load.specs.declared.loaded.Loaded.{Loaded}
+use Rattle.bq_load.specs.Sources.{LoadingParts, source_of, code_of, loading_in}
+use Rattle.bq_load.specs.Loaded.{IsLoaded, IsReading, LoadsWorkspace}
+
+abbrev parts : List Source → List (Option Resolved) → List File → List BuildFile → Rules → List Name → ℕ → LoadingParts
+parts sources code files packages rules names limit = record { sources = sources; code = code; files = files; packages = packages; rules = rules; names = names; limit = limit }
+
+module _ (files : List File) (rules : Rules) (limit : ℕ) where
+  decided : (g : GraphParts) (sources : List Source) (code : List (Option Resolved)) (packages : List BuildFile) (names : List Name)
+      → sources ≡ map source_of g.modules → code ≡ map code_of g.modules → packages ≡ packages_of files → names ≡ with_each with_name [] rules.names
+      → parts sources code files packages rules names limit ≡ loading_in files rules limit g
+  decided g sources code packages names a b c d = λ i. parts (a i) (b i) files (c i) rules (d i) limit
+
+  as_wide : (g : GraphParts) → IsNumbered g → length g.edges ≡ length g.modules
+  as_wide g n = n.long ∙ (sym (ap length n.named) ∙ length-map g.modules (λ (m : Module). m.label))
+
+  pub is_reading : (g : GraphParts) → IsLoadGraph (inputs_of files rules) g → IsNumbered g → (sources : List Source) (code : List (Option Resolved)) (packages : List BuildFile) (names : List Name) (p : Loads)
+      → sources ≡ map source_of g.modules → code ≡ map code_of g.modules → packages ≡ packages_of files → names ≡ with_each with_name [] rules.names → p ≡ g.edges
+      → IsReading files rules limit (parts sources code files packages rules names limit) p
+  is_reading g found numbered sources code packages names p a b c d e = record {
+    graph = g;
+    found = found;
+    decides = decided g sources code packages names a b c d;
+    edges = e;
+    wide = ap length e ∙ (as_wide g numbered ∙ (sym (length-map g.modules source_of) ∙ sym (ap length a)));
+  }
+
+  pub loads_it : (x : LoadingParts) (p : Loads) (l : Loaded) → IsReading files rules limit x p → IsLoaded x p l → LoadsWorkspace files rules limit (Ok l)
+  loads_it x p l r h =
+      (r.graph, r.found, subst (λ (q : Loads). IsLoaded (loading_in files rules limit r.graph) q l) r.edges (subst (λ (y : LoadingParts). IsLoaded y p l) r.decides h))

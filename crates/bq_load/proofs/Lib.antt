@@ -1,0 +1,12 @@
+-- the packages of modules ascend
+pub mod Ascending
+-- what may cross threads
+mod Crossing
+-- what an evaluation ends in, where its run is known
+pub mod Endings
+-- what the load graph of a workspace decides
+pub mod Joined
+-- modules with their outcomes, one after another
+pub mod Listed
+-- fault lines that are put one after another
+pub mod Put

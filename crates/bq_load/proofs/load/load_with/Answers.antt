@@ -1,0 +1,12 @@
+use denote.Param.Send.{sendable}
+use Rattle.bq_load.proofs.Crossing.Modules.{loaded_send, loaded_sync, evaluator_sync}
+use Rattle.bq_load.proofs.load.load_with.Goals as goal
+
+pub outcomes_by_workers-requires-send-E-Value : goal.outcomes_by_workers-requires-send-E-Value
+outcomes_by_workers-requires-send-E-Value g c κs = let l = loaded_send in search sendable depth 60 fits 20000
+
+pub outcomes_by_workers-requires-sync-E-Value : goal.outcomes_by_workers-requires-sync-E-Value
+outcomes_by_workers-requires-sync-E-Value g c κs = let l = loaded_sync in search sendable depth 60 fits 20000
+
+pub outcomes_by_workers-requires-sync-E : goal.outcomes_by_workers-requires-sync-E
+outcomes_by_workers-requires-sync-E g c κs within = search (evaluator_sync, sendable) depth 60 fits 20000

@@ -1,0 +1,82 @@
+-- What a module evaluates to, by the modules that it loads: its own fault; else the first symbol that they lack; else what its statements
+-- give, run on a fresh machine with all its steps.
+use Rattle.std.specs.Prelude.{ℕ, List, [], map, Option, Some, None, Result, Ok, Err, slice_get, option_map}
+use Rattle.bq_source.specs.declared.fault.Fault.{Fault}
+use Rattle.bq_source.specs.declared.fault.FaultKind.TheVariants as f
+use Rattle.bq_source.specs.Fault.{fault_at}
+use Rattle.bq_grammar.specs.declared.tree.FileKind.{FileKind}
+use Rattle.bq_grammar.specs.declared.tree.FileKind.TheVariants as kinds
+use Rattle.bq_label.specs.Label.{LabelParts, package_of}
+use Rattle.bq_label_set.specs.Labels.{with_labels}
+use Rattle.bq_scope.specs.declared.code.Resolved.{Resolved}
+use Rattle.bq_value.specs.Datum.{Datum}
+use Rattle.bq_machine.specs.Action.{Run}
+use Rattle.bq_machine.specs.State.{State}
+use Rattle.bq_meaning.specs.Frame.{Frame}
+use Rattle.bq_module.specs.Module.{Ended, evaluated, failed, ended, kept_after, module_run}
+use Rattle.bq_target.specs.Package.{no_targets, finished}
+use Rattle.bq_package.specs.Calls.{HeldPackage, meaning}
+use Rattle.bq_front.specs.Front.{kind_of}
+use Rattle.bq_load.specs.declared.source.Source.{Source}
+use Rattle.bq_load.specs.Views.{ModuleView, FailedView, not_evaluated}
+use Rattle.bq_load.specs.Sources.{LoadingParts}
+use Rattle.bq_load.specs.Imports.{LoadedParts, imports}
+
+-- ---- a file that is evaluated
+
+abbrev pub kept_by : LoadingParts → LabelParts → FileKind → HeldPackage
+kept_by x l kinds.Bzl = None
+kept_by x l kinds.Build = Some (record { place = record { own = package_of l; files = x.files; packages = x.packages; rules = x.rules }; «package» = no_targets l })
+
+-- a BUILD file begins with a package without targets; a .bzl file has none
+abbrev pub kept_first : LoadingParts → LabelParts → HeldPackage
+kept_first x l = kept_by x l (kind_of l)
+
+-- the statements of a file run as the module of this number, with these modules loaded and a value for each clause of its loads
+unfoldable pub evaluation : LoadingParts → ℕ → LabelParts → Resolved → List ModuleView → List Datum → Run (State × HeldPackage) Frame
+evaluation x m l file modules values = module_run x.names meaning x.code m file (map (λ v. v.frozen) modules) values x.limit (kept_first x l)
+
+-- what an evaluation ends in, and the package that is kept then
+abbrev pub module_by : Ended → HeldPackage → Result ModuleView FailedView
+module_by (evaluated frozen prints) kept = Ok (record { frozen = frozen; prints = prints; «package» = option_map (λ d. finished d.package) kept })
+module_by (failed why prints) kept = Err (record { fault = why; prints = prints })
+
+abbrev pub or_nothing : Option HeldPackage → HeldPackage
+or_nothing None = None
+or_nothing (Some kept) = kept
+
+unfoldable pub module_after : Resolved → List Datum → Run (State × HeldPackage) Frame → Result ModuleView FailedView
+module_after file values run = module_by (ended file values run) (or_nothing (kept_after run))
+
+-- ---- a module
+
+abbrev pub loaded_parts : LoadingParts → Source → List ModuleView → LoadedParts
+loaded_parts x s modules = record { files = with_labels [] s.loads; modules = modules; code = x.code }
+
+abbrev pub by_imports : LoadingParts → ℕ → LabelParts → Resolved → List ModuleView → Result (List Datum) Fault → Result ModuleView FailedView
+by_imports x m l file modules (Err why) = Err (not_evaluated why)
+by_imports x m l file modules (Ok values) = module_after file values (evaluation x m l file modules values)
+
+unfoldable pub file_means : LoadingParts → ℕ → Source → Resolved → List ModuleView → Result ModuleView FailedView
+file_means x m s file modules = by_imports x m s.label file modules (imports (loaded_parts x s modules) [] file.loads s.loads)
+
+-- a module without a file, which no load graph has, is F31
+abbrev pub or_no_file : Option Fault → Fault
+or_no_file None = fault_at f.NoSuchFile 0
+or_no_file (Some why) = why
+
+abbrev pub code_in : Option (Option Resolved) → Option Resolved
+code_in None = None
+code_in (Some code) = code
+
+abbrev pub by_code : LoadingParts → ℕ → Source → List ModuleView → Option Resolved → Result ModuleView FailedView
+by_code x m s modules None = Err (not_evaluated (or_no_file s.fault))
+by_code x m s modules (Some file) = file_means x m s file modules
+
+abbrev pub by_source : LoadingParts → ℕ → List ModuleView → Option Source → Result ModuleView FailedView
+by_source x m modules None = Err (not_evaluated (or_no_file None))
+by_source x m modules (Some s) = by_code x m s modules (code_in (slice_get x.code m))
+
+-- what module m evaluates to, by the modules of the files that its loads name, each once, in the order in which they first name them
+unfoldable pub means : LoadingParts → ℕ → List ModuleView → Result ModuleView FailedView
+means x m modules = by_source x m modules (slice_get x.sources m)

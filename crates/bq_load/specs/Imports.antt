@@ -1,0 +1,81 @@
+-- What a file gets of the modules that it loads (Bazel, "BUILD files" on load statements): the global of the symbol's name that the other
+-- file itself binds, unless its name begins with `_`.
+use Rattle.std.specs.Prelude.{ℕ, List, [], ◌∷◌, ◌++◌, nat_eq, bytes_eq, Bool, Option, Some, None, Result, Ok, Err, slice_get, codes, option_and_then, if◌then◌else◌}
+use Rattle.std.specs.List.{starts_with}
+use Rattle.bq_source.specs.declared.fault.Fault.{Fault}
+use Rattle.bq_source.specs.declared.fault.FaultKind.{FaultKind}
+use Rattle.bq_source.specs.declared.fault.FaultKind.TheVariants as f
+use Rattle.bq_label.specs.Label.{LabelParts}
+use Rattle.bq_scope.specs.Names.{Name}
+use Rattle.bq_scope.specs.declared.code.LoadStmt.{LoadStmt}
+use Rattle.bq_scope.specs.declared.code.LoadedSymbol.{LoadedSymbol}
+use Rattle.bq_scope.specs.declared.code.Resolved.{Resolved}
+use Rattle.bq_value.specs.Datum.{Datum}
+use Rattle.bq_front.specs.Code.{◌>>=◌}
+use Rattle.bq_discover.specs.Edges.{number_in}
+use Rattle.bq_load.specs.declared.imports.LoadedFiles.{LoadedFiles}
+use Rattle.bq_load.specs.Views.{ModuleView, module_views}
+
+-- what a file loads: the files that its loads name, each once, in the order in which they are first named; a module for each of them; and
+-- the code of all modules by their numbers
+pub record LoadedParts : Type 0 where
+  pub files : List LabelParts
+  pub modules : List ModuleView
+  pub code : List (Option Resolved)
+
+abbrev pub loaded_of : LoadedFiles → LoadedParts
+loaded_of x = record { files = x.files.now; modules = module_views x.modules.now; code = x.code.now }
+
+-- the module of a file that a load names
+unfoldable pub module_named : LoadedParts → LabelParts → Option ModuleView
+module_named x l = option_and_then (slice_get x.modules) (number_in x.files l)
+
+-- ---- a symbol
+
+-- the value in the place in which its name is
+unfoldable pub value_named : Name → List Name → List Datum → Option Datum
+value_named name [] vs = None
+value_named name (n ∷ ns) [] = None
+value_named name (n ∷ ns) (v ∷ vs) = if bytes_eq name n then Some v else value_named name ns vs
+
+abbrev pub globals_by : Option (Option Resolved) → List Name
+globals_by None = []
+globals_by (Some None) = []
+globals_by (Some (Some file)) = file.globals
+
+-- the value of a module's global
+abbrev pub global_of : List (Option Resolved) → ModuleView → Name → Option Datum
+global_of code m name = value_named name (globals_by (slice_get code m.frozen.own)) m.frozen.cells.globals
+
+abbrev pub global_by : List (Option Resolved) → Option ModuleView → Name → Option Datum
+global_by code None name = None
+global_by code (Some m) name = global_of code m name
+
+abbrev pub is_private : Name → Bool
+is_private name = starts_with nat_eq name (codes "_")
+
+abbrev pub or_no_symbol : Option Datum → Result Datum FaultKind
+or_no_symbol None = Err f.NoSymbol
+or_no_symbol (Some v) = Ok v
+
+-- what a module exports by this name: F34 where it is private, else F33 where the module has no such global
+unfoldable pub exported : List (Option Resolved) → Option ModuleView → Name → Result Datum FaultKind
+exported code m name = if is_private name then Err f.PrivateSymbol else or_no_symbol (global_by code m name)
+
+-- ---- loads
+
+-- a fault names the line of the load and the symbol
+abbrev pub at_symbol : ℕ → Name → Result Datum FaultKind → Result Datum Fault
+at_symbol line name (Ok v) = Ok v
+at_symbol line name (Err kind) = Err (record { kind = kind; line = line; detail = name })
+
+-- the values so far, and one for each of these clauses; or the fault of the first bad one
+unfoldable pub clause_values : List (Option Resolved) → Option ModuleView → ℕ → List Datum → List LoadedSymbol → Result (List Datum) Fault
+clause_values code m line done [] = Ok done
+clause_values code m line done (c ∷ cs) = at_symbol line c.symbol (exported code m c.symbol) >>= λ v. clause_values code m line (done ++ v ∷ []) cs
+
+-- the values so far, and those of the clauses of these loads, which name these files
+unfoldable pub imports : LoadedParts → List Datum → List LoadStmt → List LabelParts → Result (List Datum) Fault
+imports x done [] ls = Ok done
+imports x done (s ∷ ss) [] = Ok done
+imports x done (s ∷ ss) (l ∷ ls) = clause_values x.code (module_named x l) s.line done s.clauses >>= λ vs. imports x vs ss ls

@@ -1,0 +1,6 @@
+pub mod Views
+pub mod Sources
+pub mod Imports
+pub mod Evaluation
+pub mod Results
+pub mod Loaded

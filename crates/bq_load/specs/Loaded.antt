@@ -1,0 +1,113 @@
+-- What loading a workspace gives: its modules with their outcomes, the packages, the fault lines and the print lines.
+use Rattle.std.specs.Prelude.{◌≡◌, ℕ, ◌++◌, List, [], ◌∷◌, length, map, Option, Some, None, Result, Ok, Err, slice_get, codes, option_map, option_and_then, if◌then◌else◌}
+use Rattle.std.specs.List.{flat_map, filter_map}
+use Rattle.std.specs.List.Sorted.{IsStrictlySortedBy}
+use Rattle.bq_fault_line.specs.declared.fault_line.FaultLine.{FaultLine}
+use Rattle.bq_fault_line.specs.FaultLine.{sorted_lines}
+use Rattle.bq_label.specs.declared.workspace.File.{File}
+use Rattle.bq_label.specs.declared.packages.BuildFile.{BuildFile}
+use Rattle.bq_label.specs.Label.{LabelParts, package_of, full_form}
+use Rattle.bq_label.specs.Packages.{build_label, id_cmp}
+use Rattle.bq_label_set.specs.Labels.{with_labels}
+use Rattle.bq_schema.specs.Schema.{Rules}
+use Rattle.bq_target.specs.Target.{is_of}
+use Rattle.bq_target.specs.Package.{PackageTargets, no_targets}
+use Rattle.bq_board.specs.Graph.{Loads}
+use Rattle.bq_discover.specs.declared.load_err.LoadErr.{LoadErr}
+use Rattle.bq_discover.specs.declared.load_err.LoadErr.TheVariants as e
+use Rattle.bq_discover.specs.Edges.{number_in}
+use Rattle.bq_discover.specs.Modules.{AreTooMany}
+use Rattle.bq_discover.specs.LoadGraph.{GraphParts, IsLoadGraph, inputs_of}
+use Rattle.bq_load.specs.declared.loaded.Loaded.{Loaded}
+use Rattle.bq_load.specs.Views.{ModuleView, FailedView, OutcomeView, outcome_view}
+use Rattle.bq_load.specs.Sources.{LoadingParts, loading_in}
+use Rattle.bq_load.specs.Results.{outcomes}
+
+-- ---- packages
+
+abbrev pub labels_of : List OutcomeView → List LabelParts
+labels_of os = map (λ o. o.label) os
+
+-- a BUILD file's package is of its directory; another, which no evaluation makes, doesn't count
+abbrev pub own_package : LabelParts → Option PackageTargets → PackageTargets
+own_package l None = no_targets l
+own_package l (Some p) = if is_of (package_of l) p.build_file then p else no_targets l
+
+-- the package of a BUILD file: one without targets where it failed
+abbrev pub package_by : LabelParts → Result ModuleView FailedView → PackageTargets
+package_by l (Ok m) = own_package l m.package
+package_by l (Err m) = no_targets l
+
+-- the package of the BUILD file of this label, which is one of the modules
+unfoldable pub package_at : List OutcomeView → LabelParts → Option PackageTargets
+package_at os l = option_map (λ o. package_by l o.result) (option_and_then (slice_get os) (number_in (with_labels [] (labels_of os)) l))
+
+abbrev pub package_in : List OutcomeView → BuildFile → Option PackageTargets
+package_in os b = option_and_then (package_at os) (build_label b)
+
+-- the packages of the workspace, in their order
+abbrev pub packages_in : List BuildFile → List OutcomeView → List PackageTargets
+packages_in bs os = filter_map (package_in os) bs
+
+-- packages in the order of their repositories and paths, none of them twice
+abbrev pub PackagesAscend : List PackageTargets → Type 0
+PackagesAscend ps = IsStrictlySortedBy (λ p q. id_cmp (package_of p.build_file) (package_of q.build_file)) ps
+
+-- ---- lines
+
+abbrev pub line_of : LabelParts → FailedView → FaultLine
+line_of l m = record { label = full_form l; line = m.fault.line; kind = m.fault.kind; detail = m.fault.detail }
+
+abbrev pub lines_by : LabelParts → Result ModuleView FailedView → List FaultLine
+lines_by l (Ok m) = []
+lines_by l (Err m) = line_of l m ∷ []
+
+-- the line of a module that failed
+abbrev pub lines_of : OutcomeView → List FaultLine
+lines_of o = lines_by o.label o.result
+
+abbrev pub fault_lines : List OutcomeView → List FaultLine
+fault_lines os = flat_map lines_of os
+
+-- `LABEL: TEXT` and a newline
+abbrev pub print_line : List ℕ → List ℕ → List ℕ
+print_line form text = form ++ (codes ": " ++ (text ++ 10 ∷ []))
+
+abbrev pub prints_by : Result ModuleView FailedView → List (List ℕ)
+prints_by (Ok m) = m.prints
+prints_by (Err m) = m.prints
+
+-- what a module printed, also one that failed then
+abbrev pub prints_of : OutcomeView → List ℕ
+prints_of o = flat_map (print_line (full_form o.label)) (prints_by o.result)
+
+-- modules by their labels, in each by the order of its calls
+abbrev pub print_lines : List OutcomeView → List ℕ
+print_lines os = flat_map prints_of os
+
+-- ---- all
+
+-- what these sources and loads give
+pub record IsLoaded (x : LoadingParts) (p : Loads) (l : Loaded) : Type 0 where
+  pub modules : map outcome_view l.modules.items ≡ outcomes x p
+  pub packages : l.packages.items ≡ packages_in x.packages (outcomes x p)
+  pub ascend : PackagesAscend l.packages.items
+  pub faults : l.faults ≡ sorted_lines (fault_lines (outcomes x p))
+  pub prints : l.prints.items ≡ print_lines (outcomes x p)
+
+-- there is no load graph, memory aside: there are too many modules or edges
+abbrev pub HasNoGraph : List File → Rules → LoadErr → Type 0
+HasNoGraph files rules why = (why ≡ e.TooManyModules → AreTooMany (inputs_of files rules)) × ((line : ℕ) → ¬ (why ≡ e.Schema line))
+
+-- what the load graph of the workspace gives, with so many steps for each module
+abbrev pub LoadsWorkspace : List File → Rules → ℕ → Result Loaded LoadErr → Type 0
+LoadsWorkspace files rules limit (Ok l) = (g : GraphParts) × IsLoadGraph (inputs_of files rules) g × IsLoaded (loading_in files rules limit g) g.edges l
+LoadsWorkspace files rules limit (Err why) = HasNoGraph files rules why
+
+-- these sources and loads are those of the workspace's load graph
+pub record IsReading (files : List File) (rules : Rules) (limit : ℕ) (x : LoadingParts) (p : Loads) : Type 0 where
+  pub graph : GraphParts
+  pub found : IsLoadGraph (inputs_of files rules) graph
+  pub decides : x ≡ loading_in files rules limit graph
+  pub edges : p ≡ graph.edges
+  pub wide : length p ≡ length x.sources

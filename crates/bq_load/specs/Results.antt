@@ -1,0 +1,55 @@
+-- The outcome of each module, with its fault where it has no value. A module whose loads lead round a cycle is F35 and names its first load
+-- that is cyclic; one with a load that has no value is F36 and names the first of them.
+use Rattle.std.specs.Prelude.{ℕ, ◌+◌, List, [], ◌∷◌, Option, Some, None, Result, Ok, Err, slice_get, bytes_eq, if◌then◌else◌}
+use Rattle.bq_source.specs.declared.fault.Fault.{Fault}
+use Rattle.bq_source.specs.declared.fault.FaultKind.{FaultKind}
+use Rattle.bq_source.specs.declared.fault.FaultKind.TheVariants as f
+use Rattle.bq_source.specs.Fault.{fault_at}
+use Rattle.bq_label.specs.Label.{LabelParts, full_form}
+use Rattle.bq_scope.specs.declared.code.LoadStmt.{LoadStmt}
+use Rattle.bq_scope.specs.declared.code.Resolved.{Resolved}
+use Rattle.bq_board.specs.Graph.{Loads}
+use Rattle.bq_outcome.specs.Outcome.{outcome}
+use Rattle.bq_outcome.specs.declared.outcome.Outcome.{Outcome}
+use Rattle.bq_outcome.specs.declared.outcome.Outcome.TheVariants as o
+use Rattle.bq_load.specs.declared.source.Source.{Source}
+use Rattle.bq_load.specs.Views.{ModuleView, FailedView, OutcomeView, not_evaluated}
+use Rattle.bq_load.specs.Sources.{LoadingParts}
+use Rattle.bq_load.specs.Evaluation.{means, code_in}
+
+-- the line of the first of these loads, which name these files, that names this one
+unfoldable pub line_of_load : LabelParts → List LoadStmt → List LabelParts → ℕ
+line_of_load l [] ls = 0
+line_of_load l (s ∷ ss) [] = 0
+line_of_load l (s ∷ ss) (k ∷ ks) = if bytes_eq (full_form l) (full_form k) then s.line else line_of_load l ss ks
+
+abbrev pub line_by : LabelParts → Source → Option Resolved → ℕ
+line_by l s None = 0
+line_by l s (Some file) = line_of_load l file.loads s.loads
+
+abbrev pub load_fault_by : FaultKind → Source → Option Resolved → Option Source → Fault
+load_fault_by kind s code None = fault_at kind 0
+load_fault_by kind s code (Some loaded) = record { kind = kind; line = line_by loaded.label s code; detail = full_form loaded.label }
+
+-- the fault of module m, which is read from this source, for its load of module k
+unfoldable pub load_fault : LoadingParts → ℕ → Source → FaultKind → ℕ → Fault
+load_fault x m s kind k = load_fault_by kind s (code_in (slice_get x.code m)) (slice_get x.sources k)
+
+abbrev pub result_of : LoadingParts → ℕ → Source → Outcome ModuleView FailedView → Result ModuleView FailedView
+result_of x m s (o.Loaded v) = Ok v
+result_of x m s (o.Faulty e) = Err e
+result_of x m s (o.Cyclic k) = Err (not_evaluated (load_fault x m s f.CycleReached k))
+result_of x m s (o.LoadFailed k) = Err (not_evaluated (load_fault x m s f.LoadFailed k))
+
+-- a module's outcome by the recursion along loads
+abbrev pub outcome_of : LoadingParts → Loads → ℕ → Source → OutcomeView
+outcome_of x p m s = record { label = s.label; result = result_of x m s (outcome (means x) p m) }
+
+-- those of these modules, the first of which has this number
+abbrev pub outcomes_from : LoadingParts → Loads → ℕ → List Source → List OutcomeView
+outcomes_from x p m [] = []
+outcomes_from x p m (s ∷ ss) = outcome_of x p m s ∷ outcomes_from x p (m + 1) ss
+
+-- each module with its outcome
+unfoldable pub outcomes : LoadingParts → Loads → List OutcomeView
+outcomes x p = outcomes_from x p 0 x.sources

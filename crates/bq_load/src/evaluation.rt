@@ -1,0 +1,160 @@
+//! What the statements of a file give.
+
+ghost use Rattle.std.specs.Prelude.{◌≡◌, [], map, option_map, IfOk};
+ghost use Rattle.bq_module.specs.Outcomes.{ended_of, run_of};
+ghost use Rattle.bq_package.specs.Calls.{held_by, meaning};
+ghost use Rattle.bq_target.specs.Package.{finished};
+ghost use Rattle.bq_eval.specs.Round.{views_of};
+ghost use Rattle.bq_source.specs.Gives.{Gives};
+ghost use Rattle.bq_source.specs.declared.fault.SourceErr.TheVariants.{Bad};
+ghost use Rattle.bq_front.specs.Code.{items};
+ghost use Rattle.bq_load_order.specs.Shown.{told};
+ghost use Rattle.bq_load.specs.Views.{module_view, failed_view, module_views};
+ghost use Rattle.bq_load.specs.Sources.{loading_of};
+ghost use Rattle.bq_load.specs.Imports.{imports};
+ghost use Rattle.bq_load.specs.Evaluation.{kept_first, evaluation, module_by, module_after, loaded_parts};
+
+use crate::imports::LoadedFiles;
+use crate::loading::Loading;
+use crate::outcome::{FailedModule, LoadedModule};
+use crate::source::Source;
+use bq_front::kind_of;
+use bq_grammar::FileKind;
+use bq_label::Label;
+use bq_label_set::LabelSet;
+use bq_module::{Evaluated, Outcome, ResolvedModule, eval_module};
+use bq_package::BuildHost;
+use bq_scope::Resolved;
+use bq_source::SourceErr;
+use bq_target::{Package, PackageState};
+use bq_value::{Frozen, Value};
+use std::alloc::{AllocError, Global};
+use std::sync::Arc;
+
+/// The frozen cells of modules.
+fn frozen_of(
+    alloc: Global,
+    modules: &[Arc<LoadedModule, Global>],
+) -> Result<Vec<Arc<Frozen>>, AllocError>
+    ensures { IfOk result (λ all. views_of all.items ≡ map (λ v. v.frozen) (module_views modules.now)) }
+{
+    let mut all = Vec::with_capacity(alloc, modules.len())?;
+    for loaded in modules {
+        all.push(Arc::try_clone(&loaded.frozen)?)?;
+    }
+    Ok(all)
+}
+
+/// The package that a host keeps, with the files that its targets name.
+fn package_of(alloc: Global, kept: Option<PackageState>) -> Result<Option<Package>, AllocError>
+    ensures { IfOk result (λ p. p ≡ option_map finished kept) }
+{
+    match kept {
+        None => Ok(None),
+        Some(state) => Ok(Some(state.finish(alloc)?)),
+    }
+}
+
+/// What an evaluation ends in.
+#[tactic(auto, using(crate::proofs::Endings::finished_of))]
+fn module_by(
+    alloc: Global,
+    evaluated: Evaluated<BuildHost<'_>>,
+) -> Result<Result<LoadedModule, FailedModule>, AllocError>
+    ensures { IfOk result (λ r. told module_view failed_view r ≡ module_by (ended_of evaluated.entry.outcome) (held_by evaluated.entry.host)) }
+{
+    let Evaluated { outcome, host } = evaluated;
+    match outcome {
+        Outcome::Module(frozen, prints) => {
+            let package = package_of(alloc, host.into_package())?;
+            Ok(Ok(LoadedModule {
+                frozen: Arc::new(alloc, frozen)?,
+                prints,
+                package,
+            }))
+        }
+        Outcome::Failed(fault, prints) => Ok(Err(FailedModule { fault, prints })),
+    }
+}
+
+impl<'a> Loading<'a> {
+    /// The host of a file's evaluation: where it is a BUILD file its package has no targets yet.
+    fn host<'b>(&'b self, alloc: Global, label: &'b Label) -> Result<BuildHost<'b>, AllocError>
+        ensures { IfOk result (λ h. held_by h ≡ kept_first (loading_of self.now) label.now) }
+    {
+        match kind_of(label) {
+            FileKind::Bzl => Ok(BuildHost::outside()),
+            FileKind::Build => {
+                let build_file = label.share()?;
+                BuildHost::inside(
+                    alloc,
+                    self.workspace,
+                    self.packages,
+                    self.schema,
+                    label.package_id(),
+                    build_file,
+                )
+            }
+        }
+    }
+
+    /// Runs the statements of a file.
+    fn run(
+        &self,
+        alloc: Global,
+        label: &Label,
+        module: &ResolvedModule<'_>,
+    ) -> Result<Result<LoadedModule, FailedModule>, AllocError>
+        requires { «module».now.code.now ≡ self.now.code.items }
+        ensures { IfOk result (λ r. told module_view failed_view r ≡ module_after «module».now.file.now «module».now.imports.now (run_of self.now.built_ins meaning «module».now self.now.limit (kept_first (loading_of self.now) label.now))) }
+    {
+        let host = self.host(alloc, label)?;
+        let evaluated = eval_module(alloc, &self.built_ins, module, host, self.limit)?;
+        module_by(alloc, evaluated)
+    }
+
+    /// What a file evaluates to, by a value for each clause of its loads.
+    #[tactic(auto, unfolding(crate::specs::Evaluation::evaluation))]
+    pub(crate) fn evaluated(
+        &self,
+        alloc: Global,
+        m: u32,
+        source: &Source,
+        file: &Resolved,
+        modules: &[Arc<LoadedModule, Global>],
+        imports: &[Value],
+    ) -> Result<Result<LoadedModule, FailedModule>, AllocError>
+        ensures { IfOk result (λ r. told module_view failed_view r ≡ module_after file.now imports.now (evaluation (loading_of self.now) m source.now.label file.now (module_views modules.now) imports.now)) }
+    {
+        let loaded = frozen_of(alloc, modules)?;
+        let module = ResolvedModule {
+            number: m,
+            file,
+            loaded: loaded.as_slice(),
+            imports,
+            code: self.code.as_slice(),
+        };
+        // for the proof: the file is run as this module
+        Ok(self.run(alloc, &source.label, &module)?)
+    }
+
+    /// What a file gets of the modules that it loads.
+    pub(crate) fn imports(
+        &self,
+        alloc: Global,
+        source: &Source,
+        file: &Resolved,
+        modules: &[Arc<LoadedModule, Global>],
+    ) -> Result<Vec<Value>, SourceErr>
+        ensures { Gives items Bad result (imports (loaded_parts (loading_of self.now) source.now (module_views modules.now)) [] file.now.loads source.now.loads) }
+    {
+        let mut files = LabelSet::new(alloc);
+        files.add_all(source.loads.as_slice())?;
+        let loaded = LoadedFiles {
+            files: &files,
+            modules,
+            code: self.code.as_slice(),
+        };
+        loaded.imports(alloc, file.loads.as_slice(), source.loads.as_slice())
+    }
+}

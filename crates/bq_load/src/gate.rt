@@ -1,0 +1,21 @@
+//! Who is told of each evaluation.
+
+use bq_label::Label;
+use std::marker::Sync;
+
+/// Is told of each module that is evaluated. What it does changes no outcome.
+pub trait Gate: Sync {
+    /// Whoever evaluates a module calls this once, right before it does. A module whose outcome is known without evaluation doesn't
+    /// enter: one with a fault of its own, one that loads a failed module, and one that loads a symbol that isn't there.
+    fn enter(&self, module: &Label);
+}
+
+/// Does nothing.
+#[derive(Clone, Copy)]
+pub struct OpenGate;
+
+impl Gate for OpenGate {
+    fn enter(&self, module: &Label) {
+        let _ = module;
+    }
+}

@@ -1,0 +1,42 @@
+//! A workspace and its schema come in; its modules go out, each with its outcome, and the fault lines and the print lines that they
+//! give. The outcome of a BUILD file has its package.
+//!
+//! The promise: whatever the workspace, the schema and the number of steps that a module may take, they are those of the definition
+//! (`specs/Loaded.antt`): the outcome of each module is what the recursion along loads gives it, where a module evaluates to what its
+//! file means, by the modules that it loads, on a machine of its own ([`load_one_thread`]). By several workers ([`load_with`]) they are the same.
+//!
+//! Each module is evaluated once, whatever loads it, and no call of a function goes along loads.
+//!
+//! In reading order:
+//!
+//! - `outcome`: a module that was evaluated, and one that failed;
+//! - `source`: what is read of a module before it is evaluated;
+//! - `loading`: what decides the outcomes of all modules;
+//! - `imports`: what a file gets of the modules that it loads;
+//! - `gate`: who is told of each evaluation;
+//! - `evaluation`: what the statements of a file give;
+//! - `evaluator`: what a module evaluates to;
+//! - `results`: the outcomes of modules, with the faults of those that load a failed one;
+//! - `packages`: the packages of BUILD files;
+//! - `lines`: the lines that they give;
+//! - `loaded`: all of it;
+//! - `load`: the loading of a workspace.
+#![tactic(auto)]
+
+mod evaluation;
+mod evaluator;
+mod gate;
+mod imports;
+mod lines;
+mod load;
+mod loaded;
+mod loading;
+mod outcome;
+mod packages;
+mod results;
+mod source;
+
+pub use gate::{Gate, OpenGate};
+pub use load::{load_one_thread, load_with};
+pub use loaded::Loaded;
+pub use outcome::{FailedModule, LoadedModule, ModuleOutcome};

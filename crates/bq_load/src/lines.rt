@@ -1,0 +1,91 @@
+//! The fault lines and the print lines of modules.
+
+ghost use Rattle.std.specs.Prelude.{◌≡◌, ◌++◌, map, IfOk, OnOk};
+ghost use Rattle.std.specs.List.{flat_map};
+ghost use Rattle.bq_fault_line.specs.FaultLine.{put_lines, sorted_lines};
+ghost use Rattle.bq_load.specs.Views.{failed_view, outcome_view};
+ghost use Rattle.bq_load.specs.Loaded.{line_of, lines_of, fault_lines, print_line, prints_by, prints_of, print_lines};
+
+use crate::outcome::{FailedModule, ModuleOutcome};
+use crate::results::shown;
+use bq_fault_line::{FaultLine, FaultLines};
+use bq_label::Label;
+use bq_source::Bytes;
+use std::alloc::{AllocError, Global};
+
+/// The line of a module that failed.
+fn line_of(alloc: Global, label: &Label, failed: &FailedModule) -> Result<FaultLine, AllocError>
+    ensures { IfOk result (λ line. line ≡ line_of label.now (failed_view failed.now)) }
+{
+    Ok(FaultLine {
+        label: shown(alloc, label)?,
+        line: failed.fault.line,
+        kind: failed.fault.kind,
+        detail: failed.fault.detail.share()?,
+    })
+}
+
+/// Adds the line of a module that failed.
+#[tactic(auto, unfolding(bq_fault_line::specs::FaultLine::put_lines))]
+fn add_line(alloc: Global, module: &ModuleOutcome, lines: &mut FaultLines) -> Result<(), AllocError>
+    ensures { OnOk result (lines.new ≡ put_lines lines.old (lines_of (outcome_view «module».now))) }
+{
+    match &module.result {
+        Ok(_) => Ok(()),
+        Err(failed) => {
+            let line = line_of(alloc, &module.label, failed)?;
+            lines.add(line)?;
+            Ok(())
+        }
+    }
+}
+
+/// The fault lines of modules, in order.
+pub(crate) fn fault_lines(
+    alloc: Global,
+    modules: &[ModuleOutcome],
+) -> Result<FaultLines, AllocError>
+    ensures { IfOk result (λ lines. lines ≡ sorted_lines (fault_lines (map outcome_view modules.now))) }
+{
+    let mut lines = FaultLines::new(alloc);
+    for each in modules {
+        add_line(alloc, each, &mut lines)?;
+    }
+    Ok(lines)
+}
+
+/// Appends `LABEL: TEXT` and a newline for each text.
+fn push_prints(text: &mut Vec<u8>, form: &[u8], prints: &[Bytes]) -> Result<(), AllocError>
+    ensures { OnOk result (text.new.items ≡ text.old.items ++ flat_map (print_line form.now) prints.now) }
+{
+    for print in prints {
+        text.extend_from_slice(form)?;
+        text.extend_from_slice(b": ")?;
+        text.extend_from_slice(print.as_slice())?;
+        text.push(b'\n')?;
+    }
+    Ok(())
+}
+
+/// Appends what a module printed.
+fn push_module(alloc: Global, text: &mut Vec<u8>, module: &ModuleOutcome) -> Result<(), AllocError>
+    ensures { OnOk result (text.new.items ≡ text.old.items ++ prints_of (outcome_view «module».now)) }
+{
+    let prints = match &module.result {
+        Ok(loaded) => loaded.prints.as_slice(),
+        Err(failed) => failed.prints.as_slice(),
+    };
+    let form = shown(alloc, &module.label)?;
+    push_prints(text, form.as_slice(), prints)
+}
+
+/// What is printed of the modules: in the order of their labels, in each in the order of its calls.
+pub(crate) fn print_lines(alloc: Global, modules: &[ModuleOutcome]) -> Result<Vec<u8>, AllocError>
+    ensures { IfOk result (λ text. text.items ≡ print_lines (map outcome_view modules.now)) }
+{
+    let mut text = Vec::new(alloc);
+    for each in modules {
+        push_module(alloc, &mut text, each)?;
+    }
+    Ok(text)
+}

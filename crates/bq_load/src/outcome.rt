@@ -1,0 +1,49 @@
+//! A module that was evaluated, and one that failed.
+
+use bq_label::Label;
+use bq_source::{Bytes, Fault};
+use bq_target::Package;
+use bq_value::Frozen;
+use std::alloc::Global;
+use std::sync::Arc;
+
+/// A module that was evaluated.
+#[derive(Drop)]
+pub struct LoadedModule {
+    /// Its globals, and what they hold.
+    pub frozen: Arc<Frozen>,
+    /// What it printed, in order.
+    pub prints: Vec<Bytes>,
+    /// Of a BUILD file, the package with its targets.
+    pub package: Option<Package>,
+}
+
+/// A module that failed.
+#[derive(Drop)]
+pub struct FailedModule {
+    pub fault: Fault,
+    /// What it had printed by then.
+    pub prints: Vec<Bytes>,
+}
+
+/// A module with its outcome.
+#[derive(Drop)]
+pub struct ModuleOutcome {
+    pub label: Label,
+    pub result: Result<Arc<LoadedModule, Global>, FailedModule>,
+}
+
+impl FailedModule {
+    ghost use Rattle.std.specs.Prelude.{◌≡◌};
+    ghost use Rattle.bq_load.specs.Views.{failed_view, not_evaluated};
+
+    /// One that failed before it was evaluated.
+    pub(crate) fn not_evaluated(alloc: Global, fault: Fault) -> FailedModule
+        ensures { failed_view result ≡ not_evaluated fault }
+    {
+        FailedModule {
+            fault,
+            prints: Vec::new(alloc),
+        }
+    }
+}

@@ -1,0 +1,166 @@
+//! The outcomes of modules, with the faults of those that load a failed one.
+
+ghost use Rattle.std.specs.Prelude.{◌≡◌, ◌<◌, length, map, IfOk};
+ghost use Rattle.std.specs.Option.{option_copied};
+ghost use Rattle.bq_label.specs.Label.{full_form};
+ghost use Rattle.bq_outcome.specs.Outcome.{outcome};
+ghost use Rattle.bq_load_order.specs.Shown.{shown as shown_outcome};
+ghost use Rattle.bq_load_order.specs.Slots.{Tabulates};
+ghost use Rattle.bq_load.specs.Views.{module_view, failed_view, result_view, outcome_view};
+ghost use Rattle.bq_load.specs.Sources.{loading_of};
+ghost use Rattle.bq_load.specs.Evaluation.{means, code_in};
+ghost use Rattle.bq_load.specs.Results.{line_of_load, line_by, load_fault, result_of, outcome_of, outcomes};
+
+use crate::loading::Loading;
+use crate::outcome::{FailedModule, LoadedModule, ModuleOutcome};
+use crate::source::{Source, share_fault};
+use bq_board::Graph;
+use bq_label::{Label, print_label};
+use bq_load_order::Shared;
+use bq_outcome::Outcome;
+use bq_scope::{LoadStmt, Resolved};
+use bq_source::{Bytes, Fault, FaultKind};
+use std::alloc::{AllocError, Global};
+use std::sync::Arc;
+
+/// The line of the first of these loads, which name these files, that names this one.
+#[tactic(auto, unfolding(crate::specs::Results::line_of_load))]
+fn line_of_load(label: &Label, loads: &[LoadStmt], files: &[Label]) -> u32
+    ensures { result ≡ line_of_load label.now loads.now files.now }
+{
+    let mut left = files;
+    for load in loads {
+        let Some((file, rest)) = left.split_first() else {
+            return 0;
+        };
+        if label == file {
+            return load.line;
+        }
+        left = rest;
+    }
+    0
+}
+
+fn line_by(label: &Label, source: &Source, code: Option<&Resolved>) -> u32
+    ensures { result ≡ line_by label.now source.now (option_copied code.entry) }
+{
+    match code {
+        None => 0,
+        Some(file) => line_of_load(label, file.loads.as_slice(), source.loads.as_slice()),
+    }
+}
+
+/// The full form of a label.
+pub(crate) fn shown(alloc: Global, label: &Label) -> Result<Bytes, AllocError>
+    ensures { IfOk result (λ text. text ≡ full_form label.now) }
+{
+    Bytes::from_vec(alloc, print_label(alloc, label)?)
+}
+
+/// The same prints.
+fn share_prints(alloc: Global, prints: &[Bytes]) -> Result<Vec<Bytes>, AllocError>
+    ensures { IfOk result (λ ps. ps.items ≡ prints.now) }
+{
+    let mut shared = Vec::with_capacity(alloc, prints.len())?;
+    for text in prints {
+        shared.push(text.share()?)?;
+    }
+    Ok(shared)
+}
+
+fn share_failed(alloc: Global, failed: &FailedModule) -> Result<FailedModule, AllocError>
+    ensures { IfOk result (λ f. failed_view f ≡ failed_view failed.now) }
+{
+    Ok(FailedModule {
+        fault: share_fault(&failed.fault)?,
+        prints: share_prints(alloc, failed.prints.as_slice())?,
+    })
+}
+
+impl<'a> Loading<'a> {
+    /// The fault of a module for its load of module `k`.
+    #[tactic(auto, unfolding(crate::specs::Results::load_fault))]
+    fn load_fault(
+        &self,
+        alloc: Global,
+        m: u32,
+        source: &Source,
+        kind: FaultKind,
+        k: u32,
+    ) -> Result<Fault, AllocError>
+        ensures { IfOk result (λ f. f ≡ load_fault (loading_of self.now) m source.now kind k) }
+    {
+        let Some(loaded) = self.sources.get(k as usize) else {
+            return Ok(Fault::at(kind, 0));
+        };
+        let line = line_by(&loaded.label, source, self.code_of(m));
+        Ok(Fault {
+            kind,
+            line,
+            detail: shown(alloc, &loaded.label)?,
+        })
+    }
+
+    /// What a module comes to, by its outcome along loads.
+    fn result_of(
+        &self,
+        alloc: Global,
+        m: u32,
+        source: &Source,
+        outcome: &Shared<LoadedModule, FailedModule>,
+    ) -> Result<Result<Arc<LoadedModule, Global>, FailedModule>, AllocError>
+        ensures { IfOk result (λ r. result_view r ≡ result_of (loading_of self.now) m source.now (shown_outcome module_view failed_view outcome.now)) }
+    {
+        match outcome {
+            Outcome::Loaded(module) => Ok(Ok(Arc::try_clone(module)?)),
+            Outcome::Faulty(failed) => Ok(Err(share_failed(alloc, failed)?)),
+            Outcome::Cyclic(k) => {
+                let fault = self.load_fault(alloc, m, source, FaultKind::CycleReached, *k)?;
+                Ok(Err(FailedModule::not_evaluated(alloc, fault)))
+            }
+            Outcome::LoadFailed(k) => {
+                let fault = self.load_fault(alloc, m, source, FaultKind::LoadFailed, *k)?;
+                Ok(Err(FailedModule::not_evaluated(alloc, fault)))
+            }
+        }
+    }
+
+    /// A module with its outcome.
+    #[tactic(auto, using(crate::proofs::Listed::found_at))]
+    fn outcome(
+        &self,
+        alloc: Global,
+        edges: &Graph,
+        m: usize,
+        source: &Source,
+        found: &[Shared<LoadedModule, FailedModule>],
+    ) -> Result<ModuleOutcome, AllocError>
+        requires known { m < length edges.now }
+        requires found { Tabulates (length edges.now) (outcome (means (loading_of self.now)) edges.now) (map (shown_outcome module_view failed_view) found.now) }
+        ensures { IfOk result (λ o. outcome_view o ≡ outcome_of (loading_of self.now) edges.now m source.now) }
+    {
+        let _modules = edges.len(); // for the proof: there are no more than a number counts
+        let label = source.label.share()?;
+        let result = self.result_of(alloc, m as u32, source, &found[m])?;
+        Ok(ModuleOutcome { label, result })
+    }
+
+    /// The modules with their outcomes.
+    #[tactic(auto, using(crate::proofs::Listed::next), unfolding(crate::specs::Results::outcomes))]
+    pub(crate) fn outcomes(
+        &self,
+        alloc: Global,
+        edges: &Graph,
+        found: &[Shared<LoadedModule, FailedModule>],
+    ) -> Result<Vec<ModuleOutcome>, AllocError>
+        requires wide { length edges.now ≡ length self.now.sources.items }
+        requires found { Tabulates (length edges.now) (outcome (means (loading_of self.now)) edges.now) (map (shown_outcome module_view failed_view) found.now) }
+        ensures { IfOk result (λ os. map outcome_view os.items ≡ outcomes (loading_of self.now) edges.now) }
+    {
+        let mut all = Vec::with_capacity(alloc, edges.len())?;
+        for (m, source) in self.sources.iter().enumerate() {
+            all.push(self.outcome(alloc, edges, m, source, found)?)?;
+        }
+        Ok(all)
+    }
+}

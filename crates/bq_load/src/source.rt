@@ -1,0 +1,87 @@
+//! What is read of a module before it is evaluated.
+
+ghost use Rattle.std.specs.Prelude.{◌≡◌, ◌++◌, ◌∷◌, [], map, IfOk, OnOk};
+ghost use Rattle.bq_load.specs.Sources.{source_by, code_by, source_of, code_of};
+
+use bq_discover::Module;
+use bq_front::Front;
+use bq_label::Label;
+use bq_scope::Resolved;
+use bq_source::Fault;
+use sqlite_items::Items;
+use std::alloc::{AllocError, Global};
+
+/// What is read of a module: what its loads name, or its own fault.
+#[derive(Drop)]
+pub struct Source {
+    pub label: Label,
+    /// The labels of the files that its loads name, one for each load, in the order in which they are written.
+    pub loads: Items<Label>,
+    /// The first fault of its text or of its loads.
+    pub fault: Option<Fault>,
+}
+
+/// The sources of modules, and their code.
+#[derive(Drop)]
+pub struct Sources {
+    pub sources: Vec<Source>,
+    /// The code of those that have no fault of their own.
+    pub code: Vec<Option<Resolved>>,
+}
+
+/// The same fault.
+pub(crate) fn share_fault(fault: &Fault) -> Result<Fault, AllocError>
+    ensures { IfOk result (λ f. f ≡ fault.now) }
+{
+    Ok(Fault {
+        kind: fault.kind,
+        line: fault.line,
+        detail: fault.detail.share()?,
+    })
+}
+
+impl Sources {
+    /// The sources of the modules of a load graph.
+    pub(crate) fn of(alloc: Global, modules: Vec<Module>) -> Result<Sources, AllocError>
+        ensures sources { IfOk result (λ s. s.sources.items ≡ map source_of modules.items) }
+        ensures code { IfOk result (λ s. s.code.items ≡ map code_of modules.items) }
+    {
+        let mut all = Sources {
+            sources: Vec::new(alloc),
+            code: Vec::new(alloc),
+        };
+        for each in modules {
+            all.add(alloc, each)?;
+        }
+        Ok(all)
+    }
+
+    /// Adds that of one more module.
+    fn add(&mut self, alloc: Global, module: Module) -> Result<(), AllocError>
+        ensures sources { OnOk result (self.new.sources.items ≡ self.old.sources.items ++ source_of «module» ∷ []) }
+        ensures code { OnOk result (self.new.code.items ≡ self.old.code.items ++ code_of «module» ∷ []) }
+    {
+        let Module { label, front } = module;
+        match front {
+            Ok(Front { code, loads }) => {
+                let source = Source {
+                    label,
+                    loads,
+                    fault: None,
+                };
+                self.sources.push(source)?;
+                self.code.push(Some(code))?;
+            }
+            Err(fault) => {
+                let source = Source {
+                    label,
+                    loads: Items::new(alloc),
+                    fault: Some(fault),
+                };
+                self.sources.push(source)?;
+                self.code.push(None)?;
+            }
+        }
+        Ok(())
+    }
+}
