@@ -17,6 +17,8 @@ use clap::Error;
 use clap::error::ErrorKind;
 use std::alloc::Global;
 use std::process::ExitCode;
+use std::sync::Wait;
+use std::thread::Threads;
 use std::{env, io};
 use words::{Words, words_of};
 
@@ -57,19 +59,32 @@ fn run_err(error: DirectoryErr) -> RunErr {
     }
 }
 
-/// Runs over the bundle on standard input.
-fn run_on_bundle(rt: &HostRuntime, alloc: Global, options: &Options) -> Result<Status, RunErr>
+/// Runs over the bundle on standard input, with threads of that handle.
+fn run_on_bundle<T: Threads + Wait + Sync>(
+    rt: &HostRuntime,
+    threads: &T,
+    alloc: Global,
+    options: &Options,
+) -> Result<Status, RunErr>
     requires { IsInRange options.now }
 {
     let mut reader = Metered::new(rt.stdin());
     let mut writer = Metered::new(rt.stdout());
     let mut faults = Metered::new(rt.stderr());
-    run(rt, alloc, &mut reader, &mut writer, &mut faults, options)
+    run(
+        threads,
+        alloc,
+        &mut reader,
+        &mut writer,
+        &mut faults,
+        options,
+    )
 }
 
-/// Runs over the files of a directory.
-fn run_on_directory(
+/// Runs over the files of a directory, with threads of that handle.
+fn run_on_directory<T: Threads + Wait + Sync>(
     rt: &HostRuntime,
+    threads: &T,
     alloc: Global,
     directory: &str,
     options: &Options,
@@ -82,16 +97,30 @@ fn run_on_directory(
     };
     let mut writer = Metered::new(rt.stdout());
     let mut faults = Metered::new(rt.stderr());
-    run_files(rt, alloc, &workspace, &mut writer, &mut faults, options)
+    run_files(
+        threads,
+        alloc,
+        &workspace,
+        &mut writer,
+        &mut faults,
+        options,
+    )
 }
 
 /// Runs as the words say, and ends with the error line, if there is one.
-fn run_by_words(rt: &HostRuntime, alloc: Global, words: &Words) -> u8
+fn run_by_words<T: Threads + Wait + Sync>(
+    rt: &HostRuntime,
+    threads: &T,
+    alloc: Global,
+    words: &Words,
+) -> u8
     requires { IsInRange words.now.options }
 {
     let ended = match &words.directory {
-        None => run_on_bundle(rt, alloc, &words.options),
-        Some(directory) => run_on_directory(rt, alloc, directory.as_str(), &words.options),
+        None => run_on_bundle(rt, threads, alloc, &words.options),
+        Some(directory) => {
+            run_on_directory(rt, threads, alloc, directory.as_str(), &words.options)
+        }
     };
     let mut errors = Metered::new(rt.stderr());
     let _ = write_status_line(&mut errors, &ended);
@@ -108,7 +137,7 @@ fn main(rt: HostRuntime) -> ExitCode {
         return ExitCode::from(report_no_memory(&rt));
     };
     match words_of(alloc, &words) {
-        Ok(words) => ExitCode::from(run_by_words(&rt, alloc, &words)),
+        Ok(words) => ExitCode::from(run_by_words(&rt, &rt, alloc, &words)),
         Err(error) => ExitCode::from(show(&rt, &error)),
     }
 }

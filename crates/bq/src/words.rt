@@ -3,7 +3,7 @@
 ghost use Rattle.std.specs.Prelude.{IfOk};
 ghost use Rattle.bq_run.specs.Run.{IsInRange};
 
-use bq_run::{Options, Output};
+use bq_run::{Options, OutputForm};
 use clap::{Arg, ArgAction, ArgMatches, Command, Error, value_parser};
 use std::alloc::{AllocError, Global};
 
@@ -14,7 +14,7 @@ With --dir it is read from a directory instead.
 The answer goes to standard output, one target a line. Faults go to standard error.
 
 Example:
-  printf '=== a/BUILD\\nfilegroup(name = \"x\", srcs = [\"s.txt\"])\\n' | bq //a:x
+  printf '=== a/BUILD\\nfilegroup(name = \"x\", srcs = [\"s.txt\"])\\n' | bq 'deps(//a:x)'
 
 Exit status:
   0  the query was answered, and no file has a fault
@@ -35,7 +35,7 @@ fn jobs<'a>(alloc: Global) -> Arg<'a> {
     Arg::new(alloc, "jobs")
         .long("jobs")
         .value_name("N")
-        .help("How many workers load modules, 1 to 64; no effect yet")
+        .help("How many workers load modules, 1 to 64")
         .value_parser(value_parser!(u32).range(1..=MAX_JOBS as i64))
         .default_value("4")
 }
@@ -53,7 +53,7 @@ fn max_steps<'a>(alloc: Global) -> Arg<'a> {
     Arg::new(alloc, "max-steps")
         .long("max-steps")
         .value_name("N")
-        .help("How many steps a module may take, 1 to 1000000000; no effect yet")
+        .help("How many steps a module may take, 1 to 1000000000")
         .value_parser(value_parser!(u64).range(1..=MAX_STEPS as i64))
         .default_value("1000000")
 }
@@ -69,7 +69,7 @@ fn directory<'a>(alloc: Global) -> Arg<'a> {
 fn query<'a>(alloc: Global) -> Arg<'a> {
     Arg::new(alloc, "query")
         .value_name("QUERY")
-        .help("The query: a label, as //package:name")
+        .help("The query, as //package:name or deps(//...)")
         .required(true)
         .action(ArgAction::Set)
 }
@@ -87,7 +87,7 @@ fn command<'a>(alloc: Global) -> Result<Command<'a>, AllocError> {
 }
 
 /// What the words ask for.
-#[derive(Debug, Drop)]
+#[derive(Drop)]
 pub struct Words {
     pub options: Options,
     /// The directory that holds the workspace; without one it is on standard input.
@@ -100,8 +100,8 @@ fn options_of(alloc: Global, matches: &ArgMatches) -> Result<Options, AllocError
     let jobs = matches.get_one::<u32>("jobs").unwrap_or(DEFAULT_JOBS);
     let max_steps = matches.get_one::<u64>("max-steps").unwrap_or(DEFAULT_STEPS);
     let output = match matches.get_str("output") {
-        Some("label_kind") => Output::LabelKind,
-        _ => Output::Label,
+        Some("label_kind") => OutputForm::LabelKind,
+        _ => OutputForm::Label,
     };
     Ok(Options {
         query: matches

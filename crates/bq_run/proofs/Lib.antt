@@ -2,3 +2,5 @@ pub mod Lines
 pub mod Reading
 pub mod Transfers
 pub mod Writing
+pub mod Deeds
+pub mod Loads

@@ -1,5 +1,5 @@
 -- One transfer after another.
-use Rattle.std.proofs.Common.{◌≡◌, ◌≤◌, ◌+◌, ℕ, zero, suc, ◌-◌, take_all, length-drop, length-append, le_refl, if◌then◌else◌, subst, List, [], ◌++◌, Option, None, Some, length, take, drop, ap, sym, ◌∙◌, append_assoc, refl, arith, rules}
+use Rattle.std.proofs.Common.{◌≡◌, ◌+◌, ℕ, zero, suc, ◌-◌, take_all, length-drop, length-append, le_refl, if◌then◌else◌, subst, List, [], ◌++◌, Option, None, Some, length, take, drop, ap, sym, ◌∙◌, append_assoc, refl, arith, rules}
 use Rattle.std.specs.Io.KnownBytes.{Appends, Consumes, Keeps}
 use Rattle.std.proofs.Math.Seq.{take-add, take-append-add}
 use Rattle.std.proofs.lemmas.List.{take-append-le}

@@ -1,15 +1,15 @@
 -- What a run writes for the bytes that it reads, and how it ends.
-use Rattle.std.specs.Prelude.{◌≡◌, ◌⊎◌, ◌≤◌, ℕ, List, [], Option, None, Some, Result, Ok, Err, if◌then◌else◌}
+use Rattle.std.specs.Prelude.{◌≡◌, ◌⊎◌, ◌≤◌, ℕ, false, List, [], Option, None, Some, Result, Ok, Err, if◌then◌else◌}
 use Rattle.std.specs.Io.KnownBytes.{Appends, Keeps}
 use Rattle.bq_label.specs.declared.workspace.File.{File}
-use Rattle.bq_fragment.specs.Fragment.{answer_query}
-use Rattle.bq_fragment.specs.Report.{ReportView, is_unanswered}
-use Rattle.bq_fragment.specs.declared.query_error.QueryErr.TheVariants as query
-use Rattle.bq_fragment.specs.declared.report.Refusal.{Refusal}
-use Rattle.bq_fragment.specs.declared.report.Status.{Status}
+use Rattle.bq_report.specs.Ending.{is_unanswered, names_nothing}
+use Rattle.bq_report.specs.Report.{ReportView}
+use Rattle.bq_report.specs.declared.ending.Refusal.{Refusal}
+use Rattle.bq_report.specs.declared.ending.Status.{Status}
 use Rattle.bq_run.specs.Bundle.{bundle_of}
 use Rattle.bq_run.specs.Device.{Begins}
 use Rattle.bq_run.specs.Error.{run_err}
+use Rattle.bq_run.specs.WorkspaceRun.{IsReportOn}
 use Rattle.bq_run.specs.declared.error.RunErr.{RunErr}
 use Rattle.bq_run.specs.declared.error.RunErr.TheVariants as run
 use Rattle.bq_run.specs.declared.options.Options.{Options}
@@ -29,19 +29,19 @@ run_by faults answer (Ok status) = record { faults = faults; answer = answer; en
 run_by faults answer (Err why) = record { faults = if is_unanswered why then faults else []; answer = []; end = Err (run_err why) }
 
 abbrev pub run_report : ReportView → Run
-run_report t = run_by t.faults t.answer t.end
+run_report r = run_by r.faults r.answer r.end
 
--- the run over a workspace
-abbrev pub run_files_of : Options → List File → Run
-run_files_of options files = run_report (answer_query files options.query.items options.output)
+-- a run over a workspace
+abbrev pub IsRunOver : Options → List File → Run → Type 0
+IsRunOver options files what = (r : ReportView) × IsReportOn options files r × (what ≡ run_report r)
 
-abbrev pub run_from : Options → Option (List File) → Run
-run_from options None = record { faults = []; answer = []; end = Err run.Bundle }
-run_from options (Some files) = run_files_of options files
+abbrev pub IsRunFrom : Options → Option (List File) → Run → Type 0
+IsRunFrom options None what = what ≡ record { faults = []; answer = []; end = Err run.Bundle }
+IsRunFrom options (Some files) what = IsRunOver options files what
 
--- the run over the bytes of a bundle
-unfoldable pub run_of : Options → List ℕ → Run
-run_of options input = run_from options (bundle_of input)
+-- a run over the bytes of a bundle
+unfoldable pub IsRunOf : Options → List ℕ → Run → Type 0
+IsRunOf options input what = IsRunFrom options (bundle_of input) what
 
 -- out of memory and failing devices aside, the call ends as the definition does
 abbrev pub EndsAs : Result Status RunErr → Result Status RunErr → Type 0
@@ -63,6 +63,15 @@ pub record Does (what : Run) (result : Result Status RunErr) (f f' a a' : Option
   pub ends : EndsAs result what.end
   pub writes : Writes result what.faults what.answer f f' a a'
 
+-- memory was refused, or the reader failed
+abbrev pub IsGivenUp : Result Status RunErr → Type 0
+IsGivenUp result = (result ≡ Err run.Memory) ⊎ (result ≡ Err run.Read)
+
+-- What a call did that ends so, where the run is one of these: nothing is written where memory was refused or the reader failed.
+pub data DoesOne (IsIt : Run → Type 0) (result : Result Status RunErr) (f f' a a' : Option (List ℕ)) : Type 0 where
+  gave_up : IsGivenUp result → Keeps f f' → Keeps a a' → DoesOne IsIt result f f' a a'
+  ran : (what : Run) → IsIt what → Does what result f f' a a' → DoesOne IsIt result f f' a a'
+
 -- an error with which nothing is written
 abbrev pub IsSilent : Result Status RunErr → Type 0
 IsSilent (Ok status) = ⊥
@@ -70,10 +79,7 @@ IsSilent (Err run.Memory) = Unit {0}
 IsSilent (Err run.Read) = Unit {0}
 IsSilent (Err run.Write) = ⊥
 IsSilent (Err run.Bundle) = Unit {0}
-IsSilent (Err (run.Query query.LeftOut)) = Unit {0}
-IsSilent (Err (run.Query (query.NoSuchTarget label))) = ⊥
-IsSilent (Err (run.Query (query.NoSuchPackage label))) = ⊥
-IsSilent (Err (run.Query query.Arguments)) = Unit {0}
+IsSilent (Err (run.Query error)) = names_nothing error ≡ false
 IsSilent (Err (run.Schema line)) = Unit {0}
 IsSilent (Err run.TooManyModules) = Unit {0}
 

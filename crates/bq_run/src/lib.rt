@@ -1,6 +1,7 @@
 //! The bytes of a bundle and a query come in; the bytes of the faults and of the answer go out.
 //!
-//! [`run`] promises that the two texts are a function of the bytes that are read: `run_of`, in `specs/Run.antt`.
+//! [`run`] promises that the two texts, and how it ends, are those of the definition for the bytes that are read: `IsRunOf`, in
+//! `specs/Run.antt`.
 //!
 //! In reading order:
 //!
@@ -9,6 +10,7 @@
 //! - `error`: the errors of runs;
 //! - `bundle`: the text form of a workspace;
 //! - `options`: what a run is asked;
+//! - `reports`: the report on a workspace in hand;
 //! - `runs`: the run;
 //! - `status`: the exit status and the error line;
 //! - `laws`: what the definitions say together.
@@ -19,11 +21,14 @@ mod device;
 mod error;
 pub mod laws;
 mod options;
+mod reports;
 mod runs;
 mod status;
 mod transfer;
 
-pub use bq_fragment::{Output, QueryErr, Status};
+pub use bq_answer::OutputForm;
+pub use bq_query::QueryErr;
+pub use bq_report::Status;
 pub use bundle::read_bundle;
 pub use device::{Counted, Metered, Sink, Source};
 pub use error::RunErr;

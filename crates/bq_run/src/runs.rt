@@ -2,18 +2,21 @@
 
 ghost use Rattle.std.specs.Prelude.{◌≡◌, ◌+◌, ◌-◌, ◌^◌, ◌<◌, IfSome, IsErrOf};
 ghost use Rattle.std.specs.Io.KnownBytes.{Keeps};
-ghost use Rattle.bq_fragment.specs.Report.{report_view};
+ghost use Rattle.bq_report.specs.Report.{report_view};
 ghost use Rattle.bq_run.specs.Device.{OneFailed};
-ghost use Rattle.bq_run.specs.Run.{Does, IsInRange, IsSilent, run_files_of, run_of, run_report};
+ghost use Rattle.bq_run.specs.Run.{Does, DoesOne, IsInRange, IsRunOf, IsRunOver, IsSilent, run_report};
 
 use crate::bundle::read_bundle;
 use crate::device::{Sink, Source};
 use crate::error::RunErr;
 use crate::options::Options;
+use crate::reports::report_workspace;
 use crate::transfer::write_all;
-use bq_fragment::{Report, Status, answer_query};
 use bq_label::Workspace;
+use bq_report::{Report, Status};
 use std::alloc::Global;
+use std::sync::Wait;
+use std::thread::Threads;
 
 /// Writes a report, the faults first.
 fn send<W: Sink, F: Sink>(
@@ -50,8 +53,8 @@ fn send<W: Sink, F: Sink>(
 }
 
 /// A run over a workspace in hand: [`run`] without its reader.
-pub fn run_files<T, W: Sink, F: Sink>(
-    _rt: &T,
+pub fn run_files<T: Threads + Wait + Sync, W: Sink, F: Sink>(
+    rt: &T,
     alloc: Global,
     workspace: &Workspace,
     writer: &mut W,
@@ -62,25 +65,23 @@ pub fn run_files<T, W: Sink, F: Sink>(
     requires writer { W.failed writer.old < 2 ^ 64 - 1 }
     requires faults_writer { F.failed faults_writer.old < 2 ^ 64 - 1 }
 
-    ensures does { Does (run_files_of options.now workspace.now) result (F.contents faults_writer.old) (F.contents faults_writer.new) (W.contents writer.old) (W.contents writer.new) }
+    ensures does { DoesOne (IsRunOver options.now workspace.now) result (F.contents faults_writer.old) (F.contents faults_writer.new) (W.contents writer.old) (W.contents writer.new) }
     ensures silent { IsSilent result → Keeps (F.contents faults_writer.old) (F.contents faults_writer.new) × Keeps (W.contents writer.old) (W.contents writer.new) }
     ensures no_read { IsErrOf result RunErr.Read → ⊥ }
     ensures write { IsErrOf result RunErr.Write → OneFailed (F.failed faults_writer.old) (F.failed faults_writer.new) (W.failed writer.old) (W.failed writer.new) }
     ensures quiet { (IsErrOf result RunErr.Write → ⊥) → (F.failed faults_writer.new ≡ F.failed faults_writer.old) × (W.failed writer.new ≡ W.failed writer.old) }
 {
-    let report = answer_query(alloc, workspace, &options.query, options.output)?;
+    let report = report_workspace(rt, alloc, workspace, options)?;
     send(report, writer, faults_writer)
 }
 
-/// A run: the bundle is read to its end, the query and the schema are read, the packages are loaded, and the query is
-/// answered. Then the faults writer gets the faults, and after it the writer gets the answer.
+/// A run: the bundle is read to its end, the query and the schema are read, the modules are loaded by as many workers as there are jobs,
+/// and the query is answered. Then the faults writer gets the faults, and after it the writer gets the answer.
 ///
-/// E4, E5 with Q3 or Q8, E6 and E7 take precedence in this order, and nothing is written with them. With Q5 or Q6 only
-/// the faults are written. E1 comes before the first byte is written.
-///
-/// `rt` will start the workers. None is started yet, and the call takes any value for it.
-#[tactic(auto, unfolding(crate::specs::Run::run_of))]
-pub fn run<T, R: Source, W: Sink, F: Sink>(
+/// E4, E5 with Q1 to Q4, Q7 or Q8, E6 and E7 take precedence in this order, and nothing is written with them. With Q5 or Q6 only the
+/// faults are written. E1 comes before the first byte is written.
+#[tactic(auto, unfolding(crate::specs::Run::IsRunOf))]
+pub fn run<T: Threads + Wait + Sync, R: Source, W: Sink, F: Sink>(
     rt: &T,
     alloc: Global,
     reader: &mut R,
@@ -94,7 +95,7 @@ pub fn run<T, R: Source, W: Sink, F: Sink>(
     requires faults_writer { F.failed faults_writer.old < 2 ^ 64 - 1 }
 
     // What is written, and how the run ends, are the definition's for the bytes that the reader had.
-    ensures does { IfSome (R.remaining reader.old) (λ input. Does (run_of options.now input) result (F.contents faults_writer.old) (F.contents faults_writer.new) (W.contents writer.old) (W.contents writer.new)) }
+    ensures does { IfSome (R.remaining reader.old) (λ input. DoesOne (IsRunOf options.now input) result (F.contents faults_writer.old) (F.contents faults_writer.new) (W.contents writer.old) (W.contents writer.new)) }
 
     // With such an error nothing is written, whatever is known of the reader.
     ensures silent { IsSilent result → Keeps (F.contents faults_writer.old) (F.contents faults_writer.new) × Keeps (W.contents writer.old) (W.contents writer.new) }

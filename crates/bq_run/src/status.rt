@@ -2,14 +2,15 @@
 
 ghost use Rattle.std.specs.Prelude.{◌≡◌, ◌++◌, ◌-◌, ◌^◌, ◌<◌, IfOk, OnOk};
 ghost use Rattle.std.specs.Io.KnownBytes.{Appends};
-ghost use Rattle.bq_fragment.specs.LineText.{detail_text};
+ghost use Rattle.bq_fault_line.specs.LineText.{detail_text};
 ghost use Rattle.bq_run.specs.Device.{Begins};
 ghost use Rattle.bq_run.specs.Status.{error_detail, error_line, status_code, status_line};
 
 use crate::device::Sink;
 use crate::error::RunErr;
 use crate::transfer::{WriteFault, write_all};
-use bq_fragment::{Status, push_detail};
+use bq_fault_line::push_detail;
+use bq_report::Status;
 use itoa::Buffer;
 use std::alloc::{AllocError, Global};
 

@@ -126,17 +126,26 @@ fn expect(rt: &impl Abort, line: &[u8], found: &[u8], wanted: &[u8]) {
     );
 }
 
-/// Whether the row of this line has the answer that is wanted.
-fn check_row(
+/// The row of a line, whatever is wanted of it.
+pub fn row_of(line: &[u8]) -> Row<'_> {
+    split_row(line).0
+}
+
+/// Whether a line of a table is a row.
+pub fn is_row(line: &[u8]) -> bool {
+    !matches!(line, [] | [b'#', ..])
+}
+
+/// Whether this is the answer that the row of this line wants.
+pub fn check_answer(
     rt: &impl Abort,
     alloc: Global,
     line: &[u8],
-    subject: &impl Subject,
+    found: &[u8],
 ) -> Result<(), AllocError> {
-    let (row, wanted) = split_row(line);
+    let (_, wanted) = split_row(line);
     let wanted = bytes_of(alloc, wanted)?;
-    let found = answer(alloc, row, subject)?;
-    expect(rt, line, &found, &wanted);
+    expect(rt, line, found, &wanted);
     Ok(())
 }
 
@@ -148,9 +157,9 @@ pub fn check_rows(
     subject: &impl Subject,
 ) -> Result<(), AllocError> {
     for line in table.as_bytes().split(|byte| *byte == b'\n') {
-        match line {
-            [] | [b'#', ..] => {}
-            _ => check_row(rt, alloc, line, subject)?,
+        if is_row(line) {
+            let found = answer(alloc, row_of(line), subject)?;
+            check_answer(rt, alloc, line, &found)?;
         }
     }
     Ok(())

@@ -1,18 +1,20 @@
-//! What a run is asked. None of the corners of the options' ranges changes the answer of a run over BUILD files that load nothing.
+//! What a run is asked. None of the corners of the options' ranges changes the answer of a run over a BUILD file of few steps.
 
 ghost use Rattle.std.specs.Prelude.{IfOk};
 ghost use Rattle.bq_run.specs.Run.{IsInRange};
 
-use crate::rows::{Row, Subject, check_rows};
-use crate::run::runs::{UNFAILING, written};
-use bq_run::{Options, Output};
+use crate::rows::Row;
+use crate::run::runs::{Table, UNFAILING, check_runs, written};
+use bq_run::{Options, OutputForm};
 use std::alloc::{AllocError, Global};
+use std::sync::Wait;
+use std::thread::Threads;
 
 /// A query with these options, or the next that are in range.
 pub fn options(
     alloc: Global,
     query: &[u8],
-    output: Output,
+    output: OutputForm,
     jobs: u64,
     max_steps: u64,
 ) -> Result<Options, AllocError>
@@ -27,29 +29,37 @@ pub fn options(
 }
 
 /// What is written of `//a:x` with so many workers, and so many steps for a module.
-struct Corners;
-
-impl Subject for Corners {
-    fn answer(&self, alloc: Global, _text: &[u8], row: Row) -> Result<Vec<u8>, AllocError> {
-        let asked = options(alloc, b"//a:x", Output::Label, row.number(0), row.number(1))?;
-        let bundle = b"=== a/BUILD\nfilegroup(name = \"x\")\n";
-        written(alloc, bundle, &asked, UNFAILING)
-    }
+pub fn corner<R: Threads + Wait + Sync>(
+    rt: &R,
+    alloc: Global,
+    row: Row,
+) -> Result<Vec<u8>, AllocError> {
+    let asked = options(
+        alloc,
+        b"//a:x",
+        OutputForm::Label,
+        row.number(0),
+        row.number(1),
+    )?;
+    let bundle = b"=== a/BUILD\nfilegroup(name = \"x\")\n";
+    written(rt, alloc, bundle, &asked, UNFAILING)
 }
 
 #[test]
 fn answer_alike(rt: HostRuntime) -> Result<(), AllocError> {
-    check_rows(&rt, rt.alloc(), CORNERS, &Corners)
+    check_runs(&rt, rt.alloc(), Table::Corners, CORNERS)
 }
 
 const CORNERS: &str = r#"
-1 | 1 | >//a:x\n>>0 0
-1 | 7 | >//a:x\n>>0 0
-2 | 2 | >//a:x\n>>0 0
+1 | 4 | >//a:x\n>>0 0
+2 | 4 | >//a:x\n>>0 0
 4 | 1000000 | >//a:x\n>>0 0
 7 | 64 | >//a:x\n>>0 0
 63 | 999999999 | >//a:x\n>>0 0
 64 | 1000000000 | >//a:x\n>>0 0
-64 | 1 | >//a:x\n>>0 0
+64 | 4 | >//a:x\n>>0 0
 1 | 1000000000 | >//a:x\n>>0 0
+# too few steps
+1 | 1 | //a:BUILD:1: F53 StepLimit\n>>bq: Q5 NoSuchTarget //a:x\n>2 0
+64 | 2 | //a:BUILD:1: F53 StepLimit\n>>bq: Q5 NoSuchTarget //a:x\n>2 0
 "#;

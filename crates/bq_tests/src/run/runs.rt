@@ -2,11 +2,14 @@
 
 ghost use Rattle.bq_run.specs.Run.{IsInRange};
 
-use crate::rows::{Row, Subject, check_rows};
+use crate::rows::{Row, check_answer, is_row, row_of};
 use crate::run::devices::{make_drip, make_sip};
-use crate::run::options::options;
-use bq_run::{Counted, Metered, Options, Output, RunErr, Status, run, status_of};
+use crate::run::options::{corner, options};
+use bq_run::{Counted, Metered, Options, OutputForm, RunErr, Status, run, status_of};
 use std::alloc::{AllocError, Global};
+use std::process::Abort;
+use std::sync::Wait;
+use std::thread::Threads;
 
 /// The calls at which the devices of a run fail, 0 for none.
 #[derive(Clone, Copy)]
@@ -51,7 +54,8 @@ fn joined(alloc: Global, texts: &[&[u8]]) -> Result<Vec<u8>, AllocError> {
 }
 
 /// What a run over devices of one byte a call writes.
-pub fn written(
+pub fn written<R: Threads + Wait + Sync>(
+    rt: &R,
     alloc: Global,
     bundle: &[u8],
     asked: &Options,
@@ -62,7 +66,7 @@ pub fn written(
     let mut reader = make_drip(bundle, failing.reader);
     let mut writer = make_sip(alloc, failing.writer, failing.quietly);
     let mut faults = make_sip(alloc, failing.faults_writer, failing.quietly);
-    let ended = run(&(), alloc, &mut reader, &mut writer, &mut faults, asked);
+    let ended = run(rt, alloc, &mut reader, &mut writer, &mut faults, asked);
     let failures = reader
         .failures()
         .wrapping_add(writer.failures())
@@ -76,28 +80,72 @@ pub fn written(
     )
 }
 
-/// What a run over a bundle writes of a query.
-struct Runs;
+/// What the rows of a table of runs are about. A function that starts threads is no method of a trait, so this stands for subjects.
+#[derive(Clone, Copy)]
+pub enum Table {
+    Corners,
+    Queries,
+    FailingWriters,
+    FailingReader,
+    FailingFaults,
+    Plain,
+}
 
-fn output_named(word: &[u8]) -> Output {
-    if word.is_empty() {
-        Output::Label
-    } else {
-        Output::LabelKind
+fn answer<R: Threads + Wait + Sync>(
+    rt: &R,
+    alloc: Global,
+    table: Table,
+    row: Row,
+) -> Result<Vec<u8>, AllocError> {
+    match table {
+        Table::Corners => corner(rt, alloc, row),
+        Table::Queries => queried(rt, alloc, row),
+        Table::FailingWriters => with_failing_writers(rt, alloc, row),
+        Table::FailingReader => with_failing_reader(rt, alloc, row),
+        Table::FailingFaults => with_failing_faults(rt, alloc),
+        Table::Plain => over_plain_devices(rt, alloc, row),
     }
 }
 
-impl Subject for Runs {
-    fn answer(&self, alloc: Global, text: &[u8], row: Row) -> Result<Vec<u8>, AllocError> {
-        let query = row.bytes(alloc, 1)?;
-        let asked = options(alloc, &query, output_named(row.word(2)), 4, 1_000_000)?;
-        written(alloc, text, &asked, UNFAILING)
+/// Goes through a table of runs: each row has what is wanted written.
+pub fn check_runs<R: Threads + Wait + Sync + Abort>(
+    rt: &R,
+    alloc: Global,
+    table: Table,
+    rows: &str,
+) -> Result<(), AllocError> {
+    for line in rows.as_bytes().split(|byte| *byte == b'\n') {
+        if is_row(line) {
+            let found = answer(rt, alloc, table, row_of(line))?;
+            check_answer(rt, alloc, line, &found)?;
+        }
     }
+    Ok(())
+}
+
+fn output_named(word: &[u8]) -> OutputForm {
+    if word.is_empty() {
+        OutputForm::Label
+    } else {
+        OutputForm::LabelKind
+    }
+}
+
+/// What a run over a bundle writes of a query.
+fn queried<R: Threads + Wait + Sync>(
+    rt: &R,
+    alloc: Global,
+    row: Row,
+) -> Result<Vec<u8>, AllocError> {
+    let bundle = row.bytes(alloc, 0)?;
+    let query = row.bytes(alloc, 1)?;
+    let asked = options(alloc, &query, output_named(row.word(2)), 4, 1_000_000)?;
+    written(rt, alloc, &bundle, &asked, UNFAILING)
 }
 
 #[test]
 fn writes_what_is_asked(rt: HostRuntime) -> Result<(), AllocError> {
-    check_rows(&rt, rt.alloc(), RUNS, &Runs)
+    check_runs(&rt, rt.alloc(), Table::Queries, RUNS)
 }
 
 /// Two packages, of which one is faulty.
@@ -107,13 +155,14 @@ const BUNDLE: &[u8] =
 const FAULTS: &[u8] = b"//b:BUILD:1: F20 UnknownName none\n";
 
 /// What a run over that bundle writes of `//a:x`.
-fn faulty(alloc: Global, failing: Failing) -> Result<Vec<u8>, AllocError> {
-    let asked = options(alloc, b"//a:x", Output::Label, 4, 1_000_000)?;
-    written(alloc, BUNDLE, &asked, failing)
+fn faulty<R: Threads + Wait + Sync>(
+    rt: &R,
+    alloc: Global,
+    failing: Failing,
+) -> Result<Vec<u8>, AllocError> {
+    let asked = options(alloc, b"//a:x", OutputForm::Label, 4, 1_000_000)?;
+    written(rt, alloc, BUNDLE, &asked, failing)
 }
-
-/// What a run over that bundle writes of a query, where one writer fails at this call, quietly or not.
-struct FailingWriters;
 
 fn failing_writers(row: Row) -> Failing {
     Failing {
@@ -124,25 +173,31 @@ fn failing_writers(row: Row) -> Failing {
     }
 }
 
-impl Subject for FailingWriters {
-    fn answer(&self, alloc: Global, text: &[u8], row: Row) -> Result<Vec<u8>, AllocError> {
-        let asked = options(alloc, text, Output::Label, 4, 1_000_000)?;
-        written(alloc, BUNDLE, &asked, failing_writers(row))
-    }
+/// What a run over that bundle writes of a query, where one writer fails at this call, quietly or not.
+fn with_failing_writers<R: Threads + Wait + Sync>(
+    rt: &R,
+    alloc: Global,
+    row: Row,
+) -> Result<Vec<u8>, AllocError> {
+    let query = row.bytes(alloc, 0)?;
+    let asked = options(alloc, &query, OutputForm::Label, 4, 1_000_000)?;
+    written(rt, alloc, BUNDLE, &asked, failing_writers(row))
 }
 
 /// A failed write of the answer ends the run: the writer holds a beginning of the answer, and the faults are whole.
 /// Where the query names no target, the faults are written and the writer gets nothing.
 #[test]
 fn fails_with_its_writer(rt: HostRuntime) -> Result<(), AllocError> {
-    check_rows(&rt, rt.alloc(), FAILING_WRITERS, &FailingWriters)
+    check_runs(&rt, rt.alloc(), Table::FailingWriters, FAILING_WRITERS)
 }
 
-/// What a run writes whose reader fails at the calls from one number to another, where all of them write the same.
-struct FailingReader;
-
-fn failing_reader(alloc: Global, reader: u64) -> Result<Vec<u8>, AllocError> {
+fn failing_reader<R: Threads + Wait + Sync>(
+    rt: &R,
+    alloc: Global,
+    reader: u64,
+) -> Result<Vec<u8>, AllocError> {
     faulty(
+        rt,
         alloc,
         Failing {
             reader,
@@ -151,31 +206,36 @@ fn failing_reader(alloc: Global, reader: u64) -> Result<Vec<u8>, AllocError> {
     )
 }
 
-impl Subject for FailingReader {
-    fn answer(&self, alloc: Global, _text: &[u8], row: Row) -> Result<Vec<u8>, AllocError> {
-        let found = failing_reader(alloc, row.number(0))?;
-        for call in row.number(0)..=row.number(1) {
-            let other = failing_reader(alloc, call)?;
-            if found != other {
-                return Ok(other);
-            }
+/// What a run writes whose reader fails at the calls from one number to another, where all of them write the same.
+fn with_failing_reader<R: Threads + Wait + Sync>(
+    rt: &R,
+    alloc: Global,
+    row: Row,
+) -> Result<Vec<u8>, AllocError> {
+    let found = failing_reader(rt, alloc, row.number(0))?;
+    for call in row.number(0)..=row.number(1) {
+        let other = failing_reader(rt, alloc, call)?;
+        if found != other {
+            return Ok(other);
         }
-        Ok(found)
     }
+    Ok(found)
 }
 
 /// A failed read ends the run, and nothing is written; the read at the end of the bundle is one too.
 #[test]
 fn fails_with_its_reader(rt: HostRuntime) -> Result<(), AllocError> {
-    check_rows(&rt, rt.alloc(), FAILING_READER, &FailingReader)
+    check_runs(&rt, rt.alloc(), Table::FailingReader, FAILING_READER)
 }
 
-/// At how many calls from the first on the writer of the faults may fail, and holds the faults up to there, and nothing else is written.
-struct FailingFaults;
-
-fn fails_at(alloc: Global, faults_writer: u64) -> Result<Vec<u8>, AllocError> {
+fn fails_at<R: Threads + Wait + Sync>(
+    rt: &R,
+    alloc: Global,
+    faults_writer: u64,
+) -> Result<Vec<u8>, AllocError> {
     let quietly = faults_writer % 2 == 0;
     faulty(
+        rt,
         alloc,
         Failing {
             faults_writer,
@@ -194,61 +254,79 @@ fn is_beginning(found: &[u8], len: usize) -> bool {
     }
 }
 
-impl Subject for FailingFaults {
-    fn answer(&self, alloc: Global, _text: &[u8], _row: Row) -> Result<Vec<u8>, AllocError> {
-        for len in 0..FAULTS.len() {
-            let found = fails_at(alloc, len as u64 + 1)?;
-            if !is_beginning(&found, len) {
-                return Ok(found);
-            }
+/// `each` where the writer of the faults may fail at each call, holds the faults up to there, and nothing else is written.
+fn with_failing_faults<R: Threads + Wait + Sync>(
+    rt: &R,
+    alloc: Global,
+) -> Result<Vec<u8>, AllocError> {
+    for len in 0..FAULTS.len() {
+        let found = fails_at(rt, alloc, len as u64 + 1)?;
+        if !is_beginning(&found, len) {
+            return Ok(found);
         }
-        b"each".to_vec(alloc)
     }
+    b"each".to_vec(alloc)
 }
 
 /// A failed write of the faults ends the run, and the writer holds nothing.
 #[test]
 fn fails_with_its_faults_writer(rt: HostRuntime) -> Result<(), AllocError> {
-    check_rows(&rt, rt.alloc(), "all calls | each", &FailingFaults)
+    check_runs(&rt, rt.alloc(), Table::FailingFaults, "all calls | each")
 }
 
 /// Over std's own readers and writers. A body that always answers E1 is caught here.
-struct Plain;
-
-impl Subject for Plain {
-    fn answer(&self, alloc: Global, text: &[u8], _row: Row) -> Result<Vec<u8>, AllocError> {
-        let asked = options(alloc, text, Output::Label, 4, 1_000_000)?;
-        let mut reader = Metered::new(BUNDLE);
-        let mut writer = Metered::new(Vec::new(alloc));
-        let mut faults = Metered::new(Vec::new(alloc));
-        let ended = run(&(), alloc, &mut reader, &mut writer, &mut faults, &asked);
-        shown(alloc, &faults.device, &writer.device, &ended, 0)
-    }
+fn over_plain_devices<R: Threads + Wait + Sync>(
+    rt: &R,
+    alloc: Global,
+    row: Row,
+) -> Result<Vec<u8>, AllocError> {
+    let query = row.bytes(alloc, 0)?;
+    let asked = options(alloc, &query, OutputForm::Label, 4, 1_000_000)?;
+    let mut reader = Metered::new(BUNDLE);
+    let mut writer = Metered::new(Vec::new(alloc));
+    let mut faults = Metered::new(Vec::new(alloc));
+    let ended = run(rt, alloc, &mut reader, &mut writer, &mut faults, &asked);
+    shown(alloc, &faults.device, &writer.device, &ended, 0)
 }
 
 #[test]
 fn runs_over_slices_and_vectors(rt: HostRuntime) -> Result<(), AllocError> {
-    check_rows(&rt, rt.alloc(), PLAIN, &Plain)
+    check_runs(&rt, rt.alloc(), Table::Plain, PLAIN)
 }
 
-/// A bundle, a query, `kind` where kinds are printed, and what is written. A name without a slash lies in its package, whatever packages
-/// lie below it. The query is read before the schema.
+/// A bundle, a query, `kind` where kinds are printed, and what is written. The query is read before the schema.
 const RUNS: &str = r#"
 === a/BUILD\nfilegroup(name = "x", srcs = ["s.txt"])\n | //a:x | | >//a:x\n>>0 0
 === a/BUILD\nfilegroup(name = "x", srcs = ["s.txt"])\n | //a:s.txt | kind | >source file //a:s.txt\n>>0 0
-=== a/BUILD\ngenrule(name = "g", srcs = ["in"], outs = ["out"], cmd = "cp")\n | //a:out | kind | >generated file //a:out\n>>0 0
-=== a/BUILD\nfilegroup(name = "x", srcs = ["s.txt"])\n=== b/BUILD\nnone()\n | //a:x | | //b:BUILD:1: F20 UnknownName none\n>//a:x\n>>3 0
+=== a/BUILD\nfilegroup(name = "x", srcs = ["s.txt"])\n | deps(//a:x) | | >//a:s.txt\n//a:x\n>>0 0
+=== a/BUILD\nfilegroup(name = "x", srcs = ["s.txt"])\n | //a:* | | >//a:BUILD\n//a:s.txt\n//a:x\n>>0 0
+=== a/BUILD\ngenrule(name = "g", srcs = ["in"], outs = ["out"], cmd = "cp")\n | deps(//a:out) | kind | >genrule rule //a:g\nsource file //a:in\ngenerated file //a:out\n>>0 0
+=== a/BUILD\nfilegroup(name = "x")\n=== b/BUILD\nnone()\n | //a:x | | //b:BUILD:1: F20 UnknownName none\n>//a:x\n>>3 0
 === a/BUILD\nfilegroup(name = "x")\nfilegroup(name = "x")\n | //a:x | | //a:BUILD:2: F74 DoubleTarget\n>>bq: Q5 NoSuchTarget //a:x\n>2 0
-=== a/BUILD\nfilegroup(name = "x", srcs = ["b", "b/s.txt"])\n=== a/b/BUILD\n | //a:BUILD | | //a:BUILD:1: F37 CrossesPackage\n>>bq: Q5 NoSuchTarget //a:BUILD\n>2 0
-=== a/BUILD\nfilegroup(name = "x")\n=== a/BUILD.bazel\nfilegroup(name = "y")\n | //a:x | | >>bq: Q5 NoSuchTarget //a:x\n>2 0
+=== a/BUILD\nfilegroup(name = "x")\n=== a/BUILD.bazel\nfilegroup(name = "y")\n | //a:* | | >//a:BUILD.bazel\n//a:y\n>>0 0
+=== a/BUILD\nfilegroup(name = "x", srcs = ["//b:none"])\n | deps(//a:x) | | //a:BUILD:1: F79 DanglingLabel //b:none\n>//a:x\n>>3 0
+# zero bytes
+| //... | | >>>0 0
 | //a:x | | >>bq: Q6 NoSuchPackage //a:x\n>2 0
 === a/BUILD | //a:x | | >>bq: E4 Bundle\n>2 0
-=== rules.schema\n | //a:x | | >>bq: E6 Schema 1\n>2 0
-# The query is read before the schema.
-=== rules.schema\n | deps(//a:x) | | >>bq: Q3 LeftOut\n>2 0
-=== a/BUILD\nfilegroup(name = "x", srcs = ["s.txt"])\n=== b/BUILD\nnone()\n | //a//b:x | | >>bq: Q8 Arguments\n>2 0
-=== a/BUILD\nfilegroup(name = "x", srcs = ["s.txt"])\n=== b/BUILD\nnone()\n | \x20//a:x \x20 | | //b:BUILD:1: F20 UnknownName none\n>//a:x\n>>3 0
-=== a/BUILD\nfilegroup(name = "x", srcs = ["s.txt"])\n=== b/BUILD\nnone()\n | //a:all | | >>bq: Q3 LeftOut\n>2 0
+# prints come before faults, and are kept
+=== BUILD\nprint(-7 // 2, -7 % 2, 1 << 62)\nx = 1 << 63\n | //... | | //:BUILD: -4 1 4611686018427387904\n//:BUILD:2: F41 Overflow\n>>>3 0
+=== m.bzl\nl = []\ndef add():\n    l.append(1)\n=== BUILD\nload(":m.bzl", "add")\nfilegroup(name = "x")\nadd()\n | //... | | //:BUILD:3: F47 Frozen\n>>>3 0
+=== p/d.bzl\nprint("once")\nv = 1\n=== p/BUILD\nload(":d.bzl", "v")\n=== q/BUILD\nload("//p:d.bzl", "v")\n | //...:* | | //p:d.bzl: once\n>//p:BUILD\n//q:BUILD\n>>0 0
+=== a.bzl\nload(":b.bzl")\n=== b.bzl\nload(":a.bzl")\n=== BUILD\nload(":a.bzl")\n=== p/BUILD\nfilegroup(name = "x")\n | //... | | //:BUILD:1: F35 CycleReached //:a.bzl\n//:a.bzl:1: F35 CycleReached //:b.bzl\n//:b.bzl:1: F35 CycleReached //:a.bzl\n>//p:x\n>>3 0
+=== external/r/BUILD\nfilegroup(name = "r")\n=== a/BUILD\nfilegroup(name = "x", srcs = ["@r"])\n | deps(//a:x) | | >//a:x\n@r//:r\n>>0 0
+# the schema
+=== rules.schema\nrule a\nattr x float\n | //... | | >>bq: E6 Schema 2\n>2 0
+=== rules.schema\nrule mine\nattr deps label_list\n=== a/BUILD\nmine(name = "x", deps = ["f"])\n | deps(//a:x) | kind | >source file //a:f\nmine rule //a:x\n>>0 0
+=== rules.schema\nattr x int\n | deps( | | >>bq: Q1 Syntax\n>2 0
+# queries without answers
+=== a/BUILD\nfilegroup(name = "x")\n | somepath(//a:x, //a:x) | | >>bq: Q3 LeftOut somepath\n>2 0
+=== a/BUILD\nfilegroup(name = "x")\n | foo(//a:x) | | >>bq: Q2 UnknownFunction foo\n>2 0
+=== a/BUILD\nfilegroup(name = "x")\n | kind("(", //...) | | >>bq: Q4 BadRegex\n>2 0
+=== a/BUILD\nfilegroup(name = "x")\n | $v | | >>bq: Q7 UnboundVariable v\n>2 0
+=== a/BUILD\nfilegroup(name = "x")\n | //a//b:x | | >>bq: Q8 Arguments\n>2 0
+=== a/BUILD\nfilegroup(name = "x")\n=== b/BUILD\nnone()\n | deps(//a:none) | | //b:BUILD:1: F20 UnknownName none\n>>bq: Q5 NoSuchTarget //a:none\n>2 0
+=== a/BUILD\nfilegroup(name = "x")\n | //zz:all | | >>bq: Q6 NoSuchPackage //zz:all\n>2 0
 "#;
 
 /// A query, the call at which the writer fails, the one at which the writer of the faults does, and what is written.

@@ -9,9 +9,13 @@ use std::alloc::{AllocError, Global};
 /// The error of a query, by the number that users see.
 fn query_error(number: u64, detail: Bytes) -> QueryErr {
     match number {
-        3 => QueryErr::LeftOut,
+        1 => QueryErr::Syntax,
+        2 => QueryErr::UnknownFunction(detail),
+        3 => QueryErr::LeftOut(detail),
+        4 => QueryErr::BadRegex,
         5 => QueryErr::NoSuchTarget(detail),
         6 => QueryErr::NoSuchPackage(detail),
+        7 => QueryErr::UnboundVariable(detail),
         _ => QueryErr::Arguments,
     }
 }
@@ -86,9 +90,13 @@ E | 1 | 4 4 bq: E1 Memory\n
 E | 2 | 5 5 bq: E2 Read\n
 E | 3 | 5 5 bq: E3 Write\n
 E | 4 | 2 2 bq: E4 Bundle\n
-Q | 3 | 2 2 bq: Q3 LeftOut\n
+Q | 1 | 2 2 bq: Q1 Syntax\n
+Q | 2 | foo | 2 2 bq: Q2 UnknownFunction foo\n
+Q | 3 | somepath | 2 2 bq: Q3 LeftOut somepath\n
+Q | 4 | 2 2 bq: Q4 BadRegex\n
 Q | 5 | //a:none | 2 2 bq: Q5 NoSuchTarget //a:none\n
 Q | 6 | @r//b:x | 2 2 bq: Q6 NoSuchPackage @r//b:x\n
+Q | 7 | v | 2 2 bq: Q7 UnboundVariable v\n
 Q | 8 | 2 2 bq: Q8 Arguments\n
 E | 6 | 2 2 bq: E6 Schema 4294967295\n
 E | 7 | 2 2 bq: E7 TooManyModules\n

@@ -1,0 +1,22 @@
+use Rattle.std.proofs.Common.{rules, subst}
+use Rattle.std.proofs.lemmas.Result.{IfOk-weaker}
+use Rattle.bq_report.specs.Report.{Inside, Reports, report_view}
+use Rattle.bq_run.specs.WorkspaceRun.{IsReportOn}
+use Rattle.bq_run.proofs.Loads.{loaded_report}
+use Rattle.bq_run.proofs.reports.report_by.Goals as goal
+
+pub returns-in-Ok : goal.returns-in-Ok
+returns-in-Ok g c =
+    let o = c.args.options.now in
+    let l = c.in-Ok.loaded in
+    let query = c.args.question.query.now in
+    let kinds = c.args.question.schema.now in
+    let inside : Inside = record { prints = l.prints.items; faults = l.faults; packages = l.packages.items } in
+    IfOk-weaker c.report_on.result (λ r. Reports inside kinds query c.args.question.form (report_view r)) (λ r. IsReportOn o c.args.workspace.now (report_view r))
+    (λ r h. loaded_report o c.args.workspace.now query kinds l (report_view r) c.requires.query c.requires.schema c.in-Ok.ensures
+    (subst (λ f. Reports inside kinds query f (report_view r)) c.requires.form h))
+    c.report_on.ensures
+
+pub returns-in-Err-TooManyModules : goal.returns-in-Err-TooManyModules
+returns-in-Err-TooManyModules g c =
+    IsReportOn.too_many c.args.question.query.now c.args.question.schema.now c.requires.query c.requires.schema (c.in-Err-TooManyModules.ensures.0 (search rules)) c.refused.ensures

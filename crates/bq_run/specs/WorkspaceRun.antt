@@ -1,0 +1,43 @@
+-- The report on a workspace in hand: its texts, and how a run over it ends. The query is read first, then the schema, and then the modules
+-- are loaded.
+use Rattle.std.specs.Prelude.{◌≡◌, ℕ, List, [], Ok, Err}
+use Rattle.bq_fault_line.specs.FaultLine.{sorted_lines}
+use Rattle.bq_label.specs.declared.workspace.File.{File}
+use Rattle.bq_schema.specs.Schema.{Rules}
+use Rattle.bq_board.specs.Graph.{Loads}
+use Rattle.bq_discover.specs.LoadGraph.{GraphParts, IsLoadGraph, inputs_of}
+use Rattle.bq_discover.specs.Modules.{AreTooMany}
+use Rattle.bq_discover.specs.Schema.{schema_in}
+use Rattle.bq_load.specs.Loaded.{fault_lines, packages_in, print_lines}
+use Rattle.bq_load.specs.Results.{outcomes}
+use Rattle.bq_load.specs.Sources.{LoadingParts, loading_in}
+use Rattle.bq_query.specs.declared.query_error.QueryErr.{QueryErr}
+use Rattle.bq_query_check.specs.Checked.{IsChecked, IsWrong}
+use Rattle.bq_query_check.specs.declared.parse.CheckedQuery.{CheckedQuery}
+use Rattle.bq_report.specs.Report.{Inside, ReportView, Reports}
+use Rattle.bq_report.specs.declared.ending.Refusal.{Refusal}
+use Rattle.bq_report.specs.declared.ending.Refusal.TheVariants.{Query, Schema, TooManyModules}
+use Rattle.bq_run.specs.declared.options.Options.{Options}
+
+-- nothing is loaded
+abbrev pub refused : Refusal → ReportView
+refused why = record { faults = []; answer = []; end = Err why }
+
+-- what the outcomes of the modules along loads give
+abbrev pub inside_by : LoadingParts → Loads → Inside
+inside_by x p = record { prints = print_lines (outcomes x p); faults = sorted_lines (fault_lines (outcomes x p)); packages = packages_in x.packages (outcomes x p) }
+
+-- what is in the workspace once the modules of its load graph are loaded, each with so many steps
+abbrev pub loaded_in : List File → Rules → ℕ → GraphParts → Inside
+loaded_in files rules limit g = inside_by (loading_in files rules limit g) g.edges
+
+pub data IsReportOn (o : Options) (files : List File) (r : ReportView) : Type 0 where
+  -- Q1 to Q4, Q7, Q8
+  wrong_query : (why : QueryErr) → IsWrong o.query.items why → r ≡ refused (Query why) → IsReportOn o files r
+  -- E6
+  wrong_schema : (query : CheckedQuery) (line : ℕ) → IsChecked o.query.items query → schema_in files ≡ Err line → r ≡ refused (Schema line) → IsReportOn o files r
+  -- E7
+  too_many : (query : CheckedQuery) (rules : Rules) → IsChecked o.query.items query → schema_in files ≡ Ok rules → AreTooMany (inputs_of files rules)
+      → r ≡ refused TooManyModules → IsReportOn o files r
+  loaded : (query : CheckedQuery) (rules : Rules) (g : GraphParts) → IsChecked o.query.items query → schema_in files ≡ Ok rules
+      → IsLoadGraph (inputs_of files rules) g → Reports (loaded_in files rules o.max_steps g) rules query o.output r → IsReportOn o files r

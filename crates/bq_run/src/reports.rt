@@ -1,0 +1,116 @@
+//! The report on a workspace in hand.
+
+ghost use Rattle.std.specs.Prelude.{◌≡◌, Ok, IfOk};
+ghost use Rattle.bq_discover.specs.Schema.{schema_in};
+ghost use Rattle.bq_query_check.specs.Checked.{IsChecked};
+ghost use Rattle.bq_report.specs.Report.{report_view};
+ghost use Rattle.bq_run.specs.Run.{IsInRange};
+ghost use Rattle.bq_run.specs.WorkspaceRun.{IsReportOn, refused};
+
+use crate::options::Options;
+use bq_discover::{LoadErr, schema_of};
+use bq_label::Workspace;
+use bq_load::{Loaded, OpenGate, load_with};
+use bq_query_check::{CheckedQuery, parse_query};
+use bq_report::{Contents, Question, Refusal, Report, refusal_of, report_on};
+use bq_schema::Schema;
+use std::alloc::{AllocError, Global};
+use std::sync::Wait;
+use std::thread::Threads;
+
+/// The report where nothing is loaded.
+fn refused(alloc: Global, why: Refusal) -> Report
+    ensures { report_view result ≡ refused why }
+{
+    Report {
+        faults: Vec::new(alloc),
+        answer: Vec::new(alloc),
+        end: Err(why),
+    }
+}
+
+/// The report on a workspace whose schema and query are read.
+fn report_by<T: Threads + Wait + Sync>(
+    rt: &T,
+    alloc: Global,
+    workspace: &Workspace,
+    question: Question<'_>,
+    options: &Options,
+) -> Result<Report, AllocError>
+    requires in_range { IsInRange options.now }
+    requires query { IsChecked options.now.query.items question.query.now }
+    requires schema { schema_in workspace.now ≡ Ok question.schema.now }
+    requires form { question.form ≡ options.now.output }
+    ensures { IfOk result (λ r. IsReportOn options.now workspace.now (report_view r)) }
+{
+    let jobs = options.jobs as usize;
+    match load_with(
+        rt,
+        alloc,
+        workspace,
+        question.schema,
+        options.max_steps,
+        jobs,
+        &OpenGate,
+    ) {
+        Ok(loaded) => {
+            let Loaded {
+                modules: _,
+                packages,
+                faults,
+                prints,
+            } = loaded;
+            let contents = Contents {
+                prints,
+                faults,
+                packages,
+            };
+            report_on(alloc, contents, question)
+        }
+        Err(LoadErr::TooManyModules) => Ok(refused(alloc, Refusal::TooManyModules)),
+        Err(_) => Err(AllocError),
+    }
+}
+
+/// The report on a workspace and a query that is read.
+fn report_query<T: Threads + Wait + Sync>(
+    rt: &T,
+    alloc: Global,
+    workspace: &Workspace,
+    query: &CheckedQuery,
+    options: &Options,
+) -> Result<Report, AllocError>
+    requires in_range { IsInRange options.now }
+    requires query { IsChecked options.now.query.items query.now }
+    ensures { IfOk result (λ r. IsReportOn options.now workspace.now (report_view r)) }
+{
+    match schema_of(alloc, workspace) {
+        Ok(schema) => {
+            let question = Question {
+                schema: &schema,
+                query,
+                form: options.output,
+            };
+            report_by(rt, alloc, workspace, question, options)
+        }
+        Err(LoadErr::Schema(line)) => Ok(refused(alloc, Refusal::Schema(line))),
+        Err(_) => Err(AllocError),
+    }
+}
+
+/// The texts of a run over this workspace, and how it ends once they are written. Only a lack of memory is an error; Q1 to Q8, E6 and E7
+/// are in the ending.
+pub fn report_workspace<T: Threads + Wait + Sync>(
+    rt: &T,
+    alloc: Global,
+    workspace: &Workspace,
+    options: &Options,
+) -> Result<Report, AllocError>
+    requires in_range { IsInRange options.now }
+    ensures { IfOk result (λ r. IsReportOn options.now workspace.now (report_view r)) }
+{
+    match parse_query(alloc, &options.query) {
+        Ok(query) => report_query(rt, alloc, workspace, &query, options),
+        Err(why) => Ok(refused(alloc, refusal_of(why)?)),
+    }
+}
