@@ -1,0 +1,2 @@
+-- the calls of build functions and of rules
+pub mod Calls
