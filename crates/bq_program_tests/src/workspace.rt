@@ -1,4 +1,9 @@
 //! Small workspaces, and the packages that their BUILD files make.
+ghost use Rattle.std.specs.Prelude.{◌≡◌};
+ghost use Rattle.std.specs.Bool.{OnTrue};
+ghost use Rattle.std.specs.declared.cmp.Ordering.TheVariants.{Less};
+ghost use Rattle.bq_label.specs.Packages.{id_cmp};
+ghost use Rattle.bq_target_graph.specs.Order.{PackagesAscend, id_of};
 
 use crate::program::{Setting, run_chunk};
 use bq_grammar::FileKind;
@@ -9,6 +14,7 @@ use bq_schema::Schema;
 use bq_source::Bytes;
 use bq_target::Package;
 use std::alloc::{AllocError, Global};
+use std::cmp::Ordering;
 
 pub fn file(alloc: Global, path: &[u8], content: &[u8]) -> Result<File, AllocError> {
     Ok(File {
@@ -24,6 +30,15 @@ pub fn files(alloc: Global, paths: &str) -> Result<Vec<File>, AllocError> {
         files.push(file(alloc, path, b"")?)?;
     }
     Ok(files)
+}
+
+/// Files, each with its path.
+pub fn bundle(alloc: Global, files: &[(&str, &str)]) -> Result<Vec<File>, AllocError> {
+    let mut bundle = Vec::new(alloc);
+    for (path, content) in files {
+        bundle.push(file(alloc, path.as_bytes(), content.as_bytes())?)?;
+    }
+    Ok(bundle)
 }
 
 /// The package of this repository and path; the main repository's root where there is none.
@@ -108,4 +123,45 @@ pub fn package_of(
         Some(label) => evaluated(tree, label, chunk, whole),
         None => Ok(None),
     }
+}
+
+/// The packages of all BUILD files in the tree that have no fault. Adds what is printed.
+pub fn packages_in(tree: Tree<'_>, whole: &mut Vec<u8>) -> Result<Vec<Package>, AllocError> {
+    let mut made = Vec::new(tree.alloc);
+    for build_file in tree.packages.all() {
+        let text = build_file.file.content.as_slice();
+        if let Some(package) = package_of(tree, build_file, text, whole)? {
+            made.push(package)?;
+        }
+    }
+    Ok(made)
+}
+
+/// Whether each package comes before the next one.
+pub fn ascend(packages: &[Package]) -> bool
+    ensures { OnTrue result (PackagesAscend packages.now) }
+{
+    for at in 1..packages.len() {
+        if !is_before(&packages[at - 1], &packages[at]) {
+            return false;
+        }
+    }
+    true
+}
+
+fn is_before(a: &Package, b: &Package) -> bool
+    ensures { OnTrue result (id_cmp (id_of a.now) (id_of b.now) ≡ Less) }
+{
+    match order_of(a.id(), b.id()) {
+        Ordering::Less => true,
+        _ => false,
+    }
+}
+
+/// By the bytes of the repositories, and then of the paths.
+fn order_of(a: &PackageId, b: &PackageId) -> Ordering
+    ensures { result ≡ id_cmp a.now b.now }
+{
+    let by_repo = a.repo().as_slice().cmp(b.repo().as_slice());
+    by_repo.then(a.package().as_slice().cmp(b.package().as_slice()))
 }
