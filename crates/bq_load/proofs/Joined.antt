@@ -13,7 +13,9 @@ use Rattle.bq_discover.specs.LoadGraph.{GraphParts, IsNumbered, IsLoadGraph, inp
 use Rattle.bq_load.specs.declared.source.Source.{Source}
 use Rattle.bq_load.specs.declared.loaded.Loaded.{Loaded}
 use Rattle.bq_load.specs.Sources.{LoadingParts, source_of, code_of, loading_in}
-use Rattle.bq_load.specs.Loaded.{IsLoaded, IsReading, LoadsWorkspace}
+use Rattle.bq_load.specs.Views.{OutcomeView}
+use Rattle.bq_load.specs.Results.{outcomes}
+use Rattle.bq_load.specs.Loaded.{IsLoaded, IsGathered, IsReading, LoadsWorkspace}
 
 abbrev parts : List Source → List (Option Resolved) → List File → List BuildFile → Rules → List Name → ℕ → LoadingParts
 parts sources code files packages rules names limit = record { sources = sources; code = code; files = files; packages = packages; rules = rules; names = names; limit = limit }
@@ -38,6 +40,12 @@ module _ (files : List File) (rules : Rules) (limit : ℕ) where
     wide = ap length e ∙ (as_wide g numbered ∙ (sym (length-map g.modules source_of) ∙ sym (ap length a)));
   }
 
-  pub loads_it : (x : LoadingParts) (p : Loads) (l : Loaded) → IsReading files rules limit x p → IsLoaded x p l → LoadsWorkspace files rules limit (Ok l)
+  loads_it : (x : LoadingParts) (p : Loads) (l : Loaded) → IsReading files rules limit x p → IsLoaded x p l → LoadsWorkspace files rules limit (Ok l)
   loads_it x p l r h =
       (r.graph, r.found, subst (λ (q : Loads). IsLoaded (loading_in files rules limit r.graph) q l) r.edges (subst (λ (y : LoadingParts). IsLoaded y p l) r.decides h))
+
+  pub gathered_is : (x : LoadingParts) (p : Loads) (bs : List BuildFile) (os : List OutcomeView) (l : Loaded) → IsReading files rules limit x p → bs ≡ packages_of files → os ≡ outcomes x p
+      → IsGathered bs os l → LoadsWorkspace files rules limit (Ok l)
+  gathered_is x p bs os l r b o h =
+      let own : bs ≡ x.packages = b ∙ sym (ap (λ (y : LoadingParts). y.packages) r.decides) in
+      loads_it x p l r (subst (λ (cs : List BuildFile). IsGathered cs (outcomes x p) l) own (subst (λ (ps : List OutcomeView). IsGathered bs ps l) o h))

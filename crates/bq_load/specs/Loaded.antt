@@ -87,13 +87,17 @@ print_lines os = flat_map prints_of os
 
 -- ---- all
 
--- what these sources and loads give
-pub record IsLoaded (x : LoadingParts) (p : Loads) (l : Loaded) : Type 0 where
-  pub modules : map outcome_view l.modules.items ≡ outcomes x p
-  pub packages : l.packages.items ≡ packages_in x.packages (outcomes x p)
+-- what modules with these outcomes give, in a workspace with these packages
+pub record IsGathered (bs : List BuildFile) (os : List OutcomeView) (l : Loaded) : Type 0 where
+  pub modules : map outcome_view l.modules.items ≡ os
+  pub packages : l.packages.items ≡ packages_in bs os
   pub ascend : PackagesAscend l.packages.items
-  pub faults : l.faults ≡ sorted_lines (fault_lines (outcomes x p))
-  pub prints : l.prints.items ≡ print_lines (outcomes x p)
+  pub faults : l.faults ≡ sorted_lines (fault_lines os)
+  pub prints : l.prints.items ≡ print_lines os
+
+-- what these sources and loads give
+abbrev pub IsLoaded : LoadingParts → Loads → Loaded → Type 0
+IsLoaded x p l = IsGathered x.packages (outcomes x p) l
 
 -- there is no load graph, memory aside: there are too many modules or edges
 abbrev pub HasNoGraph : List File → Rules → LoadErr → Type 0

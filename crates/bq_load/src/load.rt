@@ -1,15 +1,18 @@
 //! The loading of a workspace.
 
-ghost use Rattle.std.specs.Prelude.{◌≡◌, ◌<◌, ◌≤◌, IfOk};
+ghost use Rattle.std.specs.Prelude.{◌≡◌, ◌<◌, ◌≤◌, length, map, IfOk};
 ghost use Rattle.bq_label.specs.Packages.{packages_of};
 ghost use Rattle.bq_discover.specs.LoadGraph.{IsLoadGraph, inputs_of};
+ghost use Rattle.bq_load.specs.Views.{outcome_view};
 ghost use Rattle.bq_load.specs.Sources.{loading_of};
+ghost use Rattle.bq_load.specs.Results.{outcomes};
 ghost use Rattle.bq_load.specs.Loaded.{IsReading, LoadsWorkspace};
 
 use crate::evaluator::Evaluator;
 use crate::gate::{Gate, OpenGate};
 use crate::loaded::Loaded;
 use crate::loading::Loading;
+use crate::outcome::ModuleOutcome;
 use crate::source::Sources;
 use bq_board::Graph;
 use bq_discover::{LoadErr, LoadGraph, discover, discover_by_workers};
@@ -52,9 +55,42 @@ fn read<'a>(
     Ok((loading, edges))
 }
 
+/// The modules with their outcomes, by one thread.
+fn modules_one_thread(
+    alloc: Global,
+    loading: &Loading<'_>,
+    edges: &Graph,
+    gate: &OpenGate,
+) -> Result<Vec<ModuleOutcome>, AllocError>
+    requires wide { length edges.now ≡ length loading.now.sources.items }
+    ensures { IfOk result (λ os. map outcome_view os.items ≡ outcomes (loading_of loading.now) edges.now) }
+{
+    let evaluator = Evaluator { loading, gate };
+    let found = outcomes_one_thread(alloc, &evaluator, edges)?;
+    loading.outcomes(alloc, edges, found.as_slice())
+}
+
+/// The modules with their outcomes, by so many workers.
+fn modules_by_workers<R: Threads + Wait + Sync, G: Gate>(
+    rt: &R,
+    alloc: Global,
+    loading: &Loading<'_>,
+    edges: &Graph,
+    workers: usize,
+    gate: &G,
+) -> Result<Vec<ModuleOutcome>, AllocError>
+    requires workers { (0 < workers) × (workers ≤ MAX_WORKERS) }
+    requires wide { length edges.now ≡ length loading.now.sources.items }
+    ensures { IfOk result (λ os. map outcome_view os.items ≡ outcomes (loading_of loading.now) edges.now) }
+{
+    let evaluator = Evaluator { loading, gate };
+    let found = outcomes_by_workers(rt, alloc, &evaluator, edges, workers)?;
+    loading.outcomes(alloc, edges, found.as_slice())
+}
+
 /// Loads a workspace on one thread: each module is evaluated after all that it loads, with so many steps of its own. It is refused where
 /// there are too many modules or edges (L2), and where memory is refused (L1).
-#[tactic(auto, using(crate::proofs::Joined::loads_it))]
+#[tactic(auto, using(crate::proofs::Joined::gathered_is))]
 pub fn load_one_thread(
     alloc: Global,
     workspace: &Workspace,
@@ -70,18 +106,14 @@ pub fn load_one_thread(
         Err(why) => return Err(why),
     };
     let (loading, edges) = read(alloc, workspace, &packages, schema, limit, graph)?;
-    let gate = OpenGate;
-    let evaluator = Evaluator {
-        loading: &loading,
-        gate: &gate,
-    };
-    let found = outcomes_one_thread(alloc, &evaluator, &edges)?;
-    Ok(loading.loaded(alloc, &edges, found.as_slice())?)
+    let modules = modules_one_thread(alloc, &loading, &edges, &OpenGate)?;
+    drop(loading); // so that the code of all modules gives its memory to what comes
+    Ok(Loaded::gathered(alloc, &packages, modules)?)
 }
 
 /// Loads a workspace by so many workers, each in a thread of its own, and tells a gate of each evaluation. What it gives is what one
 /// thread gives, whatever the order of the workers' steps.
-#[tactic(auto, using(crate::proofs::Joined::loads_it))]
+#[tactic(auto, using(crate::proofs::Joined::gathered_is))]
 pub fn load_with<R: Threads + Wait + Sync, G: Gate>(
     rt: &R,
     alloc: Global,
@@ -101,10 +133,7 @@ pub fn load_with<R: Threads + Wait + Sync, G: Gate>(
         Err(why) => return Err(why),
     };
     let (loading, edges) = read(alloc, workspace, &packages, schema, limit, graph)?;
-    let evaluator = Evaluator {
-        loading: &loading,
-        gate,
-    };
-    let found = outcomes_by_workers(rt, alloc, &evaluator, &edges, workers)?;
-    Ok(loading.loaded(alloc, &edges, found.as_slice())?)
+    let modules = modules_by_workers(rt, alloc, &loading, &edges, workers, gate)?;
+    drop(loading); // so that the code of all modules gives its memory to what comes
+    Ok(Loaded::gathered(alloc, &packages, modules)?)
 }

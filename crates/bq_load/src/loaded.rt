@@ -1,21 +1,14 @@
 //! What loading a workspace gives.
 
-ghost use Rattle.std.specs.Prelude.{◌≡◌, length, map, IfOk};
-ghost use Rattle.bq_outcome.specs.Outcome.{outcome};
-ghost use Rattle.bq_load_order.specs.Shown.{shown};
-ghost use Rattle.bq_load_order.specs.Slots.{Tabulates};
-ghost use Rattle.bq_load.specs.Views.{module_view, failed_view};
-ghost use Rattle.bq_load.specs.Sources.{loading_of};
-ghost use Rattle.bq_load.specs.Evaluation.{means};
-ghost use Rattle.bq_load.specs.Loaded.{IsLoaded};
+ghost use Rattle.std.specs.Prelude.{map, IfOk};
+ghost use Rattle.bq_load.specs.Views.{outcome_view};
+ghost use Rattle.bq_load.specs.Loaded.{IsGathered};
 
 use crate::lines::{fault_lines, print_lines};
-use crate::loading::Loading;
-use crate::outcome::{FailedModule, LoadedModule, ModuleOutcome};
+use crate::outcome::ModuleOutcome;
 use crate::packages::packages_in;
-use bq_board::Graph;
 use bq_fault_line::FaultLines;
-use bq_load_order::Shared;
+use bq_label::Packages;
 use bq_target::Package;
 use std::alloc::{AllocError, Global};
 
@@ -32,26 +25,22 @@ pub struct Loaded {
     pub prints: Vec<u8>,
 }
 
-impl<'a> Loading<'a> {
-    /// What the outcomes along loads give.
+impl Loaded {
+    /// What modules give, in a workspace with these packages.
     #[tactic(auto, using(crate::proofs::Ascending::packages_ascend))]
-    pub(crate) fn loaded(
-        &self,
+    pub(crate) fn gathered(
         alloc: Global,
-        edges: &Graph,
-        found: &[Shared<LoadedModule, FailedModule>],
+        packages: &Packages,
+        modules: Vec<ModuleOutcome>,
     ) -> Result<Loaded, AllocError>
-        requires wide { length edges.now ≡ length self.now.sources.items }
-        requires found { Tabulates (length edges.now) (outcome (means (loading_of self.now)) edges.now) (map (shown module_view failed_view) found.now) }
-        ensures { IfOk result (λ l. IsLoaded (loading_of self.now) edges.now l) }
+        ensures { IfOk result (λ l. IsGathered packages.now (map outcome_view modules.items) l) }
     {
-        let modules = self.outcomes(alloc, edges, found)?;
-        let packages = packages_in(alloc, self.packages, modules.as_slice())?;
+        let all = packages_in(alloc, packages, modules.as_slice())?;
         let faults = fault_lines(alloc, modules.as_slice())?;
         let prints = print_lines(alloc, modules.as_slice())?;
         Ok(Loaded {
             modules,
-            packages,
+            packages: all,
             faults,
             prints,
         })

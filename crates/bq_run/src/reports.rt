@@ -55,11 +55,12 @@ fn report_by<T: Threads + Wait + Sync>(
     ) {
         Ok(loaded) => {
             let Loaded {
-                modules: _,
+                modules,
                 packages,
                 faults,
                 prints,
             } = loaded;
+            drop(modules); // so that their values give their memory to the graph
             let contents = Contents {
                 prints,
                 faults,

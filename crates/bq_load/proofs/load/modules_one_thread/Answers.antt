@@ -3,7 +3,7 @@ use Rattle.std.proofs.Crossing.{crosses}
 use Rattle.bq_load.proofs.Crossing.Modules.{loaded_send, loaded_sync, built_ins_sync, source_sync}
 use Rattle.bq_load.proofs.Crossing.Trees.{resolved_sync}
 use Rattle.bq_load.proofs.Crossing.Workspaces.{workspace_sync, packages_sync, schema_sync}
-use Rattle.bq_load.proofs.load.load_one_thread.Goals as goal
+use Rattle.bq_load.proofs.load.modules_one_thread.Goals as goal
 
 pub outcomes_one_thread-requires-send-E-Value : goal.outcomes_one_thread-requires-send-E-Value
 outcomes_one_thread-requires-send-E-Value c κs = let l = loaded_send in search sendable depth 60 fits 20000

@@ -1,6 +1,6 @@
 use denote.Param.Send.{sendable}
 use Rattle.bq_load.proofs.Crossing.Modules.{loaded_send, loaded_sync, evaluator_sync}
-use Rattle.bq_load.proofs.load.load_with.Goals as goal
+use Rattle.bq_load.proofs.load.modules_by_workers.Goals as goal
 
 pub outcomes_by_workers-requires-send-E-Value : goal.outcomes_by_workers-requires-send-E-Value
 outcomes_by_workers-requires-send-E-Value g c κs = let l = loaded_send in search sendable depth 60 fits 20000
