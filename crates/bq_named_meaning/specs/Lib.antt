@@ -1,0 +1,6 @@
+pub mod Names
+pub mod Trees
+pub mod Targets
+pub mod Comprehensions
+pub mod Expressions
+pub mod Laws
