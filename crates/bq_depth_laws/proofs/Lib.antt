@@ -5,12 +5,12 @@ mod Opened
 -- how many layers the trees of each phrase have
 mod ParsedExpressions
 mod ParsedStatements
-mod ParsedFiles
+pub mod ParsedFiles
 -- walks of the resolver that give what fits, and what each rule gives
 mod Made
 mod Gives
 mod ResolvedExpressions
 mod ResolvedStatements
-mod ResolvedFiles
+pub mod ResolvedFiles
 -- what fits has no more layers
-mod Within
+pub mod Within

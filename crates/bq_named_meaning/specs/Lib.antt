@@ -3,4 +3,7 @@ pub mod Trees
 pub mod Targets
 pub mod Comprehensions
 pub mod Expressions
+pub mod Statements
+pub mod Calls
+pub mod Module
 pub mod Laws

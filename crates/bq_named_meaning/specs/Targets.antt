@@ -1,17 +1,22 @@
 -- What is assigned to (Starlark specification, "Assignments"): the operands and indices of a target are evaluated first, from left to
 -- right, and then its parts are bound from left to right.
-use Rattle.std.specs.Prelude.{ℕ, zero, suc, List, [], ◌∷◌, length}
+use Rattle.std.specs.Prelude.{ℕ, zero, suc, List, [], ◌∷◌, ◌++◌, length, Option, Some, None}
 use Rattle.bq_source.specs.declared.fault.FaultKind.TheVariants as f
 use Rattle.bq_grammar.specs.declared.tree.Argument.TheOpen.{Target-F}
+use Rattle.bq_grammar.specs.declared.tree.Expr.{Expr}
+use Rattle.bq_grammar.specs.declared.tree.Operator.{Operator}
 use Rattle.bq_grammar.specs.declared.tree.Target.{Target, out-Target}
-use Rattle.bq_scope.specs.Names.{TargetLayer, max_layers}
+use Rattle.bq_scope.specs.Names.{Name, TargetLayer, max_layers}
 use Rattle.bq_value.specs.Datum.{Datum}
 use Rattle.bq_machine.specs.Action.{Action, ◌>>=◌, pure}
 use Rattle.bq_meaning.specs.Primitives.{Primitives, stop}
-use Rattle.bq_meaning.specs.Targets.{Places}
+use Rattle.bq_meaning.specs.Targets.{Places, bound}
 use Rattle.bq_named_meaning.specs.Names.{Env, bind}
+use Rattle.bq_named_meaning.specs.Trees.{Eval}
 
 module _ {S : Type 0} (m : Primitives S) where
+  -- ---- binding a target's parts
+
   -- What is left of the places is those of the targets that come after.
   abbrev pub Binds : Type 0
   Binds = Datum → Env → Places → Action S (Env × Places)
@@ -47,3 +52,55 @@ module _ {S : Type 0} (m : Primitives S) where
   -- a `for` binds its variables
   unfoldable pub bind_variables : Target → Datum → Env → Action S Env
   bind_variables t v env = bind_to max_layers t v env [] >>= λ r. pure r.0
+
+  -- What a name that is assigned holds. Its own block holds the name, so nothing round that block is read: unbound there, it is F49.
+  abbrev pub assigned : Option (Option Datum) → Action S Datum
+  assigned None = stop m f.Unbound
+  assigned (Some v) = bound m v
+
+  module _ (eval : Eval S) where
+    -- ---- a target's places
+
+    unfoldable pub place : Expr → Expr → Env → Places → Action S Places
+    place x i env ps = eval x env >>= λ v. eval i env >>= λ w. pure (ps ++ (v, w) ∷ [])
+
+    unfoldable pub places_each : (Target → Env → Places → Action S Places) → List Target → Env → Places → Action S Places
+    places_each inner [] env ps = pure ps
+    places_each inner (t ∷ ts) env ps = inner t env ps >>= λ qs. places_each inner ts env qs
+
+    abbrev pub places_by : (Target → Env → Places → Action S Places) → TargetLayer → Env → Places → Action S Places
+    places_by inner (Target-F.Target::Name n) env ps = pure ps
+    places_by inner (Target-F.Target::Index x i) env ps = place x i env ps
+    places_by inner (Target-F.Target::Tuple ts) env ps = places_each inner ts env ps
+    places_by inner (Target-F.Target::List ts) env ps = places_each inner ts env ps
+
+    unfoldable pub places_of : (Target → Env → Places → Action S Places) → Target → Env → Places → Action S Places
+    places_of inner t env ps = places_by inner (out-Target t) env ps
+
+    -- the places so far, and those of a target
+    unfoldable pub places_to : ℕ → Target → Env → Places → Action S Places
+    places_to zero t env ps = stop m f.Nesting
+    places_to (suc depth) t env ps = places_of (places_to depth) t env ps
+
+    -- ---- assignments
+
+    unfoldable pub assign : Target → Datum → Env → Action S Env
+    assign t v env = places_to max_layers t env [] >>= λ ps. bind_to max_layers t v env ps >>= λ r. pure r.0
+
+    -- `name op= x`
+    unfoldable pub augment_name : Name → Operator → Expr → Env → Action S Env
+    augment_name name op x env = assigned (env name) >>= λ old. eval x env >>= λ v. m.augment op old v >>= λ new. pure (bind env name new)
+
+    -- `y[i] op= x`: `y` and `i` are evaluated once
+    unfoldable pub augment_index : Expr → Expr → Operator → Expr → Env → Action S Env
+    augment_index y i op x env =
+        eval y env >>= λ u. eval i env >>= λ w. m.index u w >>= λ old. eval x env >>= λ v. m.augment op old v >>= λ new. m.set_index u w new >>= λ _. pure env
+
+    -- the grammar has no augmented assignment to a tuple or list
+    abbrev pub augment_by : TargetLayer → Operator → Expr → Env → Action S Env
+    augment_by (Target-F.Target::Name n) op x env = augment_name n.name op x env
+    augment_by (Target-F.Target::Index y i) op x env = augment_index y i op x env
+    augment_by _ op x env = stop m f.Syntax
+
+    unfoldable pub augment : Target → Operator → Expr → Env → Action S Env
+    augment t op x env = augment_by (out-Target t) op x env

@@ -4,10 +4,10 @@
 -- `Finds`: walks whose fault is the first of given ones. `UnknownNames`, `FaultyExpressions`, `FaultyStatements`, `FaultyFiles`: the fault
 -- of each rule is the first rule of names and flow that is broken. `Makes`: what walks make. `ResolvedExpressions`, `ResolvedStatements`,
 -- `ResolvedFiles`: what each rule makes is what the relation says.
-mod Binds
+pub mod Binds
 mod Steps
 mod Needs
-mod Uses
+pub mod Uses
 mod Expressions
 mod Statements
 mod Growth
@@ -17,8 +17,8 @@ mod Finds
 mod UnknownNames
 mod FaultyExpressions
 mod FaultyStatements
-mod FaultyFiles
-mod Makes
-mod ResolvedExpressions
-mod ResolvedStatements
-mod ResolvedFiles
+pub mod FaultyFiles
+pub mod Makes
+pub mod ResolvedExpressions
+pub mod ResolvedStatements
+pub mod ResolvedFiles
