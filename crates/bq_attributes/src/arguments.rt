@@ -54,13 +54,15 @@ pub(crate) fn is_none(value: &Value) -> bool
 }
 
 impl Given {
-    pub fn nothing(alloc: Global) -> Given
-        ensures { result ≡ nothing_given }
+    /// Nothing yet, with room for so many attributes.
+    pub fn nothing(alloc: Global, room: usize) -> Result<Given, AllocError>
+        ensures { IfOk result (λ given. given ≡ nothing_given) }
     {
-        Given {
+        let attributes = Vec::with_capacity(alloc, room)?;
+        Ok(Given {
             name: None,
-            attributes: Items::new(alloc),
-        }
+            attributes: Items::from_vec(attributes),
+        })
     }
 
     /// One attribute more.

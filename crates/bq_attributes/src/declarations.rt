@@ -108,7 +108,7 @@ fn gives_mandatory(
 fn given(alloc: Global, callee: Callee<'_>, keywords: &Dict) -> Result<Given, EvalErr>
     ensures { Gives (λ g. g) Bad result (with_arguments callee.entry.scope.own.now callee.entry.scope.packages.now callee.entry.store.now callee.entry.schema.now callee.entry.rule.now nothing_given keywords.now) }
 {
-    let mut given = Given::nothing(alloc);
+    let mut given = Given::nothing(alloc, keywords.len())?;
     match given.take_arguments(alloc, callee, keywords) {
         Ok(()) => Ok(given),
         Err(why) => Err(why),

@@ -78,11 +78,11 @@ fn read_all(
 ) -> Result<Items<Label>, EvalErr>
     ensures { Gives (λ ls. ls) Bad result (read_all own.now kind texts.now) }
 {
-    let mut labels = Items::new(alloc);
+    let mut labels = Vec::with_capacity(alloc, texts.len())?;
     for text in texts {
         labels.push(read(alloc, own, kind, text)?)?;
     }
-    Ok(labels)
+    Ok(Items::from_vec(labels))
 }
 
 /// The label that a text stands for: F78 or F75, and F37 where it crosses into another package.

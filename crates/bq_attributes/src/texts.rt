@@ -27,11 +27,11 @@ pub fn text_in(value: &Value) -> Result<Bytes, EvalErr>
 fn all_texts(alloc: Global, values: &[Value]) -> Result<Items<Bytes>, EvalErr>
     ensures { Gives (λ texts. texts) Bad result (all_texts values.now) }
 {
-    let mut texts = Items::new(alloc);
+    let mut texts = Vec::with_capacity(alloc, values.len())?;
     for value in values {
         texts.push(text_in(value)?)?;
     }
-    Ok(texts)
+    Ok(Items::from_vec(texts))
 }
 
 fn content_texts(alloc: Global, content: &Content) -> Result<Items<Bytes>, EvalErr>

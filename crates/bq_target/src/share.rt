@@ -13,21 +13,21 @@ use std::alloc::{AllocError, Global};
 fn texts(alloc: Global, texts: &[Bytes]) -> Result<Items<Bytes>, AllocError>
     ensures { IfOk result (λ shared. shared ≡ texts.now) }
 {
-    let mut shared = Items::new(alloc);
+    let mut shared = Vec::with_capacity(alloc, texts.len())?;
     for text in texts {
         shared.push(text.share()?)?;
     }
-    Ok(shared)
+    Ok(Items::from_vec(shared))
 }
 
 fn labels(alloc: Global, labels: &[Label]) -> Result<Items<Label>, AllocError>
     ensures { IfOk result (λ shared. shared ≡ labels.now) }
 {
-    let mut shared = Items::new(alloc);
+    let mut shared = Vec::with_capacity(alloc, labels.len())?;
     for label in labels {
         shared.push(label.share()?)?;
     }
-    Ok(shared)
+    Ok(Items::from_vec(shared))
 }
 
 fn attributes(
@@ -36,21 +36,21 @@ fn attributes(
 ) -> Result<Items<GivenAttribute>, AllocError>
     ensures { IfOk result (λ shared. shared ≡ attributes.now) }
 {
-    let mut shared = Items::new(alloc);
+    let mut shared = Vec::with_capacity(alloc, attributes.len())?;
     for attribute in attributes {
         shared.push(attribute.share(alloc)?)?;
     }
-    Ok(shared)
+    Ok(Items::from_vec(shared))
 }
 
 fn targets(alloc: Global, targets: &[Target]) -> Result<Items<Target>, AllocError>
     ensures { IfOk result (λ shared. shared ≡ targets.now) }
 {
-    let mut shared = Items::new(alloc);
+    let mut shared = Vec::with_capacity(alloc, targets.len())?;
     for target in targets {
         shared.push(target.share(alloc)?)?;
     }
-    Ok(shared)
+    Ok(Items::from_vec(shared))
 }
 
 impl AttributeValue {
