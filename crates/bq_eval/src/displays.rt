@@ -30,7 +30,7 @@ impl<
         requires { Nests R.means R.seen context.now.left self.now.depth self.now.call (F.pre self.now.eval) (F.post self.now.eval) }
         ensures { Acts R.means (λ vs. vs.items) result (R.seen runtime.new) (meaning.values R.means (nested R.means self.now.depth context.now) codes.now (slots_of frame.now) [] (R.seen runtime.old)) }
     {
-        let mut all = Vec::new(context.alloc);
+        let mut all = Vec::with_capacity(context.alloc, codes.len())?;
         for code in codes {
             all.push(self.value(context, frame, runtime, code)?)?;
         }

@@ -48,7 +48,7 @@ impl<R: Runtime, C: Copy + Fn(&Context<'_>, &mut R, &Value, Args) -> Result<Valu
         requires { Answers R.means R.seen context.now.left (C.pre self.now.call) (C.post self.now.call) }
         ensures { Acts R.means (λ vs. vs.items) result (R.seen runtime.new) (expressions.values R.means (evals R.means context.now) codes.now (slots_of frame.now) [] (R.seen runtime.old)) }
     {
-        let mut all = Vec::new(context.alloc);
+        let mut all = Vec::with_capacity(context.alloc, codes.len())?;
         for code in codes {
             all.push(self.value(context, frame, runtime, code)?)?;
         }

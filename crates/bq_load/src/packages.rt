@@ -19,7 +19,7 @@ use std::sync::Arc;
 fn no_targets(alloc: Global, label: &Label) -> Result<Package, AllocError>
     ensures { IfOk result (λ p. p ≡ no_targets label.now) }
 {
-    Ok(Package::failed(alloc, label.share()?))
+    Package::failed(alloc, label.share()?)
 }
 
 /// A BUILD file's package, where it is of the file's directory.
@@ -34,7 +34,7 @@ fn own_package(
         return no_targets(alloc, label);
     };
     if is_of(label.package_id(), package.build_file()) {
-        return package.share(alloc);
+        return package.share();
     }
     no_targets(alloc, label)
 }

@@ -93,6 +93,6 @@ impl PackageState {
         files.add_named(alloc, build_file.package_id(), targets.as_slice())?;
         let Files { names: _, found } = files;
         targets.append(found)?;
-        Ok(Package::of(build_file, targets))
+        Ok(Package::of(alloc, build_file, targets)?)
     }
 }

@@ -15,7 +15,7 @@
 //! - `declare`: the calls of rules and of `package_group`;
 //! - `files`: the files that labels name and nothing declares;
 //! - `finish`: exported files, and the package once its BUILD file is evaluated;
-//! - `share`: the same package once more;
+//! - `share`: the same targets once more;
 //! - `laws`: what holds of every package.
 #![tactic(auto)]
 

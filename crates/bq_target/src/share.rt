@@ -1,8 +1,7 @@
-//! Shares of packages.
+//! Shares of targets: their texts are not copied, where these are longer than 22 bytes.
 
 ghost use Rattle.std.specs.Prelude.{◌≡◌, IfOk};
 
-use crate::package::Package;
 use crate::target::{Target, TargetKind};
 use crate::value::{AttributeValue, GivenAttribute};
 use bq_label::Label;
@@ -43,7 +42,8 @@ fn attributes(
     Ok(Items::from_vec(shared))
 }
 
-fn targets(alloc: Global, targets: &[Target]) -> Result<Items<Target>, AllocError>
+/// The same targets.
+pub(crate) fn targets(alloc: Global, targets: &[Target]) -> Result<Items<Target>, AllocError>
     ensures { IfOk result (λ shared. shared ≡ targets.now) }
 {
     let mut shared = Vec::with_capacity(alloc, targets.len())?;
@@ -114,16 +114,5 @@ impl Target {
             attributes: attributes(alloc, self.attributes.as_slice())?,
             line: self.line,
         })
-    }
-}
-
-impl Package {
-    /// The same package. It takes time linear in its targets and what they name.
-    pub fn share(&self, alloc: Global) -> Result<Package, AllocError>
-        ensures { IfOk result (λ p. p ≡ self.now) }
-    {
-        let build_file = self.build_file().share()?;
-        let shared = targets(alloc, self.targets())?;
-        Ok(Package::of(build_file, shared))
     }
 }

@@ -33,7 +33,7 @@ pub target_sync : IsSync (Target.the_field).row
 target_sync = let l = label_sync in let k = kind_sync in let g = given_sync in search (crosses, sendable) depth 60 fits 20000
 
 pub package_send : IsSend (Package.the_field).row
-package_send = let l = label_send in let t = target_send in search (crosses, sendable) depth 60 fits 20000
+package_send = let l = label_send in let ts = target_send in let ty = target_sync in search (crosses, sendable) depth 60 fits 20000
 
 pub package_sync : IsSync (Package.the_field).row
-package_sync = let l = label_sync in let t = target_sync in search (crosses, sendable) depth 60 fits 20000
+package_sync = let l = label_sync in let ts = target_send in let ty = target_sync in search (crosses, sendable) depth 60 fits 20000

@@ -5,5 +5,5 @@ use Rattle.bq_target.specs.Package.{AreTargetsOf}
 use Rattle.bq_target.proofs.States.{empty_state}
 use Rattle.bq_target.proofs.package.Package.failed.Goals as goal
 
-pub invariant_of-result : goal.invariant_of-result
-invariant_of-result c = subst (λ (ts : List Target). AreTargetsOf (package_of c.args.build_file) ts) (sym c.new.ensures) (empty_state (package_of c.args.build_file))
+pub of-requires : goal.of-requires
+of-requires c = subst (λ (ts : List Target). AreTargetsOf (package_of c.args.build_file) ts) (sym c.new.ensures) (empty_state (package_of c.args.build_file))
