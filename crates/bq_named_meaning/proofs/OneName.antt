@@ -4,7 +4,7 @@ use Rattle.std.specs.Prelude.{if◌then◌else◌}
 use Rattle.std.proofs.lemmas.Slice.Eq.{bytes_eq-Decides}
 use Rattle.bq_scope.specs.Names.{Name}
 use Rattle.bq_value.specs.Datum.{Datum}
-use Rattle.bq_named_meaning.specs.Names.{Env, bind}
+use Rattle.bq_named_meaning.specs.Names.{bind}
 use Rattle.bq_named_meaning.specs.Laws.{BindingIsOfOneName}
 
 others : (v : Datum) (rest : Option (Option Datum)) (name other : Name) (t : Bool) → bytes_eq other name ≡ t → other ≢ name → (if t then Some (Some v) else rest) ≡ rest

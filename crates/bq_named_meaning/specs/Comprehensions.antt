@@ -1,6 +1,6 @@
 -- Comprehensions (Starlark specification, "Comprehensions"): "the first iterable" is evaluated outside, all else in a block of its own,
 -- whose names are the variables of all its clauses. What is bound in it is not seen round it.
-use Rattle.std.specs.Prelude.{List, [], ◌∷◌, Bool, if◌then◌else◌}
+use Rattle.std.specs.Prelude.{List, [], ◌∷◌, if◌then◌else◌}
 use Rattle.bq_grammar.specs.declared.tree.Argument.TheOpen.{Clause-F}
 use Rattle.bq_grammar.specs.declared.tree.Clause.{Clause, out-Clause}
 use Rattle.bq_grammar.specs.declared.tree.Expr.{Expr}

@@ -9,7 +9,7 @@ use Rattle.bq_scope.specs.Scope.{or_else}
 use Rattle.bq_scope.specs.Expressions.{is_bzl}
 use Rattle.bq_scope.specs.Universe.{UniverseParts, native, universe_has}
 use Rattle.bq_value.specs.Datum.{Datum}
-use Rattle.bq_machine.specs.Action.{Action, ◌>>=◌, pure}
+use Rattle.bq_machine.specs.Action.{Action, ◌>>=◌}
 use Rattle.bq_meaning.specs.Primitives.{Primitives, stop}
 use Rattle.bq_meaning.specs.Targets.{bound}
 
