@@ -1,8 +1,17 @@
 -- Values that are only read.
+use Rattle.std.specs.Prelude.{ℕ}
 use Rattle.bq_value.specs.Datum.{Datum}
+use Rattle.bq_machine.specs.Action.{Action, ◌>>=◌}
+use Rattle.bq_meaning.specs.Frame.{Frame}
+use Rattle.bq_meaning.specs.Primitives.{Primitives}
+use Rattle.bq_meaning.specs.Targets.{bound}
 use Rattle.bq_eval.specs.declared.operand.Operand.{Operand}
 use Rattle.bq_eval.specs.declared.operand.Operand.TheVariants as operands
 
 abbrev pub read_of : Operand → Datum
 read_of (operands.Lent v) = v.now
 read_of (operands.Own v) = v
+
+-- the use of a name of the frame
+abbrev pub local_use : {S : Type 0} → Primitives S → Frame → ℕ → Action S Datum
+local_use m env slot = m.step 1 >>= λ _. bound m (env slot)

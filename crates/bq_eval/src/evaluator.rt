@@ -1,6 +1,8 @@
 //! The rules to a depth. Each rule takes what evaluates the expressions inside, so that it is proved by itself.
 
 ghost use Rattle.std.specs.Prelude.{◌≡◌};
+ghost use Rattle.bq_value.specs.Datum.{int};
+ghost use Rattle.bq_meaning.specs.Expressions as meaning;
 ghost use Rattle.bq_eval.specs.Acts.{Acts};
 ghost use Rattle.bq_eval.specs.Slots.{slots_of};
 ghost use Rattle.bq_eval.specs.Operands.{read_of};
@@ -43,8 +45,25 @@ impl<
         (self.eval)(context, self.depth, self.call, frame, runtime, code)
     }
 
-    /// The value of an expression inside that is only read: a frame lends it.
-    #[tactic(auto, using(crate::proofs::Layers::use_layer))]
+    /// A literal.
+    #[tactic(auto, unfolding(bq_meaning::specs::Expressions::literal))]
+    #[inline(always)]
+    pub fn literal(&self, runtime: &mut R, value: Value) -> Result<Value, EvalErr>
+        ensures { Acts R.means (λ v. v) result (R.seen runtime.new) (meaning.literal R.means value (R.seen runtime.old)) }
+    {
+        runtime.step(1)?;
+        Ok(value)
+    }
+
+    /// An integer that stands in the code, as an operand.
+    #[inline(always)]
+    fn int_operand<'f>(&self, runtime: &mut R, n: i64) -> Result<Operand<'f>, EvalErr>
+        ensures { Acts R.means read_of result (R.seen runtime.new) (meaning.literal R.means (int n) (R.seen runtime.old)) }
+    {
+        Ok(Operand::Own(self.literal(runtime, Value::int(n))?))
+    }
+
+    /// The value of an expression inside that is only read: a frame lends it. An integer is at hand, too.
     #[inline(always)]
     pub fn operand<'f>(
         &self,
@@ -59,6 +78,9 @@ impl<
         if self.depth > 0 {
             if let Code::Use(binding) = code {
                 return use_of(context, frame, runtime, *binding);
+            }
+            if let Code::Int(n) = code {
+                return self.int_operand(runtime, *n);
             }
         }
         Ok(Operand::Own(self.value(context, frame, runtime, code)?))

@@ -66,15 +66,6 @@ impl<
         Ok(use_of(context, frame, runtime, binding)?.own()?)
     }
 
-    /// A literal.
-    #[tactic(auto, unfolding(bq_meaning::specs::Expressions::literal))]
-    fn literal(&self, runtime: &mut R, value: Value) -> Result<Value, EvalErr>
-        ensures { Acts R.means (λ v. v) result (R.seen runtime.new) (meaning.literal R.means value (R.seen runtime.old)) }
-    {
-        runtime.step(1)?;
-        Ok(value)
-    }
-
     /// An expression.
     #[tactic(auto, unfolding(bq_meaning::specs::Expressions::expr))]
     pub fn expr(

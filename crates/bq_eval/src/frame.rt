@@ -6,6 +6,7 @@ ghost use Rattle.bq_meaning.specs.Frame.{fill};
 ghost use Rattle.bq_meaning.specs.Targets.{bound};
 ghost use Rattle.bq_eval.specs.Acts.{Acts};
 ghost use Rattle.bq_eval.specs.Slots.{slots_of};
+ghost use Rattle.bq_eval.specs.Operands.{local_use};
 
 use crate::runtime::Runtime;
 use bq_source::FaultKind;
@@ -85,12 +86,27 @@ impl Frame {
         }
     }
 
+    /// The use of a name: its value, which is lent, or F49.
+    #[tactic(auto, unfolding(bq_meaning::specs::Targets::bound))]
+    #[inline(always)]
+    pub fn lend<R: Runtime>(&self, runtime: &mut R, slot: usize) -> Result<&Value, EvalErr>
+        ensures { Acts R.means (λ v. v.now) result (R.seen runtime.new) (local_use R.means (slots_of self.now) slot (R.seen runtime.old)) }
+    {
+        runtime.step(1)?;
+        match self.get(slot) {
+            None => Err(EvalErr::Bad(FaultKind::Unbound)),
+            Some(value) => Ok(value),
+        }
+    }
+
     /// Puts a value into a slot.
     #[tactic(auto, using(crate::proofs::Slots::filled))]
     pub fn fill(&mut self, slot: usize, value: Value) -> Result<(), AllocError>
         ensures { OnOk result (slots_of self.new ≡ fill (slots_of self.old) slot value) }
     {
-        pad(&mut self.slots, slot)?;
+        if slot >= self.slots.len() {
+            pad(&mut self.slots, slot)?;
+        }
         self.slots[slot] = Some(value);
         Ok(())
     }
@@ -107,6 +123,7 @@ fn share(slot: &Option<Value>) -> Result<Option<Value>, AllocError>
 }
 
 /// Makes room for a slot.
+#[inline(never)]
 #[tactic(auto, using(crate::proofs::Slots::padded))]
 fn pad(slots: &mut Vec<Option<Value>>, slot: usize) -> Result<(), AllocError>
     ensures room { OnOk result (slot < length slots.new.items) }

@@ -1,17 +1,20 @@
 //! Values that are only read.
 
-ghost use Rattle.std.specs.Prelude.{◌≡◌, IfOk, option_copied};
+ghost use Rattle.std.specs.Prelude.{◌≡◌, IfOk, IfSome, option_copied};
 ghost use Rattle.bq_meaning.specs.Targets.{bound};
 ghost use Rattle.bq_meaning.specs.Expressions as meaning;
 ghost use Rattle.bq_eval.specs.Acts.{Acts};
 ghost use Rattle.bq_eval.specs.Slots.{slots_of};
 ghost use Rattle.bq_eval.specs.Round.{round_of};
 ghost use Rattle.bq_eval.specs.Operands.{read_of};
+ghost use Rattle.bq_scope.specs.declared.code.Binding.TheVariants as bindings;
+ghost use Rattle.bq_scope.specs.declared.code.Code.{out-Code};
+ghost use Rattle.bq_scope.specs.declared.code.Code.TheOpen.{Code-F};
 
 use crate::context::Context;
 use crate::frame::Frame;
 use crate::runtime::Runtime;
-use bq_scope::Binding;
+use bq_scope::{Binding, Code};
 use bq_source::FaultKind;
 use bq_value::{EvalErr, Value};
 use std::alloc::AllocError;
@@ -74,5 +77,27 @@ pub fn use_of<'f, R: Runtime>(
         Binding::Global(k) => lent(&*runtime, context.globals.get(k)),
         Binding::Loaded(k) => lent(&*runtime, context.loaded.get(k)),
         Binding::Predeclared(name) => Ok(Operand::Own(runtime.predeclared(name)?)),
+    }
+}
+
+/// The slot of the frame whose use this is.
+#[inline(always)]
+pub fn slot_of(code: &Code) -> Option<usize>
+    ensures { IfSome result (λ slot. out-Code code.now ≡ Code-F.Use (bindings.Local slot)) }
+{
+    match code {
+        Code::Use(Binding::Local(slot)) => Some(*slot),
+        _ => None,
+    }
+}
+
+/// The integer that this is.
+#[inline(always)]
+pub fn int_in(code: &Code) -> Option<i64>
+    ensures { IfSome result (λ n. out-Code code.now ≡ Code-F.Int n) }
+{
+    match code {
+        Code::Int(n) => Some(*n),
+        _ => None,
     }
 }

@@ -1,14 +1,18 @@
 //! Operators, comparisons and conditionals.
 
 ghost use Rattle.std.specs.Prelude.{◌≡◌, reverse};
+ghost use Rattle.bq_value.specs.Datum.{int};
+ghost use Rattle.bq_machine.specs.Action.{following};
 ghost use Rattle.bq_meaning.specs.Expressions as meaning;
 ghost use Rattle.bq_eval.specs.Acts.{Acts};
 ghost use Rattle.bq_eval.specs.Slots.{slots_of};
 ghost use Rattle.bq_eval.specs.Nests.{Nests, nested};
+ghost use Rattle.bq_eval.specs.Operands.{local_use};
 
 use crate::context::Context;
 use crate::evaluator::Evaluator;
 use crate::frame::Frame;
+use crate::operand::{int_in, slot_of};
 use crate::runtime::Runtime;
 use bq_grammar::{Comparison, Operator, UnaryOperator};
 use bq_scope::{Code, CodeChoice, CodeOperation};
@@ -82,11 +86,65 @@ impl<
                 }
                 self.value(context, frame, runtime, &operation.operand)
             }
-            operator => {
-                let right = self.operand(context, frame, runtime, &operation.operand)?;
-                runtime.binary(operator, left, right.get())
+            operator => self.apply(context, frame, runtime, operator, left, &operation.operand),
+        }
+    }
+
+    /// `left op name`
+    #[inline(always)]
+    fn apply_name(
+        &self,
+        frame: &Frame,
+        runtime: &mut R,
+        operator: Operator,
+        left: &Value,
+        slot: usize,
+    ) -> Result<Value, EvalErr>
+        ensures { Acts R.means (λ v. v) result (R.seen runtime.new) (following (local_use R.means (slots_of frame.now) slot (R.seen runtime.old)) (R.means.binary operator left.now)) }
+    {
+        let right = frame.lend(runtime, slot)?;
+        runtime.binary(operator, left, right)
+    }
+
+    /// `left op n`
+    #[inline(always)]
+    fn apply_int(
+        &self,
+        runtime: &mut R,
+        operator: Operator,
+        left: &Value,
+        n: i64,
+    ) -> Result<Value, EvalErr>
+        ensures { Acts R.means (λ v. v) result (R.seen runtime.new) (following (meaning.literal R.means (int n) (R.seen runtime.old)) (R.means.binary operator left.now)) }
+    {
+        let right = self.literal(runtime, Value::int(n))?;
+        runtime.binary(operator, left, &right)
+    }
+
+    /// `left op operand`, but for `and` and `or`. Most operands are names of the frame, or integers.
+    #[inline(always)]
+    fn apply(
+        &self,
+        context: &Context<'_>,
+        frame: &Frame,
+        runtime: &mut R,
+        operator: Operator,
+        left: &Value,
+        operand: &Code,
+    ) -> Result<Value, EvalErr>
+        requires { Nests R.means R.seen context.now.left self.now.depth self.now.call (F.pre self.now.eval) (F.post self.now.eval) }
+        ensures { Acts R.means (λ v. v) result (R.seen runtime.new) (following (nested R.means self.now.depth context.now operand.now (slots_of frame.now) (R.seen runtime.old)) (R.means.binary operator left.now)) }
+    {
+        if self.depth > 0 {
+            if let Some(slot) = slot_of(operand) {
+                return self.apply_name(frame, runtime, operator, left, slot);
+            }
+            if let Some(n) = int_in(operand) {
+                return self.apply_int(runtime, operator, left, n);
             }
         }
+        let right = self.value(context, frame, runtime, operand)?;
+        runtime.binary(operator, left, &right)
     }
 
     #[tactic(auto, unfolding(bq_meaning::specs::Expressions::operations))]
@@ -108,8 +166,70 @@ impl<
         Ok(value)
     }
 
-    /// A chain of operators. Its first operand is only read.
-    #[tactic(auto, unfolding(bq_meaning::specs::Expressions::binary, bq_meaning::specs::Expressions::operations))]
+    /// The operations of a chain on its first operand.
+    #[tactic(auto, unfolding(bq_meaning::specs::Expressions::operations))]
+    fn chain(
+        &self,
+        context: &Context<'_>,
+        frame: &Frame,
+        runtime: &mut R,
+        operations: &[CodeOperation],
+        first: &Value,
+    ) -> Result<Value, EvalErr>
+        requires { Nests R.means R.seen context.now.left self.now.depth self.now.call (F.pre self.now.eval) (F.post self.now.eval) }
+        ensures { Acts R.means (λ v. v) result (R.seen runtime.new) (meaning.operations R.means (nested R.means self.now.depth context.now) operations.now (slots_of frame.now) first.now (R.seen runtime.old)) }
+    {
+        match operations {
+            [] => Ok(first.share()?),
+            [operation] => self.operation(context, frame, runtime, operation, first),
+            [operation, rest @ ..] => {
+                let value = self.operation(context, frame, runtime, operation, first)?;
+                self.operations(context, frame, runtime, rest, value)
+            }
+        }
+    }
+
+    /// A chain whose first operand is a name of the frame.
+    #[inline(always)]
+    fn chain_of_name(
+        &self,
+        context: &Context<'_>,
+        frame: &Frame,
+        runtime: &mut R,
+        operations: &[CodeOperation],
+        slot: usize,
+    ) -> Result<Value, EvalErr>
+        requires { Nests R.means R.seen context.now.left self.now.depth self.now.call (F.pre self.now.eval) (F.post self.now.eval) }
+        ensures { Acts R.means (λ v. v) result (R.seen runtime.new) (following (local_use R.means (slots_of frame.now) slot (R.seen runtime.old)) (meaning.operations R.means (nested R.means self.now.depth context.now) operations.now (slots_of frame.now))) }
+    {
+        let first = frame.lend(runtime, slot)?;
+        self.chain(context, frame, runtime, operations, first)
+    }
+
+    /// A first operand, which is only read, and the operations on it.
+    #[inline(always)]
+    fn chain_of(
+        &self,
+        context: &Context<'_>,
+        frame: &Frame,
+        runtime: &mut R,
+        code: &Code,
+        operations: &[CodeOperation],
+    ) -> Result<Value, EvalErr>
+        requires { Nests R.means R.seen context.now.left self.now.depth self.now.call (F.pre self.now.eval) (F.post self.now.eval) }
+        ensures { Acts R.means (λ v. v) result (R.seen runtime.new) (following (nested R.means self.now.depth context.now code.now (slots_of frame.now) (R.seen runtime.old)) (meaning.operations R.means (nested R.means self.now.depth context.now) operations.now (slots_of frame.now))) }
+    {
+        if self.depth > 0 {
+            if let Some(slot) = slot_of(code) {
+                return self.chain_of_name(context, frame, runtime, operations, slot);
+            }
+        }
+        let first = self.value(context, frame, runtime, code)?;
+        self.chain(context, frame, runtime, operations, &first)
+    }
+
+    /// A chain of operators.
+    #[tactic(auto, unfolding(bq_meaning::specs::Expressions::binary))]
     pub fn binary(
         &self,
         context: &Context<'_>,
@@ -122,14 +242,7 @@ impl<
         ensures { Acts R.means (λ v. v) result (R.seen runtime.new) (meaning.binary R.means (nested R.means self.now.depth context.now) code.now operations.now (slots_of frame.now) (R.seen runtime.old)) }
     {
         runtime.step(operations.len() as u64)?;
-        let first = self.operand(context, frame, runtime, code)?;
-        match operations.split_first() {
-            None => Ok(first.own()?),
-            Some((operation, rest)) => {
-                let value = self.operation(context, frame, runtime, operation, first.get())?;
-                self.operations(context, frame, runtime, rest, value)
-            }
-        }
+        self.chain_of(context, frame, runtime, code, operations)
     }
 
     #[tactic(auto, unfolding(bq_meaning::specs::Expressions::compare))]

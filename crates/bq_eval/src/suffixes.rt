@@ -242,9 +242,10 @@ impl<
     {
         runtime.step(suffixes.len() as u64)?;
         let first = self.operand(context, frame, runtime, code)?;
-        match suffixes.split_first() {
-            None => Ok(first.own()?),
-            Some((suffix, rest)) => {
+        match suffixes {
+            [] => Ok(first.own()?),
+            [suffix] => self.suffix(context, frame, runtime, suffix, first.get()),
+            [suffix, rest @ ..] => {
                 let value = self.suffix(context, frame, runtime, suffix, first.get())?;
                 self.suffixes(context, frame, runtime, rest, value)
             }

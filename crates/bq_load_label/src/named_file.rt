@@ -3,8 +3,9 @@
 ghost use Rattle.std.specs.Prelude.{◌≡◌, IfOk, codes};
 ghost use Rattle.std.specs.List.{starts_with, ends_with};
 ghost use Rattle.bq_source.specs.Gives.{Gives};
+ghost use Rattle.bq_label.specs.Label.{full_form};
 ghost use Rattle.bq_source.specs.declared.fault.SourceErr.TheVariants.{Bad};
-ghost use Rattle.bq_load_label.specs.NamedFile.{bzl_label, has_load_form, fault_of_file, load_label};
+ghost use Rattle.bq_load_label.specs.NamedFile.{bzl_label, has_load_form, fault_of_file, unless_fault, load_label};
 
 use crate::crossing::crosses;
 use bq_label::{Label, PackageId, Packages, Workspace, label_path, print_label, read_label};
@@ -62,6 +63,30 @@ fn fault_of_file(
     Ok(None)
 }
 
+/// The fault of a load, in this line, of the file of this label.
+fn file_fault(alloc: Global, kind: FaultKind, line: u32, label: &Label) -> Result<Fault, AllocError>
+    ensures { IfOk result (λ fault. fault ≡ record { kind = kind; line = line; detail = full_form label.now }) }
+{
+    let detail = Bytes::from_vec(alloc, print_label(alloc, label)?)?;
+    Ok(Fault { kind, line, detail })
+}
+
+/// Whether the file of the label can be loaded.
+fn check_file(
+    alloc: Global,
+    workspace: &Workspace,
+    packages: &Packages,
+    line: u32,
+    label: &Label,
+) -> Result<(), SourceErr>
+    ensures { Gives (λ _. label.now) Bad result (unless_fault line label.now (fault_of_file workspace.now packages.now label.now)) }
+{
+    match fault_of_file(alloc, workspace, packages, label)? {
+        None => Ok(()),
+        Some(kind) => Err(SourceErr::Bad(file_fault(alloc, kind, line, label)?)),
+    }
+}
+
 /// The label of the file that a load in the package `own` names by this text. The fault names the line of the load. F30, whose
 /// detail is empty, where the text is no label of a .bzl file that begins with `//`, `@` or `:`; then F32, F37 and F31, whose
 /// detail is the label in full form.
@@ -76,14 +101,11 @@ pub fn load_label(
 ) -> Result<Label, SourceErr>
     ensures { Gives (λ label. label) Bad result (load_label workspace.now packages.now own.now line text.now) }
 {
-    let Some(label) = bzl_label(alloc, own, text)? else {
-        return Err(SourceErr::Bad(Fault::at(FaultKind::BadLoadLabel, line)));
-    };
-    match fault_of_file(alloc, workspace, packages, &label)? {
-        None => Ok(label),
-        Some(kind) => {
-            let detail = Bytes::from_vec(alloc, print_label(alloc, &label)?)?;
-            Err(SourceErr::Bad(Fault { kind, line, detail }))
+    match bzl_label(alloc, own, text)? {
+        None => Err(SourceErr::Bad(Fault::at(FaultKind::BadLoadLabel, line))),
+        Some(label) => {
+            check_file(alloc, workspace, packages, line, &label)?;
+            Ok(label)
         }
     }
 }

@@ -4,3 +4,5 @@ pub mod Sequences
 pub mod Unions
 -- a content that is changed as a definition says
 pub mod Changes
+-- operators between two integers
+pub mod BothIntegers

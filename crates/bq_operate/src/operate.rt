@@ -4,6 +4,7 @@
 ghost use Rattle.std.specs.Prelude.{◌≡◌};
 ghost use Rattle.bq_source.specs.Gives.{Gives};
 ghost use Rattle.bq_value.specs.declared.error.EvalErr.TheVariants.{Bad};
+ghost use Rattle.bq_value.specs.Datum.{int};
 ghost use Rattle.bq_machine.specs.Action.{Does};
 ghost use Rattle.bq_operate.specs.Operate.{binary, unary, compare, index, list_slice, slice};
 
@@ -21,9 +22,39 @@ use bq_machine::Machine;
 use bq_value::{Content, EvalErr, Node, Store, Value};
 use std::alloc::Global;
 
-/// `a op b`. An operator that the language leaves out, or that stops early, is F40.
-#[tactic(auto, unfolding(crate::specs::Operate::binary))]
+/// `a op b`. An operator that the language leaves out, or that stops early, is F40. Most operands are integers, which no kind of
+/// operator has to look for.
 pub fn binary(
+    alloc: Global,
+    machine: &mut Machine,
+    operator: Operator,
+    a: &Value,
+    b: &Value,
+) -> Result<Value, EvalErr>
+    ensures { Does (λ value. value) result machine.new (binary operator a.now b.now machine.old) }
+{
+    match &a.node {
+        Node::Int(x) => match &b.node {
+            Node::Int(y) => of_integers(&*machine, operator, *x, *y),
+            _ => by_operator(alloc, machine, operator, a, b),
+        },
+        _ => by_operator(alloc, machine, operator, a, b),
+    }
+}
+
+/// Of two integers.
+#[tactic(auto, using(crate::proofs::BothIntegers::of_integers))]
+fn of_integers(machine: &Machine, operator: Operator, x: i64, y: i64) -> Result<Value, EvalErr>
+    ensures { Does (λ value. value) result machine.now (binary operator (int x) (int y) machine.now) }
+{
+    let _ = machine;
+    Ok(Value::int(integers::arithmetic(operator, x, y)?))
+}
+
+/// The same, by the operator.
+#[inline(never)]
+#[tactic(auto, unfolding(crate::specs::Operate::binary))]
+fn by_operator(
     alloc: Global,
     machine: &mut Machine,
     operator: Operator,

@@ -1,6 +1,7 @@
 //! Statements without a block.
 
 ghost use Rattle.std.specs.Prelude.{[]};
+ghost use Rattle.bq_scope.specs.declared.code.CodeSmall.TheVariants as code;
 ghost use Rattle.bq_scope.specs.Scope.{FileParts};
 ghost use Rattle.bq_scope.specs.Visit.{Passed};
 ghost use Rattle.bq_scope.specs.Visit as visit;
@@ -23,13 +24,24 @@ pub fn misplaced<T>(line: u32) -> Result<T, SourceErr>
     Err(SourceErr::Bad(Fault::at(FaultKind::BadFlow, line)))
 }
 
-/// A statement that is allowed in loops alone.
+/// `break`, which is allowed in loops alone.
 #[tactic(auto, unfolding(bq_scope::specs::Statements::in_loop))]
-fn in_loop(looping: bool, line: u32, statement: CodeSmall) -> Result<CodeSmall, SourceErr>
-    ensures { (file : FileParts) (s : Passed) → Walks (spec.in_loop file looping line statement s) result s }
+fn break_stmt(looping: bool, line: u32) -> Result<CodeSmall, SourceErr>
+    ensures { (file : FileParts) (s : Passed) → Walks (spec.in_loop file looping line code.Break s) result s }
 {
     if looping {
-        return Ok(statement);
+        return Ok(CodeSmall::Break);
+    }
+    misplaced(line)
+}
+
+/// `continue`, which is allowed in loops alone.
+#[tactic(auto, unfolding(bq_scope::specs::Statements::in_loop))]
+fn continue_stmt(looping: bool, line: u32) -> Result<CodeSmall, SourceErr>
+    ensures { (file : FileParts) (s : Passed) → Walks (spec.in_loop file looping line code.Continue s) result s }
+{
+    if looping {
+        return Ok(CodeSmall::Continue);
     }
     misplaced(line)
 }
@@ -130,8 +142,8 @@ pub fn small_stmt(
             augment(alloc, file, blocks, walk, left, *operator, value)
         }
         SmallKind::Return(value) => returned(alloc, file, blocks, walk, line, value),
-        SmallKind::Break => in_loop(looping, line, CodeSmall::Break),
-        SmallKind::Continue => in_loop(looping, line, CodeSmall::Continue),
+        SmallKind::Break => break_stmt(looping, line),
+        SmallKind::Continue => continue_stmt(looping, line),
         SmallKind::Pass => Ok(CodeSmall::Pass),
         SmallKind::Load(load) => load_in(alloc, file, blocks, walk, line, load),
     }
