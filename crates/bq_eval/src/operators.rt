@@ -61,6 +61,7 @@ impl<
     }
 
     /// One operation on the value so far.
+    #[inline(always)]
     #[tactic(auto, unfolding(bq_meaning::specs::Expressions::operation))]
     fn operation(
         &self,
@@ -166,8 +167,9 @@ impl<
         Ok(value)
     }
 
-    /// The operations of a chain on its first operand.
+    /// The operations of a chain on its first operand, most often one.
     #[tactic(auto, unfolding(bq_meaning::specs::Expressions::operations))]
+    #[inline(always)]
     fn chain(
         &self,
         context: &Context<'_>,
@@ -180,8 +182,27 @@ impl<
         ensures { Acts R.means (λ v. v) result (R.seen runtime.new) (meaning.operations R.means (nested R.means self.now.depth context.now) operations.now (slots_of frame.now) first.now (R.seen runtime.old)) }
     {
         match operations {
-            [] => Ok(first.share()?),
             [operation] => self.operation(context, frame, runtime, operation, first),
+            _ => self.long_chain(context, frame, runtime, operations, first),
+        }
+    }
+
+    /// Any number of operations.
+    #[tactic(auto, unfolding(bq_meaning::specs::Expressions::operations))]
+    #[inline(never)]
+    fn long_chain(
+        &self,
+        context: &Context<'_>,
+        frame: &Frame,
+        runtime: &mut R,
+        operations: &[CodeOperation],
+        first: &Value,
+    ) -> Result<Value, EvalErr>
+        requires { Nests R.means R.seen context.now.left self.now.depth self.now.call (F.pre self.now.eval) (F.post self.now.eval) }
+        ensures { Acts R.means (λ v. v) result (R.seen runtime.new) (meaning.operations R.means (nested R.means self.now.depth context.now) operations.now (slots_of frame.now) first.now (R.seen runtime.old)) }
+    {
+        match operations {
+            [] => Ok(first.share()?),
             [operation, rest @ ..] => {
                 let value = self.operation(context, frame, runtime, operation, first)?;
                 self.operations(context, frame, runtime, rest, value)

@@ -14,6 +14,7 @@ use bq_value::{Store, Value};
 use bq_walk::truth;
 
 /// `x op y` of two integers.
+#[inline(always)]
 #[tactic(auto, unfolding(crate::specs::Integers::arithmetic))]
 pub(crate) fn arithmetic(operator: Operator, x: i64, y: i64) -> Result<i64, FaultKind>
     ensures { result ≡ arithmetic operator x y }

@@ -43,6 +43,7 @@ pub fn binary(
 }
 
 /// Of two integers.
+#[inline(always)]
 #[tactic(auto, using(crate::proofs::BothIntegers::of_integers))]
 fn of_integers(machine: &Machine, operator: Operator, x: i64, y: i64) -> Result<Value, EvalErr>
     ensures { Does (λ value. value) result machine.now (binary operator (int x) (int y) machine.now) }
