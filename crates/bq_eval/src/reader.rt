@@ -170,6 +170,7 @@ impl<R: Runtime, C: Copy + Fn(&Context<'_>, &mut R, &Value, Args) -> Result<Valu
     // ---- assignments
 
     /// `target = value`. A name has no operands, and is bound at once.
+    #[inline(always)]
     #[tactic(auto, unfolding(bq_meaning::specs::Targets::assign, bq_meaning::specs::Targets::places_to, bq_meaning::specs::Targets::places_of, bq_meaning::specs::Targets::bind_to, bq_meaning::specs::Targets::bind_target, bq_scope::specs::Names::max_layers))]
     pub fn assign(
         &self,

@@ -138,6 +138,7 @@ pub fn bind_to<R: Runtime>(
 }
 
 /// Binds the variables of a `for`, most often one name.
+#[inline(always)]
 #[tactic(auto, unfolding(bq_meaning::specs::Targets::bind_variables, bq_meaning::specs::Targets::bind_to, bq_meaning::specs::Targets::bind_target, bq_scope::specs::Names::max_layers))]
 pub fn bind_variables<R: Runtime>(
     alloc: Global,
