@@ -1,4 +1,4 @@
-//! The tests of all crates: what no clause says, as values from outside, printed texts, and memory that is there.
+//! The tests of the crates below the loader: what no clause says, as values from outside, printed texts, and memory that is there.
 //!
 //! They stand in one crate at the top, a file for each crate below, since a crate with tests is proved once more for them.
 #![tactic(auto)]
@@ -33,8 +33,6 @@ mod query;
 mod resolve;
 #[cfg(test)]
 mod rows;
-#[cfg(test)]
-mod run;
 #[cfg(test)]
 mod source;
 #[cfg(test)]

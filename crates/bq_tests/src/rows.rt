@@ -1,153 +1,9 @@
-//! Tables as texts: a row a line, its cells between bars, and the answer that is wanted in the last cell.
-//!
-//! The blanks around a cell are not part of it. In a cell `\n`, `\r`, `\t`, `\\` and `\xNN` stand for bytes as in Rust; so a bar
-//! is `\x7c` there, and a blank at its end `\x20`. Empty lines are skipped, and so are lines that begin with `#`.
+//! Tables as texts, each row of which is asserted.
 
+use bq_rows::differences;
+pub use bq_rows::{Row, Subject, number_of};
 use std::alloc::{AllocError, Global};
 use std::process::Abort;
-
-/// The cells of a row but for the last.
-#[derive(Clone, Copy)]
-pub struct Row<'a> {
-    cells: &'a [u8],
-}
-
-/// A call with its arguments in the cells of a row.
-pub trait Subject {
-    /// The answer for this row, whose first cell stands for this text.
-    fn answer(&self, alloc: Global, text: &[u8], row: Row) -> Result<Vec<u8>, AllocError>;
-}
-
-impl<'a> Row<'a> {
-    /// This cell as it is written, from 0. Empty where the row has none.
-    pub fn word(self, index: usize) -> &'a [u8] {
-        match self.cells.split(|byte| *byte == b'|').nth(index) {
-            Some(cell) => cell.trim_ascii(),
-            None => b"",
-        }
-    }
-
-    /// The bytes that this cell stands for.
-    pub fn bytes(self, alloc: Global, index: usize) -> Result<Vec<u8>, AllocError> {
-        bytes_of(alloc, self.word(index))
-    }
-
-    /// The number that the digits of this cell write.
-    pub fn number(self, index: usize) -> u64 {
-        number_of(self.word(index))
-    }
-}
-
-/// The number that these digits write.
-pub fn number_of(digits: &[u8]) -> u64 {
-    let mut number = 0u64;
-    for digit in digits {
-        let digit = u64::from(digit.wrapping_sub(b'0'));
-        number = number.wrapping_mul(10).wrapping_add(digit);
-    }
-    number
-}
-
-fn byte_at(text: &[u8], at: usize) -> u8 {
-    match text.get(at) {
-        Some(byte) => *byte,
-        None => 0,
-    }
-}
-
-fn hexadecimal(digit: u8) -> u8 {
-    match digit {
-        b'0'..=b'9' => digit - b'0',
-        b'a'..=b'f' => digit - b'a' + 10,
-        _ => 0,
-    }
-}
-
-fn escaped(letter: u8) -> u8 {
-    match letter {
-        b'n' => b'\n',
-        b'r' => b'\r',
-        b't' => b'\t',
-        _ => letter,
-    }
-}
-
-/// The first byte that a text stands for, and how much of the text it takes.
-fn first_byte(text: &[u8]) -> (u8, usize) {
-    if byte_at(text, 0) != b'\\' {
-        return (byte_at(text, 0), 1);
-    }
-    match byte_at(text, 1) {
-        b'x' => {
-            let high = hexadecimal(byte_at(text, 2));
-            let low = hexadecimal(byte_at(text, 3));
-            (high.wrapping_mul(16).wrapping_add(low), 4)
-        }
-        letter => (escaped(letter), 2),
-    }
-}
-
-/// The bytes that a text stands for.
-fn bytes_of(alloc: Global, text: &[u8]) -> Result<Vec<u8>, AllocError> {
-    let mut bytes = Vec::new(alloc);
-    let mut next = 0;
-    for at in 0..text.len() {
-        if at == next {
-            let (byte, len) = first_byte(&text[at..]);
-            bytes.push(byte)?;
-            next = at.saturating_add(len);
-        }
-    }
-    Ok(bytes)
-}
-
-/// A row's cells but for the last, and the last one.
-fn split_row(line: &[u8]) -> (Row<'_>, &[u8]) {
-    match line.iter().rposition(|byte| *byte == b'|') {
-        Some(bar) => {
-            let (cells, last) = line.split_at(bar);
-            (Row { cells }, last[1..].trim_ascii())
-        }
-        None => (Row { cells: line }, b""),
-    }
-}
-
-fn answer(alloc: Global, row: Row, subject: &impl Subject) -> Result<Vec<u8>, AllocError> {
-    let text = row.bytes(alloc, 0)?;
-    subject.answer(alloc, &text, row)
-}
-
-fn expect(rt: &impl Abort, line: &[u8], found: &[u8], wanted: &[u8]) {
-    assert!(rt;
-        found == wanted,
-        "{}: {}",
-        line.escape_ascii(),
-        found.escape_ascii()
-    );
-}
-
-/// The row of a line, whatever is wanted of it.
-pub fn row_of(line: &[u8]) -> Row<'_> {
-    split_row(line).0
-}
-
-/// Whether a line of a table is a row.
-pub fn is_row(line: &[u8]) -> bool {
-    !matches!(line, [] | [b'#', ..])
-}
-
-/// Whether this is the answer that the row of this line wants.
-pub fn check_answer(
-    rt: &impl Abort,
-    alloc: Global,
-    line: &[u8],
-    found: &[u8],
-) -> Result<(), AllocError> {
-    let (_, wanted) = split_row(line);
-    let wanted = bytes_of(alloc, wanted)?;
-    expect(rt, line, found, &wanted);
-    Ok(())
-}
 
 /// Goes through a table: each row has the answer that is wanted.
 pub fn check_rows(
@@ -156,11 +12,7 @@ pub fn check_rows(
     table: &str,
     subject: &impl Subject,
 ) -> Result<(), AllocError> {
-    for line in table.as_bytes().split(|byte| *byte == b'\n') {
-        if is_row(line) {
-            let found = answer(alloc, row_of(line), subject)?;
-            check_answer(rt, alloc, line, &found)?;
-        }
-    }
+    let text = differences(alloc, table, subject)?;
+    assert!(rt; text.is_empty(), "{}", text.escape_ascii());
     Ok(())
 }

@@ -1,7 +1,7 @@
 //! The exit status and the error line of each ending.
 
+use crate::devices::make_sip;
 use crate::rows::{Row, Subject, check_rows};
-use crate::run::devices::make_sip;
 use bq_run::{QueryErr, RunErr, Status, status_code, status_of, write_status_line};
 use bq_source::Bytes;
 use std::alloc::{AllocError, Global};

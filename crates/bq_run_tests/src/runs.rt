@@ -2,9 +2,9 @@
 
 ghost use Rattle.bq_run.specs.Run.{IsInRange};
 
+use crate::devices::{make_drip, make_sip};
+use crate::options::{corner, options};
 use crate::rows::{Row, check_answer, is_row, row_of};
-use crate::run::devices::{make_drip, make_sip};
-use crate::run::options::{corner, options};
 use bq_run::{Counted, Metered, Options, OutputForm, RunErr, Status, run, status_of};
 use std::alloc::{AllocError, Global};
 use std::process::Abort;

@@ -4,7 +4,7 @@ ghost use Rattle.std.specs.Prelude.{IfOk};
 ghost use Rattle.bq_run.specs.Run.{IsInRange};
 
 use crate::rows::Row;
-use crate::run::runs::{Table, UNFAILING, check_runs, written};
+use crate::runs::{Table, UNFAILING, check_runs, written};
 use bq_run::{Options, OutputForm};
 use std::alloc::{AllocError, Global};
 use std::sync::Wait;

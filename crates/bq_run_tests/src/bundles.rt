@@ -1,7 +1,7 @@
 //! Bundles, valid and not.
 
+use crate::devices::make_drip;
 use crate::rows::{Row, Subject, check_rows};
-use crate::run::devices::make_drip;
 use bq_label::{File, Workspace};
 use bq_run::{RunErr, read_bundle};
 use std::alloc::{AllocError, Global};

@@ -1,0 +1,30 @@
+//! Tables as texts, each row of which is asserted.
+
+use bq_rows::{difference, differences};
+pub use bq_rows::{Row, Subject, is_row, row_of};
+use std::alloc::{AllocError, Global};
+use std::process::Abort;
+
+/// Goes through a table: each row has the answer that is wanted.
+pub fn check_rows(
+    rt: &impl Abort,
+    alloc: Global,
+    table: &str,
+    subject: &impl Subject,
+) -> Result<(), AllocError> {
+    let text = differences(alloc, table, subject)?;
+    assert!(rt; text.is_empty(), "{}", text.escape_ascii());
+    Ok(())
+}
+
+/// This is the answer that the row of this line wants.
+pub fn check_answer(
+    rt: &impl Abort,
+    alloc: Global,
+    line: &[u8],
+    found: &[u8],
+) -> Result<(), AllocError> {
+    let text = difference(alloc, line, found)?;
+    assert!(rt; text.is_empty(), "{}", text.escape_ascii());
+    Ok(())
+}
