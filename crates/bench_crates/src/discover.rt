@@ -1,14 +1,11 @@
 //! Measures [`discover`] on one thread, and [`discover_by_workers`] by 1, 2 and 4: 4,000 packages of 20 targets each, of which each
-//! loads one of 64 .bzl files.
-//!
-//! Standard output says what was found, which doesn't change between runs; standard error says how long it took by the clock.
-#![tactic(auto)]
+//! loads one of 64 .bzl files. The times are by the clock.
 
-use anyhow::{Result, anyhow};
+use crate::workspace::{file_of, workspace_of};
+use anyhow::Result;
 use bq_discover::{LoadGraph, discover, discover_by_workers};
 use bq_label::{File, Workspace};
 use bq_schema::Schema;
-use bq_source::Bytes;
 use std::alloc::{AllocError, Global};
 use std::thread::Threads;
 use std::time::{Duration, Instant};
@@ -21,14 +18,7 @@ const LOADED: u32 = 64;
 const TARGETS: u32 = 20;
 
 /// How often each is measured. The fastest time counts.
-const ROUNDS: u32 = 5;
-
-fn file_of(alloc: Global, path: &[u8], content: &[u8]) -> Result<File, AllocError> {
-    Ok(File {
-        path: Bytes::from_slice(alloc, path)?,
-        content: Bytes::from_slice(alloc, content)?,
-    })
-}
+const ROUNDS: u32 = 3;
 
 /// A BUILD file that loads a name and declares targets.
 fn build_file(alloc: Global, number: u32) -> Result<File, AllocError> {
@@ -81,35 +71,53 @@ fn found_by<T: Threads + Sync>(
     Ok(found)
 }
 
-fn measure<T: Threads + Sync>(
+/// How many modules are found, and how long that takes.
+#[derive(Clone, Copy)]
+struct Finding {
+    modules: usize,
+    time: Duration,
+}
+
+fn finding_of<T: Threads + Sync>(
+    rt: &HostRuntime,
+    threads: &T,
+    workspace: &Workspace,
+    schema: &Schema,
+    workers: usize,
+) -> Result<Finding> {
+    let start = Instant::now(rt)?;
+    let found = found_by(threads, rt.alloc(), workspace, schema, workers)?;
+    Ok(Finding {
+        time: start.elapsed(rt)?,
+        modules: found.modules().len(),
+    })
+}
+
+fn measure_workers<T: Threads + Sync>(
     rt: &HostRuntime,
     threads: &T,
     workspace: &Workspace,
     schema: &Schema,
     workers: usize,
 ) -> Result<()> {
-    let mut least = Duration::MAX;
     let mut modules = 0;
+    let mut fastest = Duration::MAX;
     for _ in 0..ROUNDS {
-        let start = Instant::now(rt)?;
-        let found = found_by(threads, rt.alloc(), workspace, schema, workers)?;
-        least = start.elapsed(rt)?.min(least);
-        modules = found.modules().len();
+        let finding = finding_of(rt, threads, workspace, schema, workers)?;
+        modules = finding.modules;
+        fastest = finding.time.min(fastest);
     }
-    let time = least.as_micros();
+    let time = fastest.as_micros();
     println!(rt; "{workers} workers: {modules} modules")?;
     eprintln!(rt; "{workers} workers: {time} us")?;
     Ok(())
 }
 
-fn main(rt: HostRuntime) -> Result<()> {
-    let alloc = rt.alloc();
-    let schema = Schema::standard(alloc)?;
-    let Ok(workspace) = Workspace::new(files(alloc)?) else {
-        return Err(anyhow!("no workspace"));
-    };
+pub fn measure<T: Threads + Sync>(rt: &HostRuntime, threads: &T) -> Result<()> {
+    let schema = Schema::standard(rt.alloc())?;
+    let workspace = workspace_of(files(rt.alloc())?)?;
     for workers in [0, 1, 2, 4] {
-        measure(&rt, &rt, &workspace, &schema, workers)?;
+        measure_workers(rt, threads, &workspace, &schema, workers)?;
     }
     Ok(())
 }

@@ -1,5 +1,5 @@
 use Rattle.bq_graph.specs.Edges.{AreBetween}
-use Rattle.bench_graph.proofs.edges.Given as goal
+use Rattle.bench_crates.proofs.graph.edges.Given as goal
 
 abbrev pub invariant-loop-from : goal.invariant-loop-from
 invariant-loop-from l = AreBetween l.count l.edges.items

@@ -1,15 +1,13 @@
-//! Measures calls of methods.
-//!
-//! Standard output says what was called, which doesn't change between runs; standard error says the processor time.
-#![tactic(auto)]
+//! Measures calls of methods: of lists, of dicts, of `format` and of long texts. The times are of one call with its arguments.
 
+use crate::clock::CpuInstant;
+use crate::strings::{label_key, string};
 use anyhow::Result;
 use bq_machine::{Args, Machine, copies};
 use bq_methods::call_method;
 use bq_source::Bytes;
-use bq_value::{Content, Dict, EvalErr, Key, Store, Value};
+use bq_value::{Content, Dict, EvalErr, Store, Value};
 use std::alloc::{AllocError, Global};
-use std::time::CpuClock;
 
 /// Calls of one method: its arguments, and how often it is called.
 struct Calls<'a> {
@@ -102,11 +100,7 @@ const OF_FORMATS: [Calls<'static>; 1] = [Calls {
     times: 10_000,
 }];
 
-fn string(alloc: Global, text: &str) -> std::result::Result<Value, AllocError> {
-    Ok(Value::string(Bytes::from_slice(alloc, text.as_bytes())?))
-}
-
-fn strings(alloc: Global, texts: &[&str]) -> std::result::Result<Vec<Value>, AllocError> {
+fn strings(alloc: Global, texts: &[&str]) -> Result<Vec<Value>, AllocError> {
     let mut values = Vec::new(alloc);
     for text in texts {
         values.push(string(alloc, text)?)?;
@@ -115,7 +109,7 @@ fn strings(alloc: Global, texts: &[&str]) -> std::result::Result<Vec<Value>, All
 }
 
 /// A text of so many names.
-fn long_text(alloc: Global, names: u32) -> std::result::Result<Value, AllocError> {
+fn long_text(alloc: Global, names: u32) -> Result<Value, AllocError> {
     let mut bytes = Vec::new(alloc);
     for _ in 0..names {
         bytes.extend_from_slice(b"//base:io,")?;
@@ -124,12 +118,10 @@ fn long_text(alloc: Global, names: u32) -> std::result::Result<Value, AllocError
 }
 
 /// The names of a dict, each with its number.
-fn names(alloc: Global, count: i64) -> std::result::Result<Dict, AllocError> {
+fn names(alloc: Global, count: i64) -> Result<Dict, AllocError> {
     let mut dict = Dict::new(alloc);
     for n in 0..count {
-        let name = format!(in alloc; "//base:n{n}")?;
-        let key = Key::new(Value::string(Bytes::from_vec(alloc, name.into_bytes())?));
-        dict.insert(key, Value::int(n))?;
+        dict.insert(label_key(alloc, n)?, Value::int(n))?;
     }
     Ok(dict)
 }
@@ -140,7 +132,7 @@ fn call(
     receiver: &Value,
     method: &str,
     args: &[Value],
-) -> std::result::Result<Value, EvalErr> {
+) -> Result<Value, EvalErr> {
     let args = Args {
         positional: copies(alloc, args)?,
         named: Vec::new(alloc),
@@ -153,7 +145,7 @@ fn call_often(
     machine: &mut Machine,
     receiver: &Value,
     calls: &Calls<'_>,
-) -> std::result::Result<(), EvalErr> {
+) -> Result<(), EvalErr> {
     let args = strings(alloc, calls.args)?;
     for _ in 0..calls.times {
         let _answer = call(alloc, machine, receiver, calls.method, &args)?;
@@ -162,7 +154,7 @@ fn call_often(
 }
 
 /// How a run of calls ends.
-fn end_of(run: std::result::Result<(), EvalErr>) -> &'static str {
+fn end_of(run: Result<(), EvalErr>) -> &'static str {
     match run {
         Ok(()) => "done",
         Err(EvalErr::Bad(kind)) => kind.name(),
@@ -170,21 +162,34 @@ fn end_of(run: std::result::Result<(), EvalErr>) -> &'static str {
     }
 }
 
-fn measure(
+fn measure_calls(
     rt: &HostRuntime,
     machine: &mut Machine,
     receiver: &Value,
     calls: &Calls<'_>,
 ) -> Result<()> {
-    let start = rt.thread_cpu_time()?;
+    let start = CpuInstant::now(rt)?;
     let end = end_of(call_often(rt.alloc(), machine, receiver, calls));
-    let time = rt.thread_cpu_time()?.saturating_sub(start).as_nanos();
+    let time = start.elapsed(rt)?.as_nanos();
     let each = time.checked_div(u128::from(calls.times)).unwrap_or(0);
     println!(rt; "{}: {} calls, {end}", calls.method, calls.times)?;
     eprintln!(rt; "{}: {each} ns a call", calls.method)?;
     Ok(())
 }
 
+fn measure_table(
+    rt: &HostRuntime,
+    machine: &mut Machine,
+    receiver: &Value,
+    table: &[Calls<'_>],
+) -> Result<()> {
+    for calls in table {
+        measure_calls(rt, machine, receiver, calls)?;
+    }
+    Ok(())
+}
+
+/// Measures a table of calls on a new machine with that store.
 fn measure_all(
     rt: &HostRuntime,
     store: Store,
@@ -192,10 +197,7 @@ fn measure_all(
     table: &[Calls<'_>],
 ) -> Result<()> {
     let mut machine = Machine::new(rt.alloc(), store, 1_000_000_000);
-    for calls in table {
-        measure(rt, &mut machine, receiver, calls)?;
-    }
-    Ok(())
+    measure_table(rt, &mut machine, receiver, table)
 }
 
 fn measure_lists(rt: &HostRuntime) -> Result<()> {
@@ -214,9 +216,9 @@ fn measure_strings(rt: &HostRuntime, text: &Value, table: &[Calls<'_>]) -> Resul
     measure_all(rt, Store::new(rt.alloc(), 0), text, table)
 }
 
-fn main(rt: HostRuntime) -> Result<()> {
-    measure_lists(&rt)?;
-    measure_dicts(&rt)?;
-    measure_strings(&rt, &string(rt.alloc(), "{}: {}")?, &OF_FORMATS)?;
-    measure_strings(&rt, &long_text(rt.alloc(), 100_000)?, &OF_TEXTS)
+pub fn measure(rt: &HostRuntime) -> Result<()> {
+    measure_lists(rt)?;
+    measure_dicts(rt)?;
+    measure_strings(rt, &string(rt.alloc(), "{}: {}")?, &OF_FORMATS)?;
+    measure_strings(rt, &long_text(rt.alloc(), 100_000)?, &OF_TEXTS)
 }

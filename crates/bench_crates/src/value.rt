@@ -1,14 +1,12 @@
-//! Measures values: shares, dicts, `==` and freezing.
-//!
-//! Standard output says what was made, which doesn't change between runs; standard error says the processor time.
-#![tactic(auto)]
+//! Measures values: shares, dicts, `==` and freezing, a million of each. The times are of one of them; that of freezing is of all.
 
+use crate::clock::CpuInstant;
+use crate::strings::{label_key, string};
 use anyhow::Result;
-use bq_source::Bytes;
 use bq_value::{Content, Dict, Key, Store, Value, freeze};
 use bq_walk::equal;
 use std::alloc::{AllocError, Global};
-use std::time::{CpuClock, Duration};
+use std::time::Duration;
 
 /// A value is no larger than four words.
 const _: () = prove!(size_of::<Value>() <= 32);
@@ -16,14 +14,13 @@ const _: () = prove!(size_of::<Value>() <= 32);
 /// How many keys, elements, cells and shares.
 const MANY: i64 = 1_000_000;
 
-/// The time of one of these many.
-fn each(rt: &HostRuntime, start: Duration) -> Result<u128> {
-    let time = rt.thread_cpu_time()?.saturating_sub(start);
-    Ok(time.as_nanos() / 1_000_000)
+/// The nanoseconds that one of so many has taken since then.
+fn each(rt: &HostRuntime, start: CpuInstant) -> Result<u128> {
+    Ok(start.elapsed(rt)?.as_nanos() / 1_000_000)
 }
 
 /// Shares a value and gives the share up, again and again.
-fn share_often(value: &Value) -> std::result::Result<(), AllocError> {
+fn share_often(value: &Value) -> Result<(), AllocError> {
     for _ in 0..MANY {
         let _share = value.share()?;
     }
@@ -31,15 +28,11 @@ fn share_often(value: &Value) -> std::result::Result<(), AllocError> {
 }
 
 fn measure_share(rt: &HostRuntime, name: &str, value: &Value) -> Result<()> {
-    let start = rt.thread_cpu_time()?;
+    let start = CpuInstant::now(rt)?;
     share_often(value)?;
     let time = each(rt, start)?;
     eprintln!(rt; "share {name}: {time} ns")?;
     Ok(())
-}
-
-fn string(alloc: Global, text: &str) -> std::result::Result<Value, AllocError> {
-    Ok(Value::string(Bytes::from_slice(alloc, text.as_bytes())?))
 }
 
 fn measure_shares(rt: &HostRuntime) -> Result<()> {
@@ -55,7 +48,7 @@ fn measure_shares(rt: &HostRuntime) -> Result<()> {
     measure_share(rt, "a tuple", &Value::tuple(alloc, items)?)
 }
 
-fn integer_keys(alloc: Global) -> std::result::Result<Vec<Key>, AllocError> {
+fn integer_keys(alloc: Global) -> Result<Vec<Key>, AllocError> {
     let mut keys = Vec::new(alloc);
     for n in 0..MANY {
         keys.push(Key::new(Value::int(n)))?;
@@ -63,16 +56,15 @@ fn integer_keys(alloc: Global) -> std::result::Result<Vec<Key>, AllocError> {
     Ok(keys)
 }
 
-fn string_keys(alloc: Global) -> std::result::Result<Vec<Key>, AllocError> {
+fn string_keys(alloc: Global) -> Result<Vec<Key>, AllocError> {
     let mut keys = Vec::new(alloc);
     for n in 0..MANY {
-        let name = format!(in alloc; "//base:n{n}")?;
-        keys.push(Key::new(Value::string(Bytes::from_vec(alloc, name.into_bytes())?)))?;
+        keys.push(label_key(alloc, n)?)?;
     }
     Ok(keys)
 }
 
-fn put_all(alloc: Global, keys: &[Key]) -> std::result::Result<Dict, AllocError> {
+fn put_all(alloc: Global, keys: &[Key]) -> Result<Dict, AllocError> {
     let mut dict = Dict::new(alloc);
     for key in keys {
         dict.insert(key.share()?, Value::none())?;
@@ -90,16 +82,21 @@ fn found_of(dict: &Dict, keys: &[Key]) -> usize {
     found
 }
 
-fn measure_put(rt: &HostRuntime, name: &str, keys: &[Key]) -> Result<Dict> {
-    let start = rt.thread_cpu_time()?;
-    let dict = put_all(rt.alloc(), keys)?;
+fn show_put(rt: &HostRuntime, name: &str, start: CpuInstant) -> Result<()> {
     let time = each(rt, start)?;
     eprintln!(rt; "dict of {name}: put {time} ns")?;
+    Ok(())
+}
+
+fn measured_dict(rt: &HostRuntime, name: &str, keys: &[Key]) -> Result<Dict> {
+    let start = CpuInstant::now(rt)?;
+    let dict = put_all(rt.alloc(), keys)?;
+    show_put(rt, name, start)?;
     Ok(dict)
 }
 
 fn measure_get(rt: &HostRuntime, name: &str, dict: &Dict, keys: &[Key]) -> Result<()> {
-    let start = rt.thread_cpu_time()?;
+    let start = CpuInstant::now(rt)?;
     let found = found_of(dict, keys);
     let time = each(rt, start)?;
     println!(rt; "dict of {name}: {} pairs, {found} found", dict.len())?;
@@ -108,11 +105,11 @@ fn measure_get(rt: &HostRuntime, name: &str, dict: &Dict, keys: &[Key]) -> Resul
 }
 
 fn measure_dict(rt: &HostRuntime, name: &str, keys: &[Key]) -> Result<()> {
-    let dict = measure_put(rt, name, keys)?;
+    let dict = measured_dict(rt, name, keys)?;
     measure_get(rt, name, &dict, keys)
 }
 
-fn integers(alloc: Global) -> std::result::Result<Vec<Value>, AllocError> {
+fn integers(alloc: Global) -> Result<Vec<Value>, AllocError> {
     let mut values = Vec::new(alloc);
     for n in 0..MANY {
         values.push(Value::int(n))?;
@@ -121,13 +118,13 @@ fn integers(alloc: Global) -> std::result::Result<Vec<Value>, AllocError> {
 }
 
 /// A new cell with these many integers.
-fn list_cell(alloc: Global, store: &mut Store) -> std::result::Result<Value, AllocError> {
+fn list_cell(alloc: Global, store: &mut Store) -> Result<Value, AllocError> {
     let content = Content::list(integers(alloc)?);
     Ok(Value::cell(store.make(content)?))
 }
 
 fn compare(rt: &HostRuntime, store: &Store, a: &Value, b: &Value) -> Result<()> {
-    let start = rt.thread_cpu_time()?;
+    let start = CpuInstant::now(rt)?;
     let answer = equal(store, 2_000_000, a, b);
     let time = each(rt, start)?;
     match answer {
@@ -146,7 +143,7 @@ fn measure_equal(rt: &HostRuntime) -> Result<()> {
 }
 
 /// A store of so many empty lists.
-fn full_store(alloc: Global) -> std::result::Result<Store, AllocError> {
+fn full_store(alloc: Global) -> Result<Store, AllocError> {
     let mut store = Store::new(alloc, 0);
     for _ in 0..MANY {
         store.make(Content::list(Vec::new(alloc)))?;
@@ -154,23 +151,28 @@ fn full_store(alloc: Global) -> std::result::Result<Store, AllocError> {
     Ok(store)
 }
 
+/// The number of the module that a store is frozen to, and how long that takes.
+fn freezing_of(rt: &HostRuntime, store: Store) -> Result<(u32, Duration)> {
+    let start = CpuInstant::now(rt)?;
+    let frozen = freeze(rt.alloc(), store, Vec::new(rt.alloc()))?;
+    Ok((frozen.module(), start.elapsed(rt)?))
+}
+
 fn measure_freeze(rt: &HostRuntime) -> Result<()> {
-    let alloc = rt.alloc();
-    let store = full_store(alloc)?;
-    let start = rt.thread_cpu_time()?;
-    let frozen = freeze(alloc, store, Vec::new(alloc))?;
-    let time = rt.thread_cpu_time()?.saturating_sub(start).as_nanos();
-    println!(rt; "frozen: module {}", frozen.module())?;
+    let store = full_store(rt.alloc())?;
+    let (module, time) = freezing_of(rt, store)?;
+    let time = time.as_nanos();
+    println!(rt; "frozen: module {module}")?;
     eprintln!(rt; "freeze of 1000000 cells: {time} ns")?;
     Ok(())
 }
 
-fn main(rt: HostRuntime) -> Result<()> {
+pub fn measure(rt: &HostRuntime) -> Result<()> {
     let size = size_of::<Value>();
     println!(rt; "a value: {size} bytes")?;
-    measure_shares(&rt)?;
-    measure_dict(&rt, "integers", &integer_keys(rt.alloc())?)?;
-    measure_dict(&rt, "strings", &string_keys(rt.alloc())?)?;
-    measure_equal(&rt)?;
-    measure_freeze(&rt)
+    measure_shares(rt)?;
+    measure_dict(rt, "integers", &integer_keys(rt.alloc())?)?;
+    measure_dict(rt, "strings", &string_keys(rt.alloc())?)?;
+    measure_equal(rt)?;
+    measure_freeze(rt)
 }

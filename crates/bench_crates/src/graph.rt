@@ -1,18 +1,16 @@
-//! Measures [`Graph::new`] and the operators: graphs of 80,000 and 320,000 targets with five edges each, to targets that come later.
-//!
-//! Standard output says how large the sets are, which doesn't change between runs; standard error says the processor time.
-#![tactic(auto)]
+//! Measures [`Graph::new`] and the operators of queries: graphs of 80,000 and 320,000 targets with five edges each, to targets that
+//! come later. Standard output says how large the sets are.
 
 ghost use Rattle.std.specs.Prelude.{◌≡◌, ◌<◌, length, vec_len, IfOk};
 ghost use Rattle.bq_graph.specs.Edges.{AreBetween};
 
+use crate::clock::CpuInstant;
 use anyhow::Result;
 use bq_graph::allpaths::allpaths;
 use bq_graph::deps::{deps, deps_within};
 use bq_graph::rdeps::rdeps;
 use bq_graph::{Edge, Graph, members};
 use std::alloc::{AllocError, Global};
-use std::time::CpuClock;
 
 /// How far the five edges of a target lead.
 const STEPS: [usize; 5] = [1, 2, 7, 40, 1000];
@@ -73,7 +71,7 @@ fn set_of(
 }
 
 /// Measures one operator: from the first target, to one in the middle.
-fn measure(
+fn measure_form(
     rt: &HostRuntime,
     name: &str,
     form: Form,
@@ -85,10 +83,10 @@ fn measure(
     requires b { length b.now ≡ length graph.now }
 {
     let alloc = rt.alloc();
-    let start = rt.thread_cpu_time()?;
+    let start = CpuInstant::now(rt)?;
     let set = set_of(alloc, graph, form, a, b)?;
     let size = members(alloc, &set)?.len();
-    let time = rt.thread_cpu_time()?.saturating_sub(start).as_micros();
+    let time = start.elapsed(rt)?.as_micros();
     println!(rt; "{name}: {size}")?;
     eprintln!(rt; "{name}: {time} us")?;
     Ok(())
@@ -98,26 +96,38 @@ fn measure_each(rt: &HostRuntime, graph: &Graph, a: &[bool], b: &[bool]) -> Resu
     requires a { length a.now ≡ length graph.now }
     requires b { length b.now ≡ length graph.now }
 {
-    measure(rt, "deps", Form::Deps, graph, a, b)?;
-    measure(rt, "deps within 3", Form::DepsWithin, graph, a, b)?;
-    measure(rt, "rdeps", Form::Rdeps, graph, a, b)?;
-    measure(rt, "allpaths", Form::Allpaths, graph, a, b)
+    measure_form(rt, "deps", Form::Deps, graph, a, b)?;
+    measure_form(rt, "deps within 3", Form::DepsWithin, graph, a, b)?;
+    measure_form(rt, "rdeps", Form::Rdeps, graph, a, b)?;
+    measure_form(rt, "allpaths", Form::Allpaths, graph, a, b)
 }
 
-/// Builds the graph of so many targets.
+fn show_build(rt: &HostRuntime, count: usize, start: CpuInstant) -> Result<()> {
+    let time = start.elapsed(rt)?.as_micros();
+    eprintln!(rt; "graph of {count} targets: {time} us")?;
+    Ok(())
+}
+
+/// Builds the graph of these edges.
+fn graph_of(rt: &HostRuntime, count: usize, edges: &[Edge]) -> Result<Graph>
+    requires { AreBetween count edges.now }
+    ensures { IfOk result (λ g. length g ≡ count) }
+{
+    let start = CpuInstant::now(rt)?;
+    let graph = Graph::new(rt.alloc(), count, edges)?;
+    show_build(rt, count, start)?;
+    Ok(graph)
+}
+
 fn measured_graph(rt: &HostRuntime, count: usize) -> Result<Graph>
     requires { count < 1000000 }
     ensures { IfOk result (λ g. length g ≡ count) }
 {
     let edges = edges(rt.alloc(), count)?;
-    let start = rt.thread_cpu_time()?;
-    let graph = Graph::new(rt.alloc(), count, &edges)?;
-    let time = rt.thread_cpu_time()?.saturating_sub(start).as_micros();
-    eprintln!(rt; "graph of {count} targets: {time} us")?;
-    Ok(graph)
+    graph_of(rt, count, &edges)
 }
 
-fn measure_all(rt: &HostRuntime, count: usize) -> Result<()>
+fn measure_graph(rt: &HostRuntime, count: usize) -> Result<()>
     requires { count < 1000000 }
 {
     let graph = measured_graph(rt, count)?;
@@ -126,7 +136,7 @@ fn measure_all(rt: &HostRuntime, count: usize) -> Result<()>
     measure_each(rt, &graph, &a, &b)
 }
 
-fn main(rt: HostRuntime) -> Result<()> {
-    measure_all(&rt, 80_000)?;
-    measure_all(&rt, 320_000)
+pub fn measure(rt: &HostRuntime) -> Result<()> {
+    measure_graph(rt, 80_000)?;
+    measure_graph(rt, 320_000)
 }

@@ -1,11 +1,10 @@
-//! Measures [`Workspace::new`], [`Packages::of`] and [`Packages::owner_of`]: trees of 15,000 and 60,000 files.
+//! Measures [`Workspace::new`], [`Packages::of`] and [`Packages::owner_of`]: trees of 15,000 and 60,000 files, twice each.
 //!
-//! A package has six files, three to six levels down; the owner of each file is asked for ten times.
-#![tactic(auto)]
+//! A package has six files, three to six levels down; the owner of each file is asked for ten times. The times are by the clock.
 
-use anyhow::{Result, anyhow};
+use crate::workspace::{file_of, workspace_of};
+use anyhow::Result;
 use bq_label::{File, Packages, Workspace};
-use bq_source::Bytes;
 use std::alloc::{AllocError, Global};
 use std::time::Instant;
 
@@ -23,10 +22,7 @@ fn file(alloc: Global, i: u32) -> Result<File, AllocError> {
         _ => "test/e.c",
     };
     let path = format!(in alloc; "d{top}/e{mid}/p{package}/{rest}")?;
-    Ok(File {
-        path: Bytes::from_slice(alloc, path.as_bytes())?,
-        content: Bytes::empty(),
-    })
+    file_of(alloc, path.as_bytes(), b"")
 }
 
 fn files(alloc: Global, count: u32) -> Result<Vec<File>, AllocError> {
@@ -52,9 +48,7 @@ fn owned(workspace: &Workspace, packages: &Packages) -> u64 {
 fn measured_workspace(rt: &HostRuntime, count: u32) -> Result<Workspace> {
     let made = files(rt.alloc(), count)?;
     let start = Instant::now(rt)?;
-    let Ok(workspace) = Workspace::new(made) else {
-        return Err(anyhow!("no workspace"));
-    };
+    let workspace = workspace_of(made)?;
     let time = start.elapsed(rt)?.as_micros();
     eprintln!(rt; "{count} files: workspace {time} us")?;
     Ok(workspace)
@@ -79,15 +73,15 @@ fn measure_owners(rt: &HostRuntime, workspace: &Workspace, packages: &Packages) 
     Ok(())
 }
 
-fn measure(rt: &HostRuntime, count: u32) -> Result<()> {
+fn measure_tree(rt: &HostRuntime, count: u32) -> Result<()> {
     let workspace = measured_workspace(rt, count)?;
     let packages = measured_packages(rt, &workspace)?;
     measure_owners(rt, &workspace, &packages)
 }
 
-fn main(rt: HostRuntime) -> Result<()> {
+pub fn measure(rt: &HostRuntime) -> Result<()> {
     for count in [15_000, 60_000, 15_000, 60_000] {
-        measure(&rt, count)?;
+        measure_tree(rt, count)?;
     }
     Ok(())
 }
