@@ -1,6 +1,6 @@
-//! The tests of the crates below the loader: what no clause says, as values from outside, printed texts, and memory that is there.
+//! The tests of texts, files, labels, queries and graphs, and of the board: what no clause says, as values from outside, printed texts, and memory that is there.
 //!
-//! They stand in one crate at the top, a file for each crate below, since a crate with tests is proved once more for them.
+//! They stand at the top, a file for each crate below, since a crate with tests is proved once more for them.
 #![tactic(auto)]
 
 #[cfg(test)]
@@ -12,10 +12,6 @@ mod expressions;
 #[cfg(test)]
 mod files;
 #[cfg(test)]
-mod format;
-#[cfg(test)]
-mod functions;
-#[cfg(test)]
 mod glob;
 #[cfg(test)]
 mod graph;
@@ -23,10 +19,6 @@ mod graph;
 mod label;
 #[cfg(test)]
 mod literals;
-#[cfg(test)]
-mod methods;
-#[cfg(test)]
-mod operators;
 #[cfg(test)]
 mod query;
 #[cfg(test)]
@@ -36,10 +28,4 @@ mod rows;
 #[cfg(test)]
 mod source;
 #[cfg(test)]
-mod string;
-#[cfg(test)]
-mod string_methods;
-#[cfg(test)]
 mod trees;
-#[cfg(test)]
-mod value;
