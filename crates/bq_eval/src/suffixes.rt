@@ -226,8 +226,53 @@ impl<
         Ok(value)
     }
 
+    /// What is done to an operand.
+    #[inline(never)]
+    #[tactic(auto, unfolding(bq_meaning::specs::Expressions::suffixes))]
+    fn long_suffixed(
+        &self,
+        context: &Context<'_>,
+        frame: &Frame,
+        runtime: &mut R,
+        suffixes: &[CodeSuffix],
+        operand: &Value,
+    ) -> Result<Value, EvalErr>
+        requires nests { Nests R.means R.seen context.now.left self.now.depth self.now.call (F.pre self.now.eval) (F.post self.now.eval) }
+        requires answers { Answers R.means R.seen context.now.left (C.pre self.now.call) (C.post self.now.call) }
+        ensures { Acts R.means (λ v. v) result (R.seen runtime.new) (meaning.suffixes R.means (nested R.means self.now.depth context.now) (inside R.means context.now) suffixes.now (slots_of frame.now) operand.now (R.seen runtime.old)) }
+    {
+        match suffixes {
+            [] => Ok(operand.share()?),
+            [suffix, rest @ ..] => {
+                let value = self.suffix(context, frame, runtime, suffix, operand)?;
+                self.suffixes(context, frame, runtime, rest, value)
+            }
+        }
+    }
+
+    /// What is done to an operand, most often one thing.
+    #[inline(always)]
+    #[tactic(auto, unfolding(bq_meaning::specs::Expressions::suffixes))]
+    fn suffixed(
+        &self,
+        context: &Context<'_>,
+        frame: &Frame,
+        runtime: &mut R,
+        suffixes: &[CodeSuffix],
+        operand: &Value,
+    ) -> Result<Value, EvalErr>
+        requires nests { Nests R.means R.seen context.now.left self.now.depth self.now.call (F.pre self.now.eval) (F.post self.now.eval) }
+        requires answers { Answers R.means R.seen context.now.left (C.pre self.now.call) (C.post self.now.call) }
+        ensures { Acts R.means (λ v. v) result (R.seen runtime.new) (meaning.suffixes R.means (nested R.means self.now.depth context.now) (inside R.means context.now) suffixes.now (slots_of frame.now) operand.now (R.seen runtime.old)) }
+    {
+        match suffixes {
+            [suffix] => self.suffix(context, frame, runtime, suffix, operand),
+            _ => self.long_suffixed(context, frame, runtime, suffixes, operand),
+        }
+    }
+
     /// An operand, which is only read, and what is done to it.
-    #[tactic(auto, unfolding(bq_meaning::specs::Expressions::primary, bq_meaning::specs::Expressions::suffixes))]
+    #[tactic(auto, unfolding(bq_meaning::specs::Expressions::primary))]
     pub fn primary(
         &self,
         context: &Context<'_>,
@@ -241,14 +286,7 @@ impl<
         ensures { Acts R.means (λ v. v) result (R.seen runtime.new) (meaning.primary R.means (nested R.means self.now.depth context.now) (inside R.means context.now) code.now suffixes.now (slots_of frame.now) (R.seen runtime.old)) }
     {
         runtime.step(suffixes.len() as u64)?;
-        let first = self.operand(context, frame, runtime, code)?;
-        match suffixes {
-            [] => Ok(first.own()?),
-            [suffix] => self.suffix(context, frame, runtime, suffix, first.get()),
-            [suffix, rest @ ..] => {
-                let value = self.suffix(context, frame, runtime, suffix, first.get())?;
-                self.suffixes(context, frame, runtime, rest, value)
-            }
-        }
+        let operand = self.operand(context, frame, runtime, code)?;
+        self.suffixed(context, frame, runtime, suffixes, operand.get())
     }
 }
