@@ -8,13 +8,22 @@ use bq_source::Bytes;
 use bq_value::{EvalErr, Store, Value};
 use std::alloc::{AllocError, Global};
 
-/// The text of a format and the top one of the values of a row, with so many steps.
+/// The text of a format and the top one of the values of a row, in this store, with so many steps.
+fn formatted_in(
+    alloc: Global,
+    store: &mut Store,
+    steps: u64,
+    row: Row,
+) -> Result<Vec<u8>, EvalErr> {
+    let mut stack = Vec::new(alloc);
+    push_values(alloc, store, &mut stack, &row.bytes(alloc, 2)?)?;
+    let text = row.bytes(alloc, 1)?;
+    Ok(shown_percent(alloc, store, steps, &text, &top(&mut stack))?)
+}
+
 fn formatted(alloc: Global, steps: u64, row: Row) -> Result<Vec<u8>, EvalErr> {
     let mut store = Store::new(alloc, 1);
-    let mut stack = Vec::new(alloc);
-    push_values(alloc, &mut store, &mut stack, &row.bytes(alloc, 2)?)?;
-    let text = row.bytes(alloc, 1)?;
-    Ok(shown_percent(alloc, &store, steps, &text, &top(&mut stack))?)
+    formatted_in(alloc, &mut store, steps, row)
 }
 
 fn shown_percent(
@@ -55,14 +64,18 @@ fn push_named(
     Ok(())
 }
 
-/// The text of a format, the values of a row and its named values, with so many steps.
+/// The text of a format, the values of a row and its named values, in this store, with so many steps.
+fn filled_in(alloc: Global, store: &mut Store, steps: u64, row: Row) -> Result<Vec<u8>, EvalErr> {
+    let named = named_values(alloc, store, row.word(3))?;
+    let mut values = Vec::new(alloc);
+    push_values(alloc, store, &mut values, &row.bytes(alloc, 2)?)?;
+    let text = row.bytes(alloc, 1)?;
+    Ok(shown_format(alloc, store, steps, &text, &values, &named)?)
+}
+
 fn filled(alloc: Global, steps: u64, row: Row) -> Result<Vec<u8>, EvalErr> {
     let mut store = Store::new(alloc, 1);
-    let named = named_values(alloc, &mut store, row.word(3))?;
-    let mut values = Vec::new(alloc);
-    push_values(alloc, &mut store, &mut values, &row.bytes(alloc, 2)?)?;
-    let text = row.bytes(alloc, 1)?;
-    Ok(shown_format(alloc, &store, steps, &text, &values, &named)?)
+    filled_in(alloc, &mut store, steps, row)
 }
 
 fn shown_format(

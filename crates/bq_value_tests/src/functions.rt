@@ -11,17 +11,33 @@ use bq_text::repr;
 use bq_value::{EvalErr, Store, Value};
 use std::alloc::{AllocError, Global};
 
-/// The texts that were printed, a line each, and the `repr` of a value.
-fn shown(alloc: Global, machine: Machine, value: &Value) -> Result<Vec<u8>, EvalErr> {
-    let (store, prints) = machine.into_parts();
+/// Texts, a line each.
+fn lines_of(alloc: Global, texts: &[Bytes]) -> Result<Vec<u8>, AllocError> {
     let mut made = Vec::new(alloc);
-    for text in &prints {
+    for text in texts {
         made.extend_from_slice(text.as_slice())?;
         made.push(b'\n')?;
     }
-    let (text, _) = repr(alloc, &store, 9999, value)?;
+    Ok(made)
+}
+
+/// The texts that were printed, a line each, and the `repr` of a value.
+fn shown_after(
+    alloc: Global,
+    prints: &[Bytes],
+    store: &Store,
+    value: &Value,
+) -> Result<Vec<u8>, EvalErr> {
+    let mut made = lines_of(alloc, prints)?;
+    let (text, _) = repr(alloc, store, 9999, value)?;
     made.extend_from_slice(text.as_slice())?;
     Ok(made)
+}
+
+/// The same of what a machine printed.
+fn shown(alloc: Global, machine: Machine, value: &Value) -> Result<Vec<u8>, EvalErr> {
+    let (store, prints) = machine.into_parts();
+    shown_after(alloc, &prints, &store, value)
 }
 
 /// The part before the first byte of this kind, and the part after it, if there is one.
@@ -73,14 +89,25 @@ fn call_word(
     Ok(())
 }
 
+/// Calls the functions of these words.
+fn call_words(
+    alloc: Global,
+    machine: &mut Machine,
+    stack: &mut Vec<Value>,
+    words: &[u8],
+) -> Result<(), EvalErr> {
+    for word in words.split(|byte| *byte == b' ') {
+        call_word(alloc, machine, stack, word)?;
+    }
+    Ok(())
+}
+
 fn called_row(alloc: Global, words: &[u8], row: Row) -> Result<Vec<u8>, EvalErr> {
     let mut store = Store::new(alloc, 1);
     let mut stack = Vec::new(alloc);
     push_values(alloc, &mut store, &mut stack, words)?;
     let mut machine = Machine::new(alloc, store, 1000);
-    for word in row.word(1).split(|byte| *byte == b' ') {
-        call_word(alloc, &mut machine, &mut stack, word)?;
-    }
+    call_words(alloc, &mut machine, &mut stack, row.word(1))?;
     shown(alloc, machine, &top(&mut stack))
 }
 

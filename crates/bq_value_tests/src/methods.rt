@@ -35,18 +35,41 @@ fn shown(
     Ok(text)
 }
 
+/// The value of these words.
+fn value_of(alloc: Global, store: &mut Store, words: &[u8]) -> Result<Value, EvalErr> {
+    let mut stack = Vec::new(alloc);
+    push_values(alloc, store, &mut stack, words)?;
+    Ok(top(&mut stack))
+}
+
+/// The arguments of a row.
+fn args_of(alloc: Global, store: &mut Store, row: Row) -> Result<Args, EvalErr> {
+    let mut args = Args::new(alloc);
+    push_values(alloc, store, &mut args.positional, row.word(2))?;
+    let mut stack = Vec::new(alloc);
+    push_values(alloc, store, &mut stack, row.word(3))?;
+    args.named = named(alloc, stack)?;
+    Ok(args)
+}
+
+/// What a call gives, and what its receiver is then.
+fn call(
+    alloc: Global,
+    machine: &mut Machine,
+    name: &[u8],
+    receiver: &Value,
+    args: Args,
+) -> Result<Vec<u8>, EvalErr> {
+    let answer = call_method(alloc, machine, name, receiver, args)?;
+    shown(alloc, machine, &answer, receiver)
+}
+
 fn called(alloc: Global, receiver: &[u8], row: Row) -> Result<Vec<u8>, EvalErr> {
     let mut store = Store::new(alloc, 1);
-    let mut stack = Vec::new(alloc);
-    push_values(alloc, &mut store, &mut stack, receiver)?;
-    let receiver = top(&mut stack);
-    let mut args = Args::new(alloc);
-    push_values(alloc, &mut store, &mut args.positional, row.word(2))?;
-    push_values(alloc, &mut store, &mut stack, row.word(3))?;
-    args.named = named(alloc, stack)?;
+    let receiver = value_of(alloc, &mut store, receiver)?;
+    let args = args_of(alloc, &mut store, row)?;
     let mut machine = Machine::new(alloc, store, 10_000);
-    let answer = call_method(alloc, &mut machine, row.word(1), &receiver, args)?;
-    shown(alloc, &mut machine, &answer, &receiver)
+    call(alloc, &mut machine, row.word(1), &receiver, args)
 }
 
 /// A call of a method.

@@ -101,15 +101,26 @@ fn sliced(
     slice(alloc, machine, &top(stack), &start, &stop, step)
 }
 
-/// The `repr` of what an operator makes of the values of these words.
+/// The `repr` of what an operator makes of the values on top of the stack.
+fn shown(
+    alloc: Global,
+    machine: &mut Machine,
+    kind: Kind,
+    word: &[u8],
+    stack: &mut Vec<Value>,
+) -> Result<Vec<u8>, EvalErr> {
+    let value = applied(alloc, machine, kind, word, stack)?;
+    let text = machine.repr(alloc, &value)?;
+    Ok(text.into_vec(alloc)?)
+}
+
+/// The same of the values of these words.
 fn answer(alloc: Global, kind: Kind, word: &[u8], values: &[u8]) -> Result<Vec<u8>, EvalErr> {
     let mut store = Store::new(alloc, 1);
     let mut stack = Vec::new(alloc);
     push_values(alloc, &mut store, &mut stack, values)?;
     let mut machine = Machine::new(alloc, store, 10_000_000);
-    let value = applied(alloc, &mut machine, kind, word, &mut stack)?;
-    let text = machine.repr(alloc, &value)?;
-    Ok(text.into_vec(alloc)?)
+    shown(alloc, &mut machine, kind, word, &mut stack)
 }
 
 impl Subject for Kind {

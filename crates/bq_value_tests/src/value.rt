@@ -113,13 +113,23 @@ fn walked_top(
     walked(alloc, walk, store, steps, &first, &second)
 }
 
-/// What a walk gives of the values of a row, with so many steps.
+/// What a walk gives of the values of a row in this store, with so many steps.
+fn walked_in(
+    alloc: Global,
+    store: &mut Store,
+    walk: Walk,
+    steps: u64,
+    row: Row,
+) -> Result<Vec<u8>, EvalErr> {
+    let mut stack = Vec::new(alloc);
+    push_values(alloc, store, &mut stack, &row.bytes(alloc, 1)?)?;
+    push_values(alloc, store, &mut stack, row.word(2))?;
+    Ok(walked_top(alloc, walk, store, steps, &mut stack)?)
+}
+
 fn walked_row(alloc: Global, walk: Walk, steps: u64, row: Row) -> Result<Vec<u8>, EvalErr> {
     let mut store = Store::new(alloc, 1);
-    let mut stack = Vec::new(alloc);
-    push_values(alloc, &mut store, &mut stack, &row.bytes(alloc, 1)?)?;
-    push_values(alloc, &mut store, &mut stack, row.word(2))?;
-    Ok(walked_top(alloc, walk, &store, steps, &mut stack)?)
+    walked_in(alloc, &mut store, walk, steps, row)
 }
 
 impl Subject for Walk {
@@ -178,15 +188,31 @@ fn frozen_of(alloc: Global, words: &[u8]) -> Result<Frozen, EvalErr> {
     Ok(freeze(alloc, store, globals)?)
 }
 
+/// The globals of a frozen module.
+fn globals_of(alloc: Global, frozen: &Frozen) -> Result<Vec<Value>, AllocError> {
+    let mut globals = Vec::new(alloc);
+    for global in frozen.globals() {
+        globals.push(global.share()?)?;
+    }
+    Ok(globals)
+}
+
+/// What a walk gives of the globals of a frozen module and the values of words, in a store that may read it.
+fn walked_with(
+    alloc: Global,
+    store: &mut Store,
+    frozen: &Frozen,
+    words: &[u8],
+) -> Result<Vec<u8>, EvalErr> {
+    store.load(frozen)?;
+    let mut stack = globals_of(alloc, frozen)?;
+    push_values(alloc, store, &mut stack, words)?;
+    Ok(walked_top(alloc, Walk::Equal, store, 99, &mut stack)?)
+}
+
 fn read_frozen(alloc: Global, frozen: &Frozen, words: &[u8]) -> Result<Vec<u8>, EvalErr> {
     let mut store = Store::new(alloc, 2);
-    store.load(frozen)?;
-    let mut stack = Vec::new(alloc);
-    for global in frozen.globals() {
-        stack.push(global.share()?)?;
-    }
-    push_values(alloc, &mut store, &mut stack, words)?;
-    Ok(walked_top(alloc, Walk::Equal, &store, 99, &mut stack)?)
+    walked_with(alloc, &mut store, frozen, words)
 }
 
 fn compared_row(alloc: Global, words: &[u8], row: Row) -> Result<Vec<u8>, EvalErr> {
