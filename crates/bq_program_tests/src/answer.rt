@@ -10,7 +10,7 @@ use crate::workspace::{Tree, ascend, bundle, packages_in};
 use bq_answer::{OutputForm, answer, print_answer};
 use bq_label::{Packages, Workspace};
 use bq_query::QueryErr;
-use bq_query_check::parse_query;
+use bq_query_check::{CheckedQuery, parse_query};
 use bq_schema::Schema;
 use bq_target_graph::TargetGraph;
 use long::query_of;
@@ -77,18 +77,27 @@ fn refused(alloc: Global, error: &QueryErr) -> Result<Vec<u8>, AllocError> {
     Ok(text)
 }
 
-/// The lines of an answer, with a blank between two in place of a newline.
-fn answered(alloc: Global, asked: Asked<'_>, text: &[u8]) -> Result<Vec<u8>, QueryErr> {
-    let query = parse_query(alloc, text)?;
-    let found = answer(alloc, asked.graph, asked.schema, &query)?;
-    let targets = asked.graph.targets();
-    let mut lines = print_answer(alloc, asked.form, targets, &found)?;
+/// The lines of an answer.
+fn lines_of(alloc: Global, asked: Asked<'_>, query: &CheckedQuery) -> Result<Vec<u8>, QueryErr> {
+    let found = answer(alloc, asked.graph, asked.schema, query)?;
+    Ok(print_answer(alloc, asked.form, asked.graph.targets(), &found)?)
+}
+
+/// A blank in place of each newline.
+fn in_one_line(mut lines: Vec<u8>) -> Vec<u8> {
     for byte in &mut lines {
         if *byte == b'\n' {
             *byte = b' ';
         }
     }
-    Ok(lines)
+    lines
+}
+
+/// The lines of an answer, with a blank between two in place of a newline.
+fn answered(alloc: Global, asked: Asked<'_>, text: &[u8]) -> Result<Vec<u8>, QueryErr> {
+    let query = parse_query(alloc, text)?;
+    let lines = lines_of(alloc, asked, &query)?;
+    Ok(in_one_line(lines))
 }
 
 /// What is printed of a query, as a line.

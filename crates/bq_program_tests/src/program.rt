@@ -135,6 +135,13 @@ fn imports_of(
     Ok(imports)
 }
 
+/// A list of one.
+fn one<T: Drop>(alloc: Global, item: T) -> Result<Vec<T>, AllocError> {
+    let mut items = Vec::new(alloc);
+    items.push(item)?;
+    Ok(items)
+}
+
 /// Evaluates a file that loads this module, as module 1.
 fn above<H: Host + Drop>(
     setting: Setting<'_>,
@@ -145,10 +152,8 @@ fn above<H: Host + Drop>(
     let alloc = setting.alloc;
     let (below, frozen) = loaded;
     let imports = imports_of(alloc, &below, &frozen, file.loads.as_slice())?;
-    let mut code = Vec::new(alloc);
-    code.push(Some(below))?;
-    let mut modules = Vec::new(alloc);
-    modules.push(Arc::new(alloc, frozen)?)?;
+    let code = one(alloc, Some(below))?;
+    let modules = one(alloc, Arc::new(alloc, frozen)?)?;
     let module = ResolvedModule {
         number: 1,
         file,
@@ -160,6 +165,18 @@ fn above<H: Host + Drop>(
     eval_module(alloc, &built_ins, &module, host, setting.limit)
 }
 
+/// Evaluates a file that loads nothing, and adds what is printed of it.
+fn run_alone<H: Host + Drop>(
+    setting: Setting<'_>,
+    file: &Resolved,
+    host: H,
+    whole: &mut Vec<u8>,
+) -> Result<Evaluated<H>, AllocError> {
+    let evaluated = alone(setting, file, host)?;
+    add_outcome(setting.alloc, whole, &evaluated.outcome)?;
+    Ok(evaluated)
+}
+
 /// Evaluates one file, and adds what is printed of it.
 fn run_one<H: Host + Drop>(
     setting: Setting<'_>,
@@ -169,16 +186,25 @@ fn run_one<H: Host + Drop>(
     whole: &mut Vec<u8>,
 ) -> Result<Option<Evaluated<H>>, AllocError> {
     match file_of(setting, kind, text) {
-        Ok(file) => {
-            let evaluated = alone(setting, &file, host)?;
-            add_outcome(setting.alloc, whole, &evaluated.outcome)?;
-            Ok(Some(evaluated))
-        }
+        Ok(file) => Ok(Some(run_alone(setting, &file, host, whole)?)),
         Err(error) => {
             add_refusal(setting.alloc, whole, &error)?;
             Ok(None)
         }
     }
+}
+
+/// Evaluates a file that loads this module, and adds what is printed of it.
+fn run_over<H: Host + Drop>(
+    setting: Setting<'_>,
+    loaded: (Resolved, Frozen),
+    file: &Resolved,
+    host: H,
+    whole: &mut Vec<u8>,
+) -> Result<Evaluated<H>, AllocError> {
+    let evaluated = above(setting, loaded, file, host)?;
+    add_outcome(setting.alloc, whole, &evaluated.outcome)?;
+    Ok(evaluated)
 }
 
 /// Evaluates the BUILD file over a module, and adds what is printed of it.
@@ -190,11 +216,7 @@ fn run_above<H: Host + Drop>(
     whole: &mut Vec<u8>,
 ) -> Result<Option<Evaluated<H>>, AllocError> {
     match file_of(setting, FileKind::Build, text) {
-        Ok(file) => {
-            let evaluated = above(setting, loaded, &file, host)?;
-            add_outcome(setting.alloc, whole, &evaluated.outcome)?;
-            Ok(Some(evaluated))
-        }
+        Ok(file) => Ok(Some(run_over(setting, loaded, &file, host, whole)?)),
         Err(error) => {
             add_refusal(setting.alloc, whole, &error)?;
             Ok(None)
@@ -210,7 +232,21 @@ fn with_file(file: Resolved, outcome: Outcome) -> Option<(Resolved, Frozen)> {
     }
 }
 
-/// Evaluates a .bzl file in which no function of the tool may be called, and adds what is printed of it.
+/// What a .bzl file ends in, in which no function of the tool may be called. Adds what is printed of it.
+fn outcome_of(
+    setting: Setting<'_>,
+    file: &Resolved,
+    whole: &mut Vec<u8>,
+) -> Result<Outcome, AllocError> {
+    let evaluated = run_alone(setting, file, BuildHost::outside(), whole)?;
+    let Evaluated {
+        outcome,
+        host: _host,
+    } = evaluated;
+    Ok(outcome)
+}
+
+/// Evaluates a .bzl file, and adds what is printed of it.
 fn run_below(
     setting: Setting<'_>,
     text: &[u8],
@@ -218,12 +254,7 @@ fn run_below(
 ) -> Result<Option<(Resolved, Frozen)>, AllocError> {
     match file_of(setting, FileKind::Bzl, text) {
         Ok(file) => {
-            let evaluated = alone(setting, &file, BuildHost::outside())?;
-            add_outcome(setting.alloc, whole, &evaluated.outcome)?;
-            let Evaluated {
-                outcome,
-                host: _host,
-            } = evaluated;
+            let outcome = outcome_of(setting, &file, whole)?;
             Ok(with_file(file, outcome))
         }
         Err(error) => {

@@ -10,6 +10,7 @@ use bq_load::{Gate, Loaded, OpenGate, load_one_thread, load_with};
 use bq_schema::Schema;
 use bq_workers::MAX_WORKERS;
 use std::alloc::{AllocError, Global};
+use std::process::Abort;
 use std::sync::Wait;
 use std::thread::Threads;
 
@@ -93,7 +94,16 @@ fn all_give_the_same<R: Threads + Wait + Sync>(
     Ok(one && two && eight && many)
 }
 
-/// Whether the workspace of these files is loaded alike by any number of workers.
+/// Whether a workspace is loaded alike by any number of workers.
+fn is_loaded_alike<R: Threads + Wait + Sync>(rt: &R, tree: Tree<'_>) -> Result<bool, LoadErr> {
+    let wanted = by_one_thread(tree)?;
+    if wanted.modules.len() != 401 || wanted.faults.is_empty() {
+        return Ok(false);
+    }
+    all_give_the_same(rt, tree, &wanted)
+}
+
+/// The same of the workspace of these files.
 fn loads_alike<R: Threads + Wait + Sync>(
     rt: &R,
     alloc: Global,
@@ -109,11 +119,7 @@ fn loads_alike<R: Threads + Wait + Sync>(
         workspace,
         schema,
     };
-    let wanted = by_one_thread(tree)?;
-    if wanted.modules.len() != 401 || wanted.faults.is_empty() {
-        return Ok(false);
-    }
-    all_give_the_same(rt, tree, &wanted)
+    is_loaded_alike(rt, tree)
 }
 
 #[test]
@@ -151,6 +157,13 @@ fn meet<R: Threads + Wait + Sync>(rt: &R, tree: Tree<'_>) -> Result<bool, LoadEr
     Ok(false)
 }
 
+fn check_meeting<R: Abort + Threads + Wait + Sync>(rt: &R, tree: Tree<'_>) -> Result<(), LoadErr> {
+    assert!(rt; meet(rt, tree)?);
+    let loaded = by_workers(rt, tree, 64, &OpenGate)?;
+    assert!(rt; loaded.prints.as_slice() == b"//:BUILD: 3\n".as_slice());
+    Ok(())
+}
+
 /// Two workers evaluate two files at once.
 #[test]
 fn two_workers_meet(rt: HostRuntime) -> Result<(), LoadErr> {
@@ -165,8 +178,5 @@ fn two_workers_meet(rt: HostRuntime) -> Result<(), LoadErr> {
         workspace,
         schema,
     };
-    assert!(rt; meet(&rt, tree)?);
-    let loaded = by_workers(&rt, tree, 64, &OpenGate)?;
-    assert!(rt; loaded.prints.as_slice() == b"//:BUILD: 3\n".as_slice());
-    Ok(())
+    check_meeting(&rt, tree)
 }
