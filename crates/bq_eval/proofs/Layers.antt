@@ -23,7 +23,7 @@ unfolding expr_to expr
 int_layer m call round zero x n env s some is = absurd (omega arith)
 int_layer m call round (suc depth) x n env s some is = ap (λ l. expr_by m (expr_to depth m call round) call round x l env s) is
 
--- the use of a name of the frame
+-- the use of a local name
 pub local_layer : {S : Type 0} (m : Primitives S) (call : Calls S) (round : Surroundings) (depth : ℕ) (x : Code) (slot : ℕ) (env : Frame) (s : S) → 0 < depth → out-Code x ≡ Code-F.Use (b.Local slot)
     → expr_to depth m call round x env s ≡ local_use m env slot s
 unfolding expr_to expr use_of

@@ -12,6 +12,6 @@ abbrev pub read_of : Operand → Datum
 read_of (operands.Lent v) = v.now
 read_of (operands.Own v) = v
 
--- the use of a name of the frame
+-- the use of a local name
 abbrev pub local_use : {S : Type 0} → Primitives S → Frame → ℕ → Action S Datum
 local_use m env slot = m.step 1 >>= λ _. bound m (env slot)

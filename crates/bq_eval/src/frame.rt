@@ -86,10 +86,10 @@ impl Frame {
         }
     }
 
-    /// The use of a name: its value, which is lent, or F49.
+    /// The use of a local name: its value, which is lent, or F49.
     #[tactic(auto, unfolding(bq_meaning::specs::Targets::bound))]
     #[inline(always)]
-    pub fn lend<R: Runtime>(&self, runtime: &mut R, slot: usize) -> Result<&Value, EvalErr>
+    pub fn local<R: Runtime>(&self, runtime: &mut R, slot: usize) -> Result<&Value, EvalErr>
         ensures { Acts R.means (λ v. v.now) result (R.seen runtime.new) (local_use R.means (slots_of self.now) slot (R.seen runtime.old)) }
     {
         runtime.step(1)?;

@@ -80,9 +80,9 @@ pub fn use_of<'f, R: Runtime>(
     }
 }
 
-/// The slot of the frame whose use this is.
+/// The slot of the local name that this is.
 #[inline(always)]
-pub fn slot_of(code: &Code) -> Option<usize>
+pub fn local_in(code: &Code) -> Option<usize>
     ensures { IfSome result (λ slot. out-Code code.now ≡ Code-F.Use (bindings.Local slot)) }
 {
     match code {

@@ -12,7 +12,7 @@ ghost use Rattle.bq_eval.specs.Operands.{local_use};
 use crate::context::Context;
 use crate::evaluator::Evaluator;
 use crate::frame::Frame;
-use crate::operand::{int_in, slot_of};
+use crate::operand::{int_in, local_in};
 use crate::runtime::Runtime;
 use bq_grammar::{Comparison, Operator, UnaryOperator};
 use bq_scope::{Code, CodeChoice, CodeOperation};
@@ -91,9 +91,9 @@ impl<
         }
     }
 
-    /// `left op name`
+    /// `left op name`, for a local name.
     #[inline(always)]
-    fn apply_name(
+    fn apply_local(
         &self,
         frame: &Frame,
         runtime: &mut R,
@@ -103,11 +103,11 @@ impl<
     ) -> Result<Value, EvalErr>
         ensures { Acts R.means (λ v. v) result (R.seen runtime.new) (following (local_use R.means (slots_of frame.now) slot (R.seen runtime.old)) (R.means.binary operator left.now)) }
     {
-        let right = frame.lend(runtime, slot)?;
+        let right = frame.local(runtime, slot)?;
         runtime.binary(operator, left, right)
     }
 
-    /// `left op n`
+    /// `left op n`, for an integer.
     #[inline(always)]
     fn apply_int(
         &self,
@@ -122,7 +122,7 @@ impl<
         runtime.binary(operator, left, &right)
     }
 
-    /// `left op operand`, but for `and` and `or`. Most operands are names of the frame, or integers.
+    /// `left op operand`, but for `and` and `or`. Most operands are local names or integers.
     #[inline(always)]
     fn apply(
         &self,
@@ -137,8 +137,8 @@ impl<
         ensures { Acts R.means (λ v. v) result (R.seen runtime.new) (following (nested R.means self.now.depth context.now operand.now (slots_of frame.now) (R.seen runtime.old)) (R.means.binary operator left.now)) }
     {
         if self.depth > 0 {
-            if let Some(slot) = slot_of(operand) {
-                return self.apply_name(frame, runtime, operator, left, slot);
+            if let Some(slot) = local_in(operand) {
+                return self.apply_local(frame, runtime, operator, left, slot);
             }
             if let Some(n) = int_in(operand) {
                 return self.apply_int(runtime, operator, left, n);
@@ -210,9 +210,9 @@ impl<
         }
     }
 
-    /// A chain whose first operand is a name of the frame.
+    /// A chain whose first operand is a local name.
     #[inline(always)]
-    fn chain_of_name(
+    fn chain_of_local(
         &self,
         context: &Context<'_>,
         frame: &Frame,
@@ -223,7 +223,7 @@ impl<
         requires { Nests R.means R.seen context.now.left self.now.depth self.now.call (F.pre self.now.eval) (F.post self.now.eval) }
         ensures { Acts R.means (λ v. v) result (R.seen runtime.new) (following (local_use R.means (slots_of frame.now) slot (R.seen runtime.old)) (meaning.operations R.means (nested R.means self.now.depth context.now) operations.now (slots_of frame.now))) }
     {
-        let first = frame.lend(runtime, slot)?;
+        let first = frame.local(runtime, slot)?;
         self.chain(context, frame, runtime, operations, first)
     }
 
@@ -241,8 +241,8 @@ impl<
         ensures { Acts R.means (λ v. v) result (R.seen runtime.new) (following (nested R.means self.now.depth context.now code.now (slots_of frame.now) (R.seen runtime.old)) (meaning.operations R.means (nested R.means self.now.depth context.now) operations.now (slots_of frame.now))) }
     {
         if self.depth > 0 {
-            if let Some(slot) = slot_of(code) {
-                return self.chain_of_name(context, frame, runtime, operations, slot);
+            if let Some(slot) = local_in(code) {
+                return self.chain_of_local(context, frame, runtime, operations, slot);
             }
         }
         let first = self.value(context, frame, runtime, code)?;

@@ -6,6 +6,7 @@ ghost use Rattle.bq_source.specs.Gives.{Gives};
 ghost use Rattle.bq_value.specs.declared.error.EvalErr.TheVariants.{Bad};
 ghost use Rattle.bq_value.specs.Datum.{int};
 ghost use Rattle.bq_machine.specs.Action.{Does};
+ghost use Rattle.bq_machine.specs.State.{State};
 ghost use Rattle.bq_operate.specs.Operate.{binary, unary, compare, index, list_slice, slice};
 
 use crate::comparing::compared;
@@ -22,8 +23,8 @@ use bq_machine::Machine;
 use bq_value::{Content, EvalErr, Node, Store, Value};
 use std::alloc::Global;
 
-/// `a op b`. An operator that the language leaves out, or that stops early, is F40. Most operands are integers, which no kind of
-/// operator has to look for.
+/// `a op b`. An operator that the language leaves out, or that stops early, is F40. Two integers, which are the most frequent
+/// operands, are looked for first.
 pub fn binary(
     alloc: Global,
     machine: &mut Machine,
@@ -35,20 +36,18 @@ pub fn binary(
 {
     match &a.node {
         Node::Int(x) => match &b.node {
-            Node::Int(y) => of_integers(&*machine, operator, *x, *y),
+            Node::Int(y) => of_integers(operator, *x, *y),
             _ => by_operator(alloc, machine, operator, a, b),
         },
         _ => by_operator(alloc, machine, operator, a, b),
     }
 }
 
-/// Of two integers.
+/// Of two integers, on any machine, which stays as it is.
 #[inline(always)]
-#[tactic(auto, using(crate::proofs::BothIntegers::of_integers))]
-fn of_integers(machine: &Machine, operator: Operator, x: i64, y: i64) -> Result<Value, EvalErr>
-    ensures { Does (λ value. value) result machine.now (binary operator (int x) (int y) machine.now) }
+fn of_integers(operator: Operator, x: i64, y: i64) -> Result<Value, EvalErr>
+    ensures { (machine : State) → Does (λ value. value) result machine (binary operator (int x) (int y) machine) }
 {
-    let _ = machine;
     Ok(Value::int(integers::arithmetic(operator, x, y)?))
 }
 

@@ -1,4 +1,4 @@
-//! Tables of tests as texts come in; what differs from the answers that they want goes out.
+//! A line of a table of tests comes in; the cells of its row and the answer that it wants go out.
 //!
 //! A row is a line, its cells stand between bars, and the answer that is wanted in the last cell.
 //!
@@ -115,9 +115,9 @@ fn split_row(line: &[u8]) -> (Row<'_>, &[u8]) {
     }
 }
 
-fn answer(alloc: Global, row: Row, subject: &impl Subject) -> Result<Vec<u8>, AllocError> {
-    let text = row.bytes(alloc, 0)?;
-    subject.answer(alloc, &text, row)
+/// Whether a line of a table is a row.
+pub fn is_row(line: &[u8]) -> bool {
+    !matches!(line, [] | [b'#', ..])
 }
 
 /// The row of a line, whatever is wanted of it.
@@ -125,37 +125,18 @@ pub fn row_of(line: &[u8]) -> Row<'_> {
     split_row(line).0
 }
 
-/// Whether a line of a table is a row.
-pub fn is_row(line: &[u8]) -> bool {
-    !matches!(line, [] | [b'#', ..])
+/// The answer that the row of a line wants.
+pub fn wanted_of(alloc: Global, line: &[u8]) -> Result<Vec<u8>, AllocError> {
+    bytes_of(alloc, split_row(line).1)
 }
 
-/// The line and the answer that was found, where the row of the line wants another one; else no text.
-pub fn difference(alloc: Global, line: &[u8], found: &[u8]) -> Result<Vec<u8>, AllocError> {
-    let (_, wanted) = split_row(line);
-    let wanted = bytes_of(alloc, wanted)?;
-    let mut text = Vec::new(alloc);
-    if found != wanted.as_slice() {
-        text.extend_from_slice(line)?;
-        text.extend_from_slice(b": ")?;
-        text.extend_from_slice(found)?;
-        text.push(b'\n')?;
-    }
-    Ok(text)
-}
-
-/// What differs in a table: a line for each row that wants another answer.
-pub fn differences(
+/// The answer of a subject to the row of a line.
+pub fn answer_of(
     alloc: Global,
-    table: &str,
+    line: &[u8],
     subject: &impl Subject,
 ) -> Result<Vec<u8>, AllocError> {
-    let mut text = Vec::new(alloc);
-    for line in table.as_bytes().split(|byte| *byte == b'\n') {
-        if is_row(line) {
-            let found = answer(alloc, row_of(line), subject)?;
-            text.extend_from_slice(&difference(alloc, line, &found)?)?;
-        }
-    }
-    Ok(text)
+    let row = row_of(line);
+    let text = row.bytes(alloc, 0)?;
+    subject.answer(alloc, &text, row)
 }

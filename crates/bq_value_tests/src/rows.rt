@@ -1,6 +1,6 @@
 //! Tables as texts, each row of which is asserted.
 
-use bq_rows::differences;
+use bq_rows::{answer_of, is_row, wanted_of};
 pub use bq_rows::{Row, Subject, number_of};
 use std::alloc::{AllocError, Global};
 use std::process::Abort;
@@ -12,7 +12,22 @@ pub fn check_rows(
     table: &str,
     subject: &impl Subject,
 ) -> Result<(), AllocError> {
-    let text = differences(alloc, table, subject)?;
-    assert!(rt; text.is_empty(), "{}", text.escape_ascii());
+    for line in table.as_bytes().split(|byte| *byte == b'\n') {
+        if is_row(line) {
+            check_answer(rt, alloc, line, &answer_of(alloc, line, subject)?)?;
+        }
+    }
+    Ok(())
+}
+
+/// This is the answer that the row of this line wants.
+fn check_answer(
+    rt: &impl Abort,
+    alloc: Global,
+    line: &[u8],
+    found: &[u8],
+) -> Result<(), AllocError> {
+    let wanted = wanted_of(alloc, line)?;
+    assert!(rt; found == wanted.as_slice(), "{}: {}", line.escape_ascii(), found.escape_ascii());
     Ok(())
 }
