@@ -28,6 +28,11 @@ pub fn check_answer(
     found: &[u8],
 ) -> Result<(), AllocError> {
     let wanted = wanted_of(alloc, line)?;
-    assert!(rt; found == wanted.as_slice(), "{}: {}", line.escape_ascii(), found.escape_ascii());
+    assert!(rt;
+        found == wanted.as_slice(),
+        "{}: {}",
+        line.escape_ascii(),
+        found.escape_ascii()
+    );
     Ok(())
 }
