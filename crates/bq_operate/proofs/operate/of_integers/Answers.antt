@@ -4,3 +4,6 @@ use Rattle.bq_operate.proofs.operate.of_integers.Goals as goal
 
 pub returns : goal.returns
 returns c = λ machine. rw (of_integers c.args.operator c.args.x c.args.y machine) (search rules)
+
+pub returns-in_err-arithmetic : goal.returns-in_err-arithmetic
+returns-in_err-arithmetic c = λ machine. rw (of_integers c.args.operator c.args.x c.args.y machine) (search rules)
