@@ -1,11 +1,13 @@
 //! The rules of expressions take the reader of those in brackets as a parameter, so that each rule is proved by itself.
 
-ghost use Rattle.bq_grammar.specs.Turns.{Reads};
+ghost use Rattle.std.specs.Prelude.{[], ◌∷◌, Ok};
+ghost use Rattle.bq_grammar.specs.Turns.{Reads, ◌>>=◌ as and_then};
 ghost use Rattle.bq_grammar.specs.Turns as turns;
 ghost use Rattle.bq_grammar.specs.Reading as spec;
 ghost use Rattle.bq_grammar.specs.declared.tree.Nested.TheVariants.{Test};
 ghost use Rattle.bq_expression.specs.Nested.{ReadsNested};
 
+use crate::steps::{closed, only};
 use bq_grammar::{Expr, Nested, Refusal};
 use bq_source::TokenKind;
 use bq_tokens::Tokens;
@@ -28,17 +30,34 @@ impl<F: Fn(Global, &mut Tokens<'_>, usize, Nested) -> Result<Expr, Refusal>> Gra
         (self.phrase)(self.alloc, tokens, self.depth, which)
     }
 
-    /// The tests found, and all further ones up to the closing bracket.
+    /// The value, and what stands after a token of this kind.
+    pub fn beside<T: Drop>(
+        &self,
+        tokens: &mut Tokens<'_>,
+        value: T,
+        kind: TokenKind,
+        which: Nested,
+    ) -> Result<(T, Expr), Refusal>
+        requires { ReadsNested self.now.depth (F.pre self.now.phrase) (F.post self.now.phrase) }
+        ensures { Reads (and_then (turns.expect kind tokens.old) (λ _ us. and_then (spec.phrase self.now.depth which us) (λ x rest. Ok ((value, x), rest)))) result tokens.new }
+    {
+        tokens.expect(kind)?;
+        let next = self.nested(tokens, which)?;
+        Ok((value, next))
+    }
+
+    /// The first test, and all further ones up to the closing bracket.
     #[tactic(auto, using(crate::proofs::LoopTurns::turns_more, crate::proofs::LoopTurns::turns_over), unfolding(bq_grammar::specs::Turns::listed_from))]
     pub fn listed(
         &self,
         tokens: &mut Tokens<'_>,
         close: TokenKind,
-        mut found: Items<Expr>,
+        first: Expr,
     ) -> Result<Items<Expr>, Refusal>
         requires { ReadsNested self.now.depth (F.pre self.now.phrase) (F.post self.now.phrase) }
-        ensures { Reads (turns.listed_from close (spec.phrase self.now.depth Test) found tokens.old) result tokens.new }
+        ensures { Reads (turns.listed_from close (spec.phrase self.now.depth Test) (first ∷ []) tokens.old) result tokens.new }
     {
+        let mut found = only(self.alloc, first)?;
         // Each turn takes a token.
         for _turn in 0..tokens.left() {
             if tokens.eat(close) {
@@ -46,8 +65,7 @@ impl<F: Fn(Global, &mut Tokens<'_>, usize, Nested) -> Result<Expr, Refusal>> Gra
             }
             found.push(self.nested(tokens, Nested::Test)?)?;
             if !tokens.eat(TokenKind::Comma) {
-                tokens.expect(close)?;
-                return Ok(found);
+                return closed(tokens, close, found);
             }
         }
         Err(Refusal::Syntax)

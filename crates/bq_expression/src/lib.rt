@@ -15,10 +15,12 @@
 //! start; `proofs/LoopTurns.antt` has the two lemmas that this takes.
 //!
 //! A tree that is held while more is read stands in a box, for the proof: where the rest is refused, to let go of a box is one step,
-//! and to let go of a tree in place is one for each of its variants.
+//! and to let go of a tree in place is one for each of its variants. So do functions over any value, as those of `steps`: they hold
+//! what was read while they look at a token more.
 //!
 //! In reading order:
 //!
+//! - `steps`: steps that several productions share;
 //! - `variables`: the variables of a `for`;
 //! - `grammar`: the reader of what stands in brackets, and lists of it;
 //! - `operands`, `suffixes`, `binary`: the productions, from what binds tightest;
@@ -29,8 +31,10 @@ mod binary;
 mod expr;
 mod grammar;
 mod operands;
+mod steps;
 mod suffixes;
 mod variables;
 
 pub use expr::{expr_list, phrase};
+pub use steps::{closed, only};
 pub use variables::{var, vars};

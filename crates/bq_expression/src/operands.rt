@@ -1,6 +1,6 @@
 //! Operands: names, literals, and what stands in brackets.
 
-ghost use Rattle.std.specs.Prelude.{[], ◌∷◌};
+ghost use Rattle.std.specs.Prelude.{◌≡◌, [], ◌∷◌};
 ghost use Rattle.bq_grammar.specs.Turns.{Reads};
 ghost use Rattle.bq_grammar.specs.Turns as turns;
 ghost use Rattle.bq_grammar.specs.Reading as spec;
@@ -9,12 +9,20 @@ ghost use Rattle.bq_source.specs.declared.token.TokenKind.TheVariants as kind;
 ghost use Rattle.bq_expression.specs.Nested.{ReadsNested};
 
 use crate::grammar::Grammar;
+use crate::steps::{closed, only};
 use crate::variables::vars;
 use bq_grammar::{Clause, Expr, Nested, Pair, Refusal};
 use bq_source::TokenKind;
 use bq_tokens::Tokens;
 use sqlite_items::{Boxed, Items};
 use std::alloc::Global;
+
+/// A clause of a comprehension comes next.
+fn sees_clause(tokens: &Tokens<'_>) -> bool
+    ensures { result ≡ spec.begins_clause tokens.now }
+{
+    tokens.sees(TokenKind::For) || tokens.sees(TokenKind::If)
+}
 
 impl<F: Fn(Global, &mut Tokens<'_>, usize, Nested) -> Result<Expr, Refusal>> Grammar<F> {
     /// Pair = Test ':' Test
@@ -23,13 +31,9 @@ impl<F: Fn(Global, &mut Tokens<'_>, usize, Nested) -> Result<Expr, Refusal>> Gra
         requires { ReadsNested self.now.depth (F.pre self.now.phrase) (F.post self.now.phrase) }
         ensures { Reads (spec.pair (spec.phrase self.now.depth) (spec.variables_to self.now.depth) tokens.old) result tokens.new }
     {
-        let key = Boxed::new(self.alloc, self.nested(tokens, Nested::Test)?)?;
-        tokens.expect(TokenKind::Colon)?;
-        let value = self.nested(tokens, Nested::Test)?;
-        Ok(Pair {
-            key: key.into_inner(),
-            value,
-        })
+        let key = self.nested(tokens, Nested::Test)?;
+        let (key, value) = self.beside(tokens, key, TokenKind::Colon, Nested::Test)?;
+        Ok(Pair { key, value })
     }
 
     /// ForClause = 'for' Vars 'in' Or
@@ -40,8 +44,8 @@ impl<F: Fn(Global, &mut Tokens<'_>, usize, Nested) -> Result<Expr, Refusal>> Gra
     {
         tokens.expect(TokenKind::For)?;
         let variables = vars(self.alloc, tokens, self.depth)?;
-        tokens.expect(TokenKind::In)?;
-        Ok(Clause::For(variables, self.nested(tokens, Nested::Or)?))
+        let (variables, iterable) = self.beside(tokens, variables, TokenKind::In, Nested::Or)?;
+        Ok(Clause::For(variables, iterable))
     }
 
     /// Clause = ForClause | 'if' Or
@@ -57,6 +61,17 @@ impl<F: Fn(Global, &mut Tokens<'_>, usize, Nested) -> Result<Expr, Refusal>> Gra
         }
     }
 
+    /// ')' | ',' [ Test { ',' Test } [','] ] ')', after the first test
+    fn parens_after(&self, tokens: &mut Tokens<'_>, first: Expr) -> Result<Expr, Refusal>
+        requires { ReadsNested self.now.depth (F.pre self.now.phrase) (F.post self.now.phrase) }
+        ensures { Reads (spec.parens_after (spec.phrase self.now.depth) (spec.variables_to self.now.depth) first tokens.old) result tokens.new }
+    {
+        if tokens.eat(TokenKind::Comma) {
+            return Ok(Expr::Tuple(self.listed(tokens, TokenKind::RightParen, first)?));
+        }
+        closed(tokens, TokenKind::RightParen, first)
+    }
+
     /// '(' ')' | '(' Test ')' | '(' Test ',' [ Test { ',' Test } [','] ] ')', after the first bracket
     #[tactic(auto, unfolding(bq_grammar::specs::Reading::in_parens))]
     fn in_parens(&self, tokens: &mut Tokens<'_>) -> Result<Expr, Refusal>
@@ -67,15 +82,9 @@ impl<F: Fn(Global, &mut Tokens<'_>, usize, Nested) -> Result<Expr, Refusal>> Gra
             return Ok(Expr::Tuple(Items::new(self.alloc)));
         }
         let first = self.nested(tokens, Nested::Test)?;
-        if !tokens.eat(TokenKind::Comma) {
-            let first = Boxed::new(self.alloc, first)?;
-            tokens.expect(TokenKind::RightParen)?;
-            return Ok(first.into_inner());
-        }
-        let mut found = Items::new(self.alloc);
-        found.push(first)?;
-        Ok(Expr::Tuple(self.listed(tokens, TokenKind::RightParen, found)?))
+        self.parens_after(tokens, first)
     }
+
     /// The clauses found, and all further ones.
     #[tactic(auto, using(crate::proofs::LoopTurns::turns_more, crate::proofs::LoopTurns::turns_over), unfolding(bq_grammar::specs::Turns::repeat))]
     fn further_clauses(
@@ -88,7 +97,7 @@ impl<F: Fn(Global, &mut Tokens<'_>, usize, Nested) -> Result<Expr, Refusal>> Gra
     {
         // Each turn takes a token.
         for _turn in 0..tokens.left() {
-            if !(tokens.sees(TokenKind::For) || tokens.sees(TokenKind::If)) {
+            if !sees_clause(tokens) {
                 return Ok(found);
             }
             found.push(self.clause(tokens)?)?;
@@ -102,9 +111,8 @@ impl<F: Fn(Global, &mut Tokens<'_>, usize, Nested) -> Result<Expr, Refusal>> Gra
         requires { ReadsNested self.now.depth (F.pre self.now.phrase) (F.post self.now.phrase) }
         ensures { Reads (spec.clauses (spec.phrase self.now.depth) (spec.variables_to self.now.depth) tokens.old) result tokens.new }
     {
-        let mut found = Items::new(self.alloc);
-        found.push(self.for_clause(tokens)?)?;
-        self.further_clauses(tokens, found)
+        let first = self.for_clause(tokens)?;
+        self.further_clauses(tokens, only(self.alloc, first)?)
     }
 
     /// A comprehension's clauses, and its closing bracket.
@@ -118,8 +126,7 @@ impl<F: Fn(Global, &mut Tokens<'_>, usize, Nested) -> Result<Expr, Refusal>> Gra
         ensures { Reads (spec.comprehension (spec.phrase self.now.depth) (spec.variables_to self.now.depth) close tokens.old) result tokens.new }
     {
         let clauses = self.clauses(tokens)?;
-        tokens.expect(close)?;
-        Ok(clauses)
+        closed(tokens, close, clauses)
     }
 
     /// The items of a list in brackets after the first.
@@ -132,13 +139,23 @@ impl<F: Fn(Global, &mut Tokens<'_>, usize, Nested) -> Result<Expr, Refusal>> Gra
         requires { ReadsNested self.now.depth (F.pre self.now.phrase) (F.post self.now.phrase) }
         ensures { Reads (spec.items_after close (spec.phrase self.now.depth Test) first tokens.old) result tokens.new }
     {
-        let mut found = Items::new(self.alloc);
-        found.push(first)?;
         if tokens.eat(TokenKind::Comma) {
-            return self.listed(tokens, close, found);
+            return self.listed(tokens, close, first);
         }
-        tokens.expect(close)?;
-        Ok(found)
+        closed(tokens, close, only(self.alloc, first)?)
+    }
+
+    /// What stands in square brackets after the first test.
+    fn brackets_after(&self, tokens: &mut Tokens<'_>, first: Expr) -> Result<Expr, Refusal>
+        requires { ReadsNested self.now.depth (F.pre self.now.phrase) (F.post self.now.phrase) }
+        ensures { Reads (spec.brackets_after (spec.phrase self.now.depth) (spec.variables_to self.now.depth) first tokens.old) result tokens.new }
+    {
+        if tokens.sees(TokenKind::For) {
+            let element = Boxed::new(self.alloc, first)?;
+            let clauses = self.comprehension(tokens, TokenKind::RightBracket)?;
+            return Ok(Expr::ListComprehension(element, clauses));
+        }
+        Ok(Expr::List(self.tests_after(tokens, TokenKind::RightBracket, first)?))
     }
 
     /// '[' [ Test { ',' Test } [','] ] ']' | '[' Test Clauses ']', after the first bracket
@@ -151,24 +168,16 @@ impl<F: Fn(Global, &mut Tokens<'_>, usize, Nested) -> Result<Expr, Refusal>> Gra
             return Ok(Expr::List(Items::new(self.alloc)));
         }
         let first = self.nested(tokens, Nested::Test)?;
-        if tokens.sees(TokenKind::For) {
-            let element = Boxed::new(self.alloc, first)?;
-            let clauses = self.comprehension(tokens, TokenKind::RightBracket)?;
-            return Ok(Expr::ListComprehension(element, clauses));
-        }
-        Ok(Expr::List(self.tests_after(tokens, TokenKind::RightBracket, first)?))
+        self.brackets_after(tokens, first)
     }
 
-    /// The pairs found, and all further ones up to the closing brace.
+    /// The first pair, and all further ones up to the closing brace.
     #[tactic(auto, using(crate::proofs::LoopTurns::turns_more, crate::proofs::LoopTurns::turns_over), unfolding(bq_grammar::specs::Turns::listed_from))]
-    fn listed_pairs(
-        &self,
-        tokens: &mut Tokens<'_>,
-        mut found: Items<Pair>,
-    ) -> Result<Items<Pair>, Refusal>
+    fn listed_pairs(&self, tokens: &mut Tokens<'_>, first: Pair) -> Result<Items<Pair>, Refusal>
         requires { ReadsNested self.now.depth (F.pre self.now.phrase) (F.post self.now.phrase) }
-        ensures { Reads (turns.listed_from kind.RightBrace (spec.pair (spec.phrase self.now.depth) (spec.variables_to self.now.depth)) found tokens.old) result tokens.new }
+        ensures { Reads (turns.listed_from kind.RightBrace (spec.pair (spec.phrase self.now.depth) (spec.variables_to self.now.depth)) (first ∷ []) tokens.old) result tokens.new }
     {
+        let mut found = only(self.alloc, first)?;
         // Each turn takes a token.
         for _turn in 0..tokens.left() {
             if tokens.eat(TokenKind::RightBrace) {
@@ -176,8 +185,7 @@ impl<F: Fn(Global, &mut Tokens<'_>, usize, Nested) -> Result<Expr, Refusal>> Gra
             }
             found.push(self.pair(tokens)?)?;
             if !tokens.eat(TokenKind::Comma) {
-                tokens.expect(TokenKind::RightBrace)?;
-                return Ok(found);
+                return closed(tokens, TokenKind::RightBrace, found);
             }
         }
         Err(Refusal::Syntax)
@@ -188,13 +196,23 @@ impl<F: Fn(Global, &mut Tokens<'_>, usize, Nested) -> Result<Expr, Refusal>> Gra
         requires { ReadsNested self.now.depth (F.pre self.now.phrase) (F.post self.now.phrase) }
         ensures { Reads (spec.items_after kind.RightBrace (spec.pair (spec.phrase self.now.depth) (spec.variables_to self.now.depth)) first tokens.old) result tokens.new }
     {
-        let mut found = Items::new(self.alloc);
-        found.push(first)?;
         if tokens.eat(TokenKind::Comma) {
-            return self.listed_pairs(tokens, found);
+            return self.listed_pairs(tokens, first);
         }
-        tokens.expect(TokenKind::RightBrace)?;
-        Ok(found)
+        closed(tokens, TokenKind::RightBrace, only(self.alloc, first)?)
+    }
+
+    /// What stands in braces after the first pair.
+    fn braces_after(&self, tokens: &mut Tokens<'_>, first: Pair) -> Result<Expr, Refusal>
+        requires { ReadsNested self.now.depth (F.pre self.now.phrase) (F.post self.now.phrase) }
+        ensures { Reads (spec.braces_after (spec.phrase self.now.depth) (spec.variables_to self.now.depth) first tokens.old) result tokens.new }
+    {
+        if tokens.sees(TokenKind::For) {
+            let element = Boxed::new(self.alloc, first)?;
+            let clauses = self.comprehension(tokens, TokenKind::RightBrace)?;
+            return Ok(Expr::DictComprehension(element, clauses));
+        }
+        Ok(Expr::Dict(self.pairs_after(tokens, first)?))
     }
 
     /// '{' [ Pair { ',' Pair } [','] ] '}' | '{' Pair Clauses '}', after the first brace
@@ -207,12 +225,7 @@ impl<F: Fn(Global, &mut Tokens<'_>, usize, Nested) -> Result<Expr, Refusal>> Gra
             return Ok(Expr::Dict(Items::new(self.alloc)));
         }
         let first = self.pair(tokens)?;
-        if tokens.sees(TokenKind::For) {
-            let element = Boxed::new(self.alloc, first)?;
-            let clauses = self.comprehension(tokens, TokenKind::RightBrace)?;
-            return Ok(Expr::DictComprehension(element, clauses));
-        }
-        Ok(Expr::Dict(self.pairs_after(tokens, first)?))
+        self.braces_after(tokens, first)
     }
 
     /// Operand = identifier | int | string | what stands in brackets

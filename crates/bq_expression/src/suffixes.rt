@@ -12,6 +12,7 @@ ghost use Rattle.bq_source.specs.declared.token.TokenKind.TheVariants as kind;
 ghost use Rattle.bq_expression.specs.Nested.{ReadsNested};
 
 use crate::grammar::Grammar;
+use crate::steps::{closed, only};
 use bq_grammar::{Allowed, Argument, ArgumentKind, Expr, Identifier, Nested, Refusal, Suffix};
 use bq_source::{Bytes, TokenKind};
 use bq_tokens::Tokens;
@@ -139,8 +140,7 @@ impl<F: Fn(Global, &mut Tokens<'_>, usize, Nested) -> Result<Expr, Refusal>> Gra
             found.push(argument)?;
             allowed = after;
             if !tokens.eat(TokenKind::Comma) {
-                tokens.expect(TokenKind::RightParen)?;
-                return Ok(found);
+                return closed(tokens, TokenKind::RightParen, found);
             }
         }
         Err(Refusal::Syntax)
@@ -171,11 +171,11 @@ impl<F: Fn(Global, &mut Tokens<'_>, usize, Nested) -> Result<Expr, Refusal>> Gra
     {
         if tokens.eat(TokenKind::Colon) {
             let step = self.optional_test(tokens)?;
-            tokens.expect(TokenKind::RightBracket)?;
-            return Ok(Suffix::Slice(start, end, step));
+            let slice = Suffix::Slice(start, end, step);
+            return closed(tokens, TokenKind::RightBracket, slice);
         }
-        tokens.expect(TokenKind::RightBracket)?;
-        Ok(Suffix::Slice(start, end, None))
+        let slice = Suffix::Slice(start, end, None);
+        closed(tokens, TokenKind::RightBracket, slice)
     }
 
     /// After the first colon of a slice.
@@ -229,8 +229,7 @@ impl<F: Fn(Global, &mut Tokens<'_>, usize, Nested) -> Result<Expr, Refusal>> Gra
         if !tokens.sees(TokenKind::Comma) {
             return Ok(first);
         }
-        let mut found = Items::new(self.alloc);
-        found.push(first)?;
+        let mut found = only(self.alloc, first)?;
         found.push(self.after_comma(tokens)?)?;
         Ok(Expr::Tuple(self.further_tests(tokens, found)?))
     }
@@ -250,8 +249,7 @@ impl<F: Fn(Global, &mut Tokens<'_>, usize, Nested) -> Result<Expr, Refusal>> Gra
             return self.slice_after(tokens, Some(start));
         }
         let index = Boxed::new(self.alloc, self.expr_after(tokens, first)?)?;
-        tokens.expect(TokenKind::RightBracket)?;
-        Ok(Suffix::Index(index))
+        closed(tokens, TokenKind::RightBracket, Suffix::Index(index))
     }
 
     /// '.' identifier [ '(' Arguments ')' ], after the dot

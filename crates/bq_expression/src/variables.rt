@@ -8,6 +8,7 @@ ghost use Rattle.bq_grammar.specs.declared.tree.Target.TheVariants as target;
 ghost use Rattle.bq_source.specs.declared.token.TokenKind.TheVariants as kind;
 ghost use Rattle.bq_expression.specs.Nested.{ReadsVar};
 
+use crate::steps::{closed, only};
 use bq_grammar::{Refusal, Target};
 use bq_source::TokenKind;
 use bq_tokens::Tokens;
@@ -31,17 +32,18 @@ impl<F: Fn(Global, &mut Tokens<'_>, usize) -> Result<Target, Refusal>> Variables
         (self.var)(self.alloc, tokens, self.depth)
     }
 
-    /// The variables found, and all further ones up to the closing bracket.
+    /// The first variable, and all further ones up to the closing bracket.
     #[tactic(auto, using(crate::proofs::LoopTurns::turns_more, crate::proofs::LoopTurns::turns_over), unfolding(bq_grammar::specs::Turns::listed_from))]
     fn listed(
         &self,
         tokens: &mut Tokens<'_>,
         close: TokenKind,
-        mut found: Items<Target>,
+        first: Target,
     ) -> Result<Items<Target>, Refusal>
         requires { ReadsVar self.now.depth (F.pre self.now.var) (F.post self.now.var) }
-        ensures { Reads (turns.listed_from close (spec.var_to self.now.depth) found tokens.old) result tokens.new }
+        ensures { Reads (turns.listed_from close (spec.var_to self.now.depth) (first ∷ []) tokens.old) result tokens.new }
     {
+        let mut found = only(self.alloc, first)?;
         // Each turn takes a token.
         for _turn in 0..tokens.left() {
             if tokens.eat(close) {
@@ -49,8 +51,7 @@ impl<F: Fn(Global, &mut Tokens<'_>, usize) -> Result<Target, Refusal>> Variables
             }
             found.push(self.nested(tokens)?)?;
             if !tokens.eat(TokenKind::Comma) {
-                tokens.expect(close)?;
-                return Ok(found);
+                return closed(tokens, close, found);
             }
         }
         Err(Refusal::Syntax)
@@ -63,13 +64,21 @@ impl<F: Fn(Global, &mut Tokens<'_>, usize) -> Result<Target, Refusal>> Variables
         ensures { Reads (spec.var_in_parens (spec.var_to self.now.depth) tokens.old) result tokens.new }
     {
         let first = self.nested(tokens)?;
-        if !tokens.eat(TokenKind::Comma) {
-            tokens.expect(TokenKind::RightParen)?;
-            return Ok(first);
+        if tokens.eat(TokenKind::Comma) {
+            return Ok(Target::Tuple(self.listed(tokens, TokenKind::RightParen, first)?));
         }
-        let mut found = Items::new(self.alloc);
-        found.push(first)?;
-        Ok(Target::Tuple(self.listed(tokens, TokenKind::RightParen, found)?))
+        closed(tokens, TokenKind::RightParen, first)
+    }
+
+    /// The items of a list in brackets after the first.
+    fn list_after(&self, tokens: &mut Tokens<'_>, first: Target) -> Result<Items<Target>, Refusal>
+        requires { ReadsVar self.now.depth (F.pre self.now.var) (F.post self.now.var) }
+        ensures { Reads (spec.items_after kind.RightBracket (spec.var_to self.now.depth) first tokens.old) result tokens.new }
+    {
+        if tokens.eat(TokenKind::Comma) {
+            return self.listed(tokens, TokenKind::RightBracket, first);
+        }
+        closed(tokens, TokenKind::RightBracket, only(self.alloc, first)?)
     }
 
     /// '[' Var { ',' Var } [','] ']', after the first bracket
@@ -78,13 +87,8 @@ impl<F: Fn(Global, &mut Tokens<'_>, usize) -> Result<Target, Refusal>> Variables
         requires { ReadsVar self.now.depth (F.pre self.now.var) (F.post self.now.var) }
         ensures { Reads (spec.var_in_brackets (spec.var_to self.now.depth) tokens.old) result tokens.new }
     {
-        let mut found = Items::new(self.alloc);
-        found.push(self.nested(tokens)?)?;
-        if !tokens.eat(TokenKind::Comma) {
-            tokens.expect(TokenKind::RightBracket)?;
-            return Ok(Target::List(found));
-        }
-        Ok(Target::List(self.listed(tokens, TokenKind::RightBracket, found)?))
+        let first = self.nested(tokens)?;
+        Ok(Target::List(self.list_after(tokens, first)?))
     }
 
     /// Var = identifier | '(' Vars [','] ')' | '[' Vars [','] ']'
@@ -160,8 +164,7 @@ pub fn vars(alloc: Global, tokens: &mut Tokens<'_>, depth: usize) -> Result<Targ
     if !tokens.sees(TokenKind::Comma) {
         return Ok(first);
     }
-    let mut found = Items::new(alloc);
-    found.push(first)?;
+    let mut found = only(alloc, first)?;
     found.push(var_after_comma(alloc, tokens, depth)?)?;
     Ok(Target::Tuple(further_vars(alloc, tokens, depth, found)?))
 }

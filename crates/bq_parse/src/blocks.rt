@@ -1,20 +1,21 @@
 //! Statements with blocks, over the reader of the statements in them.
 
-ghost use Rattle.std.specs.Prelude.{◌≡◌, [], ◌∷◌, IfOk};
-ghost use Rattle.bq_grammar.specs.Turns.{Reads};
+ghost use Rattle.std.specs.Prelude.{Ok};
+ghost use Rattle.bq_grammar.specs.Turns.{Reads, ◌>>=◌ as and_then};
 ghost use Rattle.bq_grammar.specs.Turns as turns;
+ghost use Rattle.bq_grammar.specs.Reading as reading;
 ghost use Rattle.bq_grammar.specs.ReadingStatements as spec;
 ghost use Rattle.bq_source.specs.declared.token.TokenKind.TheVariants as kind;
 ghost use Rattle.bq_parse.specs.Inner.{ReadsStatement};
 
 use crate::parameter_list::parameters;
 use crate::small::simple;
-use bq_expression::{expr_list, phrase, vars};
-use bq_grammar::{Branch, Nested, Refusal, Stmt};
+use bq_expression::{closed, expr_list, only, phrase, vars};
+use bq_grammar::{Branch, Expr, Identifier, Nested, Parameter, Refusal, Stmt};
 use bq_source::TokenKind;
 use bq_tokens::Tokens;
 use sqlite_items::Items;
-use std::alloc::{AllocError, Global};
+use std::alloc::Global;
 
 /// The rules of blocks take the reader of the statements in them as a parameter, so that each rule is proved by itself.
 #[derive(Clone, Copy)]
@@ -25,15 +26,6 @@ pub struct Blocks<F> {
     /// The same, in a block.
     pub inside: usize,
     pub statement: F,
-}
-
-/// One statement, as the only one of a block.
-fn alone(alloc: Global, statement: Stmt) -> Result<Items<Stmt>, AllocError>
-    ensures { IfOk result (λ xs. xs ≡ statement ∷ []) }
-{
-    let mut found = Items::new(alloc);
-    found.push(statement)?;
-    Ok(found)
 }
 
 impl<F: Fn(Global, &mut Tokens<'_>, usize) -> Result<Stmt, Refusal>> Blocks<F> {
@@ -72,9 +64,8 @@ impl<F: Fn(Global, &mut Tokens<'_>, usize) -> Result<Stmt, Refusal>> Blocks<F> {
     {
         tokens.expect(TokenKind::Indent)?;
         let first = self.nested(tokens)?;
-        let statements = self.further(tokens, alone(self.alloc, first)?)?;
-        tokens.expect(TokenKind::Outdent)?;
-        Ok(statements)
+        let statements = self.further(tokens, only(self.alloc, first)?)?;
+        closed(tokens, TokenKind::Outdent, statements)
     }
 
     /// Suite = newline indent Stmt { Stmt } outdent | Simple
@@ -87,7 +78,21 @@ impl<F: Fn(Global, &mut Tokens<'_>, usize) -> Result<Stmt, Refusal>> Blocks<F> {
             return self.block(tokens);
         }
         let line = simple(self.alloc, tokens, self.depth)?;
-        Ok(alone(self.alloc, Stmt::Simple(line))?)
+        Ok(only(self.alloc, Stmt::Simple(line))?)
+    }
+
+    /// The value, and ':' Suite
+    fn beside<T: Drop>(
+        &self,
+        tokens: &mut Tokens<'_>,
+        value: T,
+    ) -> Result<(T, Items<Stmt>), Refusal>
+        requires { ReadsStatement self.now.inside (F.pre self.now.statement) (F.post self.now.statement) }
+        ensures { Reads (and_then (turns.expect kind.Colon tokens.old) (λ _ us. and_then (spec.suite self.now.depth (spec.statement self.now.inside) us) (λ xs rest. Ok ((value, xs), rest)))) result tokens.new }
+    {
+        tokens.expect(TokenKind::Colon)?;
+        let block = self.suite(tokens)?;
+        Ok((value, block))
     }
 
     /// Branch = Test ':' Suite
@@ -97,11 +102,8 @@ impl<F: Fn(Global, &mut Tokens<'_>, usize) -> Result<Stmt, Refusal>> Blocks<F> {
         ensures { Reads (spec.branch self.now.depth (spec.statement self.now.inside) tokens.old) result tokens.new }
     {
         let condition = phrase(self.alloc, tokens, self.depth, Nested::Test)?;
-        tokens.expect(TokenKind::Colon)?;
-        Ok(Branch {
-            condition,
-            block: self.suite(tokens)?,
-        })
+        let (condition, block) = self.beside(tokens, condition)?;
+        Ok(Branch { condition, block })
     }
 
     /// 'elif' Branch
@@ -153,10 +155,18 @@ impl<F: Fn(Global, &mut Tokens<'_>, usize) -> Result<Stmt, Refusal>> Blocks<F> {
         requires { ReadsStatement self.now.inside (F.pre self.now.statement) (F.post self.now.statement) }
         ensures { Reads (spec.if_stmt self.now.depth (spec.statement self.now.inside) tokens.old) result tokens.new }
     {
-        let mut found = Items::new(self.alloc);
-        found.push(self.branch(tokens)?)?;
-        let branches = self.elifs(tokens, found)?;
+        let first = self.branch(tokens)?;
+        let branches = self.elifs(tokens, only(self.alloc, first)?)?;
         Ok(Stmt::If(branches, self.else_suite(tokens)?))
+    }
+
+    /// The value, and 'in' Expr
+    fn iterated<T: Drop>(&self, tokens: &mut Tokens<'_>, value: T) -> Result<(T, Expr), Refusal>
+        ensures { Reads (and_then (turns.expect kind.In tokens.old) (λ _ us. and_then (spec.expr_to self.now.depth us) (λ x rest. Ok ((value, x), rest)))) result tokens.new }
+    {
+        tokens.expect(TokenKind::In)?;
+        let iterable = expr_list(self.alloc, tokens, self.depth)?;
+        Ok((value, iterable))
     }
 
     /// 'for' Vars 'in' Expr ':' Suite, after 'for'
@@ -166,10 +176,19 @@ impl<F: Fn(Global, &mut Tokens<'_>, usize) -> Result<Stmt, Refusal>> Blocks<F> {
         ensures { Reads (spec.for_stmt self.now.depth (spec.statement self.now.inside) tokens.old) result tokens.new }
     {
         let variables = vars(self.alloc, tokens, self.depth)?;
-        tokens.expect(TokenKind::In)?;
-        let iterable = expr_list(self.alloc, tokens, self.depth)?;
-        tokens.expect(TokenKind::Colon)?;
-        Ok(Stmt::For(variables, iterable, self.suite(tokens)?))
+        let header = self.iterated(tokens, variables)?;
+        let ((variables, iterable), block) = self.beside(tokens, header)?;
+        Ok(Stmt::For(variables, iterable, block))
+    }
+
+    /// identifier '(' Parameters
+    fn signature(&self, tokens: &mut Tokens<'_>) -> Result<(Identifier, Items<Parameter>), Refusal>
+        ensures { Reads (and_then (reading.word tokens.old) (λ n mid. and_then (turns.expect kind.LeftParen mid) (λ _ us. and_then (spec.parameters self.now.depth us) (λ ps rest. Ok ((n, ps), rest))))) result tokens.new }
+    {
+        let name = tokens.word(self.alloc)?;
+        tokens.expect(TokenKind::LeftParen)?;
+        let parameters = parameters(self.alloc, tokens, self.depth)?;
+        Ok((name, parameters))
     }
 
     /// 'def' identifier '(' Parameters ':' Suite, after 'def'
@@ -178,11 +197,9 @@ impl<F: Fn(Global, &mut Tokens<'_>, usize) -> Result<Stmt, Refusal>> Blocks<F> {
         requires { ReadsStatement self.now.inside (F.pre self.now.statement) (F.post self.now.statement) }
         ensures { Reads (spec.def_stmt self.now.depth (spec.statement self.now.inside) tokens.old) result tokens.new }
     {
-        let name = tokens.word(self.alloc)?;
-        tokens.expect(TokenKind::LeftParen)?;
-        let parameters = parameters(self.alloc, tokens, self.depth)?;
-        tokens.expect(TokenKind::Colon)?;
-        Ok(Stmt::Def(name, parameters, self.suite(tokens)?))
+        let signature = self.signature(tokens)?;
+        let ((name, parameters), block) = self.beside(tokens, signature)?;
+        Ok(Stmt::Def(name, parameters, block))
     }
 
     /// Simple, as a statement

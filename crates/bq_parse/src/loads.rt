@@ -6,6 +6,7 @@ ghost use Rattle.bq_grammar.specs.Turns as turns;
 ghost use Rattle.bq_grammar.specs.ReadingStatements as spec;
 ghost use Rattle.bq_source.specs.declared.token.TokenKind.TheVariants as kind;
 
+use bq_expression::closed;
 use bq_grammar::{Identifier, Load, LoadClause, Refusal, SmallKind, is_identifier};
 use bq_source::{Bytes, TokenKind};
 use bq_tokens::Tokens;
@@ -69,8 +70,7 @@ fn load_clauses(alloc: Global, tokens: &mut Tokens<'_>) -> Result<Items<LoadClau
         }
         found.push(load_clause(alloc, tokens)?)?;
         if !tokens.eat(TokenKind::Comma) {
-            tokens.expect(TokenKind::RightParen)?;
-            return Ok(found);
+            return closed(tokens, TokenKind::RightParen, found);
         }
     }
     Err(Refusal::Syntax)
@@ -87,7 +87,7 @@ pub fn load(alloc: Global, tokens: &mut Tokens<'_>) -> Result<SmallKind, Refusal
         let clauses = load_clauses(alloc, tokens)?;
         return Ok(SmallKind::Load(Load { label, clauses }));
     }
-    tokens.expect(TokenKind::RightParen)?;
     let clauses = Items::new(alloc);
-    Ok(SmallKind::Load(Load { label, clauses }))
+    let load = SmallKind::Load(Load { label, clauses });
+    closed(tokens, TokenKind::RightParen, load)
 }

@@ -6,7 +6,7 @@ ghost use Rattle.bq_grammar.specs.Turns.{Reads};
 ghost use Rattle.bq_grammar.specs.Statements as grammar;
 ghost use Rattle.bq_grammar.specs.ReadingStatements as spec;
 
-use bq_expression::phrase;
+use bq_expression::{closed, phrase};
 use bq_grammar::{AllowedParameters, Nested, Parameter, ParameterKind, Refusal};
 use bq_source::TokenKind;
 use bq_tokens::Tokens;
@@ -160,7 +160,7 @@ pub fn parameters(
         found.push(parameter)?;
         allowed = after;
         if !tokens.eat(TokenKind::Comma) {
-            tokens.expect(TokenKind::RightParen)?;
+            let found = closed(tokens, TokenKind::RightParen, found)?;
             return ended(found, allowed);
         }
     }

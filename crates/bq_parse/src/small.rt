@@ -6,7 +6,7 @@ ghost use Rattle.bq_grammar.specs.ReadingStatements as spec;
 
 use crate::loads::load;
 use crate::targets::{augmented_target, target};
-use bq_expression::expr_list;
+use bq_expression::{closed, expr_list};
 use bq_grammar::{Expr, Refusal, SmallKind, SmallStmt};
 use bq_source::TokenKind;
 use bq_tokens::Tokens;
@@ -128,8 +128,7 @@ pub fn simple(
     for _turn in 0..tokens.left() {
         found.push(small_stmt(alloc, tokens, depth)?)?;
         if !tokens.eat(TokenKind::Semicolon) {
-            tokens.expect(TokenKind::Newline)?;
-            return Ok(found);
+            return closed(tokens, TokenKind::Newline, found);
         }
         if tokens.eat(TokenKind::Newline) {
             return Ok(found);

@@ -1,5 +1,7 @@
 //! Statements, with the reader of those in blocks.
 
+ghost use Rattle.std.specs.Prelude.{◌≡◌, ◌<◌, length, MatchResult};
+ghost use Rattle.bq_grammar.specs.declared.refusal.Refusal.TheVariants.{Syntax};
 ghost use Rattle.bq_grammar.specs.Turns.{Reads};
 ghost use Rattle.bq_grammar.specs.ReadingStatements as spec;
 ghost use Rattle.bq_parse.specs.Makes.{Makes};
@@ -25,6 +27,17 @@ pub fn statement(alloc: Global, tokens: &mut Tokens<'_>, depth: usize) -> Result
     .stmt(tokens)
 }
 
+/// The value, where no token is left.
+fn whole<T: Drop>(tokens: &Tokens<'_>, value: T) -> Result<T, Refusal>
+    ensures { MatchResult result (λ x. (length tokens.now ≡ 0) × (x ≡ value)) (λ why. (0 < length tokens.now) × (why ≡ Syntax)) }
+{
+    if tokens.left() == 0 {
+        Ok(value)
+    } else {
+        Err(Refusal::Syntax)
+    }
+}
+
 /// The top-level statement that all of these tokens are.
 #[tactic(auto, using(crate::proofs::Taken::none_left, crate::proofs::Taken::some_left), unfolding(bq_grammar::specs::ReadingStatements::top_level))]
 pub fn top_level(alloc: Global, tokens: &mut Tokens<'_>, depth: usize) -> Result<TopLevel, Refusal>
@@ -32,8 +45,5 @@ pub fn top_level(alloc: Global, tokens: &mut Tokens<'_>, depth: usize) -> Result
 {
     let line = tokens.line();
     let statement = statement(alloc, tokens, depth)?;
-    match tokens.peek() {
-        None => Ok(TopLevel { line, statement }),
-        Some(_) => Err(Refusal::Syntax),
-    }
+    whole(tokens, TopLevel { line, statement })
 }

@@ -16,10 +16,6 @@ pub returns-then-eat : goal.returns-then-eat
 unfolding arguments
 returns-then-eat g c = grind (arith, common_steps, turns_more, turns_over)
 
-pub returns-in_err-expect : goal.returns-in_err-expect
-unfolding arguments
-returns-in_err-expect g c = grind (arith, common_steps, turns_more, turns_over)
-
 pub returns-in_err-argument : goal.returns-in_err-argument
 unfolding arguments
 returns-in_err-argument g c = grind (arith, common_steps, turns_more, turns_over)

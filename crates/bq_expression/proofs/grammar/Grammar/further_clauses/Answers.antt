@@ -8,9 +8,9 @@ pub loop-turn-preserved : goal.loop-turn-preserved
 unfolding repeat
 loop-turn-preserved g c = grind (arith, common_steps, turns_more, turns_over)
 
-pub returns-then-not-sees : goal.returns-then-not-sees
+pub returns-then-not-sees_clause : goal.returns-then-not-sees_clause
 unfolding repeat
-returns-then-not-sees g c = grind (arith, common_steps, turns_more, turns_over)
+returns-then-not-sees_clause g c = grind (arith, common_steps, turns_more, turns_over)
 
 pub returns : goal.returns
 unfolding repeat

@@ -16,10 +16,6 @@ pub returns-then-eat : goal.returns-then-eat
 unfolding listed_from
 returns-then-eat g c = grind (arith, common_steps, turns_more, turns_over)
 
-pub returns-in_err-expect : goal.returns-in_err-expect
-unfolding listed_from
-returns-in_err-expect g c = grind (arith, common_steps, turns_more, turns_over)
-
 pub returns-in_err-pair : goal.returns-in_err-pair
 unfolding listed_from
 returns-in_err-pair g c = grind (arith, common_steps, turns_more, turns_over)

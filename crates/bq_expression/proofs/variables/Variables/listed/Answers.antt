@@ -20,10 +20,6 @@ pub returns-in_err-nested : goal.returns-in_err-nested
 unfolding listed_from
 returns-in_err-nested g c = grind (arith, common_steps, turns_more, turns_over)
 
-pub returns-in_err-expect : goal.returns-in_err-expect
-unfolding listed_from
-returns-in_err-expect g c = grind (arith, common_steps, turns_more, turns_over)
-
 pub returns : goal.returns
 unfolding listed_from
 returns g c = grind (arith, common_steps, turns_more, turns_over)
