@@ -46,3 +46,10 @@ targets_to-returns-in_err-push g t c = grind (arith, common_steps)
 pub targets_to-returns : goal.targets_to-returns
 unfolding each
 targets_to-returns g t c = grind (arith, common_steps)
+
+pub target_to-returns-in-Index : goal.target_to-returns-in-Index
+target_to-returns-in-Index g t c =
+    let file = c.args.file.now in let visit = expr_to c.args.self.now.depth c.args.file.now in let blocks = c.args.blocks.now in let layers = c.args.layers - 1 in
+    let some : 0 < c.args.layers = omega arith in
+    let opened : out-Target c.args.target.now ≡ Target-F.Target::Index c.get.result.now c.get-in-Index.result.now = first_of (search (rules, the_lemmas), grind (arith, common_steps)) in
+    rw (code_target_layer file visit c.args.layers blocks c.args.target.now c.args.walk.now (λ e. let no : ⊥ = omega (arith, e, some) in no), opened) (c.index_target.ensures (target_to file visit layers blocks))
