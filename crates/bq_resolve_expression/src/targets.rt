@@ -1,6 +1,9 @@
 //! Targets of assignments and loops.
 
 ghost use Rattle.std.specs.Prelude.{[]};
+ghost use Rattle.bq_grammar.specs.declared.tree.Argument.TheOpen.{Target-F};
+ghost use Rattle.bq_grammar.specs.declared.tree.Target.{Target};
+ghost use Rattle.bq_scope.specs.declared.code.CodeTarget.{CodeTarget};
 ghost use Rattle.bq_scope.specs.Visit as visit;
 ghost use Rattle.bq_scope.specs.Expressions as spec;
 ghost use Rattle.bq_resolve_expression.specs.Walks.{Walks, WalksNested};
@@ -17,6 +20,24 @@ use std::alloc::Global;
 impl<F: Fn(Global, &FileNames, usize, &[Block], &mut Walk, &Expr) -> Result<Code, SourceErr>> Rules<
     F,
 > {
+    /// `operand[index]`
+    fn index_target(
+        &self,
+        file: &FileNames,
+        blocks: &[Block],
+        walk: &mut Walk,
+        operand: &Expr,
+        index: &Expr,
+    ) -> Result<CodeTarget, SourceErr>
+        requires { WalksNested self.now.depth (F.pre self.now.visit) (F.post self.now.visit) }
+        ensures { (inner : Target → visit.Visit CodeTarget) → Walks (spec.target_by file.now (spec.expr_to self.now.depth file.now) inner blocks.now (Target-F.Target::Index operand.now index.now) walk.old) result walk.new }
+    {
+        let operand = self.expr(file, blocks, walk, operand)?;
+        let operand = Boxed::new(self.alloc, operand)?;
+        let index = self.expr(file, blocks, walk, index)?;
+        Ok(CodeTarget::Index(operand, Boxed::new(self.alloc, index)?))
+    }
+
     #[cycle(targets)]
     #[tactic(auto, unfolding(bq_scope::specs::Visit::each))]
     fn targets_to(
@@ -57,10 +78,7 @@ impl<F: Fn(Global, &FileNames, usize, &[Block], &mut Walk, &Expr) -> Result<Code
         match target {
             Target::Name(name) => name_target(file, blocks, walk, name),
             Target::Index(operand, index) => {
-                let operand = self.expr(file, blocks, walk, operand.get())?;
-                let operand = Boxed::new(self.alloc, operand)?;
-                let index = self.expr(file, blocks, walk, index.get())?;
-                Ok(CodeTarget::Index(operand, Boxed::new(self.alloc, index)?))
+                self.index_target(file, blocks, walk, operand.get(), index.get())
             }
             Target::Tuple(targets) => {
                 let targets = self.targets_to(file, layers - 1, blocks, walk, targets.as_slice())?;
