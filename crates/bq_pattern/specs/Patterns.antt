@@ -1,5 +1,5 @@
 -- When bytes are taken as a pattern, and when a pattern is found in a text.
-use Rattle.std.specs.Prelude.{◌≡◌, ◌≢◌, ◌⊎◌, ℕ, List, false, IsUtf8, is_some, Bool}
+use Rattle.std.specs.Prelude.{◌≢◌, ◌⊎◌, ℕ, List, false, IsUtf8, is_some, Bool}
 use Rattle.regex_syntax.specs.Verdict.{default_config, Reads, Refuses}
 use Rattle.regex_syntax.specs.Grammar.{Names}
 use Rattle.regex_syntax.specs.declared.Config.{Config}

@@ -5,10 +5,10 @@
 #![tactic(auto)]
 
 ghost use Rattle.std.specs.Prelude.{◌≡◌, map, IfOk, IfErr};
-ghost use Rattle.regex.specs.Bytes.{regex_pattern, regex_source, regex_config, IsReadFromSource};
+ghost use Rattle.regex.specs.Bytes.{matcher_pattern, regex_pattern, regex_source, regex_config, IsReadFromSource};
 ghost use Rattle.bq_pattern.specs.Patterns.{options, IsCause, is_found, cause_of};
 
-use regex::bytes::Regex;
+use regex::bytes::{Matcher, Regex};
 use std::alloc::{AllocError, Global};
 
 /// Why bytes are not taken as a pattern.
@@ -49,6 +49,17 @@ pub fn found_in(alloc: Global, pattern: &Regex, texts: &[Vec<u8>]) -> Result<Vec
     ensures { IfOk result (λ found. found.items ≡ map (λ text. is_found (regex_pattern pattern.now) text.items) texts.now) }
 {
     let mut matcher = pattern.matcher(alloc)?;
+    found_by(alloc, &mut matcher, texts)
+}
+
+// Of each text, whether the matcher's pattern is found in it.
+fn found_by(
+    alloc: Global,
+    matcher: &mut Matcher<'_>,
+    texts: &[Vec<u8>],
+) -> Result<Vec<bool>, AllocError>
+    ensures { IfOk result (λ found. found.items ≡ map (λ text. is_found (matcher_pattern matcher.old) text.items) texts.now) }
+{
     let mut found = Vec::new(alloc);
     for text in texts {
         found.push(matcher.is_match(text))?;

@@ -66,6 +66,14 @@ impl<F: Fn(Global, &mut Tokens<'_>, usize) -> Result<Query, Refusal>> Grammar<F>
         (self.query)(self.alloc, tokens, self.depth)
     }
 
+    /// A query, in a box.
+    fn boxed(&self, tokens: &mut Tokens<'_>) -> Result<Boxed<Query>, Refusal>
+        requires { ReadsQuery self.now.depth (F.pre self.now.query) (F.post self.now.query) }
+        ensures { Reads (spec.query_to self.now.depth tokens.old) result tokens.new }
+    {
+        Ok(Boxed::new(self.alloc, self.nested(tokens)?)?)
+    }
+
     /// ',' Query
     fn after_comma(&self, tokens: &mut Tokens<'_>) -> Result<Query, Refusal>
         requires { ReadsQuery self.now.depth (F.pre self.now.query) (F.post self.now.query) }
@@ -139,7 +147,7 @@ impl<F: Fn(Global, &mut Tokens<'_>, usize) -> Result<Query, Refusal>> Grammar<F>
         ensures { Reads (spec.parenthesized self.now.depth (spec.query_to self.now.depth) tokens.old) result tokens.new }
     {
         tokens.opening(self.depth)?;
-        let query = Boxed::new(self.alloc, self.nested(tokens)?)?;
+        let query = self.boxed(tokens)?;
         tokens.expect(TokenKind::Close)?;
         Ok(Query::Parenthesized(query))
     }
@@ -181,9 +189,9 @@ impl<F: Fn(Global, &mut Tokens<'_>, usize) -> Result<Query, Refusal>> Grammar<F>
         requires { ReadsQuery self.now.depth (F.pre self.now.query) (F.post self.now.query) }
         ensures { Reads (spec.binding (spec.query_to self.now.depth) name tokens.old) result tokens.new }
     {
-        let value = Boxed::new(self.alloc, self.nested(tokens)?)?;
+        let value = self.boxed(tokens)?;
         tokens.expect(TokenKind::In)?;
-        let body = Boxed::new(self.alloc, self.nested(tokens)?)?;
+        let body = self.boxed(tokens)?;
         Ok(Query::Let(name, value, body))
     }
 

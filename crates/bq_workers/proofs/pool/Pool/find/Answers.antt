@@ -1,4 +1,4 @@
-use Rattle.std.proofs.Common.{◌≡◌, get_or, arith, true, false}
+use Rattle.std.proofs.Common.{◌≡◌, get_or, arith, refl, true, false}
 use Rattle.std.proofs.lemmas.List.{get_or_read}
 use Rattle.bq_board.specs.Cycles.{is_cyclic}
 use Rattle.bq_load_order.specs.Shown.{seen, shown}
@@ -18,3 +18,30 @@ returns-clause-outcome g c =
     let read : c.index.result.now ≡ get_or pool.order.pending.items c.args.m 0 = get_or_read pool.order.pending.items c.args.m c.index.result.now (omega (arith, pool.cyclic.wide, pool.plan.wide, c.requires.known)) c.index.ensures 0 in
     let not : is_cyclic pool.graph.now c.args.m ≡ false = pool.cyclic.none c.args.m (omega (arith, c.requires.known, pool.plan.wide)) (omega (arith, read, c.if-index-gt0.false)) in
     found_acyclic (g.E.Evaluate.means pool.evaluator.now) pool.graph.now c.args.m not pool.board.plan pool.plan (seen g.E.Evaluate.see c.in_ok-imports.imports) c.in_ok-imports.ensures.values (shown g.E.Evaluate.see g.E.Evaluate.see_fault c.in_ok-outcome_by.field-0) c.in_ok-outcome_by.ensures
+
+pub imports-requires-clause-seat : goal.imports-requires-clause-seat
+imports-requires-clause-seat g c _ _ = c.requires.seat
+
+pub imports-requires-clause-known : goal.imports-requires-clause-known
+imports-requires-clause-known g c _ _ = c.requires.known
+
+pub imports-requires-clause-holds : goal.imports-requires-clause-holds
+imports-requires-clause-holds g c _ _ = c.requires.holds
+
+pub returns-then-index-gt0-clause-seat : goal.returns-then-index-gt0-clause-seat
+returns-then-index-gt0-clause-seat g c = c.requires.seat
+
+pub returns-then-index-gt0-clause-owes : goal.returns-then-index-gt0-clause-owes
+returns-then-index-gt0-clause-owes g c = c.requires.holds.owes
+
+pub returns-then-index-gt0-clause-finished : goal.returns-then-index-gt0-clause-finished
+returns-then-index-gt0-clause-finished g c = refl
+
+pub returns-clause-seat : goal.returns-clause-seat
+returns-clause-seat g c = c.imports.ensures.seat
+
+pub returns-clause-owes : goal.returns-clause-owes
+returns-clause-owes g c = c.in_ok-imports.ensures.owes
+
+pub returns-clause-finished : goal.returns-clause-finished
+returns-clause-finished g c = c.imports.ensures.finished
