@@ -1,8 +1,9 @@
 //! What one line of a schema says.
 
-ghost use Rattle.std.specs.Prelude.{◌≡◌, ◌==◌, map, codes, bytes_eq, IfOk};
+ghost use Rattle.std.specs.Prelude.{◌≡◌, ◌==◌, map, codes, bytes_eq, if◌then◌else◌, IfOk};
 ghost use Rattle.std.specs.List.{list_all, slice_split};
 ghost use Rattle.bq_schema.specs.Line.{is_blank, is_skipped, is_predeclared, names_rule, names_attribute, words, rule_line, attribute_line, words_line, line_of};
+ghost use Rattle.bq_schema.specs.declared.line.Line.TheVariants as line;
 
 use crate::attribute::{Attribute, common_attribute, type_named};
 use bq_grammar::is_identifier;
@@ -115,32 +116,32 @@ fn is_word(word: &[u8], other: &[u8]) -> bool
     word == other
 }
 
+/// What a line of an attribute says that begins with this word.
+fn begun_attribute(
+    alloc: Global,
+    key: &[u8],
+    name: &[u8],
+    kind: &[u8],
+    is_mandatory: bool,
+) -> Result<Line, AllocError>
+    ensures { IfOk result (λ said. said ≡ (if bytes_eq key.now (codes "attr") then attribute_line name.now kind.now is_mandatory else line.Other)) }
+{
+    if !is_word(key, b"attr") {
+        return Ok(Line::Other);
+    }
+    attribute_line(alloc, name, kind, is_mandatory)
+}
+
 /// What these words say.
 #[tactic(auto, unfolding(crate::specs::Line::words_line))]
 fn words_line(alloc: Global, words: &[&[u8]]) -> Result<Line, AllocError>
     ensures { IfOk result (λ line. line ≡ words_line (map (λ w. w.now) words.now)) }
 {
     match words {
-        [key, name] => {
-            if !is_word(key, b"rule") {
-                return Ok(Line::Other);
-            }
-            rule_line(alloc, name)
-        }
-        [key, name, kind] => {
-            if !is_word(key, b"attr") {
-                return Ok(Line::Other);
-            }
-            attribute_line(alloc, name, kind, false)
-        }
-        [key, name, kind, mark] => {
-            if !is_word(key, b"attr") {
-                return Ok(Line::Other);
-            }
-            if !is_word(mark, b"mandatory") {
-                return Ok(Line::Other);
-            }
-            attribute_line(alloc, name, kind, true)
+        [key, name] if is_word(key, b"rule") => rule_line(alloc, name),
+        [key, name, kind] => begun_attribute(alloc, key, name, kind, false),
+        [key, name, kind, mark] if is_word(mark, b"mandatory") => {
+            begun_attribute(alloc, key, name, kind, true)
         }
         _ => Ok(Line::Other),
     }

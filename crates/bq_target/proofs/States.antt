@@ -182,37 +182,46 @@ exported_old p ls line h = rw h refl
 pub all_own : (b : LabelParts) (ls : List LabelParts) → list_all (is_of (package_of b)) (b ∷ filter (is_of (package_of b)) ls) ≡ true
 all_own b ls = both (is_of (package_of b) b) (list_all (is_of (package_of b)) (filter (is_of (package_of b)) ls)) (is_own_of b) (filtered_pass (is_of (package_of b)) ls)
 
+-- what is found for a BUILD file and then for the targets of its package
+pub rest_found : (b : LabelParts) (ts : List Target) (names : List (List ℕ)) (f g : Files) → Finds 0 (b ∷ []) (record { names = names; found = [] }) f
+    → FindsOwn (package_of b) (flat_map (λ t. labels_in t.attributes) ts) f g → g.found ≡ map (λ l. source l 0) (new_files names (b ∷ own_labels (package_of b) ts))
+unfolding own_labels
+rest_found b ts names f g first rest =
+    let all = finds_then 0 (b ∷ []) (filter (is_of (package_of b)) (flat_map (λ t. labels_in t.attributes) ts)) (record { names = names; found = [] }) f g first rest in
+    all.found
+
+-- ---- the targets of a call
+
+module _ (t : Target) (made : List Target) (m : made ≡ map (generated t) (outputs_in t.attributes)) where
+  pub names_declared : t.label.name ∷ names_of made ≡ names_of (declares t)
+  names_declared = ap names_of (ap (λ (z : List Target). t ∷ z) m ∙ sym (declares_is t))
+
+  pub all_declared : (ts now : List Target) → now ≡ (ts ++ t ∷ []) ++ made → now ≡ ts ++ declares t
+  all_declared ts now e = e ∙ (append_assoc ts (t ∷ []) made ∙ ap (λ (z : List Target). ts ++ z) (ap (λ (z : List Target). t ∷ z) m ∙ sym (declares_is t)))
+
 -- ---- what the calls give, of the fields of a state
 
 module _ (b : LabelParts) (ts : List Target) (names : List (List ℕ)) (s : IsState (package_of b) ts names) where
   state : PackageTargets
   state = record { build_file = b; targets = ts }
 
-  module _ (t : Target) (made : List Target) (m : made ≡ map (generated t) (outputs_in t.attributes)) where
-    call_names : are_new names (t.label.name ∷ names_of made) ≡ are_new (names_of ts) (names_of (declares t))
-    call_names = rw (declares_is t, ← m, ← s.taken) refl
+  pub call_state : (t : Target) → (p : PackageTargets) → record { build_file = b; targets = ts } ≡ p → IsOwnCall (package_of p.build_file) t → (new : Bool) → new ≡ are_new names (names_of (declares t))
+      → (now : List Target) → now ≡ cond new (ts ++ declares t) ts → (taken : List (List ℕ)) → taken ≡ cond new (names ++ names_of (declares t)) names → IsState (package_of b) now taken
+  call_state t p e o true h now n taken k =
+      let mine : IsOwnCall (package_of b) t = subst (λ (q : PackageTargets). IsOwnCall (package_of q.build_file) t) (sym e) o in
+      subst (λ (z : List Target). IsState (package_of b) z taken) (sym n) (state_with (package_of b) ts (declares t) names s (sym h) mine taken k)
+  call_state t p e o false h now n taken k =
+      subst (λ (z : List Target). IsState (package_of b) z taken) (sym n) (subst (λ (z : List (List ℕ)). IsState (package_of b) ts z) (sym k) s)
 
-    pub call_refused : (p : PackageTargets) → record { build_file = b; targets = ts } ≡ p → are_new names (t.label.name ∷ names_of made) ≡ false → Refused (record { build_file = b; targets = ts }) ≡ declared p t
-    unfolding state
-    call_refused p e h = sym (declared_old state t (sym call_names ∙ h)) ∙ ap (λ (q : PackageTargets). declared q t) e
-
-    all_made : (now : List Target) → now ≡ (ts ++ t ∷ []) ++ made → now ≡ ts ++ declares t
-    all_made now e = e ∙ (append_assoc ts (t ∷ []) made ∙ ap (λ (z : List Target). ts ++ z) (ap (λ (z : List Target). t ∷ z) m ∙ sym (declares_is t)))
-
-    pub call_accepted : (p : PackageTargets) → record { build_file = b; targets = ts } ≡ p → (now : List Target) → now ≡ (ts ++ t ∷ []) ++ made → are_new names (t.label.name ∷ names_of made) ≡ true
-        → Accepted (record { build_file = b; targets = now }) ≡ declared p t
-    unfolding state
-    call_accepted p e now n h =
-        ap (λ (z : List Target). Accepted (record { build_file = b; targets = z })) (all_made now n) ∙ (sym (declared_new state t (sym call_names ∙ h)) ∙ ap (λ (q : PackageTargets). declared q t) e)
-
-    pub call_state : (p : PackageTargets) → record { build_file = b; targets = ts } ≡ p → IsOwnCall (package_of p.build_file) t → (now : List Target) → now ≡ (ts ++ t ∷ []) ++ made
-        → are_new names (t.label.name ∷ names_of made) ≡ true → (taken : List (List ℕ)) → taken ≡ names ++ (t.label.name ∷ names_of made) → IsState (package_of b) now taken
-    call_state p e o now n h taken k =
-        let same : names_of (declares t) ≡ t.label.name ∷ names_of made = ap names_of (declares_is t ∙ ap (λ (z : List Target). t ∷ z) (sym m)) in
-        let mine : IsOwnCall (package_of b) t = subst (λ (q : PackageTargets). IsOwnCall (package_of q.build_file) t) (sym e) o in
-        let new : are_new names (names_of (declares t)) ≡ true = ap (are_new names) same ∙ h in
-        let all : taken ≡ names ++ names_of (declares t) = k ∙ ap (λ (z : List (List ℕ)). names ++ z) (sym same) in
-        subst (λ (z : List Target). IsState (package_of b) z taken) (sym (all_made now n)) (state_with (package_of b) ts (declares t) names s new mine taken all)
+  pub call_is : (t : Target) → (p : PackageTargets) → record { build_file = b; targets = ts } ≡ p → (new : Bool) → new ≡ are_new names (names_of (declares t)) → (now : List Target)
+      → now ≡ cond new (ts ++ declares t) ts → cond new (Accepted (record { build_file = b; targets = now })) (Refused (record { build_file = b; targets = now })) ≡ declared p t
+  unfolding state
+  call_is t p e true h now n =
+      let all : are_new (names_of ts) (names_of (declares t)) ≡ true = ap (λ (z : List (List ℕ)). are_new z (names_of (declares t))) (sym s.taken) ∙ sym h in
+      ap (λ (z : List Target). Accepted (record { build_file = b; targets = z })) n ∙ (sym (declared_new state t all) ∙ ap (λ (q : PackageTargets). declared q t) e)
+  call_is t p e false h now n =
+      let some : are_new (names_of ts) (names_of (declares t)) ≡ false = ap (λ (z : List (List ℕ)). are_new z (names_of (declares t))) (sym s.taken) ∙ sym h in
+      ap (λ (z : List Target). Refused (record { build_file = b; targets = z })) n ∙ (sym (declared_old state t some) ∙ ap (λ (q : PackageTargets). declared q t) e)
 
   pub export_refused : (p : PackageTargets) → record { build_file = b; targets = ts } ≡ p → (ls : List LabelParts) (line : ℕ) → list_any (is_taken ts) ls ≡ true → Refused p ≡ exported p ls line
   export_refused p e ls line h = sym (exported_old p ls line (ap (λ (q : PackageTargets). list_any (is_taken q.targets) ls) (sym e) ∙ h))
@@ -232,17 +241,14 @@ module _ (b : LabelParts) (ts : List Target) (names : List (List ℕ)) (s : IsSt
   abbrev named : List LabelParts
   named = flat_map (λ t. labels_in t.attributes) ts
 
-  module _ (f g : Files) (first_found : Finds 0 (b ∷ []) (record { names = names; found = [] }) f) (rest_found : FindsOwn (package_of b) named f g) where
-    both_found : Finds 0 (b ∷ filter (is_of (package_of b)) named) (record { names = names; found = [] }) g
-    both_found = finds_then 0 (b ∷ []) (filter (is_of (package_of b)) named) (record { names = names; found = [] }) f g first_found rest_found
+  pub end_valid : (now : List Target) → now ≡ ts ++ map (λ l. source l 0) (new_files names (b ∷ own_labels (package_of b) ts)) → AreTargetsOf (package_of b) now
+  unfolding own_labels
+  end_valid now n = subst (λ (z : List Target). AreTargetsOf (package_of b) z) (sym n) (with_files (package_of b) 0 ts names s (b ∷ filter (is_of (package_of b)) named) (all_own b named))
 
-    pub end_valid : (now : List Target) → now ≡ ts ++ g.found → AreTargetsOf (package_of b) now
-    end_valid now n =
-        subst (λ (z : List Target). AreTargetsOf (package_of b) z) (sym (n ∙ ap (λ (z : List Target). ts ++ z) both_found.found))
-        (with_files (package_of b) 0 ts names s (b ∷ filter (is_of (package_of b)) named) (all_own b named))
-
-    pub end_is : (p : PackageTargets) → record { build_file = b; targets = ts } ≡ p → (now : List Target) → now ≡ ts ++ g.found → record { build_file = b; targets = now } ≡ finished p
-    unfolding state
-    end_is p e now n =
-        let q : PackageTargets → Type 0 = λ z. record { build_file = b; targets = now } ≡ finished z in
-        subst q e (ap (λ (z : List Target). record { build_file = b; targets = z }) n ∙ sym (finished_is state names g.found s.taken both_found.found))
+  pub end_is : (p : PackageTargets) → record { build_file = b; targets = ts } ≡ p → (now : List Target) → now ≡ ts ++ map (λ l. source l 0) (new_files names (b ∷ own_labels (package_of b) ts))
+      → record { build_file = b; targets = now } ≡ finished p
+  unfolding state own_labels
+  end_is p e now n =
+      let q : PackageTargets → Type 0 = λ z. record { build_file = b; targets = now } ≡ finished z in
+      let found : List Target = map (λ l. source l 0) (new_files names (b ∷ filter (is_of (package_of b)) named)) in
+      subst q e (ap (λ (z : List Target). record { build_file = b; targets = z }) n ∙ sym (finished_is state names found s.taken refl))

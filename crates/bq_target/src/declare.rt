@@ -2,7 +2,7 @@
 
 ghost use Rattle.std.specs.Prelude.{◌≡◌, ◌∷◌, ◌++◌, true, length, take, map, if◌then◌else◌, IfOk, OnOk};
 ghost use Rattle.bq_target.specs.Value.{outputs_of, outputs_in};
-ghost use Rattle.bq_target.specs.Target.{names_of, generated};
+ghost use Rattle.bq_target.specs.Target.{names_of, generated, declares};
 ghost use Rattle.bq_target.specs.Names.{are_new};
 
 use crate::names::Names;
@@ -90,6 +90,26 @@ fn take_names(names: &mut Names, target: &Target, made: &[Target]) -> Result<boo
     Ok(false)
 }
 
+/// Adds the target of a call and the files that the rule makes, where all their names are new. Says whether they are.
+fn add_target(
+    alloc: Global,
+    targets: &mut Items<Target>,
+    names: &mut Names,
+    target: Target,
+) -> Result<bool, AllocError>
+    ensures new { IfOk result (λ new. new ≡ are_new names.old (names_of (declares target))) }
+    ensures targets { IfOk result (λ new. targets.new ≡ (if new then targets.old ++ declares target else targets.old)) }
+    ensures names { IfOk result (λ new. names.new ≡ (if new then names.old ++ names_of (declares target) else names.old)) }
+{
+    let made = outputs(alloc, &target)?;
+    if !take_names(names, &target, made.as_slice())? {
+        return Ok(false);
+    }
+    targets.push(target)?;
+    targets.append(made)?;
+    Ok(true)
+}
+
 impl PackageState {
     ghost use Rattle.bq_label.specs.Label.{package_of};
     ghost use Rattle.bq_target.specs.Package.{IsOwnCall};
@@ -101,25 +121,17 @@ impl PackageState {
         requires { IsOwnCall (package_of self.build_file) target }
         ensures { IfOk result (λ d. d ≡ declared self target) }
     {
-        let made = outputs(alloc, &target)?;
         let PackageState {
             build_file,
             mut targets,
             mut names,
         } = self;
-        if !take_names(&mut names, &target, made.as_slice())? {
-            return Ok(Declared::Refused(PackageState {
-                build_file,
-                targets,
-                names,
-            }));
-        }
-        targets.push(target)?;
-        targets.append(made)?;
-        Ok(Declared::Accepted(PackageState {
+        let is_new = add_target(alloc, &mut targets, &mut names, target)?;
+        let package = PackageState {
             build_file,
             targets,
             names,
-        }))
+        };
+        Ok(Declared::of(is_new, package))
     }
 }

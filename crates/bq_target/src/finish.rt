@@ -1,9 +1,10 @@
 //! Files that a BUILD file exports, and the package once it is evaluated.
 
-ghost use Rattle.std.specs.Prelude.{◌≡◌, true, IfOk};
+ghost use Rattle.std.specs.Prelude.{◌≡◌, ◌∷◌, ◌++◌, true, map, IfOk, OnOk};
 ghost use Rattle.std.specs.List.{list_any, list_all};
-ghost use Rattle.bq_target.specs.Target.{is_of, names_of};
-ghost use Rattle.bq_target.specs.Package.{is_taken};
+ghost use Rattle.bq_label.specs.Label.{package_of};
+ghost use Rattle.bq_target.specs.Target.{is_of, names_of, source};
+ghost use Rattle.bq_target.specs.Package.{is_taken, new_files, own_labels};
 
 use crate::files::Files;
 use crate::names::Names;
@@ -42,6 +43,46 @@ fn any_is_taken(targets: &[Target], names: &Names, labels: &[Label]) -> Result<b
     Ok(false)
 }
 
+/// Adds the files of labels, where their names aren't taken. Gives the names that are taken then.
+fn add_files(
+    alloc: Global,
+    targets: &mut Items<Target>,
+    names: Names,
+    labels: &[Label],
+    line: u32,
+) -> Result<Names, AllocError>
+    ensures targets { OnOk result (targets.new ≡ targets.old ++ map (λ l. source l line) (new_files names labels.now)) }
+    ensures names { IfOk result (λ after. after ≡ names ++ map (λ l. l.name) (new_files names labels.now)) }
+{
+    let mut files = Files {
+        names,
+        found: Items::new(alloc),
+    };
+    files.add_all(alloc, labels, line)?;
+    let Files { names, found } = files;
+    targets.append(found)?;
+    Ok(names)
+}
+
+/// Adds the BUILD file and the files of the package that targets name, where their names aren't taken.
+fn add_rest(
+    alloc: Global,
+    targets: &mut Items<Target>,
+    names: Names,
+    build_file: &Label,
+) -> Result<(), AllocError>
+    ensures { OnOk result (targets.new ≡ targets.old ++ map (λ l. source l 0) (new_files names (build_file.now ∷ own_labels (package_of build_file.now) targets.old))) }
+{
+    let mut files = Files {
+        names,
+        found: Items::new(alloc),
+    };
+    files.add(alloc, build_file, 0)?;
+    files.add_named(alloc, build_file.package_id(), targets.as_slice())?;
+    let Files { names: _, found } = files;
+    targets.append(found)
+}
+
 impl PackageState {
     ghost use Rattle.bq_label.specs.Label.{package_of};
     ghost use Rattle.bq_target.specs.Package.{finished};
@@ -61,13 +102,7 @@ impl PackageState {
             mut targets,
             names,
         } = self;
-        let mut files = Files {
-            names,
-            found: Items::new(alloc),
-        };
-        files.add_all(alloc, labels, line)?;
-        let Files { names, found } = files;
-        targets.append(found)?;
+        let names = add_files(alloc, &mut targets, names, labels, line)?;
         Ok(Declared::Accepted(PackageState {
             build_file,
             targets,
@@ -85,14 +120,7 @@ impl PackageState {
             mut targets,
             names,
         } = self;
-        let mut files = Files {
-            names,
-            found: Items::new(alloc),
-        };
-        files.add(alloc, &build_file, 0)?;
-        files.add_named(alloc, build_file.package_id(), targets.as_slice())?;
-        let Files { names: _, found } = files;
-        targets.append(found)?;
-        Ok(Package::of(alloc, build_file, targets)?)
+        add_rest(alloc, &mut targets, names, &build_file)?;
+        Package::of(alloc, build_file, targets)
     }
 }
