@@ -1,5 +1,5 @@
 -- The first clause of a comprehension, and those after it.
-use Rattle.std.proofs.Common.{◌≡◌, ℕ, ◌≤◌, ◌-◌, ◌∙◌, List, [], ◌∷◌, length, take, drop, get_or, refl, sym, ap, arith}
+use Rattle.std.proofs.Common.{◌≡◌, ◌≤◌, ◌-◌, ◌∙◌, List, [], ◌∷◌, length, take, drop, get_or, sym, ap, arith}
 use Rattle.std.proofs.lemmas.List.{take_all}
 use Rattle.bq_scope.specs.declared.code.CodeClause.{CodeClause}
 use Rattle.bq_value.specs.Contents.{Contents}

@@ -1,5 +1,5 @@
 -- One layer of an expression, where more than none are looked at.
-use Rattle.std.proofs.Common.{◌≡◌, ℕ, ℤ, zero, suc, ◌<◌, ◌-◌, refl, arith, ap, ◌∙◌}
+use Rattle.std.proofs.Common.{◌≡◌, ℕ, ℤ, zero, suc, ◌<◌, arith, ap}
 use Rattle.bq_scope.specs.declared.code.Binding.{Binding}
 use Rattle.bq_scope.specs.declared.code.Binding.TheVariants as b
 use Rattle.bq_scope.specs.declared.code.Code.{Code, out-Code}

@@ -1,10 +1,10 @@
 -- The parameters that take one argument, one after another.
-use Rattle.std.proofs.Common.{◌≡◌, List, [], ◌∷◌, ◌++◌, map, refl, ap, ◌∙◌}
+use Rattle.std.proofs.Common.{◌≡◌, List, [], ◌∷◌, ◌++◌, map, refl}
 use Rattle.std.proofs.lemmas.List.{map_push}
 use Rattle.bq_scope.specs.declared.code.CodeParameter.{CodeParameter}
 use Rattle.bq_scope.specs.declared.code.CodeParameter.TheVariants as parameter
 use Rattle.bq_machine.specs.declared.parameters.Parameter.{Parameter}
-use Rattle.bq_machine.specs.Parameters.{ParameterView, parameter_of}
+use Rattle.bq_machine.specs.Parameters.{parameter_of}
 use Rattle.bq_meaning.specs.Calls.{singles}
 
 pub one_more : (all : List Parameter) (p : Parameter) → map parameter_of (all ++ p ∷ []) ≡ map parameter_of all ++ parameter_of p ∷ []

@@ -1,15 +1,14 @@
 -- What a context says of what is round an expression or a statement.
-use Rattle.std.specs.Prelude.{ℕ, List, map, Option, Some, None, slice_get, if◌then◌else◌}
+use Rattle.std.specs.Prelude.{List, map, slice_get, if◌then◌else◌}
 use Rattle.std.specs.declared.alloc.Global.{Global}
 use Rattle.std.specs.declared.sync.Arc.{Arc}
 use Rattle.bq_scope.specs.Names.{max_layers}
 use Rattle.bq_value.specs.Cells.{FrozenView}
-use Rattle.bq_value.specs.Datum.{Datum}
 use Rattle.bq_meaning.specs.Frame.{Frame, Surroundings, empty}
 use Rattle.bq_meaning.specs.Primitives.{Primitives}
 use Rattle.bq_meaning.specs.Trees.{Eval, Calls}
 use Rattle.bq_meaning.specs.Expressions.{expr_to}
-use Rattle.bq_meaning.specs.Calls.{CodeUnit, Units, calls, inner_calls}
+use Rattle.bq_meaning.specs.Calls.{Units, calls}
 use Rattle.bq_meaning.specs.Module.{Own, own_round, with_own, frozen_units}
 use Rattle.bq_eval.specs.declared.context.Globals.{Globals}
 use Rattle.bq_eval.specs.declared.context.Globals.TheVariants as g

@@ -1,5 +1,5 @@
 -- The frame that a list of slots is.
-use Rattle.std.specs.Prelude.{ℕ, List, Option, Some, None, slice_get}
+use Rattle.std.specs.Prelude.{List, Option, Some, None, slice_get}
 use Rattle.bq_value.specs.Datum.{Datum}
 use Rattle.bq_meaning.specs.Frame.{Frame}
 

@@ -1,4 +1,4 @@
-use Rattle.std.proofs.Common.{◌≡◌, ◌∙◌, ap, sym, arith}
+use Rattle.std.proofs.Common.{◌∙◌, ap, sym, arith}
 use Rattle.bq_machine.specs.Action.{done}
 use Rattle.bq_eval.specs.Round.{evals, in_function, inside, round_of, units_at, globals_of}
 use Rattle.bq_eval.specs.CodeUnits.{unit_of}

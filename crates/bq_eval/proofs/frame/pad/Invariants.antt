@@ -1,4 +1,4 @@
-use Rattle.std.proofs.Common.{◌≡◌, ◌+◌, ◌-◌, length, vec_len}
+use Rattle.std.proofs.Common.{◌≡◌, ◌+◌, ◌-◌, length}
 use Rattle.bq_eval.specs.Slots.{slots_of}
 use Rattle.bq_eval.proofs.frame.pad.Given as goal
 

@@ -1,4 +1,4 @@
-use Rattle.std.proofs.Common.{◌≡◌, arith}
+use Rattle.std.proofs.Common.{arith}
 use Rattle.bq_meaning.specs.Statements.{run_to}
 use Rattle.bq_eval.specs.Slots.{slots_of}
 use Rattle.bq_eval.specs.Round.{evals}
