@@ -1,5 +1,6 @@
 -- Packages: their targets are of them, and no two have one name.
 use Rattle.std.proofs.Common.{◌≡◌, ◌&&◌, ◌+◌, ℕ, suc, Bool, true, false, cond, nat_lt, List, [], ◌∷◌, ◌++◌, Option, Some, None, length, map, position, option_and_then, slice_get, refl, sym, ap, subst, ◌∙◌, inl, inr, arith, append_assoc}
+use Rattle.std.specs.Bool.{then_some}
 use Rattle.std.specs.Str.{bytes_eq}
 use Rattle.std.specs.List.{list_any, list_all, flat_map, filter, find, position_or_len, IsDistinct}
 use Rattle.std.proofs.lemmas.Bool.Decides.{nat_tests}
@@ -191,6 +192,18 @@ rest_found b ts names f g first rest =
     all.found
 
 -- ---- the targets of a call
+
+pub none_if : {A : Type 0} (b : Bool) (x : A) → None ≡ then_some b x → b ≡ false
+none_if true x h = cc
+none_if false x h = refl
+
+pub some_if : {A : Type 0} (b : Bool) (x y : A) → Some y ≡ then_some b x → b ≡ true
+some_if true x y h = refl
+some_if false x y h = cc
+
+pub one_if : {A : Type 0} (b : Bool) (x y : A) → Some y ≡ then_some b x → y ≡ x
+one_if true x y h = cc
+one_if false x y h = cc
 
 module _ (t : Target) (made : List Target) (m : made ≡ map (generated t) (outputs_in t.attributes)) where
   pub names_declared : t.label.name ∷ names_of made ≡ names_of (declares t)

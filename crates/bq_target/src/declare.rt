@@ -1,6 +1,7 @@
 //! The calls of rules and of `package_group`.
 
 ghost use Rattle.std.specs.Prelude.{◌≡◌, ◌∷◌, ◌++◌, true, length, take, map, if◌then◌else◌, IfOk, OnOk};
+ghost use Rattle.std.specs.Bool.{then_some};
 ghost use Rattle.bq_target.specs.Value.{outputs_of, outputs_in};
 ghost use Rattle.bq_target.specs.Target.{names_of, generated, declares};
 ghost use Rattle.bq_target.specs.Names.{are_new};
@@ -90,6 +91,33 @@ fn take_names(names: &mut Names, target: &Target, made: &[Target]) -> Result<boo
     Ok(false)
 }
 
+/// Takes the names that a call declares, where all are new. Then it gives the files that the rule makes.
+fn take_new(
+    alloc: Global,
+    names: &mut Names,
+    target: &Target,
+) -> Result<Option<Items<Target>>, AllocError>
+    ensures made { IfOk result (λ made. made ≡ then_some (are_new names.old (names_of (declares target.now))) (map (generated target.now) (outputs_in target.now.attributes))) }
+    ensures names { IfOk result (λ made. names.new ≡ (if are_new names.old (names_of (declares target.now)) then names.old ++ names_of (declares target.now) else names.old)) }
+{
+    let made = outputs(alloc, target)?;
+    let is_new = take_names(names, target, made.as_slice())?;
+    Ok(is_new.then_some(made))
+}
+
+/// Adds a target and those that come with it.
+fn append(
+    targets: &mut Items<Target>,
+    target: Target,
+    more: Items<Target>,
+) -> Result<(), AllocError>
+    ensures { OnOk result (targets.new ≡ targets.old ++ target ∷ more) }
+{
+    targets.push(target)?;
+    targets.append(more)?;
+    Ok(())
+}
+
 /// Adds the target of a call and the files that the rule makes, where all their names are new. Says whether they are.
 fn add_target(
     alloc: Global,
@@ -101,12 +129,10 @@ fn add_target(
     ensures targets { IfOk result (λ new. targets.new ≡ (if new then targets.old ++ declares target else targets.old)) }
     ensures names { IfOk result (λ new. names.new ≡ (if new then names.old ++ names_of (declares target) else names.old)) }
 {
-    let made = outputs(alloc, &target)?;
-    if !take_names(names, &target, made.as_slice())? {
+    let Some(made) = take_new(alloc, names, &target)? else {
         return Ok(false);
-    }
-    targets.push(target)?;
-    targets.append(made)?;
+    };
+    append(targets, target, made)?;
     Ok(true)
 }
 
