@@ -11,7 +11,7 @@ use crate::expressions::{expr, target};
 use crate::small::{line, misplaced};
 use bq_grammar::{Branch, Expr, Stmt, Target};
 use bq_resolve_expression::Walk;
-use bq_scope::{Block, CodeBranch, CodeStmt, FileNames};
+use bq_scope::{Block, Code, CodeBranch, CodeStmt, CodeTarget, FileNames};
 use bq_source::SourceErr;
 use sqlite_items::{Boxed, Items};
 use std::alloc::Global;
@@ -23,6 +23,23 @@ pub struct Blocks<F> {
     /// How many layers of the statements inside are still looked at.
     pub layers: usize,
     pub inner: F,
+}
+
+/// What stands before the block of a `for`: its variables, and what it goes over.
+fn header(
+    alloc: Global,
+    file: &FileNames,
+    blocks: &[Block],
+    walk: &mut Walk,
+    variables: &Target,
+    iterable: &Expr,
+) -> Result<(CodeTarget, Code), SourceErr>
+    ensures { Walks (visit.following (spec.target file.now blocks.now variables.now walk.old) (λ t p. visit.following (spec.expr file.now blocks.now iterable.now p) (λ x. visit.pure (t, x)))) result walk.new }
+{
+    let variables = target(alloc, file, blocks, walk, variables)?;
+    let variables = Boxed::new(alloc, variables)?;
+    let iterable = expr(alloc, file, blocks, walk, iterable)?;
+    Ok((variables.into_inner(), iterable))
 }
 
 impl<
@@ -66,6 +83,23 @@ impl<
         Ok(done)
     }
 
+    /// What stands before a block, and the block. It is a function over any value, since to let go of one is a single step for the proof.
+    fn beside<T: Drop>(
+        &self,
+        file: &FileNames,
+        blocks: &[Block],
+        looping: bool,
+        walk: &mut Walk,
+        before: T,
+        statements: &[Stmt],
+    ) -> Result<(T, Items<CodeStmt>), SourceErr>
+        requires { WalksStatement self.now.layers (F.pre self.now.inner) (F.post self.now.inner) }
+        ensures { Walks (visit.following (visit.each (spec.stmt_to file.now self.now.layers blocks.now looping) [] statements.now walk.old) (λ block. visit.pure (before, block))) result walk.new }
+    {
+        let block = self.block(file, blocks, looping, walk, statements)?;
+        Ok((before, block))
+    }
+
     /// `if condition:`, or `elif`, and its block.
     #[tactic(auto, unfolding(bq_scope::specs::Statements::branch))]
     fn branch(
@@ -80,12 +114,9 @@ impl<
         ensures { Walks (spec.branch file.now (spec.stmt_to file.now self.now.layers blocks.now looping) blocks.now branch.now walk.old) result walk.new }
     {
         let condition = expr(self.alloc, file, blocks, walk, &branch.condition)?;
-        let condition = Boxed::new(self.alloc, condition)?;
-        let block = self.block(file, blocks, looping, walk, branch.block.as_slice())?;
-        Ok(CodeBranch {
-            condition: condition.into_inner(),
-            block,
-        })
+        let block = branch.block.as_slice();
+        let (condition, block) = self.beside(file, blocks, looping, walk, condition, block)?;
+        Ok(CodeBranch { condition, block })
     }
 
     #[tactic(auto, unfolding(bq_scope::specs::Visit::each))]
@@ -140,12 +171,9 @@ impl<
         requires { WalksStatement self.now.layers (F.pre self.now.inner) (F.post self.now.inner) }
         ensures { Walks (spec.for_stmt file.now (spec.stmt_to file.now self.now.layers blocks.now true) blocks.now variables.now iterable.now body.now walk.old) result walk.new }
     {
-        let variables = target(self.alloc, file, blocks, walk, variables)?;
-        let variables = Boxed::new(self.alloc, variables)?;
-        let iterable = expr(self.alloc, file, blocks, walk, iterable)?;
-        let iterable = Boxed::new(self.alloc, iterable)?;
-        let body = self.block(file, blocks, true, walk, body)?;
-        Ok(CodeStmt::For(variables.into_inner(), iterable.into_inner(), body))
+        let header = header(self.alloc, file, blocks, walk, variables, iterable)?;
+        let ((variables, iterable), body) = self.beside(file, blocks, true, walk, header, body)?;
+        Ok(CodeStmt::For(variables, iterable, body))
     }
 
     /// A statement of a function.

@@ -1,18 +1,33 @@
 //! Files.
 
-ghost use Rattle.std.specs.Prelude.{◌≡◌};
+ghost use Rattle.std.specs.Prelude.{◌≡◌, []};
 ghost use Rattle.bq_source.specs.Gives.{Gives};
 ghost use Rattle.bq_source.specs.declared.fault.SourceErr.TheVariants.{Bad};
-ghost use Rattle.bq_scope.specs.Files.{resolved, resolved_in};
+ghost use Rattle.bq_scope.specs.Files.{resolved, resolved_in, top_level};
+ghost use Rattle.bq_scope.specs.Visit.{each, nothing_passed};
 ghost use Rattle.bq_file.specs.Answers.{itself};
 
 use crate::outside::top_levels;
 use bq_file::File;
 use bq_grammar::TopLevel;
 use bq_resolve_expression::Walk;
-use bq_scope::{FileNames, LoadStmt, Resolved, Universe};
+use bq_scope::{CodeTopLevel, FileNames, LoadStmt, Resolved, Universe};
 use bq_source::SourceErr;
+use sqlite_items::Items;
 use std::alloc::Global;
+
+/// What statements resolve to among the names of their file, and what was passed then.
+fn walked(
+    alloc: Global,
+    file: &FileNames,
+    statements: &[TopLevel],
+) -> Result<(Items<CodeTopLevel>, Walk), SourceErr>
+    ensures { Gives itself Bad result (each (top_level file.now) [] statements.now nothing_passed) }
+{
+    let mut walk = Walk::new(alloc);
+    let statements = top_levels(alloc, file, &mut walk, statements)?;
+    Ok((statements, walk))
+}
 
 /// What statements resolve to among the names of their file.
 fn resolve_in(
@@ -23,8 +38,7 @@ fn resolve_in(
     ensures { Gives itself Bad result (resolved_in file.now statements.now) }
 {
     let globals = file.globals(alloc)?;
-    let mut walk = Walk::new(alloc);
-    let statements = top_levels(alloc, file, &mut walk, statements)?;
+    let (statements, walk) = walked(alloc, file, statements)?;
     let (functions, loads) = walk.into_parts();
     Ok(Resolved {
         statements,

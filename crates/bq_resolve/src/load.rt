@@ -1,6 +1,7 @@
 //! Loads: what a file takes from other files.
 
-ghost use Rattle.std.specs.Prelude.{[]};
+ghost use Rattle.std.specs.Prelude.{◌≡◌, [], IfOk};
+ghost use Rattle.bq_scope.specs.Names.{place_among};
 ghost use Rattle.bq_scope.specs.Visit as visit;
 ghost use Rattle.bq_scope.specs.Statements as spec;
 ghost use Rattle.bq_resolve_expression.specs.Walks.{Walks};
@@ -10,7 +11,20 @@ use bq_resolve_expression::{Walk, fault_of};
 use bq_scope::{CodeSmall, FileNames, LoadStmt, LoadedSymbol};
 use bq_source::{FaultKind, SourceErr};
 use sqlite_items::Items;
-use std::alloc::Global;
+use std::alloc::{AllocError, Global};
+
+/// What a load clause makes of its symbol.
+fn symbol_of(file: &FileNames, clause: &LoadClause) -> Result<LoadedSymbol, AllocError>
+    ensures { IfOk result (λ s. s ≡ record { local = clause.now.local.name; symbol = clause.now.symbol; global = place_among clause.now.local.name file.now.globals }) }
+{
+    let name = &clause.local.name;
+    let global = file.global(name)?;
+    Ok(LoadedSymbol {
+        local: name.share()?,
+        symbol: clause.symbol.share()?,
+        global,
+    })
+}
 
 /// A load clause: F22 where another clause before it has its name, F21 where a statement of a .bzl file bound it.
 #[tactic(auto, unfolding(bq_scope::specs::Statements::load_clause))]
@@ -29,12 +43,7 @@ fn load_clause(
         return Err(SourceErr::Bad(fault_of(FaultKind::Rebound, name)?));
     }
     walk.load(&name.name)?;
-    let global = file.global(&name.name)?;
-    Ok(LoadedSymbol {
-        local: name.name.share()?,
-        symbol: clause.symbol.share()?,
-        global,
-    })
+    Ok(symbol_of(file, clause)?)
 }
 
 #[tactic(auto, unfolding(bq_scope::specs::Visit::each))]

@@ -66,11 +66,11 @@ impl ParameterList {
     fn add_named(&mut self, name: &Identifier, parameter: CodeParameter) -> Result<(), SourceErr>
         ensures { (file : FileParts) (s : Passed) → Gives (λ _. (self.new, s)) Bad result (spec.named_parameter file self.old name.now parameter s) }
     {
+        self.parameters.push(parameter)?;
         if self.names.has(&name.name)? {
             return Err(SourceErr::Bad(fault_of(FaultKind::DoubleParameter, name)?));
         }
         self.names.add(&name.name)?;
-        self.parameters.push(parameter)?;
         Ok(())
     }
 
@@ -119,10 +119,26 @@ impl ParameterList {
             Parameter::StarStar(name) => self.add_named(name, CodeParameter::StarStar(slot)),
         }
     }
+
+    /// Adds all of these.
+    #[tactic(auto, unfolding(bq_scope::specs::Statements::parameters))]
+    fn add_all(
+        &mut self,
+        alloc: Global,
+        file: &FileNames,
+        walk: &mut Walk,
+        parameters: &[Parameter],
+    ) -> Result<(), SourceErr>
+        ensures { Gives (λ _. (self.new, walk.new)) Bad result (spec.parameters file.now self.old parameters.now walk.old) }
+    {
+        for parameter in parameters {
+            self.add(alloc, file, walk, parameter)?;
+        }
+        Ok(())
+    }
 }
 
 /// The parameters of a function.
-#[tactic(auto, unfolding(bq_scope::specs::Statements::parameters))]
 pub fn parameters(
     alloc: Global,
     file: &FileNames,
@@ -131,9 +147,7 @@ pub fn parameters(
 ) -> Result<ParameterList, SourceErr>
     ensures { Walks (spec.parameters file.now spec.no_parameters parameters.now walk.old) result walk.new }
 {
-    let mut so_far = ParameterList::new(alloc);
-    for parameter in parameters {
-        so_far.add(alloc, file, walk, parameter)?;
-    }
-    Ok(so_far)
+    let mut list = ParameterList::new(alloc);
+    list.add_all(alloc, file, walk, parameters)?;
+    Ok(list)
 }

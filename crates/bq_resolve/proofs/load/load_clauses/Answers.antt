@@ -3,6 +3,22 @@ use Rattle.std.proofs.lemmas.Grind.{common_steps}
 use Rattle.bq_scope.specs.Visit.{each}
 use Rattle.bq_resolve.proofs.load.load_clauses.Goals as goal
 
+pub loop-clause-init : goal.loop-clause-init
+unfolding each
+loop-clause-init c = grind (arith, common_steps)
+
 pub loop-clause-preserved : goal.loop-clause-preserved
 unfolding each
 loop-clause-preserved c = grind (arith, common_steps)
+
+pub returns-in_err-load_clause : goal.returns-in_err-load_clause
+unfolding each
+returns-in_err-load_clause c = grind (arith, common_steps)
+
+pub returns-in_err-push : goal.returns-in_err-push
+unfolding each
+returns-in_err-push c = grind (arith, common_steps)
+
+pub returns : goal.returns
+unfolding each
+returns c = grind (arith, common_steps)
