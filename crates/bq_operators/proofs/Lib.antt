@@ -16,3 +16,5 @@ pub mod Slices
 pub mod Taken
 -- which integers are in a range
 pub mod Items
+-- slices of lists that are put together of parts, and indices of their elements
+pub mod Cuts

@@ -63,7 +63,7 @@ elements_of_slice xs start stop step apart =
     taken_elements xs (range_count (slice_start (pos (length xs)) step start) (slice_stop (pos (length xs)) step stop) step) (slice_start (pos (length xs)) step start) step
     (λ k l. places_within (length xs) start stop step k apart l)
 
-at_most : (m n : ℕ) → (n < m → ⊥) → m ≤ n
+pub at_most : (m n : ℕ) → (n < m → ⊥) → m ≤ n
 at_most m n h = elim (cases_lt n m) [ inl l ↦ absurd (h l) | inr l ↦ l ]
 
 take_all : {A : Type 0} (xs : List A) → take (length xs) xs ≡ xs

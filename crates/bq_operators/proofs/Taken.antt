@@ -10,7 +10,7 @@ use Rattle.bq_operators.specs.Slice.{element_at, with_first, taken, AreElements}
 abbrev pub Within : {A : Type 0} → List A → ℤ → Type 0
 Within xs at = (pos 0 ≤ℤ at) × (at <ℤ pos (length xs))
 
-there : {A : Type 0} (xs : List A) (k : ℕ) → k < length xs → (x : A) × (slice_get xs k ≡ Some x)
+pub there : {A : Type 0} (xs : List A) (k : ℕ) → k < length xs → (x : A) × (slice_get xs k ≡ Some x)
 there [] k l = absurd (omega (arith, l))
 there (x ∷ xs) zero l = (x, refl)
 there (x ∷ xs) (suc k) l = there xs k (omega (arith, l))

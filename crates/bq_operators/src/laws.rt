@@ -1,9 +1,11 @@
 //! Laws of the definitions. The gate proves what a contract names, so each law is the contract of a function that does
 //! nothing.
 
-ghost use Rattle.std.specs.Prelude.{◌≡◌, ◌≢◌, ◌<◌, ℕ, ℤ, pos, ◌+ℤ◌, ◌*ℤ◌, ◌≤ℤ◌, ◌<ℤ◌, ◌↔◌, true, List, None, Option, length};
+ghost use Rattle.std.specs.Prelude.{◌≡◌, ◌≢◌, ◌<◌, ◌≤◌, ◌+◌, ℕ, ℤ, pos, negsuc, neg_ℤ, ◌+ℤ◌, ◌*ℤ◌, ◌≤ℤ◌, ◌<ℤ◌, ◌↔◌, true, List, ◌∷◌, ◌++◌, reverse, None, Some, Ok, Err, Option, length};
 ghost use Rattle.bq_value.specs.Range.{range_count, range_element};
 ghost use Rattle.bq_operators.specs.RangeItem.{range_has, IsElement};
+ghost use Rattle.bq_source.specs.declared.fault.FaultKind.TheVariants.{Index};
+ghost use Rattle.bq_operators.specs.Place.{clamped, indexed};
 ghost use Rattle.bq_operators.specs.Slice.{slice_start, slice_stop, slice_of, AreElements};
 ghost use Rattle.bq_operators.specs.Division.{floor_quotient, floor_rest, IsRestOf};
 
@@ -27,6 +29,34 @@ pub fn elements_of_a_slice()
 /// A slice without bounds, of step 1, is the whole.
 pub fn a_whole_slice()
     ensures { (xs : List ℕ) → slice_of xs None None (pos 1) ≡ xs }
+{}
+
+/// A list that is put together of three parts: its middle part is the slice from the first part's length to that of the first two,
+/// counted from the start or from the end. A bound past an end is that end.
+pub fn slices_are_parts()
+    ensures from_start { (before part after : List ℕ) → slice_of (before ++ (part ++ after)) (Some (pos (length before))) (Some (pos (length before + length part))) (pos 1) ≡ part }
+    ensures from_end { (before part after : List ℕ) → 0 < length after → slice_of (before ++ (part ++ after)) (Some (neg_ℤ (pos (length part + length after)))) (Some (neg_ℤ (pos (length after)))) (pos 1) ≡ part }
+    ensures past_the_ends { (xs : List ℕ) (m n : ℕ) → length xs ≤ m → length xs ≤ n → slice_of xs (Some (neg_ℤ (pos m))) (Some (pos n)) (pos 1) ≡ xs }
+{}
+
+/// A slice without bounds, of step -1, is the list from its last element to its first.
+pub fn a_slice_backwards()
+    ensures { (xs : List ℕ) → slice_of xs None None (negsuc 0) ≡ reverse xs }
+{}
+
+/// The index of an element is the number of those before it, or less by one than minus the number of those after it; any other
+/// index is F43.
+pub fn indices_count_from_both_ends()
+    ensures from_start { (before : List ℕ) (x : ℕ) (after : List ℕ) → indexed (length (before ++ x ∷ after)) (pos (length before)) ≡ Ok (length before) }
+    ensures from_end { (before : List ℕ) (x : ℕ) (after : List ℕ) → indexed (length (before ++ x ∷ after)) (negsuc (length after)) ≡ Ok (length before) }
+    ensures past { (len n : ℕ) → len ≤ n → (indexed len (pos n) ≡ Err Index) × (indexed len (negsuc n) ≡ Err Index) }
+{}
+
+/// The same of the places at which something is put in or a search begins, which an index past an end is not: it is that end.
+pub fn places_count_from_both_ends()
+    ensures from_start { (before after : List ℕ) → clamped (length (before ++ after)) (pos (length before)) ≡ length before }
+    ensures from_end { (before after : List ℕ) → 0 < length after → clamped (length (before ++ after)) (neg_ℤ (pos (length after))) ≡ length before }
+    ensures past { (len n : ℕ) → len ≤ n → (clamped len (pos n) ≡ len) × (clamped len (neg_ℤ (pos n)) ≡ 0) }
 {}
 
 /// An integer is in a range exactly where it is one of its elements.
