@@ -1,21 +1,21 @@
 -- The slots fill in load order, each with its module's outcome.
-use Rattle.std.proofs.Common.{◌≡◌, ◌≢◌, ℕ, zero, suc, ◌+◌, ◌<◌, ◌≤◌, ◌⊎◌, Bool, true, false, List, [], ◌∷◌, ◌++◌, length, map, take, set, get_or, Option, Some, None, is_some, Result, Ok, Err, sym, refl, ap, subst, ◌∙◌, inl, inr, arith, length-set, get_or-set_same, get_or-set_other}
+use Rattle.std.proofs.Common.{◌≡◌, ℕ, zero, suc, ◌+◌, ◌<◌, ◌≤◌, true, false, List, [], ◌∷◌, ◌++◌, length, map, take, set, get_or, Option, Some, None, is_some, Result, sym, refl, ap, subst, ◌∙◌, inl, inr, arith, length-set, get_or-set_same, get_or-set_other}
 use mathlib.Core.Logic.{dite}
 use native.Mathlib.Decide.{ℕ_discrete}
 use Rattle.std.specs.declared.sync.Arc.{Arc}
 use Rattle.std.specs.declared.alloc.Global.{Global}
-use Rattle.std.proofs.lemmas.List.{map-set, set-get_or, length-map, take_more, take_all, get_or_push, get_or_append_left, length_push, get_or-map, same_lists}
+use Rattle.std.proofs.lemmas.List.{map-set, map_push, set-get_or, length-map, take_more, take_all, get_or_push, get_or_append_left, length_push, get_or-map, same_lists}
 use Rattle.bq_board.specs.Counts.{Has}
 use Rattle.bq_board.specs.Graph.{Loads, row}
 use Rattle.bq_board.specs.Cycles.{is_cyclic}
-use Rattle.bq_board.specs.Topological.{IsTopologicalOrder, MarksCycles, is_zero}
+use Rattle.bq_board.specs.Topological.{IsTopologicalOrder, MarksCycles}
 use Rattle.bq_board.proofs.Lemmas.{Has_snoc, Has-get_or, at_zero, zero_from, bool_cases}
 use Rattle.bq_outcome.specs.Outcome.{first, values, evaluated, outcome}
 use Rattle.bq_outcome.specs.declared.outcome.Outcome.{Outcome}
-use Rattle.bq_outcome.specs.declared.outcome.Outcome.TheVariants.{Loaded, Faulty, Cyclic, LoadFailed}
+use Rattle.bq_outcome.specs.declared.outcome.Outcome.TheVariants.{Cyclic}
 use Rattle.bq_outcome.proofs.Solution.{values_same, cyclic_is, acyclic_is, outcome_is}
 use Rattle.bq_load_order.specs.Shown.{shown, slot}
-use Rattle.bq_load_order.specs.Slots.{IsLoadOrder, Tabulates, or_failed, found_at, or_else, or_cyclic, Done, Right, Filling, Ready, Puts}
+use Rattle.bq_load_order.specs.Slots.{IsLoadOrder, Tabulates, or_failed, found_at, or_else, or_cyclic, Filling, Ready, Puts}
 
 -- a topological order is an order for loading
 module _ (p : Loads) (order pending : List ℕ) (sorted : IsTopologicalOrder p order pending) (marks : MarksCycles p pending) where
@@ -48,6 +48,16 @@ tabulates_more f n xs x t e = record {
       (λ same. get_or_push xs x d m (t.wide ∙ sym same) ∙ e ∙ ap f (sym same))
       (λ ne. get_or_append_left xs (x ∷ []) d m (omega (arith, t.wide)) ∙ t.each m d (omega arith));
 }
+
+-- the same of what the elements of a list mean
+pub means_none : {A B : Type 0} (see : A → B) (f : ℕ → B) (xs : List A) → xs ≡ [] → Tabulates 0 f (map see xs)
+means_none see f xs e = subst (λ ys. Tabulates 0 f (map see ys)) (sym e) (tabulates_none f)
+
+pub means_more : {A B : Type 0} (see : A → B) (f : ℕ → B) (n : ℕ) (old new : List A) (x : A) → Tabulates n f (map see old) → see x ≡ f n → new ≡ old ++ x ∷ [] → Tabulates (n + 1) f (map see new)
+means_more see f n old new x t is e = subst (Tabulates (n + 1) f) (sym (ap (map see) e ∙ map_push see old x)) (tabulates_more f n (map see old) (see x) t is)
+
+pub tabulates_all : {A : Type 0} (f : ℕ → A) (n m : ℕ) (xs : List A) → Tabulates n f xs → n ≡ m → Tabulates m f xs
+tabulates_all f n m xs t e = subst (λ k. Tabulates k f xs) e t
 
 tabulates_same : {A : Type 0} (f h : ℕ → A) (n : ℕ) (xs : List A) → ((m : ℕ) → m < n → f m ≡ h m) → Tabulates n f xs → Tabulates n h xs
 tabulates_same f h n xs same t = record { wide = t.wide; each = λ m d lt. t.each m d lt ∙ same m lt }
