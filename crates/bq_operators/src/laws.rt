@@ -44,15 +44,16 @@ pub fn a_slice_backwards()
     ensures { (xs : List ℕ) → slice_of xs None None (negsuc 0) ≡ reverse xs }
 {}
 
-/// The index of an element is the number of those before it, or less by one than minus the number of those after it; any other
-/// index is F43.
+/// An element's index is the number of elements before it, or, counted from the end, -1 minus the number of those after it. Any
+/// other index is F43.
 pub fn indices_count_from_both_ends()
     ensures from_start { (before : List ℕ) (x : ℕ) (after : List ℕ) → indexed (length (before ++ x ∷ after)) (pos (length before)) ≡ Ok (length before) }
     ensures from_end { (before : List ℕ) (x : ℕ) (after : List ℕ) → indexed (length (before ++ x ∷ after)) (negsuc (length after)) ≡ Ok (length before) }
     ensures past { (len n : ℕ) → len ≤ n → (indexed len (pos n) ≡ Err Index) × (indexed len (negsuc n) ≡ Err Index) }
 {}
 
-/// The same of the places at which something is put in or a search begins, which an index past an end is not: it is that end.
+/// The same of the places where `insert` puts an element and where a search begins, but that an index past an end stands for that
+/// end.
 pub fn places_count_from_both_ends()
     ensures from_start { (before after : List ℕ) → clamped (length (before ++ after)) (pos (length before)) ≡ length before }
     ensures from_end { (before after : List ℕ) → 0 < length after → clamped (length (before ++ after)) (neg_ℤ (pos (length after))) ≡ length before }
