@@ -12,3 +12,7 @@ pub mod Declared
 pub mod Keywords
 -- the target that a call declares has each attribute that has to be given
 pub mod Mandatory
+-- an attribute of each type takes the values that the words of `Taken` have, and refuses the others
+pub mod Turns
+pub mod Standing
+pub mod Taken

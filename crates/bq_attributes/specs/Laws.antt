@@ -1,18 +1,22 @@
 -- Words of the laws.
-use Rattle.std.specs.Prelude.{◌≡◌, ℕ, Bool, true, List, ◌∷◌, ◌++◌, map, Ok, Err, bytes_eq}
+use Rattle.std.specs.Prelude.{◌≡◌, ◌↔◌, ℕ, Bool, true, List, ◌∷◌, ◌++◌, map, Ok, Err, bytes_eq}
 use Rattle.std.specs.List.{list_any, Contains}
 use Rattle.bq_source.specs.declared.fault.FaultKind.{FaultKind}
 use Rattle.bq_label.specs.declared.packages.BuildFile.{BuildFile}
 use Rattle.bq_label.specs.Label.{PackageParts}
 use Rattle.bq_schema.specs.declared.attribute.Attribute.{Attribute}
+use Rattle.bq_schema.specs.declared.attribute.AttributeType.{AttributeType}
 use Rattle.bq_schema.specs.Schema.{Rules}
 use Rattle.bq_target.specs.declared.target.Target.{Target}
+use Rattle.bq_target.specs.declared.value.AttributeValue.{AttributeValue}
 use Rattle.bq_target.specs.declared.value.GivenAttribute.{GivenAttribute}
 use Rattle.bq_value.specs.Datum.{Datum, string}
 use Rattle.bq_value.specs.Cells.{StoreView}
 use Rattle.bq_machine.specs.Args.{Passed}
 use Rattle.bq_machine.specs.Binding.{BoundView, bind}
 use Rattle.bq_attributes.specs.declared.arguments.Given.{Given}
+use Rattle.bq_attributes.specs.Values.{value_as}
+use Rattle.bq_attributes.specs.Taken.{IsTakenAs, IsRefusedFor}
 use Rattle.bq_attributes.specs.Arguments.{with_argument, with_arguments}
 use Rattle.bq_attributes.specs.Declarations.{keywords_alone, own_attributes, declaration}
 
@@ -46,3 +50,15 @@ MandatoryAttributesAreGiven =
     (own : PackageParts) (packages : List BuildFile) (store : StoreView) (rules : Rules) (rule : List ℕ) (line : ℕ) (p : Passed) (t : Target)
     → declaration own packages store rules rule line p ≡ Ok t
     → (e : List ℕ × Attribute) → Contains (own_attributes rules rule) e → e.1.is_mandatory ≡ true → has_attribute t.attributes e.0 ≡ true
+
+-- an attribute takes just the values of its type, and each as what it is
+abbrev pub EachTypeTakesItsValues : Type 0
+EachTypeTakesItsValues =
+    (own : PackageParts) (packages : List BuildFile) (store : StoreView) (type : AttributeType) (v : Datum) (w : AttributeValue)
+    → (value_as own packages store type v ≡ Ok w) ↔ IsTakenAs own packages store v w type
+
+-- it refuses the others, each for what is wrong with it
+abbrev pub EachTypeRefusesOtherValues : Type 0
+EachTypeRefusesOtherValues =
+    (own : PackageParts) (packages : List BuildFile) (store : StoreView) (type : AttributeType) (v : Datum) (why : FaultKind)
+    → (value_as own packages store type v ≡ Err why) ↔ IsRefusedFor own packages store v type why

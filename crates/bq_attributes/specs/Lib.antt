@@ -3,6 +3,7 @@ pub mod Scope
 pub mod Texts
 pub mod LabelTexts
 pub mod Values
+pub mod Taken
 pub mod Arguments
 pub mod Declarations
 pub mod Laws

@@ -9,7 +9,7 @@ ghost use Rattle.bq_machine.specs.Args.{Passed};
 ghost use Rattle.bq_target.specs.declared.target.Target.{Target};
 ghost use Rattle.bq_target.specs.Package.{IsOwnCall};
 ghost use Rattle.bq_attributes.specs.Declarations.{declaration};
-ghost use Rattle.bq_attributes.specs.Laws.{KeywordsKeepTheirOrder, TheFirstFaultyArgumentDecides, MandatoryAttributesAreGiven};
+ghost use Rattle.bq_attributes.specs.Laws.{KeywordsKeepTheirOrder, TheFirstFaultyArgumentDecides, MandatoryAttributesAreGiven, EachTypeTakesItsValues, EachTypeRefusesOtherValues};
 
 /// The target that a call declares is of the package of its BUILD file, and so are the files that the rule makes.
 #[tactic(auto, using(crate::proofs::Declared::declared_own))]
@@ -33,4 +33,18 @@ pub fn the_first_faulty_argument_decides()
 #[tactic(auto, using(crate::proofs::Mandatory::mandatory_attributes_are_given))]
 pub fn mandatory_attributes_are_given()
     ensures { MandatoryAttributesAreGiven }
+{}
+
+/// An attribute of each type takes just the values of its type: a boolean also 0 and 1, a list also a tuple, and of labels and
+/// outputs those that stand for a target or file and stay inside of their package.
+#[tactic(auto, using(crate::proofs::Taken::each_type_takes_its_values))]
+pub fn each_type_takes_its_values()
+    ensures { EachTypeTakesItsValues }
+{}
+
+/// It refuses each other value: F73 where it is of another type, then F78 or F75 where a text stands for nothing, then F37 where a
+/// label crosses into another package.
+#[tactic(auto, using(crate::proofs::Taken::each_type_refuses_other_values))]
+pub fn each_type_refuses_other_values()
+    ensures { EachTypeRefusesOtherValues }
 {}

@@ -27,8 +27,9 @@ pub use arguments::Callee;
 pub use declarations::declaration;
 pub use label_texts::{TextKind, label, labels};
 pub use laws::{
-    calls_declare_targets_of_their_package, keywords_keep_their_order,
-    mandatory_attributes_are_given, the_first_faulty_argument_decides,
+    calls_declare_targets_of_their_package, each_type_refuses_other_values,
+    each_type_takes_its_values, keywords_keep_their_order, mandatory_attributes_are_given,
+    the_first_faulty_argument_decides,
 };
 pub use scope::Scope;
 pub use texts::{text_in, texts_in};
