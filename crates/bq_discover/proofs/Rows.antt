@@ -1,5 +1,5 @@
 -- The numbers in a row are those of the labels that are loaded.
-use Rattle.std.proofs.Common.{◌≡◌, ◌∙◌, ◌<◌, ◌+◌, ℕ, true, false, not, List, [], ◌∷◌, ◌++◌, Option, None, Some, length, map, take, get_or, slice_get, refl, sym, ap, inl, inr, length-append}
+use Rattle.std.proofs.Common.{◌≡◌, ◌∙◌, ◌<◌, ◌+◌, ℕ, Bool, true, false, not, List, [], ◌∷◌, ◌++◌, Option, None, Some, length, map, take, get_or, slice_get, refl, sym, ap, inl, inr, length-append}
 use Rattle.std.specs.List.{Contains, IsDistinct, filter_map, flat_map, cons_option}
 use Rattle.std.specs.Prelude.{option_to_list}
 use Rattle.std.proofs.lemmas.Bool.{cases_Bool}
@@ -28,23 +28,24 @@ add_one ls known row l e = ap (λ (z : List ℕ). z ++ option_to_list (number_in
     one None = refl
     one (Some n) = refl
 
-module _ (ls loads : List LabelParts) (i : ℕ) (l : LabelParts) (h : i < length loads) (is : l ≡ get_or loads i l) (known : List LabelParts) (k : known ≡ with_labels [] (take i loads)) where
-  -- the labels that are loaded so far
-  pub loaded_next : (now : List LabelParts) → now ≡ with_label known l → now ≡ with_labels [] (take (i + 1) loads)
-  unfolding with_labels
-  loaded_next now n =
-      n ∙ (ap (λ (z : List LabelParts). with_label z l) k ∙ (sym (with_labels-append [] (take i loads) (l ∷ [])) ∙ ap (with_labels []) (sym (next_taken loads i l h is))))
+-- the labels that are loaded so far
+pub loaded_next : (loads : List LabelParts) (i : ℕ) (l : LabelParts) (known now : List LabelParts) → i < length loads → l ≡ get_or loads i l → known ≡ with_labels [] (take i loads) → now ≡ with_label known l
+    → now ≡ with_labels [] (take (i + 1) loads)
+unfolding with_labels
+loaded_next loads i l known now h is k n =
+    n ∙ (ap (λ (z : List LabelParts). with_label z l) k ∙ (sym (with_labels-append [] (take i loads) (l ∷ [])) ∙ ap (with_labels []) (sym (next_taken loads i l h is))))
 
-  pub row_stays : (row : List ℕ) → not (has_label known l) ≡ false → row ≡ filter_map (number_in ls) known → row ≡ filter_map (number_in ls) (with_label known l)
-  row_stays row old e = elim (cases_Bool (has_label known l)) [
-    | inl there ↦ e ∙ ap (filter_map (number_in ls)) (sym (known_label known l there))
-    | inr lacks ↦ let no : true ≡ false = sym (rw lacks refl) ∙ old in absurd (cc)
+module _ (ls known : List LabelParts) (l : LabelParts) (added : Bool) (is : added ≡ not (has_label known l)) (after : List LabelParts) (n : after ≡ with_label known l) (row : List ℕ) (e : row ≡ filter_map (number_in ls) known) where
+  pub row_stays : added ≡ false → row ≡ filter_map (number_in ls) after
+  row_stays old = elim (cases_Bool (has_label known l)) [
+    | inl there ↦ e ∙ ap (filter_map (number_in ls)) (sym (n ∙ known_label known l there))
+    | inr lacks ↦ let no : true ≡ false = sym (rw lacks refl) ∙ (sym is ∙ old) in absurd (cc)
   ]
 
-  pub row_grows : (row now : List ℕ) → not (has_label known l) ≡ true → row ≡ filter_map (number_in ls) known → now ≡ row ++ option_to_list (number_in ls l) → now ≡ filter_map (number_in ls) (with_label known l)
-  row_grows row now new e n = elim (cases_Bool (has_label known l)) [
-    | inl there ↦ let no : false ≡ true = sym (rw there refl) ∙ new in absurd (cc)
-    | inr lacks ↦ n ∙ (add_one ls known row l e ∙ ap (filter_map (number_in ls)) (sym (new_label known l lacks)))
+  pub row_grows : (now : List ℕ) → added ≡ true → now ≡ row ++ option_to_list (number_in ls l) → now ≡ filter_map (number_in ls) after
+  row_grows now new m = elim (cases_Bool (has_label known l)) [
+    | inl there ↦ let no : false ≡ true = sym (rw there refl) ∙ (sym is ∙ new) in absurd (cc)
+    | inr lacks ↦ m ∙ (add_one ls known row l e ∙ ap (filter_map (number_in ls)) (sym (n ∙ new_label known l lacks)))
   ]
 
 -- ---- the numbers of a row

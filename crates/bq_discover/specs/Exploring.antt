@@ -41,6 +41,11 @@ pub record AreFound (inputs : InputParts) (ms : List Module) : Type 0 where
   pub all : (l : LabelParts) → IsModule inputs l → Contains (labels_of ms) l
   pub only : (l : LabelParts) → Contains (labels_of ms) l → IsModule inputs l
 
+-- all modules are read, or there are too many
+abbrev pub AllAreRead : InputParts → Bool → List Module → Type 0
+AllAreRead inputs true ms = AreFound inputs ms
+AllAreRead inputs false ms = AreTooMany inputs
+
 -- all modules, or there are too many
 abbrev pub Finds : InputParts → Option (Vec Module Global) → Type 0
 Finds inputs None = AreTooMany inputs

@@ -6,7 +6,7 @@ ghost use Rattle.bq_label_set.specs.Labels.{with_labels};
 ghost use Rattle.bq_front.specs.Front.{loads_by};
 ghost use Rattle.bq_front.specs.Inputs.{InputParts};
 ghost use Rattle.bq_discover.specs.Modules.{build_labels};
-ghost use Rattle.bq_discover.specs.Exploring.{Explores, IsModuleAt, AfterReading, Finds};
+ghost use Rattle.bq_discover.specs.Exploring.{Explores, IsModuleAt, AfterReading, AllAreRead, Finds};
 
 use crate::modules::Module;
 use bq_board::MAX_MODULES;
@@ -66,9 +66,9 @@ impl Exploration {
         ensures more { OnOk result (length self.new.read.items ≡ length self.old.read.items + 1) }
         ensures found { OnOk result (self.new.found ≡ with_labels self.old.found (loads_by next.front)) }
     {
-        self.found.add_all(next.loads())?;
+        let added = self.found.add_all(next.loads());
         self.read.push(next)?;
-        Ok(())
+        added
     }
 
     /// Reads the next module and finds what it loads. It is false where all that was found is read.
@@ -84,6 +84,22 @@ impl Exploration {
         self.put(next)?;
         Ok(true)
     }
+
+    /// Reads all that is found, and what that loads. It is false where there are too many.
+    fn read_all(&mut self, alloc: Global, inputs: &Inputs<'_>) -> Result<bool, AllocError>
+        requires { Explores inputs.now self.old.found self.old.read.items }
+        ensures { IfOk result (λ all. AllAreRead inputs.now all self.new.read.items) }
+    {
+        for _ in 0..MAX_MODULES + 1 {
+            if self.read.len() > MAX_MODULES {
+                return Ok(false);
+            }
+            if !self.read_next(alloc, inputs)? {
+                return Ok(true);
+            }
+        }
+        Ok(false)
+    }
 }
 
 /// All modules of a workspace, where some are read; none where there are too many.
@@ -95,15 +111,11 @@ pub(crate) fn read_rest(
     requires { Explores inputs.now exploration.found exploration.read.items }
     ensures { IfOk result (Finds inputs.now) }
 {
-    for _ in 0..MAX_MODULES + 1 {
-        if exploration.read.len() > MAX_MODULES {
-            return Ok(None);
-        }
-        if !exploration.read_next(alloc, inputs)? {
-            return Ok(Some(exploration.read));
-        }
+    if exploration.read_all(alloc, inputs)? {
+        Ok(Some(exploration.read))
+    } else {
+        Ok(None)
     }
-    Ok(None)
 }
 
 /// The modules of a workspace in the order in which they are found; none where there are too many.

@@ -40,17 +40,26 @@ fn unread(alloc: Global, labels: &LabelSet, from: usize) -> Result<Vec<Reading>,
     Ok(readings)
 }
 
+/// The module of the label at that place, if there is one.
+fn module_at(
+    alloc: Global,
+    inputs: &Inputs<'_>,
+    labels: &LabelSet,
+    place: usize,
+) -> Result<Option<Module>, AllocError>
+    ensures { IfOk result (λ read. IfSome read (IsModuleAt inputs.now labels.now place)) }
+{
+    match labels.get(place) {
+        None => Ok(None),
+        Some(label) => Ok(Some(Module::of(alloc, inputs, label)?)),
+    }
+}
+
 /// Reads the module of the label at its place.
 fn read_one(alloc: Global, inputs: &Inputs<'_>, labels: &LabelSet, reading: &mut Reading)
     ensures { IsReading inputs.now labels.now reading.new }
 {
-    match labels.get(reading.place) {
-        None => reading.read = Ok(None),
-        Some(label) => match Module::of(alloc, inputs, label) {
-            Ok(next) => reading.read = Ok(Some(next)),
-            Err(_) => reading.read = Err(AllocError),
-        },
-    }
+    reading.read = module_at(alloc, inputs, labels, reading.place);
 }
 
 /// Reads the modules of labels, in at most so many threads.

@@ -1,6 +1,6 @@
 //! A module from its claim to its end.
-ghost use Rattle.std.specs.Prelude.{◌≡◌, ℕ, List, ◌+◌, ◌<◌, ◌++◌, ◌∷◌, [], length, vec_len, All, IfOk, OnOk};
-ghost use Rattle.bq_board.specs.Conditions.{Owes, Holds, HoldsIfWon};
+ghost use Rattle.std.specs.Prelude.{◌≡◌, ℕ, List, ◌+◌, ◌<◌, ◌++◌, ◌∷◌, [], length, vec_len, All, IfOk, IsTrue, OnOk};
+ghost use Rattle.bq_board.specs.Conditions.{Owes, Holds};
 ghost use Rattle.bq_board.specs.Plan.{IsOut};
 ghost use Rattle.bq_board.specs.Seats.{IsSeatOf, view_of};
 ghost use Rattle.bq_outcome.specs.Outcome.{outcome};
@@ -29,10 +29,8 @@ impl<'a, E: Evaluate> Pool<'a, E> {
         ensures brought { (before : List ℕ) → Brought E.see E.see_fault (outcome (E.means self.now.evaluator.now) self.now.graph.now) (length self.now.graph.now) before (view_of seat.old).finished modules.old.items → OnOk result (Brought E.see E.see_fault (outcome (E.means self.now.evaluator.now) self.now.graph.now) (length self.now.graph.now) before (view_of seat.new).finished modules.new.items) }
     {
         let _ = self.graph.len(); // for the proof: the graph is valid
-        match self.ask(seat, m) {
-            Claim::Won => {}
-            Claim::Taken => return Ok(()),
-            Claim::Waiting(_) => return Ok(()),
+        if !self.wins(seat, m) {
+            return Ok(());
         }
         let outcome = self.find(alloc, seat, m)?;
         let out = self.board.plan().edges_out(m);
@@ -43,14 +41,19 @@ impl<'a, E: Evaluate> Pool<'a, E> {
         Ok(())
     }
 
-    fn ask(&self, seat: &mut Seat<Import<E>>, m: usize) -> Claim
+    // Claims a module, and answers whether it was won.
+    fn wins(&self, seat: &mut Seat<Import<E>>, m: usize) -> bool
         requires seat { IsSeatOf self.now.board seat.old }
         requires known { m < length self.now.board.plan }
         ensures seat { IsSeatOf self.now.board seat.new }
-        ensures won { HoldsIfWon self.now.board.plan (view_of seat.new) m result }
+        ensures won { IsTrue result → Holds self.now.board.plan (view_of seat.new) m }
         ensures finished { (view_of seat.new).finished ≡ (view_of seat.old).finished }
     {
-        self.board.claim(seat, m)
+        match self.board.claim(seat, m) {
+            Claim::Won => true,
+            Claim::Taken => false,
+            Claim::Waiting(_) => false,
+        }
     }
 
     // Posts a module's value along all edges out of it, and finishes the module.

@@ -51,11 +51,40 @@ fn load_over<R: Threads + Wait + Sync, E: Evaluate>(
     requires order { IsTopologicalOrder pool.now.graph.now pool.now.order.modules.items pool.now.order.pending.items }
     ensures { IfOk result (λ v. Tabulates (length pool.now.graph.now) (outcome (E.means pool.now.evaluator.now) pool.now.graph.now) (map (shown E.see E.see_fault) v.items)) }
 {
-    let mut found = empty_slots(alloc, pool.graph.len())?;
+    let jobs = brought(rt, alloc, pool, seats, workers)?;
+    let found = found_by(alloc, pool, jobs.as_slice())?;
+    complete(alloc, pool.evaluator, pool.graph, &pool.order, found)
+}
+
+// What all workers bring, each in a thread of its own.
+fn brought<R: Threads + Wait + Sync, E: Evaluate>(
+    rt: &R,
+    alloc: Global,
+    pool: &Pool<'_, E>,
+    seats: Vec<PoolSeat<E>>,
+    workers: usize,
+) -> Result<Vec<Job<E>>, AllocError>
+    requires workers { 0 < workers }
+    requires seats { All (λ s. IsSeatOf pool.now.board s.place) seats.items }
+    ensures { IfOk result (λ v. All (λ j. IfSome j.answer (λ r. IfOk r (λ w. AreRight E.see E.see_fault (outcome (E.means pool.now.evaluator.now) pool.now.graph.now) (length pool.now.graph.now) w.modules.items))) v.items) }
+{
     let mut jobs = jobs_of(alloc, pool, seats, workers)?;
     serve_all(rt, alloc, pool, workers, jobs.as_mut_slice());
-    put_back(pool, &mut found, jobs.as_slice())?;
-    complete(alloc, pool.evaluator, pool.graph, &pool.order, found)
+    Ok(jobs)
+}
+
+// A slot for each module, with what the workers brought.
+fn found_by<E: Evaluate>(
+    alloc: Global,
+    pool: &Pool<'_, E>,
+    jobs: &[Job<E>],
+) -> Result<Vec<Option<Shared<E::Value, E::Fault>>>, AllocError>
+    requires right { All (λ j. IfSome j.answer (λ r. IfOk r (λ w. AreRight E.see E.see_fault (outcome (E.means pool.now.evaluator.now) pool.now.graph.now) (length pool.now.graph.now) w.modules.items))) jobs.now }
+    ensures { IfOk result (λ v. Filling (outcome (E.means pool.now.evaluator.now) pool.now.graph.now) (length pool.now.graph.now) (map (slot E.see E.see_fault) v.items) []) }
+{
+    let mut found = empty_slots(alloc, pool.graph.len())?;
+    put_back(pool, &mut found, jobs)?;
+    Ok(found)
 }
 
 // One job for each worker.

@@ -1,12 +1,13 @@
 //! How a pool begins, and its seats.
 ghost use Rattle.std.specs.Prelude.{◌≡◌, ◌+◌, ◌<◌, ◌≤◌, length, All, IfOk, vec_len};
 ghost use Rattle.bq_board.specs.Board.{blank};
+ghost use Rattle.bq_board.specs.Cut.{IsCut};
 ghost use Rattle.bq_board.specs.Seats.{IsSeatOf, base_of, view_of};
-ghost use Rattle.bq_board.specs.Topological.{IsTopologicalOrder};
+ghost use Rattle.bq_board.specs.Topological.{IsTopologicalOrder, MarksCycles};
 
 use crate::import::{Base, Import};
 use crate::pool::{Pool, PoolSeat};
-use bq_board::{Board, Graph, MAX_SEATS, Plan, Seat};
+use bq_board::{Board, Graph, MAX_SEATS, Order, Plan, Seat};
 use bq_load_order::Evaluate;
 use crossbeam_deque::{Stealer, Worker};
 use std::alloc::{AllocError, Global};
@@ -31,15 +32,9 @@ impl<'a, E: Evaluate> Pool<'a, E> {
         ensures fresh { IfOk result (λ r. All (λ s. IsSeatOf r.0.board s.place × (view_of s.place ≡ blank (base_of r.0.board) r.0.board.plan)) r.1.items) }
     {
         let order = graph.topological_order(alloc)?;
-        let plan = Plan::cut(alloc, graph, &order)?;
-        let base = Base {
-            evaluator: Snapshot::of(evaluator),
-            graph: Snapshot::of(graph),
-        };
-        let (board, places) = Board::open(alloc, plan, seats, &base)?;
+        let (board, places) = board_of(alloc, evaluator, graph, &order, seats)?;
         let stop = AtomicBool::new(false);
-        let seats = seated(alloc, &board, &stop, places)?;
-        let stealers = stealers_of(alloc, seats.as_slice())?;
+        let (seats, stealers) = seats_and_stealers(alloc, &board, &stop, places)?;
         let pool = Pool {
             evaluator,
             graph,
@@ -50,6 +45,30 @@ impl<'a, E: Evaluate> Pool<'a, E> {
         };
         Ok((pool, seats))
     }
+}
+
+// A board of a graph's modules, none of them begun, and its seats, which have done nothing.
+fn board_of<E: Evaluate>(
+    alloc: Global,
+    evaluator: &E,
+    graph: &Graph,
+    order: &Order,
+    seats: usize,
+) -> Result<(Board<Import<E>>, Vec<Seat<Import<E>>>), AllocError>
+    requires seats { (0 < seats) × (seats ≤ MAX_SEATS) }
+    requires cyclic { MarksCycles graph.now order.now.pending.items }
+    ensures of { IfOk result (λ r. ((base_of r.0).evaluator.value ≡ evaluator.now) × ((base_of r.0).graph.value ≡ graph.now)) }
+    ensures plan { IfOk result (λ r. IsCut graph.now r.0.plan) }
+    ensures count { IfOk result (λ r. vec_len r.1 ≡ seats) }
+    ensures fresh { IfOk result (λ r. All (λ s. IsSeatOf r.0 s × (view_of s ≡ blank (base_of r.0) r.0.plan)) r.1.items) }
+{
+    let plan = Plan::cut(alloc, graph, order)?;
+    let base = Base {
+        evaluator: Snapshot::of(evaluator),
+        graph: Snapshot::of(graph),
+    };
+    // for the proof: the board is by this base and plan
+    Ok(Board::open(alloc, plan, seats, &base)?)
 }
 
 // The list of seat `i` of `seats`: its share of the modules that load nothing.
@@ -93,6 +112,22 @@ fn seated<E: Evaluate>(
         seats.push(PoolSeat { place, list })?;
     }
     Ok(seats)
+}
+
+// Each place with its list, and what steals from these lists.
+fn seats_and_stealers<E: Evaluate>(
+    alloc: Global,
+    board: &Board<Import<E>>,
+    stop: &AtomicBool,
+    places: Vec<Seat<Import<E>>>,
+) -> Result<(Vec<PoolSeat<E>>, Vec<Stealer<u32>>), AllocError>
+    requires { All (λ s. IsSeatOf board.now s × (view_of s ≡ blank (base_of board.now) board.now.plan)) places.items }
+    ensures count { IfOk result (λ r. vec_len r.0 ≡ vec_len places) }
+    ensures fresh { IfOk result (λ r. All (λ s. IsSeatOf board.now s.place × (view_of s.place ≡ blank (base_of board.now) board.now.plan)) r.0.items) }
+{
+    let seats = seated(alloc, board, stop, places)?;
+    let stealers = stealers_of(alloc, seats.as_slice())?;
+    Ok((seats, stealers))
 }
 
 fn stealers_of<E: Evaluate>(

@@ -1,27 +1,19 @@
-use Rattle.std.proofs.Common.{List, All, map, length, sym, subst, arith}
-use Rattle.std.proofs.lemmas.List.{length-map}
-use Rattle.bq_board.specs.Seats.{IsSeatOf}
+use Rattle.std.proofs.Common.{List, All, length, sym, subst}
+use Rattle.std.specs.Prelude.{IfOk, IfSome}
 use Rattle.bq_outcome.specs.Outcome.{outcome}
-use Rattle.bq_load_order.specs.Shown.{slot}
-use Rattle.bq_load_order.proofs.Filled.{fill_none, none_shown}
+use Rattle.bq_workers.specs.Brought.{AreRight}
 use Rattle.bq_workers.specs.declared.load.Job.{Job}
 use Rattle.bq_workers.proofs.load.load_over.Goals as goal
 
-pub put_back-requires-clause-found : goal.put_back-requires-clause-found
-put_back-requires-clause-found g c _ _ =
-    let held = slot g.E.Evaluate.see g.E.Evaluate.see_fault in
-    fill_none (outcome (g.E.Evaluate.means c.args.pool.now.evaluator.now) c.args.pool.now.graph.now) (length c.args.pool.now.graph.now) (map held c.in_ok-found.found.items)
-    (omega (arith, length-map c.in_ok-found.found.items held, c.in_ok-found.ensures.0, c.in_ok-found.found.ok, c.len.ensures.len)) (none_shown g.E.Evaluate.see g.E.Evaluate.see_fault c.in_ok-found.found.items c.in_ok-found.ensures.1)
+pub brought-requires-clause-workers : goal.brought-requires-clause-workers
+brought-requires-clause-workers g c _ _ = c.requires.workers
 
-pub jobs_of-requires-clause-seats : goal.jobs_of-requires-clause-seats
-jobs_of-requires-clause-seats g c _ _ = c.requires.seats
+pub brought-requires-clause-seats : goal.brought-requires-clause-seats
+brought-requires-clause-seats g c _ _ = c.requires.seats
 
-pub serve_all-requires-clause-workers : goal.serve_all-requires-clause-workers
-serve_all-requires-clause-workers g c _ _ = c.requires.workers
-
-pub serve_all-requires-clause-seats : goal.serve_all-requires-clause-seats
-serve_all-requires-clause-seats g c _ _ =
-    subst (λ (js : List (Job _ _ _)). All (λ j. IsSeatOf c.args.pool.now.board j.seat.place) js) (sym c.as_mut_slice.ensures.value) c.in_ok-jobs.ensures
+pub found_by-requires-clause-right : goal.found_by-requires-clause-right
+found_by-requires-clause-right g c _ _ =
+    subst (λ (js : List (Job _ _ _)). All (λ j. IfSome j.answer (λ r. IfOk r (λ w. AreRight g.E.Evaluate.see g.E.Evaluate.see_fault (outcome (g.E.Evaluate.means c.args.pool.now.evaluator.now) c.args.pool.now.graph.now) (length c.args.pool.now.graph.now) w.modules.items))) js) (sym c.as_slice.ensures.value) c.in_ok-jobs.ensures
 
 pub complete-requires-clause-order : goal.complete-requires-clause-order
 complete-requires-clause-order g c _ _ = c.requires.order
@@ -30,7 +22,7 @@ pub complete-requires-clause-cyclic : goal.complete-requires-clause-cyclic
 complete-requires-clause-cyclic g c _ _ = c.args.pool.now.cyclic
 
 pub complete-requires-clause-found : goal.complete-requires-clause-found
-complete-requires-clause-found g c _ _ = c.in_ok-put_back.ensures
+complete-requires-clause-found g c _ _ = c.in_ok-found.ensures
 
 pub returns : goal.returns
 returns g c = c.complete.ensures

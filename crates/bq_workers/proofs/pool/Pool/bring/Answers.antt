@@ -8,26 +8,23 @@ use Rattle.bq_workers.specs.declared.pool.Evaluated.{Evaluated}
 use Rattle.bq_workers.proofs.Bringing.{brought_more}
 use Rattle.bq_workers.proofs.pool.Pool.bring.Goals as goal
 
-pub ask-requires-clause-seat : goal.ask-requires-clause-seat
-ask-requires-clause-seat g c _ _ = c.requires.seat
+pub wins-requires-clause-seat : goal.wins-requires-clause-seat
+wins-requires-clause-seat g c _ _ = c.requires.seat
 
-pub ask-requires-clause-known : goal.ask-requires-clause-known
-ask-requires-clause-known g c _ _ = c.requires.known
+pub wins-requires-clause-known : goal.wins-requires-clause-known
+wins-requires-clause-known g c _ _ = c.requires.known
 
-pub returns-in-Taken-clause-brought : goal.returns-in-Taken-clause-brought
-returns-in-Taken-clause-brought g c before h = subst (λ (f : List ℕ). Brought g.E.Evaluate.see g.E.Evaluate.see_fault (outcome (g.E.Evaluate.means c.args.self.now.evaluator.now) c.args.self.now.graph.now) (length c.args.self.now.graph.now) before f c.args.modules.now.items) (sym c.ask.ensures.finished) h
-
-pub returns-in-Waiting-clause-brought : goal.returns-in-Waiting-clause-brought
-returns-in-Waiting-clause-brought g c before h = subst (λ (f : List ℕ). Brought g.E.Evaluate.see g.E.Evaluate.see_fault (outcome (g.E.Evaluate.means c.args.self.now.evaluator.now) c.args.self.now.graph.now) (length c.args.self.now.graph.now) before f c.args.modules.now.items) (sym c.ask.ensures.finished) h
+pub returns-then-not-wins-clause-brought : goal.returns-then-not-wins-clause-brought
+returns-then-not-wins-clause-brought g c before h = subst (λ (f : List ℕ). Brought g.E.Evaluate.see g.E.Evaluate.see_fault (outcome (g.E.Evaluate.means c.args.self.now.evaluator.now) c.args.self.now.graph.now) (length c.args.self.now.graph.now) before f c.args.modules.now.items) (sym c.wins.ensures.finished) h
 
 pub find-requires-clause-seat : goal.find-requires-clause-seat
-find-requires-clause-seat g c _ _ = c.ask.ensures.seat
+find-requires-clause-seat g c _ _ = c.wins.ensures.seat
 
 pub find-requires-clause-known : goal.find-requires-clause-known
 find-requires-clause-known g c _ _ = c.requires.known
 
 pub find-requires-clause-holds : goal.find-requires-clause-holds
-find-requires-clause-holds g c _ _ = c.in-Won.ensures.won
+find-requires-clause-holds g c _ _ = c.wins.ensures.won c.if-not-wins.false
 
 pub deliver-requires-clause-seat : goal.deliver-requires-clause-seat
 deliver-requires-clause-seat g c _ _ = c.find.ensures.seat
@@ -52,6 +49,6 @@ returns-clause-seat g c = c.deliver.ensures.seat
 
 pub returns-clause-brought : goal.returns-clause-brought
 returns-clause-brought g c before h =
-    let finished = c.deliver.ensures.finished ∙ ap (λ (f : List ℕ). f ++ c.args.m ∷ []) (c.find.ensures.finished ∙ c.ask.ensures.finished) in
+    let finished = c.deliver.ensures.finished ∙ ap (λ (f : List ℕ). f ++ c.args.m ∷ []) (c.find.ensures.finished ∙ c.wins.ensures.finished) in
     subst (λ (es : List (Evaluated _ _)). Brought g.E.Evaluate.see g.E.Evaluate.see_fault (outcome (g.E.Evaluate.means c.args.self.now.evaluator.now) c.args.self.now.graph.now) (length c.args.self.now.graph.now) before c.deliver.new.seat.place.me.0.finished es) (sym c.in_ok-push.ensures.items)
     (brought_more g.E.Evaluate.see g.E.Evaluate.see_fault (outcome (g.E.Evaluate.means c.args.self.now.evaluator.now) c.args.self.now.graph.now) (length c.args.self.now.graph.now) before _ _ c.args.modules.now.items _ h finished (omega (arith, c.requires.known, c.args.self.now.plan.wide)) c.in_ok-outcome.ensures.outcome)

@@ -1,6 +1,20 @@
 use Rattle.std.proofs.Common.{refl, ◌∙◌}
 use Rattle.bq_workers.proofs.pool.Pool.open.Goals as goal
 
+pub board_of-requires-clause-seats : goal.board_of-requires-clause-seats
+board_of-requires-clause-seats g c _ _ = c.requires
+
+pub board_of-requires-clause-cyclic : goal.board_of-requires-clause-cyclic
+board_of-requires-clause-cyclic g c _ _ = c.in_ok-order.ensures.cyclic
+
+pub invariant_of-pool : goal.invariant_of-pool
+invariant_of-pool g c = record {
+  by = c.in_ok-board.ensures.of.0;
+  of = c.in_ok-board.ensures.of.1;
+  plan = c.in_ok-board.ensures.plan;
+  cyclic = c.in_ok-order.ensures.cyclic;
+}
+
 pub returns-clause-of : goal.returns-clause-of
 returns-clause-of g c = (refl, refl)
 

@@ -1,0 +1,20 @@
+use Rattle.std.proofs.Common.{ap, sym, ◌∙◌}
+use Rattle.bq_board.specs.Board.{blank}
+use Rattle.bq_workers.proofs.opening.board_of.Goals as goal
+
+pub cut-requires : goal.cut-requires
+cut-requires g c = c.requires.cyclic
+
+pub returns-clause-of : goal.returns-clause-of
+returns-clause-of g c =
+    let is = c.in_ok-open.ensures.plan.1 in
+    (ap (λ b. b.evaluator.value) is ∙ c.of.ensures, ap (λ b. b.graph.value) is ∙ c.of-2.ensures)
+
+pub returns-clause-count : goal.returns-clause-count
+returns-clause-count g c = c.in_ok-open.ensures.count
+
+pub returns-clause-fresh : goal.returns-clause-fresh
+returns-clause-fresh g c k d h =
+    let one = c.in_ok-open.ensures.fresh k d h in
+    let by = c.in_ok-open.ensures.plan in
+    (one.0, one.1 ∙ (λ i. blank (sym by.1 i) (sym by.0 i)))
