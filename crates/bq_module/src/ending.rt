@@ -68,9 +68,28 @@ pub(crate) fn module_of(
 ) -> Result<Outcome, AllocError>
     ensures { IfOk result (λ o. ended_of o ≡ evaluated (frozen machine.store (frozen_values «module».now.file.now «module».now.imports.now (slots_of globals.now))) machine.prints) }
 {
-    let values = frozen_values(alloc, module, globals)?;
     let (store, prints) = machine.into_parts();
+    let values = frozen_values(alloc, module, globals)?;
     Ok(Outcome::Module(freeze(alloc, store, values)?, prints))
+}
+
+/// The fault of a file that stopped.
+fn fault_of(alloc: Global, kind: FaultKind, machine: &Machine) -> Result<Fault, AllocError>
+    ensures { IfOk result (λ fault. fault ≡ fault_of (stop_at kind machine.now)) }
+{
+    Ok(Fault {
+        kind,
+        line: machine.line(),
+        detail: detail_of(alloc, kind, machine.message())?,
+    })
+}
+
+/// What a machine printed.
+fn prints_of(machine: Machine) -> Vec<Bytes>
+    ensures { result.items ≡ machine.prints }
+{
+    let (_store, prints) = machine.into_parts();
+    prints
 }
 
 /// A file that stopped.
@@ -81,13 +100,9 @@ pub(crate) fn failed(
 ) -> Result<Outcome, AllocError>
     ensures { IfOk result (λ o. ended_of o ≡ failed (fault_of (stop_at kind machine)) machine.prints) }
 {
-    let fault = Fault {
-        kind,
-        line: machine.line(),
-        detail: detail_of(alloc, kind, machine.message())?,
-    };
-    let (_store, prints) = machine.into_parts();
-    Ok(Outcome::Failed(fault, prints))
+    let fault = fault_of(alloc, kind, &machine);
+    let prints = prints_of(machine);
+    Ok(Outcome::Failed(fault?, prints))
 }
 
 /// The message of `fail` as `repr` shows it; the other faults of an evaluation tell nothing.

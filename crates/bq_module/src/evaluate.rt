@@ -55,8 +55,8 @@ fn outcome_of<H: Host>(
 {
     let _ = host;
     match ran {
-        Ok(globals) => Ok(module_of(alloc, module, &globals, machine)?),
-        Err(EvalErr::Bad(kind)) => Ok(failed(alloc, kind, machine)?),
+        Ok(globals) => module_of(alloc, module, &globals, machine),
+        Err(EvalErr::Bad(kind)) => failed(alloc, kind, machine),
         Err(EvalErr::Memory) => Err(AllocError),
     }
 }
