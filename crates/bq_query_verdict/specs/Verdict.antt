@@ -1,9 +1,11 @@
 -- What is wrong with the tree of a query: the first fault in the order of its text, at one place that of the least number; and the
 -- patterns that come before it, in order. A pattern that is no regular expression is a fault at its place (Q4).
-use Rattle.std.specs.Prelude.{ℕ, ◌+◌, ◌==◌, ◌&&◌, ◌||◌, nat_le, not, Bool, List, [], ◌∷◌, ◌++◌, length, Option, Some, None, is_some, Result, Ok, Err, bytes_eq, if◌then◌else◌, ◌≡◌, ◌≢◌}
+use Rattle.std.specs.Prelude.{ℕ, ◌+◌, ◌==◌, ◌&&◌, ◌||◌, nat_le, not, Bool, true, false, List, [], ◌∷◌, ◌++◌, length, Option, Some, None, is_some, Result, Ok, Err, bytes_eq, if◌then◌else◌, ◌≡◌, ◌≢◌}
 use Rattle.std.specs.List.{list_any, list_all}
 use Rattle.bq_label.specs.Label.{package_at}
 use Rattle.bq_label.specs.Reading.{label_of}
+use Rattle.bq_source.specs.declared.fault.SourceErr.{SourceErr}
+use Rattle.bq_source.specs.declared.fault.SourceErr.TheVariants as source
 use Rattle.bq_query.specs.declared.query_error.QueryErr.{QueryErr}
 use Rattle.bq_query.specs.declared.query_error.QueryErr.TheVariants as e
 use Rattle.bq_query.specs.declared.function.Function.{Function}
@@ -24,6 +26,12 @@ Fault = Option QueryErr
 abbrev pub Tells : Fault → Result (Unit {0}) QueryErr → Type 0
 Tells fault (Ok x) = fault ≡ None
 Tells fault (Err why) = why ≢ e.Memory → fault ≡ Some why
+
+-- whether something was read, out of memory aside
+abbrev pub IsRead : {A : Type 0} → Result A SourceErr → Bool → Type 0
+IsRead (Ok x) b = b ≡ true
+IsRead (Err (source.Bad fault)) b = b ≡ false
+IsRead (Err source.Memory) b = ⊥
 
 -- ---- words and names
 
@@ -131,6 +139,9 @@ abbrev pub parts : List Part → List (List ℕ) → List (List ℕ) → Judged
 parts [] names ps = (ps, None)
 parts (x ∷ xs) names ps = x.all names ps >>= λ qs. parts xs names qs
 
+abbrev pub call : List ℕ → List Part → List (List ℕ) → List (List ℕ) → Judged
+call f xs names ps = (ps, function f (length xs)) >>= λ qs. arguments (kinds_by (function_named f)) xs names qs
+
 -- a part that is no word, with no fault at its first token
 abbrev pub larger : (List (List ℕ) → List (List ℕ) → Judged) → Part
 larger all = record { word = None; at_first = λ names. None; all = all }
@@ -146,7 +157,7 @@ query_step (tree.Set ws) = larger (λ names ps. (ps, words ws))
 query_step (tree.Call f xs) = record {
   word = None;
   at_first = λ names. function f (length xs);
-  all = λ names ps. (ps, function f (length xs)) >>= λ qs. arguments (kinds_by (function_named f)) xs names qs;
+  all = call f xs;
 }
 query_step (tree.Let n x y) = larger (λ names ps. x.all names ps >>= λ qs. y.all (names ++ n ∷ []) qs)
 query_step (tree.Chain x os) = record {

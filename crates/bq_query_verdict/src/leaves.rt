@@ -12,15 +12,22 @@ use bq_query::{Function, QueryErr, begins_pattern, function_named, is_left_out};
 use bq_source::{Bytes, SourceErr};
 use std::alloc::{AllocError, Global};
 
-/// Whether the text reads as a label in the root package.
-fn is_label(alloc: Global, text: &[u8]) -> Result<bool, AllocError>
-    ensures { IfOk result (λ b. b ≡ is_some (label_of (package_at [] []) text.now)) }
+/// Whether something was read.
+fn is_read<T: Drop>(read: Result<T, SourceErr>) -> Result<bool, AllocError>
+    ensures { IfOk result (spec.IsRead read) }
 {
-    match read_label(alloc, text, &PackageId::root()) {
+    match read {
         Ok(_) => Ok(true),
         Err(SourceErr::Bad(_)) => Ok(false),
         Err(SourceErr::Memory) => Err(AllocError),
     }
+}
+
+/// Whether the text reads as a label in the root package.
+fn is_label(alloc: Global, text: &[u8]) -> Result<bool, AllocError>
+    ensures { IfOk result (λ b. b ≡ is_some (label_of (package_at [] []) text.now)) }
+{
+    is_read(read_label(alloc, text, &PackageId::root()))
 }
 
 /// A word as a target pattern: Q3 where it begins as none that can be answered, Q8 where it can't be read.

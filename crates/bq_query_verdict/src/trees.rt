@@ -168,6 +168,37 @@ fn operations(
     Ok(())
 }
 
+/// A function with its arguments.
+#[cycle(query)]
+fn call(
+    alloc: Global,
+    names: &[Bytes],
+    found: &mut Items<Bytes>,
+    name: &Bytes,
+    queries: &[Query],
+) -> Result<(), QueryErr>
+    ensures { Says (spec.call name.now (map part_of queries.now) names.now found.old) result found.new }
+{
+    function(name, queries.len())?;
+    let kinds = kinds_of(name.as_slice());
+    arguments(alloc, names, found, kinds, queries)
+}
+
+/// The body of a let that binds the name.
+#[cycle(query)]
+fn body(
+    alloc: Global,
+    names: &[Bytes],
+    found: &mut Items<Bytes>,
+    name: &Bytes,
+    query: &Query,
+) -> Result<(), QueryErr>
+    ensures { Says ((part_of query.now).all (names.now ++ name.now ∷ []) found.old) result found.new }
+{
+    let names = with_name(alloc, names, name)?;
+    judged(alloc, names.as_slice(), found, query)
+}
+
 /// A tree where the lets around it bind these names.
 #[cycle(query)]
 fn judged(
@@ -183,15 +214,10 @@ fn judged(
         Query::Variable(name) => variable(names, name),
         Query::Parenthesized(inner) => judged(alloc, names, found, inner.get()),
         Query::Set(all) => words(alloc, all.as_slice()),
-        Query::Call(name, queries) => {
-            function(name, queries.len())?;
-            let kinds = kinds_of(name.as_slice());
-            arguments(alloc, names, found, kinds, queries.as_slice())
-        }
-        Query::Let(name, value, body) => {
+        Query::Call(name, queries) => call(alloc, names, found, name, queries.as_slice()),
+        Query::Let(name, value, inner) => {
             judged(alloc, names, found, value.get())?;
-            let names = with_name(alloc, names, name)?;
-            judged(alloc, names.as_slice(), found, body.get())
+            body(alloc, names, found, name, inner.get())
         }
         Query::Chain(first, rest) => {
             judged(alloc, names, found, first.get())?;

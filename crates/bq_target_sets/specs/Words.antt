@@ -1,7 +1,9 @@
 -- Which targets a word names (Bazel, "Target patterns").
-use Rattle.std.specs.Prelude.{◌≡◌, ℕ, ◌++◌, ◌&&◌, ◌||◌, not, nat_le, nat_lt, length, slice_index_or, Bool, true, false, List, [], ◌∷◌, map, Option, Some, None, bytes_eq, codes, nat_eq, if◌then◌else◌}
+use Rattle.std.specs.Prelude.{◌≡◌, ℕ, ◌++◌, ◌&&◌, ◌||◌, not, nat_le, nat_lt, length, slice_index_or, Bool, true, false, List, [], ◌∷◌, map, Option, Some, None, Result, Ok, Err, bytes_eq, codes, nat_eq, if◌then◌else◌}
 use Rattle.std.specs.List.{list_any, starts_with}
 use Rattle.std.specs.Option.{option_map}
+use Rattle.bq_source.specs.declared.fault.SourceErr.{SourceErr}
+use Rattle.bq_source.specs.declared.fault.SourceErr.TheVariants as source
 use Rattle.bq_label.specs.Label.{PackageParts, LabelParts, package_at, package_of, repository_prefix, full_form}
 use Rattle.bq_label.specs.Reading.{label_of}
 use Rattle.bq_graph.specs.Marks.{Marked}
@@ -29,6 +31,12 @@ is_rule t = is_rule_kind t.kind
 -- the target is a rule, where rules alone are wanted
 abbrev pub is_wanted : Bool → Target → Bool
 is_wanted rules t = is_rule t || not rules
+
+-- what was read, if anything was, out of memory aside
+abbrev pub WasRead : {A : Type 0} → Result A SourceErr → Option A → Type 0
+WasRead (Ok x) o = o ≡ Some x
+WasRead (Err (source.Bad fault)) o = o ≡ None
+WasRead (Err source.Memory) o = ⊥
 
 -- the label that a word reads as
 abbrev pub label_named : List ℕ → Option LabelParts

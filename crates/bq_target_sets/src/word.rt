@@ -1,9 +1,9 @@
 //! The targets that a word names: `//p:n`, `//p:all`, `//p:*`, `//p/...`, `//p/...:*`. All of a package, or of the packages beneath it,
 //! stand together in the order of labels, since their labels begin alike.
 
-ghost use Rattle.std.specs.Prelude.{◌≡◌, ◌++◌, ◌∷◌, [], ◌&&◌, ◌<◌, ◌≤◌, Some, length, IfOk, OnOk};
+ghost use Rattle.std.specs.Prelude.{◌≡◌, ◌++◌, ◌∷◌, [], ◌&&◌, ◌<◌, ◌≤◌, Some, length, codes, IfOk, OnOk};
 ghost use Rattle.bq_target_sets.specs.Order.{texts_of, AreInOrder, IsPlaceOf};
-ghost use Rattle.bq_target_sets.specs.Words.{Adds, Range, is_rule, is_wanted, begins, own, beneath, package_text, package_named, label_named, has_label, is_label_form, is_deep, are_rules, names, names_in, names_at};
+ghost use Rattle.bq_target_sets.specs.Words.{Adds, Range, WasRead, is_rule, is_wanted, begins, own, beneath, package_text, package_named, label_named, has_label, is_label_form, is_deep, are_rules, names, names_in, names_at};
 
 use crate::order::{place_of, target_of};
 use bq_label::{Label, PackageId, print_label, read_label};
@@ -28,15 +28,31 @@ fn is_wanted(rules: bool, target: &Target) -> bool
     is_rule(target) || !rules
 }
 
+/// What was read, if anything was.
+fn read_or_none<T>(read: Result<T, SourceErr>) -> Result<Option<T>, AllocError>
+    ensures { IfOk result (WasRead read) }
+{
+    match read {
+        Ok(value) => Ok(Some(value)),
+        Err(SourceErr::Bad(_)) => Ok(None),
+        Err(SourceErr::Memory) => Err(AllocError),
+    }
+}
+
 /// The label that a word reads as.
 pub fn label_named(alloc: Global, word: &[u8]) -> Result<Option<Label>, AllocError>
     ensures { IfOk result (λ l. l ≡ label_named word.now) }
 {
-    match read_label(alloc, word, &PackageId::root()) {
-        Ok(label) => Ok(Some(label)),
-        Err(SourceErr::Bad(_)) => Ok(None),
-        Err(SourceErr::Memory) => Err(AllocError),
-    }
+    read_or_none(read_label(alloc, word, &PackageId::root()))
+}
+
+/// The label `part:x`.
+fn label_in(alloc: Global, part: &[u8]) -> Result<Option<Label>, AllocError>
+    ensures { IfOk result (λ l. l ≡ label_named (part.now ++ codes ":x")) }
+{
+    let mut word = part.to_vec(alloc)?;
+    word.extend_from_slice(b":x")?;
+    label_named(alloc, &word)
 }
 
 /// The package that the part of a word before `:` or `/...` names.
@@ -44,9 +60,7 @@ pub fn label_named(alloc: Global, word: &[u8]) -> Result<Option<Label>, AllocErr
 pub fn package_named(alloc: Global, part: &[u8]) -> Result<Option<PackageId>, AllocError>
     ensures { IfOk result (λ p. p ≡ package_named part.now) }
 {
-    let mut word = part.to_vec(alloc)?;
-    word.extend_from_slice(b":x")?;
-    match label_named(alloc, &word)? {
+    match label_in(alloc, part)? {
         Some(label) => Ok(Some(label.package_id().share()?)),
         None => Ok(None),
     }

@@ -1,0 +1,12 @@
+use Rattle.std.proofs.Common.{[], subst}
+use Rattle.bq_source.specs.Gives.{Gives}
+use Rattle.bq_source.specs.declared.fault.SourceErr.TheVariants.{Bad}
+use Rattle.bq_label.specs.Label.{LabelParts, PackageParts, package_at}
+use Rattle.bq_label.specs.Reading.{label_of, or_bad_label}
+use Rattle.bq_query_verdict.proofs.Parts.{label_known}
+use Rattle.bq_query_verdict.proofs.leaves.is_label.Goals as goal
+
+pub returns : goal.returns
+returns c =
+    let read = subst (λ (p : PackageParts). Gives (λ (l : LabelParts). l) Bad c.read_label-2.result (or_bad_label (label_of p c.args.text.now))) c.root.ensures c.read_label-2.ensures in
+    label_known (label_of (package_at [] []) c.args.text.now) c.read_label-2.result c.is_read.result read c.is_read.ensures
