@@ -114,8 +114,9 @@ impl Given {
         if is_none(value) {
             return Ok(());
         }
+        let name = name.share()?;
         let given = value_as(alloc, callee.scope, callee.store, kind, value)?;
-        self.push(name.share()?, given)?;
+        self.push(name, given)?;
         Ok(())
     }
 

@@ -119,13 +119,13 @@ fn given(alloc: Global, callee: Callee<'_>, keywords: &Dict) -> Result<Given, Ev
 fn whole(rule: &Bytes, line: u32, is_whole: bool, given: Given) -> Result<Target, EvalErr>
     ensures { Gives (λ t. t) Bad result (if_whole is_whole rule.now line given.name given) }
 {
+    if !is_whole {
+        return Err(EvalErr::Bad(FaultKind::MissingAttribute));
+    }
     let Given { name, attributes } = given;
     let Some(label) = name else {
         return Err(EvalErr::Bad(FaultKind::MissingAttribute));
     };
-    if !is_whole {
-        return Err(EvalErr::Bad(FaultKind::MissingAttribute));
-    }
     Ok(Target {
         label,
         kind: TargetKind::Rule(rule.share()?),
@@ -139,8 +139,8 @@ fn whole(rule: &Bytes, line: u32, is_whole: bool, given: Given) -> Result<Target
 fn target(alloc: Global, callee: Callee<'_>, line: u32, keywords: &Dict) -> Result<Target, EvalErr>
     ensures { Gives (λ t. t) Bad result (target callee.entry.scope.own.now callee.entry.scope.packages.now callee.entry.store.now callee.entry.schema.now callee.entry.rule.now line keywords.now) }
 {
-    let given = given(alloc, callee, keywords)?;
     let is_whole = gives_mandatory(alloc, callee.schema, callee.rule, keywords)?;
+    let given = given(alloc, callee, keywords)?;
     whole(callee.rule, line, is_whole, given)
 }
 

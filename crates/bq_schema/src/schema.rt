@@ -1,6 +1,6 @@
 //! The rules that the lines of a schema have declared so far, and what a further line makes of them.
 
-ghost use Rattle.std.specs.Prelude.{◌≡◌, ℕ, List, Some, None, position, slice_get, option_copied, bytes_eq, if◌then◌else◌, IfOk};
+ghost use Rattle.std.specs.Prelude.{◌≡◌, ℕ, List, Some, None, position, slice_get, option_copied, bytes_eq, if◌then◌else◌, IfOk, OnOk};
 ghost use Rattle.bq_schema.specs.Schema.{no_rules, with_rule, with_attribute_of_last, after};
 
 use crate::attribute::Attribute;
@@ -37,6 +37,27 @@ pub fn rule_names(schema: &Schema) -> &[Bytes]
     ensures { result.now ≡ schema.now.names }
 {
     &schema.names
+}
+
+/// Adds a rule without attributes, where none has the name. Says whether it did.
+#[tactic(auto, unfolding(crate::specs::Schema::with_rule, crate::specs::Schema::with_name))]
+fn add_rule(
+    alloc: Global,
+    names: &mut Vec<Bytes>,
+    places: &mut Names,
+    attributes: &mut Vec<Attributes>,
+    name: Bytes,
+) -> Result<bool, AllocError>
+    requires { places.old ≡ names.old.items }
+    ensures says { IfOk result (λ is_new. (if is_new then Some (record { names = names.new.items; attributes = attributes.new.items }) else None) ≡ with_rule (record { names = names.old.items; attributes = attributes.old.items }) name) }
+    ensures places { OnOk result (places.new ≡ names.new.items) }
+{
+    if !places.add(alloc, name.as_slice())? {
+        return Ok(false);
+    }
+    names.push(name)?;
+    attributes.push(Attributes::new(alloc))?;
+    Ok(true)
 }
 
 /// Adds an attribute to the last rule, where there is one, and it has none of the name. Says whether it did.
@@ -80,25 +101,18 @@ impl Schema {
     }
 
     /// One more rule; none where one has the name.
-    #[tactic(auto, unfolding(crate::specs::Schema::with_rule, crate::specs::Schema::with_name))]
     fn with_rule(self, alloc: Global, name: Bytes) -> Result<Option<Schema>, AllocError>
         ensures { IfOk result (λ s. s ≡ with_rule self name) }
     {
-        let Schema {
-            mut names,
-            mut places,
-            mut attributes,
-        } = self;
-        if !places.add(alloc, name.as_slice())? {
-            return Ok(None);
-        }
-        names.push(name)?;
-        attributes.push(Attributes::new(alloc))?;
-        Ok(Some(Schema {
-            names,
-            places,
-            attributes,
-        }))
+        let mut rules = self;
+        let is_new = add_rule(
+            alloc,
+            &mut rules.names,
+            &mut rules.places,
+            &mut rules.attributes,
+            name,
+        )?;
+        Ok(is_new.then_some(rules))
     }
 
     /// One more attribute of the last rule; none where there is no rule, or it has one of the name.
@@ -110,17 +124,9 @@ impl Schema {
     ) -> Result<Option<Schema>, AllocError>
         ensures { IfOk result (λ s. s ≡ with_attribute_of_last self name attribute) }
     {
-        let Schema {
-            names,
-            places,
-            mut attributes,
-        } = self;
-        let is_new = add_attribute(alloc, &mut attributes, name.as_slice(), attribute)?;
-        Ok(is_new.then_some(Schema {
-            names,
-            places,
-            attributes,
-        }))
+        let mut rules = self;
+        let is_new = add_attribute(alloc, &mut rules.attributes, name.as_slice(), attribute)?;
+        Ok(is_new.then_some(rules))
     }
 
     /// With what a line declares; none where the line is a bad one.

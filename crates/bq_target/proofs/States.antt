@@ -1,6 +1,5 @@
 -- Packages: their targets are of them, and no two have one name.
-use Rattle.std.proofs.Common.{◌≡◌, ◌&&◌, ◌+◌, ℕ, suc, Bool, true, false, cond, nat_lt, List, [], ◌∷◌, ◌++◌, Option, Some, None, length, map, position, option_and_then, slice_get, refl, sym, ap, subst, ◌∙◌, inl, inr, arith, append_assoc}
-use Rattle.std.specs.Bool.{then_some}
+use Rattle.std.proofs.Common.{◌≡◌, ◌&&◌, ◌+◌, ℕ, suc, Bool, true, false, cond, nat_lt, List, [], ◌∷◌, ◌++◌, Option, Some, None, length, map, position, option_and_then, slice_get, refl, sym, ap, subst, ◌∙◌, inl, inr, arith}
 use Rattle.std.specs.Str.{bytes_eq}
 use Rattle.std.specs.List.{list_any, list_all, flat_map, filter, find, position_or_len, IsDistinct}
 use Rattle.std.proofs.lemmas.Bool.Decides.{nat_tests}
@@ -170,11 +169,6 @@ pub finished_is : (p : PackageTargets) (names : List (List ℕ)) (found : List T
 unfolding finished files own_labels
 finished_is p names found e f = rw (f, e) refl
 
-pub exported_new : (p : PackageTargets) (ls : List LabelParts) (line : ℕ) (names : List (List ℕ)) (found : List Target) → list_any (is_taken p.targets) ls ≡ false → names ≡ names_of p.targets
-    → found ≡ map (λ l. source l line) (new_files names ls) → exported p ls line ≡ Accepted (record { build_file = p.build_file; targets = p.targets ++ found })
-unfolding exported files
-exported_new p ls line names found h e f = rw (h, f, e) refl
-
 pub exported_old : (p : PackageTargets) (ls : List LabelParts) (line : ℕ) → list_any (is_taken p.targets) ls ≡ true → exported p ls line ≡ Refused p
 unfolding exported
 exported_old p ls line h = rw h refl
@@ -191,28 +185,11 @@ rest_found b ts names f g first rest =
     let all = finds_then 0 (b ∷ []) (filter (is_of (package_of b)) (flat_map (λ t. labels_in t.attributes) ts)) (record { names = names; found = [] }) f g first rest in
     all.found
 
--- ---- the targets of a call
-
-pub none_if : {A : Type 0} (b : Bool) (x : A) → None ≡ then_some b x → b ≡ false
-none_if true x h = cc
-none_if false x h = refl
-
-pub some_if : {A : Type 0} (b : Bool) (x y : A) → Some y ≡ then_some b x → b ≡ true
-some_if true x y h = refl
-some_if false x y h = cc
-
-pub one_if : {A : Type 0} (b : Bool) (x y : A) → Some y ≡ then_some b x → y ≡ x
-one_if true x y h = cc
-one_if false x y h = cc
-
-module _ (t : Target) (made : List Target) (m : made ≡ map (generated t) (outputs_in t.attributes)) where
-  pub names_declared : t.label.name ∷ names_of made ≡ names_of (declares t)
-  names_declared = ap names_of (ap (λ (z : List Target). t ∷ z) m ∙ sym (declares_is t))
-
-  pub all_declared : (ts now : List Target) → now ≡ (ts ++ t ∷ []) ++ made → now ≡ ts ++ declares t
-  all_declared ts now e = e ∙ (append_assoc ts (t ∷ []) made ∙ ap (λ (z : List Target). ts ++ z) (ap (λ (z : List Target). t ∷ z) m ∙ sym (declares_is t)))
-
 -- ---- what the calls give, of the fields of a state
+
+-- the package with the files of labels
+abbrev with_files_of : PackageTargets → ℕ → List LabelParts → PackageTargets
+with_files_of p line ls = record p { targets = p.targets ++ files line p.targets ls }
 
 module _ (b : LabelParts) (ts : List Target) (names : List (List ℕ)) (s : IsState (package_of b) ts names) where
   state : PackageTargets
@@ -236,20 +213,19 @@ module _ (b : LabelParts) (ts : List Target) (names : List (List ℕ)) (s : IsSt
       let some : are_new (names_of ts) (names_of (declares t)) ≡ false = ap (λ (z : List (List ℕ)). are_new z (names_of (declares t))) (sym s.taken) ∙ sym h in
       ap (λ (z : List Target). Refused (record { build_file = b; targets = z })) n ∙ (sym (declared_old state t some) ∙ ap (λ (q : PackageTargets). declared q t) e)
 
-  pub export_refused : (p : PackageTargets) → record { build_file = b; targets = ts } ≡ p → (ls : List LabelParts) (line : ℕ) → list_any (is_taken ts) ls ≡ true → Refused p ≡ exported p ls line
-  export_refused p e ls line h = sym (exported_old p ls line (ap (λ (q : PackageTargets). list_any (is_taken q.targets) ls) (sym e) ∙ h))
+  pub files_is : (p : PackageTargets) → record { build_file = b; targets = ts } ≡ p → (ls : List LabelParts) (line : ℕ) → (now : List Target) → now ≡ ts ++ map (λ l. source l line) (new_files names ls)
+      → record { build_file = b; targets = now } ≡ with_files_of p line ls
+  unfolding state files
+  files_is p e ls line now n =
+      let q : PackageTargets → Type 0 = λ z. record { build_file = b; targets = now } ≡ with_files_of z line ls in
+      let found : now ≡ ts ++ map (λ l. source l line) (new_files (names_of ts) ls) = n ∙ ap (λ (ns : List (List ℕ)). ts ++ map (λ l. source l line) (new_files ns ls)) s.taken in
+      subst q e (ap (λ (z : List Target). record { build_file = b; targets = z }) found)
 
-  pub export_accepted : (p : PackageTargets) → record { build_file = b; targets = ts } ≡ p → (ls : List LabelParts) (line : ℕ) → list_any (is_taken ts) ls ≡ false
-      → (f : Files) → Finds line ls (record { names = names; found = [] }) f → (now : List Target) → now ≡ ts ++ f.found → Accepted (record { build_file = b; targets = now }) ≡ exported p ls line
-  unfolding state
-  export_accepted p e ls line h f g now n =
-      ap (λ (z : List Target). Accepted (record { build_file = b; targets = z })) n ∙ (sym (exported_new state ls line names f.found h s.taken g.found) ∙ ap (λ (q : PackageTargets). exported q ls line) e)
-
-  pub export_state : (p : PackageTargets) → record { build_file = b; targets = ts } ≡ p → (ls : List LabelParts) (line : ℕ) → list_all (is_of (package_of p.build_file)) ls ≡ true
-      → (f : Files) → Finds line ls (record { names = names; found = [] }) f → (now : List Target) → now ≡ ts ++ f.found → IsState (package_of b) now f.names
-  export_state p e ls line o f g now n =
+  pub files_state : (p : PackageTargets) → record { build_file = b; targets = ts } ≡ p → (ls : List LabelParts) (line : ℕ) → list_all (is_of (package_of p.build_file)) ls ≡ true → (now : List Target)
+      → now ≡ ts ++ map (λ l. source l line) (new_files names ls) → (after : List (List ℕ)) → after ≡ names ++ names_in (new_files names ls) → IsState (package_of b) now after
+  files_state p e ls line o now n after m =
       let mine : list_all (is_of (package_of b)) ls ≡ true = ap (λ (q : PackageTargets). list_all (is_of (package_of q.build_file)) ls) e ∙ o in
-      subst (λ (z : List Target). IsState (package_of b) z f.names) (sym (n ∙ ap (λ (z : List Target). ts ++ z) g.found)) (state_files (package_of b) line ts names s ls mine f.names g.names)
+      subst (λ (z : List Target). IsState (package_of b) z after) (sym n) (state_files (package_of b) line ts names s ls mine after m)
 
   abbrev named : List LabelParts
   named = flat_map (λ t. labels_in t.attributes) ts

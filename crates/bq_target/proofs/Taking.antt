@@ -3,7 +3,7 @@ use Rattle.std.proofs.Common.{◌≡◌, ◌≤◌, ℕ, Bool, true, false, not,
 use Rattle.std.specs.Str.{bytes_eq}
 use Rattle.std.specs.List.{IsDistinct}
 use Rattle.std.proofs.lemmas.Bool.{cases_Bool}
-use Rattle.std.proofs.lemmas.List.{take-take, take-append-le, take_all, take_at, length-take, length_push}
+use Rattle.std.proofs.lemmas.List.{take-append-le, take_all, length-take}
 use Rattle.std.proofs.lemmas.Map.Keys.{IsDistinct-push}
 use Rattle.std.specs.Cmp.Lexicographic.{nat_list_eq_equiv}
 use Rattle.bq_target.specs.Names.{has, with_name, are_new}
@@ -51,14 +51,6 @@ front_more names n first e = elim (cases_Bool (has names n)) [
 
 pub front_is : (names : List (List ℕ)) → take (length names) names ≡ names
 front_is names = take_all (length names) names (omega arith)
-
--- the first of the names that were there and one more
-pub front_back : (old : List (List ℕ)) (n : List ℕ) (now : List (List ℕ)) → has old n ≡ false → take (length (with_name old n)) now ≡ with_name old n → take (length old) now ≡ old
-front_back old n now h e =
-    let is : with_name old n ≡ old ++ n ∷ [] = with_new old n h in
-    let f : take (length (old ++ n ∷ [])) now ≡ old ++ n ∷ [] = subst (λ (z : List (List ℕ)). take (length z) now ≡ z) is e in
-    let long : length old ≤ length (old ++ n ∷ []) = omega (arith, length_push old n) in
-    sym (take-take (length old) (length (old ++ n ∷ [])) now long) ∙ (ap (take (length old)) f ∙ take_at old (n ∷ []) (length old) refl)
 
 -- names that are new among distinct ones are distinct with them
 pub distinct_from_new : (names ns : List (List ℕ)) → IsDistinct bytes_eq names → are_new names ns ≡ true → IsDistinct bytes_eq (names ++ ns)

@@ -1,7 +1,6 @@
 //! The calls of rules and of `package_group`.
 
-ghost use Rattle.std.specs.Prelude.{◌≡◌, ◌∷◌, ◌++◌, true, length, take, map, if◌then◌else◌, IfOk, OnOk};
-ghost use Rattle.std.specs.Bool.{then_some};
+ghost use Rattle.std.specs.Prelude.{◌≡◌, ◌++◌, true, length, take, map, if◌then◌else◌, IfOk, OnOk};
 ghost use Rattle.bq_target.specs.Value.{outputs_of, outputs_in};
 ghost use Rattle.bq_target.specs.Target.{names_of, generated, declares};
 ghost use Rattle.bq_target.specs.Names.{are_new};
@@ -75,50 +74,32 @@ fn take_each(names: &mut Names, targets: &[Target]) -> Result<bool, AllocError>
     Ok(true)
 }
 
-/// Takes the name of a target and those of the files that it makes, where all are new. Else it takes none. Says which.
-fn take_names(names: &mut Names, target: &Target, made: &[Target]) -> Result<bool, AllocError>
-    ensures new { IfOk result (λ new. new ≡ are_new names.old (target.now.label.name ∷ names_of made.now)) }
-    ensures after { IfOk result (λ new. names.new ≡ (if new then names.old ++ target.now.label.name ∷ names_of made.now else names.old)) }
+/// Takes the names of targets, where all are new. Else it takes none. Says which.
+fn take_names(names: &mut Names, targets: &[Target]) -> Result<bool, AllocError>
+    ensures new { IfOk result (λ new. new ≡ are_new names.old (names_of targets.now)) }
+    ensures after { IfOk result (λ new. names.new ≡ (if new then names.old ++ names_of targets.now else names.old)) }
 {
     let before = names.len();
-    if !names.add(target.label.name())? {
-        return Ok(false);
-    }
-    if take_each(names, made)? {
+    if take_each(names, targets)? {
         return Ok(true);
     }
     names.truncate(before);
     Ok(false)
 }
 
-/// Takes the names that a call declares, where all are new. Then it gives the files that the rule makes.
-fn take_new(
-    alloc: Global,
-    names: &mut Names,
-    target: &Target,
-) -> Result<Option<Items<Target>>, AllocError>
-    ensures made { IfOk result (λ made. made ≡ then_some (are_new names.old (names_of (declares target.now))) (map (generated target.now) (outputs_in target.now.attributes))) }
-    ensures names { IfOk result (λ made. names.new ≡ (if are_new names.old (names_of (declares target.now)) then names.old ++ names_of (declares target.now) else names.old)) }
+/// The targets that a call declares: its own, and the files that the rule makes.
+#[tactic(auto, unfolding(crate::specs::Target::declares))]
+fn declares(alloc: Global, target: Target) -> Result<Items<Target>, AllocError>
+    ensures { IfOk result (λ ts. ts ≡ declares target) }
 {
-    let made = outputs(alloc, target)?;
-    let is_new = take_names(names, target, made.as_slice())?;
-    Ok(is_new.then_some(made))
+    let made = outputs(alloc, &target);
+    let mut declared = Items::new(alloc);
+    declared.push(target)?;
+    declared.append(made?)?;
+    Ok(declared)
 }
 
-/// Adds a target and those that come with it.
-fn append(
-    targets: &mut Items<Target>,
-    target: Target,
-    more: Items<Target>,
-) -> Result<(), AllocError>
-    ensures { OnOk result (targets.new ≡ targets.old ++ target ∷ more) }
-{
-    targets.push(target)?;
-    targets.append(more)?;
-    Ok(())
-}
-
-/// Adds the target of a call and the files that the rule makes, where all their names are new. Says whether they are.
+/// Adds the targets that a call declares, where all their names are new. Says whether they are.
 fn add_target(
     alloc: Global,
     targets: &mut Items<Target>,
@@ -129,10 +110,11 @@ fn add_target(
     ensures targets { IfOk result (λ new. targets.new ≡ (if new then targets.old ++ declares target else targets.old)) }
     ensures names { IfOk result (λ new. names.new ≡ (if new then names.old ++ names_of (declares target) else names.old)) }
 {
-    let Some(made) = take_new(alloc, names, &target)? else {
+    let declared = declares(alloc, target)?;
+    if !take_names(names, declared.as_slice())? {
         return Ok(false);
-    };
-    append(targets, target, made)?;
+    }
+    targets.append(declared)?;
     Ok(true)
 }
 
@@ -147,17 +129,8 @@ impl PackageState {
         requires { IsOwnCall (package_of self.build_file) target }
         ensures { IfOk result (λ d. d ≡ declared self target) }
     {
-        let PackageState {
-            build_file,
-            mut targets,
-            mut names,
-        } = self;
-        let is_new = add_target(alloc, &mut targets, &mut names, target)?;
-        let package = PackageState {
-            build_file,
-            targets,
-            names,
-        };
+        let mut package = self;
+        let is_new = add_target(alloc, &mut package.targets, &mut package.names, target)?;
         Ok(Declared::of(is_new, package))
     }
 }

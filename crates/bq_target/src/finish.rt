@@ -85,18 +85,22 @@ fn add_rest(
 
 impl PackageState {
     ghost use Rattle.bq_label.specs.Label.{package_of};
-    ghost use Rattle.bq_target.specs.Package.{finished};
+    ghost use Rattle.bq_target.specs.Package.{files, finished};
     ghost use Rattle.bq_target.specs.Calls.{exported};
+    ghost use Rattle.bq_target.specs.declared.state.Declared.TheVariants.{Accepted};
 
-    /// Declares source files. A file may be declared again; the call is refused, F74, where a rule, an output or a group has one of
-    /// the names.
-    pub fn export(self, alloc: Global, labels: &[Label], line: u32) -> Result<Declared, AllocError>
-        requires { list_all (is_of (package_of self.build_file)) labels.now ≡ true }
-        ensures { IfOk result (λ d. d ≡ exported self labels.now line) }
+    /// Whether a rule, an output or a group has one of the names.
+    fn is_any_taken(&self, labels: &[Label]) -> Result<bool, AllocError>
+        ensures { IfOk result (λ taken. taken ≡ list_any (is_taken self.now.targets) labels.now) }
     {
-        if any_is_taken(self.targets.as_slice(), &self.names, labels)? {
-            return Ok(Declared::Refused(self));
-        }
+        any_is_taken(self.targets.as_slice(), &self.names, labels)
+    }
+
+    /// With the source files of labels, where their names aren't taken.
+    fn accept(self, alloc: Global, labels: &[Label], line: u32) -> Result<Declared, AllocError>
+        requires { list_all (is_of (package_of self.build_file)) labels.now ≡ true }
+        ensures { IfOk result (λ d. d ≡ Accepted (record { build_file = self.build_file; targets = self.targets ++ files line self.targets labels.now })) }
+    {
         let PackageState {
             build_file,
             mut targets,
@@ -108,6 +112,19 @@ impl PackageState {
             targets,
             names,
         }))
+    }
+
+    /// Declares source files. A file may be declared again; the call is refused, F74, where a rule, an output or a group has one of
+    /// the names.
+    #[tactic(auto, unfolding(crate::specs::Calls::exported))]
+    pub fn export(self, alloc: Global, labels: &[Label], line: u32) -> Result<Declared, AllocError>
+        requires { list_all (is_of (package_of self.build_file)) labels.now ≡ true }
+        ensures { IfOk result (λ d. d ≡ exported self labels.now line) }
+    {
+        if self.is_any_taken(labels)? {
+            return Ok(Declared::Refused(self));
+        }
+        self.accept(alloc, labels, line)
     }
 
     /// The package once its BUILD file is evaluated: what the accepted calls declare, then the BUILD file and the files of the package

@@ -108,10 +108,12 @@ impl Target {
     pub fn share(&self, alloc: Global) -> Result<Target, AllocError>
         ensures { IfOk result (λ t. t ≡ self.now) }
     {
+        let attributes = attributes(alloc, self.attributes.as_slice())?;
+        let label = self.label.share()?;
         Ok(Target {
-            label: self.label.share()?,
+            label,
             kind: self.kind.share()?,
-            attributes: attributes(alloc, self.attributes.as_slice())?,
+            attributes,
             line: self.line,
         })
     }
