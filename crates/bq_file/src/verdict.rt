@@ -1,8 +1,9 @@
 //! What a top-level statement reads as.
 
-ghost use Rattle.std.specs.Prelude.{◌≡◌};
+ghost use Rattle.std.specs.Prelude.{◌≡◌, Ok, Err, MatchResult};
 ghost use Rattle.bq_file.specs.Answers.{at_line, itself};
 ghost use Rattle.bq_grammar.specs.Parses as spec;
+ghost use Rattle.bq_source.specs.Fault.{fault_at};
 ghost use Rattle.bq_source.specs.Gives.{Gives};
 ghost use Rattle.bq_source.specs.declared.fault.SourceErr.TheVariants.{Bad};
 
@@ -24,9 +25,9 @@ fn is_build(kind: FileKind) -> bool
     }
 }
 
-/// A statement that has a tree: F12 where the language leaves it out, else F13 where it may not stand in a BUILD file.
-fn allowed(kind: FileKind, tokens: &Tokens<'_>, statement: TopLevel) -> Result<TopLevel, FaultKind>
-    ensures { result ≡ spec.allowed kind tokens.now statement }
+/// Of a statement that has a tree: F12 where the language leaves it out, else F13 where it may not stand in a BUILD file.
+fn allowed(kind: FileKind, tokens: &Tokens<'_>, statement: &TopLevel) -> Result<(), FaultKind>
+    ensures { Gives (λ _. statement.now) itself result (spec.allowed kind tokens.now statement.now) }
 {
     if leaves_out(tokens) || nested_def(MAX_NESTING, false, &statement.statement) {
         return Err(FaultKind::LeftOut);
@@ -34,7 +35,17 @@ fn allowed(kind: FileKind, tokens: &Tokens<'_>, statement: TopLevel) -> Result<T
     if is_build(kind) && barred_in_build(tokens) {
         return Err(FaultKind::NotInBuild);
     }
-    Ok(statement)
+    Ok(())
+}
+
+/// A statement, or its fault at its first line. It is a function over any value, since to let go of one is a single step for the proof.
+fn at_line<T: Drop>(judged: Result<(), FaultKind>, statement: T, line: u32) -> Result<T, SourceErr>
+    ensures { MatchResult judged (λ _. result ≡ Ok statement) (λ why. result ≡ Err (Bad (fault_at why line))) }
+{
+    match judged {
+        Ok(()) => Ok(statement),
+        Err(why) => Err(SourceErr::Bad(Fault::at(why, line))),
+    }
 }
 
 /// The top-level statement that these tokens are. At its first line: F11 where too many brackets and indents are open, else F10
@@ -49,10 +60,10 @@ pub fn verdict(alloc: Global, kind: FileKind, tokens: &Tokens<'_>) -> Result<Top
     }
     let mut rest = tokens.here();
     match top_level(alloc, &mut rest, MAX_NESTING + 1) {
-        Ok(found) => match allowed(kind, tokens, found) {
-            Ok(statement) => Ok(statement),
-            Err(why) => Err(SourceErr::Bad(Fault::at(why, line))),
-        },
+        Ok(statement) => {
+            let judged = allowed(kind, tokens, &statement);
+            at_line(judged, statement, line)
+        }
         Err(Refusal::Memory) => Err(SourceErr::Memory),
         Err(Refusal::Syntax) => Err(SourceErr::Bad(Fault::at(FaultKind::Syntax, line))),
         Err(Refusal::Lambda) => Err(SourceErr::Bad(Fault::at(FaultKind::LeftOut, line))),

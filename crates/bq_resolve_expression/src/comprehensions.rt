@@ -105,8 +105,7 @@ impl<F: Fn(Global, &FileNames, usize, &[Block], &mut Walk, &Expr) -> Result<Code
     {
         let names = comprehension_names(self.alloc, clauses)?;
         let inside = walk.open(self.alloc, names, blocks)?;
-        let element = self.expr(file, inside.as_slice(), walk, element)?;
-        let element = Boxed::new(self.alloc, element)?;
+        let element = self.boxed(file, inside.as_slice(), walk, element)?;
         let clauses = self.clauses(file, blocks, inside.as_slice(), walk, clauses)?;
         Ok(Code::ListComprehension(element, clauses))
     }

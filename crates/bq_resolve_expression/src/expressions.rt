@@ -11,7 +11,7 @@ use crate::walk::Walk;
 use bq_grammar::{Choice, Comparison, Expr, Operation, UnaryOperator};
 use bq_scope::{Block, Code, FileNames};
 use bq_source::{Fault, FaultKind, SourceErr};
-use sqlite_items::{Boxed, Items};
+use sqlite_items::Items;
 use std::alloc::Global;
 
 impl<F: Fn(Global, &FileNames, usize, &[Block], &mut Walk, &Expr) -> Result<Code, SourceErr>> Rules<
@@ -29,8 +29,7 @@ impl<F: Fn(Global, &FileNames, usize, &[Block], &mut Walk, &Expr) -> Result<Code
         requires { WalksNested self.now.depth (F.pre self.now.visit) (F.post self.now.visit) }
         ensures { Walks (spec.expr_by file.now (spec.expr_to self.now.depth file.now) blocks.now (Expr-F.Unary operators.now operand.now) walk.old) result walk.new }
     {
-        let operand = self.expr(file, blocks, walk, operand)?;
-        let operand = Boxed::new(self.alloc, operand)?;
+        let operand = self.boxed(file, blocks, walk, operand)?;
         Ok(Code::Unary(Items::from_slice(self.alloc, operators)?, operand))
     }
 
@@ -46,8 +45,7 @@ impl<F: Fn(Global, &FileNames, usize, &[Block], &mut Walk, &Expr) -> Result<Code
         requires { WalksNested self.now.depth (F.pre self.now.visit) (F.post self.now.visit) }
         ensures { Walks (spec.expr_by file.now (spec.expr_to self.now.depth file.now) blocks.now (Expr-F.Binary first.now operations.now) walk.old) result walk.new }
     {
-        let first = self.expr(file, blocks, walk, first)?;
-        let first = Boxed::new(self.alloc, first)?;
+        let first = self.boxed(file, blocks, walk, first)?;
         Ok(Code::Binary(first, self.operations(file, blocks, walk, operations)?))
     }
 
@@ -63,10 +61,9 @@ impl<F: Fn(Global, &FileNames, usize, &[Block], &mut Walk, &Expr) -> Result<Code
         requires { WalksNested self.now.depth (F.pre self.now.visit) (F.post self.now.visit) }
         ensures { Walks (spec.expr_by file.now (spec.expr_to self.now.depth file.now) blocks.now (Expr-F.Compare left.now comparison right.now) walk.old) result walk.new }
     {
-        let left = self.expr(file, blocks, walk, left)?;
-        let left = Boxed::new(self.alloc, left)?;
-        let right = self.expr(file, blocks, walk, right)?;
-        Ok(Code::Compare(left, comparison, Boxed::new(self.alloc, right)?))
+        let left = self.boxed(file, blocks, walk, left)?;
+        let right = self.boxed(file, blocks, walk, right)?;
+        Ok(Code::Compare(left, comparison, right))
     }
 
     /// Choices, and the last value.
@@ -82,8 +79,8 @@ impl<F: Fn(Global, &FileNames, usize, &[Block], &mut Walk, &Expr) -> Result<Code
         ensures { Walks (spec.expr_by file.now (spec.expr_to self.now.depth file.now) blocks.now (Expr-F.Conditional choices.now last.now) walk.old) result walk.new }
     {
         let choices = self.choices(file, blocks, walk, choices)?;
-        let last = self.expr(file, blocks, walk, last)?;
-        Ok(Code::Conditional(choices, Boxed::new(self.alloc, last)?))
+        let last = self.boxed(file, blocks, walk, last)?;
+        Ok(Code::Conditional(choices, last))
     }
 
     /// An expression, of any form.
@@ -98,17 +95,18 @@ impl<F: Fn(Global, &FileNames, usize, &[Block], &mut Walk, &Expr) -> Result<Code
         ensures { Walks (spec.expr_by file.now (spec.expr_to self.now.depth file.now) blocks.now (out-Expr expr.now) walk.old) result walk.new }
     {
         match expr {
-            Expr::Name(name) => Ok(Code::Use(use_at(file, blocks, name)?)),
+            Expr::Name(name) => use_at(file, blocks, name).map(Code::Use),
             Expr::Int(value) => Ok(Code::Int(*value)),
             Expr::String(text) => Ok(Code::String(text.share()?)),
-            Expr::List(items) => Ok(Code::List(self.exprs(file, blocks, walk, items.as_slice())?)),
-            Expr::Tuple(items) => Ok(Code::Tuple(self.exprs(
-                file,
-                blocks,
-                walk,
-                items.as_slice(),
-            )?)),
-            Expr::Dict(pairs) => Ok(Code::Dict(self.pairs(file, blocks, walk, pairs.as_slice())?)),
+            Expr::List(items) => self
+                .exprs(file, blocks, walk, items.as_slice())
+                .map(Code::List),
+            Expr::Tuple(items) => self
+                .exprs(file, blocks, walk, items.as_slice())
+                .map(Code::Tuple),
+            Expr::Dict(pairs) => self
+                .pairs(file, blocks, walk, pairs.as_slice())
+                .map(Code::Dict),
             Expr::ListComprehension(element, clauses) => {
                 self.list_comprehension(file, blocks, walk, element.get(), clauses.as_slice())
             }

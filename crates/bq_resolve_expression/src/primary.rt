@@ -81,8 +81,7 @@ impl<F: Fn(Global, &FileNames, usize, &[Block], &mut Walk, &Expr) -> Result<Code
         requires { WalksNested self.now.depth (F.pre self.now.visit) (F.post self.now.visit) }
         ensures { Walks (spec.operand file.now (spec.expr_to self.now.depth file.now) blocks.now operand.now suffixes.now walk.old) result walk.new }
     {
-        let operand = self.expr(file, blocks, walk, operand)?;
-        let operand = Boxed::new(self.alloc, operand)?;
+        let operand = self.boxed(file, blocks, walk, operand)?;
         let done = Items::new(self.alloc);
         Ok(Code::Primary(operand, self.suffixes(file, blocks, walk, done, suffixes)?))
     }

@@ -37,6 +37,21 @@ impl<F: Fn(Global, &FileNames, usize, &[Block], &mut Walk, &Expr) -> Result<Code
         (self.visit)(self.alloc, file, self.depth, blocks, walk, expr)
     }
 
+    /// An expression inside, in a box.
+    pub fn boxed(
+        &self,
+        file: &FileNames,
+        blocks: &[Block],
+        walk: &mut Walk,
+        expr: &Expr,
+    ) -> Result<Boxed<Code>, SourceErr>
+        requires { WalksNested self.now.depth (F.pre self.now.visit) (F.post self.now.visit) }
+        ensures { Walks (spec.expr_to self.now.depth file.now blocks.now expr.now walk.old) result walk.new }
+    {
+        let code = self.expr(file, blocks, walk, expr)?;
+        Ok(Boxed::new(self.alloc, code)?)
+    }
+
     /// Expressions, one after another.
     #[tactic(auto, unfolding(bq_scope::specs::Visit::each))]
     pub fn exprs(
@@ -68,8 +83,7 @@ impl<F: Fn(Global, &FileNames, usize, &[Block], &mut Walk, &Expr) -> Result<Code
         requires { WalksNested self.now.depth (F.pre self.now.visit) (F.post self.now.visit) }
         ensures { Walks (spec.pair file.now (spec.expr_to self.now.depth file.now) blocks.now pair.now walk.old) result walk.new }
     {
-        let key = self.expr(file, blocks, walk, &pair.key)?;
-        let key = Boxed::new(self.alloc, key)?;
+        let key = self.boxed(file, blocks, walk, &pair.key)?;
         let value = self.expr(file, blocks, walk, &pair.value)?;
         Ok(CodePair {
             key: key.into_inner(),
@@ -144,8 +158,7 @@ impl<F: Fn(Global, &FileNames, usize, &[Block], &mut Walk, &Expr) -> Result<Code
         requires { WalksNested self.now.depth (F.pre self.now.visit) (F.post self.now.visit) }
         ensures { Walks (spec.choice file.now (spec.expr_to self.now.depth file.now) blocks.now choice.now walk.old) result walk.new }
     {
-        let value = self.expr(file, blocks, walk, &choice.value)?;
-        let value = Boxed::new(self.alloc, value)?;
+        let value = self.boxed(file, blocks, walk, &choice.value)?;
         let condition = self.expr(file, blocks, walk, &choice.condition)?;
         Ok(CodeChoice {
             value: value.into_inner(),

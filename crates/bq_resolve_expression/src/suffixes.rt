@@ -1,7 +1,7 @@
 //! Operands, and what is done to them.
 
 ghost use Rattle.bq_grammar.specs.declared.tree.Argument.{out-Argument};
-ghost use Rattle.bq_grammar.specs.declared.tree.Argument.TheOpen.{Suffix-F};
+ghost use Rattle.bq_grammar.specs.declared.tree.Argument.TheOpen.{Argument-F, Suffix-F};
 ghost use Rattle.bq_grammar.specs.declared.tree.Suffix.{out-Suffix};
 ghost use Rattle.bq_scope.specs.Visit as visit;
 ghost use Rattle.bq_scope.specs.Expressions as spec;
@@ -9,15 +9,31 @@ ghost use Rattle.bq_resolve_expression.specs.Walks.{Walks, WalksNested};
 
 use crate::rules::Rules;
 use crate::walk::Walk;
-use bq_grammar::{Argument, Expr, Suffix};
+use bq_grammar::{Argument, Expr, Identifier, Suffix};
 use bq_scope::{Block, Code, CodeArgument, CodeSuffix, FileNames};
-use bq_source::SourceErr;
+use bq_source::{Bytes, SourceErr};
 use sqlite_items::{Boxed, Items};
 use std::alloc::Global;
 
 impl<F: Fn(Global, &FileNames, usize, &[Block], &mut Walk, &Expr) -> Result<Code, SourceErr>> Rules<
     F,
 > {
+    /// `name = value`
+    fn named(
+        &self,
+        file: &FileNames,
+        blocks: &[Block],
+        walk: &mut Walk,
+        name: &Bytes,
+        value: &Expr,
+    ) -> Result<CodeArgument, SourceErr>
+        requires { WalksNested self.now.depth (F.pre self.now.visit) (F.post self.now.visit) }
+        ensures { Walks (spec.argument_by file.now (spec.expr_to self.now.depth file.now) blocks.now (Argument-F.Named name.now value.now) walk.old) result walk.new }
+    {
+        let name = name.share()?;
+        Ok(CodeArgument::Named(name, self.expr(file, blocks, walk, value)?))
+    }
+
     fn argument(
         &self,
         file: &FileNames,
@@ -30,15 +46,14 @@ impl<F: Fn(Global, &FileNames, usize, &[Block], &mut Walk, &Expr) -> Result<Code
     {
         match argument {
             Argument::Positional(value) => {
-                Ok(CodeArgument::Positional(self.expr(file, blocks, walk, value)?))
+                self.expr(file, blocks, walk, value)
+                    .map(CodeArgument::Positional)
             }
-            Argument::Named(name, value) => {
-                let name = name.share()?;
-                Ok(CodeArgument::Named(name, self.expr(file, blocks, walk, value)?))
-            }
-            Argument::Star(value) => Ok(CodeArgument::Star(self.expr(file, blocks, walk, value)?)),
+            Argument::Named(name, value) => self.named(file, blocks, walk, name, value),
+            Argument::Star(value) => self.expr(file, blocks, walk, value).map(CodeArgument::Star),
             Argument::StarStar(value) => {
-                Ok(CodeArgument::StarStar(self.expr(file, blocks, walk, value)?))
+                self.expr(file, blocks, walk, value)
+                    .map(CodeArgument::StarStar)
             }
         }
     }
@@ -73,10 +88,7 @@ impl<F: Fn(Global, &FileNames, usize, &[Block], &mut Walk, &Expr) -> Result<Code
     {
         match part {
             None => Ok(None),
-            Some(part) => {
-                let part = self.expr(file, blocks, walk, part.get())?;
-                Ok(Some(Boxed::new(self.alloc, part)?))
-            }
+            Some(part) => self.boxed(file, blocks, walk, part.get()).map(Some),
         }
     }
 
@@ -99,6 +111,22 @@ impl<F: Fn(Global, &FileNames, usize, &[Block], &mut Walk, &Expr) -> Result<Code
         Ok(CodeSuffix::Slice(start, stop, step))
     }
 
+    /// `.name(arguments)`
+    fn method(
+        &self,
+        file: &FileNames,
+        blocks: &[Block],
+        walk: &mut Walk,
+        name: &Identifier,
+        arguments: &[Argument],
+    ) -> Result<CodeSuffix, SourceErr>
+        requires { WalksNested self.now.depth (F.pre self.now.visit) (F.post self.now.visit) }
+        ensures { Walks (spec.suffix_by file.now (spec.expr_to self.now.depth file.now) blocks.now (Suffix-F.Method name.now arguments.now) walk.old) result walk.new }
+    {
+        let arguments = self.arguments(file, blocks, walk, arguments)?;
+        Ok(CodeSuffix::Method(name.name.share()?, arguments))
+    }
+
     fn suffix(
         &self,
         file: &FileNames,
@@ -111,17 +139,16 @@ impl<F: Fn(Global, &FileNames, usize, &[Block], &mut Walk, &Expr) -> Result<Code
     {
         match suffix {
             Suffix::Call(arguments) => {
-                let arguments = self.arguments(file, blocks, walk, arguments.as_slice())?;
-                Ok(CodeSuffix::Call(arguments))
+                self.arguments(file, blocks, walk, arguments.as_slice())
+                    .map(CodeSuffix::Call)
             }
             Suffix::Method(method, arguments) => {
-                let arguments = self.arguments(file, blocks, walk, arguments.as_slice())?;
-                Ok(CodeSuffix::Method(method.name.share()?, arguments))
+                self.method(file, blocks, walk, method, arguments.as_slice())
             }
             Suffix::Attribute(name) => Ok(CodeSuffix::Attribute(name.name.share()?)),
             Suffix::Index(index) => {
-                let index = self.expr(file, blocks, walk, index.get())?;
-                Ok(CodeSuffix::Index(Boxed::new(self.alloc, index)?))
+                self.boxed(file, blocks, walk, index.get())
+                    .map(CodeSuffix::Index)
             }
             Suffix::Slice(start, stop, step) => self.slice(file, blocks, walk, start, stop, step),
         }

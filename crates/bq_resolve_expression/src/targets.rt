@@ -14,7 +14,7 @@ use crate::walk::Walk;
 use bq_grammar::{Expr, Target};
 use bq_scope::{Block, Code, CodeTarget, FileNames};
 use bq_source::{Fault, FaultKind, SourceErr};
-use sqlite_items::{Boxed, Items};
+use sqlite_items::Items;
 use std::alloc::Global;
 
 impl<F: Fn(Global, &FileNames, usize, &[Block], &mut Walk, &Expr) -> Result<Code, SourceErr>> Rules<
@@ -32,10 +32,9 @@ impl<F: Fn(Global, &FileNames, usize, &[Block], &mut Walk, &Expr) -> Result<Code
         requires { WalksNested self.now.depth (F.pre self.now.visit) (F.post self.now.visit) }
         ensures { (inner : Target → visit.Visit CodeTarget) → Walks (spec.target_by file.now (spec.expr_to self.now.depth file.now) inner blocks.now (Target-F.Target::Index operand.now index.now) walk.old) result walk.new }
     {
-        let operand = self.expr(file, blocks, walk, operand)?;
-        let operand = Boxed::new(self.alloc, operand)?;
-        let index = self.expr(file, blocks, walk, index)?;
-        Ok(CodeTarget::Index(operand, Boxed::new(self.alloc, index)?))
+        let operand = self.boxed(file, blocks, walk, operand)?;
+        let index = self.boxed(file, blocks, walk, index)?;
+        Ok(CodeTarget::Index(operand, index))
     }
 
     #[cycle(targets)]
@@ -81,12 +80,12 @@ impl<F: Fn(Global, &FileNames, usize, &[Block], &mut Walk, &Expr) -> Result<Code
                 self.index_target(file, blocks, walk, operand.get(), index.get())
             }
             Target::Tuple(targets) => {
-                let targets = self.targets_to(file, layers - 1, blocks, walk, targets.as_slice())?;
-                Ok(CodeTarget::Tuple(targets))
+                self.targets_to(file, layers - 1, blocks, walk, targets.as_slice())
+                    .map(CodeTarget::Tuple)
             }
             Target::List(targets) => {
-                let targets = self.targets_to(file, layers - 1, blocks, walk, targets.as_slice())?;
-                Ok(CodeTarget::List(targets))
+                self.targets_to(file, layers - 1, blocks, walk, targets.as_slice())
+                    .map(CodeTarget::List)
             }
         }
     }

@@ -1,31 +1,51 @@
-use Rattle.std.proofs.Common.{◌≡◌, ◌-◌, ◌<◌, ◌∙◌, [], Ok, ap, rules, arith}
+use Rattle.std.proofs.Common.{◌-◌, [], refl, arith}
 use Rattle.std.proofs.lemmas.Grind.{common_steps}
 use Rattle.bq_grammar.specs.declared.tree.Argument.TheOpen.{Target-F}
 use Rattle.bq_grammar.specs.declared.tree.Target.{out-Target}
-use Rattle.bq_grammar.specs.declared.tree.Expr.{the_lemmas}
+use Rattle.bq_grammar.specs.declared.tree.Target.TheVariants as form
+use Rattle.bq_grammar.specs.declared.tree.Target.TheVariants.{outs-Name, outs-Index, outs-Tuple, outs-List}
 use Rattle.bq_scope.specs.declared.code.CodeTarget.TheVariants as target
-use Rattle.bq_scope.specs.Visit.{each, following, pure}
+use Rattle.bq_scope.specs.Visit.{each}
 use Rattle.bq_scope.specs.Expressions.{target_by, target_to, expr_to}
-use Rattle.bq_resolve_expression.proofs.Layers.{code_target_layer}
+use Rattle.bq_resolve_expression.proofs.Forms.{of_one, of_two}
+use Rattle.bq_resolve_expression.proofs.Layers.{target_form}
+use Rattle.bq_resolve_expression.proofs.Walked.{mapped}
 use Rattle.bq_resolve_expression.proofs.rules.Rules.+targets.Goals as goal
 
-pub target_to-returns-in_ok-targets-in-Tuple : goal.target_to-returns-in_ok-targets-in-Tuple
-target_to-returns-in_ok-targets-in-Tuple g t c =
-    let file = c.args.file.now in let visit = expr_to c.args.self.now.depth c.args.file.now in let blocks = c.args.blocks.now in let layers = c.args.layers - 1 in
-    let some : 0 < c.args.layers = omega arith in
-    let opened : out-Target c.args.target.now ≡ Target-F.Target::Tuple c.in-Tuple.targets = first_of (search (rules, the_lemmas), grind (arith, common_steps)) in
-    let made : each (target_to file visit layers blocks) [] c.in-Tuple.targets c.args.walk.now ≡ Ok (c.in_ok-targets-in-Tuple.targets, c.targets_to.new.walk) = first_of (search rules, grind (arith, common_steps)) in
-    code_target_layer file visit c.args.layers blocks c.args.target.now c.args.walk.now (λ e. let no : ⊥ = omega (arith, e, some) in no)
-    ∙ ap (λ q. target_by file visit (target_to file visit layers blocks) blocks q c.args.walk.now) opened ∙ ap (λ r. following r (λ us. pure (target.Tuple us))) made
+pub target_to-returns-in-Name : goal.target_to-returns-in-Name
+target_to-returns-in-Name g t c =
+    let q = c.in-Name in
+    let visit = expr_to c.args.self.now.depth c.args.file.now in
+    let inner = target_to c.args.file.now visit (c.args.layers - 1) c.args.blocks.now in
+    target_form c.args.file.now visit c.args.layers c.args.blocks.now c.args.target.now c.args.walk.now c.name_target.new.walk c.name_target.result c.if-layers-eq0.false
+    (of_one out-Target (target_by c.args.file.now visit inner c.args.blocks.now) c.args.target.now c.args.walk.now c.name_target.new.walk c.name_target.result form.Name Target-F.Target::Name outs-Name q.name q.name q.is refl c.name_target.ensures)
 
-pub target_to-returns-in_ok-targets-in-List : goal.target_to-returns-in_ok-targets-in-List
-target_to-returns-in_ok-targets-in-List g t c =
-    let file = c.args.file.now in let visit = expr_to c.args.self.now.depth c.args.file.now in let blocks = c.args.blocks.now in let layers = c.args.layers - 1 in
-    let some : 0 < c.args.layers = omega arith in
-    let opened : out-Target c.args.target.now ≡ Target-F.Target::List c.in-List.targets = first_of (search (rules, the_lemmas), grind (arith, common_steps)) in
-    let made : each (target_to file visit layers blocks) [] c.in-List.targets c.args.walk.now ≡ Ok (c.in_ok-targets-in-List.targets, c.targets_to-in-List.new.walk) = first_of (search rules, grind (arith, common_steps)) in
-    code_target_layer file visit c.args.layers blocks c.args.target.now c.args.walk.now (λ e. let no : ⊥ = omega (arith, e, some) in no)
-    ∙ ap (λ q. target_by file visit (target_to file visit layers blocks) blocks q c.args.walk.now) opened ∙ ap (λ r. following r (λ us. pure (target.List us))) made
+pub target_to-returns-in-Index : goal.target_to-returns-in-Index
+target_to-returns-in-Index g t c =
+    let q = c.in-Index in
+    let visit = expr_to c.args.self.now.depth c.args.file.now in
+    let inner = target_to c.args.file.now visit (c.args.layers - 1) c.args.blocks.now in
+    target_form c.args.file.now visit c.args.layers c.args.blocks.now c.args.target.now c.args.walk.now c.index_target.new.walk c.index_target.result c.if-layers-eq0.false
+    (of_two out-Target (target_by c.args.file.now visit inner c.args.blocks.now) c.args.target.now c.args.walk.now c.index_target.new.walk c.index_target.result form.Index Target-F.Target::Index outs-Index q.operand c.get.result.now q.index c.get-in-Index.result.now q.is c.get.ensures c.get-in-Index.ensures
+    (c.index_target.ensures inner))
+
+pub target_to-returns-in-Tuple : goal.target_to-returns-in-Tuple
+target_to-returns-in-Tuple g t c =
+    let q = c.in-Tuple in
+    let visit = expr_to c.args.self.now.depth c.args.file.now in
+    let inner = target_to c.args.file.now visit (c.args.layers - 1) c.args.blocks.now in
+    target_form c.args.file.now visit c.args.layers c.args.blocks.now c.args.target.now c.args.walk.now c.targets_to.new.walk c.map.result c.if-layers-eq0.false
+    (of_one out-Target (target_by c.args.file.now visit inner c.args.blocks.now) c.args.target.now c.args.walk.now c.targets_to.new.walk c.map.result form.Tuple Target-F.Target::Tuple outs-Tuple q.targets c.as_slice.result.now q.is c.as_slice.ensures
+    (mapped target.Tuple (each inner [] c.as_slice.result.now c.args.walk.now) c.targets_to.new.walk c.targets_to.result c.map.result c.targets_to.ensures c.map.ensures.cases))
+
+pub target_to-returns-in-List : goal.target_to-returns-in-List
+target_to-returns-in-List g t c =
+    let q = c.in-List in
+    let visit = expr_to c.args.self.now.depth c.args.file.now in
+    let inner = target_to c.args.file.now visit (c.args.layers - 1) c.args.blocks.now in
+    target_form c.args.file.now visit c.args.layers c.args.blocks.now c.args.target.now c.args.walk.now c.targets_to-in-List.new.walk c.map-in-List.result c.if-layers-eq0.false
+    (of_one out-Target (target_by c.args.file.now visit inner c.args.blocks.now) c.args.target.now c.args.walk.now c.targets_to-in-List.new.walk c.map-in-List.result form.List Target-F.Target::List outs-List q.targets c.as_slice-in-List.result.now q.is c.as_slice-in-List.ensures
+    (mapped target.List (each inner [] c.as_slice-in-List.result.now c.args.walk.now) c.targets_to-in-List.new.walk c.targets_to-in-List.result c.map-in-List.result c.targets_to-in-List.ensures c.map-in-List.ensures.cases))
 
 pub targets_to-loop-target-init : goal.targets_to-loop-target-init
 unfolding each
@@ -46,10 +66,3 @@ targets_to-returns-in_err-push g t c = grind (arith, common_steps)
 pub targets_to-returns : goal.targets_to-returns
 unfolding each
 targets_to-returns g t c = grind (arith, common_steps)
-
-pub target_to-returns-in-Index : goal.target_to-returns-in-Index
-target_to-returns-in-Index g t c =
-    let file = c.args.file.now in let visit = expr_to c.args.self.now.depth c.args.file.now in let blocks = c.args.blocks.now in let layers = c.args.layers - 1 in
-    let some : 0 < c.args.layers = omega arith in
-    let opened : out-Target c.args.target.now ≡ Target-F.Target::Index c.get.result.now c.get-in-Index.result.now = first_of (search (rules, the_lemmas), grind (arith, common_steps)) in
-    rw (code_target_layer file visit c.args.layers blocks c.args.target.now c.args.walk.now (λ e. let no : ⊥ = omega (arith, e, some) in no), opened) (c.index_target.ensures (target_to file visit layers blocks))

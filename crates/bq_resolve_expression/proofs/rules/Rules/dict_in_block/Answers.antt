@@ -18,3 +18,7 @@ returns-in_err-pair g c = grind (arith, common_steps)
 pub returns : goal.returns
 unfolding in_block
 returns g c = grind (arith, common_steps)
+
+pub returns-in_err-pair-2 : goal.returns-in_err-pair-2
+unfolding in_block
+returns-in_err-pair-2 g c = grind (arith, common_steps)
