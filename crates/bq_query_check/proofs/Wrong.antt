@@ -19,6 +19,17 @@ fault_is_wrong text x why tree tests unless = IsWrong.fault x tree (tests unless
 pub not_memory : (why : QueryErr) → is_memory why ≡ false → why ≢ e.Memory
 not_memory why h m = let same : is_memory why ≡ true = ap is_memory m in false≢true (sym h ∙ same)
 
+pub memory_alone : (why : QueryErr) → is_memory why ≡ true → why ≡ e.Memory
+memory_alone e.Memory h = refl
+memory_alone e.Syntax h = cc
+memory_alone (e.UnknownFunction name) h = cc
+memory_alone (e.LeftOut word) h = cc
+memory_alone e.BadRegex h = cc
+memory_alone (e.NoSuchTarget label) h = cc
+memory_alone (e.NoSuchPackage text) h = cc
+memory_alone (e.UnboundVariable name) h = cc
+memory_alone e.Arguments h = cc
+
 -- all patterns before the fault are read
 pub then_fault : (judged : Judged) (texts : List (List ℕ)) (table : Table) (why : QueryErr) → (why ≢ e.Memory → judged ≡ (texts, Some why)) → ArePatternsOf texts table
     → why ≢ e.Memory → IsFault judged.0 judged.1 why

@@ -1,7 +1,9 @@
 //! Whole texts of queries.
 
-ghost use Rattle.std.specs.Prelude.{◌≡◌};
-ghost use Rattle.bq_query_check.specs.Checked.{Checks, Tests, is_memory};
+ghost use Rattle.std.specs.Prelude.{◌≡◌, ◌≢◌, Some};
+ghost use Rattle.bq_query.specs.declared.query_error.QueryErr.TheVariants as e;
+ghost use Rattle.bq_query_verdict.specs.Verdict.{Judged};
+ghost use Rattle.bq_query_check.specs.Checked.{Checks, IsFault, Tests, is_memory};
 
 use crate::patterns::Patterns;
 use bq_query::QueryErr;
@@ -28,6 +30,20 @@ fn is_memory(fault: &QueryErr) -> bool
     }
 }
 
+/// What is wrong with a tree whose patterns before its first other fault are these: the first of them that is refused, else that
+/// fault.
+fn first_fault(alloc: Global, texts: &[Bytes], fault: QueryErr) -> QueryErr
+    ensures { (judged : Judged) → (fault ≢ e.Memory → judged ≡ (texts.now, Some fault)) → result ≢ e.Memory → IsFault judged.0 judged.1 result }
+{
+    if is_memory(&fault) {
+        return fault;
+    }
+    match Patterns::of(alloc, texts) {
+        Ok(_) => fault,
+        Err(refused) => refused,
+    }
+}
+
 /// The patterns of a tree, which has no fault.
 fn patterns_of(alloc: Global, tree: &Query) -> Result<Patterns, QueryErr>
     ensures { Tests tree.now result }
@@ -35,15 +51,7 @@ fn patterns_of(alloc: Global, tree: &Query) -> Result<Patterns, QueryErr>
     let mut texts: Items<Bytes> = Items::new(alloc);
     match judge(alloc, &mut texts, tree) {
         Ok(()) => Patterns::of(alloc, texts.as_slice()),
-        Err(fault) => {
-            if is_memory(&fault) {
-                return Err(fault);
-            }
-            match Patterns::of(alloc, texts.as_slice()) {
-                Ok(_) => Err(fault),
-                Err(refused) => Err(refused),
-            }
-        }
+        Err(fault) => Err(first_fault(alloc, texts.as_slice(), fault)),
     }
 }
 
