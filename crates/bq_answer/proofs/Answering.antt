@@ -7,13 +7,12 @@ use Rattle.bq_query_verdict.specs.Verdict.{first_of}
 use Rattle.bq_answer.specs.declared.bindings.Binding.{Binding}
 use Rattle.bq_answer.specs.declared.functions.Binary.{Binary}
 use Rattle.bq_answer.specs.World.{Facts, count_of}
-use Rattle.bq_query.specs.declared.function.Function.{Function}
-use Rattle.bq_answer.specs.Formula.{Formula, Part, binding, call_by}
+use Rattle.bq_answer.specs.Formula.{Formula, binding}
 use Rattle.bq_answer.specs.Stands.{Environment}
 use Rattle.bq_answer.specs.Functions.{OfTwo, called_with}
 use Rattle.bq_answer.specs.Bindings.{environment}
 use Rattle.bq_answer.specs.Faults.{Has, Answers, fault_in}
-use Rattle.bq_answer.proofs.Calls.{both_fault, has_both}
+use Rattle.bq_answer.proofs.Called.{both_fault, has_both}
 use Rattle.bq_answer.proofs.Formulas.{let_stands, bound_more, popped}
 
 -- the formula in other words
@@ -67,12 +66,6 @@ let_answered marks w name a b before middle set result after h k =
 -- the set is bound for the body
 pub bound_env : (before more : List Binding) (b : Binding) → more ≡ before ++ b ∷ [] → environment more ≡ (b.name, b.set) ∷ environment before
 bound_env before more b e = ap environment e ∙ bound_more before b
-
--- ---- calls
-
-pub call_answered : {A : Type 0} (marks : A → List Bool) (w : Facts) (o : Option Function) (f : Function) (xs : List Part) (env : Environment) (before : List Binding) (result : Result A QueryErr)
-    (after : List Binding) → o ≡ Some f → Answers marks w (call_by (Some f) xs) env before result after → Answers marks w (call_by o xs) env before result after
-call_answered marks w o f xs env before result after e h = reworded marks w (call_by o xs) (call_by (Some f) xs) env before result after (ap (λ p. call_by p xs) e) h
 
 not_empty : {X : Type 0} (xs : List X) (y : X) → (xs ++ y ∷ []) ≡ [] → ⊥
 not_empty [] y e = let h : (y ∷ []) ≡ [] = e in cc

@@ -59,11 +59,6 @@ pub bound_more : (bindings : List Binding) (b : Binding) → environment (bindin
 bound_more bindings b =
     ap reverse (map-append (λ (x : Binding). (x.name, x.set)) bindings (b ∷ [])) ∙ reverse-append (map (λ (x : Binding). (x.name, x.set)) bindings) ((b.name, b.set) ∷ [])
 
--- the set of what one more is bound for
-pub bound_set : (w : Facts) (x : Formula) (bindings more : List Binding) (b : Binding) (r : List Bool) → more ≡ bindings ++ b ∷ []
-    → IsSet (count_of w) r (Stands w x (environment more)) → IsSet (count_of w) r (Stands w x ((b.name, b.set) ∷ environment bindings))
-bound_set w x bindings more b r e s = subst (λ (env : Environment). IsSet (count_of w) r (Stands w x env)) (ap environment e ∙ bound_more bindings b) s
-
 cons_same : {X : Type 0} (x y : X) (xs ys : List X) → (x ∷ xs) ≡ (y ∷ ys) → (x ≡ y) × (xs ≡ ys)
 cons_same x y xs ys e = (cc, cc)
 

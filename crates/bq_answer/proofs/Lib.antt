@@ -13,7 +13,7 @@ pub mod Inclusions
 -- the members of a set in order
 pub mod Members
 -- calls of functions
-pub mod Calls
+pub mod Called
 -- what trees say
 pub mod Trees
 -- what answering trees ensures

@@ -1,8 +1,8 @@
 //! The sets that lets bind.
 
-ghost use Rattle.std.specs.Prelude.{◌≡◌, length, IfOk};
+ghost use Rattle.std.specs.Prelude.{◌≡◌, ◌++◌, ◌∷◌, [], length, IfOk, OnOk};
 ghost use Rattle.bq_graph.specs.Marks.{IsSet, Marked};
-ghost use Rattle.bq_answer.specs.Bindings.{environment};
+ghost use Rattle.bq_answer.specs.Bindings.{bound_to, environment};
 ghost use Rattle.bq_answer.specs.Stands.{Bound};
 ghost use Rattle.bq_answer.specs.Formula as formula;
 ghost use Rattle.bq_answer.specs.World.{facts};
@@ -20,6 +20,17 @@ use std::alloc::{AllocError, Global};
 pub struct Binding {
     pub name: Bytes,
     pub set: Items<bool>,
+}
+
+/// Binds the name to the set.
+pub fn bind(bindings: &mut Items<Binding>, name: &Bytes, set: Vec<bool>) -> Result<(), AllocError>
+    ensures { OnOk result (bindings.new ≡ bindings.old ++ bound_to name.now set.items ∷ []) }
+{
+    let name = name.share()?;
+    bindings.push(Binding {
+        name,
+        set: Items::from_vec(set),
+    })
 }
 
 /// A set, if it is one of so many targets.

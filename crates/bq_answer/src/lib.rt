@@ -10,6 +10,7 @@
 //! - `number`: numbers of edges;
 //! - `leaves`: the sets of words, and of functions whose arguments are known;
 //! - `functions`: what functions of sets make of them;
+//! - `calls`: what calls of functions mean;
 //! - `sets`: the sets of trees;
 //! - `whole`: whole queries;
 //! - `print`: the text of an answer;
@@ -17,6 +18,7 @@
 #![tactic(auto)]
 
 mod bindings;
+mod calls;
 mod functions;
 pub mod laws;
 mod leaves;

@@ -3,17 +3,18 @@
 ghost use Rattle.std.specs.Prelude.{◌≡◌, ◌∷◌, length, map};
 ghost use Rattle.bq_query.specs.Functions.{function_named};
 ghost use Rattle.bq_answer.specs.World.{facts, count_of};
-ghost use Rattle.bq_answer.specs.Formula.{Formula, formula_of, part_of, step_of, chained, call_by, deps_by, rdeps_by, allpaths_by, chosen_by, attr_by};
-ghost use Rattle.bq_answer.specs.Functions.{called, called_by};
+ghost use Rattle.bq_answer.specs.Formula as formula;
+ghost use Rattle.bq_answer.specs.Formula.{Formula, formula_of, part_of, step_of, chained, call_by};
+ghost use Rattle.bq_answer.specs.Functions.{called};
 ghost use Rattle.bq_answer.specs.Bindings.{environment};
 ghost use Rattle.bq_answer.specs.Faults.{Answers, Has};
 
-use crate::bindings::{Binding, variable};
-use crate::functions::{Binary, Unary, of_one, of_two};
-use crate::leaves::{Choice, combined, named, no_set, word_of};
-use crate::number::number;
+use crate::bindings::{Binding, bind, variable};
+use crate::calls::{Call, call_named};
+use crate::functions::{Unary, of_one, of_two};
+use crate::leaves::{combined, named, no_set};
 use crate::world::World;
-use bq_query::{Function, QueryErr, function_named};
+use bq_query::QueryErr;
 use bq_query_tree::{Operation, Query};
 use bq_source::Bytes;
 use sqlite_items::Items;
@@ -35,131 +36,6 @@ fn one_of(
     Ok(of_one(alloc, world, function, &x)?)
 }
 
-/// A function of two sets, which are its first arguments.
-#[cycle(sets)]
-fn two_of(
-    alloc: Global,
-    world: &World<'_>,
-    bindings: &mut Items<Binding>,
-    function: Binary,
-    arguments: &[Query],
-) -> Result<Vec<bool>, QueryErr>
-    ensures { Answers (λ v. v.items) (facts world.now) (called_by function (map part_of arguments.now)) (environment bindings.old) bindings.old result bindings.new }
-{
-    match arguments {
-        [x, y, ..] => {
-            let x = set_of(alloc, world, bindings, x)?;
-            let y = set_of(alloc, world, bindings, y)?;
-            Ok(of_two(alloc, world, function, &x, &y)?)
-        }
-        _ => no_set(alloc, world),
-    }
-}
-
-/// `deps(x)`, `deps(x, n)`
-#[cycle(sets)]
-fn deps_of(
-    alloc: Global,
-    world: &World<'_>,
-    bindings: &mut Items<Binding>,
-    arguments: &[Query],
-) -> Result<Vec<bool>, QueryErr>
-    ensures { Answers (λ v. v.items) (facts world.now) (deps_by (map part_of arguments.now)) (environment bindings.old) bindings.old result bindings.new }
-{
-    match arguments {
-        [x] => one_of(alloc, world, bindings, Unary::Deps, x),
-        [from, n] => {
-            let digits = word_of(n);
-            let limit = number(digits);
-            one_of(alloc, world, bindings, Unary::DepsWithin(limit), from)
-        }
-        _ => no_set(alloc, world),
-    }
-}
-
-/// `rdeps(u, x)`, `rdeps(u, x, n)`
-#[cycle(sets)]
-fn rdeps_of(
-    alloc: Global,
-    world: &World<'_>,
-    bindings: &mut Items<Binding>,
-    arguments: &[Query],
-) -> Result<Vec<bool>, QueryErr>
-    ensures { Answers (λ v. v.items) (facts world.now) (rdeps_by (map part_of arguments.now)) (environment bindings.old) bindings.old result bindings.new }
-{
-    match arguments {
-        [_, _] => two_of(alloc, world, bindings, Binary::Rdeps, arguments),
-        [_, _, n] => {
-            let digits = word_of(n);
-            let limit = number(digits);
-            two_of(
-                alloc,
-                world,
-                bindings,
-                Binary::RdepsWithin(limit),
-                arguments,
-            )
-        }
-        _ => no_set(alloc, world),
-    }
-}
-
-/// `allpaths(x, y)`
-#[cycle(sets)]
-fn allpaths_of(
-    alloc: Global,
-    world: &World<'_>,
-    bindings: &mut Items<Binding>,
-    arguments: &[Query],
-) -> Result<Vec<bool>, QueryErr>
-    ensures { Answers (λ v. v.items) (facts world.now) (allpaths_by (map part_of arguments.now)) (environment bindings.old) bindings.old result bindings.new }
-{
-    match arguments {
-        [_, _] => two_of(alloc, world, bindings, Binary::Allpaths, arguments),
-        _ => no_set(alloc, world),
-    }
-}
-
-/// `kind(pattern, x)`, `filter(pattern, x)`, `labels(name, x)`
-#[cycle(sets)]
-fn chosen_of(
-    alloc: Global,
-    world: &World<'_>,
-    bindings: &mut Items<Binding>,
-    choice: Choice,
-    arguments: &[Query],
-) -> Result<Vec<bool>, QueryErr>
-    ensures { Answers (λ v. v.items) (facts world.now) (chosen_by choice (map part_of arguments.now)) (environment bindings.old) bindings.old result bindings.new }
-{
-    match arguments {
-        [word, x] => {
-            let word = word_of(word);
-            one_of(alloc, world, bindings, Unary::Chosen(choice, word), x)
-        }
-        _ => no_set(alloc, world),
-    }
-}
-
-/// `attr(name, pattern, x)`
-#[cycle(sets)]
-fn attr_of(
-    alloc: Global,
-    world: &World<'_>,
-    bindings: &mut Items<Binding>,
-    arguments: &[Query],
-) -> Result<Vec<bool>, QueryErr>
-    ensures { Answers (λ v. v.items) (facts world.now) (attr_by (map part_of arguments.now)) (environment bindings.old) bindings.old result bindings.new }
-{
-    match arguments {
-        [name, pattern, x] => {
-            let name = word_of(name);
-            let pattern = word_of(pattern);
-            one_of(alloc, world, bindings, Unary::Attr(name, pattern), x)
-        }
-        _ => no_set(alloc, world),
-    }
-}
-
 /// A function by its name, with its arguments.
 #[cycle(sets)]
 fn call_of(
@@ -171,15 +47,14 @@ fn call_of(
 ) -> Result<Vec<bool>, QueryErr>
     ensures { Answers (λ v. v.items) (facts world.now) (call_by (function_named name.now) (map part_of arguments.now)) (environment bindings.old) bindings.old result bindings.new }
 {
-    match function_named(name) {
-        Some(Function::Deps) => deps_of(alloc, world, bindings, arguments),
-        Some(Function::Rdeps) => rdeps_of(alloc, world, bindings, arguments),
-        Some(Function::Allpaths) => allpaths_of(alloc, world, bindings, arguments),
-        Some(Function::Kind) => chosen_of(alloc, world, bindings, Choice::Kind, arguments),
-        Some(Function::Filter) => chosen_of(alloc, world, bindings, Choice::Filter, arguments),
-        Some(Function::Labels) => chosen_of(alloc, world, bindings, Choice::Labels, arguments),
-        Some(Function::Attr) => attr_of(alloc, world, bindings, arguments),
-        None => no_set(alloc, world),
+    match call_named(name, arguments) {
+        Call::One(function, x) => one_of(alloc, world, bindings, function, x),
+        Call::Two(function, x, y) => {
+            let x = set_of(alloc, world, bindings, x)?;
+            let y = set_of(alloc, world, bindings, y)?;
+            Ok(of_two(alloc, world, function, &x, &y)?)
+        }
+        Call::Nothing => no_set(alloc, world),
     }
 }
 
@@ -195,10 +70,7 @@ fn let_of(
 ) -> Result<Vec<bool>, QueryErr>
     ensures { Answers (λ v. v.items) (facts world.now) (formula_of body.now) ((name.now, set.items) ∷ environment bindings.old) bindings.old result bindings.new }
 {
-    bindings.push(Binding {
-        name: name.share()?,
-        set: Items::from_vec(set),
-    })?;
+    bind(bindings, name, set)?;
     let found = set_of(alloc, world, bindings, body)?;
     let _ = bindings.pop();
     Ok(found)

@@ -70,6 +70,12 @@ RepliesBy (Some why) w x form status reply = reply ≡ record { text = []; end =
 abbrev pub Replies : Facts → Formula → OutputForm → Status → ReplyView → Type 0
 Replies w x form status reply = RepliesBy (fault_in w x) w x form status reply
 
+-- the reply over the graph of the targets of these packages
+pub record RepliesOver (packages : List PackageTargets) (rules : Rules) (query : CheckedQuery) (form : OutputForm) (status : Status) (reply : ReplyView) : Type 0 where
+  pub graph : GraphParts
+  pub made : IsGraphOf packages graph
+  pub replies : Replies (facts_of graph rules query) (formula_of query.tree) form status reply
+
 -- ---- the report
 
 -- both texts, and how the run ends once they are written

@@ -3,12 +3,14 @@
 ghost use Rattle.std.specs.Prelude.{IfOk};
 ghost use Rattle.bq_answer.specs.Formula.{formula_of};
 ghost use Rattle.bq_answer.specs.Answer.{facts_of};
-ghost use Rattle.bq_report.specs.Report.{Replies, reply_view};
+ghost use Rattle.bq_report.specs.Report.{Replies, RepliesOver, reply_view};
+ghost use Rattle.bq_target_graph.specs.Order.{PackagesAscend};
 
 use crate::ending::{Refusal, Status, refusal_of};
 use bq_answer::{OutputForm, answer, print_answer};
 use bq_query_check::CheckedQuery;
 use bq_schema::Schema;
+use bq_target::Package;
 use bq_target_graph::TargetGraph;
 use std::alloc::{AllocError, Global};
 
@@ -28,7 +30,7 @@ pub struct Reply {
 }
 
 /// The reply to a query. With a status the run ends so.
-pub fn reply_to(
+fn reply_to(
     alloc: Global,
     graph: &TargetGraph,
     question: Question<'_>,
@@ -46,4 +48,18 @@ pub fn reply_to(
             end: Err(refusal_of(why)?),
         }),
     }
+}
+
+/// The reply to a query, over the graph of the targets of packages.
+pub fn reply_over(
+    alloc: Global,
+    packages: Vec<Package>,
+    question: Question<'_>,
+    status: Status,
+) -> Result<Reply, AllocError>
+    requires { PackagesAscend packages.items }
+    ensures { IfOk result (λ r. RepliesOver packages.items question.entry.schema.now question.entry.query.now question.entry.form status (reply_view r)) }
+{
+    let graph = TargetGraph::new(alloc, packages)?;
+    reply_to(alloc, &graph, question, status)
 }

@@ -1,15 +1,17 @@
 //! The report on a workspace that is loaded.
 
-ghost use Rattle.std.specs.Prelude.{◌≡◌, IfOk};
+ghost use Rattle.std.specs.Prelude.{◌≡◌, ◌++◌, IfOk};
+ghost use Rattle.std.specs.List.{flat_map};
+ghost use Rattle.bq_fault_line.specs.LineText.{line_text};
 ghost use Rattle.bq_target_graph.specs.Order.{PackagesAscend};
 ghost use Rattle.bq_report.specs.Ending.{status_by};
 ghost use Rattle.bq_report.specs.Report.{Reports, inside, report_view};
 
 use crate::contents::Contents;
 use crate::ending::{Refusal, Status};
-use crate::reply::{Question, reply_to};
+use crate::reply::{Question, reply_over};
 use bq_fault_line::FaultLines;
-use bq_target_graph::{TargetGraph, add_dangling};
+use bq_target_graph::add_dangling;
 use std::alloc::{AllocError, Global};
 
 /// The texts of a run, and how it ends once they are written.
@@ -32,6 +34,14 @@ fn status_by(lines: &FaultLines) -> Status
     }
 }
 
+/// What the modules printed, and then the lines of all faults.
+fn fault_text(alloc: Global, mut prints: Vec<u8>, lines: FaultLines) -> Result<Vec<u8>, AllocError>
+    ensures { IfOk result (λ text. text.items ≡ prints.items ++ flat_map line_text lines) }
+{
+    prints.extend_from_slice(&lines.text(alloc)?)?;
+    Ok(prints)
+}
+
 /// The report on what is in a workspace. A label that names no target is one more fault, F79. Only a lack of memory is an error; Q5 and
 /// Q6 are in the ending.
 pub fn report_on(
@@ -43,16 +53,16 @@ pub fn report_on(
     ensures { IfOk result (λ r. Reports (inside contents) question.entry.schema.now question.entry.query.now question.entry.form (report_view r)) }
 {
     let Contents {
-        mut prints,
+        prints,
         mut faults,
         packages,
     } = contents;
     add_dangling(alloc, &packages, &mut faults)?;
-    let graph = TargetGraph::new(alloc, packages)?;
-    let reply = reply_to(alloc, &graph, question, status_by(&faults))?;
-    prints.extend_from_slice(&faults.text(alloc)?)?;
+    let status = status_by(&faults);
+    let text = fault_text(alloc, prints, faults)?;
+    let reply = reply_over(alloc, packages, question, status)?;
     Ok(Report {
-        faults: prints,
+        faults: text,
         answer: reply.text,
         end: reply.end,
     })

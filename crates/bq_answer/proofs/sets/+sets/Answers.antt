@@ -1,22 +1,19 @@
-use Rattle.std.proofs.Common.{◌≡◌, ◌∙◌, ◌+◌, ◌≤◌, ◌++◌, List, [], ◌∷◌, Bool, Some, drop, length, map, refl, sym, ap, subst, rules, arith}
+use Rattle.std.proofs.Common.{◌≡◌, ◌∙◌, ◌+◌, ◌*◌, ◌≤◌, List, [], ◌∷◌, Bool, Some, drop, length, map, refl, sym, ap, subst, rules, arith}
 use Rattle.std.proofs.lemmas.Grind.{common_steps}
 use Rattle.std.proofs.lemmas.List.{drop_more, at_drop_all}
 use Rattle.std.proofs.lemmas.Result.{err_from_is_err_and}
 use Rattle.bq_graph.specs.Marks.{IsSet, Marked}
-use Rattle.bq_query.specs.declared.function.Function.TheVariants as fn
 use Rattle.bq_query.specs.Functions.{function_named}
 use Rattle.bq_query_tree.specs.declared.tree.Query.TheFolds.{the_lemmas}
 use Rattle.bq_answer.specs.declared.bindings.Binding.{Binding}
-use Rattle.bq_answer.specs.declared.functions.Binary.TheVariants as two
 use Rattle.bq_answer.specs.World.{facts, count_of}
-use Rattle.bq_answer.specs.Formula.{Formula, Step, formula_of, part_of, step_of, chained, call_by, deps_by, rdeps_by, allpaths_by, chosen_by, attr_by, nothing, named, bound, binding, deps, deps_within, chosen, attr, number}
-use Rattle.bq_answer.specs.Functions.{OfOne, OfTwo, called_by, called_with}
-use Rattle.bq_answer.specs.Bindings.{environment}
+use Rattle.bq_answer.specs.Formula.{Formula, Step, formula_of, part_of, step_of, chained, call_by, nothing, named, bound, binding}
+use Rattle.bq_answer.specs.Functions.{OfOne, OfTwo, called, called_with, call_formula}
+use Rattle.bq_answer.specs.Bindings.{bound_to, environment}
 use Rattle.bq_answer.specs.Stands.{Environment, Combined}
 use Rattle.bq_answer.specs.Faults.{Has, fault_in}
-use Rattle.bq_answer.proofs.Answering.{reworded, kept_before, first_fails, second_fails, both_answered, let_answered, value_fails, bound_env, popped_kept, call_answered}
-use Rattle.bq_answer.proofs.Arguments.{one_item, two_items, three_items, first_items, rdeps_of_two, rdeps_of_three, allpaths_of_two}
-use Rattle.bq_answer.proofs.Calls.{called_fault, has_called}
+use Rattle.bq_answer.proofs.Answering.{reworded, first_fails, second_fails, both_answered, let_answered, value_fails, kept_before, bound_env, popped_kept}
+use Rattle.bq_answer.proofs.Called.{called_fault, has_called}
 use Rattle.bq_answer.proofs.Firsts.{fault_stays}
 use Rattle.bq_answer.proofs.Formulas.{SoFar, none_done, one_more, fails_there, all_done}
 use Rattle.bq_answer.proofs.Trees.{word_says, variable_says, inner_says, words_say, call_says, let_says, chain_says, step_says}
@@ -37,136 +34,54 @@ one_of-returns t c =
     let s : IsSet (count_of w) r (OfOne w c.args.function (Marked x)) = subst (λ (ms : List Bool). IsSet (count_of w) r (OfOne w c.args.function (Marked ms))) c.deref.ensures.value c.in_ok-of_one.ensures in
     (has_called w (environment c.args.bindings.now) c.args.function (formula_of c.args.argument.now) x r c.in_ok-x.ensures.0 s, c.in_ok-x.ensures.1)
 
--- ---- functions of two sets
-
-pub two_of-returns-in_err-x-in-len2-up : goal.two_of-returns-in_err-x-in-len2-up
-two_of-returns-in_err-x-in-len2-up t c =
-    let w = facts c.args.world.now in
-    let a = formula_of c.x-item.result in
-    let b = formula_of c.y-item.result in
-    let says : called_by c.args.function (map part_of c.args.arguments.now) ≡ called_with c.args.function a b =
-    ap (λ xs. called_by c.args.function (map part_of xs)) (first_items c.args.arguments.now c.x-item.result c.y-item.result (omega arith) c.x-item.is c.y-item.is) in
-    let p = err_from_is_err_and c.from_residual.result c.from_residual.ensures.1 in
-    rw (p.1, p.2) (λ other. ap (fault_in w) says ∙ first_fails w c.args.function a b _ (c.in_err-x-in-len2-up.ensures other))
-
-pub two_of-returns-in_err-y-in-len2-up : goal.two_of-returns-in_err-y-in-len2-up
-two_of-returns-in_err-y-in-len2-up t c =
-    let w = facts c.args.world.now in
-    let a = formula_of c.x-item.result in
-    let b = formula_of c.y-item.result in
-    let says : called_by c.args.function (map part_of c.args.arguments.now) ≡ called_with c.args.function a b =
-    ap (λ xs. called_by c.args.function (map part_of xs)) (first_items c.args.arguments.now c.x-item.result c.y-item.result (omega arith) c.x-item.is c.y-item.is) in
-    let p = err_from_is_err_and c.from_residual-in_err-y-in-len2-up.result c.from_residual-in_err-y-in-len2-up.ensures.1 in
-    rw (p.1, p.2) (λ other. ap (fault_in w) says ∙ second_fails w c.args.function a b _ c.in_ok-x-in-len2-up.ensures.0.none (c.in_err-y-in-len2-up.ensures other))
-
-pub two_of-returns-in_ok-of_two-in-len2-up : goal.two_of-returns-in_ok-of_two-in-len2-up
-two_of-returns-in_ok-of_two-in-len2-up t c =
-    let w = facts c.args.world.now in
-    let f = c.args.function in
-    let bs = c.args.bindings.now in
-    let a = formula_of c.x-item.result in
-    let b = formula_of c.y-item.result in
-    let says : called_by f (map part_of c.args.arguments.now) ≡ called_with f a b =
-    ap (λ xs. called_by f (map part_of xs)) (first_items c.args.arguments.now c.x-item.result c.y-item.result (omega arith) c.x-item.is c.y-item.is) in
-    let x = c.in_ok-x-in-len2-up.x.items in
-    let y = c.in_ok-y-in-len2-up.y.items in
-    let r = c.in_ok-of_two-in-len2-up.field-0.items in
-    let s : IsSet (count_of w) r (OfTwo w f (Marked x) (Marked c.deref-in-len2-up.result.now)) =
-    subst (λ (ms : List Bool). IsSet (count_of w) r (OfTwo w f (Marked ms) (Marked c.deref-in-len2-up.result.now))) c.deref.ensures.value c.in_ok-of_two-in-len2-up.ensures in
-    let u : IsSet (count_of w) r (OfTwo w f (Marked x) (Marked y)) = subst (λ (ms : List Bool). IsSet (count_of w) r (OfTwo w f (Marked x) (Marked ms))) c.deref-in-len2-up.ensures.value s in
-    let h = both_answered w f a b bs c.set_of.new.bindings c.set_of-in-len2-up.new.bindings x y r c.in_ok-x-in-len2-up.ensures c.in_ok-y-in-len2-up.ensures u in
-    (subst (λ (z : Formula). Has w (environment bs) z r) (sym says) h.0, h.1)
-
-pub deps_of-returns-in-len1 : goal.deps_of-returns-in-len1
-deps_of-returns-in-len1 t c =
-    let says : deps_by (map part_of c.args.arguments.now) ≡ deps (formula_of c.x-item.result) = ap (λ xs. deps_by (map part_of xs)) (one_item c.args.arguments.now c.x-item.result (omega arith) c.x-item.is) in
-    reworded (λ v. v.items) (facts c.args.world.now) (deps_by (map part_of c.args.arguments.now)) (deps (formula_of c.x-item.result)) (environment c.args.bindings.now) c.args.bindings.now c.one_of.result c.one_of.new.bindings says c.one_of.ensures
-
-pub deps_of-returns-in-len2 : goal.deps_of-returns-in-len2
-deps_of-returns-in-len2 t c =
-    let x = formula_of c.from-item.result in
-    let says : deps_by (map part_of c.args.arguments.now) ≡ deps_within c.number-limit.result x =
-    ap (λ xs. deps_by (map part_of xs)) (two_items c.args.arguments.now c.from-item.result c.n-item.result (omega arith) c.from-item.is c.n-item.is)
-    ∙ ap (λ k. deps_within k x) (ap number (sym c.word_of-digits.ensures) ∙ sym c.number-limit.ensures) in
-    reworded (λ v. v.items) (facts c.args.world.now) (deps_by (map part_of c.args.arguments.now)) (deps_within c.number-limit.result x) (environment c.args.bindings.now) c.args.bindings.now c.one_of-in-len2.result c.one_of-in-len2.new.bindings says c.one_of-in-len2.ensures
-
-pub rdeps_of-returns-in-len2 : goal.rdeps_of-returns-in-len2
-rdeps_of-returns-in-len2 t c =
-    reworded (λ v. v.items) (facts c.args.world.now) (rdeps_by (map part_of c.args.arguments.now)) (called_by two.Rdeps (map part_of c.args.arguments.now)) (environment c.args.bindings.now) c.args.bindings.now c.two_of.result c.two_of.new.bindings
-    (rdeps_of_two c.args.arguments.now (omega arith)) c.two_of.ensures
-
-pub rdeps_of-returns-in-len3 : goal.rdeps_of-returns-in-len3
-rdeps_of-returns-in-len3 t c =
-    let says : rdeps_by (map part_of c.args.arguments.now) ≡ called_by (two.RdepsWithin c.number-limit.result) (map part_of c.args.arguments.now) =
-    rdeps_of_three c.args.arguments.now c.n-item.result (omega arith) c.n-item.is
-    ∙ ap (λ k. called_by (two.RdepsWithin k) (map part_of c.args.arguments.now)) (ap number (sym c.word_of-digits.ensures) ∙ sym c.number-limit.ensures) in
-    reworded (λ v. v.items) (facts c.args.world.now) (rdeps_by (map part_of c.args.arguments.now)) (called_by (two.RdepsWithin c.number-limit.result) (map part_of c.args.arguments.now)) (environment c.args.bindings.now) c.args.bindings.now c.two_of-in-len3.result c.two_of-in-len3.new.bindings says
-    c.two_of-in-len3.ensures
-
-pub allpaths_of-returns-in-len2 : goal.allpaths_of-returns-in-len2
-allpaths_of-returns-in-len2 t c =
-    reworded (λ v. v.items) (facts c.args.world.now) (allpaths_by (map part_of c.args.arguments.now)) (called_by two.Allpaths (map part_of c.args.arguments.now)) (environment c.args.bindings.now) c.args.bindings.now c.two_of.result c.two_of.new.bindings
-    (allpaths_of_two c.args.arguments.now (omega arith)) c.two_of.ensures
-
--- ---- functions of words and a set
-
-pub chosen_of-returns-in-len2 : goal.chosen_of-returns-in-len2
-chosen_of-returns-in-len2 t c =
-    let x = formula_of c.x-item.result in
-    let says : chosen_by c.args.choice (map part_of c.args.arguments.now) ≡ chosen c.args.choice c.word_of-word.result.now x =
-    ap (λ xs. chosen_by c.args.choice (map part_of xs)) (two_items c.args.arguments.now c.word-item.result c.x-item.result (omega arith) c.word-item.is c.x-item.is)
-    ∙ ap (λ k. chosen c.args.choice k x) (sym c.word_of-word.ensures) in
-    reworded (λ v. v.items) (facts c.args.world.now) (chosen_by c.args.choice (map part_of c.args.arguments.now)) (chosen c.args.choice c.word_of-word.result.now x) (environment c.args.bindings.now) c.args.bindings.now c.one_of.result c.one_of.new.bindings says c.one_of.ensures
-
-pub attr_of-returns-in-len3 : goal.attr_of-returns-in-len3
-attr_of-returns-in-len3 t c =
-    let x = formula_of c.x-item.result in
-    let says : attr_by (map part_of c.args.arguments.now) ≡ attr c.word_of-name.result.now c.word_of-pattern.result.now x =
-    ap (λ xs. attr_by (map part_of xs)) (three_items c.args.arguments.now c.name-item.result c.pattern-item.result c.x-item.result (omega arith) c.name-item.is c.pattern-item.is c.x-item.is)
-    ∙ (ap (λ k. attr k (part_of c.pattern-item.result).word x) (sym c.word_of-name.ensures) ∙ ap (λ k. attr c.word_of-name.result.now k x) (sym c.word_of-pattern.ensures)) in
-    reworded (λ v. v.items) (facts c.args.world.now) (attr_by (map part_of c.args.arguments.now)) (attr c.word_of-name.result.now c.word_of-pattern.result.now x) (environment c.args.bindings.now) c.args.bindings.now c.one_of.result c.one_of.new.bindings says c.one_of.ensures
-
 -- ---- calls
 
-pub call_of-returns-in-Some-Deps : goal.call_of-returns-in-Some-Deps
-call_of-returns-in-Some-Deps t c =
-    call_answered (λ v. v.items) (facts c.args.world.now) (function_named c.args.name.now) fn.Deps (map part_of c.args.arguments.now) (environment c.args.bindings.now) c.args.bindings.now c.deps_of.result c.deps_of.new.bindings
-    (sym c.function_named.ensures ∙ (c.in-Some-Deps.is ∙ ap Some c.in-Some-Deps.field-0-is)) c.deps_of.ensures
+pub call_of-returns-in-One : goal.call_of-returns-in-One
+call_of-returns-in-One t c =
+    reworded (λ v. v.items) (facts c.args.world.now) (call_by (function_named c.args.name.now) (map part_of c.args.arguments.now)) (called c.in-One.function (formula_of c.in-One.x.now)) (environment c.args.bindings.now) c.args.bindings.now
+    c.one_of.result c.one_of.new.bindings (sym c.call_named.ensures.formula ∙ ap call_formula c.in-One.is) c.one_of.ensures
 
-pub call_of-returns-in-Some-Rdeps : goal.call_of-returns-in-Some-Rdeps
-call_of-returns-in-Some-Rdeps t c =
-    call_answered (λ v. v.items) (facts c.args.world.now) (function_named c.args.name.now) fn.Rdeps (map part_of c.args.arguments.now) (environment c.args.bindings.now) c.args.bindings.now c.rdeps_of.result c.rdeps_of.new.bindings
-    (sym c.function_named.ensures ∙ (c.in-Some-Rdeps.is ∙ ap Some c.in-Some-Rdeps.field-0-is)) c.rdeps_of.ensures
+pub call_of-returns-in_err-x-in-Two : goal.call_of-returns-in_err-x-in-Two
+call_of-returns-in_err-x-in-Two t c =
+    let w = facts c.args.world.now in
+    let f = c.in-Two.function in
+    let a = formula_of c.in-Two.x.now in
+    let b = formula_of c.in-Two.y.now in
+    let says : call_by (function_named c.args.name.now) (map part_of c.args.arguments.now) ≡ called_with f a b = sym c.call_named.ensures.formula ∙ ap call_formula c.in-Two.is in
+    let p = err_from_is_err_and c.from_residual.result c.from_residual.ensures.1 in
+    rw (p.1, p.2) (λ other. ap (fault_in w) says ∙ first_fails w f a b _ (c.in_err-x-in-Two.ensures other))
 
-pub call_of-returns-in-Some-Allpaths : goal.call_of-returns-in-Some-Allpaths
-call_of-returns-in-Some-Allpaths t c =
-    call_answered (λ v. v.items) (facts c.args.world.now) (function_named c.args.name.now) fn.Allpaths (map part_of c.args.arguments.now) (environment c.args.bindings.now) c.args.bindings.now c.allpaths_of.result c.allpaths_of.new.bindings
-    (sym c.function_named.ensures ∙ (c.in-Some-Allpaths.is ∙ ap Some c.in-Some-Allpaths.field-0-is)) c.allpaths_of.ensures
+pub call_of-returns-in_err-y-in-Two : goal.call_of-returns-in_err-y-in-Two
+call_of-returns-in_err-y-in-Two t c =
+    let w = facts c.args.world.now in
+    let f = c.in-Two.function in
+    let a = formula_of c.in-Two.x.now in
+    let b = formula_of c.in-Two.y.now in
+    let says : call_by (function_named c.args.name.now) (map part_of c.args.arguments.now) ≡ called_with f a b = sym c.call_named.ensures.formula ∙ ap call_formula c.in-Two.is in
+    let p = err_from_is_err_and c.from_residual-in_err-y-in-Two.result c.from_residual-in_err-y-in-Two.ensures.1 in
+    rw (p.1, p.2) (λ other. ap (fault_in w) says ∙ second_fails w f a b _ c.in_ok-x-in-Two.ensures.0.none (c.in_err-y-in-Two.ensures other))
 
-pub call_of-returns-in-Some-Kind : goal.call_of-returns-in-Some-Kind
-call_of-returns-in-Some-Kind t c =
-    call_answered (λ v. v.items) (facts c.args.world.now) (function_named c.args.name.now) fn.Kind (map part_of c.args.arguments.now) (environment c.args.bindings.now) c.args.bindings.now c.chosen_of.result c.chosen_of.new.bindings
-    (sym c.function_named.ensures ∙ (c.in-Some-Kind.is ∙ ap Some c.in-Some-Kind.field-0-is)) c.chosen_of.ensures
+pub call_of-returns-in_ok-of_two-in-Two : goal.call_of-returns-in_ok-of_two-in-Two
+call_of-returns-in_ok-of_two-in-Two t c =
+    let w = facts c.args.world.now in
+    let f = c.in-Two.function in
+    let bs = c.args.bindings.now in
+    let a = formula_of c.in-Two.x.now in
+    let b = formula_of c.in-Two.y.now in
+    let says : call_by (function_named c.args.name.now) (map part_of c.args.arguments.now) ≡ called_with f a b = sym c.call_named.ensures.formula ∙ ap call_formula c.in-Two.is in
+    let x = c.in_ok-x-in-Two.x.items in
+    let y = c.in_ok-y-in-Two.y.items in
+    let r = c.in_ok-of_two-in-Two.field-0.items in
+    let s : IsSet (count_of w) r (OfTwo w f (Marked x) (Marked c.deref-in-Two.result.now)) =
+    subst (λ (ms : List Bool). IsSet (count_of w) r (OfTwo w f (Marked ms) (Marked c.deref-in-Two.result.now))) c.deref.ensures.value c.in_ok-of_two-in-Two.ensures in
+    let u : IsSet (count_of w) r (OfTwo w f (Marked x) (Marked y)) = subst (λ (ms : List Bool). IsSet (count_of w) r (OfTwo w f (Marked x) (Marked ms))) c.deref-in-Two.ensures.value s in
+    let h = both_answered w f a b bs c.set_of.new.bindings c.set_of-in-Two.new.bindings x y r c.in_ok-x-in-Two.ensures c.in_ok-y-in-Two.ensures u in
+    (subst (λ (z : Formula). Has w (environment bs) z r) (sym says) h.0, h.1)
 
-pub call_of-returns-in-Some-Filter : goal.call_of-returns-in-Some-Filter
-call_of-returns-in-Some-Filter t c =
-    call_answered (λ v. v.items) (facts c.args.world.now) (function_named c.args.name.now) fn.Filter (map part_of c.args.arguments.now) (environment c.args.bindings.now) c.args.bindings.now c.chosen_of-in-Some-Filter.result c.chosen_of-in-Some-Filter.new.bindings
-    (sym c.function_named.ensures ∙ (c.in-Some-Filter.is ∙ ap Some c.in-Some-Filter.field-0-is)) c.chosen_of-in-Some-Filter.ensures
-
-pub call_of-returns-in-Some-Labels : goal.call_of-returns-in-Some-Labels
-call_of-returns-in-Some-Labels t c =
-    call_answered (λ v. v.items) (facts c.args.world.now) (function_named c.args.name.now) fn.Labels (map part_of c.args.arguments.now) (environment c.args.bindings.now) c.args.bindings.now c.chosen_of-in-Some-Labels.result c.chosen_of-in-Some-Labels.new.bindings
-    (sym c.function_named.ensures ∙ (c.in-Some-Labels.is ∙ ap Some c.in-Some-Labels.field-0-is)) c.chosen_of-in-Some-Labels.ensures
-
-pub call_of-returns-in-Some-Attr : goal.call_of-returns-in-Some-Attr
-call_of-returns-in-Some-Attr t c =
-    call_answered (λ v. v.items) (facts c.args.world.now) (function_named c.args.name.now) fn.Attr (map part_of c.args.arguments.now) (environment c.args.bindings.now) c.args.bindings.now c.attr_of.result c.attr_of.new.bindings
-    (sym c.function_named.ensures ∙ (c.in-Some-Attr.is ∙ ap Some c.in-Some-Attr.field-0-is)) c.attr_of.ensures
-
-pub call_of-returns-in-None : goal.call_of-returns-in-None
-call_of-returns-in-None t c =
+pub call_of-returns-in-Nothing : goal.call_of-returns-in-Nothing
+call_of-returns-in-Nothing t c =
     reworded (λ v. v.items) (facts c.args.world.now) (call_by (function_named c.args.name.now) (map part_of c.args.arguments.now)) nothing (environment c.args.bindings.now) c.args.bindings.now c.no_set.result c.args.bindings.now
-    (ap (λ f. call_by f (map part_of c.args.arguments.now)) (sym c.function_named.ensures ∙ c.in-None.is)) (c.no_set.ensures (environment c.args.bindings.now) c.args.bindings.now)
+    (sym c.call_named.ensures.formula ∙ ap call_formula c.in-Nothing.is) (c.no_set.ensures (environment c.args.bindings.now) c.args.bindings.now)
 
 -- ---- lets
 
@@ -174,10 +89,9 @@ pub let_of-returns : goal.let_of-returns
 let_of-returns t c =
     let w = facts c.args.world.now in
     let bs = c.args.bindings.now in
-    let b : Binding = record { name = c.args.name.now; set = c.args.set.items } in
-    let pushed : c.push.new.self ≡ bs ++ b ∷ [] = first_of (cc (c.in_ok-push.ensures.ok, c.in_ok-share.ensures, c.from_vec.ensures), search rules, grind (arith, common_steps)) in (
-      subst (λ (env : Environment). Has w env (formula_of c.args.body.now) c.in_ok-found.found.items) (bound_env bs c.push.new.self b pushed) c.in_ok-found.ensures.0,
-      popped_kept bs c.set_of.new.bindings c.pop.new.self b c.pop.result c.pop.ensures (c.in_ok-found.ensures.1 ∙ pushed),
+    let b = bound_to c.args.name.now c.args.set.items in (
+      subst (λ (env : Environment). Has w env (formula_of c.args.body.now) c.in_ok-found.found.items) (bound_env bs c.bind.new.bindings b c.in_ok-bind.ensures) c.in_ok-found.ensures.0,
+      popped_kept bs c.set_of.new.bindings c.pop.new.self b c.pop.result c.pop.ensures (c.in_ok-found.ensures.1 ∙ c.in_ok-bind.ensures),
     )
 
 -- ---- chains
