@@ -2,6 +2,9 @@ pub mod Depth
 pub mod Slots
 pub mod Layers
 pub mod Reversed
+pub mod Following
+pub mod Deciding
+pub mod Assigning
 pub mod Clauses
 pub mod ParameterLists
 pub mod CallSteps

@@ -8,7 +8,7 @@ ghost use Rattle.bq_eval.specs.Slots.{slots_of};
 ghost use Rattle.bq_eval.specs.Round.{inside, units_at, globals_of};
 
 use crate::context::Context;
-use crate::filling::{Filling, fill_parameters};
+use crate::filling::{Filling, filled_frame};
 use crate::flow::answered;
 use crate::frame::Frame;
 use crate::parameters::{bind_args, has_star_star, keywords_of};
@@ -22,7 +22,7 @@ use bq_value::{EvalErr, Node, Value};
 use std::alloc::Global;
 
 /// The frame that a function begins with.
-#[tactic(auto, using(crate::proofs::Slots::none_filled, crate::proofs::CallSteps::given_acts), unfolding(bq_meaning::specs::Calls::entry))]
+#[tactic(auto, using(crate::proofs::CallSteps::given_acts), unfolding(bq_meaning::specs::Calls::entry))]
 pub fn entry<R: Runtime>(
     alloc: Global,
     runtime: &mut R,
@@ -46,9 +46,7 @@ pub fn entry<R: Runtime>(
         rest: rest.as_slice(),
         keywords: &keywords,
     };
-    let mut frame = Frame::with_room(alloc, function.slots)?;
-    let _filled = fill_parameters(alloc, &*runtime, filling, &mut frame, parameters)?;
-    Ok(frame)
+    filled_frame(alloc, &*runtime, function.slots, filling, parameters)
 }
 
 /// Runs the body of a function.

@@ -2,6 +2,7 @@
 
 ghost use Rattle.std.specs.Prelude.{◌≡◌, []};
 ghost use Rattle.bq_value.specs.Contents.{items, pairs};
+ghost use Rattle.bq_machine.specs.Action.{following, pure};
 ghost use Rattle.bq_meaning.specs.Comprehensions as meaning;
 ghost use Rattle.bq_eval.specs.Acts.{Acts};
 ghost use Rattle.bq_eval.specs.Slots.{slots_of};
@@ -11,7 +12,7 @@ use crate::context::Context;
 use crate::evaluator::Evaluator;
 use crate::frame::Frame;
 use crate::runtime::Runtime;
-use crate::targets::bind_variables;
+use crate::targets::begin_turn;
 use bq_machine::Elements;
 use bq_scope::{Code, CodeClause, CodePair, CodeTarget};
 use bq_value::{Content, Dict, EvalErr, Value};
@@ -80,27 +81,7 @@ impl<
         }
     }
 
-    #[cycle(clauses)]
-    #[tactic(auto, unfolding(bq_meaning::specs::Comprehensions::turn))]
-    fn turn(
-        &self,
-        context: &Context<'_>,
-        frame: &mut Frame,
-        runtime: &mut R,
-        content: &mut Content,
-        target: &CodeTarget,
-        value: Value,
-        rest: &[CodeClause],
-        comprehension: &Code,
-    ) -> Result<(), EvalErr>
-        requires { Nests R.means R.seen context.now.left self.now.depth self.now.call (F.pre self.now.eval) (F.post self.now.eval) }
-        ensures { Acts R.means (λ _. (content.new, slots_of frame.new)) result (R.seen runtime.new) (meaning.turn R.means (nested R.means self.now.depth context.now) target.now (meaning.clauses R.means (nested R.means self.now.depth context.now) rest.now (meaning.body R.means (nested R.means self.now.depth context.now) comprehension.now)) value (slots_of frame.old) content.old (R.seen runtime.old)) }
-    {
-        runtime.step(1)?;
-        bind_variables(context.alloc, runtime, frame, target, value)?;
-        self.clauses(context, frame, runtime, content, rest, comprehension)
-    }
-
+    /// The turns of a `for`, each with the clauses after it.
     #[cycle(clauses)]
     #[tactic(auto, unfolding(bq_meaning::specs::Comprehensions::turns))]
     fn turns(
@@ -118,16 +99,8 @@ impl<
         ensures { Acts R.means (λ _. (content.new, slots_of frame.new)) result (R.seen runtime.new) (meaning.turns R.means (nested R.means self.now.depth context.now) target.now (meaning.clauses R.means (nested R.means self.now.depth context.now) rest.now (meaning.body R.means (nested R.means self.now.depth context.now) comprehension.now)) elements.old (slots_of frame.old) content.old (R.seen runtime.old)) }
     {
         while let Some(value) = elements.next() {
-            self.turn(
-                context,
-                frame,
-                runtime,
-                content,
-                target,
-                value,
-                rest,
-                comprehension,
-            )?;
+            begin_turn(context.alloc, runtime, frame, target, value)?;
+            self.clauses(context, frame, runtime, content, rest, comprehension)?;
         }
         Ok(())
     }
@@ -181,8 +154,7 @@ impl<
         requires { Nests R.means R.seen context.now.left self.now.depth self.now.call (F.pre self.now.eval) (F.post self.now.eval) }
         ensures { Acts R.means (λ _. (content.new, slots_of frame.new)) result (R.seen runtime.new) (meaning.if_clause R.means (nested R.means self.now.depth context.now) condition.now (meaning.clauses R.means (nested R.means self.now.depth context.now) rest.now (meaning.body R.means (nested R.means self.now.depth context.now) comprehension.now)) (slots_of frame.old) content.old (R.seen runtime.old)) }
     {
-        let condition = self.value(context, frame, runtime, condition)?;
-        if runtime.truth(&condition) {
+        if self.holds(context, frame, runtime, condition)? {
             return self.clauses(context, frame, runtime, content, rest, comprehension);
         }
         Ok(())
@@ -261,7 +233,31 @@ impl<
         }
     }
 
-    /// A comprehension, from an empty list or dict. It runs on a copy of the frame.
+    /// Adds what a comprehension makes. It runs on a copy of the frame.
+    fn run_clauses(
+        &self,
+        context: &Context<'_>,
+        frame: &Frame,
+        runtime: &mut R,
+        content: &mut Content,
+        comprehension: &Code,
+        clauses: &[CodeClause],
+    ) -> Result<(), EvalErr>
+        requires { Nests R.means R.seen context.now.left self.now.depth self.now.call (F.pre self.now.eval) (F.post self.now.eval) }
+        ensures { Acts R.means (λ _. content.new) result (R.seen runtime.new) (following (meaning.clauses R.means (nested R.means self.now.depth context.now) clauses.now (meaning.body R.means (nested R.means self.now.depth context.now) comprehension.now) (slots_of frame.now) content.old (R.seen runtime.old)) (λ made. pure made.0)) }
+    {
+        let mut inner = frame.copy(context.alloc)?;
+        self.clauses(
+            context,
+            &mut inner,
+            runtime,
+            content,
+            clauses,
+            comprehension,
+        )
+    }
+
+    /// A comprehension, from an empty list or dict.
     #[tactic(auto, unfolding(bq_meaning::specs::Comprehensions::comprehension))]
     fn comprehension(
         &self,
@@ -276,15 +272,14 @@ impl<
         ensures { Acts R.means (λ v. v) result (R.seen runtime.new) (meaning.comprehension R.means (nested R.means self.now.depth context.now) empty comprehension.now clauses.now (slots_of frame.now) (R.seen runtime.old)) }
     {
         runtime.step(1)?;
-        let mut inner = frame.copy(context.alloc)?;
         let mut content = empty;
-        self.clauses(
+        self.run_clauses(
             context,
-            &mut inner,
+            frame,
             runtime,
             &mut content,
-            clauses,
             comprehension,
+            clauses,
         )?;
         runtime.make(content)
     }

@@ -2,6 +2,7 @@
 
 ghost use Rattle.std.specs.Prelude.{◌≡◌};
 ghost use Rattle.bq_value.specs.Datum.{int};
+ghost use Rattle.bq_machine.specs.Action.{following, done};
 ghost use Rattle.bq_meaning.specs.Expressions as meaning;
 ghost use Rattle.bq_eval.specs.Acts.{Acts};
 ghost use Rattle.bq_eval.specs.Slots.{slots_of};
@@ -84,5 +85,21 @@ impl<
             }
         }
         Ok(Operand::Own(self.value(context, frame, runtime, code)?))
+    }
+
+    /// Whether a condition holds.
+    #[inline(always)]
+    pub fn holds(
+        &self,
+        context: &Context<'_>,
+        frame: &Frame,
+        runtime: &mut R,
+        condition: &Code,
+    ) -> Result<bool, EvalErr>
+        requires { Nests R.means R.seen context.now.left self.now.depth self.now.call (F.pre self.now.eval) (F.post self.now.eval) }
+        ensures { Acts R.means (λ b. b) result (R.seen runtime.new) (following (nested R.means self.now.depth context.now condition.now (slots_of frame.now) (R.seen runtime.old)) (λ v s. done (R.means.truth v s) s)) }
+    {
+        let condition = self.operand(context, frame, runtime, condition)?;
+        Ok(runtime.truth(condition.get()))
     }
 }

@@ -1,6 +1,9 @@
 //! Expressions.
 
 ghost use Rattle.std.specs.Prelude.{◌≡◌};
+ghost use Rattle.bq_predeclared.specs.declared.predeclared.Predeclared.TheVariants.{Host};
+ghost use Rattle.bq_value.specs.Datum.{string};
+ghost use Rattle.bq_machine.specs.Action.{done};
 ghost use Rattle.bq_meaning.specs.Expressions as meaning;
 ghost use Rattle.bq_eval.specs.Acts.{Acts};
 ghost use Rattle.bq_eval.specs.Slots.{slots_of};
@@ -15,7 +18,7 @@ use crate::runtime::Runtime;
 use bq_machine::Args;
 use bq_predeclared::Predeclared;
 use bq_scope::{Binding, Code};
-use bq_source::FaultKind;
+use bq_source::{Bytes, FaultKind};
 use bq_value::{EvalErr, Value};
 use std::marker::PhantomData;
 
@@ -66,6 +69,23 @@ impl<
         Ok(use_of(context, frame, runtime, binding)?.own()?)
     }
 
+    /// A value that a host gives.
+    #[inline(always)]
+    fn native(&self, runtime: &mut R, id: u32) -> Result<Value, EvalErr>
+        ensures { Acts R.means (λ v. v) result (R.seen runtime.new) (done (R.means.predeclared (Host id)) (R.seen runtime.old)) }
+    {
+        Ok(runtime.predeclared(Predeclared::Host(id))?)
+    }
+
+    /// A string. No byte is copied.
+    #[inline(always)]
+    fn string(&self, runtime: &mut R, text: &Bytes) -> Result<Value, EvalErr>
+        ensures { Acts R.means (λ v. v) result (R.seen runtime.new) (meaning.literal R.means (string text.now) (R.seen runtime.old)) }
+    {
+        let text = text.share()?;
+        self.literal(runtime, Value::string(text))
+    }
+
     /// An expression.
     #[tactic(auto, unfolding(bq_meaning::specs::Expressions::expr))]
     pub fn expr(
@@ -81,9 +101,9 @@ impl<
     {
         match code {
             Code::Use(binding) => self.use_of(context, frame, runtime, *binding),
-            Code::Native(id) => Ok(runtime.predeclared(Predeclared::Host(*id))?),
+            Code::Native(id) => self.native(runtime, *id),
             Code::Int(n) => self.literal(runtime, Value::int(*n)),
-            Code::String(text) => self.literal(runtime, Value::string(text.share()?)),
+            Code::String(text) => self.string(runtime, text),
             Code::List(codes) => self.list_display(context, frame, runtime, codes.as_slice()),
             Code::Tuple(codes) => self.tuple_display(context, frame, runtime, codes.as_slice()),
             Code::Dict(pairs) => self.dict_display(context, frame, runtime, pairs.as_slice()),

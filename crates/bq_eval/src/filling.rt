@@ -1,7 +1,9 @@
 //! Putting what parameters hold into the frame of a function.
 
 ghost use Rattle.std.specs.Prelude.{◌≡◌};
+ghost use Rattle.bq_machine.specs.Action.{following, pure};
 ghost use Rattle.bq_meaning.specs.Calls as meaning;
+ghost use Rattle.bq_meaning.specs.Frame.{empty};
 ghost use Rattle.bq_eval.specs.Acts.{Acts};
 ghost use Rattle.bq_eval.specs.Fillings.{filling_of};
 ghost use Rattle.bq_eval.specs.Slots.{slots_of};
@@ -107,7 +109,7 @@ fn fill_parameter<'a, R: Runtime>(
 
 /// Puts these parameters into the frame.
 #[tactic(auto, unfolding(bq_meaning::specs::Calls::fill_parameters))]
-pub fn fill_parameters<'a, R: Runtime>(
+fn fill_parameters<'a, R: Runtime>(
     alloc: Global,
     runtime: &R,
     filling: Filling<'a>,
@@ -121,4 +123,20 @@ pub fn fill_parameters<'a, R: Runtime>(
         left = fill_parameter(alloc, runtime, left, frame, parameter)?;
     }
     Ok(left)
+}
+
+/// A frame with room for so many slots, in which these parameters are.
+#[tactic(auto, using(crate::proofs::Slots::none_filled))]
+pub fn filled_frame<R: Runtime>(
+    alloc: Global,
+    runtime: &R,
+    slots: usize,
+    filling: Filling<'_>,
+    parameters: &[CodeParameter],
+) -> Result<Frame, EvalErr>
+    ensures { Acts R.means slots_of result (R.seen runtime.now) (following (meaning.fill_parameters R.means parameters.now (filling_of filling.entry empty) (R.seen runtime.now)) (λ x. pure x.frame)) }
+{
+    let mut frame = Frame::with_room(alloc, slots)?;
+    let _filled = fill_parameters(alloc, runtime, filling, &mut frame, parameters)?;
+    Ok(frame)
 }

@@ -75,28 +75,25 @@ impl Frame {
         }
     }
 
-    /// The value of a name, or F49.
+    /// The value of a name, which is lent, or F49.
     #[tactic(auto, unfolding(bq_meaning::specs::Targets::bound))]
-    pub fn read<R: Runtime>(&self, runtime: &R, slot: usize) -> Result<Value, EvalErr>
-        ensures { Acts R.means (λ v. v) result (R.seen runtime.now) (bound R.means (slots_of self.now slot) (R.seen runtime.now)) }
+    #[inline(always)]
+    pub(crate) fn read<R: Runtime>(&self, runtime: &R, slot: usize) -> Result<&Value, EvalErr>
+        ensures { Acts R.means (λ v. v.now) result (R.seen runtime.now) (bound R.means (slots_of self.now slot) (R.seen runtime.now)) }
     {
         match self.get(slot) {
             None => Err(EvalErr::Bad(FaultKind::Unbound)),
-            Some(value) => Ok(value.share()?),
+            Some(value) => Ok(value),
         }
     }
 
     /// The use of a local name: its value, which is lent, or F49.
-    #[tactic(auto, unfolding(bq_meaning::specs::Targets::bound))]
     #[inline(always)]
     pub fn local<R: Runtime>(&self, runtime: &mut R, slot: usize) -> Result<&Value, EvalErr>
         ensures { Acts R.means (λ v. v.now) result (R.seen runtime.new) (local_use R.means (slots_of self.now) slot (R.seen runtime.old)) }
     {
         runtime.step(1)?;
-        match self.get(slot) {
-            None => Err(EvalErr::Bad(FaultKind::Unbound)),
-            Some(value) => Ok(value),
-        }
+        self.read(&*runtime, slot)
     }
 
     /// Puts a value into a slot.

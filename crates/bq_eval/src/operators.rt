@@ -298,8 +298,7 @@ impl<
         ensures { Acts R.means (λ o. o) result (R.seen runtime.new) (meaning.choice R.means (nested R.means self.now.depth context.now) choice.now (slots_of frame.now) (R.seen runtime.old)) }
     {
         runtime.step(1)?;
-        let condition = self.operand(context, frame, runtime, &choice.condition)?;
-        if runtime.truth(condition.get()) {
+        if self.holds(context, frame, runtime, &choice.condition)? {
             let value = self.value(context, frame, runtime, &choice.value)?;
             return Ok(Some(value));
         }

@@ -1,6 +1,7 @@
 //! The expressions of statements, and assignments.
 
 ghost use Rattle.std.specs.Prelude.{◌≡◌};
+ghost use Rattle.bq_machine.specs.Action.{following, done};
 ghost use Rattle.bq_meaning.specs.Targets as meaning;
 ghost use Rattle.bq_eval.specs.Acts.{Acts};
 ghost use Rattle.bq_eval.specs.Slots.{slots_of};
@@ -73,6 +74,22 @@ impl<R: Runtime, C: Copy + Fn(&Context<'_>, &mut R, &Value, Args) -> Result<Valu
         };
         let empty = Frame::new(context.alloc);
         expr_to(&inner, MAX_LAYERS, self.call, &empty, runtime, code)
+    }
+
+    /// Whether a condition holds.
+    #[inline(always)]
+    pub fn holds(
+        &self,
+        context: &Context<'_>,
+        frame: &Frame,
+        runtime: &mut R,
+        condition: &Code,
+    ) -> Result<bool, EvalErr>
+        requires { Answers R.means R.seen context.now.left (C.pre self.now.call) (C.post self.now.call) }
+        ensures { Acts R.means (λ b. b) result (R.seen runtime.new) (following (evals R.means context.now condition.now (slots_of frame.now) (R.seen runtime.old)) (λ v s. done (R.means.truth v s) s)) }
+    {
+        let condition = self.value(context, frame, runtime, condition)?;
+        Ok(runtime.truth(&condition))
     }
 
     // ---- the places of a target
@@ -171,7 +188,6 @@ impl<R: Runtime, C: Copy + Fn(&Context<'_>, &mut R, &Value, Args) -> Result<Valu
 
     /// `target = value`. A name has no operands, and is bound at once.
     #[inline(always)]
-    #[tactic(auto, unfolding(bq_meaning::specs::Targets::assign, bq_meaning::specs::Targets::places_to, bq_meaning::specs::Targets::places_of, bq_meaning::specs::Targets::bind_to, bq_meaning::specs::Targets::bind_target, bq_scope::specs::Names::max_layers))]
     pub fn assign(
         &self,
         context: &Context<'_>,
@@ -218,6 +234,24 @@ impl<R: Runtime, C: Copy + Fn(&Context<'_>, &mut R, &Value, Args) -> Result<Valu
         )
     }
 
+    /// What `op= x` makes of an old value.
+    #[inline(always)]
+    fn augmented(
+        &self,
+        context: &Context<'_>,
+        frame: &Frame,
+        runtime: &mut R,
+        old: &Value,
+        operator: Operator,
+        code: &Code,
+    ) -> Result<Value, EvalErr>
+        requires { Answers R.means R.seen context.now.left (C.pre self.now.call) (C.post self.now.call) }
+        ensures { Acts R.means (λ v. v) result (R.seen runtime.new) (following (evals R.means context.now code.now (slots_of frame.now) (R.seen runtime.old)) (R.means.augment operator old.now)) }
+    {
+        let value = self.value(context, frame, runtime, code)?;
+        runtime.augment(operator, old, &value)
+    }
+
     /// `name op= x`
     #[tactic(auto, unfolding(bq_meaning::specs::Targets::augment_name))]
     fn augment_name(
@@ -233,10 +267,28 @@ impl<R: Runtime, C: Copy + Fn(&Context<'_>, &mut R, &Value, Args) -> Result<Valu
         ensures { Acts R.means (λ _. slots_of frame.new) result (R.seen runtime.new) (meaning.augment_name R.means (evals R.means context.now) slot operator code.now (slots_of frame.old) (R.seen runtime.old)) }
     {
         let old = frame.read(&*runtime, slot)?;
-        let value = self.value(context, frame, runtime, code)?;
-        let new = runtime.augment(operator, &old, &value)?;
+        let new = self.augmented(context, frame, runtime, old, operator, code)?;
         frame.fill(slot, new)?;
         Ok(())
+    }
+
+    /// `y[i] op= x`, where `y` and `i` have these values.
+    fn augment_at(
+        &self,
+        context: &Context<'_>,
+        frame: &Frame,
+        runtime: &mut R,
+        operand: &Value,
+        index: &Value,
+        operator: Operator,
+        code: &Code,
+    ) -> Result<(), EvalErr>
+        requires { Answers R.means R.seen context.now.left (C.pre self.now.call) (C.post self.now.call) }
+        ensures { Acts R.means (λ _. tt) result (R.seen runtime.new) (following (R.means.index operand.now index.now (R.seen runtime.old)) (λ old s. following (following (evals R.means context.now code.now (slots_of frame.now) s) (R.means.augment operator old)) (R.means.set_index operand.now index.now))) }
+    {
+        let old = runtime.index(operand, index)?;
+        let new = self.augmented(context, frame, runtime, &old, operator, code)?;
+        runtime.set_index(operand, index, new)
     }
 
     /// `y[i] op= x`
@@ -257,10 +309,7 @@ impl<R: Runtime, C: Copy + Fn(&Context<'_>, &mut R, &Value, Args) -> Result<Valu
     {
         let operand = self.value(context, frame, runtime, operand)?;
         let index = self.value(context, frame, runtime, index)?;
-        let old = runtime.index(&operand, &index)?;
-        let value = self.value(context, frame, runtime, code)?;
-        let new = runtime.augment(operator, &old, &value)?;
-        runtime.set_index(&operand, &index, new)
+        self.augment_at(context, frame, runtime, &operand, &index, operator, code)
     }
 
     /// `target op= x`

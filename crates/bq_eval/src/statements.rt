@@ -1,6 +1,7 @@
 //! Statements of functions. Each rule takes what runs the statements inside, so that it is proved by itself.
 
 ghost use Rattle.std.specs.Prelude.{◌≡◌};
+ghost use Rattle.bq_machine.specs.Action.{following, done};
 ghost use Rattle.bq_meaning.specs.Statements as meaning;
 ghost use Rattle.bq_eval.specs.Acts.{Acts};
 ghost use Rattle.bq_eval.specs.Flows.{flow_of};
@@ -14,7 +15,7 @@ use crate::flow::Flow;
 use crate::frame::Frame;
 use crate::reader::Reader;
 use crate::runtime::Runtime;
-use crate::targets::{MAX_LAYERS, bind_variables};
+use crate::targets::{MAX_LAYERS, begin_turn};
 use bq_machine::{Args, Elements};
 use bq_scope::{Code, CodeBranch, CodeStmt, CodeTarget};
 use bq_source::FaultKind;
@@ -140,10 +141,10 @@ impl<
         ensures { Acts R.means (λ f. (flow_of f, slots_of frame.new)) result (R.seen runtime.new) (meaning.branches R.means (evals R.means context.now) (meaning.run_to self.now.depth R.means (evals R.means context.now)) branches.now otherwise.now (slots_of frame.old) (R.seen runtime.old)) }
     {
         for branch in branches {
-            let condition = self
+            if self
                 .reader
-                .value(context, frame, runtime, &branch.condition)?;
-            if runtime.truth(&condition) {
+                .holds(context, frame, runtime, &branch.condition)?
+            {
                 return self.block(context, frame, runtime, branch.block.as_slice());
             }
         }
@@ -163,8 +164,7 @@ impl<
         requires { Runs R.means R.seen context.now.left self.now.depth self.now.reader.call (G.pre self.now.run) (G.post self.now.run) }
         ensures { Acts R.means (λ f. (flow_of f, slots_of frame.new)) result (R.seen runtime.new) (meaning.turn R.means (evals R.means context.now) (meaning.run_to self.now.depth R.means (evals R.means context.now)) target.now body.now value (slots_of frame.old) (R.seen runtime.old)) }
     {
-        runtime.step(1)?;
-        bind_variables(context.alloc, runtime, frame, target, value)?;
+        begin_turn(context.alloc, runtime, frame, target, value)?;
         self.block(context, frame, runtime, body)
     }
 
@@ -192,6 +192,25 @@ impl<
         Ok(Flow::Next)
     }
 
+    /// Goes over the elements of an iterable.
+    fn walk(
+        &self,
+        context: &Context<'_>,
+        frame: &mut Frame,
+        runtime: &mut R,
+        target: &CodeTarget,
+        iterable: &Value,
+        body: &[CodeStmt],
+    ) -> Result<Flow, EvalErr>
+        requires { Runs R.means R.seen context.now.left self.now.depth self.now.reader.call (G.pre self.now.run) (G.post self.now.run) }
+        ensures { Acts R.means (λ f. (flow_of f, slots_of frame.new)) result (R.seen runtime.new) (following (R.means.begin_walk iterable.now (R.seen runtime.old)) (λ xs s. following (meaning.turns R.means (evals R.means context.now) (meaning.run_to self.now.depth R.means (evals R.means context.now)) target.now body.now xs (slots_of frame.old) s) (λ r t. done r (R.means.end_walk iterable.now t)))) }
+    {
+        let mut elements = runtime.begin_walk(context.alloc, iterable)?;
+        let flow = self.turns(context, frame, runtime, target, body, &mut elements)?;
+        runtime.end_walk(iterable);
+        Ok(flow)
+    }
+
     /// `for target in iterable`
     #[inline(never)]
     #[tactic(auto, unfolding(bq_meaning::specs::Statements::for_loop))]
@@ -209,10 +228,7 @@ impl<
         ensures { Acts R.means (λ f. (flow_of f, slots_of frame.new)) result (R.seen runtime.new) (meaning.for_loop R.means (evals R.means context.now) (meaning.run_to self.now.depth R.means (evals R.means context.now)) target.now iterable.now body.now (slots_of frame.old) (R.seen runtime.old)) }
     {
         let iterable = self.reader.value(context, frame, runtime, iterable)?;
-        let mut elements = runtime.begin_walk(context.alloc, &iterable)?;
-        let flow = self.turns(context, frame, runtime, target, body, &mut elements)?;
-        runtime.end_walk(&iterable);
-        Ok(flow)
+        self.walk(context, frame, runtime, target, &iterable, body)
     }
 
     /// A statement.

@@ -1,6 +1,7 @@
 //! Binding the parts of targets.
 
 ghost use Rattle.std.specs.Prelude.{◌≡◌, []};
+ghost use Rattle.bq_machine.specs.Action.{following};
 ghost use Rattle.bq_meaning.specs.Targets as meaning;
 ghost use Rattle.bq_eval.specs.Acts.{Acts};
 ghost use Rattle.bq_eval.specs.Slots.{slots_of};
@@ -178,4 +179,19 @@ fn bind_parts<R: Runtime>(
         target,
         value,
     )
+}
+
+/// A turn of a `for` begins: its step, and the variables get the next element.
+#[inline(always)]
+pub fn begin_turn<R: Runtime>(
+    alloc: Global,
+    runtime: &mut R,
+    frame: &mut Frame,
+    target: &CodeTarget,
+    value: Value,
+) -> Result<(), EvalErr>
+    ensures { Acts R.means (λ _. slots_of frame.new) result (R.seen runtime.new) (following (R.means.step 1 (R.seen runtime.old)) (λ _. meaning.bind_variables R.means target.now value (slots_of frame.old))) }
+{
+    runtime.step(1)?;
+    bind_variables(alloc, runtime, frame, target, value)
 }

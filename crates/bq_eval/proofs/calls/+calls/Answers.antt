@@ -1,10 +1,13 @@
 use Rattle.std.proofs.Common.{◌∙◌, ap, sym, arith}
+use Rattle.std.proofs.lemmas.Grind.{common_steps}
+use Rattle.bq_value.specs.Datum.{list_of_data_of}
 use Rattle.bq_machine.specs.Action.{done}
 use Rattle.bq_eval.specs.Round.{evals, in_function, inside, round_of, units_at, globals_of}
 use Rattle.bq_eval.specs.CodeUnits.{unit_of}
 use Rattle.bq_eval.specs.Flows.{flow_of}
 use Rattle.bq_eval.specs.Slots.{slots_of}
-use Rattle.bq_eval.proofs.CallSteps.{no_body, ran_body}
+use Rattle.bq_eval.proofs.CallSteps.{calls_step, no_body, ran_body}
+use Rattle.bq_meaning.specs.Calls.{apply, call_function}
 use Rattle.bq_eval.proofs.calls.+calls.Goals as goal
 
 pub run_body-returns-then-context-eq0 : goal.run_body-returns-then-context-eq0
@@ -20,3 +23,34 @@ run_body-returns g t c =
     let x = c.args.context.now in
     let ran = ran_body x.left h.means (units_at x.program.now (globals_of x.own)) (unit_of c.args.unit.now) c.args.function.now (slots_of c.args.frame.now) (h.seen c.args.runtime.now) (flow_of c.in_ok-flow.flow) (slots_of c.run_block.new.frame) (h.seen c.run_block.new.runtime) c.as_slice.result.now (omega (arith, c.if-context-eq0.false)) c.as_slice.ensures c.in_ok-flow.ensures in
     ran ∙ ap (λ v. done v (h.seen c.run_block.new.runtime)) (sym c.answered.ensures)
+
+pub call_function-returns-in_err-frame : goal.call_function-returns-in_err-frame
+unfolding call_function
+call_function-returns-in_err-frame g t c = grind (arith, common_steps)
+
+pub call_function-returns-in_err-enter : goal.call_function-returns-in_err-enter
+unfolding call_function
+call_function-returns-in_err-enter g t c = grind (arith, common_steps)
+
+pub call_function-returns-in_err-value : goal.call_function-returns-in_err-value
+unfolding call_function
+call_function-returns-in_err-value g t c = grind (arith, common_steps)
+
+pub call_function-returns : goal.call_function-returns
+unfolding call_function
+call_function-returns g t c = grind (arith, common_steps)
+
+pub apply-returns-in-Function : goal.apply-returns-in-Function
+unfolding apply
+apply-returns-in-Function g t c = grind (arith, common_steps, list_of_data_of)
+
+pub apply-returns-in-BuiltIn : goal.apply-returns-in-BuiltIn
+unfolding apply
+apply-returns-in-BuiltIn g t c = grind (arith, common_steps)
+
+pub call-returns : goal.call-returns
+unfolding inside
+call-returns g t c =
+    let h = g.R.Runtime in
+    let x = c.args.context.now in
+    rw (calls_step x.left h.means (units_at x.program.now (globals_of x.own)) c.args.value.now c.args.args (h.seen c.args.runtime.now)) c.apply.ensures

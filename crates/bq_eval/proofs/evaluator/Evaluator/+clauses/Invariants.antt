@@ -14,20 +14,17 @@ invariant-turns-loop-value g l =
 abbrev pub decreases-turns-loop-value : goal.decreases-turns-loop-value
 decreases-turns-loop-value g l = length l.elements
 
-abbrev pub decreases-turn : goal.decreases-turn
-decreases-turn g l = 5 * length l.rest.now + 1
-
 abbrev pub decreases-turns : goal.decreases-turns
-decreases-turns g l = 5 * length l.rest.now + 2
+decreases-turns g l = 4 * length l.rest.now + 1
 
 abbrev pub decreases-for_clause : goal.decreases-for_clause
-decreases-for_clause g l = 5 * length l.rest.now + 3
+decreases-for_clause g l = 4 * length l.rest.now + 2
 
 abbrev pub decreases-if_clause : goal.decreases-if_clause
-decreases-if_clause g l = 5 * length l.rest.now + 1
+decreases-if_clause g l = 4 * length l.rest.now + 1
 
 abbrev pub decreases-clause : goal.decreases-clause
-decreases-clause g l = 5 * length l.rest.now + 4
+decreases-clause g l = 4 * length l.rest.now + 3
 
 abbrev pub decreases-clauses : goal.decreases-clauses
-decreases-clauses g l = 5 * length l.clauses.now + 0
+decreases-clauses g l = 4 * length l.clauses.now

@@ -11,13 +11,13 @@ pub loop-branch-preserved : goal.loop-branch-preserved
 unfolding branches
 loop-branch-preserved g c = grind (arith, common_steps)
 
-pub returns-in_err-condition : goal.returns-in_err-condition
+pub returns-in_err-holds : goal.returns-in_err-holds
 unfolding branches
-returns-in_err-condition g c = grind (arith, common_steps)
+returns-in_err-holds g c = grind (arith, common_steps)
 
-pub returns-then-truth : goal.returns-then-truth
+pub returns-then-branch : goal.returns-then-branch
 unfolding branches
-returns-then-truth g c = grind (arith, common_steps)
+returns-then-branch g c = grind (arith, common_steps)
 
 pub returns : goal.returns
 unfolding branches

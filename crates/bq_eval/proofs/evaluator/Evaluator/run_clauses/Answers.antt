@@ -1,0 +1,17 @@
+use Rattle.std.proofs.Common.{List, Option, subst}
+use Rattle.bq_value.specs.Datum.{Datum}
+use Rattle.bq_machine.specs.Action.{following, pure}
+use Rattle.bq_meaning.specs.Comprehensions.{body, clauses}
+use Rattle.bq_eval.specs.Acts.{Acts}
+use Rattle.bq_eval.specs.Nests.{nested}
+use Rattle.bq_eval.specs.Slots.{slots_of}
+use Rattle.bq_eval.proofs.Following.{first_acts}
+use Rattle.bq_eval.proofs.evaluator.Evaluator.run_clauses.Goals as goal
+
+pub returns : goal.returns
+returns g c =
+    let h = g.R.Runtime in
+    let e = nested h.means c.args.self.now.depth c.args.context.now in
+    let run = λ (slots : List (Option Datum)). clauses h.means e c.args.clauses.now (body h.means e c.args.comprehension.now) (slots_of slots) c.args.content.now (h.seen c.args.runtime.now) in
+    let P : List (Option Datum) → Type 0 = λ slots. Acts h.means (λ _. c.clauses.new.content) c.clauses.result (h.seen c.clauses.new.runtime) (following (run slots) (λ made. pure made.0)) in
+    subst P c.in_ok-inner.ensures (first_acts h.means c.clauses.new.content (slots_of c.clauses.new.frame) c.clauses.result (h.seen c.clauses.new.runtime) (run c.in_ok-inner.inner) c.clauses.ensures)
