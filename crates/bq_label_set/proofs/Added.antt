@@ -103,11 +103,11 @@ with_labels-append ls (x ∷ xs) ys = with_labels-append (with_label ls x) xs ys
 
 -- ---- labels that differ
 
-free : (pre rest : List LabelParts) (x : LabelParts) → IsDistinct same_label (pre ++ x ∷ rest) → has_label pre x ≡ false
-free [] rest x d = refl
-free (p ∷ pre) rest x d =
+pub free_before : (pre rest : List LabelParts) (x : LabelParts) → IsDistinct same_label (pre ++ x ∷ rest) → has_label pre x ≡ false
+free_before [] rest x d = refl
+free_before (p ∷ pre) rest x d =
     let apart : same_label p x ≡ false = reach pre (IsDistinct-head same_label p (pre ++ x ∷ rest) d) in
-    rw (same_label-equiv.symm x p, apart) (free pre rest x (IsDistinct-tail same_label p (pre ++ x ∷ rest) d))
+    rw (same_label-equiv.symm x p, apart) (free_before pre rest x (IsDistinct-tail same_label p (pre ++ x ∷ rest) d))
   where
     reach : (qs : List LabelParts) → AllByRecursion (λ y. same_label p y ≡ false) (qs ++ x ∷ rest) → same_label p x ≡ false
     reach [] a = a.0
@@ -117,7 +117,7 @@ all_new : (pre rest : List LabelParts) → IsDistinct same_label (pre ++ rest) �
 unfolding with_labels
 all_new pre [] d = sym (append-nil pre)
 all_new pre (x ∷ rest) d =
-    let one : with_label pre x ≡ pre ++ x ∷ [] = new_label pre x (free pre rest x d) in
+    let one : with_label pre x ≡ pre ++ x ∷ [] = new_label pre x (free_before pre rest x d) in
     let along : (pre ++ x ∷ []) ++ rest ≡ pre ++ x ∷ rest = append_assoc pre (x ∷ []) rest in
     ap (λ (z : List LabelParts). with_labels z rest) one ∙ (all_new (pre ++ x ∷ []) rest (subst (λ (z : List LabelParts). IsDistinct same_label z) (sym along) d) ∙ along)
 

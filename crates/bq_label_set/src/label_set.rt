@@ -93,6 +93,14 @@ impl LabelSet {
         Ok(self.keys.insert(Key { label })?)
     }
 
+    /// Whether this is one of them.
+    pub fn has(&self, label: &Label) -> Result<bool, AllocError>
+        ensures { IfOk result (λ has. has ≡ has_label self.now label.now) }
+    {
+        let label = label.share()?;
+        Ok(self.keys.contains(&Key { label }))
+    }
+
     /// Adds each of these labels that isn't there.
     #[tactic(auto, unfolding(crate::specs::Labels::with_labels))]
     pub fn add_all(&mut self, labels: &[Label]) -> Result<(), AllocError>

@@ -21,10 +21,10 @@ use Rattle.bq_attributes.proofs.Declared.{declared_own}
 use Rattle.bq_package.specs.Place.{PlaceView}
 use Rattle.bq_package.specs.Bound.{exports_parameters, group_parameters, argument, text_of, texts_of}
 use Rattle.bq_package.specs.Files.{files_named}
-use Rattle.bq_package.specs.Groups.{names_first, group, group_labels, group_named}
+use Rattle.bq_package.specs.Groups.{names_first, group, group_labels, group_of, group_named}
 use Rattle.bq_package.specs.Rules.{target_by, rule_target}
 use Rattle.bq_package.specs.Calls.{HeldPackage, place_in}
-use Rattle.bq_package.specs.Keeping.{OwnsTarget, OwnsFiles, IsDeclaredIn}
+use Rattle.bq_package.specs.Keeping.{package_after, OwnsTarget, OwnsFiles}
 
 -- ---- files
 
@@ -63,7 +63,7 @@ labels_of_own p false name includes r h =
     subst (λ (q : LabelParts × List LabelParts). is_of p.own q.0 ≡ true) e (name_label_own p.own p.packages name y.0 y.1)
 
 group_own : (p : PlaceView) (store : StoreView) (line : ℕ) (passed : Passed) (t : Target) → group_named p store line passed ≡ Ok t → IsOwnCall p.own t
-unfolding group_named
+unfolding group_named group_of
 group_own p store line passed t h =
     let r = both_ok (bind group_parameters passed) (λ b. and_then (text_of (argument b.values 0)) (λ name. and_then (texts_of store (argument b.values 2)) (λ includes. and_then (group_labels p (names_first passed) name includes) (λ r. Ok (group line r.0 r.1))))) t h in
     let n = both_ok (text_of (argument r.0.values 0)) (λ name. and_then (texts_of store (argument r.0.values 2)) (λ includes. and_then (group_labels p (names_first passed) name includes) (λ r. Ok (group line r.0 r.1)))) t r.2 in
@@ -85,23 +85,23 @@ rule_owned kept p store line rule passed t inside h = target_owned kept p t insi
 
 -- ---- the package that a call leaves
 
-by_new : (own : PackageParts) (p q : PackageTargets) (new : Bool) → package_of p.build_file ≡ own → package_of q.build_file ≡ own → IsDeclaredIn own (cond new (Accepted q) (Refused p))
+by_new : (own : PackageParts) (p q : PackageTargets) (new : Bool) → package_of p.build_file ≡ own → package_of q.build_file ≡ own → package_of (package_after (cond new (Accepted q) (Refused p))).build_file ≡ own
 by_new own p q true h e = e
 by_new own p q false h e = h
 
-pub declared_in : (own : PackageParts) (p : PackageTargets) (t : Target) (after : Declared) → package_of p.build_file ≡ own → after ≡ declared p t → IsDeclaredIn own after
+pub declared_in : (own : PackageParts) (p : PackageTargets) (t : Target) (after : Declared) → package_of p.build_file ≡ own → after ≡ declared p t → package_of (package_after after).build_file ≡ own
 unfolding declared
 declared_in own p t after h is =
-    subst (IsDeclaredIn own) (sym is) (by_new own p (record p { targets = p.targets ++ declares_targets t }) (are_new (names_of p.targets) (names_of (declares_targets t))) h h)
+    subst (λ (d : Declared). package_of (package_after d).build_file ≡ own) (sym is) (by_new own p (record p { targets = p.targets ++ declares_targets t }) (are_new (names_of p.targets) (names_of (declares_targets t))) h h)
 
-by_taken : (own : PackageParts) (p q : PackageTargets) (taken : Bool) → package_of p.build_file ≡ own → package_of q.build_file ≡ own → IsDeclaredIn own (cond taken (Refused p) (Accepted q))
+by_taken : (own : PackageParts) (p q : PackageTargets) (taken : Bool) → package_of p.build_file ≡ own → package_of q.build_file ≡ own → package_of (package_after (cond taken (Refused p) (Accepted q))).build_file ≡ own
 by_taken own p q true h e = h
 by_taken own p q false h e = e
 
-pub exported_in : (own : PackageParts) (p : PackageTargets) (ls : List LabelParts) (line : ℕ) (after : Declared) → package_of p.build_file ≡ own → after ≡ exported p ls line → IsDeclaredIn own after
+pub exported_in : (own : PackageParts) (p : PackageTargets) (ls : List LabelParts) (line : ℕ) (after : Declared) → package_of p.build_file ≡ own → after ≡ exported p ls line → package_of (package_after after).build_file ≡ own
 unfolding exported
 exported_in own p ls line after h is =
-    subst (IsDeclaredIn own) (sym is) (by_taken own p (record p { targets = p.targets ++ files line p.targets ls }) (list_any (is_taken p.targets) ls) h h)
+    subst (λ (d : Declared). package_of (package_after d).build_file ≡ own) (sym is) (by_taken own p (record p { targets = p.targets ++ files line p.targets ls }) (list_any (is_taken p.targets) ls) h h)
 
 -- ---- the package that is kept
 

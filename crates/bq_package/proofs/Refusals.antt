@@ -37,7 +37,7 @@ use Rattle.bq_package.specs.Bound.{glob_parameters, exports_parameters, group_pa
 use Rattle.bq_package.specs.declared.glob.GlobRequest.{GlobRequest}
 use Rattle.bq_package.specs.Glob.{pattern, patterns, excludes_directories, allows_empty, asked, request_by, request_of, found, is_idle, is_nothing, names_of, globbed}
 use Rattle.bq_package.specs.Files.{files_named}
-use Rattle.bq_package.specs.Groups.{names_first, group, group_labels, group_named}
+use Rattle.bq_package.specs.Groups.{names_first, group, group_labels, group_of, group_named}
 use Rattle.bq_package.specs.Rules.{target_by, rule_target}
 
 -- the fault is one of the table, where there is one
@@ -304,7 +304,7 @@ of_group_labels p false name includes =
     (λ ls. of_both (label p.own p.packages k.Name name) (λ l. Ok (l, ls)) (of_label p.own p.packages k.Name name) (λ l. tt))
 
 pub of_group : (p : PlaceView) (store : StoreView) (line : ℕ) (passed : Passed) → IsRefusable (group_named p store line passed)
-unfolding group_named
+unfolding group_named group_of
 of_group p store line passed =
     of_both (bind group_parameters passed) (λ b. and_then (text_of (argument b.values 0)) (λ name. and_then (texts_of store (argument b.values 2)) (λ includes. and_then (group_labels p (names_first passed) name includes) (λ r. Ok (group line r.0 r.1)))))
     (of_bind group_parameters passed)

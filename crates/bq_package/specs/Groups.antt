@@ -1,7 +1,7 @@
 -- Calls of `package_group` (Bazel, Build Encyclopedia, "Functions"): F52, F73, then the faults of the name (F75, F37) and of the included
 -- groups (F78, F37), in the order in which the two are written. What `packages` has isn't read (ours: there are no checks of
 -- visibility).
-use Rattle.std.specs.Prelude.{ℕ, Bool, true, false, ◌||◌, List, [], ◌∷◌, Result, Ok, codes, bytes_eq, if◌then◌else◌}
+use Rattle.std.specs.Prelude.{ℕ, Bool, true, false, ◌||◌, List, [], ◌∷◌, Option, Result, Ok, codes, bytes_eq, if◌then◌else◌}
 use Rattle.bq_source.specs.declared.fault.FaultKind.{FaultKind}
 use Rattle.bq_label.specs.Label.{LabelParts}
 use Rattle.bq_value.specs.Datum.{Datum}
@@ -37,10 +37,13 @@ group_labels p first name includes =
     if first then and_then (label p.own p.packages k.Name name) (λ l. and_then (labels p.own p.packages k.Label includes) (λ ls. Ok (l, ls)))
     else and_then (labels p.own p.packages k.Label includes) (λ ls. and_then (label p.own p.packages k.Name name) (λ l. Ok (l, ls)))
 
+-- the group that the arguments of the parameters declare
+unfoldable pub group_of : PlaceView → StoreView → ℕ → Bool → List (Option Datum) → Result Target FaultKind
+group_of p store line first values =
+    and_then (text_of (argument values 0)) (λ name.
+    and_then (texts_of store (argument values 2)) (λ includes.
+    and_then (group_labels p first name includes) (λ r. Ok (group line r.0 r.1))))
+
 -- the group that a call declares
 unfoldable pub group_named : PlaceView → StoreView → ℕ → Passed → Result Target FaultKind
-group_named p store line passed =
-    and_then (bind group_parameters passed) (λ b.
-    and_then (text_of (argument b.values 0)) (λ name.
-    and_then (texts_of store (argument b.values 2)) (λ includes.
-    and_then (group_labels p (names_first passed) name includes) (λ r. Ok (group line r.0 r.1)))))
+group_named p store line passed = and_then (bind group_parameters passed) (λ b. group_of p store line (names_first passed) b.values)

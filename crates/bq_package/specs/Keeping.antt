@@ -14,19 +14,22 @@ use Rattle.bq_target.specs.declared.state.Declared.{Declared}
 use Rattle.bq_target.specs.declared.state.Declared.TheVariants.{Accepted, Refused}
 use Rattle.bq_target.specs.Target.{is_of}
 use Rattle.bq_target.specs.Package.{PackageTargets, IsOwnCall}
-use Rattle.bq_label.specs.Label.{PackageParts, package_of}
 use Rattle.bq_package.specs.Place.{PlaceView}
 use Rattle.bq_package.specs.Calls.{HeldPackage, Declaring, settled}
 
--- the package that a call leaves is of this name
-abbrev pub IsDeclaredIn : PackageParts → Declared → Type 0
-IsDeclaredIn own (Accepted q) = package_of q.build_file ≡ own
-IsDeclaredIn own (Refused q) = package_of q.build_file ≡ own
+-- what a call answers that declares targets; one that is refused is F74
+abbrev pub answer : Declared → Result Datum EvalErr
+answer (Accepted q) = Ok none
+answer (Refused q) = Err (Bad DoubleTarget)
 
--- the package that a call leaves is kept; a call that is refused is F74
+-- the package that such a call leaves
+abbrev pub package_after : Declared → PackageTargets
+package_after (Accepted q) = q
+package_after (Refused q) = q
+
+-- that package is kept, and the call answers so
 abbrev pub Settles : Result Datum EvalErr → HeldPackage → PlaceView → Declared → Type 0
-Settles result after p (Accepted q) = (result ≡ Ok none) × (after ≡ Some (record { place = p; «package» = q }))
-Settles result after p (Refused q) = (result ≡ Err (Bad DoubleTarget)) × (after ≡ Some (record { place = p; «package» = q }))
+Settles result after p outcome = (result ≡ answer outcome) × (after ≡ Some (record { place = p; «package» = package_after outcome }))
 
 -- a call that declares on the package that is kept
 pub record IsSettled (result : Result Datum EvalErr) (before after : HeldPackage) (declare : PackageTargets → Declared) : Type 0 where

@@ -1,12 +1,13 @@
 //! Calls of `package_group`.
 
-ghost use Rattle.std.specs.Prelude.{◌≡◌, ◌||◌, IfOk};
+ghost use Rattle.std.specs.Prelude.{◌≡◌, ◌||◌, Ok, IfOk};
 ghost use Rattle.bq_source.specs.Gives.{Gives};
 ghost use Rattle.bq_value.specs.declared.error.EvalErr.TheVariants.{Bad};
 ghost use Rattle.bq_machine.specs.Binding.{bind};
+ghost use Rattle.bq_attributes.specs.Steps.{and_then};
 ghost use Rattle.bq_package.specs.Place.{place_of};
 ghost use Rattle.bq_package.specs.Bound.{group_parameters};
-ghost use Rattle.bq_package.specs.Groups.{is_name_first, names_first, group, group_labels, group_named};
+ghost use Rattle.bq_package.specs.Groups.{is_name_first, names_first, group, group_labels, group_of, group_named};
 
 use crate::bound::{text_of, texts_of};
 use crate::place::Place;
@@ -111,7 +112,39 @@ impl<'a> Place<'a> {
         Ok((label(alloc, self.scope, TextKind::Name, name)?, includes))
     }
 
-    /// The group that a call of `package_group` declares: F52, F73, F75, F78, F37.
+    /// The group of a name and of those that it includes.
+    fn labelled_group(
+        &self,
+        alloc: Global,
+        line: u32,
+        first: bool,
+        name: &Bytes,
+        includes: &[Bytes],
+    ) -> Result<Target, EvalErr>
+        ensures { Gives (λ t. t) Bad result (and_then (group_labels (place_of self.now) first name.now includes.now) (λ r. Ok (group line r.0 r.1))) }
+    {
+        let (label, includes) = self.group_labels(alloc, first, name, includes)?;
+        Ok(group(alloc, line, label, includes)?)
+    }
+
+    /// The group that the arguments of the parameters declare: F73, F75, F78, F37.
+    #[tactic(auto, unfolding(crate::specs::Groups::group_of))]
+    fn group_of(
+        &self,
+        alloc: Global,
+        store: &Store,
+        line: u32,
+        first: bool,
+        values: &[Option<Value>],
+    ) -> Result<Target, EvalErr>
+        ensures { Gives (λ t. t) Bad result (group_of (place_of self.now) store.now line first values.now) }
+    {
+        let name = text_of(values, 0)?;
+        let includes = texts_of(alloc, store, values, 2)?;
+        self.labelled_group(alloc, line, first, &name, includes.as_slice())
+    }
+
+    /// The group that a call of `package_group` declares: F52, then the faults of its arguments.
     #[tactic(auto, unfolding(crate::specs::Groups::group_named))]
     pub fn group_named(
         &self,
@@ -124,9 +157,6 @@ impl<'a> Place<'a> {
     {
         let first = names_first(&args);
         let bound = bind_group(alloc, args)?;
-        let name = text_of(&bound.values, 0)?;
-        let includes = texts_of(alloc, store, &bound.values, 2)?;
-        let (label, includes) = self.group_labels(alloc, first, &name, includes.as_slice())?;
-        Ok(group(alloc, line, label, includes)?)
+        self.group_of(alloc, store, line, first, &bound.values)
     }
 }

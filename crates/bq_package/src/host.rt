@@ -12,7 +12,7 @@ ghost use Rattle.bq_target.specs.Package.{no_targets};
 ghost use Rattle.bq_target.specs.Calls.{declared, exported};
 ghost use Rattle.bq_package.specs.Place.{place_of};
 ghost use Rattle.bq_package.specs.Calls.{HeldPackage, held_by, place_in, new_strings, package_name, ignored, call_by, meaning};
-ghost use Rattle.bq_package.specs.Keeping.{IsDeclaredIn, Settles, IsSettled, OwnsTarget, OwnsFiles};
+ghost use Rattle.bq_package.specs.Keeping.{answer, package_after, Settles, IsSettled, OwnsTarget, OwnsFiles};
 
 use crate::building::{BuildHost, Building};
 use crate::function::{BuildFunction, function_of};
@@ -81,6 +81,26 @@ fn ignored(alloc: Global, args: Args) -> Result<Value, EvalErr>
     Ok(Value::none())
 }
 
+/// What a call answers that declares targets. One that is refused is F74.
+fn answer(declared: &Declared) -> Result<Value, EvalErr>
+    ensures { result ≡ answer declared.now }
+{
+    match declared {
+        Declared::Accepted(_) => Ok(Value::none()),
+        Declared::Refused(_) => Err(EvalErr::Bad(FaultKind::DoubleTarget)),
+    }
+}
+
+/// The package that such a call leaves.
+fn package_after(declared: Declared) -> PackageState
+    ensures { result ≡ package_after declared }
+{
+    match declared {
+        Declared::Accepted(package) => package,
+        Declared::Refused(package) => package,
+    }
+}
+
 impl<'a> BuildHost<'a> {
     /// No BUILD file is evaluated: every call is F70.
     pub fn outside() -> BuildHost<'a>
@@ -137,19 +157,15 @@ impl<'a> BuildHost<'a> {
 
     /// Keeps the package that a call leaves. A call that is refused is F74.
     fn settle(&mut self, place: Place<'a>, declared: Declared) -> Result<Value, EvalErr>
-        requires { IsDeclaredIn place.scope.own.now declared }
+        requires { package_of (package_after declared).build_file ≡ place.scope.own.now }
         ensures { Settles result (held_by self.new) (place_of place.entry) declared }
     {
-        match declared {
-            Declared::Accepted(package) => {
-                self.building = Some(Building { place, package });
-                Ok(Value::none())
-            }
-            Declared::Refused(package) => {
-                self.building = Some(Building { place, package });
-                Err(EvalErr::Bad(FaultKind::DoubleTarget))
-            }
-        }
+        let answer = answer(&declared);
+        self.building = Some(Building {
+            place,
+            package: package_after(declared),
+        });
+        answer
     }
 
     /// Declares a target, and the files that the rule makes.

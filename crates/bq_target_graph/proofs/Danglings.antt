@@ -13,7 +13,8 @@ use Rattle.bq_fault_line.specs.FaultLine.{line_cmp, put_lines}
 use Rattle.bq_target.specs.declared.target.Target.{Target}
 use Rattle.bq_target.specs.Target.{is_of, dependencies}
 use Rattle.bq_target.specs.Package.{PackageTargets}
-use Rattle.bq_target_graph.specs.Labels.{same_label, same_label-Decides, has_label, with_label, with_labels}
+use Rattle.bq_label_set.specs.Labels.{same_label, same_label-Decides, has_label, with_label, with_labels}
+use Rattle.bq_label_set.proofs.Added.{with_labels-append}
 use Rattle.bq_target_graph.specs.Order.{all_targets, labels_of}
 use Rattle.bq_target_graph.specs.Dangling.{dangling_line, line_by, dangling, dangling_in, dangling_of, all_dangling, IsDangling}
 use Rattle.bq_target_graph.proofs.Lists.{next_taken}
@@ -63,11 +64,6 @@ unfolding all_dangling
 lines_known ps ls e =
     let known : has_label ls ≡ has_label (labels_of (all_targets ps)) = ap has_label e ∙ known_is (labels_of (all_targets ps)) in
     ap (λ (k : LabelParts → Bool). flat_map (dangling_of k) ps) known
-
-pub with_labels-append : (ls xs ys : List LabelParts) → with_labels ls (xs ++ ys) ≡ with_labels (with_labels ls xs) ys
-unfolding with_labels
-with_labels-append ls [] ys = refl
-with_labels-append ls (x ∷ xs) ys = with_labels-append (with_label ls x) xs ys
 
 pub known_next : (ts : List Target) (i : ℕ) (t : Target) (first ls now : List LabelParts) → i < length ts → t ≡ get_or ts i t → ls ≡ with_labels first (labels_of (take i ts)) → now ≡ with_label ls t.label
     → now ≡ with_labels first (labels_of (take (i + 1) ts))

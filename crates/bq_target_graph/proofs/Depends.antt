@@ -11,7 +11,7 @@ use Rattle.bq_graph.specs.declared.edge.Edge.{Edge}
 use Rattle.bq_graph.specs.Edges.{HasEdge, AreBetween}
 use Rattle.bq_target.specs.declared.target.Target.{Target}
 use Rattle.bq_target.specs.Target.{dependencies}
-use Rattle.bq_target_graph.specs.Labels.{same_label, same_label-Decides, same_label-equiv}
+use Rattle.bq_label_set.specs.Labels.{same_label, same_label-Decides, same_label-equiv}
 use Rattle.bq_target_graph.specs.Order.{labels_of}
 use Rattle.bq_target_graph.specs.Edges.{DependsOn, edge_by, edges_to, edges_from}
 

@@ -7,7 +7,7 @@ use Rattle.std.proofs.lemmas.List.Sorted.{IsPermutation-trans, IsPermutation-sym
 use Rattle.bq_label.specs.Label.{PackageParts, LabelParts, IsLabel}
 use Rattle.bq_label.specs.Packages.{id_cmp}
 use Rattle.bq_graph.specs.declared.edge.Edge.{Edge}
-use Rattle.bq_graph.specs.Edges.{HasEdge, AreBetween, HasPairsOf}
+use Rattle.bq_graph.specs.Edges.{AreBetween, HasPairsOf}
 use Rattle.bq_target.specs.declared.target.Target.{Target}
 use Rattle.bq_target.specs.Package.{PackageTargets, AreTargetsOf}
 use Rattle.bq_target_graph.specs.Order.{target_cmp, id_of, PackagesAscend, all_targets, targets_of, labels_of, AreValid}
@@ -45,7 +45,7 @@ ids_ascend (p ∷ ps) o = (each p ps o.0, ids_ascend ps o.1)
 
 -- the graph of these parts
 module _ (ps : List PackageTargets) (o : PackagesAscend ps) (ts : List Target) (e : ts ≡ targets_of ps) (s : IsStrictlySortedBy target_cmp ts) (ids : List PackageParts) (k : ids ≡ map id_of ps)
-    (es : List Edge) (g : List (List ℕ)) (h : HasPairsOf (length ts) es g) (n : es ≡ edges_from (labels_of ts) 0 ts) where
+    (g : List (List ℕ)) (h : HasPairsOf (length ts) (edges_from (labels_of ts) 0 ts) g) where
   pub whole_graph : IsGraph (record { targets = ts; packages = ids; edges = g })
   whole_graph = record {
     ascending = s;
@@ -60,9 +60,7 @@ module _ (ps : List PackageTargets) (o : PackagesAscend ps) (ts : List Target) (
     pairs = λ a b.
         let edges = edges_are ts (distinct_from_order ts s) a b in
         let pairs = h.pairs a b in
-        let here : HasEdge es a b → HasEdge (edges_from (labels_of ts) 0 ts) a b = subst (λ (z : List Edge). HasEdge z a b) n in
-        let back : HasEdge (edges_from (labels_of ts) 0 ts) a b → HasEdge es a b = subst (λ (z : List Edge). HasEdge z a b) (sym n) in
-        (λ p. edges.0 (here (pairs.0 p)), λ d. pairs.1 (back (edges.1 d)));
+        (λ p. edges.0 (pairs.0 p), λ d. pairs.1 (edges.1 d));
   }
 
 pub edges_between : (ts : List Target) → IsStrictlySortedBy target_cmp ts → (ls : List LabelParts) → ls ≡ labels_of ts → (es : List Edge) → es ≡ edges_from ls 0 ts → AreBetween (length ts) es

@@ -7,7 +7,7 @@ use Rattle.bq_fault_line.specs.declared.fault_line.FaultLine.{FaultLine}
 use Rattle.bq_target.specs.declared.target.Target.{Target}
 use Rattle.bq_target.specs.Target.{is_of, dependencies}
 use Rattle.bq_target.specs.Package.{PackageTargets}
-use Rattle.bq_target_graph.specs.Labels.{has_label}
+use Rattle.bq_label_set.specs.Labels.{has_label}
 use Rattle.bq_target_graph.specs.Order.{all_targets, labels_of}
 
 -- the fault's line: the BUILD file, the line of the call that declares the target, and the label

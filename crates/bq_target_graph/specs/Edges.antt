@@ -7,7 +7,7 @@ use Rattle.bq_graph.specs.Paths.{Pair}
 use Rattle.bq_target.specs.declared.target.Target.{Target}
 use Rattle.bq_target.specs.Target.{dependencies}
 use Rattle.bq_target.specs.Package.{PackageTargets}
-use Rattle.bq_target_graph.specs.Labels.{same_label}
+use Rattle.bq_label_set.specs.Labels.{same_label}
 use Rattle.bq_target_graph.specs.Order.{id_of, targets_of}
 use Rattle.bq_target_graph.specs.Graph.{GraphParts}
 

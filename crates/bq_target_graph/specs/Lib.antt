@@ -1,4 +1,3 @@
-pub mod Labels
 pub mod Order
 pub mod Graph
 pub mod Edges

@@ -1,15 +1,16 @@
 //! The graph of packages.
 
-ghost use Rattle.std.specs.Prelude.{◌≡◌, map, IfOk, OnOk};
+ghost use Rattle.std.specs.Prelude.{◌≡◌, length, map, IfOk, OnOk};
 ghost use Rattle.std.specs.List.Sorted.{IsStrictlySortedBy};
-ghost use Rattle.bq_target_graph.specs.Order.{target_cmp, id_of, PackagesAscend, targets_of};
-ghost use Rattle.bq_target_graph.specs.Edges.{IsGraphOf};
+ghost use Rattle.bq_graph.specs.Edges.{HasPairsOf};
+ghost use Rattle.bq_target_graph.specs.Order.{target_cmp, id_of, PackagesAscend, targets_of, labels_of};
+ghost use Rattle.bq_target_graph.specs.Edges.{edges_from, IsGraphOf};
 
 use crate::edges::{edges, labels};
 use crate::graph::TargetGraph;
 use crate::order::{Flat, flatten, sorted, valid};
 use bq_graph::Graph;
-use bq_target::Package;
+use bq_target::{Package, Target};
 use std::alloc::{AllocError, Global};
 
 /// The packages' names and all their targets, both in order.
@@ -25,6 +26,16 @@ fn in_order(alloc: Global, packages: Vec<Package>) -> Result<Flat, AllocError>
     Ok(Flat { packages, targets })
 }
 
+/// Which of the targets depend on which, by their numbers.
+fn graph_of(alloc: Global, targets: &[Target]) -> Result<Graph, AllocError>
+    requires { IsStrictlySortedBy target_cmp targets.now }
+    ensures { IfOk result (λ g. HasPairsOf (length targets.now) (edges_from (labels_of targets.now) 0 targets.now) g) }
+{
+    let labels = labels(alloc, targets)?;
+    let edges = edges(alloc, &labels, targets)?;
+    Graph::new(alloc, targets.len(), &edges)
+}
+
 impl TargetGraph {
     /// The graph of the targets of packages.
     pub fn new(alloc: Global, packages: Vec<Package>) -> Result<TargetGraph, AllocError>
@@ -32,9 +43,7 @@ impl TargetGraph {
         ensures { IfOk result (IsGraphOf packages.items) }
     {
         let Flat { packages, targets } = in_order(alloc, packages)?;
-        let labels = labels(alloc, &targets)?;
-        let edges = edges(alloc, &labels, &targets)?;
-        let graph = Graph::new(alloc, targets.len(), &edges)?;
+        let graph = graph_of(alloc, &targets)?;
         Ok(TargetGraph::of(targets, packages, graph))
     }
 }

@@ -8,13 +8,13 @@ ghost use Rattle.bq_label.specs.Label.{full_form};
 ghost use Rattle.bq_target.specs.Value.{labels_of as value_labels, labels_in};
 ghost use Rattle.bq_target.specs.Target.{dependencies};
 ghost use Rattle.bq_target.specs.Package.{PackageTargets};
-ghost use Rattle.bq_target_graph.specs.Labels.{has_label, with_labels};
+ghost use Rattle.bq_label_set.specs.Labels.{has_label, with_labels};
 ghost use Rattle.bq_target_graph.specs.Order.{all_targets, labels_of};
 ghost use Rattle.bq_target_graph.specs.Dangling.{dangling, dangling_line, dangling_in, dangling_of, all_dangling, IsDangling};
 
-use crate::labels::Labels;
 use bq_fault_line::{FaultLine, FaultLines};
 use bq_label::{Label, print_label};
+use bq_label_set::LabelSet;
 use bq_source::{Bytes, FaultKind};
 use bq_target::{AttributeValue, GivenAttribute, Package, Target, TargetKind, is_of};
 use std::alloc::{AllocError, Global};
@@ -22,7 +22,7 @@ use std::alloc::{AllocError, Global};
 /// The call that declares a target whose labels are looked at, and the labels of all targets.
 #[derive(Clone, Copy)]
 struct Call<'a> {
-    known: &'a Labels,
+    known: &'a LabelSet,
     build_file: &'a Label,
     line: u32,
 }
@@ -113,7 +113,7 @@ fn add_attributes(
 #[tactic(auto, unfolding(bq_target::specs::Target::dependencies))]
 fn add_target(
     alloc: Global,
-    known: &Labels,
+    known: &LabelSet,
     build_file: &Label,
     target: &Target,
     lines: &mut FaultLines,
@@ -133,7 +133,7 @@ fn add_target(
 
 fn add_package(
     alloc: Global,
-    known: &Labels,
+    known: &LabelSet,
     package: &Package,
     lines: &mut FaultLines,
 ) -> Result<(), AllocError>
@@ -147,7 +147,7 @@ fn add_package(
     Ok(())
 }
 
-fn add_known(known: &mut Labels, targets: &[Target]) -> Result<(), AllocError>
+fn add_known(known: &mut LabelSet, targets: &[Target]) -> Result<(), AllocError>
     ensures { OnOk result (known.new ≡ with_labels known.old (labels_of targets.now)) }
 {
     for target in targets {
@@ -157,10 +157,10 @@ fn add_known(known: &mut Labels, targets: &[Target]) -> Result<(), AllocError>
 }
 
 /// The labels of the targets of all packages.
-fn known_labels(alloc: Global, packages: &[Package]) -> Result<Labels, AllocError>
+fn known_labels(alloc: Global, packages: &[Package]) -> Result<LabelSet, AllocError>
     ensures { IfOk result (λ ls. ls ≡ with_labels [] (labels_of (all_targets packages.now))) }
 {
-    let mut known = Labels::new(alloc);
+    let mut known = LabelSet::new(alloc);
     for package in packages {
         add_known(&mut known, package.targets())?;
     }
@@ -169,7 +169,7 @@ fn known_labels(alloc: Global, packages: &[Package]) -> Result<Labels, AllocErro
 
 fn add_packages(
     alloc: Global,
-    known: &Labels,
+    known: &LabelSet,
     packages: &[Package],
     lines: &mut FaultLines,
 ) -> Result<(), AllocError>

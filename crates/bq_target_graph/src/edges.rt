@@ -8,18 +8,18 @@ ghost use Rattle.bq_target.specs.Target.{dependencies};
 ghost use Rattle.bq_target_graph.specs.Order.{target_cmp, labels_of};
 ghost use Rattle.bq_target_graph.specs.Edges.{edges_to, edges_from};
 
-use crate::labels::Labels;
 use bq_graph::Edge;
 use bq_label::Label;
+use bq_label_set::LabelSet;
 use bq_target::{AttributeValue, GivenAttribute, Target, TargetKind};
 use std::alloc::{AllocError, Global};
 
 /// The labels of targets in order, each with its target's number.
-pub fn labels(alloc: Global, targets: &[Target]) -> Result<Labels, AllocError>
+pub fn labels(alloc: Global, targets: &[Target]) -> Result<LabelSet, AllocError>
     requires { IsStrictlySortedBy target_cmp targets.now }
     ensures { IfOk result (λ ls. ls ≡ labels_of targets.now) }
 {
-    let mut labels = Labels::new(alloc);
+    let mut labels = LabelSet::new(alloc);
     for target in targets {
         labels.add(&target.label)?;
     }
@@ -28,7 +28,7 @@ pub fn labels(alloc: Global, targets: &[Target]) -> Result<Labels, AllocError>
 
 /// Adds the edge to the target that a label names, if there is one.
 fn add_edge(
-    labels: &Labels,
+    labels: &LabelSet,
     from: usize,
     label: &Label,
     edges: &mut Vec<Edge>,
@@ -45,7 +45,7 @@ fn add_edge(
 }
 
 fn add_edges(
-    labels: &Labels,
+    labels: &LabelSet,
     from: usize,
     named: &[Label],
     edges: &mut Vec<Edge>,
@@ -60,7 +60,7 @@ fn add_edges(
 
 /// Adds the edges to the targets that the value of an attribute names.
 fn add_value(
-    labels: &Labels,
+    labels: &LabelSet,
     from: usize,
     value: &AttributeValue,
     edges: &mut Vec<Edge>,
@@ -75,7 +75,7 @@ fn add_value(
 }
 
 fn add_attributes(
-    labels: &Labels,
+    labels: &LabelSet,
     from: usize,
     attributes: &[GivenAttribute],
     edges: &mut Vec<Edge>,
@@ -91,7 +91,7 @@ fn add_attributes(
 /// Adds the edges from a target.
 #[tactic(auto, unfolding(bq_target::specs::Target::dependencies))]
 fn add_target(
-    labels: &Labels,
+    labels: &LabelSet,
     from: usize,
     target: &Target,
     edges: &mut Vec<Edge>,
@@ -105,7 +105,7 @@ fn add_target(
 }
 
 /// The edges between targets whose labels have these numbers.
-pub fn edges(alloc: Global, labels: &Labels, targets: &[Target]) -> Result<Vec<Edge>, AllocError>
+pub fn edges(alloc: Global, labels: &LabelSet, targets: &[Target]) -> Result<Vec<Edge>, AllocError>
     ensures { IfOk result (λ es. es.items ≡ edges_from labels.now 0 targets.now) }
 {
     let mut edges = Vec::new(alloc);

@@ -6,7 +6,6 @@
 //!
 //! In reading order:
 //!
-//! - `labels`: labels with their numbers, found by their hash;
 //! - `order`: the targets of all packages in order;
 //! - `edges`: which targets depend on which;
 //! - `graph`, `build`: the graph, and how it is made of packages;
@@ -17,7 +16,6 @@ mod build;
 mod dangling;
 mod edges;
 mod graph;
-mod labels;
 mod order;
 
 pub use dangling::{add_dangling, dangling_in_words};

@@ -3,7 +3,7 @@ use Rattle.std.specs.List.{flat_map}
 use Rattle.std.proofs.lemmas.List.{take_all}
 use Rattle.bq_fault_line.specs.FaultLine.{put_lines}
 use Rattle.bq_target.specs.Value.{labels_of, labels_in}
-use Rattle.bq_target_graph.specs.Labels.{has_label}
+use Rattle.bq_label_set.specs.Labels.{has_label}
 use Rattle.bq_target_graph.specs.Dangling.{dangling}
 use Rattle.bq_target_graph.proofs.Danglings.{none_put, lines_each}
 use Rattle.bq_target_graph.proofs.dangling.add_attributes.Goals as goal

@@ -2,7 +2,7 @@ use Rattle.std.proofs.Common.{◌≡◌, take}
 use Rattle.std.specs.List.{flat_map}
 use Rattle.bq_fault_line.specs.FaultLine.{put_lines}
 use Rattle.bq_target.specs.Value.{labels_in}
-use Rattle.bq_target_graph.specs.Labels.{has_label}
+use Rattle.bq_label_set.specs.Labels.{has_label}
 use Rattle.bq_target_graph.specs.Dangling.{dangling}
 use Rattle.bq_target_graph.proofs.dangling.add_attributes.Given as goal
 

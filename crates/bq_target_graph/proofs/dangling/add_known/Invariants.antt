@@ -1,5 +1,5 @@
 use Rattle.std.proofs.Common.{◌≡◌, take}
-use Rattle.bq_target_graph.specs.Labels.{with_labels}
+use Rattle.bq_label_set.specs.Labels.{with_labels}
 use Rattle.bq_target_graph.specs.Order.{labels_of}
 use Rattle.bq_target_graph.proofs.dangling.add_known.Given as goal
 

@@ -3,7 +3,7 @@ use Rattle.std.specs.BTreeSet.{insert_key}
 use Rattle.bq_label.specs.Label.{package_of}
 use Rattle.bq_fault_line.specs.FaultLine.{line_cmp, put_lines}
 use Rattle.bq_target.specs.Target.{is_of}
-use Rattle.bq_target_graph.specs.Labels.{has_label}
+use Rattle.bq_label_set.specs.Labels.{has_label}
 use Rattle.bq_target_graph.specs.Dangling.{dangling, dangling_line}
 use Rattle.bq_target_graph.proofs.Danglings.{own_label, known_label, missing_label, one_label, put_one}
 use Rattle.bq_target_graph.proofs.dangling.add_label.Goals as goal

@@ -1,7 +1,7 @@
 use Rattle.std.proofs.Common.{◌∙◌, ap, sym}
 use Rattle.std.specs.List.{flat_map}
 use Rattle.bq_fault_line.specs.FaultLine.{put_lines}
-use Rattle.bq_target_graph.specs.Labels.{has_label}
+use Rattle.bq_label_set.specs.Labels.{has_label}
 use Rattle.bq_target_graph.specs.Dangling.{dangling}
 use Rattle.bq_target_graph.proofs.EdgeWalks.{other_value}
 use Rattle.bq_target_graph.proofs.Danglings.{none_put}

@@ -1,6 +1,6 @@
 use Rattle.std.proofs.Common.{◌∙◌, [], ap, sym}
 use Rattle.std.proofs.lemmas.List.{take_all}
-use Rattle.bq_target_graph.specs.Labels.{with_labels}
+use Rattle.bq_label_set.specs.Labels.{with_labels}
 use Rattle.bq_target_graph.specs.Order.{all_targets, labels_of}
 use Rattle.bq_target_graph.proofs.Danglings.{no_labels_yet, packages_next}
 use Rattle.bq_target_graph.proofs.dangling.known_labels.Goals as goal

@@ -8,7 +8,7 @@ use Rattle.bq_target_graph.proofs.edges.labels.Goals as goal
 pub loop-target-preserved : goal.loop-target-preserved
 loop-target-preserved c =
     let l = c.loop-target in
-    label_next c.args.targets.now l.target-index c.target-item.result l.labels c.add.new.self c.loop-target-test.true c.target-item.is (distinct_from_order c.args.targets.now c.requires) l.invariant c.in_ok-add.ensures
+    label_next c.args.targets.now l.target-index c.target-item.result l.labels c.add.new.self c.loop-target-test.true c.target-item.is (distinct_from_order c.args.targets.now c.requires) l.invariant c.in_ok-add.ensures.after
 
 pub returns : goal.returns
 returns c = let l = c.loop-target in l.invariant ∙ ap labels_of (take_all l.target-index c.args.targets.now c.loop-target-test.false)
