@@ -1,13 +1,13 @@
 //! The rules of expressions take the reader of those in brackets as a parameter, so that each rule is proved by itself.
 
-ghost use Rattle.std.specs.Prelude.{[], ◌∷◌, Ok};
+ghost use Rattle.std.specs.Prelude.{Ok};
 ghost use Rattle.bq_grammar.specs.Turns.{Reads, ◌>>=◌ as and_then};
 ghost use Rattle.bq_grammar.specs.Turns as turns;
 ghost use Rattle.bq_grammar.specs.Reading as spec;
 ghost use Rattle.bq_grammar.specs.declared.tree.Nested.TheVariants.{Test};
 ghost use Rattle.bq_expression.specs.Nested.{ReadsNested};
 
-use crate::steps::{closed, only};
+use crate::steps::closed;
 use bq_grammar::{Expr, Nested, Refusal};
 use bq_source::TokenKind;
 use bq_tokens::Tokens;
@@ -46,18 +46,17 @@ impl<F: Fn(Global, &mut Tokens<'_>, usize, Nested) -> Result<Expr, Refusal>> Gra
         Ok((value, next))
     }
 
-    /// The first test, and all further ones up to the closing bracket.
+    /// The tests found, and all further ones up to the closing bracket.
     #[tactic(auto, using(crate::proofs::LoopTurns::turns_more, crate::proofs::LoopTurns::turns_over), unfolding(bq_grammar::specs::Turns::listed_from))]
     pub fn listed(
         &self,
         tokens: &mut Tokens<'_>,
         close: TokenKind,
-        first: Expr,
+        mut found: Items<Expr>,
     ) -> Result<Items<Expr>, Refusal>
         requires { ReadsNested self.now.depth (F.pre self.now.phrase) (F.post self.now.phrase) }
-        ensures { Reads (turns.listed_from close (spec.phrase self.now.depth Test) (first ∷ []) tokens.old) result tokens.new }
+        ensures { Reads (turns.listed_from close (spec.phrase self.now.depth Test) found tokens.old) result tokens.new }
     {
-        let mut found = only(self.alloc, first)?;
         // Each turn takes a token.
         for _turn in 0..tokens.left() {
             if tokens.eat(close) {

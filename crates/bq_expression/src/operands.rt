@@ -1,6 +1,6 @@
 //! Operands: names, literals, and what stands in brackets.
 
-ghost use Rattle.std.specs.Prelude.{◌≡◌, [], ◌∷◌};
+ghost use Rattle.std.specs.Prelude.{◌≡◌};
 ghost use Rattle.bq_grammar.specs.Turns.{Reads};
 ghost use Rattle.bq_grammar.specs.Turns as turns;
 ghost use Rattle.bq_grammar.specs.Reading as spec;
@@ -67,7 +67,10 @@ impl<F: Fn(Global, &mut Tokens<'_>, usize, Nested) -> Result<Expr, Refusal>> Gra
         ensures { Reads (spec.parens_after (spec.phrase self.now.depth) (spec.variables_to self.now.depth) first tokens.old) result tokens.new }
     {
         if tokens.eat(TokenKind::Comma) {
-            return Ok(Expr::Tuple(self.listed(tokens, TokenKind::RightParen, first)?));
+            let found = only(self.alloc, first)?;
+            return self
+                .listed(tokens, TokenKind::RightParen, found)
+                .map(Expr::Tuple);
         }
         closed(tokens, TokenKind::RightParen, first)
     }
@@ -139,10 +142,11 @@ impl<F: Fn(Global, &mut Tokens<'_>, usize, Nested) -> Result<Expr, Refusal>> Gra
         requires { ReadsNested self.now.depth (F.pre self.now.phrase) (F.post self.now.phrase) }
         ensures { Reads (spec.items_after close (spec.phrase self.now.depth Test) first tokens.old) result tokens.new }
     {
+        let found = only(self.alloc, first)?;
         if tokens.eat(TokenKind::Comma) {
-            return self.listed(tokens, close, first);
+            return self.listed(tokens, close, found);
         }
-        closed(tokens, close, only(self.alloc, first)?)
+        closed(tokens, close, found)
     }
 
     /// What stands in square brackets after the first test.
@@ -171,13 +175,16 @@ impl<F: Fn(Global, &mut Tokens<'_>, usize, Nested) -> Result<Expr, Refusal>> Gra
         self.brackets_after(tokens, first)
     }
 
-    /// The first pair, and all further ones up to the closing brace.
+    /// The pairs found, and all further ones up to the closing brace.
     #[tactic(auto, using(crate::proofs::LoopTurns::turns_more, crate::proofs::LoopTurns::turns_over), unfolding(bq_grammar::specs::Turns::listed_from))]
-    fn listed_pairs(&self, tokens: &mut Tokens<'_>, first: Pair) -> Result<Items<Pair>, Refusal>
+    fn listed_pairs(
+        &self,
+        tokens: &mut Tokens<'_>,
+        mut found: Items<Pair>,
+    ) -> Result<Items<Pair>, Refusal>
         requires { ReadsNested self.now.depth (F.pre self.now.phrase) (F.post self.now.phrase) }
-        ensures { Reads (turns.listed_from kind.RightBrace (spec.pair (spec.phrase self.now.depth) (spec.variables_to self.now.depth)) (first ∷ []) tokens.old) result tokens.new }
+        ensures { Reads (turns.listed_from kind.RightBrace (spec.pair (spec.phrase self.now.depth) (spec.variables_to self.now.depth)) found tokens.old) result tokens.new }
     {
-        let mut found = only(self.alloc, first)?;
         // Each turn takes a token.
         for _turn in 0..tokens.left() {
             if tokens.eat(TokenKind::RightBrace) {
@@ -196,10 +203,11 @@ impl<F: Fn(Global, &mut Tokens<'_>, usize, Nested) -> Result<Expr, Refusal>> Gra
         requires { ReadsNested self.now.depth (F.pre self.now.phrase) (F.post self.now.phrase) }
         ensures { Reads (spec.items_after kind.RightBrace (spec.pair (spec.phrase self.now.depth) (spec.variables_to self.now.depth)) first tokens.old) result tokens.new }
     {
+        let found = only(self.alloc, first)?;
         if tokens.eat(TokenKind::Comma) {
-            return self.listed_pairs(tokens, first);
+            return self.listed_pairs(tokens, found);
         }
-        closed(tokens, TokenKind::RightBrace, only(self.alloc, first)?)
+        closed(tokens, TokenKind::RightBrace, found)
     }
 
     /// What stands in braces after the first pair.

@@ -1,6 +1,5 @@
 //! The variables of a `for`.
 
-ghost use Rattle.std.specs.Prelude.{[], ◌∷◌};
 ghost use Rattle.bq_grammar.specs.Turns.{Reads};
 ghost use Rattle.bq_grammar.specs.Turns as turns;
 ghost use Rattle.bq_grammar.specs.Reading as spec;
@@ -32,18 +31,17 @@ impl<F: Fn(Global, &mut Tokens<'_>, usize) -> Result<Target, Refusal>> Variables
         (self.var)(self.alloc, tokens, self.depth)
     }
 
-    /// The first variable, and all further ones up to the closing bracket.
+    /// The variables found, and all further ones up to the closing bracket.
     #[tactic(auto, using(crate::proofs::LoopTurns::turns_more, crate::proofs::LoopTurns::turns_over), unfolding(bq_grammar::specs::Turns::listed_from))]
     fn listed(
         &self,
         tokens: &mut Tokens<'_>,
         close: TokenKind,
-        first: Target,
+        mut found: Items<Target>,
     ) -> Result<Items<Target>, Refusal>
         requires { ReadsVar self.now.depth (F.pre self.now.var) (F.post self.now.var) }
-        ensures { Reads (turns.listed_from close (spec.var_to self.now.depth) (first ∷ []) tokens.old) result tokens.new }
+        ensures { Reads (turns.listed_from close (spec.var_to self.now.depth) found tokens.old) result tokens.new }
     {
-        let mut found = only(self.alloc, first)?;
         // Each turn takes a token.
         for _turn in 0..tokens.left() {
             if tokens.eat(close) {
@@ -65,7 +63,10 @@ impl<F: Fn(Global, &mut Tokens<'_>, usize) -> Result<Target, Refusal>> Variables
     {
         let first = self.nested(tokens)?;
         if tokens.eat(TokenKind::Comma) {
-            return Ok(Target::Tuple(self.listed(tokens, TokenKind::RightParen, first)?));
+            let found = only(self.alloc, first)?;
+            return self
+                .listed(tokens, TokenKind::RightParen, found)
+                .map(Target::Tuple);
         }
         closed(tokens, TokenKind::RightParen, first)
     }
@@ -75,10 +76,11 @@ impl<F: Fn(Global, &mut Tokens<'_>, usize) -> Result<Target, Refusal>> Variables
         requires { ReadsVar self.now.depth (F.pre self.now.var) (F.post self.now.var) }
         ensures { Reads (spec.items_after kind.RightBracket (spec.var_to self.now.depth) first tokens.old) result tokens.new }
     {
+        let found = only(self.alloc, first)?;
         if tokens.eat(TokenKind::Comma) {
-            return self.listed(tokens, TokenKind::RightBracket, first);
+            return self.listed(tokens, TokenKind::RightBracket, found);
         }
-        closed(tokens, TokenKind::RightBracket, only(self.alloc, first)?)
+        closed(tokens, TokenKind::RightBracket, found)
     }
 
     /// '[' Var { ',' Var } [','] ']', after the first bracket

@@ -1,13 +1,18 @@
 //! The parameters of a function.
 
-ghost use Rattle.std.specs.Prelude.{◌≡◌, true, false, MatchResult};
+ghost use Rattle.std.specs.Prelude.{◌≡◌, true, false, Ok, MatchResult};
+ghost use Rattle.bq_grammar.specs.declared.parameters.ParameterKind.TheVariants as parameter_kind;
 ghost use Rattle.bq_grammar.specs.declared.refusal.Refusal.TheVariants.{Syntax};
-ghost use Rattle.bq_grammar.specs.Turns.{Reads};
+ghost use Rattle.bq_grammar.specs.declared.tree.Nested.TheVariants.{Test};
+ghost use Rattle.bq_grammar.specs.Turns.{Reads, ◌>>=◌ as and_then};
+ghost use Rattle.bq_grammar.specs.Turns as turns;
+ghost use Rattle.bq_grammar.specs.Reading as reading;
 ghost use Rattle.bq_grammar.specs.Statements as grammar;
 ghost use Rattle.bq_grammar.specs.ReadingStatements as spec;
+ghost use Rattle.bq_source.specs.declared.token.TokenKind.TheVariants as kind;
 
 use bq_expression::{closed, phrase};
-use bq_grammar::{AllowedParameters, Nested, Parameter, ParameterKind, Refusal};
+use bq_grammar::{AllowedParameters, Expr, Nested, Parameter, ParameterKind, Refusal};
 use bq_source::TokenKind;
 use bq_tokens::Tokens;
 use sqlite_items::Items;
@@ -81,6 +86,33 @@ fn parameter_kind(tokens: &Tokens<'_>) -> ParameterKind
     }
 }
 
+/// The value, and '=' Test. It is a function over any value, since to let go of one is a single step for the proof.
+fn with_default<T: Drop>(
+    alloc: Global,
+    tokens: &mut Tokens<'_>,
+    depth: usize,
+    value: T,
+) -> Result<(T, Expr), Refusal>
+    ensures { Reads (and_then (turns.expect kind.Assign tokens.old) (λ _ us. and_then (reading.phrase depth Test us) (λ x rest. Ok ((value, x), rest)))) result tokens.new }
+{
+    tokens.expect(TokenKind::Assign)?;
+    let default = phrase(alloc, tokens, depth, Nested::Test)?;
+    Ok((value, default))
+}
+
+/// identifier '=' Test
+fn default_parameter(
+    alloc: Global,
+    tokens: &mut Tokens<'_>,
+    depth: usize,
+) -> Result<Parameter, Refusal>
+    ensures { Reads (spec.parameter_by depth parameter_kind.Default tokens.old) result tokens.new }
+{
+    let name = tokens.word(alloc)?;
+    let (name, default) = with_default(alloc, tokens, depth, name)?;
+    Ok(Parameter::Default(name, default))
+}
+
 /// Parameter = identifier | identifier '=' Test | '*' [identifier] | '**' identifier
 fn parameter_by(
     alloc: Global,
@@ -91,23 +123,19 @@ fn parameter_by(
     ensures { Reads (spec.parameter_by depth kind tokens.old) result tokens.new }
 {
     match kind {
-        ParameterKind::Plain => Ok(Parameter::Plain(tokens.word(alloc)?)),
-        ParameterKind::Default => {
-            let name = tokens.word(alloc)?;
-            tokens.expect(TokenKind::Assign)?;
-            Ok(Parameter::Default(name, phrase(alloc, tokens, depth, Nested::Test)?))
-        }
+        ParameterKind::Plain => tokens.word(alloc).map(Parameter::Plain),
+        ParameterKind::Default => default_parameter(alloc, tokens, depth),
         ParameterKind::BareStar => {
             tokens.advance();
             Ok(Parameter::BareStar)
         }
         ParameterKind::Star => {
             tokens.advance();
-            Ok(Parameter::Star(tokens.word(alloc)?))
+            tokens.word(alloc).map(Parameter::Star)
         }
         ParameterKind::StarStar => {
             tokens.advance();
-            Ok(Parameter::StarStar(tokens.word(alloc)?))
+            tokens.word(alloc).map(Parameter::StarStar)
         }
     }
 }

@@ -5,7 +5,7 @@ ghost use Rattle.bq_grammar.specs.Turns.{Reads};
 ghost use Rattle.bq_grammar.specs.ReadingStatements as spec;
 
 use crate::loads::load;
-use crate::targets::{augmented_target, target};
+use crate::targets::{augmented_target, refused, target};
 use bq_expression::{closed, expr_list};
 use bq_grammar::{Expr, Refusal, SmallKind, SmallStmt};
 use bq_source::TokenKind;
@@ -66,7 +66,7 @@ fn expression(alloc: Global, tokens: &mut Tokens<'_>, depth: usize) -> Result<Sm
     }
     // `(x) += 1` isn't an augmented assignment.
     if before.ended_by(TokenKind::RightParen, tokens) {
-        return Err(Refusal::Syntax);
+        return refused(left);
     }
     augmented(alloc, tokens, depth, left)
 }

@@ -1,6 +1,7 @@
 //! What is assigned to: the target that an expression is.
 
-ghost use Rattle.std.specs.Prelude.{◌≡◌, suc, [], ◌∷◌, reverse, IfOk};
+ghost use Rattle.std.specs.Prelude.{◌≡◌, ◌≢◌, suc, [], ◌∷◌, reverse, Err, IfOk, MatchResult};
+ghost use Rattle.bq_grammar.specs.declared.refusal.Refusal.TheVariants.{Syntax};
 ghost use Rattle.bq_grammar.specs.Grammar as grammar;
 ghost use Rattle.bq_grammar.specs.Targets as spec;
 ghost use Rattle.bq_grammar.specs.declared.tree.Expr.{out-Expr};
@@ -68,6 +69,23 @@ fn indexed(
     }
 }
 
+/// Lets go of what can't be assigned to. It is a function over any value, since to let go of one is a single step for the proof.
+pub fn refused<T: Drop, A>(_value: T) -> Result<A, Refusal>
+    ensures { result ≡ Err Syntax }
+{
+    Err(Refusal::Syntax)
+}
+
+/// The items, at least one.
+fn some<T: Drop>(items: Items<T>) -> Result<Items<T>, Refusal>
+    ensures { MatchResult result (λ xs. (items ≢ []) × (xs ≡ items)) (λ why. (items ≡ []) × (why ≡ Syntax)) }
+{
+    if items.is_empty() {
+        return Err(Refusal::Syntax);
+    }
+    Ok(items)
+}
+
 /// The rules of targets take the maker of those in lists and tuples as a parameter, so that each is proved by itself.
 #[derive(Clone, Copy)]
 pub struct Targets<F> {
@@ -106,21 +124,9 @@ impl<F: Fn(Global, usize, Expr) -> Result<Target, Refusal>> Targets<F> {
         match expr {
             Expr::Name(name) => Ok(Target::Name(name)),
             Expr::Primary(operand, suffixes) => indexed(self.alloc, operand, suffixes),
-            Expr::Tuple(exprs) => {
-                let targets = self.all(exprs)?;
-                if targets.is_empty() {
-                    return Err(Refusal::Syntax);
-                }
-                Ok(Target::Tuple(targets))
-            }
-            Expr::List(exprs) => {
-                let targets = self.all(exprs)?;
-                if targets.is_empty() {
-                    return Err(Refusal::Syntax);
-                }
-                Ok(Target::List(targets))
-            }
-            _ => Err(Refusal::Syntax),
+            Expr::Tuple(exprs) => some(self.all(exprs)?).map(Target::Tuple),
+            Expr::List(exprs) => some(self.all(exprs)?).map(Target::List),
+            other => refused(other),
         }
     }
 }
@@ -130,7 +136,7 @@ fn target_to(alloc: Global, depth: usize, expr: Expr) -> Result<Target, Refusal>
     ensures { Makes (spec.target_to depth expr) result }
 {
     if depth == 0 {
-        return Err(Refusal::Syntax);
+        return refused(expr);
     }
     Targets {
         alloc,
@@ -161,6 +167,6 @@ pub fn augmented_target(alloc: Global, expr: Expr) -> Result<Target, Refusal>
     match expr {
         Expr::Name(name) => Ok(Target::Name(name)),
         Expr::Primary(operand, suffixes) => indexed(alloc, operand, suffixes),
-        _ => Err(Refusal::Syntax),
+        other => refused(other),
     }
 }

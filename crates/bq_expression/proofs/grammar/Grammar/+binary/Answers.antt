@@ -1,8 +1,8 @@
-use Rattle.std.proofs.Common.{arith}
+use Rattle.std.proofs.Common.{rules, arith}
 use Rattle.std.proofs.lemmas.Grind.{common_steps}
 use Rattle.bq_grammar.specs.Turns.{repeat}
-use Rattle.bq_expression.proofs.LoopTurns.{turns_more, turns_over, level_above}
-use Rattle.bq_grammar.specs.Reading.{chain}
+use Rattle.bq_expression.proofs.LoopTurns.{turns_more, turns_over, level_above, none_follow}
+use Rattle.bq_grammar.specs.Reading.{chain, operation}
 use Rattle.bq_expression.proofs.grammar.Grammar.+binary.Goals as goal
 
 pub operations-loop-turn-preserved : goal.operations-loop-turn-preserved
@@ -28,3 +28,27 @@ operations-returns-in_err-operation g t c = grind (arith, common_steps, turns_mo
 pub operations-returns : goal.operations-returns
 unfolding repeat
 operations-returns g t c = grind (arith, common_steps, turns_more, turns_over)
+
+pub binary-returns-in_err-first : goal.binary-returns-in_err-first
+unfolding chain
+binary-returns-in_err-first g t c = first_of (grind (arith, common_steps, level_above), search (rules, level_above))
+
+pub binary-returns-in_err-first-2 : goal.binary-returns-in_err-first-2
+unfolding chain
+binary-returns-in_err-first-2 g t c = first_of (grind (arith, common_steps), search rules)
+
+pub binary-returns-then-not-sees_operator : goal.binary-returns-then-not-sees_operator
+unfolding chain
+binary-returns-then-not-sees_operator g t c = first_of (grind (arith, common_steps, level_above, none_follow), search (rules, level_above, none_follow))
+
+pub operation-returns : goal.operation-returns
+unfolding operation
+operation-returns g t c = first_of (grind (arith, common_steps), search rules)
+
+pub operation-returns-in_err-operator : goal.operation-returns-in_err-operator
+unfolding operation
+operation-returns-in_err-operator g t c = first_of (grind (arith, common_steps), search rules)
+
+pub operation-returns-in_err-binary : goal.operation-returns-in_err-binary
+unfolding operation
+operation-returns-in_err-binary g t c = first_of (grind (arith, common_steps), search rules)
