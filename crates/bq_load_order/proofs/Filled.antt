@@ -1,10 +1,10 @@
 -- The slots fill in load order, each with its module's outcome.
-use Rattle.std.proofs.Common.{◌≡◌, ℕ, zero, suc, ◌+◌, ◌<◌, ◌≤◌, true, false, List, [], ◌∷◌, ◌++◌, length, map, take, set, get_or, Option, Some, None, is_some, Result, sym, refl, ap, subst, ◌∙◌, inl, inr, arith, length-set, get_or-set_same, get_or-set_other}
+use Rattle.std.proofs.Common.{◌≡◌, ℕ, zero, suc, ◌+◌, ◌<◌, ◌≤◌, true, false, List, [], ◌∷◌, ◌++◌, length, map, take, set, get_or, Option, Some, None, Result, sym, refl, ap, subst, ◌∙◌, inl, inr, arith, length-set, get_or-set_same, get_or-set_other}
 use mathlib.Core.Logic.{dite}
 use native.Mathlib.Decide.{ℕ_discrete}
 use Rattle.std.specs.declared.sync.Arc.{Arc}
 use Rattle.std.specs.declared.alloc.Global.{Global}
-use Rattle.std.proofs.lemmas.List.{map-set, map_push, set-get_or, length-map, take_more, take_all, get_or_push, get_or_append_left, length_push, get_or-map, same_lists}
+use Rattle.std.proofs.lemmas.List.{map-set, map_push, take_more, take_all, get_or_push, get_or_append_left, length_push, get_or-map, same_lists}
 use Rattle.bq_board.specs.Counts.{Has}
 use Rattle.bq_board.specs.Graph.{Loads, row}
 use Rattle.bq_board.specs.Cycles.{is_cyclic}
@@ -149,19 +149,6 @@ module _ {M N V F : Type 0} (see : M → V) (see_fault : N → F) where
   puts_found : (out : ℕ → Outcome V F) (found : Held) (m : ℕ) (o : Outcome (Arc M Global) (Arc N Global)) → shown see see_fault o ≡ out m
       → Puts out m (map (slot see see_fault) found) (map (slot see see_fault) (set found m (Some o)))
   puts_found out found m o e = map-set (slot see see_fault) found m (Some o) ∙ ap (λ x. set (map (slot see see_fault) found) m (Some x)) e
-
-  some_shown : (s : Option (Outcome (Arc M Global) (Arc N Global))) → is_some s ≡ true → slot see see_fault s ≡ None → ⊥
-  some_shown (Some a) t e = cc
-  some_shown None t e = cc
-
-  -- a slot that isn't empty holds the outcome
-  pub puts_known : (out : ℕ → Outcome V F) (p : Loads) (found : Held) (m : ℕ) → Ready out p (map (slot see see_fault) found) m → (s : Option (Outcome (Arc M Global) (Arc N Global))) → s ≡ get_or found m s → is_some s ≡ true
-      → Puts out m (map (slot see see_fault) found) (map (slot see see_fault) found)
-  puts_known out p found m ready s read some =
-      let slots : List (Option (Outcome V F)) = map (slot see see_fault) found in
-      let at : get_or slots m None ≡ slot see see_fault s = slot_read found m s (omega (arith, ready.wide, ready.known, length-map found (slot see see_fault))) read in
-      let full : get_or slots m None ≡ Some (out m) = elim ready.right [ inl t ↦ absurd (some_shown s some (sym at ∙ t)) | inr t ↦ t ] in
-      sym (set-get_or slots m None) ∙ ap (set slots m) full
 
   -- an empty slot gets what the module evaluates to by what was found for its loads
   pub puts_evaluated : (means : ℕ → List V → Result V F) (p : Loads) (found : Held) (m : ℕ) → Ready (outcome means p) p (map (slot see see_fault) found) m

@@ -1,4 +1,5 @@
--- Also for crates above: the values of loads, one after another; how slots fill in load order, and what they mean; the shares that a module imports.
+-- Also for crates above: the values of loads, one after another; how slots fill in load order, and what they mean.
 pub mod Values
 pub mod Filled
-pub mod ImportedValues
+-- the shares that a module imports
+mod ImportedValues

@@ -1,16 +1,6 @@
-use Rattle.std.proofs.Common.{sym, ◌∙◌}
-use Rattle.bq_outcome.specs.Outcome.{outcome}
 use Rattle.bq_load_order.specs.Shown.{seen}
-use Rattle.bq_load_order.proofs.Filled.{puts_evaluated, puts_known}
+use Rattle.bq_load_order.proofs.Filled.{puts_evaluated}
 use Rattle.bq_load_order.proofs.outcomes.fill_one.Goals as goal
-
-pub row-requires : goal.row-requires
-row-requires g c = c.requires.known
-
-pub returns-then-is_some : goal.returns-then-is_some
-returns-then-is_some g c =
-    puts_known g.E.Evaluate.see g.E.Evaluate.see_fault (outcome (g.E.Evaluate.means c.args.evaluator.now) c.args.graph.now) c.args.graph.now c.args.found.now.items c.args.m c.requires
-    c.index.result.now c.index.ensures (sym c.is_some.ensures ∙ c.if-is_some.true)
 
 pub returns : goal.returns
 returns g c =
