@@ -4,6 +4,8 @@ pub mod Ascending
 mod Crossing
 -- what an evaluation ends in, where its run is known
 pub mod Endings
+-- what is found for elements, one after another
+pub mod Found
 -- what the load graph of a workspace decides
 pub mod Joined
 -- modules with their outcomes, one after another

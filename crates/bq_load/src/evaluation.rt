@@ -25,7 +25,7 @@ use bq_label_set::LabelSet;
 use bq_module::{Evaluated, Outcome, ResolvedModule, eval_module};
 use bq_package::BuildHost;
 use bq_scope::Resolved;
-use bq_source::SourceErr;
+use bq_source::{Bytes, SourceErr};
 use bq_target::{Package, PackageState};
 use bq_value::{Frozen, Value};
 use std::alloc::{AllocError, Global};
@@ -55,6 +55,24 @@ fn package_of(alloc: Global, kept: Option<PackageState>) -> Result<Option<Packag
     }
 }
 
+/// A module that ran to its end, with the package that its host keeps.
+fn loaded_module(
+    alloc: Global,
+    frozen: Frozen,
+    prints: Vec<Bytes>,
+    kept: Option<PackageState>,
+) -> Result<LoadedModule, AllocError>
+    ensures { IfOk result (λ m. module_view m ≡ record { frozen = frozen; prints = prints.items; «package» = option_map finished kept }) }
+{
+    let package = package_of(alloc, kept)?;
+    let frozen = Arc::new(alloc, frozen)?;
+    Ok(LoadedModule {
+        frozen,
+        prints,
+        package,
+    })
+}
+
 /// What an evaluation ends in.
 #[tactic(auto, using(crate::proofs::Endings::finished_of))]
 fn module_by(
@@ -64,15 +82,9 @@ fn module_by(
     ensures { IfOk result (λ r. told module_view failed_view r ≡ module_by (ended_of evaluated.entry.outcome) (held_by evaluated.entry.host)) }
 {
     let Evaluated { outcome, host } = evaluated;
+    let kept = host.into_package();
     match outcome {
-        Outcome::Module(frozen, prints) => {
-            let package = package_of(alloc, host.into_package())?;
-            Ok(Ok(LoadedModule {
-                frozen: Arc::new(alloc, frozen)?,
-                prints,
-                package,
-            }))
-        }
+        Outcome::Module(frozen, prints) => Ok(Ok(loaded_module(alloc, frozen, prints, kept)?)),
         Outcome::Failed(fault, prints) => Ok(Err(FailedModule { fault, prints })),
     }
 }

@@ -97,22 +97,21 @@ fn clause_value(
     }
 }
 
-/// The values so far, and one for each clause of a load in this line.
+/// Adds a value for each clause of a load in this line.
 #[tactic(auto, unfolding(crate::specs::Imports::clause_values))]
 fn clause_values(
     code: &[Option<Resolved>],
     module: Option<&LoadedModule>,
     line: u32,
-    done: Vec<Value>,
+    values: &mut Vec<Value>,
     clauses: &[LoadedSymbol],
-) -> Result<Vec<Value>, SourceErr>
-    ensures { Gives items Bad result (clause_values code.now (option_map module_view (option_copied «module».entry)) line done.items clauses.now) }
+) -> Result<(), SourceErr>
+    ensures { Gives (λ _. values.new.items) Bad result (clause_values code.now (option_map module_view (option_copied «module».entry)) line values.old.items clauses.now) }
 {
-    let mut values = done;
     for clause in clauses {
         values.push(clause_value(code, module, line, &clause.symbol)?)?;
     }
-    Ok(values)
+    Ok(())
 }
 
 impl<'a> LoadedFiles<'a> {
@@ -128,6 +127,25 @@ impl<'a> LoadedFiles<'a> {
             None => Ok(None),
             Some(module) => Ok(Some(&**module)),
         }
+    }
+
+    /// Adds the values of the clauses of a load, which names this file.
+    fn add_load(
+        &self,
+        load: &LoadStmt,
+        label: &Label,
+        values: &mut Vec<Value>,
+    ) -> Result<(), SourceErr>
+        ensures { Gives (λ _. values.new.items) Bad result (clause_values self.now.code.now (module_named (loaded_of self.now) label.now) load.now.line values.old.items load.now.clauses) }
+    {
+        let module = self.module_named(label)?;
+        clause_values(
+            self.code,
+            module,
+            load.line,
+            values,
+            load.clauses.as_slice(),
+        )
     }
 
     /// The values of the clauses of loads, which name these files; or the fault of the first bad clause (F33, F34).
@@ -146,14 +164,7 @@ impl<'a> LoadedFiles<'a> {
             let Some((label, rest)) = left.split_first() else {
                 return Ok(values);
             };
-            let module = self.module_named(label)?;
-            values = clause_values(
-                self.code,
-                module,
-                load.line,
-                values,
-                load.clauses.as_slice(),
-            )?;
+            self.add_load(load, label, &mut values)?;
             left = rest;
         }
         Ok(values)

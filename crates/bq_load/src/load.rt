@@ -55,37 +55,43 @@ fn read<'a>(
     Ok((loading, edges))
 }
 
-/// The modules with their outcomes, by one thread.
+/// The modules with their outcomes, by one thread. Their code gives its memory to what comes.
 fn modules_one_thread(
     alloc: Global,
-    loading: &Loading<'_>,
-    edges: &Graph,
+    loading: Loading<'_>,
+    edges: Graph,
     gate: &OpenGate,
 ) -> Result<Vec<ModuleOutcome>, AllocError>
-    requires wide { length edges.now ≡ length loading.now.sources.items }
-    ensures { IfOk result (λ os. map outcome_view os.items ≡ outcomes (loading_of loading.now) edges.now) }
+    requires wide { length edges ≡ length loading.sources.items }
+    ensures { IfOk result (λ os. map outcome_view os.items ≡ outcomes (loading_of loading.entry) edges) }
 {
-    let evaluator = Evaluator { loading, gate };
-    let found = outcomes_one_thread(alloc, &evaluator, edges)?;
-    loading.outcomes(alloc, edges, found.as_slice())
+    let evaluator = Evaluator {
+        loading: &loading,
+        gate,
+    };
+    let found = outcomes_one_thread(alloc, &evaluator, &edges)?;
+    loading.outcomes(alloc, &edges, found.as_slice())
 }
 
-/// The modules with their outcomes, by so many workers.
+/// The modules with their outcomes, by so many workers. Their code gives its memory to what comes.
 fn modules_by_workers<R: Threads + Wait + Sync, G: Gate>(
     rt: &R,
     alloc: Global,
-    loading: &Loading<'_>,
-    edges: &Graph,
+    loading: Loading<'_>,
+    edges: Graph,
     workers: usize,
     gate: &G,
 ) -> Result<Vec<ModuleOutcome>, AllocError>
     requires workers { (0 < workers) × (workers ≤ MAX_WORKERS) }
-    requires wide { length edges.now ≡ length loading.now.sources.items }
-    ensures { IfOk result (λ os. map outcome_view os.items ≡ outcomes (loading_of loading.now) edges.now) }
+    requires wide { length edges ≡ length loading.sources.items }
+    ensures { IfOk result (λ os. map outcome_view os.items ≡ outcomes (loading_of loading.entry) edges) }
 {
-    let evaluator = Evaluator { loading, gate };
-    let found = outcomes_by_workers(rt, alloc, &evaluator, edges, workers)?;
-    loading.outcomes(alloc, edges, found.as_slice())
+    let evaluator = Evaluator {
+        loading: &loading,
+        gate,
+    };
+    let found = outcomes_by_workers(rt, alloc, &evaluator, &edges, workers)?;
+    loading.outcomes(alloc, &edges, found.as_slice())
 }
 
 /// Loads a workspace on one thread: each module is evaluated after all that it loads, with so many steps of its own. It is refused where
@@ -106,8 +112,7 @@ pub fn load_one_thread(
         Err(why) => return Err(why),
     };
     let (loading, edges) = read(alloc, workspace, &packages, schema, limit, graph)?;
-    let modules = modules_one_thread(alloc, &loading, &edges, &OpenGate)?;
-    drop(loading); // so that the code of all modules gives its memory to what comes
+    let modules = modules_one_thread(alloc, loading, edges, &OpenGate)?;
     Ok(Loaded::gathered(alloc, &packages, modules)?)
 }
 
@@ -133,7 +138,6 @@ pub fn load_with<R: Threads + Wait + Sync, G: Gate>(
         Err(why) => return Err(why),
     };
     let (loading, edges) = read(alloc, workspace, &packages, schema, limit, graph)?;
-    let modules = modules_by_workers(rt, alloc, &loading, &edges, workers, gate)?;
-    drop(loading); // so that the code of all modules gives its memory to what comes
+    let modules = modules_by_workers(rt, alloc, loading, edges, workers, gate)?;
     Ok(Loaded::gathered(alloc, &packages, modules)?)
 }

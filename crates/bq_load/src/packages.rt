@@ -85,6 +85,22 @@ fn package_at(
     }
 }
 
+/// The package of a BUILD file, where that is one of the modules.
+fn package_in(
+    alloc: Global,
+    labels: &LabelSet,
+    modules: &[ModuleOutcome],
+    build: &BuildFile,
+) -> Result<Option<Package>, AllocError>
+    requires { labels.now ≡ with_labels [] (labels_of (map outcome_view modules.now)) }
+    ensures { IfOk result (λ p. p ≡ package_in (map outcome_view modules.now) build.now) }
+{
+    match build.label(alloc)? {
+        None => Ok(None),
+        Some(label) => package_at(alloc, labels, modules, &label),
+    }
+}
+
 /// Adds a package, where its BUILD file is one of the modules.
 fn add_package(
     alloc: Global,
@@ -96,14 +112,30 @@ fn add_package(
     requires { labels.now ≡ with_labels [] (labels_of (map outcome_view modules.now)) }
     ensures { OnOk result (all.new.items ≡ all.old.items ++ option_to_list (package_in (map outcome_view modules.now) build.now)) }
 {
-    let Some(label) = build.label(alloc)? else {
-        return Ok(());
-    };
-    match package_at(alloc, labels, modules, &label)? {
-        None => {}
-        Some(package) => all.push(package)?,
+    match package_in(alloc, labels, modules, build)? {
+        None => Ok(()),
+        Some(package) => {
+            all.push(package)?;
+            Ok(())
+        }
     }
-    Ok(())
+}
+
+/// The packages of these BUILD files in their order, by the labels of the modules.
+fn packages_by_labels(
+    alloc: Global,
+    labels: &LabelSet,
+    modules: &[ModuleOutcome],
+    builds: &[BuildFile],
+) -> Result<Vec<Package>, AllocError>
+    requires { labels.now ≡ with_labels [] (labels_of (map outcome_view modules.now)) }
+    ensures { IfOk result (λ ps. ps.items ≡ packages_in builds.now (map outcome_view modules.now)) }
+{
+    let mut all = Vec::with_capacity(alloc, builds.len())?;
+    for build in builds {
+        add_package(alloc, labels, modules, build, &mut all)?;
+    }
+    Ok(all)
 }
 
 /// The packages of a workspace in their order, by its modules.
@@ -117,9 +149,5 @@ pub(crate) fn packages_in(
 {
     let builds = packages.all();
     let labels = labels_of(alloc, modules)?;
-    let mut all = Vec::with_capacity(alloc, builds.len())?;
-    for build in builds {
-        add_package(alloc, &labels, modules, build, &mut all)?;
-    }
-    Ok(all)
+    packages_by_labels(alloc, &labels, modules, builds)
 }

@@ -8,4 +8,4 @@ use Rattle.bq_load.proofs.imports.clause_values.Given as goal
 abbrev pub invariant-loop-clause : goal.invariant-loop-clause
 invariant-loop-clause l =
     clause_values l.code (option_map module_view (option_copied l.module)) l.line l.values.items (drop l.clause-index l.clauses)
-    ≡ clause_values l.code (option_map module_view (option_copied l.module)) l.line l.fn.done.items l.clauses
+    ≡ clause_values l.code (option_map module_view (option_copied l.module)) l.line l.fn.values.items l.clauses

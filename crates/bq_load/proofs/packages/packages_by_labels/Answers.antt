@@ -1,0 +1,17 @@
+use Rattle.std.proofs.Common.{map}
+use Rattle.bq_load.specs.Views.{outcome_view}
+use Rattle.bq_load.specs.Loaded.{package_in, packages_in}
+use Rattle.bq_load.proofs.Found.{next_found, done_found}
+use Rattle.bq_load.proofs.packages.packages_by_labels.Goals as goal
+
+pub loop-build-preserved : goal.loop-build-preserved
+loop-build-preserved c =
+    let l = c.loop-build in
+    let os = map outcome_view c.args.modules.now in
+    next_found (package_in os) c.args.builds.now l.build-index c.build-item.result c.loop-build-test.true c.build-item.is l.all.items c.add_package.new.all.items (packages_in c.args.builds.now os) c.in_ok-add_package.ensures l.invariant
+
+pub returns : goal.returns
+returns c =
+    let l = c.loop-build in
+    let os = map outcome_view c.args.modules.now in
+    done_found (package_in os) c.args.builds.now l.build-index c.loop-build-test.false l.all.items (packages_in c.args.builds.now os) l.invariant
