@@ -1,9 +1,9 @@
 //! The operator `%` with a string on its left (Starlark, "String interpolation").
 
-ghost use Rattle.std.specs.Prelude.{◌≡◌};
+ghost use Rattle.std.specs.Prelude.{◌≡◌, length};
 ghost use Rattle.bq_source.specs.Gives.{Gives};
 ghost use Rattle.bq_value.specs.declared.error.EvalErr.TheVariants.{Bad};
-ghost use Rattle.bq_format.specs.Percent.{takes_value, next_shown, converted, values_after, text_filled, percent_of};
+ghost use Rattle.bq_format.specs.Percent.{takes_value, next_shown, converted, values_after, ended, filled, text_filled, percent_of};
 
 use crate::draft::Draft;
 use bq_source::Bytes;
@@ -74,8 +74,40 @@ fn values_after<'v>(after: &[u8], values: &'v [Value]) -> &'v [Value]
     values
 }
 
+/// Values that are left at the end are malformed.
+fn end(draft: &mut Draft, values: &[Value])
+    ensures { draft.new ≡ ended draft.old values.now }
+{
+    if !values.is_empty() {
+        draft.spoil();
+    }
+}
+
+/// Writes a format and the values that it takes.
+fn write_filled(
+    store: &Store,
+    steps: u64,
+    format: &[u8],
+    values: &[Value],
+    draft: &mut Draft,
+) -> Result<u64, EvalErr>
+    ensures { Gives (λ left. (draft.new, left)) Bad result (filled (length format.now) store.now draft.old steps values.now format.now) }
+{
+    let mut left = steps;
+    let mut rest = format;
+    let mut next = values;
+    while let Some((before, after)) = partition(rest, b"%") {
+        draft.write(before)?;
+        left = convert(store, left, after, next, draft)?;
+        next = values_after(after, next);
+        rest = &after[after.len().min(1)..];
+    }
+    draft.write(rest)?;
+    end(draft, next);
+    Ok(left)
+}
+
 /// The text of a format and the values that it takes.
-#[tactic(auto, using(crate::proofs::Filling::fill_more, crate::proofs::Filling::fill_bad, crate::proofs::Filling::fill_last, crate::proofs::Filling::shorter))]
 fn fill(
     alloc: Global,
     store: &Store,
@@ -86,19 +118,7 @@ fn fill(
     ensures { Gives (λ answer. answer) Bad result (text_filled store.now steps format.now values.now) }
 {
     let mut draft = Draft::new(alloc);
-    let mut left = steps;
-    let mut rest = format;
-    let mut next = values;
-    while let Some((before, after)) = partition(rest, b"%") {
-        draft.write(before)?;
-        left = convert(store, left, after, next, &mut draft)?;
-        next = values_after(after, next);
-        rest = &after[after.len().min(1)..];
-    }
-    draft.write(rest)?;
-    if !next.is_empty() {
-        draft.spoil();
-    }
+    let left = write_filled(store, steps, format, values, &mut draft)?;
     Ok((draft.finish(alloc)?, left))
 }
 

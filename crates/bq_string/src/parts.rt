@@ -1,6 +1,6 @@
 //! The parts of a text between separators.
 
-ghost use Rattle.std.specs.Prelude.{◌≡◌, ◌<◌, IfOk, IfSome, Some, None, MatchOption, length};
+ghost use Rattle.std.specs.Prelude.{◌≡◌, ◌<◌, ◌++◌, ◌∷◌, [], IfOk, IfSome, OnOk, Some, None, MatchOption, length, reverse};
 ghost use Rattle.bq_string.specs.Parts.{split, rsplit, partition, rpartition, cut_within, cut_last_within, cuts, count, join, replace, replace_cuts, interleave};
 
 use bq_source::Bytes;
@@ -77,6 +77,59 @@ pub fn rpartition<'t>(text: &'t [u8], separator: &[u8]) -> Option<(&'t [u8], &'t
     cut_last(&FinderRev::new(separator), separator.len(), text)
 }
 
+/// Adds a part to others.
+fn push_part(alloc: Global, parts: &mut Vec<Bytes>, part: &[u8]) -> Result<(), AllocError>
+    ensures { OnOk result (parts.new.items ≡ parts.old.items ++ part.now ∷ []) }
+{
+    parts.push(Bytes::from_slice(alloc, part)?)?;
+    Ok(())
+}
+
+/// Adds the parts of the text to others, cut from the left at most so many times.
+fn push_parts(
+    alloc: Global,
+    parts: &mut Vec<Bytes>,
+    finder: &Finder,
+    len: usize,
+    text: &[u8],
+    most: usize,
+) -> Result<(), AllocError>
+    requires { len ≡ length finder.now }
+    ensures { OnOk result (parts.new.items ≡ parts.old.items ++ split finder.now most text.now) }
+{
+    let mut rest = text;
+    let mut left = most;
+    'cuts: while let Some((before, after)) = cut_within(finder, len, rest, left) {
+        push_part(alloc, parts, before)?;
+        rest = after;
+        left -= 1;
+    }
+    push_part(alloc, parts, rest)
+}
+
+/// The same from the right, the last part first.
+fn push_last_parts(
+    alloc: Global,
+    parts: &mut Vec<Bytes>,
+    finder: &FinderRev,
+    len: usize,
+    text: &[u8],
+    most: usize,
+) -> Result<(), AllocError>
+    requires { len ≡ length finder.now }
+    ensures { OnOk result (reverse parts.new.items ≡ rsplit finder.now most text.now ++ reverse parts.old.items) }
+{
+    let mut rest = text;
+    let mut left = most;
+    'cuts: while let Some((before, after)) = cut_last_within(finder, len, rest, left) {
+        push_part(alloc, parts, after)?;
+        rest = before;
+        left -= 1;
+    }
+    push_part(alloc, parts, rest)?;
+    Ok(())
+}
+
 /// The parts of the text between separators, cut from the left at most so many times.
 pub fn split(
     alloc: Global,
@@ -88,14 +141,7 @@ pub fn split(
 {
     let finder = Finder::new(separator);
     let mut parts = Vec::new(alloc);
-    let mut rest = text;
-    let mut left = most;
-    'cuts: while let Some((before, after)) = cut_within(&finder, separator.len(), rest, left) {
-        parts.push(Bytes::from_slice(alloc, before)?)?;
-        rest = after;
-        left -= 1;
-    }
-    parts.push(Bytes::from_slice(alloc, rest)?)?;
+    push_parts(alloc, &mut parts, &finder, separator.len(), text, most)?;
     Ok(parts)
 }
 
@@ -110,14 +156,7 @@ pub fn rsplit(
 {
     let finder = FinderRev::new(separator);
     let mut parts = Vec::new(alloc);
-    let mut rest = text;
-    let mut left = most;
-    'cuts: while let Some((before, after)) = cut_last_within(&finder, separator.len(), rest, left) {
-        parts.push(Bytes::from_slice(alloc, after)?)?;
-        rest = before;
-        left -= 1;
-    }
-    parts.push(Bytes::from_slice(alloc, rest)?)?;
+    push_last_parts(alloc, &mut parts, &finder, separator.len(), text, most)?;
     parts.reverse();
     Ok(parts)
 }
@@ -163,6 +202,30 @@ pub fn join(alloc: Global, separator: &[u8], parts: &[Bytes]) -> Result<Vec<u8>,
     Ok(text)
 }
 
+/// Adds the text to what is made, with `new` in place of what the finder finds, at most so many times.
+fn push_replaced(
+    made: &mut Vec<u8>,
+    finder: &Finder,
+    len: usize,
+    text: &[u8],
+    new: &[u8],
+    most: usize,
+) -> Result<(), AllocError>
+    requires { len ≡ length finder.now }
+    ensures { OnOk result (made.new.items ≡ made.old.items ++ replace_cuts finder.now new.now most text.now) }
+{
+    let mut rest = text;
+    let mut left = most;
+    'cuts: while let Some((before, after)) = cut_within(finder, len, rest, left) {
+        made.extend_from_slice(before)?;
+        made.extend_from_slice(new)?;
+        rest = after;
+        left -= 1;
+    }
+    made.extend_from_slice(rest)?;
+    Ok(())
+}
+
 /// The text with `new` in place of `old`, which isn't empty, at most so many times.
 fn replace_cuts(
     alloc: Global,
@@ -175,15 +238,7 @@ fn replace_cuts(
 {
     let finder = Finder::new(old);
     let mut made = Vec::new(alloc);
-    let mut rest = text;
-    let mut left = most;
-    'cuts: while let Some((before, after)) = cut_within(&finder, old.len(), rest, left) {
-        made.extend_from_slice(before)?;
-        made.extend_from_slice(new)?;
-        rest = after;
-        left -= 1;
-    }
-    made.extend_from_slice(rest)?;
+    push_replaced(&mut made, &finder, old.len(), text, new, most)?;
     Ok(made)
 }
 

@@ -1,10 +1,10 @@
 use Rattle.std.proofs.Common.{◌≡◌, ◌++◌}
 use Rattle.bq_string.specs.Parts.{split}
-use Rattle.bq_string.proofs.parts.split.Given as goal
+use Rattle.bq_string.proofs.parts.push_parts.Given as goal
 
 -- what is left gives, after the parts so far, what the text gives
 abbrev pub invariant-cuts : goal.invariant-cuts
-invariant-cuts l = l.parts.items ++ split l.separator l.left l.rest ≡ split l.separator l.most l.text
+invariant-cuts l = l.parts.items ++ split l.finder l.left l.rest ≡ l.fn.parts.items ++ split l.finder l.most l.text
 
 abbrev pub decreases-cuts : goal.decreases-cuts
 decreases-cuts l = l.left
