@@ -1,2 +1,3 @@
--- `Layers`: one layer of a statement.
+-- `Layers`: one layer of a statement. `Forms`: the forms of statements.
 mod Layers
+mod Forms

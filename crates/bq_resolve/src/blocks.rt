@@ -53,7 +53,30 @@ impl<
         &Stmt,
     ) -> Result<CodeStmt, SourceErr>,
 > Blocks<F> {
-    /// The statements of a block; `looping` inside a `for` of the function.
+    /// A statement inside; `looping` inside a `for` of the function.
+    fn nested(
+        &self,
+        file: &FileNames,
+        blocks: &[Block],
+        looping: bool,
+        walk: &mut Walk,
+        statement: &Stmt,
+    ) -> Result<CodeStmt, SourceErr>
+        requires { WalksStatement self.now.layers (F.pre self.now.inner) (F.post self.now.inner) }
+        ensures { Walks (spec.stmt_to file.now self.now.layers blocks.now looping statement.now walk.old) result walk.new }
+    {
+        (self.inner)(
+            self.alloc,
+            file,
+            self.layers,
+            blocks,
+            looping,
+            walk,
+            statement,
+        )
+    }
+
+    /// The statements of a block.
     #[tactic(auto, unfolding(bq_scope::specs::Visit::each))]
     pub fn block(
         &self,
@@ -68,17 +91,7 @@ impl<
     {
         let mut done = Items::new(self.alloc);
         for statement in statements {
-            done.push(
-                (self.inner)(
-                    self.alloc,
-                    file,
-                    self.layers,
-                    blocks,
-                    looping,
-                    walk,
-                    statement,
-                )?,
-            )?;
+            done.push(self.nested(file, blocks, looping, walk, statement)?)?;
         }
         Ok(done)
     }
@@ -190,8 +203,9 @@ impl<
     {
         match statement {
             Stmt::Simple(small) => {
-                let small = line(self.alloc, file, blocks, looping, walk, small.as_slice())?;
-                Ok(CodeStmt::Simple(small))
+                line(self.alloc, file, blocks, looping, walk, small.as_slice()).map(
+                    CodeStmt::Simple,
+                )
             }
             Stmt::If(branches, otherwise) => self.if_stmt(
                 file,

@@ -25,8 +25,14 @@ fn walked(
     ensures { Gives itself Bad result (each (top_level file.now) [] statements.now nothing_passed) }
 {
     let mut walk = Walk::new(alloc);
-    let statements = top_levels(alloc, file, &mut walk, statements)?;
-    Ok((statements, walk))
+    match top_levels(alloc, file, &mut walk, statements) {
+        Ok(statements) => Ok((statements, walk)),
+        Err(why) => {
+            // for the proof: `drop` lets go of it in a single step.
+            drop(walk);
+            Err(why)
+        }
+    }
 }
 
 /// What statements resolve to among the names of their file.
@@ -55,7 +61,10 @@ pub fn resolve(alloc: Global, file: &File, universe: &Universe) -> Result<Resolv
     ensures { Gives itself Bad result (resolved universe.now file.now) }
 {
     let names = FileNames::new(alloc, universe, file.statements())?;
-    resolve_in(alloc, &names, file.statements())
+    let resolved = resolve_in(alloc, &names, file.statements());
+    // for the proof: `drop` lets go of them in a single step.
+    drop(names);
+    resolved
 }
 
 /// The loads of a file, in the order in which they are written.

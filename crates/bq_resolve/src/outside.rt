@@ -27,8 +27,7 @@ fn file_stmt(
 {
     match statement {
         Stmt::Simple(small) => {
-            let small = line(alloc, file, &[], false, walk, small.as_slice())?;
-            Ok(FileStmt::Simple(small))
+            line(alloc, file, &[], false, walk, small.as_slice()).map(FileStmt::Simple)
         }
         Stmt::If(_, _) => misplaced(first_line),
         Stmt::For(_, _, _) => misplaced(first_line),

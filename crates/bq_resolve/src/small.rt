@@ -136,7 +136,7 @@ pub fn small_stmt(
 {
     let line = statement.line;
     match &statement.kind {
-        SmallKind::Expr(x) => Ok(CodeSmall::Expr(expr(alloc, file, blocks, walk, x)?)),
+        SmallKind::Expr(x) => expr(alloc, file, blocks, walk, x).map(CodeSmall::Expr),
         SmallKind::Assign(left, value) => assign(alloc, file, blocks, walk, left, value),
         SmallKind::Augment(left, operator, value) => {
             augment(alloc, file, blocks, walk, left, *operator, value)

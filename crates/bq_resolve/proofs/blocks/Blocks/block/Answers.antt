@@ -11,9 +11,9 @@ pub loop-statement-preserved : goal.loop-statement-preserved
 unfolding each
 loop-statement-preserved g c = grind (arith, common_steps)
 
-pub returns-in_err-inner : goal.returns-in_err-inner
+pub returns-in_err-nested : goal.returns-in_err-nested
 unfolding each
-returns-in_err-inner g c = grind (arith, common_steps)
+returns-in_err-nested g c = grind (arith, common_steps)
 
 pub returns-in_err-push : goal.returns-in_err-push
 unfolding each
