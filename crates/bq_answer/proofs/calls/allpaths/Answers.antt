@@ -1,4 +1,4 @@
-use Rattle.std.proofs.Common.{◌≡◌, map, sym, ap, arith}
+use Rattle.std.proofs.Common.{map, sym, ap, arith}
 use Rattle.bq_answer.specs.Formula.{part_of, allpaths_by}
 use Rattle.bq_answer.proofs.Arguments.{two_items}
 use Rattle.bq_answer.proofs.calls.allpaths.Goals as goal

@@ -1,4 +1,4 @@
-use Rattle.std.proofs.Common.{◌≡◌, ◌∙◌, map, sym, ap, arith}
+use Rattle.std.proofs.Common.{◌∙◌, map, sym, ap, arith}
 use Rattle.bq_answer.specs.Formula.{part_of, formula_of, attr_by, attr}
 use Rattle.bq_answer.proofs.Arguments.{three_items}
 use Rattle.bq_answer.proofs.calls.attr.Goals as goal

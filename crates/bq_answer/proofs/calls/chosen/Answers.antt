@@ -1,4 +1,4 @@
-use Rattle.std.proofs.Common.{◌≡◌, ◌∙◌, map, sym, ap, arith}
+use Rattle.std.proofs.Common.{◌∙◌, map, sym, ap, arith}
 use Rattle.bq_answer.specs.Formula.{part_of, formula_of, chosen_by, chosen}
 use Rattle.bq_answer.proofs.Arguments.{two_items}
 use Rattle.bq_answer.proofs.calls.chosen.Goals as goal

@@ -1,4 +1,4 @@
-use Rattle.std.proofs.Common.{◌≡◌, ◌∙◌, map, sym, ap, arith}
+use Rattle.std.proofs.Common.{◌∙◌, map, sym, ap, arith}
 use Rattle.bq_answer.specs.Formula.{part_of, formula_of, number, deps_by, deps_within}
 use Rattle.bq_answer.proofs.Arguments.{one_item, two_items}
 use Rattle.bq_answer.proofs.calls.deps.Goals as goal

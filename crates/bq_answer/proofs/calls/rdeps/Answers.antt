@@ -1,4 +1,4 @@
-use Rattle.std.proofs.Common.{◌≡◌, ◌∙◌, map, sym, ap, arith}
+use Rattle.std.proofs.Common.{◌∙◌, map, sym, ap, arith}
 use Rattle.bq_answer.specs.Formula.{part_of, formula_of, number, rdeps_by, rdeps_within}
 use Rattle.bq_answer.proofs.Arguments.{two_items, three_items}
 use Rattle.bq_answer.proofs.calls.rdeps.Goals as goal
