@@ -1,6 +1,6 @@
 -- The labels that texts stand for, and which of them cross into another package: the functions answer as the words say.
-use Rattle.std.proofs.Common.{◌≡◌, ◌∙◌, ◌⊎◌, inl, inr, ℕ, Bool, true, false, cond, List, [], ◌∷◌, Option, Some, None, Result, Ok, Err, refl, sym, ap, subst, arith}
-use Rattle.std.specs.Prelude.{◌==◌, not, bytes_eq, All, Any}
+use Rattle.std.proofs.Common.{◌≡◌, ◌∙◌, ◌⊎◌, inl, inr, ℕ, Bool, true, false, cond, List, [], ◌∷◌, Option, Some, None, Ok, Err, refl, sym, ap, subst, arith}
+use Rattle.std.specs.Prelude.{◌==◌, not, All, Any}
 use Rattle.std.specs.List.{AllZip, list_any}
 use Rattle.std.proofs.lemmas.Bool.Decides.{nat_tests}
 use Rattle.std.proofs.lemmas.Slice.Eq.{bytes_eq-Decides}
@@ -17,7 +17,7 @@ use Rattle.bq_target.specs.Target.{is_of}
 use Rattle.bq_attributes.specs.declared.label_texts.TextKind.{TextKind}
 use Rattle.bq_attributes.specs.declared.label_texts.TextKind.TheVariants as k
 use Rattle.bq_attributes.specs.Scope.{is_owned_by_other, crosses, own_label_crosses, inside, all_inside}
-use Rattle.bq_attributes.specs.LabelTexts.{label_found, named, without_colon, read, read_all, label, labels}
+use Rattle.bq_attributes.specs.LabelTexts.{named, without_colon, read, read_all, label, labels}
 use Rattle.bq_attributes.specs.Taken.{NamesFile, bare, after_colon, StandsFor, StandsForNone, CrossesInto, StaysInside}
 use Rattle.bq_attributes.proofs.Crossings.{own_is}
 use Rattle.bq_attributes.proofs.Turns.{any_weaker, any_true, any_so, all_false, all_so, turned, answered_in_turn, refused_in_turn, zip_weaker}

@@ -1,12 +1,12 @@
 -- An attribute of each type takes the values of its type, as what they are, and refuses the others for what is wrong with them.
-use Rattle.std.proofs.Common.{◌≡◌, ◌∙◌, ◌⊎◌, inl, inr, ℕ, ℤ, pos, negsuc, Bool, true, false, cond, List, [], ◌∷◌, ◌++◌, map, Option, Some, None, Result, Ok, Err, refl, sym, ap, subst, arith}
-use Rattle.std.specs.Prelude.{◌==◌, Any}
+use Rattle.std.proofs.Common.{◌≡◌, ◌∙◌, ◌⊎◌, inl, inr, ℕ, ℤ, pos, negsuc, Bool, true, false, List, [], ◌∷◌, map, Option, Some, None, Ok, Err, refl, sym, ap, subst, arith}
+use Rattle.std.specs.Prelude.{◌==◌}
 use Rattle.std.specs.List.{AllZip}
 use Rattle.std.proofs.lemmas.Bool.Decides.{nat_tests}
 use Rattle.bq_source.specs.declared.fault.FaultKind.{FaultKind}
 use Rattle.bq_source.specs.declared.fault.FaultKind.TheVariants as f
 use Rattle.bq_label.specs.declared.packages.BuildFile.{BuildFile}
-use Rattle.bq_label.specs.Label.{PackageParts, LabelParts}
+use Rattle.bq_label.specs.Label.{PackageParts}
 use Rattle.bq_schema.specs.declared.attribute.AttributeType.{AttributeType}
 use Rattle.bq_schema.specs.declared.attribute.AttributeType.TheVariants as t
 use Rattle.bq_target.specs.declared.value.AttributeValue.{AttributeValue}
@@ -14,12 +14,9 @@ use Rattle.bq_target.specs.declared.value.AttributeValue.TheVariants as a
 use Rattle.bq_value.specs.Datum.{Datum, none, boolean, int, string, tuple, range, cell, function, built_in, list_of}
 use Rattle.bq_value.specs.Contents.{Contents, items, pairs}
 use Rattle.bq_value.specs.Cells.{StoreView, content_at}
-use Rattle.bq_attributes.specs.declared.label_texts.TextKind.{TextKind}
 use Rattle.bq_attributes.specs.declared.label_texts.TextKind.TheVariants as k
-use Rattle.bq_attributes.specs.Steps.{and_then, in_turn}
 use Rattle.bq_attributes.specs.Texts.{text_in, listed, elements_in, all_texts, texts_in}
-use Rattle.bq_attributes.specs.LabelTexts.{label, labels}
-use Rattle.bq_attributes.specs.Values.{int_in, bool_of, bool_in, value_as}
+use Rattle.bq_attributes.specs.Values.{int_in, bool_in, value_as}
 use Rattle.bq_attributes.specs.Taken as w
 use Rattle.bq_attributes.specs.Taken.{IsListOf, is_tuple, is_list, IsListOfTexts, IsOfType, IsTakenAs, IsRefusedFor}
 use Rattle.bq_attributes.specs.Laws.{EachTypeTakesItsValues, EachTypeRefusesOtherValues}

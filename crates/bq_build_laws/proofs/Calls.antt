@@ -1,10 +1,10 @@
 -- The calls of build functions and of rules have numbers of steps and outcomes of their own: what they declare hangs on the arguments, on
 -- the store and on the line, and not on the steps that are left.
-use Rattle.std.proofs.Common.{◌≡◌, ℕ, List, Option, Some, None, Result, Ok, Err, refl}
+use Rattle.std.proofs.Common.{◌≡◌, ℕ, List, Some, None, Result, Ok, Err, refl}
 use Rattle.bq_source.specs.declared.fault.FaultKind.{FaultKind}
 use Rattle.bq_source.specs.declared.fault.FaultKind.TheVariants.{NotInPackage}
 use Rattle.bq_value.specs.Datum.{Datum}
-use Rattle.bq_machine.specs.Action.{Action, Run, done, stopped, ◌>>=◌, given, on_machine}
+use Rattle.bq_machine.specs.Action.{Action, Run, stopped, given, on_machine}
 use Rattle.bq_machine.specs.Args.{Passed}
 use Rattle.bq_machine.specs.Machine.{with_steps}
 use Rattle.bq_machine.specs.State.{State, stop_at}

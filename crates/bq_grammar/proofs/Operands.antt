@@ -16,7 +16,7 @@ use Rattle.bq_source.specs.Number.{int_value}
 use Rattle.bq_source.specs.StringLiteral.{string_value}
 use Rattle.bq_grammar.specs.Phrases.{Phrase, Repeat, over, Listed, none_listed, last_listed}
 use Rattle.bq_grammar.specs.Grammar as G
-use Rattle.bq_grammar.specs.Grammar.{tuple_of, primary_of, IsPair, IsForClause, IsClause, AreClauses, IsOperand}
+use Rattle.bq_grammar.specs.Grammar.{IsPair, IsForClause, IsClause, AreClauses, IsOperand}
 use Rattle.bq_grammar.specs.Turns.{Found, Parse, ◌>>=◌, sees, expect, repeat, listed_from}
 use Rattle.bq_grammar.specs.Reading.{items_after, pair, for_clause, clause, begins_clause, clauses, comprehension, parens_after, in_parens, brackets_after, in_brackets, braces_after, in_braces, int_of, string_of, operand_by, operand}
 use Rattle.bq_grammar.proofs.NextToken.{sees_it, sees_other, tok, tok_kind}

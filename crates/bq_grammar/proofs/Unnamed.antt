@@ -13,7 +13,7 @@ use Rattle.bq_grammar.specs.declared.tree.UnaryOperator.{UnaryOperator}
 use Rattle.bq_grammar.specs.Operators.{operator_at, sign, negation, comparison}
 use Rattle.bq_grammar.specs.Phrases.{Phrase, none, Repeat, over, again}
 use Rattle.bq_grammar.specs.Grammar as G
-use Rattle.bq_grammar.specs.Grammar.{IsOperand, IsSuffix, IsPrimary, IsPrimaryTo, IsPrefix, IsPrefixed, IsOperation, IsChain, IsBinary, IsCompOp, IsComp, IsOr, IsChoice, IsTest}
+use Rattle.bq_grammar.specs.Grammar.{IsOperand, IsSuffix, IsPrimary, IsPrimaryTo, IsPrefixed, IsOperation, IsChain, IsBinary, IsCompOp, IsComp, IsOr, IsChoice, IsTest}
 use Rattle.bq_grammar.specs.Turns.{sees}
 use Rattle.bq_grammar.specs.Reading.{is_named}
 use Rattle.bq_grammar.proofs.NextToken.{is_kind}

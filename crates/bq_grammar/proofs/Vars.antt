@@ -11,7 +11,7 @@ use Rattle.bq_grammar.specs.declared.tree.Target.{Target}
 use Rattle.bq_grammar.specs.declared.tree.Target.TheVariants as target
 use Rattle.bq_grammar.specs.Phrases.{Phrase, none, Repeat, over, Listed, last_listed, CommaThen}
 use Rattle.bq_grammar.specs.Grammar as G
-use Rattle.bq_grammar.specs.Grammar.{targets_of, IsVarOver, IsVar, IsVarsOver, IsVars, IsPrimary, IsPrimaryTo, IsOr, IsTest, IsOrTo, IsTestTo, IsOperandTo, IsSuffixTo}
+use Rattle.bq_grammar.specs.Grammar.{targets_of, IsVarOver, IsVar, IsVarsOver, IsVars, IsPrimary, IsPrimaryTo, IsOrTo, IsTestTo, IsOperandTo, IsSuffixTo}
 use Rattle.bq_grammar.specs.Turns.{Found, Parse, ◌>>=◌, sees, next, expect, listed_from, repeat}
 use Rattle.bq_grammar.specs.Reading.{items_after, after_comma, chained, vars_after, var_in_parens, var_in_brackets, var_by, var, var_to, vars, variables_to, operand, suffix, primary, or_test, test, phrase}
 use Rattle.bq_grammar.proofs.NextToken.{sees_it, sees_other, tok, tok_kind}

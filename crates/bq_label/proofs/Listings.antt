@@ -1,23 +1,22 @@
 -- A directory with a BUILD file is a package.
-use Rattle.std.proofs.Common.{◌≡◌, ◌≢◌, ◌+◌, ◌++◌, ◌==◌, ◌&&◌, ◌||◌, ◌⊎◌, ℕ, Bool, true, false, not, List, [], ◌∷◌, Option, Some, None, length, take, drop, codes, if◌then◌else◌, refl, sym, ap, subst, ◌∙◌, arith, append_assoc, inl, inr, nat_eq}
+use Rattle.std.proofs.Common.{◌≡◌, ◌+◌, ◌++◌, ◌==◌, ◌&&◌, ℕ, true, false, not, List, [], ◌∷◌, Option, Some, None, length, drop, codes, refl, sym, ap, subst, ◌∙◌, arith, append_assoc, inl, inr, nat_eq}
 use Rattle.std.proofs.lemmas.Bool.{cases_Bool, false≢true}
 use Rattle.std.specs.Option.{option_map}
 use Rattle.std.specs.Str.{bytes_eq}
-use Rattle.std.specs.List.{starts_with, list_any, filter_map, cons_option, Contains}
-use Rattle.std.specs.List.Sorted.{IsPermutation}
+use Rattle.std.specs.List.{starts_with, list_any, cons_option, Contains}
 use Rattle.std.proofs.lemmas.List.Sorted.{Contains-permutation}
 use Rattle.bq_label.specs.declared.workspace.File.{File}
 use Rattle.bq_label.specs.declared.packages.BuildFile.{BuildFile}
 use Rattle.bq_label.specs.Paths.{is_slash, is_repository}
 use Rattle.bq_label.specs.Label.{PackageParts, package_at, last_segment}
 use Rattle.bq_label.specs.Reading.{split_once}
-use Rattle.bq_label.specs.Workspace.{is_above, paths_of, IsWorkspace}
+use Rattle.bq_label.specs.Workspace.{is_above, paths_of}
 use Rattle.bq_label.specs.Order.{in_order}
 use Rattle.bq_label.specs.Packages.{external_root, split_repository_by, split_repository, joined, directory_of, is_build_file, build_file, package_of_file, build_files, package_cmp, packages_of, IsBuildName, HasBuildFile, IsListed}
 use Rattle.bq_label.proofs.Cuts.{cut_joined, cut_whole, last_whole}
 use Rattle.bq_label.proofs.Above.{same_bytes, equal_bytes, above_whole, above_joined}
 use Rattle.bq_label.proofs.Orders.{at_head, in_tail, head_or_tail, in_order_moves}
-use Rattle.bq_label.proofs.Segments.{LastCut, last_cut, last_joined, directory_of_cut, directory_of_plain}
+use Rattle.bq_label.proofs.Segments.{last_joined, directory_of_cut, directory_of_plain}
 use Rattle.bq_label.proofs.Repositories.{in_repository, external_front}
 use Rattle.bq_label.proofs.BuildFiles.{by_package, longer_name, wins_preferred}
 

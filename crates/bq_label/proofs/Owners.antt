@@ -1,20 +1,19 @@
 -- The first package that a walk up the directories of a path meets is the nearest.
-use Rattle.std.proofs.Common.{◌≡◌, ◌≢◌, ◌+◌, ◌-◌, ◌<◌, ◌≤◌, ◌++◌, ◌==◌, ◌&&◌, ◌||◌, ◌⊎◌, ℕ, zero, suc, Bool, true, false, List, [], ◌∷◌, Option, Some, None, length, take, drop, slice_index, nat_lt, if◌then◌else◌, refl, sym, ap, subst, ◌∙◌, arith, length-take-le, inl, inr, nat_eq, Bor}
+use Rattle.std.proofs.Common.{◌≡◌, ◌+◌, ◌<◌, ◌≤◌, ◌&&◌, ◌||◌, ◌⊎◌, ℕ, Bool, true, false, List, [], ◌∷◌, Option, Some, None, length, take, drop, slice_index, nat_lt, refl, sym, ap, subst, ◌∙◌, arith, length-take-le, inl, inr, Bor}
 use Rattle.std.proofs.lemmas.Bool.{cases_Bool, cases_lt, false≢true}
 use Rattle.std.proofs.lemmas.Bool.Decides.{nat_tests}
 use Rattle.std.specs.Option.{is_some, option_copied}
 use Rattle.std.specs.Str.{bytes_eq}
-use Rattle.std.specs.List.{Contains, find, filter, AllByRecursion}
+use Rattle.std.specs.List.{Contains, find, filter}
 use Rattle.std.specs.List.Sorted.{IsStrictlySortedBy}
-use Rattle.std.specs.declared.cmp.Ordering.{Ordering}
-use Rattle.std.specs.declared.cmp.Ordering.TheVariants.{Less, Equal, Greater}
+use Rattle.std.specs.declared.cmp.Ordering.TheVariants.{Less, Equal}
 use Rattle.std.proofs.lemmas.Cmp.{tied_itself}
 use Rattle.std.proofs.lemmas.List.Elements.{All-from_recursion, All-contains}
 use Rattle.std.proofs.lemmas.Map.Keys.{sorted_head, sorted_tail}
 use Rattle.bq_label.specs.declared.packages.BuildFile.{BuildFile}
 use Rattle.bq_label.specs.Label.{PackageParts, package_at}
 use Rattle.bq_label.specs.Workspace.{is_above}
-use Rattle.bq_label.specs.Packages.{id_cmp, package_cmp, is_package_id, package_named, is_over, nearer, nearest, nearest_over, split_repository, owner_of, IsOver, IsOwner, OwnerIs}
+use Rattle.bq_label.specs.Packages.{id_cmp, package_cmp, is_package_id, package_named, is_over, nearer, nearest, nearest_over, split_repository, owner_of, IsOver, OwnerIs}
 use Rattle.bq_label.proofs.Above.{same_bytes, equal_bytes, above_take, above_length, above_slash, above_front, above_whole, above_joined}
 use Rattle.bq_label.proofs.Orders.{at_head, in_tail, head_or_tail}
 use Rattle.bq_label.proofs.Readings.{first_of_two, second_of_two}

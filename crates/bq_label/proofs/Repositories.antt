@@ -1,13 +1,13 @@
 -- A path in its repository is behind the repository's root, and names its BUILD file's package.
-use Rattle.std.proofs.Common.{◌≡◌, ◌≢◌, ◌+◌, ◌-◌, ◌<◌, ◌≤◌, ◌++◌, ◌==◌, ◌&&◌, ◌||◌, ◌⊎◌, ℕ, Bool, true, false, not, List, [], ◌∷◌, Option, Some, None, length, take, drop, codes, if◌then◌else◌, refl, sym, ap, subst, ◌∙◌, arith, length-append, append_assoc, inl, inr, nat_eq}
+use Rattle.std.proofs.Common.{◌≡◌, ◌++◌, ◌&&◌, ℕ, Bool, true, false, not, List, [], ◌∷◌, Option, Some, None, take, drop, codes, refl, sym, ap, ◌∙◌, append_assoc, inl, inr, nat_eq}
 use Rattle.std.proofs.lemmas.Bool.{cases_Bool, false≢true}
 use Rattle.std.proofs.lemmas.List.{take-append-drop}
 use Rattle.std.specs.Str.{bytes_eq}
-use Rattle.std.specs.List.{starts_with, list_any}
-use Rattle.bq_label.specs.Paths.{is_path, is_package, is_repository, is_slash}
+use Rattle.std.specs.List.{starts_with}
+use Rattle.bq_label.specs.Paths.{is_path, is_repository}
 use Rattle.bq_label.specs.Label.{last_segment}
 use Rattle.bq_label.specs.Reading.{split_once}
-use Rattle.bq_label.specs.Packages.{repository_root, external_root, split_repository_by, split_repository, directory_of, joined}
+use Rattle.bq_label.specs.Packages.{repository_root, external_root, split_repository_by, split_repository}
 use Rattle.bq_label.proofs.Cuts.{cut_whole}
 use Rattle.bq_label.proofs.Readings.{first_of_two, second_of_two}
 use Rattle.bq_label.proofs.Above.{same_bytes}

@@ -1,17 +1,16 @@
 -- Names without a slash in one directory have one owner.
-use Rattle.std.proofs.Common.{◌≡◌, ◌++◌, ◌&&◌, ◌||◌, ◌==◌, ℕ, Bool, true, false, not, List, [], ◌∷◌, Option, Some, None, length, drop, codes, if◌then◌else◌, refl, sym, ap, ◌∙◌, append_assoc, arith, inl, inr, nat_eq}
+use Rattle.std.proofs.Common.{◌≡◌, ◌++◌, ◌&&◌, ◌||◌, ◌==◌, ℕ, Bool, true, false, not, List, [], ◌∷◌, Option, Some, None, length, drop, codes, refl, sym, ap, ◌∙◌, append_assoc, arith, inl, inr, nat_eq}
 use Rattle.std.proofs.lemmas.Bool.{cases_Bool, false≢true}
 use Rattle.std.proofs.lemmas.Bool.Decides.{nat_tests}
 use Rattle.std.specs.Prelude.{option_and_then}
 use Rattle.std.specs.Str.{bytes_eq}
-use Rattle.std.specs.Option.{option_map}
 use Rattle.std.specs.List.{starts_with, list_any, filter}
 use Rattle.bq_label.specs.declared.packages.BuildFile.{BuildFile}
 use Rattle.bq_label.specs.Paths.{is_repository, is_slash, HasNoSlash}
 use Rattle.bq_label.specs.Label.{PackageParts, label_in}
 use Rattle.bq_label.specs.Reading.{split_once}
 use Rattle.bq_label.specs.Workspace.{is_above}
-use Rattle.bq_label.specs.Packages.{repository_root, joined, label_path, external_root, split_repository_by, split_repository, is_over, nearest, nearest_over, owner_of}
+use Rattle.bq_label.specs.Packages.{label_path, external_root, split_repository_by, split_repository, is_over, nearest, nearest_over, owner_of}
 
 -- a name in a directory, or at the root
 abbrev under : Option (List ℕ) → List ℕ → List ℕ

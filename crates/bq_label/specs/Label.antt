@@ -1,14 +1,9 @@
 -- Labels (Bazel, "Labels"): which label a text reads as in a package, and how a label is printed.
-use Rattle.std.specs.Prelude.{◌≡◌, ◌≢◌, ℕ, ◌++◌, ◌==◌, ◌&&◌, ◌||◌, Bool, true, false, List, [], ◌∷◌, Option, Some, None, Result, Ok, Err, codes, drop, if◌then◌else◌, option_and_then}
-use Rattle.std.specs.Option.{option_map}
+use Rattle.std.specs.Prelude.{◌≡◌, ◌≢◌, ℕ, ◌++◌, ◌||◌, true, List, [], ◌∷◌, codes, if◌then◌else◌}
 use Rattle.std.specs.List.{list_any}
 use Rattle.std.specs.declared.cmp.Ordering.{Ordering}
 use Rattle.std.specs.Ordering.{nat_cmp, ordering_then}
 use Rattle.std.specs.Cmp.Lexicographic.{slice_cmp}
-use Rattle.bq_source.specs.Fault.{fault_at}
-use Rattle.bq_source.specs.declared.fault.FaultKind.TheVariants.{BadLabel}
-use Rattle.bq_source.specs.declared.fault.SourceErr.{SourceErr}
-use Rattle.bq_source.specs.declared.fault.SourceErr.TheVariants.{Bad, Memory}
 use Rattle.bq_label.specs.Paths.{is_slash, is_path, is_package, is_repository}
 
 -- a package: the name of its repository, empty for the main one, and its path there, empty for the root

@@ -1,5 +1,5 @@
 -- Repositories, packages and the owners of paths (Bazel, "Repositories, packages, and targets").
-use Rattle.std.specs.Prelude.{◌≡◌, ℕ, ◌++◌, ◌+◌, ◌-◌, ◌≤◌, ◌⊎◌, ◌&&◌, ◌||◌, Bool, true, false, not, nat_eq, nat_lt, List, [], ◌∷◌, length, take, drop, Option, Some, None, map, bytes_eq, codes, if◌then◌else◌, option_and_then}
+use Rattle.std.specs.Prelude.{◌≡◌, ℕ, ◌++◌, ◌-◌, ◌≤◌, ◌⊎◌, ◌&&◌, ◌||◌, Bool, not, nat_eq, nat_lt, List, [], ◌∷◌, length, take, drop, Option, Some, None, bytes_eq, codes, if◌then◌else◌, option_and_then}
 use Rattle.std.specs.List.{list_any, starts_with, find, filter, filter_map, Contains}
 use Rattle.std.specs.Option.{option_map}
 use Rattle.std.specs.declared.cmp.Ordering.{Ordering}
@@ -7,7 +7,7 @@ use Rattle.std.specs.Ordering.{nat_cmp, ordering_then}
 use Rattle.std.specs.Cmp.Lexicographic.{slice_cmp}
 use Rattle.bq_label.specs.declared.workspace.File.{File}
 use Rattle.bq_label.specs.declared.packages.BuildFile.{BuildFile}
-use Rattle.bq_label.specs.Paths.{is_repository, is_slash, is_path}
+use Rattle.bq_label.specs.Paths.{is_repository, is_path}
 use Rattle.bq_label.specs.Label.{PackageParts, LabelParts, package_at, label_in, IsPackage, last_segment}
 use Rattle.bq_label.specs.Reading.{split_once}
 use Rattle.bq_label.specs.Order.{in_order}

@@ -1,7 +1,7 @@
 -- Frames, one name at a time.
 use Rattle.std.proofs.Common.{◌≡◌, ◌≢◌, ℕ, ◌==◌, Bool, Option, Some, if◌then◌else◌, refl, ap, eq-eqb, ne_eqb}
 use Rattle.bq_value.specs.Datum.{Datum}
-use Rattle.bq_meaning.specs.Frame.{Frame, fill}
+use Rattle.bq_meaning.specs.Frame.{fill}
 use Rattle.bq_meaning.specs.Laws.{BindingIsOfOneName}
 
 own : (v : Datum) (rest : Option Datum) (slot : ℕ) → (if slot == slot then Some v else rest) ≡ Some v

@@ -9,7 +9,7 @@ use Rattle.bq_value.specs.Contents.{pairs}
 use Rattle.bq_value.specs.Datum.{Datum, none, tuple, function, built_in, data_of, list_of}
 use Rattle.bq_machine.specs.Action.{Action, ◌>>=◌, pure}
 use Rattle.bq_machine.specs.Args.{Passed}
-use Rattle.bq_machine.specs.Binding.{BoundView, bind}
+use Rattle.bq_machine.specs.Binding.{bind}
 use Rattle.bq_machine.specs.Parameters.{ParameterView, SignatureView}
 use Rattle.bq_meaning.specs.Frame.{Frame, empty, fill, Surroundings}
 use Rattle.bq_meaning.specs.Primitives.{Primitives, stop, given_by, change}

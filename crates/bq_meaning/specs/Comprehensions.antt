@@ -1,6 +1,6 @@
 -- Comprehensions (Starlark specification, "Comprehensions"). One runs on a copy of the frame, so that it writes none of the names that
 -- are round it. Its turns hand on the list or dict so far.
-use Rattle.std.specs.Prelude.{List, [], ◌∷◌, Bool, if◌then◌else◌}
+use Rattle.std.specs.Prelude.{List, [], ◌∷◌, if◌then◌else◌}
 use Rattle.bq_scope.specs.declared.code.Code.{Code, out-Code}
 use Rattle.bq_scope.specs.declared.code.Code.TheOpen.{Code-F, CodeClause-F}
 use Rattle.bq_scope.specs.declared.code.CodeClause.{CodeClause, out-CodeClause}

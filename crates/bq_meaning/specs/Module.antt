@@ -16,7 +16,7 @@ use Rattle.bq_meaning.specs.Frame.{Frame, empty, fill, Surroundings}
 use Rattle.bq_meaning.specs.Primitives.{Primitives, change}
 use Rattle.bq_meaning.specs.Targets.{assign}
 use Rattle.bq_meaning.specs.Expressions.{eval_in, values}
-use Rattle.bq_meaning.specs.Statements.{Flow, next, Exec, go_on, line}
+use Rattle.bq_meaning.specs.Statements.{next, Exec, go_on, line}
 use Rattle.bq_meaning.specs.Calls.{CodeUnit, Units, calls, max_active}
 use Rattle.bq_meaning.specs.Trees.{Eval}
 

@@ -1,5 +1,4 @@
 -- One layer of each kind of resolved tree, and what an expression and a statement mean.
-use Rattle.std.specs.Prelude.{ℕ, List}
 use Rattle.bq_scope.specs.declared.code.Code.{Code}
 use Rattle.bq_scope.specs.declared.code.Code.TheOpen.{Code-F, CodeArgument-F, CodeClause-F, CodeSuffix-F, CodeTarget-F}
 use Rattle.bq_scope.specs.declared.code.CodeArgument.{CodeArgument}

@@ -4,15 +4,10 @@ use Rattle.std.specs.List.{AllByRecursion}
 use Rattle.bq_scope.specs.declared.code.Code.TheOpen.{Code-F, CodeArgument-F, CodeClause-F, CodeSuffix-F, CodeTarget-F}
 use Rattle.bq_scope.specs.declared.code.Code.{Code}
 use Rattle.bq_scope.specs.declared.code.CodeArgument.{CodeArgument, out-CodeArgument}
-use Rattle.bq_scope.specs.declared.code.CodeBranch.{CodeBranch, out-CodeBranch}
-use Rattle.bq_scope.specs.declared.code.CodeChoice.{CodeChoice}
+use Rattle.bq_scope.specs.declared.code.CodeBranch.{out-CodeBranch}
 use Rattle.bq_scope.specs.declared.code.CodeClause.{CodeClause, out-CodeClause}
-use Rattle.bq_scope.specs.declared.code.CodeOperation.{CodeOperation}
-use Rattle.bq_scope.specs.declared.code.CodePair.{CodePair}
-use Rattle.bq_scope.specs.declared.code.CodeStmt.{CodeStmt}
 use Rattle.bq_scope.specs.declared.code.CodeStmt.TheOpen.{CodeStmt-F}
-use Rattle.bq_scope.specs.declared.code.CodeSuffix.{CodeSuffix, out-CodeSuffix}
-use Rattle.bq_scope.specs.declared.code.CodeTarget.{CodeTarget}
+use Rattle.bq_scope.specs.declared.code.CodeSuffix.{out-CodeSuffix}
 use Rattle.bq_meaning.specs.Trees.{CodeLayer, ArgumentLayer, ClauseLayer, SuffixLayer, TargetLayer, StmtLayer}
 use Rattle.bq_meaning_laws.specs.Layers.{PairParts, OperationParts, ChoiceParts, ArgumentLayerParts, ArgumentParts, OptionalParts, SuffixLayerParts, SuffixParts, ClauseLayerParts, ClauseParts, CodeParts, TargetParts, BranchParts, StmtParts}
 

@@ -8,15 +8,15 @@ use Rattle.bq_scope.specs.declared.code.CodeParameter.{CodeParameter}
 use Rattle.bq_scope.specs.declared.code.CodeParameter.TheVariants as parameter
 use Rattle.bq_scope.specs.Names.{max_layers}
 use Rattle.bq_value.specs.Contents.{pairs}
-use Rattle.bq_value.specs.Datum.{Datum, none, boolean, int, string, tuple, range, cell, function, built_in, data_of, list_of}
-use Rattle.bq_machine.specs.Action.{Action, ◌>>=◌, pure}
+use Rattle.bq_value.specs.Datum.{Datum, none, tuple, function, built_in, data_of, list_of}
+use Rattle.bq_machine.specs.Action.{Action}
 use Rattle.bq_machine.specs.Args.{Passed}
 use Rattle.bq_machine.specs.Binding.{BoundView, bind}
-use Rattle.bq_meaning.specs.Frame.{Frame, empty, fill, Surroundings}
+use Rattle.bq_meaning.specs.Frame.{Frame, empty, fill}
 use Rattle.bq_meaning.specs.Primitives.{Primitives, given_by}
 use Rattle.bq_meaning.specs.Expressions.{eval_in}
-use Rattle.bq_meaning.specs.Statements.{Flow, block, run_in}
-use Rattle.bq_meaning.specs.Calls.{CodeUnit, Units, has_star_star, signature, Filling, answered, with_value, with_default, fill_by, fill_parameter, fill_parameters, keywords_of, entry, within, body_of, run_body, call_function, known, call_at, apply_by, apply, calls}
+use Rattle.bq_meaning.specs.Statements.{run_in}
+use Rattle.bq_meaning.specs.Calls.{CodeUnit, Units, has_star_star, signature, Filling, answered, with_value, with_default, fill_by, fill_parameter, fill_parameters, keywords_of, entry, body_of, run_body, call_function, known, call_at, apply_by, apply, calls}
 use Rattle.bq_meaning.specs.Trees.{Eval, Calls}
 use Rattle.bq_meaning_laws.proofs.Anything.{Holds, each}
 use Rattle.bq_meaning_laws.proofs.Respects.{Relation, Respects}

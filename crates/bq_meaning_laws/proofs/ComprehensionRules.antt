@@ -1,5 +1,5 @@
 -- A relation that respects the rules holds of comprehensions.
-use Rattle.std.proofs.Common.{ℕ, List, [], ◌∷◌}
+use Rattle.std.proofs.Common.{List, [], ◌∷◌}
 use Rattle.std.specs.List.{AllByRecursion}
 use Rattle.bq_scope.specs.declared.code.Code.{Code, out-Code}
 use Rattle.bq_scope.specs.declared.code.Code.TheOpen.{Code-F, CodeClause-F}
@@ -8,12 +8,11 @@ use Rattle.bq_scope.specs.declared.code.CodePair.{CodePair, out-CodePair}
 use Rattle.bq_scope.specs.declared.code.CodeTarget.{CodeTarget}
 use Rattle.bq_value.specs.Contents.{Contents}
 use Rattle.bq_value.specs.Datum.{Datum}
-use Rattle.bq_machine.specs.Action.{Action, ◌>>=◌, pure}
 use Rattle.bq_meaning.specs.Frame.{Frame}
 use Rattle.bq_meaning.specs.Primitives.{Primitives}
 use Rattle.bq_meaning.specs.Comprehensions.{Turn, element, pair_element, body_by, body, turn, turns, for_clause, if_clause, clause_by, clause, clauses, comprehension}
 use Rattle.bq_meaning.specs.Trees.{Eval, CodeLayer, ClauseLayer}
-use Rattle.bq_meaning_laws.specs.Layers.{PairParts, ClauseLayerParts, ClauseParts, CodeParts}
+use Rattle.bq_meaning_laws.specs.Layers.{PairParts, ClauseLayerParts, ClauseParts}
 use Rattle.bq_meaning_laws.proofs.Respects.{Relation, Respects}
 use Rattle.bq_meaning_laws.proofs.TargetRules.{variables_rule}
 

@@ -1,10 +1,9 @@
 -- What decides is evaluated first, and then only what it chooses.
-use Rattle.std.proofs.Common.{◌≡◌, ◌∙◌, List, ◌∷◌, Bool, true, false, refl, ap}
+use Rattle.std.proofs.Common.{◌≡◌, ◌∙◌, ◌∷◌, Bool, true, false, ap}
 use Rattle.std.specs.Prelude.{if◌then◌else◌}
 use Rattle.bq_scope.specs.declared.code.CodeBranch.{out-CodeBranch}
-use Rattle.bq_value.specs.Contents.{Contents}
 use Rattle.bq_value.specs.Datum.{Datum}
-use Rattle.bq_machine.specs.Action.{Action, Run, done, stopped, following, ◌>>=◌, pure}
+use Rattle.bq_machine.specs.Action.{Action, ◌>>=◌, pure}
 use Rattle.bq_meaning.specs.Frame.{Frame}
 use Rattle.bq_meaning.specs.Primitives.{Primitives}
 use Rattle.bq_meaning.specs.Targets.{bind_variables}

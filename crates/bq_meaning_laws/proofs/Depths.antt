@@ -1,14 +1,10 @@
 -- Actions that run alike: a relation that respects the rules.
-use Rattle.std.proofs.Common.{◌≡◌, ◌∙◌, ◌≤◌, ℕ, List, Bool, true, false, refl, ap}
+use Rattle.std.proofs.Common.{◌≡◌, ◌∙◌, Bool, true, false, refl, ap}
 use Rattle.std.specs.Prelude.{if◌then◌else◌}
-use Rattle.bq_scope.specs.declared.code.Code.{Code}
-use Rattle.bq_value.specs.Datum.{Datum}
 use Rattle.bq_machine.specs.Action.{Action, Run, done, stopped, following}
-use Rattle.bq_meaning.specs.Frame.{Frame}
 use Rattle.bq_meaning.specs.Primitives.{Primitives}
-use Rattle.bq_meaning.specs.Trees.{Eval, Calls}
 use Rattle.bq_meaning_laws.specs.Depth.{ExpressionDepth, StatementDepth, BindingDepth, PlaceDepth}
-use Rattle.bq_meaning_laws.proofs.Respects.{Relation, Respects, choosing}
+use Rattle.bq_meaning_laws.proofs.Respects.{Relation, Respects}
 use Rattle.bq_meaning_laws.proofs.TargetRules.{bind_depths, places_depths}
 use Rattle.bq_meaning_laws.proofs.ExpressionRules.{expr_depths}
 use Rattle.bq_meaning_laws.proofs.StatementRules.{run_depths}

@@ -1,6 +1,5 @@
 -- A relation that respects the rules holds of expressions.
 use Rattle.std.proofs.Common.{ℕ, zero, suc, List, [], ◌∷◌, ◌++◌, length, reverse, Option, Some, None, ◌≤◌, not-suc-le-zero, le_of_suc-le-suc}
-use Rattle.std.specs.Prelude.{if◌then◌else◌}
 use Rattle.std.specs.List.{AllByRecursion}
 use Rattle.bq_source.specs.declared.fault.FaultKind.TheVariants as f
 use Rattle.bq_grammar.specs.declared.tree.Comparison.{Comparison}
@@ -19,13 +18,13 @@ use Rattle.bq_scope.specs.declared.code.CodePair.{CodePair, out-CodePair}
 use Rattle.bq_scope.specs.declared.code.CodeSuffix.{CodeSuffix, out-CodeSuffix}
 use Rattle.bq_value.specs.Contents.{Contents, items, pairs}
 use Rattle.bq_value.specs.Datum.{Datum, none, int, string, tuple, data_of}
-use Rattle.bq_machine.specs.Action.{Action, ◌>>=◌, pure}
+use Rattle.bq_machine.specs.Action.{Action}
 use Rattle.bq_machine.specs.Args.{Passed, nothing_passed}
 use Rattle.bq_meaning.specs.Frame.{Frame, empty, Surroundings}
 use Rattle.bq_meaning.specs.Primitives.{Primitives}
 use Rattle.bq_meaning.specs.Expressions.{use_by, use_of, literal, unary_each, values, framed, list_display, tuple_display, pair, pairs_each, dict_display, unary, operation_by, operation, operations, binary, compare, choice, chosen, conditional, index, part, slice, argument_by, argument, arguments, method, call_of, suffix_by, suffix, suffixes, primary, expr_by, expr, expr_to}
 use Rattle.bq_meaning.specs.Trees.{Eval, Calls, CodeLayer, ArgumentLayer, SuffixLayer}
-use Rattle.bq_meaning_laws.specs.Layers.{PairParts, OperationParts, ChoiceParts, ArgumentLayerParts, ArgumentParts, OptionalParts, SuffixLayerParts, SuffixParts, ClauseParts, CodeParts, IsWithin}
+use Rattle.bq_meaning_laws.specs.Layers.{PairParts, OperationParts, ChoiceParts, ArgumentLayerParts, ArgumentParts, OptionalParts, SuffixLayerParts, SuffixParts, CodeParts, IsWithin}
 use Rattle.bq_meaning_laws.proofs.Anything.{Holds, code}
 use Rattle.bq_meaning_laws.proofs.Respects.{Relation, Respects}
 use Rattle.bq_meaning_laws.proofs.TargetRules.{bound_rule}

@@ -1,5 +1,5 @@
 -- What is in frames after an expression, and at a function's begin.
-use Rattle.std.proofs.Common.{◌≡◌, ◌∙◌, ℕ, ◌==◌, Bool, true, false, List, [], ◌∷◌, Option, Some, None, Result, Ok, Err, refl, sym, ap, subst}
+use Rattle.std.proofs.Common.{◌≡◌, ◌∙◌, ℕ, ◌==◌, false, List, [], ◌∷◌, Option, Some, None, refl, ap, subst}
 use Rattle.std.specs.Prelude.{if◌then◌else◌}
 use Rattle.std.specs.List.{AllByRecursion}
 use Rattle.bq_scope.specs.declared.code.Code.{Code}
@@ -10,7 +10,7 @@ use Rattle.bq_scope.specs.declared.code.CodeSmall.TheVariants as small
 use Rattle.bq_value.specs.Datum.{Datum, tuple, data_of}
 use Rattle.bq_machine.specs.Action.{Action, Run, done, stopped, following, pure}
 use Rattle.bq_machine.specs.Args.{Passed}
-use Rattle.bq_machine.specs.Binding.{BoundView, bind}
+use Rattle.bq_machine.specs.Binding.{bind}
 use Rattle.bq_meaning.specs.Calls.{Filling, has_star_star, signature, with_value, with_default, fill_by, fill_parameter, fill_parameters, keywords_of, entry}
 use Rattle.bq_meaning.specs.Frame.{Frame, empty, fill}
 use Rattle.bq_meaning.specs.Primitives.{Primitives, given_by}

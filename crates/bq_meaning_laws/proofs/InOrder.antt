@@ -1,7 +1,6 @@
 -- Expressions in an expression are evaluated from left to right.
-use Rattle.std.proofs.Common.{◌≡◌, ◌≢◌, ◌∙◌, ℕ, List, [], ◌∷◌, ◌++◌, Bool, true, false, Option, Some, None, refl, sym, ap, append_assoc, append-nil}
+use Rattle.std.proofs.Common.{◌≡◌, ◌∙◌, List, [], ◌∷◌, ◌++◌, Option, Some, None, refl, sym, ap, append_assoc, append-nil}
 use Rattle.std.specs.Prelude.{if◌then◌else◌}
-use Rattle.bq_grammar.specs.declared.tree.Operator.{Operator}
 use Rattle.bq_grammar.specs.declared.tree.Operator.TheVariants as operator
 use Rattle.bq_scope.specs.declared.code.Code.{Code}
 use Rattle.bq_scope.specs.declared.code.CodeChoice.{out-CodeChoice}
@@ -14,8 +13,8 @@ use Rattle.bq_meaning.specs.Frame.{Frame}
 use Rattle.bq_meaning.specs.Primitives.{Primitives}
 use Rattle.bq_meaning.specs.Targets.{place}
 use Rattle.bq_meaning.specs.Comprehensions.{pair_element, for_clause}
-use Rattle.bq_meaning.specs.Expressions.{values, list_display, tuple_display, pair, pairs_each, operation_by, operation, operations, binary, compare, choice, chosen, conditional, index, part, slice}
-use Rattle.bq_meaning.specs.Statements.{next, assign_stmt}
+use Rattle.bq_meaning.specs.Expressions.{values, list_display, tuple_display, pair, pairs_each, operation, operations, binary, compare, choice, chosen, conditional, index, part, slice}
+use Rattle.bq_meaning.specs.Statements.{assign_stmt}
 use Rattle.bq_meaning.specs.Trees.{Eval}
 use Rattle.bq_meaning_laws.specs.Order.{Evaluates, none_left, and_then, Stops, here, later, DisplaysInOrder, DisplaysStop, PairsInOrder, DictDisplaysInOrder, ChainsInOrder, OperatorsInOrder, MadePairsInOrder, OperandsInOrder, ComparesInOrder, IndexedInOrder, SlicedInOrder, ConditionsFirst, RightSidesFirst, PlacesInOrder, IterablesFirst}
 

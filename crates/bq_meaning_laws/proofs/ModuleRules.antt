@@ -8,10 +8,9 @@ use Rattle.bq_scope.specs.declared.code.FileStmt.TheVariants as s
 use Rattle.bq_scope.specs.declared.code.Resolved.{Resolved}
 use Rattle.bq_scope.specs.Names.{max_layers}
 use Rattle.bq_value.specs.Datum.{Datum, function, data_of}
-use Rattle.bq_machine.specs.Action.{Action, ◌>>=◌, pure}
 use Rattle.bq_meaning.specs.Frame.{Frame, empty}
 use Rattle.bq_meaning.specs.Primitives.{Primitives}
-use Rattle.bq_meaning.specs.Statements.{Flow, next, Exec}
+use Rattle.bq_meaning.specs.Statements.{Flow, next}
 use Rattle.bq_meaning.specs.Calls.{Units, calls, max_active}
 use Rattle.bq_meaning.specs.Module.{Own, own_round, with_own, name_of, def_stmt, file_stmt_by, file_stmt, top_level, top_levels, eval_top, first_globals, module_meaning}
 use Rattle.bq_meaning.specs.Trees.{Eval}

@@ -1,15 +1,14 @@
 -- The arguments of a call are evaluated from left to right, after what is called.
-use Rattle.std.proofs.Common.{◌≡◌, ◌∙◌, List, [], ◌∷◌, length, refl}
+use Rattle.std.proofs.Common.{◌≡◌, ◌∙◌, List, length, refl}
 use Rattle.bq_scope.specs.declared.code.Code.TheOpen.{CodeArgument-F}
 use Rattle.bq_scope.specs.declared.code.CodeArgument.{CodeArgument, out-CodeArgument}
-use Rattle.bq_value.specs.Datum.{Datum}
-use Rattle.bq_machine.specs.Action.{Action, Run, done, stopped, following, ◌>>=◌}
+use Rattle.bq_machine.specs.Action.{done, stopped, ◌>>=◌}
 use Rattle.bq_machine.specs.Args.{Passed, nothing_passed}
 use Rattle.bq_machine.specs.State.{Stop}
 use Rattle.bq_meaning.specs.Frame.{Frame}
 use Rattle.bq_meaning.specs.Primitives.{Primitives}
 use Rattle.bq_meaning.specs.Expressions.{argument_by, argument, arguments, method, call_of, suffix, suffixes, primary}
-use Rattle.bq_meaning.specs.Trees.{Eval, Calls, ArgumentLayer}
+use Rattle.bq_meaning.specs.Trees.{Eval, ArgumentLayer}
 use Rattle.bq_meaning_laws.specs.Arguments.{operand_of, passing, Passes, all_passed, passed_first, PassingStops, operand_stops, value_stops, stops_later, ArgumentsInOrder, ArgumentsStop, OperandsOfSuffixesFirst, SuffixesInOrder}
 use Rattle.bq_meaning_laws.proofs.InOrder.{goes, ends}
 

@@ -1,6 +1,6 @@
 -- Relations between actions that respect the rules of the language: they hold of a value, of a fault, of what is asked for, of one action
 -- after another where they hold of both, and of a choice where they hold of what is chosen from. So they hold of what a program means.
-use Rattle.std.proofs.Common.{ℕ, List, Bool, Option, Some, None}
+use Rattle.std.proofs.Common.{ℕ, List}
 use Rattle.std.specs.Prelude.{if◌then◌else◌}
 use Rattle.bq_source.specs.declared.fault.FaultKind.{FaultKind}
 use Rattle.bq_grammar.specs.declared.tree.Comparison.{Comparison}

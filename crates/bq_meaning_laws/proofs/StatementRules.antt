@@ -10,7 +10,6 @@ use Rattle.bq_scope.specs.declared.code.CodeStmt.{CodeStmt, out-CodeStmt}
 use Rattle.bq_scope.specs.declared.code.CodeStmt.TheOpen.{CodeStmt-F}
 use Rattle.bq_scope.specs.declared.code.CodeTarget.{CodeTarget}
 use Rattle.bq_value.specs.Datum.{Datum, none}
-use Rattle.bq_machine.specs.Action.{Action, ◌>>=◌, pure}
 use Rattle.bq_meaning.specs.Frame.{Frame}
 use Rattle.bq_meaning.specs.Primitives.{Primitives}
 use Rattle.bq_meaning.specs.Statements.{Flow, next, leave, again, answer, Exec, go_on, turn_on, steps_of, expr_stmt, assign_stmt, return_stmt, small_by, small_effect, small_stmt, line, block, branches, turn, turns, for_loop, stmt_by, stmt, run_to}

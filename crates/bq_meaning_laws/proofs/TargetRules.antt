@@ -8,7 +8,7 @@ use Rattle.bq_scope.specs.declared.code.Code.TheOpen.{CodeTarget-F}
 use Rattle.bq_scope.specs.declared.code.CodeTarget.{CodeTarget, out-CodeTarget}
 use Rattle.bq_scope.specs.Names.{max_layers}
 use Rattle.bq_value.specs.Datum.{Datum}
-use Rattle.bq_machine.specs.Action.{Action, ◌>>=◌, pure}
+use Rattle.bq_machine.specs.Action.{Action}
 use Rattle.bq_meaning.specs.Frame.{Frame, fill}
 use Rattle.bq_meaning.specs.Primitives.{Primitives}
 use Rattle.bq_meaning.specs.Targets.{Places, Binds, bound, bind_place, bind_each, unpack, bind_by, bind_target, bind_to, bind_variables, place, places_each, places_by, places_of, places_to, assign, augment_name, augment_index, augment_by, augment}

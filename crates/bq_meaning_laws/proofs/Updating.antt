@@ -1,12 +1,10 @@
 -- Augmented assignments read their target, and then evaluate their right side.
-use Rattle.std.proofs.Common.{◌≡◌, ◌∙◌, List, [], ◌∷◌, Option, Some, ap}
-use Rattle.bq_scope.specs.declared.code.Code.{Code}
+use Rattle.std.proofs.Common.{◌≡◌, ◌∙◌, Option, Some, ap}
 use Rattle.bq_value.specs.Datum.{Datum}
-use Rattle.bq_machine.specs.Action.{Action, Run, done, following, ◌>>=◌, pure}
-use Rattle.bq_meaning.specs.Frame.{Frame, fill}
+use Rattle.bq_machine.specs.Action.{done, ◌>>=◌, pure}
+use Rattle.bq_meaning.specs.Frame.{fill}
 use Rattle.bq_meaning.specs.Primitives.{Primitives}
 use Rattle.bq_meaning.specs.Targets.{bound, augment_name, augment_index}
-use Rattle.bq_meaning.specs.Trees.{Eval}
 use Rattle.bq_meaning_laws.specs.Order.{none_left, and_then}
 use Rattle.bq_meaning_laws.specs.Updates.{NamesAugmentedInOrder, PlacesAugmentedInOrder}
 use Rattle.bq_meaning_laws.proofs.InOrder.{goes}

@@ -5,17 +5,16 @@ use Rattle.bq_grammar.specs.declared.tree.Operator.TheVariants as operator
 use Rattle.bq_scope.specs.declared.code.Code.{Code}
 use Rattle.bq_scope.specs.declared.code.CodeBranch.{CodeBranch, out-CodeBranch}
 use Rattle.bq_scope.specs.declared.code.CodeClause.{CodeClause}
-use Rattle.bq_scope.specs.declared.code.CodePair.{CodePair, out-CodePair}
 use Rattle.bq_scope.specs.declared.code.CodeStmt.{CodeStmt}
 use Rattle.bq_scope.specs.declared.code.CodeTarget.{CodeTarget}
 use Rattle.bq_value.specs.Contents.{Contents}
 use Rattle.bq_value.specs.Datum.{Datum}
-use Rattle.bq_machine.specs.Action.{done, stopped, ◌>>=◌, pure}
+use Rattle.bq_machine.specs.Action.{done, stopped, ◌>>=◌}
 use Rattle.bq_machine.specs.State.{Stop}
 use Rattle.bq_meaning.specs.Frame.{Frame}
 use Rattle.bq_meaning.specs.Primitives.{Primitives}
 use Rattle.bq_meaning.specs.Targets.{bind_variables}
-use Rattle.bq_meaning.specs.Comprehensions.{Turn, element, body, turn, if_clause, clause, clauses, comprehension}
+use Rattle.bq_meaning.specs.Comprehensions.{Turn, body, turn, if_clause, clause, clauses, comprehension}
 use Rattle.bq_meaning.specs.Expressions.{operation_by}
 use Rattle.bq_meaning.specs.Statements.{Exec, block, branches}
 use Rattle.bq_meaning.specs.Trees.{Eval}

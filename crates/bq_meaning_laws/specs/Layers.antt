@@ -1,6 +1,6 @@
 -- How many layers a resolved tree has: an expression is no deeper than so many layers where the expressions in it are no deeper than one
 -- layer less; so are statements, and the targets of assignments.
-use Rattle.std.specs.Prelude.{ℕ, zero, suc, List, Option, Some, None}
+use Rattle.std.specs.Prelude.{ℕ, zero, suc, Option, Some, None}
 use Rattle.std.specs.List.{AllByRecursion}
 use Rattle.bq_scope.specs.declared.code.Code.{Code, out-Code}
 use Rattle.bq_scope.specs.declared.code.Code.TheOpen.{Code-F, CodeArgument-F, CodeClause-F, CodeSuffix-F, CodeTarget-F}

@@ -1,6 +1,6 @@
 -- The laws of order: expressions in an expression are evaluated from left to right, each in the state that those before it leave
 -- (Starlark specification, "Expressions").
-use Rattle.std.specs.Prelude.{◌≡◌, ◌≢◌, ℕ, suc, List, [], ◌∷◌, length, Bool, true, false, Option, Some}
+use Rattle.std.specs.Prelude.{◌≡◌, ◌≢◌, List, [], ◌∷◌, length, true, false, Some}
 use Rattle.bq_grammar.specs.declared.tree.Comparison.{Comparison}
 use Rattle.bq_grammar.specs.declared.tree.Operator.{Operator}
 use Rattle.bq_grammar.specs.declared.tree.Operator.TheVariants as operator
@@ -11,14 +11,14 @@ use Rattle.bq_scope.specs.declared.code.CodePair.{CodePair, out-CodePair}
 use Rattle.bq_scope.specs.declared.code.CodeTarget.{CodeTarget}
 use Rattle.bq_value.specs.Contents.{Contents, items}
 use Rattle.bq_value.specs.Datum.{Datum, tuple, data_of}
-use Rattle.bq_machine.specs.Action.{Run, done, stopped, ◌>>=◌, pure}
+use Rattle.bq_machine.specs.Action.{done, stopped, ◌>>=◌, pure}
 use Rattle.bq_machine.specs.State.{Stop}
 use Rattle.bq_meaning.specs.Frame.{Frame}
 use Rattle.bq_meaning.specs.Primitives.{Primitives, change}
-use Rattle.bq_meaning.specs.Targets.{place, Places, assign}
+use Rattle.bq_meaning.specs.Targets.{place, assign}
 use Rattle.bq_meaning.specs.Comprehensions.{Turn, turns, for_clause, pair_element}
 use Rattle.bq_meaning.specs.Expressions.{list_display, tuple_display, pair, pairs_each, operation_by, operation, operations, binary, compare, conditional, index, slice}
-use Rattle.bq_meaning.specs.Statements.{Flow, next, assign_stmt}
+use Rattle.bq_meaning.specs.Statements.{next, assign_stmt}
 use Rattle.bq_meaning.specs.Trees.{Eval}
 
 module _ {S : Type 0} (eval : Eval S) (env : Frame) where

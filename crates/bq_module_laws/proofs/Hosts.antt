@@ -1,24 +1,19 @@
 -- What the rules ask for has numbers of steps and outcomes of its own, beside what a host keeps: a relation that respects the rules.
-use Rattle.std.proofs.Common.{◌≡◌, ◌∙◌, ◌<◌, ℕ, ◌+◌, Bool, true, false, List, Option, Some, None, refl, sym, ap, subst}
+use Rattle.std.proofs.Common.{◌≡◌, ◌∙◌, ℕ, Bool, true, false, List, Option, Some, None, refl, ap, subst}
 use Rattle.std.specs.Prelude.{if◌then◌else◌}
-use Rattle.bq_source.specs.declared.fault.FaultKind.{FaultKind}
 use Rattle.bq_source.specs.declared.fault.FaultKind.TheVariants.{WrongType}
 use Rattle.bq_predeclared.specs.declared.predeclared.Predeclared.{Predeclared}
 use Rattle.bq_predeclared.specs.declared.predeclared.Predeclared.TheVariants as p
 use Rattle.bq_scope.specs.Names.{Name}
 use Rattle.bq_value.specs.Datum.{Datum}
 use Rattle.bq_walk.specs.Truth.{truth_of}
-use Rattle.bq_machine.specs.Action.{Action, Run, done, stopped, following, ◌>>=◌, pure, beside, on_machine}
+use Rattle.bq_machine.specs.Action.{Action, Run, done, stopped, pure, beside, on_machine}
 use Rattle.bq_machine.specs.Action as action
 use Rattle.bq_machine.specs.Args.{Passed}
-use Rattle.bq_machine.specs.Calls.{leave}
-use Rattle.bq_machine.specs.Iteration.{end_walk}
 use Rattle.bq_machine.specs.Machine.{with_steps}
-use Rattle.bq_machine.specs.State.{State, stop_at}
+use Rattle.bq_machine.specs.State.{State}
 use Rattle.bq_host.specs.BuiltIns.{function_named}
 use Rattle.bq_functions.specs.Call.{call_function}
-use Rattle.bq_meaning.specs.Primitives.{Primitives}
-use Rattle.bq_meaning.specs.Primitives as rules
 use Rattle.bq_runtime.specs.Calling.{HostCalls, call_found, call_built_in}
 use Rattle.bq_runtime.specs.Runtime.{primitives}
 use Rattle.bq_meaning_laws.proofs.Respects.{Relation, Respects}

@@ -2,7 +2,7 @@
 use Rattle.std.proofs.Common.{ℕ, List, [], ◌∷◌}
 use Rattle.bq_value.specs.Contents.{Contents}
 use Rattle.bq_value.specs.Datum.{Datum}
-use Rattle.bq_machine.specs.Action.{◌>>=◌, given, look}
+use Rattle.bq_machine.specs.Action.{given, look}
 use Rattle.bq_machine.specs.Args.{Passed}
 use Rattle.bq_machine.specs.Iteration.{elements, elements_in}
 use Rattle.bq_machine.specs.Machine.{key}

@@ -1,7 +1,6 @@
 -- Every text has one reading.
-use Rattle.std.proofs.Common.{◌≡◌, ℕ, zero, suc, ◌+◌, ◌-◌, ◌<◌, ◌≤◌, List, [], ◌∷◌, length, drop, refl, sym, ap, ◌∙◌, subst, arith, length-drop}
-use Rattle.std.specs.Prelude.{Option, Some, None, option_map}
-use Rattle.bq_query.specs.declared.token.TokenKind.{TokenKind}
+use Rattle.std.proofs.Common.{◌≡◌, ℕ, zero, suc, ◌+◌, ◌<◌, ◌≤◌, List, [], length, drop, refl, arith, length-drop}
+use Rattle.std.specs.Prelude.{Option, Some, None}
 use Rattle.bq_query.specs.declared.token.Token.{Token}
 use Rattle.bq_query.specs.declared.lexis.Piece.{Piece}
 use Rattle.bq_query.specs.declared.lexis.Piece.TheVariants.{End, Blank, Found, Unknown}

@@ -1,17 +1,17 @@
 -- The tokens of a reading spell the text.
-use Rattle.std.proofs.Common.{◌≡◌, ℕ, ◌+◌, ◌<◌, ◌≤◌, Bool, true, List, [], ◌∷◌, ◌++◌, length, take, drop, refl, sym, ap, ◌∙◌, subst, arith}
-use Rattle.std.specs.Prelude.{Option, Some, None, option_map}
+use Rattle.std.proofs.Common.{◌≡◌, ℕ, ◌+◌, true, List, [], ◌∷◌, take, drop, refl, sym, ap, subst, arith}
+use Rattle.std.specs.Prelude.{Option, Some, None}
 use Rattle.std.specs.List.{list_all}
 use Rattle.std.proofs.lemmas.List.{take-append-drop, length-take-le}
 use Rattle.std.proofs.lemmas.Bool.{and_from}
 use Rattle.bq_query.specs.declared.token.TokenKind.{TokenKind}
 use Rattle.bq_query.specs.declared.token.Token.{Token}
 use Rattle.bq_query.specs.declared.lexis.Piece.{Piece}
-use Rattle.bq_query.specs.declared.lexis.Piece.TheVariants.{End, Blank, Found, Unknown}
+use Rattle.bq_query.specs.declared.lexis.Piece.TheVariants.{End, Blank, Found}
 use Rattle.bq_query.specs.Lexis.{piece_of, is_blank}
 use Rattle.bq_query.specs.Reading.{Reads, ended, blank, token, unknown, before}
-use Rattle.bq_query.specs.Laws.{IsSpelled, AreTokensOf, none, next}
-use Rattle.bq_query.proofs.Within.{Front, empty, a_blank, a_token, nothing, front}
+use Rattle.bq_query.specs.Laws.{AreTokensOf, none, next}
+use Rattle.bq_query.proofs.Within.{Front, empty, a_blank, a_token, front}
 
 abbrev pub AsTokens : List ℕ → ℕ → Option (List Token) → Type 0
 AsTokens text start None = Unit {0}

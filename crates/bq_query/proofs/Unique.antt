@@ -1,6 +1,6 @@
 -- A text has one reading alone.
-use Rattle.std.proofs.Common.{◌≡◌, ℕ, ◌+◌, List, [], ◌∷◌, drop, refl, sym, ap, ◌∙◌, subst}
-use Rattle.std.specs.Prelude.{Option, Some, None, option_map}
+use Rattle.std.proofs.Common.{◌≡◌, ℕ, ◌+◌, List, [], drop, refl, sym, ap, ◌∙◌, subst}
+use Rattle.std.specs.Prelude.{Option, Some, None}
 use Rattle.bq_query.specs.declared.token.TokenKind.{TokenKind}
 use Rattle.bq_query.specs.declared.token.Token.{Token}
 use Rattle.bq_query.specs.declared.lexis.Piece.{Piece}

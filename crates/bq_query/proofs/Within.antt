@@ -1,13 +1,12 @@
 -- What each piece at the front of a text is.
-use Rattle.std.proofs.Common.{◌≡◌, ℕ, zero, suc, ◌+◌, ◌<◌, ◌≤◌, Bool, true, false, cond, not, List, [], ◌∷◌, ◌++◌, length, take, drop, get_or, refl, sym, ap, ◌∙◌, subst, arith}
-use Rattle.std.specs.Prelude.{Option, Some, None, nat_lt, nat_eq, position, ◌==◌, ◌&&◌}
+use Rattle.std.proofs.Common.{◌≡◌, ℕ, zero, suc, ◌+◌, ◌<◌, ◌≤◌, Bool, true, cond, not, List, [], ◌∷◌, ◌++◌, length, take, drop, get_or, refl, sym, ap, ◌∙◌, subst, arith}
+use Rattle.std.specs.Prelude.{Option, Some, None, nat_lt, nat_eq, ◌==◌}
 use Rattle.std.specs.List.{prefix_len, position_or_len, list_all}
 use Rattle.std.specs.Map.{lookup}
 use Rattle.std.proofs.lemmas.List.{take_more}
 use Rattle.std.proofs.lemmas.List.Sums.{prefix_len-le-length, passes_at_first}
 use Rattle.std.proofs.lemmas.Bool.{cond_both, and_parts, and_from, ltb-true, eqb-true}
 use Rattle.bq_query.specs.declared.token.TokenKind.{TokenKind}
-use Rattle.bq_query.specs.declared.token.TokenKind.TheVariants as k
 use Rattle.bq_query.specs.declared.lexis.Piece.{Piece}
 use Rattle.bq_query.specs.declared.lexis.Piece.TheVariants.{End, Blank, Found, Unknown}
 use Rattle.bq_query.specs.Lexis.{is_blank, is_quote, is_word_byte, begins_word, punctuation, word_kind, word_of, word_piece, quoted_of, quoted_piece, other_piece, piece_by, piece_of}

@@ -1,7 +1,7 @@
 -- Which bytes are a token at the front of a text (Bazel query reference, "Tokens"; what is ours is marked).
 --
 -- Bytes by number: 9 the tab, 10 the newline, 13 the carriage return, 32 the space, 34 `"`, 36 `$`, 39 `'`, 40 `(`, 41 `)`, 42 `*`, 43 `+`, 44 `,`, 45 `-`, 61 `=`, 94 `^`, 95 `_`.
-use Rattle.std.specs.Prelude.{ℕ, ◌+◌, ◌==◌, ◌&&◌, ◌||◌, Bool, true, not, nat_le, nat_eq, bytes_eq, List, [], ◌∷◌, length, take, Option, Some, None, codes, position, false, if◌then◌else◌}
+use Rattle.std.specs.Prelude.{ℕ, ◌+◌, ◌==◌, ◌&&◌, ◌||◌, Bool, not, nat_le, nat_eq, bytes_eq, List, [], ◌∷◌, take, Option, Some, None, codes, position, false, if◌then◌else◌}
 use Rattle.std.specs.List.{list_all, list_any, prefix_len}
 use Rattle.std.specs.Map.{lookup}
 use Rattle.bq_query.specs.declared.token.TokenKind.{TokenKind}

@@ -17,7 +17,7 @@ use Rattle.bq_report.specs.Ending.{status_by}
 use Rattle.bq_report.specs.declared.ending.Refusal.{Refusal}
 use Rattle.bq_report.specs.declared.ending.Status.{Status}
 use Rattle.bq_report.specs.declared.reply.Reply.{Reply}
-use Rattle.bq_report.specs.Report.{Inside, ReportView, Replies, RepliesOver, Reports, all_faults, reply_view}
+use Rattle.bq_report.specs.Report.{Inside, Replies, RepliesOver, Reports, all_faults, reply_view}
 
 pub over : (packages : List PackageTargets) (rules : Rules) (query : CheckedQuery) (form : OutputForm) (status : Status) (g : GraphParts) (result : Result Reply AllocError) → IsGraphOf packages g
     → IfOk result (λ r. Replies (facts_of g rules query) (formula_of query.tree) form status (reply_view r)) → IfOk result (λ r. RepliesOver packages rules query form status (reply_view r))

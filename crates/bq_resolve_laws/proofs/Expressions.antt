@@ -1,5 +1,5 @@
 -- Expressions that are not too deep never have the fault F11.
-use Rattle.std.proofs.Common.{◌≡◌, ◌≢◌, ◌≤◌, ℕ, zero, suc, ◌+◌, max, Bool, true, false, ◌&&◌, ◌||◌, List, [], ◌∷◌, map, length, Option, Some, None, Result, Ok, Err, arith}
+use Rattle.std.proofs.Common.{◌≤◌, ℕ, zero, suc, ◌+◌, Bool, true, false, ◌&&◌, ◌||◌, List, [], ◌∷◌, map, length, Option, Some, None, Result, Ok, Err, arith}
 use Rattle.bq_source.specs.declared.fault.Fault.{Fault}
 use Rattle.bq_source.specs.declared.fault.FaultKind.TheVariants as f
 use Rattle.bq_grammar.specs.declared.tree.FileKind.{FileKind}
@@ -16,7 +16,6 @@ use Rattle.bq_grammar.specs.declared.tree.Target.{Target, out-Target}
 use Rattle.bq_grammar.specs.Targets.{ExprLayer, SuffixLayer}
 use Rattle.bq_scope.specs.declared.code.Code.{Code}
 use Rattle.bq_scope.specs.declared.code.Code.TheVariants as c
-use Rattle.bq_scope.specs.declared.code.CodeArgument.{CodeArgument}
 use Rattle.bq_scope.specs.declared.code.CodeArgument.TheVariants as a
 use Rattle.bq_scope.specs.declared.code.CodeChoice.{roll-CodeChoice}
 use Rattle.bq_scope.specs.declared.code.CodeClause.{CodeClause}
@@ -34,7 +33,7 @@ use Rattle.bq_scope.specs.Visit.{Passed, Visit, ◌>>=◌, pure, given, fault_of
 use Rattle.bq_scope.specs.Expressions.{place_of, is_bzl, bind_global, bind_in, framed, in_frame, native_by, native_call, is_native, use_at, name_target, target_by, target_to, pair, operation, choice, argument_by, arguments, suffix_by, suffixes, operand, host_call, primary_by, primary, clause_by, clauses, in_block, comprehension, expr_by, expr_to}
 use Rattle.bq_tree_laws.specs.Depth.{deepest, expr_depth, target_depth, argument_depth, clause_depth, suffix_depth, choice_depth, operation_depth, pair_depth}
 use Rattle.bq_resolve_laws.proofs.Layers.{part_depth, argument_layer, clause_layer, suffix_layer, target_layer, expr_layer, opened_argument, opened_clause, opened_suffix, opened_target, target_has_depth, opened_expr, expr_has_depth, opened_pair, opened_operation, opened_choice}
-use Rattle.bq_resolve_laws.proofs.Calm.{IsCalm, Calm, unknown_is_other, rebound_is_other, calm_bind, calm_map, calm_two, calm_three, calm_given, calm_if, calm_each, calm_optional}
+use Rattle.bq_resolve_laws.proofs.Calm.{IsCalm, Calm, unknown_is_other, rebound_is_other, calm_bind, calm_map, calm_two, calm_three, calm_given, calm_if, calm_each}
 
 -- ---- names
 

@@ -1,5 +1,5 @@
 -- Files whose statements are not too deep never have the fault F11.
-use Rattle.std.proofs.Common.{◌≡◌, ◌≢◌, ◌≤◌, ℕ, ◌+◌, max, false, List, [], ◌∷◌, ◌++◌, map, length, Result, Ok, Err, subst, arith}
+use Rattle.std.proofs.Common.{◌≡◌, ◌≢◌, ◌≤◌, ℕ, false, List, [], ◌∷◌, ◌++◌, map, length, Result, Ok, Err, subst, arith}
 use Rattle.std.specs.List.{AllByRecursion}
 use Rattle.bq_source.specs.declared.fault.Fault.{Fault}
 use Rattle.bq_source.specs.declared.fault.FaultKind.TheVariants as f
@@ -18,7 +18,7 @@ use Rattle.bq_scope.specs.declared.code.CodeTopLevel.{CodeTopLevel}
 use Rattle.bq_scope.specs.declared.code.FileStmt.TheVariants as s
 use Rattle.bq_scope.specs.Names.{Name, max_layers, has, function_names}
 use Rattle.bq_scope.specs.Scope.{BlockParts, FileParts}
-use Rattle.bq_scope.specs.Visit.{Passed, Visit, ◌>>=◌, pure, fault_of, each, nothing_passed}
+use Rattle.bq_scope.specs.Visit.{Passed, ◌>>=◌, pure, fault_of, each, nothing_passed}
 use Rattle.bq_scope.specs.Expressions.{name_target}
 use Rattle.bq_scope.specs.Statements.{ParameterParts, no_parameters, expr, small_stmt, stmt_to, named_parameter, default_parameter, next_parameter, parameters, statements_in, with_function, function}
 use Rattle.bq_scope.specs.Files.{file_names, def_stmt, file_stmt, top_level, resolved_by, resolved}

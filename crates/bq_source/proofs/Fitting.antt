@@ -1,7 +1,7 @@
 -- A piece takes a byte at least, and no more than there are.
-use Rattle.std.proofs.Common.{◌≡◌, ℕ, zero, suc, ◌+◌, ◌<◌, ◌≤◌, ◌⊎◌, inl, inr, List, [], ◌∷◌, ◌++◌, length, take, drop, Bool, true, false, cond, Option, Some, None, is_none, refl, sym, ap, ◌∙◌, subst, arith, nat_eq, nat_lt, length-append}
+use Rattle.std.proofs.Common.{◌≡◌, ℕ, zero, suc, ◌+◌, ◌<◌, ◌≤◌, inl, inr, List, [], ◌∷◌, ◌++◌, length, take, drop, Bool, true, false, cond, Option, Some, None, refl, sym, ap, ◌∙◌, subst, arith, nat_eq, nat_lt, length-append}
 use borrow.Author.Tests.{ltb-true}
-use Rattle.std.specs.Prelude.{◌==◌, ◌&&◌, ◌||◌, not, option_map, is_some, codes}
+use Rattle.std.specs.Prelude.{◌==◌, ◌&&◌, ◌||◌, not, option_map, is_some}
 use Rattle.std.specs.List.{prefix_len, starts_with}
 use Rattle.std.proofs.lemmas.List.{length-drop}
 use Rattle.std.proofs.lemmas.List.Sums.{prefix_len-le-length, count_by-le-length}
@@ -11,7 +11,6 @@ use Rattle.std.proofs.lemmas.Slice.Eq.{starts_is}
 use Rattle.bq_source.specs.declared.lexis.Class.TheVariants.{Blank, Word}
 use Rattle.bq_source.specs.declared.operators.Lexeme.{Lexeme}
 use Rattle.bq_source.specs.declared.piece.Piece.{Piece}
-use Rattle.bq_source.specs.declared.piece.Piece.TheVariants.{Gap, LineEnd, Lexed, Bad}
 use Rattle.bq_source.specs.declared.string_literal.Quoting.{Quoting}
 use Rattle.bq_source.specs.declared.string_literal.StringLiteral.{StringLiteral}
 use Rattle.bq_source.specs.declared.string_literal.BodyPart.{BodyPart}
@@ -20,7 +19,7 @@ use Rattle.bq_source.specs.Lexis.{has, is_blank, is_letter, is_word, is_digit, n
 use Rattle.bq_source.specs.Operators.{operators, first_spelled, with_len, operator}
 use Rattle.bq_source.specs.Number.{begins_number, begins_decimal, number_len, is_number_byte, int_value}
 use Rattle.bq_source.specs.StringLiteral.{opening, quotes_len, opening_len, closes, begins, begins_pair, after_backslash_by, plain_by, body_part, BodyItem, item_value, items, items_by, spelling, literal_from, begins_string, scan_string}
-use Rattle.bq_source.specs.Piece.{bytes, word, number, string, string_by, escapes_by, mark, mark_by, joined, line_end, piece_by, next_piece, IsPart, Fits}
+use Rattle.bq_source.specs.Piece.{bytes, word, number, string, string_by, escapes_by, mark, mark_by, joined, next_piece, IsPart, Fits}
 use Rattle.bq_source.proofs.Choices.{by_test, by_bool, above_zero, left_of, right_of}
 use Rattle.bq_source.proofs.Items.{scanned, not_opened}
 

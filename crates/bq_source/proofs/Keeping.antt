@@ -1,5 +1,5 @@
 -- Indentation and brackets leave the rest of the text alone, so each step takes a piece of it.
-use Rattle.std.proofs.Common.{◌≡◌, ℕ, ◌<◌, ◌≤◌, List, [], ◌∷◌, length, drop, Bool, true, false, cond, Option, Some, None, Result, Ok, Err, refl, sym, ap, ◌∙◌, subst, arith, nat_lt}
+use Rattle.std.proofs.Common.{◌≡◌, ℕ, ◌<◌, List, [], ◌∷◌, length, drop, Option, Some, None, Result, Ok, Err, refl, ap, ◌∙◌, subst, arith, nat_lt}
 use Rattle.std.specs.Prelude.{◌==◌}
 use Rattle.std.proofs.lemmas.List.{length-drop}
 use Rattle.bq_source.specs.declared.token.TokenKind.{TokenKind}
@@ -11,12 +11,10 @@ use Rattle.bq_source.specs.declared.piece.Piece.TheVariants.{Gap, LineEnd, Lexed
 use Rattle.bq_source.specs.declared.place.Margin.{Margin}
 use Rattle.bq_source.specs.declared.place.OpenBracket.{OpenBracket}
 use Rattle.bq_source.specs.declared.fault.Fault.{Fault}
-use Rattle.bq_source.specs.declared.fault.FaultKind.TheVariants as f
-use Rattle.bq_source.specs.Fault.{fault_at}
 use Rattle.bq_source.specs.Token.{same_kind}
 use Rattle.bq_source.specs.Operators.{kind_of}
 use Rattle.bq_source.specs.Piece.{next_piece, IsPart, Fits}
-use Rattle.bq_source.specs.Reading.{State, skip, push_token, begin_line, end_line, end_line_by, close_above, width_of, at_width, set_width, indent, indent_by, close_by, nest, nest_by, take_token, refuse, and_then, advance, step}
+use Rattle.bq_source.specs.Reading.{State, skip, push_token, end_line, end_line_by, close_above, width_of, set_width, indent, indent_by, close_by, nest, nest_by, take_token, refuse, and_then, advance, step}
 use Rattle.bq_source.proofs.Choices.{by_test}
 use Rattle.bq_source.proofs.Fitting.{fits}
 

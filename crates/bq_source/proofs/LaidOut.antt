@@ -1,9 +1,6 @@
 -- Each piece adds to the tokens what its line, its brackets and its width ask for: the readings are those that `Layout` says.
-use Rattle.std.proofs.Common.{◌≡◌, ℕ, zero, suc, ◌+◌, ◌<◌, ◌≤◌, ◌⊎◌, inl, inr, List, [], ◌∷◌, ◌++◌, length, take, drop, Bool, true, false, cond, nat_lt, Option, Some, None, Result, Ok, Err, refl, sym, ap, ◌∙◌, subst, arith, append_assoc, eq-eqb}
-use Rattle.std.specs.Prelude.{◌==◌, ◌&&◌, not, replicate}
-use Rattle.std.specs.List.{list_all}
-use Rattle.std.specs.Map.{lookup}
-use Rattle.std.specs.Str.{bytes_eq}
+use Rattle.std.proofs.Common.{◌≡◌, ℕ, zero, suc, ◌+◌, ◌<◌, ◌≤◌, ◌⊎◌, inl, inr, List, [], ◌∷◌, ◌++◌, length, take, drop, true, false, cond, nat_lt, Option, Some, None, Result, Ok, Err, refl, sym, ap, ◌∙◌, subst, arith, append_assoc, eq-eqb}
+use Rattle.std.specs.Prelude.{◌==◌, replicate}
 use Rattle.std.proofs.lemmas.List.{take-append-drop, length-take-le, append-nil}
 use Rattle.std.proofs.lemmas.Bool.{eqb-true}
 use borrow.Author.Tests.{ltb-true, ltb-false}
@@ -25,11 +22,11 @@ use Rattle.bq_source.specs.Token.{same_kind}
 use Rattle.bq_source.specs.Lexis.{newlines}
 use Rattle.bq_source.specs.Operators.{kind_of}
 use Rattle.bq_source.specs.Piece.{next_piece, IsPart, Fits}
-use Rattle.bq_source.specs.Reading.{State, start, margin_of, skip, token_at, push_empty, push_token, begin_line, end_line, end_line_by, close_above, width_of, at_width, set_width, indent, indent_by, close_by, nest, nest_by, take_token, refuse, and_then, advance, step, end_text, finish, finish_by, Runs, ends, stops, goes, Lexes, too_long, cut as cut_short, max_file_bytes, line_behind}
-use Rattle.bq_source.specs.Spelling.{IsGap, IsLineEnd, IsListed, IsOperator, IsSpelled, word, number, string, operator, IsMisspelled, IsNoGap, spelled, misspelled}
-use Rattle.bq_source.specs.Indentation.{IsOpen, width_before, AreOpenAbove, AreMarks, wider, open_}
-use Rattle.bq_source.specs.Layout.{closed_by, opened_by, Leaves, no_token, one_token, IsInLine, IsBetween, first, after, Before, beginning, past, line_from, token_of, with_tokens, width, has_tab, IsEmptyAt, IsIndented, Takes, gap, in_brackets, blank_line, line_end, token, first_token, Cut, here, on, Supplies, none, newline, Finishes, Reads, IsPlaced, inside, indented, FaultAfter, misspelled as unspelled, tab, uneven, closes_none, never_closed, IsFaulty}
-use Rattle.bq_source.proofs.Choices.{by_test, by_bool, left_of, right_of}
+use Rattle.bq_source.specs.Reading.{State, start, margin_of, skip, token_at, push_empty, push_token, end_line, end_line_by, close_above, width_of, at_width, set_width, indent, indent_by, close_by, nest, nest_by, take_token, refuse, and_then, advance, step, end_text, finish, finish_by, Runs, ends, stops, goes, Lexes, too_long, cut as cut_short, max_file_bytes, line_behind}
+use Rattle.bq_source.specs.Spelling.{IsLineEnd, IsSpelled, IsMisspelled, IsNoGap, spelled, misspelled}
+use Rattle.bq_source.specs.Indentation.{width_before, AreMarks, wider, open_}
+use Rattle.bq_source.specs.Layout.{closed_by, opened_by, Leaves, no_token, one_token, IsInLine, IsBetween, first, after, Before, beginning, past, line_from, token_of, with_tokens, width, has_tab, IsEmptyAt, IsIndented, Takes, gap, in_brackets, blank_line, line_end, token, first_token, Cut, here, on, none, newline, Finishes, Reads, inside, indented, FaultAfter, misspelled as unspelled, tab, uneven, closes_none, never_closed, IsFaulty}
+use Rattle.bq_source.proofs.Choices.{by_test}
 use Rattle.bq_source.proofs.Fitting.{fits}
 use Rattle.bq_source.proofs.Spelled.{Means, means, false_not_true}
 use Rattle.bq_source.proofs.LexemeKinds.{nested, nests, no_newline}

@@ -1,8 +1,8 @@
 -- The tokens of a text lie in it, and those of strings have a value.
-use Rattle.std.proofs.Common.{◌≡◌, ℕ, zero, suc, ◌+◌, ◌-◌, ◌<◌, ◌≤◌, List, [], ◌∷◌, ◌++◌, length, take, drop, Bool, true, false, cond, nat_lt, Option, Some, None, Result, Ok, Err, refl, sym, ap, ◌∙◌, subst, arith}
+use Rattle.std.proofs.Common.{◌≡◌, ℕ, ◌+◌, ◌-◌, ◌<◌, ◌≤◌, List, [], ◌∷◌, ◌++◌, length, take, drop, nat_lt, Option, Some, None, Result, Ok, Err, refl, sym, ap, ◌∙◌, subst, arith}
 use Rattle.std.specs.Prelude.{◌==◌, IsSome, slice_range}
 use Rattle.std.specs.List.{AllByRecursion}
-use Rattle.std.proofs.lemmas.List.{take-append-drop, length-take-le, length-drop, drop-drop}
+use Rattle.std.proofs.lemmas.List.{length-drop, drop-drop}
 use Rattle.bq_source.specs.declared.token.TokenKind.{TokenKind}
 use Rattle.bq_source.specs.declared.token.TokenKind.TheVariants as k
 use Rattle.bq_source.specs.declared.token.Token.{Token}
@@ -20,7 +20,7 @@ use Rattle.bq_source.specs.Token.{same_kind}
 use Rattle.bq_source.specs.Operators.{kind_of}
 use Rattle.bq_source.specs.StringLiteral.{string_value}
 use Rattle.bq_source.specs.Piece.{next_piece, IsPart, Fits}
-use Rattle.bq_source.specs.Reading.{State, start, skip, token_at, push_empty, push_token, begin_line, end_line, end_line_by, close_above, width_of, set_width, indent, indent_by, close_by, nest, nest_by, take_token, refuse, and_then, advance, step, end_text, finish, finish_by, Runs, ends, stops, goes, Lexes, too_long, cut}
+use Rattle.bq_source.specs.Reading.{State, skip, token_at, push_empty, push_token, end_line, end_line_by, close_above, width_of, set_width, indent, indent_by, close_by, nest, nest_by, take_token, refuse, and_then, advance, step, end_text, finish, finish_by, Runs, ends, stops, goes, Lexes, too_long, cut}
 use Rattle.bq_source.specs.Spelling.{IsSpelled, Lies}
 use Rattle.bq_source.proofs.Choices.{by_test}
 use Rattle.bq_source.proofs.Fitting.{fits}

@@ -1,6 +1,5 @@
 -- How far runs of bytes go.
-use Rattle.std.proofs.Common.{◌≡◌, ℕ, ◌+◌, ◌<◌, List, ◌∷◌, length, drop, get_or, refl, sym, ap, ◌∙◌, subst, arith, add-one, drop-cons}
-use Rattle.std.proofs.lemmas.Bool.{eqb-true}
+use Rattle.std.proofs.Common.{◌≡◌, ℕ, ◌+◌, ◌<◌, List, ◌∷◌, length, drop, get_or, refl, sym, ◌∙◌, subst, arith, add-one, drop-cons}
 use Rattle.bq_source.specs.Lexis.{newline_len, comment_len}
 
 -- no line end comes at once, so the comment takes the byte

@@ -1,9 +1,7 @@
 -- Each piece is spelled as its kind says.
-use Rattle.std.proofs.Common.{◌≡◌, ℕ, zero, suc, ◌+◌, ◌<◌, ◌≤◌, ◌⊎◌, inl, inr, List, [], ◌∷◌, ◌++◌, length, take, drop, Bool, true, false, cond, Option, Some, None, refl, sym, ap, ◌∙◌, subst, arith, nat_eq, nat_lt, length-append}
+use Rattle.std.proofs.Common.{◌≡◌, ℕ, zero, suc, ◌+◌, ◌<◌, ◌≤◌, ◌⊎◌, inl, inr, List, [], ◌∷◌, ◌++◌, length, take, drop, Bool, true, false, cond, Option, Some, None, refl, sym, ap, ◌∙◌, subst, arith, nat_eq, nat_lt}
 use Rattle.std.specs.Prelude.{◌==◌, ◌&&◌, ◌||◌, not, nat_le, is_some}
 use Rattle.std.specs.List.{AllByRecursion, prefix_len, starts_with, list_all}
-use Rattle.std.specs.Map.{lookup}
-use Rattle.std.specs.Str.{bytes_eq}
 use Rattle.std.proofs.lemmas.List.{take-append-drop, take-append-le, take_all, length-take-le}
 use Rattle.std.proofs.Math.Seq.{take-append_seam}
 use Rattle.std.proofs.lemmas.Slice.Eq.{starts_is}
@@ -11,7 +9,7 @@ use Rattle.std.proofs.lemmas.Bool.Decides.{Decides-eqb}
 use borrow.Author.Tests.{ltb-true, ltb-false}
 use Rattle.std.proofs.lemmas.List.Folds.{length-prefix_len}
 use Rattle.std.proofs.lemmas.Bool.{eqb-true, leb-true}
-use Rattle.bq_source.specs.declared.lexis.Class.TheVariants.{Blank, Word}
+use Rattle.bq_source.specs.declared.lexis.Class.TheVariants.{Word}
 use Rattle.bq_source.specs.declared.operators.Lexeme.{Lexeme}
 use Rattle.bq_source.specs.declared.operators.Lexeme.TheVariants.{Plain}
 use Rattle.bq_source.specs.declared.piece.Piece.{Piece}
@@ -19,14 +17,14 @@ use Rattle.bq_source.specs.declared.piece.Piece.TheVariants.{Gap, LineEnd, Lexed
 use Rattle.bq_source.specs.declared.string_literal.StringLiteral.{StringLiteral}
 use Rattle.bq_source.specs.declared.token.TokenKind.TheVariants as k
 use Rattle.bq_source.specs.declared.fault.FaultKind.TheVariants as f
-use Rattle.bq_source.specs.Lexis.{has, is_blank, is_letter, is_word, newlines, begins_with, newline_len, comment_len, word_kind}
+use Rattle.bq_source.specs.Lexis.{has, is_blank, is_letter, newlines, begins_with, newline_len, comment_len}
 use Rattle.bq_source.specs.Operators.{operators, first_spelled, operator as operator_at}
 use Rattle.bq_source.specs.Number.{begins_number, begins_decimal, number_len, is_number_byte, int_value}
 use Rattle.bq_source.specs.StringLiteral.{begins_string, scan_string}
-use Rattle.bq_source.specs.Piece.{bytes, word as word_piece, number as number_piece, string as string_piece, string_by, escapes_by, mark, mark_by, joined, line_end, next_piece}
-use Rattle.bq_source.specs.Spelling.{BeginsNot, Begins, IsRun, IsLineEnd, lf, cr_lf, BeginsLineEnd, IsLineRest, at_end, at_line_end, further, IsGap, blank, comment, joint, IsWord, IsNumber, IsListed, NoneLonger, NoneBegins, IsOperator, IsSpelled, word, number, string, operator, BeginsNothing, IsMisspelled, bad_byte, bad_int, open_string, bad_escape}
-use Rattle.bq_source.proofs.Choices.{by_test, by_bool, above_zero, left_of, right_of}
-use Rattle.bq_source.proofs.Fitting.{digit_counts, letter_is_word, begins_so, scanned_within, newline_within, operator_within}
+use Rattle.bq_source.specs.Piece.{bytes, word as word_piece, number as number_piece, string as string_piece, string_by, escapes_by, mark, mark_by, joined, next_piece}
+use Rattle.bq_source.specs.Spelling.{BeginsNot, Begins, IsRun, IsLineEnd, lf, cr_lf, BeginsLineEnd, IsLineRest, at_end, at_line_end, further, IsGap, blank, comment, joint, IsNumber, IsListed, NoneLonger, NoneBegins, IsSpelled, word, number, string, operator, IsMisspelled, bad_byte, bad_int, open_string, bad_escape}
+use Rattle.bq_source.proofs.Choices.{by_test, by_bool, left_of, right_of}
+use Rattle.bq_source.proofs.Fitting.{digit_counts, letter_is_word, begins_so, scanned_within}
 
 -- what a piece says of the text that it begins
 abbrev pub Means : List ℕ → Piece → Type 0

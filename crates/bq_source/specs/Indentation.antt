@@ -1,6 +1,6 @@
 -- Indentation, by the widths of a text's logical lines, the newest first. Starlark specification, "Lexical elements":
 -- "Indentation".
-use Rattle.std.specs.Prelude.{ℕ, ◌+◌, ◌<◌, ◌≤◌, ◌≡◌, ◌⊎◌, List, [], ◌∷◌, length, replicate}
+use Rattle.std.specs.Prelude.{ℕ, ◌<◌, ◌≤◌, ◌≡◌, ◌⊎◌, List, [], ◌∷◌, length, replicate}
 use Rattle.bq_source.specs.declared.token.Token.{Token}
 use Rattle.bq_source.specs.declared.token.TokenKind.TheVariants as k
 

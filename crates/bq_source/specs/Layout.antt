@@ -1,7 +1,7 @@
 -- What every reading of a text is, in words of the text and the tokens: cut from the left into gaps, line ends and tokens, with a
 -- newline token after the last token of each logical line and none elsewhere, and indents and outdents as the widths of the
 -- lines say. `tokens_cut_the_text` and `faults_are_in_the_text` prove it.
-use Rattle.std.specs.Prelude.{ℕ, ◌+◌, ◌<◌, ◌≤◌, ◌≡◌, ◌≢◌, ◌⊎◌, List, [], ◌∷◌, ◌++◌, length, take, drop, true, false, ◌==◌, Option, Some, None, replicate, if◌then◌else◌}
+use Rattle.std.specs.Prelude.{ℕ, ◌+◌, ◌≤◌, ◌≡◌, List, [], ◌∷◌, ◌++◌, length, drop, true, false, ◌==◌, Option, Some, None, replicate, if◌then◌else◌}
 use Rattle.std.specs.List.{prefix_len}
 use Rattle.bq_source.specs.declared.token.TokenKind.{TokenKind}
 use Rattle.bq_source.specs.declared.token.TokenKind.TheVariants as k

@@ -3,7 +3,7 @@
 -- text and the tokens.
 --
 -- A rule names its paragraph of the Starlark specification, "Lexical elements"; "(ours)" marks where `bq` differs.
-use Rattle.std.specs.Prelude.{ℕ, ◌+◌, ◌<◌, ◌≤◌, List, [], ◌∷◌, ◌++◌, length, take, drop, Bool, true, false, ◌==◌, nat_lt, Option, Some, None, Result, Ok, Err, ◌≡◌, if◌then◌else◌}
+use Rattle.std.specs.Prelude.{ℕ, ◌+◌, ◌<◌, ◌≤◌, List, [], ◌∷◌, ◌++◌, length, take, drop, ◌==◌, nat_lt, Option, Some, None, Result, Ok, Err, ◌≡◌, if◌then◌else◌}
 use Rattle.std.specs.List.{prefix_len}
 use Rattle.bq_source.specs.declared.lexis.Class.TheVariants.{Space}
 use Rattle.bq_source.specs.declared.token.TokenKind.{TokenKind}

@@ -1,10 +1,9 @@
 -- Suites, statements with blocks, and the layers of the grammar.
-use Rattle.std.proofs.Common.{◌≡◌, ℕ, zero, suc, Bool, true, false, not, cond, List, [], ◌∷◌, ◌++◌, Ok, Err, refl, sym, ap, ◌∙◌, subst, arith}
+use Rattle.std.proofs.Common.{◌≡◌, ℕ, zero, suc, Bool, true, false, not, List, [], ◌∷◌, ◌++◌, Ok, refl, sym, ap, subst}
 use Rattle.bq_source.specs.declared.token.TokenKind.{TokenKind}
 use Rattle.bq_source.specs.declared.token.TokenKind.TheVariants as k
 use Rattle.bq_source.specs.Token.{same_kind}
 use Rattle.bq_grammar.specs.Lexeme.{Lexeme}
-use Rattle.bq_grammar.specs.declared.refusal.Refusal.TheVariants.{Syntax}
 use Rattle.bq_grammar.specs.declared.tree.Expr.{Expr}
 use Rattle.bq_grammar.specs.declared.tree.Nested.TheVariants.{Test}
 use Rattle.bq_grammar.specs.declared.tree.Identifier.{Identifier}
@@ -16,16 +15,16 @@ use Rattle.bq_grammar.specs.declared.tree.Branch.{Branch, roll-Branch}
 use Rattle.bq_grammar.specs.declared.tree.Stmt.{Stmt}
 use Rattle.bq_grammar.specs.declared.tree.Stmt.TheVariants as s
 use Rattle.bq_grammar.specs.Literals.{identifier}
-use Rattle.bq_grammar.specs.Phrases.{Phrase, none, Repeat, over, again}
+use Rattle.bq_grammar.specs.Phrases.{Phrase, none, Repeat, over}
 use Rattle.bq_grammar.specs.Grammar.{IsTestTo, IsExprTo, IsVars}
 use Rattle.bq_grammar.specs.Statements as S
 use Rattle.bq_grammar.specs.Statements.{AreParameters, AreSmall, IsSuite, IsBranch, IsElif, IsElse, IsStmtOver, IsStmt}
-use Rattle.bq_grammar.specs.Turns.{Found, Parse, ◌>>=◌, sees, next, expect, repeat}
+use Rattle.bq_grammar.specs.Turns.{Found, Parse, ◌>>=◌, sees, expect, repeat}
 use Rattle.bq_grammar.specs.Reading.{word, var_to, variables_to, phrase}
 use Rattle.bq_grammar.specs.ReadingStatements.{expr_to, parameters, simple, in_block, block, suite, branch, elif, else_suite, if_stmt, for_stmt, def_stmt, simple_stmt, stmt_by, stmt, statement}
 use Rattle.bq_grammar.proofs.NextToken.{sees_it, sees_no, sees_other, tok, tok_kind}
 use Rattle.bq_grammar.proofs.Classes.{all_kinds, implies, implied, ends, any, first_test}
-use Rattle.bq_grammar.proofs.Agrees.{Begins, Stops, Owes, Met, met, Agrees, seq, seq_never, expects, opens, opens_if, then_token, then_is, owes_as, met_is, met_as, met_less, met_over, met_done, met_then, met_then0, met_expect, met_yes, met_no, begins_no, stops_no, repeat_sound, repeat_stops, repeat_complete}
+use Rattle.bq_grammar.proofs.Agrees.{Begins, Stops, Owes, Met, Agrees, seq, seq_never, expects, opens, opens_if, then_token, then_is, owes_as, met_is, met_as, met_less, met_over, met_done, met_then, met_then0, met_expect, met_yes, met_no, begins_no, stops_no, repeat_sound, repeat_stops, repeat_complete}
 use Rattle.bq_grammar.proofs.Operands.{ends_vars}
 use Rattle.bq_grammar.proofs.Vars.{vars_never, var_to_never, agree_as, variables_to_agree, test_to_agrees}
 use Rattle.bq_statements.proofs.Expressions.{expr_to_agrees}

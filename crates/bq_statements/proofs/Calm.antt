@@ -10,7 +10,7 @@ use Rattle.bq_grammar.specs.declared.tree.Target.{Target}
 use Rattle.bq_grammar.specs.declared.tree.Target.TheVariants as target
 use Rattle.bq_grammar.specs.Grammar.{primary_of}
 use Rattle.bq_grammar.specs.Targets.{ExprLayer, SuffixLayer, with_target, targets_from, many_of, index_of, indexed_from, target_by, target_to, augmented_by, augmented_target}
-use Rattle.bq_grammar.specs.Turns.{Found, Parse, ◌>>=◌}
+use Rattle.bq_grammar.specs.Turns.{Parse, ◌>>=◌}
 use Rattle.bq_grammar.specs.ReadingStatements.{made}
 use Rattle.bq_grammar.proofs.Agrees.{Owes}
 

@@ -1,15 +1,14 @@
 -- What ends the left side of an augmented assignment: an index that stands in no parentheses ends with `]`, and what ends with `)`
 -- stands in them or is a call. A reading leaves the tokens that follow those it took.
-use Rattle.std.proofs.Common.{◌≡◌, ℕ, zero, suc, ◌+◌, ◌-◌, Bool, true, false, List, [], ◌∷◌, ◌++◌, length, drop, ◌⊎◌, inl, inr, Result, Ok, Err, refl, sym, ap, ◌∙◌, subst, append_assoc, arith, rules}
+use Rattle.std.proofs.Common.{◌≡◌, ℕ, zero, suc, ◌+◌, ◌-◌, true, false, List, [], ◌∷◌, ◌++◌, length, drop, Ok, Err, refl, sym, ap, ◌∙◌, subst, append_assoc, arith, rules}
 use Rattle.bq_source.specs.declared.token.TokenKind.{TokenKind}
 use Rattle.bq_source.specs.declared.token.TokenKind.TheVariants as k
 use Rattle.bq_source.specs.Token.{same_kind}
 use Rattle.bq_grammar.specs.Lexeme.{Lexeme}
-use Rattle.bq_grammar.specs.declared.refusal.Refusal.{Refusal}
-use Rattle.bq_grammar.specs.declared.refusal.Refusal.TheVariants.{Memory, Syntax, Lambda}
+use Rattle.bq_grammar.specs.declared.refusal.Refusal.TheVariants.{Syntax, Lambda}
 use Rattle.bq_grammar.specs.declared.tree.Expr.{Expr, out-Expr, the_lemmas}
 use Rattle.bq_grammar.specs.declared.tree.Expr.TheVariants as e
-use Rattle.bq_grammar.specs.declared.tree.Argument.TheOpen.{Expr-F, Suffix-F}
+use Rattle.bq_grammar.specs.declared.tree.Argument.TheOpen.{Expr-F}
 use Rattle.bq_grammar.specs.declared.tree.Clause.{Clause}
 use Rattle.bq_grammar.specs.declared.tree.Identifier.{Identifier}
 use Rattle.bq_grammar.specs.declared.tree.Nested.{Nested}
@@ -20,21 +19,21 @@ use Rattle.bq_grammar.specs.declared.tree.Suffix.TheVariants as s
 use Rattle.bq_grammar.specs.declared.tree.Target.{Target}
 use Rattle.bq_grammar.specs.declared.tree.Target.TheVariants as target
 use Rattle.bq_grammar.specs.Literals.{identifier}
-use Rattle.bq_grammar.specs.Phrases.{Phrase, none, Repeat, over, again, CommaThen}
+use Rattle.bq_grammar.specs.Phrases.{Phrase, none, Repeat, over, again}
 use Rattle.bq_grammar.specs.Grammar as G
-use Rattle.bq_grammar.specs.Grammar.{primary_of, IsOperand, IsVars, IsOrTo, IsPrimaryTo, IsTestTo, IsExprTo, IsOperandTo, IsSuffixTo, IsIndexTo}
+use Rattle.bq_grammar.specs.Grammar.{primary_of, IsOperand, IsVars, IsOrTo, IsPrimaryTo, IsTestTo, IsExprTo, IsOperandTo, IsSuffixTo}
 use Rattle.bq_grammar.specs.Statements as S
 use Rattle.bq_grammar.specs.Statements.{IsIndexed}
-use Rattle.bq_grammar.specs.Targets.{ExprLayer, targets_from, indexed_from, augmented_by, augmented_target}
-use Rattle.bq_grammar.specs.Turns.{Found, Parse, ◌>>=◌, sees}
+use Rattle.bq_grammar.specs.Targets.{ExprLayer, indexed_from, augmented_by, augmented_target}
+use Rattle.bq_grammar.specs.Turns.{Found, sees}
 use Rattle.bq_grammar.specs.Reading.{chained, var_to, vars, operand, suffix, phrase}
 use Rattle.bq_grammar.specs.ReadingStatements.{expr, expr_to, ended_by}
 use Rattle.bq_grammar.proofs.NextToken.{tok, tok_kind, kind_is}
 use Rattle.bq_grammar.proofs.Classes.{ends, any}
-use Rattle.bq_grammar.proofs.Agrees.{Stops, Owes, Met, met, cut, Agrees}
+use Rattle.bq_grammar.proofs.Agrees.{Stops, Owes, Met, met, cut}
 use Rattle.bq_grammar.proofs.Keeping.{Kept, Keeps, then_kept, chained_kept, vars_kept, var_to_kept, operand_kept, suffix_kept, phrase_kept}
 use Rattle.bq_grammar.proofs.Vars.{test_to_agrees, operand_to_agrees, suffix_to_agrees}
-use Rattle.bq_statements.proofs.Expressions.{clash, has_form, form_by, test_down, test_up, Parts, parts, parts_of, primary_with, expr_up, expr_to_agrees}
+use Rattle.bq_statements.proofs.Expressions.{clash, has_form, form_by, test_down, Parts, parts, parts_of, primary_with, expr_up, expr_to_agrees}
 use Rattle.bq_statements.proofs.Targets.{repeat_snoc, no_target, ok_same, indexed_back}
 
 -- ---- what is left of the tokens

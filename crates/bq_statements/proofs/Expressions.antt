@@ -1,9 +1,8 @@
 -- Expressions: their agreement, and a primary as a test and back.
-use Rattle.std.proofs.Common.{◌≡◌, ℕ, zero, suc, Bool, true, false, List, [], ◌∷◌, ◌++◌, Ok, Err, refl, sym, ap, ◌∙◌, subst, rules}
-use Rattle.bq_source.specs.declared.token.TokenKind.{TokenKind}
+use Rattle.std.proofs.Common.{◌≡◌, ℕ, zero, suc, Bool, true, false, List, [], ◌∷◌, refl, sym, ap, ◌∙◌, subst, rules}
 use Rattle.bq_source.specs.declared.token.TokenKind.TheVariants as k
 use Rattle.bq_grammar.specs.Lexeme.{Lexeme}
-use Rattle.bq_grammar.specs.declared.tree.Argument.TheOpen.{Expr-F, Suffix-F}
+use Rattle.bq_grammar.specs.declared.tree.Argument.TheOpen.{Expr-F}
 use Rattle.bq_grammar.specs.declared.tree.Choice.{Choice}
 use Rattle.bq_grammar.specs.declared.tree.Comparison.{Comparison}
 use Rattle.bq_grammar.specs.declared.tree.Expr.{Expr, out-Expr, the_lemmas}
@@ -14,9 +13,9 @@ use Rattle.bq_grammar.specs.declared.tree.Suffix.{Suffix}
 use Rattle.bq_grammar.specs.declared.tree.UnaryOperator.{UnaryOperator}
 use Rattle.bq_grammar.specs.Phrases.{Phrase, none, Repeat, over, again, CommaThen}
 use Rattle.bq_grammar.specs.Grammar as G
-use Rattle.bq_grammar.specs.Grammar.{tuple_of, binary_of, unary_of, primary_of, choices_of, last_of, conditional_of, IsExpr, IsPrefixed, IsChain, IsBinary, IsComp, IsNot, IsAnd, IsOr, IsTest, IsPrimaryTo, IsTestTo, IsExprTo, IsOperandTo, IsSuffixTo}
+use Rattle.bq_grammar.specs.Grammar.{tuple_of, primary_of, choices_of, last_of, IsExpr, IsPrefixed, IsChain, IsBinary, IsComp, IsNot, IsAnd, IsOr, IsTest, IsPrimaryTo, IsTestTo, IsExprTo, IsOperandTo, IsSuffixTo}
 use Rattle.bq_grammar.specs.Targets.{ExprLayer}
-use Rattle.bq_grammar.specs.Turns.{Parse, ◌>>=◌}
+use Rattle.bq_grammar.specs.Turns.{Parse}
 use Rattle.bq_grammar.specs.Reading.{chained, phrase}
 use Rattle.bq_grammar.specs.ReadingStatements.{expr, expr_to}
 use Rattle.bq_grammar.proofs.Classes.{implied, ends, first_test}

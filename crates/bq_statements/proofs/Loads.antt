@@ -1,5 +1,5 @@
 -- Words, strings and loads.
-use Rattle.std.proofs.Common.{◌≡◌, ℕ, zero, suc, Bool, true, false, cond, List, [], ◌∷◌, ◌++◌, Option, Some, None, Ok, Err, refl, sym, ap, ◌∙◌, subst, arith}
+use Rattle.std.proofs.Common.{◌≡◌, ℕ, Bool, true, false, cond, List, [], ◌∷◌, ◌++◌, Option, Some, None, Ok, Err, refl, sym, ap, ◌∙◌, subst, arith}
 use Rattle.bq_source.specs.declared.token.TokenKind.{TokenKind}
 use Rattle.bq_source.specs.declared.token.TokenKind.TheVariants as k
 use Rattle.bq_source.specs.StringLiteral.{string_value}
@@ -19,7 +19,7 @@ use Rattle.bq_grammar.specs.Reading.{word}
 use Rattle.bq_grammar.specs.ReadingStatements.{text_of, text, symbol, load_clause, load_after, load}
 use Rattle.bq_grammar.proofs.NextToken.{is_kind, sees_it, sees_other}
 use Rattle.bq_grammar.proofs.Classes.{any, paren_comma}
-use Rattle.bq_grammar.proofs.Agrees.{Begins, Stops, Owes, Met, met, Agrees, either, Never, seq_never, never_then, never_expect, expects, opens, sees_owes, then_is, met_is, met_as, met_less, met_over, met_done, met_then, met_expect, met_yes, met_no, listed_sound, listed_complete}
+use Rattle.bq_grammar.proofs.Agrees.{Begins, Stops, Owes, Met, met, Agrees, either, Never, seq_never, never_then, expects, opens, sees_owes, then_is, met_as, met_less, met_over, met_done, met_then, met_expect, met_yes, met_no, listed_sound, listed_complete}
 
 -- ---- words
 

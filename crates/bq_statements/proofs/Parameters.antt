@@ -1,13 +1,10 @@
 -- Parameters, each as those before it allow.
-use Rattle.std.proofs.Common.{◌≡◌, ℕ, zero, suc, ◌+◌, ◌≤◌, Bool, true, false, ◌&&◌, cond, List, [], ◌∷◌, ◌++◌, length, Option, Some, None, Ok, Err, refl, sym, ap, ◌∙◌, subst, append_assoc, append-nil, arith}
+use Rattle.std.proofs.Common.{◌≡◌, ℕ, zero, suc, ◌≤◌, Bool, true, false, ◌&&◌, cond, List, [], ◌∷◌, ◌++◌, length, Option, Some, None, Ok, Err, refl, sym, ap, ◌∙◌, subst, append_assoc, append-nil, arith}
 use Rattle.bq_source.specs.declared.token.TokenKind.{TokenKind}
 use Rattle.bq_source.specs.declared.token.TokenKind.TheVariants as k
 use Rattle.bq_source.specs.Token.{same_kind}
 use Rattle.bq_grammar.specs.Lexeme.{Lexeme}
 use Rattle.bq_grammar.specs.declared.refusal.Refusal.TheVariants.{Memory, Syntax, Lambda}
-use Rattle.bq_grammar.specs.declared.tree.Expr.{Expr}
-use Rattle.bq_grammar.specs.declared.tree.Expr.TheVariants as e
-use Rattle.bq_grammar.specs.declared.tree.Identifier.{Identifier}
 use Rattle.bq_grammar.specs.declared.tree.Nested.TheVariants.{Test}
 use Rattle.bq_grammar.specs.declared.parameters.AllowedParameters.{AllowedParameters}
 use Rattle.bq_grammar.specs.declared.parameters.AllowedParameters.TheVariants as ap
@@ -21,10 +18,10 @@ use Rattle.bq_grammar.specs.Statements as S
 use Rattle.bq_grammar.specs.Statements.{parameters_after, may_end, IsParameter, AreParameters}
 use Rattle.bq_grammar.specs.Turns.{Found, Parse, ◌>>=◌, sees, next, expect, Turn, ended, goes, failed, next_turn, turns, cut_off}
 use Rattle.bq_grammar.specs.Reading.{word, is_named, phrase}
-use Rattle.bq_grammar.specs.ReadingStatements.{parameter_kind, parameter_by, allowed_parameter, parameter, close_parameters, after_parameter, with_parameter, parameter_turn, parameters}
-use Rattle.bq_grammar.proofs.NextToken.{is_kind, sees_it, sees_no, sees_other, opened, tok, tok_kind}
+use Rattle.bq_grammar.specs.ReadingStatements.{parameter_kind, parameter_by, allowed_parameter, parameter, close_parameters, with_parameter, parameter_turn, parameters}
+use Rattle.bq_grammar.proofs.NextToken.{is_kind, sees_it, sees_other, opened, tok, tok_kind}
 use Rattle.bq_grammar.proofs.Classes.{ends, paren_comma}
-use Rattle.bq_grammar.proofs.Agrees.{Begins, Stops, Owes, Met, met, cut, Agrees, either, seq_never, Never, expects, then_is, owes_as, met_is, met_as, met_less, met_over, met_done, met_then, met_expect, met_yes, met_no, begins_no}
+use Rattle.bq_grammar.proofs.Agrees.{Begins, Stops, Owes, Met, met, cut, seq_never, expects, then_is, owes_as, met_is, met_as, met_less, met_over, met_done, met_then, met_expect, begins_no}
 use Rattle.bq_grammar.proofs.Vars.{test_to_agrees}
 use Rattle.bq_statements.proofs.Loads.{IsWord, word_sound, word_never, word_met}
 

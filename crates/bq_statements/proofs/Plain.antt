@@ -1,5 +1,5 @@
 -- The reading of a statement stops at `lambda` only where one is among the tokens.
-use Rattle.std.proofs.Common.{◌≡◌, ℕ, zero, suc, Bool, true, false, ◌||◌, cond, List, [], ◌∷◌, ◌++◌, length, Option, Some, None, Result, Ok, Err, refl}
+use Rattle.std.proofs.Common.{ℕ, zero, suc, Bool, true, false, cond, List, [], ◌∷◌, ◌++◌, length, Option, Some, None, Result, Ok, Err}
 use Rattle.bq_source.specs.declared.token.TokenKind.{TokenKind}
 use Rattle.bq_source.specs.declared.token.TokenKind.TheVariants as k
 use Rattle.bq_source.specs.StringLiteral.{string_value}
@@ -15,7 +15,6 @@ use Rattle.bq_grammar.specs.declared.parameters.ParameterKind.{ParameterKind}
 use Rattle.bq_grammar.specs.declared.parameters.ParameterKind.TheVariants as pk
 use Rattle.bq_grammar.specs.declared.tree.Parameter.{Parameter}
 use Rattle.bq_grammar.specs.declared.tree.Parameter.TheVariants as p
-use Rattle.bq_grammar.specs.declared.tree.SmallKind.{SmallKind}
 use Rattle.bq_grammar.specs.declared.tree.SmallKind.TheVariants as small
 use Rattle.bq_grammar.specs.declared.tree.SmallStmt.{SmallStmt}
 use Rattle.bq_grammar.specs.declared.tree.Branch.{roll-Branch}

@@ -1,10 +1,9 @@
 -- Small statements, and the lines that they make.
-use Rattle.std.proofs.Common.{◌≡◌, ℕ, zero, suc, ◌+◌, ◌≤◌, Bool, true, false, ◌||◌, cond, List, [], ◌∷◌, ◌++◌, length, Option, Some, None, Result, Ok, Err, refl, sym, ap, ◌∙◌, subst, append_assoc, append-nil, arith}
+use Rattle.std.proofs.Common.{◌≡◌, ℕ, zero, suc, ◌≤◌, Bool, true, false, ◌||◌, cond, List, [], ◌∷◌, ◌++◌, length, Option, Some, None, Ok, Err, refl, sym, ap, ◌∙◌, subst, append_assoc, arith}
 use Rattle.bq_source.specs.declared.token.TokenKind.{TokenKind}
 use Rattle.bq_source.specs.declared.token.TokenKind.TheVariants as k
 use Rattle.bq_source.specs.Token.{same_kind}
 use Rattle.bq_grammar.specs.Lexeme.{Lexeme}
-use Rattle.bq_grammar.specs.declared.refusal.Refusal.{Refusal}
 use Rattle.bq_grammar.specs.declared.refusal.Refusal.TheVariants.{Memory, Syntax, Lambda}
 use Rattle.bq_grammar.specs.declared.tree.Expr.{Expr}
 use Rattle.bq_grammar.specs.declared.tree.Expr.TheVariants as e
@@ -19,15 +18,15 @@ use Rattle.bq_grammar.specs.Literals.{identifier}
 use Rattle.bq_grammar.specs.Operators.{augmented}
 use Rattle.bq_grammar.specs.Grammar.{IsExprTo}
 use Rattle.bq_grammar.specs.Statements as S
-use Rattle.bq_grammar.specs.Statements.{line_of, IsIndexed, IsSmallKind, IsSmall, AreSmall}
+use Rattle.bq_grammar.specs.Statements.{line_of, IsSmallKind, IsSmall, AreSmall}
 use Rattle.bq_grammar.specs.Targets.{target_to, augmented_target}
 use Rattle.bq_grammar.specs.Turns.{Found, Parse, ◌>>=◌, sees, next, Turn, ended, goes, failed, next_turn, turns, cut_off}
 use Rattle.bq_grammar.specs.Reading.{is_known, has, known, looked_up}
-use Rattle.bq_grammar.specs.ReadingStatements.{expr_to, made, ends_small, returned, ended_by, assigned, augmented_as, after_expression, expression, load, small_by, small_kind, small_stmt, after_semicolon, after_small, with_small, small_turn, simple}
-use Rattle.bq_grammar.proofs.NextToken.{is_kind, sees_it, sees_no, sees_other, opened, tok, tok_kind}
+use Rattle.bq_grammar.specs.ReadingStatements.{expr_to, made, ends_small, returned, ended_by, assigned, augmented_as, after_expression, expression, load, small_by, small_kind, small_stmt, after_semicolon, with_small, small_turn, simple}
+use Rattle.bq_grammar.proofs.NextToken.{sees_it, sees_other, opened, tok, tok_kind}
 use Rattle.bq_grammar.proofs.Classes.{all_kinds, implies, implied, excludes, excluded, ends, any, first_test}
-use Rattle.bq_grammar.proofs.Agrees.{Begins, Stops, Owes, Met, met, cut, Agrees, either, sees_owes, then_is, owes_as, met_is, met_as, met_less, met_over, met_done, met_then, met_then0, met_yes, met_no, begins_no, stops_no, stops_wide}
-use Rattle.bq_statements.proofs.Expressions.{clash, expr_up, expr_to_agrees}
+use Rattle.bq_grammar.proofs.Agrees.{Begins, Stops, Owes, Met, met, cut, Agrees, either, sees_owes, then_is, owes_as, met_is, met_as, met_less, met_over, met_done, met_then, met_yes, met_no, begins_no}
+use Rattle.bq_statements.proofs.Expressions.{expr_up, expr_to_agrees}
 use Rattle.bq_statements.proofs.Targets.{indexed_expr, indexed_value, target_comes, target_back}
 use Rattle.bq_statements.proofs.Ending.{ends_with_word, index_ends, IsAssignable, a_name, an_index, assignable, name_read, name_taken, primary_taken}
 use Rattle.bq_statements.proofs.Calm.{target_calm, augmented_calm, made_then}

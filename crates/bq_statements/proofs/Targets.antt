@@ -1,12 +1,12 @@
 -- Targets are the expressions that `target_to` takes for targets.
-use Rattle.std.proofs.Common.{◌≡◌, ℕ, zero, suc, ◌≤◌, Bool, true, false, List, [], ◌∷◌, ◌++◌, Option, Result, Ok, Err, refl, sym, ap, ◌∙◌, subst, append_assoc, append-nil, arith, rules}
+use Rattle.std.proofs.Common.{◌≡◌, ℕ, zero, suc, ◌≤◌, true, List, [], ◌∷◌, ◌++◌, Option, Result, Ok, Err, refl, sym, ap, ◌∙◌, subst, append_assoc, append-nil, arith, rules}
 use Rattle.bq_source.specs.declared.token.TokenKind.{TokenKind}
 use Rattle.bq_source.specs.declared.token.TokenKind.TheVariants as k
 use Rattle.bq_grammar.specs.Lexeme.{Lexeme}
 use Rattle.bq_grammar.specs.declared.refusal.Refusal.{Refusal}
 use Rattle.bq_grammar.specs.declared.refusal.Refusal.TheVariants.{Syntax}
 use Rattle.bq_grammar.specs.declared.tree.Argument.{Argument}
-use Rattle.bq_grammar.specs.declared.tree.Argument.TheOpen.{Expr-F, Suffix-F}
+use Rattle.bq_grammar.specs.declared.tree.Argument.TheOpen.{Expr-F}
 use Rattle.bq_grammar.specs.declared.tree.Clause.{Clause}
 use Rattle.bq_grammar.specs.declared.tree.Expr.{Expr, out-Expr, the_lemmas}
 use Rattle.bq_grammar.specs.declared.tree.Expr.TheVariants as e
@@ -19,11 +19,11 @@ use Rattle.bq_grammar.specs.declared.tree.Target.TheVariants as target
 use Rattle.bq_grammar.specs.Literals.{identifier}
 use Rattle.bq_grammar.specs.Phrases.{Phrase, none, Repeat, over, again, Listed, none_listed, last_listed, more_listed, CommaThen, comma_then}
 use Rattle.bq_grammar.specs.Grammar as G
-use Rattle.bq_grammar.specs.Grammar.{tuple_of, primary_of, targets_of, IsExpr, IsTest, IsOperand, IsVars, IsOrTo, IsPrimaryTo, IsTestTo, IsExprTo, IsOperandTo, IsSuffixTo, IsIndexTo}
+use Rattle.bq_grammar.specs.Grammar.{primary_of, IsOperand, IsVars, IsOrTo, IsPrimaryTo, IsTestTo, IsExprTo, IsOperandTo, IsSuffixTo, IsIndexTo}
 use Rattle.bq_grammar.specs.Statements as S
 use Rattle.bq_grammar.specs.Statements.{IsIndexed, IsItemOver, IsItem, IsTarget}
-use Rattle.bq_grammar.specs.Targets.{ExprLayer, SuffixLayer, with_target, targets_from, many_of, index_of, indexed_from, target_by, target_to, augmented_by, augmented_target}
-use Rattle.bq_statements.proofs.Expressions.{clash, form_by, has_form, test_down, test_up, Parts, parts, parts_of, primary_with, expr_up}
+use Rattle.bq_grammar.specs.Targets.{ExprLayer, with_target, targets_from, many_of, index_of, indexed_from, target_by, target_to}
+use Rattle.bq_statements.proofs.Expressions.{form_by, has_form, test_down, test_up, Parts, parts, parts_of, primary_with, expr_up}
 
 -- ---- what `target_to` makes of each tree
 

@@ -1,12 +1,11 @@
 -- What a top-level statement and a file read as, in just one way.
-use Rattle.std.proofs.Common.{◌≡◌, ℕ, zero, suc, ◌≤◌, ◌⊎◌, inl, inr, Bool, true, false, ◌&&◌, ◌||◌, cond, leb, List, [], ◌∷◌, Result, Ok, Err, refl, sym, ap, ◌∙◌, subst}
+use Rattle.std.proofs.Common.{◌≡◌, ℕ, suc, ◌⊎◌, inl, inr, Bool, true, false, ◌&&◌, ◌||◌, cond, leb, List, [], ◌∷◌, Result, Ok, Err, refl, sym, ap, ◌∙◌, subst}
 use Rattle.std.proofs.lemmas.Bool.{leb-true, le-leb}
 use Rattle.bq_source.specs.declared.fault.Fault.{Fault}
 use Rattle.bq_source.specs.declared.fault.FaultKind.{FaultKind}
 use Rattle.bq_source.specs.declared.fault.FaultKind.TheVariants as f
 use Rattle.bq_source.specs.declared.token.TokenKind.{TokenKind}
 use Rattle.bq_source.specs.declared.token.TokenKind.TheVariants as k
-use Rattle.bq_source.specs.Fault.{fault_at}
 use Rattle.bq_grammar.specs.Lexeme.{Lexeme}
 use Rattle.bq_grammar.specs.declared.refusal.Refusal.{Refusal}
 use Rattle.bq_grammar.specs.declared.refusal.Refusal.TheVariants.{Memory, Syntax, Lambda}
@@ -22,9 +21,9 @@ use Rattle.bq_grammar.specs.Statements.{line_of, IsStmt, IsTopLevel}
 use Rattle.bq_grammar.specs.Turns.{Found}
 use Rattle.bq_grammar.specs.ReadingStatements.{statement, all_taken, top_level_by, top_level}
 use Rattle.bq_grammar.specs.Verdict as V
-use Rattle.bq_grammar.specs.Verdict.{IsLeftOut, IsKept, IsBarred, ReadsAs}
+use Rattle.bq_grammar.specs.Verdict.{IsKept, ReadsAs}
 use Rattle.bq_grammar.specs.Parses as R
-use Rattle.bq_grammar.specs.Parses.{ReadsAll, Parses, is_build, allowed, judged, verdict, first_and, all_read, statements_of}
+use Rattle.bq_grammar.specs.Parses.{ReadsAll, Parses, is_build, judged, verdict, first_and, all_read, statements_of}
 use Rattle.bq_grammar.specs.Pieces.{pieces}
 use Rattle.bq_grammar.proofs.Agrees.{Stops, Owes, Met, met, cut}
 use Rattle.bq_grammar.proofs.Classes.{implied}

@@ -1,18 +1,17 @@
 -- Methods have numbers of steps and outcomes of their own.
-use Rattle.std.proofs.Common.{ℕ, ℤ, Bool, true, false, cond, List, [], ◌∷◌, ◌++◌, map, slice_get, Option, Some, None, Result, Ok, Err, refl}
+use Rattle.std.proofs.Common.{ℕ, ℤ, Bool, true, false, cond, List, [], ◌∷◌, ◌++◌, map, slice_get, Option, Some, None, Ok, Err, refl}
 use Rattle.std.specs.List.{AllByRecursion}
 use Rattle.std.specs.Map.{lookup}
 use Rattle.std.specs.Str.{bytes_eq}
-use Rattle.bq_source.specs.declared.fault.FaultKind.{FaultKind}
 use Rattle.bq_source.specs.declared.fault.FaultKind.TheVariants as f
 use Rattle.bq_value.specs.Contents.{Contents, items, pairs}
-use Rattle.bq_value.specs.Datum.{Datum, none, boolean, int, string, tuple, range, cell, function, built_in}
+use Rattle.bq_value.specs.Datum.{Datum, none, string, cell}
 use Rattle.bq_value.specs.Pairs.{found, keys}
 use Rattle.bq_format.specs.Method.{formatted}
-use Rattle.bq_machine.specs.Action.{Action, ◌>>=◌, ◌>>◌, pure, given, look}
+use Rattle.bq_machine.specs.Action.{Action, ◌>>=◌, ◌>>◌, pure, given}
 use Rattle.bq_machine.specs.Args.{Passed}
 use Rattle.bq_machine.specs.Binding.{bind}
-use Rattle.bq_machine.specs.Cells.{content, may_change, changing, new_content, new_list, new_dict}
+use Rattle.bq_machine.specs.Cells.{content, may_change, changing, new_list, new_dict}
 use Rattle.bq_machine.specs.Iteration.{elements}
 use Rattle.bq_machine.specs.Machine.{walk, key}
 use Rattle.bq_machine.specs.State.{State}
@@ -29,8 +28,8 @@ use Rattle.bq_collections.specs.PairsGiven.{Pairs, GivenView, take_elements, rea
 use Rattle.bq_collections.specs.PairsGiven as given_pairs
 use Rattle.bq_collections.specs.Search.{found_between}
 use Rattle.bq_methods.specs.Call.{if_found, call_of_string, call_of_list, call_of_dict, call_by, call_of_cell, call_method}
-use Rattle.bq_methods.specs.DictMethod.{dict_methods, dict_method, placed_call, dict_call}
-use Rattle.bq_methods.specs.ListMethod.{list_methods, list_method, list_call}
+use Rattle.bq_methods.specs.DictMethod.{dict_methods, placed_call, dict_call}
+use Rattle.bq_methods.specs.ListMethod.{list_methods, list_call}
 use Rattle.bq_methods.specs.Placed.{placed}
 use Rattle.bq_string_methods.specs.Affixes.{texts_of}
 use Rattle.bq_string_methods.specs.Argument as argument

@@ -1,15 +1,14 @@
 -- Built-in functions have numbers of steps and outcomes of their own.
-use Rattle.std.proofs.Common.{ℕ, List, Option, Some, None, Result}
+use Rattle.std.proofs.Common.{List, Result}
 use Rattle.bq_source.specs.declared.fault.FaultKind.{FaultKind}
 use Rattle.bq_source.specs.declared.fault.FaultKind.TheVariants as fault
 use Rattle.bq_predeclared.specs.declared.predeclared.Predeclared.{Predeclared}
 use Rattle.bq_predeclared.specs.declared.predeclared.Predeclared.TheVariants as p
 use Rattle.bq_value.specs.Cells.{StoreView}
 use Rattle.bq_value.specs.Datum.{Datum, none, string}
-use Rattle.bq_machine.specs.Action.{Action, ◌>>=◌, ◌>>◌, pure, given, look}
+use Rattle.bq_machine.specs.Action.{◌>>=◌, ◌>>◌, pure, given, look}
 use Rattle.bq_machine.specs.Args.{Passed}
 use Rattle.bq_machine.specs.Cells.{new_list}
-use Rattle.bq_machine.specs.State.{State}
 use Rattle.bq_machine.specs.Machine as machine
 use Rattle.bq_machine.specs.Machine.{walk}
 use Rattle.bq_functions.specs.Arguments.{by_place, only_argument}

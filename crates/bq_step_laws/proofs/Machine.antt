@@ -1,21 +1,21 @@
 -- What a machine does has a number of steps and an outcome of its own.
-use Rattle.std.proofs.Common.{◌≡◌, ◌∙◌, ◌<◌, ℕ, ◌+◌, ◌-◌, Bool, true, false, cond, List, [], ◌∷◌, ◌++◌, Option, Some, None, Result, Ok, Err, nat_lt, ◌==◌, length, refl, sym, ap, subst, arith, le-ltb, lt-ltb}
+use Rattle.std.proofs.Common.{◌≡◌, ◌∙◌, ◌<◌, ℕ, ◌+◌, ◌-◌, Bool, true, false, cond, List, [], ◌∷◌, ◌++◌, Result, Ok, Err, nat_lt, ◌==◌, length, refl, sym, ap, subst, arith, le-ltb, lt-ltb}
 use Rattle.bq_source.specs.declared.fault.FaultKind.{FaultKind}
 use Rattle.bq_source.specs.declared.fault.FaultKind.TheVariants as f
-use Rattle.bq_value.specs.Cells.{StoreView, with_cells, content_at, Modules}
-use Rattle.bq_value.specs.Contents.{Contents, items, pairs}
-use Rattle.bq_value.specs.Datum.{Datum, none, boolean, int, string, tuple, range, cell, function, built_in}
-use Rattle.bq_walk.specs.Looked.{Looked, max_levels}
+use Rattle.bq_value.specs.Cells.{StoreView, with_cells, content_at}
+use Rattle.bq_value.specs.Contents.{Contents}
+use Rattle.bq_value.specs.Datum.{Datum, cell}
+use Rattle.bq_walk.specs.Looked.{Looked}
 use Rattle.bq_walk.specs.Laws.{with_left}
 use Rattle.bq_walk.specs.Laws as walks
-use Rattle.bq_machine.specs.Action.{Action, Run, done, stopped, following, ◌>>=◌, ◌>>◌, pure, stop, given, look, change}
+use Rattle.bq_machine.specs.Action.{Action, Run, done, stopped, ◌>>=◌, ◌>>◌, pure, stop, given, look, change}
 use Rattle.bq_machine.specs.Calls.{is_active, max_active, enter, leave}
 use Rattle.bq_machine.specs.Cells.{with_content, new_content, or_wrong, content, is_walked, may_change, can_change, put_content, Change, changing}
 use Rattle.bq_machine.specs.Iteration.{elements_in, elements, marked, begin_walk, end_walk}
-use Rattle.bq_machine.specs.Machine.{with_steps, step, after_walk, walk, key, text, repr, print, fail}
+use Rattle.bq_machine.specs.Machine.{with_steps, step, after_walk, walk, print, fail}
 use Rattle.bq_machine.specs.State.{State, stop_at}
 use Rattle.bq_step_laws.specs.Laws.{Own}
-use Rattle.bq_step_laws.specs.Steps.{machine, Begins, leaving, printed, IsCutShort, Leaves, Takes}
+use Rattle.bq_step_laws.specs.Steps.{machine, Begins, leaving, printed, IsCutShort, Leaves}
 use Rattle.bq_step_laws.proofs.Owning.{begins_itself, at_no_cost, at_state, followed}
 
 pub pure_owns : {A : Type 0} (x : A) → Own (pure x)

@@ -1,5 +1,5 @@
 -- Operators have numbers of steps and outcomes of their own.
-use Rattle.std.proofs.Common.{ℕ, ℤ, List, [], ◌∷◌, Option, Some, None, Result, Ok, Err}
+use Rattle.std.proofs.Common.{ℕ, ℤ, List, Result}
 use Rattle.bq_source.specs.declared.fault.FaultKind.{FaultKind}
 use Rattle.bq_source.specs.declared.fault.FaultKind.TheVariants as f
 use Rattle.bq_grammar.specs.declared.tree.Comparison.{Comparison}
@@ -8,18 +8,17 @@ use Rattle.bq_grammar.specs.declared.tree.Operator.TheVariants as op
 use Rattle.bq_grammar.specs.declared.tree.UnaryOperator.{UnaryOperator}
 use Rattle.bq_value.specs.Cells.{StoreView}
 use Rattle.bq_value.specs.Contents.{Contents, items, pairs}
-use Rattle.bq_value.specs.Datum.{Datum, none, boolean, int, string, tuple, range, cell, function, built_in, list_of}
+use Rattle.bq_value.specs.Datum.{Datum, boolean, int, string, tuple, cell, list_of}
 use Rattle.bq_walk.specs.Looked.{max_levels}
 use Rattle.bq_walk.specs.KeyWalk.{walked_at, keyed}
 use Rattle.bq_text.specs.Shown.{text_of, repr_of}
 use Rattle.bq_text.proofs.Counting.{text_takes, repr_takes}
 use Rattle.bq_format.specs.Percent.{percent_of}
-use Rattle.bq_machine.specs.Action.{Action, ◌>>=◌, ◌>>◌, pure, given, look}
+use Rattle.bq_machine.specs.Action.{pure, given, look}
 use Rattle.bq_machine.specs.Cells.{content, may_change, changing, new_content}
 use Rattle.bq_machine.specs.Iteration.{elements}
 use Rattle.bq_machine.specs.Machine.{walk, key, text, repr}
-use Rattle.bq_machine.specs.State.{State}
-use Rattle.bq_operate.specs.Operand.{and_then, as_int, as_string, as_tuple, int_of, list_in, dict_in}
+use Rattle.bq_operate.specs.Operand.{as_int, as_string, as_tuple, int_of, list_in, dict_in}
 use Rattle.bq_operate.specs.Integers.{arithmetic, integers, signed}
 use Rattle.bq_operate.specs.Comparing.{compared}
 use Rattle.bq_operate.specs.Sequence.{repeated}

@@ -1,7 +1,6 @@
 -- Actions with a number of steps and an outcome of their own: what is so made is so itself.
-use Rattle.std.proofs.Common.{◌≡◌, ◌∙◌, ◌<◌, ◌≤◌, ◌⊎◌, inl, inr, ℕ, ◌+◌, ◌-◌, Bool, true, false, List, [], ◌++◌, refl, sym, ap, subst, arith, append_assoc, append-nil}
+use Rattle.std.proofs.Common.{◌≡◌, ◌∙◌, ◌<◌, ◌≤◌, ◌⊎◌, inl, inr, ℕ, ◌+◌, ◌-◌, List, [], ◌++◌, sym, ap, subst, arith, append_assoc, append-nil}
 use Rattle.std.proofs.lemmas.Bool.{cases_lt}
-use Rattle.bq_source.specs.declared.fault.FaultKind.TheVariants.{StepLimit}
 use Rattle.bq_value.specs.Cells.{Modules}
 use Rattle.bq_machine.specs.Action.{Action, Run, done, stopped, following}
 use Rattle.bq_step_laws.specs.Steps.{Seen, Begins, leaving, printed, IsCutShort, Leaves, Takes}

@@ -1,5 +1,5 @@
 -- The walks that operators, methods and functions make take a number of steps of their own.
-use Rattle.std.proofs.Common.{◌≡◌, ℕ, zero, suc, ◌+◌, ◌==◌, ◌-◌, ℤ, Bool, true, false, cond, List, [], ◌∷◌, ◌++◌, length, drop, take, Option, Some, None, Result, Ok, Err, refl}
+use Rattle.std.proofs.Common.{ℕ, zero, suc, ◌+◌, ◌==◌, ◌-◌, ℤ, Bool, true, false, cond, List, [], ◌∷◌, length, drop, take, Option, Some, None, Result, Ok, Err, refl}
 use Rattle.std.specs.Prelude.{codes}
 use Rattle.std.specs.declared.cmp.Ordering.{Ordering}
 use Rattle.std.specs.Ordering.{is_lt, is_le, is_gt, is_ge}
@@ -23,7 +23,7 @@ use Rattle.bq_format.specs.declared.argument.Numbering.{Numbering}
 use Rattle.bq_format.specs.Piece.{Piece, byte, field, lone, pieces}
 use Rattle.bq_format.specs.Argument.{argument, next_after, no_fields, numbering_after}
 use Rattle.bq_format.specs.Percent as percent
-use Rattle.bq_format.specs.Percent.{DraftView, and_write, spoiled, onto, decimal, takes_value, next_shown, converted, values_after, ended, filled_by, filled, blank, finished_draft, with_steps, text_by, text_filled, percent_of}
+use Rattle.bq_format.specs.Percent.{DraftView, and_write, spoiled, onto, decimal, takes_value, next_shown, converted, values_after, filled_by, filled, blank, finished_draft, with_steps, text_by, percent_of}
 use Rattle.bq_format.specs.Method.{field_shown, unmixed, made, formatted}
 use Rattle.bq_string.specs.Parts.{partition}
 use Rattle.bq_machine.specs.Machine.{looked_equal, looked_order}

@@ -1,6 +1,6 @@
 -- What is taken off the ends of a text (Starlark, "string·strip", "string·lstrip", "string·rstrip", "string·removeprefix",
 -- "string·removesuffix").
-use Rattle.std.specs.Prelude.{ℕ, ◌-◌, List, Bool, ◌==◌, ◌||◌, nat_eq, length, take, drop, codes, ◌∷◌, [], ◌++◌, if◌then◌else◌}
+use Rattle.std.specs.Prelude.{ℕ, ◌-◌, List, Bool, ◌==◌, nat_eq, length, take, drop, ◌∷◌, [], if◌then◌else◌}
 use Rattle.std.specs.List.{prefix_len, suffix_len, list_any, starts_with, ends_with}
 
 abbrev pub is_among : List ℕ → ℕ → Bool

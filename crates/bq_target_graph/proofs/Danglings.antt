@@ -1,8 +1,8 @@
 -- The lines that are put are those of the labels that name no target.
-use Rattle.std.proofs.Common.{◌≡◌, ◌<◌, ◌≤◌, ◌+◌, ◌||◌, ◌∙◌, ◌⊎◌, ◌↔◌, ℕ, Bool, true, false, List, [], ◌∷◌, ◌++◌, length, map, take, get_or, refl, sym, ap, subst, inl, inr, arith, append-nil, append_assoc, if◌then◌else◌}
-use Rattle.std.specs.List.{flat_map, Contains, list_any}
+use Rattle.std.proofs.Common.{◌≡◌, ◌<◌, ◌+◌, ◌||◌, ◌∙◌, ◌↔◌, ℕ, Bool, true, false, List, [], ◌∷◌, ◌++◌, length, take, get_or, refl, sym, ap, subst, inl, inr, arith, append-nil, if◌then◌else◌}
+use Rattle.std.specs.List.{flat_map, Contains}
 use Rattle.std.proofs.lemmas.Bool.{cases_Bool}
-use Rattle.std.proofs.lemmas.List.{map-append, take_all}
+use Rattle.std.proofs.lemmas.List.{map-append}
 use Rattle.std.proofs.lemmas.List.Concat.{flat_map-append}
 use Rattle.std.proofs.lemmas.List.Folds.{list_any-append}
 use Rattle.bq_label.specs.Label.{LabelParts, package_of}
@@ -18,7 +18,7 @@ use Rattle.bq_label_set.proofs.Added.{with_labels-append}
 use Rattle.bq_target_graph.specs.Order.{all_targets, labels_of}
 use Rattle.bq_target_graph.specs.Dangling.{dangling_line, line_by, dangling, dangling_in, dangling_of, all_dangling, IsDangling}
 use Rattle.bq_target_graph.proofs.Lists.{next_taken}
-use Rattle.bq_target_graph.proofs.Depends.{InPart, in_flat, flat_in}
+use Rattle.bq_target_graph.proofs.Depends.{in_flat, flat_in}
 
 -- ---- the labels that are known
 

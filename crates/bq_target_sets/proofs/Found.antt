@@ -1,10 +1,10 @@
 -- Targets and packages that a binary search finds, or doesn't.
-use Rattle.std.proofs.Common.{◌≡◌, ◌≢◌, ◌∙◌, ◌+◌, ◌<◌, ◌≤◌, ℕ, zero, suc, Bool, true, false, cond, List, [], ◌∷◌, ◌++◌, length, get_or, map, slice_set, Option, Some, None, nat_eq, refl, sym, ap, subst, arith, inl, inr}
+use Rattle.std.proofs.Common.{◌≡◌, ◌≢◌, ◌∙◌, ◌<◌, ℕ, zero, suc, Bool, true, false, cond, List, [], ◌∷◌, length, get_or, map, slice_set, Option, Some, None, refl, sym, ap, subst, arith, inl, inr}
 use Rattle.std.specs.Prelude.{◌&&◌, ◌||◌, bytes_eq}
 use Rattle.std.specs.Option.{is_some}
 use Rattle.std.specs.List.{find}
 use Rattle.std.specs.List.Sorted.{IsStrictlySortedBy, IsNonDecreasingBy, IsPartitionPoint}
-use Rattle.std.proofs.lemmas.Bool.{cases_Bool, cases_lt, cases_eq, false≢true}
+use Rattle.std.proofs.lemmas.Bool.{cases_Bool, cases_lt, cases_eq}
 use Rattle.std.proofs.lemmas.List.{get_or-map, get_or_past, get_or-set_same, get_or-set_other, length-set}
 use Rattle.std.proofs.lemmas.Map.Text.{is_eq-slice_cmp}
 use Rattle.std.proofs.lemmas.Slice.Eq.{bytes_eq-Decides}
@@ -18,7 +18,7 @@ use Rattle.bq_label.specs.Packages.{id_cmp}
 use Rattle.bq_label.proofs.BuildFiles.{by_id}
 use Rattle.bq_label.proofs.Searches.{find_here, find_nowhere}
 use Rattle.bq_target.specs.declared.target.Target.{Target}
-use Rattle.bq_target_sets.specs.Order.{text_of, is_text, by_text, AreInOrder}
+use Rattle.bq_target_sets.specs.Order.{text_of, is_text, AreInOrder}
 use Rattle.bq_target_sets.specs.Words.{Adds}
 use Rattle.bq_target_sets.specs.Missing.{is_package, has_package}
 use Rattle.bq_target_sets.proofs.Ranks.{no_one, text_at, text_is, rises}

@@ -1,8 +1,8 @@
 -- The targets whose labels begin alike stand together.
-use Rattle.std.proofs.Common.{◌≡◌, ◌∙◌, ◌+◌, ◌<◌, ◌≤◌, ℕ, zero, suc, Bool, true, false, List, [], ◌∷◌, ◌++◌, length, get_or, map, nat_le, nat_lt, if◌then◌else◌, refl, sym, ap, arith, inl, inr}
-use Rattle.std.specs.Prelude.{◌&&◌, ◌||◌, not, nat_eq, bytes_eq}
+use Rattle.std.proofs.Common.{◌≡◌, ◌∙◌, ◌+◌, ◌<◌, ◌≤◌, ℕ, suc, Bool, true, false, List, [], ◌∷◌, ◌++◌, length, get_or, map, nat_le, nat_lt, if◌then◌else◌, refl, sym, ap, arith, inl, inr}
+use Rattle.std.specs.Prelude.{◌&&◌, ◌||◌, not, nat_eq}
 use Rattle.std.specs.List.{starts_with}
-use Rattle.std.proofs.lemmas.Bool.{cases_Bool, cases_lt, false≢true}
+use Rattle.std.proofs.lemmas.Bool.{cases_lt, false≢true}
 use Rattle.std.proofs.lemmas.Bool.Decides.{nat_tests}
 use Rattle.std.proofs.lemmas.List.{get_or-map, get_or_past}
 use Rattle.std.specs.Ordering.{nat_cmp, ordering_then}
@@ -11,7 +11,7 @@ use Rattle.std.specs.declared.cmp.Ordering.TheVariants.{Less, Equal}
 use Rattle.bq_label.specs.Label.{PackageParts}
 use Rattle.bq_query.specs.TargetPatterns.{word_form}
 use Rattle.bq_target.specs.declared.target.Target.{Target}
-use Rattle.bq_target_sets.specs.Order.{text_of, texts_of, is_below, IsPlaceOf}
+use Rattle.bq_target_sets.specs.Order.{texts_of, is_below, IsPlaceOf}
 use Rattle.bq_target_sets.specs.Words.{Beginning, begins, own, beneath, is_wanted, names_in, names_at, names, is_label_form, is_deep, are_rules, has_label, label_named, package_named, Adds, Range}
 use Rattle.bq_target_sets.proofs.Cuts.{begins_between, front_alike}
 use Rattle.bq_target_sets.proofs.Ranks.{no_one, text_at, text_is, below_less}

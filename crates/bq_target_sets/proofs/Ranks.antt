@@ -1,6 +1,5 @@
 -- Targets in the order of their labels, and places among them.
-use Rattle.std.proofs.Common.{◌≡◌, ◌≢◌, ◌⊎◌, ◌∙◌, ◌+◌, ◌<◌, ◌≤◌, ℕ, Bool, true, false, List, [], length, get_or, map, inl, inr, nat_eq, refl, sym, ap, subst, arith}
-use Rattle.std.specs.List.Sorted.{IsStrictlySortedBy}
+use Rattle.std.proofs.Common.{◌≡◌, ◌≢◌, ◌⊎◌, ◌∙◌, ◌<◌, ◌≤◌, ℕ, Bool, true, false, List, [], length, get_or, inl, inr, nat_eq, refl, sym, ap, subst, arith}
 use Rattle.std.proofs.lemmas.Bool.{cases_Bool, false≢true}
 use Rattle.std.proofs.lemmas.Bool.Decides.{nat_tests}
 use Rattle.std.proofs.lemmas.List.{get_or-map, get_or_read}
@@ -11,7 +10,7 @@ use Rattle.std.specs.declared.cmp.Ordering.{Ordering}
 use Rattle.std.specs.declared.cmp.Ordering.TheVariants.{Less, Equal, Greater}
 use Rattle.bq_target.specs.declared.target.Target.{Target}
 use Rattle.bq_target.specs.declared.target.TargetKind.TheVariants as kind
-use Rattle.bq_target_sets.specs.Order.{text_of, texts_of, by_text, is_below, AreInOrder, IsPlaceOf}
+use Rattle.bq_target_sets.specs.Order.{text_of, texts_of, by_text, is_below, AreInOrder}
 
 -- any target, for a place where there is none
 pub no_one : Target

@@ -1,5 +1,5 @@
 -- The targets that an attribute of a rule names (Bazel query reference, `labels`).
-use Rattle.std.specs.Prelude.{◌≡◌, ℕ, Bool, false, List, [], ◌∷◌, Option, Some, None, slice_get, IsSomeAnd}
+use Rattle.std.specs.Prelude.{ℕ, Bool, List, [], ◌∷◌, Option, Some, None, slice_get, IsSomeAnd}
 use Rattle.std.specs.List.{list_any}
 use Rattle.bq_label.specs.Label.{LabelParts, full_form}
 use Rattle.bq_target.specs.declared.target.TargetKind.{TargetKind}

@@ -1,5 +1,5 @@
 -- What a word names that is not there (Q5, Q6), with what is printed of it: a label or a pattern in full.
-use Rattle.std.specs.Prelude.{◌≡◌, ℕ, ◌++◌, ◌&&◌, Bool, List, Option, Some, None, is_some, bytes_eq, codes, if◌then◌else◌}
+use Rattle.std.specs.Prelude.{ℕ, ◌++◌, ◌&&◌, Bool, List, Option, Some, None, is_some, bytes_eq, codes, if◌then◌else◌}
 use Rattle.std.specs.List.{find}
 use Rattle.bq_label.specs.Label.{PackageParts, LabelParts, package_of, full_form}
 use Rattle.bq_query.specs.declared.query_error.QueryErr.{QueryErr}

@@ -1,6 +1,6 @@
 -- The texts in which patterns are looked for: of a target's kind, its label, and an attribute of it (Bazel query reference, `kind`,
 -- `filter`, `attr`).
-use Rattle.std.specs.Prelude.{◌≡◌, ℕ, ◌++◌, Bool, List, [], ◌∷◌, map, Option, Some, None, bytes_eq, codes, if◌then◌else◌}
+use Rattle.std.specs.Prelude.{ℕ, ◌++◌, List, [], ◌∷◌, map, Option, Some, None, bytes_eq, codes, if◌then◌else◌}
 use Rattle.std.specs.List.{find}
 use Rattle.std.specs.Fmt.{signed_decimal}
 use Rattle.bq_label.specs.Label.{full_form}

@@ -1,5 +1,5 @@
 -- Which targets a word names (Bazel, "Target patterns").
-use Rattle.std.specs.Prelude.{◌≡◌, ℕ, ◌++◌, ◌&&◌, ◌||◌, not, nat_le, nat_lt, length, slice_index_or, Bool, true, false, List, [], ◌∷◌, map, Option, Some, None, Result, Ok, Err, bytes_eq, codes, nat_eq, if◌then◌else◌}
+use Rattle.std.specs.Prelude.{◌≡◌, ℕ, ◌++◌, ◌&&◌, ◌||◌, not, nat_le, nat_lt, length, slice_index_or, Bool, true, false, List, [], ◌∷◌, map, Option, Some, None, Result, Ok, Err, codes, nat_eq, if◌then◌else◌}
 use Rattle.std.specs.List.{list_any, starts_with}
 use Rattle.std.specs.Option.{option_map}
 use Rattle.bq_source.specs.declared.fault.SourceErr.{SourceErr}

@@ -1,17 +1,15 @@
 -- The walk of a text takes a number of steps of its own.
-use Rattle.std.proofs.Common.{◌≡◌, ℕ, zero, suc, List, [], ◌∷◌, Option, Some, None, Ok, Err, refl}
+use Rattle.std.proofs.Common.{ℕ, zero, suc, List, [], ◌∷◌, Option, Some, None, Ok, Err, refl}
 use Rattle.std.specs.Prelude.{codes}
-use Rattle.bq_source.specs.declared.fault.FaultKind.{FaultKind}
 use Rattle.bq_source.specs.declared.fault.FaultKind.TheVariants.{TooDeep, TooLong}
 use Rattle.bq_value.specs.Datum.{Datum, none, boolean, int, string, tuple, range, cell, function, built_in, list_of}
 use Rattle.bq_value.specs.Contents.{Contents, items, pairs}
 use Rattle.bq_value.specs.Cells.{StoreView, content_at}
-use Rattle.bq_walk.specs.Looked.{Looked, stepped, max_levels}
+use Rattle.bq_walk.specs.Looked.{max_levels}
 use Rattle.bq_walk.specs.Laws.{Takes}
 use Rattle.bq_walk.proofs.Counting.{ok_takes, err_takes, stepped_takes, followed}
 use Rattle.bq_text.specs.Page.{PageView, written}
-use Rattle.bq_text.specs.Leaf.{leaf_written}
-use Rattle.bq_text.specs.Shown.{Shows, and_then, all_shown, pairs_shown, closed, list_shown, dict_shown, contents_shown, cell_shown, tuple_end, parts_shown, shown_at, repr_shown, text_by, text_shown, string_in, finished_by, repr_of, text_of}
+use Rattle.bq_text.specs.Shown.{Shows, and_then, all_shown, pairs_shown, closed, list_shown, contents_shown, cell_shown, tuple_end, parts_shown, shown_at, repr_shown, text_by, text_shown, string_in, finished_by, repr_of, text_of}
 
 module _ (show : Shows) (takes : (page : PageView) (v : Datum) → Takes (λ n. show page n v)) where
   all_take : (separator : List ℕ) (page : PageView) (xs : List Datum) → Takes (λ n. all_shown show separator page n xs)

@@ -1,17 +1,17 @@
 -- What is written of a value has the form of its text.
-use Rattle.std.proofs.Common.{◌≡◌, ◌∙◌, ◌==◌, ℕ, zero, suc, ℤ, pos, Bool, true, false, cond, List, [], ◌∷◌, ◌++◌, length, Option, Some, None, Ok, Err, refl, sym, ap, subst, append_assoc, append-nil}
+use Rattle.std.proofs.Common.{◌≡◌, ◌∙◌, ℕ, zero, suc, ℤ, pos, Bool, true, false, cond, List, [], ◌∷◌, ◌++◌, Option, Some, None, Ok, Err, refl, sym, ap, subst, append_assoc, append-nil}
 use Rattle.std.specs.Prelude.{codes}
 use Rattle.std.specs.Ordering.{int_eq}
 use Rattle.std.specs.Fmt.{signed_decimal}
 use Rattle.bq_source.specs.StringLiteral.{quoted}
-use Rattle.bq_value.specs.Datum.{Datum, none, boolean, int, string, tuple, range, cell, function, built_in, Data, end, datum, list_of}
+use Rattle.bq_value.specs.Datum.{Datum, none, boolean, int, string, tuple, range, cell, function, built_in, list_of}
 use Rattle.bq_value.specs.Contents.{Contents, items, pairs}
 use Rattle.bq_value.specs.Cells.{StoreView, content_at}
 use Rattle.bq_walk.specs.Looked.{Looked, max_levels}
 use Rattle.bq_text.specs.Laws.{joined_on, joined, tuple_close, step_text, HasTexts, AllHaveText, PairHasText, PairsHaveText, ContentHasText, IsTextOf, HasText}
 use Rattle.bq_text.specs.Page.{PageView, written}
-use Rattle.bq_text.specs.Leaf.{step_written, range_written, named_written, leaf_written}
-use Rattle.bq_text.specs.Shown.{Shows, and_then, all_shown, pairs_shown, closed, list_shown, dict_shown, contents_shown, cell_shown, tuple_end, parts_shown, shown_at, repr_shown, finished_by, repr_of}
+use Rattle.bq_text.specs.Leaf.{range_written, named_written, leaf_written}
+use Rattle.bq_text.specs.Shown.{Shows, and_then, all_shown, pairs_shown, closed, list_shown, dict_shown, cell_shown, tuple_end, parts_shown, shown_at, repr_shown, finished_by, repr_of}
 use Rattle.bq_text.proofs.Pages.{written_more}
 use Rattle.bq_text.proofs.KeyTexts.{page_in, two_end, text_in, written_is}
 

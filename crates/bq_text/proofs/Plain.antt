@@ -1,11 +1,10 @@
 -- The texts of strings and of plain values.
-use Rattle.std.proofs.Common.{◌≡◌, ◌∙◌, ◌≤◌, ◌+◌, ◌++◌, ℕ, suc, ℤ, true, List, [], Option, Some, None, Ok, cond, nat_le, length, refl, ap, arith}
+use Rattle.std.proofs.Common.{◌≡◌, ◌≤◌, ◌+◌, ℕ, suc, ℤ, true, List, [], Option, Some, None, Ok, cond, nat_le, length, ap, arith}
 use Rattle.std.proofs.lemmas.Bool.Decides.{nat_tests}
 use Rattle.std.specs.Fmt.{signed_decimal}
 use Rattle.bq_source.specs.StringLiteral.{quoted}
-use Rattle.bq_value.specs.Datum.{Datum, none, boolean, int, string}
+use Rattle.bq_value.specs.Datum.{Datum, int, string}
 use Rattle.bq_value.specs.Cells.{StoreView}
-use Rattle.bq_walk.specs.Looked.{Looked}
 use Rattle.bq_text.specs.Page.{PageView, written, max_text}
 use Rattle.bq_text.specs.Leaf.{leaf_written}
 use Rattle.bq_text.specs.Shown.{repr_shown, string_in, text_by, finished_by, repr_of, text_of}

@@ -1,9 +1,9 @@
 -- The texts of values that have no values in them (Starlark, "str", "repr").
-use Rattle.std.specs.Prelude.{ℤ, pos, Bool, true, false, ℕ, List, cond, codes}
+use Rattle.std.specs.Prelude.{ℤ, pos, true, false, ℕ, List, cond, codes}
 use Rattle.std.specs.Ordering.{int_eq}
 use Rattle.std.specs.Fmt.{signed_decimal}
 use Rattle.bq_source.specs.StringLiteral.{quoted}
-use Rattle.bq_value.specs.Datum.{Datum, none, boolean, int, string, tuple, range, cell, function, built_in}
+use Rattle.bq_value.specs.Datum.{Datum, none, boolean, int, string, range, function, built_in}
 use Rattle.bq_text.specs.Page.{PageView, written}
 
 -- a step of 1 is left out

@@ -1,13 +1,10 @@
 -- How deep the trees of each phrase are: a bracket adds at most one node of each level of the grammar.
-use Rattle.std.proofs.Common.{◌≡◌, ℕ, zero, suc, ◌+◌, ◌*◌, ◌≤◌, max, pos, List, [], ◌∷◌, map, Option, Some, None, refl, sym, ap, ◌∙◌, subst, arith}
+use Rattle.std.proofs.Common.{◌≡◌, ℕ, zero, suc, ◌+◌, ◌*◌, ◌≤◌, max, pos, List, [], ◌∷◌, map, Option, None, ap, ◌∙◌, arith}
 use Rattle.bq_source.specs.declared.token.TokenKind.{TokenKind}
 use Rattle.bq_grammar.specs.Lexeme.{Lexeme}
 use Rattle.bq_grammar.specs.Literals.{identifier}
 use Rattle.bq_grammar.specs.declared.tree.Expr.{Expr}
 use Rattle.bq_grammar.specs.declared.tree.UnaryOperator.{UnaryOperator}
-use Rattle.bq_grammar.specs.declared.tree.Operation.{Operation}
-use Rattle.bq_grammar.specs.declared.tree.Pair.{Pair}
-use Rattle.bq_grammar.specs.declared.tree.Suffix.{Suffix}
 use Rattle.bq_grammar.specs.declared.arguments.Allowed.{Allowed}
 use Rattle.bq_grammar.specs.declared.arguments.ArgumentKind.{ArgumentKind}
 use Rattle.bq_grammar.specs.declared.tree.Argument.{Argument}

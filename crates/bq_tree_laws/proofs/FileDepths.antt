@@ -1,5 +1,5 @@
 -- No statement that reads as one is deeper than the limit.
-use Rattle.std.proofs.Common.{◌≡◌, ℕ, ◌+◌, ◌*◌, ◌≤◌, List, [], ◌∷◌, Result, Ok, Err, refl, sym, ap, subst, arith}
+use Rattle.std.proofs.Common.{◌≡◌, ℕ, ◌+◌, ◌*◌, ◌≤◌, List, [], ◌∷◌, Result, Ok, refl, ap, subst, arith}
 use Rattle.std.specs.List.{AllByRecursion}
 use Rattle.bq_source.specs.declared.fault.Fault.{Fault}
 use Rattle.bq_grammar.specs.Lexeme.{Lexeme}

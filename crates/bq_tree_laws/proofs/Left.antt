@@ -1,6 +1,5 @@
 -- Tokens that the language doesn't leave out are written by trees in which it leaves out nothing.
-use Rattle.std.proofs.Common.{◌≡◌, ℕ, ◌+◌, ◌≤◌, Bool, true, false, ◌||◌, ◌&&◌, not, ◌⊎◌, inl, inr, List, [], ◌∷◌, map, Ok, Err, Result, refl, sym, ap, ◌∙◌, subst, arith}
-use Rattle.std.specs.Str.{bytes_eq}
+use Rattle.std.proofs.Common.{◌≡◌, ℕ, ◌+◌, ◌≤◌, Bool, true, false, ◌||◌, ◌&&◌, not, ◌⊎◌, inl, inr, List, [], ◌∷◌, map, Ok, Result, refl, sym, ap, ◌∙◌, subst, arith}
 use Rattle.bq_source.specs.declared.fault.FaultKind.{FaultKind}
 use Rattle.bq_source.specs.declared.token.TokenKind.{TokenKind}
 use Rattle.bq_source.specs.declared.token.TokenKind.TheVariants as k
@@ -21,7 +20,7 @@ use Rattle.bq_tree_laws.specs.Parts as parts
 use Rattle.bq_tree_laws.specs.Parts.{Part, row, commas}
 use Rattle.bq_tree_laws.specs.Writes as W
 use Rattle.bq_tree_laws.specs.Writes.{Writes}
-use Rattle.bq_tree_laws.specs.LeftOut.{sum_of, star, expr_count, target_count, branch_count, stmt_count, lone_native_by, lone_native}
+use Rattle.bq_tree_laws.specs.LeftOut.{sum_of, expr_count, target_count, branch_count, stmt_count, lone_native_by, lone_native}
 use Rattle.bq_tree_laws.proofs.LeftParts.{token_count, maybe_count, both_count, total, Same, row_total, commas_total, expr_same, pair_holds, operation_holds, choice_holds, suffix_holds, argument_holds, clause_holds, target_holds, parameter_holds, small_holds, branch_holds, stmt_holds, tuple_count, tuple_target_count}
 use Rattle.bq_tree_laws.proofs.Files.{top_level_tells}
 

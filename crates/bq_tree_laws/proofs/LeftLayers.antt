@@ -1,5 +1,5 @@
 -- How many nodes of a tree are left out, by its first layer.
-use Rattle.std.proofs.Common.{◌≡◌, ℕ, ◌+◌, Bool, true, false, List, [], ◌∷◌, map, Option, Some, None, rules, sym, ap, ◌∙◌}
+use Rattle.std.proofs.Common.{◌≡◌, ℕ, ◌+◌, Bool, map, Option, Some, None, rules, sym, ap, ◌∙◌}
 use Rattle.bq_grammar.specs.declared.tree.Argument.TheOpen.{Argument-F, Clause-F, Expr-F, Suffix-F, Target-F}
 use Rattle.bq_grammar.specs.declared.tree.Argument.{Argument, out-Argument, roll-Argument}
 use Rattle.bq_grammar.specs.declared.tree.Choice.{Choice, out-Choice, roll-Choice}

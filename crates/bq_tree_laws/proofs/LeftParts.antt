@@ -5,7 +5,7 @@ use Rattle.bq_source.specs.declared.token.TokenKind.{TokenKind}
 use Rattle.bq_source.specs.declared.token.TokenKind.TheVariants as k
 use Rattle.bq_grammar.specs.declared.tree.Argument.TheOpen.{Argument-F, Clause-F, Expr-F, Suffix-F, Target-F}
 use Rattle.bq_grammar.specs.declared.tree.Argument.{Argument, out-Argument}
-use Rattle.bq_grammar.specs.declared.tree.Choice.{Choice, out-Choice}
+use Rattle.bq_grammar.specs.declared.tree.Choice.{Choice}
 use Rattle.bq_grammar.specs.declared.tree.Clause.{Clause, out-Clause}
 use Rattle.bq_grammar.specs.declared.tree.Expr.{Expr, out-Expr}
 use Rattle.bq_grammar.specs.declared.tree.Operation.{Operation, out-Operation}
@@ -15,22 +15,21 @@ use Rattle.bq_grammar.specs.declared.tree.UnaryOperator.{UnaryOperator}
 use Rattle.bq_grammar.specs.declared.tree.UnaryOperator.TheVariants as u
 use Rattle.bq_grammar.specs.declared.tree.Comparison.{Comparison}
 use Rattle.bq_grammar.specs.declared.tree.Comparison.TheVariants as c
-use Rattle.bq_grammar.specs.declared.tree.Pair.{Pair, out-Pair}
+use Rattle.bq_grammar.specs.declared.tree.Pair.{Pair}
 use Rattle.bq_grammar.specs.declared.tree.Suffix.{Suffix, out-Suffix}
 use Rattle.bq_grammar.specs.declared.tree.Target.{Target, out-Target}
 use Rattle.bq_grammar.specs.declared.tree.Parameter.{Parameter}
 use Rattle.bq_grammar.specs.declared.tree.Parameter.TheVariants as p
 use Rattle.bq_grammar.specs.declared.tree.SmallKind.{SmallKind}
 use Rattle.bq_grammar.specs.declared.tree.SmallKind.TheVariants as small
-use Rattle.bq_grammar.specs.declared.tree.SmallStmt.{SmallStmt}
 use Rattle.bq_grammar.specs.declared.tree.LoadClause.{LoadClause}
-use Rattle.bq_grammar.specs.declared.tree.Branch.{Branch, out-Branch}
+use Rattle.bq_grammar.specs.declared.tree.Branch.{Branch}
 use Rattle.bq_grammar.specs.declared.tree.Stmt.{Stmt, out-Stmt}
 use Rattle.bq_grammar.specs.declared.tree.Stmt.TheOpen.{Stmt-F}
 use Rattle.bq_grammar.specs.declared.tree.Expr.TheVariants as e
 use Rattle.bq_grammar.specs.declared.tree.Target.TheVariants as t
 use Rattle.bq_tree_laws.specs.Parts as parts
-use Rattle.bq_tree_laws.specs.Parts.{Part, row, listed, commas, operator_kind, unary_kind, unary, comparison, assignment_kind, token_of, ExprLayer, expr_parts_by, expr_parts, pair_parts, operation_parts, choice_parts, SuffixLayer, optional_expr, step_parts, arguments, suffix_parts_by, suffix_parts, opening, ArgumentLayer, argument_parts_by, argument_parts, ClauseLayer, clause_parts_by, clause_parts, TargetLayer, target_parts_by, target_parts, parameter_parts, load_parts, small_parts, branch_parts, else_parts, if_parts, stmt_parts_by, stmt_parts}
+use Rattle.bq_tree_laws.specs.Parts.{Part, row, listed, commas, operator_kind, unary, comparison, assignment_kind, token_of, ExprLayer, expr_parts_by, expr_parts, pair_parts, operation_parts, choice_parts, SuffixLayer, optional_expr, step_parts, arguments, suffix_parts_by, suffix_parts, ArgumentLayer, argument_parts_by, argument_parts, ClauseLayer, clause_parts_by, clause_parts, TargetLayer, target_parts_by, target_parts, parameter_parts, load_parts, small_parts, branch_parts, else_parts, if_parts, stmt_parts_by, stmt_parts}
 use Rattle.bq_tree_laws.specs.LeftOut.{sum_of, division, star, expr_count, target_count, argument_count, clause_count, suffix_count, choice_count, operation_count, pair_count, parameter_count, kind_count, small_count, stmt_count, branch_count}
 use Rattle.bq_tree_laws.proofs.Layers.{out-Tuple, out-target_Tuple}
 use Rattle.bq_tree_laws.proofs.LeftLayers as L

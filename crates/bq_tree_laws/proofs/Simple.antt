@@ -1,16 +1,14 @@
 -- A statement of a BUILD file is a line of small statements.
-use Rattle.std.proofs.Common.{◌≡◌, ℕ, zero, suc, Bool, true, false, ◌||◌, List, [], ◌∷◌, Result, Ok, Err, refl, sym, ap, ◌∙◌, subst}
+use Rattle.std.proofs.Common.{◌≡◌, ℕ, zero, suc, Bool, true, false, ◌||◌, List, [], ◌∷◌, Result, Ok, refl, sym, ap, ◌∙◌, subst}
 use Rattle.bq_source.specs.declared.fault.FaultKind.{FaultKind}
-use Rattle.bq_source.specs.declared.token.TokenKind.TheVariants as k
 use Rattle.bq_grammar.specs.Lexeme.{Lexeme}
-use Rattle.bq_grammar.specs.LeftOut.{kinds, is_compound, has_starred, barred_in_build}
+use Rattle.bq_grammar.specs.LeftOut.{kinds, is_compound, has_starred}
 use Rattle.bq_grammar.specs.Nesting.{max_nesting}
 use Rattle.bq_grammar.specs.Phrases.{Phrase, none}
 use Rattle.bq_grammar.specs.Statements as S
 use Rattle.bq_grammar.specs.Statements.{IsStmtOver, IsStmt, IsTopLevel}
 use Rattle.bq_grammar.specs.Verdict as V
-use Rattle.bq_grammar.specs.Verdict.{ReadsAs, IsBarred}
-use Rattle.bq_grammar.specs.declared.tree.FileKind.{FileKind}
+use Rattle.bq_grammar.specs.Verdict.{ReadsAs}
 use Rattle.bq_grammar.specs.declared.tree.FileKind.TheVariants as file
 use Rattle.bq_grammar.specs.declared.tree.SmallStmt.{SmallStmt}
 use Rattle.bq_grammar.specs.declared.tree.Stmt.{Stmt}

@@ -19,9 +19,9 @@ use Rattle.bq_grammar.specs.declared.tree.Target.{Target, out-Target}
 use Rattle.bq_grammar.specs.Phrases.{Phrase, none, Repeat}
 use Rattle.bq_grammar.specs.Grammar.{primary_of, IsTestTo, IsOperandTo, IsSuffixTo}
 use Rattle.bq_grammar.specs.Statements as S
-use Rattle.bq_grammar.specs.Statements.{line_of, IsIndexed, IsItemOver, IsItem, IsTargetOver, IsTarget, IsParameter, AreParameters, IsLoadClause, IsSmallKind, IsSmall, AreSmall, IsSuite, IsBranch, IsElif, IsElse, IsStmtOver, IsStmt}
+use Rattle.bq_grammar.specs.Statements.{IsIndexed, IsItemOver, IsItem, IsTarget, IsParameter, AreParameters, IsLoadClause, IsSmallKind, IsSmall, AreSmall, IsSuite, IsBranch, IsElif, IsElse, IsStmtOver, IsStmt}
 use Rattle.bq_tree_laws.specs.Parts as parts
-use Rattle.bq_tree_laws.specs.Parts.{Part, row, listed, commas, assignment_kind, token_of, parameter_parts, small_parts, else_parts, stmt_parts_by}
+use Rattle.bq_tree_laws.specs.Parts.{Part, row, listed, assignment_kind, token_of, parameter_parts, small_parts, else_parts, stmt_parts_by}
 use Rattle.bq_tree_laws.specs.Writes as W
 use Rattle.bq_tree_laws.specs.Writes.{Writes}
 use Rattle.bq_tree_laws.proofs.Operators.{assignment_token}

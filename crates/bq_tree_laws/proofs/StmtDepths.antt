@@ -1,21 +1,19 @@
 -- How deep the trees of statements are: an indent adds one.
-use Rattle.std.proofs.Common.{◌≡◌, ℕ, zero, suc, ◌+◌, ◌*◌, ◌≤◌, max, List, [], ◌∷◌, map, Option, Some, None, refl, sym, ap, ◌∙◌, arith}
+use Rattle.std.proofs.Common.{◌≡◌, ℕ, zero, suc, ◌+◌, ◌*◌, ◌≤◌, max, List, [], ◌∷◌, map, ap, ◌∙◌, arith}
 use Rattle.bq_grammar.specs.Lexeme.{Lexeme}
 use Rattle.bq_grammar.specs.Literals.{identifier}
 use Rattle.bq_grammar.specs.declared.parameters.AllowedParameters.{AllowedParameters}
 use Rattle.bq_grammar.specs.declared.parameters.ParameterKind.{ParameterKind}
-use Rattle.bq_grammar.specs.declared.tree.Branch.{Branch}
 use Rattle.bq_grammar.specs.declared.tree.Expr.{Expr}
 use Rattle.bq_grammar.specs.declared.tree.Parameter.{Parameter}
-use Rattle.bq_grammar.specs.declared.tree.SmallKind.{SmallKind}
 use Rattle.bq_grammar.specs.declared.tree.SmallStmt.{SmallStmt}
 use Rattle.bq_grammar.specs.declared.tree.Stmt.{Stmt}
 use Rattle.bq_grammar.specs.declared.tree.Suffix.{Suffix}
 use Rattle.bq_grammar.specs.declared.tree.Target.{Target}
-use Rattle.bq_grammar.specs.Phrases.{Phrase, none, Repeat, Listed, CommaThen}
-use Rattle.bq_grammar.specs.Grammar.{primary_of, IsTestTo, IsExprTo, IsOperandTo, IsSuffixTo, IsIndexTo, IsVars}
+use Rattle.bq_grammar.specs.Phrases.{Phrase, none, Repeat}
+use Rattle.bq_grammar.specs.Grammar.{primary_of, IsTestTo, IsOperandTo, IsSuffixTo}
 use Rattle.bq_grammar.specs.Statements as S
-use Rattle.bq_grammar.specs.Statements.{IsIndexed, IsItemOver, IsItem, IsTargetOver, IsTarget, IsParameter, AreParameters, IsSmallKind, IsSmall, AreSmall, IsSuite, IsBranch, IsElif, IsElse, IsStmtOver, IsStmt}
+use Rattle.bq_grammar.specs.Statements.{IsIndexed, IsItemOver, IsItem, IsTarget, IsParameter, AreParameters, IsSmallKind, IsSmall, AreSmall, IsSuite, IsBranch, IsElif, IsElse, IsStmtOver, IsStmt}
 use Rattle.bq_tree_laws.specs.Depth.{deepest, expr_depth, target_depth, suffix_depth, parameter_depth, kind_depth, small_depth, stmt_depth, branch_depth}
 use Rattle.bq_tree_laws.proofs.Steps as D
 use Rattle.bq_tree_laws.proofs.Depths.{Within, none_within, wider, row_within, listed_within, targets_within, operand_to_within, suffix_to_within, index_to_within, test_to_within, expr_to_within, vars_wide}

@@ -1,8 +1,7 @@
 -- Alike: equal, as a relation of values that knows of no steps, and is built level by level as the definition of `==`.
-use Rattle.std.proofs.Common.{◌≡◌, ◌∙◌, ◌==◌, ◌&&◌, ℕ, zero, suc, Bool, true, false, cond, List, [], ◌∷◌, length, Option, Some, None, Ok, Err, refl, sym, ap, subst}
+use Rattle.std.proofs.Common.{◌≡◌, ◌∙◌, ◌==◌, ◌&&◌, ℕ, zero, suc, Bool, true, false, cond, List, [], ◌∷◌, length, Option, Some, None, Ok, Err, refl, sym, ap}
 use Rattle.std.specs.Ordering.{int_eq}
 use Rattle.std.proofs.Math.Nat.{suc_inj}
-use Rattle.bq_source.specs.declared.fault.FaultKind.{FaultKind}
 use Rattle.std.specs.Cmp.Lexicographic.{pointwise}
 use lib.Pointwise.{bytes_decides}
 use Rattle.bq_value.specs.Datum.{Datum, none, boolean, int, string, tuple, range, cell, function, built_in, list_of}
@@ -11,8 +10,8 @@ use Rattle.bq_value.specs.Same.{bool_same}
 use Rattle.bq_value.specs.Contents.{Contents, items, pairs}
 use Rattle.bq_value.specs.Cells.{StoreView, content_at}
 use Rattle.bq_value.specs.Pairs.{found}
-use Rattle.bq_walk.specs.Looked.{Looked, stepped}
-use Rattle.bq_walk.specs.Equality.{Compares, if_so, all_equal, lists_equal, partner_equal, pairs_equal, dicts_equal, contents_equal, cells_equal, parts_equal, equal_at}
+use Rattle.bq_walk.specs.Looked.{Looked}
+use Rattle.bq_walk.specs.Equality.{Compares, if_so, all_equal, lists_equal, partner_equal, pairs_equal, contents_equal, cells_equal, parts_equal, equal_at}
 use Rattle.bq_walk.proofs.Ranges.{both_true, all_true, nat_true, nat_test, int_true, int_test, AreRangesSame, ranges_from, ranges_test}
 
 abbrev pub Relates : Type 1

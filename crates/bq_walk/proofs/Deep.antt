@@ -1,9 +1,8 @@
 -- Values of so many levels: a step for each of them, and at most 64.
 use Rattle.std.proofs.Common.{◌≡◌, ◌∙◌, ◌+◌, ℕ, zero, suc, Bool, true, Ok, Err, ap, arith}
-use Rattle.std.specs.declared.cmp.Ordering.{Ordering}
 use Rattle.std.specs.declared.cmp.Ordering.TheVariants.{Equal}
 use Rattle.bq_source.specs.declared.fault.FaultKind.TheVariants.{TooDeep}
-use Rattle.bq_value.specs.Datum.{Datum, none}
+use Rattle.bq_value.specs.Datum.{none}
 use Rattle.bq_value.specs.Cells.{StoreView}
 use Rattle.bq_walk.specs.Looked.{Looked}
 use Rattle.bq_walk.specs.Equality.{if_so, equal_at}

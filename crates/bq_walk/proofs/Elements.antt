@@ -1,5 +1,5 @@
 -- Ranges are equal where they have the same elements, and functions where they come from one `def`.
-use Rattle.std.proofs.Common.{◌≡◌, ◌∙◌, ◌⊎◌, inl, inr, ◌+◌, ◌*◌, ◌<◌, ◌==◌, ◌&&◌, ℕ, zero, suc, ℤ, pos, negsuc, Bool, true, List, Ok, refl, sym, ap, arith}
+use Rattle.std.proofs.Common.{◌≡◌, ◌∙◌, ◌⊎◌, inl, inr, ◌*◌, ◌<◌, ◌==◌, ◌&&◌, ℕ, zero, suc, ℤ, pos, negsuc, Bool, true, List, Ok, refl, sym, ap, arith}
 use Rattle.std.specs.Prelude.{◌↔◌, ◌+ℤ◌, ◌*ℤ◌}
 use Rattle.std.proofs.Math.IntN.{neg_ℤ, zero-*ℤ, pos-*ℤ-pos, pos-*ℤ-negsuc, +ℤ_idl, +ℤ_idr, +ℤ_assoc, +ℤ_invl}
 use Rattle.bq_value.specs.Datum.{Data, range, function}

@@ -1,6 +1,5 @@
 -- Being alike is an equivalence, where the keys of dicts are distinct.
-use Rattle.std.proofs.Common.{◌≡◌, ◌∙◌, ◌==◌, ◌≤◌, ℕ, zero, suc, ℤ, Bool, true, false, cond, ◌&&◌, List, [], ◌∷◌, length, Option, Some, None, Ok, Err, refl, sym, ap, subst, arith}
-use Rattle.bq_source.specs.declared.fault.FaultKind.{FaultKind}
+use Rattle.std.proofs.Common.{◌≡◌, ◌∙◌, ◌==◌, ℕ, zero, suc, ℤ, Bool, true, false, cond, ◌&&◌, List, [], ◌∷◌, length, Option, Some, None, Ok, Err, refl, sym, subst, arith}
 use Rattle.std.specs.Cmp.Lexicographic.{pointwise}
 use Rattle.std.specs.Ordering.{int_eq}
 use lib.Pointwise.{bytes_decides}
@@ -10,8 +9,8 @@ use Rattle.bq_value.specs.Same.{bool_same}
 use Rattle.bq_value.specs.Contents.{Contents, items, pairs, KeysDiffer}
 use Rattle.bq_value.specs.Cells.{StoreView, content_at}
 use Rattle.bq_value.specs.Pairs.{found, HasNoKeyTwice}
-use Rattle.bq_walk.specs.Looked.{Looked, stepped}
-use Rattle.bq_walk.specs.Equality.{Compares, if_so, all_equal, lists_equal, partner_equal, pairs_equal, dicts_equal, contents_equal, cells_equal, parts_equal, equal_at}
+use Rattle.bq_walk.specs.Looked.{Looked}
+use Rattle.bq_walk.specs.Equality.{Compares, if_so, all_equal, lists_equal, partner_equal, pairs_equal, contents_equal, cells_equal, parts_equal, equal_at}
 use Rattle.bq_walk.specs.Laws.{KeysAreDistinct}
 use Rattle.bq_walk.proofs.Ranges.{AreRangesSame, ranges_back, ranges_on, ranges_itself, nat_test, int_test, all_true}
 use Rattle.bq_walk.proofs.Alike.{Relates, AllAlike, PartnerAlike, PartnersAlike, ContentsAlike, CellsAlike, PartsAlike, Alike, bool_test, answer_of, Tells, equality_tells}

@@ -1,5 +1,5 @@
 -- The walk of a key takes a number of steps of its own.
-use Rattle.std.proofs.Common.{◌≡◌, ◌∙◌, ◌+◌, ℕ, zero, suc, List, [], ◌∷◌, Ok, Err, refl, sym}
+use Rattle.std.proofs.Common.{◌≡◌, ◌∙◌, ◌+◌, ℕ, zero, suc, List, [], ◌∷◌, Ok, Err, refl}
 use Rattle.bq_source.specs.declared.fault.FaultKind.TheVariants.{TooDeep, Unhashable}
 use Rattle.bq_value.specs.Datum.{Datum, none, boolean, int, string, tuple, range, cell, function, built_in, list_of}
 use Rattle.bq_walk.specs.Looked.{Looked, stepped}

@@ -1,5 +1,5 @@
 -- Dicts whose keys are distinct: the same pairs in another order are the same dict.
-use Rattle.std.proofs.Common.{◌≡◌, ◌≢◌, ◌∙◌, ◌≤◌, ℕ, zero, suc, ◌+◌, Bool, true, false, cond, List, [], ◌∷◌, length, Option, Some, None, refl, sym, ap, subst, arith}
+use Rattle.std.proofs.Common.{◌≡◌, ◌∙◌, ◌≤◌, suc, Bool, true, false, cond, List, [], ◌∷◌, length, Option, Some, None, refl, sym, ap, subst, arith}
 use Rattle.bq_value.specs.Datum.{Datum}
 use Rattle.bq_value.specs.Same.{same}
 use Rattle.bq_value.specs.SameLaws.{same-refl, same-true}

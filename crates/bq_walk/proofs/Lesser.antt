@@ -7,11 +7,10 @@ use Rattle.std.specs.Cmp.{IsTotalOrder, bool_cmp_total}
 use Rattle.std.specs.Cmp.Lexicographic.{slice_cmp}
 use Rattle.std.proofs.lemmas.Cmp.{int_cmp_total, nat_list_cmp_total, tied_itself}
 use Rattle.std.proofs.lemmas.Map.Lookups.{exact_signed, exact_bytes}
-use Rattle.bq_source.specs.declared.fault.FaultKind.{FaultKind}
 use Rattle.bq_value.specs.Datum.{Datum, none, boolean, int, string, tuple, range, cell, function, built_in, Data, list_of}
 use Rattle.bq_value.specs.Contents.{Contents, items, pairs}
 use Rattle.bq_value.specs.Cells.{StoreView, content_at}
-use Rattle.bq_walk.specs.Looked.{Looked, stepped}
+use Rattle.bq_walk.specs.Looked.{Looked}
 use Rattle.bq_walk.specs.Equality.{Compares, equal_at}
 use Rattle.bq_walk.specs.Order.{Orders, at_first, lists_ordered, contents_ordered, cells_ordered, bool_ordered, int_ordered, string_ordered, tuple_ordered, cell_ordered, parts_ordered, ordered_at}
 use Rattle.bq_walk.specs.Laws.{KeysAreDistinct}

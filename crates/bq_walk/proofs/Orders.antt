@@ -4,17 +4,16 @@ use Rattle.std.specs.declared.cmp.Ordering.{Ordering}
 use Rattle.std.specs.declared.cmp.Ordering.TheVariants.{Less, Equal, Greater}
 use Rattle.std.specs.Ordering.{int_cmp, nat_cmp, bool_cmp, ordering_reverse, MatchOrdering}
 use Rattle.std.specs.Cmp.Lexicographic.{slice_cmp}
-use Rattle.bq_source.specs.declared.fault.FaultKind.{FaultKind}
 use Rattle.bq_value.specs.Datum.{Datum, none, boolean, int, string, tuple, range, cell, function, built_in, Data, end, datum, list_of}
 use Rattle.bq_value.specs.Contents.{Contents, items, pairs}
 use Rattle.bq_value.specs.Cells.{StoreView, content_at}
 use Rattle.bq_value.specs.Key.{IsKey, AreKeys}
-use Rattle.bq_walk.specs.Looked.{Looked, stepped, max_levels}
-use Rattle.bq_walk.specs.Equality.{Compares, equal_at}
-use Rattle.bq_walk.specs.Order.{Orders, at_first, lists_ordered, cells_ordered, bool_ordered, int_ordered, string_ordered, tuple_ordered, cell_ordered, ordered_at}
-use Rattle.bq_walk.specs.Laws.{Answers, Equals, Ordered, KeysAreDistinct, kind_of, content_kind, Decided, both_end, first_ends, second_ends, here, later}
-use Rattle.bq_walk.proofs.Alike.{Relates, AllAlike, ContentsAlike, CellsAlike, PartsAlike, Alike, Tells, equality_tells}
-use Rattle.bq_walk.proofs.Equivalence.{alike_back, alike_on, equal_itself, equal_back, equal_on}
+use Rattle.bq_walk.specs.Looked.{Looked, max_levels}
+use Rattle.bq_walk.specs.Equality.{equal_at}
+use Rattle.bq_walk.specs.Order.{at_first, lists_ordered, cells_ordered, bool_ordered, int_ordered, string_ordered, tuple_ordered, cell_ordered, ordered_at}
+use Rattle.bq_walk.specs.Laws.{Equals, Ordered, KeysAreDistinct, kind_of, content_kind, Decided, both_end, first_ends, second_ends, here, later}
+use Rattle.bq_walk.proofs.Alike.{Relates, AllAlike, CellsAlike, PartsAlike, Alike, Tells, equality_tells}
+use Rattle.bq_walk.proofs.Equivalence.{alike_back, equal_itself, equal_back, equal_on}
 use Rattle.bq_walk.proofs.Lesser.{Lesser, Ranks, ranked, order_tells, order_of}
 
 alike_told : (s : StoreView) (a b : Datum) (so : Bool) → Equals s a b so → Tells so (Alike max_levels s a b)

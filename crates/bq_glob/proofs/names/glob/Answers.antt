@@ -1,4 +1,4 @@
-use Rattle.std.proofs.Common.{◌≡◌, ◌∙◌, ◌++◌, [], ◌∷◌, ℕ, List, None, Some, sym, ap, drop, ◌+◌}
+use Rattle.std.proofs.Common.{◌≡◌, ◌∙◌, ◌++◌, ℕ, List, None, Some, sym, ap, drop, ◌+◌}
 use Rattle.bq_label.specs.declared.workspace.File.{File}
 use Rattle.std.specs.List.{filter}
 use Rattle.bq_glob.specs.Names.{is_beneath, name_in, glob}

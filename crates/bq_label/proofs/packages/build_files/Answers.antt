@@ -1,4 +1,4 @@
-use Rattle.std.proofs.Common.{◌≡◌, ◌∙◌, ap, sym, subst, arith}
+use Rattle.std.proofs.Common.{◌∙◌, ap, sym, subst, arith}
 use Rattle.bq_label.specs.declared.workspace.File.{File}
 use Rattle.bq_label.specs.Paths.{is_path}
 use Rattle.bq_label.specs.Workspace.{paths_of, IsWorkspace}

@@ -1,4 +1,4 @@
-use Rattle.std.proofs.Common.{◌≡◌, ◌∙◌, ap, sym, not, List, ℕ}
+use Rattle.std.proofs.Common.{◌∙◌, ap, sym, not, List, ℕ}
 use Rattle.std.specs.Option.{is_some}
 use Rattle.bq_label.specs.Workspace.{file_at}
 use Rattle.bq_label.proofs.BuildFiles.{wins_preferred, wins_not, wins_plain, none_is_not_some}

@@ -1,5 +1,5 @@
-use Rattle.std.proofs.Common.{◌≡◌, ◌≤◌, ◌<◌, ◌+◌, ◌-◌, ◌∙◌, ap, sym, arith}
-use Rattle.std.specs.Option.{is_some, option_copied}
+use Rattle.std.proofs.Common.{◌-◌, ◌∙◌, sym, arith}
+use Rattle.std.specs.Option.{option_copied}
 use Rattle.bq_label.proofs.Owners.{near_some, near_root, copied_some}
 use Rattle.bq_label.proofs.packages.nearest_above.Goals as goal
 

@@ -1,4 +1,4 @@
-use Rattle.std.proofs.Common.{◌≡◌, rules, tests, Bool}
+use Rattle.std.proofs.Common.{rules, Bool}
 use Rattle.std.specs.Ordering.{is_lt}
 use Rattle.std.proofs.lemmas.List.Sorted.{ranks_by, answers_always}
 use Rattle.bq_label.specs.declared.packages.BuildFile.{BuildFile}

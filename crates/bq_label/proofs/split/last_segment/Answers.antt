@@ -1,5 +1,4 @@
-use Rattle.std.proofs.Common.{◌≡◌, ◌<◌, ◌-◌, ◌∙◌, ℕ, List, length, drop, sym, suc, slice_index, arith}
-use Rattle.bq_label.specs.Label.{last_segment}
+use Rattle.std.proofs.Common.{◌∙◌, sym, arith}
 use Rattle.bq_label.proofs.Cuts.{last_from, last_at, rest_of}
 use Rattle.std.proofs.lemmas.Grind.{common_steps}
 use Rattle.bq_label.proofs.split.last_segment.Goals as goal

@@ -1,4 +1,4 @@
-use Rattle.std.proofs.Common.{◌≡◌, add-one}
+use Rattle.std.proofs.Common.{add-one}
 use Rattle.bq_label.proofs.Cuts.{cut_here, cut_nowhere, rest_of}
 use Rattle.bq_label.proofs.split.split_once.Goals as goal
 

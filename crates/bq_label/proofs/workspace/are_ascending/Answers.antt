@@ -1,4 +1,4 @@
-use Rattle.std.proofs.Common.{◌≡◌, ◌∙◌, sym, arith}
+use Rattle.std.proofs.Common.{◌∙◌, sym, arith}
 use Rattle.bq_label.proofs.Workspaces.{at_or_above, strict_from_adjacent, distinct_from_strict}
 use Rattle.bq_label.proofs.workspace.are_ascending.Goals as goal
 

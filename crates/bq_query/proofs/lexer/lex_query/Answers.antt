@@ -1,5 +1,5 @@
-use Rattle.std.proofs.Common.{◌≡◌, ◌+◌, ◌-◌, ◌<◌, ◌≤◌, ℕ, List, length, drop, sym, arith, rules}
-use Rattle.bq_query.proofs.Cuts.{cut_none, cut_blank, cut_token, cut_all, cut_unknown, fits, at_rest}
+use Rattle.std.proofs.Common.{sym, arith, rules}
+use Rattle.bq_query.proofs.Cuts.{cut_blank, cut_token, cut_all, cut_unknown, fits, at_rest}
 use Rattle.bq_query.specs.declared.lexis.Piece.TheVariants.{End, Blank, Found, Unknown}
 use Rattle.bq_query.proofs.lexer.lex_query.Goals as goal
 

@@ -1,4 +1,4 @@
-use Rattle.std.proofs.Common.{◌≡◌, ◌∙◌, List, ap, subst}
+use Rattle.std.proofs.Common.{◌∙◌, List, ap, subst}
 use Rattle.bq_fault_line.specs.FaultLine.{put_lines}
 use Rattle.bq_target.specs.Package.{PackageTargets}
 use Rattle.bq_target_graph.specs.Dangling.{all_dangling}

@@ -1,7 +1,7 @@
-use Rattle.std.proofs.Common.{◌≡◌, ◌≤◌, List, Result, length}
+use Rattle.std.proofs.Common.{List, Result, length}
 use Rattle.bq_source.specs.declared.token.Token.{Token}
 use Rattle.bq_source.specs.declared.fault.Fault.{Fault}
-use Rattle.bq_source.specs.Reading.{start, Runs, max_file_bytes}
+use Rattle.bq_source.specs.Reading.{start, Runs}
 use Rattle.bq_source.proofs.lexer.lex.Given as goal
 
 abbrev pub invariant-loop-lexer : goal.invariant-loop-lexer

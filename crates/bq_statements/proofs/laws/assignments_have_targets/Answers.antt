@@ -1,4 +1,4 @@
-use Rattle.std.proofs.Common.{◌≡◌, ℕ, suc, ◌≤◌, arith}
+use Rattle.std.proofs.Common.{suc, arith}
 use Rattle.bq_statements.proofs.Targets.{target_comes, target_back}
 use Rattle.bq_statements.proofs.laws.assignments_have_targets.Goals as goal
 

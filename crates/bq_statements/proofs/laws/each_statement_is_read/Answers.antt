@@ -1,5 +1,3 @@
-use Rattle.std.proofs.Common.{◌≡◌, List, [], ◌∷◌}
-use Rattle.bq_grammar.specs.Lexeme.{Lexeme}
 use Rattle.bq_statements.proofs.Verdicts.{statement_met, ends_there}
 use Rattle.bq_statements.proofs.laws.each_statement_is_read.Goals as goal
 

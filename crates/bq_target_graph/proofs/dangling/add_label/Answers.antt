@@ -1,4 +1,4 @@
-use Rattle.std.proofs.Common.{◌≡◌, ◌∙◌, ◌∷◌, [], ap, sym, true, false}
+use Rattle.std.proofs.Common.{◌≡◌, ◌∙◌, ap, sym, true, false}
 use Rattle.std.specs.BTreeSet.{insert_key}
 use Rattle.bq_label.specs.Label.{package_of}
 use Rattle.bq_fault_line.specs.FaultLine.{line_cmp, put_lines}

@@ -1,4 +1,4 @@
-use Rattle.std.proofs.Common.{◌≡◌, length}
+use Rattle.std.proofs.Common.{length}
 use Rattle.bq_graph.specs.Marks.{IsSet, Marked}
 use Rattle.bq_target_sets.proofs.LabelSets.{LabelsBelow}
 use Rattle.bq_target_sets.proofs.labels.labels.Given as goal

@@ -1,7 +1,6 @@
-use Rattle.std.proofs.Common.{◌≡◌, ◌∙◌, ◌+◌, ◌-◌, ◌/◌, ◌<◌, length, true, false, sym, ap, subst, List, ℕ, [], get_or, arith}
+use Rattle.std.proofs.Common.{◌≡◌, ◌∙◌, ◌+◌, ◌-◌, ◌/◌, ◌<◌, length, true, false, sym, ap, List, ℕ, [], get_or, arith}
 use Rattle.std.proofs.lemmas.List.{get_or-map}
-use Rattle.std.specs.Ordering.{nat_cmp, is_lt}
-use Rattle.std.specs.Cmp.Lexicographic.{slice_cmp}
+use Rattle.std.specs.Ordering.{is_lt}
 use Rattle.bq_target_sets.specs.Order.{text_of, is_below}
 use Rattle.bq_target_sets.proofs.Ranks.{text_at, up_to, from_on}
 use Rattle.bq_target_sets.proofs.order.place_of.Goals as goal

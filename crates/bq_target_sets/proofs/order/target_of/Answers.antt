@@ -1,4 +1,4 @@
-use Rattle.std.proofs.Common.{◌≡◌, sym, ap, is_some, rules, get_or, ◌<◌, length}
+use Rattle.std.proofs.Common.{◌≡◌, sym, ap, is_some, rules, get_or}
 use Rattle.std.specs.declared.cmp.Ordering.{Ordering}
 use Rattle.std.specs.declared.cmp.Ordering.TheVariants.{Equal}
 use Rattle.std.specs.Ordering.{nat_cmp}

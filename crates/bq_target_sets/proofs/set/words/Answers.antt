@@ -1,4 +1,4 @@
-use Rattle.std.proofs.Common.{◌≡◌, ◌∙◌, refl, sym, ap, subst, take, get_or, [], List, ℕ, length, false, replicate, arith, rules}
+use Rattle.std.proofs.Common.{◌≡◌, ◌∙◌, refl, ap, subst, take, get_or, [], List, ℕ, length, false, replicate, arith, rules}
 use Rattle.std.proofs.lemmas.Grind.{common_steps}
 use Rattle.std.proofs.lemmas.List.{take_more}
 use Rattle.bq_target_sets.specs.Words.{Adds, one_names, names}

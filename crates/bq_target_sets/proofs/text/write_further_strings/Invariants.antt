@@ -1,4 +1,4 @@
-use Rattle.std.proofs.Common.{◌≡◌, ◌++◌, drop, map}
+use Rattle.std.proofs.Common.{◌≡◌, ◌++◌, drop}
 use Rattle.bq_target_sets.specs.Texts.{further}
 use Rattle.bq_target_sets.proofs.text.write_further_strings.Given as goal
 

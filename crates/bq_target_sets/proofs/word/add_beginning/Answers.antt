@@ -1,4 +1,3 @@
-use Rattle.std.proofs.Common.{◌∙◌, length}
 use Rattle.bq_target_sets.proofs.Named.{adds_range, places_in_order}
 use Rattle.bq_target_sets.proofs.word.add_beginning.Goals as goal
 

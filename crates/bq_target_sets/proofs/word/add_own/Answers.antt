@@ -1,6 +1,6 @@
 use Rattle.std.proofs.Common.{◌≡◌, ◌∙◌, List, ℕ, subst}
 use Rattle.std.specs.Prelude.{◌&&◌}
-use Rattle.bq_target_sets.specs.Words.{Adds, begins, own, package_text, is_wanted}
+use Rattle.bq_target_sets.specs.Words.{Adds, begins, package_text, is_wanted}
 use Rattle.bq_target_sets.proofs.Tests.{on_ok}
 use Rattle.bq_target_sets.proofs.word.add_own.Goals as goal
 

@@ -1,6 +1,6 @@
-use Rattle.std.proofs.Common.{◌≡◌, ◌∙◌, Bool, true, false, sym, subst}
+use Rattle.std.proofs.Common.{Bool, sym, subst}
 use Rattle.std.specs.Prelude.{◌&&◌}
-use Rattle.bq_target_sets.specs.Words.{Adds, begins, own, beneath, is_wanted, names_in}
+use Rattle.bq_target_sets.specs.Words.{Adds, begins, beneath, is_wanted, names_in}
 use Rattle.bq_target_sets.proofs.Tests.{on_ok}
 use Rattle.bq_target_sets.proofs.Named.{adds_shallow, adds_deep}
 use Rattle.bq_target_sets.proofs.word.add_package.Goals as goal

@@ -1,4 +1,4 @@
-use Rattle.std.proofs.Common.{◌≡◌, ◌∙◌, ℕ, sym, subst, true, false, length, ◌<◌, ◌≤◌, arith}
+use Rattle.std.proofs.Common.{◌≡◌, ◌∙◌, ℕ, sym, subst, true, false, length, ◌<◌, arith}
 use Rattle.std.proofs.lemmas.List.{length-set}
 use Rattle.bq_target_sets.specs.Words.{is_wanted, Range}
 use Rattle.bq_target_sets.proofs.Tests.{passes, passes_at, range_none, range_take, range_skip}

@@ -1,4 +1,4 @@
-use Rattle.std.proofs.Common.{Ok, refl, ◌≤◌, ℕ, ◌+◌, ◌*◌, arith}
+use Rattle.std.proofs.Common.{Ok, refl, ◌≤◌, ◌+◌, ◌*◌, arith}
 use Rattle.bq_grammar.specs.Pieces.{pieces}
 use Rattle.bq_tree_laws.specs.Depth.{expr_depth}
 use Rattle.bq_tree_laws.proofs.Depths.{test_to_within}

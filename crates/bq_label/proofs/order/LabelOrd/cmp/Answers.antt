@@ -2,7 +2,7 @@ use Rattle.std.proofs.Common.{◌≡◌, ◌≢◌, ◌∙◌, [], List, ℕ, re
 use Rattle.std.specs.declared.cmp.Ordering.{Ordering}
 use Rattle.std.proofs.lemmas.Bool.{false≢true}
 use Rattle.std.specs.Ordering.{ordering_then}
-use Rattle.bq_label.specs.Label.{cmp_ended, cmp_names}
+use Rattle.bq_label.specs.Label.{cmp_ended}
 use Rattle.bq_label.proofs.FullForms.{cmp_main, cmp_first, cmp_last, cmp_external, plain_repo}
 use Rattle.bq_label.proofs.order.LabelOrd.cmp.Goals as goal
 

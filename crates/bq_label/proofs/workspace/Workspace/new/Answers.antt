@@ -1,4 +1,4 @@
-use Rattle.std.proofs.Common.{◌≡◌, ◌∙◌, ap, sym, subst, arith, List}
+use Rattle.std.proofs.Common.{◌∙◌, ap, sym, subst, arith, List}
 use Rattle.std.specs.List.Sorted.{IsStrictlySortedBy}
 use Rattle.bq_label.specs.declared.workspace.File.{File}
 use Rattle.bq_label.specs.Workspace.{path_cmp, paths_of, are_paths}

@@ -1,4 +1,4 @@
-use Rattle.std.proofs.Common.{◌≡◌, ◌∙◌, ℕ, ◌<◌, true, false, length, take, get_or, refl, arith, length-set, rules}
+use Rattle.std.proofs.Common.{◌∙◌, true, get_or, refl, arith, length-set}
 use Rattle.bq_string.proofs.Marks.{absent, marked}
 use Rattle.bq_string.proofs.trim.ByteSet.of.Goals as goal
 
