@@ -12,17 +12,8 @@ use Rattle.bq_source.specs.declared.fault.FaultKind.TheVariants.{Index}
 use Rattle.bq_operators.specs.Place.{clamped, indexed}
 use Rattle.bq_operators.specs.Slice.{slice_start, slice_stop, taken, taken_by, slice_of}
 use Rattle.bq_operators.proofs.Bounds.{lt_false}
-use Rattle.bq_operators.proofs.Slices.{at_most, whole_slice}
+use Rattle.bq_operators.proofs.Slices.{at_most, run_count, whole_slice}
 use Rattle.bq_operators.proofs.Taken.{there, taken_run, taken_next}
-
--- so many places lie from one to another, by steps of 1
-pub run_count : (i n : ℕ) → range_count (pos i) (pos (i + n)) (pos 1) ≡ n
-run_count i n =
-    let c : ℕ = range_count (pos i) (pos (i + n)) (pos 1) in
-    let up : c ≤ n = at_most c n (λ l. let b : (pos i +ℤ pos (n * 1)) <ℤ pos (i + n) = (elements_counted (pos i) (pos (i + n)) (pos 1) n (λ e. cc)).0 l in omega (arith, ints, b)) in
-    let down : n ≤ c = at_most n c (λ l. let b : (pos i +ℤ pos (c * 1)) <ℤ pos (i + n) = omega (arith, ints, l) in
-    let m : c < c = (elements_counted (pos i) (pos (i + n)) (pos 1) c (λ e. cc)).1 b in omega (arith, m)) in
-    omega (arith, up, down)
 
 pub taken_part : {A : Type 0} (before part after : List A) → taken_by (before ++ (part ++ after)) (pos (length before)) (pos (length before + length part)) (pos 1) ≡ part
 unfolding taken_by
@@ -100,7 +91,7 @@ taken_down xs (suc n) l =
 pub backwards : {A : Type 0} (xs : List A) → slice_of xs None None (negsuc 0) ≡ reverse xs
 unfolding taken_by
 backwards xs =
-    (ap (λ (n : ℕ). taken xs n (pos (length xs) -ℤ pos 1) (negsuc 0)) (down_count (length xs)) ∙ (taken_down xs (length xs) (omega arith) ∙ ap reverse (take-length xs)))
+    ap (λ (n : ℕ). taken xs n (pos (length xs) -ℤ pos 1) (negsuc 0)) (down_count (length xs)) ∙ (taken_down xs (length xs) (omega arith) ∙ ap reverse (take-length xs))
 
 -- indices
 split : {A : Type 0} (before : List A) (x : A) (after : List A) → length (before ++ x ∷ after) ≡ length before + suc (length after)

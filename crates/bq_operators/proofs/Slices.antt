@@ -1,8 +1,9 @@
 -- What a slice takes.
-use Rattle.std.proofs.Common.{◌≡◌, ◌≢◌, ◌∙◌, ◌*◌, ◌≤◌, List, [], ◌∷◌, length, take, ap, ◌<◌, ℕ, zero, suc, ℤ, pos, Option, Some, None, refl, inl, inr, arith}
+use Rattle.std.proofs.Common.{◌≡◌, ◌≢◌, ◌∙◌, ◌+◌, ◌*◌, ◌≤◌, List, length, ap, ◌<◌, ℕ, zero, suc, ℤ, pos, Option, Some, None, refl, inl, inr, arith}
 use Rattle.std.specs.Prelude.{negsuc, neg_ℤ, ◌+ℤ◌, ◌-ℤ◌, ◌<ℤ◌, ◌≤ℤ◌}
 use Rattle.std.proofs.lemmas.Int.{ints, clamps}
 use Rattle.std.proofs.lemmas.Bool.{cases_lt}
+use Rattle.std.proofs.Math.Seq.{take-length}
 use Rattle.bq_value.specs.Range.{range_count, range_element}
 use Rattle.bq_value.proofs.Elements.{elements_counted}
 use Rattle.bq_operators.specs.Slice.{nearest, slice_start, slice_stop, taken, taken_by, slice_of, AreElements}
@@ -66,18 +67,18 @@ elements_of_slice xs start stop step apart =
 pub at_most : (m n : ℕ) → (n < m → ⊥) → m ≤ n
 at_most m n h = elim (cases_lt n m) [ inl l ↦ absurd (h l) | inr l ↦ l ]
 
-take_all : {A : Type 0} (xs : List A) → take (length xs) xs ≡ xs
-take_all [] = refl
-take_all (x ∷ xs) = ap (λ ys. x ∷ ys) (take_all xs)
-
-full_count : (n : ℕ) → range_count (pos 0) (pos n) (pos 1) ≡ n
-full_count n =
-    let c : ℕ = range_count (pos 0) (pos n) (pos 1) in
-    let up : c ≤ n = at_most c n (λ l. let b : (pos 0 +ℤ pos (n * 1)) <ℤ pos n = (elements_counted (pos 0) (pos n) (pos 1) n (λ e. cc)).0 l in omega (arith, ints, b)) in
-    let down : n ≤ c = at_most n c (λ l. let b : (pos 0 +ℤ pos (c * 1)) <ℤ pos n = omega (arith, ints, l) in
-    let m : c < c = (elements_counted (pos 0) (pos n) (pos 1) c (λ e. cc)).1 b in omega (arith, m)) in
+-- so many places lie from one to another, by steps of 1
+pub run_count : (i n : ℕ) → range_count (pos i) (pos (i + n)) (pos 1) ≡ n
+run_count i n =
+    let c : ℕ = range_count (pos i) (pos (i + n)) (pos 1) in
+    let up : c ≤ n = at_most c n (λ l. let b : (pos i +ℤ pos (n * 1)) <ℤ pos (i + n) = (elements_counted (pos i) (pos (i + n)) (pos 1) n (λ e. cc)).0 l in omega (arith, ints, b)) in
+    let down : n ≤ c = at_most n c (λ l. let b : (pos i +ℤ pos (c * 1)) <ℤ pos (i + n) = omega (arith, ints, l) in
+    let m : c < c = (elements_counted (pos i) (pos (i + n)) (pos 1) c (λ e. cc)).1 b in omega (arith, m)) in
     omega (arith, up, down)
 
 pub whole_slice : {A : Type 0} (xs : List A) → slice_of xs None None (pos 1) ≡ xs
 unfolding taken_by
-whole_slice xs = ap (λ (n : ℕ). taken xs n (pos 0) (pos 1)) (full_count (length xs)) ∙ (taken_run xs (length xs) 0 (omega arith) ∙ take_all xs)
+whole_slice xs =
+    let e : length xs ≡ 0 + length xs = omega arith in
+    let c : range_count (pos 0) (pos (length xs)) (pos 1) ≡ length xs = ap (λ (n : ℕ). range_count (pos 0) (pos n) (pos 1)) e ∙ run_count 0 (length xs) in
+    ap (λ (n : ℕ). taken xs n (pos 0) (pos 1)) c ∙ (taken_run xs (length xs) 0 (omega arith) ∙ take-length xs)
