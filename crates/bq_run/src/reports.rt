@@ -111,7 +111,11 @@ pub fn report_workspace<T: Threads + Wait + Sync>(
     ensures { IfOk result (λ r. IsReportOn options.now workspace.now (report_view r)) }
 {
     match parse_query(alloc, &options.query) {
-        Ok(query) => report_query(rt, alloc, workspace, &query, options),
+        Ok(query) => {
+            let report = report_query(rt, alloc, workspace, &query, options);
+            drop(query); // for the proof: one call lets the tree go
+            report
+        }
         Err(why) => Ok(refused(alloc, refusal_of(why)?)),
     }
 }

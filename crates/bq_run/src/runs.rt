@@ -1,22 +1,60 @@
 //! A run: the bytes of a bundle are read, and the texts of the faults and of the answer are written.
 
-ghost use Rattle.std.specs.Prelude.{◌≡◌, ◌+◌, ◌-◌, ◌^◌, ◌<◌, IfSome, IsErrOf};
-ghost use Rattle.std.specs.Io.KnownBytes.{Keeps};
+ghost use Rattle.std.specs.Prelude.{◌≡◌, ◌⊎◌, ◌+◌, ◌-◌, ◌^◌, ◌<◌, ℕ, List, IfSome, IsErrOf, OnOk, OnErr};
+ghost use Rattle.std.specs.Io.KnownBytes.{Appends, Keeps};
 ghost use Rattle.bq_report.specs.Report.{report_view};
-ghost use Rattle.bq_run.specs.Device.{OneFailed};
-ghost use Rattle.bq_run.specs.Run.{Does, DoesOne, IsInRange, IsRunOf, IsRunOver, IsSilent, run_report};
+ghost use Rattle.bq_run.specs.Device.{Begins, OneFailed};
+ghost use Rattle.bq_run.specs.Run.{Does, DoesOne, IsInRange, IsRunOf, IsRunOver, IsSilent, run_by, run_report};
 
 use crate::bundle::read_bundle;
 use crate::device::{Sink, Source};
 use crate::error::RunErr;
 use crate::options::Options;
 use crate::reports::report_workspace;
-use crate::transfer::write_all;
+use crate::transfer::{WriteFault, write_all};
 use bq_label::Workspace;
-use bq_report::{Report, Status};
+use bq_report::{Refusal, Report, Status};
 use std::alloc::Global;
 use std::sync::Wait;
 use std::thread::Threads;
+
+/// Writes the texts of a report, the faults first. A refusal has no answer, and where the workspace was not loaded no faults.
+fn write_texts<W: Sink, F: Sink>(
+    report: &Report,
+    writer: &mut W,
+    faults_writer: &mut F,
+) -> Result<(), WriteFault>
+    requires writer { W.failed writer.old < 2 ^ 64 - 1 }
+    requires faults_writer { F.failed faults_writer.old < 2 ^ 64 - 1 }
+    ensures whole { OnOk result (Appends (F.contents faults_writer.old) (F.contents faults_writer.new) (run_report (report_view report.now)).faults × Appends (W.contents writer.old) (W.contents writer.new) (run_report (report_view report.now)).answer) }
+    ensures begins { OnErr result (Begins (F.contents faults_writer.old) (F.contents faults_writer.new) (run_report (report_view report.now)).faults × Begins (W.contents writer.old) (W.contents writer.new) (run_report (report_view report.now)).answer × (Keeps (W.contents writer.old) (W.contents writer.new) ⊎ Appends (F.contents faults_writer.old) (F.contents faults_writer.new) (run_report (report_view report.now)).faults)) }
+    ensures device { OnErr result (OneFailed (F.failed faults_writer.old) (F.failed faults_writer.new) (W.failed writer.old) (W.failed writer.new)) }
+    ensures quiet { OnOk result ((F.failed faults_writer.new ≡ F.failed faults_writer.old) × (W.failed writer.new ≡ W.failed writer.old)) }
+{
+    match &report.end {
+        Ok(_) => {
+            write_all(faults_writer, &report.faults)?;
+            write_all(writer, &report.answer)
+        }
+        Err(refusal) => {
+            if refusal.is_unanswered() {
+                write_all(faults_writer, &report.faults)
+            } else {
+                Ok(())
+            }
+        }
+    }
+}
+
+/// How a run ends whose texts are written, whatever they are.
+fn ended(end: Result<Status, Refusal>) -> Result<Status, RunErr>
+    ensures { (faults answer : List ℕ) → result ≡ (run_by faults answer end).end }
+{
+    match end {
+        Ok(status) => Ok(status),
+        Err(refusal) => Err(RunErr::from(refusal)),
+    }
+}
 
 /// Writes a report, the faults first.
 fn send<W: Sink, F: Sink>(
@@ -32,23 +70,9 @@ fn send<W: Sink, F: Sink>(
     ensures write { IsErrOf result RunErr.Write → OneFailed (F.failed faults_writer.old) (F.failed faults_writer.new) (W.failed writer.old) (W.failed writer.new) }
     ensures quiet { (IsErrOf result RunErr.Write → ⊥) → (F.failed faults_writer.new ≡ F.failed faults_writer.old) × (W.failed writer.new ≡ W.failed writer.old) }
 {
-    let Report {
-        faults,
-        answer,
-        end,
-    } = report;
-    match end {
-        Ok(status) => {
-            write_all(faults_writer, &faults)?;
-            write_all(writer, &answer)?;
-            Ok(status)
-        }
-        Err(refusal) => {
-            if refusal.is_unanswered() && write_all(faults_writer, &faults).is_err() {
-                return Err(RunErr::Write);
-            }
-            Err(RunErr::from(refusal))
-        }
+    match write_texts(&report, writer, faults_writer) {
+        Ok(()) => ended(report.end),
+        Err(_) => Err(RunErr::Write),
     }
 }
 
