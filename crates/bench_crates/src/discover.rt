@@ -113,11 +113,20 @@ fn measure_workers<T: Threads + Sync>(
     Ok(())
 }
 
-pub fn measure<T: Threads + Sync>(rt: &HostRuntime, threads: &T) -> Result<()> {
-    let schema = Schema::standard(rt.alloc())?;
-    let workspace = workspace_of(files(rt.alloc())?)?;
+fn measure_discovery<T: Threads + Sync>(
+    rt: &HostRuntime,
+    threads: &T,
+    workspace: &Workspace,
+    schema: &Schema,
+) -> Result<()> {
     for workers in [0, 1, 2, 4] {
-        measure_workers(rt, threads, &workspace, &schema, workers)?;
+        measure_workers(rt, threads, workspace, schema, workers)?;
     }
     Ok(())
+}
+
+pub fn measure<T: Threads + Sync>(rt: &HostRuntime, threads: &T) -> Result<()> {
+    let workspace = workspace_of(files(rt.alloc())?)?;
+    let schema = Schema::standard(rt.alloc())?;
+    measure_discovery(rt, threads, &workspace, &schema)
 }

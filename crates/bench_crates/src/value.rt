@@ -151,11 +151,16 @@ fn full_store(alloc: Global) -> Result<Store, AllocError> {
     Ok(store)
 }
 
+/// The number of the module that a store is frozen to, and the time since the start.
+fn frozen_since(rt: &HostRuntime, start: CpuInstant, store: Store) -> Result<(u32, Duration)> {
+    let frozen = freeze(rt.alloc(), store, Vec::new(rt.alloc()))?;
+    Ok((frozen.module(), start.elapsed(rt)?))
+}
+
 /// The number of the module that a store is frozen to, and how long that takes.
 fn freezing_of(rt: &HostRuntime, store: Store) -> Result<(u32, Duration)> {
     let start = CpuInstant::now(rt)?;
-    let frozen = freeze(rt.alloc(), store, Vec::new(rt.alloc()))?;
-    Ok((frozen.module(), start.elapsed(rt)?))
+    frozen_since(rt, start, store)
 }
 
 fn measure_freeze(rt: &HostRuntime) -> Result<()> {

@@ -102,6 +102,25 @@ fn first_left(tokens: &[Token], left: usize) -> Option<&Token> {
     tokens.get(tokens.len().saturating_sub(left))
 }
 
+fn answered_target(
+    alloc: Global,
+    tokens: &[Token],
+    mut rest: Tokens<'_>,
+) -> Result<Vec<u8>, AllocError> {
+    let found = vars(alloc, &mut rest, DEPTH);
+    shown_target(alloc, &found, first_left(tokens, rest.left()))
+}
+
+fn answered_expr(
+    alloc: Global,
+    tokens: &[Token],
+    mut rest: Tokens<'_>,
+    asked: Asked,
+) -> Result<Vec<u8>, AllocError> {
+    let found = read(alloc, &mut rest, asked);
+    shown_expr(alloc, &found, first_left(tokens, rest.left()))
+}
+
 fn answered(
     alloc: Global,
     text: &[u8],
@@ -111,13 +130,11 @@ fn answered(
     requires { Lexes text.now (Ok tokens.now) }
 {
     tokens_lie_within(text, tokens);
-    let mut rest = Tokens::new(text, tokens);
-    if let Asked::Variables = asked {
-        let found = vars(alloc, &mut rest, DEPTH);
-        return shown_target(alloc, &found, first_left(tokens, rest.left()));
+    let rest = Tokens::new(text, tokens);
+    match asked {
+        Asked::Variables => answered_target(alloc, tokens, rest),
+        _ => answered_expr(alloc, tokens, rest, asked),
     }
-    let found = read(alloc, &mut rest, asked);
-    shown_expr(alloc, &found, first_left(tokens, rest.left()))
 }
 
 fn tree_of(alloc: Global, text: &[u8], asked: Asked) -> Result<Vec<u8>, AllocError> {

@@ -78,14 +78,16 @@ impl<'a> Printer<'a> {
         }
     }
 
+    fn evaluated(&mut self, value: &Expr) -> Result<(), AllocError> {
+        self.out.push_str("(expr")?;
+        self.expr(value)?;
+        self.out.push_str(")")
+    }
+
     fn small(&mut self, small: &SmallStmt) -> Result<(), AllocError> {
         write!(self.out, " {}:", small.line)?;
         match &small.kind {
-            SmallKind::Expr(value) => {
-                self.out.push_str("(expr")?;
-                self.expr(value)?;
-                self.out.push_str(")")
-            }
+            SmallKind::Expr(value) => self.evaluated(value),
             SmallKind::Assign(target, value) => self.assign(target, "", value),
             SmallKind::Augment(target, operator, value) => {
                 self.assign(target, binary_sign(*operator), value)
@@ -124,15 +126,32 @@ impl<'a> Printer<'a> {
         self.put(Part::Statements(statements))
     }
 
+    fn simple(&mut self, all: &[SmallStmt]) -> Result<(), AllocError> {
+        self.out.push_str(" (simple")?;
+        for small in all {
+            self.small(small)?;
+        }
+        self.out.push_str(")")
+    }
+
+    fn def(
+        &mut self,
+        name: &Bytes,
+        parameters: &[Parameter],
+        block: &'a [Stmt],
+    ) -> Result<(), AllocError> {
+        self.out.push_str(" (def")?;
+        self.text(name)?;
+        for parameter in parameters {
+            self.parameter(parameter)?;
+        }
+        self.out.push_str(" :")?;
+        self.block(block)
+    }
+
     fn statement(&mut self, statement: &'a Stmt) -> Result<(), AllocError> {
         match statement {
-            Stmt::Simple(all) => {
-                self.out.push_str(" (simple")?;
-                for small in all.as_slice() {
-                    self.small(small)?;
-                }
-                self.out.push_str(")")
-            }
+            Stmt::Simple(all) => self.simple(all.as_slice()),
             Stmt::If(branches, block) => {
                 self.out.push_str(" (if")?;
                 self.put(Part::Otherwise(block.as_slice()))?;
@@ -145,13 +164,7 @@ impl<'a> Printer<'a> {
                 self.block(block.as_slice())
             }
             Stmt::Def(word, parameters, block) => {
-                self.out.push_str(" (def")?;
-                self.text(&word.name)?;
-                for parameter in parameters.as_slice() {
-                    self.parameter(parameter)?;
-                }
-                self.out.push_str(" :")?;
-                self.block(block.as_slice())
+                self.def(&word.name, parameters.as_slice(), block.as_slice())
             }
         }
     }
