@@ -1,7 +1,8 @@
 -- One call, where so many functions may still become active.
-use Rattle.std.proofs.Common.{◌≡◌, ℕ, zero, suc, ◌<◌, ◌-◌, List, Some, Result, Ok, Err, refl, ap, subst, arith}
+use Rattle.std.proofs.Common.{◌≡◌, ◌∙◌, ℕ, zero, suc, ◌<◌, ◌≤◌, ◌-◌, List, length, get_or, slice_get, Option, Some, None, Result, Ok, Err, refl, ap, subst, arith}
+use Rattle.std.proofs.lemmas.Option.{slice_get_past, slice_get_read}
 use Rattle.bq_source.specs.declared.fault.FaultKind.{FaultKind}
-use Rattle.bq_source.specs.declared.fault.FaultKind.TheVariants.{CallDepth}
+use Rattle.bq_source.specs.declared.fault.FaultKind.TheVariants.{CallDepth, WrongType}
 use Rattle.bq_source.specs.Gives.{Gives}
 use Rattle.bq_value.specs.declared.error.EvalErr.{EvalErr}
 use Rattle.bq_value.specs.declared.error.EvalErr.TheVariants.{Bad, Memory}
@@ -15,7 +16,8 @@ use Rattle.bq_meaning.specs.Frame.{Frame}
 use Rattle.bq_meaning.specs.Primitives.{Primitives, given_by}
 use Rattle.bq_meaning.specs.Expressions.{eval_in}
 use Rattle.bq_meaning.specs.Statements.{Flow, block, run_in}
-use Rattle.bq_meaning.specs.Calls.{CodeUnit, Units, answered, apply, body_of, calls, inner_calls, run_body}
+use Rattle.bq_meaning.specs.Trees.{Calls}
+use Rattle.bq_meaning.specs.Calls.{CodeUnit, Units, answered, apply, body_of, call_at, call_function, calls, inner_calls, known, run_body}
 use Rattle.bq_eval.specs.Acts.{Acts}
 
 pub calls_step : {S : Type 0} (left : ℕ) (m : Primitives S) (units : Units) (v : Datum) (p : Passed) (s : S) → calls left m units v p s ≡ apply m units (inner_calls left m units) v p s
@@ -50,6 +52,26 @@ pub inner_left : {S : Type 0} (left : ℕ) (m : Primitives S) (units : Units) �
 unfolding inner_calls
 inner_left zero m units some = absurd (omega (arith, some))
 inner_left (suc left) m units some = let e : suc left - 1 ≡ left = omega arith in rw e refl
+
+-- the function of a module at a place
+module _ {S : Type 0} (m : Primitives S) (units : Units) (inner : Option (Calls S)) (home place : ℕ) (ds : List Datum) (p : Passed) (s : S) where
+  in_unit : (found : Option CodeUnit) → units home ≡ found
+      → call_at m units inner home place ds p s ≡ known m found (λ u. known m (slice_get u.functions place) (λ d. call_function m inner home place u d ds p)) s
+  unfolding call_at
+  in_unit found is = ap (λ x. known m x (λ u. known m (slice_get u.functions place) (λ d. call_function m inner home place u d ds p)) s) is
+
+  pub no_unit : units home ≡ None → (why : FaultKind) → Bad WrongType ≡ Bad why → call_at m units inner home place ds p s ≡ stopped (stop_at why (m.machine s))
+  no_unit is why bad = in_unit None is ∙ ap (λ k. stopped (stop_at k (m.machine s))) (ap kind_in bad)
+
+  pub no_function : (u : CodeUnit) → units home ≡ Some u → length u.functions ≤ place → (why : FaultKind) → Bad WrongType ≡ Bad why → call_at m units inner home place ds p s ≡ stopped (stop_at why (m.machine s))
+  no_function u is past why bad =
+      in_unit (Some u) is ∙ (ap (λ x. known m x (λ d. call_function m inner home place u d ds p) s) (slice_get_past u.functions place past)
+      ∙ ap (λ k. stopped (stop_at k (m.machine s))) (ap kind_in bad))
+
+  pub known_function : (u : CodeUnit) (d : CodeFunction) → units home ≡ Some u → place < length u.functions → d ≡ get_or u.functions place d
+      → call_at m units inner home place ds p s ≡ call_function m inner home place u d ds p s
+  known_function u d is within at =
+      in_unit (Some u) is ∙ ap (λ x. known m x (λ d. call_function m inner home place u d ds p) s) (slice_get_read u.functions (length u.functions) place d refl within at)
 
 -- an answer that needs no state is an action
 pub given_acts : {S A B : Type 0} (m : Primitives S) (view : A → B) (result : Result A EvalErr) (s : S) (said : Result B FaultKind) → Gives view Bad result said → Acts m view result s (given_by m said s)

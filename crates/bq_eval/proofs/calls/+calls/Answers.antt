@@ -1,13 +1,14 @@
-use Rattle.std.proofs.Common.{◌∙◌, ap, sym, arith}
+use Rattle.std.proofs.Common.{◌∙◌, ap, sym, subst, arith}
 use Rattle.std.proofs.lemmas.Grind.{common_steps}
-use Rattle.bq_value.specs.Datum.{list_of_data_of}
-use Rattle.bq_machine.specs.Action.{done}
+use Rattle.bq_value.specs.Datum.{Datum, list_of_data_of}
+use Rattle.bq_machine.specs.Action.{Run, done}
+use Rattle.bq_eval.specs.Acts.{Acts}
 use Rattle.bq_eval.specs.Round.{evals, in_function, inside, round_of, units_at, globals_of}
 use Rattle.bq_eval.specs.CodeUnits.{unit_of}
 use Rattle.bq_eval.specs.Flows.{flow_of}
 use Rattle.bq_eval.specs.Slots.{slots_of}
-use Rattle.bq_eval.proofs.CallSteps.{calls_step, no_body, ran_body}
-use Rattle.bq_meaning.specs.Calls.{apply, call_function}
+use Rattle.bq_eval.proofs.CallSteps.{calls_step, known_function, no_body, no_function, no_unit, ran_body}
+use Rattle.bq_meaning.specs.Calls.{apply, call_function, inner_calls}
 use Rattle.bq_eval.proofs.calls.+calls.Goals as goal
 
 pub run_body-returns-then-context-eq0 : goal.run_body-returns-then-context-eq0
@@ -54,3 +55,31 @@ call-returns g t c =
     let h = g.R.Runtime in
     let x = c.args.context.now in
     rw (calls_step x.left h.means (units_at x.program.now (globals_of x.own)) c.args.value.now c.args.args (h.seen c.args.runtime.now)) c.apply.ensures
+
+pub call_at-returns-in-None : goal.call_at-returns-in-None
+call_at-returns-in-None g t c =
+    let h = g.R.Runtime in
+    let x = c.args.context.now in
+    let units = units_at x.program.now (globals_of x.own) in
+    no_unit h.means units (inner_calls x.left h.means units) c.args.home c.args.place c.args.defaults.now c.args.args (h.seen c.args.runtime.now) c.in-None.ensures
+
+pub call_at-returns-in-None-get : goal.call_at-returns-in-None-get
+call_at-returns-in-None-get g t c =
+    let h = g.R.Runtime in
+    let x = c.args.context.now in
+    let units = units_at x.program.now (globals_of x.own) in
+    no_function h.means units (inner_calls x.left h.means units) c.args.home c.args.place c.args.defaults.now c.args.args (h.seen c.args.runtime.now) (unit_of c.in-Some.unit) c.in-Some.ensures c.in-None-get.ensures.lookup.3
+
+pub call_at-returns-in-Some-get : goal.call_at-returns-in-Some-get
+call_at-returns-in-Some-get g t c =
+    let h = g.R.Runtime in
+    let x = c.args.context.now in
+    let units = units_at x.program.now (globals_of x.own) in
+    let d = c.in-Some-get.function.now in
+    let at = known_function h.means units (inner_calls x.left h.means units) c.args.home c.args.place c.args.defaults.now c.args.args (h.seen c.args.runtime.now) (unit_of c.in-Some.unit) d c.in-Some.ensures c.in-Some-get.ensures.lookup.3.0 (c.in-Some-get.ensures.lookup.3.1 d) in
+    let P : Run h.State Datum → Type 0 = λ run. Acts h.means (λ v. v) c.call_function.result (h.seen c.call_function.new.runtime) run in
+    subst P (sym at) c.call_function.ensures
+
+pub apply-returns-in_default : goal.apply-returns-in_default
+unfolding apply
+apply-returns-in_default g t c = grind (arith, common_steps)
