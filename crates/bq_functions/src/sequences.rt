@@ -4,8 +4,6 @@ ghost use Rattle.std.specs.Prelude.{◌≡◌, ◌≤◌, ◌^◌, ◌+ℤ◌, �
 ghost use Rattle.bq_source.specs.Gives.{Gives};
 ghost use Rattle.bq_operators.specs.Length.{max_len};
 ghost use Rattle.bq_value.specs.declared.error.EvalErr.TheVariants.{Bad};
-ghost use Rattle.bq_functions.specs.Arguments.{and_then};
-ghost use Rattle.bq_functions.specs.Elements.{room_for};
 ghost use Rattle.bq_functions.specs.Sequences.{tuple, list, reversed, start_or_zero, numbers_fit, numbered_value, numbered, enumerate};
 
 use crate::arguments::{integer, one_and_named, only_argument, only_argument_if_any};
@@ -66,16 +64,6 @@ fn numbers_fit(start: i64, count: usize) -> Result<(), FaultKind>
     Ok(())
 }
 
-/// Whether a list may have so many numbers.
-fn numbers_listed(start: i64, count: usize) -> Result<(), FaultKind>
-    ensures says { result ≡ and_then (numbers_fit start count) (λ _. room_for count) }
-    ensures few { OnOk result (count ≤ max_len) }
-    ensures below { OnOk result ((start +ℤ pos count) ≤ℤ pos (2 ^ 63)) }
-{
-    numbers_fit(start, count)?;
-    room_for(count)
-}
-
 /// `(number, value)`.
 fn numbered_value(alloc: Global, number: i64, value: &Value) -> Result<Value, AllocError>
     ensures { IfOk result (λ v. v ≡ numbered_value number value.now) }
@@ -111,7 +99,8 @@ pub(crate) fn enumerate(
     let (value, start) = one_and_named(b"start", args)?;
     let start = start_or_zero(start)?;
     let elements = elements_in(alloc, machine, value)?;
-    numbers_listed(start, elements.len())?;
+    numbers_fit(start, elements.len())?;
+    room_for(elements.len())?;
     let values = values_of(alloc, elements)?;
     Ok(numbered(alloc, start, &values)?)
 }
