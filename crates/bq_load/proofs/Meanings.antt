@@ -1,11 +1,11 @@
 -- What a module evaluates to, by its source, its code and what it gets of the modules that it loads.
-use Rattle.std.proofs.Common.{◌≡◌, ◌∙◌, ℕ, List, [], Option, None, Some, Result, Ok, Err, ap}
+use Rattle.std.proofs.Common.{◌≡◌, ◌∙◌, ℕ, List, [], None, Some, Result, Ok, Err, ap}
 use Rattle.std.specs.Prelude.{slice_get}
 use Rattle.bq_source.specs.declared.fault.Fault.{Fault}
 use Rattle.bq_scope.specs.declared.code.Resolved.{Resolved}
 use Rattle.bq_value.specs.Datum.{Datum}
 use Rattle.bq_load.specs.declared.source.Source.{Source}
-use Rattle.bq_load.specs.Views.{ModuleView, FailedView, not_evaluated}
+use Rattle.bq_load.specs.Views.{ModuleView, not_evaluated}
 use Rattle.bq_load.specs.Sources.{LoadingParts}
 use Rattle.bq_load.specs.Imports.{imports}
 use Rattle.bq_load.specs.Evaluation.{by_code, by_imports, by_source, code_in, file_means, loaded_parts, means, or_no_file}

@@ -1,4 +1,4 @@
-use Rattle.std.proofs.Common.{◌≡◌, ◌∙◌, [], List, None, Some, Ok, Err, ap, refl, subst, sym}
+use Rattle.std.proofs.Common.{◌≡◌, ◌∙◌, List, None, Some, Ok, Err, ap, refl, subst, sym}
 use Rattle.std.specs.Prelude.{length, slice_get}
 use Rattle.std.proofs.lemmas.Option.{slice_get_past, slice_get_read}
 use Rattle.bq_value.specs.Datum.{Datum}
@@ -7,8 +7,7 @@ use Rattle.bq_load_order.specs.Shown.{told}
 use Rattle.bq_load.specs.declared.source.Source.{Source}
 use Rattle.bq_load.specs.Views.{module_view, failed_view, module_views, not_evaluated}
 use Rattle.bq_load.specs.Sources.{loading_of}
-use Rattle.bq_load.specs.Imports.{imports}
-use Rattle.bq_load.specs.Evaluation.{evaluation, loaded_parts, module_after}
+use Rattle.bq_load.specs.Evaluation.{evaluation, module_after}
 use Rattle.bq_load.proofs.Meanings.{means_no_source, means_no_code, means_file}
 use Rattle.bq_load.proofs.evaluator.EvaluatorEvaluate.evaluate.Goals as goal
 
