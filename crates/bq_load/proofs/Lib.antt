@@ -10,5 +10,7 @@ pub mod Found
 pub mod Joined
 -- modules with their outcomes, one after another
 pub mod Listed
+-- what a module evaluates to, by its source, its code and what it gets
+pub mod Meanings
 -- fault lines that are put one after another
 pub mod Put

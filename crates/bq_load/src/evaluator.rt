@@ -38,7 +38,6 @@ impl<'a, G: Gate> Evaluate for Evaluator<'a, G> {
     ghost means = { λ e m modules. means (loading_of e.loading.now) m modules };
 
     /// What a module evaluates to, by the modules of the files that its loads name. Only one whose statements are to run enters the gate.
-    #[tactic(auto, unfolding(crate::specs::Evaluation::means, crate::specs::Evaluation::file_means))]
     fn evaluate(
         &self,
         alloc: Global,
