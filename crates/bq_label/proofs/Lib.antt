@@ -13,3 +13,4 @@ pub mod Owners
 pub mod FullForms
 pub mod Listings
 pub mod ShortNames
+pub mod LabelFiles

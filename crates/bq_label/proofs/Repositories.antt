@@ -24,7 +24,7 @@ main_valid : is_repository [] ≡ true
 unfolding is_repository
 main_valid = refl
 
-some_parts : {p q : List ℕ × List ℕ} → Some p ≡ Some q → p ≡ q
+pub some_parts : {p q : List ℕ × List ℕ} → Some p ≡ Some q → p ≡ q
 some_parts e = cc
 
 pub external_front : (path : List ℕ) → starts_with nat_eq path external_root ≡ true → path ≡ codes "external/" ++ drop 9 path

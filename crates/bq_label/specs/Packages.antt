@@ -1,5 +1,5 @@
 -- Repositories, packages and the owners of paths (Bazel, "Repositories, packages, and targets").
-use Rattle.std.specs.Prelude.{◌≡◌, ℕ, ◌++◌, ◌-◌, ◌≤◌, ◌⊎◌, ◌&&◌, ◌||◌, Bool, not, nat_eq, nat_lt, List, [], ◌∷◌, length, take, drop, Option, Some, None, bytes_eq, codes, if◌then◌else◌, option_and_then}
+use Rattle.std.specs.Prelude.{◌≡◌, ◌≢◌, ℕ, ◌++◌, ◌-◌, ◌≤◌, ◌⊎◌, ◌&&◌, ◌||◌, Bool, not, nat_eq, nat_lt, List, [], ◌∷◌, length, take, drop, Option, Some, None, bytes_eq, codes, true, false, if◌then◌else◌, option_and_then}
 use Rattle.std.specs.List.{list_any, starts_with, find, filter, filter_map, Contains}
 use Rattle.std.specs.Option.{option_map}
 use Rattle.std.specs.declared.cmp.Ordering.{Ordering}
@@ -36,9 +36,45 @@ split_repository_by None = None
 split_repository_by (Some p) = if not (bytes_eq p.0 []) && is_repository p.0 then Some p else None
 
 -- the repository that a path lies in, and its path there: `external/NAME/REST` is REST of repository NAME, and any
--- other path below `external` is in no repository
+-- other path below `external` is in no repository; loads, packages, owners and globs all go by it
 unfoldable pub split_repository : List ℕ → Option (List ℕ × List ℕ)
 split_repository path = if starts_with nat_eq path external_root then split_repository_by (split_once 47 (drop 9 path)) else Some ([], path)
+
+-- the path in the workspace is the path `rest` of the repository: of the main one what is not below `external`, of any other
+-- what is below `external` and its name
+pub data IsPathOf (path repo rest : List ℕ) : Type 0 where
+  main : repo ≡ [] → path ≡ rest → ((below : List ℕ) → path ≢ codes "external/" ++ below) → IsPathOf path repo rest
+  other : repo ≢ [] → is_repository repo ≡ true → path ≡ codes "external/" ++ (repo ++ (codes "/" ++ rest)) → IsPathOf path repo rest
+
+abbrev pub is_in : List ℕ → Option (List ℕ × List ℕ) → Bool
+is_in repo None = false
+is_in repo (Some found) = bytes_eq found.0 repo
+
+-- the path lies in the repository
+unfoldable pub is_in_repository : List ℕ → List ℕ → Bool
+is_in_repository repo path = is_in repo (split_repository path)
+
+abbrev pub is_at : List ℕ → List ℕ → Option (List ℕ × List ℕ) → Bool
+is_at repo rest None = false
+is_at repo rest (Some found) = bytes_eq found.0 repo && bytes_eq found.1 rest
+
+-- the file of a repository at this path there
+unfoldable pub file_in : List File → List ℕ → List ℕ → Option File
+file_in files repo rest = find (λ f. is_at repo rest (split_repository f.path)) files
+
+-- the file that a label names: the one of the label's repository at its package's path, then its name
+unfoldable pub label_file : List File → LabelParts → Option File
+label_file files l = file_in files l.repo (joined l.package l.name)
+
+-- the label names the file: its path is that of the name in the package, in the label's repository
+pub record IsFileOf (files : List File) (l : LabelParts) (f : File) : Type 0 where
+  pub known : Contains files f
+  pub path : IsPathOf f.path l.repo (joined l.package l.name)
+
+-- what is said of the file that a label names
+abbrev pub FileIs : List File → LabelParts → Option File → Type 0
+FileIs files l None = (f : File) → IsFileOf files l f → ⊥
+FileIs files l (Some f) = IsFileOf files l f
 
 -- the text before the last slash
 unfoldable pub directory_of : List ℕ → List ℕ

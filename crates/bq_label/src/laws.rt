@@ -7,7 +7,7 @@ ghost use Rattle.std.specs.List.Sorted.{IsStrictlySortedBy};
 ghost use Rattle.bq_label.specs.declared.workspace.File.{File};
 ghost use Rattle.bq_label.specs.declared.packages.BuildFile.{BuildFile};
 ghost use Rattle.bq_label.specs.Workspace.{workspace_of, IsWorkspace, IsWorkspaceOf};
-ghost use Rattle.bq_label.specs.Packages.{packages_of, package_cmp, IsPackageOf, HasBuildFile, IsListed, split_repository, label_path, owner_of, OwnerIs};
+ghost use Rattle.bq_label.specs.Packages.{packages_of, package_cmp, IsPackageOf, HasBuildFile, IsListed, split_repository, label_path, owner_of, OwnerIs, IsPathOf, label_file, FileIs};
 ghost use Rattle.bq_label.specs.Label.{PackageParts, LabelParts, label_in, IsLabel, ReadsAs, full_form};
 ghost use Rattle.bq_label.specs.Paths.{HasNoSlash};
 ghost use Rattle.bq_label.specs.Reading.{label_of};
@@ -51,6 +51,18 @@ pub fn a_build_file_makes_a_package()
 /// Each package is there once, and below the next.
 pub fn one_entry_each()
     ensures { (files : List File) → IsWorkspace files → IsStrictlySortedBy package_cmp (packages_of files) }
+{}
+
+/// A path is one of another repository exactly where it is below `external` and that repository's name, and one of the main
+/// repository exactly where it is not below `external`.
+pub fn the_repository_of_a_path()
+    ensures { (path repo rest : List ℕ) → (split_repository path ≡ Some (repo, rest)) ↔ IsPathOf path repo rest }
+{}
+
+/// A label that names a file names a file of its own repository, at its package's path and then its name; and it names one
+/// where there is such a file.
+pub fn a_label_names_a_file_of_its_repository()
+    ensures { (files : List File) (l : LabelParts) → FileIs files l (label_file files l) }
 {}
 
 /// A path's owner is the package above it in its repository that has the longest path.

@@ -10,7 +10,7 @@
 //! - `split`, `read`: which label a text reads as in a package;
 //! - `print`, `order`: a label's full form, and the order of labels by it;
 //! - `workspace`: the files, and which lists of files are valid;
-//! - `repository`: the repository that a path lies in, and the path that a label names;
+//! - `repository`: the repository that a path lies in, and the path and the file that a label names;
 //! - `packages`: the packages of a workspace, and the owner of a path;
 //! - `laws`: what the definitions say together.
 #![tactic(auto)]
@@ -33,5 +33,5 @@ pub use packages::{BuildFile, Packages};
 pub use path::{is_path, is_repository, is_segment};
 pub use print::print_label;
 pub use read::read_label;
-pub use repository::label_path;
+pub use repository::{label_file, label_path};
 pub use workspace::{File, MAX_FILES, PathErr, Workspace};

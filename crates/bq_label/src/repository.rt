@@ -1,12 +1,13 @@
-//! The repository that a path lies in.
+//! The repository that a path lies in, and the path and the file that a label names.
 
 ghost use Rattle.std.specs.Prelude.{◌≡◌, Some, None, MatchOption, IfOk};
-ghost use Rattle.bq_label.specs.Label.{full_form};
-ghost use Rattle.bq_label.specs.Packages.{split_repository, label_path};
+ghost use Rattle.std.specs.Option.{option_copied};
+ghost use Rattle.bq_label.specs.Packages.{split_repository, label_path, is_in_repository, label_file};
 
 use crate::label::Label;
 use crate::path::is_repository;
 use crate::split::split_once;
+use crate::workspace::{File, Workspace};
 use std::alloc::{AllocError, Global};
 
 /// The directory of the other repositories' directories.
@@ -57,4 +58,31 @@ pub fn label_path(alloc: Global, label: &Label) -> Result<Vec<u8>, AllocError>
     }
     path.extend_from_slice(label.name().as_slice())?;
     Ok(path)
+}
+
+/// Whether the path lies in the repository.
+#[tactic(auto, unfolding(crate::specs::Packages::is_in_repository))]
+fn is_in_repository(path: &[u8], repo: &[u8]) -> bool
+    ensures { result ≡ is_in_repository repo.now path.now }
+{
+    match split_repository(path) {
+        Some(found) => found.repo == repo,
+        None => false,
+    }
+}
+
+/// The file that a label names: the one at its path, where that is a path of the label's repository. So no label of the main
+/// repository names a file below `external`.
+pub fn label_file<'a>(
+    alloc: Global,
+    workspace: &'a Workspace,
+    label: &Label,
+) -> Result<Option<&'a File>, AllocError>
+    ensures { IfOk result (λ file. option_copied file ≡ label_file workspace.now label.now) }
+{
+    let path = label_path(alloc, label)?;
+    if !is_in_repository(&path, label.repo().as_slice()) {
+        return Ok(None);
+    }
+    Ok(workspace.file(&path))
 }
