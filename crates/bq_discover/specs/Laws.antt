@@ -1,9 +1,8 @@
 -- Words of the laws.
 use Rattle.std.specs.Prelude.{◌≡◌, List}
-use Rattle.std.specs.List.{Contains}
 use Rattle.bq_label.specs.declared.workspace.File.{File}
 use Rattle.bq_label.specs.Label.{LabelParts}
-use Rattle.bq_label.specs.Packages.{label_path}
+use Rattle.bq_label.specs.Packages.{IsFileOf}
 use Rattle.bq_label.specs.Workspace.{IsWorkspace}
 use Rattle.bq_schema.specs.Schema.{Rules}
 use Rattle.bq_front.specs.Inputs.{InputParts}
@@ -18,6 +17,6 @@ OneLoadGraph = (inputs : InputParts) (g h : GraphParts) → IsLoadGraph inputs g
 abbrev pub TooManyForALoadGraph : Type 0
 TooManyForALoadGraph = (inputs : InputParts) (g : GraphParts) → AreTooMany inputs → ¬ IsLoadGraph inputs g
 
--- each module has a file of its label
+-- each module has a file, the one that its label names in its repository
 abbrev pub ModulesHaveFiles : Type 0
-ModulesHaveFiles = (files : List File) (rules : Rules) (l : LabelParts) → IsWorkspace files → IsModule (inputs_of files rules) l → (f : File) × Contains files f × (f.path ≡ label_path l)
+ModulesHaveFiles = (files : List File) (rules : Rules) (l : LabelParts) → IsWorkspace files → IsModule (inputs_of files rules) l → (f : File) × IsFileOf files l f

@@ -4,8 +4,7 @@ use Rattle.std.specs.List.{Contains}
 use Rattle.bq_source.specs.declared.fault.Fault.{Fault}
 use Rattle.bq_label.specs.declared.workspace.File.{File}
 use Rattle.bq_label.specs.Label.{PackageParts, LabelParts, package_of}
-use Rattle.bq_label.specs.Packages.{label_path}
-use Rattle.bq_label.specs.Workspace.{file_at}
+use Rattle.bq_label.specs.Packages.{label_file}
 use Rattle.bq_label.proofs.Orders.{head_or_tail}
 use Rattle.bq_scope.specs.declared.code.LoadStmt.{LoadStmt}
 use Rattle.bq_scope.specs.declared.code.Resolved.{Resolved}
@@ -150,4 +149,4 @@ module _ (inputs : InputParts) (m l : LabelParts) where
 
 pub loaded_files : LoadedFiles
 unfolding loads_of front_of
-loaded_files inputs m l c = of_file inputs m l (file_at inputs.files (label_path m)) c
+loaded_files inputs m l c = of_file inputs m l (label_file inputs.files m) c

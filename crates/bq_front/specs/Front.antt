@@ -8,8 +8,7 @@ use Rattle.bq_grammar.specs.declared.tree.FileKind.{FileKind}
 use Rattle.bq_grammar.specs.declared.tree.FileKind.TheVariants as kinds
 use Rattle.bq_label.specs.declared.workspace.File.{File}
 use Rattle.bq_label.specs.Label.{PackageParts, LabelParts, package_of}
-use Rattle.bq_label.specs.Packages.{label_path}
-use Rattle.bq_label.specs.Workspace.{file_at}
+use Rattle.bq_label.specs.Packages.{label_file}
 use Rattle.bq_load_label.specs.NamedFile.{load_label}
 use Rattle.bq_scope.specs.declared.code.LoadStmt.{LoadStmt}
 use Rattle.bq_front.specs.declared.front.Front.{Front}
@@ -41,7 +40,7 @@ front_at inputs l (Some x) = front_by inputs l x.content
 
 -- what the file of this label gives
 unfoldable pub front_of : InputParts → LabelParts → Result Front Fault
-front_of inputs l = front_at inputs l (file_at inputs.files (label_path l))
+front_of inputs l = front_at inputs l (label_file inputs.files l)
 
 -- the labels of the loads of a file: none where it has a fault of its own or a bad load
 abbrev pub loads_by : Result Front Fault → List LabelParts

@@ -9,7 +9,7 @@ ghost use Rattle.bq_front.specs.Front.{labels_of, kind_of, front_by, front_of};
 use crate::code::code_of;
 use crate::inputs::Inputs;
 use bq_grammar::FileKind;
-use bq_label::{Label, PackageId, label_path};
+use bq_label::{Label, PackageId, label_file};
 use bq_load_label::load_label;
 use bq_scope::{LoadStmt, Resolved};
 use bq_source::{Fault, FaultKind, SourceErr};
@@ -80,8 +80,7 @@ fn front_by(
 pub fn front_of(alloc: Global, inputs: &Inputs<'_>, label: &Label) -> Result<Front, SourceErr>
     ensures { Gives itself Bad result (front_of inputs.now label.now) }
 {
-    let path = label_path(alloc, label)?;
-    match inputs.workspace().file(&path) {
+    match label_file(alloc, inputs.workspace(), label)? {
         None => Err(SourceErr::Bad(Fault::at(FaultKind::NoSuchFile, 0))),
         Some(file) => front_by(alloc, inputs, label, file.content.as_slice()),
     }

@@ -10,8 +10,7 @@ use Rattle.bq_label.specs.declared.workspace.File.{File}
 use Rattle.bq_label.specs.declared.packages.BuildFile.{BuildFile}
 use Rattle.bq_label.specs.Label.{PackageParts, LabelParts, ReadsAs, package_of}
 use Rattle.bq_label.specs.Reading.{label_of}
-use Rattle.bq_label.specs.Packages.{label_path, package_named}
-use Rattle.bq_label.specs.Workspace.{file_at}
+use Rattle.bq_label.specs.Packages.{package_named, label_file}
 use Rattle.bq_load_label.specs.Crossing.{crosses}
 use Rattle.bq_load_label.specs.NamedFile.{has_load_form, bzl_label, if_bzl, fault_of_file, unless_fault, file_named, load_label}
 use Rattle.bq_load_label.specs.Laws.{NamesFile}
@@ -52,7 +51,7 @@ is_bzl_label own text l x = rw (x.form, x.reads, x.bzl) refl
 pub record IsFile (files : List File) (packages : List BuildFile) (l : LabelParts) : Type 0 where
   pub listed : is_some (package_named packages (package_of l)) ≡ true
   pub uncrossed : crosses packages l ≡ false
-  pub file : is_some (file_at files (label_path l)) ≡ true
+  pub file : is_some (label_file files l) ≡ true
 
 pub no_fault : (files : List File) (packages : List BuildFile) (l : LabelParts) → fault_of_file files packages l ≡ None → IsFile files packages l
 unfolding fault_of_file
@@ -60,7 +59,7 @@ no_fault files packages l e = elim (cases_Bool (is_some (package_named packages 
   | inr n ↦ let no : Some f.NoPackage ≡ None = sym (rw n refl) ∙ e in absurd (cc)
   | inl listed ↦ elim (cases_Bool (crosses packages l)) [
     | inl y ↦ let no : Some f.CrossesPackage ≡ None = sym (rw (listed, y) refl) ∙ e in absurd (cc)
-    | inr uncrossed ↦ elim (cases_Bool (is_some (file_at files (label_path l)))) [
+    | inr uncrossed ↦ elim (cases_Bool (is_some (label_file files l))) [
       | inl file ↦ record { listed = listed; uncrossed = uncrossed; file = file }
       | inr n ↦ let no : Some f.NoSuchFile ≡ None = sym (rw (listed, uncrossed, n) refl) ∙ e in absurd (cc)
     ]
@@ -105,7 +104,7 @@ module _ (forms : (own : PackageParts) (text : List ℕ) (l : LabelParts) → (l
         bzl = stem_of l.name both.0.bzl;
         listed = listed_package packages (package_of l) both.1.listed;
         owned = owned packages l both.1.uncrossed;
-        file = file_is_there files (label_path l) both.1.file;
+        file = file_is_there files l both.1.file;
       }
 
   pub file_is_named : (files : List File) (packages : List BuildFile) (own : PackageParts) (line : ℕ) (text : List ℕ) (l : LabelParts) → NamesFile files packages own text l
@@ -116,5 +115,5 @@ module _ (forms : (own : PackageParts) (text : List ℕ) (l : LabelParts) → (l
       (record {
         listed = package_listed packages (package_of l) x.listed;
         uncrossed = uncrossed packages l x.owned;
-        file = there_is_file files (label_path l) x.file.0 x.file.1 x.file.2;
+        file = there_is_file files l x.file.0 x.file.1;
       })

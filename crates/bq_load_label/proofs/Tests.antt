@@ -1,20 +1,20 @@
 -- What the tests of the definition say in words.
 use Rattle.std.proofs.Common.{◌≡◌, ℕ, ◌++◌, ◌-◌, ◌&&◌, ◌||◌, ◌⊎◌, Bool, true, false, not, List, Option, Some, None, length, take, drop, nat_eq, refl, sym, ap, ◌∙◌, inl, inr, codes}
-use Rattle.std.proofs.lemmas.Bool.{cases_Bool, false≢true}
+use Rattle.std.proofs.lemmas.Bool.{cases_Bool}
 use Rattle.std.proofs.lemmas.Bool.Decides.{Decides-eqb}
 use Rattle.std.proofs.lemmas.Slice.Eq.{bytes_eq-Decides, starts_is, ends_is}
 use Rattle.std.specs.Option.{is_some}
 use Rattle.std.specs.Str.{bytes_eq}
-use Rattle.std.specs.List.{Contains, find, starts_with, ends_with}
+use Rattle.std.specs.List.{starts_with, ends_with}
 use Rattle.bq_label.specs.declared.workspace.File.{File}
 use Rattle.bq_label.specs.declared.packages.BuildFile.{BuildFile}
 use Rattle.bq_label.specs.Label.{PackageParts, LabelParts, package_at, package_of}
-use Rattle.bq_label.specs.Packages.{IsListed, label_path, owner_of, package_named}
-use Rattle.bq_label.specs.Workspace.{file_at}
+use Rattle.bq_label.specs.Packages.{IsListed, IsFileOf, label_path, label_file, owner_of, package_named}
 use Rattle.bq_load_label.specs.Crossing.{is_of, is_owned_by_other, crosses}
 use Rattle.bq_load_label.specs.NamedFile.{has_load_form}
 use Rattle.bq_load_label.specs.Laws.{HasLoadForm}
-use Rattle.bq_label.proofs.Owners.{find_some, find_none_in, package_known, package_unknown}
+use Rattle.bq_label.proofs.Owners.{package_known, package_unknown}
+use Rattle.bq_label.proofs.LabelFiles.{file_known, file_unknown}
 
 some_or_none : {A : Type 0} (x : Option A) → ((y : A) × (x ≡ Some y)) ⊎ (x ≡ None)
 some_or_none None = inr refl
@@ -88,20 +88,13 @@ package_listed packages p listed = elim (some_or_none (package_named packages p)
   | inr none ↦ absurd (package_unknown packages p none listed.entry listed.known (ap (λ (q : PackageParts). q.repo) listed.id) (ap (λ (q : PackageParts). q.package) listed.id))
 ]
 
-pub file_is_there : (files : List File) (path : List ℕ) → is_some (file_at files path) ≡ true → (f : File) × Contains files f × (f.path ≡ path)
-unfolding file_at
-file_is_there files path h =
-    let f = some_is (find (λ (f : File). bytes_eq f.path path) files) h in
-    let found = find_some (λ (f : File). bytes_eq f.path path) files f.0 f.1 in
-    (f.0, found.0, (bytes_eq-Decides f.0.path path).0 found.1)
+pub file_is_there : (files : List File) (l : LabelParts) → is_some (label_file files l) ≡ true → (f : File) × IsFileOf files l f
+file_is_there files l h = let f = some_is (label_file files l) h in (f.0, file_known files l f.0 f.1)
 
-pub there_is_file : (files : List File) (path : List ℕ) (f : File) → Contains files f → f.path ≡ path → is_some (file_at files path) ≡ true
-unfolding file_at
-there_is_file files path f known e = elim (some_or_none (find (λ (f : File). bytes_eq f.path path) files)) [
+pub there_is_file : (files : List File) (l : LabelParts) (f : File) → IsFileOf files l f → is_some (label_file files l) ≡ true
+there_is_file files l f x = elim (some_or_none (label_file files l)) [
   | inl g ↦ rw (g.1) refl
-  | inr none ↦
-      let no : bytes_eq f.path path ≡ false = find_none_in (λ (f : File). bytes_eq f.path path) files none f known in
-      absurd (false≢true (sym no ∙ (bytes_eq-Decides f.path path).1 e))
+  | inr none ↦ absurd (file_unknown files l none f x)
 ]
 
 -- ---- crossing

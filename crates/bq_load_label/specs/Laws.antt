@@ -1,25 +1,24 @@
 -- Words of the laws of loads.
 use Rattle.std.specs.Prelude.{◌≡◌, ℕ, ◌++◌, ◌⊎◌, ◌↔◌, List, Some, Ok, codes}
-use Rattle.std.specs.List.{Contains}
 use Rattle.bq_label.specs.declared.workspace.File.{File}
 use Rattle.bq_label.specs.declared.packages.BuildFile.{BuildFile}
 use Rattle.bq_label.specs.Label.{PackageParts, LabelParts, ReadsAs, package_of}
-use Rattle.bq_label.specs.Packages.{IsListed, label_path, owner_of}
+use Rattle.bq_label.specs.Packages.{IsListed, IsFileOf, label_path, owner_of}
 use Rattle.bq_load_label.specs.NamedFile.{load_label}
 
 -- the text begins with `//`, `@` or `:`
 abbrev pub HasLoadForm : List ℕ → Type 0
 HasLoadForm text = (rest : List ℕ) × ((text ≡ codes "//" ++ rest) ⊎ ((text ≡ codes "@" ++ rest) ⊎ (text ≡ codes ":" ++ rest)))
 
--- the text names a .bzl file of the workspace, by this label: the file's path is the label's, in a package, and no other package
--- owns it
+-- the text names a .bzl file of the workspace, by this label: the file is at the label's path in the label's repository, in a
+-- package, and no other package owns it
 pub record NamesFile (files : List File) (packages : List BuildFile) (own : PackageParts) (text : List ℕ) (l : LabelParts) : Type 0 where
   pub form : HasLoadForm text
   pub reads : ReadsAs own text l
   pub bzl : (stem : List ℕ) × (l.name ≡ stem ++ codes ".bzl")
   pub listed : IsListed packages (package_of l)
   pub owned : (b : BuildFile) → owner_of packages (label_path l) ≡ Some b → b.id ≡ package_of l
-  pub file : (f : File) × Contains files f × (f.path ≡ label_path l)
+  pub file : (f : File) × IsFileOf files l f
 
 abbrev pub LoadsNameFiles : Type 0
 LoadsNameFiles =

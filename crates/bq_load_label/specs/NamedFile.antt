@@ -9,8 +9,7 @@ use Rattle.bq_label.specs.declared.workspace.File.{File}
 use Rattle.bq_label.specs.declared.packages.BuildFile.{BuildFile}
 use Rattle.bq_label.specs.Label.{PackageParts, LabelParts, package_of, full_form}
 use Rattle.bq_label.specs.Reading.{label_of}
-use Rattle.bq_label.specs.Packages.{label_path, package_named}
-use Rattle.bq_label.specs.Workspace.{file_at}
+use Rattle.bq_label.specs.Packages.{package_named, label_file}
 use Rattle.bq_load_label.specs.Crossing.{crosses}
 
 -- the text begins as labels of loads do: a bare name is none (ours)
@@ -29,7 +28,7 @@ bzl_label own text = if has_load_form text then if_bzl (label_of own text) else 
 unfoldable pub fault_of_file : List File → List BuildFile → LabelParts → Option FaultKind
 fault_of_file files packages l =
     if is_some (package_named packages (package_of l))
-    then (if crosses packages l then Some f.CrossesPackage else (if is_some (file_at files (label_path l)) then None else Some f.NoSuchFile))
+    then (if crosses packages l then Some f.CrossesPackage else (if is_some (label_file files l) then None else Some f.NoSuchFile))
     else Some f.NoPackage
 
 abbrev pub unless_fault : ℕ → LabelParts → Option FaultKind → Result LabelParts Fault

@@ -4,7 +4,7 @@
 //! first of F30, F32, F37 and F31 (Bazel, "Extension overview" on load statements, and "Labels" on packages' boundaries).
 //!
 //! The promise: `load_label` gives exactly the label or the fault of its definition (`specs/NamedFile.antt`), and a label that
-//! it gives is that of a file of the workspace, in a package that owns it.
+//! it gives is that of a file of its own repository, in a package that owns it.
 //!
 //! - `crossing`: labels whose path another package owns;
 //! - `named_file`: the file that a load names;

@@ -8,7 +8,7 @@ ghost use Rattle.bq_source.specs.declared.fault.SourceErr.TheVariants.{Bad};
 ghost use Rattle.bq_load_label.specs.NamedFile.{bzl_label, has_load_form, fault_of_file, unless_fault, load_label};
 
 use crate::crossing::crosses;
-use bq_label::{Label, PackageId, Packages, Workspace, label_path, print_label, read_label};
+use bq_label::{Label, PackageId, Packages, Workspace, label_file, print_label, read_label};
 use bq_source::{Bytes, Fault, FaultKind, SourceErr};
 use std::alloc::{AllocError, Global};
 
@@ -41,7 +41,7 @@ fn bzl_label(alloc: Global, own: &PackageId, text: &[u8]) -> Result<Option<Label
 }
 
 /// Why the label names no file that can be loaded: F32 where it has no package, F37 where another package owns its path,
-/// F31 where there is no such file.
+/// F31 where its repository has no such file.
 #[tactic(auto, unfolding(crate::specs::NamedFile::fault_of_file))]
 fn fault_of_file(
     alloc: Global,
@@ -57,7 +57,7 @@ fn fault_of_file(
     if crosses(alloc, packages, label)? {
         return Ok(Some(FaultKind::CrossesPackage));
     }
-    if workspace.file(&label_path(alloc, label)?).is_none() {
+    if label_file(alloc, workspace, label)?.is_none() {
         return Ok(Some(FaultKind::NoSuchFile));
     }
     Ok(None)
