@@ -1,6 +1,6 @@
 -- Which form a word has as a target pattern (Bazel, "Target patterns"), and the part of it that names the target or the package.
-use Rattle.std.specs.Prelude.{ℕ, ◌-◌, ◌==◌, ◌&&◌, ◌||◌, not, Bool, false, List, [], ◌∷◌, length, take, codes, nat_eq, if◌then◌else◌}
-use Rattle.std.specs.List.{ends_with}
+use Rattle.std.specs.Prelude.{ℕ, ◌-◌, ◌==◌, ◌&&◌, ◌||◌, not, Bool, false, List, [], ◌∷◌, Option, None, Some, length, take, codes, nat_eq, if◌then◌else◌}
+use Rattle.std.specs.List.{ends_with, list_any}
 use Rattle.bq_query.specs.declared.target_pattern.PatternForm.{PatternForm}
 use Rattle.bq_query.specs.declared.target_pattern.PatternForm.TheVariants.{Target, Rules, All, RulesBeneath, AllBeneath}
 
@@ -22,10 +22,25 @@ endings =
     ∷ ending (codes "//...:all-targets") 15 AllBeneath ∷ ending (codes "/...:all-targets") 16 AllBeneath
     ∷ ending (codes ":all") 4 Rules ∷ ending (codes ":*") 2 All ∷ ending (codes ":all-targets") 12 All ∷ []
 
--- the first that fits counts
+abbrev pub is_colon : ℕ → Bool
+is_colon b = b == 58
+
+-- the text may name a package: a package holds no `:`
+abbrev pub package_part : List ℕ → Option (List ℕ)
+package_part part = if list_any is_colon part then None else Some part
+
+-- what is before the ending, where the word ends so and that names a package
+unfoldable pub part_before : List ℕ → ℕ → List ℕ → Option (List ℕ)
+part_before end dropped word = if ends_with nat_eq word end then package_part (take (length word - dropped) word) else None
+
+abbrev pub form_or : PatternForm → PatternForm × List ℕ → Option (List ℕ) → PatternForm × List ℕ
+form_or f other None = other
+form_or f other (Some part) = (f, part)
+
+-- the first that fits counts, where what is before it names a package; so `//a:b/...` is a target's label
 abbrev pub form_by : List Ending → List ℕ → PatternForm × List ℕ
 form_by [] word = (Target, word)
-form_by (e ∷ es) word = if ends_with nat_eq word e.end then (e.form, take (length word - e.dropped) word) else form_by es word
+form_by (e ∷ es) word = form_or e.form (form_by es word) (part_before e.end e.dropped word)
 
 abbrev pub word_form : List ℕ → PatternForm × List ℕ
 word_form word = form_by endings word

@@ -1,6 +1,7 @@
 //! Target patterns: which form a word has (Bazel, "Target patterns").
-ghost use Rattle.std.specs.Prelude.{◌≡◌, map};
-ghost use Rattle.bq_query.specs.TargetPatterns.{begins_pattern, ending, form_by, word_form};
+ghost use Rattle.std.specs.Prelude.{◌≡◌, None, Some, MatchOption, map};
+ghost use Rattle.std.specs.List.{list_any};
+ghost use Rattle.bq_query.specs.TargetPatterns.{begins_pattern, ending, form_by, is_colon, part_before, word_form};
 
 /// Which targets a word means.
 #[derive(Clone, Copy)]
@@ -24,7 +25,8 @@ pub struct WordForm<'a> {
     pub named: &'a [u8],
 }
 
-/// How the words of a form end, and how many bytes of the end are left out of the part that names. The first that fits counts.
+/// How the words of a form end, and how many bytes of the end are left out of the part that names. The first that fits counts,
+/// where that part names a package.
 const ENDINGS: [(&[u8], usize, PatternForm); 11] = [
     (b"//...", 3, PatternForm::RulesBeneath),
     (b"/...", 4, PatternForm::RulesBeneath),
@@ -39,19 +41,39 @@ const ENDINGS: [(&[u8], usize, PatternForm); 11] = [
     (b":all-targets", 12, PatternForm::All),
 ];
 
+fn has_colon(text: &[u8]) -> bool
+    ensures { result ≡ list_any is_colon text.now }
+{
+    text.iter().any(|byte| *byte == b':')
+}
+
+/// The part of a word before an ending, where the word ends so and the part names a package: it holds no `:`.
+#[tactic(auto, unfolding(crate::specs::TargetPatterns::part_before))]
+fn part_before<'a>(word: &'a [u8], end: &[u8], dropped: usize) -> Option<&'a [u8]>
+    ensures { MatchOption result (part_before end.now dropped word.now ≡ None) (λ part. part_before end.now dropped word.now ≡ Some part.now) }
+{
+    if !word.ends_with(end) {
+        return None;
+    }
+    let part = &word[..word.len().saturating_sub(dropped)];
+    if has_colon(part) {
+        return None;
+    }
+    Some(part)
+}
+
 fn find_form<'a>(mut table: &[(&[u8], usize, PatternForm)], word: &'a [u8]) -> WordForm<'a>
     ensures form { result.form ≡ (form_by (map (λ e. ending e.0.now e.1 e.2) table.entry.now) word.now).0 }
     ensures named { result.named.now ≡ (form_by (map (λ e. ending e.0.now e.1 e.2) table.entry.now) word.now).1 }
 {
     while let [entry, rest @ ..] = table {
-        if word.ends_with(entry.0) {
-            let end = word.len().saturating_sub(entry.1);
-            return WordForm {
+        match part_before(word, entry.0, entry.1) {
+            Some(named) => return WordForm {
                 form: entry.2,
-                named: &word[..end],
-            };
+                named,
+            },
+            None => table = rest,
         }
-        table = rest;
     }
     WordForm {
         form: PatternForm::Target,
@@ -59,7 +81,8 @@ fn find_form<'a>(mut table: &[(&[u8], usize, PatternForm)], word: &'a [u8]) -> W
     }
 }
 
-/// The form of a word, read from the word as it is written: those with `...` first, `//p:n` last. So `//p:all` never means a target named `all`.
+/// The form of a word, read from the word as it is written: those with `...` first, `//p:n` last. So `//p:all` never means a target named
+/// `all`; and `//a:b/...` is `//p:n`, since no package is named `a:b`.
 pub fn word_form(word: &[u8]) -> WordForm<'_>
     ensures form { result.form ≡ (word_form word.now).0 }
     ensures named { result.named.now ≡ (word_form word.now).1 }
