@@ -6,5 +6,6 @@ pub mod Following
 pub mod Deciding
 pub mod Assigning
 pub mod Clauses
+pub mod Loops
 pub mod ParameterLists
 pub mod CallSteps

@@ -3,6 +3,7 @@ pub mod Slots
 pub mod Round
 pub mod Operands
 pub mod Nests
+pub mod OpenLoops
 pub mod Flows
 pub mod Runs
 pub mod Fillings

@@ -1,19 +1,20 @@
 //! Comprehensions.
 
-ghost use Rattle.std.specs.Prelude.{◌≡◌, []};
+ghost use Rattle.std.specs.Prelude.{◌≡◌, [], IfOk};
 ghost use Rattle.bq_value.specs.Contents.{items, pairs};
 ghost use Rattle.bq_machine.specs.Action.{following, pure};
 ghost use Rattle.bq_meaning.specs.Comprehensions as meaning;
-ghost use Rattle.bq_eval.specs.Acts.{Acts};
+ghost use Rattle.bq_eval.specs.Acts.{Acts, Leaves};
 ghost use Rattle.bq_eval.specs.Slots.{slots_of};
 ghost use Rattle.bq_eval.specs.Nests.{Nests, nested};
+ghost use Rattle.bq_eval.specs.OpenLoops.{loop_of, inner_of, opening, loop_left, inner_left, turn_count, clauses_count, inner_count};
 
 use crate::context::Context;
 use crate::evaluator::Evaluator;
 use crate::frame::Frame;
+use crate::open_loop::OpenLoop;
 use crate::runtime::Runtime;
 use crate::targets::begin_turn;
-use bq_machine::Elements;
 use bq_scope::{Code, CodeClause, CodePair, CodeTarget};
 use bq_value::{Content, Dict, EvalErr, Value};
 
@@ -81,130 +82,126 @@ impl<
         }
     }
 
-    /// The turns of a `for`, each with the clauses after it.
-    #[cycle(clauses)]
-    #[tactic(auto, unfolding(bq_meaning::specs::Comprehensions::turns))]
-    fn turns(
+    /// `for target in iterable`: a loop that is open, with the clauses after it.
+    #[tactic(auto, unfolding(crate::specs::OpenLoops::opening))]
+    fn open<'a>(
         &self,
         context: &Context<'_>,
-        frame: &mut Frame,
+        frame: &Frame,
         runtime: &mut R,
-        content: &mut Content,
-        target: &CodeTarget,
-        elements: &mut Elements,
-        rest: &[CodeClause],
-        comprehension: &Code,
-    ) -> Result<(), EvalErr>
-        requires { Nests R.means R.seen context.now.left self.now.depth self.now.call (F.pre self.now.eval) (F.post self.now.eval) }
-        ensures { Acts R.means (λ _. (content.new, slots_of frame.new)) result (R.seen runtime.new) (meaning.turns R.means (nested R.means self.now.depth context.now) target.now (meaning.clauses R.means (nested R.means self.now.depth context.now) rest.now (meaning.body R.means (nested R.means self.now.depth context.now) comprehension.now)) elements.old (slots_of frame.old) content.old (R.seen runtime.old)) }
-    {
-        while let Some(value) = elements.next() {
-            begin_turn(context.alloc, runtime, frame, target, value)?;
-            self.clauses(context, frame, runtime, content, rest, comprehension)?;
-        }
-        Ok(())
-    }
-
-    /// `for target in iterable`
-    #[cycle(clauses)]
-    #[tactic(auto, unfolding(bq_meaning::specs::Comprehensions::for_clause))]
-    fn for_clause(
-        &self,
-        context: &Context<'_>,
-        frame: &mut Frame,
-        runtime: &mut R,
-        content: &mut Content,
-        target: &CodeTarget,
+        target: &'a CodeTarget,
         iterable: &Code,
-        rest: &[CodeClause],
-        comprehension: &Code,
-    ) -> Result<(), EvalErr>
+        after: &'a [CodeClause],
+    ) -> Result<OpenLoop<'a>, EvalErr>
         requires { Nests R.means R.seen context.now.left self.now.depth self.now.call (F.pre self.now.eval) (F.post self.now.eval) }
-        ensures { Acts R.means (λ _. (content.new, slots_of frame.new)) result (R.seen runtime.new) (meaning.for_clause R.means (nested R.means self.now.depth context.now) target.now iterable.now (meaning.clauses R.means (nested R.means self.now.depth context.now) rest.now (meaning.body R.means (nested R.means self.now.depth context.now) comprehension.now)) (slots_of frame.old) content.old (R.seen runtime.old)) }
+        ensures { Acts R.means loop_of result (R.seen runtime.new) (opening R.means (nested R.means self.now.depth context.now) target.now iterable.now after.now (slots_of frame.now) (R.seen runtime.old)) }
     {
-        let iterable = self.value(context, frame, runtime, iterable)?;
-        let mut elements = runtime.begin_walk(context.alloc, &iterable)?;
-        self.turns(
-            context,
-            frame,
-            runtime,
-            content,
+        let walked = self.value(context, frame, runtime, iterable)?;
+        let elements = runtime.begin_walk(context.alloc, &walked)?;
+        Ok(OpenLoop {
             target,
-            &mut elements,
-            rest,
-            comprehension,
-        )?;
-        runtime.end_walk(&iterable);
-        Ok(())
+            after,
+            walked,
+            elements,
+        })
     }
 
-    /// `if condition`
-    #[cycle(clauses)]
-    #[tactic(auto, unfolding(bq_meaning::specs::Comprehensions::if_clause))]
-    fn if_clause(
+    /// The clauses as far as the first loop, which is opened. Where there is none, what stands before the clauses.
+    fn inward<'a>(
+        &self,
+        context: &Context<'_>,
+        frame: &Frame,
+        runtime: &mut R,
+        content: &mut Content,
+        clauses: &'a [CodeClause],
+        comprehension: &Code,
+    ) -> Result<Option<OpenLoop<'a>>, EvalErr>
+        requires { Nests R.means R.seen context.now.left self.now.depth self.now.call (F.pre self.now.eval) (F.post self.now.eval) }
+        ensures leaves { Leaves R.means (λ inner. inner_left R.means (nested R.means self.now.depth context.now) (meaning.body R.means (nested R.means self.now.depth context.now) comprehension.now) (inner_of inner) (slots_of frame.now) content.new (R.seen runtime.new)) result (R.seen runtime.new) (meaning.clauses R.means (nested R.means self.now.depth context.now) clauses.now (meaning.body R.means (nested R.means self.now.depth context.now) comprehension.now) (slots_of frame.now) content.old (R.seen runtime.old)) }
+        ensures counts { IfOk result (λ inner. clauses_count R.means (nested R.means self.now.depth context.now) (meaning.body R.means (nested R.means self.now.depth context.now) comprehension.now) clauses.now (slots_of frame.now) content.old (R.seen runtime.old) ≡ inner_count R.means (nested R.means self.now.depth context.now) (meaning.body R.means (nested R.means self.now.depth context.now) comprehension.now) (inner_of inner) (slots_of frame.now) content.new (R.seen runtime.new)) }
+    {
+        let mut rest = clauses;
+        while let [clause, after @ ..] = rest {
+            match clause {
+                CodeClause::For(target, iterable) => {
+                    return Ok(Some(self.open(context, frame, runtime, target, iterable, after)?));
+                }
+                CodeClause::If(condition) => {
+                    if !self.holds(context, frame, runtime, condition)? {
+                        return Ok(None);
+                    }
+                }
+            }
+            rest = after;
+        }
+        self.body(context, frame, runtime, content, comprehension)?;
+        Ok(None)
+    }
+
+    /// A turn of a loop, as far as the first loop inside it.
+    #[tactic(auto, unfolding(bq_meaning::specs::Comprehensions::turn, crate::specs::OpenLoops::turn_count))]
+    fn turn<'a>(
         &self,
         context: &Context<'_>,
         frame: &mut Frame,
         runtime: &mut R,
         content: &mut Content,
-        condition: &Code,
-        rest: &[CodeClause],
+        target: &CodeTarget,
+        after: &'a [CodeClause],
+        value: Value,
         comprehension: &Code,
-    ) -> Result<(), EvalErr>
+    ) -> Result<Option<OpenLoop<'a>>, EvalErr>
         requires { Nests R.means R.seen context.now.left self.now.depth self.now.call (F.pre self.now.eval) (F.post self.now.eval) }
-        ensures { Acts R.means (λ _. (content.new, slots_of frame.new)) result (R.seen runtime.new) (meaning.if_clause R.means (nested R.means self.now.depth context.now) condition.now (meaning.clauses R.means (nested R.means self.now.depth context.now) rest.now (meaning.body R.means (nested R.means self.now.depth context.now) comprehension.now)) (slots_of frame.old) content.old (R.seen runtime.old)) }
+        ensures leaves { Leaves R.means (λ inner. inner_left R.means (nested R.means self.now.depth context.now) (meaning.body R.means (nested R.means self.now.depth context.now) comprehension.now) (inner_of inner) (slots_of frame.new) content.new (R.seen runtime.new)) result (R.seen runtime.new) (meaning.turn R.means (nested R.means self.now.depth context.now) target.now (meaning.clauses R.means (nested R.means self.now.depth context.now) after.now (meaning.body R.means (nested R.means self.now.depth context.now) comprehension.now)) value (slots_of frame.old) content.old (R.seen runtime.old)) }
+        ensures counts { IfOk result (λ inner. turn_count R.means (nested R.means self.now.depth context.now) (meaning.body R.means (nested R.means self.now.depth context.now) comprehension.now) target.now (clauses_count R.means (nested R.means self.now.depth context.now) (meaning.body R.means (nested R.means self.now.depth context.now) comprehension.now) after.now) value (slots_of frame.old) content.old (R.seen runtime.old) ≡ inner_count R.means (nested R.means self.now.depth context.now) (meaning.body R.means (nested R.means self.now.depth context.now) comprehension.now) (inner_of inner) (slots_of frame.new) content.new (R.seen runtime.new)) }
     {
-        if self.holds(context, frame, runtime, condition)? {
-            return self.clauses(context, frame, runtime, content, rest, comprehension);
-        }
-        Ok(())
+        begin_turn(context.alloc, runtime, frame, target, value)?;
+        self.inward(context, &*frame, runtime, content, after, comprehension)
     }
 
-    #[cycle(clauses)]
-    #[tactic(auto, unfolding(bq_meaning::specs::Comprehensions::clause))]
-    fn clause(
+    /// The turns of a loop, and those of the loops that open inside it.
+    fn turns<'a>(
         &self,
         context: &Context<'_>,
         frame: &mut Frame,
         runtime: &mut R,
         content: &mut Content,
-        clause: &CodeClause,
-        rest: &[CodeClause],
+        first: OpenLoop<'a>,
         comprehension: &Code,
     ) -> Result<(), EvalErr>
         requires { Nests R.means R.seen context.now.left self.now.depth self.now.call (F.pre self.now.eval) (F.post self.now.eval) }
-        ensures { Acts R.means (λ _. (content.new, slots_of frame.new)) result (R.seen runtime.new) (meaning.clause R.means (nested R.means self.now.depth context.now) clause.now (meaning.clauses R.means (nested R.means self.now.depth context.now) rest.now (meaning.body R.means (nested R.means self.now.depth context.now) comprehension.now)) (slots_of frame.old) content.old (R.seen runtime.old)) }
+        ensures { Acts R.means (λ _. (content.new, slots_of frame.new)) result (R.seen runtime.new) (loop_left R.means (nested R.means self.now.depth context.now) (meaning.body R.means (nested R.means self.now.depth context.now) comprehension.now) (loop_of first.entry) (slots_of frame.old) content.old (R.seen runtime.old)) }
     {
-        match clause {
-            CodeClause::For(target, iterable) => {
-                self.for_clause(
-                    context,
-                    frame,
-                    runtime,
-                    content,
-                    target,
-                    iterable,
-                    rest,
-                    comprehension,
-                )
-            }
-            CodeClause::If(condition) => {
-                self.if_clause(
-                    context,
-                    frame,
-                    runtime,
-                    content,
-                    condition,
-                    rest,
-                    comprehension,
-                )
-            }
+        let mut outer = Vec::new(context.alloc);
+        let mut innermost = first;
+        loop {
+            let Some(value) = innermost.elements.next() else {
+                runtime.end_walk(&innermost.walked);
+                let Some(next) = outer.pop() else {
+                    return Ok(());
+                };
+                innermost = next;
+                continue;
+            };
+            let inside = self.turn(
+                context,
+                frame,
+                runtime,
+                content,
+                innermost.target,
+                innermost.after,
+                value,
+                comprehension,
+            )?;
+            let Some(inner) = inside else {
+                continue;
+            };
+            outer.push(innermost)?;
+            innermost = inner;
         }
     }
 
-    /// The clauses from here on, and at last what stands before them.
-    #[cycle(clauses)]
-    #[tactic(auto, unfolding(bq_meaning::specs::Comprehensions::clauses))]
+    /// The clauses, in a frame of their own.
     fn clauses(
         &self,
         context: &Context<'_>,
@@ -217,19 +214,9 @@ impl<
         requires { Nests R.means R.seen context.now.left self.now.depth self.now.call (F.pre self.now.eval) (F.post self.now.eval) }
         ensures { Acts R.means (λ _. (content.new, slots_of frame.new)) result (R.seen runtime.new) (meaning.clauses R.means (nested R.means self.now.depth context.now) clauses.now (meaning.body R.means (nested R.means self.now.depth context.now) comprehension.now) (slots_of frame.old) content.old (R.seen runtime.old)) }
     {
-        match clauses {
-            [clause, rest @ ..] => {
-                self.clause(
-                    context,
-                    frame,
-                    runtime,
-                    content,
-                    clause,
-                    rest,
-                    comprehension,
-                )
-            }
-            [] => self.body(context, frame, runtime, content, comprehension),
+        match self.inward(context, &*frame, runtime, content, clauses, comprehension)? {
+            None => Ok(()),
+            Some(first) => self.turns(context, frame, runtime, content, first, comprehension),
         }
     }
 

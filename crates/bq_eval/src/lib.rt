@@ -30,6 +30,7 @@ mod file;
 mod filling;
 mod flow;
 mod frame;
+mod open_loop;
 mod operand;
 mod operators;
 mod parameters;
