@@ -1,9 +1,9 @@
 -- Arguments that go to no parameter are F52.
-use Rattle.std.proofs.Common.{ℕ, Bool, List, [], ◌∷◌, Option, Some, None, Result, Ok, Err, is_some, cond, set, slice_get, refl}
+use Rattle.std.proofs.Common.{ℕ, Bool, List, [], ◌∷◌, Option, Some, None, Ok, Err, is_some, slice_get, refl}
 use Rattle.std.specs.List.{position_from}
 use Rattle.bq_source.specs.declared.fault.FaultKind.TheVariants.{Args}
 use Rattle.bq_value.specs.Datum.{Datum, string}
-use Rattle.bq_value.specs.Pairs.{found, put}
+use Rattle.bq_value.specs.Pairs.{found}
 use Rattle.bq_machine.specs.Args.{Passed}
 use Rattle.bq_machine.specs.Binding.{BoundView, Binding, placed, too_many, fill_by, fill, take_keyword, take_named_by, take_named, and_bind, take_all_named, is_complete, if_complete, bind}
 use Rattle.bq_machine.specs.Parameters.{SignatureView, is_called}

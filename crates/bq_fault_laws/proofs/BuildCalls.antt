@@ -1,8 +1,7 @@
 -- The calls of build functions and of rules are refused for a fault that a file may fail with.
-use Rattle.std.proofs.Common.{ℕ, ℤ, pos, negsuc, ◌==◌, ◌||◌, Bool, true, false, List, [], ◌∷◌, ◌++◌, map, slice_get, Option, Some, None, Result, Ok, Err, bytes_eq, codes, refl}
+use Rattle.std.proofs.Common.{ℕ, ℤ, pos, negsuc, ◌==◌, ◌||◌, Bool, List, [], ◌∷◌, ◌++◌, slice_get, Option, Some, None, Result, Ok, Err, bytes_eq, codes, refl}
 use Rattle.std.specs.List.{list_any}
 use Rattle.bq_source.specs.declared.fault.FaultKind.{FaultKind}
-use Rattle.bq_source.specs.declared.fault.FaultKind.TheVariants as f
 use Rattle.bq_label.specs.declared.packages.BuildFile.{BuildFile}
 use Rattle.bq_label.specs.Label.{PackageParts, LabelParts}
 use Rattle.bq_label.specs.Paths.{is_path}
@@ -18,7 +17,7 @@ use Rattle.bq_glob.specs.Pattern.{is_pattern}
 use Rattle.bq_value.specs.Cells.{StoreView, content_at}
 use Rattle.bq_value.specs.Contents.{Contents, items, pairs}
 use Rattle.bq_value.specs.Datum.{Datum, boolean, int, string, tuple, cell}
-use Rattle.bq_machine.specs.Action.{Action, Run, done, stopped, given, beside}
+use Rattle.bq_machine.specs.Action.{Run, done, stopped, given, beside}
 use Rattle.bq_machine.specs.Args.{Passed}
 use Rattle.bq_machine.specs.Binding.{bind}
 use Rattle.bq_machine.specs.State.{State}

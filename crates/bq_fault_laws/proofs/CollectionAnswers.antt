@@ -1,10 +1,10 @@
 -- What methods of lists and dicts answer is refused for faults of evaluation alone.
-use Rattle.std.proofs.Common.{ℕ, ◌+◌, ℤ, List, [], ◌∷◌, ◌++◌, length, slice_get, Option, Some, None, Result, Ok, Err, refl}
+use Rattle.std.proofs.Common.{ℕ, ◌+◌, ℤ, List, [], ◌∷◌, length, slice_get, Option, Some, None, Result, Ok, Err, refl}
 use Rattle.bq_source.specs.declared.fault.FaultKind.{FaultKind}
 use Rattle.bq_value.specs.Cells.{StoreView, content_at}
 use Rattle.bq_value.specs.Contents.{Contents, items, pairs}
-use Rattle.bq_value.specs.Datum.{Datum, none, int, tuple, cell, list_of}
-use Rattle.bq_value.specs.Pairs.{found, put}
+use Rattle.bq_value.specs.Datum.{Datum, none, int, tuple, cell}
+use Rattle.bq_value.specs.Pairs.{found}
 use Rattle.bq_machine.specs.Args.{Passed}
 use Rattle.bq_operators.specs.Length.{within}
 use Rattle.bq_operators.specs.Place.{indexed}

@@ -1,5 +1,5 @@
 -- A file that was parsed and resolved fails with a fault of evaluation alone: it is sound.
-use Rattle.std.proofs.Common.{ℕ, List, [], ◌∷◌, Option, Some, None}
+use Rattle.std.proofs.Common.{List, [], ◌∷◌, Option, Some, None}
 use Rattle.std.specs.List.{AllByRecursion}
 use Rattle.bq_scope.specs.Names.{Name}
 use Rattle.bq_scope.specs.declared.code.Resolved.{Resolved}

@@ -1,5 +1,5 @@
 -- What built-in functions answer is refused for faults of evaluation alone.
-use Rattle.std.proofs.Common.{ℕ, zero, suc, ℤ, pos, ◌+ℤ◌, Bool, true, false, List, [], ◌∷◌, length, nat_le, Option, Some, None, Result, Ok, Err, bytes_eq, codes, refl}
+use Rattle.std.proofs.Common.{ℕ, zero, suc, ℤ, pos, ◌+ℤ◌, true, false, List, [], ◌∷◌, length, nat_le, Option, Some, None, Result, Ok, Err, bytes_eq, codes, refl}
 use Rattle.std.specs.Ordering.{int_eq}
 use Rattle.std.specs.Str.Parse.{without_leading_sign, signed_digits_value}
 use Rattle.bq_source.specs.declared.fault.FaultKind.{FaultKind}
@@ -18,7 +18,7 @@ use Rattle.bq_functions.specs.declared.choosing.Choice.{Choice}
 use Rattle.bq_functions.specs.Elements.{room_for, listed, listed_if_any}
 use Rattle.bq_functions.specs.Integers.{as_int, is_numeral, read_integer, integer_from, int, content_length, length_in, len, step_or_one, range_by, range_from, range}
 use Rattle.bq_functions.specs.Sequences.{tuple, list, reversed, start_or_zero, numbers_fit, enumerate, elements_of_each, shortest, zip}
-use Rattle.bq_functions.specs.Texts.{content_type, type_name, type_of, space, separator_of, separator_in}
+use Rattle.bq_functions.specs.Texts.{content_type, type_name, type_of, separator_of, separator_in}
 use Rattle.bq_functions.specs.Truths.{all, any, bool}
 use Rattle.bq_fault_laws.proofs.Fine.{Fine, fine_cond}
 use Rattle.bq_fault_laws.proofs.Sequences.{elements_fine, fitted_fine}

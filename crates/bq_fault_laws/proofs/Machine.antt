@@ -1,14 +1,13 @@
 -- What a machine does stops for faults of evaluation alone.
 use Rattle.std.proofs.Common.{◌≡◌, ℕ, ◌==◌, Bool, true, false, cond, List, Result, Ok, Err, nat_lt, length, refl}
 use Rattle.bq_source.specs.declared.fault.FaultKind.{FaultKind}
-use Rattle.bq_source.specs.declared.fault.FaultKind.TheVariants as f
 use Rattle.bq_value.specs.Cells.{StoreView, content_at}
 use Rattle.bq_value.specs.Contents.{Contents}
 use Rattle.bq_value.specs.Datum.{Datum}
 use Rattle.bq_walk.specs.KeyWalk.{walked_at, keyed}
 use Rattle.bq_walk.specs.Looked.{Looked, max_levels}
 use Rattle.bq_text.specs.Shown.{text_of, repr_of}
-use Rattle.bq_machine.specs.Action.{Action, Run, done, stopped, following, ◌>>=◌, ◌>>◌, pure, stop, given, look, change}
+use Rattle.bq_machine.specs.Action.{Action, Run, ◌>>=◌, ◌>>◌, pure, stop, given, look, change}
 use Rattle.bq_machine.specs.Calls.{is_active, max_active, enter}
 use Rattle.bq_machine.specs.Cells.{new_content, or_wrong, content, is_walked, may_change, can_change, put_content, Change, changing, new_list, new_dict}
 use Rattle.bq_machine.specs.Iteration.{elements_in, elements, marked, begin_walk}

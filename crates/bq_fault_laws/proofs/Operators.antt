@@ -13,7 +13,7 @@ use Rattle.bq_format.specs.Percent.{percent_of}
 use Rattle.bq_machine.specs.Action.{pure, given, look}
 use Rattle.bq_machine.specs.Cells.{content, may_change, changing, new_content}
 use Rattle.bq_machine.specs.Iteration.{elements}
-use Rattle.bq_machine.specs.Machine.{walk, key, text, repr}
+use Rattle.bq_machine.specs.Machine.{walk, key, text}
 use Rattle.bq_operate.specs.Operand.{as_int, as_string, as_tuple, int_of, list_in, dict_in}
 use Rattle.bq_operate.specs.Integers.{arithmetic, integers, signed}
 use Rattle.bq_operate.specs.Comparing.{compared}

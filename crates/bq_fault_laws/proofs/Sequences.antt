@@ -1,5 +1,5 @@
 -- What operators answer of integers, places and sequences is refused for faults of evaluation alone.
-use Rattle.std.proofs.Common.{ℕ, zero, suc, ◌==◌, ℤ, pos, negsuc, nat_lt, nat_le, List, [], ◌∷◌, ◌++◌, length, slice_get, Option, Some, None, Result, Ok, Err, refl}
+use Rattle.std.proofs.Common.{ℕ, zero, suc, ℤ, pos, negsuc, nat_lt, nat_le, List, [], ◌++◌, length, slice_get, Option, Some, None, Result, Ok, Err, refl}
 use Rattle.std.specs.Ordering.{int_eq}
 use Rattle.bq_source.specs.declared.fault.FaultKind.{FaultKind}
 use Rattle.bq_source.specs.declared.fault.FaultKind.TheVariants as f
@@ -9,7 +9,7 @@ use Rattle.bq_grammar.specs.declared.tree.UnaryOperator.{UnaryOperator}
 use Rattle.bq_grammar.specs.declared.tree.UnaryOperator.TheVariants as sign
 use Rattle.bq_value.specs.Cells.{StoreView, content_at}
 use Rattle.bq_value.specs.Contents.{Contents, items, pairs}
-use Rattle.bq_value.specs.Datum.{Datum, none, boolean, int, string, tuple, range, cell, function, built_in, data_of, list_of}
+use Rattle.bq_value.specs.Datum.{Datum, none, int, string, tuple, range, cell, data_of, list_of}
 use Rattle.bq_value.specs.Pairs.{put}
 use Rattle.bq_value.specs.Range.{range_count}
 use Rattle.bq_machine.specs.Cells.{or_wrong}
@@ -18,16 +18,16 @@ use Rattle.bq_operators.specs.Division.{divided, remainder}
 use Rattle.bq_operators.specs.Integer.{fits, fitted}
 use Rattle.bq_operators.specs.Length.{max_len, within}
 use Rattle.bq_operators.specs.Place.{indexed}
-use Rattle.bq_operators.specs.RangeItem.{element_by, range_item}
-use Rattle.bq_operators.specs.Shift.{shift_count, scaled, scaled_by, halved_by, shifted_left, shifted_right}
+use Rattle.bq_operators.specs.RangeItem.{element_by}
+use Rattle.bq_operators.specs.Shift.{shift_count, scaled, scaled_by, halved_by}
 use Rattle.bq_operate.specs.InPlace.{list_extended, dict_united, element_set, pair_put}
 use Rattle.bq_operate.specs.Integers.{arithmetic, integers, signed}
-use Rattle.bq_operate.specs.Operand.{and_then, as_int, as_string, as_tuple, int_of, list_of_content, dict_of_content, list_in, dict_in}
+use Rattle.bq_operate.specs.Operand.{as_int, as_string, as_tuple, int_of, list_of_content, dict_of_content, list_in, dict_in}
 use Rattle.bq_operate.specs.Operate.{list_slice}
 use Rattle.bq_operate.specs.Product.{list_product}
-use Rattle.bq_operate.specs.Sequence.{limited, copies, joined, repeated}
+use Rattle.bq_operate.specs.Sequence.{limited, joined, repeated}
 use Rattle.bq_operate.specs.Slicing.{bound_of, step_of, with_step, bounds_of, sliced}
-use Rattle.bq_operate.specs.Subscript.{or_fault, item_in, byte_in, integer_in}
+use Rattle.bq_operate.specs.Subscript.{item_in, byte_in, integer_in}
 use Rattle.bq_operate.specs.Sum.{string_sum, tuple_sum, list_sum}
 use Rattle.bq_operate.specs.Union.{put_all, united, dict_union}
 use Rattle.bq_fault_laws.proofs.Fine.{Fine, fine_then, fine_cond, fine_fault}

@@ -1,7 +1,6 @@
 -- Statements stop for faults of evaluation alone, where they are sound.
 use Rattle.std.proofs.Common.{ℕ, zero, suc, List, [], ◌∷◌, Option, Some, None}
 use Rattle.std.specs.List.{AllByRecursion}
-use Rattle.bq_source.specs.declared.fault.FaultKind.TheVariants as f
 use Rattle.bq_scope.specs.declared.code.Code.{Code}
 use Rattle.bq_scope.specs.declared.code.CodeBranch.{CodeBranch, out-CodeBranch}
 use Rattle.bq_scope.specs.declared.code.CodeSmall.{CodeSmall}
@@ -16,7 +15,7 @@ use Rattle.bq_meaning.specs.Statements.{Flow, next, leave, again, answer, Exec, 
 use Rattle.bq_meaning.specs.Trees.{Eval, StmtLayer}
 use Rattle.bq_meaning_laws.specs.Layers.{OptionalParts}
 use Rattle.bq_fault_laws.specs.Faults.{Refusing}
-use Rattle.bq_sound_laws.specs.Sound.{AreNames, IsOne, ExprIsSound, PlaceIsSound, SmallIsSound, BranchIsSound, StmtLayerIsSound, StmtIsSound}
+use Rattle.bq_sound_laws.specs.Sound.{AreNames, ExprIsSound, PlaceIsSound, SmallIsSound, BranchIsSound, StmtLayerIsSound, StmtIsSound}
 use Rattle.bq_fault_laws.proofs.Lawful.{Lawful, value_of, both, choice_of}
 use Rattle.bq_fault_laws.proofs.TargetRules.{variables_rule, assign_rule, augment_rule}
 

@@ -1,12 +1,12 @@
 -- Walks over values are refused for faults of evaluation alone.
-use Rattle.std.proofs.Common.{◌==◌, ℕ, zero, suc, ℤ, Bool, true, false, cond, List, [], ◌∷◌, length, Option, Some, None, Result, Ok, Err, refl}
+use Rattle.std.proofs.Common.{◌==◌, ℕ, zero, suc, ℤ, Bool, true, false, cond, List, [], ◌∷◌, length, Option, Some, None, Ok, Err, refl}
 use Rattle.std.specs.declared.cmp.Ordering.{Ordering}
-use Rattle.bq_source.specs.declared.fault.FaultKind.TheVariants.{StepLimit, TooDeep, Unhashable, WrongType}
+use Rattle.bq_source.specs.declared.fault.FaultKind.TheVariants.{TooDeep}
 use Rattle.bq_value.specs.Datum.{Datum, none, boolean, int, string, tuple, range, cell, function, built_in, list_of}
 use Rattle.bq_value.specs.Contents.{Contents, items, pairs}
 use Rattle.bq_value.specs.Cells.{StoreView, content_at}
 use Rattle.bq_value.specs.Pairs.{found}
-use Rattle.bq_walk.specs.Looked.{Looked, stepped}
+use Rattle.bq_walk.specs.Looked.{Looked}
 use Rattle.bq_walk.specs.Equality.{Compares, if_so, all_equal, lists_equal, partner_equal, pairs_equal, contents_equal, cells_equal, parts_equal, equal_at}
 use Rattle.bq_walk.specs.Order.{Orders, at_first, lists_ordered, contents_ordered, cells_ordered, bool_ordered, int_ordered, string_ordered, tuple_ordered, cell_ordered, parts_ordered, ordered_at}
 use Rattle.bq_walk.specs.KeyWalk.{Walked, walk_step, and_walk, all_walked, parts_walked, walked_at, keyed}

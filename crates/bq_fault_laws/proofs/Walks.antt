@@ -21,7 +21,7 @@ use Rattle.bq_format.specs.Piece.{Piece, byte, field, lone, pieces}
 use Rattle.bq_format.specs.Argument.{argument, next_after, no_fields, numbering_after}
 use Rattle.bq_format.specs.Percent as percent
 use Rattle.bq_format.specs.Percent.{DraftView, and_write, spoiled, onto, decimal, takes_value, next_shown, converted, values_after, filled_by, filled, blank, finished_when, finished_draft, with_steps, text_by, percent_of}
-use Rattle.bq_format.specs.Method.{field_shown, unmixed, made, formatted}
+use Rattle.bq_format.specs.Method.{field_shown, made, formatted}
 use Rattle.bq_string.specs.Parts.{partition}
 use Rattle.bq_machine.specs.Machine.{looked_equal, looked_order}
 use Rattle.bq_operators.specs.Place.{bound}
@@ -30,11 +30,10 @@ use Rattle.bq_operate.specs.Membership.{if_not, among, among_keys, in_string, in
 use Rattle.bq_operate.specs.Subscript.{or_fault, byte_in, item_in, integer_in, at_no_cost, value_by, value_in, content_item, item_of}
 use Rattle.bq_collections.specs.Search.{if_unequal, first_equal, found_between}
 use Rattle.bq_functions.specs.Texts.{others_shown, values_shown, joined_texts}
-use Rattle.bq_operate.specs.Operand.{int_of}
-use Rattle.bq_fault_laws.proofs.Fine.{Fine, fine_then, fine_cond, fine_fault, Walks, followed}
+use Rattle.bq_fault_laws.proofs.Fine.{Fine, fine_fault, Walks, followed}
 use Rattle.bq_fault_laws.proofs.Values.{equal_walks, order_walks, key_walks}
 use Rattle.bq_fault_laws.proofs.Texts.{repr_shown_walks, finish_walks, text_shown_walks}
-use Rattle.bq_fault_laws.proofs.Sequences.{int_of_fine, indexed_fine, item_in_fine, byte_in_fine, integer_in_fine}
+use Rattle.bq_fault_laws.proofs.Sequences.{item_in_fine, byte_in_fine, integer_in_fine}
 
 equal_looked : (s : StoreView) (a b : Datum) → Walks (λ n. looked_equal s n a b)
 unfolding looked_equal
