@@ -10,6 +10,7 @@ pub mod Beginning
 pub mod Paths
 pub mod Going
 pub mod Rows
+pub mod Deep
 pub mod Targets
 pub mod Outs
 pub mod Cutting

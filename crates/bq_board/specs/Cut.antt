@@ -1,20 +1,25 @@
--- A load graph whose cyclic modules load nothing.
-use Rattle.std.specs.Prelude.{◌≡◌, ℕ, ◌<◌, [], length, true, false}
+-- A load graph whose cyclic and too deep modules load nothing.
+use Rattle.std.specs.Prelude.{◌≡◌, ℕ, ◌<◌, List, [], length, true, false}
 use Rattle.bq_board.specs.Cycles.{is_cyclic}
+use Rattle.bq_board.specs.Depth.{is_too_deep}
 use Rattle.bq_board.specs.Graph.{Loads, row, IsGraph}
 use Rattle.bq_board.specs.Plan.{IsPlan}
 
--- q is p without the loads of cyclic modules
+-- what m loads in it
+pub record IsCutRow (p : Loads) (m : ℕ) (loads : List ℕ) : Type 0 where
+  pub cyclic : is_cyclic p m ≡ true → loads ≡ []
+  pub deep : is_too_deep p m ≡ true → loads ≡ []
+  pub rest : is_cyclic p m ≡ false → is_too_deep p m ≡ false → loads ≡ row p m
+
+-- q is p without the loads of cyclic and of too deep modules
 pub record IsCut (p q : Loads) : Type 0 where
   pub wide : length q ≡ length p
-  pub cyclic : (m : ℕ) → is_cyclic p m ≡ true → row q m ≡ []
-  pub rest : (m : ℕ) → is_cyclic p m ≡ false → row q m ≡ row p m
+  pub each : (m : ℕ) → IsCutRow p m (row q m)
 
 -- the first i rows
 pub record CutsBelow (p : Loads) (i : ℕ) (q : Loads) : Type 0 where
   pub wide : length q ≡ i
-  pub cyclic : (m : ℕ) → m < i → is_cyclic p m ≡ true → row q m ≡ []
-  pub rest : (m : ℕ) → m < i → is_cyclic p m ≡ false → row q m ≡ row p m
+  pub each : (m : ℕ) → m < i → IsCutRow p m (row q m)
 
 abbrev pub CutsToPlan : Loads → Loads → Type 0
 CutsToPlan p q = IsGraph p → IsCut p q → IsPlan q

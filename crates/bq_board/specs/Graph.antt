@@ -30,10 +30,10 @@ Known p = (m l : ℕ) → Has (row p m) l → l < length p
 
 -- the most modules, and the most edges, that a graph may have
 abbrev pub max_modules : ℕ
-max_modules = 4096
+max_modules = 16384
 
 abbrev pub max_edges : ℕ
-max_edges = 65536
+max_edges = 262144
 
 abbrev pub Fits : Loads → Type 0
 Fits p = (length p ≤ max_modules) × (edges p ≤ max_edges)

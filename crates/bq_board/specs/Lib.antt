@@ -1,6 +1,7 @@
 pub mod Counts
 pub mod Graph
 pub mod Cycles
+pub mod Depth
 pub mod Refusal
 pub mod Topological
 pub mod Sorting

@@ -1,6 +1,7 @@
-//! The plan of a load graph: its cyclic modules load nothing in it.
-ghost use Rattle.std.specs.Prelude.{IfOk};
-ghost use Rattle.bq_board.specs.Cut.{IsCut, CutsToPlan};
+//! The plan of a load graph: its cyclic and its too deep modules load nothing in it.
+ghost use Rattle.std.specs.Prelude.{◌<◌, length, IfOk};
+ghost use Rattle.bq_board.specs.Cut.{IsCut, IsCutRow, CutsToPlan};
+ghost use Rattle.bq_board.specs.Depth.{HasDepths};
 ghost use Rattle.bq_board.specs.Graph.{Loads, lists};
 ghost use Rattle.bq_board.specs.Topological.{MarksCycles};
 
@@ -11,9 +12,10 @@ use crate::topological::Order;
 use std::alloc::{AllocError, Global};
 
 impl Plan {
-    /// The plan of a load graph without the loads of its cyclic modules. `order` is the graph's topological order.
+    /// The plan of a load graph without the loads of its cyclic and its too deep modules. `order` is the graph's topological order.
     pub fn cut(alloc: Global, graph: &Graph, order: &Order) -> Result<Plan, AllocError>
-        requires { MarksCycles graph.now order.now.pending.items }
+        requires cyclic { MarksCycles graph.now order.now.pending.items }
+        requires depths { HasDepths graph.now order.now.depths.items }
         ensures { IfOk result (λ p. IsCut graph.now p) }
     {
         let rows = cut_rows(alloc, graph, order)?;
@@ -23,7 +25,7 @@ impl Plan {
     }
 }
 
-/// A load graph without the loads of its cyclic modules is a plan: `Plan::new` refuses it for no reason but memory.
+/// A load graph without the loads of its cyclic and its too deep modules is a plan: `Plan::new` refuses it for no reason but memory.
 pub fn cut_is_plan()
     ensures { (p q : Loads) → CutsToPlan p q }
 {
@@ -31,17 +33,25 @@ pub fn cut_is_plan()
 }
 
 fn cut_rows(alloc: Global, graph: &Graph, order: &Order) -> Result<Vec<Vec<u32>>, AllocError>
-    requires { MarksCycles graph.now order.now.pending.items }
+    requires cyclic { MarksCycles graph.now order.now.pending.items }
+    requires depths { HasDepths graph.now order.now.depths.items }
     ensures { IfOk result (λ v. IsCut graph.now (lists v.items)) }
 {
     let mut rows = Vec::new(alloc);
     for m in 0..graph.len() {
-        let row = if order.pending[m] == 0 {
-            graph.row(m).to_vec(alloc)?
-        } else {
-            Vec::new(alloc)
-        };
-        rows.push(row)?;
+        rows.push(cut_row(alloc, graph, order, m)?)?;
     }
     Ok(rows)
+}
+
+fn cut_row(alloc: Global, graph: &Graph, order: &Order, m: usize) -> Result<Vec<u32>, AllocError>
+    requires cyclic { MarksCycles graph.now order.now.pending.items }
+    requires depths { HasDepths graph.now order.now.depths.items }
+    requires known { m < length graph.now }
+    ensures { IfOk result (λ v. IsCutRow graph.now m v.items) }
+{
+    if order.pending[m] > 0 || order.is_too_deep(graph, m) {
+        return Ok(Vec::new(alloc));
+    }
+    graph.row(m).to_vec(alloc)
 }

@@ -9,10 +9,10 @@ use std::alloc::{AllocError, Global};
 use std::marker::Model;
 
 /// The most modules that a graph may have.
-pub const MAX_MODULES: usize = 4096;
+pub const MAX_MODULES: usize = 16_384;
 
 /// The most edges that a graph may have: a module that is loaded twice makes two.
-pub const MAX_EDGES: usize = 65_536;
+pub const MAX_EDGES: usize = 262_144;
 
 /// For each module the modules that it loads. A contract sees it as the list of these lists.
 #[derive(Drop)]

@@ -20,7 +20,7 @@ type Opened<V> = (
 );
 
 /// The most seats that a board may have.
-pub const MAX_SEATS: usize = 65;
+pub const MAX_SEATS: usize = 257;
 
 impl<V: Parcel> Board<V> {
     /// A board with all modules free and no edge posted, and all its seats, 1 to `MAX_SEATS`, which have done nothing.

@@ -3,6 +3,7 @@ ghost use Rattle.std.specs.Prelude.{◌≡◌, ℕ, ◌+◌, ◌<◌, ◌≤◌,
 ghost use Rattle.std.proofs.Common.{get_or};
 ghost use Rattle.bq_board.specs.Counts.{times, Has};
 ghost use Rattle.bq_board.specs.Cycles.{IsAcyclic};
+ghost use Rattle.bq_board.specs.Depth.{HasDepths};
 ghost use Rattle.bq_board.specs.Topological.{IsTopologicalOrder, MarksCycles};
 ghost use Rattle.bq_board.specs.Graph.{lists};
 ghost use Rattle.bq_board.specs.Sorting.{Sorting, IsDependents, Settles, Adds};
@@ -16,11 +17,35 @@ pub struct Order {
     pub modules: Vec<u32>,
     /// For each module how many of its loads aren't in the order: 0 exactly where it isn't cyclic.
     pub pending: Vec<usize>,
+    /// For each module that isn't cyclic how many edges the longest path has that starts at it.
+    pub depths: Vec<usize>,
+}
+
+// An order, and how many loads of each module aren't in it.
+#[derive(Drop)]
+pub(crate) struct Sorted {
+    pub(crate) modules: Vec<u32>,
+    pub(crate) pending: Vec<usize>,
 }
 
 impl Graph {
     /// The modules that aren't cyclic, each after all that it loads. It takes time linear in modules and edges.
     pub fn topological_order(&self, alloc: Global) -> Result<Order, AllocError>
+        ensures order { IfOk result (λ o. IsTopologicalOrder self.now o.modules.items o.pending.items) }
+        ensures cyclic { IfOk result (λ o. MarksCycles self.now o.pending.items) }
+        ensures depths { IfOk result (λ o. HasDepths self.now o.depths.items) }
+    {
+        let sorted = self.sorted(alloc)?;
+        let depths = self.depths(alloc, &sorted)?;
+        Ok(Order {
+            modules: sorted.modules,
+            pending: sorted.pending,
+            depths,
+        })
+    }
+
+    // The modules in order.
+    fn sorted(&self, alloc: Global) -> Result<Sorted, AllocError>
         ensures order { IfOk result (λ o. IsTopologicalOrder self.now o.modules.items o.pending.items) }
         ensures cyclic { IfOk result (λ o. MarksCycles self.now o.pending.items) }
     {
@@ -41,7 +66,7 @@ impl Graph {
     pub fn is_acyclic(&self, alloc: Global) -> Result<bool, AllocError>
         ensures { IfOk result (λ b. IsTrue b ↔ IsAcyclic self.now) }
     {
-        let order = self.topological_order(alloc)?;
+        let order = self.sorted(alloc)?;
         let _ = self.len();
         Ok(order.pending.iter().all(|n| *n == 0))
     }
@@ -58,10 +83,10 @@ impl Graph {
     }
 
     // How many loads each module has. Those that have none are the first of the order.
-    fn begin(&self, alloc: Global) -> Result<Order, AllocError>
+    fn begin(&self, alloc: Global) -> Result<Sorted, AllocError>
         ensures { IfOk result (λ o. Sorting self.now 0 o.modules.items o.pending.items) }
     {
-        let mut order = Order {
+        let mut order = Sorted {
             modules: Vec::new(alloc),
             pending: Vec::new(alloc),
         };

@@ -7,13 +7,14 @@ use Rattle.std.specs.declared.alloc.Global.{Global}
 use Rattle.std.proofs.lemmas.List.{map-set, map_push, take_more, take_all, get_or_push, get_or_append_left, length_push, get_or-map, same_lists}
 use Rattle.bq_board.specs.Counts.{Has}
 use Rattle.bq_board.specs.Graph.{Loads, row}
-use Rattle.bq_board.specs.Cycles.{is_cyclic}
+use Rattle.bq_board.specs.Cycles.{is_cyclic, starts_path}
+use Rattle.bq_board.specs.Depth.{max_load_depth, is_too_deep}
 use Rattle.bq_board.specs.Topological.{IsTopologicalOrder, MarksCycles}
 use Rattle.bq_board.proofs.Lemmas.{Has_snoc, Has-get_or, at_zero, zero_from, bool_cases}
 use Rattle.bq_outcome.specs.Outcome.{first, values, evaluated, outcome}
 use Rattle.bq_outcome.specs.declared.outcome.Outcome.{Outcome}
-use Rattle.bq_outcome.specs.declared.outcome.Outcome.TheVariants.{Cyclic}
-use Rattle.bq_outcome.proofs.Solution.{values_same, cyclic_is, acyclic_is, outcome_is}
+use Rattle.bq_outcome.specs.declared.outcome.Outcome.TheVariants.{Cyclic, TooDeep}
+use Rattle.bq_outcome.proofs.Solution.{values_same, cyclic_is, deep_is, evaluated_is, outcome_is}
 use Rattle.bq_load_order.specs.Shown.{shown, slot}
 use Rattle.bq_load_order.specs.Slots.{IsLoadOrder, Tabulates, or_failed, found_at, or_else, or_cyclic, Filling, Ready, Puts}
 
@@ -118,10 +119,14 @@ module _ {V F : Type 0} (out : ℕ → Outcome V F) where
 
 module _ {V F : Type 0} (means : ℕ → List V → Result V F) (p : Loads) where
   -- a module's outcome is what it evaluates to by what was found for its loads
-  found_outcome : (slots : List (Option (Outcome V F))) (m : ℕ) → Ready (outcome means p) p slots m → (r : Result (List V) ℕ) → r ≡ values (found_at slots) (row p m) → evaluated (means m) r ≡ outcome means p m
-  found_outcome slots m ready r e =
+  pub found_outcome : (slots : List (Option (Outcome V F))) (m : ℕ) → Ready (outcome means p) p slots m → is_too_deep p m ≡ false → (r : Result (List V) ℕ) → r ≡ values (found_at slots) (row p m) → evaluated (means m) r ≡ outcome means p m
+  found_outcome slots m ready d r e =
       ap (evaluated (means m)) (e ∙ values_same (found_at slots) (outcome means p) (row p m) (λ l h. ap or_failed (ready.done l h)))
-      ∙ sym (outcome_is means p m ∙ acyclic_is means p (outcome means p) m ready.acyclic)
+      ∙ sym (outcome_is means p m ∙ evaluated_is means p (outcome means p) m ready.acyclic d)
+
+  -- or that of a module that is too deep
+  pub deep_outcome : (m : ℕ) → is_too_deep p m ≡ true → (l : ℕ) (xs : List ℕ) → l ≡ first (starts_path p max_load_depth) xs → xs ≡ row p m → TooDeep l ≡ outcome means p m
+  deep_outcome m e l xs is same = ap TooDeep (is ∙ ap (first (starts_path p max_load_depth)) same) ∙ sym (outcome_is means p m ∙ deep_is means p (outcome means p) m e)
 
   -- what is settled at the end are the outcomes
   pub all_found : (order : List ℕ) → IsLoadOrder p order → (slots : List (Option (Outcome V F))) → Filling (outcome means p) (length p) slots order
@@ -146,15 +151,7 @@ module _ {M N V F : Type 0} (see : M → V) (see_fault : N → F) where
   pub slot_read : (found : Held) (m : ℕ) (s : Option (Outcome (Arc M Global) (Arc N Global))) → m < length found → s ≡ get_or found m s → get_or (map (slot see see_fault) found) m None ≡ slot see see_fault s
   slot_read found m s h read = get_or-map (slot see see_fault) found m s None h ∙ ap (slot see see_fault) (sym read)
 
-  puts_found : (out : ℕ → Outcome V F) (found : Held) (m : ℕ) (o : Outcome (Arc M Global) (Arc N Global)) → shown see see_fault o ≡ out m
+  -- an empty slot gets the module's outcome
+  pub puts_found : (out : ℕ → Outcome V F) (found : Held) (m : ℕ) (o : Outcome (Arc M Global) (Arc N Global)) → shown see see_fault o ≡ out m
       → Puts out m (map (slot see see_fault) found) (map (slot see see_fault) (set found m (Some o)))
   puts_found out found m o e = map-set (slot see see_fault) found m (Some o) ∙ ap (λ x. set (map (slot see see_fault) found) m (Some x)) e
-
-  -- an empty slot gets what the module evaluates to by what was found for its loads
-  pub puts_evaluated : (means : ℕ → List V → Result V F) (p : Loads) (found : Held) (m : ℕ) → Ready (outcome means p) p (map (slot see see_fault) found) m
-      → (read : Held) → read ≡ found → (xs : List ℕ) → xs ≡ row p m → (r : Result (List V) ℕ) → r ≡ values (found_at (map (slot see see_fault) read)) xs
-      → (o : Outcome (Arc M Global) (Arc N Global)) → shown see see_fault o ≡ evaluated (means m) r
-      → Puts (outcome means p) m (map (slot see see_fault) found) (map (slot see see_fault) (set found m (Some o)))
-  puts_evaluated means p found m ready read same xs loads r e o is =
-      let by : r ≡ values (found_at (map (slot see see_fault) found)) (row p m) = e ∙ (λ i. values (found_at (map (slot see see_fault) (same i))) (loads i)) in
-      puts_found (outcome means p) found m o (is ∙ found_outcome means p (map (slot see see_fault) found) m ready r by)

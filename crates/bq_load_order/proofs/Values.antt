@@ -4,7 +4,7 @@ use Rattle.std.proofs.lemmas.List.{drop_more, drop_all, append_assoc, append-nil
 use Rattle.bq_outcome.specs.Outcome.{first, with_value, values}
 use Rattle.bq_outcome.proofs.Solution.{cond_true, cond_false}
 use Rattle.bq_outcome.specs.declared.outcome.Outcome.{Outcome}
-use Rattle.bq_outcome.specs.declared.outcome.Outcome.TheVariants.{Loaded, Faulty, Cyclic, LoadFailed}
+use Rattle.bq_outcome.specs.declared.outcome.Outcome.TheVariants.{Loaded, Faulty, Cyclic, TooDeep, LoadFailed}
 use Rattle.bq_load_order.specs.Shown.{value_in}
 
 -- these values, and then those of the other loads
@@ -22,12 +22,14 @@ module _ {V F : Type 0} where
   with_one (Loaded w) v x vs (Err l) e = refl
   with_one (Faulty f) v x vs r e = absurd (cc)
   with_one (Cyclic l) v x vs r e = absurd (cc)
+  with_one (TooDeep l) v x vs r e = absurd (cc)
   with_one (LoadFailed l) v x vs r e = absurd (cc)
 
   without : (o : Outcome V F) (x : ℕ) (vs : List V) (r : Result (List V) ℕ) → value_in o ≡ None → before vs (with_value o x r) ≡ Err x
   without (Loaded w) x vs r e = absurd (cc)
   without (Faulty f) x vs r e = refl
   without (Cyclic l) x vs r e = refl
+  without (TooDeep l) x vs r e = refl
   without (LoadFailed l) x vs r e = refl
 
   module _ (at : ℕ → Outcome V F) (xs : List ℕ) where

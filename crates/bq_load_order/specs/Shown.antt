@@ -3,7 +3,7 @@ use Rattle.std.specs.Prelude.{ℕ, List, map, Option, Some, None, Result, Ok, Er
 use Rattle.std.specs.declared.sync.Arc.{Arc}
 use Rattle.std.specs.declared.alloc.Global.{Global}
 use Rattle.bq_outcome.specs.declared.outcome.Outcome.{Outcome}
-use Rattle.bq_outcome.specs.declared.outcome.Outcome.TheVariants.{Loaded, Faulty, Cyclic, LoadFailed}
+use Rattle.bq_outcome.specs.declared.outcome.Outcome.TheVariants.{Loaded, Faulty, Cyclic, TooDeep, LoadFailed}
 
 module _ {M N V F : Type 0} (see : M → V) (see_fault : N → F) where
   abbrev pub told : Result M N → Result V F
@@ -14,6 +14,7 @@ module _ {M N V F : Type 0} (see : M → V) (see_fault : N → F) where
   shown (Loaded a) = Loaded (see a.value)
   shown (Faulty a) = Faulty (see_fault a.value)
   shown (Cyclic l) = Cyclic l
+  shown (TooDeep l) = TooDeep l
   shown (LoadFailed l) = LoadFailed l
 
   -- what was found for a module, if anything
@@ -34,4 +35,5 @@ abbrev pub value_in : {V F : Type 0} → Outcome V F → Option V
 value_in (Loaded v) = Some v
 value_in (Faulty e) = None
 value_in (Cyclic l) = None
+value_in (TooDeep l) = None
 value_in (LoadFailed l) = None

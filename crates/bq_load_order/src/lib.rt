@@ -4,7 +4,7 @@
 //! The promise: they are the outcomes that the recursion along loads defines. The modules are evaluated in load order, each at most once, and no call
 //! of a function goes along loads: a long chain of modules takes no more stack than a short one.
 //!
-//! Modules that are cyclic, or that load a module without value, aren't evaluated. A value and a fault are kept once, and shared.
+//! Modules that are cyclic or too deep, or that load a module without value, aren't evaluated. A value and a fault are kept once, and shared.
 //! What a module prints, and the package that a BUILD file makes, are parts of its value and of its fault, as the evaluator likes.
 //!
 //! In reading order: `evaluate` (what evaluates modules), `shared` (outcomes with shared values), `imports` (the values of what a module loads),
@@ -24,4 +24,4 @@ pub use laws::one_list;
 pub use module::outcome_by;
 pub use outcomes::{complete, outcomes_one_thread};
 pub use shared::{Shared, share, share_value};
-pub use slots::{empty_slots, first_cyclic};
+pub use slots::{empty_slots, first_at_limit, first_cyclic};

@@ -1,5 +1,6 @@
 //! The outcomes of all modules, in load order.
 ghost use Rattle.std.specs.Prelude.{◌≡◌, ℕ, [], length, map, IfOk, OnOk};
+ghost use Rattle.bq_board.specs.Depth.{HasDepths};
 ghost use Rattle.bq_board.specs.Topological.{IsTopologicalOrder, MarksCycles};
 ghost use Rattle.bq_outcome.specs.Outcome.{outcome};
 ghost use Rattle.bq_load_order.specs.Shown.{shown, slot};
@@ -9,8 +10,9 @@ use crate::evaluate::Evaluate;
 use crate::imports::imported;
 use crate::module::outcome_by;
 use crate::shared::Shared;
-use crate::slots::{all_settled, empty_slots};
+use crate::slots::{all_settled, empty_slots, first_at_limit};
 use bq_board::{Graph, Order};
+use bq_outcome::Outcome;
 use std::alloc::{AllocError, Global};
 
 /// The outcome of each module of a load graph. It calls the evaluator once for each module whose loads all have values.
@@ -36,34 +38,31 @@ pub fn complete<E: Evaluate>(
 ) -> Result<Vec<Shared<E::Value, E::Fault>>, AllocError>
     requires order { IsTopologicalOrder graph.now order.now.modules.items order.now.pending.items }
     requires cyclic { MarksCycles graph.now order.now.pending.items }
+    requires depths { HasDepths graph.now order.now.depths.items }
     requires found { Filling (outcome (E.means evaluator.now) graph.now) (length graph.now) (map (slot E.see E.see_fault) found.items) [] }
     ensures { IfOk result (λ v. Tabulates (length graph.now) (outcome (E.means evaluator.now) graph.now) (map (shown E.see E.see_fault) v.items)) }
 {
-    fill(
-        alloc,
-        evaluator,
-        graph,
-        order.modules.as_slice(),
-        &mut found,
-    )?;
+    fill(alloc, evaluator, graph, order, &mut found)?;
     // for the proof: the outcomes are those of the settled
     Ok(all_settled::<E>(alloc, graph, order, found.as_slice())?)
 }
 
-// Finds the outcomes of these modules.
+// Finds the outcomes of the modules of the order.
 fn fill<E: Evaluate>(
     alloc: Global,
     evaluator: &E,
     graph: &Graph,
-    modules: &[u32],
+    order: &Order,
     found: &mut Vec<Option<Shared<E::Value, E::Fault>>>,
 ) -> Result<(), AllocError>
-    requires order { IsLoadOrder graph.now modules.now }
+    requires order { IsLoadOrder graph.now order.now.modules.items }
+    requires cyclic { MarksCycles graph.now order.now.pending.items }
+    requires depths { HasDepths graph.now order.now.depths.items }
     requires found { Filling (outcome (E.means evaluator.now) graph.now) (length graph.now) (map (slot E.see E.see_fault) found.old.items) [] }
-    ensures { OnOk result (Filling (outcome (E.means evaluator.now) graph.now) (length graph.now) (map (slot E.see E.see_fault) found.new.items) modules.now) }
+    ensures { OnOk result (Filling (outcome (E.means evaluator.now) graph.now) (length graph.now) (map (slot E.see E.see_fault) found.new.items) order.now.modules.items) }
 {
-    for m in modules {
-        fill_one(alloc, evaluator, graph, *m, found)?;
+    for m in order.modules.as_slice() {
+        fill_one(alloc, evaluator, graph, order, *m, found)?;
     }
     Ok(())
 }
@@ -73,17 +72,42 @@ fn fill_one<E: Evaluate>(
     alloc: Global,
     evaluator: &E,
     graph: &Graph,
+    order: &Order,
     m: u32,
     found: &mut Vec<Option<Shared<E::Value, E::Fault>>>,
 ) -> Result<(), AllocError>
-    requires { Ready (outcome (E.means evaluator.now) graph.now) graph.now (map (slot E.see E.see_fault) found.old.items) m }
+    requires cyclic { MarksCycles graph.now order.now.pending.items }
+    requires depths { HasDepths graph.now order.now.depths.items }
+    requires ready { Ready (outcome (E.means evaluator.now) graph.now) graph.now (map (slot E.see E.see_fault) found.old.items) m }
     ensures { OnOk result (Puts (outcome (E.means evaluator.now) graph.now) m (map (slot E.see E.see_fault) found.old.items) (map (slot E.see E.see_fault) found.new.items)) }
 {
     if found[m as usize].is_some() {
         return Ok(());
     }
-    let imports = imported::<E>(alloc, found.as_slice(), graph.row(m as usize))?;
-    let outcome = outcome_by(alloc, evaluator, m, imports)?;
+    let outcome = outcome_of(alloc, evaluator, graph, order, m, found.as_slice())?;
     found[m as usize] = Some(outcome);
     Ok(())
+}
+
+// The outcome of a module that isn't cyclic, by what was found for its loads.
+fn outcome_of<E: Evaluate>(
+    alloc: Global,
+    evaluator: &E,
+    graph: &Graph,
+    order: &Order,
+    m: u32,
+    found: &[Option<Shared<E::Value, E::Fault>>],
+) -> Result<Shared<E::Value, E::Fault>, AllocError>
+    requires cyclic { MarksCycles graph.now order.now.pending.items }
+    requires depths { HasDepths graph.now order.now.depths.items }
+    requires ready { Ready (outcome (E.means evaluator.now) graph.now) graph.now (map (slot E.see E.see_fault) found.now) m }
+    ensures { IfOk result (λ o. shown E.see E.see_fault o ≡ outcome (E.means evaluator.now) graph.now m) }
+{
+    let loads = graph.row(m as usize);
+    if order.is_too_deep(graph, m as usize) {
+        return Ok(Outcome::TooDeep(first_at_limit(order, graph, loads)));
+    }
+    let imports = imported::<E>(alloc, found, loads)?;
+    // for the proof: the outcome is by these imports
+    Ok(outcome_by(alloc, evaluator, m, imports)?)
 }

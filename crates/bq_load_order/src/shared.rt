@@ -20,6 +20,7 @@ pub fn share<E: Evaluate>(
         Outcome::Loaded(value) => Ok(Outcome::Loaded(Arc::try_clone(value)?)),
         Outcome::Faulty(fault) => Ok(Outcome::Faulty(Arc::try_clone(fault)?)),
         Outcome::Cyclic(load) => Ok(Outcome::Cyclic(*load)),
+        Outcome::TooDeep(load) => Ok(Outcome::TooDeep(*load)),
         Outcome::LoadFailed(load) => Ok(Outcome::LoadFailed(*load)),
     }
 }
@@ -34,6 +35,7 @@ pub fn share_value<E: Evaluate>(
         Outcome::Loaded(value) => Ok(Some(Arc::try_clone(value)?)),
         Outcome::Faulty(_) => Ok(None),
         Outcome::Cyclic(_) => Ok(None),
+        Outcome::TooDeep(_) => Ok(None),
         Outcome::LoadFailed(_) => Ok(None),
     }
 }

@@ -1,7 +1,8 @@
 //! The outcomes that are known, in a slot for each module.
-ghost use Rattle.std.specs.Prelude.{◌≡◌, ℕ, ◌<◌, None, length, map, vec_len, get_or, IfOk};
+ghost use Rattle.std.specs.Prelude.{◌≡◌, ℕ, ◌<◌, false, None, length, map, vec_len, get_or, IfOk};
 ghost use Rattle.bq_board.specs.Counts.{Has};
-ghost use Rattle.bq_board.specs.Cycles.{is_cyclic};
+ghost use Rattle.bq_board.specs.Cycles.{is_cyclic, starts_path};
+ghost use Rattle.bq_board.specs.Depth.{max_load_depth, HasDepths};
 ghost use Rattle.bq_board.specs.Topological.{MarksCycles};
 ghost use Rattle.bq_outcome.specs.Outcome.{first};
 ghost use Rattle.bq_load_order.specs.Shown.{shown, slot};
@@ -35,6 +36,21 @@ pub fn first_cyclic(order: &Order, graph: &Graph, loads: &[u32]) -> u32
 {
     for l in loads {
         if order.pending[*l as usize] > 0 {
+            return *l;
+        }
+    }
+    0
+}
+
+/// The first of these loads at which a path of `MAX_LOAD_DEPTH` edges starts, or 0 where none is. None of them is cyclic.
+pub fn first_at_limit(order: &Order, graph: &Graph, loads: &[u32]) -> u32
+    requires depths { HasDepths graph.now order.now.depths.items }
+    requires known { (l : ℕ) → Has loads.now l → l < length graph.now }
+    requires acyclic { (l : ℕ) → Has loads.now l → is_cyclic graph.now l ≡ false }
+    ensures { result ≡ first (starts_path graph.now max_load_depth) loads.now }
+{
+    for l in loads {
+        if order.is_at_limit(graph, *l as usize) {
             return *l;
         }
     }

@@ -1,14 +1,15 @@
--- The three cases of an outcome.
+-- The cases of an outcome.
 use Rattle.std.proofs.Common.{◌≡◌, ℕ, ◌⊎◌, Bool, true, false, List, [], ◌∷◌, map, Result, Ok, Err, sym, refl, ap, subst, ◌∙◌, inl, inr, arith, true≢false}
 use Rattle.bq_board.specs.Counts.{Has}
 use Rattle.bq_board.specs.Graph.{Loads, row}
-use Rattle.bq_board.specs.Cycles.{is_cyclic, LoadsACyclic}
+use Rattle.bq_board.specs.Cycles.{starts_path, is_cyclic, TestsPaths, LoadsACyclic}
+use Rattle.bq_board.specs.Depth.{max_load_depth, is_too_deep, LoadsADeep, DeepIsReached}
 use Rattle.bq_board.proofs.Lemmas.{bool_cases, cons_has, at_split}
 use Rattle.bq_outcome.specs.Outcome.{first, with_value, values, evaluated, outcome}
-use Rattle.bq_outcome.specs.Laws.{IsFirst, CyclicOutcome, FailedLoadOutcome, LoadedOutcome, OutcomeByPlan}
+use Rattle.bq_outcome.specs.Laws.{IsFirst, CyclicOutcome, TooDeepOutcome, FailedLoadOutcome, LoadedOutcome, OutcomeByPlan}
 use Rattle.bq_outcome.specs.declared.outcome.Outcome.{Outcome}
-use Rattle.bq_outcome.specs.declared.outcome.Outcome.TheVariants.{Loaded, Faulty, Cyclic, LoadFailed}
-use Rattle.bq_outcome.proofs.Solution.{cond_true, cond_false, cyclic_is, acyclic_is, outcome_is}
+use Rattle.bq_outcome.specs.declared.outcome.Outcome.TheVariants.{Loaded, Faulty, Cyclic, TooDeep, LoadFailed}
+use Rattle.bq_outcome.proofs.Solution.{cond_true, cond_false, cyclic_is, deep_is, evaluated_is, outcome_is}
 
 -- where one passes, `first` is the first that does
 first_is : (f : ℕ → Bool) (xs : List ℕ) (k : ℕ) → Has xs k → f k ≡ true → IsFirst (λ y. f y ≡ true) (λ y. f y ≡ false) xs (first f xs)
@@ -33,6 +34,7 @@ module _ {V F : Type 0} where
   look (Loaded v) = inl (v, refl)
   look (Faulty e) = inr ((λ t. let q : Faulty e ≡ Loaded t.0 = t.1 in absurd (cc)), λ x r. refl)
   look (Cyclic l) = inr ((λ t. let q : Cyclic l ≡ Loaded t.0 = t.1 in absurd (cc)), λ x r. refl)
+  look (TooDeep l) = inr ((λ t. let q : TooDeep l ≡ Loaded t.0 = t.1 in absurd (cc)), λ x r. refl)
   look (LoadFailed l) = inr ((λ t. let q : LoadFailed l ≡ Loaded t.0 = t.1 in absurd (cc)), λ x r. refl)
 
   module _ (at : ℕ → Outcome V F) where
@@ -69,21 +71,41 @@ module _ {V F : Type 0} (means : ℕ → List V → Result V F) (p : Loads) wher
   cyclic_says law known m e = let t = (law known m).0 e in
       (first (is_cyclic p) (row p m), outcome_is means p m ∙ cyclic_is means p (outcome means p) m e, first_is (is_cyclic p) (row p m) t.0 t.1 t.2)
 
-  pub failed_says : LoadsACyclic p → FailedLoadOutcome means p
-  failed_says law known m k e h no-value =
+  pub deep_says : TestsPaths p → LoadsADeep p → TooDeepOutcome means p
+  deep_says tests law m e =
+      let t = ((law m).0 e).1 in
+      let at_limit : ℕ → Bool = starts_path p max_load_depth in
+      let f = first_is at_limit (row p m) t.0 t.1 ((tests max_load_depth t.0).1 t.2) in (
+        first at_limit (row p m),
+        outcome_is means p m ∙ deep_is means p (outcome means p) m e,
+        record {
+          before = f.before;
+          after = f.after;
+          split = f.split;
+          here = (tests max_load_depth (first at_limit (row p m))).0 f.here;
+          earlier = λ y h path. true≢false (sym ((tests max_load_depth y).1 path) ∙ f.earlier y h);
+        },
+      )
+
+  pub failed_says : LoadsACyclic p → DeepIsReached p → FailedLoadOutcome means p
+  failed_says law deeper known m k e d h no-value =
       let r = first_failed (outcome means p) (row p m) k h no-value in
       let there : Has (row p m) r.0 = subst (λ (ys : List ℕ). Has ys r.0) (sym r.2.split) (at_split r.2.before r.0 r.2.after) in (
         r.0,
-        outcome_is means p m ∙ acyclic_is means p (outcome means p) m e ∙ ap (evaluated (means m)) r.1,
+        outcome_is means p m ∙ evaluated_is means p (outcome means p) m e d ∙ ap (evaluated (means m)) r.1,
         r.2,
         elim (bool_cases (is_cyclic p r.0)) [
           | inl yes-it ↦ absurd (true≢false (sym ((law known m).1 (r.0, there, yes-it)) ∙ e))
           | inr not-it ↦ not-it
         ],
+        elim (bool_cases (is_too_deep p r.0)) [
+          | inl yes-it ↦ absurd (true≢false (sym (deeper m r.0 there yes-it e) ∙ d))
+          | inr not-it ↦ not-it
+        ],
       )
 
   pub loaded_says : LoadedOutcome means p
-  loaded_says m vs e same = outcome_is means p m ∙ acyclic_is means p (outcome means p) m e ∙ ap (evaluated (means m)) (all_values (outcome means p) (row p m) vs same)
+  loaded_says m vs e d same = outcome_is means p m ∙ evaluated_is means p (outcome means p) m e d ∙ ap (evaluated (means m)) (all_values (outcome means p) (row p m) vs same)
 
   pub by_plan_says : (q : Loads) → OutcomeByPlan means p q
-  by_plan_says q cut m e = outcome_is means p m ∙ acyclic_is means p (outcome means p) m e ∙ ap (λ xs. evaluated (means m) (values (outcome means p) xs)) (sym (cut.rest m e))
+  by_plan_says q cut m e d = outcome_is means p m ∙ evaluated_is means p (outcome means p) m e d ∙ ap (λ xs. evaluated (means m) (values (outcome means p) xs)) (sym ((cut.each m).rest e d))

@@ -1,13 +1,16 @@
 -- An outcome depends on what the module reaches, and on nothing else.
 use Rattle.std.proofs.Common.{◌≡◌, ℕ, zero, suc, Bool, true, false, cond, List, [], ◌∷◌, length, Result, Ok, Err, sym, refl, ap, subst, ◌∙◌, inl, inr}
+use Rattle.std.specs.Prelude.{not, ◌&&◌, ◌||◌}
+use Rattle.std.specs.List.{list_any}
 use Rattle.bq_board.specs.Counts.{Has}
 use Rattle.bq_board.specs.Graph.{Loads, row, Known}
+use Rattle.bq_board.specs.Depth.{max_load_depth, is_too_deep}
 use Rattle.bq_board.specs.Cycles.{starts_path, is_cyclic, PathTo, Reaches, ReachesACycle}
 use Rattle.bq_board.proofs.Lemmas.{bool_cases, head_has, tail_has, loads_acyclic}
 use Rattle.bq_outcome.specs.Outcome.{first, values, evaluated, outcome}
 use Rattle.bq_outcome.specs.Laws.{OutcomeOfReached}
-use Rattle.bq_outcome.specs.declared.outcome.Outcome.TheVariants.{Cyclic}
-use Rattle.bq_outcome.proofs.Solution.{values_same, cyclic_is, acyclic_is, outcome_is}
+use Rattle.bq_outcome.specs.declared.outcome.Outcome.TheVariants.{Cyclic, TooDeep}
+use Rattle.bq_outcome.proofs.Solution.{values_same, cyclic_is, deep_is, evaluated_is, outcome_is}
 
 one_more : (p : Loads) (n m l k : ℕ) → PathTo p n m l → Has (row p l) k → PathTo p (suc n) m k
 one_more p zero m l k q h = (k, subst (λ (z : ℕ). Has (row p z) k) (sym q) h, refl)
@@ -16,6 +19,10 @@ one_more p (suc n) m l k q h = (q.0, q.1, one_more p n q.0 l k q.2 h)
 first_same : (f g : ℕ → Bool) (xs : List ℕ) → ((l : ℕ) → Has xs l → f l ≡ g l) → first f xs ≡ first g xs
 first_same f g [] h = refl
 first_same f g (x ∷ xs) h = let e = h x (head_has x xs) in let r = first_same f g xs (λ l k. h l (tail_has x xs l k)) in λ i. cond (e i) x (r i)
+
+any_same : (f g : ℕ → Bool) (xs : List ℕ) → ((l : ℕ) → Has xs l → f l ≡ g l) → list_any f xs ≡ list_any g xs
+any_same f g [] h = refl
+any_same f g (x ∷ xs) h = let e = h x (head_has x xs) in let r = any_same f g xs (λ l k. h l (tail_has x xs l k)) in λ i. e i || r i
 
 evaluated_same : {V F : Type 0} (f g : List V → Result V F) (r : Result (List V) ℕ) → ((vs : List V) → f vs ≡ g vs) → evaluated f r ≡ evaluated g r
 evaluated_same f g (Ok vs) h = ap (λ o. evaluated (λ _. o) (Ok vs)) (h vs)
@@ -56,6 +63,21 @@ module _ {V F : Type 0} (means others : ℕ → List V → Result V F) (p q : Lo
       let two : first (is_cyclic q) (row p l) ≡ first (is_cyclic q) (row q l) = ap (first (is_cyclic q)) (agree l r).0 in
       outcome_is means p l ∙ cyclic_is means p (outcome means p) l e ∙ ap Cyclic (one ∙ two) ∙ sym (outcome_is others q l ∙ cyclic_is others q (outcome others q) l (sym (cyclic_same l r) ∙ e))
 
+  path_same : (n l : ℕ) → Reaches p m l → starts_path p n l ≡ starts_path q n l
+  unfolding starts_path
+  path_same zero l r = refl
+  path_same (suc n) l r = any_same (starts_path p n) (starts_path q n) (row p l) (λ k h. path_same n k (load l k r h)) ∙ ap (list_any (starts_path q n)) (agree l r).0
+
+  deep_same : (l : ℕ) → Reaches p m l → is_too_deep p l ≡ is_too_deep q l
+  unfolding is_too_deep
+  deep_same l r = let c = cyclic_same l r in let d = path_same (suc max_load_depth) l r in λ i. not (c i) && d i
+
+  deep_alike : (l : ℕ) → Reaches p m l → is_too_deep p l ≡ true → outcome means p l ≡ outcome others q l
+  deep_alike l r e =
+      let one : first (starts_path p max_load_depth) (row p l) ≡ first (starts_path q max_load_depth) (row p l) = first_same (starts_path p max_load_depth) (starts_path q max_load_depth) (row p l) (λ k h. path_same max_load_depth k (load l k r h)) in
+      let two : first (starts_path q max_load_depth) (row p l) ≡ first (starts_path q max_load_depth) (row q l) = ap (first (starts_path q max_load_depth)) (agree l r).0 in
+      outcome_is means p l ∙ deep_is means p (outcome means p) l e ∙ ap TooDeep (one ∙ two) ∙ sym (outcome_is others q l ∙ deep_is others q (outcome others q) l (sym (deep_same l r) ∙ e))
+
   acyclic_alike : (k l : ℕ) → Reaches p m l → is_cyclic p l ≡ false → starts_path p k l ≡ false → outcome means p l ≡ outcome others q l
   unfolding starts_path
   acyclic_alike zero l r e none-path = absurd (cc)
@@ -65,8 +87,13 @@ module _ {V F : Type 0} (means others : ℕ → List V → Result V F) (p q : Lo
         | inr not-it ↦ acyclic_alike k x (load l x r h) not-it (loads_acyclic p k l x none-path h)
       ] in
       let vs : values (outcome means p) (row p l) ≡ values (outcome others q) (row q l) = values_same (outcome means p) (outcome others q) (row p l) same ∙ ap (values (outcome others q)) (agree l r).0 in
-      outcome_is means p l ∙ acyclic_is means p (outcome means p) l e ∙ ap (evaluated (means l)) vs ∙ evaluated_same (means l) (others l) (values (outcome others q) (row q l)) (agree l r).1
-      ∙ sym (outcome_is others q l ∙ acyclic_is others q (outcome others q) l (sym (cyclic_same l r) ∙ e))
+      elim (bool_cases (is_too_deep p l)) [
+        | inl yes-it ↦ deep_alike l r yes-it
+        | inr not-it ↦
+            outcome_is means p l ∙ evaluated_is means p (outcome means p) l e not-it ∙ ap (evaluated (means l)) vs
+            ∙ evaluated_same (means l) (others l) (values (outcome others q) (row q l)) (agree l r).1
+            ∙ sym (outcome_is others q l ∙ evaluated_is others q (outcome others q) l (sym (cyclic_same l r) ∙ e) (sym (deep_same l r) ∙ not-it))
+      ]
 
   pub alike : outcome means p m ≡ outcome others q m
   alike = let here : Reaches p m m = (0, refl) in elim (bool_cases (is_cyclic p m)) [

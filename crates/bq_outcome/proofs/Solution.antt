@@ -3,10 +3,11 @@ use Rattle.std.proofs.Common.{◌≡◌, ℕ, zero, suc, ◌≤◌, Bool, true, 
 use Rattle.bq_board.specs.Counts.{Has}
 use Rattle.bq_board.specs.Graph.{Loads, row}
 use Rattle.bq_board.specs.Cycles.{starts_path, is_cyclic}
-use Rattle.bq_board.proofs.Lemmas.{bool_cases, head_has, tail_has, loads_acyclic}
+use Rattle.bq_board.specs.Depth.{max_load_depth, is_too_deep}
+use Rattle.bq_board.proofs.Lemmas.{bool_cases, head_has, tail_has, loads_acyclic, deep_both}
 use Rattle.bq_outcome.specs.Outcome.{first, with_value, values, evaluated, by_loads, outcome_within, outcome, IsByLoads, HasOneSolution}
 use Rattle.bq_outcome.specs.declared.outcome.Outcome.{Outcome}
-use Rattle.bq_outcome.specs.declared.outcome.Outcome.TheVariants.{Cyclic}
+use Rattle.bq_outcome.specs.declared.outcome.Outcome.TheVariants.{Cyclic, TooDeep}
 
 pub cond_true : {A : Type 0} (b : Bool) (x y : A) → b ≡ true → cond b x y ≡ x
 cond_true true x y e = refl
@@ -22,17 +23,30 @@ module _ {V F : Type 0} where
   values_same at to (x ∷ xs) h = let e = h x (head_has x xs) in let r = values_same at to xs (λ l k. h l (tail_has x xs l k)) in λ i. with_value (e i) x (r i)
 
 module _ {V F : Type 0} (means : ℕ → List V → Result V F) (p : Loads) where
+  abbrev deep : ℕ → Outcome V F
+  deep m = TooDeep (first (starts_path p max_load_depth) (row p m))
+
+  -- the outcome by these values, for a module that isn't cyclic
+  abbrev by_values : ℕ → Result (List V) ℕ → Outcome V F
+  by_values m r = cond (is_too_deep p m) (deep m) (evaluated (means m) r)
+
   pub cyclic_is : (at : ℕ → Outcome V F) (m : ℕ) → is_cyclic p m ≡ true → by_loads means p at m ≡ Cyclic (first (is_cyclic p) (row p m))
   unfolding by_loads
-  cyclic_is at m e = cond_true (is_cyclic p m) (Cyclic (first (is_cyclic p) (row p m))) (evaluated (means m) (values at (row p m))) e
+  cyclic_is at m e = cond_true (is_cyclic p m) (Cyclic (first (is_cyclic p) (row p m))) (by_values m (values at (row p m))) e
 
-  pub acyclic_is : (at : ℕ → Outcome V F) (m : ℕ) → is_cyclic p m ≡ false → by_loads means p at m ≡ evaluated (means m) (values at (row p m))
+  acyclic_is : (at : ℕ → Outcome V F) (m : ℕ) → is_cyclic p m ≡ false → by_loads means p at m ≡ by_values m (values at (row p m))
   unfolding by_loads
-  acyclic_is at m e = cond_false (is_cyclic p m) (Cyclic (first (is_cyclic p) (row p m))) (evaluated (means m) (values at (row p m))) e
+  acyclic_is at m e = cond_false (is_cyclic p m) (Cyclic (first (is_cyclic p) (row p m))) (by_values m (values at (row p m))) e
+
+  pub deep_is : (at : ℕ → Outcome V F) (m : ℕ) → is_too_deep p m ≡ true → by_loads means p at m ≡ TooDeep (first (starts_path p max_load_depth) (row p m))
+  deep_is at m e = acyclic_is at m (deep_both p m e).0 ∙ cond_true (is_too_deep p m) (deep m) (evaluated (means m) (values at (row p m))) e
+
+  pub evaluated_is : (at : ℕ → Outcome V F) (m : ℕ) → is_cyclic p m ≡ false → is_too_deep p m ≡ false → by_loads means p at m ≡ evaluated (means m) (values at (row p m))
+  evaluated_is at m e d = acyclic_is at m e ∙ cond_false (is_too_deep p m) (deep m) (evaluated (means m) (values at (row p m))) d
 
   by_loads_same : (at to : ℕ → Outcome V F) (m : ℕ) → ((l : ℕ) → Has (row p m) l → at l ≡ to l) → by_loads means p at m ≡ by_loads means p to m
   unfolding by_loads
-  by_loads_same at to m h = ap (λ r. cond (is_cyclic p m) (Cyclic (first (is_cyclic p) (row p m))) (evaluated (means m) r)) (values_same at to (row p m) h)
+  by_loads_same at to m h = ap (λ r. cond (is_cyclic p m) (Cyclic (first (is_cyclic p) (row p m))) (by_values m r)) (values_same at to (row p m) h)
 
   -- past the longest path the number of levels does not matter
   steady : (k n j m : ℕ) → k ≤ n → k ≤ j → starts_path p k m ≡ false → outcome_within means p n m ≡ outcome_within means p j m

@@ -2,9 +2,10 @@
 -- `means m vs` is what the module m evaluates to by the values vs of its loads: its value, or its own fault.
 use Rattle.std.specs.Prelude.{◌≡◌, ℕ, zero, suc, cond, Bool, List, [], ◌∷◌, length, Result, Ok, Err}
 use Rattle.bq_board.specs.Graph.{Loads, row}
-use Rattle.bq_board.specs.Cycles.{is_cyclic}
+use Rattle.bq_board.specs.Cycles.{is_cyclic, starts_path}
+use Rattle.bq_board.specs.Depth.{max_load_depth, is_too_deep}
 use Rattle.bq_outcome.specs.declared.outcome.Outcome.{Outcome}
-use Rattle.bq_outcome.specs.declared.outcome.Outcome.TheVariants.{Loaded, Faulty, Cyclic, LoadFailed}
+use Rattle.bq_outcome.specs.declared.outcome.Outcome.TheVariants.{Loaded, Faulty, Cyclic, TooDeep, LoadFailed}
 
 -- the first that passes the test
 abbrev pub first : (ℕ → Bool) → List ℕ → ℕ
@@ -17,6 +18,7 @@ module _ {V F : Type 0} where
   with_value (Loaded v) x (Err l) = Err l
   with_value (Faulty e) x r = Err x
   with_value (Cyclic l) x r = Err x
+  with_value (TooDeep l) x r = Err x
   with_value (LoadFailed l) x r = Err x
 
   -- the values of modules with these outcomes, or the first that has none
@@ -35,7 +37,8 @@ module _ {V F : Type 0} where
 
   -- one level of the recursion: m by the outcomes of its loads
   unfoldable pub by_loads : (ℕ → List V → Result V F) → Loads → (ℕ → Outcome V F) → ℕ → Outcome V F
-  by_loads means p at m = cond (is_cyclic p m) (Cyclic (first (is_cyclic p) (row p m))) (evaluated (means m) (values at (row p m)))
+  by_loads means p at m = cond (is_cyclic p m) (Cyclic (first (is_cyclic p) (row p m)))
+      (cond (is_too_deep p m) (TooDeep (first (starts_path p max_load_depth) (row p m))) (evaluated (means m) (values at (row p m))))
 
   -- so many levels of it
   unfoldable pub outcome_within : (ℕ → List V → Result V F) → Loads → ℕ → ℕ → Outcome V F

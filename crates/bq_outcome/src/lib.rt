@@ -2,7 +2,7 @@
 //!
 //! In: a load graph, and for each module what it evaluates to, by the values of what it loads. Out: an outcome for each module.
 //! The promise: the recursion along loads has exactly one solution, for every graph, with cycles too; and what the solution is for cyclic modules,
-//! for modules with a load that failed, and for all others.
+//! for modules that are too deep, for modules with a load that failed, and for all others.
 //!
 //! A module without loads whose source can't be read is one that evaluates to its own fault, so nothing here speaks of sources.
 //!
@@ -14,6 +14,6 @@ mod outcome;
 
 pub use laws::{
     cyclic_outcome, failed_load_outcome, loaded_outcome, one_solution, outcome_by_the_plan,
-    outcome_of_what_it_reaches,
+    outcome_of_what_it_reaches, too_deep_outcome,
 };
 pub use outcome::Outcome;

@@ -41,6 +41,7 @@ pub enum FaultKind {
     CycleReached = 35,
     LoadFailed = 36,
     CrossesPackage = 37,
+    LoadDepth = 38,
     // Evaluation.
     WrongType = 40,
     Overflow = 41,
@@ -117,6 +118,7 @@ impl FaultKind {
             FaultKind::CycleReached => "CycleReached",
             FaultKind::LoadFailed => "LoadFailed",
             FaultKind::CrossesPackage => "CrossesPackage",
+            FaultKind::LoadDepth => "LoadDepth",
             FaultKind::WrongType => "Type",
             FaultKind::Overflow => "Overflow",
             FaultKind::DivZero => "DivZero",

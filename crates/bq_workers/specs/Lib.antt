@@ -1,3 +1,4 @@
+pub mod Workers
 pub mod Work
 pub mod Brought
 pub mod Closing

@@ -9,7 +9,7 @@ ghost use Rattle.bq_load_order.specs.Shown.{seen, shown};
 use crate::import::Import;
 use crate::pool::Pool;
 use bq_board::{Seat, edges_are_loads};
-use bq_load_order::{Evaluate, Shared, first_cyclic, outcome_by};
+use bq_load_order::{Evaluate, Shared, first_at_limit, first_cyclic, outcome_by};
 use bq_outcome::Outcome;
 use std::alloc::{AllocError, Global};
 use std::sync::Arc;
@@ -33,6 +33,9 @@ impl<'a, E: Evaluate> Pool<'a, E> {
         let loads = self.graph.row(m);
         if self.order.pending[m] > 0 {
             return Ok(Outcome::Cyclic(first_cyclic(&self.order, self.graph, loads)));
+        }
+        if self.order.is_too_deep(self.graph, m) {
+            return Ok(Outcome::TooDeep(first_at_limit(&self.order, self.graph, loads)));
         }
         let imports = self.imports(alloc, seat, m)?;
         // for the proof: the outcome is by these imports

@@ -2,6 +2,7 @@
 ghost use Rattle.std.specs.Prelude.{◌≡◌, ◌+◌, ◌<◌, ◌≤◌, length, All, IfOk, vec_len};
 ghost use Rattle.bq_board.specs.Board.{blank};
 ghost use Rattle.bq_board.specs.Cut.{IsCut};
+ghost use Rattle.bq_board.specs.Depth.{HasDepths};
 ghost use Rattle.bq_board.specs.Seats.{IsSeatOf, base_of, view_of};
 ghost use Rattle.bq_board.specs.Topological.{IsTopologicalOrder, MarksCycles};
 
@@ -15,7 +16,7 @@ use std::snapshot::Snapshot;
 use std::sync::atomic::{AtomicBool, Ordering};
 
 /// The most workers that may be started.
-pub const MAX_WORKERS: usize = 64;
+pub const MAX_WORKERS: usize = 256;
 
 impl<'a, E: Evaluate> Pool<'a, E> {
     /// A pool of a graph's modules, none of them begun, and its seats, which have done nothing.
@@ -57,6 +58,7 @@ fn board_of<E: Evaluate>(
 ) -> Result<(Board<Import<E>>, Vec<Seat<Import<E>>>), AllocError>
     requires seats { (0 < seats) × (seats ≤ MAX_SEATS) }
     requires cyclic { MarksCycles graph.now order.now.pending.items }
+    requires depths { HasDepths graph.now order.now.depths.items }
     ensures of { IfOk result (λ r. ((base_of r.0).evaluator.value ≡ evaluator.now) × ((base_of r.0).graph.value ≡ graph.now)) }
     ensures plan { IfOk result (λ r. IsCut graph.now r.0.plan) }
     ensures count { IfOk result (λ r. vec_len r.1 ≡ seats) }

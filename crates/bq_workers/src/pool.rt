@@ -1,6 +1,7 @@
 //! The pool: a board of a load graph's modules.
 ghost use Rattle.std.specs.Prelude.{◌≡◌};
 ghost use Rattle.bq_board.specs.Cut.{IsCut};
+ghost use Rattle.bq_board.specs.Depth.{HasDepths};
 ghost use Rattle.bq_board.specs.Seats.{base_of};
 ghost use Rattle.bq_board.specs.Topological.{MarksCycles};
 
@@ -24,6 +25,7 @@ pub struct Pool<'a, E: Evaluate> {
     ghost of: { (base_of board).graph.value ≡ graph.now },
     ghost plan: { IsCut graph.now board.plan },
     ghost cyclic: { MarksCycles graph.now order.pending.items },
+    ghost depths: { HasDepths graph.now order.depths.items },
 }
 
 /// The right to work in one pool, and this worker's list of modules to try.

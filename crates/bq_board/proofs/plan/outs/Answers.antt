@@ -1,12 +1,12 @@
 use Rattle.std.proofs.Common.{◌≡◌, ℕ, ◌+◌, ◌<◌, ◌≤◌, List, ◌++◌, length, take, sym, subst, ap, ◌∙◌, arith}
-use Rattle.bq_board.specs.Graph.{Loads, row, sources, edges, lists}
+use Rattle.bq_board.specs.Graph.{Loads, row, sources, edges, lists, max_edges}
 use Rattle.bq_board.specs.Plan.{start, OutsOf}
 use Rattle.bq_board.proofs.Edges.{start_next, start_le}
 use Rattle.bq_board.proofs.Outs.{sources_next, sources_start}
 use Rattle.std.proofs.lemmas.Grind.{common_steps}
 use Rattle.bq_board.proofs.plan.outs.Goals as goal
 
-few : (p : Loads) (m next : ℕ) (loaded : List ℕ) → m < length p → edges p ≤ 65536 → next ≡ start p m → loaded ≡ row p m → next + length loaded ≤ 65536
+few : (p : Loads) (m next : ℕ) (loaded : List ℕ) → m < length p → edges p ≤ max_edges → next ≡ start p m → loaded ≡ row p m → next + length loaded ≤ max_edges
 few p m next loaded h all is same = omega (arith, start_next p m h, start_le p (m + 1), ap (length {A = ℕ}) same)
 
 pub add_outs-requires-clause-few : goal.add_outs-requires-clause-few

@@ -1,7 +1,6 @@
 use Rattle.std.proofs.Common.{map, length, subst}
-use Rattle.bq_outcome.specs.Outcome.{outcome}
 use Rattle.bq_load_order.specs.Shown.{shown, slot}
-use Rattle.bq_load_order.specs.Slots.{Filling, Tabulates, or_cyclic}
+use Rattle.bq_load_order.specs.Slots.{Tabulates, or_cyclic}
 use Rattle.bq_load_order.proofs.Filled.{is_load_order, all_found}
 use Rattle.bq_load_order.proofs.outcomes.complete.Goals as goal
 
@@ -12,5 +11,5 @@ returns g c =
     let os = map (shown g.E.Evaluate.see g.E.Evaluate.see_fault) c.in_ok-all_settled.field-0.items in
     all_found means c.args.graph.now c.args.order.now.modules.items
     (is_load_order c.args.graph.now c.args.order.now.modules.items c.args.order.now.pending.items c.requires.order c.requires.cyclic)
-    (map held c.fill.new.found.items) (subst (Filling (outcome means c.args.graph.now) (length c.args.graph.now) (map held c.fill.new.found.items)) c.as_slice.ensures.value c.in_ok-fill.ensures) os
-    (subst (λ xs. Tabulates (length c.args.graph.now) (or_cyclic c.args.graph.now (map held xs)) os) c.as_slice-2.ensures.value c.in_ok-all_settled.ensures)
+    (map held c.fill.new.found.items) c.in_ok-fill.ensures os
+    (subst (λ xs. Tabulates (length c.args.graph.now) (or_cyclic c.args.graph.now (map held xs)) os) c.as_slice.ensures.value c.in_ok-all_settled.ensures)

@@ -1,14 +1,25 @@
-use Rattle.std.proofs.Common.{map}
+use Rattle.std.proofs.Common.{◌≡◌, ℕ, ◌<◌, List, length, map, get_or, sym, ap, subst}
 use Rattle.bq_outcome.specs.Outcome.{outcome}
 use Rattle.bq_load_order.specs.Shown.{slot}
+use Rattle.bq_load_order.specs.Slots.{Puts, Ready}
 use Rattle.bq_load_order.proofs.Filled.{fill_ready, fill_next}
 use Rattle.bq_load_order.proofs.outcomes.fill.Goals as goal
 
-pub fill_one-requires-after_bounds : goal.fill_one-requires-after_bounds
-fill_one-requires-after_bounds g c _ _ =
-    fill_ready (outcome (g.E.Evaluate.means c.args.evaluator.now) c.args.graph.now) c.args.graph.now c.args.modules.now c.requires.order (map (slot g.E.Evaluate.see g.E.Evaluate.see_fault) c.loop-m.found.items) c.loop-m.m-index c.loop-m.invariant c.loop-m-test.true
+pub fill_one-requires-clause-ready : goal.fill_one-requires-clause-ready
+fill_one-requires-clause-ready g c _ _ =
+    let out = outcome (g.E.Evaluate.means c.args.evaluator.now) c.args.graph.now in
+    let os = c.args.order.now.modules.items in let i = c.loop-m.m-index in
+    let found = map (slot g.E.Evaluate.see g.E.Evaluate.see_fault) c.loop-m.found.items in
+    let is : c.as_slice-m-items.result.now ≡ os = c.as_slice-m-items.ensures.value in
+    let h : i < length os = subst (λ (t : List ℕ). i < length t) is c.loop-m-test.true in
+    subst (Ready out c.args.graph.now found) (sym (ap (λ (t : List ℕ). get_or t i 0) is)) (fill_ready out c.args.graph.now os c.requires.order found i c.loop-m.invariant h)
 
 pub loop-m-preserved : goal.loop-m-preserved
 loop-m-preserved g c =
-    fill_next (outcome (g.E.Evaluate.means c.args.evaluator.now) c.args.graph.now) c.args.graph.now c.args.modules.now c.requires.order (map (slot g.E.Evaluate.see g.E.Evaluate.see_fault) c.loop-m.found.items) c.loop-m.m-index c.loop-m.invariant c.loop-m-test.true
-    (map (slot g.E.Evaluate.see g.E.Evaluate.see_fault) c.fill_one.new.found.items) c.in_ok-fill_one.ensures
+    let out = outcome (g.E.Evaluate.means c.args.evaluator.now) c.args.graph.now in
+    let os = c.args.order.now.modules.items in let i = c.loop-m.m-index in
+    let found = map (slot g.E.Evaluate.see g.E.Evaluate.see_fault) c.loop-m.found.items in
+    let new = map (slot g.E.Evaluate.see g.E.Evaluate.see_fault) c.fill_one.new.found.items in
+    let is : c.as_slice-m-items.result.now ≡ os = c.as_slice-m-items.ensures.value in
+    let h : i < length os = subst (λ (t : List ℕ). i < length t) is c.loop-m-test.true in
+    fill_next out c.args.graph.now os c.requires.order found i c.loop-m.invariant h new (subst (λ (m : ℕ). Puts out m found new) (ap (λ (t : List ℕ). get_or t i 0) is) c.in_ok-fill_one.ensures)

@@ -21,6 +21,9 @@ complete-requires-clause-order g c _ _ = c.requires.order
 pub complete-requires-clause-cyclic : goal.complete-requires-clause-cyclic
 complete-requires-clause-cyclic g c _ _ = c.args.pool.now.cyclic
 
+pub complete-requires-clause-depths : goal.complete-requires-clause-depths
+complete-requires-clause-depths g c _ _ = c.args.pool.now.depths
+
 pub complete-requires-clause-found : goal.complete-requires-clause-found
 complete-requires-clause-found g c _ _ = c.in_ok-found.ensures
 

@@ -2,8 +2,11 @@ use Rattle.std.proofs.Common.{ap, sym, ◌∙◌}
 use Rattle.bq_board.specs.Board.{blank}
 use Rattle.bq_workers.proofs.opening.board_of.Goals as goal
 
-pub cut-requires : goal.cut-requires
-cut-requires g c = c.requires.cyclic
+pub cut-requires-clause-cyclic : goal.cut-requires-clause-cyclic
+cut-requires-clause-cyclic g c = c.requires.cyclic
+
+pub cut-requires-clause-depths : goal.cut-requires-clause-depths
+cut-requires-clause-depths g c = c.requires.depths
 
 pub returns-clause-of : goal.returns-clause-of
 returns-clause-of g c =

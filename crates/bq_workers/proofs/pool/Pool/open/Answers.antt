@@ -7,12 +7,16 @@ board_of-requires-clause-seats g c _ _ = c.requires
 pub board_of-requires-clause-cyclic : goal.board_of-requires-clause-cyclic
 board_of-requires-clause-cyclic g c _ _ = c.in_ok-order.ensures.cyclic
 
+pub board_of-requires-clause-depths : goal.board_of-requires-clause-depths
+board_of-requires-clause-depths g c _ _ = c.in_ok-order.ensures.depths
+
 pub invariant_of-pool : goal.invariant_of-pool
 invariant_of-pool g c = record {
   by = c.in_ok-board.ensures.of.0;
   of = c.in_ok-board.ensures.of.1;
   plan = c.in_ok-board.ensures.plan;
   cyclic = c.in_ok-order.ensures.cyclic;
+  depths = c.in_ok-order.ensures.depths;
 }
 
 pub returns-clause-of : goal.returns-clause-of

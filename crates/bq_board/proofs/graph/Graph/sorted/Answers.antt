@@ -6,7 +6,7 @@ use Rattle.bq_board.specs.Topological.{IsTopologicalOrder}
 use Rattle.bq_board.proofs.Settling.{Has-get_or}
 use Rattle.bq_board.proofs.Turning.{few, dependents_inside, dependents_open, turn, ended}
 use Rattle.bq_board.proofs.Paths.{not_cyclic, stuck}
-use Rattle.bq_board.proofs.graph.Graph.topological_order.Goals as goal
+use Rattle.bq_board.proofs.graph.Graph.sorted.Goals as goal
 
 abbrev items : Vec ℕ Global → List ℕ
 items r = r.items
