@@ -6,9 +6,15 @@
 #[cfg(test)]
 mod bundles;
 #[cfg(test)]
+mod cuts;
+#[cfg(test)]
 mod devices;
 #[cfg(test)]
+mod examples;
+#[cfg(test)]
 mod options;
+#[cfg(test)]
+mod repeated;
 #[cfg(test)]
 mod rows;
 #[cfg(test)]

@@ -174,4 +174,15 @@ x = {(1, 2): 3}
 # A comprehension: itself, its iterable, and at each turn one and its element.
 #> 9
 x = [y for y in [1, 2]]
+---
+# A pair of a dict that is joined in place takes none of its own, since its key is made already.
+#> 7
+d = {}
+d |= {"a": 1}
+---
+# Nor does a pair of a dict that `update` is given, and a named argument only its value's; of other pairs each key is made.
+#> 18
+d = {}
+d.update({"a": 1}, b = 2)
+d.update([("c", 3)])
 "#;
