@@ -21,75 +21,75 @@ cond_walks true r t = t
 cond_walks false r t = λ n. tt
 
 module _ (same : Compares) (each : (x y : Datum) → Walks (λ n. same n x y)) where
-  all_walk_too : (xs ys : List Datum) → Walks (λ n. all_equal same n xs ys)
-  all_walk_too [] ys = λ n. tt
-  all_walk_too (x ∷ xs) [] = λ n. tt
-  all_walk_too (x ∷ xs) (y ∷ ys) =
-      followed (λ n. same n x y) (λ r. if_so r (λ m. all_equal same m xs ys)) (λ kind. refl) (each x y) (so_walks (λ m. all_equal same m xs ys) (all_walk_too xs ys))
+  all_walk : (xs ys : List Datum) → Walks (λ n. all_equal same n xs ys)
+  all_walk [] ys = λ n. tt
+  all_walk (x ∷ xs) [] = λ n. tt
+  all_walk (x ∷ xs) (y ∷ ys) =
+      followed (λ n. same n x y) (λ r. if_so r (λ m. all_equal same m xs ys)) (λ kind. refl) (each x y) (so_walks (λ m. all_equal same m xs ys) (all_walk xs ys))
 
-  lists_walk_too : (xs ys : List Datum) → Walks (λ n. lists_equal same n xs ys)
-  lists_walk_too xs ys = cond_walks (length xs == length ys) (λ n. all_equal same n xs ys) (all_walk_too xs ys)
+  lists_walk : (xs ys : List Datum) → Walks (λ n. lists_equal same n xs ys)
+  lists_walk xs ys = cond_walks (length xs == length ys) (λ n. all_equal same n xs ys) (all_walk xs ys)
 
   partner_walks : (v : Datum) (o : Option Datum) → Walks (λ n. partner_equal same n v o)
   partner_walks v None = λ n. tt
   partner_walks v (Some w) = each v w
 
-  pairs_walk_too : (ps qs : List (Datum × Datum)) → Walks (λ n. pairs_equal same n ps qs)
-  pairs_walk_too [] qs = λ n. tt
-  pairs_walk_too (p ∷ ps) qs =
+  pairs_walk : (ps qs : List (Datum × Datum)) → Walks (λ n. pairs_equal same n ps qs)
+  pairs_walk [] qs = λ n. tt
+  pairs_walk (p ∷ ps) qs =
       followed (λ n. partner_equal same n p.1 (found p.0 qs)) (λ r. if_so r (λ m. pairs_equal same m ps qs)) (λ kind. refl) (partner_walks p.1 (found p.0 qs))
-      (so_walks (λ m. pairs_equal same m ps qs) (pairs_walk_too ps qs))
+      (so_walks (λ m. pairs_equal same m ps qs) (pairs_walk ps qs))
 
-  contents_walk_too : (c d : Contents) → Walks (λ n. contents_equal same n c d)
-  contents_walk_too (items xs) (items ys) = lists_walk_too xs ys
-  contents_walk_too (pairs ps) (pairs qs) = cond_walks (length ps == length qs) (λ n. pairs_equal same n ps qs) (pairs_walk_too ps qs)
-  contents_walk_too (items xs) (pairs qs) = λ n. tt
-  contents_walk_too (pairs ps) (items ys) = λ n. tt
+  contents_walk : (c d : Contents) → Walks (λ n. contents_equal same n c d)
+  contents_walk (items xs) (items ys) = lists_walk xs ys
+  contents_walk (pairs ps) (pairs qs) = cond_walks (length ps == length qs) (λ n. pairs_equal same n ps qs) (pairs_walk ps qs)
+  contents_walk (items xs) (pairs qs) = λ n. tt
+  contents_walk (pairs ps) (items ys) = λ n. tt
 
-  cells_walk_too : (c d : Option Contents) → Walks (λ n. cells_equal same n c d)
-  cells_walk_too (Some c) (Some d) = contents_walk_too c d
-  cells_walk_too None None = λ n. tt
-  cells_walk_too (Some c) None = λ n. tt
-  cells_walk_too None (Some d) = λ n. tt
+  cells_walk : (c d : Option Contents) → Walks (λ n. cells_equal same n c d)
+  cells_walk (Some c) (Some d) = contents_walk c d
+  cells_walk None None = λ n. tt
+  cells_walk (Some c) None = λ n. tt
+  cells_walk None (Some d) = λ n. tt
 
-  parts_walk_too : (s : StoreView) (x y : Datum) → Walks (λ n. parts_equal same s n x y)
-  parts_walk_too s none none = λ n. tt
-  parts_walk_too s (boolean a) (boolean b) = λ n. tt
-  parts_walk_too s (int a) (int b) = λ n. tt
-  parts_walk_too s (string a) (string b) = λ n. tt
-  parts_walk_too s (tuple a) (tuple b) = lists_walk_too (list_of a) (list_of b)
-  parts_walk_too s (range a b c) (range d e f) = λ n. tt
-  parts_walk_too s (cell a i) (cell b j) = cells_walk_too (content_at s a i) (content_at s b j)
-  parts_walk_too s (function a i t vs) (function b j u ws) = λ n. tt
-  parts_walk_too s (built_in a) (built_in b) = λ n. tt
-  parts_walk_too s _ _ = λ n. tt
+  parts_walk : (s : StoreView) (x y : Datum) → Walks (λ n. parts_equal same s n x y)
+  parts_walk s none none = λ n. tt
+  parts_walk s (boolean a) (boolean b) = λ n. tt
+  parts_walk s (int a) (int b) = λ n. tt
+  parts_walk s (string a) (string b) = λ n. tt
+  parts_walk s (tuple a) (tuple b) = lists_walk (list_of a) (list_of b)
+  parts_walk s (range a b c) (range d e f) = λ n. tt
+  parts_walk s (cell a i) (cell b j) = cells_walk (content_at s a i) (content_at s b j)
+  parts_walk s (function a i t vs) (function b j u ws) = λ n. tt
+  parts_walk s (built_in a) (built_in b) = λ n. tt
+  parts_walk s _ _ = λ n. tt
 
 pub equal_walks : (l : ℕ) (s : StoreView) (x y : Datum) → Walks (λ n. equal_at l s n x y)
 equal_walks zero s x y = stepped_walks (λ m. Err TooDeep) (λ n. refl)
-equal_walks (suc l) s x y = stepped_walks (λ m. parts_equal (equal_at l s) s m x y) (parts_walk_too (equal_at l s) (equal_walks l s) s x y)
+equal_walks (suc l) s x y = stepped_walks (λ m. parts_equal (equal_at l s) s m x y) (parts_walk (equal_at l s) (equal_walks l s) s x y)
 
 first_walks : (rest here : ℕ → Looked Ordering) → Walks rest → Walks here → (b : Bool) → Walks (λ n. at_first (Ok (b, n)) rest here)
 first_walks rest here t u true = t
 first_walks rest here t u false = u
 
 module _ (same : Compares) (order : Orders) (same_each : (x y : Datum) → Walks (λ n. same n x y)) (each : (x y : Datum) → Walks (λ n. order n x y)) where
-  orders_walk_too : (xs ys : List Datum) → Walks (λ n. lists_ordered same order n xs ys)
-  orders_walk_too [] [] = λ n. tt
-  orders_walk_too [] (y ∷ ys) = λ n. tt
-  orders_walk_too (x ∷ xs) [] = λ n. tt
-  orders_walk_too (x ∷ xs) (y ∷ ys) =
+  orders_walk : (xs ys : List Datum) → Walks (λ n. lists_ordered same order n xs ys)
+  orders_walk [] [] = λ n. tt
+  orders_walk [] (y ∷ ys) = λ n. tt
+  orders_walk (x ∷ xs) [] = λ n. tt
+  orders_walk (x ∷ xs) (y ∷ ys) =
       followed (λ n. same n x y) (λ r. at_first r (λ m. lists_ordered same order m xs ys) (λ m. order m x y)) (λ kind. refl) (same_each x y)
-      (first_walks (λ m. lists_ordered same order m xs ys) (λ m. order m x y) (orders_walk_too xs ys) (each x y))
+      (first_walks (λ m. lists_ordered same order m xs ys) (λ m. order m x y) (orders_walk xs ys) (each x y))
 
-  ordered_contents_walk_too : (c d : Contents) → Walks (λ n. contents_ordered same order n c d)
-  ordered_contents_walk_too (items xs) (items ys) = orders_walk_too xs ys
-  ordered_contents_walk_too (items xs) (pairs qs) = λ n. refl
-  ordered_contents_walk_too (pairs ps) d = λ n. refl
+  ordered_contents_walk : (c d : Contents) → Walks (λ n. contents_ordered same order n c d)
+  ordered_contents_walk (items xs) (items ys) = orders_walk xs ys
+  ordered_contents_walk (items xs) (pairs qs) = λ n. refl
+  ordered_contents_walk (pairs ps) d = λ n. refl
 
-  ordered_cells_walk_too : (c d : Option Contents) → Walks (λ n. cells_ordered same order n c d)
-  ordered_cells_walk_too (Some c) (Some d) = ordered_contents_walk_too c d
-  ordered_cells_walk_too (Some c) None = λ n. refl
-  ordered_cells_walk_too None d = λ n. refl
+  ordered_cells_walk : (c d : Option Contents) → Walks (λ n. cells_ordered same order n c d)
+  ordered_cells_walk (Some c) (Some d) = ordered_contents_walk c d
+  ordered_cells_walk (Some c) None = λ n. refl
+  ordered_cells_walk None d = λ n. refl
 
   bool_walks : (a : Bool) (y : Datum) → Walks (λ n. bool_ordered n a y)
   unfolding bool_ordered
@@ -108,29 +108,29 @@ module _ (same : Compares) (order : Orders) (same_each : (x y : Datum) → Walks
 
   tuple_walks : (xs : List Datum) (y : Datum) → Walks (λ n. tuple_ordered same order n xs y)
   unfolding tuple_ordered
-  tuple_walks xs (tuple b) = orders_walk_too xs (list_of b)
+  tuple_walks xs (tuple b) = orders_walk xs (list_of b)
   tuple_walks xs _ = λ n. refl
 
   cell_walks : (s : StoreView) (c : Option Contents) (y : Datum) → Walks (λ n. cell_ordered same order s n c y)
   unfolding cell_ordered
-  cell_walks s c (cell b j) = ordered_cells_walk_too c (content_at s b j)
+  cell_walks s c (cell b j) = ordered_cells_walk c (content_at s b j)
   cell_walks s c _ = λ n. refl
 
-  ordered_parts_walk_too : (s : StoreView) (x y : Datum) → Walks (λ n. parts_ordered same order s n x y)
-  ordered_parts_walk_too s (boolean a) y = bool_walks a y
-  ordered_parts_walk_too s (int a) y = int_walks a y
-  ordered_parts_walk_too s (string a) y = string_walks a y
-  ordered_parts_walk_too s (tuple a) y = tuple_walks (list_of a) y
-  ordered_parts_walk_too s (cell a i) y = cell_walks s (content_at s a i) y
-  ordered_parts_walk_too s none y = λ n. refl
-  ordered_parts_walk_too s (range a b c) y = λ n. refl
-  ordered_parts_walk_too s (function a i t vs) y = λ n. refl
-  ordered_parts_walk_too s (built_in t) y = λ n. refl
+  ordered_parts_walk : (s : StoreView) (x y : Datum) → Walks (λ n. parts_ordered same order s n x y)
+  ordered_parts_walk s (boolean a) y = bool_walks a y
+  ordered_parts_walk s (int a) y = int_walks a y
+  ordered_parts_walk s (string a) y = string_walks a y
+  ordered_parts_walk s (tuple a) y = tuple_walks (list_of a) y
+  ordered_parts_walk s (cell a i) y = cell_walks s (content_at s a i) y
+  ordered_parts_walk s none y = λ n. refl
+  ordered_parts_walk s (range a b c) y = λ n. refl
+  ordered_parts_walk s (function a i t vs) y = λ n. refl
+  ordered_parts_walk s (built_in t) y = λ n. refl
 
 pub order_walks : (l : ℕ) (s : StoreView) (x y : Datum) → Walks (λ n. ordered_at l s n x y)
 order_walks zero s x y = stepped_walks (λ m. Err TooDeep) (λ n. refl)
 order_walks (suc l) s x y =
-    stepped_walks (λ m. parts_ordered (equal_at l s) (ordered_at l s) s m x y) (ordered_parts_walk_too (equal_at l s) (ordered_at l s) (equal_walks l s) (order_walks l s) s x y)
+    stepped_walks (λ m. parts_ordered (equal_at l s) (ordered_at l s) s m x y) (ordered_parts_walk (equal_at l s) (ordered_at l s) (equal_walks l s) (order_walks l s) s x y)
 
 -- ---- keys
 

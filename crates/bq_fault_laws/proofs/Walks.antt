@@ -152,20 +152,20 @@ found_walks s xs v start end =
 
 -- ---- texts in a row
 
-others_walk_too : (separator : List ℕ) (s : StoreView) (page : PageView) (vs : List Datum) → Walks (λ n. others_shown separator s page n vs)
-others_walk_too separator s page [] = λ n. tt
-others_walk_too separator s page (v ∷ vs) =
+others_walk : (separator : List ℕ) (s : StoreView) (page : PageView) (vs : List Datum) → Walks (λ n. others_shown separator s page n vs)
+others_walk separator s page [] = λ n. tt
+others_walk separator s page (v ∷ vs) =
     followed (λ n. text_shown s (written page separator) n v) (λ r. shown.and_then r (λ q m. others_shown separator s q m vs)) (λ kind. refl)
-    (text_shown_walks s (written page separator) v) (λ q. others_walk_too separator s q vs)
+    (text_shown_walks s (written page separator) v) (λ q. others_walk separator s q vs)
 
-all_walk_too : (separator : List ℕ) (s : StoreView) (page : PageView) (vs : List Datum) → Walks (λ n. values_shown separator s page n vs)
-all_walk_too separator s page [] = λ n. tt
-all_walk_too separator s page (v ∷ vs) =
-    followed (λ n. text_shown s page n v) (λ r. shown.and_then r (λ q m. others_shown separator s q m vs)) (λ kind. refl) (text_shown_walks s page v) (λ q. others_walk_too separator s q vs)
+all_walk : (separator : List ℕ) (s : StoreView) (page : PageView) (vs : List Datum) → Walks (λ n. values_shown separator s page n vs)
+all_walk separator s page [] = λ n. tt
+all_walk separator s page (v ∷ vs) =
+    followed (λ n. text_shown s page n v) (λ r. shown.and_then r (λ q m. others_shown separator s q m vs)) (λ kind. refl) (text_shown_walks s page v) (λ q. others_walk separator s q vs)
 
 pub joined_walks : (separator : List ℕ) (s : StoreView) (vs : List Datum) → Walks (λ n. joined_texts separator s n vs)
 unfolding joined_texts
-joined_walks separator s vs = followed (λ n. values_shown separator s (Some []) n vs) finished_by (λ kind. refl) (all_walk_too separator s (Some []) vs) finish_walks
+joined_walks separator s vs = followed (λ n. values_shown separator s (Some []) n vs) finished_by (λ kind. refl) (all_walk separator s (Some []) vs) finish_walks
 
 -- ---- formats
 
@@ -205,9 +205,9 @@ unfolding filled
 filled_walks zero s d vs text = λ n. tt
 filled_walks (suc most) s d vs text = filled_by_walks (filled most s) (filled_walks most s) s d vs text (partition (codes "%") text)
 
-steps_walk_too : (r : Result (List ℕ) FaultKind) → Fine r → Walks (λ n. with_steps n r)
-steps_walk_too (Ok text) h = λ n. tt
-steps_walk_too (Err kind) h = λ n. h
+steps_walk : (r : Result (List ℕ) FaultKind) → Fine r → Walks (λ n. with_steps n r)
+steps_walk (Ok text) h = λ n. tt
+steps_walk (Err kind) h = λ n. h
 
 page_fine : (malformed : Bool) (page : PageView) → Fine (finished_when malformed page)
 page_fine true page = refl
@@ -215,7 +215,7 @@ page_fine false (Some text) = tt
 page_fine false None = refl
 
 draft_walks : (r : ℕ → Looked DraftView) → Walks r → Walks (λ n. text_by (r n))
-draft_walks r t = followed r text_by (λ kind. refl) t (λ d. steps_walk_too (finished_draft d) (page_fine d.malformed d.page))
+draft_walks r t = followed r text_by (λ kind. refl) t (λ d. steps_walk (finished_draft d) (page_fine d.malformed d.page))
 
 pub percent_walks : (s : StoreView) (format : List ℕ) (v : Datum) → Walks (λ n. percent_of s n format v)
 percent_walks s format (tuple xs) = draft_walks (λ n. filled (length format) s blank n (list_of xs) format) (filled_walks (length format) s blank (list_of xs) format)

@@ -1,5 +1,5 @@
 -- How many nodes of a made node are left out.
-use Rattle.std.proofs.Common.{◌≡◌, ℕ, ◌+◌, ℤ, Bool, List, [], ◌∷◌, map, Option, Some, None, rules}
+use Rattle.std.proofs.Common.{◌≡◌, ℕ, ◌+◌, ℤ, Bool, List, map, Option, Some, None, rules}
 use Rattle.bq_grammar.specs.declared.tree.UnaryOperator.{UnaryOperator}
 use Rattle.bq_grammar.specs.declared.tree.Identifier.{Identifier}
 use Rattle.bq_grammar.specs.declared.tree.Operator.{Operator}
@@ -26,7 +26,6 @@ use Rattle.bq_grammar.specs.declared.tree.Stmt.TheVariants as st
 use Rattle.bq_tree_laws.specs.LeftOut.{sum_of, division, star, expr_count, target_count, argument_count, clause_count, suffix_count, choice_count, operation_count, pair_count, parameter_count, small_count, stmt_count, branch_count}
 
 module _ (build : Bool) where
-
   pub count-Name : (n : Identifier) → expr_count build (e.Name n) ≡ 0
   count-Name n = search (rules, the_lemmas)
 

@@ -14,7 +14,6 @@ use Rattle.bq_scope.specs.declared.code.CodePair.{roll-CodePair, out-roll-CodePa
 use Rattle.bq_scope.specs.declared.code.CodeStmt.{CodeStmt, out-CodeStmt, roll-CodeStmt, out-roll-CodeStmt}
 use Rattle.bq_scope.specs.declared.code.CodeSuffix.{CodeSuffix, out-CodeSuffix, roll-CodeSuffix, out-roll-CodeSuffix}
 use Rattle.bq_scope.specs.declared.code.CodeTarget.{CodeTarget, out-CodeTarget, roll-CodeTarget, out-roll-CodeTarget}
-use Rattle.bq_scope.specs.Names.{max_layers}
 use Rattle.bq_meaning.specs.Trees.{CodeLayer, ArgumentLayer, ClauseLayer, SuffixLayer, TargetLayer, StmtLayer}
 use Rattle.bq_meaning_laws.specs.Layers.{PairParts, OperationParts, ChoiceParts, ArgumentLayerParts, ArgumentParts, SuffixLayerParts, SuffixParts, ClauseLayerParts, ClauseParts, CodeParts, TargetParts}
 use Rattle.bq_depth_laws.specs.Fits.{IndexParts, TargetFits, VariablesOfLayer, Variables, VariableParts}

@@ -19,7 +19,7 @@ use Rattle.bq_grammar.specs.Grammar.{choices_of, last_of, targets_of, IsVarOver,
 use Rattle.bq_tree_laws.specs.Depth.{deepest}
 use Rattle.bq_tree_laws.proofs.Depths as T
 use Rattle.bq_tree_laws.proofs.Depths.{Within, none_within, listed_within, commas_within}
-use Rattle.bq_tree_laws.specs.LeftOut.{sum_of, division, star, expr_count, target_count, argument_count, clause_count, suffix_count, choice_count, operation_count, pair_count}
+use Rattle.bq_tree_laws.specs.LeftOut.{sum_of, expr_count, argument_count, clause_count, suffix_count, choice_count, operation_count, pair_count}
 use Rattle.bq_sound_laws.proofs.Below.{Below, none_below, wider, row_below, commas_below, listed_below}
 use Rattle.bq_sound_laws.proofs.Counts as C
 use Rattle.bq_sound_laws.proofs.Counts.{part_count}

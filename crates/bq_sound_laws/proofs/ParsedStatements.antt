@@ -19,7 +19,7 @@ use Rattle.bq_tree_laws.specs.Depth.{deepest}
 use Rattle.bq_sound_laws.proofs.Weights.{expr_weight, variables_weight, place_weight, one_weight, suffix_weight, parameter_weight, kind_weight, small_weight, stmt_weight, branch_weight}
 use Rattle.bq_sound_laws.proofs.Steps as D
 use Rattle.bq_sound_laws.proofs.Steps.{one_name, one_index}
-use Rattle.bq_tree_laws.specs.LeftOut.{sum_of, division, expr_count, target_count, suffix_count, parameter_count, kind_count, small_count, stmt_count, branch_count}
+use Rattle.bq_tree_laws.specs.LeftOut.{sum_of, expr_count, target_count, suffix_count, parameter_count, kind_count, small_count, stmt_count, branch_count}
 use Rattle.bq_sound_laws.proofs.Below.{Below, none_below, wider, row_below, commas_below, listed_below}
 use Rattle.bq_sound_laws.proofs.Counts as C
 use Rattle.bq_sound_laws.proofs.ParsedExpressions.{operand_to_below, suffix_to_below, index_to_below, test_to_below, expr_to_below, vars_wide}

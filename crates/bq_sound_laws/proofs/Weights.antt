@@ -1,6 +1,6 @@
 -- How many layers a tree has at most when it is resolved, where a comprehension counts twice, since outside functions it is in a layer that
 -- gives it a frame of its own. What may stand nowhere weighs more than the layers that are looked at.
-use Rattle.std.specs.Prelude.{ℕ, ◌+◌, max, List, [], ◌∷◌, map, Option, Some, None}
+use Rattle.std.specs.Prelude.{ℕ, ◌+◌, max, List, [], ◌∷◌, map, Some}
 use Rattle.bq_grammar.specs.declared.tree.Argument.TheFolds.{fold-Argument, fold-Choice, fold-Clause, fold-Expr, fold-Operation, fold-Pair, fold-Suffix, fold-Target}
 use Rattle.bq_grammar.specs.declared.tree.Argument.TheOpen.{Clause-F, Expr-F, Suffix-F, Target-F, Argument-F, Choice-F, Operation-F, Pair-F}
 use Rattle.bq_grammar.specs.declared.tree.Argument.{Argument}

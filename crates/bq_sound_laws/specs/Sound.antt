@@ -1,6 +1,6 @@
 -- Trees in which nothing stands that ends an evaluation by itself: they are no deeper than the layers that are looked at, and in none of
 -- them stands what the language leaves out, a `for` over another variable than a name, or an augmented assignment to a tuple or list.
-use Rattle.std.specs.Prelude.{ℕ, zero, suc, List, Option, Some, None}
+use Rattle.std.specs.Prelude.{ℕ, zero, suc}
 use Rattle.std.specs.List.{AllByRecursion}
 use Rattle.bq_scope.specs.declared.code.Code.{Code, out-Code}
 use Rattle.bq_scope.specs.declared.code.Code.TheOpen.{Code-F, CodeSuffix-F, CodeTarget-F}
