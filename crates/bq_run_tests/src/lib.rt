@@ -6,6 +6,8 @@
 #[cfg(test)]
 mod bundles;
 #[cfg(test)]
+mod depth;
+#[cfg(test)]
 mod devices;
 #[cfg(test)]
 mod options;
