@@ -3,7 +3,7 @@
 ghost use Rattle.std.specs.Prelude.{IfOk};
 ghost use Rattle.bq_run.specs.Run.{IsInRange};
 
-use bq_run::{Options, OutputForm};
+use bq_run::{MAX_JOBS, Options, OutputForm};
 use clap::{Arg, ArgAction, ArgMatches, Command, Error, value_parser};
 use std::alloc::{AllocError, Global};
 
@@ -23,8 +23,6 @@ Exit status:
   4  out of memory
   5  reading the input or writing the output failed";
 
-const MAX_JOBS: u32 = 64;
-
 const DEFAULT_JOBS: u32 = 4;
 
 const MAX_STEPS: u64 = 1_000_000_000;
@@ -35,7 +33,7 @@ fn jobs<'a>(alloc: Global) -> Arg<'a> {
     Arg::new(alloc, "jobs")
         .long("jobs")
         .value_name("N")
-        .help("How many workers load modules, 1 to 64")
+        .help("How many workers load modules, 1 to 256")
         .value_parser(value_parser!(u32).range(1..=MAX_JOBS as i64))
         .default_value("4")
 }

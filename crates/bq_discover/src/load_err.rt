@@ -9,7 +9,7 @@ pub enum LoadErr {
     /// Memory was refused. It says nothing of the workspace.
     #[error("L1 Memory")]
     Memory,
-    /// More than 4,096 modules or 65,536 edges.
+    /// More modules or edges than a load graph may have.
     #[error("L2 TooManyModules")]
     TooManyModules,
     /// The first bad line of the schema.

@@ -6,7 +6,8 @@ use std::marker::Sync;
 /// Is told of each module that is evaluated. What it does changes no outcome.
 pub trait Gate: Sync {
     /// Whoever evaluates a module calls this once, right before it does. A module whose outcome is known without evaluation doesn't
-    /// enter: one with a fault of its own, one that loads a failed module, and one that loads a symbol that isn't there.
+    /// enter: one with a fault of its own, one that is cyclic or too deep, one that loads a failed module, and one that loads a symbol that isn't
+    /// there.
     fn enter(&self, module: &Label);
 }
 

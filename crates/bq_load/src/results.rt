@@ -118,6 +118,10 @@ impl<'a> Loading<'a> {
                 let fault = self.load_fault(alloc, m, source, FaultKind::CycleReached, *k)?;
                 Ok(Err(FailedModule::not_evaluated(alloc, fault)))
             }
+            Outcome::TooDeep(k) => {
+                let fault = self.load_fault(alloc, m, source, FaultKind::LoadDepth, *k)?;
+                Ok(Err(FailedModule::not_evaluated(alloc, fault)))
+            }
             Outcome::LoadFailed(k) => {
                 let fault = self.load_fault(alloc, m, source, FaultKind::LoadFailed, *k)?;
                 Ok(Err(FailedModule::not_evaluated(alloc, fault)))

@@ -6,6 +6,7 @@ use Rattle.bq_report.specs.Ending.{is_unanswered, names_nothing}
 use Rattle.bq_report.specs.Report.{ReportView}
 use Rattle.bq_report.specs.declared.ending.Refusal.{Refusal}
 use Rattle.bq_report.specs.declared.ending.Status.{Status}
+use Rattle.bq_workers.specs.Workers.{max_workers}
 use Rattle.bq_run.specs.Bundle.{bundle_of}
 use Rattle.bq_run.specs.Device.{Begins}
 use Rattle.bq_run.specs.Error.{run_err}
@@ -86,6 +87,6 @@ IsSilent (Err run.TooManyModules) = Unit {0}
 -- how many workers a run may have, and how many steps a module
 pub record IsInRange (o : Options) : Type 0 where
   pub some_job : 1 ≤ o.jobs
-  pub jobs : o.jobs ≤ 64
+  pub jobs : o.jobs ≤ max_workers
   pub some_step : 1 ≤ o.max_steps
   pub steps : o.max_steps ≤ 1000000000

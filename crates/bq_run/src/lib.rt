@@ -32,7 +32,7 @@ pub use bq_report::Status;
 pub use bundle::read_bundle;
 pub use device::{Counted, Metered, Sink, Source};
 pub use error::RunErr;
-pub use options::Options;
+pub use options::{MAX_JOBS, Options};
 pub use runs::{run, run_files};
 pub use status::{
     ANSWERED, DEVICE_FAILED, NO_MEMORY, REFUSED, WITH_FAULTS, status_code, status_of,

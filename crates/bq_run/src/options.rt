@@ -1,13 +1,17 @@
 //! What a run is asked.
 
 use bq_answer::OutputForm;
+use bq_workers::MAX_WORKERS;
+
+/// The most jobs that a run may have.
+pub const MAX_JOBS: u32 = MAX_WORKERS as u32;
 
 /// What a run is asked. The ranges are a condition of the calls that take it.
 #[derive(Drop)]
 pub struct Options {
     /// The query's text.
     pub query: Vec<u8>,
-    /// How many workers load modules, 1 to 64.
+    /// How many workers load modules, 1 to `MAX_JOBS`.
     pub jobs: u32,
     /// What is printed of a target.
     pub output: OutputForm,

@@ -8,6 +8,8 @@ mod bundles;
 #[cfg(test)]
 mod cuts;
 #[cfg(test)]
+mod depth;
+#[cfg(test)]
 mod devices;
 #[cfg(test)]
 mod examples;

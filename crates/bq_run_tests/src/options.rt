@@ -5,7 +5,7 @@ ghost use Rattle.bq_run.specs.Run.{IsInRange};
 
 use crate::rows::Row;
 use crate::runs::{Table, UNFAILING, check_runs, written};
-use bq_run::{Options, OutputForm};
+use bq_run::{MAX_JOBS, Options, OutputForm};
 use std::alloc::{AllocError, Global};
 use std::sync::Wait;
 use std::thread::Threads;
@@ -22,7 +22,7 @@ pub fn options(
 {
     Ok(Options {
         query: query.to_vec(alloc)?,
-        jobs: jobs.clamp(1, 64) as u32,
+        jobs: jobs.clamp(1, u64::from(MAX_JOBS)) as u32,
         output,
         max_steps: max_steps.clamp(1, 1_000_000_000),
     })
@@ -55,11 +55,11 @@ const CORNERS: &str = r#"
 2 | 4 | >//a:x\n>>0 0
 4 | 1000000 | >//a:x\n>>0 0
 7 | 64 | >//a:x\n>>0 0
-63 | 999999999 | >//a:x\n>>0 0
-64 | 1000000000 | >//a:x\n>>0 0
-64 | 4 | >//a:x\n>>0 0
+255 | 999999999 | >//a:x\n>>0 0
+256 | 1000000000 | >//a:x\n>>0 0
+256 | 4 | >//a:x\n>>0 0
 1 | 1000000000 | >//a:x\n>>0 0
 # too few steps
 1 | 1 | //a:BUILD:1: F53 StepLimit\n>>bq: Q5 NoSuchTarget //a:x\n>2 0
-64 | 2 | //a:BUILD:1: F53 StepLimit\n>>bq: Q5 NoSuchTarget //a:x\n>2 0
+256 | 2 | //a:BUILD:1: F53 StepLimit\n>>bq: Q5 NoSuchTarget //a:x\n>2 0
 "#;

@@ -3,6 +3,7 @@
 ghost use Rattle.bq_run.specs.Run.{IsInRange};
 
 use crate::cuts::over_beginnings;
+use crate::depth::{chained, packaged};
 use crate::devices::{make_drip, make_sip};
 use crate::examples::example;
 use crate::options::{corner, options};
@@ -86,7 +87,9 @@ pub fn written<R: Threads + Wait + Sync>(
 /// What the rows of a table of runs are about. A function that starts threads is no method of a trait, so this stands for subjects.
 #[derive(Clone, Copy)]
 pub enum Table {
+    Chains,
     Corners,
+    Packages,
     Queries,
     FailingWriters,
     FailingReader,
@@ -104,7 +107,9 @@ fn answer<R: Threads + Wait + Sync>(
     row: Row,
 ) -> Result<Vec<u8>, AllocError> {
     match table {
+        Table::Chains => chained(rt, alloc, row),
         Table::Corners => corner(rt, alloc, row),
+        Table::Packages => packaged(rt, alloc, row),
         Table::Queries => queried(rt, alloc, row),
         Table::FailingWriters => with_failing_writers(rt, alloc, row),
         Table::FailingReader => with_failing_reader(rt, alloc, row),

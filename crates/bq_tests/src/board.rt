@@ -313,7 +313,7 @@ impl Subject for Chains {
     fn answer(&self, alloc: Global, _text: &[u8], row: Row) -> Result<Vec<u8>, AllocError> {
         verdict(
             alloc,
-            chain(alloc, row.number(0).min(5000) as u32, row.number(1))?,
+            chain(alloc, row.number(0).min(20_000) as u32, row.number(1))?,
         )
     }
 }
@@ -324,9 +324,9 @@ fn limits_of_plans(rt: HostRuntime) -> Result<(), AllocError> {
 }
 
 const CHAINS: &str = r#"
-4094 | 33 | P3 TooMany
-4095 | 16 | P3 TooMany
-4094 | 32 | 4096 modules, 65536 edges
+16382 | 33 | P3 TooMany
+16383 | 16 | P3 TooMany
+16382 | 32 | 16384 modules, 262144 edges
 "#;
 
 /// What two of the most seats are answered on the largest board.
@@ -343,14 +343,14 @@ fn two_play(
     requires base { base_of board.now ≡ 7 }
     ensures a { IsSeatOf board.now a.new }
 {
-    let mut out = played(alloc, board, a, b"c4095 l0")?;
+    let mut out = played(alloc, board, a, b"c16383 l0")?;
     out.push_str(&played(alloc, board, b, b"c1")?)?;
     out.push_str(&played(alloc, board, a, b"d0")?)?;
     Ok(out)
 }
 
 fn largest(alloc: Global) -> Result<String, PlanErr> {
-    let (board, mut seats) = opened(alloc, chain(alloc, 4094, 32)?, MAX_SEATS, 7)?;
+    let (board, mut seats) = opened(alloc, chain(alloc, 16382, 32)?, MAX_SEATS, 7)?;
     let Some((mut a, mut b)) = last_two(&board, &mut seats) else {
         return Ok(String::from_str(alloc, "fewer than two seats")?);
     };
@@ -374,7 +374,7 @@ fn limits_of_boards(rt: HostRuntime) -> Result<(), AllocError> {
 }
 
 const LARGEST: &str = r#"
-65 seats | waiting 65504;loaded 1;won 0;done 1;
+257 seats | waiting 262112;loaded 1;won 0;done 1;
 "#;
 
 // Loads module 0.
