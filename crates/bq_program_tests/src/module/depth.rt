@@ -1,4 +1,5 @@
-//! Programs that are deep or long: functions that call one another in a row, and chains of operators.
+//! Programs that are deep or long: functions that call one another in a row, chains of operators, comprehensions of many
+//! clauses.
 
 use crate::chunks::{Subject, check_lines};
 use bq_grammar::FileKind;
@@ -14,6 +15,12 @@ enum Deep {
     Nots,
     /// `+ 1`
     Sums,
+    /// `if 1`, in a comprehension
+    Ifs,
+    /// `for a in [1]`
+    Fors,
+    /// `for a in [1] if a`, in a comprehension of a dict
+    Clauses,
 }
 
 fn number(digits: &[u8]) -> u64 {
@@ -58,6 +65,9 @@ fn program(alloc: Global, what: Deep, count: u64) -> Result<String, AllocError> 
         Deep::Calls => calls(alloc, count),
         Deep::Nots => repeated(alloc, "print(", "not ", count, "1)\n"),
         Deep::Sums => repeated(alloc, "print(1", " + 1", count, ")\n"),
+        Deep::Ifs => repeated(alloc, "print([a for a in [1, 2]", " if 1", count, "])\n"),
+        Deep::Fors => repeated(alloc, "print([a", " for a in [1]", count, "])\n"),
+        Deep::Clauses => repeated(alloc, "print({a: 2", " for a in [1] if a", count, "})\n"),
     }
 }
 
@@ -80,4 +90,23 @@ fn calls_deep_functions(rt: HostRuntime) -> Result<(), AllocError> {
 fn evaluates_long_chains(rt: HostRuntime) -> Result<(), AllocError> {
     check_lines(&rt, rt.alloc(), "1 #> False\n5000 #> True", &Deep::Nots)?;
     check_lines(&rt, rt.alloc(), "1 #> 2\n5000 #> 5001", &Deep::Sums)
+}
+
+/// The clauses of a comprehension take no calls along themselves, however many there are.
+#[test]
+fn evaluates_many_conditions(rt: HostRuntime) -> Result<(), AllocError> {
+    let lines = "1 #> [1, 2]\n15000 #> [1, 2]";
+    check_lines(&rt, rt.alloc(), lines, &Deep::Ifs)
+}
+
+#[test]
+fn evaluates_many_loops(rt: HostRuntime) -> Result<(), AllocError> {
+    let lines = "1 #> [1]\n15000 #> [1]";
+    check_lines(&rt, rt.alloc(), lines, &Deep::Fors)
+}
+
+#[test]
+fn evaluates_many_clauses_of_both_kinds(rt: HostRuntime) -> Result<(), AllocError> {
+    let lines = "1 #> {1: 2}\n7500 #> {1: 2}";
+    check_lines(&rt, rt.alloc(), lines, &Deep::Clauses)
 }
