@@ -1,0 +1,7 @@
+-- what is read of files
+pub mod Codes
+-- a module, by what it loads
+pub mod Imports
+pub mod Modules
+-- the recursion along loads
+pub mod Outcomes
