@@ -6,6 +6,8 @@ pub mod Keyed
 pub mod Lookups
 -- what a dict has after a pair was put or taken out
 pub mod Puts
+-- a dict whose first places are empty
+pub mod Gaps
 -- what cells hold after a module was frozen or loaded, or a cell was changed
 pub mod Freezes
 -- how many elements a range has

@@ -1,7 +1,9 @@
 //! Dicts (Starlark, "Dictionaries").
 
-ghost use Rattle.std.specs.Prelude.{◌≡◌, [], length, option_copied, drop, ◌∷◌, ◌+◌, ◌<◌, IfOk, OnOk, OnErr};
+ghost use Rattle.std.specs.Prelude.{◌≡◌, [], length, option_copied, take, drop, remove, slice_get, Some, None, is_some, ◌∷◌, ◌+◌, ◌<◌, ◌≤◌, IfOk, OnOk, OnErr, IsTrue};
 ghost use Rattle.std.specs.Map.Iter.{deref_pair};
+ghost use Rattle.std.specs.HashMap.{values};
+ghost use Rattle.indexmap.specs.IndexMap.{index_map_len};
 ghost use Rattle.bq_value.specs.Pairs.{found, put, without, HasNoKeyTwice};
 
 use crate::key::Key;
@@ -9,15 +11,21 @@ use crate::value::Value;
 use indexmap::IndexMap;
 use std::alloc::{AllocError, Global};
 use std::marker::Model;
+use std::mem;
 
 /// Pairs with distinct keys, in the order in which the keys came. Contracts see the list of the pairs.
+///
+/// Places at the front are left empty, with their keys and without their values, until they are half of all: so no pair moves
+/// where the first one is taken out.
 #[derive(Drop)]
 pub struct Dict {
     entries: IndexMap<Key, Value>,
+    /// How many places at the front are empty.
+    gone: usize,
 }
 
 impl Model for Dict {
-    ghost use Rattle.std.specs.Prelude.{List};
+    ghost use Rattle.std.specs.Prelude.{List, drop, length, ◌≤◌};
     ghost use Rattle.bq_value.specs.Datum.{Datum};
     ghost use Rattle.bq_value.specs.Contents.{coded_pairs};
 
@@ -25,11 +33,9 @@ impl Model for Dict {
 
     ghost coded = { coded_pairs };
 
-    ghost view = { λ d. d.entries.entries };
+    ghost view = { λ d. drop d.gone d.entries.entries };
 
-    ghost use Rattle.bq_value.specs.Pairs.{HasNoKeyTwice};
-
-    ghost invariant = { λ d. HasNoKeyTwice d.entries.entries };
+    ghost invariant = { λ d. d.gone ≤ length d.entries.entries };
 }
 
 impl Dict {
@@ -39,6 +45,7 @@ impl Dict {
     {
         Dict {
             entries: IndexMap::new(alloc),
+            gone: 0,
         }
     }
 
@@ -46,20 +53,23 @@ impl Dict {
     pub(crate) fn has_no_key_twice(&self)
         ensures { HasNoKeyTwice self.now }
     {
-        let _ = &self.entries; // for the proof: opens the invariant
+        let _len = self.entries.len(); // for the proof: the map says so
     }
 
     /// How many pairs.
     pub fn len(&self) -> usize
         ensures { result ≡ length self.now }
     {
-        self.entries.len()
+        self.entries.len() - self.gone
     }
 
     /// The value of a key.
     pub fn get(&self, key: &Key) -> Option<&Value>
         ensures { option_copied result ≡ found key.now self.now }
     {
+        if is_gone(&self.entries, self.gone, key) {
+            return None;
+        }
         self.entries.get(key)
     }
 
@@ -68,7 +78,8 @@ impl Dict {
         requires { index < length self.now }
         ensures { drop index self.now ≡ deref_pair result ∷ drop (index + 1) self.now }
     {
-        self.entries.get_index(index).unwrap()
+        let _len = self.entries.len(); // for the proof: the sum fits
+        self.entries.get_index(self.gone + index).unwrap()
     }
 
     /// Gives a key this value, and answers the one that it had. A new key goes last.
@@ -77,6 +88,11 @@ impl Dict {
         ensures after { OnOk result (self.new ≡ put key value self.old) }
         ensures err { OnErr result (self.new ≡ self.old) }
     {
+        if is_gone(&self.entries, self.gone, &key) {
+            close_up(&mut self.entries, self.gone);
+            self.gone = 0;
+            return Ok(self.entries.insert(key, value)?);
+        }
         Ok(self.entries.insert(key, value)?)
     }
 
@@ -85,7 +101,16 @@ impl Dict {
         ensures before { result ≡ found key.now self.old }
         ensures after { self.new ≡ without key.now self.old }
     {
-        self.entries.shift_remove(key)
+        if is_gone(&self.entries, self.gone, key) {
+            return None;
+        }
+        let index = self.entries.get_index_of(key)?;
+        if self.entries.len() - index <= index - self.gone {
+            return self.entries.shift_remove(key);
+        }
+        let value = take_early(&mut self.entries, self.gone, index);
+        self.gone = without_many(&mut self.entries, self.gone + 1);
+        Some(value)
     }
 
     /// Takes all pairs out.
@@ -93,5 +118,58 @@ impl Dict {
         ensures { self.new ≡ [] }
     {
         self.entries.clear();
+        self.gone = 0;
     }
+}
+
+/// A key stands in one of the places that are empty.
+fn is_gone(entries: &IndexMap<Key, Value>, gone: usize, key: &Key) -> bool
+    requires { gone ≤ index_map_len entries.now }
+    ensures before { result ≡ is_some (found key.now (take gone entries.now.entries)) }
+    ensures absent { IsTrue result → found key.now (drop gone entries.now.entries) ≡ None }
+{
+    if gone == 0 {
+        return false;
+    }
+    match entries.get_index_of(key) {
+        None => false,
+        Some(index) => index < gone,
+    }
+}
+
+/// Takes the value out at an index, and moves its place to the end of those that are empty.
+fn take_early(entries: &mut IndexMap<Key, Value>, gone: usize, index: usize) -> Value
+    requires after { gone ≤ index }
+    requires within { index < index_map_len entries.old }
+    ensures value { slice_get (values entries.old) index ≡ Some result }
+    ensures rest { drop (gone + 1) entries.new.entries ≡ drop gone (remove entries.old.entries index) }
+    ensures len { index_map_len entries.new ≡ index_map_len entries.old }
+{
+    let value = mem::replace(&mut entries[index], Value::none());
+    entries.move_index(index, gone);
+    value
+}
+
+/// Closes up the empty places where they are more than half. The answer is how many are left.
+fn without_many(entries: &mut IndexMap<Key, Value>, gone: usize) -> usize
+    requires { gone ≤ index_map_len entries.old }
+    ensures pairs { drop result entries.new.entries ≡ drop gone entries.old.entries }
+    ensures within { result ≤ index_map_len entries.new }
+{
+    if gone <= entries.len() / 2 {
+        return gone;
+    }
+    close_up(entries, gone);
+    0
+}
+
+/// Takes the places at the front out.
+fn close_up(entries: &mut IndexMap<Key, Value>, gone: usize)
+    requires { gone ≤ index_map_len entries.old }
+    ensures { entries.new.entries ≡ drop gone entries.old.entries }
+{
+    let left = entries.len() - gone;
+    entries.reverse();
+    entries.truncate(left);
+    entries.reverse();
 }
