@@ -9,7 +9,8 @@ use std::sync::Wait;
 use std::thread::Threads;
 
 /// A package in which `t` depends on `l` and `r`, these and `up` on `leaf`.
-const WHOLE: &[u8] = b"=== p/BUILD\nfilegroup(name = \"t\", srcs = [\":l\", \":r\"])\nfilegroup(name = \"l\", srcs = [\":leaf\"])\nfilegroup(name = \"r\", srcs = [\":leaf\"])\nfilegroup(name = \"up\", srcs = [\":leaf\"])\nfilegroup(name = \"leaf\")\n";
+const WHOLE: &[u8] =
+    b"=== p/BUILD\nfilegroup(name = \"t\", srcs = [\":l\", \":r\"])\nfilegroup(name = \"l\", srcs = [\":leaf\"])\nfilegroup(name = \"r\", srcs = [\":leaf\"])\nfilegroup(name = \"up\", srcs = [\":leaf\"])\nfilegroup(name = \"leaf\")\n";
 
 fn over_beginning<R: Threads + Wait + Sync>(
     rt: &R,
