@@ -16,11 +16,8 @@ _bq() {
         --max-steps)
             mapfile -t COMPREPLY < <(compgen -W '1000000 10000000 100000000 1000000000' -- "$word")
             ;;
-        --explain)
-            mapfile -t COMPREPLY < <(compgen -W "$(echo F{1..8} F{10..13} F{20..24} F{30..37} F{40..60} F{70..80} Q{1..9} E{1..7})" -- "$word")
-            ;;
         *)
-            mapfile -t COMPREPLY < <(compgen -W '--jobs --output --max-steps --dir --explain --help' -- "$word")
+            mapfile -t COMPREPLY < <(compgen -W '--jobs --output --max-steps --dir --help' -- "$word")
             ;;
     esac
 }

@@ -4,5 +4,4 @@ complete -c bq -l jobs -x -a '1 2 4 8 16 32 64' -d 'Number of workers that load 
 complete -c bq -l output -x -a 'label label_kind' -d 'Output format of each target'
 complete -c bq -l max-steps -x -a '1000000 10000000 100000000 1000000000' -d 'Step limit for evaluating one module'
 complete -c bq -l dir -x -a '(__fish_complete_directories)' -d 'Directory that holds the workspace'
-complete -c bq -l explain -x -a 'F(seq 1 8) F(seq 10 13) F(seq 20 24) F(seq 30 37) F(seq 40 60) F(seq 70 80) Q(seq 1 9) E(seq 1 7)' -d 'Explain the number of a fault or an error'
 complete -c bq -s h -l help -d 'Print help'
