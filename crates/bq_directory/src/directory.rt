@@ -19,14 +19,15 @@ fn read_entries<R: Files + Alloc<A = Global> + Clone + Drop>(
     Ok(())
 }
 
-/// The workspace of the files in the directory at `root` and below it. Their paths are those from `root` on.
+/// The workspace of the files in the directory at `root` and below it. Their paths are those from `root` on. Files whose bytes no
+/// run looks at have none in it.
 pub fn read_directory<R: Files + Alloc<A = Global> + Clone + Drop>(
     rt: &R,
     root: &str,
 ) -> Result<Workspace, DirectoryErr> {
-    let mut walk = Walk::new(rt.alloc(), root)?;
+    let mut walk = Walk::new(rt, root)?;
     for _ in 0..u64::MAX {
-        match walk.next_directory() {
+        match walk.next_directory()? {
             None => return Ok(Workspace::new(walk.into_files())?),
             Some(directory) => read_entries(rt, directory.as_str(), &mut walk)?,
         }

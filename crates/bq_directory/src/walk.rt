@@ -1,11 +1,40 @@
 //! A walk through a directory: the directories that are still to be read, and the files so far.
 
+use crate::content::{has_content, is_git, is_output_name};
 use crate::directory_err::DirectoryErr;
+use crate::ignored::{IGNORE_FILE, Ignored};
 use bq_label::{File, MAX_FILES, is_path};
 use bq_source::Bytes;
 use std::alloc::Global;
-use std::fs;
-use std::fs::{DirEntry, Files};
+use std::fs::{DirEntry, Files, Metadata};
+use std::os::unix::fs::MetadataExt;
+use std::path::Path;
+use std::{fs, io};
+
+/// Which directory of the system this is, by whatever path.
+#[derive(Clone, Copy, PartialEq, Eq)]
+struct Identity {
+    device: u64,
+    inode: u64,
+}
+
+impl Identity {
+    fn of(metadata: &Metadata) -> Identity {
+        Identity {
+            device: metadata.dev(),
+            inode: metadata.ino(),
+        }
+    }
+}
+
+/// A directory that is still to be read.
+#[derive(Drop)]
+struct Pending {
+    path: String,
+    identity: Identity,
+    /// How many directories it lies in, the root among them.
+    depth: usize,
+}
 
 /// A walk through the directory at a root.
 #[derive(Drop)]
@@ -13,65 +42,134 @@ pub struct Walk {
     alloc: Global,
     /// How many bytes come before the path of a file in the workspace: those of the root, with a slash.
     root_len: usize,
-    /// The directories that are still to be read. The last one is read next, so that a link round in a circle is soon found.
-    pending: Vec<String>,
+    ignored: Ignored,
+    /// The directories that are still to be read. The last one is read next.
+    pending: Vec<Pending>,
+    /// The directory that is read now, after all that it lies in, the root first.
+    around: Vec<Identity>,
     files: Vec<File>,
+}
+
+/// The directories that `.bazelignore` at the root names.
+fn read_ignored<R: Files + Alloc<A = Global>>(rt: &R, root: &str) -> Result<Ignored, DirectoryErr> {
+    let alloc = rt.alloc();
+    let slash = if root.ends_with('/') { "" } else { "/" };
+    let path = format!(in alloc; "{root}{slash}{IGNORE_FILE}")?;
+    match fs::metadata(rt, path.as_str()) {
+        Ok(metadata) if metadata.is_file() => {
+            let text = fs::read(rt, path.as_str())?;
+            Ok(Ignored::of(alloc, text.as_slice())?)
+        }
+        Ok(_) => Ok(Ignored::none(alloc)),
+        Err(error) if error.kind() == io::ErrorKind::NotFound => Ok(Ignored::none(alloc)),
+        Err(error) => Err(error.into()),
+    }
+}
+
+/// What an entry is, links followed; nothing where it is a link that can't be followed, and no file that is to be read.
+fn look_at<R: Files>(
+    rt: &R,
+    path: Path<'_>,
+    inner: &[u8],
+) -> Result<Option<Metadata>, DirectoryErr> {
+    match fs::metadata(rt, path) {
+        Ok(metadata) => Ok(Some(metadata)),
+        Err(error) if error.kind() == io::ErrorKind::OutOfMemory => Err(DirectoryErr::Memory),
+        Err(error) if has_content(inner) => Err(error.into()),
+        Err(_) if fs::symlink_metadata(rt, path)?.is_symlink() => Ok(None),
+        Err(error) => Err(error.into()),
+    }
+}
+
+/// Whether an entry is one of the links at the root by which Bazel shows its output tree.
+fn is_output_link<R: Files>(rt: &R, path: Path<'_>, inner: &[u8]) -> Result<bool, DirectoryErr> {
+    Ok(is_output_name(inner) && fs::symlink_metadata(rt, path)?.is_symlink())
 }
 
 impl Walk {
     /// The walk before its first step.
-    pub fn new(alloc: Global, root: &str) -> Result<Walk, DirectoryErr> {
-        let slash = usize::from(!root.ends_with('/'));
-        let mut pending = Vec::new(alloc);
-        pending.push(String::from_str(alloc, root)?)?;
-        Ok(Walk {
+    pub fn new<R: Files + Alloc<A = Global>>(rt: &R, root: &str) -> Result<Walk, DirectoryErr> {
+        let alloc = rt.alloc();
+        let identity = Identity::of(&fs::metadata(rt, root)?);
+        let mut walk = Walk {
             alloc,
-            root_len: root.len().saturating_add(slash),
-            pending,
+            root_len: root.len().saturating_add(usize::from(!root.ends_with('/'))),
+            ignored: read_ignored(rt, root)?,
+            pending: Vec::new(alloc),
+            around: Vec::new(alloc),
             files: Vec::new(alloc),
-        })
+        };
+        walk.push(root, identity)?;
+        Ok(walk)
+    }
+
+    /// Puts a directory of the one that is read now among those that are still to be read.
+    fn push(&mut self, path: &str, identity: Identity) -> Result<(), DirectoryErr> {
+        self.pending.push(Pending {
+            path: String::from_str(self.alloc, path)?,
+            identity,
+            depth: self.around.len(),
+        })?;
+        Ok(())
     }
 
     /// The next directory to read.
-    pub fn next_directory(&mut self) -> Option<String> {
-        self.pending.pop()
+    pub fn next_directory(&mut self) -> Result<Option<String>, DirectoryErr> {
+        let Some(next) = self.pending.pop() else {
+            return Ok(None);
+        };
+        self.around.truncate(next.depth);
+        self.around.push(next.identity)?;
+        Ok(Some(next.path))
     }
 
-    /// Looks at an entry of a directory: a file is read, and a directory will be.
+    /// Looks at an entry of the directory that is read now: a file is kept, and a directory will be read.
     pub fn visit<R: Files + Alloc<A = Global>>(
         &mut self,
         rt: &R,
         entry: &DirEntry<R, Global>,
     ) -> Result<(), DirectoryErr> {
         let path = entry.path();
-        let bytes = path.as_str().as_bytes();
-        let inner = bytes.get(self.root_len..).unwrap_or(b"");
-        if !is_path(inner) {
+        let inner = path.as_str().as_bytes().get(self.root_len..).unwrap_or(b"");
+        if !is_path(inner) || is_git(inner) || is_output_link(rt, path, inner)? {
             return Ok(());
         }
-        let metadata = fs::metadata(rt, path)?;
+        let Some(metadata) = look_at(rt, path, inner)? else {
+            return Ok(());
+        };
         if metadata.is_dir() {
-            let directory = String::from_str(self.alloc, path.as_str())?;
-            self.pending.push(directory)?;
+            self.enter(path.as_str(), inner, Identity::of(&metadata))?;
         }
         if metadata.is_file() {
-            let inner = Bytes::from_slice(self.alloc, inner)?;
-            self.read(rt, entry, inner)?;
+            self.keep(rt, path, inner)?;
         }
         Ok(())
     }
 
-    /// Reads the file at an entry.
-    fn read<R: Files + Alloc<A = Global>>(
+    /// Has a directory read later, but where it is ignored, or lies in itself by a link.
+    fn enter(&mut self, path: &str, inner: &[u8], identity: Identity) -> Result<(), DirectoryErr> {
+        if self.ignored.has(inner) || self.around.contains(&identity) {
+            return Ok(());
+        }
+        self.push(path, identity)
+    }
+
+    /// Keeps a file, with its bytes where a run looks at them.
+    fn keep<R: Files + Alloc<A = Global>>(
         &mut self,
         rt: &R,
-        entry: &DirEntry<R, Global>,
-        path: Bytes,
+        path: Path<'_>,
+        inner: &[u8],
     ) -> Result<(), DirectoryErr> {
         if self.files.len() == MAX_FILES {
             return Err(DirectoryErr::TooManyFiles);
         }
-        let content = Bytes::from_vec(self.alloc, fs::read(rt, entry.path())?)?;
+        let content = if has_content(inner) {
+            Bytes::from_vec(self.alloc, fs::read(rt, path)?)?
+        } else {
+            Bytes::empty()
+        };
+        let path = Bytes::from_slice(self.alloc, inner)?;
         self.files.push(File { path, content })?;
         Ok(())
     }

@@ -1,0 +1,46 @@
+//! The directories that a workspace tells Bazel to leave out.
+
+use bq_source::Bytes;
+use std::alloc::{AllocError, Global};
+
+/// The file at the root that names them, one a line.
+pub const IGNORE_FILE: &str = ".bazelignore";
+
+/// The directories that `.bazelignore` names, by their paths from the root.
+#[derive(Drop)]
+pub struct Ignored {
+    paths: Vec<Bytes>,
+}
+
+/// A line's path: without blanks around it, `./` before it and a slash after it.
+fn path_of(line: &[u8]) -> &[u8] {
+    let path = line.trim_ascii();
+    let path = path.strip_prefix(b"./").unwrap_or(path);
+    path.strip_suffix(b"/").unwrap_or(path)
+}
+
+impl Ignored {
+    /// No directory.
+    pub fn none(alloc: Global) -> Ignored {
+        Ignored {
+            paths: Vec::new(alloc),
+        }
+    }
+
+    /// Those that a text names, one a line. Blank lines, and lines that begin with `#`, name none.
+    pub fn of(alloc: Global, text: &[u8]) -> Result<Ignored, AllocError> {
+        let mut ignored = Ignored::none(alloc);
+        for line in text.split(|byte| *byte == b'\n') {
+            let path = path_of(line);
+            if !path.is_empty() && !path.starts_with(b"#") {
+                ignored.paths.push(Bytes::from_slice(alloc, path)?)?;
+            }
+        }
+        Ok(ignored)
+    }
+
+    /// Whether the directory at this path is one of them.
+    pub fn has(&self, directory: &[u8]) -> bool {
+        self.paths.iter().any(|path| path.as_slice() == directory)
+    }
+}

@@ -1,0 +1,340 @@
+"""What a BUILD or .bzl file says, as far as its text shows it: loads, definitions, calls and their arguments.
+
+Starlark is near enough to Python that Python's own parser reads it; nothing is run. What a value is like is guessed from its form.
+"""
+import ast
+import warnings
+from dataclasses import dataclass, field
+
+# names that every file knows, besides the rules
+BUILT_INS = set("""None True False all any bool dict enumerate fail int len list max min print range repr reversed select sorted str tuple
+    type zip""".split())
+BUILD_FUNCTIONS = set("glob package_name package licenses exports_files package_group".split())
+# what Bazel knows and `bq` leaves out
+LEFT_OUT = set("""abs analysis_test_transition apple_common apple_support aspect attr bytes cc_common config configuration_field coverage_common
+    DefaultInfo depset distribs CcInfo environment_group exec_group existing_rule existing_rules float getattr hasattr hash InstrumentedFilesInfo
+    JavaInfo java_common json Label module_extension native OutputGroupInfo platform_common proto provider ProtoInfo PyInfo PyRuntimeInfo
+    repository_name repository_rule rule RunEnvironmentInfo set struct subpackages tag_class testing transition workspace dir
+    CcToolchainConfigInfo CcSharedLibraryInfo DebugPackageInfo ErlangInfo macro module_version symbolic_macro visibility""".split())
+
+
+@dataclass
+class Call:
+    """A call of a name (`f(..)`) or of a member of `native`."""
+
+    name: str
+    is_native: bool
+    line: int
+    inside: str  # the function whose body it is in; empty at the top level
+    keywords: dict  # each keyword's kinds of values
+    splats: list  # the names given with `**`; None for other values
+    positional: list  # kinds
+    is_statement: bool
+    wanted: str  # what the place takes: a kind, or empty
+
+
+@dataclass
+class Def:
+    parameters: list
+    rest: str  # the name after `**`; empty without one
+
+
+@dataclass
+class File:
+    path: str
+    is_build: bool
+    broken: str = ""
+    loads: list = field(default_factory=list)  # (label, line, {local: symbol})
+    defs: dict = field(default_factory=dict)
+    aliases: dict = field(default_factory=dict)  # a global that is another name
+    globals: set = field(default_factory=set)
+    calls: list = field(default_factory=list)
+    uses: list = field(default_factory=list)  # (name, how it is used, line)
+    members: list = field(default_factory=list)  # (name, member, line, whether it is called)
+    faults: list = field(default_factory=list)  # (line, what bq leaves out)
+
+
+def is_label(text):
+    return text.startswith(("//", ":", "@"))
+
+
+def joined(kinds):
+    """The kind of a list whose elements are of these kinds."""
+    if "dict" in kinds or "list" in kinds:
+        return "other"
+    if "label" in kinds:
+        return "labels"
+    return "strings" if "string" in kinds else "list"
+
+
+def kind_of(node):
+    """What a value is like: string, label, strings, labels, list, bit, int, bool, dict, select, none, or other where the form doesn't show it."""
+    match node:
+        case ast.Constant(value=bool()):
+            return "bool"
+        case ast.Constant(value=None):
+            return "none"
+        case ast.Constant(value=int() as number):
+            return "bit" if number in (0, 1) else "int"
+        case ast.Constant(value=str() as text):
+            return "label" if is_label(text) else "string"
+        case ast.UnaryOp(op=ast.USub()):
+            return "int"
+        case ast.List(elts=parts) | ast.Tuple(elts=parts):
+            return joined({kind_of(part) for part in parts}) if parts else "list"
+        case ast.ListComp(elt=part):
+            return joined({kind_of(part)})
+        case ast.Dict() | ast.DictComp():
+            return "dict"
+        case ast.BinOp(op=ast.Add(), left=left, right=right):
+            sides = [kind for kind in (kind_of(left), kind_of(right)) if kind != "other"]
+            return sides[0] if sides and "select" not in sides else "select" if sides else "other"
+        case ast.BinOp(op=ast.Mod(), left=left):
+            return kind_of(left)
+        case ast.IfExp(body=body):
+            return kind_of(body)
+        case ast.Call(func=ast.Name(id="select")):
+            return "select"
+        case ast.Call(func=ast.Name(id="glob") | ast.Attribute(attr="glob")):
+            return "labels"
+        case ast.Call(func=ast.Attribute(value=of, attr="format" | "strip" | "replace" | "lower" | "upper" | "join")):
+            return kind_of(of) if isinstance(of, ast.Constant) else "string"
+        case _:
+            return "other"
+
+
+class Reader(ast.NodeVisitor):
+    """Walks a file's tree. `locals` are the names that the function around binds."""
+
+    def __init__(self, file):
+        self.file = file
+        self.inside = ""
+        self.locals = set()
+        self.wanted = ""
+
+    def left_out(self, node, what):
+        self.file.faults.append((node.lineno, what))
+
+    def known(self, name):
+        return name in self.locals or name in self.file.globals
+
+    def wanting(self, kind, node):
+        before, self.wanted = self.wanted, kind
+        self.visit(node)
+        self.wanted = before
+
+    def visit_FunctionDef(self, node):
+        if self.inside:
+            self.left_out(node, "a function in a function")
+            return
+        for default in [*node.args.defaults, *node.args.kw_defaults]:
+            if default is not None:
+                self.visit(default)
+        self.inside, self.locals = node.name, names_bound(node)
+        for part in node.body:
+            self.visit(part)
+        self.inside, self.locals = "", set()
+
+    def visit_Lambda(self, node):
+        self.left_out(node, "lambda")
+
+    def visit_Expr(self, node):
+        if isinstance(node.value, ast.Call):
+            self.call(node.value, True)
+        else:
+            self.wanting("", node.value)
+
+    def visit_Call(self, node):
+        self.call(node, False)
+
+    def call(self, node, is_statement):
+        match node.func:
+            case ast.Name(id="load") if not self.inside:
+                return
+            case ast.Name(id="select"):
+                self.left_out(node, "select")
+            case ast.Name(id=name):
+                self.named_call(node, name, False, is_statement)
+            case ast.Attribute(value=ast.Name(id="native"), attr=name) if not self.known("native"):
+                self.named_call(node, name, True, is_statement)
+            case ast.Attribute(value=ast.Name(id=name), attr=member) if name not in self.locals:
+                self.member(node, name, member, True)
+            case ast.Attribute(value=of):
+                self.wanting("", of)
+            case _:
+                self.visit(node.func)
+        for part in node.args:
+            self.wanting("", part)
+        for keyword in node.keywords:
+            self.wanting(keyword.arg or "", keyword.value)
+
+    def named_call(self, node, name, is_native, is_statement):
+        if name in self.locals and not is_native:
+            return
+        keywords = {key.arg: kind_of(key.value) for key in node.keywords if key.arg}
+        splats = []
+        for key in node.keywords:
+            if key.arg is None:
+                splats.append(key.value.id if isinstance(key.value, ast.Name) else None)
+                keywords.update(entries(key.value))
+        starred = [part for part in node.args if isinstance(part, ast.Starred)]
+        positional = [kind_of(part) for part in node.args if part not in starred]
+        self.file.calls.append(Call(name, is_native, node.lineno, self.inside, keywords, splats, positional, is_statement, self.wanted))
+
+    def member(self, node, name, member, is_called):
+        if name == "native":
+            return
+        if not self.known(name) and name in LEFT_OUT:
+            self.left_out(node, f"{name}.{member}")
+        else:
+            self.file.members.append((name, member, node.lineno, is_called))
+
+    def visit_Attribute(self, node):
+        self.left_out(node, "a member that isn't called")
+        if isinstance(node.value, ast.Name):
+            self.member(node, node.value.id, node.attr, False)
+        else:
+            self.visit(node.value)
+
+    def visit_Name(self, node):
+        if isinstance(node.ctx, ast.Load) and node.id not in self.locals:
+            self.file.uses.append((node.id, self.wanted, node.lineno))
+
+    def visit_BinOp(self, node):
+        sides = (kind_of(node.left), kind_of(node.right))
+        if isinstance(node.op, ast.Div):
+            self.left_out(node, "division by /")
+        known = [kind for kind in sides if kind in ("string", "label", "strings", "labels", "list", "dict")]
+        wanted = known[0] if known else self.wanted
+        self.wanting("string" if wanted == "label" else wanted, node.left)
+        self.wanting("string" if wanted == "label" else wanted, node.right)
+
+    def visit_comprehension(self, node):
+        self.wanting("list", node.iter)
+        for part in node.ifs:
+            self.wanting("", part)
+
+    def visit_ListComp(self, node):
+        self.in_scope(node)
+
+    def visit_DictComp(self, node):
+        self.in_scope(node)
+
+    def in_scope(self, node):
+        before = self.locals
+        self.locals = before | {part.id for clause in node.generators for part in ast.walk(clause.target) if isinstance(part, ast.Name)}
+        self.generic_visit(node)
+        self.locals = before
+
+    def visit_For(self, node):
+        self.wanting("list", node.iter)
+        for part in node.body:
+            self.visit(part)
+
+    def visit_Subscript(self, node):
+        self.wanting("dict", node.value)
+        self.wanting("", node.slice)
+
+    def visit_List(self, node):
+        for part in node.elts:
+            self.wanting("string", part)
+
+    visit_Tuple = visit_List
+
+
+def names_bound(function):
+    """The names that a function binds: parameters, loop variables and what is assigned to."""
+    arguments = function.args
+    found = {it.arg for it in [*arguments.posonlyargs, *arguments.args, *arguments.kwonlyargs]}
+    found |= {it.arg for it in (arguments.vararg, arguments.kwarg) if it}
+    for part in ast.walk(function):
+        if isinstance(part, ast.Name) and isinstance(part.ctx, ast.Store):
+            found.add(part.id)
+    return found
+
+
+def entries(node):
+    """The keys that a dict's form shows, with the kinds of their values."""
+    match node:
+        case ast.Dict(keys=keys, values=values):
+            return {key.value: kind_of(value) for key, value in zip(keys, values) if isinstance(key, ast.Constant) and isinstance(key.value, str)}
+        case ast.Call(func=ast.Name(id="dict"), keywords=keywords):
+            return {key.arg: kind_of(key.value) for key in keywords if key.arg}
+        case _:
+            return {}
+
+
+def load_of(node):
+    """The label, line and clauses of a load statement."""
+    texts = [part.value for part in node.args if isinstance(part, ast.Constant) and isinstance(part.value, str)]
+    if not texts:
+        return None
+    clauses = {symbol: symbol for symbol in texts[1:]}
+    clauses.update({key.arg: key.value.value for key in node.keywords if key.arg and isinstance(key.value, ast.Constant)})
+    return texts[0], node.lineno, clauses
+
+
+def set_keys(function):
+    """Keys that a function puts into dicts by name: `kwargs["deps"] = ..`, `kwargs.setdefault("deps", ..)`, `.update({..})`."""
+    found = {}
+    for node in ast.walk(function):
+        match node:
+            case ast.Assign(targets=[ast.Subscript(value=ast.Name(id=name), slice=ast.Constant(value=str() as key))], value=value):
+                found.setdefault(name, {})[key] = kind_of(value)
+            case ast.AugAssign(target=ast.Subscript(value=ast.Name(id=name), slice=ast.Constant(value=str() as key)), value=value):
+                found.setdefault(name, {})[key] = kind_of(value)
+            case ast.Call(func=ast.Attribute(value=ast.Name(id=name), attr="setdefault"), args=[ast.Constant(value=str() as key), value]):
+                found.setdefault(name, {})[key] = kind_of(value)
+            case ast.Call(func=ast.Attribute(value=ast.Name(id=name), attr="update"), args=[value], keywords=keywords):
+                found.setdefault(name, {}).update(entries(value))
+                found[name].update({key.arg: kind_of(key.value) for key in keywords if key.arg})
+            case ast.Assign(targets=[ast.Name(id=name)], value=ast.Dict() | ast.Call(func=ast.Name(id="dict")) as value):
+                found.setdefault(name, {}).update(entries(value))
+    return found
+
+
+def top_level(file, tree):
+    for node in tree.body:
+        match node:
+            case ast.Expr(value=ast.Call(func=ast.Name(id="load")) as call):
+                if found := load_of(call):
+                    file.loads.append(found)
+                    file.globals |= set(found[2])
+            case ast.FunctionDef(name=name, args=arguments):
+                parameters = [it.arg for it in [*arguments.posonlyargs, *arguments.args, *arguments.kwonlyargs]]
+                file.defs[name] = Def(parameters, arguments.kwarg.arg if arguments.kwarg else "")
+                file.globals.add(name)
+            case ast.Assign(targets=targets, value=value):
+                for part in (part for target in targets for part in ast.walk(target) if isinstance(part, ast.Name)):
+                    file.globals.add(part.id)
+                    if isinstance(value, ast.Name):
+                        file.aliases[part.id] = value.id
+            case _:
+                for part in ast.walk(node):
+                    if isinstance(part, ast.Name) and isinstance(part.ctx, ast.Store):
+                        file.globals.add(part.id)
+
+
+def read(path, text):
+    """What a file says."""
+    name = path.rpartition("/")[2]
+    file = File(path, not name.endswith(".bzl"))
+    try:
+        with warnings.catch_warnings():
+            warnings.simplefilter("ignore")
+            tree = ast.parse(text.decode("utf-8", "surrogateescape").replace("\x0c", " "))
+    except (SyntaxError, ValueError, RecursionError) as error:
+        file.broken = f"{getattr(error, 'lineno', '?')}: {getattr(error, 'msg', error)}"
+        return file
+    top_level(file, tree)
+    reader = Reader(file)
+    for node in tree.body:
+        reader.visit(node)
+    for node in tree.body:
+        if isinstance(node, ast.FunctionDef):
+            keys = set_keys(node)
+            for call in file.calls:
+                if call.inside == node.name:
+                    for splat in call.splats:
+                        call.keywords = {**keys.get(splat, {}), **call.keywords}
+    return file

@@ -1,0 +1,98 @@
+"""The files of a workspace on disk, as `bq --dir` finds them (docs/FORMATS.md, "The directory")."""
+import os
+import re
+import stat
+
+SCHEMA = "rules.schema"
+VALID = re.compile(r"[ -9;-\[\]-~]+")
+
+
+class Unreadable(Exception):
+    """What `bq` calls E2: a name that is not UTF-8, or a file or directory that is needed and can't be read."""
+
+
+def is_path(path):
+    """Whether a file of a workspace may have this path."""
+    return bool(VALID.fullmatch(path)) and not any(part in ("", ".", "..") for part in path.split("/"))
+
+
+def has_content(path):
+    """Whether a run looks at the bytes of the file at this path. Of all others only the names count."""
+    name = path.rpartition("/")[2]
+    return path == SCHEMA or name in ("BUILD", "BUILD.bazel") or name.endswith(".bzl")
+
+
+def ignored(root):
+    """The directories that `.bazelignore` at the root names."""
+    try:
+        with open(os.path.join(root, ".bazelignore"), "rb") as file:
+            lines = file.read().split(b"\n")
+    except (FileNotFoundError, NotADirectoryError, IsADirectoryError):
+        return set()
+    found = set()
+    for line in lines:
+        path = line.strip(b" \t\r\f\v").removeprefix(b"./").removesuffix(b"/")
+        if path and not path.startswith(b"#"):
+            found.add(path.decode("utf-8", "replace"))
+    return found
+
+
+def name_of(entry):
+    try:
+        return os.fsencode(entry).decode("utf-8")
+    except UnicodeDecodeError as error:
+        raise Unreadable(f"a name is not UTF-8: {os.fsencode(entry)!r}") from error
+
+
+def what_is(place, path):
+    """What an entry is, links followed; nothing where it is a link that can't be followed, and no file that is needed."""
+    try:
+        return os.stat(place)
+    except OSError as error:
+        if has_content(path) or not os.path.islink(place):
+            raise Unreadable(f"{path}: {error.strerror}") from error
+        return None
+
+
+def is_left_out(place, path, name):
+    is_output_link = "/" not in path and name.startswith("bazel-") and os.path.islink(place)
+    return not is_path(path) or name == ".git" or is_output_link
+
+
+def files(root):
+    """The paths of the files in a directory and below it, in the order in which they are found."""
+    without = ignored(root)
+    try:
+        first = os.stat(root)
+    except OSError as error:
+        raise Unreadable(f"{root}: {error.strerror}") from error
+    pending = [("", ((first.st_dev, first.st_ino),))]
+    while pending:
+        directory, around = pending.pop()
+        try:
+            entries = os.listdir(os.path.join(root, directory) or ".")
+        except OSError as error:
+            raise Unreadable(f"{directory or root}: {error.strerror}") from error
+        for entry in sorted(entries):
+            name = name_of(entry)
+            path = f"{directory}/{name}" if directory else name
+            place = os.path.join(root, path)
+            if is_left_out(place, path, name):
+                continue
+            found = what_is(place, path)
+            if found is None:
+                continue
+            identity = (found.st_dev, found.st_ino)
+            if stat.S_ISDIR(found.st_mode) and path not in without and identity not in around:
+                pending.append((path, (*around, identity)))
+            if stat.S_ISREG(found.st_mode):
+                yield path
+
+
+def content(root, path):
+    """The bytes of a file."""
+    try:
+        with open(os.path.join(root, path), "rb") as file:
+            return file.read()
+    except OSError as error:
+        raise Unreadable(f"{path}: {error.strerror}") from error
