@@ -9,8 +9,7 @@ use Rattle.bq_grammar.specs.declared.tree.TopLevel.{TopLevel}
 use Rattle.bq_statements.proofs.Verdicts.{file_reads}
 use Rattle.bq_label.specs.declared.workspace.File.{File}
 use Rattle.bq_label.specs.Label.{LabelParts, package_of}
-use Rattle.bq_label.specs.Packages.{label_path}
-use Rattle.bq_label.specs.Workspace.{file_at}
+use Rattle.bq_label.specs.Packages.{label_file}
 use Rattle.bq_scope.specs.Files.{resolved}
 use Rattle.bq_scope.specs.Universe.{UniverseParts}
 use Rattle.bq_scope.specs.declared.code.Resolved.{Resolved}
@@ -67,7 +66,7 @@ module _ (inputs : InputParts) where
 
   at_label : (l : LabelParts) → Agree (parsed_of inputs l) (front_of inputs l)
   unfolding parsed_of front_of
-  at_label l = at_file l (file_at inputs.files (label_path l))
+  at_label l = at_file l (label_file inputs.files l)
 
   all_agree : (ls : List LabelParts) → AreCodesOf (map (parsed_module inputs) (map (module_of inputs) ls)) (map load.code_of (map (module_of inputs) ls))
   all_agree [] = tt

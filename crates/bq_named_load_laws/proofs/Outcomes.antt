@@ -66,6 +66,7 @@ module _ (x : LoadingParts) (parsed : List (Option ParsedFile)) (are : AreCodesO
   result_same m s (o.Loaded v) = refl
   result_same m s (o.Faulty e) = refl
   result_same m s (o.Cyclic k) = ap (λ why. Err (not_evaluated why)) (fault_same m s f.CycleReached k)
+  result_same m s (o.TooDeep k) = ap (λ why. Err (not_evaluated why)) (fault_same m s f.LoadDepth k)
   result_same m s (o.LoadFailed k) = ap (λ why. Err (not_evaluated why)) (fault_same m s f.LoadFailed k)
 
   -- the recursion along loads is a word over what modules evaluate to

@@ -8,8 +8,7 @@ use Rattle.bq_grammar.specs.declared.tree.TopLevel.{TopLevel}
 use Rattle.bq_label.specs.declared.workspace.File.{File}
 use Rattle.bq_label.specs.declared.packages.BuildFile.{BuildFile}
 use Rattle.bq_label.specs.Label.{LabelParts}
-use Rattle.bq_label.specs.Packages.{packages_of, label_path}
-use Rattle.bq_label.specs.Workspace.{file_at}
+use Rattle.bq_label.specs.Packages.{packages_of, label_file}
 use Rattle.bq_scope.specs.Names.{Name, with_each, with_name}
 use Rattle.bq_scope.specs.Universe.{UniverseParts}
 use Rattle.bq_schema.specs.Schema.{Rules}
@@ -50,7 +49,7 @@ parsed_at inputs l (Some x) = parsed_by (universe_of inputs (kind_of l)) (trees_
 
 -- the file of this label, as it is parsed
 unfoldable pub parsed_of : InputParts → LabelParts → Option ParsedFile
-parsed_of inputs l = parsed_at inputs l (file_at inputs.files (label_path l))
+parsed_of inputs l = parsed_at inputs l (label_file inputs.files l)
 
 -- a module with a fault of its own, or a bad load, is not evaluated
 abbrev pub unless_faulty : Result Front Fault → Option ParsedFile → Option ParsedFile

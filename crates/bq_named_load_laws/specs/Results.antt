@@ -1,5 +1,6 @@
 -- The outcome of each module by names, with its fault where it has no value. A module whose loads lead round a cycle is F35 and names its
--- first load that is cyclic; one with a load that has no value is F36 and names the first of them.
+-- first load that is cyclic; one that is too deep is F38 and names its first load at which a path of as many edges starts as there may be; one
+-- with a load that has no value is F36 and names the first of them.
 use Rattle.std.specs.Prelude.{ℕ, ◌+◌, List, [], ◌∷◌, Option, Some, None, Result, Ok, Err, slice_get, bytes_eq, if◌then◌else◌}
 use Rattle.bq_source.specs.declared.fault.Fault.{Fault}
 use Rattle.bq_source.specs.declared.fault.FaultKind.{FaultKind}
@@ -46,6 +47,7 @@ abbrev pub result_of : ParsedParts → ℕ → Source → Outcome ModuleView Fai
 result_of x m s (o.Loaded v) = Ok v
 result_of x m s (o.Faulty e) = Err e
 result_of x m s (o.Cyclic k) = Err (not_evaluated (load_fault x m s f.CycleReached k))
+result_of x m s (o.TooDeep k) = Err (not_evaluated (load_fault x m s f.LoadDepth k))
 result_of x m s (o.LoadFailed k) = Err (not_evaluated (load_fault x m s f.LoadFailed k))
 
 -- a module's outcome by the recursion along loads

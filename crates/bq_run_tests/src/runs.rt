@@ -321,6 +321,19 @@ const RUNS: &str = r#"
 === rules.schema\nrule a\nattr x float\n | //... | | >>bq: E6 Schema 2\n>2 0
 === rules.schema\nrule mine\nattr deps label_list\n=== a/BUILD\nmine(name = "x", deps = ["f"])\n | deps(//a:x) | kind | >source file //a:f\nmine rule //a:x\n>>0 0
 === rules.schema\nattr x int\n | deps( | | >>bq: Q1 Syntax\n>2 0
+# a word with dots is a pattern where what is before them is a package; else it is a label
+=== a/BUILD\nfilegroup(name = "b/...")\nfilegroup(name = "x")\n | //a:b/... | | >//a:b/...\n>>0 0
+=== a/BUILD\nfilegroup(name = "b/...")\nfilegroup(name = "x")\n | deps("//a:b/...") | kind | >filegroup rule //a:b/...\n>>0 0
+=== a/BUILD\nfilegroup(name = "b/...")\nfilegroup(name = "x")\n | //a/... - //a:b/... | | >//a:x\n>>0 0
+=== BUILD\nfilegroup(name = "b/...")\n | //:b/... | | >//:b/...\n>>0 0
+=== external/r/a/BUILD\nfilegroup(name = "b/...")\n | @r//a:b/... | | >@r//a:b/...\n>>0 0
+=== a/BUILD\nfilegroup(name = "x")\n | //a:b/... | | >>bq: Q5 NoSuchTarget //a:b/...\n>2 0
+=== a/BUILD\nfilegroup(name = "x")\n | //z:b/... | | >>bq: Q6 NoSuchPackage //z:b/...\n>2 0
+# nothing below external is in the main repository
+=== BUILD\nload("//:external/r/m.bzl", "m")\n=== external/r/m.bzl\nm = 1\n | //... | | //:BUILD:1: F31 NoSuchFile //:external/r/m.bzl\n>>>3 0
+=== BUILD\nfilegroup(name = "x", srcs = ["external/r/s", "external/t"])\n=== external/r/s\n=== external/t\n | deps(//:x) | kind | >source file //:external/r/s\nsource file //:external/t\nfilegroup rule //:x\n>>0 0
+=== BUILD\nfilegroup(name = "x", srcs = ["external/r/s"])\n=== external/r/BUILD\n | //... | | //:BUILD:1: F37 CrossesPackage\n>>>3 0
+=== BUILD\nfilegroup(name = "x", srcs = glob(["**"]))\n=== external/r/s\n=== external/t\n=== u\n | labels(srcs, //:x) | | >//:BUILD\n//:u\n>>0 0
 # queries without answers
 === a/BUILD\nfilegroup(name = "x")\n | somepath(//a:x, //a:x) | | >>bq: Q3 LeftOut somepath\n>2 0
 === a/BUILD\nfilegroup(name = "x")\n | foo(//a:x) | | >>bq: Q2 UnknownFunction foo\n>2 0

@@ -3,7 +3,8 @@
 use crate::rows::{Row, Subject, check_rows};
 use crate::source::refusal;
 use bq_label::{
-    BuildFile, File, Label, PackageId, Packages, Workspace, label_path, print_label, read_label,
+    BuildFile, File, Label, PackageId, Packages, Workspace, label_file, label_path, print_label,
+    read_label,
 };
 use bq_source::{Bytes, SourceErr};
 use std::alloc::{AllocError, Global};
@@ -104,6 +105,8 @@ enum Tree {
     Package,
     /// The labels of all BUILD files, and the paths that they name.
     Labels,
+    /// The path of the file that a label names.
+    File,
 }
 
 impl Subject for Tree {
@@ -127,6 +130,7 @@ fn asked_of(
         Tree::Owner => build_path(alloc, packages.owner_of(text)),
         Tree::Package => named_path(alloc, &packages, text, row.word(1)),
         Tree::Labels => build_labels(alloc, packages.all()),
+        Tree::File => named_file(alloc, workspace, text),
     }
 }
 
@@ -145,6 +149,26 @@ fn named_path(
 ) -> Result<Vec<u8>, AllocError> {
     let id = package(alloc, repo, path)?;
     build_path(alloc, packages.named(&id))
+}
+
+fn file_path(alloc: Global, found: Option<&File>) -> Result<Vec<u8>, AllocError> {
+    match found {
+        Some(found) => found.path.as_slice().to_vec(alloc),
+        None => b"none".to_vec(alloc),
+    }
+}
+
+fn named_file(alloc: Global, workspace: &Workspace, text: &[u8]) -> Result<Vec<u8>, AllocError> {
+    let read = read_label(alloc, text, &PackageId::root());
+    match &read {
+        Ok(label) => file_path(alloc, label_file(alloc, workspace, label)?),
+        Err(error) => refusal(alloc, error),
+    }
+}
+
+#[test]
+fn finds_files_of_labels(rt: HostRuntime) -> Result<(), AllocError> {
+    check_rows(&rt, rt.alloc(), LABEL_FILES, &Tree::File)
 }
 
 #[test]
@@ -310,6 +334,22 @@ external/q/t | none
 external/t | none
 external/a b/t | none
 external | BUILD
+"#;
+
+/// Labels, and the file that each names. Below `external` are files of other repositories, or of none.
+const LABEL_FILES: &str = r#"
+//a:BUILD.bazel | a/BUILD.bazel
+//a:b/c/BUILD | a/b/c/BUILD
+//:x/y.txt | x/y.txt
+//:x | none
+@r//:BUILD | external/r/BUILD
+@r//s:BUILD.bazel | external/r/s/BUILD.bazel
+@r//:s/BUILD.bazel | external/r/s/BUILD.bazel
+@r//:external/r/BUILD | none
+//:external/r/BUILD | none
+//external/r:BUILD | none
+//:external/BUILD | none
+//:external/a b/BUILD | none
 "#;
 
 /// Packages by their names, and their BUILD files.

@@ -53,6 +53,8 @@ visible(//a:x, //a:y) #> Q3 LeftOut visible
 same_pkg_direct_rdeps(//a:x) #> Q3 LeftOut same_pkg_direct_rdeps
 x #> Q3 LeftOut x
 :x #> Q3 LeftOut :x
+:b/... #> Q3 LeftOut :b/...
+:b/...:all #> Q3 LeftOut :b/...:all
 a/b:c #> Q3 LeftOut a/b:c
 ... #> Q3 LeftOut ...
 "a b" #> Q3 LeftOut a b
@@ -98,12 +100,27 @@ labels((srcs), //a:x) #> Q8 Arguments
 /// #> Q8 Arguments
 //a/:x #> Q8 Arguments
 @r:x #> Q8 Arguments
+# Before `...` comes no package, and a label's name holds no `:`.
+//a:b/...:all #> Q8 Arguments
+//a:b/...:* #> Q8 Arguments
+"//a:b/...:all-targets" #> Q8 Arguments
+//a//... #> Q8 Arguments
+///... #> Q8 Arguments
+@r/... #> Q8 Arguments
+//a/../... #> Q8 Arguments
 @ #> Q8 Arguments
 //a:x + deps() + //a:y #> Q8 Arguments
 set(//a:x //a//b) #> Q8 Arguments
 # Q5 and Q6: what is not there.
 //a:none #> Q5 NoSuchTarget //a:none
 //a #> Q5 NoSuchTarget //a:a
+# No package is named `a:b`: these are labels.
+//a:b/... #> Q5 NoSuchTarget //a:b/...
+"//a:b/..." #> Q5 NoSuchTarget //a:b/...
+//:b/... #> Q5 NoSuchTarget //:b/...
+@r//:b/... #> Q5 NoSuchTarget @r//:b/...
+//none:b/... #> Q6 NoSuchPackage //none:b/...
+@r//a:b/... #> Q6 NoSuchPackage @r//a:b/...
 @r//:none #> Q5 NoSuchTarget @r//:none
 //a:x + //a:none + //a:nothing #> Q5 NoSuchTarget //a:none
 set(//a:x //a:none) #> Q5 NoSuchTarget //a:none

@@ -184,6 +184,37 @@ load(":f.bzl", "f")
 #> //f:BUILD:1: F31 NoSuchFile //f:f.bzl
 ~f/f.bzl/BUILD
 ---
+# Below `external` are files of other repositories, or of none: none of them is in the main repository.
+~BUILD
+load("//:external/q/m.bzl", "m")
+#> @s//:BUILD: 1 2
+#> //:BUILD:1: F31 NoSuchFile //:external/q/m.bzl
+~external/q/m.bzl
+m = 1
+~a/BUILD
+load("//:external/m.bzl", "m")
+#> //a:BUILD:1: F31 NoSuchFile //:external/m.bzl
+~external/m.bzl
+m = 1
+~b/BUILD
+load("//:external/a b/m.bzl", "m")
+#> //b:BUILD:1: F31 NoSuchFile //:external/a b/m.bzl
+~external/a b/m.bzl
+m = 1
+# Where there is a package of another repository, it owns the path.
+~c/BUILD
+load("//:external/s/n.bzl", "n")
+#> //c:BUILD:1: F37 CrossesPackage //:external/s/n.bzl
+# In another repository that directory is one like others.
+~external/s/BUILD
+load(":external/q/m.bzl", "m")
+load("@s//:n.bzl", "n")
+print(m, n)
+~external/s/external/q/m.bzl
+m = 1
+~external/s/n.bzl
+n = 2
+---
 # No package: no directory, one without a BUILD file, and another repository.
 ~a/BUILD
 load("//none:f.bzl", "f")
