@@ -218,6 +218,6 @@ load(":n1.bzl")
 load(":none.bzl")
 ~*n 600
 #> //:BUILD:1: F36 LoadFailed //:m1.bzl
-#> //:m9.bzl:1: F36 LoadFailed //:m10.bzl
+#> //:m99.bzl:1: F36 LoadFailed //:m100.bzl
 #> 601 lines, 0 of F38
 "#;
