@@ -70,7 +70,7 @@ fn summary(alloc: Global, text: Vec<u8>) -> Result<Vec<u8>, AllocError> {
         }
     }
     let (Some(first), Some(last)) = (lines.first(), lines.last()) else {
-        return Ok(text);
+        return text.clone();
     };
     if lines.len() < 10 {
         return text.clone();
