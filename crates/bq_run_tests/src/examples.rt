@@ -1,5 +1,8 @@
 //! Whole runs by hand: a bundle, a query, and the bytes that are written of them, by 1, 2 and 64 workers.
 
+ghost use Rattle.std.specs.Prelude.{IfOk};
+ghost use Rattle.bq_run.specs.Run.{IsInRange};
+
 use crate::options::options;
 use crate::rows::Row;
 use crate::runs::{Table, UNFAILING, check_runs, output_named, written};
@@ -10,7 +13,9 @@ use std::thread::Threads;
 
 /// What a run with so many workers is asked: the query in cell 1, `kind` in cell 2 where kinds are printed, in cell 3 how many steps
 /// a module may take where it isn't the default.
-fn asked(alloc: Global, row: Row, jobs: u64) -> Result<Options, AllocError> {
+fn asked(alloc: Global, row: Row, jobs: u64) -> Result<Options, AllocError>
+    ensures { IfOk result IsInRange }
+{
     let query = row.bytes(alloc, 1)?;
     let steps = match row.number(3) {
         0 => 1_000_000,
