@@ -2,9 +2,7 @@
 
 mod by_workers;
 mod counts;
-mod deep;
 mod large;
-mod limits;
 mod meeting;
 mod rows;
 
@@ -28,16 +26,12 @@ fn parts(text: &[u8]) -> (&[u8], &[u8]) {
     }
 }
 
-/// The files of a workspace that is written as one text: for each `~`, its path and a newline, and then its lines. With a `*` before it
-/// the path stands for a chain.
+/// The files of a workspace that is written as one text: for each `~`, its path and a newline, and then its lines.
 pub fn files_of(alloc: Global, text: &[u8]) -> Result<Vec<File>, AllocError> {
     let mut files = Vec::new(alloc);
     for part in text.split(|byte| *byte == b'~').skip(1) {
         let (path, content) = parts(part);
-        match path {
-            [b'*', chain @ ..] => deep::add_chain(alloc, chain, content, &mut files)?,
-            _ => files.push(file(alloc, path, content)?)?,
-        }
+        files.push(file(alloc, path, content)?)?;
     }
     Ok(files)
 }

@@ -6,17 +6,9 @@
 #[cfg(test)]
 mod bundles;
 #[cfg(test)]
-mod cuts;
-#[cfg(test)]
-mod depth;
-#[cfg(test)]
 mod devices;
 #[cfg(test)]
-mod examples;
-#[cfg(test)]
 mod options;
-#[cfg(test)]
-mod repeated;
 #[cfg(test)]
 mod rows;
 #[cfg(test)]

@@ -2,12 +2,8 @@
 
 ghost use Rattle.bq_run.specs.Run.{IsInRange};
 
-use crate::cuts::over_beginnings;
-use crate::depth::{chained, packaged};
 use crate::devices::{make_drip, make_sip};
-use crate::examples::example;
 use crate::options::{corner, options};
-use crate::repeated::over_repeated;
 use crate::rows::{Row, check_answer, is_row, row_of};
 use bq_run::{Counted, Metered, Options, OutputForm, RunErr, Status, run, status_of};
 use std::alloc::{AllocError, Global};
@@ -87,17 +83,12 @@ pub fn written<R: Threads + Wait + Sync>(
 /// What the rows of a table of runs are about. A function that starts threads is no method of a trait, so this stands for subjects.
 #[derive(Clone, Copy)]
 pub enum Table {
-    Chains,
     Corners,
-    Packages,
     Queries,
     FailingWriters,
     FailingReader,
     FailingFaults,
     Plain,
-    Examples,
-    Repeated,
-    Beginnings,
 }
 
 fn answer<R: Threads + Wait + Sync>(
@@ -107,17 +98,12 @@ fn answer<R: Threads + Wait + Sync>(
     row: Row,
 ) -> Result<Vec<u8>, AllocError> {
     match table {
-        Table::Chains => chained(rt, alloc, row),
         Table::Corners => corner(rt, alloc, row),
-        Table::Packages => packaged(rt, alloc, row),
         Table::Queries => queried(rt, alloc, row),
         Table::FailingWriters => with_failing_writers(rt, alloc, row),
         Table::FailingReader => with_failing_reader(rt, alloc, row),
         Table::FailingFaults => with_failing_faults(rt, alloc),
         Table::Plain => over_plain_devices(rt, alloc, row),
-        Table::Examples => example(rt, alloc, row),
-        Table::Repeated => over_repeated(rt, alloc, row),
-        Table::Beginnings => over_beginnings(rt, alloc, row),
     }
 }
 
@@ -137,8 +123,7 @@ pub fn check_runs<R: Threads + Wait + Sync + Abort>(
     Ok(())
 }
 
-/// The output that a cell asks for: labels where it is empty, else kinds too.
-pub fn output_named(word: &[u8]) -> OutputForm {
+fn output_named(word: &[u8]) -> OutputForm {
     if word.is_empty() {
         OutputForm::Label
     } else {
@@ -311,12 +296,25 @@ fn runs_over_slices_and_vectors(rt: HostRuntime) -> Result<(), AllocError> {
 
 /// A bundle, a query, `kind` where kinds are printed, and what is written. The query is read before the schema.
 const RUNS: &str = r#"
+=== a/BUILD\nfilegroup(name = "x", srcs = ["s.txt"])\n | //a:x | | >//a:x\n>>0 0
 === a/BUILD\nfilegroup(name = "x", srcs = ["s.txt"])\n | //a:s.txt | kind | >source file //a:s.txt\n>>0 0
+=== a/BUILD\nfilegroup(name = "x", srcs = ["s.txt"])\n | deps(//a:x) | | >//a:s.txt\n//a:x\n>>0 0
+=== a/BUILD\nfilegroup(name = "x", srcs = ["s.txt"])\n | //a:* | | >//a:BUILD\n//a:s.txt\n//a:x\n>>0 0
+=== a/BUILD\ngenrule(name = "g", srcs = ["in"], outs = ["out"], cmd = "cp")\n | deps(//a:out) | kind | >genrule rule //a:g\nsource file //a:in\ngenerated file //a:out\n>>0 0
 === a/BUILD\nfilegroup(name = "x")\n=== b/BUILD\nnone()\n | //a:x | | //b:BUILD:1: F20 UnknownName none\n>//a:x\n>>3 0
-# a bundle is read before its query
-=== a/BUILD | deps( | | >>bq: E4 Bundle\n>2 0
-# a cycle of two
+=== a/BUILD\nfilegroup(name = "x")\nfilegroup(name = "x")\n | //a:x | | //a:BUILD:2: F74 DoubleTarget\n>>bq: Q5 NoSuchTarget //a:x\n>2 0
+=== a/BUILD\nfilegroup(name = "x")\n=== a/BUILD.bazel\nfilegroup(name = "y")\n | //a:* | | >//a:BUILD.bazel\n//a:y\n>>0 0
+=== a/BUILD\nfilegroup(name = "x", srcs = ["//b:none"])\n | deps(//a:x) | | //a:BUILD:1: F79 DanglingLabel //b:none\n>//a:x\n>>3 0
+# zero bytes
+| //... | | >>>0 0
+| //a:x | | >>bq: Q6 NoSuchPackage //a:x\n>2 0
+=== a/BUILD | //a:x | | >>bq: E4 Bundle\n>2 0
+# prints come before faults, and are kept
+=== BUILD\nprint(-7 // 2, -7 % 2, 1 << 62)\nx = 1 << 63\n | //... | | //:BUILD: -4 1 4611686018427387904\n//:BUILD:2: F41 Overflow\n>>>3 0
+=== m.bzl\nl = []\ndef add():\n    l.append(1)\n=== BUILD\nload(":m.bzl", "add")\nfilegroup(name = "x")\nadd()\n | //... | | //:BUILD:3: F47 Frozen\n>>>3 0
+=== p/d.bzl\nprint("once")\nv = 1\n=== p/BUILD\nload(":d.bzl", "v")\n=== q/BUILD\nload("//p:d.bzl", "v")\n | //...:* | | //p:d.bzl: once\n>//p:BUILD\n//q:BUILD\n>>0 0
 === a.bzl\nload(":b.bzl")\n=== b.bzl\nload(":a.bzl")\n=== BUILD\nload(":a.bzl")\n=== p/BUILD\nfilegroup(name = "x")\n | //... | | //:BUILD:1: F35 CycleReached //:a.bzl\n//:a.bzl:1: F35 CycleReached //:b.bzl\n//:b.bzl:1: F35 CycleReached //:a.bzl\n>//p:x\n>>3 0
+=== external/r/BUILD\nfilegroup(name = "r")\n=== a/BUILD\nfilegroup(name = "x", srcs = ["@r"])\n | deps(//a:x) | | >//a:x\n@r//:r\n>>0 0
 # the schema
 === rules.schema\nrule a\nattr x float\n | //... | | >>bq: E6 Schema 2\n>2 0
 === rules.schema\nrule mine\nattr deps label_list\n=== a/BUILD\nmine(name = "x", deps = ["f"])\n | deps(//a:x) | kind | >source file //a:f\nmine rule //a:x\n>>0 0

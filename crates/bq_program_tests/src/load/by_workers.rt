@@ -90,7 +90,7 @@ fn all_give_the_same<R: Threads + Wait + Sync>(
     let one = gives_the_same(rt, tree, wanted, 1)?;
     let two = gives_the_same(rt, tree, wanted, 2)?;
     let eight = gives_the_same(rt, tree, wanted, 8)?;
-    let many = gives_the_same(rt, tree, wanted, MAX_WORKERS)?;
+    let many = gives_the_same(rt, tree, wanted, 64)?;
     Ok(one && two && eight && many)
 }
 
@@ -159,7 +159,7 @@ fn meet<R: Threads + Wait + Sync>(rt: &R, tree: Tree<'_>) -> Result<bool, LoadEr
 
 fn check_meeting<R: Abort + Threads + Wait + Sync>(rt: &R, tree: Tree<'_>) -> Result<(), LoadErr> {
     assert!(rt; meet(rt, tree)?);
-    let loaded = by_workers(rt, tree, MAX_WORKERS, &OpenGate)?;
+    let loaded = by_workers(rt, tree, 64, &OpenGate)?;
     assert!(rt; loaded.prints.as_slice() == b"//:BUILD: 3\n".as_slice());
     Ok(())
 }
