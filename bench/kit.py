@@ -1,6 +1,12 @@
-"""What bench/trials and bench/proofs share: the crates of the repository, and a room outside it where one of them is checked."""
+"""What the scripts in bench/ share: the crates of the repository, a room outside it where one of them is checked, and the page of
+figures."""
+import contextlib
+import datetime
+import io
 import os
+import re
 import shutil
+import sys
 import tempfile
 from contextlib import contextmanager
 
@@ -47,3 +53,44 @@ def room(name, known, keeps=False):
             if (keeps or crate != name) and os.path.isdir(kept):
                 shutil.copytree(kept, kept.replace(ROOT, folder, 1), symlinks=True)
         yield f"{folder}/crates/{name}"
+
+
+def machine():
+    """What figures of today are measured on."""
+    with open("/proc/meminfo", encoding="ascii") as lines:
+        memory = int(re.search(r"MemTotal:\s*(\d+)", lines.read())[1]) / 2**20
+    load = os.getloadavg()[0]
+    return f"{datetime.date.today()}, {os.cpu_count()} processors, {memory:.0f} GB, load {load:.1f} before"
+
+
+def write_figures(name, text, path=f"{ROOT}/docs/MEASURED.md"):
+    """Puts figures, and what they were measured on, between the marks of that name on the page."""
+    with open(path, encoding="utf-8") as file:
+        page = file.read()
+    start, end = f"<!-- {name} -->\n", f"<!-- end of {name} -->\n"
+    if page.count(start) != 1 or page.count(end) != 1:
+        sys.exit(f"{path} has no place for {name}")
+    before, after = page.partition(start)[0], page.partition(end)[2]
+    with open(path, "w", encoding="utf-8") as file:
+        file.write(f"{before}{start}{text.strip()}\n{end}{after}")
+
+
+@contextmanager
+def figures(name, writes):
+    """Prints what is printed inside, and with `writes` puts it on the page too: the tables of Markdown, with the machine above them."""
+    if not writes:
+        yield
+        return
+    on, printed, shown = machine(), io.StringIO(), sys.stdout
+
+    class Both(io.TextIOBase):
+        def write(self, text):
+            shown.write(text)
+            return printed.write(text)
+
+        def flush(self):
+            shown.flush()
+
+    with contextlib.redirect_stdout(Both()):
+        yield
+    write_figures(name, f"Measured on: {on}.\n\n{printed.getvalue()}")
