@@ -1,6 +1,6 @@
 //! The arguments of a call of a rule come in; the target that it declares goes out, with its typed attributes, or its first fault.
 //!
-//! The promise: [`declaration`] gives exactly the target of `specs/Declaration.antt`, unless memory runs out. The faults come in this
+//! The promise: [`declaration`] gives exactly the target of `specs/Declarations.antt`, unless memory runs out. The faults come in this
 //! order: F52; then the arguments in the order in which they are written, each F71, F73, F78, F75, F37; then F72. No text is copied
 //! that is longer than 22 bytes, and a call takes time linear in what it passes.
 //!

@@ -6,8 +6,8 @@
 //! For the body of a function and for the lines of a file; what expressions mean is a parameter, or that of bq_named_laws.
 //!
 //! How the proof goes: as for expressions, each rule of the resolver is a walk that makes a tree that does the same
-//! (`proofs/Resolved.antt`), where the trees in it do (`proofs/Targets.antt`, `proofs/Statements.antt`). All of it is for any relation
-//! between environments and frames that binding keeps: in a function the frame shows the environment (`Shows`), outside functions the
+//! (`proofs/ResolvedStatements.antt`, `proofs/ResolvedTargets.antt`), where the trees in it do (`proofs/Targets.antt`,
+//! `proofs/Statements.antt`). All of it is for any relation between environments and frames that binding keeps: in a function the frame shows the environment (`Shows`), outside functions the
 //! file's globals do.
 #![tactic(auto)]
 
