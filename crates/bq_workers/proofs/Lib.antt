@@ -2,3 +2,4 @@
 pub mod Imports
 pub mod Finding
 pub mod Bringing
+mod Promises

@@ -1,4 +1,5 @@
 //! What goes from a module to those that load it.
+ghost use Rattle.std.specs.Prelude.{◌≡◌};
 ghost use Rattle.bq_outcome.specs.Outcome.{outcome};
 ghost use Rattle.bq_workers.specs.Work.{IsImport};
 
@@ -13,6 +14,17 @@ use std::sync::Arc;
 pub struct Base<E> {
     pub evaluator: Snapshot<E>,
     pub graph: Snapshot<Graph>,
+}
+
+impl<E> Base<E> {
+    pub(crate) fn of(evaluator: &E, graph: &Graph) -> Base<E>
+        ensures { (result.evaluator.value ≡ evaluator.now) × (result.graph.value ≡ graph.now) }
+    {
+        Base {
+            evaluator: Snapshot::of(evaluator),
+            graph: Snapshot::of(graph),
+        }
+    }
 }
 
 /// A module, and its value, if it has one.

@@ -20,6 +20,7 @@ mod import;
 mod load;
 mod opening;
 mod pool;
+mod threads;
 mod work;
 
 pub use import::{Base, Import};

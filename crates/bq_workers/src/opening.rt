@@ -12,7 +12,6 @@ use bq_board::{Board, Graph, MAX_SEATS, Order, Plan, Seat};
 use bq_load_order::Evaluate;
 use crossbeam_deque::{Stealer, Worker};
 use std::alloc::{AllocError, Global};
-use std::snapshot::Snapshot;
 use std::sync::atomic::{AtomicBool, Ordering};
 
 /// The most workers that may be started.
@@ -65,10 +64,7 @@ fn board_of<E: Evaluate>(
     ensures fresh { IfOk result (λ r. All (λ s. IsSeatOf r.0 s × (view_of s ≡ blank (base_of r.0) r.0.plan)) r.1.items) }
 {
     let plan = Plan::cut(alloc, graph, order)?;
-    let base = Base {
-        evaluator: Snapshot::of(evaluator),
-        graph: Snapshot::of(graph),
-    };
+    let base = Base::of(evaluator, graph);
     // for the proof: the board is by this base and plan
     Ok(Board::open(alloc, plan, seats, &base)?)
 }

@@ -7,9 +7,6 @@ use Rattle.bq_load_order.specs.Shown.{shown}
 use Rattle.bq_load_order.specs.Slots.{Tabulates}
 use Rattle.bq_workers.proofs.load.outcomes_by_workers.Goals as goal
 
-pub load_over-requires-clause-workers : goal.load_over-requires-clause-workers
-load_over-requires-clause-workers g c _ _ = c.requires.0
-
 pub load_over-requires-clause-seats : goal.load_over-requires-clause-seats
 load_over-requires-clause-seats g c _ _ = λ k d h. (c.in_ok-pool.ensures.fresh k d h).0
 

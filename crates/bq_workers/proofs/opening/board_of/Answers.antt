@@ -11,7 +11,7 @@ cut-requires-clause-depths g c = c.requires.depths
 pub returns-clause-of : goal.returns-clause-of
 returns-clause-of g c =
     let is = c.in_ok-open.ensures.plan.1 in
-    (ap (λ b. b.evaluator.value) is ∙ c.of.ensures, ap (λ b. b.graph.value) is ∙ c.of-2.ensures)
+    (ap (λ b. b.evaluator.value) is ∙ c.of-base.ensures.0, ap (λ b. b.graph.value) is ∙ c.of-base.ensures.1)
 
 pub returns-clause-count : goal.returns-clause-count
 returns-clause-count g c = c.in_ok-open.ensures.count

@@ -1,0 +1,25 @@
+use Rattle.std.proofs.Common.{◌≡◌, ◌∷◌, length, sym, rules}
+use Rattle.std.proofs.lemmas.List.Elements.{All-same, All-head, All-tail, All-push}
+use Rattle.std.specs.Vec.Iter.{into_iter_items}
+use Rattle.core.specs.declared.thread.PromisedHandle.{PromisedHandle}
+use Rattle.bq_outcome.specs.Outcome.{outcome}
+use Rattle.bq_workers.specs.Brought.{IsAnswer}
+use Rattle.bq_workers.proofs.Promises.{answer_by}
+use Rattle.bq_workers.proofs.threads.joined.Goals as goal
+
+pub loop-worker-preserved : goal.loop-worker-preserved
+loop-worker-preserved g c =
+    let e = g.E.Evaluate in
+    let pool = c.args.pool.now in
+    let P : PromisedHandle _ _ → Type 0 = λ h. (h.promise.evaluator.value ≡ pool.evaluator.now) × (h.promise.graph.value ≡ pool.graph.now) in
+    let worker = c.in-Some.worker in
+    let rest = into_iter_items c.next.new.self in
+    let goes : into_iter_items c.loop-worker.worker-iterator ≡ worker ∷ rest = search rules in
+    let all = All-same P _ _ (sym goes) c.loop-worker.invariant.workers in
+    let kept = All-head P worker rest all in
+    let Q = IsAnswer e.see e.see_fault (outcome (e.means pool.evaluator.now) pool.graph.now) (length pool.graph.now) in
+    let answer = answer_by e.see e.see_fault e.means worker.promise.evaluator.value pool.evaluator.now worker.promise.graph.value pool.graph.now kept.0 kept.1 c.join.result c.join.ensures in
+    record {
+      workers = All-tail P worker rest all;
+      answers = All-same Q _ _ c.in_ok-push.ensures.items (All-push Q c.loop-worker.answers.items c.join.result c.loop-worker.invariant.answers answer);
+    }

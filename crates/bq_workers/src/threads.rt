@@ -1,0 +1,177 @@
+//! Workers in threads of their own, each with the stack that evaluation may take.
+ghost use Rattle.std.specs.Prelude.{◌≡◌, [], length, map, All, IfOk, IfSome};
+ghost use Rattle.bq_board.specs.Seats.{IsSeatOf};
+ghost use Rattle.bq_board.specs.Topological.{IsTopologicalOrder};
+ghost use Rattle.bq_outcome.specs.Outcome.{outcome};
+ghost use Rattle.bq_load_order.specs.Shown.{shown, slot};
+ghost use Rattle.bq_load_order.specs.Slots.{Filling, Tabulates};
+ghost use Rattle.bq_workers.specs.Brought.{IsAnswer};
+
+use crate::import::Base;
+use crate::pool::{Pool, PoolSeat, Worked};
+use bq_load_order::{Evaluate, Shared, complete};
+use core::thread::Stack;
+use std::alloc::{AllocError, Global};
+use std::sync::Wait;
+use std::thread;
+use std::thread::{Promise, PromisedHandle, Scope, Threads};
+
+/// The stack that a thread is given in which modules are evaluated.
+pub const EVALUATION_STACK: usize = 64 << 20;
+
+/// What a worker brought, unless it was refused memory.
+pub type Answer<V, F> = Result<Worked<V, F>, AllocError>;
+
+impl<E: Evaluate> Promise<Answer<E::Value, E::Fault>> for Base<E> {
+    ghost kept_by = { λ base r. IsAnswer E.see E.see_fault (outcome (E.means base.evaluator.value) base.graph.value) (length base.graph.value) r };
+}
+
+impl<E: Evaluate> Promise<Result<Vec<Shared<E::Value, E::Fault>>, AllocError>> for Base<E> {
+    ghost kept_by = { λ base r. IfOk r (λ v. Tabulates (length base.graph.value) (outcome (E.means base.evaluator.value) base.graph.value) (map (shown E.see E.see_fault) v.items)) };
+}
+
+// What the seats bring, each in a thread of its own. A seat for which there is no thread is left out.
+pub(crate) fn brought<R: Threads + Wait + Sync, E: Evaluate>(
+    rt: &R,
+    alloc: Global,
+    pool: &Pool<'_, E>,
+    seats: Vec<PoolSeat<E>>,
+) -> Result<Vec<Answer<E::Value, E::Fault>>, AllocError>
+    requires seats { All (λ s. IsSeatOf pool.now.board s.place) seats.items }
+    ensures { IfOk result (λ v. All (λ r. IsAnswer E.see E.see_fault (outcome (E.means pool.now.evaluator.now) pool.now.graph.now) (length pool.now.graph.now) r) v.items) }
+{
+    thread::scope(
+        thread::scope_env(),
+        rt,
+        |scope| -> Result<Vec<Answer<E::Value, E::Fault>>, AllocError>
+            requires { All (λ s. IsSeatOf pool.now.board s.place) seats.items }
+            ensures { IfOk result (λ v. All (λ r. IsAnswer E.see E.see_fault (outcome (E.means pool.entry.now.evaluator.now) pool.entry.now.graph.now) (length pool.entry.now.graph.now) r) v.items) }
+        {
+            let workers = started(scope, rt, alloc, pool, seats)?;
+            joined(rt, alloc, pool, workers)
+        },
+    )
+}
+
+// A thread for each seat for which there is one.
+fn started<'s, X, R: Threads + Wait + Sync, E: Evaluate>(
+    scope: &Scope<'s, X>,
+    rt: &'s R,
+    alloc: Global,
+    pool: &'s Pool<'s, E>,
+    seats: Vec<PoolSeat<E>>,
+) -> Result<Vec<PromisedHandle<Answer<E::Value, E::Fault>, Base<E>>>, AllocError>
+    requires seats { All (λ s. IsSeatOf pool.now.board s.place) seats.items }
+    ensures { IfOk result (λ hs. All (λ h. (h.promise.evaluator.value ≡ pool.now.evaluator.now) × (h.promise.graph.value ≡ pool.now.graph.now)) hs.items) }
+{
+    let mut workers = Vec::new(alloc);
+    for seat in seats {
+        match start(scope, rt, alloc, pool, seat) {
+            Some(worker) => workers.push(worker)?,
+            None => {}
+        }
+    }
+    Ok(workers)
+}
+
+// A thread for a seat, if there is one.
+fn start<'s, X, R: Threads + Wait + Sync, E: Evaluate>(
+    scope: &Scope<'s, X>,
+    rt: &'s R,
+    alloc: Global,
+    pool: &'s Pool<'s, E>,
+    seat: PoolSeat<E>,
+) -> Option<PromisedHandle<Answer<E::Value, E::Fault>, Base<E>>>
+    requires seat { IsSeatOf pool.now.board seat.place }
+    ensures { IfSome result (λ h. (h.promise.evaluator.value ≡ pool.now.evaluator.now) × (h.promise.graph.value ≡ pool.now.graph.now)) }
+{
+    let work = move || -> Answer<E::Value, E::Fault>
+        requires { IsSeatOf pool.now.board seat.place }
+        ensures { IsAnswer E.see E.see_fault (outcome (E.means pool.entry.now.evaluator.now) pool.entry.now.graph.now) (length pool.entry.now.graph.now) result }
+    { worked(rt, alloc, pool, seat) };
+    let base = Base::of(pool.evaluator, pool.graph);
+    match Stack::new()
+        .stack_size(EVALUATION_STACK)
+        .spawn_scoped_with(scope, base, work)
+    {
+        Ok(worker) => Some(worker),
+        Err(_) => None,
+    }
+}
+
+// What a seat brings.
+fn worked<R: Wait, E: Evaluate>(
+    rt: &R,
+    alloc: Global,
+    pool: &Pool<'_, E>,
+    mut seat: PoolSeat<E>,
+) -> Answer<E::Value, E::Fault>
+    requires seat { IsSeatOf pool.now.board seat.place }
+    ensures { IsAnswer E.see E.see_fault (outcome (E.means pool.now.evaluator.now) pool.now.graph.now) (length pool.now.graph.now) result }
+{
+    pool.work(rt, alloc, &mut seat)
+}
+
+// What the threads bring.
+fn joined<R: Threads, E: Evaluate>(
+    rt: &R,
+    alloc: Global,
+    pool: &Pool<'_, E>,
+    workers: Vec<PromisedHandle<Answer<E::Value, E::Fault>, Base<E>>>,
+) -> Result<Vec<Answer<E::Value, E::Fault>>, AllocError>
+    requires promises { All (λ h. (h.promise.evaluator.value ≡ pool.now.evaluator.now) × (h.promise.graph.value ≡ pool.now.graph.now)) workers.items }
+    ensures { IfOk result (λ v. All (λ r. IsAnswer E.see E.see_fault (outcome (E.means pool.now.evaluator.now) pool.now.graph.now) (length pool.now.graph.now) r) v.items) }
+{
+    let mut answers = Vec::new(alloc);
+    for worker in workers {
+        answers.push(worker.join(rt))?;
+    }
+    Ok(answers)
+}
+
+// The outcome of each module, where some are known. Those that are left are evaluated in a thread, or where there is none, on this one's stack.
+pub(crate) fn completed<R: Threads + Wait + Sync, E: Evaluate>(
+    rt: &R,
+    alloc: Global,
+    pool: &Pool<'_, E>,
+    found: Vec<Option<Shared<E::Value, E::Fault>>>,
+) -> Result<Vec<Shared<E::Value, E::Fault>>, AllocError>
+    requires order { IsTopologicalOrder pool.now.graph.now pool.now.order.modules.items pool.now.order.pending.items }
+    requires found { Filling (outcome (E.means pool.now.evaluator.now) pool.now.graph.now) (length pool.now.graph.now) (map (slot E.see E.see_fault) found.items) [] }
+    ensures { IfOk result (λ v. Tabulates (length pool.now.graph.now) (outcome (E.means pool.now.evaluator.now) pool.now.graph.now) (map (shown E.see E.see_fault) v.items)) }
+{
+    thread::scope(
+        thread::scope_env(),
+        rt,
+        |scope| -> Result<Vec<Shared<E::Value, E::Fault>>, AllocError>
+            requires { IsTopologicalOrder pool.now.graph.now pool.now.order.modules.items pool.now.order.pending.items × Filling (outcome (E.means pool.now.evaluator.now) pool.now.graph.now) (length pool.now.graph.now) (map (slot E.see E.see_fault) found.items) [] }
+            ensures { IfOk result (λ v. Tabulates (length pool.entry.now.graph.now) (outcome (E.means pool.entry.now.evaluator.now) pool.entry.now.graph.now) (map (shown E.see E.see_fault) v.items)) }
+        {
+            let evaluate = move || -> Result<Vec<Shared<E::Value, E::Fault>>, AllocError>
+                requires { IsTopologicalOrder pool.now.graph.now pool.now.order.modules.items pool.now.order.pending.items × Filling (outcome (E.means pool.now.evaluator.now) pool.now.graph.now) (length pool.now.graph.now) (map (slot E.see E.see_fault) found.items) [] }
+                ensures { IfOk result (λ v. Tabulates (length pool.entry.now.graph.now) (outcome (E.means pool.entry.now.evaluator.now) pool.entry.now.graph.now) (map (shown E.see E.see_fault) v.items)) }
+            { rest(alloc, pool, found) };
+            let base = Base::of(pool.evaluator, pool.graph);
+            match Stack::new()
+                .stack_size(EVALUATION_STACK)
+                .spawn_scoped_with(scope, base, evaluate)
+            {
+                Ok(thread) => thread.join(rt),
+                Err(refused) => (refused.value)(),
+            }
+        },
+    )
+}
+
+// The outcome of each module, where some are known.
+fn rest<E: Evaluate>(
+    alloc: Global,
+    pool: &Pool<'_, E>,
+    found: Vec<Option<Shared<E::Value, E::Fault>>>,
+) -> Result<Vec<Shared<E::Value, E::Fault>>, AllocError>
+    requires order { IsTopologicalOrder pool.now.graph.now pool.now.order.modules.items pool.now.order.pending.items }
+    requires found { Filling (outcome (E.means pool.now.evaluator.now) pool.now.graph.now) (length pool.now.graph.now) (map (slot E.see E.see_fault) found.items) [] }
+    ensures { IfOk result (λ v. Tabulates (length pool.now.graph.now) (outcome (E.means pool.now.evaluator.now) pool.now.graph.now) (map (shown E.see E.see_fault) v.items)) }
+{
+    complete(alloc, pool.evaluator, pool.graph, &pool.order, found)
+}
