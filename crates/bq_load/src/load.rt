@@ -95,7 +95,8 @@ fn modules_by_workers<R: Threads + Wait + Sync, G: Gate>(
 }
 
 /// Loads a workspace on one thread: each module is evaluated after all that it loads, with so many steps of its own. It is refused where
-/// there are too many modules or edges (L2), and where memory is refused (L1).
+/// there are too many modules or edges (L2), and where memory is refused (L1). It evaluates on the stack of its caller, which no call
+/// overflows where that is as large as `bq_workers::EVALUATION_STACK`.
 #[tactic(auto, using(crate::proofs::Joined::gathered_is))]
 pub fn load_one_thread(
     alloc: Global,
@@ -116,8 +117,8 @@ pub fn load_one_thread(
     Ok(Loaded::gathered(alloc, &packages, modules)?)
 }
 
-/// Loads a workspace by so many workers, each in a thread of its own, and tells a gate of each evaluation. What it gives is what one
-/// thread gives, whatever the order of the workers' steps.
+/// Loads a workspace by so many workers, each in a thread of its own with the stack that evaluation may take, and tells a gate of each
+/// evaluation. What it gives is what one thread gives, whatever the order of the workers' steps.
 #[tactic(auto, using(crate::proofs::Joined::gathered_is))]
 pub fn load_with<R: Threads + Wait + Sync, G: Gate>(
     rt: &R,

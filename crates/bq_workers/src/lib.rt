@@ -5,11 +5,12 @@
 //!
 //! The workers share a board (bq_board), which gives each module to one of them, once, when all that it loads is there. The parcel along an edge is the loaded
 //! module's value, if it has one. Which module a worker tries next is a matter of lists of candidates, from which idle workers steal; nothing rests on them.
-//! What no worker brought, since one couldn't be started or a list couldn't grow, the calling thread evaluates at the end.
+//! Each worker is a thread whose stack is asked for by its size, since evaluation may take more than a thread has by default. What no worker brought, since
+//! none could be started or a list couldn't grow, is evaluated at the end, in one more such thread, or where there is none by the calling thread.
 //!
 //! In reading order: `import` (the parcels), `pool` (the board and its seats), `opening` (how a pool begins),
 //! `find` (the outcome of a module that was won), `bring` (a module from its claim to its end), `candidates` (what to try next),
-//! `work` (what a worker does), `load` (all workers, and what is left), `close` (the end of a pool).
+//! `work` (what a worker does), `threads` (workers in threads of their own), `load` (all workers, and what is left), `close` (the end of a pool).
 #![tactic(auto)]
 
 mod bring;
@@ -27,3 +28,4 @@ pub use import::{Base, Import};
 pub use load::outcomes_by_workers;
 pub use opening::MAX_WORKERS;
 pub use pool::{Evaluated, Pool, PoolSeat, Worked};
+pub use threads::EVALUATION_STACK;

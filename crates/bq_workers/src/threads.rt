@@ -16,7 +16,8 @@ use std::sync::Wait;
 use std::thread;
 use std::thread::{Promise, PromisedHandle, Scope, Threads};
 
-/// The stack that a thread is given in which modules are evaluated.
+/// The stack that a thread is given in which modules are evaluated: twice what the deepest evaluation takes. That is one in which each of 100 active functions
+/// calls the next from inside 64 brackets and indents; of such sources (`bench/stack` runs them) those with comprehensions took most, 32.5 MB.
 pub const EVALUATION_STACK: usize = 64 << 20;
 
 /// What a worker brought, unless it was refused memory.
