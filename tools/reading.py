@@ -18,6 +18,13 @@ LEFT_OUT = set("""abs analysis_test_transition apple_common apple_support aspect
     CcToolchainConfigInfo CcSharedLibraryInfo DebugPackageInfo ErlangInfo macro module_version symbolic_macro visibility""".split())
 
 
+def passed(value):
+    """The name whose entries a `**` passes on: its own, or the first that is given to a call, as in `**with_tags(attrs)`."""
+    if isinstance(value, ast.Call) and value.args:
+        value = value.args[0]
+    return value.id if isinstance(value, ast.Name) else None
+
+
 @dataclass
 class Call:
     """A call of a name (`f(..)`) or of a member of `native`."""
@@ -175,7 +182,7 @@ class Reader(ast.NodeVisitor):
         splats = []
         for key in node.keywords:
             if key.arg is None:
-                splats.append(key.value.id if isinstance(key.value, ast.Name) else None)
+                splats.append(passed(key.value))
                 keywords.update(entries(key.value))
         starred = [part for part in node.args if isinstance(part, ast.Starred)]
         positional = [kind_of(part) for part in node.args if part not in starred]
