@@ -1,0 +1,3 @@
+pub mod Uses
+pub mod Slots
+pub mod Sharing
