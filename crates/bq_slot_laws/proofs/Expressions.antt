@@ -1,8 +1,6 @@
 -- Expressions list the slots of their uses.
-use Rattle.std.proofs.Common.{◌≡◌, ◌∙◌, ℕ, zero, suc, ◌+◌, Bool, true, false, List, [], ◌∷◌, ◌++◌, map, length, length-append, Option, Some, None, Result, Ok, Err, refl, sym, ap, subst}
-use Rattle.std.proofs.lemmas.Bool.{false≢true}
+use Rattle.std.proofs.Common.{◌≡◌, ◌∙◌, ℕ, zero, suc, ◌+◌, Bool, true, false, List, [], ◌∷◌, ◌++◌, map, length, length-append, Option, Some, None, refl, sym, ap, subst}
 use Rattle.std.proofs.lemmas.List.{append-nil}
-use Rattle.bq_source.specs.declared.fault.Fault.{Fault}
 use Rattle.bq_source.specs.declared.fault.FaultKind.TheVariants as f
 use Rattle.bq_source.specs.Fault.{fault_at}
 use Rattle.bq_grammar.specs.declared.tree.Argument.TheOpen.{Expr-F, Suffix-F, Argument-F, Clause-F, Target-F}
@@ -33,7 +31,7 @@ use Rattle.bq_scope.specs.Names.{Name, TargetLayer, ClauseLayer, max_layers, com
 use Rattle.bq_scope.specs.Scope.{BlockParts, FileParts}
 use Rattle.bq_scope.specs.Universe.{host_named}
 use Rattle.bq_scope.specs.Visit.{Passed, Visit, ◌>>=◌, pure, given, fault_of, each, optional}
-use Rattle.bq_scope.specs.Expressions.{in_frame, native_by, native_call, is_native, use_at, target_by, target_to, pair, operation, choice, argument_by, arguments, suffix_by, suffixes, operand, host_call, primary_by, primary, clause_by, clauses, in_block, comprehension, expr_by, expr_to}
+use Rattle.bq_scope.specs.Expressions.{native_by, native_call, is_native, use_at, target_by, target_to, pair, operation, choice, argument_by, arguments, suffix_by, suffixes, operand, host_call, primary_by, primary, clause_by, clauses, in_block, comprehension, expr_by, expr_to}
 use Rattle.bq_scope.specs.Statements.{expr, target}
 use Rattle.bq_slot_laws.specs.Slots.{all, argument_slots, binding_slots, choice_slots, clause_slots, code_slots, operation_slots, pair_slots, suffix_slots, target_slots}
 use Rattle.bq_slot_laws.specs.Uses as uses

@@ -1,5 +1,5 @@
 -- The functions of a file share slots as their `def`s share names and blocks.
-use Rattle.std.proofs.Common.{◌≡◌, ◌∙◌, ℕ, ◌+◌, Bool, true, false, List, [], ◌∷◌, ◌++◌, map, length, Option, Some, None, Result, Ok, Err, refl, sym, ap, subst, append_assoc, arith}
+use Rattle.std.proofs.Common.{◌≡◌, ◌∙◌, ℕ, Bool, true, false, List, [], ◌∷◌, ◌++◌, map, length, Some, Result, Ok, Err, refl, sym, ap, subst, append_assoc, arith}
 use Rattle.std.specs.Prelude.{if◌then◌else◌, ◌&&◌}
 use Rattle.std.proofs.lemmas.List.{append-nil}
 use Rattle.bq_source.specs.declared.fault.Fault.{Fault}
@@ -45,7 +45,7 @@ use Rattle.bq_slot_laws.specs.Sharing.{AreShared, Def, SharesSlots, SlotsAreShar
 use Rattle.bq_slot_laws.specs.Slots.{all, stmt_slots}
 use Rattle.bq_slot_laws.specs.Uses as uses
 use Rattle.bq_slot_laws.specs.Uses.{Block, body_uses, own_block}
-use Rattle.bq_slot_laws.proofs.Lists.{Fits, Listed, ended, lists_all, no_fault}
+use Rattle.bq_slot_laws.proofs.Lists.{Fits, ended, lists_all, no_fault}
 use Rattle.bq_slot_laws.proofs.Opened.{in_order_append}
 use Rattle.bq_slot_laws.proofs.Shared.{are_shared}
 use Rattle.bq_slot_laws.proofs.Statements.{stmt_lists}
@@ -87,7 +87,7 @@ quiet_each one ones done (x ∷ xs) = quiet_bind (one x) (λ y. each one (done +
 module _ (file : FileParts) where
   -- ---- small statements
 
-  clause_by : (b d : Bool) (why rebound : Fault) (l : LoadedSymbol) (names : List Name) (u t : Passed) (x : LoadedSymbol) → (if b then Err why else (if d then Err rebound else Ok (l, record u { loaded = names }))) ≡ Ok (x, t) → t.functions ≡ u.functions
+  clause_by : (b d : Bool) (why rebound : Fault) (l : LoadedSymbol) (names : List Name) (u t : Passed) (x : LoadedSymbol) → (let r : Result (LoadedSymbol × Passed) Fault = if b then Err why else (if d then Err rebound else Ok (l, record u { loaded = names })) in r ≡ Ok (x, t)) → t.functions ≡ u.functions
   clause_by true d why rebound l names u t x h = absurd (no_fault {A = LoadedSymbol} why (x, t) h)
   clause_by false true why rebound l names u t x h = absurd (no_fault {A = LoadedSymbol} rebound (x, t) h)
   clause_by false false why rebound l names u t x h = sym (ap (λ (z : LoadedSymbol × Passed). z.1.functions) (ended {A = LoadedSymbol} (l, record u { loaded = names }) (x, t) h))

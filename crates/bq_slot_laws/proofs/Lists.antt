@@ -56,7 +56,7 @@ listed_none opened us slots n h are =
     let all_there : opened ≡ opened ++ [] = sym (append-nil opened) in
     record { more = []; stacked = subst (λ (z : List BlockParts). Stacked 0 z n) all_there h; are = subst (λ (z : List BlockParts). InOrder (IsSlot z) us slots) all_there are; counted = ap length all_there }
 
-joined : (opened more : List BlockParts) (us vs : List Use) (ns ms : List ℕ) (count to : ℕ) → InOrder (IsSlot (opened ++ more)) us ns → Listed (opened ++ more) ms vs count to → Listed opened (ns ++ ms) (us ++ vs) count to
+pub joined : (opened more : List BlockParts) (us vs : List Use) (ns ms : List ℕ) (count to : ℕ) → InOrder (IsSlot (opened ++ more)) us ns → Listed (opened ++ more) ms vs count to → Listed opened (ns ++ ms) (us ++ vs) count to
 joined opened more us vs ns ms count to h l =
     let same : (opened ++ more) ++ l.more ≡ opened ++ (more ++ l.more) = append_assoc opened more l.more in
     let both_are : InOrder (IsSlot ((opened ++ more) ++ l.more)) (us ++ vs) (ns ++ ms) = in_order_append (IsSlot ((opened ++ more) ++ l.more)) us vs ns ms (slots_more (opened ++ more) l.more us ns h) l.are in

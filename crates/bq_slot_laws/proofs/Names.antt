@@ -1,5 +1,5 @@
 -- Uses of names list their slots.
-use Rattle.std.proofs.Common.{◌≡◌, ◌∙◌, ℕ, suc, ◌+◌, Bool, true, false, cond, ◌||◌, List, [], ◌∷◌, length, Option, Some, None, Ok, refl, sym, ap, subst, bytes_eq}
+use Rattle.std.proofs.Common.{◌≡◌, ◌∙◌, ℕ, suc, ◌+◌, Bool, true, false, cond, ◌||◌, List, [], ◌∷◌, length, Option, Some, None, refl, sym, ap, subst, bytes_eq}
 use Rattle.std.specs.Prelude.{◌&&◌}
 use Rattle.std.specs.Option.{option_map}
 use Rattle.std.proofs.lemmas.Bool.{false≢true}
@@ -15,12 +15,12 @@ use Rattle.bq_scope.specs.declared.code.CodeTarget.TheVariants as t
 use Rattle.bq_scope.specs.Names.{Name, has, place_among}
 use Rattle.bq_scope.specs.Scope.{BlockParts, FileParts, file_has, or_else, slot_in, slot_of, use_of}
 use Rattle.bq_scope.specs.Universe.{native, universe_has}
-use Rattle.bq_scope.specs.Visit.{Passed, Visit, fault_of, given}
+use Rattle.bq_scope.specs.Visit.{Visit, fault_of}
 use Rattle.bq_scope.specs.Expressions.{is_bzl, is_native, is_unbound, name_target, place_of, use_at}
 use Rattle.bq_scope_laws.specs.Resolution.{InOrder}
 use Rattle.bq_slot_laws.specs.Slots.{binding_slots, target_slots}
 use Rattle.bq_slot_laws.specs.Uses.{Block, Part, Use, name_use, use_among}
-use Rattle.bq_slot_laws.proofs.Lists.{Fits, Inside, Listed, Lists, lists_given}
+use Rattle.bq_slot_laws.proofs.Lists.{Listed, Lists, lists_given}
 use Rattle.bq_slot_laws.proofs.Opened.{AreRound, IsSlot}
 use Rattle.bq_slot_laws.proofs.Steps as S
 

@@ -1,9 +1,10 @@
 -- Statements of functions list the slots of their uses.
-use Rattle.std.proofs.Common.{◌≡◌, ℕ, zero, suc, Bool, true, false, List, [], ◌∷◌, ◌++◌, map, Option, Some, None, refl}
+use Rattle.std.proofs.Common.{◌≡◌, ℕ, zero, suc, Bool, true, false, List, [], ◌∷◌, map, Option, Some, None, refl}
 use Rattle.bq_source.specs.declared.fault.FaultKind.TheVariants as f
 use Rattle.bq_source.specs.Fault.{fault_at}
 use Rattle.bq_grammar.specs.declared.tree.Branch.{Branch, out-Branch}
 use Rattle.bq_grammar.specs.declared.tree.Expr.{Expr}
+use Rattle.bq_grammar.specs.declared.tree.Load.{Load}
 use Rattle.bq_grammar.specs.declared.tree.Operator.{Operator}
 use Rattle.bq_grammar.specs.declared.tree.SmallKind.{SmallKind}
 use Rattle.bq_grammar.specs.declared.tree.SmallKind.TheVariants as small
@@ -17,16 +18,14 @@ use Rattle.bq_scope.specs.declared.code.CodeSmall.{CodeSmall}
 use Rattle.bq_scope.specs.declared.code.CodeSmall.TheVariants as c
 use Rattle.bq_scope.specs.declared.code.CodeStmt.{CodeStmt}
 use Rattle.bq_scope.specs.declared.code.CodeStmt.TheVariants as s
-use Rattle.bq_scope.specs.Names.{max_layers}
 use Rattle.bq_scope.specs.Scope.{BlockParts, FileParts}
-use Rattle.bq_scope.specs.Visit.{Visit, ◌>>=◌, pure, each, optional}
-use Rattle.bq_scope.specs.Expressions.{expr_to}
+use Rattle.bq_scope.specs.Visit.{Visit, each, optional}
 use Rattle.bq_scope.specs.Statements.{expr, target, assign, augment, returned, load_in, in_loop, small_by, small_stmt, branch, if_stmt, for_stmt, stmt_by, stmt_to}
 use Rattle.bq_slot_laws.specs.Slots.{all, branch_slots, code_slots, small_slots, stmt_slots, target_slots}
 use Rattle.bq_slot_laws.specs.Uses as uses
 use Rattle.bq_slot_laws.specs.Uses.{Block, Part, both}
 use Rattle.bq_slot_laws.proofs.Expressions.{an_expr_lists, a_target_lists}
-use Rattle.bq_slot_laws.proofs.Lists.{Inside, Lists, lists_all, lists_map, lists_optional, lists_pure, lists_stop, lists_three, lists_two}
+use Rattle.bq_slot_laws.proofs.Lists.{Lists, lists_all, lists_map, lists_optional, lists_pure, lists_stop, lists_three, lists_two}
 use Rattle.bq_slot_laws.proofs.Steps as S
 use Rattle.bq_slot_laws.proofs.Steps.{part_slots}
 
@@ -59,8 +58,13 @@ module _ (file : FileParts) where
   in_loop_lists rs bs true line x h = lists_pure rs bs [] small_slots x h
   in_loop_lists rs bs false line x h = lists_stop rs bs [] small_slots uses.nothing (fault_at f.BadFlow line)
 
-  small_by_lists : (rs : List Block) (bs : List BlockParts) (looping : Bool) (line : ℕ) (k : SmallKind) → Lists rs bs [] small_slots (uses.small_by rs k) (small_by file bs looping line k)
+  -- no `load` stands in a function
+  load_lists : (rs : List Block) (bs : List BlockParts) (line : ℕ) (l : Load) → Lists rs bs [] small_slots uses.nothing (load_in file bs line l)
   unfolding load_in
+  load_lists rs [] line l opened s t x inside fits h = absurd inside
+  load_lists rs (b ∷ bs) line l opened s t x inside fits h = lists_stop rs (b ∷ bs) [] small_slots uses.nothing (fault_at f.BadFlow line) opened s t x inside fits h
+
+  small_by_lists : (rs : List Block) (bs : List BlockParts) (looping : Bool) (line : ℕ) (k : SmallKind) → Lists rs bs [] small_slots (uses.small_by rs k) (small_by file bs looping line k)
   small_by_lists rs bs looping line (small.Expr x) = lists_map rs bs [] code_slots small_slots (uses.expr rs x) (expr file bs x) (λ y. c.Expr y) (an_expr_lists file rs bs x) (λ y. refl)
   small_by_lists rs bs looping line (small.Assign t x) = assign_lists rs bs t x
   small_by_lists rs bs looping line (small.Augment t o x) = augment_lists rs bs t o x
@@ -68,8 +72,7 @@ module _ (file : FileParts) where
   small_by_lists rs bs looping line small.Break = in_loop_lists rs bs looping line c.Break refl
   small_by_lists rs bs looping line small.Continue = in_loop_lists rs bs looping line c.Continue refl
   small_by_lists rs bs looping line small.Pass = lists_pure rs bs [] small_slots c.Pass refl
-  small_by_lists rs [] looping line (small.Load l) opened s t x inside fits h = absurd inside
-  small_by_lists rs (b ∷ bs) looping line (small.Load l) opened s t x inside fits h = lists_stop rs (b ∷ bs) [] small_slots uses.nothing (fault_at f.BadFlow line) opened s t x inside fits h
+  small_by_lists rs bs looping line (small.Load l) = load_lists rs bs line l
 
   small_lists : (rs : List Block) (bs : List BlockParts) (looping : Bool) (x : SmallStmt) → Lists rs bs [] small_slots (uses.small_stmt rs x) (small_stmt file bs looping x)
   unfolding small_stmt
