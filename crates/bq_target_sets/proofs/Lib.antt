@@ -6,6 +6,9 @@ pub mod Ranks
 pub mod Tests
 -- the targets that words name
 pub mod Named
+-- what words name, in words of packages, and which words are patterns
+pub mod Packages
+pub mod Patterns
 -- packages and targets that are found, or not
 pub mod Found
 -- the targets that attributes name, one rule after another

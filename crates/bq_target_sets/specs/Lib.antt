@@ -1,5 +1,6 @@
 pub mod Order
 pub mod Words
+pub mod Packages
 pub mod Missing
 pub mod Texts
 pub mod Matching

@@ -11,13 +11,15 @@
 //! - `missing`: what a word names that is not there (Q5, Q6);
 //! - `text`: the texts of kinds, labels and attributes;
 //! - `matching`: the members of a set whose text has a match of a pattern;
-//! - `kind`, `filter`, `attr`, `labels`: the functions of queries.
+//! - `kind`, `filter`, `attr`, `labels`: the functions of queries;
+//! - `laws`: what words name, in words of packages.
 #![tactic(auto)]
 
 pub mod attr;
 pub mod filter;
 pub mod kind;
 pub mod labels;
+pub mod laws;
 mod matching;
 pub mod missing;
 mod order;
