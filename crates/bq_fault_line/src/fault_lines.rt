@@ -1,6 +1,6 @@
 //! The lines of faults of a run, in order.
 
-ghost use Rattle.std.specs.Prelude.{◌≡◌, ◌↔◌, [], IsTrue, IfOk, OnOk};
+ghost use Rattle.std.specs.Prelude.{◌≡◌, ◌↔◌, ◌++◌, [], IsTrue, IfOk, OnOk};
 ghost use Rattle.std.specs.BTreeSet.{insert_key};
 ghost use Rattle.std.specs.List.{flat_map};
 ghost use Rattle.bq_fault_line.specs.FaultLine.{line_cmp};
@@ -59,5 +59,16 @@ impl FaultLines {
             push_line(alloc, &mut text, line)?;
         }
         Ok(text)
+    }
+
+    /// Appends what is printed of the lines. Each line is given up once it is appended, so that no more than one detail is
+    /// held twice.
+    pub fn append_to(self, alloc: Global, text: &mut Vec<u8>) -> Result<(), AllocError>
+        ensures { OnOk result (text.new.items ≡ text.old.items ++ flat_map line_text self) }
+    {
+        for line in self.lines {
+            push_line(alloc, text, &line)?;
+        }
+        Ok(())
     }
 }
