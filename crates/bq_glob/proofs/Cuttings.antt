@@ -9,12 +9,12 @@ use Rattle.bq_glob.specs.Matching.{Takes, FitsSegment, Matches, takes, is_star, 
 use Rattle.bq_glob.specs.Matching.Takes.{end, run, single}
 use Rattle.bq_glob.proofs.Greedy.{IsTail, any_from, any_found, one_of, opened, opened_one}
 
-tail_of : {X : Type 0} (taken rest : List X) → IsTail rest (taken ++ rest)
+pub tail_of : {X : Type 0} (taken rest : List X) → IsTail rest (taken ++ rest)
 tail_of [] [] = refl
 tail_of [] (x ∷ xs) = inl refl
 tail_of (y ∷ ys) rest = inr (tail_of ys rest)
 
-front_of : {X : Type 0} (zs xs : List X) → IsTail zs xs → (taken : List X) × (xs ≡ taken ++ zs)
+pub front_of : {X : Type 0} (zs xs : List X) → IsTail zs xs → (taken : List X) × (xs ≡ taken ++ zs)
 front_of zs [] t = ([], sym t)
 front_of zs (x ∷ xs) (inl e) = ([], sym e)
 front_of zs (x ∷ xs) (inr t) = let r = front_of zs xs t in (x ∷ r.0, ap (λ v. x ∷ v) r.1)
@@ -52,16 +52,16 @@ module _ {A X : Type 0} (IsMany : A → Type 0) (Fits : A → X → Type 0) (man
         subst (λ vs. Takes IsMany Fits (a ∷ ps) vs) (sym o.2) (single a ps o.0 o.1 (λ m. false≢true (sym no_many ∙ is_many a m)) (fits_is a o.0 o.4) (to_relation ps o.1 o.3))
   ]
 
-star_is : (p : ℕ) → is_star p ≡ true → p ≡ 42
+pub star_is : (p : ℕ) → is_star p ≡ true → p ≡ 42
 star_is p h = grind (arith, nat_tests)
 
 is_a_star : (p : ℕ) → p ≡ 42 → is_star p ≡ true
 is_a_star p h = grind (arith, nat_tests)
 
-same_is : (p b : ℕ) → is_same p b ≡ true → p ≡ b
+pub same_is : (p b : ℕ) → is_same p b ≡ true → p ≡ b
 same_is p b h = grind (arith, nat_tests)
 
-is_the_same : (p b : ℕ) → p ≡ b → is_same p b ≡ true
+pub is_the_same : (p b : ℕ) → p ≡ b → is_same p b ≡ true
 is_the_same p b h = grind (arith, nat_tests)
 
 pub segment_fits : (p s : List ℕ) → fits_segment p s ≡ true → FitsSegment p s

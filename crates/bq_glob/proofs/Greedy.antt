@@ -20,7 +20,7 @@ tail_whole : {X : Type 0} (xs : List X) → IsTail xs xs
 tail_whole [] = refl
 tail_whole (x ∷ xs) = inl refl
 
-tail_trans : {X : Type 0} (us vs xs : List X) → IsTail us vs → IsTail vs xs → IsTail us xs
+pub tail_trans : {X : Type 0} (us vs xs : List X) → IsTail us vs → IsTail vs xs → IsTail us xs
 tail_trans us vs [] t s = subst (λ ws. IsTail us ws) s t
 tail_trans us vs (x ∷ xs) t (inl e) = subst (λ ws. IsTail us ws) e t
 tail_trans us vs (x ∷ xs) t (inr s) = inr (tail_trans us vs xs t s)
@@ -28,7 +28,7 @@ tail_trans us vs (x ∷ xs) t (inr s) = inr (tail_trans us vs xs t s)
 empty_head : {X : Type 0} (w : X) (ws : List X) → w ∷ ws ≡ [] → ⊥
 empty_head w ws e = cc
 
-same_rest : {X : Type 0} (w y : X) (ws ys : List X) → w ∷ ws ≡ y ∷ ys → ws ≡ ys
+pub same_rest : {X : Type 0} (w y : X) (ws ys : List X) → w ∷ ws ≡ y ∷ ys → ws ≡ ys
 same_rest w y ws ys e = cc
 
 tail_next : {X : Type 0} (w : X) (ws xs : List X) → IsTail (w ∷ ws) xs → IsTail ws xs
@@ -36,7 +36,7 @@ tail_next w ws [] t = absurd (empty_head w ws t)
 tail_next w ws (x ∷ xs) (inl e) = inr (subst (λ vs. IsTail ws vs) (same_rest w x ws xs e) (tail_whole ws))
 tail_next w ws (x ∷ xs) (inr t) = inr (tail_next w ws xs t)
 
-tail_of_rest : {X : Type 0} (w : X) (ws : List X) (y : X) (ys : List X) → IsTail (w ∷ ws) (y ∷ ys) → IsTail ws ys
+pub tail_of_rest : {X : Type 0} (w : X) (ws : List X) (y : X) (ys : List X) → IsTail (w ∷ ws) (y ∷ ys) → IsTail ws ys
 tail_of_rest w ws y ys (inl e) = subst (λ vs. IsTail ws vs) (same_rest w y ws ys e) (tail_whole ws)
 tail_of_rest w ws y ys (inr t) = tail_next w ws ys t
 

@@ -2,6 +2,7 @@ pub mod Greedy
 pub mod Segments
 pub mod Cuttings
 pub mod Literals
+pub mod Pieces
 pub mod Beneath
 pub mod Listing
 pub mod GivenNames

@@ -35,10 +35,10 @@ module _ {A : Type 0} (many : A → Bool) (fits : A → A → Bool) where
   takes_itself [] plain = empty
   takes_itself (p ∷ ps) plain = opened_one many fits p ps p ps plain.0.single plain.0.itself ∙ takes_itself ps plain.1
 
-no_star : (b : ℕ) (bs : List ℕ) → list_any is_star (b ∷ bs) ≡ false → is_star b ≡ false
+pub no_star : (b : ℕ) (bs : List ℕ) → list_any is_star (b ∷ bs) ≡ false → is_star b ≡ false
 no_star b bs h = elim (cases_Bool (is_star b)) [ inl y ↦ absurd (false≢true (sym h ∙ rw y refl)) | inr n ↦ n ]
 
-no_more_stars : (b : ℕ) (bs : List ℕ) → list_any is_star (b ∷ bs) ≡ false → list_any is_star bs ≡ false
+pub no_more_stars : (b : ℕ) (bs : List ℕ) → list_any is_star (b ∷ bs) ≡ false → list_any is_star bs ≡ false
 no_more_stars b bs h = sym (rw (no_star b bs h) refl) ∙ h
 
 plain_byte : (b : ℕ) → is_star b ≡ false → IsPlain is_star is_same b
@@ -48,11 +48,11 @@ plain_bytes : (bs : List ℕ) → list_any is_star bs ≡ false → AllByRecursi
 plain_bytes [] h = tt
 plain_bytes (b ∷ bs) h = (plain_byte b (no_star b bs h), plain_bytes bs (no_more_stars b bs h))
 
-segment_itself : (s : List ℕ) → list_any is_star s ≡ false → fits_segment s s ≡ true
+pub segment_itself : (s : List ℕ) → list_any is_star s ≡ false → fits_segment s s ≡ true
 unfolding fits_segment
 segment_itself s h = takes_itself is_star is_same s (plain_bytes s h)
 
-segment_alone : (s : List ℕ) → list_any is_star s ≡ false → (x : List ℕ) → fits_segment s x ≡ true → s ≡ x
+pub segment_alone : (s : List ℕ) → list_any is_star s ≡ false → (x : List ℕ) → fits_segment s x ≡ true → s ≡ x
 unfolding fits_segment
 segment_alone s h x f = same_list is_star is_same s x (plain_bytes s h) f
 

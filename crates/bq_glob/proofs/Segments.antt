@@ -90,12 +90,6 @@ segment_is path at n l r f e =
     (subst (λ (t : List ℕ). n < length t → slice_index t n ≡ 47) whole e)
     (take n (take (length path - at) (drop at path))) (ap (take n) whole)
 
-pub drop_none : (xs : List ℕ) (i : ℕ) → length xs ≤ i → drop i xs ≡ []
-drop_none [] zero l = refl
-drop_none [] (suc i) l = refl
-drop_none (x ∷ xs) zero l = absurd (omega arith)
-drop_none (x ∷ xs) (suc i) l = drop_none xs i (omega arith)
-
 pub drop_first : (xs : List ℕ) (i : ℕ) → i < length xs → drop i xs ≡ slice_index xs i ∷ drop (i + 1) xs
 drop_first xs i l = let next : i + 1 ≡ suc i = omega arith in first xs i l ∙ ap (λ (n : ℕ). slice_index xs i ∷ drop n xs) (sym next)
   where

@@ -6,7 +6,7 @@
 //! In reading order:
 //!
 //! - `segment`: whether a segment of a path fits a segment of a pattern, and where a segment ends;
-//! - `step`: the state of a matching;
+//! - `step`: the state of a path's matching;
 //! - `pattern`: which texts are patterns, and which paths a pattern matches;
 //! - `names`: the names of a package's files that some pattern matches;
 //! - `laws`: what the definitions say together.

@@ -104,7 +104,8 @@ fn segment_step(pattern: &[u8], p: usize, path: &[u8], t: usize) -> Step
     Step::One(p + wanted.len() + 1, t + segment.len() + 1)
 }
 
-/// Whether a path matches a pattern. Of several `**` only the last is tried anew, as with the stars of a segment.
+/// Whether a path matches a pattern. Of several `**` only the last is tried anew: what an earlier one would take more, the last
+/// can take.
 fn matches(pattern: &[u8], path: &[u8]) -> bool
     ensures { result ≡ matches pattern.now path.now }
 {

@@ -1,74 +1,63 @@
 //! The segments of patterns and paths.
 
-ghost use Rattle.std.specs.Prelude.{◌≡◌, ◌+◌, ◌≤◌, [], ◌∷◌, length, drop, MatchOption, IfSome};
-ghost use Rattle.bq_glob.specs.Matching.{fits_segment, segments_from, is_star, is_same};
-ghost use Rattle.bq_glob.specs.Step.{StepIs};
+ghost use Rattle.std.specs.Prelude.{◌≡◌, ◌+◌, ◌≤◌, [], ◌∷◌, length, false, MatchOption, IfSome};
+ghost use Rattle.std.specs.List.{list_any};
+ghost use Rattle.bq_glob.specs.Matching.{any_tail, fits_segment, segments_from, is_star};
+ghost use Rattle.bq_glob.specs.Segment.{IsCutAtStar, IsAfterFirst, IsNowhere};
 
-use crate::step::{Retry, Step};
+use memchr::{memchr, memmem};
 
-/// What the bytes at two places say: `*` takes any bytes, every other byte itself.
-fn byte_step(pattern: &[u8], p: usize, text: &[u8], t: usize) -> Step
-    ensures { StepIs is_star is_same (λ i. drop i pattern.now) (λ i. drop i text.now) p t result }
+/// What a pattern has before its first star, and what it has after it; none where it has no star.
+fn cut_at_star(pattern: &[u8]) -> Option<(&[u8], &[u8])>
+    ensures { MatchOption result (list_any is_star pattern.now ≡ false) (λ p. IsCutAtStar pattern.now p.0.now p.1.now) }
 {
-    if p >= pattern.len() {
-        if t >= text.len() {
-            return Step::End;
-        }
-        return Step::Fail;
+    match memchr(b'*', pattern) {
+        Some(at) => Some((&pattern[..at], &pattern[at + 1..])),
+        None => None,
     }
-    if pattern[p] == b'*' {
-        return Step::Many(p + 1);
-    }
-    if t >= text.len() {
-        return Step::Fail;
-    }
-    if pattern[p] != text[t] {
-        return Step::Fail;
-    }
-    Step::One(p + 1, t + 1)
 }
 
-/// Whether a segment of a path fits a segment of a pattern: `*` takes any bytes, every other byte itself.
+/// What a text has after the first place of a piece; none where it doesn't have the piece.
+fn after_first<'t>(piece: &[u8], text: &'t [u8]) -> Option<&'t [u8]>
+    ensures { MatchOption result (IsNowhere piece.now text.now) (λ rest. IsAfterFirst piece.now text.now rest.now) }
+{
+    match memmem::find(text, piece) {
+        Some(at) => Some(&text[at + piece.len()..]),
+        None => None,
+    }
+}
+
+/// Whether some end of a text fits what a pattern has after a star.
 ///
-/// Of several stars only the last is tried anew: what an earlier one would take more, the last can take. So the time is at
-/// most the product of the two lengths.
+/// Each piece between two stars is taken where the text has it first: what it leaves ends as every text does that it leaves
+/// at a later place. So the time is linear in the two lengths.
+fn fits_some_end(pattern: &[u8], text: &[u8]) -> bool
+    ensures { result ≡ any_tail (fits_segment pattern.now) text.now }
+{
+    let mut pieces = pattern;
+    let mut rest = text;
+    'pieces: while let Some((piece, more)) = cut_at_star(pieces) {
+        let Some(after) = after_first(piece, rest) else {
+            return false;
+        };
+        pieces = more;
+        rest = after;
+    }
+    rest.ends_with(pieces)
+}
+
+/// Whether a segment of a path fits a segment of a pattern: `*` takes any bytes, every other byte itself. The time is linear
+/// in the two lengths.
 pub(crate) fn fits_segment(pattern: &[u8], text: &[u8]) -> bool
     ensures { result ≡ fits_segment pattern.now text.now }
 {
-    let mut p = 0;
-    let mut t = 0;
-    let mut retry: Option<Retry> = None;
-    'bytes: loop {
-        match byte_step(pattern, p, text, t) {
-            Step::Many(next) => {
-                p = next;
-                retry = Some(Retry {
-                    pattern: p,
-                    text: t,
-                });
-                continue;
-            }
-            Step::One(next, after) => {
-                p = next;
-                t = after;
-                continue;
-            }
-            Step::End => return true,
-            Step::Fail => {}
-        }
-        let Some(last) = retry else {
-            return false;
-        };
-        if last.text >= text.len() {
-            return false;
-        }
-        p = last.pattern;
-        t = last.text + 1;
-        retry = Some(Retry {
-            pattern: p,
-            text: t,
-        });
+    let Some((first, pieces)) = cut_at_star(pattern) else {
+        return pattern == text;
+    };
+    if !text.starts_with(first) {
+        return false;
     }
+    fits_some_end(pieces, &text[first.len()..])
 }
 
 /// The segment that begins at a place of a path; none past the path's end.

@@ -1,36 +1,16 @@
-use Rattle.std.proofs.Common.{◌+◌, length, drop, slice_index, sym, arith}
-use Rattle.bq_glob.specs.Matching.{is_star, is_same, fits_segment}
-use Rattle.bq_glob.proofs.Greedy.{start, many_holds, many_less, one_holds, end_is, fail_holds}
-use Rattle.bq_glob.proofs.Segments.{drop_first}
-use Rattle.std.proofs.lemmas.Grind.{common_steps}
+use Rattle.std.proofs.Common.{◌∙◌, List, ℕ, drop, length, sym}
+use Rattle.std.proofs.lemmas.List.{take_rest}
+use Rattle.bq_glob.proofs.Pieces.{only_piece, first_fits, first_misfits}
 use Rattle.bq_glob.proofs.segment.fits_segment.Goals as goal
 
-pub bytes-init : goal.bytes-init
-unfolding fits_segment
-bytes-init c = start is_star is_same c.args.pattern.now c.args.text.now
+pub returns-in_default : goal.returns-in_default
+returns-in_default c = only_piece c.args.pattern.now c.args.text.now c.eq.result c.in_default.ensures c.eq.ensures
 
-pub bytes-smaller-in-Many : goal.bytes-smaller-in-Many
-bytes-smaller-in-Many c = many_less is_star is_same (λ i. drop i c.args.pattern.now) (λ i. drop i c.args.text.now) (fits_segment c.args.pattern.now c.args.text.now) (length c.args.pattern.now) (length c.args.text.now)
-    c.bytes.retry c.bytes.p c.bytes.t c.in-Many.next c.bytes.invariant c.in-Many.ensures
+pub returns-then-not-starts_with : goal.returns-then-not-starts_with
+returns-then-not-starts_with c =
+    sym (first_misfits c.args.pattern.now c.in-Some.first.now c.in-Some.pieces.now c.args.text.now c.in-Some.ensures (sym c.starts_with.ensures.value ∙ c.if-not-starts_with.true))
 
-pub bytes-preserved-in-Many : goal.bytes-preserved-in-Many
-bytes-preserved-in-Many c = many_holds is_star is_same (λ i. drop i c.args.pattern.now) (λ i. drop i c.args.text.now) (fits_segment c.args.pattern.now c.args.text.now) (length c.args.pattern.now) (length c.args.text.now)
-    c.bytes.retry c.bytes.p c.bytes.t c.in-Many.next c.bytes.invariant c.in-Many.ensures
-
-pub bytes-preserved-in-One : goal.bytes-preserved-in-One
-bytes-preserved-in-One c = one_holds is_star is_same (λ i. drop i c.args.pattern.now) (λ i. drop i c.args.text.now) (fits_segment c.args.pattern.now c.args.text.now) (length c.args.pattern.now) (length c.args.text.now)
-    c.bytes.retry c.bytes.p c.bytes.t c.in-One.next c.in-One.after c.bytes.invariant c.in-One.ensures
-
-pub returns-in-End : goal.returns-in-End
-returns-in-End c = sym (end_is is_star is_same (λ i. drop i c.args.pattern.now) (λ i. drop i c.args.text.now) (fits_segment c.args.pattern.now c.args.text.now) (length c.args.pattern.now) (length c.args.text.now)
-    c.bytes.retry c.bytes.p c.bytes.t c.bytes.invariant c.in-End.ensures)
-
-pub bytes-preserved : goal.bytes-preserved
-bytes-preserved c = fail_holds is_star is_same (λ i. drop i c.args.pattern.now) (λ i. drop i c.args.text.now) (fits_segment c.args.pattern.now c.args.text.now) (length c.args.pattern.now) (length c.args.text.now)
-    c.bytes.retry c.in-Some.last c.bytes.p c.bytes.t (c.in-Some.last.text + 1) (slice_index c.args.text.now c.in-Some.last.text) c.bytes.invariant c.in-Fail.ensures c.in-Some.is (drop_first c.args.text.now c.in-Some.last.text (omega arith))
-
-pub bytes-smaller : goal.bytes-smaller
-bytes-smaller c = grind (arith, common_steps)
-
-pub returns-then-last-text : goal.returns-then-last-text
-returns-then-last-text c = grind (arith, common_steps)
+pub returns : goal.returns
+returns c =
+    c.fits_some_end.ensures
+    ∙ sym (first_fits c.args.pattern.now c.in-Some.first.now c.in-Some.pieces.now c.args.text.now _ c.in-Some.ensures (sym c.starts_with.ensures.value ∙ c.if-not-starts_with.false) (take_rest c.args.text.now (length c.in-Some.first.now)))
