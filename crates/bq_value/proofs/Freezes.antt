@@ -1,25 +1,52 @@
 -- What cells hold after a module was frozen or loaded, or another cell was changed.
-use Rattle.std.proofs.Common.{◌≡◌, ◌≢◌, ◌∙◌, ap, sym, refl, cond, ℕ, zero, suc, Bool, true, false, List, [], ◌∷◌, ◌++◌, Option, Some, None, is_some, slice_get, set, ◌==◌}
+use Rattle.std.proofs.Common.{◌≡◌, ◌≢◌, ◌∙◌, ap, sym, refl, cond, ℕ, zero, suc, Bool, true, false, List, [], ◌∷◌, Option, Some, None, is_some, slice_get, set, ◌==◌}
 use Rattle.std.proofs.lemmas.Bool.{eqb-true, eqb-false, ne_eqb}
-use Rattle.std.specs.Prelude.{fold}
+use Rattle.std.specs.Prelude.{fold, nat_lt}
 use Rattle.std.specs.Option.{option_or}
 use Rattle.bq_value.specs.Datum.{Datum}
 use Rattle.bq_value.specs.Contents.{Contents}
 use Rattle.bq_value.specs.Lending.{with_cell}
-use Rattle.bq_value.specs.Cells.{FrozenCells, Modules, StoreView, FrozenView, module_at, cell_of, content_at, frozen_at, frozen, added, brought, with_loaded}
+use Rattle.bq_value.specs.Cells.{FrozenCells, Modules, StoreView, FrozenView, module_at, cell_of, content_at, frozen_at, frozen, placed, added, brought, with_loaded}
 
 pub frozen_keeps : (s : StoreView) (gs : List Datum) (home number : ℕ) → frozen_at (frozen s gs) home number ≡ content_at s home number
 unfolding content_at frozen_at
 frozen_keeps s gs home number = refl
 
-last_by : (home : ℕ) (p : ℕ × FrozenCells) (ms : Modules) (m : ℕ × FrozenCells) (b : Bool) → module_at home (ms ++ m ∷ []) ≡ option_or (module_at home ms) (module_at home (m ∷ []))
-    → cond b (Some p.1) (module_at home (ms ++ m ∷ [])) ≡ option_or (cond b (Some p.1) (module_at home ms)) (module_at home (m ∷ []))
-last_by home p ms m true h = refl
-last_by home p ms m false h = h
+or_none : (o : Option FrozenCells) → o ≡ option_or o None
+or_none (Some x) = refl
+or_none None = refl
 
-at_last : (home : ℕ) (ms : Modules) (m : ℕ × FrozenCells) → module_at home (ms ++ m ∷ []) ≡ option_or (module_at home ms) (module_at home (m ∷ []))
-at_last home [] m = refl
-at_last home (p ∷ ms) m = last_by home p ms m (home == p.0) (at_last home ms m)
+-- a module that stands before others of which none has its number
+front_by : (home : ℕ) (m : ℕ × FrozenCells) (o : Option FrozenCells) (b : Bool) → (b ≡ true → o ≡ None) → cond b (Some m.1) o ≡ option_or o (cond b (Some m.1) None)
+front_by home m o true e = sym (ap (λ q. option_or q (Some m.1)) (e refl))
+front_by home m o false e = or_none o
+
+rest_none : (c : FrozenCells) (o : Option FrozenCells) (b : Bool) → cond b (Some c) o ≡ None → o ≡ None
+rest_none c o true e = cc
+rest_none c o false e = e
+
+behind_by : (c : FrozenCells) (o p q : Option FrozenCells) (b : Bool) → o ≡ option_or p q → cond b (Some c) o ≡ option_or (cond b (Some c) p) q
+behind_by c o p q true e = refl
+behind_by c o p q false e = e
+
+place_by : (home : ℕ) (m n : ℕ × FrozenCells) (ms : Modules) (b : Bool) → module_at home (m ∷ n ∷ ms) ≡ option_or (module_at home (n ∷ ms)) (module_at home (m ∷ []))
+    → module_at home (n ∷ placed m ms) ≡ option_or (module_at home (n ∷ ms)) (module_at home (m ∷ []))
+    → module_at home (cond b (m ∷ n ∷ ms) (n ∷ placed m ms)) ≡ option_or (module_at home (n ∷ ms)) (module_at home (m ∷ []))
+place_by home m n ms true e f = e
+place_by home m n ms false e f = f
+
+-- a new module in its place
+at_placed : (home : ℕ) (m : ℕ × FrozenCells) (ms : Modules) → module_at m.0 ms ≡ None → module_at home (placed m ms) ≡ option_or (module_at home ms) (module_at home (m ∷ []))
+at_placed home m [] absent = refl
+at_placed home m (n ∷ ms) absent =
+    place_by home m n ms (nat_lt m.0 n.0)
+    (front_by home m (module_at home (n ∷ ms)) (home == m.0) (λ e. ap (λ k. module_at k (n ∷ ms)) (eqb-true home m.0 e) ∙ absent))
+    (behind_by n.1 (module_at home (placed m ms)) (module_at home ms) (module_at home (m ∷ [])) (home == n.0)
+    (at_placed home m ms (rest_none n.1 (module_at m.0 ms) (m.0 == n.0) absent)))
+
+none_by : (o : Option FrozenCells) → is_some o ≡ false → o ≡ None
+none_by (Some x) e = absurd (cc)
+none_by None e = refl
 
 -- of two modules with one number the first counts
 one_by : (found : Option FrozenCells) (own : FrozenCells) (r : Option FrozenCells) (b : Bool) → option_or found (option_or (cond b (Some own) None) r) ≡ option_or found (cond b (Some own) r)
@@ -42,14 +69,10 @@ some_there : (home : ℕ) (ms : Modules) (m : ℕ) → is_some (module_at m ms) 
 some_there home ms m h e = ap (λ n. is_some (module_at n ms)) (eqb-true home m e) ∙ h
 
 added_by : (home : ℕ) (ms : Modules) (m : ℕ × FrozenCells) (r : Option FrozenCells) (b : Bool) → is_some (module_at m.0 ms) ≡ b
-    → option_or (module_at home (cond b ms (ms ++ m ∷ []))) r ≡ option_or (module_at home ms) (cond (home == m.0) (Some m.1) r)
+    → option_or (module_at home (cond b ms (placed m ms))) r ≡ option_or (module_at home ms) (cond (home == m.0) (Some m.1) r)
 added_by home ms m r true e = there (module_at home ms) m.1 r (home == m.0) (some_there home ms m.0 e)
 added_by home ms m r false e =
-    ap (λ o. option_or o r) (at_last home ms m) ∙ (or_or (module_at home ms) (module_at home (m ∷ [])) r ∙ one_by (module_at home ms) m.1 r (home == m.0))
-
-or_none : (o : Option FrozenCells) → o ≡ option_or o None
-or_none (Some x) = refl
-or_none None = refl
+    ap (λ o. option_or o r) (at_placed home m ms (none_by (module_at m.0 ms) e)) ∙ (or_or (module_at home ms) (module_at home (m ∷ [])) r ∙ one_by (module_at home ms) m.1 r (home == m.0))
 
 pub at_loaded : (home : ℕ) (ms more : Modules) → module_at home (fold added ms more) ≡ option_or (module_at home ms) (module_at home more)
 at_loaded home ms [] = or_none (module_at home ms)

@@ -1,14 +1,12 @@
--- The words of an `IndexMap` are those of a dict, and of frozen modules by number.
+-- The words of an `IndexMap` are those of a dict.
 use Rattle.std.specs.Map.{lookup, remove_entry}
 use Rattle.indexmap.specs.IndexMap.{insert_entry}
 use Rattle.bq_value.specs.Datum.{Datum}
 use Rattle.bq_value.specs.Same.{same}
 use Rattle.bq_value.specs.Pairs.{found, put, without}
-use Rattle.std.proofs.Common.{◌≡◌, cond, List, [], ◌∷◌, Some, refl, ap, Bool, true, false, ℕ, suc, ◌+◌, drop, slice_get, None, ◌∙◌, add-one}
+use Rattle.std.proofs.Common.{◌≡◌, cond, List, [], ◌∷◌, Some, refl, ap, ℕ, suc, ◌+◌, drop, slice_get, ◌∙◌, add-one}
 use Rattle.std.proofs.lemmas.Option.{get_or_from_slice_get, slice_get_within}
 use Rattle.std.proofs.Math.Seq.{drop-cons}
-use Rattle.std.specs.Prelude.{nat_eq, ◌++◌, ◌==◌}
-use Rattle.bq_value.specs.Cells.{FrozenCells, Modules, module_at}
 
 pub lookup_found : (k : Datum) (ps : List (Datum × Datum)) → lookup (same k) ps ≡ found k ps
 lookup_found k [] = refl
@@ -25,17 +23,3 @@ remove_without k (p ∷ ps) = ap (λ o. cond (same k p.0) ps (p ∷ o)) (remove_
 -- an element, and what is behind it
 pub drop_found : {A : Type 0} (xs : List A) (i : ℕ) (x : A) → slice_get xs i ≡ Some x → drop i xs ≡ x ∷ drop (i + 1) xs
 drop_found xs i x h = rw add-one (drop-cons xs i x (slice_get_within xs i x h) ∙ ap (λ y. y ∷ drop (suc i) xs) (get_or_from_slice_get xs i x x h))
-
-pub lookup_module : (home : ℕ) (ms : Modules) → lookup (nat_eq home) ms ≡ module_at home ms
-lookup_module home [] = refl
-lookup_module home (m ∷ ms) = ap (λ o. cond (home == m.0) (Some m.1) o) (lookup_module home ms)
-
-new_module : (m : ℕ × FrozenCells) (ms rest : Modules) (home : ℕ) (c : FrozenCells) (b : Bool) → (module_at home ms ≡ None → insert_entry nat_eq ms home c ≡ rest)
-    → cond b (Some m.1) (module_at home ms) ≡ None → cond b ((m.0, c) ∷ ms) (m ∷ insert_entry nat_eq ms home c) ≡ m ∷ rest
-new_module m ms rest home c true h e = cc
-new_module m ms rest home c false h e = ap (λ r. m ∷ r) (h e)
-
--- a module that isn't there goes last
-pub insert_last : (ms : Modules) (home : ℕ) (c : FrozenCells) → module_at home ms ≡ None → insert_entry nat_eq ms home c ≡ ms ++ (home, c) ∷ []
-insert_last [] home c e = refl
-insert_last (m ∷ ms) home c e = new_module m ms _ home c (home == m.0) (insert_last ms home c) e

@@ -1,5 +1,5 @@
 -- Stores and frozen modules as finite maps from cells to contents (Starlark, "Freezing a value").
-use Rattle.std.specs.Prelude.{ℕ, ◌++◌, cond, List, [], ◌∷◌, slice_get, Option, Some, None, ◌==◌, refl, is_some}
+use Rattle.std.specs.Prelude.{ℕ, cond, List, [], ◌∷◌, slice_get, Option, Some, None, ◌==◌, nat_lt, refl, is_some}
 use Rattle.std.specs.Coded.{Coded, code_by, coded×, coded_ℕ, coded_list}
 use Rattle.bq_value.specs.Datum.{Datum}
 use Rattle.bq_value.specs.Codes.{coded_datum}
@@ -10,7 +10,7 @@ pub record FrozenCells : Type 0 where
   pub cells : List Contents
   pub globals : List Datum
 
--- frozen modules, each with its number
+-- frozen modules, each with its number, in the order of their numbers
 abbrev pub Modules : Type 0
 Modules = List (ℕ × FrozenCells)
 
@@ -54,9 +54,14 @@ globals_at f home = cond (home == f.own) (Some f.cells.globals) (globals_of (mod
 abbrev pub frozen : StoreView → List Datum → FrozenView
 frozen s gs = record { own = s.own; cells = record { cells = s.cells; globals = gs }; reached = s.loaded }
 
--- a module that is there already is not taken again
+-- a module before the first one with a greater number
+abbrev pub placed : ℕ × FrozenCells → Modules → Modules
+placed m [] = m ∷ []
+placed m (n ∷ ms) = cond (nat_lt m.0 n.0) (m ∷ n ∷ ms) (n ∷ placed m ms)
+
+-- a new module takes its place in the order of numbers; one that is there already is not taken again
 abbrev pub added : Modules → ℕ × FrozenCells → Modules
-added ms m = cond (is_some (module_at m.0 ms)) ms (ms ++ m ∷ [])
+added ms m = cond (is_some (module_at m.0 ms)) ms (placed m ms)
 
 -- all modules that a frozen one brings along, itself first
 abbrev pub brought : FrozenView → Modules

@@ -11,5 +11,7 @@ pub mod Contents
 pub mod ContentOf
 pub mod Cells
 pub mod CellsOf
+pub mod Tries
+pub mod TrieOf
 pub mod StoreOf
 pub mod Lending

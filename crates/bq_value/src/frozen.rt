@@ -4,7 +4,8 @@ ghost use Rattle.std.specs.Prelude.{◌≡◌, None, Some, MatchOption, IfOk};
 ghost use Rattle.bq_value.specs.Cells.{frozen_at, globals_at, frozen};
 
 use crate::content::Content;
-use crate::modules::{Modules, Shared};
+use crate::modules::Modules;
+use crate::shared::Shared;
 use crate::store::Store;
 use crate::value::{Cell, Value};
 use std::alloc::{AllocError, Global};

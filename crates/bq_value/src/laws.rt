@@ -2,12 +2,13 @@
 //! nothing.
 
 ghost use Rattle.std.specs.Prelude.{◌≡◌, ◌≢◌, ◌↔◌, ◌<◌, ◌++◌, ◌∷◌, [], List, ℕ, ℤ, pos, Some, None, cond, fold, is_some, true, false, ◌==◌};
+ghost use Rattle.std.specs.Option.{option_or};
 ghost use Rattle.bq_value.specs.Datum.{Datum};
 ghost use Rattle.bq_value.specs.Same.{same};
 ghost use Rattle.bq_value.specs.Range.{IsBefore, range_element, range_count};
 ghost use Rattle.bq_value.specs.Pairs.{found, put, without, keys, TakenOut, HasNoKeyTwice};
 ghost use Rattle.bq_value.specs.Contents.{Contents, KeysDiffer};
-ghost use Rattle.bq_value.specs.Cells.{StoreView, FrozenView, module_at, content_at, frozen_at, frozen, added, brought, with_loaded};
+ghost use Rattle.bq_value.specs.Cells.{StoreView, FrozenView, Modules, module_at, content_at, frozen_at, frozen, added, brought, with_loaded};
 ghost use Rattle.bq_value.specs.Lending.{with_cell};
 
 use crate::store::Store;
@@ -59,6 +60,11 @@ pub fn dicts_of_stores_have_distinct_keys(store: &Store, cell: Cell)
 /// Freezing keeps every cell.
 pub fn freezing_keeps_every_cell()
     ensures { (s : StoreView) (globals : List Datum) (home number : ℕ) → frozen_at (frozen s globals) home number ≡ content_at s home number }
+{}
+
+/// What is reached after a load is by its number what was there before, or else what the load brings.
+pub fn modules_after_a_load()
+    ensures { (home : ℕ) (before brings : Modules) → module_at home (fold added before brings) ≡ option_or (module_at home before) (module_at home brings) }
 {}
 
 /// Loading keeps the cells of all modules that are there, and brings those of the others as they were frozen.

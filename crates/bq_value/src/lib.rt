@@ -16,7 +16,7 @@
 //! - `same`, `key`: when two keys are one, and what they feed to a hash;
 //! - `dict`: pairs with distinct keys in the order in which the keys came;
 //! - `content`: what a cell holds;
-//! - `modules`, `frozen`: modules whose evaluation has ended;
+//! - `shared`, `tree`, `modules`, `frozen`: modules whose evaluation has ended, each shared by all that reach it;
 //! - `store`: the cells of the running module;
 //! - `error`: why an evaluation has no answer;
 //! - `laws`: what the definitions say together.
@@ -31,7 +31,9 @@ pub mod laws;
 mod modules;
 mod range;
 mod same;
+mod shared;
 mod store;
+mod tree;
 mod value;
 
 pub use content::{Body, Content};
@@ -39,7 +41,7 @@ pub use dict::Dict;
 pub use error::EvalErr;
 pub use frozen::{Frozen, freeze};
 pub use key::Key;
-pub use modules::Cells;
 pub use range::Range;
+pub use shared::Cells;
 pub use store::Store;
 pub use value::{Cell, Function, Node, Value};

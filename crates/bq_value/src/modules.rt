@@ -1,88 +1,39 @@
 //! Frozen modules by their numbers, each shared.
 
-ghost use Rattle.std.specs.Prelude.{◌≡◌, [], None, Some, MatchOption, option_copied, IfOk, OnOk, OnErr, drop, ◌∷◌, ◌++◌, ◌+◌, ◌<◌, length, slice_get, fold};
+ghost use Rattle.std.specs.Prelude.{◌≡◌, ◌<◌, ◌≤◌, ◌^◌, [], None, Some, MatchOption, IfOk, OnOk, OnErr, fold};
+ghost use Rattle.std.specs.Option.{option_copied};
 ghost use Rattle.bq_value.specs.Cells.{module_at, cell_of, globals_of, added};
+ghost use Rattle.bq_value.specs.Tries.{IsShaped, entries};
 
 use crate::content::Content;
+use crate::shared::Shared;
+use crate::tree::Tree;
 use crate::value::{Cell, Value};
-use indexmap::IndexMap;
 use std::alloc::{AllocError, Global};
 use std::marker::Model;
-use std::sync::Arc;
 
-/// The cells of one module by their numbers, and the values of its globals.
-#[derive(Drop)]
-pub struct Cells {
-    pub(crate) contents: Vec<Content>,
-    pub(crate) globals: Vec<Value>,
-}
-
-/// The cells of a frozen module, which nothing changes.
-#[derive(Drop)]
-pub(crate) struct Shared {
-    cells: Arc<Cells>,
-}
-
-impl Model for Shared {
-    ghost use Rattle.bq_value.specs.Cells.{FrozenCells, coded_cells};
-
-    ghost Value = { FrozenCells };
-
-    ghost coded = { coded_cells };
-
-    ghost use Rattle.bq_value.specs.CellsOf.{cells_of};
-
-    ghost view = { λ s. cells_of s.cells.value };
-}
-
-impl Shared {
-    pub(crate) fn new(
-        alloc: Global,
-        contents: Vec<Content>,
-        globals: Vec<Value>,
-    ) -> Result<Shared, AllocError>
-        ensures { IfOk result (λ s. s ≡ record { cells = contents.items; globals = globals.items }) }
-    {
-        Ok(Shared {
-            cells: Arc::new(alloc, Cells { contents, globals })?,
-        })
-    }
-
-    fn share(&self) -> Result<Shared, AllocError>
-        ensures { IfOk result (λ s. s ≡ self.now) }
-    {
-        Ok(Shared {
-            cells: self.cells.clone()?,
-        })
-    }
-
-    pub(crate) fn content(&self, number: usize) -> Option<&Content>
-        ensures { MatchOption result (slice_get self.now.cells number ≡ None) (λ c. slice_get self.now.cells number ≡ Some c.now) }
-    {
-        self.cells.contents.get(number)
-    }
-
-    pub(crate) fn globals(&self) -> &[Value]
-        ensures { result.now ≡ self.now.globals }
-    {
-        &self.cells.globals
-    }
-}
-
-/// Contracts see the list of the modules with their numbers.
+/// Contracts see the list of the modules with their numbers, in the order of the numbers.
+///
+/// All numbers are below 2^height.
 #[derive(Drop)]
 pub(crate) struct Modules {
-    entries: IndexMap<u32, Shared>,
+    alloc: Global,
+    height: u32,
+    tree: Tree,
 }
 
 impl Model for Modules {
+    ghost use Rattle.std.specs.Prelude.{◌≤◌};
     ghost use Rattle.bq_value.specs.Cells.{Modules as ModulesView, coded_modules};
+    ghost use Rattle.bq_value.specs.Tries.{IsShaped, entries};
 
     ghost Value = { ModulesView };
 
     ghost coded = { coded_modules };
 
-    ghost view = { λ m. m.entries.entries };
+    ghost view = { λ m. entries m.tree m.height 0 };
+
+    ghost invariant = { λ m. (m.height ≤ 32) × IsShaped m.tree m.height };
 }
 
 impl Modules {
@@ -90,7 +41,9 @@ impl Modules {
         ensures { result ≡ [] }
     {
         Modules {
-            entries: IndexMap::new(alloc),
+            alloc,
+            height: 0,
+            tree: Tree::bare(),
         }
     }
 
@@ -117,30 +70,7 @@ impl Modules {
     fn get(&self, home: u32) -> Option<&Shared>
         ensures { option_copied result ≡ module_at home self.now }
     {
-        self.entries.get(&home)
-    }
-
-    fn len(&self) -> usize
-        ensures { result ≡ length self.now }
-    {
-        self.entries.len()
-    }
-
-    fn pair(&self, index: usize) -> (u32, &Shared)
-        requires { index < length self.now }
-        ensures { drop index self.now ≡ (result.0, result.1.now) ∷ drop (index + 1) self.now }
-    {
-        let (home, shared) = self.entries.get_index(index).unwrap();
-        (*home, shared)
-    }
-
-    /// Puts a module last that isn't there.
-    fn put(&mut self, home: u32, shared: Shared) -> Result<Option<Shared>, AllocError>
-        requires { module_at home self.old ≡ None }
-        ensures ok { OnOk result (self.new ≡ self.old ++ (home, shared) ∷ []) }
-        ensures err { OnErr result (self.new ≡ self.old) }
-    {
-        Ok(self.entries.insert(home, shared)?)
+        self.tree.get(self.height, 0, home)
     }
 
     /// Takes a share of a module, if it isn't there.
@@ -148,8 +78,11 @@ impl Modules {
         ensures ok { OnOk result (self.new ≡ added self.old (home, shared.now)) }
         ensures err { OnErr result (self.new ≡ self.old) }
     {
-        if self.get(home).is_none() {
-            self.put(home, shared.share()?)?;
+        let height = self.height.max(height_of(home));
+        let tree = raised(self.alloc, &self.tree, self.height, height)?;
+        if let Some(tree) = tree.with(self.alloc, height, 0, home, shared)? {
+            self.tree = tree;
+            self.height = height;
         }
         Ok(())
     }
@@ -158,10 +91,35 @@ impl Modules {
     pub(crate) fn add_all(&mut self, others: &Modules) -> Result<(), AllocError>
         ensures { OnOk result (self.new ≡ fold added self.old others.now) }
     {
-        for i in 0..others.len() {
-            let (home, shared) = others.pair(i);
-            self.add(home, shared)?;
+        let height = self.height.max(others.height);
+        let tree = raised(self.alloc, &self.tree, self.height, height)?;
+        let other = raised(self.alloc, &others.tree, others.height, height)?;
+        if let Some(tree) = tree.joined(self.alloc, &other)? {
+            self.tree = tree;
+            self.height = height;
         }
         Ok(())
     }
+}
+
+/// The same modules in a tree for a longer range of numbers.
+fn raised(alloc: Global, tree: &Tree, from: u32, to: u32) -> Result<Tree, AllocError>
+    requires longer { from ≤ to }
+    requires shaped { IsShaped tree.now from }
+    ensures shaped { IfOk result (λ t. IsShaped t to) }
+    ensures modules { IfOk result (λ t. entries t to 0 ≡ entries tree.now from 0) }
+{
+    let mut longer = tree.share()?;
+    for _ in from..to {
+        longer = Tree::fork(alloc, longer, Tree::bare())?;
+    }
+    Ok(longer)
+}
+
+/// The least height of a tree for a range from 0 on that has this number.
+fn height_of(home: u32) -> u32
+    ensures fits { result ≤ 32 }
+    ensures within { home < 2 ^ result }
+{
+    32 - home.leading_zeros()
 }
