@@ -1,12 +1,28 @@
 -- The modules of a trie as a list: what is looked up in a trie, and what is joined to it, is so of the list.
-use Rattle.std.proofs.Common.{◌≡◌, ◌≢◌, ◌∙◌, ap, sym, refl, subst, cond, ℕ, zero, suc, ◌+◌, ◌-◌, ◌*◌, ◌^◌, ◌<◌, ◌≤◌, arith, Bool, true, false, ◌&&◌, List, [], ◌∷◌, ◌++◌, append-nil, Option, Some, None, is_some, ◌==◌}
-use Rattle.std.specs.Prelude.{fold, nat_lt}
-use Rattle.std.proofs.lemmas.Bool.{ltb-true, ltb-false, lt-ltb, le-ltb}
-use Rattle.std.proofs.Math.Nat.{two-pow-succ}
+use Rattle.std.proofs.Common.{◌≡◌, ◌≢◌, ◌∙◌, ap, sym, refl, subst, cond, ℕ, zero, suc, ◌+◌, ◌-◌, ◌*◌, ◌^◌, ◌<◌, ◌≤◌, arith, Bool, true, false, List, [], ◌∷◌, ◌++◌, Option, Some, None, is_some, ◌==◌}
+use Rattle.std.specs.Prelude.{fold, nat_lt, MatchOption}
+use Rattle.std.specs.Option.{unwrap_or}
+use Rattle.std.proofs.lemmas.Bool.{ltb-true, ltb-false}
+use Rattle.std.proofs.Math.Nat.{pow-suc}
+use Rattle.std.proofs.lemmas.Nat.{pow_pos, pow-add, pow_below, mul-add-lt, same_from_place, and_le_r, and_block}
+use lib.Bits.{bit_and}
 use Rattle.std.specs.Cmp.{unsigned_Decides}
 use Rattle.bq_value.specs.Cells.{FrozenCells, Modules, module_at, placed, added}
-use Rattle.bq_value.specs.Tries.{Trie, bare, leaf, fork, IsShaped, entries, is_full, joined, lone}
+use Rattle.bq_value.specs.Tries.{Trie, bare, leaf, fork, keys, IsShaped, IsFork, Joins, entries}
 use Rattle.bq_value.proofs.Splits.{Below, From, below_both, from_both, below_more, from_less, at_left, at_right, by_parts}
+
+-- ---- powers of two
+
+pub twice : (h : ℕ) → 2 ^ suc h ≡ 2 ^ h + 2 ^ h
+twice h = omega (arith, pow-suc 2 h)
+
+low_by : (h base : ℕ) (b : Bool) → nat_lt 32 h ≡ b → base + 2 ^ h ≤ 2 ^ 32 → h ≤ 32
+low_by h base true e le = absurd (omega (arith, pow_below 32 h (ltb-true 32 h e), le))
+low_by h base false e le = ltb-false 32 h e
+
+-- a range of 32-bit numbers has at most 2 ^ 32
+pub low : (h base : ℕ) → base + 2 ^ h ≤ 2 ^ 32 → h ≤ 32
+low h base le = low_by h base (nat_lt 32 h) refl le
 
 -- ---- the numbers of a trie's modules
 
@@ -14,26 +30,111 @@ pub entries_from : (t : Trie) (h base : ℕ) → From base (entries t h base)
 entries_from bare h base = tt
 entries_from (leaf c) zero base = (omega arith, tt)
 entries_from (leaf c) (suc h) base = tt
-entries_from (fork l r) zero base = tt
-entries_from (fork l r) (suc h) base =
+entries_from (fork k l r) zero base = tt
+entries_from (fork k l r) (suc h) base =
     from_both base (entries l h base) (entries r h (base + 2 ^ h)) (entries_from l h base) (from_less (base + 2 ^ h) base (entries r h (base + 2 ^ h)) (omega arith) (entries_from r h (base + 2 ^ h)))
 
 pub entries_below : (t : Trie) (h base : ℕ) → Below (base + 2 ^ h) (entries t h base)
 entries_below bare h base = tt
 entries_below (leaf c) zero base = (omega arith, tt)
 entries_below (leaf c) (suc h) base = tt
-entries_below (fork l r) zero base = tt
-entries_below (fork l r) (suc h) base =
-    let twice = two-pow-succ h in
+entries_below (fork k l r) zero base = tt
+entries_below (fork k l r) (suc h) base =
+    let double = twice h in
     below_both (base + 2 ^ suc h) (entries l h base) (entries r h (base + 2 ^ h))
-    (below_more (base + 2 ^ h) (base + 2 ^ suc h) (entries l h base) (omega (arith, twice)) (entries_below l h base))
-    (below_more (base + 2 ^ h + 2 ^ h) (base + 2 ^ suc h) (entries r h (base + 2 ^ h)) (omega (arith, twice)) (entries_below r h (base + 2 ^ h)))
+    (below_more (base + 2 ^ h) (base + 2 ^ suc h) (entries l h base) (omega (arith, double)) (entries_below l h base))
+    (below_more (base + 2 ^ h + 2 ^ h) (base + 2 ^ suc h) (entries r h (base + 2 ^ h)) (omega (arith, double)) (entries_below r h (base + 2 ^ h)))
+
+-- ---- forks
+
+one_less : (h : ℕ) → suc h - 1 ≡ h
+one_less h = omega arith
+
+-- what is known of a fork
+pub record Forked (t : Trie) (k : ℕ) (l r : Trie) (height : ℕ) : Type 0 where
+  pub above : 0 < height
+  pub known : height ≤ 6 → k ≡ keys r * 2 ^ (2 ^ (height - 1)) + keys l
+  pub left : IsShaped l (height - 1)
+  pub right : IsShaped r (height - 1)
+  pub twice : 2 ^ height ≡ 2 ^ (height - 1) + 2 ^ (height - 1)
+  pub is : IsFork t height l r
+
+forked_by : (k : ℕ) (l r : Trie) (h : ℕ) → IsShaped (fork k l r) h → Forked (fork k l r) k l r h
+forked_by k l r zero s = absurd s
+forked_by k l r (suc h) s =
+    let P : ℕ → Type 0 = λ j.
+    (suc h ≤ 6 → k ≡ keys r * 2 ^ (2 ^ j) + keys l) × IsShaped l j × IsShaped r j × (2 ^ suc h ≡ 2 ^ j + 2 ^ j)
+    × ((base : ℕ) → entries (fork k l r) (suc h) base ≡ entries l j base ++ entries r j (base + 2 ^ j)) in
+    let p : P (suc h - 1) = subst P (sym (one_less h)) (s.0, s.1, s.2, twice h, λ base. refl) in
+    record { above = omega arith; known = p.0; left = p.1; right = p.2; twice = p.3; is = (s, p.4) }
+
+pub forked : (t : Trie) (k : ℕ) (l r : Trie) (h : ℕ) → t ≡ fork k l r → IsShaped t h → Forked t k l r h
+forked t k l r h e s = subst (λ u. Forked u k l r h) (sym e) (forked_by k l r h (subst (λ u. IsShaped u h) e s))
+
+fork_by : (k : ℕ) (l r : Trie) (h : ℕ) → 0 < h → (h ≤ 6 → k ≡ keys r * 2 ^ (2 ^ (h - 1)) + keys l) → IsShaped l (h - 1) → IsShaped r (h - 1) → IsFork (fork k l r) h l r
+fork_by k l r zero above known s m = absurd (omega arith)
+fork_by k l r (suc h) above known s m =
+    let P : ℕ → Type 0 = λ j.
+    (suc h ≤ 6 → k ≡ keys r * 2 ^ (2 ^ j) + keys l) × IsShaped l j × IsShaped r j in
+    let Q : ℕ → Type 0 = λ j. (base : ℕ) → entries (fork k l r) (suc h) base ≡ entries l j base ++ entries r j (base + 2 ^ j) in
+    let p : P h = subst P (one_less h) (known, s, m) in
+    (p, subst Q (sym (one_less h)) (λ base. refl))
+
+-- a fork that is made
+pub is_fork : (t : Trie) (k : ℕ) (l r : Trie) (h : ℕ) → t ≡ fork k l r → 0 < h → (h ≤ 6 → k ≡ keys r * 2 ^ (2 ^ (h - 1)) + keys l) → IsShaped l (h - 1) → IsShaped r (h - 1) → IsFork t h l r
+is_fork t k l r h e above known s m = subst (λ u. IsFork u h l r) (sym e) (fork_by k l r h above known s m)
+
+-- ---- what is looked up
+
+pub get_left : (t l r : Trie) (h base home : ℕ) → IsFork t h l r → home < base + 2 ^ (h - 1) → module_at home (entries l (h - 1) base) ≡ module_at home (entries t h base)
+get_left t l r h base home f less =
+    sym (ap (module_at home) (f.1 base) ∙ at_left home (base + 2 ^ (h - 1)) (entries l (h - 1) base) (entries r (h - 1) (base + 2 ^ (h - 1))) less (entries_from r (h - 1) (base + 2 ^ (h - 1))))
+
+pub get_right : (t l r : Trie) (h base home : ℕ) → IsFork t h l r → base + 2 ^ (h - 1) ≤ home → module_at home (entries r (h - 1) (base + 2 ^ (h - 1))) ≡ module_at home (entries t h base)
+get_right t l r h base home f le =
+    sym (ap (module_at home) (f.1 base) ∙ at_right home (base + 2 ^ (h - 1)) (entries l (h - 1) base) (entries r (h - 1) (base + 2 ^ (h - 1))) le (entries_below l (h - 1) base))
+
+leaf_by : (c : FrozenCells) (h base home : ℕ) → IsShaped (leaf c) h → module_at home (entries (leaf c) h base) ≡ cond (home == base) (Some c) None
+leaf_by c zero base home s = refl
+leaf_by c (suc h) base home s = absurd s
+
+pub get_leaf : (t : Trie) (c : FrozenCells) (h base home : ℕ) → t ≡ leaf c → IsShaped t h → module_at home (entries t h base) ≡ cond (home == base) (Some c) None
+get_leaf t c h base home e s = ap (λ u. module_at home (entries u h base)) e ∙ leaf_by c h base home (subst (λ u. IsShaped u h) e s)
+
+-- ---- keys
+
+pub keys_below : (t : Trie) (h : ℕ) → h ≤ 6 → IsShaped t h → keys t < 2 ^ (2 ^ h)
+keys_below bare h low s = pow_pos (2 ^ h)
+keys_below (leaf c) zero low s = omega arith
+keys_below (leaf c) (suc h) low s = absurd s
+keys_below (fork k l r) zero low s = absurd s
+keys_below (fork k l r) (suc h) low s =
+    let within : keys r * 2 ^ (2 ^ h) + keys l < 2 ^ (2 ^ h) * 2 ^ (2 ^ h) =
+    mul-add-lt (keys r) (2 ^ (2 ^ h)) (keys l) (2 ^ (2 ^ h)) (keys_below r h (omega (arith, low)) s.2) (keys_below l h (omega (arith, low)) s.1) in
+    let square : 2 ^ (2 ^ suc h) ≡ 2 ^ (2 ^ h) * 2 ^ (2 ^ h) = ap (λ n. 2 ^ n) (twice h) ∙ pow-add 2 (2 ^ h) (2 ^ h) in
+    subst (λ n. keys (fork k l r) < n) (sym square) (subst (λ n. n < 2 ^ (2 ^ h) * 2 ^ (2 ^ h)) (sym (s.0 low)) within)
+
+-- what is within by all bits is so by the upper and the lower ones
+halves_within : (j a b c d : ℕ) → b < 2 ^ j → d < 2 ^ j → bit_and (a * 2 ^ j + b) (c * 2 ^ j + d) ≡ a * 2 ^ j + b → (bit_and a c ≡ a) × (bit_and b d ≡ b)
+halves_within j a b c d p q e =
+    let least : bit_and b d < 2 ^ j = omega (arith, and_le_r b d, q) in
+    same_from_place (bit_and a c) (bit_and b d) a b (2 ^ j) least p (sym (and_block j a c b d p q) ∙ e)
+
+no_keys : (u : Trie) (h base : ℕ) → h ≤ 6 → IsShaped u h → keys u ≡ 0 → entries u h base ≡ []
+no_keys bare h base low s e = refl
+no_keys (leaf c) zero base low s e = absurd (omega (arith, e))
+no_keys (leaf c) (suc h) base low s e = refl
+no_keys (fork k l r) zero base low s e = refl
+no_keys (fork k l r) (suc h) base low s e =
+    let none : keys r * 2 ^ (2 ^ h) + keys l ≡ 0 * 2 ^ (2 ^ h) + 0 = sym (s.0 low) ∙ (e ∙ omega arith) in
+    let p = same_from_place (keys r) (keys l) 0 0 (2 ^ (2 ^ h)) (keys_below l h (omega (arith, low)) s.1) (pow_pos (2 ^ h)) none in
+    ap (λ z. z ++ entries r h (base + 2 ^ h)) (no_keys l h base (omega (arith, low)) s.1 p.1) ∙ no_keys r h (base + 2 ^ h) (omega (arith, low)) s.2 p.0
 
 -- ---- joined
 
-halves : (l r m s : Trie) (h base : ℕ)
-    → fold added (entries (fork l r) (suc h) base) (entries (fork m s) (suc h) base) ≡ fold added (entries l h base) (entries m h base) ++ fold added (entries r h (base + 2 ^ h)) (entries s h (base + 2 ^ h))
-halves l r m s h base =
+halves : (k : ℕ) (l r : Trie) (j : ℕ) (m s : Trie) (h base : ℕ)
+    → fold added (entries (fork k l r) (suc h) base) (entries (fork j m s) (suc h) base) ≡ fold added (entries l h base) (entries m h base) ++ fold added (entries r h (base + 2 ^ h)) (entries s h (base + 2 ^ h))
+halves k l r j m s h base =
     by_parts (base + 2 ^ h) (entries l h base) (entries r h (base + 2 ^ h)) (entries m h base) (entries s h (base + 2 ^ h))
     (entries_below l h base) (entries_from r h (base + 2 ^ h)) (entries_below m h base) (entries_from s h (base + 2 ^ h))
 
@@ -42,129 +143,102 @@ all_new : (t : Trie) (h base : ℕ) → fold added [] (entries t h base) ≡ ent
 all_new bare h base = refl
 all_new (leaf c) zero base = refl
 all_new (leaf c) (suc h) base = refl
-all_new (fork l r) zero base = refl
-all_new (fork l r) (suc h) base =
+all_new (fork k l r) zero base = refl
+all_new (fork k l r) (suc h) base =
     by_parts (base + 2 ^ h) [] [] (entries l h base) (entries r h (base + 2 ^ h)) tt tt (entries_below l h base) (entries_from r h (base + 2 ^ h))
     ∙ (ap (λ z. z ++ fold added [] (entries r h (base + 2 ^ h))) (all_new l h base) ∙ ap (λ z. entries l h base ++ z) (all_new r h (base + 2 ^ h)))
 
 one_number : (base : ℕ) (c d : FrozenCells) (b : Bool) → b ≡ true
     → cond (is_some (cond b (Some c) None)) ((base, c) ∷ []) (placed (base, d) ((base, c) ∷ [])) ≡ (base, c) ∷ []
 one_number base c d true e = refl
-one_number base c d false e = cc
+one_number base c d false e = absurd (cc)
 
-pub joined_entries : (t u : Trie) (h base : ℕ) → IsShaped t h → IsShaped u h → entries (joined t u) h base ≡ fold added (entries t h base) (entries u h base)
-joined_entries t bare h base s k = refl
-joined_entries bare (leaf d) h base s k = sym (all_new (leaf d) h base)
-joined_entries bare (fork m n) h base s k = sym (all_new (fork m n) h base)
-joined_entries (leaf c) (leaf d) zero base s k = sym (one_number base c d (base == base) ((unsigned_Decides base base).1 refl))
-joined_entries (leaf c) (leaf d) (suc h) base s k = absurd s
-joined_entries (leaf c) (fork m n) zero base s k = absurd k
-joined_entries (leaf c) (fork m n) (suc h) base s k = absurd s
-joined_entries (fork l r) (leaf d) zero base s k = absurd s
-joined_entries (fork l r) (leaf d) (suc h) base s k = absurd k
-joined_entries (fork l r) (fork m n) zero base s k = absurd s
-joined_entries (fork l r) (fork m n) (suc h) base s k =
-    ap (λ z. z ++ entries (joined r n) h (base + 2 ^ h)) (joined_entries l m h base s.0 k.0)
-    ∙ (ap (λ z. fold added (entries l h base) (entries m h base) ++ z) (joined_entries r n h (base + 2 ^ h) s.1 k.1) ∙ sym (halves l r m n h base))
+-- nothing is new where all keys are there
+all_there : (t u : Trie) (h base : ℕ) → h ≤ 6 → IsShaped t h → IsShaped u h → bit_and (keys u) (keys t) ≡ keys u → fold added (entries t h base) (entries u h base) ≡ entries t h base
+all_there t bare h base low s k e = refl
+all_there bare (leaf d) h base low s k e = ap (fold added []) (no_keys (leaf d) h base low k (omega (arith, and_le_r (keys (leaf d)) 0, e)))
+all_there bare (fork j m n) h base low s k e = ap (fold added []) (no_keys (fork j m n) h base low k (omega (arith, and_le_r j 0, e)))
+all_there (leaf c) (leaf d) zero base low s k e = one_number base c d (base == base) ((unsigned_Decides base base).1 refl)
+all_there (leaf c) (leaf d) (suc h) base low s k e = refl
+all_there (leaf c) (fork j m n) zero base low s k e = refl
+all_there (leaf c) (fork j m n) (suc h) base low s k e = absurd s
+all_there (fork i l r) (leaf d) zero base low s k e = absurd s
+all_there (fork i l r) (leaf d) (suc h) base low s k e = refl
+all_there (fork i l r) (fork j m n) zero base low s k e = refl
+all_there (fork i l r) (fork j m n) (suc h) base low s k e =
+    let fits : h ≤ 6 = omega (arith, low) in
+    let P : ℕ → ℕ → Type 0 = λ x y. bit_and y x ≡ y in
+    let both : P (keys r * 2 ^ (2 ^ h) + keys l) (keys n * 2 ^ (2 ^ h) + keys m) =
+    subst (λ x. P x (keys n * 2 ^ (2 ^ h) + keys m)) (s.0 low) (subst (λ y. P i y) (k.0 low) e) in
+    let p = halves_within (2 ^ h) (keys n) (keys m) (keys r) (keys l) (keys_below m h fits k.1) (keys_below l h fits s.1) both in
+    halves i l r j m n h base
+    ∙ (ap (λ z. z ++ fold added (entries r h (base + 2 ^ h)) (entries n h (base + 2 ^ h))) (all_there l m h base fits s.1 k.1 p.1)
+    ∙ ap (λ z. entries l h base ++ z) (all_there r n h (base + 2 ^ h) fits s.2 k.2 p.0))
 
-pub joined_shaped : (t u : Trie) (h : ℕ) → IsShaped t h → IsShaped u h → IsShaped (joined t u) h
-joined_shaped t bare h s k = s
-joined_shaped bare (leaf d) h s k = k
-joined_shaped bare (fork m n) h s k = k
-joined_shaped (leaf c) (leaf d) h s k = s
-joined_shaped (leaf c) (fork m n) h s k = s
-joined_shaped (fork l r) (leaf d) h s k = s
-joined_shaped (fork l r) (fork m n) zero s k = absurd s
-joined_shaped (fork l r) (fork m n) (suc h) s k = (joined_shaped l m h s.0 k.0, joined_shaped r n h s.1 k.1)
+pub joins_none : (t u : Trie) (h : ℕ) → u ≡ bare → IsShaped t h → Joins t u h t
+joins_none t u h e s = (s, λ base. sym (ap (λ v. fold added (entries t h base) (entries v h base)) e))
 
-both_true : (a b : Bool) → (a && b) ≡ true → (a ≡ true) × (b ≡ true)
-both_true true b e = (refl, e)
-both_true false b e = absurd (cc)
+pub joins_all : (t u : Trie) (h : ℕ) → t ≡ bare → IsShaped u h → Joins t u h u
+joins_all t u h e s = (s, λ base. sym (ap (λ v. fold added (entries v h base) (entries u h base)) e ∙ all_new u h base))
 
--- nothing is new to a full trie
-pub joined_full : (t u : Trie) → is_full t ≡ true → joined t u ≡ t
-joined_full t bare e = refl
-joined_full bare (leaf d) e = absurd (cc)
-joined_full bare (fork m n) e = absurd (cc)
-joined_full (leaf c) (leaf d) e = refl
-joined_full (leaf c) (fork m n) e = refl
-joined_full (fork l r) (leaf d) e = refl
-joined_full (fork l r) (fork m n) e =
-    let p = both_true (is_full l) (is_full r) e in
-    λ i. fork (joined_full l m p.0 i) (joined_full r n p.1 i)
+one_by : (c : FrozenCells) (u : Trie) (h base : ℕ) → IsShaped (leaf c) h → IsShaped u h → entries (leaf c) h base ≡ fold added (entries (leaf c) h base) (entries u h base)
+one_by c bare h base s k = refl
+one_by c (leaf d) zero base s k = sym (one_number base c d (base == base) ((unsigned_Decides base base).1 refl))
+one_by c (leaf d) (suc h) base s k = absurd s
+one_by c (fork j m n) zero base s k = absurd k
+one_by c (fork j m n) (suc h) base s k = absurd s
+
+pub joins_leaf : (t u : Trie) (c : FrozenCells) (h : ℕ) → t ≡ leaf c → IsShaped t h → IsShaped u h → Joins t u h t
+joins_leaf t u c h e s k = (s, λ base. subst (λ v. entries v h base ≡ fold added (entries v h base) (entries u h base)) (sym e) (one_by c u h base (subst (λ v. IsShaped v h) e s) k))
+
+no_leaf : (k : ℕ) (l r : Trie) (d : FrozenCells) (h : ℕ) → IsShaped (fork k l r) h → IsShaped (leaf d) h → ⊥
+no_leaf k l r d zero s i = s
+no_leaf k l r d (suc h) s i = i
+
+-- a fork and a leaf are not of one range
+pub apart : (t u : Trie) (k : ℕ) (l r : Trie) (d : FrozenCells) (h : ℕ) → t ≡ fork k l r → u ≡ leaf d → IsShaped t h → IsShaped u h → ⊥
+apart t u k l r d h e f s i = no_leaf k l r d h (subst (λ v. IsShaped v h) e s) (subst (λ v. IsShaped v h) f i)
+
+pub joins_there : (t u : Trie) (h : ℕ) → h ≤ 6 → IsShaped t h → IsShaped u h → bit_and (keys u) (keys t) ≡ keys u → Joins t u h t
+joins_there t u h low s k e = (s, λ base. sym (all_there t u h base low s k e))
+
+-- what is joined by halves
+pub joins_halves : (t u : Trie) (l r m n x y j : Trie) (h : ℕ) → IsFork t h l r → IsFork u h m n → Joins l m (h - 1) x → Joins r n (h - 1) y → IsFork j h x y → Joins t u h j
+joins_halves t u l r m n x y j h f g p q z = (
+  z.0,
+  λ base.
+      let middle : ℕ = base + 2 ^ (h - 1) in
+      let parts = by_parts middle (entries l (h - 1) base) (entries r (h - 1) middle) (entries m (h - 1) base) (entries n (h - 1) middle)
+      (entries_below l (h - 1) base) (entries_from r (h - 1) middle) (entries_below m (h - 1) base) (entries_from n (h - 1) middle) in
+      z.1 base
+      ∙ (ap (λ v. v ++ entries y (h - 1) middle) (p.1 base)
+      ∙ (ap (λ v. fold added (entries l (h - 1) base) (entries m (h - 1) base) ++ v) (q.1 middle)
+      ∙ (sym parts ∙ (ap (λ v. fold added v (entries m (h - 1) base ++ entries n (h - 1) middle)) (sym (f.1 base)) ∙ ap (λ v. fold added (entries t h base) v) (sym (g.1 base)))))),
+)
+
+changed_by : (o left right : Option Trie) (t l r : Trie) (h : ℕ) → MatchOption o ((left ≡ None) × (right ≡ None)) (λ f. IsFork f h (unwrap_or left l) (unwrap_or right r)) → IsFork t h l r
+    → IsFork (unwrap_or o t) h (unwrap_or left l) (unwrap_or right r)
+changed_by (Some f) left right t l r h c i = c
+changed_by None left right t l r h c i =
+    subst (λ a. IsFork t h (unwrap_or a l) (unwrap_or right r)) (sym c.0) (subst (λ b. IsFork t h l (unwrap_or b r)) (sym c.1) i)
+
+-- halves that may be changed
+pub joins_changed : (o left right : Option Trie) (t u l r m n : Trie) (h : ℕ) → IsFork t h l r → IsFork u h m n → Joins l m (h - 1) (unwrap_or left l) → Joins r n (h - 1) (unwrap_or right r)
+    → MatchOption o ((left ≡ None) × (right ≡ None)) (λ f. IsFork f h (unwrap_or left l) (unwrap_or right r)) → Joins t u h (unwrap_or o t)
+joins_changed o left right t u l r m n h f g p q c =
+    joins_halves t u l r m n (unwrap_or left l) (unwrap_or right r) (unwrap_or o t) h f g p q (changed_by o left right t l r h c f)
 
 -- ---- one module alone
 
-pub lone_shaped : (h base home : ℕ) (c : FrozenCells) → IsShaped (lone h base home c) h
-lone_shaped zero base home c = tt
-lone_shaped (suc h) base home c = by (nat_lt home (base + 2 ^ h))
-  where
-    by : (b : Bool) → IsShaped (cond b (fork (lone h base home c) bare) (fork bare (lone h (base + 2 ^ h) home c))) (suc h)
-    by true = (lone_shaped h base home c, tt)
-    by false = (tt, lone_shaped h (base + 2 ^ h) home c)
+pub one_leaf : (t : Trie) (c : FrozenCells) (h base home : ℕ) → t ≡ leaf c → h ≡ 0 → base ≤ home → home < base + 2 ^ h → (IsShaped t h) × (entries t h base ≡ (home, c) ∷ [])
+one_leaf t c h base home e z le less =
+    let P : Trie → ℕ → Type 0 = λ u n. IsShaped u n × (entries u n base ≡ (home, c) ∷ []) in
+    let less_zero : home < base + 2 ^ 0 = subst (λ n. home < base + 2 ^ n) z less in
+    let same : base ≡ home = omega (arith, le, less_zero) in
+    subst (λ u. P u h) (sym e) (subst (λ n. P (leaf c) n) (sym z) (tt, ap (λ n. (n, c) ∷ []) same))
 
-lone_by : (h base home : ℕ) (c : FrozenCells) (b : Bool) → (b ≡ true → entries (lone h base home c) h base ≡ (home, c) ∷ []) → (b ≡ false → entries (lone h (base + 2 ^ h) home c) h (base + 2 ^ h) ≡ (home, c) ∷ [])
-    → entries (cond b (fork (lone h base home c) bare) (fork bare (lone h (base + 2 ^ h) home c))) (suc h) base ≡ (home, c) ∷ []
-lone_by h base home c true l r = ap (λ z. z ++ []) (l refl)
-lone_by h base home c false l r = r refl
+pub one_left : (t l : Trie) (h base : ℕ) (p : ℕ × FrozenCells) → IsFork t h l bare → entries l (h - 1) base ≡ p ∷ [] → entries t h base ≡ p ∷ []
+one_left t l h base p f e = f.1 base ∙ ap (λ z. z ++ []) e
 
-pub lone_entries : (h base home : ℕ) (c : FrozenCells) → base ≤ home → home < base + 2 ^ h → entries (lone h base home c) h base ≡ (home, c) ∷ []
-lone_entries zero base home c le less =
-    let same : base ≡ home = omega (arith, le, less) in
-    ap (λ n. (n, c) ∷ []) same
-lone_entries (suc h) base home c le less =
-    let twice = two-pow-succ h in
-    lone_by h base home c (nat_lt home (base + 2 ^ h)) (λ e. lone_entries h base home c le (ltb-true home (base + 2 ^ h) e))
-    (λ e. lone_entries h (base + 2 ^ h) home c (ltb-false home (base + 2 ^ h) e) (omega (arith, twice, less)))
-
--- ---- a fork of a range
-
--- what is known of a fork
-pub record Forked (t l r : Trie) (height base : ℕ) : Type 0 where
-  pub above : 0 < height
-  pub left : IsShaped l (height - 1)
-  pub right : IsShaped r (height - 1)
-  pub twice : 2 ^ height ≡ 2 ^ (height - 1) + 2 ^ (height - 1)
-  pub parts : entries t height base ≡ entries l (height - 1) base ++ entries r (height - 1) (base + 2 ^ (height - 1))
-
-one_less : (h : ℕ) → suc h - 1 ≡ h
-one_less h = omega arith
-
-forked_by : (l r : Trie) (h base : ℕ) → IsShaped (fork l r) h → Forked (fork l r) l r h base
-forked_by l r zero base s = absurd s
-forked_by l r (suc h) base s =
-    let P : ℕ → Type 0 = λ k. (IsShaped l k) × (IsShaped r k) × (2 ^ suc h ≡ 2 ^ k + 2 ^ k) × (entries (fork l r) (suc h) base ≡ entries l k base ++ entries r k (base + 2 ^ k)) in
-    let p : P (suc h - 1) = subst P (sym (one_less h)) (s.0, s.1, two-pow-succ h, refl) in
-    record { above = omega arith; left = p.0; right = p.1; twice = p.2; parts = p.3 }
-
-pub forked : (t l r : Trie) (h base : ℕ) → t ≡ fork l r → IsShaped t h → Forked t l r h base
-forked t l r h base e s = subst (λ u. Forked u l r h base) (sym e) (forked_by l r h base (subst (λ u. IsShaped u h) e s))
-
-pub get_left : (t l r : Trie) (h base home : ℕ) → Forked t l r h base → home < base + 2 ^ (h - 1) → module_at home (entries l (h - 1) base) ≡ module_at home (entries t h base)
-get_left t l r h base home f less =
-    sym (ap (module_at home) f.parts ∙ at_left home (base + 2 ^ (h - 1)) (entries l (h - 1) base) (entries r (h - 1) (base + 2 ^ (h - 1))) less (entries_from r (h - 1) (base + 2 ^ (h - 1))))
-
-pub get_right : (t l r : Trie) (h base home : ℕ) → Forked t l r h base → base + 2 ^ (h - 1) ≤ home → module_at home (entries r (h - 1) (base + 2 ^ (h - 1))) ≡ module_at home (entries t h base)
-get_right t l r h base home f le =
-    sym (ap (module_at home) f.parts ∙ at_right home (base + 2 ^ (h - 1)) (entries l (h - 1) base) (entries r (h - 1) (base + 2 ^ (h - 1))) le (entries_below l (h - 1) base))
-
--- a leaf of a range
-leaf_by : (c : FrozenCells) (h base home : ℕ) → IsShaped (leaf c) h → module_at home (entries (leaf c) h base) ≡ cond (home == base) (Some c) None
-leaf_by c zero base home s = refl
-leaf_by c (suc h) base home s = absurd s
-
-pub get_leaf : (t : Trie) (c : FrozenCells) (h base home : ℕ) → t ≡ leaf c → IsShaped t h → module_at home (entries t h base) ≡ cond (home == base) (Some c) None
-get_leaf t c h base home e s = ap (λ u. module_at home (entries u h base)) e ∙ leaf_by c h base home (subst (λ u. IsShaped u h) e s)
-
--- the module of a range's lower half, or upper half, beside what is there
-pub lone_left : (h base home : ℕ) (c : FrozenCells) → 0 < h → home < base + 2 ^ (h - 1) → lone h base home c ≡ fork (lone (h - 1) base home c) bare
-lone_left zero base home c above less = absurd (omega arith)
-lone_left (suc h) base home c above less =
-    let P : ℕ → Type 0 = λ k. home < base + 2 ^ k → cond (nat_lt home (base + 2 ^ h)) (fork (lone h base home c) bare) (fork bare (lone h (base + 2 ^ h) home c)) ≡ fork (lone k base home c) bare in
-    subst P (sym (one_less h)) (λ l. ap (λ b. cond b (fork (lone h base home c) bare) (fork bare (lone h (base + 2 ^ h) home c))) (lt-ltb home (base + 2 ^ h) l)) less
-
-pub lone_right : (h base home : ℕ) (c : FrozenCells) → 0 < h → base + 2 ^ (h - 1) ≤ home → lone h base home c ≡ fork bare (lone (h - 1) (base + 2 ^ (h - 1)) home c)
-lone_right zero base home c above le = absurd (omega arith)
-lone_right (suc h) base home c above le =
-    let P : ℕ → Type 0 = λ k. base + 2 ^ k ≤ home → cond (nat_lt home (base + 2 ^ h)) (fork (lone h base home c) bare) (fork bare (lone h (base + 2 ^ h) home c)) ≡ fork bare (lone k (base + 2 ^ k) home c) in
-    subst P (sym (one_less h)) (λ l. ap (λ b. cond b (fork (lone h base home c) bare) (fork bare (lone h (base + 2 ^ h) home c))) (le-ltb home (base + 2 ^ h) l)) le
+pub one_right : (t r : Trie) (h base : ℕ) (p : ℕ × FrozenCells) → IsFork t h bare r → entries r (h - 1) (base + 2 ^ (h - 1)) ≡ p ∷ [] → entries t h base ≡ p ∷ []
+one_right t r h base p f e = f.1 base ∙ e

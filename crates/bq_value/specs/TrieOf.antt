@@ -1,7 +1,7 @@
--- The trie that a node stands for, and what is known of the mark of a fork.
-use Rattle.std.specs.Prelude.{◌≡◌, ◌≤◌}
+-- The trie that a node stands for.
+use Rattle.std.specs.Prelude.{◌≤◌}
 use Rattle.std.proofs.Common.{arith}
-use Rattle.bq_value.specs.Tries.{Trie, bare, leaf, fork, is_full, nodes}
+use Rattle.bq_value.specs.Tries.{Trie, bare, leaf, fork, nodes}
 use Rattle.bq_value.specs.declared.tree.Node.{Node}
 use Rattle.bq_value.specs.declared.tree.Node.TheVariants as node
 use Rattle.bq_value.specs.declared.tree.Tree.TheDeep.{deep-Node}
@@ -9,15 +9,9 @@ use Rattle.bq_value.specs.declared.tree.Tree.TheDeep.{deep-Node}
 abbrev pub trie_of : Node → Trie
 trie_of node.Bare = bare
 trie_of (node.Leaf c) = leaf c
-trie_of (node.Fork full halves) = fork halves.value.left halves.value.right
-
--- a fork is marked as full where it is
-abbrev pub IsMarked : Node → Type 0
-IsMarked node.Bare = Unit {0}
-IsMarked (node.Leaf c) = Unit {0}
-IsMarked (node.Fork full halves) = full ≡ is_full (fork halves.value.left halves.value.right)
+trie_of (node.Fork k halves) = fork k halves.value.left halves.value.right
 
 pub deep_le-nodes : (n : Node) → deep-Node n ≤ nodes (trie_of n)
 deep_le-nodes node.Bare = omega arith
 deep_le-nodes (node.Leaf c) = omega arith
-deep_le-nodes (node.Fork full halves) = omega arith
+deep_le-nodes (node.Fork k halves) = omega arith

@@ -79,12 +79,15 @@ impl Modules {
         ensures err { OnErr result (self.new ≡ self.old) }
     {
         let height = self.height.max(height_of(home));
-        let tree = raised(self.alloc, &self.tree, self.height, height)?;
-        if let Some(tree) = tree.with(self.alloc, height, 0, home, shared)? {
-            self.tree = tree;
-            self.height = height;
+        let one = Tree::lone(self.alloc, height, 0, home, shared)?;
+        match joined(self.alloc, &self.tree, self.height, &one, height)? {
+            None => Ok(()),
+            Some(tree) => {
+                self.tree = tree;
+                self.height = height;
+                Ok(())
+            }
         }
-        Ok(())
     }
 
     /// Takes a share of each of these modules that isn't there.
@@ -92,14 +95,34 @@ impl Modules {
         ensures { OnOk result (self.new ≡ fold added self.old others.now) }
     {
         let height = self.height.max(others.height);
-        let tree = raised(self.alloc, &self.tree, self.height, height)?;
         let other = raised(self.alloc, &others.tree, others.height, height)?;
-        if let Some(tree) = tree.joined(self.alloc, &other)? {
-            self.tree = tree;
-            self.height = height;
+        match joined(self.alloc, &self.tree, self.height, &other, height)? {
+            None => Ok(()),
+            Some(tree) => {
+                self.tree = tree;
+                self.height = height;
+                Ok(())
+            }
         }
-        Ok(())
     }
+}
+
+/// A tree of all modules of the first, of height `from`, and of those of the other, of height `to`, whose numbers the first
+/// doesn't have; `None` where it has all.
+fn joined(
+    alloc: Global,
+    tree: &Tree,
+    from: u32,
+    other: &Tree,
+    to: u32,
+) -> Result<Option<Tree>, AllocError>
+    requires longer { from ≤ to }
+    requires shaped { IsShaped tree.now from }
+    requires other { IsShaped other.now to }
+    ensures { IfOk result (λ t. MatchOption t (fold added (entries tree.now from 0) (entries other.now to 0) ≡ entries tree.now from 0) (λ j. IsShaped j to × (entries j to 0 ≡ fold added (entries tree.now from 0) (entries other.now to 0)))) }
+{
+    let tree = raised(alloc, tree, from, to)?;
+    tree.joined(alloc, to, other)
 }
 
 /// The same modules in a tree for a longer range of numbers.
@@ -110,8 +133,8 @@ fn raised(alloc: Global, tree: &Tree, from: u32, to: u32) -> Result<Tree, AllocE
     ensures modules { IfOk result (λ t. entries t to 0 ≡ entries tree.now from 0) }
 {
     let mut longer = tree.share()?;
-    for _ in from..to {
-        longer = Tree::fork(alloc, longer, Tree::bare())?;
+    for level in from..to {
+        longer = Tree::fork(alloc, level + 1, longer, Tree::bare())?;
     }
     Ok(longer)
 }

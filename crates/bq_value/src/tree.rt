@@ -3,17 +3,21 @@
 //!
 //! A tree is for a range of 2^height numbers that begins with `base`: a leaf has the only module of one number, and a fork has
 //! the modules of the lower half and those of the upper half (a binary trie; Okasaki and Gill, "Fast Mergeable Integer Maps").
-//! So of modules that load one another in a chain each makes `height` nodes, and shares the others.
+//! So of modules that load one another in a chain each makes `height` nodes, and shares the others. Modules that reach nearly
+//! the same are joined block by block: the keys of 64 numbers are one word.
 
-ghost use Rattle.std.specs.Prelude.{◌≡◌, ◌+◌, ◌-◌, ◌^◌, ◌<◌, ◌≤◌, IfOk};
+ghost use Rattle.std.specs.Prelude.{◌≡◌, ◌+◌, ◌-◌, ◌^◌, ◌<◌, ◌≤◌, ◌∷◌, [], None, IfOk, MatchOption};
 ghost use Rattle.std.specs.Option.{option_copied, unwrap_or};
 ghost use Rattle.bq_value.specs.Cells.{module_at};
-ghost use Rattle.bq_value.specs.Tries.{bare, leaf, fork, IsShaped, entries, is_full, joined, lone};
+ghost use Rattle.bq_value.specs.Tries.{bare, leaf, IsShaped, IsFork, Joins, entries, keys};
 
 use crate::shared::Shared;
 use std::alloc::{AllocError, Global};
 use std::marker::Model;
 use std::sync::Arc;
+
+/// The height of a block of 64 numbers.
+const BLOCK: u32 = 6;
 
 /// Contracts see its `Trie`.
 #[cycle(tree)]
@@ -27,8 +31,8 @@ pub(crate) struct Tree {
 enum Node {
     Bare,
     Leaf(Shared),
-    /// Whether each number of its range has a module, and its halves.
-    Fork(bool, Arc<Halves>),
+    /// In a block, a bit for each number that has a module; and the halves.
+    Fork(u64, Arc<Halves>),
 }
 
 #[cycle(tree)]
@@ -45,11 +49,9 @@ impl Model for Tree {
 
     ghost coded = { coded_trie };
 
-    ghost use Rattle.bq_value.specs.TrieOf.{trie_of, IsMarked, deep_le-nodes};
+    ghost use Rattle.bq_value.specs.TrieOf.{trie_of, deep_le-nodes};
 
     ghost view = { λ t. trie_of t.node };
-
-    ghost invariant = { λ t. IsMarked t.node };
 
     ghost size = { nodes };
 
@@ -71,23 +73,32 @@ impl Tree {
         }
     }
 
-    pub(crate) fn fork(alloc: Global, left: Tree, right: Tree) -> Result<Tree, AllocError>
-        ensures { IfOk result (λ t. t ≡ fork left right) }
+    /// A tree of this height with these halves.
+    pub(crate) fn fork(
+        alloc: Global,
+        height: u32,
+        left: Tree,
+        right: Tree,
+    ) -> Result<Tree, AllocError>
+        requires above { 0 < height }
+        requires left { IsShaped left (height - 1) }
+        requires right { IsShaped right (height - 1) }
+        ensures { IfOk result (λ t. IsFork t height left right) }
     {
-        let full = left.is_full() && right.is_full();
+        let keys = keys_of(height, &left, &right);
         let halves = Arc::new(alloc, Halves { left, right })?;
         Ok(Tree {
-            node: Node::Fork(full, halves),
+            node: Node::Fork(keys, halves),
         })
     }
 
-    fn is_full(&self) -> bool
-        ensures { result ≡ is_full self.now }
+    fn keys(&self) -> u64
+        ensures { result ≡ keys self.now }
     {
         match &self.node {
-            Node::Bare => false,
-            Node::Leaf(_) => true,
-            Node::Fork(full, _) => *full,
+            Node::Bare => 0,
+            Node::Leaf(_) => 1,
+            Node::Fork(keys, _) => *keys,
         }
     }
 
@@ -98,7 +109,7 @@ impl Tree {
         let node = match &self.node {
             Node::Bare => Node::Bare,
             Node::Leaf(shared) => Node::Leaf(shared.share()?),
-            Node::Fork(full, halves) => Node::Fork(*full, halves.clone()?),
+            Node::Fork(keys, halves) => Node::Fork(*keys, halves.clone()?),
         };
         Ok(Tree { node })
     }
@@ -128,15 +139,18 @@ impl Tree {
     }
 
     /// A tree of one module.
-    fn lone(
+    pub(crate) fn lone(
         alloc: Global,
         height: u32,
         base: u32,
         home: u32,
         shared: &Shared,
     ) -> Result<Tree, AllocError>
-        requires { base + 2 ^ height ≤ 2 ^ 32 }
-        ensures { IfOk result (λ t. t ≡ lone height base home shared.now) }
+        requires fits { base + 2 ^ height ≤ 2 ^ 32 }
+        requires from { base ≤ home }
+        requires to { home < base + 2 ^ height }
+        ensures shaped { IfOk result (λ t. IsShaped t height) }
+        ensures module { IfOk result (λ t. entries t height base ≡ (home, shared.now) ∷ []) }
     {
         if height == 0 {
             return Ok(Tree::leaf(shared.share()?));
@@ -144,54 +158,35 @@ impl Tree {
         let middle = middle(height, base);
         if home < middle {
             let left = Tree::lone(alloc, height - 1, base, home, shared)?;
-            return Tree::fork(alloc, left, Tree::bare());
+            return Tree::fork(alloc, height, left, Tree::bare());
         }
         let right = Tree::lone(alloc, height - 1, middle, home, shared)?;
-        Tree::fork(alloc, Tree::bare(), right)
-    }
-
-    /// The tree with this module too, or `None` where one of its number is there.
-    pub(crate) fn with(
-        &self,
-        alloc: Global,
-        height: u32,
-        base: u32,
-        home: u32,
-        shared: &Shared,
-    ) -> Result<Option<Tree>, AllocError>
-        requires shaped { IsShaped self.now height }
-        requires fits { base + 2 ^ height ≤ 2 ^ 32 }
-        ensures { IfOk result (λ t. unwrap_or t self.now ≡ joined self.now (lone height base home shared.now)) }
-    {
-        match &self.node {
-            Node::Bare => Ok(Some(Tree::lone(alloc, height, base, home, shared)?)),
-            Node::Leaf(_) => Ok(None),
-            Node::Fork(_, halves) => {
-                let middle = middle(height, base);
-                if home < middle {
-                    let left = halves.left.with(alloc, height - 1, base, home, shared)?;
-                    return halves.changed(alloc, left, None);
-                }
-                let right = halves.right.with(alloc, height - 1, middle, home, shared)?;
-                halves.changed(alloc, None, right)
-            }
-        }
+        Tree::fork(alloc, height, Tree::bare(), right)
     }
 
     /// The tree with those modules of the other too whose numbers aren't here, or `None` where there are none.
-    pub(crate) fn joined(&self, alloc: Global, other: &Tree) -> Result<Option<Tree>, AllocError>
-        ensures { IfOk result (λ t. unwrap_or t self.now ≡ joined self.now other.now) }
+    pub(crate) fn joined(
+        &self,
+        alloc: Global,
+        height: u32,
+        other: &Tree,
+    ) -> Result<Option<Tree>, AllocError>
+        requires shaped { IsShaped self.now height }
+        requires other { IsShaped other.now height }
+        ensures { IfOk result (λ t. Joins self.now other.now height (unwrap_or t self.now)) }
     {
         match (&self.node, &other.node) {
             (_, Node::Bare) => Ok(None),
             (Node::Bare, _) => Ok(Some(other.share()?)),
             (Node::Leaf(_), _) => Ok(None),
             (Node::Fork(_, _), Node::Leaf(_)) => Ok(None),
-            (Node::Fork(true, _), Node::Fork(_, _)) => Ok(None),
-            (Node::Fork(false, halves), Node::Fork(_, others)) => {
-                let left = halves.left.joined(alloc, &others.left)?;
-                let right = halves.right.joined(alloc, &others.right)?;
-                halves.changed(alloc, left, right)
+            (Node::Fork(keys, halves), Node::Fork(more, others)) => {
+                if height <= BLOCK && *more & *keys == *more {
+                    return Ok(None);
+                }
+                let left = halves.left.joined(alloc, height - 1, &others.left)?;
+                let right = halves.right.joined(alloc, height - 1, &others.right)?;
+                halves.changed(alloc, height, left, right)
             }
         }
     }
@@ -207,21 +202,25 @@ impl Tree {
 }
 
 impl Halves {
-    /// A fork where one of the halves is changed, or `None` where neither is.
+    /// A tree of this height where one of the halves is changed, or `None` where neither is.
     fn changed(
         &self,
         alloc: Global,
+        height: u32,
         left: Option<Tree>,
         right: Option<Tree>,
     ) -> Result<Option<Tree>, AllocError>
-        ensures { IfOk result (λ t. unwrap_or t (fork self.now.left self.now.right) ≡ fork (unwrap_or left self.now.left) (unwrap_or right self.now.right)) }
+        requires above { 0 < height }
+        requires left { IsShaped (unwrap_or left self.now.left) (height - 1) }
+        requires right { IsShaped (unwrap_or right self.now.right) (height - 1) }
+        ensures { IfOk result (λ t. MatchOption t ((left ≡ None) × (right ≡ None)) (λ f. IsFork f height (unwrap_or left self.now.left) (unwrap_or right self.now.right))) }
     {
         if left.is_none() && right.is_none() {
             return Ok(None);
         }
         let left = self.left.or_share(left)?;
         let right = self.right.or_share(right)?;
-        Ok(Some(Tree::fork(alloc, left, right)?))
+        Ok(Some(Tree::fork(alloc, height, left, right)?))
     }
 }
 
@@ -232,4 +231,17 @@ fn middle(height: u32, base: u32) -> u32
     ensures { result ≡ base + 2 ^ (height - 1) }
 {
     base + (1 << (height - 1))
+}
+
+/// The keys of a tree of this height with these halves, if it is within a block.
+fn keys_of(height: u32, left: &Tree, right: &Tree) -> u64
+    requires above { 0 < height }
+    requires left { IsShaped left.now (height - 1) }
+    requires right { IsShaped right.now (height - 1) }
+    ensures { height ≤ 6 → result ≡ keys right.now * 2 ^ (2 ^ (height - 1)) + keys left.now }
+{
+    if height > BLOCK {
+        return 0;
+    }
+    (right.keys() << (1 << (height - 1))) | left.keys()
 }
