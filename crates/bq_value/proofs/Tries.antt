@@ -1,11 +1,11 @@
 -- The modules of a trie as a list: what is looked up in a trie, and what is joined to it, is so of the list.
-use Rattle.std.proofs.Common.{◌≡◌, ◌≢◌, ◌∙◌, ap, sym, refl, subst, cond, ℕ, zero, suc, ◌+◌, ◌-◌, ◌*◌, ◌^◌, ◌<◌, ◌≤◌, arith, Bool, true, false, List, [], ◌∷◌, ◌++◌, Option, Some, None, is_some, ◌==◌}
+use Rattle.std.proofs.Common.{◌≡◌, ◌≢◌, ◌∙◌, ap, sym, refl, subst, cond, ℕ, zero, suc, ◌+◌, ◌-◌, ◌*◌, ◌%◌, ◌^◌, ◌<◌, ◌≤◌, arith, Bool, true, false, List, [], ◌∷◌, ◌++◌, Option, Some, None, is_some, ◌==◌}
 use Rattle.std.specs.Prelude.{fold, nat_lt, MatchOption}
 use Rattle.std.specs.Option.{unwrap_or}
 use Rattle.std.proofs.lemmas.Bool.{ltb-true, ltb-false}
 use Rattle.std.proofs.Math.Nat.{pow-suc}
-use Rattle.std.proofs.lemmas.Nat.{pow_pos, pow-add, pow_below, mul-add-lt, same_from_place, and_le_r, and_block}
-use lib.Bits.{bit_and}
+use Rattle.std.proofs.lemmas.Nat.{pow_pos, pow-add, pow_below, mul-add-lt, same_from_place, and_le_r, and_block, one_shl, shl_whole, or_shifted}
+use lib.Bits.{bit_and, bit_or}
 use Rattle.std.specs.Cmp.{unsigned_Decides}
 use Rattle.bq_value.specs.Cells.{FrozenCells, Modules, module_at, placed, added}
 use Rattle.bq_value.specs.Tries.{Trie, bare, leaf, fork, keys, IsShaped, IsFork, Joins, entries}
@@ -23,6 +23,15 @@ low_by h base false e le = ltb-false 32 h e
 -- a range of 32-bit numbers has at most 2 ^ 32
 pub low : (h base : ℕ) → base + 2 ^ h ≤ 2 ^ 32 → h ≤ 32
 low h base le = low_by h base (nat_lt 32 h) refl le
+
+le_by : (i j : ℕ) (b : Bool) → nat_lt i j ≡ b → i ≤ j → 2 ^ i ≤ 2 ^ j
+le_by i j true e le = omega (arith, pow_below i j (ltb-true i j e))
+le_by i j false e le =
+    let same : i ≡ j = omega (arith, le, ltb-false i j e) in
+    subst (λ n. 2 ^ i ≤ 2 ^ n) same (omega arith)
+
+pub pow_le : (i j : ℕ) → i ≤ j → 2 ^ i ≤ 2 ^ j
+pow_le i j le = le_by i j (nat_lt i j) refl le
 
 -- ---- the numbers of a trie's modules
 
@@ -114,6 +123,21 @@ keys_below (fork k l r) (suc h) low s =
     let square : 2 ^ (2 ^ suc h) ≡ 2 ^ (2 ^ h) * 2 ^ (2 ^ h) = ap (λ n. 2 ^ n) (twice h) ∙ pow-add 2 (2 ^ h) (2 ^ h) in
     subst (λ n. keys (fork k l r) < n) (sym square) (subst (λ n. n < 2 ^ (2 ^ h) * 2 ^ (2 ^ h)) (sym (s.0 low)) within)
 
+-- the width of a half of a block
+pub width : (h : ℕ) → h ≤ 6 → 0 < h → (1 * 2 ^ (h - 1)) % 2 ^ 32 ≡ 2 ^ (h - 1)
+width h low above = one_shl (h - 1) 32 (omega (arith, low, above))
+
+pub narrow : (h : ℕ) → h ≤ 6 → 0 < h → 2 ^ (h - 1) ≤ 32
+narrow h low above = pow_le (h - 1) 5 (omega (arith, low, above))
+
+-- the keys of two halves in one word
+pub both_keys : (l r : Trie) (h : ℕ) → h ≤ 6 → 0 < h → IsShaped l (h - 1) → IsShaped r (h - 1) → bit_or ((keys r * 2 ^ (2 ^ (h - 1))) % 2 ^ 64) (keys l) ≡ keys r * 2 ^ (2 ^ (h - 1)) + keys l
+both_keys l r h low above s k =
+    let fits : h - 1 ≤ 6 = omega (arith, low) in
+    let room : 2 ^ (h - 1) + 2 ^ (h - 1) ≤ 64 = omega (arith, narrow h low above) in
+    ap (λ n. bit_or n (keys l)) (shl_whole (keys r) (2 ^ (h - 1)) (2 ^ (h - 1)) 64 (keys_below r (h - 1) fits k) room)
+    ∙ or_shifted (keys r) (2 ^ (h - 1)) (keys l) (keys_below l (h - 1) fits s)
+
 -- what is within by all bits is so by the upper and the lower ones
 halves_within : (j a b c d : ℕ) → b < 2 ^ j → d < 2 ^ j → bit_and (a * 2 ^ j + b) (c * 2 ^ j + d) ≡ a * 2 ^ j + b → (bit_and a c ≡ a) × (bit_and b d ≡ b)
 halves_within j a b c d p q e =
@@ -180,6 +204,10 @@ joins_none t u h e s = (s, λ base. sym (ap (λ v. fold added (entries t h base)
 
 pub joins_all : (t u : Trie) (h : ℕ) → t ≡ bare → IsShaped u h → Joins t u h u
 joins_all t u h e s = (s, λ base. sym (ap (λ v. fold added (entries v h base) (entries u h base)) e ∙ all_new u h base))
+
+-- the other trie, where it has a module
+pub joins_some : (o : Option Trie) (t u : Trie) (h : ℕ) → t ≡ bare → unwrap_or o bare ≡ u → IsShaped u h → Joins t u h (unwrap_or o t)
+joins_some o t u h e f s = subst (λ j. Joins t u h j) (sym (ap (λ v. unwrap_or o v) e ∙ f)) (joins_all t u h e s)
 
 one_by : (c : FrozenCells) (u : Trie) (h base : ℕ) → IsShaped (leaf c) h → IsShaped u h → entries (leaf c) h base ≡ fold added (entries (leaf c) h base) (entries u h base)
 one_by c bare h base s k = refl

@@ -13,5 +13,6 @@ pub mod Cells
 pub mod CellsOf
 pub mod Tries
 pub mod TrieOf
+pub mod Smaller
 pub mod StoreOf
 pub mod Lending

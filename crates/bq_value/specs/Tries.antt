@@ -64,7 +64,7 @@ abbrev number : Gv → ℕ
 number (gnum n) = n
 number _ = 0
 
-same_trie : (t u : Trie) → trie_gv t ≡ trie_gv u → t ≡ u
+pub same_trie : (t u : Trie) → trie_gv t ≡ trie_gv u → t ≡ u
 same_trie bare bare e = refl
 same_trie (leaf c) (leaf d) e = ap leaf (coded_cells.inj c d (ap second e))
 same_trie (fork k l r) (fork j m s) e =

@@ -6,7 +6,7 @@
 //! So of modules that load one another in a chain each makes `height` nodes, and shares the others. Modules that reach nearly
 //! the same are joined block by block: the keys of 64 numbers are one word.
 
-ghost use Rattle.std.specs.Prelude.{◌≡◌, ◌+◌, ◌-◌, ◌^◌, ◌<◌, ◌≤◌, ◌∷◌, [], None, IfOk, MatchOption};
+ghost use Rattle.std.specs.Prelude.{◌≡◌, ◌+◌, ◌-◌, ◌*◌, ◌^◌, ◌<◌, ◌≤◌, ◌∷◌, [], None, IfOk, MatchOption};
 ghost use Rattle.std.specs.Option.{option_copied, unwrap_or};
 ghost use Rattle.bq_value.specs.Cells.{module_at};
 ghost use Rattle.bq_value.specs.Tries.{bare, leaf, IsShaped, IsFork, Joins, entries, keys};
@@ -49,13 +49,16 @@ impl Model for Tree {
 
     ghost coded = { coded_trie };
 
-    ghost use Rattle.bq_value.specs.TrieOf.{trie_of, deep_le-nodes};
+    ghost use Rattle.bq_value.specs.TrieOf.{trie_of};
 
     ghost view = { λ t. trie_of t.node };
 
     ghost size = { nodes };
 
-    ghost size_decreases = { λ t h. deep_le-nodes t.node };
+    ghost use Rattle.std.proofs.Common.{arith};
+    ghost use Rattle.bq_value.specs.Smaller.{deep_le-nodes};
+
+    ghost size_decreases = { λ t h. Prim.omega (arith, deep_le-nodes t.node) };
 }
 
 impl Tree {
@@ -175,19 +178,32 @@ impl Tree {
         requires other { IsShaped other.now height }
         ensures { IfOk result (λ t. Joins self.now other.now height (unwrap_or t self.now)) }
     {
-        match (&self.node, &other.node) {
-            (_, Node::Bare) => Ok(None),
-            (Node::Bare, _) => Ok(Some(other.share()?)),
-            (Node::Leaf(_), _) => Ok(None),
-            (Node::Fork(_, _), Node::Leaf(_)) => Ok(None),
-            (Node::Fork(keys, halves), Node::Fork(more, others)) => {
-                if height <= BLOCK && *more & *keys == *more {
-                    return Ok(None);
+        match &self.node {
+            Node::Bare => other.share_of_some(),
+            Node::Leaf(_) => Ok(None),
+            Node::Fork(keys, halves) => match &other.node {
+                Node::Bare => Ok(None),
+                Node::Leaf(_) => Ok(None),
+                Node::Fork(more, others) => {
+                    if height <= BLOCK && *more & *keys == *more {
+                        return Ok(None);
+                    }
+                    let left = halves.left.joined(alloc, height - 1, &others.left)?;
+                    let right = halves.right.joined(alloc, height - 1, &others.right)?;
+                    halves.changed(alloc, height, left, right)
                 }
-                let left = halves.left.joined(alloc, height - 1, &others.left)?;
-                let right = halves.right.joined(alloc, height - 1, &others.right)?;
-                halves.changed(alloc, height, left, right)
-            }
+            },
+        }
+    }
+
+    /// The same tree once more, or `None` where it has no module.
+    fn share_of_some(&self) -> Result<Option<Tree>, AllocError>
+        ensures { IfOk result (λ t. unwrap_or t bare ≡ self.now) }
+    {
+        match &self.node {
+            Node::Bare => Ok(None),
+            Node::Leaf(_) => Ok(Some(self.share()?)),
+            Node::Fork(_, _) => Ok(Some(self.share()?)),
         }
     }
 
@@ -243,5 +259,6 @@ fn keys_of(height: u32, left: &Tree, right: &Tree) -> u64
     if height > BLOCK {
         return 0;
     }
-    (right.keys() << (1 << (height - 1))) | left.keys()
+    let width: u32 = 1 << (height - 1);
+    (right.keys() << width) | left.keys()
 }
