@@ -59,6 +59,10 @@ entries_below (fork k l r) (suc h) base =
 one_less : (h : ℕ) → suc h - 1 ≡ h
 one_less h = omega arith
 
+pub twice_less : (h : ℕ) → 0 < h → 2 ^ h ≡ 2 ^ (h - 1) + 2 ^ (h - 1)
+twice_less zero above = absurd (omega arith)
+twice_less (suc h) above = subst (λ k. 2 ^ suc h ≡ 2 ^ k + 2 ^ k) (sym (one_less h)) (twice h)
+
 -- what is known of a fork
 pub record Forked (t : Trie) (k : ℕ) (l r : Trie) (height : ℕ) : Type 0 where
   pub above : 0 < height
