@@ -3,6 +3,8 @@ pub mod Reversed
 pub mod Within
 pub mod Integers
 pub mod Placing
+-- a map of the places of parameters
+pub mod Places
 -- runs that are done
 pub mod Runs
 -- the newest walk and function are there, and go first

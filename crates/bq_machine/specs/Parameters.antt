@@ -1,6 +1,10 @@
 -- Parameters (Starlark, "Function definitions").
-use Rattle.std.specs.Prelude.{ℕ, min, Bool, false, List, map, length, Option, Some, None}
+use Rattle.std.specs.Prelude.{◌≡◌, ℕ, min, Bool, false, List, map, length, Option, Some, None}
+use Rattle.std.specs.Ordering.{nat_cmp}
+use Rattle.std.specs.List.{position_from}
 use Rattle.std.specs.Str.{bytes_eq}
+use Rattle.std.specs.Cmp.Lexicographic.{slice_cmp}
+use Rattle.std.specs.BTreeMap.{BTreeMap, get_by}
 use Rattle.std.specs.Borrow.{Bor}
 use Rattle.bq_machine.specs.declared.parameters.Parameter.{Parameter}
 use Rattle.bq_machine.specs.declared.parameters.Signature.{Signature}
@@ -39,3 +43,13 @@ is_called name p = name_is name p.name
 -- the first so many parameters take positional arguments
 abbrev pub places : SignatureView → ℕ
 places s = min s.placed (length s.parameters)
+
+-- ---- parameters by their names
+
+-- the place that a map has for a name
+abbrev pub place_in : BTreeMap (Bor (List ℕ)) ℕ → List ℕ → Option ℕ
+place_in m name = get_by (λ k. slice_cmp nat_cmp name k.now) m
+
+-- it has the place of the first parameter of each name, where the first of these is of that place
+abbrev pub HasPlaces : ℕ → List ParameterView → BTreeMap (Bor (List ℕ)) ℕ → Type 0
+HasPlaces i ps m = (name : List ℕ) → place_in m name ≡ position_from (is_called name) i ps

@@ -1,18 +1,23 @@
 //! Which argument goes to which parameter (Starlark, "Function and method calls").
 
 ghost use Rattle.std.specs.Prelude.{◌≡◌, ◌≤◌, not, ◌||◌, nat_le, drop, IfOk, OnOk, map};
+ghost use Rattle.std.specs.List.{position_from};
 ghost use Rattle.bq_source.specs.Gives.{Gives};
 ghost use Rattle.bq_value.specs.declared.error.EvalErr.TheVariants.{Bad};
-ghost use Rattle.bq_machine.specs.Parameters.{parameter_of, signature_of, places};
+ghost use Rattle.bq_machine.specs.Parameters.{parameter_of, signature_of, places, is_called, HasPlaces};
 ghost use Rattle.bq_machine.specs.Binding.{placed_values, placed, has_value, fill, take_keyword, take_named, take_all_named, is_complete, bind};
 
 use crate::args::Args;
 use crate::iteration::Elements;
-use crate::parameters::{Parameter, Signature, parameter_called};
+use crate::parameters::{Parameter, Signature, parameter_called, places_by_name};
 use bq_source::{Bytes, FaultKind};
 use bq_value::{Dict, EvalErr, Key, Value};
 use std::alloc::{AllocError, Global};
+use std::collections::BTreeMap;
 use std::marker::Model;
+
+/// So many named arguments, or arguments to so many parameters, look through the parameters one by one. More have a map of them.
+const FEW: usize = 16;
 
 /// What the parameters of a function take. Contracts see `BoundView`.
 #[derive(Drop)]
@@ -47,7 +52,7 @@ pub fn bind(alloc: Global, signature: &Signature<'_>, args: Args) -> Result<Boun
         return Err(EvalErr::Bad(FaultKind::Args));
     }
     let mut bound = Bound::placed(alloc, signature, positional)?;
-    bound.take_all_named(signature, named)?;
+    bound.take_all_named(alloc, signature, named)?;
     if !is_complete(signature.parameters, &bound.values) {
         return Err(EvalErr::Bad(FaultKind::Args));
     }
@@ -141,8 +146,24 @@ impl Bound {
     }
 
     /// Each named argument goes to the parameter of its name, and else to `**`.
-    #[tactic(auto, unfolding(crate::specs::Binding::take_all_named))]
     fn take_all_named(
+        &mut self,
+        alloc: Global,
+        signature: &Signature<'_>,
+        named: Vec<(Bytes, Value)>,
+    ) -> Result<(), EvalErr>
+        ensures { Gives (λ _. self.new) Bad result (take_all_named (signature_of signature.now) named.items self.old) }
+    {
+        if named.len().min(signature.parameters.len()) <= FEW {
+            return self.take_few_named(signature, named);
+        }
+        let by_name = places_by_name(alloc, signature.parameters)?;
+        self.take_many_named(&by_name, signature, named)
+    }
+
+    /// The same, where each looks through the parameters.
+    #[tactic(auto, unfolding(crate::specs::Binding::take_all_named))]
+    fn take_few_named(
         &mut self,
         signature: &Signature<'_>,
         named: Vec<(Bytes, Value)>,
@@ -150,21 +171,43 @@ impl Bound {
         ensures { Gives (λ _. self.new) Bad result (take_all_named (signature_of signature.now) named.items self.old) }
     {
         for (name, value) in named {
-            self.take_named(signature, name, value)?;
+            let place = parameter_called(signature.parameters, name.as_slice());
+            self.take_named(place, signature, name, value)?;
         }
         Ok(())
     }
 
+    /// The same, by the places of all parameters.
+    #[tactic(auto, unfolding(crate::specs::Binding::take_all_named))]
+    fn take_many_named(
+        &mut self,
+        by_name: &BTreeMap<&[u8], usize>,
+        signature: &Signature<'_>,
+        named: Vec<(Bytes, Value)>,
+    ) -> Result<(), EvalErr>
+        requires { HasPlaces 0 (map parameter_of signature.now.parameters.now) by_name.now }
+        ensures { Gives (λ _. self.new) Bad result (take_all_named (signature_of signature.now) named.items self.old) }
+    {
+        for (name, value) in named {
+            let place = by_name.get(name.as_slice()).copied();
+            self.take_named(place, signature, name, value)?;
+        }
+        Ok(())
+    }
+
+    /// A named argument goes to the parameter at the place of its name, and else to `**`.
     #[tactic(auto, unfolding(crate::specs::Binding::take_named))]
     fn take_named(
         &mut self,
+        place: Option<usize>,
         signature: &Signature<'_>,
         name: Bytes,
         value: Value,
     ) -> Result<(), EvalErr>
+        requires { place ≡ position_from (is_called name) 0 (map parameter_of signature.now.parameters.now) }
         ensures { Gives (λ _. self.new) Bad result (take_named (signature_of signature.now) name value self.old) }
     {
-        match parameter_called(signature.parameters, name.as_slice()) {
+        match place {
             Some(i) => self.fill(i, value),
             None => self.take_keyword(signature.takes_keywords, name, value),
         }

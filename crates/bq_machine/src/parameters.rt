@@ -1,8 +1,11 @@
 //! The parameters of functions and of built-in functions (Starlark, "Function definitions").
 
-ghost use Rattle.std.specs.Prelude.{◌≡◌, map};
+ghost use Rattle.std.specs.Prelude.{◌≡◌, map, IfOk};
 ghost use Rattle.std.specs.List.{position_from};
-ghost use Rattle.bq_machine.specs.Parameters.{is_called, parameter_of};
+ghost use Rattle.bq_machine.specs.Parameters.{is_called, parameter_of, HasPlaces};
+
+use std::alloc::{AllocError, Global};
+use std::collections::BTreeMap;
 
 /// A parameter that takes one argument.
 #[derive(Clone, Copy)]
@@ -37,4 +40,22 @@ pub(crate) fn parameter_called(parameters: &[Parameter<'_>], name: &[u8]) -> Opt
         }
     }
     None
+}
+
+/// The places of parameters by their names: of two of one name the first's. Names that strangers choose take no longer in a tree.
+#[tactic(auto, using(crate::proofs::Places::none_after, crate::proofs::Places::unnamed_before, crate::proofs::Places::named_before))]
+pub(crate) fn places_by_name<'a>(
+    alloc: Global,
+    parameters: &[Parameter<'a>],
+) -> Result<BTreeMap<&'a [u8], usize>, AllocError>
+    ensures { IfOk result (λ places. HasPlaces 0 (map parameter_of parameters.now) places) }
+{
+    let mut places = BTreeMap::new(alloc);
+    for i in (0..parameters.len()).rev() {
+        let Some(name) = parameters[i].name else {
+            continue;
+        };
+        places.insert(name, i)?;
+    }
+    Ok(places)
 }

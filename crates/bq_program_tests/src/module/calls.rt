@@ -54,6 +54,21 @@ def f(**kwargs):
     pass
 f(a = 1, a = 2) #! F52 Args
 ---
+def f(a, b, c, d, e, f, g, h, i, j, k, l, m, n, o, p, q, r = 18, **others):
+    return a, b, p, q, r, others
+print(f(q = 17, p = 16, o = 15, n = 14, m = 13, l = 12, k = 11, j = 10, i = 9, h = 8, g = 7, f = 6, e = 5, d = 4, c = 3, b = 2, a = 1, z = 26)) #> (1, 2, 16, 17, 18, {"z": 26})
+print(f(1, 2, q = 17, p = 16, o = 15, n = 14, m = 13, l = 12, k = 11, j = 10, i = 9, h = 8, g = 7, f = 6, e = 5, d = 4, c = 3, y = 25, r = 0)) #> (1, 2, 16, 17, 0, {"y": 25})
+f(0, q = 17, p = 16, o = 15, n = 14, m = 13, l = 12, k = 11, j = 10, i = 9, h = 8, g = 7, f = 6, e = 5, d = 4, c = 3, b = 2, a = 1) #! F52 Args
+---
+def f(a, b, c, d, e, f, g, h, i, j, k, l, m, n, o, p, q, r = 18):
+    pass
+f(q = 17, p = 16, o = 15, n = 14, m = 13, l = 12, k = 11, j = 10, i = 9, h = 8, g = 7, f = 6, e = 5, d = 4, c = 3, b = 2, a = 1, r = 18)
+f(q = 17, p = 16, o = 15, n = 14, m = 13, l = 12, k = 11, j = 10, i = 9, h = 8, g = 7, f = 6, e = 5, d = 4, c = 3, b = 2, a = 1, s = 19) #! F52 Args
+---
+def f(a, b, c, d, e, f, g, h, i, j, k, l, m, n, o, p, q, r = 18):
+    pass
+f(q = 17, p = 16, o = 15, n = 14, m = 13, l = 12, k = 11, j = 10, i = 9, h = 8, g = 7, f = 6, e = 5, d = 4, c = 3, b = 2, a = 1, a = 1) #! F52 Args
+---
 def f():
     pass
 f(1) #! F52 Args
