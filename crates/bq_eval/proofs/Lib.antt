@@ -1,4 +1,6 @@
 pub mod Depth
+pub mod SparsePairs
+pub mod SparseSearch
 pub mod Slots
 pub mod Layers
 pub mod Reversed

@@ -1,4 +1,5 @@
 pub mod Acts
+pub mod Sparse
 pub mod Slots
 pub mod Round
 pub mod Operands

@@ -1,5 +1,5 @@
 -- Function values that call, and function values that evaluate what is inside.
-use Rattle.std.specs.Prelude.{ℕ, ◌≤◌, List, Option, Result}
+use Rattle.std.specs.Prelude.{ℕ, ◌≤◌, Result}
 use denote.Ref.{Bor, MutBor}
 use Rattle.bq_scope.specs.declared.code.Code.{Code}
 use Rattle.bq_value.specs.declared.error.EvalErr.{EvalErr}
@@ -10,7 +10,7 @@ use Rattle.bq_meaning.specs.Trees.{Eval}
 use Rattle.bq_meaning.specs.Expressions.{expr_to}
 use Rattle.bq_eval.specs.declared.context.Context.{Context}
 use Rattle.bq_eval.specs.Acts.{Acts}
-use Rattle.bq_eval.specs.Slots.{slots_of}
+use Rattle.bq_eval.specs.Slots.{Slots, slots_of}
 use Rattle.bq_eval.specs.Round.{round_of, inside}
 
 -- what an expression inside means, to a depth
@@ -19,10 +19,10 @@ nested m depth c = expr_to depth m (inside m c) (round_of c)
 
 -- `seen` is what contracts see of the runtime. It may be called where at most `bound` functions may still become active.
 pub record Nests {R S C : Type 0} (m : Primitives S) (seen : R → S) (bound depth : ℕ) (call : C)
-    (pre : Bor Context → ℕ → C → Bor (List (Option Datum)) → MutBor R → Bor Code → Type 0)
-    (post : Bor Context → ℕ → C → Bor (List (Option Datum)) → MutBor R → Bor Code → Result Datum EvalErr → MutBor R → Type 0) : Type 0 where
-  pub callable : (c : Bor Context) (f : Bor (List (Option Datum))) (r : MutBor R) (x : Bor Code) → c.now.left ≤ bound → pre c depth call f r x
-  pub says : (c : Bor Context) (f : Bor (List (Option Datum))) (old new : MutBor R) (x : Bor Code) (result : Result Datum EvalErr) → post c depth call f old x result new
+    (pre : Bor Context → ℕ → C → Bor Slots → MutBor R → Bor Code → Type 0)
+    (post : Bor Context → ℕ → C → Bor Slots → MutBor R → Bor Code → Result Datum EvalErr → MutBor R → Type 0) : Type 0 where
+  pub callable : (c : Bor Context) (f : Bor Slots) (r : MutBor R) (x : Bor Code) → c.now.left ≤ bound → pre c depth call f r x
+  pub says : (c : Bor Context) (f : Bor Slots) (old new : MutBor R) (x : Bor Code) (result : Result Datum EvalErr) → post c depth call f old x result new
       → Acts m (λ v. v) result (seen new.now) (nested m depth c.now x.now (slots_of f.now) (seen old.now))
 
 -- A function value that calls. It may be called where at most `bound` functions may still become active.

@@ -23,13 +23,13 @@ use std::alloc::Global;
 
 /// The frame that a function begins with.
 #[tactic(auto, using(crate::proofs::CallSteps::given_acts), unfolding(bq_meaning::specs::Calls::entry))]
-pub fn entry<R: Runtime>(
+pub fn entry<'f, R: Runtime>(
     alloc: Global,
     runtime: &mut R,
     function: &CodeFunction,
     defaults: &[Value],
     args: Args,
-) -> Result<Frame, EvalErr>
+) -> Result<Frame<'f>, EvalErr>
     ensures { Acts R.means slots_of result (R.seen runtime.new) (meaning.entry R.means function.now defaults.now args (R.seen runtime.old)) }
 {
     let parameters = function.parameters.as_slice();
@@ -57,7 +57,7 @@ pub fn run_body<R: Runtime>(
     runtime: &mut R,
     unit: &CodeUnit<'_>,
     function: &CodeFunction,
-    frame: &mut Frame,
+    frame: &mut Frame<'_>,
 ) -> Result<Value, EvalErr>
     ensures { Acts R.means (λ v. v) result (R.seen runtime.new) (meaning.run_body R.means (meaning.inner_calls context.now.left R.means (units_at context.now.program.now (globals_of context.now.own))) (unit_of unit.now) function.now (slots_of frame.old) (R.seen runtime.old)) }
 {

@@ -21,14 +21,14 @@ use bq_value::{Content, Dict, EvalErr, Value};
 impl<
     R: Runtime,
     C: Copy,
-    F: Fn(&Context<'_>, usize, C, &Frame, &mut R, &Code) -> Result<Value, EvalErr>,
+    F: Fn(&Context<'_>, usize, C, &Frame<'_>, &mut R, &Code) -> Result<Value, EvalErr>,
 > Evaluator<R, C, F> {
     /// One more element.
     #[tactic(auto, unfolding(bq_meaning::specs::Comprehensions::element))]
     fn element(
         &self,
         context: &Context<'_>,
-        frame: &Frame,
+        frame: &Frame<'_>,
         runtime: &mut R,
         content: &mut Content,
         code: &Code,
@@ -45,7 +45,7 @@ impl<
     fn pair_element(
         &self,
         context: &Context<'_>,
-        frame: &Frame,
+        frame: &Frame<'_>,
         runtime: &mut R,
         content: &mut Content,
         pair: &CodePair,
@@ -63,7 +63,7 @@ impl<
     fn body(
         &self,
         context: &Context<'_>,
-        frame: &Frame,
+        frame: &Frame<'_>,
         runtime: &mut R,
         content: &mut Content,
         comprehension: &Code,
@@ -87,7 +87,7 @@ impl<
     fn open<'a>(
         &self,
         context: &Context<'_>,
-        frame: &Frame,
+        frame: &Frame<'_>,
         runtime: &mut R,
         target: &'a CodeTarget,
         iterable: &Code,
@@ -110,7 +110,7 @@ impl<
     fn inward<'a>(
         &self,
         context: &Context<'_>,
-        frame: &Frame,
+        frame: &Frame<'_>,
         runtime: &mut R,
         content: &mut Content,
         clauses: &'a [CodeClause],
@@ -143,7 +143,7 @@ impl<
     fn turn<'a>(
         &self,
         context: &Context<'_>,
-        frame: &mut Frame,
+        frame: &mut Frame<'_>,
         runtime: &mut R,
         content: &mut Content,
         target: &CodeTarget,
@@ -163,7 +163,7 @@ impl<
     fn turns<'a>(
         &self,
         context: &Context<'_>,
-        frame: &mut Frame,
+        frame: &mut Frame<'_>,
         runtime: &mut R,
         content: &mut Content,
         first: OpenLoop<'a>,
@@ -205,7 +205,7 @@ impl<
     fn clauses(
         &self,
         context: &Context<'_>,
-        frame: &mut Frame,
+        frame: &mut Frame<'_>,
         runtime: &mut R,
         content: &mut Content,
         clauses: &[CodeClause],
@@ -220,11 +220,11 @@ impl<
         }
     }
 
-    /// Adds what a comprehension makes. It runs on a copy of the frame.
+    /// Adds what a comprehension makes. What its clauses bind is bound in a frame of its own.
     fn run_clauses(
         &self,
         context: &Context<'_>,
-        frame: &Frame,
+        frame: &Frame<'_>,
         runtime: &mut R,
         content: &mut Content,
         comprehension: &Code,
@@ -233,7 +233,7 @@ impl<
         requires { Nests R.means R.seen context.now.left self.now.depth self.now.call (F.pre self.now.eval) (F.post self.now.eval) }
         ensures { Acts R.means (λ _. content.new) result (R.seen runtime.new) (following (meaning.clauses R.means (nested R.means self.now.depth context.now) clauses.now (meaning.body R.means (nested R.means self.now.depth context.now) comprehension.now) (slots_of frame.now) content.old (R.seen runtime.old)) (λ made. pure made.0)) }
     {
-        let mut inner = frame.copy(context.alloc)?;
+        let mut inner = frame.inside(context.alloc)?;
         self.clauses(
             context,
             &mut inner,
@@ -249,7 +249,7 @@ impl<
     fn comprehension(
         &self,
         context: &Context<'_>,
-        frame: &Frame,
+        frame: &Frame<'_>,
         runtime: &mut R,
         empty: Content,
         comprehension: &Code,
@@ -276,7 +276,7 @@ impl<
     pub fn list_comprehension(
         &self,
         context: &Context<'_>,
-        frame: &Frame,
+        frame: &Frame<'_>,
         runtime: &mut R,
         comprehension: &Code,
         clauses: &[CodeClause],
@@ -293,7 +293,7 @@ impl<
     pub fn dict_comprehension(
         &self,
         context: &Context<'_>,
-        frame: &Frame,
+        frame: &Frame<'_>,
         runtime: &mut R,
         comprehension: &Code,
         clauses: &[CodeClause],

@@ -15,7 +15,7 @@ pub enum Globals<'a> {
     /// None is bound.
     Absent,
     /// Those of the file that is evaluated, of which some are not bound yet.
-    Running(&'a Frame),
+    Running(&'a Frame<'a>),
     /// Those of a frozen module.
     Frozen(&'a [Value]),
 }

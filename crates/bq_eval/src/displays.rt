@@ -16,14 +16,14 @@ use bq_value::{Content, Dict, EvalErr, Value};
 impl<
     R: Runtime,
     C: Copy,
-    F: Fn(&Context<'_>, usize, C, &Frame, &mut R, &Code) -> Result<Value, EvalErr>,
+    F: Fn(&Context<'_>, usize, C, &Frame<'_>, &mut R, &Code) -> Result<Value, EvalErr>,
 > Evaluator<R, C, F> {
     /// The values of expressions, one after another.
     #[tactic(auto, unfolding(bq_meaning::specs::Expressions::values))]
     pub fn values(
         &self,
         context: &Context<'_>,
-        frame: &Frame,
+        frame: &Frame<'_>,
         runtime: &mut R,
         codes: &[Code],
     ) -> Result<Vec<Value>, EvalErr>
@@ -43,7 +43,7 @@ impl<
     pub fn list_display(
         &self,
         context: &Context<'_>,
-        frame: &Frame,
+        frame: &Frame<'_>,
         runtime: &mut R,
         codes: &[Code],
     ) -> Result<Value, EvalErr>
@@ -61,7 +61,7 @@ impl<
     pub fn tuple_display(
         &self,
         context: &Context<'_>,
-        frame: &Frame,
+        frame: &Frame<'_>,
         runtime: &mut R,
         codes: &[Code],
     ) -> Result<Value, EvalErr>
@@ -78,7 +78,7 @@ impl<
     fn pair(
         &self,
         context: &Context<'_>,
-        frame: &Frame,
+        frame: &Frame<'_>,
         runtime: &mut R,
         content: &mut Content,
         pair: &CodePair,
@@ -95,7 +95,7 @@ impl<
     fn pairs_each(
         &self,
         context: &Context<'_>,
-        frame: &Frame,
+        frame: &Frame<'_>,
         runtime: &mut R,
         content: &mut Content,
         pairs: &[CodePair],
@@ -115,7 +115,7 @@ impl<
     pub fn dict_display(
         &self,
         context: &Context<'_>,
-        frame: &Frame,
+        frame: &Frame<'_>,
         runtime: &mut R,
         pairs: &[CodePair],
     ) -> Result<Value, EvalErr>

@@ -29,14 +29,14 @@ pub struct Evaluator<R, C, F> {
 impl<
     R: Runtime,
     C: Copy,
-    F: Fn(&Context<'_>, usize, C, &Frame, &mut R, &Code) -> Result<Value, EvalErr>,
+    F: Fn(&Context<'_>, usize, C, &Frame<'_>, &mut R, &Code) -> Result<Value, EvalErr>,
 > Evaluator<R, C, F> {
     /// The value of an expression inside.
     #[inline(always)]
     pub fn value(
         &self,
         context: &Context<'_>,
-        frame: &Frame,
+        frame: &Frame<'_>,
         runtime: &mut R,
         code: &Code,
     ) -> Result<Value, EvalErr>
@@ -69,7 +69,7 @@ impl<
     pub fn operand<'f>(
         &self,
         context: &'f Context<'_>,
-        frame: &'f Frame,
+        frame: &'f Frame<'_>,
         runtime: &mut R,
         code: &Code,
     ) -> Result<Operand<'f>, EvalErr>
@@ -92,7 +92,7 @@ impl<
     pub fn holds(
         &self,
         context: &Context<'_>,
-        frame: &Frame,
+        frame: &Frame<'_>,
         runtime: &mut R,
         condition: &Code,
     ) -> Result<bool, EvalErr>

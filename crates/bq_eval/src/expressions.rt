@@ -31,7 +31,7 @@ pub fn expr_to<
     context: &Context<'_>,
     depth: usize,
     call: C,
-    frame: &Frame,
+    frame: &Frame<'_>,
     runtime: &mut R,
     code: &Code,
 ) -> Result<Value, EvalErr>
@@ -53,14 +53,14 @@ pub fn expr_to<
 impl<
     R: Runtime,
     C: Copy + Fn(&Context<'_>, &mut R, &Value, Args) -> Result<Value, EvalErr>,
-    F: Fn(&Context<'_>, usize, C, &Frame, &mut R, &Code) -> Result<Value, EvalErr>,
+    F: Fn(&Context<'_>, usize, C, &Frame<'_>, &mut R, &Code) -> Result<Value, EvalErr>,
 > Evaluator<R, C, F> {
     /// The use of a name.
     #[inline(always)]
     fn use_of(
         &self,
         context: &Context<'_>,
-        frame: &Frame,
+        frame: &Frame<'_>,
         runtime: &mut R,
         binding: Binding,
     ) -> Result<Value, EvalErr>
@@ -91,7 +91,7 @@ impl<
     pub fn expr(
         &self,
         context: &Context<'_>,
-        frame: &Frame,
+        frame: &Frame<'_>,
         runtime: &mut R,
         code: &Code,
     ) -> Result<Value, EvalErr>

@@ -41,7 +41,7 @@ impl<R: Runtime, C: Copy + Fn(&Context<'_>, &mut R, &Value, Args) -> Result<Valu
     fn values(
         &self,
         context: &Context<'_>,
-        frame: &Frame,
+        frame: &Frame<'_>,
         runtime: &mut R,
         codes: &[Code],
     ) -> Result<Vec<Value>, EvalErr>
@@ -60,7 +60,7 @@ impl<R: Runtime, C: Copy + Fn(&Context<'_>, &mut R, &Value, Args) -> Result<Valu
     fn def_stmt(
         &self,
         context: &Context<'_>,
-        frame: &mut Frame,
+        frame: &mut Frame<'_>,
         runtime: &mut R,
         def: &CodeDef,
     ) -> Result<Flow, EvalErr>
@@ -90,7 +90,7 @@ impl<R: Runtime, C: Copy + Fn(&Context<'_>, &mut R, &Value, Args) -> Result<Valu
     fn file_stmt(
         &self,
         context: &Context<'_>,
-        frame: &mut Frame,
+        frame: &mut Frame<'_>,
         runtime: &mut R,
         stmt: &FileStmt,
     ) -> Result<Flow, EvalErr>
@@ -108,7 +108,7 @@ impl<R: Runtime, C: Copy + Fn(&Context<'_>, &mut R, &Value, Args) -> Result<Valu
     fn top_level(
         &self,
         context: &Context<'_>,
-        frame: &mut Frame,
+        frame: &mut Frame<'_>,
         runtime: &mut R,
         stmt: &CodeTopLevel,
     ) -> Result<Flow, EvalErr>
@@ -124,7 +124,7 @@ impl<R: Runtime, C: Copy + Fn(&Context<'_>, &mut R, &Value, Args) -> Result<Valu
     pub fn top_levels(
         &self,
         context: &Context<'_>,
-        frame: &mut Frame,
+        frame: &mut Frame<'_>,
         runtime: &mut R,
         stmts: &[CodeTopLevel],
     ) -> Result<Flow, EvalErr>
@@ -146,7 +146,7 @@ impl<R: Runtime, C: Copy + Fn(&Context<'_>, &mut R, &Value, Args) -> Result<Valu
 /// Runs the statements of a file. Its frame holds the globals.
 pub fn run_file<R: Runtime>(
     context: &Context<'_>,
-    frame: &mut Frame,
+    frame: &mut Frame<'_>,
     runtime: &mut R,
     stmts: &[CodeTopLevel],
 ) -> Result<Flow, EvalErr>

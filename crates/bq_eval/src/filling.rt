@@ -31,7 +31,7 @@ pub struct Filling<'a> {
 fn fill_plain<'a, R: Runtime>(
     runtime: &R,
     filling: Filling<'a>,
-    frame: &mut Frame,
+    frame: &mut Frame<'_>,
     slot: usize,
 ) -> Result<Filling<'a>, EvalErr>
     ensures { Acts R.means (λ x. filling_of x (slots_of frame.new)) result (R.seen runtime.now) (meaning.with_value R.means slot filling.entry.values.now (filling_of filling.entry (slots_of frame.old)) (R.seen runtime.now)) }
@@ -56,7 +56,7 @@ fn fill_plain<'a, R: Runtime>(
 fn fill_default<'a, R: Runtime>(
     runtime: &R,
     filling: Filling<'a>,
-    frame: &mut Frame,
+    frame: &mut Frame<'_>,
     slot: usize,
 ) -> Result<Filling<'a>, EvalErr>
     ensures { Acts R.means (λ x. filling_of x (slots_of frame.new)) result (R.seen runtime.now) (meaning.with_default R.means slot filling.entry.values.now filling.entry.defaults.now (filling_of filling.entry (slots_of frame.old)) (R.seen runtime.now)) }
@@ -86,7 +86,7 @@ fn fill_parameter<'a, R: Runtime>(
     alloc: Global,
     runtime: &R,
     filling: Filling<'a>,
-    frame: &mut Frame,
+    frame: &mut Frame<'_>,
     parameter: &CodeParameter,
 ) -> Result<Filling<'a>, EvalErr>
     ensures { Acts R.means (λ x. filling_of x (slots_of frame.new)) result (R.seen runtime.now) (meaning.fill_parameter R.means parameter.now (filling_of filling.entry (slots_of frame.old)) (R.seen runtime.now)) }
@@ -113,7 +113,7 @@ fn fill_parameters<'a, R: Runtime>(
     alloc: Global,
     runtime: &R,
     filling: Filling<'a>,
-    frame: &mut Frame,
+    frame: &mut Frame<'_>,
     parameters: &[CodeParameter],
 ) -> Result<Filling<'a>, EvalErr>
     ensures { Acts R.means (λ x. filling_of x (slots_of frame.new)) result (R.seen runtime.now) (meaning.fill_parameters R.means parameters.now (filling_of filling.entry (slots_of frame.old)) (R.seen runtime.now)) }
@@ -127,13 +127,13 @@ fn fill_parameters<'a, R: Runtime>(
 
 /// A frame with room for so many slots, in which these parameters are.
 #[tactic(auto, using(crate::proofs::Slots::none_filled))]
-pub fn filled_frame<R: Runtime>(
+pub fn filled_frame<'f, R: Runtime>(
     alloc: Global,
     runtime: &R,
     slots: usize,
     filling: Filling<'_>,
     parameters: &[CodeParameter],
-) -> Result<Frame, EvalErr>
+) -> Result<Frame<'f>, EvalErr>
     ensures { Acts R.means slots_of result (R.seen runtime.now) (following (meaning.fill_parameters R.means parameters.now (filling_of filling.entry empty) (R.seen runtime.now)) (λ x. pure x.frame)) }
 {
     let mut frame = Frame::with_room(alloc, slots)?;

@@ -1,66 +1,116 @@
-//! The values of the names of a function, or of a file, by slot.
+//! The values of the names of a function, of a file or of a comprehension, by slot.
 #![tactic(auto)]
 
-ghost use Rattle.std.specs.Prelude.{◌≡◌, ◌<◌, [], length, IfOk, OnOk, option_copied};
+ghost use Rattle.std.specs.Prelude.{◌≡◌, [], Some, IfOk, OnOk, option_copied};
 ghost use Rattle.bq_meaning.specs.Frame.{fill};
 ghost use Rattle.bq_meaning.specs.Targets.{bound};
 ghost use Rattle.bq_eval.specs.Acts.{Acts};
-ghost use Rattle.bq_eval.specs.Slots.{slots_of};
+ghost use Rattle.bq_eval.specs.Slots.{layered, layers_of, no_slots, slots_of};
 ghost use Rattle.bq_eval.specs.Operands.{local_use};
 
+use crate::inner::Inner;
 use crate::runtime::Runtime;
+use crate::slot_list::{copied, put, slot_in};
 use bq_source::FaultKind;
 use bq_value::{EvalErr, Value};
 use std::alloc::{AllocError, Global};
 use std::marker::Model;
 
-/// Slots, of which some are empty. Contracts see their list.
+/// How many slots a frame has room for that is copied.
+const MAX_COPIED: usize = 32;
+
+/// Slots, of which some are empty. A function and a file have a list of them. A comprehension has a copy of a short list, which is read
+/// without a search. In a function with more names it has what its clauses bind, over the frame round it, which it only reads. Contracts
+/// see the list and those layers.
 #[derive(Drop)]
-pub struct Frame {
+pub struct Frame<'a> {
     slots: Vec<Option<Value>>,
+    /// Those of a comprehension that has no list.
+    inner: Option<Inner<'a>>,
 }
 
-impl Model for Frame {
-    ghost use Rattle.std.specs.Prelude.{List, Option};
-    ghost use Rattle.std.specs.Coded.{coded_list, coded_option};
+impl<'a> Model for Frame<'a> {
+    ghost use Rattle.std.specs.Prelude.{◌≡◌, ℕ, List, [], Option, IsSome};
+    ghost use Rattle.std.specs.Coded.{coded_list, coded_option, coded×, coded_ℕ};
     ghost use Rattle.bq_value.specs.Datum.{Datum};
     ghost use Rattle.bq_value.specs.Codes.{coded_datum};
 
-    ghost Value = { List (Option Datum) };
+    ghost Value = { List (Option Datum) × (List (List (ℕ × Datum)) × List (Option Datum)) };
 
-    ghost coded = { coded_list (coded_option coded_datum) };
+    ghost coded = { coded× (coded_list (coded_option coded_datum)) (coded× (coded_list (coded_list (coded× coded_ℕ coded_datum))) (coded_list (coded_option coded_datum))) };
 
-    ghost view = { λ f. f.slots.items };
+    ghost use Rattle.bq_eval.specs.Slots.{layers_of};
+
+    ghost view = { λ f. (f.slots.items, layers_of f.inner) };
+
+    ghost invariant = { λ f. IsSome f.inner → f.slots.items ≡ [] };
 }
 
-impl Frame {
+impl<'a> Frame<'a> {
     /// A frame whose slots are empty.
-    pub fn new(alloc: Global) -> Frame
-        ensures { result ≡ [] }
+    pub fn new(alloc: Global) -> Frame<'a>
+        ensures { result ≡ no_slots }
     {
         Frame {
             slots: Vec::new(alloc),
+            inner: None,
         }
     }
 
     /// A frame whose slots are empty, with room for so many.
-    pub fn with_room(alloc: Global, slots: usize) -> Result<Frame, AllocError>
-        ensures { IfOk result (λ f. f ≡ []) }
+    pub fn with_room(alloc: Global, slots: usize) -> Result<Frame<'a>, AllocError>
+        ensures { IfOk result (λ f. f ≡ no_slots) }
     {
         Ok(Frame {
             slots: Vec::with_capacity(alloc, slots)?,
+            inner: None,
         })
     }
 
-    /// The same values.
-    pub fn copy(&self, alloc: Global) -> Result<Frame, AllocError>
-        ensures { IfOk result (λ f. f ≡ self.now) }
+    /// The frame of a comprehension.
+    fn over(alloc: Global, inner: Inner<'a>) -> Frame<'a>
+        ensures { result ≡ ([], layers_of (Some inner.entry)) }
     {
-        let mut slots = Vec::with_capacity(alloc, self.slots.len())?;
-        for slot in &self.slots {
-            slots.push(share(slot)?)?;
+        Frame {
+            slots: Vec::new(alloc),
+            inner: Some(inner),
         }
-        Ok(Frame { slots })
+    }
+
+    /// The frame of a comprehension inside one that has only a list, which has room for all slots of its function.
+    #[tactic(auto, using(crate::proofs::Slots::inside_function))]
+    fn inside_list(alloc: Global, slots: &'a Vec<Option<Value>>) -> Result<Frame<'a>, AllocError>
+        ensures { IfOk result (λ f. slots_of f ≡ slots_of (slots.now.items, ([], []))) }
+    {
+        if slots.capacity() > MAX_COPIED {
+            return Ok(Frame::over(alloc, Inner::of_function(alloc, slots)));
+        }
+        Ok(Frame {
+            slots: copied(alloc, slots)?,
+            inner: None,
+        })
+    }
+
+    /// The frame of a comprehension inside: what its clauses bind is bound in it alone.
+    #[tactic(auto, using(crate::proofs::Slots::inside_comprehension))]
+    pub fn inside(&self, alloc: Global) -> Result<Frame<'_>, AllocError>
+        ensures { IfOk result (λ f. slots_of f ≡ slots_of self.now) }
+    {
+        match &self.inner {
+            None => Frame::inside_list(alloc, &self.slots),
+            Some(inner) => Ok(Frame::over(alloc, inner.inside(alloc)?)),
+        }
+    }
+
+    /// The value in a slot that isn't one of the list.
+    #[inline(never)]
+    fn layered(&self, slot: usize) -> Option<&Value>
+        ensures { option_copied result ≡ layered self.now.1.0 self.now.1.1 slot }
+    {
+        match &self.inner {
+            None => None,
+            Some(inner) => inner.get(slot),
+        }
     }
 
     /// The value in a slot.
@@ -69,9 +119,9 @@ impl Frame {
     pub fn get(&self, slot: usize) -> Option<&Value>
         ensures { option_copied result ≡ slots_of self.now slot }
     {
-        match self.slots.get(slot) {
-            None => None,
-            Some(value) => value.as_ref(),
+        match slot_in(&self.slots, slot) {
+            None => self.layered(slot),
+            Some(value) => Some(value),
         }
     }
 
@@ -97,37 +147,17 @@ impl Frame {
     }
 
     /// Puts a value into a slot.
-    #[tactic(auto, using(crate::proofs::Slots::filled))]
+    #[tactic(auto, using(crate::proofs::Slots::list_filled, crate::proofs::Slots::own_filled, crate::proofs::Slots::bound_filled))]
     pub fn fill(&mut self, slot: usize, value: Value) -> Result<(), AllocError>
         ensures { OnOk result (slots_of self.new ≡ fill (slots_of self.old) slot value) }
     {
-        if slot >= self.slots.len() {
-            pad(&mut self.slots, slot)?;
+        if slot < self.slots.len() {
+            self.slots[slot] = Some(value);
+            return Ok(());
         }
-        self.slots[slot] = Some(value);
-        Ok(())
+        match &mut self.inner {
+            None => put(&mut self.slots, slot, value),
+            Some(inner) => inner.bound.fill(slot, value),
+        }
     }
-}
-
-/// The same value, if there is one.
-fn share(slot: &Option<Value>) -> Result<Option<Value>, AllocError>
-    ensures { IfOk result (λ s. s ≡ slot.now) }
-{
-    match slot {
-        None => Ok(None),
-        Some(value) => Ok(Some(value.share()?)),
-    }
-}
-
-/// Makes room for a slot.
-#[inline(never)]
-#[tactic(auto, using(crate::proofs::Slots::padded))]
-fn pad(slots: &mut Vec<Option<Value>>, slot: usize) -> Result<(), AllocError>
-    ensures room { OnOk result (slot < length slots.new.items) }
-    ensures same { OnOk result (slots_of slots.new.items ≡ slots_of slots.old.items) }
-{
-    while slots.len() <= slot {
-        slots.push(None)?;
-    }
-    Ok(())
 }

@@ -12,7 +12,7 @@
 //! In reading order:
 //!
 //! - `runtime`: what the rules ask for;
-//! - `frame`, `context`, `operand`: the values of names, and what is round an expression;
+//! - `slot_list`, `sparse`, `inner`, `frame`, `context`, `operand`: the values of names, and what is round an expression;
 //! - `evaluator`, `displays`, `operators`, `suffixes`, `comprehensions`, `expressions`: the rules of expressions;
 //! - `places`, `targets`, `reader`: what is assigned to;
 //! - `flow`, `small`, `statements`: the rules of statements;
@@ -30,6 +30,7 @@ mod file;
 mod filling;
 mod flow;
 mod frame;
+mod inner;
 mod open_loop;
 mod operand;
 mod operators;
@@ -37,7 +38,9 @@ mod parameters;
 mod places;
 mod reader;
 mod runtime;
+mod slot_list;
 mod small;
+mod sparse;
 mod statements;
 mod suffixes;
 mod targets;

@@ -65,7 +65,7 @@ fn lent<'f, R: Runtime>(runtime: &R, value: Option<&'f Value>) -> Result<Operand
 #[inline(always)]
 pub fn use_of<'f, R: Runtime>(
     context: &'f Context<'_>,
-    frame: &'f Frame,
+    frame: &'f Frame<'_>,
     runtime: &mut R,
     binding: Binding,
 ) -> Result<Operand<'f>, EvalErr>

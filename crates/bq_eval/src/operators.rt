@@ -39,7 +39,7 @@ fn unary_each<R: Runtime>(
 impl<
     R: Runtime,
     C: Copy,
-    F: Fn(&Context<'_>, usize, C, &Frame, &mut R, &Code) -> Result<Value, EvalErr>,
+    F: Fn(&Context<'_>, usize, C, &Frame<'_>, &mut R, &Code) -> Result<Value, EvalErr>,
 > Evaluator<R, C, F> {
     /// Operators before an operand.
     #[inline(never)]
@@ -47,7 +47,7 @@ impl<
     pub fn unary(
         &self,
         context: &Context<'_>,
-        frame: &Frame,
+        frame: &Frame<'_>,
         runtime: &mut R,
         operators: &[UnaryOperator],
         code: &Code,
@@ -66,7 +66,7 @@ impl<
     fn operation(
         &self,
         context: &Context<'_>,
-        frame: &Frame,
+        frame: &Frame<'_>,
         runtime: &mut R,
         operation: &CodeOperation,
         left: &Value,
@@ -95,7 +95,7 @@ impl<
     #[inline(always)]
     fn apply_local(
         &self,
-        frame: &Frame,
+        frame: &Frame<'_>,
         runtime: &mut R,
         operator: Operator,
         left: &Value,
@@ -127,7 +127,7 @@ impl<
     fn apply(
         &self,
         context: &Context<'_>,
-        frame: &Frame,
+        frame: &Frame<'_>,
         runtime: &mut R,
         operator: Operator,
         left: &Value,
@@ -152,7 +152,7 @@ impl<
     fn operations(
         &self,
         context: &Context<'_>,
-        frame: &Frame,
+        frame: &Frame<'_>,
         runtime: &mut R,
         operations: &[CodeOperation],
         first: Value,
@@ -173,7 +173,7 @@ impl<
     fn chain(
         &self,
         context: &Context<'_>,
-        frame: &Frame,
+        frame: &Frame<'_>,
         runtime: &mut R,
         operations: &[CodeOperation],
         first: &Value,
@@ -193,7 +193,7 @@ impl<
     fn long_chain(
         &self,
         context: &Context<'_>,
-        frame: &Frame,
+        frame: &Frame<'_>,
         runtime: &mut R,
         operations: &[CodeOperation],
         first: &Value,
@@ -215,7 +215,7 @@ impl<
     fn chain_of_local(
         &self,
         context: &Context<'_>,
-        frame: &Frame,
+        frame: &Frame<'_>,
         runtime: &mut R,
         operations: &[CodeOperation],
         slot: usize,
@@ -232,7 +232,7 @@ impl<
     fn chain_of(
         &self,
         context: &Context<'_>,
-        frame: &Frame,
+        frame: &Frame<'_>,
         runtime: &mut R,
         code: &Code,
         operations: &[CodeOperation],
@@ -254,7 +254,7 @@ impl<
     pub fn binary(
         &self,
         context: &Context<'_>,
-        frame: &Frame,
+        frame: &Frame<'_>,
         runtime: &mut R,
         code: &Code,
         operations: &[CodeOperation],
@@ -270,7 +270,7 @@ impl<
     pub fn compare(
         &self,
         context: &Context<'_>,
-        frame: &Frame,
+        frame: &Frame<'_>,
         runtime: &mut R,
         left: &Code,
         operator: Comparison,
@@ -290,7 +290,7 @@ impl<
     fn choice(
         &self,
         context: &Context<'_>,
-        frame: &Frame,
+        frame: &Frame<'_>,
         runtime: &mut R,
         choice: &CodeChoice,
     ) -> Result<Option<Value>, EvalErr>
@@ -311,7 +311,7 @@ impl<
     pub fn conditional(
         &self,
         context: &Context<'_>,
-        frame: &Frame,
+        frame: &Frame<'_>,
         runtime: &mut R,
         choices: &[CodeChoice],
         otherwise: &Code,

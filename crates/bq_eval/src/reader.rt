@@ -37,7 +37,7 @@ impl<R: Runtime, C: Copy + Fn(&Context<'_>, &mut R, &Value, Args) -> Result<Valu
     pub fn value(
         &self,
         context: &Context<'_>,
-        frame: &Frame,
+        frame: &Frame<'_>,
         runtime: &mut R,
         code: &Code,
     ) -> Result<Value, EvalErr>
@@ -56,7 +56,7 @@ impl<R: Runtime, C: Copy + Fn(&Context<'_>, &mut R, &Value, Args) -> Result<Valu
     fn outside(
         &self,
         context: &Context<'_>,
-        frame: &Frame,
+        frame: &Frame<'_>,
         runtime: &mut R,
         code: &Code,
     ) -> Result<Value, EvalErr>
@@ -67,9 +67,9 @@ impl<R: Runtime, C: Copy + Fn(&Context<'_>, &mut R, &Value, Args) -> Result<Valu
             alloc: context.alloc,
             left: context.left,
             program: context.program,
-            own: Globals::Running(frame),
+            own: Globals::Running(&*frame),
             outside: false,
-            globals: Globals::Running(frame),
+            globals: Globals::Running(&*frame),
             loaded: context.program.loaded,
         };
         let empty = Frame::new(context.alloc);
@@ -81,7 +81,7 @@ impl<R: Runtime, C: Copy + Fn(&Context<'_>, &mut R, &Value, Args) -> Result<Valu
     pub fn holds(
         &self,
         context: &Context<'_>,
-        frame: &Frame,
+        frame: &Frame<'_>,
         runtime: &mut R,
         condition: &Code,
     ) -> Result<bool, EvalErr>
@@ -99,7 +99,7 @@ impl<R: Runtime, C: Copy + Fn(&Context<'_>, &mut R, &Value, Args) -> Result<Valu
     fn place(
         &self,
         context: &Context<'_>,
-        frame: &Frame,
+        frame: &Frame<'_>,
         runtime: &mut R,
         places: &mut Vec<(Value, Value)>,
         operand: &Code,
@@ -119,7 +119,7 @@ impl<R: Runtime, C: Copy + Fn(&Context<'_>, &mut R, &Value, Args) -> Result<Valu
     fn places_each(
         &self,
         context: &Context<'_>,
-        frame: &Frame,
+        frame: &Frame<'_>,
         runtime: &mut R,
         places: &mut Vec<(Value, Value)>,
         depth: usize,
@@ -139,7 +139,7 @@ impl<R: Runtime, C: Copy + Fn(&Context<'_>, &mut R, &Value, Args) -> Result<Valu
     fn places_of(
         &self,
         context: &Context<'_>,
-        frame: &Frame,
+        frame: &Frame<'_>,
         runtime: &mut R,
         places: &mut Vec<(Value, Value)>,
         depth: usize,
@@ -169,7 +169,7 @@ impl<R: Runtime, C: Copy + Fn(&Context<'_>, &mut R, &Value, Args) -> Result<Valu
     fn places_to(
         &self,
         context: &Context<'_>,
-        frame: &Frame,
+        frame: &Frame<'_>,
         runtime: &mut R,
         places: &mut Vec<(Value, Value)>,
         depth: usize,
@@ -191,7 +191,7 @@ impl<R: Runtime, C: Copy + Fn(&Context<'_>, &mut R, &Value, Args) -> Result<Valu
     pub fn assign(
         &self,
         context: &Context<'_>,
-        frame: &mut Frame,
+        frame: &mut Frame<'_>,
         runtime: &mut R,
         target: &CodeTarget,
         value: Value,
@@ -212,7 +212,7 @@ impl<R: Runtime, C: Copy + Fn(&Context<'_>, &mut R, &Value, Args) -> Result<Valu
     fn assign_parts(
         &self,
         context: &Context<'_>,
-        frame: &mut Frame,
+        frame: &mut Frame<'_>,
         runtime: &mut R,
         target: &CodeTarget,
         value: Value,
@@ -239,7 +239,7 @@ impl<R: Runtime, C: Copy + Fn(&Context<'_>, &mut R, &Value, Args) -> Result<Valu
     fn augmented(
         &self,
         context: &Context<'_>,
-        frame: &Frame,
+        frame: &Frame<'_>,
         runtime: &mut R,
         old: &Value,
         operator: Operator,
@@ -257,7 +257,7 @@ impl<R: Runtime, C: Copy + Fn(&Context<'_>, &mut R, &Value, Args) -> Result<Valu
     fn augment_name(
         &self,
         context: &Context<'_>,
-        frame: &mut Frame,
+        frame: &mut Frame<'_>,
         runtime: &mut R,
         slot: usize,
         operator: Operator,
@@ -276,7 +276,7 @@ impl<R: Runtime, C: Copy + Fn(&Context<'_>, &mut R, &Value, Args) -> Result<Valu
     fn augment_at(
         &self,
         context: &Context<'_>,
-        frame: &Frame,
+        frame: &Frame<'_>,
         runtime: &mut R,
         operand: &Value,
         index: &Value,
@@ -297,7 +297,7 @@ impl<R: Runtime, C: Copy + Fn(&Context<'_>, &mut R, &Value, Args) -> Result<Valu
     fn augment_index(
         &self,
         context: &Context<'_>,
-        frame: &mut Frame,
+        frame: &mut Frame<'_>,
         runtime: &mut R,
         operand: &Code,
         index: &Code,
@@ -317,7 +317,7 @@ impl<R: Runtime, C: Copy + Fn(&Context<'_>, &mut R, &Value, Args) -> Result<Valu
     pub fn augment(
         &self,
         context: &Context<'_>,
-        frame: &mut Frame,
+        frame: &mut Frame<'_>,
         runtime: &mut R,
         target: &CodeTarget,
         operator: Operator,

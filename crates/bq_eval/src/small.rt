@@ -43,7 +43,7 @@ impl<R: Runtime, C: Copy + Fn(&Context<'_>, &mut R, &Value, Args) -> Result<Valu
     fn expr_stmt(
         &self,
         context: &Context<'_>,
-        frame: &Frame,
+        frame: &Frame<'_>,
         runtime: &mut R,
         code: &Code,
     ) -> Result<Flow, EvalErr>
@@ -59,7 +59,7 @@ impl<R: Runtime, C: Copy + Fn(&Context<'_>, &mut R, &Value, Args) -> Result<Valu
     fn assign_stmt(
         &self,
         context: &Context<'_>,
-        frame: &mut Frame,
+        frame: &mut Frame<'_>,
         runtime: &mut R,
         target: &CodeTarget,
         code: &Code,
@@ -77,7 +77,7 @@ impl<R: Runtime, C: Copy + Fn(&Context<'_>, &mut R, &Value, Args) -> Result<Valu
     fn return_stmt(
         &self,
         context: &Context<'_>,
-        frame: &Frame,
+        frame: &Frame<'_>,
         runtime: &mut R,
         code: &Option<Code>,
     ) -> Result<Flow, EvalErr>
@@ -98,7 +98,7 @@ impl<R: Runtime, C: Copy + Fn(&Context<'_>, &mut R, &Value, Args) -> Result<Valu
     fn small_effect(
         &self,
         context: &Context<'_>,
-        frame: &mut Frame,
+        frame: &mut Frame<'_>,
         runtime: &mut R,
         stmt: &CodeSmall,
     ) -> Result<Flow, EvalErr>
@@ -127,7 +127,7 @@ impl<R: Runtime, C: Copy + Fn(&Context<'_>, &mut R, &Value, Args) -> Result<Valu
     fn small_stmt(
         &self,
         context: &Context<'_>,
-        frame: &mut Frame,
+        frame: &mut Frame<'_>,
         runtime: &mut R,
         stmt: &CodeSmall,
     ) -> Result<Flow, EvalErr>
@@ -143,7 +143,7 @@ impl<R: Runtime, C: Copy + Fn(&Context<'_>, &mut R, &Value, Args) -> Result<Valu
     pub fn line(
         &self,
         context: &Context<'_>,
-        frame: &mut Frame,
+        frame: &mut Frame<'_>,
         runtime: &mut R,
         stmts: &[CodeSmall],
     ) -> Result<Flow, EvalErr>

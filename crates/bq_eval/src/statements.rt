@@ -36,7 +36,7 @@ fn run_to<R: Runtime, C: Copy + Fn(&Context<'_>, &mut R, &Value, Args) -> Result
     context: &Context<'_>,
     depth: usize,
     call: C,
-    frame: &mut Frame,
+    frame: &mut Frame<'_>,
     runtime: &mut R,
     stmt: &CodeStmt,
 ) -> Result<Flow, EvalErr>
@@ -65,7 +65,7 @@ pub fn run_block<
 >(
     context: &Context<'_>,
     call: C,
-    frame: &mut Frame,
+    frame: &mut Frame<'_>,
     runtime: &mut R,
     stmts: &[CodeStmt],
 ) -> Result<Flow, EvalErr>
@@ -86,14 +86,14 @@ pub fn run_block<
 impl<
     R: Runtime,
     C: Copy + Fn(&Context<'_>, &mut R, &Value, Args) -> Result<Value, EvalErr>,
-    G: Fn(&Context<'_>, usize, C, &mut Frame, &mut R, &CodeStmt) -> Result<Flow, EvalErr>,
+    G: Fn(&Context<'_>, usize, C, &mut Frame<'_>, &mut R, &CodeStmt) -> Result<Flow, EvalErr>,
 > Runner<R, C, G> {
     /// Runs a statement inside.
     #[inline(always)]
     fn run_inside(
         &self,
         context: &Context<'_>,
-        frame: &mut Frame,
+        frame: &mut Frame<'_>,
         runtime: &mut R,
         stmt: &CodeStmt,
     ) -> Result<Flow, EvalErr>
@@ -108,7 +108,7 @@ impl<
     fn block(
         &self,
         context: &Context<'_>,
-        frame: &mut Frame,
+        frame: &mut Frame<'_>,
         runtime: &mut R,
         stmts: &[CodeStmt],
     ) -> Result<Flow, EvalErr>
@@ -131,7 +131,7 @@ impl<
     fn branches(
         &self,
         context: &Context<'_>,
-        frame: &mut Frame,
+        frame: &mut Frame<'_>,
         runtime: &mut R,
         branches: &[CodeBranch],
         otherwise: &[CodeStmt],
@@ -155,7 +155,7 @@ impl<
     fn turn(
         &self,
         context: &Context<'_>,
-        frame: &mut Frame,
+        frame: &mut Frame<'_>,
         runtime: &mut R,
         target: &CodeTarget,
         body: &[CodeStmt],
@@ -172,7 +172,7 @@ impl<
     fn turns(
         &self,
         context: &Context<'_>,
-        frame: &mut Frame,
+        frame: &mut Frame<'_>,
         runtime: &mut R,
         target: &CodeTarget,
         body: &[CodeStmt],
@@ -196,7 +196,7 @@ impl<
     fn walk(
         &self,
         context: &Context<'_>,
-        frame: &mut Frame,
+        frame: &mut Frame<'_>,
         runtime: &mut R,
         target: &CodeTarget,
         iterable: &Value,
@@ -217,7 +217,7 @@ impl<
     fn for_loop(
         &self,
         context: &Context<'_>,
-        frame: &mut Frame,
+        frame: &mut Frame<'_>,
         runtime: &mut R,
         target: &CodeTarget,
         iterable: &Code,
@@ -236,7 +236,7 @@ impl<
     fn stmt(
         &self,
         context: &Context<'_>,
-        frame: &mut Frame,
+        frame: &mut Frame<'_>,
         runtime: &mut R,
         stmt: &CodeStmt,
     ) -> Result<Flow, EvalErr>

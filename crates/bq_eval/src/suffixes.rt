@@ -20,14 +20,14 @@ use sqlite_items::Boxed;
 impl<
     R: Runtime,
     C: Copy,
-    F: Fn(&Context<'_>, usize, C, &Frame, &mut R, &Code) -> Result<Value, EvalErr>,
+    F: Fn(&Context<'_>, usize, C, &Frame<'_>, &mut R, &Code) -> Result<Value, EvalErr>,
 > Evaluator<R, C, F> {
     /// `value[index]`
     #[tactic(auto, unfolding(bq_meaning::specs::Expressions::index))]
     pub fn index(
         &self,
         context: &Context<'_>,
-        frame: &Frame,
+        frame: &Frame<'_>,
         runtime: &mut R,
         index: &Code,
         value: &Value,
@@ -44,7 +44,7 @@ impl<
     fn part(
         &self,
         context: &Context<'_>,
-        frame: &Frame,
+        frame: &Frame<'_>,
         runtime: &mut R,
         part: &Option<Boxed<Code>>,
     ) -> Result<Value, EvalErr>
@@ -63,7 +63,7 @@ impl<
     pub fn slice(
         &self,
         context: &Context<'_>,
-        frame: &Frame,
+        frame: &Frame<'_>,
         runtime: &mut R,
         start: &Option<Boxed<Code>>,
         stop: &Option<Boxed<Code>>,
@@ -84,7 +84,7 @@ impl<
     fn argument(
         &self,
         context: &Context<'_>,
-        frame: &Frame,
+        frame: &Frame<'_>,
         runtime: &mut R,
         args: &mut Args,
         argument: &CodeArgument,
@@ -117,7 +117,7 @@ impl<
     fn arguments(
         &self,
         context: &Context<'_>,
-        frame: &Frame,
+        frame: &Frame<'_>,
         runtime: &mut R,
         args: &mut Args,
         arguments: &[CodeArgument],
@@ -137,7 +137,7 @@ impl<
     fn method(
         &self,
         context: &Context<'_>,
-        frame: &Frame,
+        frame: &Frame<'_>,
         runtime: &mut R,
         name: &Bytes,
         arguments: &[CodeArgument],
@@ -155,7 +155,7 @@ impl<
 impl<
     R: Runtime,
     C: Copy + Fn(&Context<'_>, &mut R, &Value, Args) -> Result<Value, EvalErr>,
-    F: Fn(&Context<'_>, usize, C, &Frame, &mut R, &Code) -> Result<Value, EvalErr>,
+    F: Fn(&Context<'_>, usize, C, &Frame<'_>, &mut R, &Code) -> Result<Value, EvalErr>,
 > Evaluator<R, C, F> {
     /// `value(..)`
     #[inline(never)]
@@ -163,7 +163,7 @@ impl<
     fn call_of(
         &self,
         context: &Context<'_>,
-        frame: &Frame,
+        frame: &Frame<'_>,
         runtime: &mut R,
         arguments: &[CodeArgument],
         value: &Value,
@@ -182,7 +182,7 @@ impl<
     fn suffix(
         &self,
         context: &Context<'_>,
-        frame: &Frame,
+        frame: &Frame<'_>,
         runtime: &mut R,
         suffix: &CodeSuffix,
         value: &Value,
@@ -210,7 +210,7 @@ impl<
     fn suffixes(
         &self,
         context: &Context<'_>,
-        frame: &Frame,
+        frame: &Frame<'_>,
         runtime: &mut R,
         suffixes: &[CodeSuffix],
         first: Value,
@@ -232,7 +232,7 @@ impl<
     fn long_suffixed(
         &self,
         context: &Context<'_>,
-        frame: &Frame,
+        frame: &Frame<'_>,
         runtime: &mut R,
         suffixes: &[CodeSuffix],
         operand: &Value,
@@ -256,7 +256,7 @@ impl<
     fn suffixed(
         &self,
         context: &Context<'_>,
-        frame: &Frame,
+        frame: &Frame<'_>,
         runtime: &mut R,
         suffixes: &[CodeSuffix],
         operand: &Value,
@@ -276,7 +276,7 @@ impl<
     pub fn primary(
         &self,
         context: &Context<'_>,
-        frame: &Frame,
+        frame: &Frame<'_>,
         runtime: &mut R,
         code: &Code,
         suffixes: &[CodeSuffix],

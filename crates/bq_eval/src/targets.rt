@@ -22,7 +22,7 @@ pub const MAX_LAYERS: usize = 1024;
 #[tactic(auto, unfolding(bq_meaning::specs::Targets::bind_place))]
 fn bind_place<R: Runtime>(
     runtime: &mut R,
-    frame: &Frame,
+    frame: &Frame<'_>,
     places: &mut Places,
     value: Value,
 ) -> Result<(), EvalErr>
@@ -40,7 +40,7 @@ fn bind_place<R: Runtime>(
 fn bind_each<R: Runtime>(
     alloc: Global,
     runtime: &mut R,
-    frame: &mut Frame,
+    frame: &mut Frame<'_>,
     places: &mut Places,
     depth: usize,
     targets: &[CodeTarget],
@@ -64,7 +64,7 @@ fn bind_each<R: Runtime>(
 fn unpack<R: Runtime>(
     alloc: Global,
     runtime: &mut R,
-    frame: &mut Frame,
+    frame: &mut Frame<'_>,
     places: &mut Places,
     depth: usize,
     targets: &[CodeTarget],
@@ -81,7 +81,7 @@ fn unpack<R: Runtime>(
 fn bind_target<R: Runtime>(
     alloc: Global,
     runtime: &mut R,
-    frame: &mut Frame,
+    frame: &mut Frame<'_>,
     places: &mut Places,
     depth: usize,
     target: &CodeTarget,
@@ -124,7 +124,7 @@ fn bind_target<R: Runtime>(
 pub fn bind_to<R: Runtime>(
     alloc: Global,
     runtime: &mut R,
-    frame: &mut Frame,
+    frame: &mut Frame<'_>,
     places: &mut Places,
     depth: usize,
     target: &CodeTarget,
@@ -144,7 +144,7 @@ pub fn bind_to<R: Runtime>(
 pub fn bind_variables<R: Runtime>(
     alloc: Global,
     runtime: &mut R,
-    frame: &mut Frame,
+    frame: &mut Frame<'_>,
     target: &CodeTarget,
     value: Value,
 ) -> Result<(), EvalErr>
@@ -163,7 +163,7 @@ pub fn bind_variables<R: Runtime>(
 fn bind_parts<R: Runtime>(
     alloc: Global,
     runtime: &mut R,
-    frame: &mut Frame,
+    frame: &mut Frame<'_>,
     target: &CodeTarget,
     value: Value,
 ) -> Result<(), EvalErr>
@@ -186,7 +186,7 @@ fn bind_parts<R: Runtime>(
 pub fn begin_turn<R: Runtime>(
     alloc: Global,
     runtime: &mut R,
-    frame: &mut Frame,
+    frame: &mut Frame<'_>,
     target: &CodeTarget,
     value: Value,
 ) -> Result<(), EvalErr>

@@ -17,7 +17,7 @@ use bq_value::{Value, freeze};
 use std::alloc::{AllocError, Global};
 
 /// The value of a global.
-fn value_in(globals: &Frame, slot: usize) -> Result<Value, AllocError>
+fn value_in(globals: &Frame<'_>, slot: usize) -> Result<Value, AllocError>
     ensures { IfOk result (λ v. v ≡ or_none (slots_of globals.now slot)) }
 {
     match globals.get(slot) {
@@ -31,7 +31,7 @@ fn value_in(globals: &Frame, slot: usize) -> Result<Value, AllocError>
 fn frozen_values(
     alloc: Global,
     module: &ResolvedModule<'_>,
-    globals: &Frame,
+    globals: &Frame<'_>,
 ) -> Result<Vec<Value>, AllocError>
     ensures { IfOk result (λ values. values.items ≡ frozen_values «module».now.file.now «module».now.imports.now (slots_of globals.now)) }
 {
@@ -41,7 +41,11 @@ fn frozen_values(
     Ok(values)
 }
 
-fn push_globals(values: &mut Vec<Value>, names: &[Bytes], globals: &Frame) -> Result<(), AllocError>
+fn push_globals(
+    values: &mut Vec<Value>,
+    names: &[Bytes],
+    globals: &Frame<'_>,
+) -> Result<(), AllocError>
     ensures { OnOk result (values.new.items ≡ values.old.items ++ values_from 0 names.now (slots_of globals.now)) }
 {
     for (slot, _name) in names.iter().enumerate() {
@@ -63,7 +67,7 @@ fn push_shares(values: &mut Vec<Value>, more: &[Value]) -> Result<(), AllocError
 pub(crate) fn module_of(
     alloc: Global,
     module: &ResolvedModule<'_>,
-    globals: &Frame,
+    globals: &Frame<'_>,
     machine: Machine,
 ) -> Result<Outcome, AllocError>
     ensures { IfOk result (λ o. ended_of o ≡ evaluated (frozen machine.store (frozen_values «module».now.file.now «module».now.imports.now (slots_of globals.now))) machine.prints) }

@@ -32,7 +32,7 @@ fn run_on<H: Host, K: RuleNames>(
     module: &ResolvedModule<'_>,
     machine: Machine,
     host: H,
-) -> (Result<Frame, EvalErr>, Machine, H)
+) -> (Result<Frame<'static>, EvalErr>, Machine, H)
     requires { built_ins.now ≡ K.rules }
     ensures { HostDoes slots_of result.0 result.1 (H.seen result.2) (module_meaning (primitives K.rules H.means) (frozen_units «module».now.code.now (views_of «module».now.loaded.now)) «module».now.number «module».now.file.now «module».now.imports.now (machine, H.seen host)) }
 {
@@ -46,7 +46,7 @@ fn run_on<H: Host, K: RuleNames>(
 fn outcome_of<H: Host>(
     alloc: Global,
     module: &ResolvedModule<'_>,
-    ran: Result<Frame, EvalErr>,
+    ran: Result<Frame<'static>, EvalErr>,
     machine: Machine,
     host: &H,
 ) -> Result<Outcome, AllocError>

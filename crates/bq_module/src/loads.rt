@@ -30,7 +30,7 @@ pub(crate) fn first_store(
 /// A loaded name that the file binds too is a global whose first value is the loaded one.
 #[tactic(auto, unfolding(bq_meaning::specs::Module::first_globals))]
 pub(crate) fn first_globals(
-    globals: &mut Frame,
+    globals: &mut Frame<'_>,
     loads: &[LoadStmt],
     values: &[Value],
 ) -> Result<(), AllocError>
@@ -45,7 +45,7 @@ pub(crate) fn first_globals(
 
 /// Those of one load. What is left are the values for the loads after it.
 fn first_of_clauses<'a>(
-    globals: &mut Frame,
+    globals: &mut Frame<'_>,
     clauses: &[LoadedSymbol],
     values: &'a [Value],
 ) -> Result<&'a [Value], AllocError>
@@ -62,7 +62,11 @@ fn first_of_clauses<'a>(
     Ok(left)
 }
 
-fn first_value(globals: &mut Frame, global: Option<usize>, value: &Value) -> Result<(), AllocError>
+fn first_value(
+    globals: &mut Frame<'_>,
+    global: Option<usize>,
+    value: &Value,
+) -> Result<(), AllocError>
     ensures { OnOk result (slots_of globals.new ≡ meaning.with_first global value.now (slots_of globals.old)) }
 {
     match global {

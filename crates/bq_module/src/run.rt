@@ -23,7 +23,7 @@ fn run_program<R: Runtime>(
     loads: &[LoadStmt],
     stmts: &[CodeTopLevel],
     runtime: &mut R,
-) -> Result<Frame, EvalErr>
+) -> Result<Frame<'static>, EvalErr>
     ensures { Acts R.means slots_of result (R.seen runtime.new) (program_run R.means program.now loads.now stmts.now (R.seen runtime.old)) }
 {
     let mut globals = Frame::new(alloc);
@@ -47,7 +47,7 @@ pub(crate) fn run_module<R: Runtime>(
     alloc: Global,
     module: &ResolvedModule<'_>,
     runtime: &mut R,
-) -> Result<Frame, EvalErr>
+) -> Result<Frame<'static>, EvalErr>
     ensures { Acts R.means slots_of result (R.seen runtime.new) (module_meaning R.means (frozen_units «module».now.code.now (views_of «module».now.loaded.now)) «module».now.number «module».now.file.now «module».now.imports.now (R.seen runtime.old)) }
 {
     let program = Program {
