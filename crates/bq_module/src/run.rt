@@ -17,13 +17,13 @@ use std::alloc::Global;
 
 /// The globals that statements leave, as those of one of the modules of a program.
 #[tactic(auto, using(bq_eval::proofs::Slots::none_filled), unfolding(crate::specs::Outcomes::program_run, bq_meaning::specs::Module::eval_top, bq_meaning::specs::Calls::max_active, bq_eval::specs::Round::evals, bq_eval::specs::Round::outside_functions, bq_eval::specs::Round::units_at))]
-fn run_program<R: Runtime>(
+fn run_program<'f, R: Runtime>(
     alloc: Global,
     program: &Program<'_>,
     loads: &[LoadStmt],
     stmts: &[CodeTopLevel],
     runtime: &mut R,
-) -> Result<Frame<'static>, EvalErr>
+) -> Result<Frame<'f>, EvalErr>
     ensures { Acts R.means slots_of result (R.seen runtime.new) (program_run R.means program.now loads.now stmts.now (R.seen runtime.old)) }
 {
     let mut globals = Frame::new(alloc);
@@ -43,11 +43,11 @@ fn run_program<R: Runtime>(
 
 /// The globals that a file has in the end.
 #[tactic(auto, using(crate::proofs::Programs::module_of_program))]
-pub(crate) fn run_module<R: Runtime>(
+pub(crate) fn run_module<'f, R: Runtime>(
     alloc: Global,
     module: &ResolvedModule<'_>,
     runtime: &mut R,
-) -> Result<Frame<'static>, EvalErr>
+) -> Result<Frame<'f>, EvalErr>
     ensures { Acts R.means slots_of result (R.seen runtime.new) (module_meaning R.means (frozen_units «module».now.code.now (views_of «module».now.loaded.now)) «module».now.number «module».now.file.now «module».now.imports.now (R.seen runtime.old)) }
 {
     let program = Program {
