@@ -34,11 +34,11 @@ fn status_by(lines: &FaultLines) -> Status
     }
 }
 
-/// What the modules printed, and then the lines of all faults.
+/// What the modules printed, and then the lines of all faults, which are given up as they are appended.
 fn fault_text(alloc: Global, mut prints: Vec<u8>, lines: FaultLines) -> Result<Vec<u8>, AllocError>
     ensures { IfOk result (λ text. text.items ≡ prints.items ++ flat_map line_text lines) }
 {
-    prints.extend_from_slice(&lines.text(alloc)?)?;
+    lines.append_to(alloc, &mut prints)?;
     Ok(prints)
 }
 
