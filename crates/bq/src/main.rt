@@ -1,5 +1,6 @@
 //! The program `bq`: words, and a bundle on standard input or a directory come in; the answer goes to standard output, and the
-//! faults and the error line to standard error. All that it promises is `bq_run::run`'s, and `bq_run::run_files`' of a directory.
+//! faults and the error line to standard error. All that it promises is `bq_run::run`'s, and `bq_run::run_files`' of a directory; of
+//! `--explain`, `bq_explain::explain`'s.
 //!
 //! - `words`: the command line.
 #![tactic(auto)]
@@ -9,6 +10,7 @@ mod words;
 ghost use Rattle.bq_run.specs.Run.{IsInRange};
 
 use bq_directory::{DirectoryErr, read_directory};
+use bq_explain::Explanation;
 use bq_run::{
     ANSWERED, DEVICE_FAILED, Metered, NO_MEMORY, Options, REFUSED, RunErr, Status, run, run_files,
     status_code, write_status_line,
@@ -20,7 +22,7 @@ use std::process::ExitCode;
 use std::sync::Wait;
 use std::thread::Threads;
 use std::{env, io};
-use words::{Words, words_of};
+use words::{Asked, Words, words_of};
 
 /// Writes the error line of a lack of memory, which takes none.
 fn report_no_memory(rt: &impl Eprint) -> u8 {
@@ -47,6 +49,17 @@ fn show<R: Print + Eprint>(rt: &R, error: &Error) -> u8 {
         ErrorKind::DisplayHelp if printed.is_err() => DEVICE_FAILED,
         ErrorKind::DisplayHelp => ANSWERED,
         _ => REFUSED,
+    }
+}
+
+/// Prints what is said of a number.
+fn show_explanation(rt: &impl Print, explanation: &Explanation) -> u8 {
+    let number = explanation.number;
+    let name = explanation.name;
+    let text = explanation.text;
+    match print!(rt; "{number} {name}\n\n{text}") {
+        Ok(()) => ANSWERED,
+        Err(_) => DEVICE_FAILED,
     }
 }
 
@@ -137,7 +150,8 @@ fn main(rt: HostRuntime) -> ExitCode {
         return ExitCode::from(report_no_memory(&rt));
     };
     match words_of(alloc, &words) {
-        Ok(words) => ExitCode::from(run_by_words(&rt, &rt, alloc, &words)),
+        Ok(Asked::Answer(words)) => ExitCode::from(run_by_words(&rt, &rt, alloc, &words)),
+        Ok(Asked::Explanation(explanation)) => ExitCode::from(show_explanation(&rt, &explanation)),
         Err(error) => ExitCode::from(show(&rt, &error)),
     }
 }

@@ -1,27 +1,34 @@
 //! The command line.
 
-ghost use Rattle.std.specs.Prelude.{IfOk};
+ghost use Rattle.std.specs.Prelude.{◌≡◌, IfOk};
 ghost use Rattle.bq_run.specs.Run.{IsInRange};
+ghost use Rattle.bq.specs.declared.words.Words.{Words};
+ghost use Rattle.bq.specs.declared.words.Asked.TheVariants.{Answer};
 
+use bq_explain::{Explanation, explain};
 use bq_run::{MAX_JOBS, Options, OutputForm};
+use clap::error::ErrorKind;
 use clap::{Arg, ArgAction, ArgMatches, Command, Error, value_parser};
 use std::alloc::{AllocError, Global};
 
 /// What `--help` says after the options.
-const NOTES: &str = "\
-The workspace is read from standard input: for each file a line `=== PATH`, and then its bytes.
-With --dir it is read from a directory instead.
-The answer goes to standard output, one target a line. Faults go to standard error.
+const NOTES: &str =
+    r#"Without --dir the workspace is read from standard input, as a bundle: for each file a line `=== PATH`,
+and then the file's bytes. The answer goes to standard output, a target a line, sorted. What files
+print, and the faults of files, go to standard error.
 
-Example:
-  printf '=== a/BUILD\\nfilegroup(name = \"x\", srcs = [\"s.txt\"])\\n' | bq 'deps(//a:x)'
+Examples:
+  bq --dir . 'deps(//some/package:target)'
+  bq --dir . 'kind("_test rule", rdeps(//..., //some/package:file.c))'
+  printf '=== a/BUILD\nfilegroup(name = "x", srcs = ["s.txt"])\n' | bq 'deps(//a:x)'
+  bq --explain F47
 
 Exit status:
   0  the query was answered, and no file has a fault
   2  the arguments, the bundle, the query or the schema was refused
   3  the query was answered, and standard error lists faults
   4  out of memory
-  5  reading the input or writing the output failed";
+  5  reading the input or writing the output failed"#;
 
 const DEFAULT_JOBS: u32 = 4;
 
@@ -33,7 +40,7 @@ fn jobs<'a>(alloc: Global) -> Arg<'a> {
     Arg::new(alloc, "jobs")
         .long("jobs")
         .value_name("N")
-        .help("How many workers load modules, 1 to 256")
+        .help("Number of workers that load modules, 1 to 256")
         .value_parser(value_parser!(u32).range(1..=MAX_JOBS as i64))
         .default_value("4")
 }
@@ -42,7 +49,7 @@ fn output<'a>(alloc: Global) -> Arg<'a> {
     Arg::new(alloc, "output")
         .long("output")
         .value_name("FORM")
-        .help("What is printed of a target")
+        .help("Output format of each target")
         .value_parser(["label", "label_kind"].as_slice())
         .default_value("label")
 }
@@ -51,7 +58,7 @@ fn max_steps<'a>(alloc: Global) -> Arg<'a> {
     Arg::new(alloc, "max-steps")
         .long("max-steps")
         .value_name("N")
-        .help("How many steps a module may take, 1 to 1000000000")
+        .help("Step limit for evaluating one module, 1 to 1000000000")
         .value_parser(value_parser!(u64).range(1..=MAX_STEPS as i64))
         .default_value("1000000")
 }
@@ -60,8 +67,17 @@ fn directory<'a>(alloc: Global) -> Arg<'a> {
     Arg::new(alloc, "dir")
         .long("dir")
         .value_name("DIR")
-        .help("Reads the workspace from this directory")
+        .help("Directory that holds the workspace")
         .action(ArgAction::Set)
+}
+
+fn explain_number<'a>(alloc: Global) -> Arg<'a> {
+    Arg::new(alloc, "explain")
+        .long("explain")
+        .value_name("NUMBER")
+        .help("Explain a fault or error, as F47, Q5 or E4, and exit")
+        .action(ArgAction::Set)
+        .exclusive(true)
 }
 
 fn query<'a>(alloc: Global) -> Arg<'a> {
@@ -81,15 +97,23 @@ fn command<'a>(alloc: Global) -> Result<Command<'a>, AllocError> {
         .arg(output(alloc))?
         .arg(max_steps(alloc))?
         .arg(directory(alloc))?
+        .arg(explain_number(alloc))?
         .arg(query(alloc))
 }
 
-/// What the words ask for.
+/// A query, and where its workspace is.
 #[derive(Drop)]
 pub struct Words {
     pub options: Options,
     /// The directory that holds the workspace; without one it is on standard input.
     pub directory: Option<String>,
+}
+
+/// What the words ask for.
+#[derive(Drop)]
+pub enum Asked {
+    Answer(Words),
+    Explanation(Explanation),
 }
 
 fn options_of(alloc: Global, matches: &ArgMatches) -> Result<Options, AllocError>
@@ -113,17 +137,39 @@ fn options_of(alloc: Global, matches: &ArgMatches) -> Result<Options, AllocError
     })
 }
 
-/// Reads the words. The error has clap's text, for standard error or, with `--help`, for standard output.
-pub fn words_of(alloc: Global, words: &[String]) -> Result<Words, Error>
+fn query_of(alloc: Global, matches: &ArgMatches) -> Result<Words, AllocError>
     ensures { IfOk result (λ w. IsInRange w.options) }
 {
-    let matches = command(alloc)?.try_get_matches_from(words)?;
     let directory = match matches.get_str("dir") {
         Some(directory) => Some(String::from_str(alloc, directory)?),
         None => None,
     };
     Ok(Words {
-        options: options_of(alloc, &matches)?,
+        options: options_of(alloc, matches)?,
         directory,
     })
+}
+
+/// What is said of the number. A word that is no number is refused as clap refuses others.
+fn explanation_of(alloc: Global, number: &str) -> Result<Explanation, Error> {
+    match explain(number.as_bytes()) {
+        Some(explanation) => Ok(explanation),
+        None => {
+            let message = format!(in alloc;
+                "invalid value '{number}' for '--explain <NUMBER>': no fault or error has this number"
+            )?;
+            Err(command(alloc)?.error(ErrorKind::ValueValidation, message.as_str())?)
+        }
+    }
+}
+
+/// Reads the words. The error has clap's text, for standard error or, with `--help`, for standard output.
+pub fn words_of(alloc: Global, words: &[String]) -> Result<Asked, Error>
+    ensures { IfOk result (λ a. (w : Words) → a ≡ Answer w → IsInRange w.options) }
+{
+    let matches = command(alloc)?.try_get_matches_from(words)?;
+    match matches.get_str("explain") {
+        Some(number) => Ok(Asked::Explanation(explanation_of(alloc, number)?)),
+        None => Ok(Asked::Answer(query_of(alloc, &matches)?)),
+    }
 }

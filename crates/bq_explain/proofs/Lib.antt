@@ -1,0 +1,2 @@
+-- `Explained`: the tables of numbers against the faults and errors.
+mod Explained
