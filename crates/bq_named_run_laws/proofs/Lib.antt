@@ -1,0 +1,4 @@
+-- the report on a workspace
+pub mod Reports
+-- runs, and what they write
+pub mod Runs

@@ -1,0 +1,3 @@
+pub mod WorkspaceRun
+pub mod Run
+pub mod Agreement
