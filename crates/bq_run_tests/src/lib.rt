@@ -6,7 +6,13 @@
 #[cfg(test)]
 mod bundles;
 #[cfg(test)]
+mod cuts;
+#[cfg(test)]
 mod devices;
+#[cfg(test)]
+mod examples;
+#[cfg(test)]
+mod generated;
 #[cfg(test)]
 mod options;
 #[cfg(test)]
@@ -15,3 +21,9 @@ mod rows;
 mod runs;
 #[cfg(test)]
 mod statuses;
+#[cfg(test)]
+mod texts;
+#[cfg(test)]
+mod two_faults;
+#[cfg(test)]
+mod within;

@@ -2,10 +2,16 @@
 
 ghost use Rattle.bq_run.specs.Run.{IsInRange};
 
+use crate::cuts::over_beginnings;
 use crate::devices::{make_drip, make_sip};
+use crate::examples::example;
+use crate::generated::generated;
 use crate::options::{corner, options};
 use crate::rows::{Row, check_answer, is_row, row_of};
-use bq_run::{Counted, Metered, Options, OutputForm, RunErr, Status, run, status_of};
+use crate::within::{Surroundings, within};
+use bq_run::{
+    Counted, Metered, Options, OutputForm, RunErr, Status, read_bundle, run, run_files, status_of,
+};
 use std::alloc::{AllocError, Global};
 use std::process::Abort;
 use std::sync::Wait;
@@ -80,6 +86,26 @@ pub fn written<R: Threads + Wait + Sync>(
     )
 }
 
+/// What a run over the files of a bundle writes, as of a directory; where it is none, what a run over the bundle does.
+pub fn written_of_files<R: Threads + Wait + Sync>(
+    rt: &R,
+    alloc: Global,
+    bundle: &[u8],
+    asked: &Options,
+) -> Result<Vec<u8>, AllocError>
+    requires { IsInRange asked.now }
+{
+    let mut reader = make_drip(bundle, 0);
+    let workspace = match read_bundle(alloc, &mut reader) {
+        Ok(workspace) => workspace,
+        Err(_) => return written(rt, alloc, bundle, asked, UNFAILING),
+    };
+    let mut writer = make_sip(alloc, 0, false);
+    let mut faults = make_sip(alloc, 0, false);
+    let ended = run_files(rt, alloc, &workspace, &mut writer, &mut faults, asked);
+    shown(alloc, &faults.device.held, &writer.device.held, &ended, 0)
+}
+
 /// What the rows of a table of runs are about. A function that starts threads is no method of a trait, so this stands for subjects.
 #[derive(Clone, Copy)]
 pub enum Table {
@@ -89,6 +115,10 @@ pub enum Table {
     FailingReader,
     FailingFaults,
     Plain,
+    Examples,
+    Generated,
+    Within(Surroundings),
+    Beginnings,
 }
 
 fn answer<R: Threads + Wait + Sync>(
@@ -104,6 +134,10 @@ fn answer<R: Threads + Wait + Sync>(
         Table::FailingReader => with_failing_reader(rt, alloc, row),
         Table::FailingFaults => with_failing_faults(rt, alloc),
         Table::Plain => over_plain_devices(rt, alloc, row),
+        Table::Examples => example(rt, alloc, row),
+        Table::Generated => generated(rt, alloc, row),
+        Table::Within(around) => within(rt, alloc, around, row),
+        Table::Beginnings => over_beginnings(rt, alloc, row),
     }
 }
 
@@ -123,7 +157,8 @@ pub fn check_runs<R: Threads + Wait + Sync + Abort>(
     Ok(())
 }
 
-fn output_named(word: &[u8]) -> OutputForm {
+/// The output that a cell asks for: labels where it is empty, else kinds too.
+pub fn output_named(word: &[u8]) -> OutputForm {
     if word.is_empty() {
         OutputForm::Label
     } else {
@@ -296,25 +331,12 @@ fn runs_over_slices_and_vectors(rt: HostRuntime) -> Result<(), AllocError> {
 
 /// A bundle, a query, `kind` where kinds are printed, and what is written. The query is read before the schema.
 const RUNS: &str = r#"
-=== a/BUILD\nfilegroup(name = "x", srcs = ["s.txt"])\n | //a:x | | >//a:x\n>>0 0
 === a/BUILD\nfilegroup(name = "x", srcs = ["s.txt"])\n | //a:s.txt | kind | >source file //a:s.txt\n>>0 0
-=== a/BUILD\nfilegroup(name = "x", srcs = ["s.txt"])\n | deps(//a:x) | | >//a:s.txt\n//a:x\n>>0 0
-=== a/BUILD\nfilegroup(name = "x", srcs = ["s.txt"])\n | //a:* | | >//a:BUILD\n//a:s.txt\n//a:x\n>>0 0
-=== a/BUILD\ngenrule(name = "g", srcs = ["in"], outs = ["out"], cmd = "cp")\n | deps(//a:out) | kind | >genrule rule //a:g\nsource file //a:in\ngenerated file //a:out\n>>0 0
 === a/BUILD\nfilegroup(name = "x")\n=== b/BUILD\nnone()\n | //a:x | | //b:BUILD:1: F20 UnknownName none\n>//a:x\n>>3 0
-=== a/BUILD\nfilegroup(name = "x")\nfilegroup(name = "x")\n | //a:x | | //a:BUILD:2: F74 DoubleTarget\n>>bq: Q5 NoSuchTarget //a:x\n>2 0
-=== a/BUILD\nfilegroup(name = "x")\n=== a/BUILD.bazel\nfilegroup(name = "y")\n | //a:* | | >//a:BUILD.bazel\n//a:y\n>>0 0
-=== a/BUILD\nfilegroup(name = "x", srcs = ["//b:none"])\n | deps(//a:x) | | //a:BUILD:1: F79 DanglingLabel //b:none\n>//a:x\n>>3 0
-# zero bytes
-| //... | | >>>0 0
-| //a:x | | >>bq: Q6 NoSuchPackage //a:x\n>2 0
-=== a/BUILD | //a:x | | >>bq: E4 Bundle\n>2 0
-# prints come before faults, and are kept
-=== BUILD\nprint(-7 // 2, -7 % 2, 1 << 62)\nx = 1 << 63\n | //... | | //:BUILD: -4 1 4611686018427387904\n//:BUILD:2: F41 Overflow\n>>>3 0
-=== m.bzl\nl = []\ndef add():\n    l.append(1)\n=== BUILD\nload(":m.bzl", "add")\nfilegroup(name = "x")\nadd()\n | //... | | //:BUILD:3: F47 Frozen\n>>>3 0
-=== p/d.bzl\nprint("once")\nv = 1\n=== p/BUILD\nload(":d.bzl", "v")\n=== q/BUILD\nload("//p:d.bzl", "v")\n | //...:* | | //p:d.bzl: once\n>//p:BUILD\n//q:BUILD\n>>0 0
+# a bundle is read before its query
+=== a/BUILD | deps( | | >>bq: E4 Bundle\n>2 0
+# a cycle of two
 === a.bzl\nload(":b.bzl")\n=== b.bzl\nload(":a.bzl")\n=== BUILD\nload(":a.bzl")\n=== p/BUILD\nfilegroup(name = "x")\n | //... | | //:BUILD:1: F35 CycleReached //:a.bzl\n//:a.bzl:1: F35 CycleReached //:b.bzl\n//:b.bzl:1: F35 CycleReached //:a.bzl\n>//p:x\n>>3 0
-=== external/r/BUILD\nfilegroup(name = "r")\n=== a/BUILD\nfilegroup(name = "x", srcs = ["@r"])\n | deps(//a:x) | | >//a:x\n@r//:r\n>>0 0
 # the schema
 === rules.schema\nrule a\nattr x float\n | //... | | >>bq: E6 Schema 2\n>2 0
 === rules.schema\nrule mine\nattr deps label_list\n=== a/BUILD\nmine(name = "x", deps = ["f"])\n | deps(//a:x) | kind | >source file //a:f\nmine rule //a:x\n>>0 0
