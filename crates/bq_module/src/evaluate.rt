@@ -50,8 +50,8 @@ fn outcome_of<H: Host>(
     machine: Machine,
     host: &H,
 ) -> Result<Outcome, AllocError>
-    ensures outcome { (run : Run (State × H.Kept) frames.Frame) → HostDoes slots_of ran machine (H.seen host.now) run → IfOk result (λ o. ended_of o ≡ ended «module».now.file.now «module».now.imports.now run) }
-    ensures host { (run : Run (State × H.Kept) frames.Frame) → HostDoes slots_of ran machine (H.seen host.now) run → OnOk result (IfSome (kept_after run) (λ kept. H.seen host.now ≡ kept)) }
+    ensures outcome { (run : Run (State × H.Kept) frames.Frame) → HostDoes slots_of ran.entry machine (H.seen host.now) run → IfOk result (λ o. ended_of o ≡ ended «module».now.file.now «module».now.imports.now run) }
+    ensures host { (run : Run (State × H.Kept) frames.Frame) → HostDoes slots_of ran.entry machine (H.seen host.now) run → OnOk result (IfSome (kept_after run) (λ kept. H.seen host.now ≡ kept)) }
 {
     let _ = host;
     match ran {
