@@ -5,10 +5,13 @@ use Rattle.std.proofs.hash.BuildHasherDefault.TheSendSync as Builder
 use Rattle.std.proofs.hash.FoldHasher.TheSendSync as Hasher
 use Rattle.indexmap.proofs.map.IndexMap.TheSendSync as Map
 use Rattle.bq_value.proofs.value.Value.TheLaws.TheKnot as Knot
+use Rattle.bq_value.proofs.tree.Tree.TheLaws.TheKnot as Trees
 use Rattle.bq_value.specs.contracts.value.Value as Value
 use Rattle.bq_value.specs.contracts.key.Key as Key
 use Rattle.bq_value.specs.contracts.dict.Dict as Dict
 use Rattle.bq_value.specs.contracts.content.Content as Content
+use Rattle.bq_value.specs.contracts.shared.Shared as Shared
+use Rattle.bq_value.specs.contracts.tree.Tree as Tree
 use Rattle.bq_value.specs.contracts.frozen.Frozen as Frozen
 
 pub value_send : IsSend (Value.the_field).row
@@ -35,12 +38,24 @@ content_send = let v = value_send in let k = dict_send in search (crosses, senda
 pub content_sync : IsSync (Content.the_field).row
 content_sync = let v = value_sync in let k = dict_sync in search (crosses, sendable) depth 60 fits 20000
 
-pub frozen_send : IsSend (Frozen.the_field).row
-frozen_send =
+pub shared_send : IsSend (Shared.the_field).row
+shared_send =
     let vs = value_send in let vy = value_sync in let cs = content_send in let cy = content_sync in
-    search (Map.the_send, Builder.the_send, Hasher.the_send, crosses, sendable) depth 60 fits 20000
+    search (crosses, sendable) depth 60 fits 20000
+
+pub shared_sync : IsSync (Shared.the_field).row
+shared_sync =
+    let vs = value_send in let vy = value_sync in let cs = content_send in let cy = content_sync in
+    search (crosses, sendable) depth 60 fits 20000
+
+pub tree_send : IsSend (Tree.the_field).row
+tree_send = let ss = shared_send in let sy = shared_sync in search (crosses, Trees.crosses, sendable) depth 60 fits 20000
+
+pub tree_sync : IsSync (Tree.the_field).row
+tree_sync = let ss = shared_send in let sy = shared_sync in search (crosses, Trees.crosses, sendable) depth 60 fits 20000
+
+pub frozen_send : IsSend (Frozen.the_field).row
+frozen_send = let ss = shared_send in let t = tree_send in search (crosses, sendable) depth 60 fits 20000
 
 pub frozen_sync : IsSync (Frozen.the_field).row
-frozen_sync =
-    let vs = value_send in let vy = value_sync in let cs = content_send in let cy = content_sync in
-    search (Map.the_sync, Builder.the_sync, Hasher.the_sync, crosses, sendable) depth 60 fits 20000
+frozen_sync = let sy = shared_sync in let t = tree_sync in search (crosses, sendable) depth 60 fits 20000
