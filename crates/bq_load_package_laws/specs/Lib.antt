@@ -1,0 +1,2 @@
+-- which package a module has
+pub mod Packages

@@ -1,0 +1,31 @@
+-- Which package a module has that was evaluated (Bazel, "Repositories, workspaces, packages, and targets": a package is a BUILD file's).
+use Rattle.std.specs.Prelude.{◌≡◌, ℕ, List, Option, Some, None, Ok, slice_get, IfOk}
+use Rattle.bq_grammar.specs.declared.tree.FileKind.{FileKind}
+use Rattle.bq_grammar.specs.declared.tree.FileKind.TheVariants as kinds
+use Rattle.bq_label.specs.Label.{LabelParts}
+use Rattle.bq_board.specs.Graph.{Loads}
+use Rattle.bq_target.specs.Package.{PackageTargets}
+use Rattle.bq_front.specs.Front.{kind_of}
+use Rattle.bq_load.specs.declared.source.Source.{Source}
+use Rattle.bq_load.specs.Views.{ModuleView}
+use Rattle.bq_load.specs.Sources.{LoadingParts}
+use Rattle.bq_load.specs.Evaluation.{means}
+use Rattle.bq_load.specs.Loaded.{package_by}
+use Rattle.bq_load.specs.Results.{outcome_of}
+
+-- a BUILD file's package is that of its own label; a .bzl file has none
+abbrev pub IsOwnOf : FileKind → LabelParts → Option PackageTargets → Type 0
+IsOwnOf kinds.Bzl l p = p ≡ None
+IsOwnOf kinds.Build l None = ⊥
+IsOwnOf kinds.Build l (Some p) = p.build_file ≡ l
+
+abbrev pub FilesMakeTheirPackages : Type 0
+FilesMakeTheirPackages =
+    (x : LoadingParts) (m : ℕ) (modules : List ModuleView) (s : Source) → slice_get x.sources m ≡ Some s → IfOk (means x m modules) (λ v. IsOwnOf (kind_of s.label) s.label v.package)
+
+abbrev pub OutcomesHaveTheirPackages : Type 0
+OutcomesHaveTheirPackages =
+    (x : LoadingParts) (p : Loads) (m : ℕ) (s : Source) → slice_get x.sources m ≡ Some s → IfOk (outcome_of x p m s).result (λ v. IsOwnOf (kind_of s.label) s.label v.package)
+
+abbrev pub PackagesCount : Type 0
+PackagesCount = (l : LabelParts) (v : ModuleView) → IsOwnOf kinds.Build l v.package → Some (package_by l (Ok v)) ≡ v.package
