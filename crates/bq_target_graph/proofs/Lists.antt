@@ -1,19 +1,14 @@
 -- Lists that are walked along, and lists of which no two elements are equal.
-use Rattle.std.proofs.Common.{◌≡◌, ◌<◌, ◌+◌, ◌∙◌, ℕ, Bool, false, List, [], ◌∷◌, ◌++◌, length, take, map, reverse, get_or, sym, ap, subst, append_assoc}
+use Rattle.std.proofs.Common.{◌≡◌, ◌<◌, ◌+◌, ◌∙◌, ℕ, zero, suc, Bool, false, List, [], ◌∷◌, ◌++◌, length, take, map, reverse, get_or, set, sym, ap, subst, arith, append_assoc}
 use Rattle.std.proofs.lemmas.List.Elements.{All-cons}
-use Rattle.std.specs.List.{All, AllByRecursion, IsDistinct, flat_map}
+use Rattle.std.specs.List.{All, AllByRecursion, IsDistinct, flat_map, swap}
 use Rattle.std.specs.List.Sorted.{IsPermutation}
-use Rattle.std.proofs.lemmas.List.{take_more, reverse-append}
-use Rattle.std.proofs.lemmas.List.Sorted.{IsPermutation-refl, IsPermutation-append, IsPermutation-reverse}
+use Rattle.std.proofs.lemmas.List.{take_more}
+use Rattle.std.proofs.lemmas.List.Sorted.{IsPermutation-refl, IsPermutation-trans, IsPermutation-keeps, IsPermutation-append_left, IsPermutation-append_right, IsPermutation-append_comm, IsPermutation-reverse}
 use Rattle.std.proofs.lemmas.Map.Keys.{IsDistinct-head, IsDistinct-tail, IsDistinct-cons}
 
 pub next_taken : {X : Type 0} (xs : List X) (i : ℕ) (x : X) → i < length xs → x ≡ get_or xs i x → take (i + 1) xs ≡ take i xs ++ x ∷ []
 next_taken {X} xs i x h e = take_more xs i x h ∙ ap (λ (z : X). take i xs ++ z ∷ []) (sym e)
-
--- the last element is the first of the list turned round
-pub reverse_last : {X : Type 0} (all xs rest : List X) (x : X) → xs ≡ rest ++ x ∷ [] → (all ++ x ∷ []) ++ reverse rest ≡ all ++ reverse xs
-reverse_last {X} all xs rest x e =
-    append_assoc all (x ∷ []) (reverse rest) ∙ ap (λ (z : List X). all ++ z) (sym (ap reverse e ∙ reverse-append rest (x ∷ [])))
 
 all_recursion-append : {X : Type 0} (P : X → Type 0) (xs ys : List X) → AllByRecursion P xs → AllByRecursion P ys → AllByRecursion P (xs ++ ys)
 all_recursion-append P [] ys f g = g
@@ -24,20 +19,51 @@ distinct-append e [] ys f g a = g
 distinct-append e (x ∷ xs) ys f g a =
     IsDistinct-cons e x (xs ++ ys) (all_recursion-append (λ y. e x y ≡ false) xs ys (IsDistinct-head e x xs f) a.0) (distinct-append e xs ys (IsDistinct-tail e x xs f) g a.1)
 
--- the same elements, though each part is turned round
-pub permutation_of_reversed : {X Y : Type 0} (f : X → List Y) (xs : List X) → IsPermutation (flat_map f xs) (flat_map (λ x. reverse (f x)) xs)
-permutation_of_reversed f [] = IsPermutation-refl []
-permutation_of_reversed f (x ∷ xs) = IsPermutation-append (f x) (reverse (f x)) (flat_map f xs) (flat_map (λ x. reverse (f x)) xs) (IsPermutation-reverse (f x)) (permutation_of_reversed f xs)
+-- ---- lists made of parts have the same elements in whatever order the parts are joined
+
+-- a part moves over another
+crossed : {X : Type 0} (a b c : List X) → IsPermutation (a ++ (b ++ c)) (b ++ (a ++ c))
+crossed {X} a b c =
+    subst (λ (z : List X). IsPermutation z (b ++ (a ++ c))) (append_assoc a b c)
+    (subst (λ (z : List X). IsPermutation ((a ++ b) ++ c) z) (append_assoc b a c) (IsPermutation-append_left c (a ++ b) (b ++ a) (IsPermutation-append_comm a b)))
+
+module _ {X Y : Type 0} (f : X → List Y) where
+  pulled : (x : X) (l : List X) (j : ℕ) (d : X) → j < length l → IsPermutation (f x ++ flat_map f l) (f (get_or l j d) ++ flat_map f (set l j x))
+  pulled x [] j d p = absurd (omega arith)
+  pulled x (y ∷ l) zero d p = crossed (f x) (f y) (flat_map f l)
+  pulled x (y ∷ l) (suc j) d p =
+      IsPermutation-trans _ _ _ (crossed (f x) (f y) (flat_map f l))
+      (IsPermutation-trans _ _ _ (IsPermutation-append_right (f y) _ _ (pulled x l j d (omega arith)))
+      (crossed (f y) (f (get_or l j d)) (flat_map f (set l j x))))
+
+  exchanged : (l : List X) (i j : ℕ) (d : X) → i < length l → j < length l → IsPermutation (flat_map f l) (flat_map f (set (set l i (get_or l j d)) j (get_or l i d)))
+  exchanged [] i j d p q = absurd (omega arith)
+  exchanged (y ∷ l) zero zero d p q = IsPermutation-refl (flat_map f (y ∷ l))
+  exchanged (y ∷ l) zero (suc j) d p q = pulled y l j d (omega arith)
+  exchanged (y ∷ l) (suc i) zero d p q = pulled y l i d (omega arith)
+  exchanged (y ∷ l) (suc i) (suc j) d p q = IsPermutation-append_right (f y) _ _ (exchanged l i j d (omega arith) (omega arith))
+
+  swapped : (l : List X) (i j : ℕ) → i < length l → j < length l → IsPermutation (flat_map f l) (flat_map f (swap l i j))
+  swapped [] i j p q = absurd (omega arith)
+  swapped (d ∷ l) i j p q = exchanged (d ∷ l) i j d p q
+
+  pub permuted_parts : (xs ys : List X) → IsPermutation xs ys → IsPermutation (flat_map f xs) (flat_map f ys)
+  permuted_parts xs ys s =
+      IsPermutation-keeps xs (λ l. IsPermutation (flat_map f xs) (flat_map f l)) (IsPermutation-refl (flat_map f xs)) (λ l i j p q h. IsPermutation-trans _ _ _ h (swapped l i j p q)) ys s
+
+-- a part that was turned round, put in order and appended
+pub appended : {X : Type 0} (all targets part sorted now : List X) → part ≡ reverse targets → IsPermutation part sorted → now ≡ all ++ sorted → IsPermutation (all ++ targets) now
+appended {X} all targets part sorted now e s n =
+    let turned : IsPermutation targets part = subst (λ (z : List X). IsPermutation targets z) (sym e) (IsPermutation-reverse targets) in
+    subst (λ (z : List X). IsPermutation (all ++ targets) z) (sym n) (IsPermutation-append_right all _ _ (IsPermutation-trans _ _ _ turned s))
 
 -- ---- one step along a list that is moved out of
 
-pub ids_next : {X Y : Type 0} (f : X → Y) (all done now : List Y) (y : Y) (old rest : List X) (x : X) → old ≡ x ∷ rest → done ++ map f old ≡ all → y ≡ f x → now ≡ done ++ y ∷ [] → now ++ map f rest ≡ all
-ids_next {X} {Y} f all done now y old rest x e h i n =
-    ap (λ (z : List Y). z ++ map f rest) n ∙ (append_assoc done (y ∷ []) (map f rest) ∙ (ap (λ (z : Y). done ++ (z ∷ map f rest)) i ∙ (ap (λ (z : List X). done ++ map f z) (sym e) ∙ h)))
-
-pub parts_next : {X Y : Type 0} (f : X → List Y) (all done now : List Y) (old rest : List X) (x : X) → old ≡ x ∷ rest → done ++ flat_map f old ≡ all → now ≡ done ++ f x → now ++ flat_map f rest ≡ all
+pub parts_next : {X Y : Type 0} (f : X → List Y) (all done now : List Y) (old rest : List X) (x : X) → old ≡ x ∷ rest → IsPermutation all (done ++ flat_map f old) → IsPermutation (done ++ f x) now → IsPermutation all (now ++ flat_map f rest)
 parts_next {X} {Y} f all done now old rest x e h n =
-    ap (λ (z : List Y). z ++ flat_map f rest) n ∙ (append_assoc done (f x) (flat_map f rest) ∙ (ap (λ (z : List X). done ++ flat_map f z) (sym e) ∙ h))
+    let last : IsPermutation ((done ++ f x) ++ flat_map f rest) (now ++ flat_map f rest) = IsPermutation-append_left (flat_map f rest) (done ++ f x) now n in
+    let first : IsPermutation all (done ++ (f x ++ flat_map f rest)) = subst (λ (z : List X). IsPermutation all (done ++ flat_map f z)) e h in
+    IsPermutation-trans _ _ _ (subst (λ (z : List Y). IsPermutation all z) (sym (append_assoc done (f x) (flat_map f rest))) first) last
 
 pub all_next : {X : Type 0} (P : X → Type 0) (all old rest : List X) (x : X) → old ≡ x ∷ rest → (All P old → All P all) → P x → All P rest → All P all
 all_next {X} P all old rest x e f p q = f (subst (λ (z : List X). All P z) (sym e) (All-cons P x rest p q))

@@ -1,6 +1,6 @@
 -- The graph of packages is made of their targets in order, and of the edges between them.
-use Rattle.std.proofs.Common.{◌≡◌, ◌∙◌, ℕ, List, [], ◌∷◌, length, map, reverse, sym, ap, subst}
-use Rattle.std.specs.List.{All, AllByRecursion, flat_map}
+use Rattle.std.proofs.Common.{◌≡◌, ◌∙◌, ℕ, List, [], ◌∷◌, length, map, sym, ap, subst}
+use Rattle.std.specs.List.{All, AllByRecursion}
 use Rattle.std.specs.declared.cmp.Ordering.TheVariants.{Less}
 use Rattle.std.specs.List.Sorted.{IsPermutation, IsSorted, IsStrictlySortedBy}
 use Rattle.std.proofs.lemmas.List.Sorted.{IsPermutation-trans, IsPermutation-sym, All-permutation}
@@ -13,17 +13,14 @@ use Rattle.bq_target.specs.Package.{PackageTargets, AreTargetsOf}
 use Rattle.bq_target_graph.specs.Order.{target_cmp, id_of, PackagesAscend, all_targets, targets_of, labels_of, AreValid}
 use Rattle.bq_target_graph.specs.Graph.{IsGraph}
 use Rattle.bq_target_graph.specs.Edges.{IsGraphOf, edges_from}
-use Rattle.bq_target_graph.proofs.Lists.{permutation_of_reversed}
 use Rattle.bq_target_graph.proofs.Ascends.{ascends, are_targets, distinct_from_order}
 use Rattle.bq_target_graph.proofs.Depends.{edges_are, are_between}
 
 -- what a sort makes of the targets that were moved out of packages
-module _ (ps : List PackageTargets) (o : PackagesAscend ps) (v : All (λ p. AreTargetsOf (id_of p) p.targets) ps) (moved : List Target) (f : moved ≡ flat_map (λ p. reverse p.targets) ps)
+module _ (ps : List PackageTargets) (o : PackagesAscend ps) (v : All (λ p. AreTargetsOf (id_of p) p.targets) ps) (moved : List Target) (f : IsPermutation (all_targets ps) moved)
     (ts : List Target) (m : IsPermutation moved ts) (s : IsSorted target_cmp ts) (valid : AreValid ts) where
   all_moved : IsPermutation (all_targets ps) ts
-  all_moved =
-      let turned : IsPermutation (all_targets ps) moved = subst (λ (z : List Target). IsPermutation (all_targets ps) z) (sym f) (permutation_of_reversed (λ (p : PackageTargets). p.targets) ps) in
-      IsPermutation-trans (all_targets ps) moved ts turned m
+  all_moved = IsPermutation-trans (all_targets ps) moved ts f m
 
   all_valid : AreValid (all_targets ps)
   all_valid = All-permutation (λ (t : Target). IsLabel t.label) ts (all_targets ps) (IsPermutation-sym (all_targets ps) ts all_moved) valid

@@ -21,7 +21,7 @@ fn in_order(alloc: Global, packages: Vec<Package>) -> Result<Flat, AllocError>
     ensures ascending { IfOk result (λ f. IsStrictlySortedBy target_cmp f.targets.items) }
 {
     let Flat { packages, targets } = flatten(alloc, packages)?;
-    let targets = sorted(targets);
+    let targets = sorted(targets)?;
     valid(&targets); // for the proof: labels are valid
     Ok(Flat { packages, targets })
 }
