@@ -7,6 +7,7 @@ use crossbeam_deque::{Steal, Worker};
 use std::sync::atomic::Ordering;
 
 /// What a worker finds on the lists.
+#[derive(Clone, Copy)]
 pub(crate) enum Next {
     Candidate(u32),
     /// Nothing, but another worker took something from a list at that moment, so there may be more on it.

@@ -59,7 +59,7 @@ impl Idle {
             return;
         }
         self.sleepers.fetch_add(1, Ordering::SeqCst);
-        self.events.park(rt, seen as u32);
+        self.events.park(rt, (seen & u32::MAX as u64) as u32);
         self.sleepers.fetch_sub(1, Ordering::SeqCst);
     }
 }
