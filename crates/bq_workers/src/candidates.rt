@@ -6,24 +6,34 @@ use bq_load_order::Evaluate;
 use crossbeam_deque::{Steal, Worker};
 use std::sync::atomic::Ordering;
 
+/// What a worker finds on the lists.
+#[derive(Clone, Copy)]
+pub(crate) enum Next {
+    Candidate(u32),
+    /// Nothing, but another worker took something from a list at that moment, so there may be more on it.
+    Contended,
+    Nothing,
+}
+
 impl<'a, E: Evaluate> Pool<'a, E> {
     // A module of the worker's own list, else one of another's.
-    pub(crate) fn next(&self, list: &mut Worker<u32>) -> Option<u32> {
+    pub(crate) fn next(&self, list: &mut Worker<u32>) -> Next {
         match list.pop() {
-            Some(m) => return Some(m),
+            Some(m) => return Next::Candidate(m),
             None => {}
         }
+        let mut next = Next::Nothing;
         for other in self.stealers.as_slice() {
             match other.steal() {
-                Steal::Success(m) => return Some(m),
+                Steal::Success(m) => return Next::Candidate(m),
                 Steal::Empty => {}
-                Steal::Retry => {}
+                Steal::Retry => next = Next::Contended,
             }
         }
-        None
+        next
     }
 
-    // Offers the modules that load `m`. Where a list can't grow, all workers stop.
+    // Offers the modules that load `m`, and wakes workers for those that this one doesn't take next. Where a list can't grow, all workers stop.
     pub(crate) fn offer(&self, list: &mut Worker<u32>, m: usize)
         requires { m < length self.now.board.plan }
     {
@@ -32,8 +42,20 @@ impl<'a, E: Evaluate> Pool<'a, E> {
         for e in out {
             let target = plan.target(*e as usize);
             if list.push(target as u32).is_err() {
-                self.stop.store(true, Ordering::SeqCst);
+                self.halt();
             }
         }
+        match list.len() {
+            0 => {}
+            1 => {}
+            2 => self.idle.tell_one(),
+            _ => self.idle.tell_all(),
+        }
+    }
+
+    // Has all workers stop.
+    pub(crate) fn halt(&self) {
+        self.stop.store(true, Ordering::SeqCst);
+        self.idle.tell_all();
     }
 }

@@ -10,13 +10,14 @@
 //!
 //! In reading order: `import` (the parcels), `pool` (the board and its seats), `opening` (how a pool begins),
 //! `find` (the outcome of a module that was won), `bring` (a module from its claim to its end), `candidates` (what to try next),
-//! `work` (what a worker does), `threads` (workers in threads of their own), `load` (all workers, and what is left), `close` (the end of a pool).
+//! `idle` (what it does while there is nothing), `work` (what a worker does), `threads` (workers in threads of their own), `load` (all workers, and what is left), `close` (the end of a pool).
 #![tactic(auto)]
 
 mod bring;
 mod candidates;
 mod close;
 mod find;
+mod idle;
 mod import;
 mod load;
 mod opening;

@@ -6,6 +6,7 @@ ghost use Rattle.bq_board.specs.Depth.{HasDepths};
 ghost use Rattle.bq_board.specs.Seats.{IsSeatOf, base_of, view_of};
 ghost use Rattle.bq_board.specs.Topological.{IsTopologicalOrder, MarksCycles};
 
+use crate::idle::Idle;
 use crate::import::{Base, Import};
 use crate::pool::{Pool, PoolSeat};
 use bq_board::{Board, Graph, MAX_SEATS, Order, Plan, Seat};
@@ -41,6 +42,7 @@ impl<'a, E: Evaluate> Pool<'a, E> {
             order,
             board,
             stop,
+            idle: Idle::new(),
             stealers,
         };
         Ok((pool, seats))

@@ -5,6 +5,7 @@ ghost use Rattle.bq_board.specs.Depth.{HasDepths};
 ghost use Rattle.bq_board.specs.Seats.{base_of};
 ghost use Rattle.bq_board.specs.Topological.{MarksCycles};
 
+use crate::idle::Idle;
 use crate::import::Import;
 use bq_board::{Board, Graph, Order, Seat};
 use bq_load_order::{Evaluate, Shared};
@@ -20,6 +21,8 @@ pub struct Pool<'a, E: Evaluate> {
     pub(crate) board: Board<Import<E>>,
     /// A worker was refused memory, or a list of candidates: all workers stop.
     pub(crate) stop: AtomicBool,
+    /// Where workers sleep that find nothing to try.
+    pub(crate) idle: Idle,
     pub(crate) stealers: Vec<Stealer<u32>>,
     ghost by: { (base_of board).evaluator.value ≡ evaluator.now },
     ghost of: { (base_of board).graph.value ≡ graph.now },

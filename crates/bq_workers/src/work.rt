@@ -5,12 +5,12 @@ ghost use Rattle.bq_board.specs.Seats.{IsSeatOf, view_of};
 ghost use Rattle.bq_outcome.specs.Outcome.{outcome};
 ghost use Rattle.bq_workers.specs.Brought.{Brought};
 
+use crate::candidates::Next;
 use crate::pool::{Evaluated, Pool, PoolSeat, Worked};
 use bq_load_order::Evaluate;
 use std::alloc::{AllocError, Global};
 use std::sync::Wait;
 use std::sync::atomic::Ordering;
-use std::thread;
 
 impl<'a, E: Evaluate> Pool<'a, E> {
     /// Evaluates modules that nobody else has, each after all that it loads, until all are finished, or a worker stopped all.
@@ -28,7 +28,7 @@ impl<'a, E: Evaluate> Pool<'a, E> {
     {
         let worked = self.run(rt, alloc, seat);
         if worked.is_err() {
-            self.stop.store(true, Ordering::SeqCst);
+            self.halt();
         }
         worked
     }
@@ -47,7 +47,9 @@ impl<'a, E: Evaluate> Pool<'a, E> {
     {
         let count = self.graph.len() as u64;
         let mut modules = Vec::new(alloc);
+        let mut turns: u32 = 0;
         for _ in rt.forever() {
+            let seen = self.idle.events();
             if self.stop.load(Ordering::SeqCst) {
                 return Ok(Worked {
                     all: false,
@@ -56,39 +58,43 @@ impl<'a, E: Evaluate> Pool<'a, E> {
             }
             let done = self.board.done(&mut seat.place);
             if done == count {
+                self.idle.tell_all();
                 return Ok(Worked { all: true, modules });
             }
-            self.turn(alloc, seat, &mut modules)?;
+            if self.turn(alloc, seat, &mut modules)? {
+                turns = 0;
+            } else {
+                self.idle.wait(rt, seen, turns);
+                turns = turns.saturating_add(1);
+            }
         }
         unreachable!()
     }
 
-    // Tries one candidate.
+    // Tries one candidate, and returns whether there may be another.
     fn turn(
         &self,
         alloc: Global,
         seat: &mut PoolSeat<E>,
         modules: &mut Vec<Evaluated<E::Value, E::Fault>>,
-    ) -> Result<(), AllocError>
+    ) -> Result<bool, AllocError>
         requires seat { IsSeatOf self.now.board seat.old.place }
         ensures seat { IsSeatOf self.now.board seat.new.place }
         ensures brought { (before : List ℕ) → Brought E.see E.see_fault (outcome (E.means self.now.evaluator.now) self.now.graph.now) (length self.now.graph.now) before (view_of seat.old.place).finished modules.old.items → OnOk result (Brought E.see E.see_fault (outcome (E.means self.now.evaluator.now) self.now.graph.now) (length self.now.graph.now) before (view_of seat.new.place).finished modules.new.items) }
     {
         let m = match self.next(&mut seat.list) {
-            Some(candidate) => candidate as usize,
-            None => {
-                thread::yield_now();
-                return Ok(());
-            }
+            Next::Candidate(candidate) => candidate as usize,
+            Next::Contended => return Ok(true),
+            Next::Nothing => return Ok(false),
         };
         if m >= self.board.plan().modules() {
-            return Ok(());
+            return Ok(true);
         }
         let had = modules.len();
         self.bring(alloc, &mut seat.place, m, modules)?;
         if modules.len() > had {
             self.offer(&mut seat.list, m);
         }
-        Ok(())
+        Ok(true)
     }
 }
