@@ -27,6 +27,9 @@ BY_NAME = {
     for name in names.split()
 }
 
+# those of Bazel's own rules and of rules that many load which take a dict
+DICTS = set("exec_properties env values flag_values define_values substitutions".split())
+
 # the shapes of values, and the types that take them
 SHAPES = {
     "string": "text", "label": "text", "strings": "list", "labels": "list", "list": "list", "bool": "bool", "bit": "number", "int": "number",

@@ -47,6 +47,16 @@ class Def:
 
 
 @dataclass
+class Statement:
+    """A statement at the top level: its lines, and the names that it binds."""
+
+    first: int
+    last: int
+    names: list
+    is_def: bool
+
+
+@dataclass
 class File:
     path: str
     is_build: bool
@@ -54,10 +64,14 @@ class File:
     loads: list = field(default_factory=list)  # (label, line, {local: symbol})
     defs: dict = field(default_factory=dict)
     aliases: dict = field(default_factory=dict)  # a global that is another name
+    made: dict = field(default_factory=dict)  # a global that a call of `rule` gives: the types that it says, by attribute
+    kinds: dict = field(default_factory=dict)  # what the value of a global is like
+    statements: list = field(default_factory=list)
     globals: set = field(default_factory=set)
     calls: list = field(default_factory=list)
     uses: list = field(default_factory=list)  # (name, how it is used, line)
     members: list = field(default_factory=list)  # (name, member, line, whether it is called)
+    member_calls: list = field(default_factory=list)  # (name, member, keywords), of those that are statements
     faults: list = field(default_factory=list)  # (line, what bq leaves out)
 
 
@@ -74,8 +88,13 @@ def joined(kinds):
     return "strings" if "string" in kinds else "list"
 
 
+def first_known(kinds):
+    """The kind that says most of a value that is like one of these."""
+    return next((kind for kind in ("labels", "strings", "list", "label", "string", "bool", "int", "bit", "dict", "none") if kind in kinds), "other")
+
+
 def kind_of(node):
-    """What a value is like: string, label, strings, labels, list, bit, int, bool, dict, select, none, or other where the form doesn't show it."""
+    """What a value is like: string, label, strings, labels, list, bit, int, bool, dict, none, or other where the form doesn't show it."""
     match node:
         case ast.Constant(value=bool()):
             return "bool"
@@ -94,14 +113,13 @@ def kind_of(node):
         case ast.Dict() | ast.DictComp():
             return "dict"
         case ast.BinOp(op=ast.Add(), left=left, right=right):
-            sides = [kind for kind in (kind_of(left), kind_of(right)) if kind != "other"]
-            return sides[0] if sides and "select" not in sides else "select" if sides else "other"
+            return first_known({kind_of(left), kind_of(right)})
         case ast.BinOp(op=ast.Mod(), left=left):
             return kind_of(left)
         case ast.IfExp(body=body):
             return kind_of(body)
-        case ast.Call(func=ast.Name(id="select")):
-            return "select"
+        case ast.Call(func=ast.Name(id="select") | ast.Attribute(attr="with_or"), args=[ast.Dict(values=branches), *_]):
+            return first_known({kind_of(branch) for branch in branches})
         case ast.Call(func=ast.Name(id="glob") | ast.Attribute(attr="glob")):
             return "labels"
         case ast.Call(func=ast.Attribute(value=of, attr="format" | "strip" | "replace" | "lower" | "upper" | "join")):
@@ -166,6 +184,8 @@ class Reader(ast.NodeVisitor):
                 self.named_call(node, name, True, is_statement)
             case ast.Attribute(value=ast.Name(id=name), attr=member) if name not in self.locals:
                 self.member(node, name, member, True)
+                if is_statement:
+                    self.file.member_calls.append((name, member, {key.arg: kind_of(key.value) for key in node.keywords if key.arg}))
             case ast.Attribute(value=of):
                 self.wanting("", of)
             case _:
@@ -300,8 +320,37 @@ def set_keys(function):
     return found
 
 
+# the types of a schema, by the functions of `attr` in a rule's attributes
+ATTRIBUTE_TYPES = {name: name for name in "bool int label label_list output output_list string string_list".split()}
+
+
+def rule_attributes(value):
+    """The types that a call of `rule` gives its attributes, as far as the text shows them; nothing for another value."""
+    if not (isinstance(value, ast.Call) and isinstance(value.func, ast.Name) and value.func.id == "rule"):
+        return None
+    shown = [part for key in value.keywords if key.arg == "attrs" for part in ast.walk(key.value)]
+    pairs = [pair for part in shown if isinstance(part, ast.Dict) for pair in zip(part.keys, part.values)]
+    pairs += [(ast.Constant(key.arg), key.value) for part in shown if isinstance(part, ast.Call) for key in part.keywords if key.arg]
+    found = {}
+    for name, kind in pairs:
+        match name, kind:
+            case ast.Constant(value=str() as name), ast.Call(func=ast.Attribute(value=ast.Name(id="attr"), attr=kind)):
+                found[name] = ATTRIBUTE_TYPES.get(kind, "")
+    return found
+
+
+def bound_by(node):
+    """The names that a statement at the top level binds."""
+    match node:
+        case ast.FunctionDef(name=name):
+            return [name]
+        case _:
+            return [part.id for part in ast.walk(node) if isinstance(part, ast.Name) and isinstance(part.ctx, ast.Store)]
+
+
 def top_level(file, tree):
     for node in tree.body:
+        file.statements.append(Statement(node.lineno, node.end_lineno, bound_by(node), isinstance(node, ast.FunctionDef)))
         match node:
             case ast.Expr(value=ast.Call(func=ast.Name(id="load")) as call):
                 if found := load_of(call):
@@ -314,12 +363,23 @@ def top_level(file, tree):
             case ast.Assign(targets=targets, value=value):
                 for part in (part for target in targets for part in ast.walk(target) if isinstance(part, ast.Name)):
                     file.globals.add(part.id)
+                    file.kinds[part.id] = kind_of(value)
                     if isinstance(value, ast.Name):
                         file.aliases[part.id] = value.id
+                    attributes = rule_attributes(value)
+                    if attributes is not None:
+                        file.made[part.id] = attributes
             case _:
                 for part in ast.walk(node):
                     if isinstance(part, ast.Name) and isinstance(part.ctx, ast.Store):
                         file.globals.add(part.id)
+
+
+def parsed(text):
+    """The tree of a text."""
+    with warnings.catch_warnings():
+        warnings.simplefilter("ignore")
+        return ast.parse(text.decode("utf-8", "surrogateescape").replace("\x0c", " "))
 
 
 def read(path, text):
@@ -327,9 +387,7 @@ def read(path, text):
     name = path.rpartition("/")[2]
     file = File(path, not name.endswith(".bzl"))
     try:
-        with warnings.catch_warnings():
-            warnings.simplefilter("ignore")
-            tree = ast.parse(text.decode("utf-8", "surrogateescape").replace("\x0c", " "))
+        tree = parsed(text)
     except (SyntaxError, ValueError, RecursionError) as error:
         file.broken = f"{getattr(error, 'lineno', '?')}: {getattr(error, 'msg', error)}"
         return file

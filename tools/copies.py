@@ -1,0 +1,208 @@
+"""Copies of a workspace's files in which stands, in place of what `bq` leaves out, something that it reads. Lines keep their numbers."""
+import ast
+import re
+from collections import Counter, defaultdict
+
+from guesses import DICTS, type_of
+from reading import kind_of, parsed
+
+LISTS = ("labels", "strings", "list")
+DEFAULT = "//conditions:default"
+# what the language takes of escapes, beside a backslash before a line end
+ESCAPES = set("nrt\\'\"\n\r")
+
+# what a BUILD file has where something in it is replaced
+MAY_CHANGE = re.compile(rb"select\b|[{\\]|^[A-Za-z_]\w*\.|load\(\s*[\"'][^/@:]", re.M)
+
+
+class Copy:
+    """The parts of a file that are replaced."""
+
+    def __init__(self, facts, file, text):
+        self.facts, self.file, self.text = facts, file, text
+        self.starts = [0]
+        for line in text.split(b"\n"):
+            self.starts.append(self.starts[-1] + len(line) + 1)
+        self.parts = []  # (start, end, text)
+        self.counts = Counter()
+        self.loads_more = defaultdict(set)  # a loaded name -> members that stand as symbols of their own
+
+    def span(self, node):
+        """The place of a node in the text: where it begins and ends."""
+        return self.starts[node.lineno - 1] + node.col_offset, self.starts[node.end_lineno - 1] + node.end_col_offset
+
+    def replace(self, start, end, before, after=""):
+        """Puts two texts in the place of another, with as many line ends between them as it has."""
+        self.parts.append((start, end, before.encode() + b"\n" * self.text.count(b"\n", start, end) + after.encode()))
+
+    def result(self):
+        """The text with its parts replaced; nothing where none is."""
+        for node, statement in zip(parsed(self.text).body, self.file.statements):
+            if statement in self.facts.replaced[self.file.path]:
+                self.stand_in(node, statement)
+            else:
+                self.statement(node)
+        for node in parsed(self.text).body if self.loads_more else []:
+            self.load_more(node)
+        if not self.parts:
+            return None
+        found, end = b"", 0
+        for start, after, part in sorted(self.parts):
+            found += self.text[end:start] + part
+            end = after
+        return found + self.text[end:]
+
+    def stand_in(self, node, statement):
+        """What stands for a statement that the language leaves out."""
+        self.replace(*self.span(node), "; ".join(self.facts.stand_in(self.file.path, name) for name in statement.names))
+        self.counts["a definition"] += 1
+
+    def statement(self, node):
+        match node:
+            case ast.Expr(value=ast.Call(func=ast.Name(id="load"), args=[ast.Constant(value=str() as label) as first, *_])):
+                if not label.startswith(("//", ":", "@")):
+                    start, _ = self.span(first)
+                    self.replace(start + 1, start + 1, ":")
+                    self.counts["a load"] += 1
+            case ast.Expr(value=ast.Call(func=ast.Attribute(value=ast.Name(id=name), attr=member) as called) as call) if self.file.is_build:
+                if self.facts.member_stub(self.file, name, member):
+                    self.replace(*self.span(called), f"{name}__{member}")
+                    self.loads_more[name].add(member)
+                    self.counts["a member"] += 1
+                self.arguments(call)
+            case _:
+                self.visit(node)
+
+    def load_more(self, node):
+        """Loads with a name also what stands for its members."""
+        if not (isinstance(node, ast.Expr) and isinstance(node.value, ast.Call) and getattr(node.value.func, "id", "") == "load"):
+            return
+        clauses = [(part.value, part.value, part) for part in node.value.args[1:]]
+        clauses += [(key.arg, key.value.value, key.value) for key in node.value.keywords]
+        for name, symbol, part in clauses:
+            for member in sorted(self.loads_more.pop(name, ())):
+                _, end = self.span(part)
+                is_same = name == symbol
+                self.parts.append((end, end, f', {"" if is_same else f"{name}__{member} = "}"{symbol}__{member}"'.encode()))
+
+    def visit(self, node, wanted=""):
+        match node:
+            case ast.Call(func=ast.Name(id="select")):
+                self.select(node, wanted)
+            case ast.Call(func=ast.Attribute(value=ast.Name(id=name), attr="with_or")) if self.facts.is_stub(self.file, name):
+                self.select(node, wanted)
+            case ast.Call():
+                self.arguments(node)
+            case ast.BinOp(op=ast.Add(), left=left, right=right):
+                wanted = "list" if self.kind(left) in LISTS or self.kind(right) in LISTS else wanted
+                self.visit(left, wanted)
+                self.visit(right, wanted)
+            case ast.Dict(keys=keys, values=values) if not self.file.is_build:
+                for key, value in zip(keys, values):
+                    self.visit(key) if key else None
+                    self.entry(key, value)
+            case ast.Constant(value=str()):
+                self.escapes(node)
+            case _:
+                for part in ast.iter_child_nodes(node):
+                    self.visit(part, wanted if isinstance(node, ast.IfExp) else "")
+
+    def arguments(self, call):
+        self.visit(call.func)
+        for part in call.args:
+            self.visit(part)
+        for keyword in call.keywords:
+            if self.is_dropped(call, keyword):
+                self.replace(*self.span(keyword.value), "", "None")
+                self.counts["a dict"] += 1
+            else:
+                self.visit(keyword.value, self.takes(keyword.arg))
+
+    def entry(self, key, value):
+        """An entry of a dict in a .bzl file, which may be passed on to a rule by `**`."""
+        if isinstance(key, ast.Constant) and key.value in DICTS and kind_of(value) in ("dict", "other"):
+            self.replace(*self.span(value), "", "None")
+            self.counts["a dict"] += 1
+        else:
+            self.visit(value)
+
+    def is_dropped(self, call, keyword):
+        """Whether a dict is given where a rule takes it: no type of a schema does."""
+        shown = isinstance(keyword.value, ast.Dict | ast.DictComp)
+        if not keyword.arg or kind_of(keyword.value) == "none" or not shown and not (self.facts.is_dict(keyword.arg) and kind_of(keyword.value) == "other"):
+            return False
+        return self.facts.goes_to_rule(self.file, call, keyword.arg)
+
+    def kind(self, node):
+        """What a value is like, also where it is a global of this file, or of one that it loads."""
+        return self.facts.kind_of_global(self.file, node.id) if isinstance(node, ast.Name) else kind_of(node)
+
+    def takes(self, keyword):
+        """Whether an attribute of this name takes a list or one value, where the name or what it is given tells."""
+        if not keyword:
+            return ""
+        kind, source = type_of(keyword, Counter(), self.facts.everywhere)
+        return "" if source == "nothing" else "list" if kind.endswith("_list") else "text"
+
+    def select(self, node, wanted):
+        """All branches of a list, one after another, as `bazel query` follows them all; of another value the default one."""
+        self.counts["a select"] += 1
+        of = node.args[0] if node.args else ast.Dict([], [])
+        if not isinstance(of, ast.Dict):
+            start, end = self.span(node)
+            inner, after = self.span(of)
+            self.replace(start, inner, "(" if wanted == "text" else "[part for branch in (")
+            self.replace(after, end, "", ").values()[-1]" if wanted == "text" else ").values() for part in branch]")
+            self.visit(of)
+            return
+        kinds = [self.kind(value) for value in of.values]
+        if any(kind in LISTS for kind in kinds) or wanted == "list":
+            chosen = [value for value, kind in zip(of.values, kinds) if kind != "none"]
+        else:
+            default = [value for key, value in zip(of.keys, of.values) if isinstance(key, ast.Constant) and key.value == DEFAULT]
+            chosen = (default or of.values)[-1:]
+        self.keep(node, chosen)
+        for value in chosen:
+            self.visit(value, wanted)
+
+    def keep(self, node, chosen):
+        """Keeps of a node these parts alone, joined by `+`."""
+        start, end = self.span(node)
+        if not chosen:
+            self.replace(start, end, "([", "])")
+            return
+        before = "(("
+        for value in chosen:
+            inner, after = self.span(value)
+            self.replace(start, inner, before)
+            start, before = after, ") + ("
+        self.replace(start, end, "", "))")
+
+    def escapes(self, node):
+        """Writes out what an escape stands for that the language leaves out."""
+        start, end = self.span(node)
+        text = self.text[start:end].decode("utf-8", "surrogateescape")
+        quote = text[-1:]
+        if text[:1] not in "'\"" or text.startswith(quote * 3) or "\n" in text:
+            return
+        bare = text.replace("\\\\", "")
+        if any(bare[i + 1:i + 2] not in ESCAPES for i in range(len(bare)) if bare[i] == "\\"):
+            value = node.value.replace("\\", "\\\\").replace(quote, f"\\{quote}").replace("\n", "\\n").replace("\r", "\\r")
+            self.parts.append((start, end, f"{quote}{value}{quote}".encode("utf-8", "surrogateescape")))
+            self.counts["an escape"] += 1
+
+
+def copies(facts, content):
+    """The copies by their paths, and how many parts of each kind they replace."""
+    found, counts = {}, Counter()
+    for path, file in facts.workspace.files.items():
+        if file.broken or path not in facts.reached:
+            continue
+        text = content(path)
+        if file.is_build and not MAY_CHANGE.search(text):
+            continue
+        copy = Copy(facts, file, text)
+        if copied := copy.result():
+            found[path] = copied
+            counts.update(copy.counts)
+    return found, counts

@@ -1,0 +1,39 @@
+"""What stands in a .bzl file for a symbol that isn't there: a macro that forwards to a rule of the schema, a function, or a value."""
+from collections import Counter
+
+from guesses import type_of
+from reading import BUILD_FUNCTIONS, BUILT_INS
+
+RESERVED = set("""and break continue def elif else for if in lambda load not or pass return as assert async await class del except finally from
+    global import is nonlocal raise try while with yield native""".split()) | BUILT_INS | BUILD_FUNCTIONS
+
+
+def rule_of(symbol):
+    """The rule that a symbol is forwarded to. (`selects__config_setting_group` stands for a member.)"""
+    name = symbol.partition("__")[2] if "__" in symbol.strip("_") else symbol
+    return f"{name}_rule" if name in RESERVED else name
+
+
+def value_for(stub):
+    """What stands for a symbol that makes no target, by the places that it is used at."""
+    wanted = stub.wanted
+    if stub.members & {"get", "items", "keys", "values"} or wanted["dict"]:
+        return "{}"
+    texts = sum(n for place, n in wanted.items() if place in ("string", "cmd", "label") or type_of(place, Counter(), {})[1] == "name"
+                and type_of(place, Counter(), {})[0] in ("string", "label"))
+    return '""' if texts * 2 > sum(wanted.values()) or "format" in stub.members else "[]"
+
+
+def definition(repository, symbol, stub, given):
+    """The text that defines a symbol, in one line. `given` is what its calls give it."""
+    if stub.makes_targets:
+        may_have_dicts = any(kinds["dict"] or kinds["other"] for kinds in given.values())
+        passed = '{key: value for key, value in kwargs.items() if type(value) != "dict"}' if may_have_dicts else "kwargs"
+        return f"def {symbol}(name, *args, **kwargs): native.{rule_of(symbol)}(name = name, **{passed})"
+    if not stub.is_called:
+        return f"{symbol} = {value_for(stub)}"
+    value = value_for(stub)
+    if value == '""':
+        # a label, so that it may stand where a label is wanted
+        value = f'"@{repository}//:{symbol}"' if repository else f'":{symbol}"'
+    return f"def {symbol}(*args, **kwargs): return {value}"
