@@ -213,7 +213,7 @@ class Facts:
                 if path not in self.workspace.files or self.workspace.is_own(place[0]):
                     self.stub(place, symbol)
         for name in sorted(self.stand_ins[file.path]):
-            self.stub((None, file.path, ""), name)
+            self.stub((None, file.path, ""), name).makes_targets |= name in file.made
         for call in file.calls:
             self.call(file, call)
         for name, wanted, line in file.uses:

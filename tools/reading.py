@@ -324,11 +324,12 @@ def set_keys(function):
 ATTRIBUTE_TYPES = {name: name for name in "bool int label label_list output output_list string string_list".split()}
 
 
-def rule_attributes(value):
-    """The types that a call of `rule` gives its attributes, as far as the text shows them; nothing for another value."""
+def rule_attributes(value, dicts):
+    """The types that a call of `rule` gives its attributes, as far as the text and these globals show them; nothing for another value."""
     if not (isinstance(value, ast.Call) and isinstance(value.func, ast.Name) and value.func.id == "rule"):
         return None
     shown = [part for key in value.keywords if key.arg == "attrs" for part in ast.walk(key.value)]
+    shown += [part for name in shown if isinstance(name, ast.Name) and name.id in dicts for part in ast.walk(dicts[name.id])]
     pairs = [pair for part in shown if isinstance(part, ast.Dict) for pair in zip(part.keys, part.values)]
     pairs += [(ast.Constant(key.arg), key.value) for part in shown if isinstance(part, ast.Call) for key in part.keywords if key.arg]
     found = {}
@@ -349,6 +350,7 @@ def bound_by(node):
 
 
 def top_level(file, tree):
+    dicts = {}
     for node in tree.body:
         file.statements.append(Statement(node.lineno, node.end_lineno, bound_by(node), isinstance(node, ast.FunctionDef)))
         match node:
@@ -366,7 +368,8 @@ def top_level(file, tree):
                     file.kinds[part.id] = kind_of(value)
                     if isinstance(value, ast.Name):
                         file.aliases[part.id] = value.id
-                    attributes = rule_attributes(value)
+                    dicts[part.id] = value
+                    attributes = rule_attributes(value, dicts)
                     if attributes is not None:
                         file.made[part.id] = attributes
             case _:
