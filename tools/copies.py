@@ -3,6 +3,7 @@ import ast
 import re
 from collections import Counter, defaultdict
 
+from facts import VALUE_METHODS
 from guesses import DICTS, type_of
 from reading import kind_of, parsed
 
@@ -12,7 +13,7 @@ DEFAULT = "//conditions:default"
 ESCAPES = set("nrt\\'\"\n\r")
 
 # what a BUILD file has where something in it is replaced
-MAY_CHANGE = re.compile(rb"select\b|[{\\]|^[A-Za-z_]\w*\.|load\(\s*[\"'][^/@:]", re.M)
+MAY_CHANGE = re.compile(rb"select\b|[{\\]|load\(\s*[\"'][^/@:]", re.M)
 
 
 class Copy:
@@ -69,7 +70,9 @@ class Copy:
                     self.replace(*self.span(called), f"{name}__{member}")
                     self.loads_more[name].add(member)
                     self.counts["a member"] += 1
-                self.arguments(call)
+                    self.arguments(call)
+                else:
+                    self.visit(call)
             case _:
                 self.visit(node)
 
@@ -91,7 +94,13 @@ class Copy:
                 self.select(node, wanted)
             case ast.Call(func=ast.Attribute(value=ast.Name(id=name), attr="with_or")) if self.facts.is_stub(self.file, name):
                 self.select(node, wanted)
+            case ast.Call(func=ast.Attribute(value=ast.Name(id=name), attr=member)) | ast.Attribute(value=ast.Name(id=name), attr=member) if (
+                self.file.is_build and member not in VALUE_METHODS and self.facts.is_stub(self.file, name)
+            ):
+                self.replace(*self.span(node), "", {"list": "[]", "text": '""'}.get(wanted, "None"))
+                self.counts["a member"] += 1
             case ast.Call():
+                self.visit(node.func)
                 self.arguments(node)
             case ast.BinOp(op=ast.Add(), left=left, right=right):
                 wanted = "list" if self.kind(left) in LISTS or self.kind(right) in LISTS else wanted
@@ -108,7 +117,6 @@ class Copy:
                     self.visit(part, wanted if isinstance(node, ast.IfExp) else "")
 
     def arguments(self, call):
-        self.visit(call.func)
         for part in call.args:
             self.visit(part)
         for keyword in call.keywords:
@@ -128,8 +136,8 @@ class Copy:
 
     def is_dropped(self, call, keyword):
         """Whether a dict is given where a rule takes it: no type of a schema does."""
-        shown = isinstance(keyword.value, ast.Dict | ast.DictComp)
-        if not keyword.arg or kind_of(keyword.value) == "none" or not shown and not (self.facts.is_dict(keyword.arg) and kind_of(keyword.value) == "other"):
+        kind = self.kind(keyword.value)
+        if not keyword.arg or kind != "dict" and not (kind == "other" and self.facts.is_dict(keyword.arg)):
             return False
         return self.facts.goes_to_rule(self.file, call, keyword.arg)
 
@@ -199,7 +207,7 @@ def copies(facts, content):
         if file.broken or path not in facts.reached:
             continue
         text = content(path)
-        if file.is_build and not MAY_CHANGE.search(text):
+        if file.is_build and not file.members and not MAY_CHANGE.search(text):
             continue
         copy = Copy(facts, file, text)
         if copied := copy.result():

@@ -14,14 +14,27 @@ def rule_of(symbol):
     return f"{name}_rule" if name in RESERVED else name
 
 
+def shape(place):
+    """What a place takes: a list, a text, or something else."""
+    if place in ("list", "strings", "labels"):
+        return "list"
+    if place in ("string", "label"):
+        return "text"
+    kind, source = type_of(place, Counter(), {})
+    return "" if source != "name" else "list" if kind.endswith("_list") else "text" if kind in ("string", "label") else ""
+
+
 def value_for(stub):
     """What stands for a symbol that makes no target, by the places that it is used at."""
-    wanted = stub.wanted
-    if stub.members & {"get", "items", "keys", "values"} or wanted["dict"]:
+    if stub.members & {"get", "items", "keys", "values"} or stub.wanted["dict"]:
         return "{}"
-    texts = sum(n for place, n in wanted.items() if place in ("string", "cmd", "label") or type_of(place, Counter(), {})[1] == "name"
-                and type_of(place, Counter(), {})[0] in ("string", "label"))
-    return '""' if texts * 2 > sum(wanted.values()) or "format" in stub.members else "[]"
+    shapes = Counter()
+    for place, count in stub.wanted.items():
+        shapes[shape(place)] += count
+    if shapes["text"] > shapes["list"] or "format" in stub.members:
+        return '""'
+    # (an attribute that is given None isn't given)
+    return "None" if not shapes["list"] and any(stub.wanted) else "[]"
 
 
 def definition(repository, symbol, stub, given):

@@ -269,7 +269,7 @@ class Facts:
         found = self.origin(file, name) if name in file.globals else None
         if found and found[0] == "stub":
             self.stub(*found[1:]).members.add(member)
-            if member not in (*VALUE_METHODS, "with_or") and not (file.is_build and self.member_stub(file, name, member)):
+            if member not in (*VALUE_METHODS, "with_or") and not file.is_build:
                 self.cannot("a member of what another file gives", file, f"{line} {name}.{member}")
         elif name not in file.globals and is_called and name not in BUILT_INS:
             self.cannot(f"the name {name}", file, line)
