@@ -26,6 +26,7 @@ class Copy:
             self.starts.append(self.starts[-1] + len(line) + 1)
         self.parts = []  # (start, end, text)
         self.counts = Counter()
+        self.has_dicts = False  # whether the function around may pass a dict on
         self.loads_more = defaultdict(set)  # a loaded name -> members that stand as symbols of their own
 
     def span(self, node):
@@ -106,10 +107,11 @@ class Copy:
                 wanted = "list" if self.kind(left) in LISTS or self.kind(right) in LISTS else wanted
                 self.visit(left, wanted)
                 self.visit(right, wanted)
-            case ast.Dict(keys=keys, values=values) if not self.file.is_build:
-                for key, value in zip(keys, values):
-                    self.visit(key) if key else None
-                    self.entry(key, value)
+            case ast.FunctionDef():
+                before, self.has_dicts = self.has_dicts, self.may_pass_dicts(node)
+                for part in ast.iter_child_nodes(node):
+                    self.visit(part)
+                self.has_dicts = before
             case ast.Constant(value=str()):
                 self.escapes(node)
             case _:
@@ -123,16 +125,19 @@ class Copy:
             if self.is_dropped(call, keyword):
                 self.replace(*self.span(keyword.value), "", "None")
                 self.counts["a dict"] += 1
+            elif not keyword.arg and self.has_dicts and self.facts.goes_to_rule(self.file, call, None):
+                start, end = self.span(keyword.value)
+                self.parts += [(start, start, b"{key: value for key, value in ("), (end, end, b').items() if type(value) != "dict"}')]
+                self.counts["a dict"] += 1
             else:
                 self.visit(keyword.value, self.takes(keyword.arg))
 
-    def entry(self, key, value):
-        """An entry of a dict in a .bzl file, which may be passed on to a rule by `**`."""
-        if isinstance(key, ast.Constant) and key.value in DICTS and kind_of(value) in ("dict", "other"):
-            self.replace(*self.span(value), "", "None")
-            self.counts["a dict"] += 1
-        else:
-            self.visit(value)
+    def may_pass_dicts(self, function):
+        """Whether a macro may pass a dict on by `**`: one that it is given, or that it names."""
+        given = self.facts.given["def", self.file.path, function.name]
+        names = [part.value for part in ast.walk(function) if isinstance(part, ast.Constant) and isinstance(part.value, str)]
+        names += [part.arg for part in ast.walk(function) if isinstance(part, ast.keyword | ast.arg)]
+        return any(kinds["dict"] or self.facts.is_dict(keyword) for keyword, kinds in given.items()) or any(name in DICTS for name in names)
 
     def is_dropped(self, call, keyword):
         """Whether a dict is given where a rule takes it: no type of a schema does."""

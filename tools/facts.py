@@ -95,6 +95,7 @@ class Facts:
         self.workspace = workspace
         self.given = defaultdict(lambda: defaultdict(Counter))  # what takes arguments -> keyword -> kinds
         self.flows = defaultdict(set)  # a macro -> what it passes its `**` on to
+        self.passed = defaultdict(set)  # a macro -> (parameter, what it is passed on to, keyword)
         self.stubs = defaultdict(dict)  # (repository, package, name), or (None, path, "") of a file that is there -> symbol -> Stub
         self.left_out = defaultdict(list)  # what -> places
         self.stand_ins = defaultdict(set)  # a path -> the names that are bound by what stands in the place of a statement
@@ -251,6 +252,9 @@ class Facts:
         inside = file.defs.get(call.inside)
         if inside and inside.rest in call.splats and inside.rest:
             self.flows["def", file.path, call.inside].add(callee)
+        for keyword, name in call.passed.items():
+            if inside and name in inside.parameters:
+                self.passed["def", file.path, call.inside].add((name, callee, keyword))
         if callee[0] == "stub":
             stub = self.stub(*callee[1:])
             stub.is_called = True
@@ -308,7 +312,7 @@ class Facts:
                 return file.is_build and isinstance(call.func, ast.Attribute)
         if callee and callee[0] == "def":
             macro = self.workspace.files[callee[1]].defs[callee[2]]
-            return bool(macro.rest) and keyword not in macro.parameters
+            return bool(macro.rest) and bool(keyword) and keyword not in macro.parameters
         return bool(callee)
 
     def is_dict(self, keyword):
@@ -328,14 +332,26 @@ class Facts:
         return [definition("", name, stub, self.given["stub", place, name]) for name, stub in sorted(self.stubs.get(place, {}).items()) if name not in known]
 
     def pass_on(self):
-        """Has each macro pass what its callers give it on to what it gives its `**`."""
+        """Has each macro pass what its callers give it on to what it gives its `**`, and its parameters."""
         changed = True
         while changed:
             changed = False
             for macro, callees in self.flows.items():
                 parameters = self.workspace.files[macro[1]].defs[macro[2]].parameters
                 for callee in callees:
-                    for keyword, kinds in list(self.given[macro].items()):
-                        if keyword not in parameters and keyword not in self.given[callee]:
-                            self.given[callee][keyword] = Counter(kinds)
-                            changed = True
+                    for keyword in [keyword for keyword in self.given[macro] if keyword not in parameters]:
+                        changed |= self.tell(callee, keyword, self.given[macro][keyword])
+            for macro, passed in self.passed.items():
+                defaults = self.workspace.files[macro[1]].defs[macro[2]].defaults
+                for parameter, callee, keyword in passed:
+                    changed |= self.tell(callee, keyword, self.given[macro][parameter] + Counter([defaults.get(parameter, "other")]))
+
+    def tell(self, callee, keyword, kinds):
+        """Has what a keyword is given elsewhere count where nothing else tells what it is like; gives whether that was new."""
+        known = self.given[callee][keyword]
+        if any(count for kind, count in known.items() if kind not in ("other", "none")):
+            return False
+        telling = {kind: count for kind, count in kinds.items() if kind not in ("other", "none")}
+        is_new = bool(telling) or not known
+        known.update(telling or {"other": 1})
+        return is_new

@@ -38,12 +38,14 @@ class Call:
     positional: list  # kinds
     is_statement: bool
     wanted: str  # what the place takes: a kind, or empty
+    passed: dict  # each keyword that is given a name as it is
 
 
 @dataclass
 class Def:
     parameters: list
     rest: str  # the name after `**`; empty without one
+    defaults: dict  # what the defaults of parameters are like
 
 
 @dataclass
@@ -206,7 +208,8 @@ class Reader(ast.NodeVisitor):
                 keywords.update(entries(key.value))
         starred = [part for part in node.args if isinstance(part, ast.Starred)]
         positional = [kind_of(part) for part in node.args if part not in starred]
-        self.file.calls.append(Call(name, is_native, node.lineno, self.inside, keywords, splats, positional, is_statement, self.wanted))
+        names = {key.arg: key.value.id for key in node.keywords if key.arg and isinstance(key.value, ast.Name)}
+        self.file.calls.append(Call(name, is_native, node.lineno, self.inside, keywords, splats, positional, is_statement, self.wanted, names))
 
     def member(self, node, name, member, is_called):
         if name == "native":
@@ -340,6 +343,13 @@ def rule_attributes(value, dicts):
     return found
 
 
+def defaults_of(arguments):
+    """What the defaults of a function's parameters are like."""
+    positional = [*arguments.posonlyargs, *arguments.args]
+    given = [*zip(positional[len(positional) - len(arguments.defaults):], arguments.defaults), *zip(arguments.kwonlyargs, arguments.kw_defaults)]
+    return {parameter.arg: kind_of(value) for parameter, value in given if value is not None}
+
+
 def bound_by(node):
     """The names that a statement at the top level binds."""
     match node:
@@ -360,7 +370,7 @@ def top_level(file, tree):
                     file.globals |= set(found[2])
             case ast.FunctionDef(name=name, args=arguments):
                 parameters = [it.arg for it in [*arguments.posonlyargs, *arguments.args, *arguments.kwonlyargs]]
-                file.defs[name] = Def(parameters, arguments.kwarg.arg if arguments.kwarg else "")
+                file.defs[name] = Def(parameters, arguments.kwarg.arg if arguments.kwarg else "", defaults_of(arguments))
                 file.globals.add(name)
             case ast.Assign(targets=targets, value=value):
                 for part in (part for target in targets for part in ast.walk(target) if isinstance(part, ast.Name)):
