@@ -12,8 +12,10 @@ DEFAULT = "//conditions:default"
 # what the language takes of escapes, beside a backslash before a line end
 ESCAPES = set("nrt\\'\"\n\r")
 
+# a line that can't be in a bundle: mostly one of a docstring or a comment
+HEADER = re.compile(rb"^=== ", re.M)
 # what a BUILD file has where something in it is replaced
-MAY_CHANGE = re.compile(rb"select\b|[{\\]|load\(\s*[\"'][^/@:]", re.M)
+MAY_CHANGE = re.compile(rb"select\b|[{\\]|^=== |load\(\s*[\"'][^/@:]", re.M)
 
 
 class Copy:
@@ -46,6 +48,9 @@ class Copy:
                 self.statement(node)
         for node in parsed(self.text).body if self.loads_more else []:
             self.load_more(node)
+        for found in HEADER.finditer(self.text):
+            self.parts.append((found.start(), found.start(), b" "))
+            self.counts["a line like a bundle's header"] += 1
         if not self.parts:
             return None
         found, end = b"", 0

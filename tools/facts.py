@@ -61,6 +61,11 @@ class Workspace:
             repository = ""
         return self.joined(self.joined(self.directory_of(repository), package), name), place
 
+    def may_hold(self, path):
+        """Whether a file may be laid over the tree at this path."""
+        above = path.split("/")[:-1]
+        return is_path(path) and not any("/".join(above[:n]) in self.paths for n in range(1, len(above) + 1))
+
     @staticmethod
     def repository_of(path):
         return path.split("/")[1] if path.startswith("external/") and path.count("/") > 1 else ""
@@ -171,7 +176,7 @@ class Facts:
         return bool(found) and found[0] == "stub"
 
     def cannot(self, what, file, line):
-        if all(not it.first <= int(str(line).split()[0]) <= it.last for it in self.replaced[file.path]):
+        if not self.is_replaced(file, int(str(line).split()[0])):
             self.left_out[what].append(f"{file.path}:{line}")
 
     def stub(self, place, symbol):
@@ -191,7 +196,7 @@ class Facts:
                 loaded = self.workspace.files.get(path)
                 if not loaded:
                     return "stub", place, clauses[name]
-                return self.origin(loaded, clauses[name], (*seen, (file.path, name), (path, clauses[name]))) if (path, clauses[name]) not in seen else None
+                return self.origin(loaded, clauses[name], (*seen, (file.path, name))) if (path, clauses[name]) not in seen else None
         return ("value",) if name in file.globals else None
 
     def kind_of_global(self, file, name, depth=8):
@@ -255,14 +260,19 @@ class Facts:
         for keyword, name in call.passed.items():
             if inside and name in inside.parameters:
                 self.passed["def", file.path, call.inside].add((name, callee, keyword))
-        if callee[0] == "stub":
+        if callee[0] == "stub" and not self.is_replaced(file, call.line):
             stub = self.stub(*callee[1:])
             stub.is_called = True
             stub.wanted[call.wanted] += not call.is_statement
             stub.makes_targets |= "name" in call.keywords or call.is_statement and bool(call.splats or call.keywords and call.positional)
 
+    def is_replaced(self, file, line):
+        return any(it.first <= line <= it.last for it in self.replaced[file.path])
+
     def use(self, file, name, wanted, line):
         if name in file.globals:
+            if self.is_replaced(file, line):
+                return
             found = self.origin(file, name)
             if found and found[0] == "stub":
                 self.stub(*found[1:]).wanted[wanted] += 1

@@ -193,7 +193,7 @@ class Reader(ast.NodeVisitor):
             case _:
                 self.visit(node.func)
         for part in node.args:
-            self.wanting("", part)
+            self.wanting("dict" if isinstance(node.func, ast.Name) and node.func.id == "dict" else "", part)
         for keyword in node.keywords:
             self.wanting(keyword.arg or "", keyword.value)
 
@@ -329,8 +329,13 @@ ATTRIBUTE_TYPES = {name: name for name in "bool int label label_list output outp
 
 def rule_attributes(value, dicts):
     """The types that a call of `rule` gives its attributes, as far as the text and these globals show them; nothing for another value."""
-    if not (isinstance(value, ast.Call) and isinstance(value.func, ast.Name) and value.func.id == "rule"):
-        return None
+    match value:
+        case ast.Call(func=ast.Name(id="rule")):
+            pass
+        case ast.Call(func=ast.Attribute(value=ast.Name(id="analysistest" | "unittest"), attr="make")):
+            return {"target_under_test": "label"}
+        case _:
+            return None
     shown = [part for key in value.keywords if key.arg == "attrs" for part in ast.walk(key.value)]
     shown += [part for name in shown if isinstance(name, ast.Name) and name.id in dicts for part in ast.walk(dicts[name.id])]
     pairs = [pair for part in shown if isinstance(part, ast.Dict) for pair in zip(part.keys, part.values)]
