@@ -5,7 +5,7 @@ from collections import Counter, defaultdict
 
 from facts import VALUE_METHODS
 from guesses import DICTS, type_of
-from reading import kind_of, parsed
+from reading import BUILD_FUNCTIONS, has_name, kind_of, makers_of, parsed
 
 LISTS = ("labels", "strings", "list")
 DEFAULT = "//conditions:default"
@@ -29,6 +29,7 @@ class Copy:
         self.parts = []  # (start, end, text)
         self.counts = Counter()
         self.has_dicts = False  # whether the function around may pass a dict on
+        self.makers = set()  # parameters of the function around whose members declare targets
         self.loads_more = defaultdict(set)  # a loaded name -> members that stand as symbols of their own
 
     def span(self, node):
@@ -98,6 +99,8 @@ class Copy:
         match node:
             case ast.Call(func=ast.Name(id="select")):
                 self.select(node, wanted)
+            case ast.Call(func=ast.Attribute(value=ast.Name(id=name)) as called) if name in self.makers:
+                self.made(node, called, wanted)
             case ast.Call(func=ast.Attribute(value=ast.Name(id=name), attr="with_or")) if self.facts.is_stub(self.file, name):
                 self.select(node, wanted)
             case ast.Call(func=ast.Attribute(value=ast.Name(id=name), attr=member)) | ast.Attribute(value=ast.Name(id=name), attr=member) if (
@@ -113,15 +116,30 @@ class Copy:
                 self.visit(left, wanted)
                 self.visit(right, wanted)
             case ast.FunctionDef():
-                before, self.has_dicts = self.has_dicts, self.may_pass_dicts(node)
+                self.has_dicts, self.makers = self.may_pass_dicts(node), makers_of(node)
                 for part in ast.iter_child_nodes(node):
                     self.visit(part)
-                self.has_dicts = before
+                self.has_dicts, self.makers = False, set()
+            case ast.List(elts=parts):
+                for part in parts:
+                    self.visit(part, "text")
             case ast.Constant(value=str()):
                 self.escapes(node)
             case _:
                 for part in ast.iter_child_nodes(node):
                     self.visit(part, wanted if isinstance(node, ast.IfExp) else "")
+
+    def made(self, call, called, wanted):
+        """A member of a parameter that stands for the rules: a rule or function of BUILD files, or else an empty value."""
+        if called.attr == "select":
+            self.select(call, wanted)
+            return
+        self.counts["a member"] += 1
+        if has_name(call) or called.attr in BUILD_FUNCTIONS:
+            self.replace(*self.span(called.value), "native")
+            self.arguments(call)
+        else:
+            self.replace(*self.span(call), "", {"list": "[]", "text": f'":{called.attr}"'}.get(wanted, "None"))
 
     def arguments(self, call):
         for part in call.args:

@@ -137,6 +137,7 @@ class Reader(ast.NodeVisitor):
         self.file = file
         self.inside = ""
         self.locals = set()
+        self.makers = set()  # parameters whose members declare targets
         self.wanted = ""
 
     def left_out(self, node, what):
@@ -157,10 +158,10 @@ class Reader(ast.NodeVisitor):
         for default in [*node.args.defaults, *node.args.kw_defaults]:
             if default is not None:
                 self.visit(default)
-        self.inside, self.locals = node.name, names_bound(node)
+        self.inside, self.locals, self.makers = node.name, names_bound(node), makers_of(node)
         for part in node.body:
             self.visit(part)
-        self.inside, self.locals = "", set()
+        self.inside, self.locals, self.makers = "", set(), set()
 
     def visit_Lambda(self, node):
         self.left_out(node, "lambda")
@@ -184,6 +185,8 @@ class Reader(ast.NodeVisitor):
                 self.named_call(node, name, False, is_statement)
             case ast.Attribute(value=ast.Name(id="native"), attr=name) if not self.known("native"):
                 self.named_call(node, name, True, is_statement)
+            case ast.Attribute(value=ast.Name(id=name), attr=member) if name in self.makers and has_name(node):
+                self.named_call(node, member, True, is_statement)
             case ast.Attribute(value=ast.Name(id=name), attr=member) if name not in self.locals:
                 self.member(node, name, member, True)
                 if is_statement:
@@ -270,6 +273,22 @@ class Reader(ast.NodeVisitor):
             self.wanting("string", part)
 
     visit_Tuple = visit_List
+
+
+def has_name(call):
+    return any(key.arg == "name" for key in call.keywords)
+
+
+def makers_of(function):
+    """The parameters of a function whose members are called as rules: `def targets(rules): rules.cc_library(name = ..)`."""
+    arguments = function.args
+    parameters = {it.arg for it in [*arguments.posonlyargs, *arguments.args, *arguments.kwonlyargs]}
+    found = set()
+    for part in ast.walk(function):
+        match part:
+            case ast.Call(func=ast.Attribute(value=ast.Name(id=name))) if name in parameters and has_name(part):
+                found.add(name)
+    return found
 
 
 def names_bound(function):
