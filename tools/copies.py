@@ -103,6 +103,13 @@ class Copy:
                 self.made(node, called, wanted)
             case ast.Call(func=ast.Attribute(value=ast.Name(id=name), attr="with_or")) if self.facts.is_stub(self.file, name):
                 self.select(node, wanted)
+            case ast.Attribute(value=ast.Name(id=name), attr=member) if self.facts.known_member(self.file, name, member):
+                self.replace(*self.span(node), f"{name}__{member}")
+                self.loads_more[name].add(member)
+                self.counts["a member"] += 1
+            case ast.Call(func=ast.Attribute(value=ast.Name(id=name), attr=member)) if self.facts.known_member(self.file, name, member):
+                self.visit(node.func)
+                self.arguments(node)
             case ast.Call(func=ast.Attribute(value=ast.Name(id=name), attr=member)) | ast.Attribute(value=ast.Name(id=name), attr=member) if (
                 self.file.is_build and member not in VALUE_METHODS and self.facts.is_stub(self.file, name)
             ):

@@ -3,6 +3,7 @@ from collections import Counter
 
 from guesses import type_of
 from reading import BUILD_FUNCTIONS, BUILT_INS
+from skylib import MEMBERS
 
 RESERVED = set("""and break continue def elif else for if in lambda load not or pass return as assert async await class del except finally from
     global import is nonlocal raise try while with yield native""".split()) | BUILT_INS | BUILD_FUNCTIONS
@@ -38,7 +39,9 @@ def value_for(stub):
 
 
 def definition(repository, symbol, stub, given):
-    """The text that defines a symbol, in one line. `given` is what its calls give it."""
+    """The text that defines a symbol, in one line but for members of skylib's. `given` is what its calls give it."""
+    if symbol in MEMBERS and repository:
+        return f"def {symbol}{MEMBERS[symbol]}"
     if stub.makes_targets:
         may_have_dicts = any(kinds["dict"] or kinds["other"] for kinds in given.values())
         passed = '{key: value for key, value in kwargs.items() if type(value) != "dict"}' if may_have_dicts else "kwargs"

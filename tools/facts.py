@@ -7,6 +7,7 @@ from collections import Counter, defaultdict
 from definitions import definition
 from guesses import DICTS
 from reading import BUILD_FUNCTIONS, BUILT_INS, LEFT_OUT, read
+from skylib import MEMBERS, REPOSITORY as SKYLIB
 from workspace import SCHEMA, content, files, has_content, is_path
 
 REPOSITORY = re.compile(r"@([\w.+~-]+)(?://([^:]*)(?::(.*))?)?")
@@ -128,6 +129,13 @@ class Facts:
                     pending.append(loaded)
         return found
 
+    def known_member(self, file, name, member):
+        """The symbol that stands for a member of one of skylib's structs, where the file loads the struct from skylib's own file."""
+        found = self.origin(file, name) if name in file.globals else None
+        if not found or found[0] != "stub" or found[1][0] != SKYLIB or f"{found[2]}__{member}" not in MEMBERS:
+            return ""
+        return f"{found[2]}__{member}" if self.is_loaded_from(file, name, found[1]) else ""
+
     def find_stand_ins(self):
         """Finds the statements of .bzl files that `bq` can't read, and those that ask for a member of what such a statement binds."""
         pending = []  # (file, statement, names whose members it asks for)
@@ -141,7 +149,8 @@ class Facts:
                 if not faulty.isdisjoint(lines):
                     self.replace(file, statement)
                 elif statement.names:
-                    asked = {name for name, member, line, _ in file.members if line in lines and member not in (*VALUE_METHODS, "with_or")}
+                    asked = {name for name, member, line, _ in file.members
+                             if line in lines and member not in (*VALUE_METHODS, "with_or") and not self.known_member(file, name, member)}
                     pending.append((file, statement, asked))
         count = -1
         while count != len(pending):
@@ -281,7 +290,9 @@ class Facts:
 
     def member(self, file, name, member, line, is_called):
         found = self.origin(file, name) if name in file.globals else None
-        if found and found[0] == "stub":
+        if symbol := self.known_member(file, name, member):
+            self.stub(found[1], symbol)
+        elif found and found[0] == "stub":
             self.stub(*found[1:]).members.add(member)
             if member not in (*VALUE_METHODS, "with_or") and not file.is_build:
                 self.cannot("a member of what another file gives", file, f"{line} {name}.{member}")
