@@ -192,11 +192,7 @@ class Copy:
         self.counts["a select"] += 1
         of = node.args[0] if node.args else ast.Dict([], [])
         if not isinstance(of, ast.Dict):
-            start, end = self.span(node)
-            inner, after = self.span(of)
-            self.replace(start, inner, "(" if wanted == "text" else "[part for branch in (")
-            self.replace(after, end, "", ").values()[-1]" if wanted == "text" else ").values() for part in branch]")
-            self.visit(of)
+            self.select_any(node, of, wanted)
             return
         kinds = [self.kind(value) for value in of.values]
         if any(kind in LISTS for kind in kinds) or wanted == "list":
@@ -207,6 +203,19 @@ class Copy:
         self.keep(node, chosen)
         for value in chosen:
             self.visit(value, wanted)
+
+    def select_any(self, node, of, wanted):
+        """The same where the dict isn't shown: all branches of a list, the last of another value; where neither is known, nothing is given."""
+        start, end = self.span(node)
+        inner, after = self.span(of)
+        kind = self.kind(of.value) if isinstance(of, ast.DictComp) else "other"
+        if kind == "dict" or kind == "other" and not wanted:
+            self.replace(start, end, "", "None")
+            return
+        is_text = kind in ("string", "label") or wanted == "text" and kind not in LISTS
+        self.replace(start, inner, "(" if is_text else "[part for branch in (")
+        self.replace(after, end, "", ").values()[-1]" if is_text else ").values() for part in branch]")
+        self.visit(of)
 
     def keep(self, node, chosen):
         """Keeps of a node these parts alone, joined by `+`."""

@@ -122,6 +122,8 @@ def kind_of(node):
             return kind_of(body)
         case ast.Call(func=ast.Name(id="select") | ast.Attribute(attr="with_or"), args=[ast.Dict(values=branches), *_]):
             return first_known({kind_of(branch) for branch in branches})
+        case ast.Call(func=ast.Name(id="select"), args=[ast.DictComp(value=branch), *_]):
+            return kind_of(branch)
         case ast.Call(func=ast.Name(id="glob") | ast.Attribute(attr="glob")):
             return "labels"
         case ast.Call(func=ast.Attribute(value=of, attr="format" | "strip" | "replace" | "lower" | "upper" | "join")):
@@ -379,8 +381,12 @@ def bound_by(node):
     match node:
         case ast.FunctionDef(name=name):
             return [name]
+        case ast.Assign(targets=targets):
+            return [part.id for target in targets for part in ast.walk(target) if isinstance(part, ast.Name) and isinstance(part.ctx, ast.Store)]
+        case ast.AugAssign(target=ast.Name(id=name)):
+            return [name]
         case _:
-            return [part.id for part in ast.walk(node) if isinstance(part, ast.Name) and isinstance(part.ctx, ast.Store)]
+            return []
 
 
 def top_level(file, tree):
