@@ -130,6 +130,8 @@ class Copy:
             case ast.List(elts=parts):
                 for part in parts:
                     self.visit(part, "text")
+            case ast.AugAssign(op=ast.Add(), value=value):
+                self.visit(value, "list" if self.kind(value) == "other" else "")
             case ast.Constant(value=str()):
                 self.escapes(node)
             case _:
@@ -181,11 +183,11 @@ class Copy:
         return self.facts.kind_of_global(self.file, node.id) if isinstance(node, ast.Name) else kind_of(node)
 
     def takes(self, keyword):
-        """Whether an attribute of this name takes a list or one value, where the name or what it is given tells."""
+        """Whether an attribute of this name takes a list or one value, by its name or by what it is given elsewhere."""
         if not keyword:
             return ""
         kind, source = type_of(keyword, Counter(), self.facts.everywhere)
-        return "" if source == "nothing" else "list" if kind.endswith("_list") else "text"
+        return "unknown" if source == "nothing" else "list" if kind.endswith("_list") else "text"
 
     def select(self, node, wanted):
         """All branches of a list, one after another, as `bazel query` follows them all; of another value the default one."""
@@ -209,7 +211,7 @@ class Copy:
         start, end = self.span(node)
         inner, after = self.span(of)
         kind = self.kind(of.value) if isinstance(of, ast.DictComp) else "other"
-        if kind == "dict" or kind == "other" and not wanted:
+        if kind == "dict" or kind == "other" and wanted == "unknown":
             self.replace(start, end, "", "None")
             return
         is_text = kind in ("string", "label") or wanted == "text" and kind not in LISTS
