@@ -96,28 +96,12 @@ class Copy:
                 self.parts.append((end, end, f', {"" if is_same else f"{name}__{member} = "}"{symbol}__{member}"'.encode()))
 
     def visit(self, node, wanted=""):
+        """Replaces parts of an expression or statement; `wanted` is what its place takes: list, text, unknown, or empty."""
         match node:
-            case ast.Call(func=ast.Name(id="select")):
-                self.select(node, wanted)
-            case ast.Call(func=ast.Attribute(value=ast.Name(id=name)) as called) if name in self.makers:
-                self.made(node, called, wanted)
-            case ast.Call(func=ast.Attribute(value=ast.Name(id=name), attr="with_or")) if self.facts.is_stub(self.file, name):
-                self.select(node, wanted)
-            case ast.Attribute(value=ast.Name(id=name), attr=member) if self.facts.known_member(self.file, name, member):
-                self.replace(*self.span(node), f"{name}__{member}")
-                self.loads_more[name].add(member)
-                self.counts["a member"] += 1
-            case ast.Call(func=ast.Attribute(value=ast.Name(id=name), attr=member)) if self.facts.known_member(self.file, name, member):
-                self.visit(node.func)
-                self.arguments(node)
-            case ast.Call(func=ast.Attribute(value=ast.Name(id=name), attr=member)) | ast.Attribute(value=ast.Name(id=name), attr=member) if (
-                self.file.is_build and member not in VALUE_METHODS and self.facts.is_stub(self.file, name)
-            ):
-                self.replace(*self.span(node), "", {"list": "[]", "text": '""'}.get(wanted, "None"))
-                self.counts["a member"] += 1
             case ast.Call():
-                self.visit(node.func)
-                self.arguments(node)
+                self.call(node, wanted)
+            case ast.Attribute(value=ast.Name(id=name), attr=member):
+                self.member(node, name, member, wanted)
             case ast.BinOp(op=ast.Add(), left=left, right=right):
                 wanted = "list" if self.kind(left) in LISTS or self.kind(right) in LISTS else wanted
                 self.visit(left, wanted)
@@ -137,6 +121,35 @@ class Copy:
             case _:
                 for part in ast.iter_child_nodes(node):
                     self.visit(part, wanted if isinstance(node, ast.IfExp) else "")
+
+    def call(self, node, wanted):
+        match node.func:
+            case ast.Name(id="select"):
+                self.select(node, wanted)
+            case ast.Attribute(value=ast.Name(id=name)) as called if name in self.makers:
+                self.made(node, called, wanted)
+            case ast.Attribute(value=ast.Name(id=name), attr="with_or") if self.facts.is_stub(self.file, name):
+                self.select(node, wanted)
+            case ast.Attribute(value=ast.Name(id=name), attr=member) if self.is_empty_member(name, member):
+                self.member(node, name, member, wanted)
+            case _:
+                self.visit(node.func)
+                self.arguments(node)
+
+    def is_empty_member(self, name, member):
+        """Whether an empty value stands for a member, and for a call of it, in a BUILD file."""
+        is_value = member in VALUE_METHODS or self.facts.known_member(self.file, name, member)
+        return self.file.is_build and not is_value and self.facts.is_stub(self.file, name)
+
+    def member(self, node, name, member, wanted):
+        if self.facts.known_member(self.file, name, member):
+            self.replace(*self.span(node), f"{name}__{member}")
+            self.loads_more[name].add(member)
+        elif self.is_empty_member(name, member):
+            self.replace(*self.span(node), "", {"list": "[]", "text": '""'}.get(wanted, "None"))
+        else:
+            return
+        self.counts["a member"] += 1
 
     def made(self, call, called, wanted):
         """A member of a parameter that stands for the rules: a rule or function of BUILD files, or else an empty value."""
