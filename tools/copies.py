@@ -5,7 +5,7 @@ from collections import Counter, defaultdict
 
 from facts import VALUE_METHODS
 from guesses import DICTS, type_of
-from reading import BUILD_FUNCTIONS, has_name, kind_of, makers_of, parsed
+from reading import BUILD_FUNCTIONS, NATIVE_VALUES, has_name, kind_of, label_in, makers_of, parsed
 
 LISTS = ("labels", "strings", "list")
 DEFAULT = "//conditions:default"
@@ -15,7 +15,7 @@ ESCAPES = set("nrt\\'\"\n\r")
 # a line that can't be in a bundle: mostly one of a docstring or a comment
 HEADER = re.compile(rb"^=== ", re.M)
 # what a BUILD file has where something in it is replaced
-MAY_CHANGE = re.compile(rb"select\b|[{\\]|^=== |load\(\s*[\"'][^/@:]", re.M)
+MAY_CHANGE = re.compile(rb"select\b|[{\\]|^=== |\bLabel\b|load\(\s*[\"'][^/@:]", re.M)
 
 
 class Copy:
@@ -126,6 +126,11 @@ class Copy:
         match node.func:
             case ast.Name(id="select"):
                 self.select(node, wanted)
+            case _ if label_in(node):
+                self.label(node, label_in(node))
+            case ast.Attribute(value=ast.Name(id="native"), attr=member) if member in NATIVE_VALUES:
+                self.replace(*self.span(node), "", NATIVE_VALUES[member])
+                self.counts["a member"] += 1
             case ast.Attribute(value=ast.Name(id=name)) as called if name in self.makers:
                 self.made(node, called, wanted)
             case ast.Attribute(value=ast.Name(id=name), attr="with_or") if self.facts.is_stub(self.file, name):
@@ -135,6 +140,15 @@ class Copy:
             case _:
                 self.visit(node.func)
                 self.arguments(node)
+
+    def label(self, node, text):
+        """The text of a label in place of the label."""
+        start, end = self.span(node)
+        inner, after = self.span(text)
+        self.replace(start, inner, "(")
+        self.replace(after, end, "", ")")
+        self.visit(text)
+        self.counts["a label"] += 1
 
     def is_empty_member(self, name, member):
         """Whether an empty value stands for a member, and for a call of it, in a BUILD file."""

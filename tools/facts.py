@@ -6,7 +6,7 @@ from collections import Counter, defaultdict
 
 from definitions import definition
 from guesses import DICTS
-from reading import BUILD_FUNCTIONS, BUILT_INS, LEFT_OUT, read
+from reading import BUILD_FUNCTIONS, BUILT_INS, LEFT_OUT, NATIVE_VALUES, read
 from skylib import MEMBERS, REPOSITORY as SKYLIB
 from workspace import SCHEMA, content, files, has_content, is_path
 
@@ -177,7 +177,7 @@ class Facts:
     def is_unknown(file, name, is_native):
         """Whether a .bzl file has no such name."""
         if is_native:
-            return name in LEFT_OUT
+            return name in LEFT_OUT and name not in NATIVE_VALUES
         return name not in file.globals and name not in BUILT_INS and name != "select"
 
     def is_stub(self, file, name):
@@ -244,7 +244,8 @@ class Facts:
     def callee(self, file, name, is_native):
         """What a call gives its arguments to; nothing for what takes none, or isn't known."""
         if is_native:
-            return None if name in BUILD_FUNCTIONS or name in LEFT_OUT else ("rule", name)
+            is_value = name in BUILD_FUNCTIONS or name in LEFT_OUT or name in NATIVE_VALUES or name == "package_relative_label"
+            return None if is_value else ("rule", name)
         if name in file.globals:
             found = self.origin(file, name)
             return found if found and found[0] != "value" else None
@@ -253,7 +254,7 @@ class Facts:
         return "rule", name
 
     def call(self, file, call):
-        if call.is_native and call.name in LEFT_OUT:
+        if call.is_native and self.is_unknown(file, call.name, True):
             self.cannot(f"native.{call.name}", file, call.line)
         callee = self.callee(file, call.name, call.is_native)
         if not callee:

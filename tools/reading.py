@@ -18,6 +18,19 @@ LEFT_OUT = set("""abs analysis_test_transition apple_common apple_support aspect
     CcToolchainConfigInfo CcSharedLibraryInfo DebugPackageInfo ErlangInfo macro module_version symbolic_macro visibility""".split())
 
 
+# what stands for a call of a member of `native` that bq leaves out, as for a workspace in which nothing was declared before
+NATIVE_VALUES = {"repository_name": '"@"', "repo_name": '""', "module_name": "None", "module_version": "None", "existing_rules": "{}", "existing_rule": "None"}
+
+
+def label_in(call):
+    """The text in a call of `Label`, or of `native.package_relative_label`, that is given one."""
+    match call:
+        case ast.Call(func=ast.Name(id="Label") | ast.Attribute(value=ast.Name(id="native"), attr="package_relative_label"), args=[text], keywords=[]):
+            return text
+        case _:
+            return None
+
+
 def passed(value):
     """The name whose entries a `**` passes on: its own, or the first that is given to a call, as in `**with_tags(attrs)`."""
     if isinstance(value, ast.Call) and value.args:
@@ -126,6 +139,8 @@ def kind_of(node):
             return kind_of(branch)
         case ast.Call(func=ast.Name(id="glob") | ast.Attribute(attr="glob")):
             return "labels"
+        case ast.Call() if label_in(node):
+            return "label"
         case ast.Call(func=ast.Attribute(value=of, attr="format" | "strip" | "replace" | "lower" | "upper" | "join")):
             return kind_of(of) if isinstance(of, ast.Constant) else "string"
         case _:
@@ -183,6 +198,8 @@ class Reader(ast.NodeVisitor):
                 return
             case ast.Name(id="select"):
                 self.left_out(node, "select")
+            case ast.Name(id="Label") if label_in(node) and not self.known("Label"):
+                pass
             case ast.Name(id=name):
                 self.named_call(node, name, False, is_statement)
             case ast.Attribute(value=ast.Name(id="native"), attr=name) if not self.known("native"):
