@@ -8,7 +8,7 @@ BY_NAME = {
     for kind, names in {
         "label_list": """srcs hdrs deps data textual_hdrs exports runtime_deps plugins exported_plugins tools exec_tools tests jars resources
             embed td_srcs implementation_deps additional_linker_inputs toolchains compatible_with restricted_to target_compatible_with
-            exec_compatible_with constraint_values parents applicable_licenses non_arc_srcs resource_files proto_deps public_hdrs
+            exec_compatible_with constraint_values parents applicable_licenses non_arc_srcs tars layers debs resource_files proto_deps public_hdrs
             private_hdrs""",
         "label": """actual constraint_setting toolchain toolchain_type srcjar manifest win_def_file td_file tblgen test main
             toolchain_config all_files ar_files as_files compiler_files dwp_files linker_files objcopy_files strip_files
@@ -26,6 +26,9 @@ BY_NAME = {
     }.items()
     for name in names.split()
 }
+
+# those of Bazel's own rules and of rules that many load which take a dict
+DICTS = set("exec_properties env values flag_values define_values substitutions".split())
 
 # the shapes of values, and the types that take them
 SHAPES = {

@@ -18,6 +18,19 @@ LEFT_OUT = set("""abs analysis_test_transition apple_common apple_support aspect
     CcToolchainConfigInfo CcSharedLibraryInfo DebugPackageInfo ErlangInfo macro module_version symbolic_macro visibility""".split())
 
 
+# what stands for a call of a member of `native` that bq leaves out, as for a workspace in which nothing was declared before
+NATIVE_VALUES = {"repository_name": '"@"', "repo_name": '""', "module_name": "None", "module_version": "None", "existing_rules": "{}", "existing_rule": "None"}
+
+
+def label_in(call):
+    """The text in a call of `Label`, or of `native.package_relative_label`, that is given one."""
+    match call:
+        case ast.Call(func=ast.Name(id="Label") | ast.Attribute(value=ast.Name(id="native"), attr="package_relative_label"), args=[text], keywords=[]):
+            return text
+        case _:
+            return None
+
+
 def passed(value):
     """The name whose entries a `**` passes on: its own, or the first that is given to a call, as in `**with_tags(attrs)`."""
     if isinstance(value, ast.Call) and value.args:
@@ -38,12 +51,24 @@ class Call:
     positional: list  # kinds
     is_statement: bool
     wanted: str  # what the place takes: a kind, or empty
+    passed: dict  # each keyword that is given a name as it is
 
 
 @dataclass
 class Def:
     parameters: list
     rest: str  # the name after `**`; empty without one
+    defaults: dict  # what the defaults of parameters are like
+
+
+@dataclass
+class Statement:
+    """A statement at the top level: its lines, and the names that it binds."""
+
+    first: int
+    last: int
+    names: list
+    is_def: bool
 
 
 @dataclass
@@ -54,10 +79,14 @@ class File:
     loads: list = field(default_factory=list)  # (label, line, {local: symbol})
     defs: dict = field(default_factory=dict)
     aliases: dict = field(default_factory=dict)  # a global that is another name
+    made: dict = field(default_factory=dict)  # a global that a call of `rule` gives: the types that it says, by attribute
+    kinds: dict = field(default_factory=dict)  # what the value of a global is like
+    statements: list = field(default_factory=list)
     globals: set = field(default_factory=set)
     calls: list = field(default_factory=list)
     uses: list = field(default_factory=list)  # (name, how it is used, line)
     members: list = field(default_factory=list)  # (name, member, line, whether it is called)
+    member_calls: list = field(default_factory=list)  # (name, member, keywords), of those that are statements
     faults: list = field(default_factory=list)  # (line, what bq leaves out)
 
 
@@ -74,8 +103,13 @@ def joined(kinds):
     return "strings" if "string" in kinds else "list"
 
 
+def first_known(kinds):
+    """The kind that says most of a value that is like one of these."""
+    return next((kind for kind in ("labels", "strings", "list", "label", "string", "bool", "int", "bit", "dict", "none") if kind in kinds), "other")
+
+
 def kind_of(node):
-    """What a value is like: string, label, strings, labels, list, bit, int, bool, dict, select, none, or other where the form doesn't show it."""
+    """What a value is like: string, label, strings, labels, list, bit, int, bool, dict, none, or other where the form doesn't show it."""
     match node:
         case ast.Constant(value=bool()):
             return "bool"
@@ -94,16 +128,19 @@ def kind_of(node):
         case ast.Dict() | ast.DictComp():
             return "dict"
         case ast.BinOp(op=ast.Add(), left=left, right=right):
-            sides = [kind for kind in (kind_of(left), kind_of(right)) if kind != "other"]
-            return sides[0] if sides and "select" not in sides else "select" if sides else "other"
+            return first_known({kind_of(left), kind_of(right)})
         case ast.BinOp(op=ast.Mod(), left=left):
             return kind_of(left)
         case ast.IfExp(body=body):
             return kind_of(body)
-        case ast.Call(func=ast.Name(id="select")):
-            return "select"
+        case ast.Call(func=ast.Name(id="select") | ast.Attribute(attr="with_or"), args=[ast.Dict(values=branches), *_]):
+            return first_known({kind_of(branch) for branch in branches})
+        case ast.Call(func=ast.Name(id="select"), args=[ast.DictComp(value=branch), *_]):
+            return kind_of(branch)
         case ast.Call(func=ast.Name(id="glob") | ast.Attribute(attr="glob")):
             return "labels"
+        case ast.Call() if label_in(node):
+            return "label"
         case ast.Call(func=ast.Attribute(value=of, attr="format" | "strip" | "replace" | "lower" | "upper" | "join")):
             return kind_of(of) if isinstance(of, ast.Constant) else "string"
         case _:
@@ -117,6 +154,7 @@ class Reader(ast.NodeVisitor):
         self.file = file
         self.inside = ""
         self.locals = set()
+        self.makers = set()  # parameters whose members declare targets
         self.wanted = ""
 
     def left_out(self, node, what):
@@ -137,10 +175,10 @@ class Reader(ast.NodeVisitor):
         for default in [*node.args.defaults, *node.args.kw_defaults]:
             if default is not None:
                 self.visit(default)
-        self.inside, self.locals = node.name, names_bound(node)
+        self.inside, self.locals, self.makers = node.name, names_bound(node), makers_of(node)
         for part in node.body:
             self.visit(part)
-        self.inside, self.locals = "", set()
+        self.inside, self.locals, self.makers = "", set(), set()
 
     def visit_Lambda(self, node):
         self.left_out(node, "lambda")
@@ -160,18 +198,24 @@ class Reader(ast.NodeVisitor):
                 return
             case ast.Name(id="select"):
                 self.left_out(node, "select")
+            case ast.Name(id="Label") if label_in(node) and not self.known("Label"):
+                pass
             case ast.Name(id=name):
                 self.named_call(node, name, False, is_statement)
             case ast.Attribute(value=ast.Name(id="native"), attr=name) if not self.known("native"):
                 self.named_call(node, name, True, is_statement)
+            case ast.Attribute(value=ast.Name(id=name), attr=member) if name in self.makers and has_name(node):
+                self.named_call(node, member, True, is_statement)
             case ast.Attribute(value=ast.Name(id=name), attr=member) if name not in self.locals:
                 self.member(node, name, member, True)
+                if is_statement:
+                    self.file.member_calls.append((name, member, {key.arg: kind_of(key.value) for key in node.keywords if key.arg}))
             case ast.Attribute(value=of):
                 self.wanting("", of)
             case _:
                 self.visit(node.func)
         for part in node.args:
-            self.wanting("", part)
+            self.wanting("dict" if isinstance(node.func, ast.Name) and node.func.id == "dict" else "", part)
         for keyword in node.keywords:
             self.wanting(keyword.arg or "", keyword.value)
 
@@ -186,7 +230,8 @@ class Reader(ast.NodeVisitor):
                 keywords.update(entries(key.value))
         starred = [part for part in node.args if isinstance(part, ast.Starred)]
         positional = [kind_of(part) for part in node.args if part not in starred]
-        self.file.calls.append(Call(name, is_native, node.lineno, self.inside, keywords, splats, positional, is_statement, self.wanted))
+        names = {key.arg: key.value.id for key in node.keywords if key.arg and isinstance(key.value, ast.Name)}
+        self.file.calls.append(Call(name, is_native, node.lineno, self.inside, keywords, splats, positional, is_statement, self.wanted, names))
 
     def member(self, node, name, member, is_called):
         if name == "native":
@@ -249,6 +294,22 @@ class Reader(ast.NodeVisitor):
     visit_Tuple = visit_List
 
 
+def has_name(call):
+    return any(key.arg == "name" for key in call.keywords)
+
+
+def makers_of(function):
+    """The parameters of a function whose members are called as rules: `def targets(rules): rules.cc_library(name = ..)`."""
+    arguments = function.args
+    parameters = {it.arg for it in [*arguments.posonlyargs, *arguments.args, *arguments.kwonlyargs]}
+    found = set()
+    for part in ast.walk(function):
+        match part:
+            case ast.Call(func=ast.Attribute(value=ast.Name(id=name))) if name in parameters and has_name(part):
+                found.add(name)
+    return found
+
+
 def names_bound(function):
     """The names that a function binds: parameters, loop variables and what is assigned to."""
     arguments = function.args
@@ -300,8 +361,55 @@ def set_keys(function):
     return found
 
 
+# the types of a schema, by the functions of `attr` in a rule's attributes
+ATTRIBUTE_TYPES = {name: name for name in "bool int label label_list output output_list string string_list".split()}
+
+
+def rule_attributes(value, dicts):
+    """The types that a call of `rule` gives its attributes, as far as the text and these globals show them; nothing for another value."""
+    match value:
+        case ast.Call(func=ast.Name(id="rule")):
+            pass
+        case ast.Call(func=ast.Attribute(value=ast.Name(id="analysistest" | "unittest"), attr="make")):
+            return {"target_under_test": "label"}
+        case _:
+            return None
+    shown = [part for key in value.keywords if key.arg == "attrs" for part in ast.walk(key.value)]
+    shown += [part for name in shown if isinstance(name, ast.Name) and name.id in dicts for part in ast.walk(dicts[name.id])]
+    pairs = [pair for part in shown if isinstance(part, ast.Dict) for pair in zip(part.keys, part.values)]
+    pairs += [(ast.Constant(key.arg), key.value) for part in shown if isinstance(part, ast.Call) for key in part.keywords if key.arg]
+    found = {}
+    for name, kind in pairs:
+        match name, kind:
+            case ast.Constant(value=str() as name), ast.Call(func=ast.Attribute(value=ast.Name(id="attr"), attr=kind)):
+                found[name] = ATTRIBUTE_TYPES.get(kind, "")
+    return found
+
+
+def defaults_of(arguments):
+    """What the defaults of a function's parameters are like."""
+    positional = [*arguments.posonlyargs, *arguments.args]
+    given = [*zip(positional[len(positional) - len(arguments.defaults):], arguments.defaults), *zip(arguments.kwonlyargs, arguments.kw_defaults)]
+    return {parameter.arg: kind_of(value) for parameter, value in given if value is not None}
+
+
+def bound_by(node):
+    """The names that a statement at the top level binds."""
+    match node:
+        case ast.FunctionDef(name=name):
+            return [name]
+        case ast.Assign(targets=targets):
+            return [part.id for target in targets for part in ast.walk(target) if isinstance(part, ast.Name) and isinstance(part.ctx, ast.Store)]
+        case ast.AugAssign(target=ast.Name(id=name)):
+            return [name]
+        case _:
+            return []
+
+
 def top_level(file, tree):
+    dicts = {}
     for node in tree.body:
+        file.statements.append(Statement(node.lineno, node.end_lineno, bound_by(node), isinstance(node, ast.FunctionDef)))
         match node:
             case ast.Expr(value=ast.Call(func=ast.Name(id="load")) as call):
                 if found := load_of(call):
@@ -309,17 +417,29 @@ def top_level(file, tree):
                     file.globals |= set(found[2])
             case ast.FunctionDef(name=name, args=arguments):
                 parameters = [it.arg for it in [*arguments.posonlyargs, *arguments.args, *arguments.kwonlyargs]]
-                file.defs[name] = Def(parameters, arguments.kwarg.arg if arguments.kwarg else "")
+                file.defs[name] = Def(parameters, arguments.kwarg.arg if arguments.kwarg else "", defaults_of(arguments))
                 file.globals.add(name)
             case ast.Assign(targets=targets, value=value):
                 for part in (part for target in targets for part in ast.walk(target) if isinstance(part, ast.Name)):
                     file.globals.add(part.id)
+                    file.kinds[part.id] = kind_of(value)
                     if isinstance(value, ast.Name):
                         file.aliases[part.id] = value.id
+                    dicts[part.id] = value
+                    attributes = rule_attributes(value, dicts)
+                    if attributes is not None:
+                        file.made[part.id] = attributes
             case _:
                 for part in ast.walk(node):
                     if isinstance(part, ast.Name) and isinstance(part.ctx, ast.Store):
                         file.globals.add(part.id)
+
+
+def parsed(text):
+    """The tree of a text."""
+    with warnings.catch_warnings():
+        warnings.simplefilter("ignore")
+        return ast.parse(text.decode("utf-8", "surrogateescape").replace("\x0c", " "))
 
 
 def read(path, text):
@@ -327,9 +447,7 @@ def read(path, text):
     name = path.rpartition("/")[2]
     file = File(path, not name.endswith(".bzl"))
     try:
-        with warnings.catch_warnings():
-            warnings.simplefilter("ignore")
-            tree = ast.parse(text.decode("utf-8", "surrogateescape").replace("\x0c", " "))
+        tree = parsed(text)
     except (SyntaxError, ValueError, RecursionError) as error:
         file.broken = f"{getattr(error, 'lineno', '?')}: {getattr(error, 'msg', error)}"
         return file

@@ -1,0 +1,3 @@
+#include "hello/hello.h"
+
+int hello() { return 0; }

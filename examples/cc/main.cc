@@ -1,0 +1,3 @@
+#include "hello/hello.h"
+
+int main() { return hello(); }

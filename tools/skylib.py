@@ -1,0 +1,52 @@
+"""What members of bazel_skylib's structs do that macros call while they are loaded, as functions of Starlark, a line or more each.
+
+By skylib's own documentation (github.com/bazelbuild/bazel-skylib, docs). A stub defines `paths__basename` in place of `paths.basename`.
+"""
+PATHS = {
+    "basename": "(p):\n    return p.rpartition(\"/\")[-1]",
+    "dirname": "(p):\n    before, slash, _ = p.rpartition(\"/\")\n    return before.rstrip(\"/\") if before else slash",
+    "is_absolute": "(p):\n    return p.startswith(\"/\") or (len(p) > 2 and p[1] == \":\")",
+    "join": """(p, *others):
+    found = p
+    for other in others:
+        if other.startswith("/"):
+            found = other
+        elif not found or found.endswith("/"):
+            found += other
+        else:
+            found += "/" + other
+    return found""",
+    "split_extension": """(p):
+    name = p.rpartition("/")[-1]
+    dot = name.rfind(".")
+    return (p, "") if dot <= 0 else (p[:dot - len(name)], p[dot - len(name):])""",
+    "replace_extension": """(p, extension):
+    name = p.rpartition("/")[-1]
+    dot = name.rfind(".")
+    return (p if dot <= 0 else p[:dot - len(name)]) + extension""",
+}
+DICTS = {
+    "add": """(*dicts, **entries):
+    found = {}
+    for part in dicts:
+        found.update(part)
+    found.update(entries)
+    return found""",
+    "omit": "(dictionary, keys):\n    return {key: value for key, value in dictionary.items() if key not in keys}",
+}
+SHELL = {"quote": "(text):\n    return \"'\" + text.replace(\"'\", \"'\\\\''\") + \"'\""}
+COLLECTIONS = {
+    "uniq": "(values):\n    return {value: None for value in values}.keys()",
+    "before_each": "(separator, values):\n    return [part for value in values for part in (separator, value)]",
+    "after_each": "(separator, values):\n    return [part for value in values for part in (value, separator)]",
+}
+TYPES = {
+    f"is_{name}": f"(v):\n    return type(v) == {kind!r}".replace("'", '"')
+    for name, kind in {"list": "list", "string": "string", "bool": "bool", "none": "NoneType", "int": "int", "tuple": "tuple", "dict": "dict"}.items()
+}
+MEMBERS = {
+    f"{symbol}__{member}": text
+    for symbol, members in {"paths": PATHS, "dicts": DICTS, "shell": SHELL, "collections": COLLECTIONS, "types": TYPES}.items()
+    for member, text in members.items()
+}
+REPOSITORY = "bazel_skylib"
