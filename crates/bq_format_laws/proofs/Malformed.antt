@@ -1,10 +1,9 @@
 -- What is malformed stays so.
-use Rattle.std.proofs.Common.{◌≡◌, ◌∙◌, sym, ap, refl, ℕ, Bool, true, false, List, [], ◌∷◌, Result, Ok, Err}
-use Rattle.bq_source.specs.declared.fault.FaultKind.{FaultKind}
+use Rattle.std.proofs.Common.{◌≡◌, refl, ℕ, Bool, true, false, List, Ok, Err}
 use Rattle.bq_source.specs.declared.fault.FaultKind.TheVariants.{Format}
 use Rattle.bq_walk.specs.Looked.{Looked}
-use Rattle.bq_text.specs.Page.{PageView, finished}
-use Rattle.bq_format.specs.Percent.{DraftView, onto, and_then, finished_when, finished_draft, with_steps, text_by}
+use Rattle.bq_text.specs.Page.{PageView}
+use Rattle.bq_format.specs.Percent.{DraftView, onto, and_then, finished_when, with_steps, text_by}
 
 -- a draft, and the steps that are left
 abbrev pub draft : DraftView → ℕ → Looked DraftView

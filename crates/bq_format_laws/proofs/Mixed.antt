@@ -1,19 +1,18 @@
 -- Fields without text beside fields with a number are malformed.
-use Rattle.std.proofs.Common.{◌≡◌, ◌∙◌, sym, ap, subst, refl, ℕ, ◌⊎◌, inl, inr, Bool, true, false, List, [], ◌∷◌, Option, Some, None, Result, Ok, Err, arith}
-use Rattle.std.specs.Prelude.{◌&&◌, bytes_eq, if◌then◌else◌}
+use Rattle.std.proofs.Common.{◌≡◌, ◌∙◌, sym, ap, refl, ℕ, ◌⊎◌, inl, inr, true, false, List, [], ◌∷◌, Ok, Err, arith}
+use Rattle.std.specs.Prelude.{bytes_eq}
 use Rattle.std.specs.List.{Contains}
 use Rattle.std.proofs.lemmas.List.Elements.{Contains-append_cases, Contains-push_cases}
-use Rattle.bq_source.specs.declared.fault.FaultKind.TheVariants.{Format}
 use Rattle.bq_source.proofs.Choices.{by_bool}
 use Rattle.bq_value.specs.Cells.{StoreView}
 use Rattle.bq_value.specs.Datum.{Datum}
 use Rattle.bq_walk.specs.Looked.{Looked}
 use Rattle.bq_format.specs.declared.argument.Numbering.{Numbering}
-use Rattle.bq_format.specs.Argument.{argument, is_mixed, is_number, next_after, no_fields, numbering_after}
+use Rattle.bq_format.specs.Argument.{argument, is_number, next_after, no_fields, numbering_after}
 use Rattle.bq_format.specs.Method.{field_shown, unmixed, made, formatted}
-use Rattle.bq_format.specs.Percent.{DraftView, spoiled, and_write, and_then, blank, text_by}
+use Rattle.bq_format.specs.Percent.{DraftView, spoiled, and_write, and_then, blank}
 use Rattle.bq_format.specs.Piece.{Piece, byte, field, lone, pieces}
-use Rattle.bq_format_laws.proofs.Malformed.{draft, IsMalformed, IsWhole, text_whole, not_both}
+use Rattle.bq_format_laws.proofs.Malformed.{draft, IsMalformed, text_whole, not_both}
 
 -- ---- lists
 

@@ -1,7 +1,6 @@
 -- A format takes as many values as it has conversions for them.
-use Rattle.std.proofs.Common.{◌≡◌, ◌∙◌, sym, ap, subst, refl, ℕ, zero, suc, ◌⊎◌, inl, inr, Bool, true, false, cond, List, [], ◌∷◌, ◌++◌, drop, length, Option, Some, None, Result, Ok, Err, codes}
+use Rattle.std.proofs.Common.{◌≡◌, ◌∙◌, sym, ap, refl, ℕ, zero, suc, inl, inr, true, false, cond, List, [], ◌∷◌, ◌++◌, drop, length, Option, Some, None, Ok, Err, codes}
 use Rattle.std.specs.Prelude.{◌==◌}
-use Rattle.bq_source.specs.declared.fault.FaultKind.{FaultKind}
 use Rattle.bq_source.specs.declared.fault.FaultKind.TheVariants.{Format}
 use Rattle.bq_source.proofs.Choices.{by_bool}
 use Rattle.bq_string.specs.Parts.{partition}
@@ -10,7 +9,7 @@ use Rattle.bq_value.specs.Cells.{StoreView}
 use Rattle.bq_value.specs.Datum.{Datum, int}
 use Rattle.bq_walk.specs.Looked.{Looked}
 use Rattle.bq_format.specs.Percent.{DraftView, and_write, spoiled, and_then, decimal, takes_value, shown, next_shown, converted, values_after, ended, filled_by, filled, blank, text_by, text_filled}
-use Rattle.bq_format_laws.proofs.Malformed.{draft, IsMalformed, onto_malformed, then_malformed, text_malformed, IsWhole, text_whole, not_both}
+use Rattle.bq_format_laws.proofs.Malformed.{draft, IsMalformed, onto_malformed, then_malformed, text_malformed, text_whole, not_both}
 
 -- ---- what is malformed stays so
 
