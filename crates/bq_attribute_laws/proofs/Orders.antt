@@ -1,6 +1,6 @@
 -- A call of a rule, and each of its arguments, is refused in its order.
-use Rattle.std.proofs.Common.{◌≡◌, ◌∙◌, refl, ℕ, ◌⊎◌, inl, inr, Bool, true, false, cond, List, [], ◌∷◌, Option, Some, None, Result, Ok, Err, codes}
-use Rattle.std.specs.Prelude.{not, ◌&&◌, is_some, bytes_eq, if◌then◌else◌}
+use Rattle.std.proofs.Common.{◌≡◌, refl, ℕ, inl, inr, Bool, true, false, List, [], ◌∷◌, Option, Some, None, Result, Ok, Err, codes}
+use Rattle.std.specs.Prelude.{not, ◌&&◌, is_some, bytes_eq}
 use Rattle.bq_source.specs.declared.fault.FaultKind.{FaultKind}
 use Rattle.bq_source.specs.declared.fault.FaultKind.TheVariants.{NoAttribute, MissingAttribute}
 use Rattle.bq_source.proofs.Choices.{by_bool}
@@ -8,8 +8,6 @@ use Rattle.bq_label.specs.declared.packages.BuildFile.{BuildFile}
 use Rattle.bq_label.specs.Label.{PackageParts, LabelParts}
 use Rattle.bq_schema.specs.declared.attribute.AttributeType.{AttributeType}
 use Rattle.bq_schema.specs.Schema.{Rules}
-use Rattle.bq_target.specs.declared.target.Target.{Target}
-use Rattle.bq_target.specs.declared.value.AttributeValue.{AttributeValue}
 use Rattle.bq_target.specs.Value.{attribute_type}
 use Rattle.bq_value.specs.Datum.{Datum}
 use Rattle.bq_value.specs.Cells.{StoreView}
@@ -22,9 +20,9 @@ use Rattle.bq_attributes.specs.Texts.{text_in}
 use Rattle.bq_attributes.specs.LabelTexts.{label}
 use Rattle.bq_attributes.specs.Values.{value_as}
 use Rattle.bq_attributes.specs.Arguments.{nothing_given, is_none, with_value, with_label, with_name, with_attribute_by, with_attribute, keyword, with_argument, with_arguments}
-use Rattle.bq_attributes.specs.Declarations.{keywords_alone, own_attributes, gives_mandatory, if_whole, target_of, target, declaration}
-use Rattle.bq_refusal_laws.specs.Refusals.{Check, when, fault_in, fault_then, first_fault, FailsForFirst}
-use Rattle.bq_attribute_laws.specs.Orders.{no_attribute, bad_value, giving, naming, missing, declaring}
+use Rattle.bq_attributes.specs.Declarations.{keywords_alone, own_attributes, gives_mandatory, if_whole, target, declaration}
+use Rattle.bq_refusal_laws.specs.Refusals.{when, fault_in, fault_then, first_fault, FailsForFirst}
+use Rattle.bq_attribute_laws.specs.Orders.{bad_value, giving, naming, missing, declaring}
 
 -- an answer that is changed, and else its fault
 changed_only : {A B : Type 0} (r : Result A FaultKind) (f : A → B) → fault_in (and_then r (λ a. Ok (f a))) ≡ first_fault (fault_in r ∷ [])

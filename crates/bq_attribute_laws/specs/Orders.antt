@@ -1,8 +1,8 @@
 -- In which order a call of a rule, and each of its arguments, is refused (ours: the order).
-use Rattle.std.specs.Prelude.{ℕ, Bool, not, ◌&&◌, cond, List, [], ◌∷◌, Option, Some, None, is_some, codes, bytes_eq}
+use Rattle.std.specs.Prelude.{ℕ, not, ◌&&◌, cond, List, [], ◌∷◌, Option, Some, None, is_some}
 use Rattle.bq_source.specs.declared.fault.FaultKind.TheVariants.{NoAttribute, MissingAttribute}
 use Rattle.bq_label.specs.declared.packages.BuildFile.{BuildFile}
-use Rattle.bq_label.specs.Label.{PackageParts, LabelParts}
+use Rattle.bq_label.specs.Label.{PackageParts}
 use Rattle.bq_schema.specs.declared.attribute.AttributeType.{AttributeType}
 use Rattle.bq_schema.specs.Schema.{Rules}
 use Rattle.bq_target.specs.Value.{attribute_type}

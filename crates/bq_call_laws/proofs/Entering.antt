@@ -1,5 +1,5 @@
 -- In which order a function becomes active.
-use Rattle.std.proofs.Common.{◌≡◌, refl, ℕ, Bool, true, false, ◌⊎◌, inl, inr, List, [], ◌∷◌, length, Option}
+use Rattle.std.proofs.Common.{◌≡◌, refl, ℕ, inl, inr, List, length, Option}
 use Rattle.std.specs.Prelude.{nat_lt}
 use Rattle.bq_source.proofs.Choices.{by_bool}
 use Rattle.bq_scope.specs.declared.code.CodeFunction.{CodeFunction}

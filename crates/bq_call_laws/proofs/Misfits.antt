@@ -1,18 +1,16 @@
 -- Arguments that don't fit are refused.
-use Rattle.std.proofs.Common.{◌≡◌, ◌∙◌, sym, ap, refl, ℕ, zero, suc, ◌+◌, ◌<◌, ◌≤◌, ◌⊎◌, inl, inr, Bool, true, false, cond, List, [], ◌∷◌, length, slice_get, set, drop, Option, Some, None, Result, Ok, Err, arith}
+use Rattle.std.proofs.Common.{◌≡◌, ◌∙◌, sym, ap, refl, ℕ, zero, suc, ◌+◌, ◌<◌, ◌≤◌, ◌⊎◌, inl, inr, Bool, true, false, cond, List, [], ◌∷◌, length, slice_get, set, Option, Some, None, Ok, Err, arith}
 use Rattle.std.specs.Prelude.{is_some, not, ◌&&◌, ◌||◌, nat_le}
-use Rattle.std.specs.List.{position_from}
 use Rattle.std.proofs.lemmas.Option.{slice_get_within}
 use Rattle.std.proofs.lemmas.Bool.{leb-true}
 use Rattle.bq_source.specs.declared.fault.FaultKind.{FaultKind}
 use Rattle.bq_source.specs.declared.fault.FaultKind.TheVariants.{Args}
-use Rattle.bq_source.proofs.Choices.{by_bool}
 use Rattle.bq_value.specs.Datum.{Datum, string}
 use Rattle.bq_value.specs.Pairs.{found, put}
 use Rattle.bq_machine.specs.Args.{Passed}
-use Rattle.bq_machine.specs.Parameters.{ParameterView, SignatureView, is_called, places}
+use Rattle.bq_machine.specs.Parameters.{ParameterView, SignatureView, places}
 use Rattle.bq_machine.specs.Binding.{BoundView, Binding, placed_values, placed, too_many, fill_by, fill, take_keyword, take_named_by, take_named, and_bind, take_all_named, is_given, has_value, complete_from, is_complete, if_complete, bind}
-use Rattle.bq_call_laws.specs.Misfits.{place_of, IsPlaced, IsNamed, IsMisfit, left_over, unknown, placed_and_named, named_twice, missing}
+use Rattle.bq_call_laws.specs.Misfits.{place_of, IsMisfit, left_over, unknown, placed_and_named, named_twice, missing}
 use Rattle.bq_value.proofs.Puts.{found_put, other_put}
 use Rattle.bq_value.specs.Same.{same}
 use Rattle.bq_value.specs.SameLaws.{same-true}

@@ -1,8 +1,7 @@
 -- Arguments that are refused don't fit.
-use Rattle.std.proofs.Common.{◌≡◌, ◌∙◌, sym, ap, subst, refl, ℕ, zero, suc, ◌+◌, ◌<◌, ◌≤◌, ◌⊎◌, inl, inr, Bool, true, false, cond, List, [], ◌∷◌, ◌++◌, append_assoc, length, slice_get, set, Option, Some, None, Result, Ok, Err, arith}
+use Rattle.std.proofs.Common.{◌≡◌, ◌∙◌, sym, ap, refl, ℕ, zero, suc, ◌+◌, ◌<◌, ◌⊎◌, inl, inr, Bool, true, false, cond, List, [], ◌∷◌, ◌++◌, append_assoc, length, slice_get, set, Option, Some, None, Ok, Err, arith}
 use Rattle.std.specs.Prelude.{is_some, not, ◌&&◌, ◌||◌, nat_le}
 use Rattle.std.specs.List.{position_from}
-use Rattle.std.specs.Str.{bytes_eq}
 use Rattle.std.proofs.lemmas.Option.{slice_get_within}
 use Rattle.std.proofs.lemmas.Slice.Eq.{bytes_eq-Decides}
 use Rattle.std.proofs.lemmas.Bool.{leb-false}
@@ -17,8 +16,8 @@ use Rattle.bq_value.proofs.Puts.{other_put}
 use Rattle.bq_machine.specs.Args.{Passed}
 use Rattle.bq_machine.specs.Parameters.{ParameterView, SignatureView, name_is, is_called, places}
 use Rattle.bq_machine.specs.Binding.{BoundView, Binding, placed_values, placed, too_many, fill_by, fill, take_keyword, take_named_by, take_named, and_bind, take_all_named, is_given, has_value, complete_from, is_complete, if_complete, bind}
-use Rattle.bq_call_laws.specs.Misfits.{place_of, IsPlaced, IsNamed, IsMisfit, left_over, unknown, placed_and_named, named_twice, missing}
-use Rattle.bq_call_laws.proofs.Misfits.{Fills, Keeps, Taken, by_parameter, by_rest, Came, Named, IsKept, bound_to, same_bound, set_here, set_other, taken, value_stays, and_done, after_taken, placed_at, placed_only, before_taken, places_within}
+use Rattle.bq_call_laws.specs.Misfits.{place_of, IsPlaced, IsMisfit, left_over, unknown, placed_and_named, named_twice, missing}
+use Rattle.bq_call_laws.proofs.Misfits.{Taken, by_parameter, by_rest, Came, Named, IsKept, bound_to, same_bound, taken, value_stays, and_done, after_taken, placed_at, placed_only, before_taken, places_within}
 
 -- ---- lists
 

@@ -1,5 +1,5 @@
 -- Arguments that don't fit the parameters of a function (Starlark, "Function and method calls"), in words of the call alone.
-use Rattle.std.specs.Prelude.{◌≡◌, ◌<◌, ◌≤◌, ◌⊎◌, ℕ, Bool, true, false, List, length, slice_get, Option, Some, None}
+use Rattle.std.specs.Prelude.{◌≡◌, ◌<◌, ℕ, true, false, List, length, slice_get, Option, Some, None}
 use Rattle.std.specs.List.{position_from}
 use Rattle.bq_value.specs.Datum.{Datum}
 use Rattle.bq_machine.specs.Args.{Passed}

@@ -1,11 +1,10 @@
 -- A list or dict that is changed is refused for another module (F47), for a walk (F48), and then for what the change refuses.
-use Rattle.std.proofs.Common.{◌≡◌, ◌∙◌, ap, refl, ℕ, Bool, true, false, ◌⊎◌, inl, inr, List, [], ◌∷◌, Option, Some, None, Result, Ok, Err, ◌==◌}
+use Rattle.std.proofs.Common.{◌≡◌, refl, ℕ, inl, inr, [], ◌∷◌, Some, None, Result, Ok, Err, ◌==◌}
 use Rattle.bq_source.specs.declared.fault.FaultKind.{FaultKind}
 use Rattle.bq_source.proofs.Choices.{by_bool}
 use Rattle.bq_value.specs.Cells.{content_at}
 use Rattle.bq_value.specs.Contents.{Contents}
-use Rattle.bq_value.specs.Datum.{Datum}
-use Rattle.bq_machine.specs.Action.{Action, following, given, pure, ◌>>=◌, ◌>>◌}
+use Rattle.bq_machine.specs.Action.{Action, given, pure, ◌>>=◌, ◌>>◌}
 use Rattle.bq_machine.specs.Cells.{Change, changing, can_change, content, may_change, is_walked, put_content}
 use Rattle.bq_machine.specs.State.{State}
 use Rattle.bq_refusal_laws.specs.Refusals.{Check, fault_of, fault_in, first_fault}

@@ -1,8 +1,7 @@
 -- The methods of dicts, and assignments to a key, are refused in their orders.
 use Rattle.std.proofs.Common.{◌≡◌, ◌∙◌, ap, refl, sym, subst, ℕ, List, [], ◌∷◌, Option, Some, None, Result, Ok, Err}
 use Rattle.bq_source.specs.declared.fault.FaultKind.{FaultKind}
-use Rattle.bq_value.specs.Cells.{content_at}
-use Rattle.bq_value.specs.Contents.{Contents, pairs}
+use Rattle.bq_value.specs.Contents.{pairs}
 use Rattle.bq_value.specs.Datum.{Datum, none, cell}
 use Rattle.bq_walk.specs.KeyWalk.{walked_at, keyed}
 use Rattle.bq_walk.specs.Looked.{Looked, max_levels}
@@ -13,7 +12,7 @@ use Rattle.bq_machine.specs.Cells.{Change, changing, content, may_change}
 use Rattle.bq_machine.specs.Iteration.{elements_in, elements}
 use Rattle.bq_machine.specs.Machine.{with_steps, after_walk, key}
 use Rattle.bq_machine.specs.State.{State}
-use Rattle.bq_operate.specs.InPlace.{dict_united, pair_put, set_in, set_item, set_index}
+use Rattle.bq_operate.specs.InPlace.{dict_united, pair_put, set_item, set_index}
 use Rattle.bq_collections.specs.Arguments.{no_argument, one_or_two, or_none}
 use Rattle.bq_collections.specs.Dict as dict
 use Rattle.bq_collections.specs.Dict.{DictChange, on_pairs, as_pairs, emptied, taken_out, first_out, with_default, key_to_change, pairs_in}

@@ -1,24 +1,22 @@
 -- The methods of lists, and assignments to an index, are refused in their orders.
-use Rattle.std.proofs.Common.{◌≡◌, ◌∙◌, ap, refl, ℕ, ◌+◌, ℤ, Bool, true, false, ◌⊎◌, inl, inr, List, [], ◌∷◌, ◌++◌, length, Option, Some, None, Result, Ok, Err}
+use Rattle.std.proofs.Common.{◌≡◌, ◌∙◌, ap, refl, ℕ, ◌+◌, inl, inr, List, [], ◌∷◌, length, Some, None, Result, Ok, Err}
 use Rattle.std.specs.Prelude.{nat_le}
 use Rattle.bq_source.specs.declared.fault.FaultKind.{FaultKind}
 use Rattle.bq_source.proofs.Choices.{by_bool}
-use Rattle.bq_value.specs.Cells.{content_at}
-use Rattle.bq_value.specs.Contents.{Contents, items}
+use Rattle.bq_value.specs.Contents.{items}
 use Rattle.bq_value.specs.Datum.{Datum, int, cell}
-use Rattle.bq_machine.specs.Action.{Action, following, given, ◌>>=◌, ◌>>◌}
-use Rattle.bq_machine.specs.Cells.{Change, changing, content, may_change}
+use Rattle.bq_machine.specs.Action.{Action, following, given, ◌>>=◌}
+use Rattle.bq_machine.specs.Cells.{changing, content}
 use Rattle.bq_machine.specs.Iteration.{elements_in, elements}
 use Rattle.bq_machine.specs.State.{State}
 use Rattle.bq_operators.specs.Length.{within, max_len}
-use Rattle.bq_operate.specs.InPlace.{element_set, set_in, set_item, set_index}
-use Rattle.bq_operate.specs.Operand.{int_of}
+use Rattle.bq_operate.specs.InPlace.{element_set, set_item, set_index}
 use Rattle.bq_collections.specs.Arguments.{no_argument, one_argument, two_arguments, optional_argument, integer, index_or_last}
 use Rattle.bq_collections.specs.List as list
 use Rattle.bq_collections.specs.List.{on_items, as_items, and_then, appended, extended, inserted, popped, cleared, find, drop_at, list_in}
 use Rattle.bq_refusal_laws.specs.Refusals.{Check, fault_of, fault_in, fault_then, first_fault, IsRefusedForFirst}
 use Rattle.bq_collection_laws.specs.Laws.{IsList}
-use Rattle.bq_collection_laws.specs.Orders.{frozen, walked, too_long, not_integer, not_iterable, appending, clearing, extending, inserting, popping, removing, setting_element}
+use Rattle.bq_collection_laws.specs.Orders.{frozen, walked, too_long, appending, clearing, extending, inserting, popping, removing, setting_element}
 use Rattle.bq_collection_laws.proofs.Changing.{changing_refused, before_refused}
 
 -- ---- arguments

@@ -1,10 +1,10 @@
 -- In which order what changes a list or dict is refused (Starlark, "Built-in methods", "Assignments"; ours: the order). What the
 -- arguments are comes first, then whether the list or dict may be changed, then what is done with it.
-use Rattle.std.specs.Prelude.{ℕ, ◌+◌, Bool, not, nat_le, ◌==◌, List, [], ◌∷◌, length, Option, None}
+use Rattle.std.specs.Prelude.{ℕ, ◌+◌, not, nat_le, ◌==◌, List, [], ◌∷◌, length, Option, None}
 use Rattle.bq_source.specs.declared.fault.FaultKind.TheVariants.{Frozen, Iterating, TooLong}
 use Rattle.bq_value.specs.Contents.{items, pairs}
 use Rattle.bq_value.specs.Datum.{Datum}
-use Rattle.bq_machine.specs.Action.{◌>>=◌, ◌>>◌, pure}
+use Rattle.bq_machine.specs.Action.{◌>>=◌}
 use Rattle.bq_machine.specs.Args.{Passed}
 use Rattle.bq_machine.specs.Cells.{is_walked, changing}
 use Rattle.bq_machine.specs.Iteration.{elements_in}

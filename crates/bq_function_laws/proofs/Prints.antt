@@ -1,8 +1,6 @@
 -- What is printed.
-use Rattle.std.proofs.Common.{◌≡◌, ◌∙◌, sym, ap, refl, ℕ, zero, suc, ◌+◌, Bool, true, false, ◌⊎◌, inl, inr, cond, List, [], ◌∷◌, ◌++◌, length, Option, Some, None, Result, Ok, Err, codes}
-use Rattle.std.specs.Prelude.{nat_le, bytes_eq}
-use Rattle.bq_source.specs.declared.fault.FaultKind.{FaultKind}
-use Rattle.bq_source.specs.declared.fault.FaultKind.TheVariants.{TooLong}
+use Rattle.std.proofs.Common.{◌≡◌, ◌∙◌, sym, ap, refl, ℕ, zero, suc, ◌+◌, ◌⊎◌, inl, inr, List, [], ◌∷◌, ◌++◌, length, Some, None, Ok, Err, codes}
+use Rattle.std.specs.Prelude.{nat_le}
 use Rattle.bq_source.proofs.Choices.{by_bool}
 use Rattle.bq_value.specs.Cells.{StoreView}
 use Rattle.bq_value.specs.Datum.{Datum, none, string}
@@ -15,7 +13,7 @@ use Rattle.bq_machine.specs.Machine.{after_walk}
 use Rattle.bq_machine.specs.State.{State}
 use Rattle.bq_functions.specs.Arguments.{and_then, only_named}
 use Rattle.bq_functions.specs.Arguments as arguments
-use Rattle.bq_functions.specs.Texts.{joined_texts, space, separator_of, separator_in, print}
+use Rattle.bq_functions.specs.Texts.{joined_texts, space, separator_in, print}
 use Rattle.bq_function_laws.specs.Words.{by_place}
 
 abbrev text_of : Looked (List ℕ) → List ℕ

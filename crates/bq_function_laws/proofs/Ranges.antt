@@ -1,6 +1,6 @@
 -- The elements of ranges.
-use Rattle.std.proofs.Common.{◌≡◌, ◌≢◌, ◌∙◌, sym, ap, subst, refl, ℕ, suc, ◌<◌, Bool, true, false, ◌⊎◌, inl, inr, cond, List, [], ◌∷◌, length, map, Option, Some, None, Result, Ok, Err}
-use Rattle.std.specs.Prelude.{◌↔◌, ℤ, ◌+ℤ◌, ◌*ℤ◌, pos, slice_get}
+use Rattle.std.proofs.Common.{◌≡◌, ◌≢◌, ◌∙◌, sym, ap, subst, refl, suc, ◌<◌, Bool, true, false, cond, List, [], ◌∷◌, length, map, Result, Ok, Err}
+use Rattle.std.specs.Prelude.{◌↔◌, ℤ, pos}
 use Rattle.std.specs.Ordering.{int_eq}
 use Rattle.std.proofs.lemmas.Option.{slice_get-map}
 use Rattle.std.proofs.lemmas.Bool.Decides.{Decides-int_eq}
@@ -16,7 +16,7 @@ use Rattle.bq_machine.specs.Iteration.{range_integers, elements_in}
 use Rattle.bq_machine.proofs.Walking.{range_counted, range_at}
 use Rattle.bq_functions.specs.Arguments as arguments
 use Rattle.bq_functions.specs.Arguments.{and_then, one_to_three, integer}
-use Rattle.bq_functions.specs.Integers.{step_or_one, range_by, range_from, range}
+use Rattle.bq_functions.specs.Integers.{range_by, range_from, range}
 use Rattle.bq_function_laws.specs.Words.{by_place, AreCounted}
 
 length_map : {A B : Type 0} (f : A → B) (xs : List A) → length (map f xs) ≡ length xs

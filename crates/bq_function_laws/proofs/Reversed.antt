@@ -1,13 +1,12 @@
 -- Lists that go backwards.
-use Rattle.std.proofs.Common.{◌≡◌, ◌∙◌, sym, ap, refl, ℕ, ◌+◌, ◌-◌, ◌<◌, Bool, true, false, ◌⊎◌, inl, inr, cond, List, [], ◌∷◌, length, get_or, Option, Some, None, Result, Ok, Err, arith}
+use Rattle.std.proofs.Common.{◌≡◌, ◌∙◌, sym, ap, ℕ, ◌+◌, ◌-◌, ◌<◌, Bool, true, false, inl, inr, cond, List, [], ◌∷◌, length, get_or, Some, Ok, Err, arith}
 use Rattle.std.specs.Prelude.{reverse, slice_get, nat_le}
 use Rattle.std.proofs.lemmas.List.{reverse-reverse, length-reverse, get_or-reverse}
 use Rattle.std.proofs.lemmas.Option.{slice_get_cases, slice_get-get_or}
-use Rattle.bq_source.specs.declared.fault.FaultKind.{FaultKind}
 use Rattle.bq_source.specs.declared.fault.FaultKind.TheVariants.{TooLong}
 use Rattle.bq_operators.specs.Length.{max_len}
 use Rattle.bq_value.specs.Cells.{StoreView}
-use Rattle.bq_value.specs.Datum.{Datum, tuple, data_of, list_of, list_of_data_of}
+use Rattle.bq_value.specs.Datum.{Datum, tuple, data_of, list_of_data_of}
 use Rattle.bq_machine.specs.Iteration.{elements_in}
 use Rattle.bq_functions.specs.Arguments as arguments
 use Rattle.bq_functions.specs.Arguments.{and_then, one_argument, only_argument}

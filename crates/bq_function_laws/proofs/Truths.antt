@@ -1,5 +1,5 @@
 -- What counts as true.
-use Rattle.std.proofs.Common.{◌≡◌, ◌∙◌, sym, ap, refl, ◌⊎◌, inl, inr, Bool, true, false, List, [], ◌∷◌, Ok}
+use Rattle.std.proofs.Common.{◌≡◌, ◌∙◌, ap, refl, Bool, true, false, List, [], ◌∷◌, Ok}
 use Rattle.std.specs.Prelude.{Any, All}
 use Rattle.std.specs.List.{list_any, list_all}
 use Rattle.std.proofs.lemmas.List.Folds.{list_any-from_Any, list_any_none, list_all_at}

@@ -1,5 +1,5 @@
 -- Words of the laws of built-in functions.
-use Rattle.std.specs.Prelude.{◌≡◌, ◌<◌, ◌↔◌, ℕ, ℤ, ◌+ℤ◌, ◌*ℤ◌, pos, List, [], ◌∷◌, length, slice_get, Some}
+use Rattle.std.specs.Prelude.{◌≡◌, ◌<◌, ◌↔◌, ℕ, ℤ, ◌+ℤ◌, ◌*ℤ◌, pos, List, [], length, slice_get, Some}
 use Rattle.bq_value.specs.Datum.{Datum, int}
 use Rattle.bq_value.specs.Range.{IsBefore}
 use Rattle.bq_machine.specs.Args.{Passed}

@@ -1,5 +1,5 @@
 -- A module fails in its order.
-use Rattle.std.proofs.Common.{◌≡◌, ◌∙◌, ap, refl, ℕ, ◌⊎◌, inl, inr, Bool, true, false, cond, List, [], ◌∷◌, Option, Some, None, Result, Ok, Err}
+use Rattle.std.proofs.Common.{◌≡◌, ◌∙◌, ap, refl, ℕ, inl, inr, List, [], ◌∷◌, Option, Some, None, Result, Ok, Err}
 use Rattle.std.specs.Prelude.{not, is_some, slice_get}
 use Rattle.bq_source.specs.declared.fault.FaultKind.{FaultKind}
 use Rattle.bq_source.specs.declared.fault.FaultKind.TheVariants.{NoSymbol, CycleReached, LoadDepth, LoadFailed}
@@ -18,8 +18,8 @@ use Rattle.bq_load.specs.Evaluation.{means, code_in}
 use Rattle.bq_load.specs.Imports.{is_private, global_by, or_no_symbol, exported}
 use Rattle.bq_load.specs.Results.{load_fault_by, load_fault, result_of}
 use Rattle.bq_load.specs.Sources.{LoadingParts}
-use Rattle.bq_load.specs.Views.{ModuleView, FailedView, not_evaluated}
-use Rattle.bq_refusal_laws.specs.Refusals.{Check, when, fault_in, first_fault, FailsForFirst}
+use Rattle.bq_load.specs.Views.{ModuleView, FailedView}
+use Rattle.bq_refusal_laws.specs.Refusals.{when, fault_in, first_fault, FailsForFirst}
 use Rattle.bq_load_laws.specs.Orders.{exporting, failure, load_failed, own_failure, loading}
 
 -- ---- symbols

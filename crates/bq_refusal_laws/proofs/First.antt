@@ -1,5 +1,5 @@
 -- The first of several checks that finds a fault.
-use Rattle.std.proofs.Common.{◌≡◌, List, [], ◌∷◌, ◌++◌, Option, Some, None, refl}
+use Rattle.std.proofs.Common.{◌≡◌, List, [], ◌∷◌, ◌++◌, Some, None, refl}
 use Rattle.std.specs.List.{AllByRecursion}
 use Rattle.bq_source.specs.declared.fault.FaultKind.{FaultKind}
 use Rattle.bq_refusal_laws.specs.Refusals.{Check, first_fault}

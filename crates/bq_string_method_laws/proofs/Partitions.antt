@@ -1,5 +1,5 @@
 -- The parts of a partition.
-use Rattle.std.proofs.Common.{◌≡◌, ◌∙◌, sym, ap, subst, refl, ℕ, ◌+◌, Bool, true, false, List, [], ◌∷◌, ◌++◌, take, drop, length, Option, Some, None, Result, Ok, Err}
+use Rattle.std.proofs.Common.{◌≡◌, subst, refl, ℕ, ◌+◌, Bool, true, false, List, [], ◌∷◌, take, drop, length, Option, Some, None, Result, Ok, Err}
 use Rattle.std.specs.Prelude.{bytes_eq, if◌then◌else◌}
 use Rattle.bq_source.specs.declared.fault.FaultKind.{FaultKind}
 use Rattle.bq_source.specs.declared.fault.FaultKind.TheVariants.{BadValue}
@@ -8,10 +8,10 @@ use Rattle.bq_string.specs.Parts as parts
 use Rattle.bq_string.specs.Parts.{around}
 use Rattle.bq_string.proofs.Places.{find_least, rfind_greatest, found_whole, rfound_whole}
 use Rattle.bq_value.specs.Datum.{Datum, string}
-use Rattle.bq_string_methods.specs.Cuts.{three, three_parts, cut_once, when_some, partition}
+use Rattle.bq_string_methods.specs.Cuts.{three_parts, cut_once, partition}
 use Rattle.bq_string_methods.specs.declared.cuts.Side.{Side}
 use Rattle.bq_string_methods.specs.declared.cuts.Side.TheVariants.{Left, Right}
-use Rattle.bq_string_method_laws.specs.Parts.{IsNowhereIn, AreThreeParts, cut, whole_first, whole_last}
+use Rattle.bq_string_method_laws.specs.Parts.{AreThreeParts, cut, whole_first, whole_last}
 
 abbrev result : Datum → Result Datum FaultKind
 result v = Ok v

@@ -1,12 +1,11 @@
 -- The parts of a text that is split at space.
-use Rattle.std.proofs.Common.{◌≡◌, ◌∙◌, sym, ap, refl, ℕ, zero, suc, ◌+◌, ◌⊎◌, inl, inr, Bool, true, false, cond, List, [], ◌∷◌, take, drop, Option, Some, None, arith}
-use Rattle.std.specs.Prelude.{not}
+use Rattle.std.proofs.Common.{◌≡◌, refl, ℕ, zero, suc, ◌+◌, inl, inr, false, List, [], ◌∷◌, take, drop, arith}
 use Rattle.std.specs.List.{AllByRecursion, prefix_len}
 use Rattle.bq_source.proofs.Choices.{by_bool}
 use Rattle.bq_string.specs.Trim.{is_among, spaces, lstrip}
 use Rattle.bq_words.specs.Class.{is_space, has}
 use Rattle.bq_words.specs.declared.class.Class.TheVariants.{NonSpace}
-use Rattle.bq_words.specs.Word.{first_word, last_part, words_by, words_from}
+use Rattle.bq_words.specs.Word.{first_word, last_part, words_from}
 use Rattle.bq_string_methods.specs.Cuts.{words_of}
 use Rattle.bq_string_methods.specs.declared.cuts.Side.TheVariants.{Left}
 use Rattle.bq_string_method_laws.specs.Parts.{BeginsWithoutSpace}

@@ -1,7 +1,7 @@
 -- Files may be exported exactly where no other target has one of their names.
-use Rattle.std.proofs.Common.{◌≡◌, ◌∙◌, sym, ap, subst, refl, ℕ, ◌⊎◌, inl, inr, Bool, true, false, List, [], ◌∷◌, Option, Some, None}
+use Rattle.std.proofs.Common.{◌≡◌, ◌∙◌, sym, ap, subst, refl, ℕ, inl, inr, Bool, true, false, List, [], ◌∷◌, Option, Some, None}
 use Rattle.std.specs.Prelude.{bytes_eq, not, if◌then◌else◌}
-use Rattle.std.specs.List.{Contains, IsDistinct, AllByRecursion, list_any, find}
+use Rattle.std.specs.List.{Contains, IsDistinct, AllByRecursion, list_any}
 use Rattle.std.proofs.lemmas.Slice.Eq.{bytes_eq-Decides}
 use Rattle.bq_source.proofs.Choices.{by_bool}
 use Rattle.bq_label.specs.Label.{LabelParts}

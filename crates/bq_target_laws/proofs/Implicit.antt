@@ -1,11 +1,11 @@
 -- The source files of a package that no call declares are those that are wanted.
-use Rattle.std.proofs.Common.{◌≡◌, ◌∙◌, sym, ap, subst, refl, ℕ, ◌⊎◌, inl, inr, Bool, true, false, cond, List, [], ◌∷◌, ◌++◌, map}
+use Rattle.std.proofs.Common.{◌≡◌, ◌∙◌, sym, ap, subst, refl, ℕ, ◌⊎◌, inl, inr, Bool, true, false, List, [], ◌∷◌, ◌++◌, map}
 use Rattle.std.specs.Prelude.{bytes_eq}
-use Rattle.std.specs.List.{Contains, flat_map, filter, list_any}
+use Rattle.std.specs.List.{Contains, flat_map, filter}
 use Rattle.std.proofs.lemmas.List.Elements.{Contains-append_cases, Contains-append_left, Contains-append_right}
 use Rattle.std.proofs.lemmas.Slice.Eq.{bytes_eq-Decides}
 use Rattle.bq_source.proofs.Choices.{by_bool}
-use Rattle.bq_label.specs.Label.{PackageParts, LabelParts, package_of}
+use Rattle.bq_label.specs.Label.{LabelParts, package_of}
 use Rattle.bq_label.proofs.Orders.{at_head, in_tail, head_or_tail}
 use Rattle.bq_target.specs.declared.target.Target.{Target}
 use Rattle.bq_target.specs.Value.{labels_in}
@@ -13,8 +13,7 @@ use Rattle.bq_target.specs.Target.{is_of, names_of, source}
 use Rattle.bq_target.specs.Names.{has}
 use Rattle.bq_target.specs.Package.{PackageTargets, new_files, files, own_labels, finished}
 use Rattle.bq_target.proofs.Finding.{no_files, old_file, new_file}
-use Rattle.bq_target_laws.specs.Names.{WritesLabel}
-use Rattle.bq_target_laws.specs.Files.{IsWritten, IsWanted, IsImplicit, HasTargetNamed}
+use Rattle.bq_target_laws.specs.Files.{IsWanted, IsImplicit, HasTargetNamed}
 use Rattle.bq_target_laws.proofs.Writing.{none_in, written, writes}
 
 -- ---- lists
