@@ -1,0 +1,19 @@
+-- Words of the laws.
+use Rattle.std.specs.Prelude.{◌≡◌, ℕ, List, ◌++◌, Some}
+use Rattle.bq_value.specs.Cells.{content_at}
+use Rattle.bq_value.specs.Contents.{items, pairs}
+use Rattle.bq_value.specs.Datum.{Datum, cell}
+use Rattle.bq_machine.specs.State.{State}
+
+-- the cell of that number holds a list of these values
+abbrev pub IsList : State → ℕ → ℕ → List Datum → Type 0
+IsList s home number xs = content_at s.store home number ≡ Some (items xs)
+
+-- the cell of that number holds a dict of these pairs
+abbrev pub IsDict : State → ℕ → ℕ → List (Datum × Datum) → Type 0
+IsDict s home number ps = content_at s.store home number ≡ Some (pairs ps)
+
+-- the answer is the same list, which has these values more
+pub record StaysTheSameList (home number : ℕ) (xs more : List Datum) (answer : Datum) (s t : State) : Type 0 where
+  pub same : answer ≡ cell home number
+  pub values : IsList t home number (xs ++ more)

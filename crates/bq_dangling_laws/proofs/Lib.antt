@@ -1,0 +1,2 @@
+-- the lines of labels that name no target
+pub mod Lines

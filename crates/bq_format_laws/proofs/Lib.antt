@@ -1,0 +1,6 @@
+-- what is malformed stays so
+pub mod Malformed
+-- as many values as a format takes
+pub mod Values
+-- fields without text and fields with a number
+pub mod Mixed

@@ -1,0 +1,8 @@
+-- lists that go backwards
+pub mod Reversed
+-- what counts as true
+pub mod Truths
+-- the elements of ranges
+pub mod Ranges
+-- what is printed
+pub mod Prints

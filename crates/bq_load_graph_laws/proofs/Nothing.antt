@@ -1,0 +1,43 @@
+-- A file with a fault loads nothing.
+use Rattle.std.proofs.Common.{◌≡◌, ◌∙◌, ap, refl, ℕ, zero, suc, List, [], ◌∷◌, map, slice_get, Some, Err}
+use Rattle.bq_source.specs.declared.fault.Fault.{Fault}
+use Rattle.bq_label.specs.Label.{LabelParts}
+use Rattle.bq_label_set.specs.Labels.{with_labels}
+use Rattle.bq_front.specs.Front.{front_of, loads_by, loads_of}
+use Rattle.bq_front.specs.Inputs.{InputParts}
+use Rattle.bq_discover.specs.LoadGraph.{GraphParts, IsLoadGraph}
+use Rattle.bq_discover.specs.Modules.{edges_from}
+
+no_loads : (inputs : InputParts) (l : LabelParts) (why : Fault) → front_of inputs l ≡ Err why → loads_of inputs l ≡ []
+unfolding loads_of
+no_loads inputs l why h = ap loads_by h
+
+record At {A : Type 0} (xs : List A) (n : ℕ) (Q : A → Type 0) : Type 0 where
+  element : A
+  there : slice_get xs n ≡ Some element
+  holds : Q element
+
+-- what two lists are mapped to is one: an element of the one comes from an element of the other
+both : {A B C : Type 0} (f : A → C) (g : B → C) (xs : List A) (ys : List B) (n : ℕ) (y : B) → map f xs ≡ map g ys → slice_get ys n ≡ Some y → At xs n (λ x. f x ≡ g y)
+both f g [] [] n y e at = absurd (cc)
+both f g [] (z ∷ zs) n y e at = absurd (cc)
+both f g (x ∷ xs) [] n y e at = absurd (cc)
+both f g (x ∷ xs) (z ∷ zs) zero y e at = record { element = x; there = refl; holds = first_is }
+  where
+    first_is : f x ≡ g y
+    first_is = let is : z ≡ y = cc in let heads : f x ≡ g z = cc in heads ∙ ap g is
+both f g (x ∷ xs) (z ∷ zs) (suc n) y e at =
+    let tails : map f xs ≡ map g zs = cc in
+    let r = both f g xs zs n y tails at in
+    record { element = r.element; there = r.there; holds = r.holds }
+
+no_edge : (labels : List LabelParts) (row : List ℕ) → map (slice_get labels) row ≡ [] → row ≡ []
+no_edge labels [] e = refl
+no_edge labels (n ∷ row) e = absurd (cc)
+
+pub loads_nothing : (inputs : InputParts) (g : GraphParts) (m : ℕ) (l : LabelParts) (why : Fault) → IsLoadGraph inputs g → slice_get g.labels m ≡ Some l → front_of inputs l ≡ Err why → slice_get g.edges m ≡ Some []
+unfolding with_labels
+loads_nothing inputs g m l why graph at bad =
+    let r = both (map (slice_get g.labels)) (λ k. map Some (edges_from inputs k)) g.edges g.labels m l graph.edges at in
+    let none : map Some (edges_from inputs l) ≡ [] = ap (λ ls. map Some (with_labels [] ls)) (no_loads inputs l why bad) in
+    r.there ∙ ap Some (no_edge g.labels r.element (r.holds ∙ none))

@@ -1,0 +1,34 @@
+//! What holds of modules that are loaded. The functions do nothing: their contracts are the laws.
+
+ghost use Rattle.std.specs.Prelude.{◌≡◌, ℕ, List, Option, Some, slice_get};
+ghost use Rattle.bq_source.specs.declared.fault.FaultKind.{FaultKind};
+ghost use Rattle.bq_board.specs.Graph.{Loads};
+ghost use Rattle.bq_label.specs.Label.{full_form};
+ghost use Rattle.bq_outcome.specs.Outcome.{outcome};
+ghost use Rattle.bq_scope.specs.Names.{Name};
+ghost use Rattle.bq_scope.specs.declared.code.LoadStmt.{LoadStmt};
+ghost use Rattle.bq_scope.specs.declared.code.Resolved.{Resolved};
+ghost use Rattle.bq_load.specs.declared.source.Source.{Source};
+ghost use Rattle.bq_load.specs.Evaluation.{means};
+ghost use Rattle.bq_load.specs.Imports.{exported};
+ghost use Rattle.bq_load.specs.Results.{load_fault, result_of};
+ghost use Rattle.bq_load.specs.Sources.{LoadingParts};
+ghost use Rattle.bq_load.specs.Views.{ModuleView};
+ghost use Rattle.bq_refusal_laws.specs.Refusals.{first_fault, FailsForFirst};
+ghost use Rattle.bq_load_laws.specs.FirstLoad.{IsFirstLoadOf};
+ghost use Rattle.bq_load_laws.specs.Orders.{exporting, failure, loading};
+
+/// A private symbol is F34 whether the module has it or not; another that it hasn't is F33.
+pub fn symbols_are_refused_in_order()
+    ensures { (code : List (Option Resolved)) (m : Option ModuleView) (name : Name) → FailsForFirst (exported code m name) (exporting code m name) }
+{}
+
+/// A module fails for the first of what is listed, and for nothing else: F35, F38, F36, and then its own fault.
+pub fn modules_fail_in_order()
+    ensures { (x : LoadingParts) (p : Loads) (m : ℕ) (s : Source) → failure (result_of x m s (outcome (means x) p m)) ≡ first_fault (loading x p m) }
+{}
+
+/// What F35, F36 and F38 name is the line of the file's first load of the module, though later ones load it too, and the module's label.
+pub fn faults_of_loads_name_the_first_load()
+    ensures { (x : LoadingParts) (m k : ℕ) (s loaded : Source) (kind : FaultKind) (file : Resolved) (load : LoadStmt) → slice_get x.code m ≡ Some (Some file) → slice_get x.sources k ≡ Some loaded → IsFirstLoadOf loaded.label load file.loads s.loads → load_fault x m s kind k ≡ record { kind = kind; line = load.line; detail = full_form loaded.label } }
+{}

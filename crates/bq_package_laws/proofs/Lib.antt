@@ -1,0 +1,4 @@
+-- the faults of calls of build functions
+pub mod Orders
+-- a `glob` that gives nothing
+pub mod Nothing

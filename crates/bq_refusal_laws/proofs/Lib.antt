@@ -1,0 +1,2 @@
+-- the first of several checks that finds a fault
+pub mod First

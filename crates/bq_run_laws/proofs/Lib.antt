@@ -1,0 +1,2 @@
+-- what a run writes, by how it ends
+pub mod Written

@@ -1,0 +1,6 @@
+-- tuples of affixes
+pub mod Affixes
+-- the parts of a partition
+pub mod Partitions
+-- the parts of a text that is split at space
+pub mod Words
