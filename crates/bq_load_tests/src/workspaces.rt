@@ -88,6 +88,24 @@ fn difference(found: &[u8], wanted: &[u8]) -> usize {
     found.iter().zip(wanted).take_while(|(a, b)| a == b).count()
 }
 
+/// A bundle is written as is wanted, by so many workers.
+fn check_written<R: Threads + Wait + Sync + Abort>(
+    rt: &R,
+    alloc: Global,
+    bundle: &[u8],
+    wanted: &[u8],
+    jobs: u32,
+) -> Result<(), AllocError> {
+    let found = written(rt, alloc, bundle, jobs)?;
+    let at = difference(&found, wanted);
+    assert!(rt;
+        found.as_slice() == wanted,
+        "{jobs} workers, at {at}: {}",
+        found.escape_ascii()
+    );
+    Ok(())
+}
+
 /// The workspace of a table is written as the table says, by each of these numbers of workers.
 pub fn check_workspace<R: Threads + Wait + Sync + Abort>(
     rt: &R,
@@ -99,13 +117,7 @@ pub fn check_workspace<R: Threads + Wait + Sync + Abort>(
     add_cells(alloc, &mut bundle, rows, 0)?;
     let wanted = wanted_of(alloc, rows)?;
     for jobs in jobs {
-        let found = written(rt, alloc, &bundle, *jobs)?;
-        let at = difference(&found, &wanted);
-        assert!(rt;
-            found == wanted,
-            "{jobs} workers, at {at}: {}",
-            found.escape_ascii()
-        );
+        check_written(rt, alloc, &bundle, &wanted, *jobs)?;
     }
     Ok(())
 }
