@@ -96,7 +96,7 @@ def is_label(text):
 
 def joined(kinds):
     """The kind of a list whose elements are of these kinds."""
-    if "dict" in kinds or "list" in kinds:
+    if kinds & {"dict", "list", "strings", "labels"}:
         return "other"
     if "label" in kinds:
         return "labels"
