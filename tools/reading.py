@@ -211,6 +211,8 @@ class Reader(ast.NodeVisitor):
                 if is_statement:
                     self.file.member_calls.append((name, member, {key.arg: kind_of(key.value) for key in node.keywords if key.arg}))
             case ast.Attribute(value=of):
+                if label_in(of):
+                    self.left_out(node, "a member of a label")
                 self.wanting("", of)
             case _:
                 self.visit(node.func)
