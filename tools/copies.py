@@ -3,6 +3,7 @@ import ast
 import re
 from collections import Counter, defaultdict
 
+from definitions import taken
 from facts import VALUE_METHODS
 from guesses import DICTS, type_of
 from reading import BUILD_FUNCTIONS, NATIVE_VALUES, has_name, kind_of, label_in, makers_of, parsed
@@ -186,7 +187,8 @@ class Copy:
                 self.counts["a dict"] += 1
             elif not keyword.arg and self.has_dicts and self.facts.goes_to_rule(self.file, call, None):
                 start, end = self.span(keyword.value)
-                self.parts += [(start, start, b"{key: value for key, value in ("), (end, end, b').items() if type(value) != "dict"}')]
+                before, _, after = taken("(..)").partition("..")
+                self.parts += [(start, start, before.encode()), (end, end, after.encode())]
                 self.counts["a dict"] += 1
             else:
                 self.visit(keyword.value, self.takes(keyword.arg))

@@ -9,6 +9,15 @@ RESERVED = set("""and break continue def elif else for if in lambda load not or 
     global import is nonlocal raise try while with yield native""".split()) | BUILT_INS | BUILD_FUNCTIONS
 
 
+# the entries of a dict that some type of a schema takes: no dicts, and no lists of anything but strings
+TAKEN = 'type(value) != "dict" and (type(value) != "list" or not [part for part in value if type(part) != "string"])'
+
+
+def taken(entries):
+    """The expression for what a rule may be given of these entries."""
+    return f"{{key: value for key, value in {entries}.items() if {TAKEN}}}"
+
+
 def rule_of(symbol):
     """The rule that a symbol is forwarded to. (`selects__config_setting_group` stands for a member.)"""
     name = symbol.partition("__")[2] if "__" in symbol.strip("_") else symbol
@@ -44,7 +53,7 @@ def definition(repository, symbol, stub, given):
         return f"def {symbol}{MEMBERS[symbol]}"
     if stub.makes_targets:
         may_have_dicts = any(kinds["dict"] or kinds["other"] for kinds in given.values())
-        passed = '{key: value for key, value in kwargs.items() if type(value) != "dict"}' if may_have_dicts else "kwargs"
+        passed = taken("kwargs") if may_have_dicts else "kwargs"
         return f"def {symbol}(name, *args, **kwargs): native.{rule_of(symbol)}(name = name, **{passed})"
     if not stub.is_called:
         return f"{symbol} = {value_for(stub)}"

@@ -96,7 +96,7 @@ def is_label(text):
 
 def joined(kinds):
     """The kind of a list whose elements are of these kinds."""
-    if "dict" in kinds or "list" in kinds:
+    if kinds & {"dict", "list", "strings", "labels"}:
         return "other"
     if "label" in kinds:
         return "labels"
@@ -211,6 +211,8 @@ class Reader(ast.NodeVisitor):
                 if is_statement:
                     self.file.member_calls.append((name, member, {key.arg: kind_of(key.value) for key in node.keywords if key.arg}))
             case ast.Attribute(value=of):
+                if label_in(of):
+                    self.left_out(node, "a member of a label")
                 self.wanting("", of)
             case _:
                 self.visit(node.func)
