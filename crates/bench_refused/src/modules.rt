@@ -111,7 +111,7 @@ impl Modules {
                 continue;
             }
             if let Some(code) = &self.code[at] {
-                return value_in(code, &self.frozen[at], name);
+                return value_in(code, &*self.frozen[at], name);
             }
         }
         Err(anyhow!("no such file"))
@@ -119,7 +119,7 @@ impl Modules {
 
     /// Adds a value for each clause of a load, whose label is `:` and the path of a file.
     fn add_values(&self, load: &LoadStmt, values: &mut Vec<Value>) -> Result<()> {
-        let Some(path) = load.label.as_slice().strip_prefix(b":") else {
+        let Some(path) = load.label.as_slice().strip_prefix(b":".as_slice()) else {
             return Err(anyhow!("another form of label"));
         };
         for clause in load.clauses.as_slice() {
@@ -156,7 +156,10 @@ pub fn show_targets(rt: &HostRuntime, targets: &[Target]) -> Result<()> {
 
 fn show_package(rt: &HostRuntime, kept: Option<PackageState>) -> Result<()> {
     match kept {
-        Some(state) => show_targets(rt, state.finish(rt.alloc())?.targets()),
+        Some(state) => {
+            let package = state.finish(rt.alloc())?;
+            show_targets(rt, package.targets())
+        }
         None => Ok(()),
     }
 }

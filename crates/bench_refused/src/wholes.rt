@@ -41,7 +41,7 @@ pub fn glob_package(
     end(rt)?;
     match &found {
         Ok(names) => lines(rt, names),
-        Err(AllocError) => refused(rt, b"AllocError"),
+        Err(_) => refused(rt, b"AllocError"),
     }
 }
 
