@@ -3,16 +3,17 @@ use Rattle.std.proofs.Common.{◌≡◌, ◌∙◌, ℕ, Bool, List, [], ◌∷�
 use Rattle.std.specs.Prelude.{MatchOption}
 use Rattle.bq_graph.specs.Marks.{IsSet, Marked}
 use Rattle.bq_query.specs.declared.query_error.QueryErr.{QueryErr}
+use Rattle.bq_query_check.specs.declared.formula.Unary.{Unary}
+use Rattle.bq_query_check.specs.declared.formula.Binary.{Binary}
+use Rattle.bq_query_check.specs.Formula.{Formula, let_in, one, two}
 use Rattle.bq_query_verdict.specs.Verdict.{first_of}
 use Rattle.bq_answer.specs.declared.bindings.Binding.{Binding}
-use Rattle.bq_answer.specs.declared.functions.Binary.{Binary}
 use Rattle.bq_answer.specs.World.{Facts, count_of}
-use Rattle.bq_answer.specs.Formula.{Formula, binding}
-use Rattle.bq_answer.specs.Stands.{Environment}
-use Rattle.bq_answer.specs.Functions.{OfTwo, called_with}
+use Rattle.bq_answer.specs.Stands.{Stands, Environment}
+use Rattle.bq_answer.specs.Functions.{OfOne, OfTwo}
 use Rattle.bq_answer.specs.Bindings.{environment}
 use Rattle.bq_answer.specs.Faults.{Has, Answers, fault_in}
-use Rattle.bq_answer.proofs.Called.{both_fault, has_both}
+use Rattle.bq_answer.proofs.Same.{one_stands, two_stand}
 use Rattle.bq_answer.proofs.Formulas.{let_stands, bound_more, popped}
 
 -- the formula in other words
@@ -25,24 +26,35 @@ pub kept_before : {A : Type 0} (marks : A → List Bool) (w : Facts) (x : Formul
     → Answers marks w x (environment before) before result after → Answers marks w x (environment start) start result after
 kept_before marks w x start before result after e h = subst (λ (bs : List Binding). Answers marks w x (environment bs) bs result after) e h
 
--- the first of two sets fails, or the second
-pub first_fails : (w : Facts) (f : Binary) (a b : Formula) (why : QueryErr) → fault_in w a ≡ Some why → fault_in w (called_with f a b) ≡ Some why
-first_fails w f a b why h = both_fault w f a b ∙ ap (λ e. first_of e (fault_in w b)) h
+-- ---- functions
 
-pub second_fails : (w : Facts) (f : Binary) (a b : Formula) (why : QueryErr) → fault_in w a ≡ None → fault_in w b ≡ Some why → fault_in w (called_with f a b) ≡ Some why
-second_fails w f a b why none h = both_fault w f a b ∙ (ap (λ e. first_of e (fault_in w b)) none ∙ h)
+pub has_one : (w : Facts) (env : Environment) (f : Unary) (a : Formula) (x r : List Bool) → Has w env a x → IsSet (count_of w) r (OfOne w f (Marked x)) → Has w env (one f a) r
+has_one w env f a x r h t = record { none = h.none; stands = one_stands (count_of w) (count_of w) x r (Stands w a env) h.stands w f t }
+
+-- the first of two sets fails, or the second
+pub first_fails : (w : Facts) (f : Binary) (a b : Formula) (why : QueryErr) → fault_in w a ≡ Some why → fault_in w (two f a b) ≡ Some why
+first_fails w f a b why h = ap (λ e. first_of e (fault_in w b)) h
+
+pub second_fails : (w : Facts) (f : Binary) (a b : Formula) (why : QueryErr) → fault_in w a ≡ None → fault_in w b ≡ Some why → fault_in w (two f a b) ≡ Some why
+second_fails w f a b why none h = ap (λ e. first_of e (fault_in w b)) none ∙ h
 
 -- both have sets
 pub both_answered : (w : Facts) (f : Binary) (a b : Formula) (before middle after : List Binding) (x y r : List Bool) → Has w (environment before) a x × (middle ≡ before)
-    → Has w (environment middle) b y × (after ≡ middle) → IsSet (count_of w) r (OfTwo w f (Marked x) (Marked y)) → Has w (environment before) (called_with f a b) r × (after ≡ before)
+    → Has w (environment middle) b y × (after ≡ middle) → IsSet (count_of w) r (OfTwo w f (Marked x) (Marked y)) → Has w (environment before) (two f a b) r × (after ≡ before)
 both_answered w f a b before middle after x y r h k t =
-    (has_both w (environment before) f a b x y r h.0 (subst (λ (bs : List Binding). Has w (environment bs) b y) h.1 k.0) t, k.1 ∙ h.1)
+    let second : Has w (environment before) b y = subst (λ (bs : List Binding). Has w (environment bs) b y) h.1 k.0 in (
+      record {
+        none = ap (λ e. first_of e (fault_in w b)) h.0.none ∙ second.none;
+        stands = two_stand (count_of w) (count_of w) x y r (Stands w a (environment before)) (Stands w b (environment before)) h.0.stands second.stands w f t;
+      },
+      k.1 ∙ h.1,
+    )
 
 -- ---- lets
 
 let_known : {A : Type 0} (marks : A → List Bool) (w : Facts) (name : List ℕ) (a b : Formula) (before : List Binding) (set : List Bool) (result : Result A QueryErr) (after : List Binding)
     → Has w (environment before) a set → Answers marks w b ((name, set) ∷ environment before) before result after
-    → Answers marks w (binding name a b) (environment before) before result after
+    → Answers marks w (let_in name a b) (environment before) before result after
 let_known marks w name a b before set (Ok r) after h k = (
   record {
     none = ap (λ e. first_of e (fault_in w b)) h.none ∙ k.0.none;
@@ -53,13 +65,13 @@ let_known marks w name a b before set (Ok r) after h k = (
 let_known marks w name a b before set (Err why) after h k = λ other. ap (λ e. first_of e (fault_in w b)) h.none ∙ k other
 
 -- something is missing from the value
-pub value_fails : (w : Facts) (name : List ℕ) (a b : Formula) (why : QueryErr) → fault_in w a ≡ Some why → fault_in w (binding name a b) ≡ Some why
+pub value_fails : (w : Facts) (name : List ℕ) (a b : Formula) (why : QueryErr) → fault_in w a ≡ Some why → fault_in w (let_in name a b) ≡ Some why
 value_fails w name a b why h = ap (λ e. first_of e (fault_in w b)) h
 
 -- the value has a set
 pub let_answered : {A : Type 0} (marks : A → List Bool) (w : Facts) (name : List ℕ) (a b : Formula) (before middle : List Binding) (set : List Bool) (result : Result A QueryErr) (after : List Binding)
     → Has w (environment before) a set × (middle ≡ before) → Answers marks w b ((name, set) ∷ environment middle) middle result after
-    → Answers marks w (binding name a b) (environment before) before result after
+    → Answers marks w (let_in name a b) (environment before) before result after
 let_answered marks w name a b before middle set result after h k =
     let_known marks w name a b before set result after h.0 (subst (λ (bs : List Binding). Answers marks w b ((name, set) ∷ environment bs) bs result after) h.1 k)
 

@@ -2,10 +2,11 @@
 use Rattle.std.proofs.Common.{◌≡◌, ◌∙◌, ℕ, Bool, List, [], ◌∷◌, ◌++◌, map, reverse, Some, None, refl, sym, ap, subst}
 use Rattle.bq_graph.specs.Marks.{IsSet, Marked}
 use Rattle.bq_answer.specs.World.{Facts, count_of}
-use Rattle.bq_answer.specs.Formula.{Formula, binding, combined, Step, chained}
+use Rattle.bq_query_check.specs.Formula.{Formula, let_in, combined, Step, chained}
 use Rattle.bq_query.specs.declared.query_error.QueryErr.{QueryErr}
 use Rattle.bq_query_verdict.specs.Verdict.{first_of}
-use Rattle.bq_answer.specs.Stands.{Stands, Environment, Combined}
+use Rattle.bq_answer.specs.Stands.{Stands, Environment}
+use Rattle.bq_answer.specs.Functions.{Combined}
 use Rattle.std.proofs.lemmas.List.{map-append, reverse-append}
 use Rattle.bq_answer.specs.declared.bindings.Binding.{Binding}
 use Rattle.bq_answer.specs.Bindings.{environment}
@@ -15,9 +16,9 @@ use Rattle.bq_answer.proofs.Firsts.{fault_stays}
 
 -- `let name = a in b`, where `set` is that of `a`
 pub let_stands : (w : Facts) (name : List ℕ) (a b : Formula) (env : Environment) (set r : List Bool) → IsSet (count_of w) set (Stands w a env)
-    → IsSet (count_of w) r (Stands w b ((name, set) ∷ env)) → IsSet (count_of w) r (Stands w (binding name a b) env)
+    → IsSet (count_of w) r (Stands w b ((name, set) ∷ env)) → IsSet (count_of w) r (Stands w (let_in name a b) env)
 let_stands w name a b env set r s t =
-    set_as (Stands w b ((name, set) ∷ env)) (Stands w (binding name a b) env) (count_of w) r (λ y h. (set, s, h))
+    set_as (Stands w b ((name, set) ∷ env)) (Stands w (let_in name a b) env) (count_of w) r (λ y h. (set, s, h))
     (λ y h. subst (λ (xs : List Bool). Stands w b ((name, xs) ∷ env) y) (one_list (Stands w a env) (count_of w) h.0 set h.1 s) h.2) t
 
 -- a part of a chain is done, and has these marks: what is left makes of it what the whole chain says

@@ -7,11 +7,12 @@ use Rattle.std.specs.Option.{IsSomeAnd}
 use Rattle.std.specs.Str.{bytes_eq}
 use Rattle.std.proofs.lemmas.Slice.Eq.{bytes_eq-Decides}
 use Rattle.std.proofs.lemmas.Map.Keys.{Less-from_sorted, below_from_sorted, sorted_from_strictly_increasing}
+use Rattle.regex_hir.specs.Re.{Re}
 use Rattle.bq_graph.specs.Marks.{Marked}
 use Rattle.bq_target.specs.declared.target.Target.{Target}
 use Rattle.bq_target_sets.specs.Order.{by_text, AreInOrder}
 use Rattle.bq_answer.specs.World.{Facts, count_of}
-use Rattle.bq_answer.specs.Formula.{Formula}
+use Rattle.bq_query_check.specs.Formula.{Formula}
 use Rattle.bq_answer.specs.Stands.{Environment}
 use Rattle.bq_answer.specs.Laws.{LieWithin, Keep, IsItself, LabelsAscend}
 
@@ -24,8 +25,8 @@ lie_within w a b n env y = record {
   paths = λ e. e.reached;
 }
 
-pub keep : (w : Facts) (a : Formula) (name pattern : List ℕ) (env : Environment) (y : ℕ) → Keep w a name pattern env y
-keep w a name pattern env y = record { of_kind = λ h. h.0; filtered = λ h. h.0; with_attribute = λ h. h.0 }
+pub keep : (w : Facts) (a : Formula) (name : List ℕ) (pattern : Re) (env : Environment) (y : ℕ) → Keep w a name pattern env y
+keep w a name pattern env y = record { kind = λ h. h.0; filter = λ h. h.0; attr = λ h. h.0 }
 
 found_first : (name : List ℕ) (set : List Bool) (env : Environment) → lookup (bytes_eq name) ((name, set) ∷ env) ≡ Some set
 found_first name set env = ap (λ (b : Bool). cond b (Some set) (lookup (bytes_eq name) env)) ((bytes_eq-Decides name name).1 refl)

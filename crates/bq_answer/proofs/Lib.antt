@@ -4,7 +4,7 @@ pub mod Same
 pub mod Formulas
 -- faults of parts
 pub mod Firsts
--- sets of leaves
+-- the empty set
 pub mod LeafSets
 -- the set that a name is bound to
 pub mod Bound
@@ -12,11 +12,5 @@ pub mod Bound
 pub mod Inclusions
 -- the members of a set in order
 pub mod Members
--- calls of functions
-pub mod Called
--- what trees say
-pub mod Trees
--- what answering trees ensures
+-- what answering a query ensures
 pub mod Answering
--- lists of arguments
-pub mod Arguments

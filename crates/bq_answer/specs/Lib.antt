@@ -1,7 +1,6 @@
 pub mod World
-pub mod Formula
-pub mod Stands
 pub mod Functions
+pub mod Stands
 pub mod Bindings
 pub mod Faults
 pub mod Answer

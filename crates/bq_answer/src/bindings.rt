@@ -2,9 +2,9 @@
 
 ghost use Rattle.std.specs.Prelude.{◌≡◌, ◌++◌, ◌∷◌, [], length, IfOk, OnOk};
 ghost use Rattle.bq_graph.specs.Marks.{IsSet, Marked};
+ghost use Rattle.bq_query_check.specs.Formula as formula;
 ghost use Rattle.bq_answer.specs.Bindings.{bound_to, environment};
 ghost use Rattle.bq_answer.specs.Stands.{Bound};
-ghost use Rattle.bq_answer.specs.Formula as formula;
 ghost use Rattle.bq_answer.specs.World.{facts};
 ghost use Rattle.bq_answer.specs.Faults.{Answers};
 
@@ -71,7 +71,7 @@ pub fn variable(
     bindings: &Items<Binding>,
     name: &Bytes,
 ) -> Result<Vec<bool>, QueryErr>
-    ensures { Answers (λ v. v.items) (facts world.now) (formula.bound name.now) (environment bindings.now) bindings.now result bindings.now }
+    ensures { Answers (λ v. v.items) (facts world.now) (formula.variable name.now) (environment bindings.now) bindings.now result bindings.now }
 {
     let all = bindings.as_slice();
     let wanted = name.as_slice();

@@ -3,10 +3,11 @@
 ghost use Rattle.std.specs.Prelude.{ℕ, ◌<◌, List, length};
 ghost use Rattle.std.specs.List.{All};
 ghost use Rattle.std.specs.List.Sorted.{IsStrictlyIncreasing};
+ghost use Rattle.regex_hir.specs.Re.{Re};
+ghost use Rattle.bq_query_check.specs.Formula.{Formula};
 ghost use Rattle.bq_target.specs.declared.target.Target.{Target};
 ghost use Rattle.bq_target_sets.specs.Order.{AreInOrder};
 ghost use Rattle.bq_answer.specs.World.{Facts};
-ghost use Rattle.bq_answer.specs.Formula.{Formula};
 ghost use Rattle.bq_answer.specs.Stands.{Environment};
 ghost use Rattle.bq_answer.specs.Laws.{AreOfSets, LieWithin, Keep, IsItself, LabelsAscend};
 
@@ -22,7 +23,7 @@ pub fn dependents_lie_within_dependencies()
 
 /// `kind`, `filter` and `attr` keep members of their argument.
 pub fn patterns_keep_members()
-    ensures { (w : Facts) (a : Formula) (name pattern : List ℕ) (env : Environment) (y : ℕ) → Keep w a name pattern env y }
+    ensures { (w : Facts) (a : Formula) (name : List ℕ) (pattern : Re) (env : Environment) (y : ℕ) → Keep w a name pattern env y }
 {}
 
 /// `let v = x in $v` is `x`.

@@ -1,6 +1,6 @@
 use Rattle.std.proofs.Common.{◌≡◌, length, map, drop}
 use Rattle.bq_answer.specs.World.{facts, count_of}
-use Rattle.bq_answer.specs.Formula.{Formula, step_of, chained}
+use Rattle.bq_query_check.specs.Formula.{Formula, step_of, chained}
 use Rattle.bq_answer.specs.Bindings.{environment}
 use Rattle.bq_answer.specs.Faults.{Has}
 use Rattle.bq_answer.proofs.Formulas.{SoFar}

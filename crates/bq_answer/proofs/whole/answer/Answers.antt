@@ -2,7 +2,7 @@ use Rattle.std.proofs.Common.{List, [], Bool, subst}
 use Rattle.bq_graph.specs.Marks.{IsSet, Held}
 use Rattle.bq_answer.specs.declared.bindings.Binding.{Binding}
 use Rattle.bq_answer.specs.World.{count_of}
-use Rattle.bq_answer.specs.Formula.{formula_of}
+use Rattle.bq_query_check.specs.Formula.{formula_of}
 use Rattle.bq_answer.specs.Bindings.{environment}
 use Rattle.bq_answer.specs.Stands.{Stands}
 use Rattle.bq_answer.specs.Answer.{facts_of}
@@ -11,8 +11,8 @@ use Rattle.bq_answer.proofs.whole.answer.Goals as goal
 
 pub returns-clause-within : goal.returns-clause-within
 returns-clause-within c =
-    let w = facts_of c.args.graph.now c.args.schema.now c.args.query.now in
-    let f = formula_of c.args.query.now.tree in
+    let w = facts_of c.args.graph.now c.args.schema.now in
+    let f = formula_of c.args.query.now in
     let set = c.in_ok-set.set.items in
     let v = c.in_ok-members.field-0.items in
     let held : Held set v = subst (λ (ms : List Bool). Held ms v) c.deref.ensures.value c.in_ok-members.ensures.members in
@@ -20,8 +20,8 @@ returns-clause-within c =
 
 pub returns-clause-members : goal.returns-clause-members
 returns-clause-members c =
-    let w = facts_of c.args.graph.now c.args.schema.now c.args.query.now in
-    let f = formula_of c.args.query.now.tree in
+    let w = facts_of c.args.graph.now c.args.schema.now in
+    let f = formula_of c.args.query.now in
     let set = c.in_ok-set.set.items in
     let v = c.in_ok-members.field-0.items in
     let held : Held set v = subst (λ (ms : List Bool). Held ms v) c.deref.ensures.value c.in_ok-members.ensures.members in
