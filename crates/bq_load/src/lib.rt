@@ -12,6 +12,8 @@
 //! - `outcome`: a module that was evaluated, and one that failed;
 //! - `source`: what is read of a module before it is evaluated;
 //! - `loading`: what decides the outcomes of all modules;
+//! - `places`: the places of names, for those who look for many;
+//! - `exports`: what a module gives to the files that load it;
 //! - `imports`: what a file gets of the modules that it loads;
 //! - `gate`: who is told of each evaluation;
 //! - `evaluation`: what the statements of a file give;
@@ -25,6 +27,7 @@
 
 mod evaluation;
 mod evaluator;
+mod exports;
 mod gate;
 mod imports;
 mod lines;
@@ -33,6 +36,7 @@ mod loaded;
 mod loading;
 mod outcome;
 mod packages;
+mod places;
 mod results;
 mod source;
 

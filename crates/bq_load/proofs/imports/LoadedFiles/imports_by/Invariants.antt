@@ -1,6 +1,6 @@
 use Rattle.std.proofs.Common.{◌≡◌, [], drop}
 use Rattle.bq_load.specs.Imports.{loaded_of, imports}
-use Rattle.bq_load.proofs.imports.LoadedFiles.imports.Given as goal
+use Rattle.bq_load.proofs.imports.LoadedFiles.imports_by.Given as goal
 
 -- the loads that are left, with the labels that are left, decide
 abbrev pub invariant-loop-load : goal.invariant-loop-load

@@ -1,7 +1,7 @@
 use Rattle.std.proofs.Common.{arith}
 use Rattle.std.proofs.lemmas.Grind.{common_steps}
 use Rattle.bq_load.specs.Imports.{clause_values}
-use Rattle.bq_load.proofs.imports.clause_values.Goals as goal
+use Rattle.bq_load.proofs.exports.Exports.clause_values.Goals as goal
 
 pub loop-clause-preserved : goal.loop-clause-preserved
 unfolding clause_values

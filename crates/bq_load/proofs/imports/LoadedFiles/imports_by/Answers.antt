@@ -1,7 +1,7 @@
 use Rattle.std.proofs.Common.{arith}
 use Rattle.std.proofs.lemmas.Grind.{common_steps}
 use Rattle.bq_load.specs.Imports.{imports}
-use Rattle.bq_load.proofs.imports.LoadedFiles.imports.Goals as goal
+use Rattle.bq_load.proofs.imports.LoadedFiles.imports_by.Goals as goal
 
 pub loop-load-preserved : goal.loop-load-preserved
 unfolding imports
