@@ -6,7 +6,7 @@ use bq_load_order::Evaluate;
 use crossbeam_deque::{Steal, Worker};
 use std::sync::atomic::Ordering;
 
-impl<'a, E: Evaluate> Pool<'a, E> {
+impl<E: Evaluate> Pool<E> {
     // A module of the worker's own list, else one of another's.
     pub(crate) fn next(&self, list: &mut Worker<u32>) -> Option<u32> {
         match list.pop() {
