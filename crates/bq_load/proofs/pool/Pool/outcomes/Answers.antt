@@ -1,5 +1,5 @@
 use denote.Param.Send.{sendable}
-use Rattle.bq_load.proofs.Crossing.Modules.{loaded_send, loaded_sync, loading_sync}
+use Rattle.bq_load.proofs.Crossing.Modules.{loaded_send, loaded_sync, loading_sync, watch_sync}
 use Rattle.bq_load.proofs.pool.Pool.outcomes.Goals as goal
 
 pub outcomes_by_workers-requires-send-E-Value : goal.outcomes_by_workers-requires-send-E-Value
@@ -10,3 +10,6 @@ outcomes_by_workers-requires-sync-E-Value g c κs = let l = loaded_sync in searc
 
 pub outcomes_by_workers-requires-sync-E : goal.outcomes_by_workers-requires-sync-E
 outcomes_by_workers-requires-sync-E g c κs within = search (loading_sync, sendable) depth 60 fits 20000
+
+pub outcomes_by_workers-requires-sync-W : goal.outcomes_by_workers-requires-sync-W
+outcomes_by_workers-requires-sync-W g c κs within = search (watch_sync, sendable) depth 60 fits 20000
