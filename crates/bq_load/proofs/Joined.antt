@@ -15,37 +15,23 @@ use Rattle.bq_load.specs.declared.loaded.Loaded.{Loaded}
 use Rattle.bq_load.specs.Sources.{LoadingParts, source_of, code_of, loading_in}
 use Rattle.bq_load.specs.Views.{OutcomeView}
 use Rattle.bq_load.specs.Results.{outcomes}
-use Rattle.bq_load.specs.Loaded.{IsLoaded, IsGathered, IsReading, LoadsWorkspace}
+use Rattle.bq_load.specs.Loaded.{IsLoaded, IsGathered, LoadsWorkspace}
 
 abbrev parts : List Source → List (Option Resolved) → List File → List BuildFile → Rules → List Name → ℕ → LoadingParts
 parts sources code files packages rules names limit = record { sources = sources; code = code; files = files; packages = packages; rules = rules; names = names; limit = limit }
 
 module _ (files : List File) (rules : Rules) (limit : ℕ) where
-  decided : (g : GraphParts) (sources : List Source) (code : List (Option Resolved)) (packages : List BuildFile) (names : List Name)
+  pub decided : (g : GraphParts) (sources : List Source) (code : List (Option Resolved)) (packages : List BuildFile) (names : List Name)
       → sources ≡ map source_of g.modules → code ≡ map code_of g.modules → packages ≡ packages_of files → names ≡ with_each with_name [] rules.names
       → parts sources code files packages rules names limit ≡ loading_in files rules limit g
   decided g sources code packages names a b c d = λ i. parts (a i) (b i) files (c i) rules (d i) limit
 
-  as_wide : (g : GraphParts) → IsNumbered g → length g.edges ≡ length g.modules
-  as_wide g n = n.long ∙ (sym (ap length n.named) ∙ length-map g.modules (λ (m : Module). m.label))
+  pub as_wide : (g : GraphParts) → IsNumbered g → (sources : List Source) (p : Loads) → sources ≡ map source_of g.modules → p ≡ g.edges → length p ≡ length sources
+  as_wide g n sources p a e = ap length e ∙ (n.long ∙ (sym (ap length n.named) ∙ (length-map g.modules (λ (m : Module). m.label) ∙ (sym (length-map g.modules source_of) ∙ sym (ap length a)))))
 
-  pub is_reading : (g : GraphParts) → IsLoadGraph (inputs_of files rules) g → IsNumbered g → (sources : List Source) (code : List (Option Resolved)) (packages : List BuildFile) (names : List Name) (p : Loads)
-      → sources ≡ map source_of g.modules → code ≡ map code_of g.modules → packages ≡ packages_of files → names ≡ with_each with_name [] rules.names → p ≡ g.edges
-      → IsReading files rules limit (parts sources code files packages rules names limit) p
-  is_reading g found numbered sources code packages names p a b c d e = record {
-    graph = g;
-    found = found;
-    decides = decided g sources code packages names a b c d;
-    edges = e;
-    wide = ap length e ∙ (as_wide g numbered ∙ (sym (length-map g.modules source_of) ∙ sym (ap length a)));
-  }
+  pub loaded_is : (g : GraphParts) → IsLoadGraph (inputs_of files rules) g → (x : LoadingParts) (p : Loads) (l : Loaded) → x ≡ loading_in files rules limit g → p ≡ g.edges → IsLoaded x p l → LoadsWorkspace files rules limit (Ok l)
+  loaded_is g found x p l is e h = (g, found, subst (λ (q : Loads). IsLoaded (loading_in files rules limit g) q l) e (subst (λ (y : LoadingParts). IsLoaded y p l) is h))
 
-  loads_it : (x : LoadingParts) (p : Loads) (l : Loaded) → IsReading files rules limit x p → IsLoaded x p l → LoadsWorkspace files rules limit (Ok l)
-  loads_it x p l r h =
-      (r.graph, r.found, subst (λ (q : Loads). IsLoaded (loading_in files rules limit r.graph) q l) r.edges (subst (λ (y : LoadingParts). IsLoaded y p l) r.decides h))
-
-  pub gathered_is : (x : LoadingParts) (p : Loads) (bs : List BuildFile) (os : List OutcomeView) (l : Loaded) → IsReading files rules limit x p → bs ≡ packages_of files → os ≡ outcomes x p
-      → IsGathered bs os l → LoadsWorkspace files rules limit (Ok l)
-  gathered_is x p bs os l r b o h =
-      let own : bs ≡ x.packages = b ∙ sym (ap (λ (y : LoadingParts). y.packages) r.decides) in
-      loads_it x p l r (subst (λ (cs : List BuildFile). IsGathered cs (outcomes x p) l) own (subst (λ (ps : List OutcomeView). IsGathered bs ps l) o h))
+-- what modules give in a workspace with these packages, where they are those of the load graph
+pub gathered_is : (x : LoadingParts) (p : Loads) (bs : List BuildFile) (os : List OutcomeView) (l : Loaded) → bs ≡ x.packages → os ≡ outcomes x p → IsGathered bs os l → IsLoaded x p l
+gathered_is x p bs os l b o h = subst (λ (cs : List BuildFile). IsGathered cs (outcomes x p) l) b (subst (λ (vs : List OutcomeView). IsGathered bs vs l) o h)

@@ -12,5 +12,7 @@ pub mod Joined
 pub mod Listed
 -- what a module evaluates to, by its source, its code and what it gets
 pub mod Meanings
+-- what the threads of a pool bring
+pub mod Pooled
 -- fault lines that are put one after another
 pub mod Put

@@ -12,10 +12,10 @@ use Rattle.bq_load.specs.declared.outcome.LoadedModule.{LoadedModule}
 use Rattle.bq_load.specs.declared.outcome.FailedModule.{FailedModule}
 use Rattle.bq_load.specs.declared.outcome.ModuleOutcome.{ModuleOutcome}
 use Rattle.bq_load.specs.declared.source.Source.{Source}
-use Rattle.bq_load.specs.Views.{OutcomeView, module_view, failed_view, outcome_view}
+use Rattle.bq_load.specs.Views.{OutcomeView, ModuleView, FailedView, module_view, failed_view, outcome_view}
 use Rattle.bq_load.specs.Sources.{LoadingParts}
 use Rattle.bq_load.specs.Evaluation.{means}
-use Rattle.bq_load.specs.Results.{outcome_of, outcomes_from}
+use Rattle.bq_load.specs.Results.{outcome_by, outcome_of, outcomes_from}
 
 abbrev Held : Type 0
 Held = Outcome (Arc LoadedModule Global) (Arc FailedModule Global)
@@ -39,3 +39,7 @@ module _ (x : LoadingParts) (p : Loads) where
       let within : m < length found = omega (arith, h, t.wide, length-map found (shown module_view failed_view)) in
       let d = shown module_view failed_view o in
       ap (shown module_view failed_view) e ∙ (sym (get_or-map (shown module_view failed_view) found m o d within) ∙ t.each m d h)
+
+  -- what a module comes to by it
+  pub outcome_found : (m : ℕ) (s : Source) (o : OutcomeView) (along : Outcome ModuleView FailedView) → o ≡ outcome_by x m s along → along ≡ outcome (means x) p m → o ≡ outcome_of x p m s
+  outcome_found m s o along is e = is ∙ ap (outcome_by x m s) e

@@ -4,3 +4,4 @@ pub mod Imports
 pub mod Evaluation
 pub mod Results
 pub mod Loaded
+pub mod Pool

@@ -1,5 +1,5 @@
 -- What loading a workspace gives: its modules with their outcomes, the packages, the fault lines and the print lines.
-use Rattle.std.specs.Prelude.{◌≡◌, ℕ, ◌++◌, List, [], ◌∷◌, length, map, Option, Some, None, Result, Ok, Err, slice_get, codes, option_map, option_and_then, if◌then◌else◌}
+use Rattle.std.specs.Prelude.{◌≡◌, ℕ, ◌++◌, List, [], ◌∷◌, map, Option, Some, None, Result, Ok, Err, slice_get, codes, option_map, option_and_then, if◌then◌else◌}
 use Rattle.std.specs.List.{flat_map, filter_map}
 use Rattle.std.specs.List.Sorted.{IsStrictlySortedBy}
 use Rattle.bq_fault_line.specs.declared.fault_line.FaultLine.{FaultLine}
@@ -107,11 +107,3 @@ HasNoGraph files rules why = (why ≡ e.TooManyModules → AreTooMany (inputs_of
 abbrev pub LoadsWorkspace : List File → Rules → ℕ → Result Loaded LoadErr → Type 0
 LoadsWorkspace files rules limit (Ok l) = (g : GraphParts) × IsLoadGraph (inputs_of files rules) g × IsLoaded (loading_in files rules limit g) g.edges l
 LoadsWorkspace files rules limit (Err why) = HasNoGraph files rules why
-
--- these sources and loads are those of the workspace's load graph
-pub record IsReading (files : List File) (rules : Rules) (limit : ℕ) (x : LoadingParts) (p : Loads) : Type 0 where
-  pub graph : GraphParts
-  pub found : IsLoadGraph (inputs_of files rules) graph
-  pub decides : x ≡ loading_in files rules limit graph
-  pub edges : p ≡ graph.edges
-  pub wide : length p ≡ length x.sources

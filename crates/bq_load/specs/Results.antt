@@ -43,9 +43,13 @@ result_of x m s (o.Cyclic k) = Err (not_evaluated (load_fault x m s f.CycleReach
 result_of x m s (o.TooDeep k) = Err (not_evaluated (load_fault x m s f.LoadDepth k))
 result_of x m s (o.LoadFailed k) = Err (not_evaluated (load_fault x m s f.LoadFailed k))
 
+-- a module with what it comes to by this outcome along loads
+abbrev pub outcome_by : LoadingParts → ℕ → Source → Outcome ModuleView FailedView → OutcomeView
+outcome_by x m s along = record { label = s.label; result = result_of x m s along }
+
 -- a module's outcome by the recursion along loads
 abbrev pub outcome_of : LoadingParts → Loads → ℕ → Source → OutcomeView
-outcome_of x p m s = record { label = s.label; result = result_of x m s (outcome (means x) p m) }
+outcome_of x p m s = outcome_by x m s (outcome (means x) p m)
 
 -- those of these modules, the first of which has this number
 abbrev pub outcomes_from : LoadingParts → Loads → ℕ → List Source → List OutcomeView

@@ -26,7 +26,7 @@ pub record LoadingParts : Type 0 where
   pub limit : ℕ
 
 abbrev pub loading_of : Loading → LoadingParts
-loading_of l = record { sources = l.sources.items; code = l.code.items; files = l.workspace.now; packages = l.packages.now; rules = l.schema.now; names = l.built_ins; limit = l.limit }
+loading_of l = record { sources = l.sources.items; code = l.code.items; files = l.workspace.now; packages = l.packages; rules = l.schema.now; names = l.built_ins; limit = l.limit }
 
 -- ---- of a load graph
 

@@ -101,7 +101,7 @@ impl<'a> Loading<'a> {
                 BuildHost::inside(
                     alloc,
                     self.workspace,
-                    self.packages,
+                    &self.packages,
                     self.schema,
                     label.package_id(),
                     build_file,

@@ -6,23 +6,15 @@ ghost use Rattle.bq_load.specs.Views.{ModuleView, FailedView, module_view, faile
 ghost use Rattle.bq_load.specs.Sources.{loading_of};
 ghost use Rattle.bq_load.specs.Evaluation.{or_no_file, file_means, by_code, means};
 
-use crate::gate::Gate;
 use crate::loading::Loading;
 use crate::outcome::{FailedModule, LoadedModule};
 use crate::source::{Source, share_fault};
-use bq_load_order::Evaluate;
+use bq_load_order::{Evaluate, Watch};
 use bq_source::{Fault, FaultKind, SourceErr};
 use std::alloc::{AllocError, Global};
 use std::sync::Arc;
 
-/// Evaluates the modules of a workspace, and tells a gate of each evaluation. Threads may share it.
-#[derive(Drop)]
-pub struct Evaluator<'a, G: Gate> {
-    pub loading: &'a Loading<'a>,
-    pub gate: &'a G,
-}
-
-impl<'a, G: Gate> Evaluate for Evaluator<'a, G> {
+impl<'a> Evaluate for Loading<'a> {
     type Value = LoadedModule;
 
     type Fault = FailedModule;
@@ -35,29 +27,27 @@ impl<'a, G: Gate> Evaluate for Evaluator<'a, G> {
 
     ghost see_fault = { failed_view };
 
-    ghost means = { λ e m modules. means (loading_of e.loading.now) m modules };
+    ghost means = { λ e m modules. means (loading_of e) m modules };
 
-    /// What a module evaluates to, by the modules of the files that its loads name. Only one whose statements are to run enters the gate.
-    fn evaluate(
+    /// What a module evaluates to, by the modules of the files that its loads name. The watch is told only of one whose statements are to run.
+    fn evaluate<W: Watch>(
         &self,
         alloc: Global,
         m: u32,
         imports: &[Arc<LoadedModule, Global>],
+        watch: &W,
     ) -> Result<Result<LoadedModule, FailedModule>, AllocError> {
-        let Some(source) = self.loading.sources.get(m as usize) else {
+        let Some(source) = self.sources.get(m as usize) else {
             return Ok(not_evaluated(alloc, Fault::at(FaultKind::NoSuchFile, 0)));
         };
-        let Some(file) = self.loading.code_of(m) else {
+        let Some(file) = self.code_of(m) else {
             return Ok(not_evaluated(alloc, own_fault(source)?));
         };
-        match self.loading.imports(alloc, source, file, imports) {
+        match self.imports(alloc, source, file, imports) {
             Ok(values) => {
-                self.gate.enter(&source.label);
+                watch.begins(m);
                 // for the proof: these are the values
-                Ok(
-                    self.loading
-                        .evaluated(alloc, m, source, file, imports, &values)?,
-                )
+                Ok(self.evaluated(alloc, m, source, file, imports, &values)?)
             }
             Err(SourceErr::Bad(fault)) => Ok(not_evaluated(alloc, fault)),
             Err(SourceErr::Memory) => Err(AllocError),

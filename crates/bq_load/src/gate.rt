@@ -1,6 +1,8 @@
 //! Who is told of each evaluation.
 
+use crate::loading::Loading;
 use bq_label::Label;
+use bq_load_order::Watch;
 use std::marker::Sync;
 
 /// Is told of each module that is evaluated. What it does changes no outcome.
@@ -18,5 +20,21 @@ pub struct OpenGate;
 impl Gate for OpenGate {
     fn enter(&self, module: &Label) {
         let _ = module;
+    }
+}
+
+/// Tells a gate of each evaluation, by the labels of the modules.
+#[derive(Drop)]
+pub struct GateWatch<'a, G: Gate> {
+    pub gate: &'a G,
+    pub loading: &'a Loading<'a>,
+}
+
+impl<'a, G: Gate> Watch for GateWatch<'a, G> {
+    fn begins(&self, m: u32) {
+        match self.loading.sources.get(m as usize) {
+            None => {}
+            Some(source) => self.gate.enter(&source.label),
+        }
     }
 }

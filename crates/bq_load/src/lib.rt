@@ -20,6 +20,7 @@
 //! - `packages`: the packages of BUILD files;
 //! - `lines`: the lines that they give;
 //! - `loaded`: all of it;
+//! - `pool`, `opening`, `work`: the modules of a load graph, for threads of the caller's own ([`Pool`]);
 //! - `load`: the loading of a workspace.
 #![tactic(auto)]
 
@@ -31,12 +32,16 @@ mod lines;
 mod load;
 mod loaded;
 mod loading;
+mod opening;
 mod outcome;
 mod packages;
+mod pool;
 mod results;
 mod source;
+mod work;
 
 pub use gate::{Gate, OpenGate};
 pub use load::{load_one_thread, load_with};
 pub use loaded::Loaded;
 pub use outcome::{FailedModule, LoadedModule, ModuleOutcome};
+pub use pool::{Evaluated, Pool, PoolSeat, Worked};

@@ -1,103 +1,80 @@
 //! The loading of a workspace.
 
-ghost use Rattle.std.specs.Prelude.{◌≡◌, ◌<◌, ◌≤◌, length, map, IfOk};
-ghost use Rattle.bq_label.specs.Packages.{packages_of};
-ghost use Rattle.bq_discover.specs.LoadGraph.{IsLoadGraph, inputs_of};
+ghost use Rattle.std.specs.Prelude.{◌≡◌, ◌<◌, ◌≤◌, length, map, All, IfOk};
+ghost use Rattle.bq_board.specs.Seats.{IsSeatOf};
 ghost use Rattle.bq_load.specs.Views.{outcome_view};
 ghost use Rattle.bq_load.specs.Sources.{loading_of};
 ghost use Rattle.bq_load.specs.Results.{outcomes};
-ghost use Rattle.bq_load.specs.Loaded.{IsReading, LoadsWorkspace};
+ghost use Rattle.bq_load.specs.Loaded.{IsLoaded, LoadsWorkspace};
+ghost use Rattle.bq_load.specs.Pool.{parts_of, loads_of};
 
-use crate::evaluator::Evaluator;
-use crate::gate::{Gate, OpenGate};
+use crate::gate::Gate;
 use crate::loaded::Loaded;
 use crate::loading::Loading;
 use crate::outcome::ModuleOutcome;
-use crate::source::Sources;
+use crate::pool::{Pool, PoolSeat};
 use bq_board::Graph;
-use bq_discover::{LoadErr, LoadGraph, discover, discover_by_workers};
-use bq_host::BuiltIns;
-use bq_label::{Packages, Workspace};
-use bq_load_order::outcomes_one_thread;
-use bq_schema::{Schema, rule_names};
-use bq_workers::{MAX_WORKERS, outcomes_by_workers};
+use bq_discover::{LoadErr, discover, discover_by_workers};
+use bq_label::Workspace;
+use bq_load_order::{Unwatched, outcomes_one_thread};
+use bq_schema::Schema;
+use bq_workers::MAX_WORKERS;
 use std::alloc::{AllocError, Global};
 use std::marker::Sync;
 use std::sync::Wait;
 use std::thread::Threads;
 
-/// What decides the outcomes of the modules of a load graph, and which loads which.
-#[tactic(auto, using(crate::proofs::Joined::is_reading))]
-fn read<'a>(
-    alloc: Global,
-    workspace: &'a Workspace,
-    packages: &'a Packages,
-    schema: &'a Schema,
-    limit: u64,
-    graph: LoadGraph,
-) -> Result<(Loading<'a>, Graph), AllocError>
-    requires packages { packages.now ≡ packages_of workspace.now }
-    requires graph { IsLoadGraph (inputs_of workspace.now schema.now) graph }
-    ensures { IfOk result (λ r. IsReading workspace.now schema.now limit (loading_of r.0) r.1) }
-{
-    let built_ins = BuiltIns::new(alloc, rule_names(schema))?;
-    let (modules, edges) = graph.into_parts();
-    let Sources { sources, code } = Sources::of(alloc, modules)?;
-    let loading = Loading {
-        workspace,
-        packages,
-        schema,
-        built_ins,
-        sources,
-        code,
-        limit,
-    };
-    Ok((loading, edges))
-}
-
-/// The modules with their outcomes, by one thread. Their code gives its memory to what comes.
+/// The modules with their outcomes, by one thread.
 fn modules_one_thread(
     alloc: Global,
-    loading: Loading<'_>,
-    edges: Graph,
-    gate: &OpenGate,
+    loading: &Loading<'_>,
+    edges: &Graph,
 ) -> Result<Vec<ModuleOutcome>, AllocError>
-    requires wide { length edges ≡ length loading.sources.items }
-    ensures { IfOk result (λ os. map outcome_view os.items ≡ outcomes (loading_of loading.entry) edges) }
+    requires wide { length edges.now ≡ length loading.now.sources.items }
+    ensures { IfOk result (λ os. map outcome_view os.items ≡ outcomes (loading_of loading.now) edges.now) }
 {
-    let evaluator = Evaluator {
-        loading: &loading,
-        gate,
-    };
-    let found = outcomes_one_thread(alloc, &evaluator, &edges)?;
-    loading.outcomes(alloc, &edges, found.as_slice())
+    let found = outcomes_one_thread(alloc, loading, edges, &Unwatched)?;
+    loading.outcomes(alloc, edges, found.as_slice())
 }
 
-/// The modules with their outcomes, by so many workers. Their code gives its memory to what comes.
-fn modules_by_workers<R: Threads + Wait + Sync, G: Gate>(
-    rt: &R,
+/// What the modules give, by one thread. Their code gives its memory to what comes.
+#[tactic(auto, using(crate::proofs::Joined::gathered_is))]
+fn loaded_one_thread(
     alloc: Global,
     loading: Loading<'_>,
     edges: Graph,
-    workers: usize,
-    gate: &G,
-) -> Result<Vec<ModuleOutcome>, AllocError>
-    requires workers { (0 < workers) × (workers ≤ MAX_WORKERS) }
+) -> Result<Loaded, AllocError>
     requires wide { length edges ≡ length loading.sources.items }
-    ensures { IfOk result (λ os. map outcome_view os.items ≡ outcomes (loading_of loading.entry) edges) }
+    ensures { IfOk result (λ l. IsLoaded (loading_of loading.entry) edges l) }
 {
-    let evaluator = Evaluator {
-        loading: &loading,
-        gate,
-    };
-    let found = outcomes_by_workers(rt, alloc, &evaluator, &edges, workers)?;
-    loading.outcomes(alloc, &edges, found.as_slice())
+    let modules = modules_one_thread(alloc, &loading, &edges)?;
+    let packages = loading.into_packages();
+    // for the proof: they give this
+    Ok(Loaded::gathered(alloc, &packages, modules)?)
+}
+
+/// What the modules of a pool give, by its seats. Their code gives its memory to what comes.
+#[tactic(auto, using(crate::proofs::Joined::gathered_is))]
+fn loaded_by_workers<'a, R: Threads + Wait + Sync, G: Gate>(
+    rt: &R,
+    alloc: Global,
+    pool: Pool<'a>,
+    seats: Vec<PoolSeat<'a>>,
+    gate: &G,
+) -> Result<Loaded, AllocError>
+    requires { All (λ s. IsSeatOf pool.shared.board s.place) seats.items }
+    ensures { IfOk result (λ l. IsLoaded (parts_of pool.entry) (loads_of pool.entry) l) }
+{
+    let modules = pool.outcomes(rt, alloc, seats, gate)?;
+    let packages = pool.into_packages();
+    // for the proof: they give this
+    Ok(Loaded::gathered(alloc, &packages, modules)?)
 }
 
 /// Loads a workspace on one thread: each module is evaluated after all that it loads, with so many steps of its own. It is refused where
 /// there are too many modules or edges (L2), and where memory is refused (L1). It evaluates on the stack of its caller, which no call
 /// overflows where that is as large as `bq_workers::EVALUATION_STACK`.
-#[tactic(auto, using(crate::proofs::Joined::gathered_is))]
+#[tactic(auto, using(crate::proofs::Joined::loaded_is))]
 pub fn load_one_thread(
     alloc: Global,
     workspace: &Workspace,
@@ -106,20 +83,18 @@ pub fn load_one_thread(
 ) -> Result<Loaded, LoadErr>
     ensures { LoadsWorkspace workspace.now schema.now limit result }
 {
-    let packages = Packages::of(alloc, workspace)?;
     // for the proof: the error is the same
     let graph = match discover(alloc, workspace, schema) {
         Ok(graph) => graph,
         Err(why) => return Err(why),
     };
-    let (loading, edges) = read(alloc, workspace, &packages, schema, limit, graph)?;
-    let modules = modules_one_thread(alloc, loading, edges, &OpenGate)?;
-    Ok(Loaded::gathered(alloc, &packages, modules)?)
+    let (loading, edges) = Loading::of(alloc, workspace, schema, limit, graph)?;
+    Ok(loaded_one_thread(alloc, loading, edges)?)
 }
 
 /// Loads a workspace by so many workers, each in a thread of its own with the stack that evaluation may take, and tells a gate of each
 /// evaluation. What it gives is what one thread gives, whatever the order of the workers' steps.
-#[tactic(auto, using(crate::proofs::Joined::gathered_is))]
+#[tactic(auto, using(crate::proofs::Joined::loaded_is))]
 pub fn load_with<R: Threads + Wait + Sync, G: Gate>(
     rt: &R,
     alloc: Global,
@@ -132,13 +107,11 @@ pub fn load_with<R: Threads + Wait + Sync, G: Gate>(
     requires { (0 < workers) × (workers ≤ MAX_WORKERS) }
     ensures { LoadsWorkspace workspace.now schema.now limit result }
 {
-    let packages = Packages::of(alloc, workspace)?;
     // for the proof: the error is the same
     let graph = match discover_by_workers(rt, alloc, workspace, schema, workers) {
         Ok(graph) => graph,
         Err(why) => return Err(why),
     };
-    let (loading, edges) = read(alloc, workspace, &packages, schema, limit, graph)?;
-    let modules = modules_by_workers(rt, alloc, loading, edges, workers, gate)?;
-    Ok(Loaded::gathered(alloc, &packages, modules)?)
+    let (pool, seats) = Pool::open(alloc, workspace, schema, limit, graph, workers)?;
+    Ok(loaded_by_workers(rt, alloc, pool, seats, gate)?)
 }

@@ -1,20 +1,24 @@
 //! What decides the outcomes of all modules.
 
-ghost use Rattle.std.specs.Prelude.{◌≡◌, slice_get};
+ghost use Rattle.std.specs.Prelude.{◌≡◌, slice_get, length, IfOk};
 ghost use Rattle.std.specs.Option.{option_copied};
 ghost use Rattle.bq_load.specs.Evaluation.{code_in};
+ghost use Rattle.bq_load.specs.Sources.{loading_of, loading_in};
 
-use crate::source::Source;
+use crate::source::{Source, Sources};
+use bq_board::Graph;
+use bq_discover::LoadGraph;
 use bq_host::BuiltIns;
 use bq_label::{Packages, Workspace};
-use bq_schema::Schema;
+use bq_schema::{Schema, rule_names};
 use bq_scope::Resolved;
+use std::alloc::{AllocError, Global};
 
 /// The modules of a workspace before their evaluation, by their numbers. Threads may share it.
 #[derive(Drop)]
 pub struct Loading<'a> {
     pub workspace: &'a Workspace,
-    pub packages: &'a Packages,
+    pub packages: Packages,
     pub schema: &'a Schema,
     pub built_ins: BuiltIns,
     pub sources: Vec<Source>,
@@ -25,6 +29,43 @@ pub struct Loading<'a> {
 }
 
 impl<'a> Loading<'a> {
+    /// What decides the outcomes of the modules of a load graph, and which loads which.
+    #[tactic(auto, using(crate::proofs::Joined::decided, crate::proofs::Joined::as_wide))]
+    pub(crate) fn of(
+        alloc: Global,
+        workspace: &'a Workspace,
+        schema: &'a Schema,
+        limit: u64,
+        graph: LoadGraph,
+    ) -> Result<(Loading<'a>, Graph), AllocError>
+        ensures decides { IfOk result (λ r. loading_of r.0 ≡ loading_in workspace.now schema.now limit graph) }
+        ensures edges { IfOk result (λ r. r.1 ≡ graph.edges) }
+        ensures wide { IfOk result (λ r. length r.1 ≡ length r.0.sources.items) }
+    {
+        let packages = Packages::of(alloc, workspace)?;
+        let built_ins = BuiltIns::new(alloc, rule_names(schema))?;
+        let (modules, edges) = graph.into_parts();
+        let Sources { sources, code } = Sources::of(alloc, modules)?;
+        let loading = Loading {
+            workspace,
+            packages,
+            schema,
+            built_ins,
+            sources,
+            code,
+            limit,
+        };
+        Ok((loading, edges))
+    }
+
+    /// The packages, once all modules are evaluated. Their code gives its memory to what comes.
+    pub(crate) fn into_packages(self) -> Packages
+        ensures { result ≡ self.entry.packages }
+    {
+        let Loading { packages, .. } = self;
+        packages
+    }
+
     /// The code of a module.
     pub(crate) fn code_of(&self, m: u32) -> Option<&Resolved>
         ensures { option_copied result ≡ code_in (slice_get self.now.code.items m) }

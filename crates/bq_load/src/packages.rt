@@ -40,7 +40,7 @@ fn own_package(
 }
 
 /// The package of a BUILD file: one without targets where it failed.
-fn package_by(
+pub(crate) fn package_by(
     alloc: Global,
     label: &Label,
     outcome: &Result<Arc<LoadedModule, Global>, FailedModule>,

@@ -9,7 +9,7 @@ ghost use Rattle.bq_load_order.specs.Slots.{Tabulates};
 ghost use Rattle.bq_load.specs.Views.{module_view, failed_view, result_view, outcome_view};
 ghost use Rattle.bq_load.specs.Sources.{loading_of};
 ghost use Rattle.bq_load.specs.Evaluation.{means, code_in};
-ghost use Rattle.bq_load.specs.Results.{line_of_load, line_by, load_fault, result_of, outcome_of, outcomes};
+ghost use Rattle.bq_load.specs.Results.{line_of_load, line_by, load_fault, result_of, outcome_by, outcome_of, outcomes};
 
 use crate::loading::Loading;
 use crate::outcome::{FailedModule, LoadedModule, ModuleOutcome};
@@ -129,8 +129,23 @@ impl<'a> Loading<'a> {
         }
     }
 
+    /// A module with its outcome, by its outcome along loads.
+    pub(crate) fn outcome_at(
+        &self,
+        alloc: Global,
+        m: u32,
+        source: &Source,
+        outcome: &Shared<LoadedModule, FailedModule>,
+    ) -> Result<ModuleOutcome, AllocError>
+        ensures { IfOk result (λ o. outcome_view o ≡ outcome_by (loading_of self.now) m source.now (shown_outcome module_view failed_view outcome.now)) }
+    {
+        let label = source.label.share()?;
+        let result = self.result_of(alloc, m, source, outcome)?;
+        Ok(ModuleOutcome { label, result })
+    }
+
     /// A module with its outcome.
-    #[tactic(auto, using(crate::proofs::Listed::found_at))]
+    #[tactic(auto, using(crate::proofs::Listed::outcome_found, crate::proofs::Listed::found_at))]
     fn outcome(
         &self,
         alloc: Global,
@@ -144,9 +159,8 @@ impl<'a> Loading<'a> {
         ensures { IfOk result (λ o. outcome_view o ≡ outcome_of (loading_of self.now) edges.now m source.now) }
     {
         let _modules = edges.len(); // for the proof: there are no more than a number counts
-        let label = source.label.share()?;
-        let result = self.result_of(alloc, m as u32, source, &found[m])?;
-        Ok(ModuleOutcome { label, result })
+        // for the proof: the outcome is by what was found
+        Ok(self.outcome_at(alloc, m as u32, source, &found[m])?)
     }
 
     /// The modules with their outcomes.

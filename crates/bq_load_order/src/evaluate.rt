@@ -2,6 +2,7 @@
 ghost use Rattle.std.specs.Prelude.{◌≡◌, ℕ, List, map, Result, IfOk};
 ghost use Rattle.bq_load_order.specs.Shown.{told};
 
+use crate::watch::Watch;
 use std::alloc::{AllocError, Global};
 use std::marker::{Send, Sync};
 use std::sync::Arc;
@@ -26,12 +27,13 @@ pub trait Evaluate: Sync {
     /// What a module evaluates to, by the values of its loads in their order.
     ghost means: { Self → ℕ → List Meaning → Result Meaning Reason };
 
-    /// Evaluates module `m`.
-    fn evaluate(
+    /// Evaluates module `m`. It tells the watch right before the module's statements run; where none run, it doesn't.
+    fn evaluate<W: Watch>(
         &self,
         alloc: Global,
         m: u32,
         imports: &[Arc<Self::Value, Global>],
+        watch: &W,
     ) -> Result<Result<Self::Value, Self::Fault>, AllocError>
         ensures { IfOk result (λ r. told see see_fault r ≡ means self.now m (map (λ a. see a.value) imports.now)) };
 }

@@ -7,8 +7,9 @@
 //! Modules that are cyclic or too deep, or that load a module without value, aren't evaluated. A value and a fault are kept once, and shared.
 //! What a module prints, and the package that a BUILD file makes, are parts of its value and of its fault, as the evaluator likes.
 //!
-//! In reading order: `evaluate` (what evaluates modules), `shared` (outcomes with shared values), `imports` (the values of what a module loads),
-//! `module` (the outcome of one module), `slots` (the outcomes that are known), `outcomes` (all of them), `laws`.
+//! In reading order: `watch` (who is told of each evaluation), `evaluate` (what evaluates modules), `shared` (outcomes with shared values),
+//! `imports` (the values of what a module loads), `module` (the outcome of one module), `slots` (the outcomes that are known), `outcomes` (all of
+//! them), `laws`.
 #![tactic(auto)]
 
 mod evaluate;
@@ -18,6 +19,7 @@ mod module;
 mod outcomes;
 mod shared;
 mod slots;
+mod watch;
 
 pub use evaluate::Evaluate;
 pub use laws::one_list;
@@ -25,3 +27,4 @@ pub use module::outcome_by;
 pub use outcomes::{complete, outcomes_one_thread};
 pub use shared::{Shared, share, share_value};
 pub use slots::{empty_slots, first_at_limit, first_cyclic};
+pub use watch::{Unwatched, Watch};

@@ -5,35 +5,38 @@ ghost use Rattle.bq_load_order.specs.Shown.{seen, shown};
 
 use crate::evaluate::Evaluate;
 use crate::shared::Shared;
+use crate::watch::Watch;
 use bq_outcome::Outcome;
 use std::alloc::{AllocError, Global};
 use std::sync::Arc;
 
 /// The outcome of a module that isn't cyclic, by the values of its loads or the first load that has none. It is evaluated only where all have one.
-pub fn outcome_by<E: Evaluate>(
+pub fn outcome_by<E: Evaluate, W: Watch>(
     alloc: Global,
     evaluator: &E,
     m: u32,
     imports: Result<Vec<Arc<E::Value, Global>>, u32>,
+    watch: &W,
 ) -> Result<Shared<E::Value, E::Fault>, AllocError>
     ensures { IfOk result (λ o. shown E.see E.see_fault o ≡ evaluated (E.means evaluator.now m) (seen E.see imports)) }
 {
     match imports {
-        Ok(imports) => evaluate(alloc, evaluator, m, imports.as_slice()),
+        Ok(imports) => evaluate(alloc, evaluator, m, imports.as_slice(), watch),
         Err(load) => Ok(Outcome::LoadFailed(load)),
     }
 }
 
 // What a module evaluates to, shared.
-fn evaluate<E: Evaluate>(
+fn evaluate<E: Evaluate, W: Watch>(
     alloc: Global,
     evaluator: &E,
     m: u32,
     imports: &[Arc<E::Value, Global>],
+    watch: &W,
 ) -> Result<Shared<E::Value, E::Fault>, AllocError>
     ensures { IfOk result (λ o. shown E.see E.see_fault o ≡ own (E.means evaluator.now m (map (λ a. E.see a.value) imports.now))) }
 {
-    match evaluator.evaluate(alloc, m, imports)? {
+    match evaluator.evaluate(alloc, m, imports, watch)? {
         Ok(value) => Ok(Outcome::Loaded(Arc::new(alloc, value)?)),
         Err(fault) => Ok(Outcome::Faulty(Arc::new(alloc, fault)?)),
     }

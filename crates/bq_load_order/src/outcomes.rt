@@ -1,7 +1,7 @@
 //! The outcomes of all modules, in load order.
 ghost use Rattle.std.specs.Prelude.{◌≡◌, ℕ, [], length, map, IfOk, OnOk};
 ghost use Rattle.bq_board.specs.Depth.{HasDepths};
-ghost use Rattle.bq_board.specs.Topological.{IsTopologicalOrder, MarksCycles};
+ghost use Rattle.bq_board.specs.Topological.{MarksCycles};
 ghost use Rattle.bq_outcome.specs.Outcome.{outcome};
 ghost use Rattle.bq_load_order.specs.Shown.{shown, slot};
 ghost use Rattle.bq_load_order.specs.Slots.{Filling, IsLoadOrder, Puts, Ready, Tabulates};
@@ -11,49 +11,54 @@ use crate::imports::imported;
 use crate::module::outcome_by;
 use crate::shared::Shared;
 use crate::slots::{all_settled, empty_slots, first_at_limit};
+use crate::watch::Watch;
 use bq_board::{Graph, Order};
 use bq_outcome::Outcome;
 use std::alloc::{AllocError, Global};
 
-/// The outcome of each module of a load graph. It calls the evaluator once for each module whose loads all have values.
-pub fn outcomes_one_thread<E: Evaluate>(
+/// The outcome of each module of a load graph. It calls the evaluator once for each module whose loads all have values, and the evaluator
+/// tells the watch.
+pub fn outcomes_one_thread<E: Evaluate, W: Watch>(
     alloc: Global,
     evaluator: &E,
     graph: &Graph,
+    watch: &W,
 ) -> Result<Vec<Shared<E::Value, E::Fault>>, AllocError>
     ensures { IfOk result (λ v. Tabulates (length graph.now) (outcome (E.means evaluator.now) graph.now) (map (shown E.see E.see_fault) v.items)) }
 {
     let order = graph.topological_order(alloc)?;
     let found = empty_slots(alloc, graph.len())?;
-    complete(alloc, evaluator, graph, &order, found)
+    complete(alloc, evaluator, graph, &order, found, watch)
 }
 
 /// The outcome of each module, where some are known.
-pub fn complete<E: Evaluate>(
+pub fn complete<E: Evaluate, W: Watch>(
     alloc: Global,
     evaluator: &E,
     graph: &Graph,
     order: &Order,
     mut found: Vec<Option<Shared<E::Value, E::Fault>>>,
+    watch: &W,
 ) -> Result<Vec<Shared<E::Value, E::Fault>>, AllocError>
-    requires order { IsTopologicalOrder graph.now order.now.modules.items order.now.pending.items }
+    requires order { IsLoadOrder graph.now order.now.modules.items }
     requires cyclic { MarksCycles graph.now order.now.pending.items }
     requires depths { HasDepths graph.now order.now.depths.items }
     requires found { Filling (outcome (E.means evaluator.now) graph.now) (length graph.now) (map (slot E.see E.see_fault) found.items) [] }
     ensures { IfOk result (λ v. Tabulates (length graph.now) (outcome (E.means evaluator.now) graph.now) (map (shown E.see E.see_fault) v.items)) }
 {
-    fill(alloc, evaluator, graph, order, &mut found)?;
+    fill(alloc, evaluator, graph, order, &mut found, watch)?;
     // for the proof: the outcomes are those of the settled
     Ok(all_settled::<E>(alloc, graph, order, found.as_slice())?)
 }
 
 // Finds the outcomes of the modules of the order.
-fn fill<E: Evaluate>(
+fn fill<E: Evaluate, W: Watch>(
     alloc: Global,
     evaluator: &E,
     graph: &Graph,
     order: &Order,
     found: &mut Vec<Option<Shared<E::Value, E::Fault>>>,
+    watch: &W,
 ) -> Result<(), AllocError>
     requires order { IsLoadOrder graph.now order.now.modules.items }
     requires cyclic { MarksCycles graph.now order.now.pending.items }
@@ -62,19 +67,20 @@ fn fill<E: Evaluate>(
     ensures { OnOk result (Filling (outcome (E.means evaluator.now) graph.now) (length graph.now) (map (slot E.see E.see_fault) found.new.items) order.now.modules.items) }
 {
     for m in order.modules.as_slice() {
-        fill_one(alloc, evaluator, graph, order, *m, found)?;
+        fill_one(alloc, evaluator, graph, order, *m, found, watch)?;
     }
     Ok(())
 }
 
 // Finds the outcome of a module that isn't cyclic and whose loads have theirs.
-fn fill_one<E: Evaluate>(
+fn fill_one<E: Evaluate, W: Watch>(
     alloc: Global,
     evaluator: &E,
     graph: &Graph,
     order: &Order,
     m: u32,
     found: &mut Vec<Option<Shared<E::Value, E::Fault>>>,
+    watch: &W,
 ) -> Result<(), AllocError>
     requires cyclic { MarksCycles graph.now order.now.pending.items }
     requires depths { HasDepths graph.now order.now.depths.items }
@@ -84,19 +90,20 @@ fn fill_one<E: Evaluate>(
     if found[m as usize].is_some() {
         return Ok(());
     }
-    let outcome = outcome_of(alloc, evaluator, graph, order, m, found.as_slice())?;
+    let outcome = outcome_of(alloc, evaluator, graph, order, m, found.as_slice(), watch)?;
     found[m as usize] = Some(outcome);
     Ok(())
 }
 
 // The outcome of a module that isn't cyclic, by what was found for its loads.
-fn outcome_of<E: Evaluate>(
+fn outcome_of<E: Evaluate, W: Watch>(
     alloc: Global,
     evaluator: &E,
     graph: &Graph,
     order: &Order,
     m: u32,
     found: &[Option<Shared<E::Value, E::Fault>>],
+    watch: &W,
 ) -> Result<Shared<E::Value, E::Fault>, AllocError>
     requires cyclic { MarksCycles graph.now order.now.pending.items }
     requires depths { HasDepths graph.now order.now.depths.items }
@@ -109,5 +116,5 @@ fn outcome_of<E: Evaluate>(
     }
     let imports = imported::<E>(alloc, found, loads)?;
     // for the proof: the outcome is by these imports
-    Ok(outcome_by(alloc, evaluator, m, imports)?)
+    Ok(outcome_by(alloc, evaluator, m, imports, watch)?)
 }

@@ -18,6 +18,8 @@ mod program;
 #[cfg(test)]
 mod random;
 #[cfg(test)]
+mod refused;
+#[cfg(test)]
 mod workers;
 #[cfg(test)]
 mod workspace;

@@ -2,8 +2,11 @@
 
 mod by_workers;
 mod counts;
+mod free;
+mod holding;
 mod large;
 mod meeting;
+mod pool;
 mod rows;
 
 use crate::chunks::{Subject, check_chunks};

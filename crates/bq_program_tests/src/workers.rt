@@ -4,7 +4,7 @@ ghost use Rattle.bq_program_tests.specs.Mixing.{is_faulty, mixed};
 
 use crate::random::random_rows;
 use bq_board::{Graph, PlanErr};
-use bq_load_order::{Evaluate, Shared, outcomes_one_thread};
+use bq_load_order::{Evaluate, Shared, Unwatched, Watch, outcomes_one_thread};
 use bq_outcome::Outcome;
 use bq_workers::{MAX_WORKERS, Pool, outcomes_by_workers};
 use std::alloc::{AllocError, Global};
@@ -34,11 +34,12 @@ impl Evaluate for Mixing {
 
     ghost means = { λ _ m _. mixed m };
 
-    fn evaluate(
+    fn evaluate<W: Watch>(
         &self,
         _alloc: Global,
         m: u32,
         imports: &[Arc<u64, Global>],
+        _watch: &W,
     ) -> Result<Result<u64, u64>, AllocError> {
         self.calls.fetch_add(1, Ordering::SeqCst);
         let value = mix(m, imports);
@@ -92,17 +93,23 @@ fn new_mixing() -> Mixing {
 fn gives_the_same<R: Threads + Wait + Sync>(
     rt: &R,
     alloc: Global,
-    graph: &Graph,
+    graph: Graph,
     workers: usize,
 ) -> Result<bool, AllocError>
     requires { (0 < workers) × (workers ≤ MAX_WORKERS) }
 {
     let one = new_mixing();
-    let wanted = outcomes_one_thread(alloc, &one, graph)?;
-    let several = new_mixing();
-    let found = outcomes_by_workers(rt, alloc, &several, graph, workers)?;
-    let calls = one.calls.load(Ordering::SeqCst);
-    Ok(are_same(&wanted, &found) && several.calls.load(Ordering::SeqCst) == calls)
+    let wanted = outcomes_one_thread(alloc, &one, &graph, &Unwatched)?;
+    let (pool, seats) = Pool::open(alloc, new_mixing(), graph, workers)?;
+    let found = outcomes_by_workers(rt, alloc, &pool, seats, &Unwatched)?;
+    let calls = pool.evaluator().calls.load(Ordering::SeqCst);
+    Ok(are_same(&wanted, &found) && one.calls.load(Ordering::SeqCst) == calls)
+}
+
+fn random_graph(alloc: Global, seed: u64, count: u32) -> Result<Graph, PlanErr>
+    requires { 0 < count }
+{
+    Graph::new(random_rows(alloc, seed, count)?)
 }
 
 /// One random graph, by 1, 2 and 8 workers.
@@ -111,10 +118,9 @@ fn few_workers<R: Threads + Wait + Sync>(
     alloc: Global,
     seed: u64,
 ) -> Result<bool, PlanErr> {
-    let graph = Graph::new(random_rows(alloc, seed, 60)?)?;
-    let one = gives_the_same(rt, alloc, &graph, 1)?;
-    let two = gives_the_same(rt, alloc, &graph, 2)?;
-    let eight = gives_the_same(rt, alloc, &graph, 8)?;
+    let one = gives_the_same(rt, alloc, random_graph(alloc, seed, 60)?, 1)?;
+    let two = gives_the_same(rt, alloc, random_graph(alloc, seed, 60)?, 2)?;
+    let eight = gives_the_same(rt, alloc, random_graph(alloc, seed, 60)?, 8)?;
     Ok(one && two && eight)
 }
 
@@ -130,14 +136,14 @@ fn few_workers_load_as_one_thread(rt: HostRuntime) -> Result<(), PlanErr> {
 #[test]
 fn many_workers_load_as_one_thread(rt: HostRuntime) -> Result<(), PlanErr> {
     for count in [1u32, 10, 200] {
-        let graph = Graph::new(random_rows(rt.alloc(), 7, count)?)?;
+        let graph = random_graph(rt.alloc(), 7, count)?;
         assert!(rt;
-            gives_the_same(&rt, rt.alloc(), &graph, 64)?,
+            gives_the_same(&rt, rt.alloc(), graph, 64)?,
             "{count} modules"
         );
     }
     let none = Graph::new(Vec::new(rt.alloc()))?;
-    assert!(rt; gives_the_same(&rt, rt.alloc(), &none, 64)?);
+    assert!(rt; gives_the_same(&rt, rt.alloc(), none, 64)?);
     Ok(())
 }
 
@@ -157,7 +163,7 @@ fn chain_rows(alloc: Global, first: u32) -> Result<Vec<Vec<u32>>, AllocError> {
 fn workers_load_chains_and_cycles(rt: HostRuntime) -> Result<(), PlanErr> {
     for first in [0u32, 99] {
         let graph = Graph::new(chain_rows(rt.alloc(), first)?)?;
-        assert!(rt; gives_the_same(&rt, rt.alloc(), &graph, 8)?, "to {first}");
+        assert!(rt; gives_the_same(&rt, rt.alloc(), graph, 8)?, "to {first}");
     }
     Ok(())
 }
@@ -165,11 +171,10 @@ fn workers_load_chains_and_cycles(rt: HostRuntime) -> Result<(), PlanErr> {
 /// One seat of a pool of two, whose other seat never works, finishes all modules.
 #[test]
 fn one_seat_finishes_a_pool(rt: HostRuntime) -> Result<(), PlanErr> {
-    let graph = Graph::new(random_rows(rt.alloc(), 3, 60)?)?;
-    let evaluator = new_mixing();
-    let (pool, mut seats) = Pool::open(rt.alloc(), &evaluator, &graph, 2)?;
+    let graph = random_graph(rt.alloc(), 3, 60)?;
+    let (pool, mut seats) = Pool::open(rt.alloc(), new_mixing(), graph, 2)?;
     let mut seat = seats.pop().unwrap();
-    let worked = pool.work(&rt, rt.alloc(), &mut seat)?;
+    let worked = pool.work(&rt, rt.alloc(), &mut seat, &Unwatched)?;
     assert!(rt; worked.all && worked.modules.len() == 60);
     Ok(())
 }

@@ -11,28 +11,29 @@ ghost use Rattle.bq_workers.specs.Work.{IsImport};
 use crate::import::Import;
 use crate::pool::{Evaluated, Pool};
 use bq_board::{Claim, Seat};
-use bq_load_order::{Evaluate, Shared, share_value};
+use bq_load_order::{Evaluate, Shared, Watch, share_value};
 use std::alloc::{AllocError, Global};
 
-impl<'a, E: Evaluate> Pool<'a, E> {
+impl<E: Evaluate> Pool<E> {
     // Claims a module, and where it is won, finds its outcome, posts it and finishes the module.
-    pub(crate) fn bring(
+    pub(crate) fn bring<W: Watch>(
         &self,
         alloc: Global,
         seat: &mut Seat<Import<E>>,
         m: usize,
+        watch: &W,
         modules: &mut Vec<Evaluated<E::Value, E::Fault>>,
     ) -> Result<(), AllocError>
         requires seat { IsSeatOf self.now.board seat.old }
         requires known { m < length self.now.board.plan }
         ensures seat { IsSeatOf self.now.board seat.new }
-        ensures brought { (before : List ℕ) → Brought E.see E.see_fault (outcome (E.means self.now.evaluator.now) self.now.graph.now) (length self.now.graph.now) before (view_of seat.old).finished modules.old.items → OnOk result (Brought E.see E.see_fault (outcome (E.means self.now.evaluator.now) self.now.graph.now) (length self.now.graph.now) before (view_of seat.new).finished modules.new.items) }
+        ensures brought { (before : List ℕ) → Brought E.see E.see_fault (outcome (E.means self.now.evaluator) self.now.graph) (length self.now.graph) before (view_of seat.old).finished modules.old.items → OnOk result (Brought E.see E.see_fault (outcome (E.means self.now.evaluator) self.now.graph) (length self.now.graph) before (view_of seat.new).finished modules.new.items) }
     {
         let _ = self.graph.len(); // for the proof: the graph is valid
         if !self.wins(seat, m) {
             return Ok(());
         }
-        let outcome = self.find(alloc, seat, m)?;
+        let outcome = self.find(alloc, seat, m, watch)?;
         let out = self.board.plan().edges_out(m);
         let number = m as u32;
         let copies = copies::<E>(alloc, number, &outcome, out.len())?;
@@ -63,7 +64,7 @@ impl<'a, E: Evaluate> Pool<'a, E> {
         requires owes { Owes self.now.board.plan (view_of seat.old) m }
         requires out { IsOut self.now.board.plan m out.now }
         requires count { vec_len copies ≡ length out.now }
-        requires copies { All (λ x. IsImport E.see (outcome (E.means self.now.evaluator.now) self.now.graph.now) m x.number x.value) copies.items }
+        requires copies { All (λ x. IsImport E.see (outcome (E.means self.now.evaluator) self.now.graph) m x.number x.value) copies.items }
         ensures seat { IsSeatOf self.now.board seat.new }
         ensures finished { (view_of seat.new).finished ≡ (view_of seat.old).finished ++ m ∷ [] }
     {

@@ -15,7 +15,7 @@ pub(crate) enum Next {
     Nothing,
 }
 
-impl<'a, E: Evaluate> Pool<'a, E> {
+impl<E: Evaluate> Pool<E> {
     // A module of the worker's own list, else one of another's.
     pub(crate) fn next(&self, list: &mut Worker<u32>) -> Next {
         match list.pop() {

@@ -9,18 +9,19 @@ ghost use Rattle.bq_load_order.specs.Shown.{seen, shown};
 use crate::import::Import;
 use crate::pool::Pool;
 use bq_board::{Seat, edges_are_loads};
-use bq_load_order::{Evaluate, Shared, first_at_limit, first_cyclic, outcome_by};
+use bq_load_order::{Evaluate, Shared, Watch, first_at_limit, first_cyclic, outcome_by};
 use bq_outcome::Outcome;
 use std::alloc::{AllocError, Global};
 use std::sync::Arc;
 
-impl<'a, E: Evaluate> Pool<'a, E> {
+impl<E: Evaluate> Pool<E> {
     // The outcome of a module, by what it loads.
-    pub(crate) fn find(
+    pub(crate) fn find<W: Watch>(
         &self,
         alloc: Global,
         seat: &mut Seat<Import<E>>,
         m: usize,
+        watch: &W,
     ) -> Result<Shared<E::Value, E::Fault>, AllocError>
         requires seat { IsSeatOf self.now.board seat.old }
         requires known { m < length self.now.board.plan }
@@ -28,18 +29,18 @@ impl<'a, E: Evaluate> Pool<'a, E> {
         ensures seat { IsSeatOf self.now.board seat.new }
         ensures owes { OnOk result (Owes self.now.board.plan (view_of seat.new) m) }
         ensures finished { (view_of seat.new).finished ≡ (view_of seat.old).finished }
-        ensures outcome { IfOk result (λ o. shown E.see E.see_fault o ≡ outcome (E.means self.now.evaluator.now) self.now.graph.now m) }
+        ensures outcome { IfOk result (λ o. shown E.see E.see_fault o ≡ outcome (E.means self.now.evaluator) self.now.graph m) }
     {
         let loads = self.graph.row(m);
         if self.order.pending[m] > 0 {
-            return Ok(Outcome::Cyclic(first_cyclic(&self.order, self.graph, loads)));
+            return Ok(Outcome::Cyclic(first_cyclic(&self.order, &self.graph, loads)));
         }
-        if self.order.is_too_deep(self.graph, m) {
-            return Ok(Outcome::TooDeep(first_at_limit(&self.order, self.graph, loads)));
+        if self.order.is_too_deep(&self.graph, m) {
+            return Ok(Outcome::TooDeep(first_at_limit(&self.order, &self.graph, loads)));
         }
         let imports = self.imports(alloc, seat, m)?;
         // for the proof: the outcome is by these imports
-        Ok(outcome_by(alloc, self.evaluator, m as u32, imports)?)
+        Ok(outcome_by(alloc, &self.evaluator, m as u32, imports, watch)?)
     }
 
     // The values of all that a module loads, or the first load that has none.
@@ -55,7 +56,7 @@ impl<'a, E: Evaluate> Pool<'a, E> {
         ensures seat { IsSeatOf self.now.board seat.new }
         ensures owes { OnOk result (Owes self.now.board.plan (view_of seat.new) m) }
         ensures finished { (view_of seat.new).finished ≡ (view_of seat.old).finished }
-        ensures values { IfOk result (λ r. seen E.see r ≡ values (outcome (E.means self.now.evaluator.now) self.now.graph.now) (row self.now.board.plan m)) }
+        ensures values { IfOk result (λ r. seen E.see r ≡ values (outcome (E.means self.now.evaluator) self.now.graph) (row self.now.board.plan m)) }
     {
         edges_are_loads(); // for the proof: the edges into a module are its loads
         let mut imports = Vec::new(alloc);

@@ -4,7 +4,7 @@ ghost use Rattle.bq_board.specs.Board.{blank};
 ghost use Rattle.bq_board.specs.Cut.{IsCut};
 ghost use Rattle.bq_board.specs.Depth.{HasDepths};
 ghost use Rattle.bq_board.specs.Seats.{IsSeatOf, base_of, view_of};
-ghost use Rattle.bq_board.specs.Topological.{IsTopologicalOrder, MarksCycles};
+ghost use Rattle.bq_board.specs.Topological.{MarksCycles};
 
 use crate::idle::Idle;
 use crate::import::{Base, Import};
@@ -18,22 +18,21 @@ use std::sync::atomic::{AtomicBool, Ordering};
 /// The most workers that may be started.
 pub const MAX_WORKERS: usize = 256;
 
-impl<'a, E: Evaluate> Pool<'a, E> {
+impl<E: Evaluate + Drop> Pool<E> {
     /// A pool of a graph's modules, none of them begun, and its seats, which have done nothing.
     pub fn open(
         alloc: Global,
-        evaluator: &'a E,
-        graph: &'a Graph,
+        evaluator: E,
+        graph: Graph,
         seats: usize,
-    ) -> Result<(Pool<'a, E>, Vec<PoolSeat<E>>), AllocError>
+    ) -> Result<(Pool<E>, Vec<PoolSeat<E>>), AllocError>
         requires { (0 < seats) × (seats ≤ MAX_SEATS) }
-        ensures of { IfOk result (λ r. (r.0.evaluator.now ≡ evaluator.now) × (r.0.graph.now ≡ graph.now)) }
-        ensures order { IfOk result (λ r. IsTopologicalOrder graph.now r.0.order.modules.items r.0.order.pending.items) }
+        ensures of { IfOk result (λ r. (r.0.evaluator ≡ evaluator) × (r.0.graph ≡ graph)) }
         ensures count { IfOk result (λ r. vec_len r.1 ≡ seats) }
         ensures fresh { IfOk result (λ r. All (λ s. IsSeatOf r.0.board s.place × (view_of s.place ≡ blank (base_of r.0.board) r.0.board.plan)) r.1.items) }
     {
         let order = graph.topological_order(alloc)?;
-        let (board, places) = board_of(alloc, evaluator, graph, &order, seats)?;
+        let (board, places) = board_of(alloc, &evaluator, &graph, &order, seats)?;
         let stop = AtomicBool::new(false);
         let (seats, stealers) = seats_and_stealers(alloc, &board, &stop, places)?;
         let pool = Pool {

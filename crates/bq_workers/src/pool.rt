@@ -4,6 +4,7 @@ ghost use Rattle.bq_board.specs.Cut.{IsCut};
 ghost use Rattle.bq_board.specs.Depth.{HasDepths};
 ghost use Rattle.bq_board.specs.Seats.{base_of};
 ghost use Rattle.bq_board.specs.Topological.{MarksCycles};
+ghost use Rattle.bq_load_order.specs.Slots.{IsLoadOrder};
 
 use crate::idle::Idle;
 use crate::import::Import;
@@ -14,9 +15,9 @@ use std::sync::atomic::AtomicBool;
 
 /// The modules of a load graph, to be evaluated by several workers.
 #[derive(Drop)]
-pub struct Pool<'a, E: Evaluate> {
-    pub(crate) evaluator: &'a E,
-    pub(crate) graph: &'a Graph,
+pub struct Pool<E: Evaluate> {
+    pub(crate) evaluator: E,
+    pub(crate) graph: Graph,
     pub(crate) order: Order,
     pub(crate) board: Board<Import<E>>,
     /// A worker was refused memory, or a list of candidates: all workers stop.
@@ -24,11 +25,28 @@ pub struct Pool<'a, E: Evaluate> {
     /// Where workers sleep that find nothing to try.
     pub(crate) idle: Idle,
     pub(crate) stealers: Vec<Stealer<u32>>,
-    ghost by: { (base_of board).evaluator.value ≡ evaluator.now },
-    ghost of: { (base_of board).graph.value ≡ graph.now },
-    ghost plan: { IsCut graph.now board.plan },
-    ghost cyclic: { MarksCycles graph.now order.pending.items },
-    ghost depths: { HasDepths graph.now order.depths.items },
+    ghost by: { (base_of board).evaluator.value ≡ evaluator },
+    ghost of: { (base_of board).graph.value ≡ graph },
+    ghost plan: { IsCut graph board.plan },
+    ghost sorted: { IsLoadOrder graph order.modules.items },
+    ghost cyclic: { MarksCycles graph order.pending.items },
+    ghost depths: { HasDepths graph order.depths.items },
+}
+
+impl<E: Evaluate> Pool<E> {
+    /// What evaluates the modules.
+    pub fn evaluator(&self) -> &E
+        ensures { result.now ≡ self.now.evaluator }
+    {
+        &self.evaluator
+    }
+
+    /// Which module loads which.
+    pub fn graph(&self) -> &Graph
+        ensures { result.now ≡ self.now.graph }
+    {
+        &self.graph
+    }
 }
 
 /// The right to work in one pool, and this worker's list of modules to try.

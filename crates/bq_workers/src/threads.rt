@@ -1,7 +1,6 @@
 //! Workers in threads of their own, each with the stack that evaluation may take.
 ghost use Rattle.std.specs.Prelude.{◌≡◌, [], length, map, All, IfOk, IfSome};
 ghost use Rattle.bq_board.specs.Seats.{IsSeatOf};
-ghost use Rattle.bq_board.specs.Topological.{IsTopologicalOrder};
 ghost use Rattle.bq_outcome.specs.Outcome.{outcome};
 ghost use Rattle.bq_load_order.specs.Shown.{shown, slot};
 ghost use Rattle.bq_load_order.specs.Slots.{Filling, Tabulates};
@@ -9,7 +8,7 @@ ghost use Rattle.bq_workers.specs.Brought.{IsAnswer};
 
 use crate::import::Base;
 use crate::pool::{Pool, PoolSeat, Worked};
-use bq_load_order::{Evaluate, Shared, complete};
+use bq_load_order::{Evaluate, Shared, Watch, complete};
 use core::thread::Stack;
 use std::alloc::{AllocError, Global};
 use std::sync::Wait;
@@ -32,42 +31,44 @@ impl<E: Evaluate> Promise<Result<Vec<Shared<E::Value, E::Fault>>, AllocError>> f
 }
 
 // What the seats bring, each in a thread of its own. A seat for which there is no thread is left out.
-pub(crate) fn brought<R: Threads + Wait + Sync, E: Evaluate>(
+pub(crate) fn brought<R: Threads + Wait + Sync, E: Evaluate, W: Watch>(
     rt: &R,
     alloc: Global,
-    pool: &Pool<'_, E>,
+    pool: &Pool<E>,
     seats: Vec<PoolSeat<E>>,
+    watch: &W,
 ) -> Result<Vec<Answer<E::Value, E::Fault>>, AllocError>
     requires seats { All (λ s. IsSeatOf pool.now.board s.place) seats.items }
-    ensures { IfOk result (λ v. All (λ r. IsAnswer E.see E.see_fault (outcome (E.means pool.now.evaluator.now) pool.now.graph.now) (length pool.now.graph.now) r) v.items) }
+    ensures { IfOk result (λ v. All (λ r. IsAnswer E.see E.see_fault (outcome (E.means pool.now.evaluator) pool.now.graph) (length pool.now.graph) r) v.items) }
 {
     thread::scope(
         thread::scope_env(),
         rt,
         |scope| -> Result<Vec<Answer<E::Value, E::Fault>>, AllocError>
             requires { All (λ s. IsSeatOf pool.now.board s.place) seats.items }
-            ensures { IfOk result (λ v. All (λ r. IsAnswer E.see E.see_fault (outcome (E.means pool.entry.now.evaluator.now) pool.entry.now.graph.now) (length pool.entry.now.graph.now) r) v.items) }
+            ensures { IfOk result (λ v. All (λ r. IsAnswer E.see E.see_fault (outcome (E.means pool.entry.now.evaluator) pool.entry.now.graph) (length pool.entry.now.graph) r) v.items) }
         {
-            let workers = started(scope, rt, alloc, pool, seats)?;
+            let workers = started(scope, rt, alloc, pool, seats, watch)?;
             joined(rt, alloc, pool, workers)
         },
     )
 }
 
 // A thread for each seat for which there is one.
-fn started<'s, X, R: Threads + Wait + Sync, E: Evaluate>(
+fn started<'s, X, R: Threads + Wait + Sync, E: Evaluate, W: Watch>(
     scope: &Scope<'s, X>,
     rt: &'s R,
     alloc: Global,
-    pool: &'s Pool<'s, E>,
+    pool: &'s Pool<E>,
     seats: Vec<PoolSeat<E>>,
+    watch: &'s W,
 ) -> Result<Vec<PromisedHandle<Answer<E::Value, E::Fault>, Base<E>>>, AllocError>
     requires seats { All (λ s. IsSeatOf pool.now.board s.place) seats.items }
-    ensures { IfOk result (λ hs. All (λ h. (h.promise.evaluator.value ≡ pool.now.evaluator.now) × (h.promise.graph.value ≡ pool.now.graph.now)) hs.items) }
+    ensures { IfOk result (λ hs. All (λ h. (h.promise.evaluator.value ≡ pool.now.evaluator) × (h.promise.graph.value ≡ pool.now.graph)) hs.items) }
 {
     let mut workers = Vec::new(alloc);
     for seat in seats {
-        match start(scope, rt, alloc, pool, seat) {
+        match start(scope, rt, alloc, pool, seat, watch) {
             Some(worker) => workers.push(worker)?,
             None => {}
         }
@@ -76,21 +77,22 @@ fn started<'s, X, R: Threads + Wait + Sync, E: Evaluate>(
 }
 
 // A thread for a seat, if there is one.
-fn start<'s, X, R: Threads + Wait + Sync, E: Evaluate>(
+fn start<'s, X, R: Threads + Wait + Sync, E: Evaluate, W: Watch>(
     scope: &Scope<'s, X>,
     rt: &'s R,
     alloc: Global,
-    pool: &'s Pool<'s, E>,
+    pool: &'s Pool<E>,
     seat: PoolSeat<E>,
+    watch: &'s W,
 ) -> Option<PromisedHandle<Answer<E::Value, E::Fault>, Base<E>>>
     requires seat { IsSeatOf pool.now.board seat.place }
-    ensures { IfSome result (λ h. (h.promise.evaluator.value ≡ pool.now.evaluator.now) × (h.promise.graph.value ≡ pool.now.graph.now)) }
+    ensures { IfSome result (λ h. (h.promise.evaluator.value ≡ pool.now.evaluator) × (h.promise.graph.value ≡ pool.now.graph)) }
 {
     let work = move || -> Answer<E::Value, E::Fault>
         requires { IsSeatOf pool.now.board seat.place }
-        ensures { IsAnswer E.see E.see_fault (outcome (E.means pool.entry.now.evaluator.now) pool.entry.now.graph.now) (length pool.entry.now.graph.now) result }
-    { worked(rt, alloc, pool, seat) };
-    let base = Base::of(pool.evaluator, pool.graph);
+        ensures { IsAnswer E.see E.see_fault (outcome (E.means pool.entry.now.evaluator) pool.entry.now.graph) (length pool.entry.now.graph) result }
+    { worked(rt, alloc, pool, seat, watch) };
+    let base = Base::of(&pool.evaluator, &pool.graph);
     match Stack::new()
         .stack_size(EVALUATION_STACK)
         .spawn_scoped_with(scope, base, work)
@@ -101,27 +103,29 @@ fn start<'s, X, R: Threads + Wait + Sync, E: Evaluate>(
 }
 
 // What a seat brings.
-fn worked<R: Wait, E: Evaluate>(
+fn worked<R: Wait, E: Evaluate, W: Watch>(
     rt: &R,
     alloc: Global,
-    pool: &Pool<'_, E>,
+    pool: &Pool<E>,
     mut seat: PoolSeat<E>,
+    watch: &W,
 ) -> Answer<E::Value, E::Fault>
     requires seat { IsSeatOf pool.now.board seat.place }
-    ensures { IsAnswer E.see E.see_fault (outcome (E.means pool.now.evaluator.now) pool.now.graph.now) (length pool.now.graph.now) result }
+    ensures { IsAnswer E.see E.see_fault (outcome (E.means pool.now.evaluator) pool.now.graph) (length pool.now.graph) result }
 {
-    pool.work(rt, alloc, &mut seat)
+    pool.work(rt, alloc, &mut seat, watch)
 }
 
-// What the threads bring.
+// What the threads bring: an answer of each of them.
 fn joined<R: Threads, E: Evaluate>(
     rt: &R,
     alloc: Global,
-    pool: &Pool<'_, E>,
+    pool: &Pool<E>,
     workers: Vec<PromisedHandle<Answer<E::Value, E::Fault>, Base<E>>>,
 ) -> Result<Vec<Answer<E::Value, E::Fault>>, AllocError>
-    requires promises { All (λ h. (h.promise.evaluator.value ≡ pool.now.evaluator.now) × (h.promise.graph.value ≡ pool.now.graph.now)) workers.items }
-    ensures { IfOk result (λ v. All (λ r. IsAnswer E.see E.see_fault (outcome (E.means pool.now.evaluator.now) pool.now.graph.now) (length pool.now.graph.now) r) v.items) }
+    requires promises { All (λ h. (h.promise.evaluator.value ≡ pool.now.evaluator) × (h.promise.graph.value ≡ pool.now.graph)) workers.items }
+    ensures count { IfOk result (λ v. length v.items ≡ length workers.items) }
+    ensures answers { IfOk result (λ v. All (λ r. IsAnswer E.see E.see_fault (outcome (E.means pool.now.evaluator) pool.now.graph) (length pool.now.graph) r) v.items) }
 {
     let mut answers = Vec::new(alloc);
     for worker in workers {
@@ -131,28 +135,28 @@ fn joined<R: Threads, E: Evaluate>(
 }
 
 // The outcome of each module, where some are known. Those that are left are evaluated in a thread, or where there is none, on this one's stack.
-pub(crate) fn completed<R: Threads + Wait + Sync, E: Evaluate>(
+pub(crate) fn completed<R: Threads + Wait + Sync, E: Evaluate, W: Watch>(
     rt: &R,
     alloc: Global,
-    pool: &Pool<'_, E>,
+    pool: &Pool<E>,
     found: Vec<Option<Shared<E::Value, E::Fault>>>,
+    watch: &W,
 ) -> Result<Vec<Shared<E::Value, E::Fault>>, AllocError>
-    requires order { IsTopologicalOrder pool.now.graph.now pool.now.order.modules.items pool.now.order.pending.items }
-    requires found { Filling (outcome (E.means pool.now.evaluator.now) pool.now.graph.now) (length pool.now.graph.now) (map (slot E.see E.see_fault) found.items) [] }
-    ensures { IfOk result (λ v. Tabulates (length pool.now.graph.now) (outcome (E.means pool.now.evaluator.now) pool.now.graph.now) (map (shown E.see E.see_fault) v.items)) }
+    requires found { Filling (outcome (E.means pool.now.evaluator) pool.now.graph) (length pool.now.graph) (map (slot E.see E.see_fault) found.items) [] }
+    ensures { IfOk result (λ v. Tabulates (length pool.now.graph) (outcome (E.means pool.now.evaluator) pool.now.graph) (map (shown E.see E.see_fault) v.items)) }
 {
     thread::scope(
         thread::scope_env(),
         rt,
         |scope| -> Result<Vec<Shared<E::Value, E::Fault>>, AllocError>
-            requires { IsTopologicalOrder pool.now.graph.now pool.now.order.modules.items pool.now.order.pending.items × Filling (outcome (E.means pool.now.evaluator.now) pool.now.graph.now) (length pool.now.graph.now) (map (slot E.see E.see_fault) found.items) [] }
-            ensures { IfOk result (λ v. Tabulates (length pool.entry.now.graph.now) (outcome (E.means pool.entry.now.evaluator.now) pool.entry.now.graph.now) (map (shown E.see E.see_fault) v.items)) }
+            requires { Filling (outcome (E.means pool.now.evaluator) pool.now.graph) (length pool.now.graph) (map (slot E.see E.see_fault) found.items) [] }
+            ensures { IfOk result (λ v. Tabulates (length pool.entry.now.graph) (outcome (E.means pool.entry.now.evaluator) pool.entry.now.graph) (map (shown E.see E.see_fault) v.items)) }
         {
             let evaluate = move || -> Result<Vec<Shared<E::Value, E::Fault>>, AllocError>
-                requires { IsTopologicalOrder pool.now.graph.now pool.now.order.modules.items pool.now.order.pending.items × Filling (outcome (E.means pool.now.evaluator.now) pool.now.graph.now) (length pool.now.graph.now) (map (slot E.see E.see_fault) found.items) [] }
-                ensures { IfOk result (λ v. Tabulates (length pool.entry.now.graph.now) (outcome (E.means pool.entry.now.evaluator.now) pool.entry.now.graph.now) (map (shown E.see E.see_fault) v.items)) }
-            { rest(alloc, pool, found) };
-            let base = Base::of(pool.evaluator, pool.graph);
+                requires { Filling (outcome (E.means pool.now.evaluator) pool.now.graph) (length pool.now.graph) (map (slot E.see E.see_fault) found.items) [] }
+                ensures { IfOk result (λ v. Tabulates (length pool.entry.now.graph) (outcome (E.means pool.entry.now.evaluator) pool.entry.now.graph) (map (shown E.see E.see_fault) v.items)) }
+            { rest(alloc, pool, found, watch) };
+            let base = Base::of(&pool.evaluator, &pool.graph);
             match Stack::new()
                 .stack_size(EVALUATION_STACK)
                 .spawn_scoped_with(scope, base, evaluate)
@@ -165,14 +169,21 @@ pub(crate) fn completed<R: Threads + Wait + Sync, E: Evaluate>(
 }
 
 // The outcome of each module, where some are known.
-fn rest<E: Evaluate>(
+fn rest<E: Evaluate, W: Watch>(
     alloc: Global,
-    pool: &Pool<'_, E>,
+    pool: &Pool<E>,
     found: Vec<Option<Shared<E::Value, E::Fault>>>,
+    watch: &W,
 ) -> Result<Vec<Shared<E::Value, E::Fault>>, AllocError>
-    requires order { IsTopologicalOrder pool.now.graph.now pool.now.order.modules.items pool.now.order.pending.items }
-    requires found { Filling (outcome (E.means pool.now.evaluator.now) pool.now.graph.now) (length pool.now.graph.now) (map (slot E.see E.see_fault) found.items) [] }
-    ensures { IfOk result (λ v. Tabulates (length pool.now.graph.now) (outcome (E.means pool.now.evaluator.now) pool.now.graph.now) (map (shown E.see E.see_fault) v.items)) }
+    requires found { Filling (outcome (E.means pool.now.evaluator) pool.now.graph) (length pool.now.graph) (map (slot E.see E.see_fault) found.items) [] }
+    ensures { IfOk result (λ v. Tabulates (length pool.now.graph) (outcome (E.means pool.now.evaluator) pool.now.graph) (map (shown E.see E.see_fault) v.items)) }
 {
-    complete(alloc, pool.evaluator, pool.graph, &pool.order, found)
+    complete(
+        alloc,
+        &pool.evaluator,
+        &pool.graph,
+        &pool.order,
+        found,
+        watch,
+    )
 }

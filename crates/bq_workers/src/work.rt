@@ -7,26 +7,27 @@ ghost use Rattle.bq_workers.specs.Brought.{Brought};
 
 use crate::candidates::Next;
 use crate::pool::{Evaluated, Pool, PoolSeat, Worked};
-use bq_load_order::Evaluate;
+use bq_load_order::{Evaluate, Watch};
 use std::alloc::{AllocError, Global};
 use std::sync::Wait;
 use std::sync::atomic::Ordering;
 
-impl<'a, E: Evaluate> Pool<'a, E> {
+impl<E: Evaluate> Pool<E> {
     /// Evaluates modules that nobody else has, each after all that it loads, until all are finished, or a worker stopped all.
-    /// It returns just the modules that this seat finished in this call, in that order, each with its outcome, and `all` only where this seat found all modules finished.
-    pub fn work<R: Wait>(
+    /// The watch is told of each evaluation. It returns just the modules that this seat finished in this call, in that order, each with its outcome, and `all` only where this seat found all modules finished.
+    pub fn work<R: Wait, W: Watch>(
         &self,
         rt: &R,
         alloc: Global,
         seat: &mut PoolSeat<E>,
+        watch: &W,
     ) -> Result<Worked<E::Value, E::Fault>, AllocError>
         requires seat { IsSeatOf self.now.board seat.old.place }
         ensures seat { IsSeatOf self.now.board seat.new.place }
-        ensures brought { IfOk result (λ w. Brought E.see E.see_fault (outcome (E.means self.now.evaluator.now) self.now.graph.now) (length self.now.graph.now) (view_of seat.old.place).finished (view_of seat.new.place).finished w.modules.items) }
-        ensures all { IfOk result (λ w. IsTrue w.all → Has (view_of seat.new.place).counts (length self.now.graph.now)) }
+        ensures brought { IfOk result (λ w. Brought E.see E.see_fault (outcome (E.means self.now.evaluator) self.now.graph) (length self.now.graph) (view_of seat.old.place).finished (view_of seat.new.place).finished w.modules.items) }
+        ensures all { IfOk result (λ w. IsTrue w.all → Has (view_of seat.new.place).counts (length self.now.graph)) }
     {
-        let worked = self.run(rt, alloc, seat);
+        let worked = self.run(rt, alloc, seat, watch);
         if worked.is_err() {
             self.halt();
         }
@@ -34,16 +35,17 @@ impl<'a, E: Evaluate> Pool<'a, E> {
     }
 
     // Works until all modules are finished, all workers are to stop, or memory is refused.
-    fn run<R: Wait>(
+    fn run<R: Wait, W: Watch>(
         &self,
         rt: &R,
         alloc: Global,
         seat: &mut PoolSeat<E>,
+        watch: &W,
     ) -> Result<Worked<E::Value, E::Fault>, AllocError>
         requires seat { IsSeatOf self.now.board seat.old.place }
         ensures seat { IsSeatOf self.now.board seat.new.place }
-        ensures brought { IfOk result (λ w. Brought E.see E.see_fault (outcome (E.means self.now.evaluator.now) self.now.graph.now) (length self.now.graph.now) (view_of seat.old.place).finished (view_of seat.new.place).finished w.modules.items) }
-        ensures all { IfOk result (λ w. IsTrue w.all → Has (view_of seat.new.place).counts (length self.now.graph.now)) }
+        ensures brought { IfOk result (λ w. Brought E.see E.see_fault (outcome (E.means self.now.evaluator) self.now.graph) (length self.now.graph) (view_of seat.old.place).finished (view_of seat.new.place).finished w.modules.items) }
+        ensures all { IfOk result (λ w. IsTrue w.all → Has (view_of seat.new.place).counts (length self.now.graph)) }
     {
         let count = self.graph.len() as u64;
         let mut modules = Vec::new(alloc);
@@ -61,7 +63,7 @@ impl<'a, E: Evaluate> Pool<'a, E> {
                 self.idle.tell_all();
                 return Ok(Worked { all: true, modules });
             }
-            if self.turn(alloc, seat, &mut modules)? {
+            if self.turn(alloc, seat, watch, &mut modules)? {
                 turns = 0;
             } else {
                 self.idle.wait(rt, seen, turns);
@@ -72,15 +74,16 @@ impl<'a, E: Evaluate> Pool<'a, E> {
     }
 
     // Tries one candidate, and returns whether there may be another.
-    fn turn(
+    fn turn<W: Watch>(
         &self,
         alloc: Global,
         seat: &mut PoolSeat<E>,
+        watch: &W,
         modules: &mut Vec<Evaluated<E::Value, E::Fault>>,
     ) -> Result<bool, AllocError>
         requires seat { IsSeatOf self.now.board seat.old.place }
         ensures seat { IsSeatOf self.now.board seat.new.place }
-        ensures brought { (before : List ℕ) → Brought E.see E.see_fault (outcome (E.means self.now.evaluator.now) self.now.graph.now) (length self.now.graph.now) before (view_of seat.old.place).finished modules.old.items → OnOk result (Brought E.see E.see_fault (outcome (E.means self.now.evaluator.now) self.now.graph.now) (length self.now.graph.now) before (view_of seat.new.place).finished modules.new.items) }
+        ensures brought { (before : List ℕ) → Brought E.see E.see_fault (outcome (E.means self.now.evaluator) self.now.graph) (length self.now.graph) before (view_of seat.old.place).finished modules.old.items → OnOk result (Brought E.see E.see_fault (outcome (E.means self.now.evaluator) self.now.graph) (length self.now.graph) before (view_of seat.new.place).finished modules.new.items) }
     {
         let m = match self.next(&mut seat.list) {
             Next::Candidate(candidate) => candidate as usize,
@@ -91,7 +94,7 @@ impl<'a, E: Evaluate> Pool<'a, E> {
             return Ok(true);
         }
         let had = modules.len();
-        self.bring(alloc, &mut seat.place, m, modules)?;
+        self.bring(alloc, &mut seat.place, m, watch, modules)?;
         if modules.len() > had {
             self.offer(&mut seat.list, m);
         }

@@ -9,7 +9,8 @@ use Rattle.bq_source.proofs.fault.Fault.TheSendSync as Fault
 use Rattle.bq_host.specs.contracts.built_ins.BuiltIns as BuiltIns
 use Rattle.bq_load.specs.contracts.outcome.LoadedModule as LoadedModule
 use Rattle.bq_load.specs.contracts.source.Source as Source
-use Rattle.bq_load.specs.contracts.evaluator.Evaluator as Evaluator
+use Rattle.bq_load.specs.contracts.loading.Loading as Loading
+use Rattle.bq_load.specs.contracts.gate.GateWatch as GateWatch
 use Rattle.bq_load.proofs.Crossing.Values.{frozen_send, frozen_sync}
 use Rattle.bq_load.proofs.Crossing.Trees.{resolved_sync}
 use Rattle.bq_load.proofs.Crossing.Targets.{package_send, package_sync}
@@ -27,7 +28,10 @@ built_ins_sync = search (Builder.the_sync, Hasher.the_sync, crosses, sendable) d
 pub source_sync : IsSync (Source.the_field).row
 source_sync = let ls = label_send in let ly = label_sync in search (Fault.the_sync, crosses, sendable) depth 60 fits 20000
 
-pub evaluator_sync : (a : NamedLft) (T : RattleType) → IsSync T → IsSync (Evaluator.the_row a T)
-evaluator_sync a T gate =
+pub loading_sync : (a : NamedLft) → IsSync (Loading.the_row a)
+loading_sync a =
     let w = workspace_sync in let p = packages_sync in let s = schema_sync in let b = built_ins_sync in let o = source_sync in let r = resolved_sync in
     search (crosses, sendable) depth 60 fits 20000
+
+pub watch_sync : (a : NamedLft) (T : RattleType) → IsSync T → IsSync (GateWatch.the_row a T)
+watch_sync a T gate = let l = loading_sync a in search (crosses, sendable) depth 60 fits 20000

@@ -1,7 +1,7 @@
 use Rattle.std.proofs.Common.{map, length, subst}
 use Rattle.bq_load_order.specs.Shown.{shown, slot}
 use Rattle.bq_load_order.specs.Slots.{Tabulates, or_cyclic}
-use Rattle.bq_load_order.proofs.Filled.{is_load_order, all_found}
+use Rattle.bq_load_order.proofs.Filled.{all_found}
 use Rattle.bq_load_order.proofs.outcomes.complete.Goals as goal
 
 pub returns : goal.returns
@@ -10,6 +10,5 @@ returns g c =
     let held = slot g.E.Evaluate.see g.E.Evaluate.see_fault in
     let os = map (shown g.E.Evaluate.see g.E.Evaluate.see_fault) c.in_ok-all_settled.field-0.items in
     all_found means c.args.graph.now c.args.order.now.modules.items
-    (is_load_order c.args.graph.now c.args.order.now.modules.items c.args.order.now.pending.items c.requires.order c.requires.cyclic)
-    (map held c.fill.new.found.items) c.in_ok-fill.ensures os
+    c.requires.order (map held c.fill.new.found.items) c.in_ok-fill.ensures os
     (subst (λ xs. Tabulates (length c.args.graph.now) (or_cyclic c.args.graph.now (map held xs)) os) c.as_slice.ensures.value c.in_ok-all_settled.ensures)

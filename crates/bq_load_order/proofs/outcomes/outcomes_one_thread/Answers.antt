@@ -2,8 +2,11 @@ use Rattle.std.proofs.Common.{map, length, arith}
 use Rattle.std.proofs.lemmas.List.{length-map}
 use Rattle.bq_outcome.specs.Outcome.{outcome}
 use Rattle.bq_load_order.specs.Shown.{slot}
-use Rattle.bq_load_order.proofs.Filled.{fill_none, none_shown}
+use Rattle.bq_load_order.proofs.Filled.{is_load_order, fill_none, none_shown}
 use Rattle.bq_load_order.proofs.outcomes.outcomes_one_thread.Goals as goal
+
+pub complete-requires-clause-order : goal.complete-requires-clause-order
+complete-requires-clause-order g c _ _ = is_load_order c.args.graph.now c.in_ok-order.order.modules.items c.in_ok-order.order.pending.items c.in_ok-order.ensures.order c.in_ok-order.ensures.cyclic
 
 pub complete-requires-clause-found : goal.complete-requires-clause-found
 complete-requires-clause-found g c _ _ =

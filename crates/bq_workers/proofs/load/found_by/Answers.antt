@@ -11,8 +11,11 @@ put_back-requires-clause-right g c _ _ = c.requires.right
 pub put_back-requires-clause-found : goal.put_back-requires-clause-found
 put_back-requires-clause-found g c _ _ =
     let held = slot g.E.Evaluate.see g.E.Evaluate.see_fault in
-    fill_none (outcome (g.E.Evaluate.means c.args.pool.now.evaluator.now) c.args.pool.now.graph.now) (length c.args.pool.now.graph.now) (map held c.in_ok-found.found.items)
+    fill_none (outcome (g.E.Evaluate.means c.args.pool.now.evaluator) c.args.pool.now.graph) (length c.args.pool.now.graph) (map held c.in_ok-found.found.items)
     (omega (arith, length-map c.in_ok-found.found.items held, c.in_ok-found.ensures.0, c.in_ok-found.found.ok, c.len.ensures.len)) (none_shown g.E.Evaluate.see g.E.Evaluate.see_fault c.in_ok-found.found.items c.in_ok-found.ensures.1)
 
-pub returns : goal.returns
-returns g c = c.in_ok-put_back.ensures
+pub returns-clause-had : goal.returns-clause-had
+returns-clause-had g c = c.in_ok-put_back.ensures.had
+
+pub returns-clause-found : goal.returns-clause-found
+returns-clause-found g c = c.in_ok-put_back.ensures.found

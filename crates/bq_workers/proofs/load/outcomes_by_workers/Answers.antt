@@ -1,20 +1,19 @@
-use Rattle.std.proofs.Common.{length, map, sym, subst}
-use Rattle.std.specs.Prelude.{IfOk}
-use Rattle.bq_board.specs.Graph.{Loads}
-use Rattle.bq_board.specs.Topological.{IsTopologicalOrder}
+use Rattle.std.proofs.Common.{List, All, Result, length, sym, subst}
+use Rattle.std.specs.declared.alloc.AllocError.{AllocError}
 use Rattle.bq_outcome.specs.Outcome.{outcome}
-use Rattle.bq_load_order.specs.Shown.{shown}
-use Rattle.bq_load_order.specs.Slots.{Tabulates}
+use Rattle.bq_workers.specs.Brought.{IsAnswer}
+use Rattle.bq_workers.specs.declared.pool.Worked.{Worked}
 use Rattle.bq_workers.proofs.load.outcomes_by_workers.Goals as goal
 
-pub load_over-requires-clause-seats : goal.load_over-requires-clause-seats
-load_over-requires-clause-seats g c _ _ = λ k d h. (c.in_ok-pool.ensures.fresh k d h).0
+pub brought-requires-clause-seats : goal.brought-requires-clause-seats
+brought-requires-clause-seats g c _ _ = c.requires
 
-pub load_over-requires-clause-order : goal.load_over-requires-clause-order
-load_over-requires-clause-order g c _ _ =
-    subst (λ (q : Loads). IsTopologicalOrder q c.in_ok-pool.pool.order.modules.items c.in_ok-pool.pool.order.pending.items) (sym c.in_ok-pool.ensures.of.1) c.in_ok-pool.ensures.order
+pub found_by-requires-clause-right : goal.found_by-requires-clause-right
+found_by-requires-clause-right g c _ _ =
+    subst (λ (rs : List (Result (Worked _ _) AllocError)). All (IsAnswer g.E.Evaluate.see g.E.Evaluate.see_fault (outcome (g.E.Evaluate.means c.args.pool.now.evaluator) c.args.pool.now.graph) (length c.args.pool.now.graph)) rs) (sym c.as_slice.ensures.value) c.in_ok-answers.ensures
+
+pub completed-requires-clause-found : goal.completed-requires-clause-found
+completed-requires-clause-found g c _ _ = c.in_ok-found.ensures.found
 
 pub returns : goal.returns
-returns g c =
-    let Found : g.row.E.Denot → Loads → Type 0 = λ e q. IfOk c.load_over.result (λ v. Tabulates (length q) (outcome (g.E.Evaluate.means e) q) (map (shown g.E.Evaluate.see g.E.Evaluate.see_fault) v.items)) in
-    subst (λ (q : Loads). Found c.args.evaluator.now q) c.in_ok-pool.ensures.of.1 (subst (λ (e : g.row.E.Denot). Found e c.in_ok-pool.pool.graph.now) c.in_ok-pool.ensures.of.0 c.load_over.ensures)
+returns g c = c.completed.ensures

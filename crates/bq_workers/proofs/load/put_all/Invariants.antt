@@ -5,4 +5,4 @@ use Rattle.bq_load_order.specs.Slots.{Filling}
 use Rattle.bq_workers.proofs.load.put_all.Given as goal
 
 abbrev pub invariant-loop-brought : goal.invariant-loop-brought
-invariant-loop-brought g l = Filling (outcome (g.E.Evaluate.means l.pool.evaluator.now) l.pool.graph.now) (length l.pool.graph.now) (map (slot g.E.Evaluate.see g.E.Evaluate.see_fault) l.found.items) []
+invariant-loop-brought g l = Filling (outcome (g.E.Evaluate.means l.pool.evaluator) l.pool.graph) (length l.pool.graph) (map (slot g.E.Evaluate.see g.E.Evaluate.see_fault) l.found.items) []

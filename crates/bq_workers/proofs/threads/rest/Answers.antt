@@ -1,7 +1,7 @@
 use Rattle.bq_workers.proofs.threads.rest.Goals as goal
 
 pub complete-requires-clause-order : goal.complete-requires-clause-order
-complete-requires-clause-order g c _ _ = c.requires.order
+complete-requires-clause-order g c _ _ = c.args.pool.now.sorted
 
 pub complete-requires-clause-cyclic : goal.complete-requires-clause-cyclic
 complete-requires-clause-cyclic g c _ _ = c.args.pool.now.cyclic

@@ -21,7 +21,7 @@ loop-seat-preserved g c =
 pub loop-seat-preserved-in-Continue-1 : goal.loop-seat-preserved-in-Continue-1
 loop-seat-preserved-in-Continue-1 g c =
     let P : PoolSeat _ _ _ → Type 0 = λ s. IsSeatOf c.args.pool.now.board s.place in
-    let Q : PromisedHandle _ _ → Type 0 = λ h. (h.promise.evaluator.value ≡ c.args.pool.now.evaluator.now) × (h.promise.graph.value ≡ c.args.pool.now.graph.now) in
+    let Q : PromisedHandle _ _ → Type 0 = λ h. (h.promise.evaluator.value ≡ c.args.pool.now.evaluator) × (h.promise.graph.value ≡ c.args.pool.now.graph) in
     let rest = into_iter_items c.next.new.self in
     let goes : into_iter_items c.loop-seat.seat-iterator ≡ c.in-Some.seat ∷ rest = search rules in
     record {

@@ -6,5 +6,5 @@ use Rattle.bq_workers.proofs.threads.started.Given as goal
 abbrev pub invariant-loop-seat : goal.invariant-loop-seat
 invariant-loop-seat g l = record {
   seats : All (λ s. IsSeatOf l.pool.board s.place) (into_iter_items l.seat-iterator);
-  workers : All (λ h. (h.promise.evaluator.value ≡ l.pool.evaluator.now) × (h.promise.graph.value ≡ l.pool.graph.now)) l.workers.items;
+  workers : All (λ h. (h.promise.evaluator.value ≡ l.pool.evaluator) × (h.promise.graph.value ≡ l.pool.graph)) l.workers.items;
 }

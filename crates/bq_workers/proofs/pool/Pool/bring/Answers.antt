@@ -15,7 +15,7 @@ pub wins-requires-clause-known : goal.wins-requires-clause-known
 wins-requires-clause-known g c _ _ = c.requires.known
 
 pub returns-then-not-wins-clause-brought : goal.returns-then-not-wins-clause-brought
-returns-then-not-wins-clause-brought g c before h = subst (λ (f : List ℕ). Brought g.E.Evaluate.see g.E.Evaluate.see_fault (outcome (g.E.Evaluate.means c.args.self.now.evaluator.now) c.args.self.now.graph.now) (length c.args.self.now.graph.now) before f c.args.modules.now.items) (sym c.wins.ensures.finished) h
+returns-then-not-wins-clause-brought g c before h = subst (λ (f : List ℕ). Brought g.E.Evaluate.see g.E.Evaluate.see_fault (outcome (g.E.Evaluate.means c.args.self.now.evaluator) c.args.self.now.graph) (length c.args.self.now.graph) before f c.args.modules.now.items) (sym c.wins.ensures.finished) h
 
 pub find-requires-clause-seat : goal.find-requires-clause-seat
 find-requires-clause-seat g c _ _ = c.wins.ensures.seat
@@ -50,5 +50,5 @@ returns-clause-seat g c = c.deliver.ensures.seat
 pub returns-clause-brought : goal.returns-clause-brought
 returns-clause-brought g c before h =
     let finished = c.deliver.ensures.finished ∙ ap (λ (f : List ℕ). f ++ c.args.m ∷ []) (c.find.ensures.finished ∙ c.wins.ensures.finished) in
-    subst (λ (es : List (Evaluated _ _)). Brought g.E.Evaluate.see g.E.Evaluate.see_fault (outcome (g.E.Evaluate.means c.args.self.now.evaluator.now) c.args.self.now.graph.now) (length c.args.self.now.graph.now) before c.deliver.new.seat.place.me.0.finished es) (sym c.in_ok-push.ensures.items)
-    (brought_more g.E.Evaluate.see g.E.Evaluate.see_fault (outcome (g.E.Evaluate.means c.args.self.now.evaluator.now) c.args.self.now.graph.now) (length c.args.self.now.graph.now) before _ _ c.args.modules.now.items _ h finished (omega (arith, c.requires.known, c.args.self.now.plan.wide)) c.in_ok-outcome.ensures.outcome)
+    subst (λ (es : List (Evaluated _ _)). Brought g.E.Evaluate.see g.E.Evaluate.see_fault (outcome (g.E.Evaluate.means c.args.self.now.evaluator) c.args.self.now.graph) (length c.args.self.now.graph) before c.deliver.new.seat.place.me.0.finished es) (sym c.in_ok-push.ensures.items)
+    (brought_more g.E.Evaluate.see g.E.Evaluate.see_fault (outcome (g.E.Evaluate.means c.args.self.now.evaluator) c.args.self.now.graph) (length c.args.self.now.graph) before _ _ c.args.modules.now.items _ h finished (omega (arith, c.requires.known, c.args.self.now.plan.wide)) c.in_ok-outcome.ensures.outcome)

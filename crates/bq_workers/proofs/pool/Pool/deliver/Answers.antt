@@ -33,7 +33,7 @@ post-requires-clause-once g c _ _ = not_yet_posted c.args.self.now.board.plan _ 
 
 pub post-requires-clause-belongs : goal.post-requires-clause-belongs
 post-requires-clause-belongs g c _ _ =
-    let mine = if_some (λ x. IsImport g.E.Evaluate.see (outcome (g.E.Evaluate.means c.args.self.now.evaluator.now) c.args.self.now.graph.now) c.args.m x.number x.value) c.pop.result c.unwrap-copy.result c.unwrap-copy.ensures (All-pop (λ x. IsImport g.E.Evaluate.see (outcome (g.E.Evaluate.means c.args.self.now.evaluator.now) c.args.self.now.graph.now) c.args.m x.number x.value) c.loop-e.copies.items c.pop.new.self.items c.pop.result c.pop.ensures.items c.loop-e.invariant.copies).1 in
+    let mine = if_some (λ x. IsImport g.E.Evaluate.see (outcome (g.E.Evaluate.means c.args.self.now.evaluator) c.args.self.now.graph) c.args.m x.number x.value) c.pop.result c.unwrap-copy.result c.unwrap-copy.ensures (All-pop (λ x. IsImport g.E.Evaluate.see (outcome (g.E.Evaluate.means c.args.self.now.evaluator) c.args.self.now.graph) c.args.m x.number x.value) c.loop-e.copies.items c.pop.new.self.items c.pop.result c.pop.ensures.items c.loop-e.invariant.copies).1 in
     let from = (c.requires.out.leaves (get_or c.args.out.now c.loop-e.e-index 0) (Has-get_or c.args.out.now c.loop-e.e-index c.loop-e-test.true)).1 in
     (mine.0 ∙ sym from, mine.1 ∙ sym (λ i. value_in (outcome (g.E.Evaluate.means (c.args.self.now.by i)) (c.args.self.now.of i) (from i))))
 
@@ -43,7 +43,7 @@ loop-e-preserved g c =
       seat = c.post.ensures.seat;
       done = delivers_more c.args.self.now.board.plan _ _ _ _ c.loop-e.e-index c.loop-e.invariant.done c.loop-e-test.true c.post.ensures.posted;
       count = omega (arith, c.pop.ensures.len, ap (λ o. length (option_to_list o)) c.unwrap-copy.ensures, c.loop-e.invariant.count, c.loop-e.copies.ok, c.pop.new.self.ok);
-      copies = (All-pop (λ x. IsImport g.E.Evaluate.see (outcome (g.E.Evaluate.means c.args.self.now.evaluator.now) c.args.self.now.graph.now) c.args.m x.number x.value) c.loop-e.copies.items c.pop.new.self.items c.pop.result c.pop.ensures.items c.loop-e.invariant.copies).0;
+      copies = (All-pop (λ x. IsImport g.E.Evaluate.see (outcome (g.E.Evaluate.means c.args.self.now.evaluator) c.args.self.now.graph) c.args.m x.number x.value) c.loop-e.copies.items c.pop.new.self.items c.pop.result c.pop.ensures.items c.loop-e.invariant.copies).0;
     }
 
 pub finish-requires-clause-seat : goal.finish-requires-clause-seat

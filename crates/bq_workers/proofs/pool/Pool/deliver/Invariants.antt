@@ -10,5 +10,5 @@ invariant-loop-e g l = record {
   seat : IsSeatOf l.self.board l.seat;
   done : Delivers (view_of l.fn.seat) l.out l.e-index (view_of l.seat);
   count : length l.copies.items + l.e-index ≡ length l.out;
-  copies : All (λ x. IsImport g.E.Evaluate.see (outcome (g.E.Evaluate.means l.self.evaluator.now) l.self.graph.now) l.m x.number x.value) l.copies.items;
+  copies : All (λ x. IsImport g.E.Evaluate.see (outcome (g.E.Evaluate.means l.self.evaluator) l.self.graph) l.m x.number x.value) l.copies.items;
 }

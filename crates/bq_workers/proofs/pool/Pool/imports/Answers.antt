@@ -13,7 +13,7 @@ loop-e-init g c =
     let from : c.start-e.result ≡ start c.args.self.now.board.plan c.args.m = c.start-e.ensures.number ∙ ap (λ (q : Loads). start q c.args.m) c.plan.ensures in record {
       seat = c.requires.seat;
       done = collects_none c.args.self.now.board.plan _ c.args.m _ c.requires.holds;
-      came = came_none (outcome (g.E.Evaluate.means c.args.self.now.evaluator.now) c.args.self.now.graph.now) c.args.self.now.board.plan c.args.m c.start-e.result (map (λ a. g.E.Evaluate.see a.value) c.new-imports.result.items) from (ap (map (λ a. g.E.Evaluate.see a.value)) c.new-imports.ensures.items);
+      came = came_none (outcome (g.E.Evaluate.means c.args.self.now.evaluator) c.args.self.now.graph) c.args.self.now.board.plan c.args.m c.start-e.result (map (λ a. g.E.Evaluate.see a.value) c.new-imports.result.items) from (ap (map (λ a. g.E.Evaluate.see a.value)) c.new-imports.ensures.items);
     }
 
 pub fetch-import-requires-clause-seat : goal.fetch-import-requires-clause-seat
@@ -33,7 +33,7 @@ fetch-import-requires-clause-once g c _ _ =
 
 pub loop-e-preserved : goal.loop-e-preserved
 loop-e-preserved g c =
-    let out = outcome (g.E.Evaluate.means c.args.self.now.evaluator.now) c.args.self.now.graph.now in
+    let out = outcome (g.E.Evaluate.means c.args.self.now.evaluator) c.args.self.now.graph in
     let q : Loads = c.args.self.now.board.plan in
     let from : c.start-e.result ≡ start q c.args.m = c.start-e.ensures.number ∙ ap (λ (q : Loads). start q c.args.m) c.plan.ensures in
     let to : c.start-e-end.result ≡ start q (c.args.m + 1) = c.start-e-end.ensures.number ∙ ap (λ (q : Loads). start q (c.args.m + 1)) c.plan-2.ensures in
@@ -48,7 +48,7 @@ loop-e-preserved g c =
 
 pub returns-in-None-clause-values : goal.returns-in-None-clause-values
 returns-in-None-clause-values g c =
-    let out = outcome (g.E.Evaluate.means c.args.self.now.evaluator.now) c.args.self.now.graph.now in
+    let out = outcome (g.E.Evaluate.means c.args.self.now.evaluator) c.args.self.now.graph in
     let q : Loads = c.args.self.now.board.plan in
     let from : c.start-e.result ≡ start q c.args.m = c.start-e.ensures.number ∙ ap (λ (q : Loads). start q c.args.m) c.plan.ensures in
     let to : c.start-e-end.result ≡ start q (c.args.m + 1) = c.start-e-end.ensures.number ∙ ap (λ (q : Loads). start q (c.args.m + 1)) c.plan-2.ensures in
@@ -81,4 +81,4 @@ pub returns-clause-values : goal.returns-clause-values
 returns-clause-values g c =
     let q : Loads = c.args.self.now.board.plan in
     let to : c.start-e-end.result ≡ start q (c.args.m + 1) = c.start-e-end.ensures.number ∙ ap (λ (q : Loads). start q (c.args.m + 1)) c.plan-2.ensures in
-    sym (came_all (outcome (g.E.Evaluate.means c.args.self.now.evaluator.now) c.args.self.now.graph.now) q c.args.m c.requires.known c.loop-e.e (omega (arith, to, c.loop-e-test.false)) (map (λ a. g.E.Evaluate.see a.value) c.loop-e.imports.items) c.loop-e.invariant.came)
+    sym (came_all (outcome (g.E.Evaluate.means c.args.self.now.evaluator) c.args.self.now.graph) q c.args.m c.requires.known c.loop-e.e (omega (arith, to, c.loop-e-test.false)) (map (λ a. g.E.Evaluate.see a.value) c.loop-e.imports.items) c.loop-e.invariant.came)

@@ -9,5 +9,5 @@ abbrev pub invariant-loop-e : goal.invariant-loop-e
 invariant-loop-e g l = record {
   seat : IsSeatOf l.self.board l.seat;
   done : Collects l.self.board.plan (view_of l.fn.seat) l.m l.e (view_of l.seat);
-  came : Came (outcome (g.E.Evaluate.means l.self.evaluator.now) l.self.graph.now) l.self.board.plan l.m l.e (map (λ a. g.E.Evaluate.see a.value) l.imports.items);
+  came : Came (outcome (g.E.Evaluate.means l.self.evaluator) l.self.graph) l.self.board.plan l.m l.e (map (λ a. g.E.Evaluate.see a.value) l.imports.items);
 }

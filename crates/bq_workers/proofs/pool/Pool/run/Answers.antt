@@ -8,18 +8,18 @@ use Rattle.bq_workers.proofs.pool.Pool.run.Goals as goal
 pub loop-init : goal.loop-init
 loop-init g c = record {
   seat = c.requires.seat;
-  brought = subst (λ (es : List (Evaluated _ _)). Brought g.E.Evaluate.see g.E.Evaluate.see_fault (outcome (g.E.Evaluate.means c.args.self.now.evaluator.now) c.args.self.now.graph.now) (length c.args.self.now.graph.now) c.args.seat.now.place.place.me.0.finished c.args.seat.now.place.place.me.0.finished es) (sym c.new-modules.ensures.items)
-      (brought_none g.E.Evaluate.see g.E.Evaluate.see_fault (outcome (g.E.Evaluate.means c.args.self.now.evaluator.now) c.args.self.now.graph.now) (length c.args.self.now.graph.now) _);
+  brought = subst (λ (es : List (Evaluated _ _)). Brought g.E.Evaluate.see g.E.Evaluate.see_fault (outcome (g.E.Evaluate.means c.args.self.now.evaluator) c.args.self.now.graph) (length c.args.self.now.graph) c.args.seat.now.place.place.me.0.finished c.args.seat.now.place.place.me.0.finished es) (sym c.new-modules.ensures.items)
+      (brought_none g.E.Evaluate.see g.E.Evaluate.see_fault (outcome (g.E.Evaluate.means c.args.self.now.evaluator) c.args.self.now.graph) (length c.args.self.now.graph) _);
 }
 
 pub returns-then-done-count-clause-brought : goal.returns-then-done-count-clause-brought
-returns-then-done-count-clause-brought g c = subst (λ (f : List ℕ). Brought g.E.Evaluate.see g.E.Evaluate.see_fault (outcome (g.E.Evaluate.means c.args.self.now.evaluator.now) c.args.self.now.graph.now) (length c.args.self.now.graph.now) c.args.seat.now.place.place.me.0.finished f c.loop.modules.items) (sym (ap (λ v. v.finished) c.done-done.ensures.joined)) c.loop.invariant.brought
+returns-then-done-count-clause-brought g c = subst (λ (f : List ℕ). Brought g.E.Evaluate.see g.E.Evaluate.see_fault (outcome (g.E.Evaluate.means c.args.self.now.evaluator) c.args.self.now.graph) (length c.args.self.now.graph) c.args.seat.now.place.place.me.0.finished f c.loop.modules.items) (sym (ap (λ v. v.finished) c.done-done.ensures.joined)) c.loop.invariant.brought
 
 pub returns-then-done-count-clause-all : goal.returns-then-done-count-clause-all
-returns-then-done-count-clause-all g c _ = counted_all _ _ c.done-done.result (length c.args.self.now.graph.now) c.done-done.ensures.joined (omega (arith, c.if-done-count.true, c.len-count.ensures.len))
+returns-then-done-count-clause-all g c _ = counted_all _ _ c.done-done.result (length c.args.self.now.graph) c.done-done.ensures.joined (omega (arith, c.if-done-count.true, c.len-count.ensures.len))
 
 pub loop-preserved : goal.loop-preserved
 loop-preserved g c = record {
   seat = c.turn.ensures.seat;
-  brought = c.in_ok-turn.ensures.brought _ (subst (λ (f : List ℕ). Brought g.E.Evaluate.see g.E.Evaluate.see_fault (outcome (g.E.Evaluate.means c.args.self.now.evaluator.now) c.args.self.now.graph.now) (length c.args.self.now.graph.now) c.args.seat.now.place.place.me.0.finished f c.loop.modules.items) (sym (ap (λ v. v.finished) c.done-done.ensures.joined)) c.loop.invariant.brought);
+  brought = c.in_ok-turn.ensures.brought _ (subst (λ (f : List ℕ). Brought g.E.Evaluate.see g.E.Evaluate.see_fault (outcome (g.E.Evaluate.means c.args.self.now.evaluator) c.args.self.now.graph) (length c.args.self.now.graph) c.args.seat.now.place.place.me.0.finished f c.loop.modules.items) (sym (ap (λ v. v.finished) c.done-done.ensures.joined)) c.loop.invariant.brought);
 }

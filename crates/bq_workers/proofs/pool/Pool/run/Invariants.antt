@@ -7,5 +7,5 @@ use Rattle.bq_workers.proofs.pool.Pool.run.Given as goal
 abbrev pub invariant-loop : goal.invariant-loop
 invariant-loop g l = record {
   seat : IsSeatOf l.self.board l.seat.place;
-  brought : Brought g.E.Evaluate.see g.E.Evaluate.see_fault (outcome (g.E.Evaluate.means l.self.evaluator.now) l.self.graph.now) (length l.self.graph.now) (view_of l.fn.seat.place).finished (view_of l.seat.place).finished l.modules.items;
+  brought : Brought g.E.Evaluate.see g.E.Evaluate.see_fault (outcome (g.E.Evaluate.means l.self.evaluator) l.self.graph) (length l.self.graph) (view_of l.fn.seat.place).finished (view_of l.seat.place).finished l.modules.items;
 }

@@ -9,17 +9,17 @@ use Rattle.bq_load.specs.Views.{module_view, failed_view, module_views, not_eval
 use Rattle.bq_load.specs.Sources.{loading_of}
 use Rattle.bq_load.specs.Evaluation.{evaluation, module_after}
 use Rattle.bq_load.proofs.Meanings.{means_no_source, means_no_code, means_file}
-use Rattle.bq_load.proofs.evaluator.EvaluatorEvaluate.evaluate.Goals as goal
+use Rattle.bq_load.proofs.evaluator.LoadingEvaluate.evaluate.Goals as goal
 
 pub returns-in_default : goal.returns-in_default
 returns-in_default g c =
-    let x = loading_of c.args.self.now.loading.now in
+    let x = loading_of c.args.self.now in
     let none : slice_get x.sources c.args.m ≡ None = ap (λ (l : List Source). slice_get l c.args.m) (sym c.deref.ensures.value) ∙ slice_get_past c.deref.result.now c.args.m c.in_default.ensures.lookup.3 in
     c.not_evaluated.ensures ∙ ap (λ (f : Fault). Err (not_evaluated f)) c.at.ensures ∙ sym (means_no_source x c.args.m (module_views c.args.imports.now) none)
 
 pub returns-in_default-code_of : goal.returns-in_default-code_of
 returns-in_default-code_of g c =
-    let x = loading_of c.args.self.now.loading.now in
+    let x = loading_of c.args.self.now in
     let s = c.in-Some.source.now in
     let read = c.in-Some.ensures.lookup in
     let there : slice_get x.sources c.args.m ≡ Some s = ap (λ (l : List Source). slice_get l c.args.m) (sym c.deref.ensures.value) ∙ slice_get_read c.deref.result.now (length c.deref.result.now) c.args.m s refl read.3.0 read.1 in
@@ -28,7 +28,7 @@ returns-in_default-code_of g c =
 
 pub returns-in-Err-Bad : goal.returns-in-Err-Bad
 returns-in-Err-Bad g c =
-    let x = loading_of c.args.self.now.loading.now in
+    let x = loading_of c.args.self.now in
     let s = c.in-Some.source.now in
     let file = c.in-Some-code_of.file.now in
     let why = c.in-Err-Bad.fault in
@@ -40,7 +40,7 @@ returns-in-Err-Bad g c =
 
 pub returns-in_ok-evaluated-in-Ok : goal.returns-in_ok-evaluated-in-Ok
 returns-in_ok-evaluated-in-Ok g c =
-    let x = loading_of c.args.self.now.loading.now in
+    let x = loading_of c.args.self.now in
     let s = c.in-Some.source.now in
     let file = c.in-Some-code_of.file.now in
     let ms = module_views c.args.imports.now in

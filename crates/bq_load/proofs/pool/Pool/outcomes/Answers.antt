@@ -1,6 +1,6 @@
 use denote.Param.Send.{sendable}
-use Rattle.bq_load.proofs.Crossing.Modules.{loaded_send, loaded_sync, evaluator_sync}
-use Rattle.bq_load.proofs.load.modules_by_workers.Goals as goal
+use Rattle.bq_load.proofs.Crossing.Modules.{loaded_send, loaded_sync, loading_sync, watch_sync}
+use Rattle.bq_load.proofs.pool.Pool.outcomes.Goals as goal
 
 pub outcomes_by_workers-requires-send-E-Value : goal.outcomes_by_workers-requires-send-E-Value
 outcomes_by_workers-requires-send-E-Value g c κs = let l = loaded_send in search sendable depth 60 fits 20000
@@ -9,4 +9,7 @@ pub outcomes_by_workers-requires-sync-E-Value : goal.outcomes_by_workers-require
 outcomes_by_workers-requires-sync-E-Value g c κs = let l = loaded_sync in search sendable depth 60 fits 20000
 
 pub outcomes_by_workers-requires-sync-E : goal.outcomes_by_workers-requires-sync-E
-outcomes_by_workers-requires-sync-E g c κs within = search (evaluator_sync, sendable) depth 60 fits 20000
+outcomes_by_workers-requires-sync-E g c κs within = search (loading_sync, sendable) depth 60 fits 20000
+
+pub outcomes_by_workers-requires-sync-W : goal.outcomes_by_workers-requires-sync-W
+outcomes_by_workers-requires-sync-W g c κs within = search (watch_sync, sendable) depth 60 fits 20000

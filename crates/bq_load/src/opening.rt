@@ -1,0 +1,70 @@
+//! How a pool begins, and how it ends.
+
+ghost use Rattle.std.specs.Prelude.{◌≡◌, ◌<◌, ◌≤◌, length, All, IfOk, vec_len};
+ghost use Rattle.bq_board.specs.Board.{blank};
+ghost use Rattle.bq_board.specs.Seats.{IsSeatOf, base_of, view_of};
+ghost use Rattle.bq_load.specs.Sources.{loading_in};
+ghost use Rattle.bq_load.specs.Pool.{parts_of, loads_of};
+
+use crate::loading::Loading;
+use crate::pool::{Pool, PoolSeat};
+use bq_board::{Graph, MAX_SEATS};
+use bq_discover::LoadGraph;
+use bq_label::{Packages, Workspace};
+use bq_schema::Schema;
+use std::alloc::{AllocError, Global};
+
+impl<'a> Pool<'a> {
+    /// A pool of the modules of a load graph, none of them begun, and its seats, which have done nothing. Each evaluation may take so many steps.
+    pub fn open(
+        alloc: Global,
+        workspace: &'a Workspace,
+        schema: &'a Schema,
+        limit: u64,
+        graph: LoadGraph,
+        seats: usize,
+    ) -> Result<(Pool<'a>, Vec<PoolSeat<'a>>), AllocError>
+        requires { (0 < seats) × (seats ≤ MAX_SEATS) }
+        ensures decides { IfOk result (λ r. parts_of r.0 ≡ loading_in workspace.now schema.now limit graph) }
+        ensures edges { IfOk result (λ r. loads_of r.0 ≡ graph.edges) }
+        ensures count { IfOk result (λ r. vec_len r.1 ≡ seats) }
+        ensures fresh { IfOk result (λ r. All (λ s. IsSeatOf r.0.shared.board s.place × (view_of s.place ≡ blank (base_of r.0.shared.board) r.0.shared.board.plan)) r.1.items) }
+    {
+        let (loading, edges) = Loading::of(alloc, workspace, schema, limit, graph)?;
+        let (shared, seats) = bq_workers::Pool::open(alloc, loading, edges, seats)?;
+        let pool = Pool { shared };
+        Ok((pool, seats))
+    }
+
+    /// What decides the outcomes of the modules.
+    pub(crate) fn loading(&self) -> &Loading<'a>
+        ensures value { result.now ≡ self.now.shared.evaluator }
+        ensures wide { length (loads_of self.now) ≡ length result.now.sources.items }
+    {
+        self.shared.evaluator()
+    }
+
+    /// Which module loads which.
+    pub(crate) fn edges(&self) -> &Graph
+        ensures { result.now ≡ loads_of self.now }
+    {
+        self.shared.graph()
+    }
+
+    /// The packages, once all modules are evaluated. Their code gives its memory to what comes.
+    pub(crate) fn into_packages(self) -> Packages
+        ensures { result ≡ self.entry.shared.evaluator.packages }
+    {
+        let Pool { shared } = self;
+        let (loading, _) = shared.into_parts();
+        loading.into_packages()
+    }
+
+    /// Gives up the pool, and the values of modules that nobody fetched.
+    pub fn close(self, seat: PoolSeat<'a>)
+        requires seat { IsSeatOf self.shared.board seat.place }
+    {
+        let Pool { shared } = self;
+        shared.close(seat);
+    }
+}

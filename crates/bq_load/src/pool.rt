@@ -1,0 +1,34 @@
+//! A pool of the modules of a load graph, for threads of the caller's own.
+
+ghost use Rattle.std.specs.Prelude.{◌≡◌, length};
+
+use crate::loading::Loading;
+use crate::outcome::ModuleOutcome;
+use bq_target::Package;
+
+/// The modules of a load graph, to be evaluated by the threads that work in it, each at a seat of its own. Threads may share it.
+#[derive(Drop)]
+pub struct Pool<'a> {
+    pub(crate) shared: bq_workers::Pool<Loading<'a>>,
+    ghost wide: { length shared.graph ≡ length shared.evaluator.sources.items },
+}
+
+/// The right to work in one pool. It may go to another thread.
+pub type PoolSeat<'a> = bq_workers::PoolSeat<Loading<'a>>;
+
+/// A module that a thread brought to its end.
+#[derive(Drop)]
+pub struct Evaluated {
+    /// Its number: its place among the labels of the load graph.
+    pub module: u32,
+    pub outcome: ModuleOutcome,
+    /// Of a BUILD file, its package: one without targets where it failed.
+    pub package: Option<Package>,
+}
+
+/// What a thread brought to its end in one call, and whether it found all modules of the pool so.
+#[derive(Drop)]
+pub struct Worked {
+    pub all: bool,
+    pub modules: Vec<Evaluated>,
+}
