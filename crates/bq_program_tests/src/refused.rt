@@ -44,13 +44,13 @@ impl Evaluate for Refusing {
     }
 }
 
-/// So many modules that load nothing.
-fn free_graph(alloc: Global, count: u32) -> Result<Graph, PlanErr> {
+/// The loads of so many modules that load nothing.
+fn no_loads(alloc: Global, count: u32) -> Result<Vec<Vec<u32>>, AllocError> {
     let mut rows = Vec::new(alloc);
     for _ in 0..count {
         rows.push(Vec::new(alloc))?;
     }
-    Graph::new(rows)
+    Ok(rows)
 }
 
 /// Whether so many workers, of which one is refused memory, answer so.
@@ -64,7 +64,8 @@ fn are_refused<R: Threads + Wait + Sync>(
     let refusing = Refusing {
         refused: AtomicBool::new(false),
     };
-    let (pool, seats) = Pool::open(alloc, refusing, free_graph(alloc, 60)?, workers)?;
+    let graph = Graph::new(no_loads(alloc, 60)?)?;
+    let (pool, seats) = Pool::open(alloc, refusing, graph, workers)?;
     let found = outcomes_by_workers(rt, alloc, &pool, seats, &Unwatched);
     Ok(found.is_err())
 }

@@ -42,11 +42,11 @@ fn workers_meet<R: Threads + Wait + Sync>(rt: &R, tree: Tree<'_>) -> Result<bool
     Ok(gate.both_met() && loaded.modules.len() == 4 && loaded.faults.is_empty())
 }
 
-fn worked<R: Wait>(
+fn worked<'a, R: Wait>(
     rt: &R,
     alloc: Global,
-    pool: &Pool<'_>,
-    mut seat: PoolSeat<'_>,
+    pool: &Pool<'a>,
+    mut seat: PoolSeat<'a>,
     gate: &Holding,
 ) -> Result<Worked, AllocError>
     requires { IsSeatOf pool.now.shared.board seat.place }
