@@ -1,16 +1,14 @@
-//! A module is evaluated once all that it loads is there, whatever others are still in evaluation: by the loader's own workers, and by
-//! threads of the caller's own.
-ghost use Rattle.bq_board.specs.Seats.{IsSeatOf};
+//! A module is evaluated once all that it loads is there, whatever others are still in evaluation.
 
 use super::files_of;
 use super::holding::Holding;
-use bq_discover::{LoadErr, discover};
+use bq_discover::LoadErr;
 use bq_label::Workspace;
-use bq_load::{Evaluated, Pool, PoolSeat, Worked, load_with};
+use bq_load::load_with;
 use bq_schema::Schema;
-use std::alloc::{AllocError, Global};
+use std::alloc::Global;
 use std::sync::Wait;
-use std::thread::{Threads, join};
+use std::thread::Threads;
 
 /// The most steps of a module.
 const LIMIT: u64 = 1_000_000;
@@ -42,63 +40,6 @@ fn workers_meet<R: Threads + Wait + Sync>(rt: &R, tree: Tree<'_>) -> Result<bool
     Ok(gate.both_met() && loaded.modules.len() == 4 && loaded.faults.is_empty())
 }
 
-fn worked<'a, R: Wait>(
-    rt: &R,
-    alloc: Global,
-    pool: &Pool<'a>,
-    mut seat: PoolSeat<'a>,
-    gate: &Holding,
-) -> Result<Worked, AllocError>
-    requires { IsSeatOf pool.now.shared.board seat.place }
-{
-    pool.work(rt, alloc, &mut seat, gate)
-}
-
-/// How often a module is among these.
-fn times(m: u32, modules: &[Evaluated]) -> usize {
-    modules.iter().filter(|each| each.module == m).count()
-}
-
-/// Whether each of the four modules is once among both.
-fn have_each_once(a: &[Evaluated], b: &[Evaluated]) -> bool {
-    for m in 0..4u32 {
-        if times(m, a).wrapping_add(times(m, b)) != 1 {
-            return false;
-        }
-    }
-    a.len().wrapping_add(b.len()) == 4
-}
-
-/// The BUILD file, the first by its label, has a package, and no other file has.
-fn have_their_packages(modules: &[Evaluated]) -> bool {
-    modules
-        .iter()
-        .all(|each| each.package.is_some() == (each.module == 0))
-}
-
-/// The same by two threads at the seats of a pool of two.
-fn threads_meet<R: Threads + Wait + Sync>(rt: &R, tree: Tree<'_>) -> Result<bool, LoadErr> {
-    let alloc = tree.alloc;
-    let graph = discover(alloc, tree.workspace, tree.schema)?;
-    let (pool, mut seats) = Pool::open(alloc, tree.workspace, tree.schema, LIMIT, graph, 2)?;
-    let one = seats.pop().unwrap();
-    let other = seats.pop().unwrap();
-    let gate = Holding::new();
-    let pool = &pool;
-    let held = &gate;
-    let first = move || -> Result<Worked, AllocError>
-        requires { IsSeatOf pool.now.shared.board one.place }
-    { worked(rt, alloc, pool, one, held) };
-    let second = move || -> Result<Worked, AllocError>
-        requires { IsSeatOf pool.now.shared.board other.place }
-    { worked(rt, alloc, pool, other, held) };
-    let (a, b) = join(rt, first, second);
-    let a = a?;
-    let b = b?;
-    let have_packages = have_their_packages(&a.modules) && have_their_packages(&b.modules);
-    Ok(gate.both_met() && a.all && b.all && have_each_once(&a.modules, &b.modules) && have_packages)
-}
-
 #[test]
 fn nobody_waits_for_what_it_does_not_load(rt: HostRuntime) -> Result<(), LoadErr> {
     let alloc = rt.alloc();
@@ -113,6 +54,5 @@ fn nobody_waits_for_what_it_does_not_load(rt: HostRuntime) -> Result<(), LoadErr
         schema,
     };
     assert!(rt; workers_meet(&rt, tree)?);
-    assert!(rt; threads_meet(&rt, tree)?);
     Ok(())
 }
