@@ -165,7 +165,9 @@ impl Walk {
             return Err(DirectoryErr::TooManyFiles);
         }
         let content = if has_content(inner) {
-            Bytes::from_vec(self.alloc, fs::read(rt, path)?)?
+            // what a read asks for is more than what it keeps
+            let text = fs::read(rt, path)?;
+            Bytes::from_slice(self.alloc, &text)?
         } else {
             Bytes::empty()
         };
