@@ -3,7 +3,7 @@ use Rattle.std.proofs.Common.{◌≡◌, List, [], ◌∷◌, Some, ap}
 use Rattle.bq_query.specs.declared.query_error.QueryErr.{QueryErr}
 use Rattle.bq_query_verdict.specs.Verdict.{first_of}
 use Rattle.bq_answer.specs.World.{Facts}
-use Rattle.bq_answer.specs.Formula.{Formula, combined, Step, chained}
+use Rattle.bq_query_check.specs.Formula.{Formula, combined, Step, chained}
 use Rattle.bq_answer.specs.Faults.{fault_in}
 
 pub fault_stays : (w : Facts) (x : Formula) (os : List Step) (why : QueryErr) → fault_in w x ≡ Some why → fault_in w (chained x os) ≡ Some why

@@ -1,63 +1,56 @@
 -- The sets of formulas whose parts' sets are known.
-use Rattle.std.proofs.Common.{◌≡◌, ◌∙◌, ℕ, Bool, List, [], ◌∷◌, ◌++◌, map, reverse, Some, None, refl, sym, ap, subst}
+use Rattle.std.proofs.Common.{◌≡◌, ◌∙◌, Bool, List, [], ◌∷◌, ◌++◌, Some, None, refl, sym, ap, subst}
 use Rattle.bq_graph.specs.Marks.{IsSet, Marked}
 use Rattle.bq_answer.specs.World.{Facts, count_of}
-use Rattle.bq_answer.specs.Formula.{Formula, binding, combined, Step, chained}
+use Rattle.bq_query_check.specs.Formula.{Formula, let_in, combined, Step, chained}
 use Rattle.bq_query.specs.declared.query_error.QueryErr.{QueryErr}
 use Rattle.bq_query_verdict.specs.Verdict.{first_of}
-use Rattle.bq_answer.specs.Stands.{Stands, Environment, Combined}
-use Rattle.std.proofs.lemmas.List.{map-append, reverse-append}
-use Rattle.bq_answer.specs.declared.bindings.Binding.{Binding}
-use Rattle.bq_answer.specs.Bindings.{environment}
+use Rattle.bq_answer.specs.Stands.{Stands, Bound}
+use Rattle.bq_answer.specs.Functions.{Combined}
 use Rattle.bq_answer.specs.Faults.{fault_in, Has}
 use Rattle.bq_answer.proofs.Same.{set_as, one_list, combined_stands}
 use Rattle.bq_answer.proofs.Firsts.{fault_stays}
 
 -- `let name = a in b`, where `set` is that of `a`
-pub let_stands : (w : Facts) (name : List ℕ) (a b : Formula) (env : Environment) (set r : List Bool) → IsSet (count_of w) set (Stands w a env)
-    → IsSet (count_of w) r (Stands w b ((name, set) ∷ env)) → IsSet (count_of w) r (Stands w (binding name a b) env)
-let_stands w name a b env set r s t =
-    set_as (Stands w b ((name, set) ∷ env)) (Stands w (binding name a b) env) (count_of w) r (λ y h. (set, s, h))
-    (λ y h. subst (λ (xs : List Bool). Stands w b ((name, xs) ∷ env) y) (one_list (Stands w a env) (count_of w) h.0 set h.1 s) h.2) t
+pub let_stands : (w : Facts) (a b : Formula) (bound : Bound) (set r : List Bool) → IsSet (count_of w) set (Stands w a bound)
+    → IsSet (count_of w) r (Stands w b (bound ++ set ∷ [])) → IsSet (count_of w) r (Stands w (let_in a b) bound)
+let_stands w a b bound set r s t =
+    set_as (Stands w b (bound ++ set ∷ [])) (Stands w (let_in a b) bound) (count_of w) r (λ y h. (set, s, h))
+    (λ y h. subst (λ (xs : List Bool). Stands w b (bound ++ xs ∷ []) y) (one_list (Stands w a bound) (count_of w) h.0 set h.1 s) h.2) t
 
 -- a part of a chain is done, and has these marks: what is left makes of it what the whole chain says
-pub record SoFar (w : Facts) (env : Environment) (whole : Formula) (left : List Step) (set : List Bool) : Type 0 where
+pub record SoFar (w : Facts) (bound : Bound) (whole : Formula) (left : List Step) (set : List Bool) : Type 0 where
   pub done : Formula
   pub goes_on : chained done left ≡ whole
-  pub has : Has w env done set
+  pub has : Has w bound done set
 
 -- nothing of it
-pub none_done : (w : Facts) (env : Environment) (x : Formula) (steps : List Step) (set : List Bool) → Has w env x set → SoFar w env (chained x steps) steps set
-none_done w env x steps set h = record { done = x; goes_on = refl; has = h }
+pub none_done : (w : Facts) (bound : Bound) (x : Formula) (steps : List Step) (set : List Bool) → Has w bound x set → SoFar w bound (chained x steps) steps set
+none_done w bound x steps set h = record { done = x; goes_on = refl; has = h }
 
 -- one operation more
-pub one_more : (w : Facts) (env : Environment) (whole : Formula) (o : Step) (left : List Step) (set operand r : List Bool) → SoFar w env whole (o ∷ left) set → fault_in w o.formula ≡ None
-    → IsSet (count_of w) operand (Stands w o.formula env) → IsSet (count_of w) r (Combined o.operator (Marked set) (Marked operand)) → SoFar w env whole left r
-one_more w env whole o left set operand r so_far none s t = record {
+pub one_more : (w : Facts) (bound : Bound) (whole : Formula) (o : Step) (left : List Step) (set operand r : List Bool) → SoFar w bound whole (o ∷ left) set → fault_in w o.formula ≡ None
+    → IsSet (count_of w) operand (Stands w o.formula bound) → IsSet (count_of w) r (Combined o.operator (Marked set) (Marked operand)) → SoFar w bound whole left r
+one_more w bound whole o left set operand r so_far none s t = record {
   done = combined o.operator so_far.done o.formula;
   goes_on = so_far.goes_on;
   has = record {
     none = ap (λ f. first_of f (fault_in w o.formula)) so_far.has.none ∙ none;
-    stands = combined_stands (count_of w) (count_of w) set operand r (Stands w so_far.done env) (Stands w o.formula env) so_far.has.stands s o.operator t;
+    stands = combined_stands (count_of w) (count_of w) set operand r (Stands w so_far.done bound) (Stands w o.formula bound) so_far.has.stands s o.operator t;
   };
 }
 
 -- an operand of which something is missing
-pub fails_there : (w : Facts) (env : Environment) (whole : Formula) (o : Step) (left : List Step) (set : List Bool) (why : QueryErr) → SoFar w env whole (o ∷ left) set → fault_in w o.formula ≡ Some why
+pub fails_there : (w : Facts) (bound : Bound) (whole : Formula) (o : Step) (left : List Step) (set : List Bool) (why : QueryErr) → SoFar w bound whole (o ∷ left) set → fault_in w o.formula ≡ Some why
     → fault_in w whole ≡ Some why
-fails_there w env whole o left set why so_far h =
+fails_there w bound whole o left set why so_far h =
     ap (fault_in w) (sym so_far.goes_on) ∙ fault_stays w (combined o.operator so_far.done o.formula) left why (ap (λ f. first_of f (fault_in w o.formula)) so_far.has.none ∙ h)
 
 -- all of it
-pub all_done : (w : Facts) (env : Environment) (whole : Formula) (set : List Bool) → SoFar w env whole [] set → Has w env whole set
-all_done w env whole set so_far = subst (λ (x : Formula). Has w env x set) so_far.goes_on so_far.has
+pub all_done : (w : Facts) (bound : Bound) (whole : Formula) (set : List Bool) → SoFar w bound whole [] set → Has w bound whole set
+all_done w bound whole set so_far = subst (λ (x : Formula). Has w bound x set) so_far.goes_on so_far.has
 
 -- ---- lets
-
--- one more set is bound
-pub bound_more : (bindings : List Binding) (b : Binding) → environment (bindings ++ b ∷ []) ≡ (b.name, b.set) ∷ environment bindings
-bound_more bindings b =
-    ap reverse (map-append (λ (x : Binding). (x.name, x.set)) bindings (b ∷ [])) ∙ reverse-append (map (λ (x : Binding). (x.name, x.set)) bindings) ((b.name, b.set) ∷ [])
 
 cons_same : {X : Type 0} (x y : X) (xs ys : List X) → (x ∷ xs) ≡ (y ∷ ys) → (x ≡ y) × (xs ≡ ys)
 cons_same x y xs ys e = (cc, cc)

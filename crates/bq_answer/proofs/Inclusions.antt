@@ -1,22 +1,19 @@
 -- The laws of the definitions.
-use Rattle.std.proofs.Common.{◌≡◌, ℕ, ◌<◌, Bool, List, [], ◌∷◌, cond, length, get_or, Option, Some, refl, sym, ap, subst}
+use Rattle.std.proofs.Common.{◌≡◌, ℕ, ◌<◌, Bool, List, [], ◌∷◌, ◌++◌, length, get_or, refl, sym, subst}
 use Rattle.std.specs.List.{All}
 use Rattle.std.specs.List.Sorted.{IsStrictlyIncreasing}
-use Rattle.std.specs.Map.{lookup}
-use Rattle.std.specs.Option.{IsSomeAnd}
-use Rattle.std.specs.Str.{bytes_eq}
-use Rattle.std.proofs.lemmas.Slice.Eq.{bytes_eq-Decides}
 use Rattle.std.proofs.lemmas.Map.Keys.{Less-from_sorted, below_from_sorted, sorted_from_strictly_increasing}
+use Rattle.regex_hir.specs.Re.{Re}
 use Rattle.bq_graph.specs.Marks.{Marked}
 use Rattle.bq_target.specs.declared.target.Target.{Target}
 use Rattle.bq_target_sets.specs.Order.{by_text, AreInOrder}
-use Rattle.bq_answer.specs.World.{Facts, count_of}
-use Rattle.bq_answer.specs.Formula.{Formula}
-use Rattle.bq_answer.specs.Stands.{Environment}
+use Rattle.bq_answer.specs.World.{Facts}
+use Rattle.bq_query_check.specs.Formula.{Formula}
+use Rattle.bq_answer.specs.Stands.{Bound}
 use Rattle.bq_answer.specs.Laws.{LieWithin, Keep, IsItself, LabelsAscend}
 
-pub lie_within : (w : Facts) (a b : Formula) (n : ℕ) (env : Environment) (y : ℕ) → LieWithin w a b n env y
-lie_within w a b n env y = record {
+pub lie_within : (w : Facts) (a b : Formula) (n : ℕ) (bound : Bound) (y : ℕ) → LieWithin w a b n bound y
+lie_within w a b n bound y = record {
   argument = λ h. record { from = y; starts = h; through = []; path = refl };
   near = λ e. record { from = e.from; starts = e.starts; through = e.through; path = e.path };
   dependents = λ e. e.inside.0;
@@ -24,18 +21,19 @@ lie_within w a b n env y = record {
   paths = λ e. e.reached;
 }
 
-pub keep : (w : Facts) (a : Formula) (name pattern : List ℕ) (env : Environment) (y : ℕ) → Keep w a name pattern env y
-keep w a name pattern env y = record { of_kind = λ h. h.0; filtered = λ h. h.0; with_attribute = λ h. h.0 }
+pub keep : (w : Facts) (a : Formula) (name : List ℕ) (pattern : Re) (bound : Bound) (y : ℕ) → Keep w a name pattern bound y
+keep w a name pattern bound y = record { kind = λ h. h.0; filter = λ h. h.0; attr = λ h. h.0 }
 
-found_first : (name : List ℕ) (set : List Bool) (env : Environment) → lookup (bytes_eq name) ((name, set) ∷ env) ≡ Some set
-found_first name set env = ap (λ (b : Bool). cond b (Some set) (lookup (bytes_eq name) env)) ((bytes_eq-Decides name name).1 refl)
+-- what is bound last is there
+last_set : (bound : Bound) (set : List Bool) → get_or (bound ++ set ∷ []) (length bound) [] ≡ set
+last_set [] set = refl
+last_set (s ∷ ss) set = last_set ss set
 
-pub itself : (w : Facts) (name : List ℕ) (a : Formula) (env : Environment) → IsItself w name a env
-itself w name a env marks s y =
-    let P : Option (List Bool) → Type 0 = λ o. IsSomeAnd o (λ set. (length set ≡ count_of w) × Marked set y) in (
-      λ h. let there : (length h.0 ≡ count_of w) × Marked h.0 y = subst P (found_first name h.0 env) h.2 in (h.1.1 y).0 there.1,
-      λ h. (marks, s, subst P (sym (found_first name marks env)) (s.0, (s.1 y).1 h)),
-    )
+pub itself : (w : Facts) (a : Formula) (bound : Bound) → IsItself w a bound
+itself w a bound marks s y = (
+  λ h. (h.1.1 y).0 (subst (λ (set : List Bool). Marked set y) (last_set bound h.0) h.2),
+  λ h. (marks, s, subst (λ (set : List Bool). Marked set y) (sym (last_set bound marks)) ((s.1 y).1 h)),
+)
 
 pub ascend : (targets : List Target) (answer : List ℕ) → AreInOrder targets → IsStrictlyIncreasing answer → All (λ at. at < length targets) answer → LabelsAscend targets answer
 ascend targets answer order up within i j d before inside =

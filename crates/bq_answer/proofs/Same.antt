@@ -7,10 +7,12 @@ use Rattle.bq_graph.specs.Paths.{Deps, DepsWithin, Rdeps, RdepsWithin, OnPaths}
 use Rattle.bq_graph.specs.Marks.{IsSet, Marked}
 use Rattle.bq_query_tree.specs.declared.tree.Operator.{Operator}
 use Rattle.bq_query_tree.specs.declared.tree.Operator.TheVariants as op
-use Rattle.bq_answer.specs.Stands.{Combined, Chosen}
-use Rattle.bq_answer.specs.World.{Facts}
-use Rattle.bq_answer.specs.declared.leaves.Choice.{Choice}
-use Rattle.bq_answer.specs.declared.leaves.Choice.TheVariants as choice
+use Rattle.bq_query_check.specs.declared.formula.Unary.{Unary}
+use Rattle.bq_query_check.specs.declared.formula.Unary.TheVariants as unary
+use Rattle.bq_query_check.specs.declared.formula.Binary.{Binary}
+use Rattle.bq_query_check.specs.declared.formula.Binary.TheVariants as binary
+use Rattle.bq_answer.specs.Functions.{OfOne, OfTwo, Combined}
+use Rattle.bq_answer.specs.World.{Facts, edges_of}
 
 abbrev pub Within : (ℕ → Type 0) → (ℕ → Type 0) → Type 0
 Within P Q = (y : ℕ) → P y → Q y
@@ -47,43 +49,33 @@ rdeps_within_in g n U V X Y f h y e =
 paths_in : (g : List (List ℕ)) (A C B D : ℕ → Type 0) → Within A C → Within B D → Within (OnPaths g A B) (OnPaths g C D)
 paths_in g A C B D f h y e = record { reached = deps_in g A C f y e.reached; to = e.to; ends = h e.to e.ends; through = e.through; path = e.path }
 
+one_in : (w : Facts) (f : Unary) (P Q : ℕ → Type 0) → Within P Q → Within (OfOne w f P) (OfOne w f Q)
+one_in w unary.Deps P Q g y e = deps_in (edges_of w) P Q g y e
+one_in w (unary.DepsWithin n) P Q g y e = deps_within_in (edges_of w) n P Q g y e
+one_in w (unary.Kind re) P Q g y e = (g y e.0, e.1)
+one_in w (unary.Filter re) P Q g y e = (g y e.0, e.1)
+one_in w (unary.Attr name re) P Q g y e = (g y e.0, e.1)
+one_in w (unary.Labels name) P Q g y e = (e.0, g e.0 e.1, e.2)
+
+two_in : (w : Facts) (f : Binary) (A C B D : ℕ → Type 0) → Within A C → Within B D → Within (OfTwo w f A B) (OfTwo w f C D)
+two_in w binary.Rdeps A C B D g h y e = rdeps_in (edges_of w) A C B D g h y e
+two_in w (binary.RdepsWithin n) A C B D g h y e = rdeps_within_in (edges_of w) n A C B D g h y e
+two_in w binary.Allpaths A C B D g h y e = paths_in (edges_of w) A C B D g h y e
+
 combined_in : (o : Operator) (A C B D : ℕ → Type 0) → Within A C → Within B D → Within D B → Within (Combined o A B) (Combined o C D)
 combined_in op.Union A C B D f h k y e = elim e [ inl a ↦ inl (f y a) | inr b ↦ inr (h y b) ]
 combined_in op.Intersect A C B D f h k y e = (f y e.0, h y e.1)
 combined_in op.Except A C B D f h k y e = (f y e.0, λ d. e.1 (k y d))
 
-chosen_in : (w : Facts) (c : Choice) (word : List ℕ) (P Q : ℕ → Type 0) → Within P Q → Within (Chosen w c word P) (Chosen w c word Q)
-chosen_in w choice.Kind word P Q f y e = (f y e.0, e.1)
-chosen_in w choice.Filter word P Q f y e = (f y e.0, e.1)
-chosen_in w choice.Labels word P Q f y e = (e.0, f e.0 e.1, e.2)
-
 module _ (n m : ℕ) (x r : List Bool) (X : ℕ → Type 0) (s : IsSet n x X) where
-  pub deps_stands : (g : List (List ℕ)) → IsSet m r (Deps g (Marked x)) → IsSet m r (Deps g X)
-  deps_stands g t = set_as (Deps g (Marked x)) (Deps g X) m r (deps_in g (Marked x) X (to_set X n x s)) (deps_in g X (Marked x) (from_set X n x s)) t
-
-  pub deps_within_stands : (g : List (List ℕ)) (k : ℕ) → IsSet m r (DepsWithin g (Marked x) k) → IsSet m r (DepsWithin g X k)
-  deps_within_stands g k t =
-      set_as (DepsWithin g (Marked x) k) (DepsWithin g X k) m r (deps_within_in g k (Marked x) X (to_set X n x s)) (deps_within_in g k X (Marked x) (from_set X n x s)) t
-
-  pub chosen_stands : (P : ℕ → Type 0) → IsSet m r (λ y. Marked x y × P y) → IsSet m r (λ y. X y × P y)
-  chosen_stands P t = set_as (λ y. Marked x y × P y) (λ y. X y × P y) m r (λ y e. (to_set X n x s y e.0, e.1)) (λ y e. (from_set X n x s y e.0, e.1)) t
-
-  pub picked_stands : (w : Facts) (c : Choice) (word : List ℕ) → IsSet m r (Chosen w c word (Marked x)) → IsSet m r (Chosen w c word X)
-  picked_stands w c word t = set_as (Chosen w c word (Marked x)) (Chosen w c word X) m r (chosen_in w c word (Marked x) X (to_set X n x s)) (chosen_in w c word X (Marked x) (from_set X n x s)) t
+  pub one_stands : (w : Facts) (f : Unary) → IsSet m r (OfOne w f (Marked x)) → IsSet m r (OfOne w f X)
+  one_stands w f t = set_as (OfOne w f (Marked x)) (OfOne w f X) m r (one_in w f (Marked x) X (to_set X n x s)) (one_in w f X (Marked x) (from_set X n x s)) t
 
 module _ (n m : ℕ) (u x r : List Bool) (U X : ℕ → Type 0) (a : IsSet n u U) (s : IsSet n x X) where
-  pub rdeps_stands : (g : List (List ℕ)) → IsSet m r (Rdeps g (Marked u) (Marked x)) → IsSet m r (Rdeps g U X)
-  rdeps_stands g t =
-      set_as (Rdeps g (Marked u) (Marked x)) (Rdeps g U X) m r (rdeps_in g (Marked u) U (Marked x) X (to_set U n u a) (to_set X n x s)) (rdeps_in g U (Marked u) X (Marked x) (from_set U n u a) (from_set X n x s)) t
-
-  pub rdeps_within_stands : (g : List (List ℕ)) (k : ℕ) → IsSet m r (RdepsWithin g (Marked u) (Marked x) k) → IsSet m r (RdepsWithin g U X k)
-  rdeps_within_stands g k t =
-      set_as (RdepsWithin g (Marked u) (Marked x) k) (RdepsWithin g U X k) m r (rdeps_within_in g k (Marked u) U (Marked x) X (to_set U n u a) (to_set X n x s))
-      (rdeps_within_in g k U (Marked u) X (Marked x) (from_set U n u a) (from_set X n x s)) t
-
-  pub paths_stand : (g : List (List ℕ)) → IsSet m r (OnPaths g (Marked u) (Marked x)) → IsSet m r (OnPaths g U X)
-  paths_stand g t =
-      set_as (OnPaths g (Marked u) (Marked x)) (OnPaths g U X) m r (paths_in g (Marked u) U (Marked x) X (to_set U n u a) (to_set X n x s)) (paths_in g U (Marked u) X (Marked x) (from_set U n u a) (from_set X n x s)) t
+  pub two_stand : (w : Facts) (f : Binary) → IsSet m r (OfTwo w f (Marked u) (Marked x)) → IsSet m r (OfTwo w f U X)
+  two_stand w f t =
+      set_as (OfTwo w f (Marked u) (Marked x)) (OfTwo w f U X) m r (two_in w f (Marked u) U (Marked x) X (to_set U n u a) (to_set X n x s))
+      (two_in w f U (Marked u) X (Marked x) (from_set U n u a) (from_set X n x s)) t
 
   pub combined_stands : (o : Operator) → IsSet m r (Combined o (Marked u) (Marked x)) → IsSet m r (Combined o U X)
   combined_stands o t =

@@ -1,32 +1,25 @@
 -- What the words of a formula name that is not there: the first in the order of the text (Q5, Q6).
-use Rattle.std.specs.Prelude.{◌≡◌, ◌≢◌, ℕ, Bool, List, [], ◌∷◌, Some, None, Result, Ok, Err}
+use Rattle.std.specs.Prelude.{◌≡◌, ◌≢◌, ℕ, Bool, List, [], ◌∷◌, length, Some, None, Result, Ok, Err}
 use Rattle.bq_query.specs.declared.query_error.QueryErr.{QueryErr}
 use Rattle.bq_query.specs.declared.query_error.QueryErr.TheVariants as e
 use Rattle.bq_query_verdict.specs.Verdict.{Fault, first_of}
+use Rattle.bq_query_check.specs.Formula.{Formula, named, variable, let_in, combined, one, two, IsClosed}
 use Rattle.bq_target_sets.specs.Missing.{missing}
 use Rattle.bq_graph.specs.Marks.{IsSet}
-use Rattle.bq_answer.specs.Stands.{Stands, Environment}
-use Rattle.bq_answer.specs.declared.bindings.Binding.{Binding}
+use Rattle.bq_answer.specs.Stands.{Stands, Bound, AreSets}
 use Rattle.bq_answer.specs.World.{Facts, targets_of, packages_of, count_of}
-use Rattle.bq_answer.specs.Formula.{Formula, nothing, named, bound, binding, combined, deps, deps_within, rdeps, rdeps_within, allpaths, chosen, attr}
 
 abbrev pub first_missing : Facts → List (List ℕ) → Fault
 first_missing w [] = None
 first_missing w (word ∷ words) = first_of (missing (packages_of w) (targets_of w) word) (first_missing w words)
 
 abbrev pub fault_in : Facts → Formula → Fault
-fault_in w nothing = None
 fault_in w (named words) = first_missing w words
-fault_in w (bound name) = None
-fault_in w (binding name a b) = first_of (fault_in w a) (fault_in w b)
+fault_in w (variable k) = None
+fault_in w (let_in a b) = first_of (fault_in w a) (fault_in w b)
 fault_in w (combined o a b) = first_of (fault_in w a) (fault_in w b)
-fault_in w (deps a) = fault_in w a
-fault_in w (deps_within n a) = fault_in w a
-fault_in w (rdeps u a) = first_of (fault_in w u) (fault_in w a)
-fault_in w (rdeps_within n u a) = first_of (fault_in w u) (fault_in w a)
-fault_in w (allpaths a b) = first_of (fault_in w a) (fault_in w b)
-fault_in w (chosen c word a) = fault_in w a
-fault_in w (attr name p a) = fault_in w a
+fault_in w (one f a) = fault_in w a
+fault_in w (two f a b) = first_of (fault_in w a) (fault_in w b)
 
 -- what a call ensures, out of memory aside: no fault where it succeeds, else this one
 abbrev pub Meets : {A : Type 0} → Fault → Result A QueryErr → Type 0
@@ -34,12 +27,17 @@ Meets fault (Ok x) = fault ≡ None
 Meets fault (Err why) = why ≢ e.Memory → fault ≡ Some why
 
 -- nothing that the formula names is missing, and these are the marks of its set
-pub record Has (w : Facts) (env : Environment) (x : Formula) (marks : List Bool) : Type 0 where
+pub record Has (w : Facts) (bound : Bound) (x : Formula) (marks : List Bool) : Type 0 where
   pub none : fault_in w x ≡ None
-  pub stands : IsSet (count_of w) marks (Stands w x env)
+  pub stands : IsSet (count_of w) marks (Stands w x bound)
 
--- what answering a formula ensures, out of memory aside: the marks of its set where nothing is missing, and the bindings as they were;
+-- the variables of a formula have sets
+pub record AreBound (w : Facts) (x : Formula) (bound : Bound) : Type 0 where
+  pub closed : IsClosed (length bound) x
+  pub sets : AreSets w bound
+
+-- what answering a formula ensures, out of memory aside: the marks of its set where nothing is missing, and the bound sets as they were;
 -- else the first fault of its text
-abbrev pub Answers : {A : Type 0} → (A → List Bool) → Facts → Formula → Environment → List Binding → Result A QueryErr → List Binding → Type 0
-Answers marks w x env before (Ok r) after = Has w env x (marks r) × (after ≡ before)
-Answers marks w x env before (Err why) after = why ≢ e.Memory → fault_in w x ≡ Some why
+abbrev pub Answers : {A : Type 0} → (A → List Bool) → Facts → Formula → Bound → Bound → Result A QueryErr → Bound → Type 0
+Answers marks w x bound before (Ok r) after = Has w bound x (marks r) × (after ≡ before)
+Answers marks w x bound before (Err why) after = why ≢ e.Memory → fault_in w x ≡ Some why

@@ -1,8 +1,6 @@
 pub mod World
-pub mod Formula
-pub mod Stands
 pub mod Functions
-pub mod Bindings
+pub mod Stands
 pub mod Faults
 pub mod Answer
 pub mod Printed

@@ -1,22 +1,18 @@
 -- What a query is answered over.
-use Rattle.std.specs.Prelude.{ℕ, List, bytes_eq, Option, length}
-use Rattle.std.specs.Map.{lookup}
-use Rattle.regex_hir.specs.Re.{Re}
+use Rattle.std.specs.Prelude.{ℕ, List, length}
 use Rattle.bq_label.specs.Label.{PackageParts}
 use Rattle.bq_schema.specs.Schema.{Rules}
-use Rattle.bq_query_check.specs.Patterns.{Table, table_of}
 use Rattle.bq_target.specs.declared.target.Target.{Target}
 use Rattle.bq_target_graph.specs.Graph.{GraphParts}
 use Rattle.bq_answer.specs.declared.world.World.{World}
 
--- the targets with their dependencies, the schema of their rules, and what the patterns of the query mean
+-- the targets with their dependencies, and the schema of their rules
 pub record Facts : Type 0 where
   pub graph : GraphParts
   pub schema : Rules
-  pub patterns : Table
 
 abbrev pub facts : World → Facts
-facts w = record { graph = w.graph.now; schema = w.schema.now; patterns = table_of w.patterns.now }
+facts w = record { graph = w.graph.now; schema = w.schema.now }
 
 abbrev pub targets_of : Facts → List Target
 targets_of w = w.graph.targets
@@ -27,10 +23,6 @@ packages_of w = w.graph.packages
 -- for each target those that it depends on, by number
 abbrev pub edges_of : Facts → List (List ℕ)
 edges_of w = w.graph.edges
-
--- what the pattern of this text means
-abbrev pub meaning_of : Facts → List ℕ → Option Re
-meaning_of w text = lookup (bytes_eq text) w.patterns
 
 -- the number of targets
 abbrev pub count_of : Facts → ℕ

@@ -7,22 +7,18 @@
 //!
 //! - `world`: what a query is answered over;
 //! - `bindings`: the sets that lets bind;
-//! - `number`: numbers of edges;
-//! - `leaves`: the sets of words, and of functions whose arguments are known;
-//! - `functions`: what functions of sets make of them;
-//! - `calls`: what calls of functions mean;
-//! - `sets`: the sets of trees;
+//! - `named`: the sets of words;
+//! - `functions`: what functions and operators make of sets;
+//! - `sets`: the sets of queries;
 //! - `whole`: whole queries;
 //! - `print`: the text of an answer;
 //! - `laws`: what the definitions say together.
 #![tactic(auto)]
 
 mod bindings;
-mod calls;
 mod functions;
 pub mod laws;
-mod leaves;
-mod number;
+mod named;
 mod print;
 mod sets;
 mod whole;

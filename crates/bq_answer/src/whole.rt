@@ -3,7 +3,7 @@
 ghost use Rattle.std.specs.Prelude.{◌≡◌, ℕ, ◌<◌, [], length, IfOk};
 ghost use Rattle.std.specs.List.{All};
 ghost use Rattle.std.specs.List.Sorted.{IsStrictlyIncreasing};
-ghost use Rattle.bq_answer.specs.Formula.{formula_of};
+ghost use Rattle.bq_query_check.specs.Formula.{formula_of};
 ghost use Rattle.bq_answer.specs.Stands.{Stands};
 ghost use Rattle.bq_answer.specs.Faults.{Meets, fault_in};
 ghost use Rattle.bq_answer.specs.Answer.{facts_of, AreThose};
@@ -25,17 +25,13 @@ pub fn answer(
     schema: &Schema,
     query: &CheckedQuery,
 ) -> Result<Vec<usize>, QueryErr>
-    ensures fault { Meets (fault_in (facts_of graph.now schema.now query.now) (formula_of query.now.tree)) result }
+    ensures fault { Meets (fault_in (facts_of graph.now schema.now) (formula_of query.now.set)) result }
     ensures within { IfOk result (λ v. All (λ at. at < length graph.now.targets) v.items) }
     ensures ascending { IfOk result (λ v. IsStrictlyIncreasing v.items) }
-    ensures members { IfOk result (λ v. AreThose (Stands (facts_of graph.now schema.now query.now) (formula_of query.now.tree) []) v.items) }
+    ensures members { IfOk result (λ v. AreThose (Stands (facts_of graph.now schema.now) (formula_of query.now.set) []) v.items) }
 {
-    let world = World {
-        graph,
-        schema,
-        patterns: &query.patterns,
-    };
-    let mut bindings = Items::new(alloc);
-    let set = set_of(alloc, &world, &mut bindings, &query.tree)?;
+    let world = World { graph, schema };
+    let mut bound = Items::new(alloc);
+    let set = set_of(alloc, &world, &mut bound, &query.set)?;
     Ok(members(alloc, &set)?)
 }

@@ -1,5 +1,7 @@
 -- the packages of modules ascend
 pub mod Ascending
+-- a map of the places of names, and what is found by it
+mod ByName
 -- what may cross threads
 mod Crossing
 -- what an evaluation ends in, where its run is known
@@ -12,6 +14,8 @@ pub mod Joined
 pub mod Listed
 -- what a module evaluates to, by its source, its code and what it gets
 pub mod Meanings
+-- maps of the places of names, one for each of some modules
+mod Placed
 -- what the threads of a pool bring
 pub mod Pooled
 -- fault lines that are put one after another

@@ -1,5 +1,5 @@
 -- What a module evaluates to, by the modules that it loads: its own fault; else the first symbol that they lack; else what its statements
--- give, run on a fresh machine with all its steps.
+-- give, run on a fresh machine with all its steps. What a BUILD file made is given up once its package is finished: nobody loads one.
 use Rattle.std.specs.Prelude.{ℕ, List, [], map, Option, Some, None, Result, Ok, Err, slice_get, option_map}
 use Rattle.bq_source.specs.declared.fault.Fault.{Fault}
 use Rattle.bq_source.specs.declared.fault.FaultKind.TheVariants as f
@@ -9,12 +9,13 @@ use Rattle.bq_grammar.specs.declared.tree.FileKind.TheVariants as kinds
 use Rattle.bq_label.specs.Label.{LabelParts, package_of}
 use Rattle.bq_label_set.specs.Labels.{with_labels}
 use Rattle.bq_scope.specs.declared.code.Resolved.{Resolved}
+use Rattle.bq_value.specs.Cells.{FrozenView, frozen}
 use Rattle.bq_value.specs.Datum.{Datum}
 use Rattle.bq_machine.specs.Action.{Run}
 use Rattle.bq_machine.specs.State.{State}
 use Rattle.bq_meaning.specs.Frame.{Frame}
 use Rattle.bq_module.specs.Module.{Ended, evaluated, failed, ended, kept_after, module_run}
-use Rattle.bq_target.specs.Package.{no_targets, finished}
+use Rattle.bq_target.specs.Package.{PackageTargets, no_targets, finished}
 use Rattle.bq_package.specs.Calls.{HeldPackage, meaning}
 use Rattle.bq_front.specs.Front.{kind_of}
 use Rattle.bq_load.specs.declared.source.Source.{Source}
@@ -36,9 +37,21 @@ kept_first x l = kept_by x l (kind_of l)
 unfoldable pub evaluation : LoadingParts → ℕ → LabelParts → Resolved → List ModuleView → List Datum → Run (State × HeldPackage) Frame
 evaluation x m l file modules values = module_run x.names meaning x.code m file (map (λ v. v.frozen) modules) values x.limit (kept_first x l)
 
--- what an evaluation ends in, and the package that is kept then
+-- the frozen module of this number with no cell and no global
+abbrev pub without_cells : ℕ → FrozenView
+without_cells own = frozen (record { own = own; cells = []; loaded = [] }) []
+
+-- what stays of a frozen module: all of it, for those who load it; nothing where there is a package
+abbrev pub stays : FrozenView → Option PackageTargets → FrozenView
+stays made None = made
+stays made (Some p) = without_cells made.own
+
+abbrev pub module_with : FrozenView → List (List ℕ) → Option PackageTargets → ModuleView
+module_with made prints p = record { frozen = stays made p; prints = prints; «package» = p }
+
+-- what an evaluation ends in, with the package that is kept then
 abbrev pub module_by : Ended → HeldPackage → Result ModuleView FailedView
-module_by (evaluated frozen prints) kept = Ok (record { frozen = frozen; prints = prints; «package» = option_map (λ d. finished d.package) kept })
+module_by (evaluated made prints) kept = Ok (module_with made prints (option_map (λ d. finished d.package) kept))
 module_by (failed why prints) kept = Err (record { fault = why; prints = prints })
 
 abbrev pub or_nothing : Option HeldPackage → HeldPackage

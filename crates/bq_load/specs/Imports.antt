@@ -1,7 +1,9 @@
 -- What a file gets of the modules that it loads (Bazel, "BUILD files" on load statements): the global of the symbol's name that the other
--- file itself binds, unless its name begins with `_`.
-use Rattle.std.specs.Prelude.{ℕ, List, [], ◌∷◌, ◌++◌, nat_eq, bytes_eq, Bool, Option, Some, None, Result, Ok, Err, slice_get, codes, option_and_then, if◌then◌else◌}
+-- file itself binds, unless its name begins with `_`. It serves `exports` and `imports`.
+use Rattle.std.specs.Prelude.{ℕ, List, [], ◌∷◌, ◌++◌, map, nat_eq, bytes_eq, Bool, Option, Some, None, Result, Ok, Err, slice_get, codes, option_and_then, if◌then◌else◌}
 use Rattle.std.specs.List.{starts_with}
+use Rattle.std.specs.declared.alloc.Global.{Global}
+use Rattle.std.specs.declared.sync.Arc.{Arc}
 use Rattle.bq_source.specs.declared.fault.Fault.{Fault}
 use Rattle.bq_source.specs.declared.fault.FaultKind.{FaultKind}
 use Rattle.bq_source.specs.declared.fault.FaultKind.TheVariants as f
@@ -14,7 +16,8 @@ use Rattle.bq_value.specs.Datum.{Datum}
 use Rattle.bq_front.specs.Code.{◌>>=◌}
 use Rattle.bq_discover.specs.Edges.{number_in}
 use Rattle.bq_load.specs.declared.imports.LoadedFiles.{LoadedFiles}
-use Rattle.bq_load.specs.Views.{ModuleView, module_views}
+use Rattle.bq_load.specs.declared.outcome.LoadedModule.{LoadedModule}
+use Rattle.bq_load.specs.Views.{ModuleView, module_view, module_views}
 
 -- what a file loads: the files that its loads name, each once, in the order in which they are first named; a module for each of them; and
 -- the code of all modules by their numbers
@@ -42,6 +45,17 @@ abbrev pub globals_by : Option (Option Resolved) → List Name
 globals_by None = []
 globals_by (Some None) = []
 globals_by (Some (Some file)) = file.globals
+
+-- the names of a module's globals
+abbrev pub names_in : List (Option Resolved) → ModuleView → List Name
+names_in code m = globals_by (slice_get code m.frozen.own)
+
+abbrev pub names_by : List (Option Resolved) → Option ModuleView → List Name
+names_by code None = []
+names_by code (Some m) = names_in code m
+
+abbrev pub names_of : List (Option Resolved) → List (Arc LoadedModule Global) → List (List Name)
+names_of code ms = map (λ m. names_in code (module_view m.value)) ms
 
 -- the value of a module's global
 abbrev pub global_of : List (Option Resolved) → ModuleView → Name → Option Datum

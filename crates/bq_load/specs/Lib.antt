@@ -1,5 +1,6 @@
 pub mod Views
 pub mod Sources
+pub mod Places
 pub mod Imports
 pub mod Evaluation
 pub mod Results

@@ -10,7 +10,7 @@ use Rattle.bq_load.specs.declared.outcome.LoadedModule.{LoadedModule}
 use Rattle.bq_load.specs.declared.outcome.FailedModule.{FailedModule}
 use Rattle.bq_load.specs.declared.outcome.ModuleOutcome.{ModuleOutcome}
 
--- a module that was evaluated: its cells and globals, what it printed, and the package of a BUILD file
+-- a module that was evaluated: the cells and globals of a .bzl file, what it printed, and the package of a BUILD file
 pub record ModuleView : Type 0 where
   pub frozen : FrozenView
   pub prints : List (List ℕ)

@@ -12,7 +12,7 @@ ghost use Rattle.bq_load_order.specs.Shown.{told};
 ghost use Rattle.bq_load.specs.Views.{module_view, failed_view, module_views};
 ghost use Rattle.bq_load.specs.Sources.{loading_of};
 ghost use Rattle.bq_load.specs.Imports.{imports};
-ghost use Rattle.bq_load.specs.Evaluation.{kept_first, evaluation, module_by, module_after, loaded_parts};
+ghost use Rattle.bq_load.specs.Evaluation.{kept_first, evaluation, without_cells, module_with, module_by, module_after, loaded_parts};
 
 use crate::imports::LoadedFiles;
 use crate::loading::Loading;
@@ -26,8 +26,8 @@ use bq_module::{Evaluated, Outcome, ResolvedModule, eval_module};
 use bq_package::BuildHost;
 use bq_scope::Resolved;
 use bq_source::{Bytes, SourceErr};
-use bq_target::{Package, PackageState};
-use bq_value::{Frozen, Value};
+use bq_target::PackageState;
+use bq_value::{Frozen, Store, Value, freeze};
 use std::alloc::{AllocError, Global};
 use std::sync::Arc;
 
@@ -45,14 +45,37 @@ fn frozen_of(
     Ok(all)
 }
 
-/// The package that a host keeps, with the files that its targets name.
-fn package_of(alloc: Global, kept: Option<PackageState>) -> Result<Option<Package>, AllocError>
-    ensures { IfOk result (λ p. p ≡ option_map finished kept) }
+/// A .bzl file that ran to its end.
+fn bzl_module(
+    alloc: Global,
+    frozen: Frozen,
+    prints: Vec<Bytes>,
+) -> Result<LoadedModule, AllocError>
+    ensures { IfOk result (λ m. module_view m ≡ module_with frozen prints.items None) }
 {
-    match kept {
-        None => Ok(None),
-        Some(state) => Ok(Some(state.finish(alloc)?)),
-    }
+    Ok(LoadedModule {
+        frozen: Arc::new(alloc, frozen)?,
+        prints,
+        package: None,
+    })
+}
+
+/// The BUILD file of this number, which ran to its end with this package. Nobody loads it, so no cell of it stays.
+fn build_module(
+    alloc: Global,
+    number: u32,
+    prints: Vec<Bytes>,
+    kept: PackageState,
+) -> Result<LoadedModule, AllocError>
+    ensures { IfOk result (λ m. module_view m ≡ record { frozen = without_cells number; prints = prints.items; «package» = Some (finished kept) }) }
+{
+    let package = kept.finish(alloc)?;
+    let frozen = freeze(alloc, Store::new(alloc, number), Vec::new(alloc))?;
+    Ok(LoadedModule {
+        frozen: Arc::new(alloc, frozen)?,
+        prints,
+        package: Some(package),
+    })
 }
 
 /// A module that ran to its end, with the package that its host keeps.
@@ -62,15 +85,12 @@ fn loaded_module(
     prints: Vec<Bytes>,
     kept: Option<PackageState>,
 ) -> Result<LoadedModule, AllocError>
-    ensures { IfOk result (λ m. module_view m ≡ record { frozen = frozen; prints = prints.items; «package» = option_map finished kept }) }
+    ensures { IfOk result (λ m. module_view m ≡ module_with frozen prints.items (option_map finished kept)) }
 {
-    let package = package_of(alloc, kept)?;
-    let frozen = Arc::new(alloc, frozen)?;
-    Ok(LoadedModule {
-        frozen,
-        prints,
-        package,
-    })
+    match kept {
+        None => bzl_module(alloc, frozen, prints),
+        Some(package) => build_module(alloc, frozen.module(), prints, package),
+    }
 }
 
 /// What an evaluation ends in.

@@ -1,22 +1,27 @@
 //! What a file gets of the modules that it loads.
 
-ghost use Rattle.std.specs.Prelude.{◌≡◌, [], IfOk, option_map, slice_get};
+ghost use Rattle.std.specs.Prelude.{◌≡◌, [], IfOk, IfSome, option_map, slice_get};
 ghost use Rattle.std.specs.Option.{option_copied};
 ghost use Rattle.bq_source.specs.Gives.{Gives};
 ghost use Rattle.bq_source.specs.declared.fault.SourceErr.TheVariants.{Bad};
-ghost use Rattle.bq_value.specs.declared.error.EvalErr.TheVariants.{Bad as BadKind};
 ghost use Rattle.bq_front.specs.Code.{items};
-ghost use Rattle.bq_load.specs.Views.{module_view};
-ghost use Rattle.bq_load.specs.Imports.{loaded_of, module_named, value_named, globals_by, global_of, global_by, is_private, exported, at_symbol, clause_values, imports};
+ghost use Rattle.bq_load.specs.Views.{module_view, module_views};
+ghost use Rattle.bq_load.specs.Places.{HasPlaces, AllPlaced};
+ghost use Rattle.bq_load.specs.Imports.{loaded_of, module_named, names_in, names_of, clause_values, imports};
 
+use crate::exports::{Exports, globals_of};
 use crate::outcome::LoadedModule;
+use crate::places::{Places, places_at, places_by_name};
 use bq_label::Label;
 use bq_label_set::LabelSet;
-use bq_scope::{LoadStmt, LoadedSymbol, Resolved};
-use bq_source::{Bytes, Fault, FaultKind, SourceErr};
-use bq_value::{EvalErr, Value};
+use bq_scope::{LoadStmt, Resolved};
+use bq_source::SourceErr;
+use bq_value::Value;
 use std::alloc::{AllocError, Global};
 use std::sync::Arc;
+
+/// So many clauses, or names, are looked through one by one: a map of the names takes as long as about a hundred searches of them.
+const FEW: usize = 100;
 
 /// The files that the loads of a file name, each once, with a module for each, and the code of all modules.
 #[derive(Clone, Copy)]
@@ -26,136 +31,137 @@ pub struct LoadedFiles<'a> {
     pub code: &'a [Option<Resolved>],
 }
 
-/// The value in the place in which its name is.
-#[tactic(auto, unfolding(crate::specs::Imports::value_named))]
-fn value_named<'a>(name: &Bytes, names: &[Bytes], values: &'a [Value]) -> Option<&'a Value>
-    ensures { option_copied result ≡ value_named name.now names.now values.now }
-{
-    let mut left = values;
-    for other in names {
-        let Some((value, rest)) = left.split_first() else {
-            return None;
-        };
-        if name == other {
-            return Some(value);
-        }
-        left = rest;
-    }
-    None
-}
-
-/// The names of the globals that the file of a module binds.
-fn globals_of(code: &[Option<Resolved>], number: u32) -> &[Bytes]
-    ensures { result.now ≡ globals_by (slice_get code.now number) }
-{
-    match code.get(number as usize) {
-        None => &[],
-        Some(None) => &[],
-        Some(Some(file)) => file.globals.as_slice(),
-    }
-}
-
-/// What a module exports by this name: F34, F33.
-#[tactic(auto, unfolding(crate::specs::Imports::exported))]
-fn exported(
-    code: &[Option<Resolved>],
-    module: Option<&LoadedModule>,
-    name: &Bytes,
-) -> Result<Value, EvalErr>
-    ensures { Gives (λ v. v) BadKind result (exported code.now (option_map module_view (option_copied «module».entry)) name.now) }
-{
-    if name.as_slice().starts_with(b"_") {
-        return Err(EvalErr::Bad(FaultKind::PrivateSymbol));
-    }
-    let Some(module) = module else {
-        return Err(EvalErr::Bad(FaultKind::NoSymbol));
-    };
-    let names = globals_of(code, module.frozen.module());
-    match value_named(name, names, module.frozen.globals()) {
-        None => Err(EvalErr::Bad(FaultKind::NoSymbol)),
-        Some(value) => Ok(value.share()?),
-    }
-}
-
-/// The value of a clause of a load in this line, or its fault.
-fn clause_value(
-    code: &[Option<Resolved>],
-    module: Option<&LoadedModule>,
-    line: u32,
-    symbol: &Bytes,
-) -> Result<Value, SourceErr>
-    ensures { Gives (λ v. v) Bad result (at_symbol line symbol.now (exported code.now (option_map module_view (option_copied «module».entry)) symbol.now)) }
-{
-    match exported(code, module, symbol) {
-        Ok(value) => Ok(value),
-        Err(EvalErr::Bad(kind)) => Err(SourceErr::Bad(Fault {
-            kind,
-            line,
-            detail: symbol.share()?,
-        })),
-        Err(EvalErr::Memory) => Err(SourceErr::Memory),
-    }
-}
-
-/// Adds a value for each clause of a load in this line.
-#[tactic(auto, unfolding(crate::specs::Imports::clause_values))]
-fn clause_values(
-    code: &[Option<Resolved>],
-    module: Option<&LoadedModule>,
-    line: u32,
-    values: &mut Vec<Value>,
-    clauses: &[LoadedSymbol],
-) -> Result<(), SourceErr>
-    ensures { Gives (λ _. values.new.items) Bad result (clause_values code.now (option_map module_view (option_copied «module».entry)) line values.old.items clauses.now) }
-{
-    for clause in clauses {
-        values.push(clause_value(code, module, line, &clause.symbol)?)?;
-    }
-    Ok(())
-}
-
 impl<'a> LoadedFiles<'a> {
-    /// The module of a file that a load names.
+    /// How many clauses of these loads, which name these files, look into each of the modules. It decides how they look, and not
+    /// what they find.
+    fn clauses_by_module(
+        &self,
+        alloc: Global,
+        loads: &[LoadStmt],
+        labels: &[Label],
+    ) -> Result<Vec<usize>, AllocError> {
+        let mut clauses = vec![in alloc; 0; self.modules.len()]?;
+        let mut left = labels;
+        for load in loads {
+            let Some((label, rest)) = left.split_first() else {
+                return Ok(clauses);
+            };
+            left = rest;
+            let Some(number) = self.files.number(label)? else {
+                continue;
+            };
+            if number < clauses.len() {
+                clauses[number] = clauses[number].saturating_add(load.clauses.len());
+            }
+        }
+        Ok(clauses)
+    }
+
+    /// The places of the names of a module's globals, where so many clauses look for them that a map pays.
+    fn places_of(
+        &self,
+        alloc: Global,
+        module: &LoadedModule,
+        clauses: usize,
+    ) -> Result<Option<Places<'a>>, AllocError>
+        ensures { IfOk result (λ places. IfSome places (HasPlaces 0 (names_in self.now.code.now (module_view «module».now)))) }
+    {
+        let names = globals_of(self.code, module.frozen.module());
+        if clauses.min(names.len()) <= FEW {
+            return Ok(None);
+        }
+        Ok(Some(places_by_name(alloc, names)?))
+    }
+
+    /// The same for each of the modules, into which so many clauses look.
+    #[tactic(auto, using(crate::proofs::Placed::next_placed))]
+    fn all_places(
+        &self,
+        alloc: Global,
+        clauses: &[usize],
+    ) -> Result<Vec<Option<Places<'a>>>, AllocError>
+        ensures { IfOk result (λ all. AllPlaced (names_of self.now.code.now self.now.modules.now) all.items) }
+    {
+        let mut all = Vec::new(alloc);
+        for (number, module) in self.modules.iter().enumerate() {
+            let asked = match clauses.get(number) {
+                None => 0,
+                Some(count) => *count,
+            };
+            all.push(self.places_of(alloc, &**module, asked)?)?;
+        }
+        Ok(all)
+    }
+
+    /// The module in this place.
+    fn module_in(&self, number: usize) -> Option<&'a LoadedModule>
+        ensures { option_map module_view (option_copied result) ≡ slice_get (module_views self.now.modules.now) number }
+    {
+        match self.modules.get(number) {
+            None => None,
+            Some(module) => Some(&**module),
+        }
+    }
+
+    /// What the module in this place exports, if there is one.
+    fn exports_in<'t>(&self, places: &'t [Option<Places<'a>>], number: usize) -> Exports<'t, 'a>
+        requires { AllPlaced (names_of self.now.code.now self.now.modules.now) places.now }
+        ensures code { result.code.now ≡ self.now.code.now }
+        ensures module_is { option_map module_view (option_copied result.module) ≡ slice_get (module_views self.now.modules.now) number }
+    {
+        Exports {
+            code: self.code,
+            module: self.module_in(number),
+            places: places_at(places, number),
+        }
+    }
+
+    /// What the module of a file that a load names exports.
     #[tactic(auto, unfolding(crate::specs::Imports::module_named))]
-    fn module_named(&self, label: &Label) -> Result<Option<&'a LoadedModule>, AllocError>
-        ensures { IfOk result (λ m. option_map module_view (option_copied m) ≡ module_named (loaded_of self.now) label.now) }
+    fn exports_of<'t>(
+        &self,
+        places: &'t [Option<Places<'a>>],
+        label: &Label,
+    ) -> Result<Exports<'t, 'a>, AllocError>
+        requires { AllPlaced (names_of self.now.code.now self.now.modules.now) places.now }
+        ensures code { IfOk result (λ e. e.code.now ≡ self.now.code.now) }
+        ensures named { IfOk result (λ e. option_map module_view (option_copied e.module) ≡ module_named (loaded_of self.now) label.now) }
     {
         let Some(number) = self.files.number(label)? else {
-            return Ok(None);
+            return Ok(Exports {
+                code: self.code,
+                module: None,
+                places: None,
+            });
         };
-        match self.modules.get(number) {
-            None => Ok(None),
-            Some(module) => Ok(Some(&**module)),
-        }
+        Ok(self.exports_in(places, number))
     }
 
     /// Adds the values of the clauses of a load, which names this file.
     fn add_load(
         &self,
+        places: &[Option<Places<'a>>],
         load: &LoadStmt,
         label: &Label,
         values: &mut Vec<Value>,
     ) -> Result<(), SourceErr>
+        requires { AllPlaced (names_of self.now.code.now self.now.modules.now) places.now }
         ensures { Gives (λ _. values.new.items) Bad result (clause_values self.now.code.now (module_named (loaded_of self.now) label.now) load.now.line values.old.items load.now.clauses) }
     {
-        let module = self.module_named(label)?;
-        clause_values(
-            self.code,
-            module,
-            load.line,
-            values,
-            load.clauses.as_slice(),
-        )
+        let exports = self.exports_of(places, label)?;
+        exports.clause_values(load.line, values, load.clauses.as_slice())
     }
 
-    /// The values of the clauses of loads, which name these files; or the fault of the first bad clause (F33, F34).
+    /// The values of the clauses of loads, which name these files, by the places of the modules' names.
     #[tactic(auto, unfolding(crate::specs::Imports::imports))]
-    pub(crate) fn imports(
+    fn imports_by(
         &self,
         alloc: Global,
+        places: &[Option<Places<'a>>],
         loads: &[LoadStmt],
         labels: &[Label],
     ) -> Result<Vec<Value>, SourceErr>
+        requires { AllPlaced (names_of self.now.code.now self.now.modules.now) places.now }
         ensures { Gives items Bad result (imports (loaded_of self.now) [] loads.now labels.now) }
     {
         let mut values = Vec::new(alloc);
@@ -164,9 +170,23 @@ impl<'a> LoadedFiles<'a> {
             let Some((label, rest)) = left.split_first() else {
                 return Ok(values);
             };
-            self.add_load(load, label, &mut values)?;
+            self.add_load(places, load, label, &mut values)?;
             left = rest;
         }
         Ok(values)
+    }
+
+    /// The values of the clauses of loads, which name these files; or the fault of the first bad clause (F33, F34).
+    pub(crate) fn imports(
+        &self,
+        alloc: Global,
+        loads: &[LoadStmt],
+        labels: &[Label],
+    ) -> Result<Vec<Value>, SourceErr>
+        ensures { Gives items Bad result (imports (loaded_of self.now) [] loads.now labels.now) }
+    {
+        let clauses = self.clauses_by_module(alloc, loads, labels)?;
+        let places = self.all_places(alloc, &clauses)?;
+        self.imports_by(alloc, &places, loads, labels)
     }
 }

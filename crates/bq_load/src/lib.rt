@@ -12,6 +12,8 @@
 //! - `outcome`: a module that was evaluated, and one that failed;
 //! - `source`: what is read of a module before it is evaluated;
 //! - `loading`: what decides the outcomes of all modules;
+//! - `places`: the places of names, for those who look for many;
+//! - `exports`: what a module gives to the files that load it;
 //! - `imports`: what a file gets of the modules that it loads;
 //! - `gate`: who is told of each evaluation;
 //! - `evaluation`: what the statements of a file give;
@@ -26,6 +28,7 @@
 
 mod evaluation;
 mod evaluator;
+mod exports;
 mod gate;
 mod imports;
 mod lines;
@@ -35,6 +38,7 @@ mod loading;
 mod opening;
 mod outcome;
 mod packages;
+mod places;
 mod pool;
 mod results;
 mod source;

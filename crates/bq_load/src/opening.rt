@@ -3,7 +3,13 @@
 ghost use Rattle.std.specs.Prelude.{◌≡◌, ◌<◌, ◌≤◌, length, All, IfOk, vec_len};
 ghost use Rattle.bq_board.specs.Board.{blank};
 ghost use Rattle.bq_board.specs.Seats.{IsSeatOf, base_of, view_of};
-ghost use Rattle.bq_load.specs.Sources.{loading_in};
+ghost use Rattle.bq_discover.specs.LoadGraph.{IsLoadGraph, inputs_of};
+ghost use Rattle.bq_outcome.specs.Outcome.{outcome};
+ghost use Rattle.bq_workers.specs.Closing.{ClosesWith};
+ghost use Rattle.bq_workers.specs.Work.{IsImport};
+ghost use Rattle.bq_load.specs.Views.{module_view};
+ghost use Rattle.bq_load.specs.Sources.{loading_of, loading_in};
+ghost use Rattle.bq_load.specs.Evaluation.{means};
 ghost use Rattle.bq_load.specs.Pool.{parts_of, loads_of};
 
 use crate::loading::Loading;
@@ -15,7 +21,8 @@ use bq_schema::Schema;
 use std::alloc::{AllocError, Global};
 
 impl<'a> Pool<'a> {
-    /// A pool of the modules of a load graph, none of them begun, and its seats, which have done nothing. Each evaluation may take so many steps.
+    /// A pool of the modules of the workspace's load graph, none of them begun, and its seats, which have done nothing. Each evaluation may take
+    /// so many steps.
     pub fn open(
         alloc: Global,
         workspace: &'a Workspace,
@@ -24,7 +31,8 @@ impl<'a> Pool<'a> {
         graph: LoadGraph,
         seats: usize,
     ) -> Result<(Pool<'a>, Vec<PoolSeat<'a>>), AllocError>
-        requires { (0 < seats) × (seats ≤ MAX_SEATS) }
+        requires graph { IsLoadGraph (inputs_of workspace.now schema.now) graph }
+        requires seats { (0 < seats) × (seats ≤ MAX_SEATS) }
         ensures decides { IfOk result (λ r. parts_of r.0 ≡ loading_in workspace.now schema.now limit graph) }
         ensures edges { IfOk result (λ r. loads_of r.0 ≡ graph.edges) }
         ensures count { IfOk result (λ r. vec_len r.1 ≡ seats) }
@@ -60,9 +68,12 @@ impl<'a> Pool<'a> {
         loading.into_packages()
     }
 
-    /// Gives up the pool, and the values of modules that nobody fetched.
+    /// Gives up the pool, and the modules that were posted and that nobody fetched. Its board ends in a state that meets the board's rule, in
+    /// which this seat has done what its view says; what was posted and not fetched is what the recursion along loads gives that module.
+    /// Nothing is known of seats dropped before.
     pub fn close(self, seat: PoolSeat<'a>)
         requires seat { IsSeatOf self.shared.board seat.place }
+        ensures rule { ClosesWith self.entry.shared.board seat.entry.place (λ base m x. IsImport module_view (outcome (means (loading_of base.evaluator.value)) base.graph.value) m x.number x.value) }
     {
         let Pool { shared } = self;
         shared.close(seat);

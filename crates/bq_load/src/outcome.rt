@@ -10,7 +10,7 @@ use std::sync::Arc;
 /// A module that was evaluated.
 #[derive(Drop)]
 pub struct LoadedModule {
-    /// Its globals, and what they hold.
+    /// Its globals, and what they hold, for those that load it. Nobody loads a BUILD file: of one it is empty.
     pub frozen: Arc<Frozen>,
     /// What it printed, in order.
     pub prints: Vec<Bytes>,

@@ -13,7 +13,7 @@ use Rattle.bq_load.specs.Loaded.{fault_lines, packages_in, print_lines}
 use Rattle.bq_load.specs.Views.{OutcomeView}
 use Rattle.bq_query.specs.declared.query_error.QueryErr.{QueryErr}
 use Rattle.bq_query_check.specs.Checked.{IsChecked, IsWrong}
-use Rattle.bq_query_check.specs.declared.parse.CheckedQuery.{CheckedQuery}
+use Rattle.bq_query_check.specs.declared.checked.CheckedQuery.{CheckedQuery}
 use Rattle.bq_report.specs.Report.{Inside, ReportView, Reports}
 use Rattle.bq_report.specs.declared.ending.Refusal.TheVariants.{Query, Schema, TooManyModules}
 use Rattle.bq_run.specs.WorkspaceRun.{refused}

@@ -1,6 +1,14 @@
--- what a map of patterns answers, and what it is after one more is put in
-pub mod Tables
--- patterns of texts one after another
+-- what must hold, one after another
+pub mod Needs
+-- lists of arguments
+pub mod Items
+-- what must hold of calls
+pub mod Calls
+-- the formulas of checked queries
+pub mod Says
+-- the further operands of a chain
+pub mod Steps
+-- what is read of a text
 pub mod Texts
--- the faults of a text are those of its tree
-pub mod Wrong
+-- variables are bound by the lets around them
+pub mod Closed

@@ -1,17 +1,32 @@
 //! The bytes of a query come in; a query that can be answered goes out, or its error, with no target known yet.
 //!
-//! The promise: [`parse_query`] answers the one tree of the text, with its patterns compiled, or the error that comes first: Q1 where
-//! the text has no tree, else the first in the order of the text of Q2, Q3, Q4, Q7 and Q8 (`specs/Checked.antt`). Which patterns
-//! are refused says the grammar of `regex`; whether one that the grammar reads is too big says `regex` alone.
+//! The promise: [`parse_query`] answers what the one tree of the text says, with its variables and functions known, its numbers read and
+//! its patterns compiled (`specs/FormulaOf.antt`), or the error that comes first: Q1 where the text has no tree, else the first in the order of the
+//! text of Q2, Q3, Q4, Q7 and Q8 (`specs/Checked.antt`). Which patterns are refused says the grammar of `regex`; whether one that the
+//! grammar reads is too big says `regex` alone.
 //!
 //! In reading order:
 //!
-//! - `patterns`: the patterns of a query, each compiled once;
+//! - `pattern`: a pattern of a query, compiled;
+//! - `formula`: what a query that was checked says;
+//! - `checked`: queries that were checked;
+//! - `number`: numbers of edges;
+//! - `arguments`: arguments that are one word;
+//! - `names`: the names that lets bind;
+//! - `trees`: trees, each with what it says;
 //! - `parse`: whole texts.
 #![tactic(auto)]
 
+mod arguments;
+mod checked;
+mod formula;
+mod names;
+mod number;
 mod parse;
-mod patterns;
+mod pattern;
+mod trees;
 
-pub use parse::{CheckedQuery, parse_query};
-pub use patterns::Patterns;
+pub use checked::CheckedQuery;
+pub use formula::{Binary, ChainStep, SetExpr, Unary};
+pub use parse::parse_query;
+pub use pattern::QueryPattern;

@@ -1,5 +1,5 @@
--- What is wrong with the tree of a query: the first fault in the order of its text, at one place that of the least number; and the
--- patterns that come before it, in order. A pattern that is no regular expression is a fault at its place (Q4).
+-- What must hold of the tree of a query, in the order of its text: that there is no fault at a place, at one place that of the least number
+-- first, and that a text is a pattern. The first of these that doesn't hold is the query's error.
 use Rattle.std.specs.Prelude.{ℕ, ◌+◌, ◌==◌, ◌&&◌, ◌||◌, nat_le, not, Bool, true, false, List, [], ◌∷◌, ◌++◌, length, Option, Some, None, is_some, Result, Ok, Err, bytes_eq, if◌then◌else◌, ◌≡◌, ◌≢◌}
 use Rattle.std.specs.List.{list_any, list_all}
 use Rattle.bq_label.specs.Label.{package_at}
@@ -74,35 +74,25 @@ is_number w = not (length w == 0) && (nat_le (length w) 9 && list_all is_digit w
 
 -- ---- trees
 
--- the patterns found so far, and the first fault after them
-abbrev pub Judged : Type 0
-Judged = List (List ℕ) × Fault
+-- what must hold at a place of a query: that it has no such fault, or that a text is a regular expression (Q4)
+pub data Need : Type 0 where
+  no_fault : Fault → Need
+  regex : List ℕ → Need
 
--- the first fault ends it
-infixl 10 ◌>>=◌
-abbrev pub ◌>>=◌ : Judged → (List (List ℕ) → Judged) → Judged
-(ps, None) >>= f = f ps
-(ps, Some why) >>= f = (ps, Some why)
-
--- what a walk ensures of the patterns found so far, out of memory aside
-abbrev pub Says : Judged → Result (Unit {0}) QueryErr → List (List ℕ) → Type 0
-Says judged (Ok x) ps = judged ≡ (ps, None)
-Says judged (Err why) ps = why ≢ e.Memory → judged ≡ (ps, Some why)
-
--- what is known of a part of a tree: the word that it is, if it is one; the faults at its first token; and what is wrong in all of it,
--- where the lets around it bind these names and these patterns were found before it
+-- what is known of a part of a tree: the word that it is, if it is one; the faults at its first token; and what must hold of all of it,
+-- in the order of its text, where the lets around it bind these names
 pub record Part : Type 0 where
   pub word : Option (List ℕ)
   pub at_first : List (List ℕ) → Fault
-  pub all : List (List ℕ) → List (List ℕ) → Judged
+  pub all : List (List ℕ) → List Need
 
 -- an argument that has to be one word and is not: Q8 at its first token, where a lesser number is a fault of the token too
 abbrev pub no_word : Part → List (List ℕ) → Fault
 no_word x names = first_of (x.at_first names) (Some e.Arguments)
 
-abbrev pub pattern_by : Option (List ℕ) → Part → List (List ℕ) → List (List ℕ) → Judged
-pattern_by (Some w) x names ps = (ps ++ w ∷ [], None)
-pattern_by None x names ps = (ps, no_word x names)
+abbrev pub pattern_by : Option (List ℕ) → Part → List (List ℕ) → Need
+pattern_by (Some w) x names = regex w
+pattern_by None x names = no_fault (no_word x names)
 
 abbrev pub attribute_by : Option (List ℕ) → Part → List (List ℕ) → Fault
 attribute_by (Some w) x names = None
@@ -113,11 +103,11 @@ number_by (Some w) x names = if is_number w then None else Some e.Arguments
 number_by None x names = no_word x names
 
 -- an argument of a kind; a number of edges has none
-abbrev pub argument : Option ArgumentKind → Part → List (List ℕ) → List (List ℕ) → Judged
-argument (Some kind.Query) x names ps = x.all names ps
-argument (Some kind.Pattern) x names ps = pattern_by x.word x names ps
-argument (Some kind.Attribute) x names ps = (ps, attribute_by x.word x names)
-argument None x names ps = (ps, number_by x.word x names)
+abbrev pub argument : Option ArgumentKind → Part → List (List ℕ) → List Need
+argument (Some kind.Query) x names = x.all names
+argument (Some kind.Pattern) x names = pattern_by x.word x names ∷ []
+argument (Some kind.Attribute) x names = no_fault (attribute_by x.word x names) ∷ []
+argument None x names = no_fault (number_by x.word x names) ∷ []
 
 abbrev pub first_kind : List ArgumentKind → Option ArgumentKind
 first_kind [] = None
@@ -127,44 +117,37 @@ abbrev pub other_kinds : List ArgumentKind → List ArgumentKind
 other_kinds [] = []
 other_kinds (k ∷ ks) = ks
 
-abbrev pub arguments : List ArgumentKind → List Part → List (List ℕ) → List (List ℕ) → Judged
-arguments ks [] names ps = (ps, None)
-arguments ks (x ∷ xs) names ps = argument (first_kind ks) x names ps >>= λ qs. arguments (other_kinds ks) xs names qs
+abbrev pub arguments : List ArgumentKind → List Part → List (List ℕ) → List Need
+arguments ks [] names = []
+arguments ks (x ∷ xs) names = argument (first_kind ks) x names ++ arguments (other_kinds ks) xs names
 
-abbrev pub kinds_by : Option Function → List ArgumentKind
-kinds_by None = []
-kinds_by (Some f) = arguments_of f
+abbrev pub parts : List Part → List (List ℕ) → List Need
+parts [] names = []
+parts (x ∷ xs) names = x.all names ++ parts xs names
 
-abbrev pub parts : List Part → List (List ℕ) → List (List ℕ) → Judged
-parts [] names ps = (ps, None)
-parts (x ∷ xs) names ps = x.all names ps >>= λ qs. parts xs names qs
+-- the function with these arguments
+abbrev pub call_of : Function → List Part → List (List ℕ) → List Need
+call_of f xs names = no_fault (if fits f (length xs) then None else Some e.Arguments) ∷ arguments (arguments_of f) xs names
 
-abbrev pub call : List ℕ → List Part → List (List ℕ) → List (List ℕ) → Judged
-call f xs names ps = (ps, function f (length xs)) >>= λ qs. arguments (kinds_by (function_named f)) xs names qs
+abbrev pub call_by : Option Function → List ℕ → List Part → List (List ℕ) → List Need
+call_by None name xs names = no_fault (Some (unknown name)) ∷ []
+call_by (Some f) name xs names = call_of f xs names
 
 -- a part that is no word, with no fault at its first token
-abbrev pub larger : (List (List ℕ) → List (List ℕ) → Judged) → Part
+abbrev pub larger : (List (List ℕ) → List Need) → Part
 larger all = record { word = None; at_first = λ names. None; all = all }
 
 abbrev pub operation_step : Operation-F Part Part → Part
 operation_step o = o.operand
 
 abbrev pub query_step : Query-F Part Part → Part
-query_step (tree.Word w) = record { word = Some w; at_first = λ names. word w; all = λ names ps. (ps, word w) }
-query_step (tree.Variable n) = record { word = None; at_first = λ names. variable names n; all = λ names ps. (ps, variable names n) }
+query_step (tree.Word w) = record { word = Some w; at_first = λ names. word w; all = λ names. no_fault (word w) ∷ [] }
+query_step (tree.Variable n) = record { word = None; at_first = λ names. variable names n; all = λ names. no_fault (variable names n) ∷ [] }
 query_step (tree.Parenthesized x) = larger x.all
-query_step (tree.Set ws) = larger (λ names ps. (ps, words ws))
-query_step (tree.Call f xs) = record {
-  word = None;
-  at_first = λ names. function f (length xs);
-  all = call f xs;
-}
-query_step (tree.Let n x y) = larger (λ names ps. x.all names ps >>= λ qs. y.all (names ++ n ∷ []) qs)
-query_step (tree.Chain x os) = record {
-  word = None;
-  at_first = x.at_first;
-  all = λ names ps. x.all names ps >>= λ qs. parts os names qs;
-}
+query_step (tree.Set ws) = larger (λ names. no_fault (words ws) ∷ [])
+query_step (tree.Call f xs) = record { word = None; at_first = λ names. function f (length xs); all = λ names. call_by (function_named f) f xs names }
+query_step (tree.Let n x y) = larger (λ names. x.all names ++ y.all (names ++ n ∷ []))
+query_step (tree.Chain x os) = record { word = None; at_first = x.at_first; all = λ names. x.all names ++ parts os names }
 
 abbrev pub part_of : Query → Part
 part_of = fold-Query Part Part query_step operation_step
@@ -172,6 +155,6 @@ part_of = fold-Query Part Part query_step operation_step
 abbrev pub operation_part : Operation → Part
 operation_part = fold-Operation Part Part query_step operation_step
 
--- a whole query: no name is bound, and no pattern is found
-abbrev pub verdict : Query → Judged
-verdict x = (part_of x).all [] []
+-- a whole query: no name is bound
+abbrev pub needs : Query → List Need
+needs x = (part_of x).all []

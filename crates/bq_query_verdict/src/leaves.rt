@@ -75,7 +75,8 @@ pub fn variable(names: &[Bytes], name: &Bytes) -> Result<(), QueryErr>
     Err(QueryErr::UnboundVariable(name.share()?))
 }
 
-fn unknown(name: &Bytes) -> Result<QueryErr, AllocError>
+/// A name that is no function's that can be answered: Q3 where Bazel has a function of this name, Q2 where it has none.
+pub fn unknown(name: &Bytes) -> Result<QueryErr, AllocError>
     ensures { IfOk result (λ e. e ≡ spec.unknown name.now) }
 {
     if is_left_out(name.as_slice()) {

@@ -1,16 +1,17 @@
-//! The tree of a query comes in; what is wrong with it goes out, and the patterns in it that are still to be tested.
+//! The parts of a tree of a query come in, each by itself; what is wrong with it there goes out.
 //!
-//! The promise: [`judge`] answers the first fault in the order of the text, of Q2, Q3, Q7 and Q8, at one place that of the least
-//! number, and gives the patterns before it, in order (`specs/Verdict.antt`). Whether one of these is Q4 says `bq_pattern`: the first
-//! pattern that it refuses comes before the fault.
+//! The promise: a word, a variable, a function with so many arguments, and a part that has to be a word and is not, each have the fault
+//! of Q2, Q3, Q7 and Q8 that the definition says, at one place that of the least number (`specs/Verdict.antt`). The definition goes on to
+//! what must hold of a whole tree, in the order of its text; `bq_query_check` goes along it.
 //!
 //! In reading order:
 //!
 //! - `leaves`: words, variables and the names of functions, each by itself;
-//! - `trees`: trees.
+//! - `first`: the faults at the first token of a part.
 #![tactic(auto)]
 
+mod first;
 mod leaves;
-mod trees;
 
-pub use trees::judge;
+pub use first::no_word;
+pub use leaves::{is_number, unknown, variable, words};

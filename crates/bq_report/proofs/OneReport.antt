@@ -1,8 +1,8 @@
 -- A workspace that is loaded and a query have one report.
 use Rattle.std.proofs.Common.{◌≡◌, ◌∙◌, ℕ, List, [], None, Some, Result, Ok, ap, subst, sym}
 use Rattle.bq_label.specs.Label.{PackageParts}
-use Rattle.bq_query_check.specs.Patterns.{Table, table_of}
-use Rattle.bq_query_check.specs.declared.parse.CheckedQuery.{CheckedQuery}
+use Rattle.bq_query_check.specs.Formula.{Formula, formula_of}
+use Rattle.bq_query_check.specs.declared.checked.CheckedQuery.{CheckedQuery}
 use Rattle.bq_query_verdict.specs.Verdict.{Fault}
 use Rattle.bq_schema.specs.Schema.{Rules}
 use Rattle.bq_target.specs.declared.target.Target.{Target}
@@ -10,7 +10,6 @@ use Rattle.bq_target_graph.specs.Graph.{GraphParts}
 use Rattle.bq_target_graph.specs.Edges.{DependsOn, IsGraphOf}
 use Rattle.bq_answer.specs.Answer.{facts_of}
 use Rattle.bq_answer.specs.Faults.{fault_in}
-use Rattle.bq_answer.specs.Formula.{Formula, formula_of}
 use Rattle.bq_answer.specs.Printed.{printed}
 use Rattle.bq_answer.specs.declared.print.OutputForm.{OutputForm}
 use Rattle.bq_report.specs.declared.ending.Refusal.{Refusal}
@@ -27,15 +26,15 @@ reply_at text end = record { text = text; end = end }
 report_at : List ℕ → ReplyView → ReportView
 report_at faults reply = record { faults = faults; answer = reply.text; end = reply.end }
 
-module _ (ts : List Target) (ps : List PackageParts) (rules : Rules) (table : Table) (g h : List (List ℕ)) (to : PairsIn g h) (from : PairsIn h g) where
-  same_answer : (x : Formula) (v w : List ℕ) → IsAnswer (world ts ps rules table g) x v → IsAnswer (world ts ps rules table h) x w → v ≡ w
+module _ (ts : List Target) (ps : List PackageParts) (rules : Rules) (g h : List (List ℕ)) (to : PairsIn g h) (from : PairsIn h g) where
+  same_answer : (x : Formula) (v w : List ℕ) → IsAnswer (world ts ps rules g) x v → IsAnswer (world ts ps rules h) x w → v ≡ w
   same_answer x v w a b =
-      let s = same_set ts ps rules table g h to from x [] in
+      let s = same_set ts ps rules g h to from x [] in
       one_list v w a.ascending b.ascending
       (λ y. (λ c. (b.members y).1 (s.0 y ((a.members y).0 c)), λ c. (a.members y).1 (s.1 y ((b.members y).0 c))))
 
   same_reply_by : (fault : Fault) (x : Formula) (form : OutputForm) (status : Status) (r s : ReplyView)
-      → RepliesBy fault (world ts ps rules table g) x form status r → RepliesBy fault (world ts ps rules table h) x form status s → r ≡ s
+      → RepliesBy fault (world ts ps rules g) x form status r → RepliesBy fault (world ts ps rules h) x form status s → r ≡ s
   unfolding reply_at
   same_reply_by None x form status r s a b =
       let same = same_answer x a.0 b.0 a.1 b.1 in
@@ -43,31 +42,30 @@ module _ (ts : List Target) (ps : List PackageParts) (rules : Rules) (table : Ta
   same_reply_by (Some why) x form status r s a b = a ∙ sym b
 
   same_reply : (x : Formula) (form : OutputForm) (status : Status) (r s : ReplyView)
-      → Replies (world ts ps rules table g) x form status r → Replies (world ts ps rules table h) x form status s → r ≡ s
+      → Replies (world ts ps rules g) x form status r → Replies (world ts ps rules h) x form status s → r ≡ s
   same_reply x form status r s a b =
-      let here = subst (λ (f : Fault). RepliesBy f (world ts ps rules table h) x form status s) (sym (same_fault ts ps rules table g h x)) b in
-      same_reply_by (fault_in (world ts ps rules table g) x) x form status r s a here
+      let here = subst (λ (f : Fault). RepliesBy f (world ts ps rules h) x form status s) (sym (same_fault ts ps rules g h x)) b in
+      same_reply_by (fault_in (world ts ps rules g) x) x form status r s a here
 
 module _ (i : Inside) (rules : Rules) (query : CheckedQuery) (form : OutputForm) where
   replies : GraphParts → ReportView → Type 0
-  replies g r = Replies (facts_of g rules query) (formula_of query.tree) form (status_by (all_faults i)) (reply_at r.answer r.end)
+  replies g r = Replies (facts_of g rules) (formula_of query.set) form (status_by (all_faults i)) (reply_at r.answer r.end)
 
   same_reports : (g h : GraphParts) (r s : ReportView) → IsGraphOf i.packages g → IsGraphOf i.packages h → replies g r → replies h s → reply_at r.answer r.end ≡ reply_at s.answer s.end
   unfolding replies
   same_reports g h r s made other a b =
       let t : h.targets ≡ g.targets = other.targets ∙ sym made.targets in
       let p : h.packages ≡ g.packages = other.packages ∙ sym made.packages in
-      let table = table_of query.patterns in
       let to : PairsIn g.edges h.edges = λ x y c. (other.pairs x y).1 (subst (λ (ts : List Target). DependsOn ts x y) (sym t) ((made.pairs x y).0 c)) in
       let from : PairsIn h.edges g.edges = λ x y c. (made.pairs x y).1 (subst (λ (ts : List Target). DependsOn ts x y) t ((other.pairs x y).0 c)) in
-      let f = formula_of query.tree in
+      let f = formula_of query.set in
       let status = status_by (all_faults i) in
       let reply = reply_at s.answer s.end in
-      let moved : Replies (world g.targets h.packages rules table h.edges) f form status reply =
-      subst (λ (ts : List Target). Replies (world ts h.packages rules table h.edges) f form status reply) t b in
-      let here : Replies (world g.targets g.packages rules table h.edges) f form status reply =
-      subst (λ (ps : List PackageParts). Replies (world g.targets ps rules table h.edges) f form status reply) p moved in
-      same_reply g.targets g.packages rules table g.edges h.edges to from f form status (reply_at r.answer r.end) reply a here
+      let moved : Replies (world g.targets h.packages rules h.edges) f form status reply =
+      subst (λ (ts : List Target). Replies (world ts h.packages rules h.edges) f form status reply) t b in
+      let here : Replies (world g.targets g.packages rules h.edges) f form status reply =
+      subst (λ (ps : List PackageParts). Replies (world g.targets ps rules h.edges) f form status reply) p moved in
+      same_reply g.targets g.packages rules g.edges h.edges to from f form status (reply_at r.answer r.end) reply a here
 
 pub one_report : OneReport
 unfolding report_at reply_at replies

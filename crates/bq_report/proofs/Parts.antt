@@ -9,9 +9,9 @@ use Rattle.bq_fault_line.specs.LineText.{line_text}
 use Rattle.bq_target.specs.Package.{PackageTargets}
 use Rattle.bq_target_graph.specs.Graph.{GraphParts}
 use Rattle.bq_target_graph.specs.Edges.{IsGraphOf}
-use Rattle.bq_query_check.specs.declared.parse.CheckedQuery.{CheckedQuery}
+use Rattle.bq_query_check.specs.declared.checked.CheckedQuery.{CheckedQuery}
+use Rattle.bq_query_check.specs.Formula.{formula_of}
 use Rattle.bq_answer.specs.Answer.{facts_of}
-use Rattle.bq_answer.specs.Formula.{formula_of}
 use Rattle.bq_answer.specs.declared.print.OutputForm.{OutputForm}
 use Rattle.bq_report.specs.Ending.{status_by}
 use Rattle.bq_report.specs.declared.ending.Refusal.{Refusal}
@@ -20,7 +20,7 @@ use Rattle.bq_report.specs.declared.reply.Reply.{Reply}
 use Rattle.bq_report.specs.Report.{Inside, Replies, RepliesOver, Reports, all_faults, reply_view}
 
 pub over : (packages : List PackageTargets) (rules : Rules) (query : CheckedQuery) (form : OutputForm) (status : Status) (g : GraphParts) (result : Result Reply AllocError) → IsGraphOf packages g
-    → IfOk result (λ r. Replies (facts_of g rules query) (formula_of query.tree) form status (reply_view r)) → IfOk result (λ r. RepliesOver packages rules query form status (reply_view r))
+    → IfOk result (λ r. Replies (facts_of g rules) (formula_of query.set) form status (reply_view r)) → IfOk result (λ r. RepliesOver packages rules query form status (reply_view r))
 over packages rules query form status g (Ok r) made h = record { graph = g; made = made; replies = h }
 over packages rules query form status g (Err e) made h = tt
 
@@ -31,5 +31,5 @@ whole i rules query form lines faults answer end same text r = record {
   graph = r.graph;
   made = r.made;
   faults = text ∙ ap (λ (ls : List FaultLine). i.prints ++ flat_map line_text ls) same;
-  reply = subst (λ (ls : List FaultLine). Replies (facts_of r.graph rules query) (formula_of query.tree) form (status_by ls) (record { text = answer; end = end })) same r.replies;
+  reply = subst (λ (ls : List FaultLine). Replies (facts_of r.graph rules) (formula_of query.set) form (status_by ls) (record { text = answer; end = end })) same r.replies;
 }

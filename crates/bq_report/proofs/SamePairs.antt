@@ -1,19 +1,21 @@
 -- What a formula stands for hangs on the pairs of a graph alone, and not on how its rows are written.
-use Rattle.std.proofs.Common.{◌≡◌, ℕ, List, [], ◌∷◌, inl, inr, refl, length}
+use Rattle.std.proofs.Common.{◌≡◌, ℕ, List, [], ◌∷◌, ◌++◌, inl, inr, refl, length}
 use Rattle.std.specs.List.{AllByRecursion}
 use Rattle.bq_graph.specs.Paths.{Pair, IsPath, Deps, DepsWithin, Rdeps, RdepsWithin, OnPaths}
 use Rattle.bq_label.specs.Label.{PackageParts}
-use Rattle.bq_query_check.specs.Patterns.{Table}
+use Rattle.bq_query_check.specs.declared.formula.Unary.{Unary}
+use Rattle.bq_query_check.specs.declared.formula.Unary.TheVariants as unary
+use Rattle.bq_query_check.specs.declared.formula.Binary.{Binary}
+use Rattle.bq_query_check.specs.declared.formula.Binary.TheVariants as binary
+use Rattle.bq_query_check.specs.Formula.{Formula, named, variable, let_in, combined, one, two}
 use Rattle.bq_query_tree.specs.declared.tree.Operator.{Operator}
 use Rattle.bq_query_tree.specs.declared.tree.Operator.TheVariants as op
 use Rattle.bq_schema.specs.Schema.{Rules}
 use Rattle.bq_target.specs.declared.target.Target.{Target}
 use Rattle.bq_answer.specs.Faults.{fault_in}
-use Rattle.bq_answer.specs.Formula.{Formula, nothing, named, bound, binding, combined, deps, deps_within, rdeps, rdeps_within, allpaths, chosen, attr}
-use Rattle.bq_answer.specs.Stands.{Stands, Environment, Combined, Chosen}
+use Rattle.bq_answer.specs.Functions.{OfOne, OfTwo, Combined}
+use Rattle.bq_answer.specs.Stands.{Stands, Bound}
 use Rattle.bq_answer.specs.World.{Facts}
-use Rattle.bq_answer.specs.declared.leaves.Choice.{Choice}
-use Rattle.bq_answer.specs.declared.leaves.Choice.TheVariants as choice
 use Rattle.bq_answer.proofs.Same.{Within, set_as}
 
 -- the same targets
@@ -62,75 +64,60 @@ combined_in op.Except A C B D f k y e = (f.0 y e.0, λ d. e.1 (k.1 y d))
 
 -- ---- worlds that differ in their edges
 
-abbrev pub world : List Target → List PackageParts → Rules → Table → List (List ℕ) → Facts
-world ts ps rules table edges = record { graph = record { targets = ts; packages = ps; edges = edges }; schema = rules; patterns = table }
+abbrev pub world : List Target → List PackageParts → Rules → List (List ℕ) → Facts
+world ts ps rules edges = record { graph = record { targets = ts; packages = ps; edges = edges }; schema = rules }
 
-module _ (ts : List Target) (ps : List PackageParts) (rules : Rules) (table : Table) (g h : List (List ℕ)) where
-  chosen_in : (c : Choice) (word : List ℕ) (P Q : ℕ → Type 0) → Within P Q → Within (Chosen (world ts ps rules table g) c word P) (Chosen (world ts ps rules table h) c word Q)
-  chosen_in choice.Kind word P Q f y e = (f y e.0, e.1)
-  chosen_in choice.Filter word P Q f y e = (f y e.0, e.1)
-  chosen_in choice.Labels word P Q f y e = (e.0, f e.0 e.1, e.2)
-
+module _ (ts : List Target) (ps : List PackageParts) (rules : Rules) (g h : List (List ℕ)) where
   -- what is missing hangs on the targets and packages alone
-  pub same_fault : (x : Formula) → fault_in (world ts ps rules table g) x ≡ fault_in (world ts ps rules table h) x
-  same_fault nothing = refl
+  pub same_fault : (x : Formula) → fault_in (world ts ps rules g) x ≡ fault_in (world ts ps rules h) x
   same_fault (named words) = refl
-  same_fault (bound name) = refl
-  same_fault (binding name a b) = rw (same_fault a, same_fault b) refl
+  same_fault (variable k) = refl
+  same_fault (let_in a b) = rw (same_fault a, same_fault b) refl
   same_fault (combined o a b) = rw (same_fault a, same_fault b) refl
-  same_fault (deps a) = same_fault a
-  same_fault (deps_within n a) = same_fault a
-  same_fault (rdeps u a) = rw (same_fault u, same_fault a) refl
-  same_fault (rdeps_within n u a) = rw (same_fault u, same_fault a) refl
-  same_fault (allpaths a b) = rw (same_fault a, same_fault b) refl
-  same_fault (chosen c word a) = same_fault a
-  same_fault (attr name p a) = same_fault a
+  same_fault (one f a) = same_fault a
+  same_fault (two f a b) = rw (same_fault a, same_fault b) refl
 
-module _ (ts : List Target) (ps : List PackageParts) (rules : Rules) (table : Table) (g h : List (List ℕ)) (to : PairsIn g h) (from : PairsIn h g) where
-  abbrev left : Formula → Environment → ℕ → Type 0
-  left x env y = Stands (world ts ps rules table g) x env y
+module _ (ts : List Target) (ps : List PackageParts) (rules : Rules) (g h : List (List ℕ)) (to : PairsIn g h) where
+  one_in : (f : Unary) (P Q : ℕ → Type 0) → Within P Q → Within (OfOne (world ts ps rules g) f P) (OfOne (world ts ps rules h) f Q)
+  one_in unary.Deps P Q k y e = deps_in g h to P Q k y e
+  one_in (unary.DepsWithin n) P Q k y e = deps_within_in g h to n P Q k y e
+  one_in (unary.Kind re) P Q k y e = (k y e.0, e.1)
+  one_in (unary.Filter re) P Q k y e = (k y e.0, e.1)
+  one_in (unary.Attr name re) P Q k y e = (k y e.0, e.1)
+  one_in (unary.Labels name) P Q k y e = (e.0, k e.0 e.1, e.2)
 
-  abbrev right : Formula → Environment → ℕ → Type 0
-  right x env y = Stands (world ts ps rules table h) x env y
+  two_in : (f : Binary) (A C B D : ℕ → Type 0) → Within A C → Within B D → Within (OfTwo (world ts ps rules g) f A B) (OfTwo (world ts ps rules h) f C D)
+  two_in binary.Rdeps A C B D j k y e = rdeps_in g h to A C B D j k y e
+  two_in (binary.RdepsWithin n) A C B D j k y e = rdeps_within_in g h to n A C B D j k y e
+  two_in binary.Allpaths A C B D j k y e = paths_in g h to A C B D j k y e
 
-  pub same_set : (x : Formula) (env : Environment) → Same (left x env) (right x env)
-  same_set nothing env = (λ y e. e, λ y e. e)
-  same_set (named words) env = (λ y e. e, λ y e. e)
-  same_set (bound name) env = (λ y e. e, λ y e. e)
-  same_set (binding name a b) env =
-      let s = same_set a env in (
-        λ y e. (e.0, set_as (left a env) (right a env) (length ts) e.0 s.0 s.1 e.1, (same_set b ((name, e.0) ∷ env)).0 y e.2),
-        λ y e. (e.0, set_as (right a env) (left a env) (length ts) e.0 s.1 s.0 e.1, (same_set b ((name, e.0) ∷ env)).1 y e.2),
+module _ (ts : List Target) (ps : List PackageParts) (rules : Rules) (g h : List (List ℕ)) (to : PairsIn g h) (from : PairsIn h g) where
+  abbrev left : Formula → Bound → ℕ → Type 0
+  left x bound y = Stands (world ts ps rules g) x bound y
+
+  abbrev right : Formula → Bound → ℕ → Type 0
+  right x bound y = Stands (world ts ps rules h) x bound y
+
+  pub same_set : (x : Formula) (bound : Bound) → Same (left x bound) (right x bound)
+  same_set (named words) bound = (λ y e. e, λ y e. e)
+  same_set (variable k) bound = (λ y e. e, λ y e. e)
+  same_set (let_in a b) bound =
+      let s = same_set a bound in (
+        λ y e. (e.0, set_as (left a bound) (right a bound) (length ts) e.0 s.0 s.1 e.1, (same_set b (bound ++ e.0 ∷ [])).0 y e.2),
+        λ y e. (e.0, set_as (right a bound) (left a bound) (length ts) e.0 s.1 s.0 e.1, (same_set b (bound ++ e.0 ∷ [])).1 y e.2),
       )
-  same_set (combined o a b) env =
-      let s = same_set a env in
-      let t = same_set b env in (
-        combined_in o (left a env) (right a env) (left b env) (right b env) s t,
-        combined_in o (right a env) (left a env) (right b env) (left b env) (turned (left a env) (right a env) s) (turned (left b env) (right b env) t),
+  same_set (combined o a b) bound =
+      let s = same_set a bound in
+      let t = same_set b bound in (
+        combined_in o (left a bound) (right a bound) (left b bound) (right b bound) s t,
+        combined_in o (right a bound) (left a bound) (right b bound) (left b bound) (turned (left a bound) (right a bound) s) (turned (left b bound) (right b bound) t),
       )
-  same_set (deps a) env =
-      let s = same_set a env in
-      (deps_in g h to (left a env) (right a env) s.0, deps_in h g from (right a env) (left a env) s.1)
-  same_set (deps_within n a) env =
-      let s = same_set a env in
-      (deps_within_in g h to n (left a env) (right a env) s.0, deps_within_in h g from n (right a env) (left a env) s.1)
-  same_set (rdeps u a) env =
-      let s = same_set u env in
-      let t = same_set a env in
-      (rdeps_in g h to (left u env) (right u env) (left a env) (right a env) s.0 t.0, rdeps_in h g from (right u env) (left u env) (right a env) (left a env) s.1 t.1)
-  same_set (rdeps_within n u a) env =
-      let s = same_set u env in
-      let t = same_set a env in (
-        rdeps_within_in g h to n (left u env) (right u env) (left a env) (right a env) s.0 t.0,
-        rdeps_within_in h g from n (right u env) (left u env) (right a env) (left a env) s.1 t.1,
+  same_set (one f a) bound =
+      let s = same_set a bound in
+      (one_in ts ps rules g h to f (left a bound) (right a bound) s.0, one_in ts ps rules h g from f (right a bound) (left a bound) s.1)
+  same_set (two f a b) bound =
+      let s = same_set a bound in
+      let t = same_set b bound in (
+        two_in ts ps rules g h to f (left a bound) (right a bound) (left b bound) (right b bound) s.0 t.0,
+        two_in ts ps rules h g from f (right a bound) (left a bound) (right b bound) (left b bound) s.1 t.1,
       )
-  same_set (allpaths a b) env =
-      let s = same_set a env in
-      let t = same_set b env in
-      (paths_in g h to (left a env) (right a env) (left b env) (right b env) s.0 t.0, paths_in h g from (right a env) (left a env) (right b env) (left b env) s.1 t.1)
-  same_set (chosen c word a) env =
-      let s = same_set a env in
-      (chosen_in ts ps rules table g h c word (left a env) (right a env) s.0, chosen_in ts ps rules table h g c word (right a env) (left a env) s.1)
-  same_set (attr name p a) env =
-      let s = same_set a env in
-      (λ y e. (s.0 y e.0, e.1), λ y e. (s.1 y e.0, e.1))

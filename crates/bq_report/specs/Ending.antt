@@ -30,3 +30,14 @@ is_unanswered TooManyModules = false
 abbrev pub status_by : List FaultLine → Status
 status_by [] = Answered
 status_by (l ∷ ls) = WithFaults
+
+abbrev pub is_memory : QueryErr → Bool
+is_memory e.Memory = true
+is_memory e.Syntax = false
+is_memory (e.UnknownFunction name) = false
+is_memory (e.LeftOut word) = false
+is_memory e.BadRegex = false
+is_memory (e.NoSuchTarget label) = false
+is_memory (e.NoSuchPackage text) = false
+is_memory (e.UnboundVariable name) = false
+is_memory e.Arguments = false

@@ -1,7 +1,7 @@
 -- What the definitions say together.
 use Rattle.std.specs.Prelude.{◌≡◌}
 use Rattle.bq_schema.specs.Schema.{Rules}
-use Rattle.bq_query_check.specs.declared.parse.CheckedQuery.{CheckedQuery}
+use Rattle.bq_query_check.specs.declared.checked.CheckedQuery.{CheckedQuery}
 use Rattle.bq_answer.specs.declared.print.OutputForm.{OutputForm}
 use Rattle.bq_report.specs.Report.{Inside, ReportView, Reports}
 

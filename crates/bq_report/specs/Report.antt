@@ -11,9 +11,9 @@ use Rattle.bq_target_graph.specs.Graph.{GraphParts}
 use Rattle.bq_target_graph.specs.Edges.{IsGraphOf}
 use Rattle.bq_target_graph.specs.Dangling.{all_dangling}
 use Rattle.bq_query_verdict.specs.Verdict.{Fault}
-use Rattle.bq_query_check.specs.declared.parse.CheckedQuery.{CheckedQuery}
+use Rattle.bq_query_check.specs.declared.checked.CheckedQuery.{CheckedQuery}
+use Rattle.bq_query_check.specs.Formula.{Formula, formula_of}
 use Rattle.bq_answer.specs.World.{Facts, targets_of}
-use Rattle.bq_answer.specs.Formula.{Formula, formula_of}
 use Rattle.bq_answer.specs.Stands.{Stands}
 use Rattle.bq_answer.specs.Faults.{fault_in}
 use Rattle.bq_answer.specs.Answer.{facts_of, AreThose}
@@ -74,7 +74,7 @@ Replies w x form status reply = RepliesBy (fault_in w x) w x form status reply
 pub record RepliesOver (packages : List PackageTargets) (rules : Rules) (query : CheckedQuery) (form : OutputForm) (status : Status) (reply : ReplyView) : Type 0 where
   pub graph : GraphParts
   pub made : IsGraphOf packages graph
-  pub replies : Replies (facts_of graph rules query) (formula_of query.tree) form status reply
+  pub replies : Replies (facts_of graph rules) (formula_of query.set) form status reply
 
 -- ---- the report
 
@@ -93,4 +93,4 @@ pub record Reports (i : Inside) (rules : Rules) (query : CheckedQuery) (form : O
   pub graph : GraphParts
   pub made : IsGraphOf i.packages graph
   pub faults : r.faults ≡ fault_text i
-  pub reply : Replies (facts_of graph rules query) (formula_of query.tree) form (status_by (all_faults i)) (record { text = r.answer; end = r.end })
+  pub reply : Replies (facts_of graph rules) (formula_of query.set) form (status_by (all_faults i)) (record { text = r.answer; end = r.end })

@@ -2,8 +2,7 @@
 
 ghost use Rattle.std.specs.Prelude.{◌≡◌, ◌≢◌, IfOk};
 ghost use Rattle.bq_query.specs.declared.query_error.QueryErr.TheVariants.{Memory};
-ghost use Rattle.bq_query_check.specs.Checked.{is_memory};
-ghost use Rattle.bq_report.specs.Ending.{is_unanswered, names_nothing};
+ghost use Rattle.bq_report.specs.Ending.{is_memory, is_unanswered, names_nothing};
 ghost use Rattle.bq_report.specs.declared.ending.Refusal.TheVariants.{Query};
 
 use bq_query::QueryErr;

@@ -1,7 +1,7 @@
 //! The answer to the query, over the graph of the targets.
 
 ghost use Rattle.std.specs.Prelude.{IfOk};
-ghost use Rattle.bq_answer.specs.Formula.{formula_of};
+ghost use Rattle.bq_query_check.specs.Formula.{formula_of};
 ghost use Rattle.bq_answer.specs.Answer.{facts_of};
 ghost use Rattle.bq_report.specs.Report.{Replies, RepliesOver, reply_view};
 ghost use Rattle.bq_target_graph.specs.Order.{PackagesAscend};
@@ -36,7 +36,7 @@ fn reply_to(
     question: Question<'_>,
     status: Status,
 ) -> Result<Reply, AllocError>
-    ensures { IfOk result (λ r. Replies (facts_of graph.now question.entry.schema.now question.entry.query.now) (formula_of question.entry.query.now.tree) question.entry.form status (reply_view r)) }
+    ensures { IfOk result (λ r. Replies (facts_of graph.now question.entry.schema.now) (formula_of question.entry.query.now.set) question.entry.form status (reply_view r)) }
 {
     match answer(alloc, graph, question.schema, question.query) {
         Ok(numbers) => Ok(Reply {

@@ -10,7 +10,7 @@ use Rattle.bq_load.specs.declared.loaded.Loaded.{Loaded}
 use Rattle.bq_load.specs.Sources.{LoadingParts}
 use Rattle.bq_load.specs.Loaded.{IsLoaded, LoadsWorkspace}
 use Rattle.bq_query_check.specs.Checked.{IsChecked}
-use Rattle.bq_query_check.specs.declared.parse.CheckedQuery.{CheckedQuery}
+use Rattle.bq_query_check.specs.declared.checked.CheckedQuery.{CheckedQuery}
 use Rattle.bq_report.specs.Report.{Inside, ReportView, Reports}
 use Rattle.bq_run.specs.WorkspaceRun.{IsReportOn, inside_by}
 use Rattle.bq_run.specs.declared.options.Options.{Options}

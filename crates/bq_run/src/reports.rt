@@ -113,7 +113,7 @@ pub fn report_workspace<T: Threads + Wait + Sync>(
     match parse_query(alloc, &options.query) {
         Ok(query) => {
             let report = report_query(rt, alloc, workspace, &query, options);
-            drop(query); // for the proof: one call lets the tree go
+            drop(query); // for the proof: one call lets the query go
             report
         }
         Err(why) => Ok(refused(alloc, refusal_of(why)?)),

@@ -1,2 +1,4 @@
+-- what comes first where several things are wrong
+pub mod Order
 -- what a run writes, by how it ends
 pub mod Written

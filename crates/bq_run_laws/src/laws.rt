@@ -1,8 +1,12 @@
 //! What holds of runs. The functions do nothing: their contracts are the laws.
 
-ghost use Rattle.std.specs.Prelude.{◌≡◌, ◌++◌, [], ℕ, List, None, Err, true};
+ghost use Rattle.std.specs.Prelude.{◌≡◌, ◌≢◌, ◌⊎◌, ◌++◌, [], ℕ, List, None, Err, true};
 ghost use Rattle.bq_label.specs.declared.workspace.File.{File};
+ghost use Rattle.bq_discover.specs.Schema.{schema_in};
 ghost use Rattle.bq_query.specs.declared.query_error.QueryErr.{QueryErr};
+ghost use Rattle.bq_query.specs.declared.query_error.QueryErr.TheVariants.{BadRegex};
+ghost use Rattle.bq_query_check.specs.Checked.{IsChecked, IsWrong};
+ghost use Rattle.bq_query_check.specs.declared.checked.CheckedQuery.{CheckedQuery};
 ghost use Rattle.bq_report.specs.Ending.{names_nothing};
 ghost use Rattle.bq_report.specs.Report.{Inside, ReportView, fault_text};
 ghost use Rattle.bq_run.specs.declared.options.Options.{Options};
@@ -10,10 +14,23 @@ ghost use Rattle.bq_run.specs.declared.error.RunErr.TheVariants as run;
 ghost use Rattle.bq_run.specs.Bundle.{bundle_of};
 ghost use Rattle.bq_run.specs.Run.{Run, IsRunOver, IsRunOf, IsSilent};
 ghost use Rattle.bq_run.specs.WorkspaceRun.{IsReportOn};
+ghost use Rattle.bq_run_laws.specs.Order.{EndsWithWrongQuery};
 
 /// A bundle that is none of a workspace is E4, whatever the query and the schema are, and nothing is written.
 pub fn bundles_come_first()
     ensures { (o : Options) (input : List ℕ) (what : Run) → bundle_of input ≡ None → IsRunOf o input what → (what.end ≡ Err run.Bundle) × (what.faults ≡ []) × (what.answer ≡ []) }
+{}
+
+/// A query that is wrong ends the run with an error of a query, whatever the schema is. Whether a pattern is too big is not said, so
+/// this is of Q1, Q2, Q3, Q7 and Q8. A wrong schema (E6) is the error only where the query is not wrong.
+pub fn queries_come_before_the_schema()
+    ensures wrong { (o : Options) (files : List File) (what : Run) (why : QueryErr) → IsWrong o.query.items why → why ≢ BadRegex → IsRunOver o files what → EndsWithWrongQuery o what }
+    ensures right { (o : Options) (files : List File) (what : Run) (line : ℕ) → IsRunOver o files what → what.end ≡ Err (run.Schema line) → (query : CheckedQuery) × IsChecked o.query.items query }
+{}
+
+/// A wrong schema is E6 with its first bad line, whatever the modules are, unless the query is wrong.
+pub fn the_schema_comes_before_the_modules()
+    ensures { (o : Options) (files : List File) (what : Run) (line : ℕ) → schema_in files ≡ Err line → IsRunOver o files what → (what.end ≡ Err (run.Schema line)) ⊎ EndsWithWrongQuery o what }
 {}
 
 /// What the modules printed comes before the lines of faults.

@@ -1,10 +1,13 @@
 //! Laws of runs, by the definitions of `bq_report` and `bq_run`.
 //!
 //! In: nothing; the functions do nothing, and their contracts are the laws. The promise: a bundle that is wrong ends a run before
-//! anything else is looked at; what modules printed comes before the faults; and with Q5 or Q6 the faults are written and no answer, with
-//! every other error nothing.
+//! anything else is looked at, then a query that is wrong, and then a schema; what modules printed comes before the faults; and with Q5
+//! or Q6 the faults are written and no answer, with every other error nothing.
 #![tactic(auto)]
 
 mod laws;
 
-pub use laws::{bundles_come_first, errors_write_no_answer, prints_come_first};
+pub use laws::{
+    bundles_come_first, errors_write_no_answer, prints_come_first, queries_come_before_the_schema,
+    the_schema_comes_before_the_modules,
+};

@@ -1,112 +1,79 @@
-use Rattle.std.proofs.Common.{◌≡◌, ◌∙◌, ◌+◌, ◌≤◌, List, [], ◌∷◌, Bool, drop, length, map, refl, sym, ap, subst, rules, arith}
+use Rattle.std.proofs.Common.{◌≡◌, ◌∙◌, ◌+◌, ◌<◌, ◌≤◌, List, [], ◌∷◌, Bool, drop, length, map, refl, sym, ap, subst, rules, arith}
 use Rattle.std.proofs.lemmas.Grind.{common_steps}
 use Rattle.std.proofs.lemmas.List.{drop_more, at_drop_all}
 use Rattle.std.proofs.lemmas.Result.{err_from_is_err_and}
 use Rattle.bq_graph.specs.Marks.{IsSet, Marked}
-use Rattle.bq_query.specs.Functions.{function_named}
-use Rattle.bq_query_tree.specs.declared.tree.Query.TheFolds.{the_lemmas}
-use Rattle.bq_answer.specs.declared.bindings.Binding.{Binding}
+use Rattle.bq_query_check.specs.declared.formula.SetExpr.TheFolds.{the_lemmas}
+use Rattle.bq_query_check.specs.Formula.{Formula, Step, formula_of, step_of, chained, named, variable, let_in, one, two, AreClosed}
 use Rattle.bq_answer.specs.World.{facts, count_of}
-use Rattle.bq_answer.specs.Formula.{Formula, Step, formula_of, part_of, step_of, chained, call_by, nothing, named, bound, binding}
-use Rattle.bq_answer.specs.Functions.{OfOne, OfTwo, called, called_with, call_formula}
-use Rattle.bq_answer.specs.Bindings.{bound_to, environment}
-use Rattle.bq_answer.specs.Stands.{Environment, Combined}
-use Rattle.bq_answer.specs.Faults.{Has, fault_in}
-use Rattle.bq_answer.proofs.Answering.{reworded, first_fails, second_fails, both_answered, let_answered, value_fails, kept_before, bound_env, popped_kept}
-use Rattle.bq_answer.proofs.Called.{called_fault, has_called}
+use Rattle.bq_answer.specs.Functions.{OfOne, OfTwo, Combined}
+use Rattle.bq_answer.specs.Stands.{Bound, AreSets}
+use Rattle.bq_answer.specs.Faults.{Has, AreBound, fault_in}
+use Rattle.bq_answer.proofs.Answering.{reworded, has_one, first_fails, second_fails, both_answered, let_answered, value_fails, kept_before, popped_kept}
+use Rattle.bq_answer.proofs.Bound.{bound_as, one_bound, start_bound, rest_closed}
 use Rattle.bq_answer.proofs.Firsts.{fault_stays}
 use Rattle.bq_answer.proofs.Formulas.{SoFar, none_done, one_more, fails_there, all_done}
-use Rattle.bq_answer.proofs.Trees.{word_says, variable_says, inner_says, words_say, call_says, let_says, chain_says, step_says}
+use Rattle.bq_query_check.proofs.Closed.{operand_closed}
+use Rattle.bq_query_check.proofs.Says.{words_say, variable_says, let_says, chain_says, one_says, two_says, step_says}
 use Rattle.bq_answer.proofs.sets.+sets.Goals as goal
 
--- ---- functions of one set
+-- ---- functions
 
 pub one_of-returns-in_err-x : goal.one_of-returns-in_err-x
 one_of-returns-in_err-x t c =
     let p = err_from_is_err_and c.from_residual.result c.from_residual.ensures.1 in
-    rw (p.1, p.2) (λ other. called_fault (facts c.args.world.now) c.args.function (formula_of c.args.argument.now) ∙ c.in_err-x.ensures other)
+    rw (p.1, p.2) (λ other. c.in_err-x.ensures other)
 
 pub one_of-returns : goal.one_of-returns
 one_of-returns t c =
     let w = facts c.args.world.now in
+    let f = c.args.function.now in
     let x = c.in_ok-x.x.items in
     let r = c.in_ok-of_one.field-0.items in
-    let s : IsSet (count_of w) r (OfOne w c.args.function (Marked x)) = subst (λ (ms : List Bool). IsSet (count_of w) r (OfOne w c.args.function (Marked ms))) c.deref.ensures.value c.in_ok-of_one.ensures in
-    (has_called w (environment c.args.bindings.now) c.args.function (formula_of c.args.argument.now) x r c.in_ok-x.ensures.0 s, c.in_ok-x.ensures.1)
+    let s : IsSet (count_of w) r (OfOne w f (Marked x)) = subst (λ (ms : List Bool). IsSet (count_of w) r (OfOne w f (Marked ms))) c.deref.ensures.value c.in_ok-of_one.ensures in
+    (has_one w c.args.bound.now f (formula_of c.args.argument.now) x r c.in_ok-x.ensures.0 s, c.in_ok-x.ensures.1)
 
--- ---- calls
+-- ---- variables have sets
 
-pub call_of-returns-in-One : goal.call_of-returns-in-One
-call_of-returns-in-One t c =
-    reworded (λ v. v.items) (facts c.args.world.now) (call_by (function_named c.args.name.now) (map part_of c.args.arguments.now)) (called c.in-One.function (formula_of c.in-One.x.now)) (environment c.args.bindings.now) c.args.bindings.now
-    c.one_of.result c.one_of.new.bindings (sym c.call_named.ensures.formula ∙ ap call_formula c.in-One.is) c.one_of.ensures
+pub one_of-set_of-requires : goal.one_of-set_of-requires
+one_of-set_of-requires t c = (first_of (search rules, search (rules, the_lemmas), omega arith, grind (arith, common_steps)), c.requires)
 
-pub call_of-returns-in_err-x-in-Two : goal.call_of-returns-in_err-x-in-Two
-call_of-returns-in_err-x-in-Two t c =
+pub chain_of-set_of-requires : goal.chain_of-set_of-requires
+chain_of-set_of-requires t c =
     let w = facts c.args.world.now in
-    let f = c.in-Two.function in
-    let a = formula_of c.in-Two.x.now in
-    let b = formula_of c.in-Two.y.now in
-    let says : call_by (function_named c.args.name.now) (map part_of c.args.arguments.now) ≡ called_with f a b = sym c.call_named.ensures.formula ∙ ap call_formula c.in-Two.is in
-    let p = err_from_is_err_and c.from_residual.result c.from_residual.ensures.1 in
-    rw (p.1, p.2) (λ other. ap (fault_in w) says ∙ first_fails w f a b _ (c.in_err-x-in-Two.ensures other))
-
-pub call_of-returns-in_err-y-in-Two : goal.call_of-returns-in_err-y-in-Two
-call_of-returns-in_err-y-in-Two t c =
-    let w = facts c.args.world.now in
-    let f = c.in-Two.function in
-    let a = formula_of c.in-Two.x.now in
-    let b = formula_of c.in-Two.y.now in
-    let says : call_by (function_named c.args.name.now) (map part_of c.args.arguments.now) ≡ called_with f a b = sym c.call_named.ensures.formula ∙ ap call_formula c.in-Two.is in
-    let p = err_from_is_err_and c.from_residual-in_err-y-in-Two.result c.from_residual-in_err-y-in-Two.ensures.1 in
-    rw (p.1, p.2) (λ other. ap (fault_in w) says ∙ second_fails w f a b _ c.in_ok-x-in-Two.ensures.0.none (c.in_err-y-in-Two.ensures other))
-
-pub call_of-returns-in_ok-of_two-in-Two : goal.call_of-returns-in_ok-of_two-in-Two
-call_of-returns-in_ok-of_two-in-Two t c =
-    let w = facts c.args.world.now in
-    let f = c.in-Two.function in
-    let bs = c.args.bindings.now in
-    let a = formula_of c.in-Two.x.now in
-    let b = formula_of c.in-Two.y.now in
-    let says : call_by (function_named c.args.name.now) (map part_of c.args.arguments.now) ≡ called_with f a b = sym c.call_named.ensures.formula ∙ ap call_formula c.in-Two.is in
-    let x = c.in_ok-x-in-Two.x.items in
-    let y = c.in_ok-y-in-Two.y.items in
-    let r = c.in_ok-of_two-in-Two.field-0.items in
-    let s : IsSet (count_of w) r (OfTwo w f (Marked x) (Marked c.deref-in-Two.result.now)) =
-    subst (λ (ms : List Bool). IsSet (count_of w) r (OfTwo w f (Marked ms) (Marked c.deref-in-Two.result.now))) c.deref.ensures.value c.in_ok-of_two-in-Two.ensures in
-    let u : IsSet (count_of w) r (OfTwo w f (Marked x) (Marked y)) = subst (λ (ms : List Bool). IsSet (count_of w) r (OfTwo w f (Marked x) (Marked ms))) c.deref-in-Two.ensures.value s in
-    let h = both_answered w f a b bs c.set_of.new.bindings c.set_of-in-Two.new.bindings x y r c.in_ok-x-in-Two.ensures c.in_ok-y-in-Two.ensures u in
-    (subst (λ (z : Formula). Has w (environment bs) z r) (sym says) h.0, h.1)
-
-pub call_of-returns-in-Nothing : goal.call_of-returns-in-Nothing
-call_of-returns-in-Nothing t c =
-    reworded (λ v. v.items) (facts c.args.world.now) (call_by (function_named c.args.name.now) (map part_of c.args.arguments.now)) nothing (environment c.args.bindings.now) c.args.bindings.now c.no_set.result c.args.bindings.now
-    (sym c.call_named.ensures.formula ∙ ap call_formula c.in-Nothing.is) (c.no_set.ensures (environment c.args.bindings.now) c.args.bindings.now)
+    let item = c.operation-item.result in
+    let os = c.args.operations.now in
+    let here : AreBound w (formula_of item.operand) c.args.bound.now = record {
+      closed = operand_closed (length c.args.bound.now) os c.loop-operation.operation-index item c.requires.closed c.loop-operation-test.true c.operation-item.is;
+      sets = c.requires.sets;
+    } in
+    (first_of (search rules, search (rules, the_lemmas), omega arith, grind (arith, common_steps)), bound_as w (formula_of item.operand) (formula_of item.operand) c.args.bound.now c.loop-operation.bound refl c.loop-operation.invariant.kept here)
 
 -- ---- lets
 
+pub let_of-set_of-requires : goal.let_of-set_of-requires
+let_of-set_of-requires t c = (first_of (search rules, search (rules, the_lemmas), omega arith, grind (arith, common_steps)), subst (λ (bs : Bound). AreBound (facts c.args.world.now) (formula_of c.args.body.now) bs) (sym c.in_ok-bind.ensures) c.requires)
+
 pub let_of-returns : goal.let_of-returns
 let_of-returns t c =
-    let w = facts c.args.world.now in
-    let bs = c.args.bindings.now in
-    let b = bound_to c.args.name.now c.args.set.items in (
-      subst (λ (env : Environment). Has w env (formula_of c.args.body.now) c.in_ok-found.found.items) (bound_env bs c.bind.new.bindings b c.in_ok-bind.ensures) c.in_ok-found.ensures.0,
-      popped_kept bs c.set_of.new.bindings c.pop.new.self b c.pop.result c.pop.ensures (c.in_ok-found.ensures.1 ∙ c.in_ok-bind.ensures),
+    let w = facts c.args.world.now in (
+      subst (λ (bs : Bound). Has w bs (formula_of c.args.body.now) c.in_ok-found.found.items) c.in_ok-bind.ensures c.in_ok-found.ensures.0,
+      popped_kept c.args.bound.now c.set_of.new.bound c.pop.new.self c.args.set.items c.pop.result c.pop.ensures (c.in_ok-found.ensures.1 ∙ c.in_ok-bind.ensures),
     )
 
 -- ---- chains
 
 pub chain_of-loop-operation-init : goal.chain_of-loop-operation-init
 chain_of-loop-operation-init t c = record {
-  so_far = λ x h. none_done (facts c.args.world.now) (environment c.args.bindings.now) x (map step_of c.args.operations.now) c.args.first.items h;
+  so_far = λ x h. none_done (facts c.args.world.now) c.args.bound.now x (map step_of c.args.operations.now) c.args.first.items h;
   kept = refl;
-  long = c.requires;
+  long = c.requires.first;
 }
 
 pub chain_of-returns-in_err-operand : goal.chain_of-returns-in_err-operand
 chain_of-returns-in_err-operand t c =
     let w = facts c.args.world.now in
-    let env = environment c.args.bindings.now in
+    let env = c.args.bound.now in
     let i = c.loop-operation.operation-index in
     let os = c.args.operations.now in
     let item = c.operation-item.result in
@@ -122,7 +89,7 @@ chain_of-returns-in_err-operand t c =
 pub chain_of-loop-operation-preserved : goal.chain_of-loop-operation-preserved
 chain_of-loop-operation-preserved t c =
     let w = facts c.args.world.now in
-    let env = environment c.args.bindings.now in
+    let env = c.args.bound.now in
     let i = c.loop-operation.operation-index in
     let os = c.args.operations.now in
     let item = c.operation-item.result in
@@ -134,7 +101,7 @@ chain_of-loop-operation-preserved t c =
     let operand = c.in_ok-operand.operand.items in
     let r = c.in_ok-set.set.items in
     let kept = c.loop-operation.invariant.kept in
-    let has = subst (λ (bs : List Binding). Has w (environment bs) (formula_of item.operand) operand) kept c.in_ok-operand.ensures.0 in
+    let has = subst (λ (bs : Bound). Has w bs (formula_of item.operand) operand) kept c.in_ok-operand.ensures.0 in
     let made : IsSet (count_of w) r (Combined item.operator (Marked set) (Marked c.deref-in-loop-operation.result.now)) =
     subst (λ (ms : List Bool). IsSet (count_of w) r (Combined item.operator (Marked ms) (Marked c.deref-in-loop-operation.result.now))) c.deref.ensures.value c.in_ok-set.ensures in
     let combined = subst (λ (ms : List Bool). IsSet (count_of w) r (Combined item.operator (Marked set) (Marked ms))) c.deref-in-loop-operation.ensures.value made in
@@ -148,7 +115,7 @@ chain_of-loop-operation-preserved t c =
 pub chain_of-returns : goal.chain_of-returns
 chain_of-returns t c =
     let w = facts c.args.world.now in
-    let env = environment c.args.bindings.now in
+    let env = c.args.bound.now in
     let i = c.loop-operation.operation-index in
     let os = c.args.operations.now in
     let past : length os ≤ i = omega arith in
@@ -159,52 +126,107 @@ chain_of-returns t c =
       c.loop-operation.invariant.kept,
     )
 
--- ---- trees
+-- ---- parts of queries have sets for their variables
 
-pub set_of-returns-in-Word : goal.set_of-returns-in-Word
-set_of-returns-in-Word t c =
-    let says : formula_of c.args.query.now ≡ named c.from_ref-word.result.now = first_of (search (rules, the_lemmas), grind (arith, common_steps, word_says), grind (arith, common_steps)) in
-    reworded (λ v. v.items) (facts c.args.world.now) (formula_of c.args.query.now) (named c.from_ref-word.result.now) (environment c.args.bindings.now) c.args.bindings.now c.named.result c.args.bindings.now says (c.named.ensures (environment c.args.bindings.now) c.args.bindings.now)
+pub set_of-set_bound-requires : goal.set_of-set_bound-requires
+set_of-set_bound-requires t c =
+    let w = facts c.args.world.now in
+    let says : formula_of c.args.query.now ≡ variable c.in-Variable.number = first_of (search (rules, the_lemmas), grind (arith, common_steps, variable_says), grind (arith, common_steps)) in
+    let h = bound_as w (formula_of c.args.query.now) (variable c.in-Variable.number) c.args.bound.now c.args.bound.now says refl c.requires in
+    subst (λ (bs : Bound). c.in-Variable.number < length bs) (sym c.as_slice.ensures) h.closed
 
-pub set_of-returns-in-Variable : goal.set_of-returns-in-Variable
-set_of-returns-in-Variable t c =
-    let says : formula_of c.args.query.now ≡ bound c.in-Variable.name = first_of (search (rules, the_lemmas), grind (arith, common_steps, variable_says), grind (arith, common_steps)) in
-    reworded (λ v. v.items) (facts c.args.world.now) (formula_of c.args.query.now) (bound c.in-Variable.name) (environment c.args.bindings.now) c.args.bindings.now c.variable.result c.args.bindings.now says c.variable.ensures
+pub set_of-one_of-requires : goal.set_of-one_of-requires
+set_of-one_of-requires t c =
+    let w = facts c.args.world.now in
+    let x = formula_of c.get-x.result.now in
+    let says : formula_of c.args.query.now ≡ one c.in-One.function (formula_of c.get-x.result.now) = first_of (search (rules, the_lemmas), grind (arith, common_steps, one_says), grind (arith, common_steps)) in
+    (first_of (search rules, search (rules, the_lemmas), omega arith, grind (arith, common_steps)), one_bound w c.in-One.function x c.args.bound.now (bound_as w (formula_of c.args.query.now) (one c.in-One.function x) c.args.bound.now c.args.bound.now says refl c.requires))
 
-pub set_of-returns-in-Parenthesized : goal.set_of-returns-in-Parenthesized
-set_of-returns-in-Parenthesized t c =
-    let says : formula_of c.args.query.now ≡ formula_of c.get-inner.result.now = first_of (search (rules, the_lemmas), grind (arith, common_steps, inner_says), grind (arith, common_steps)) in
-    reworded (λ v. v.items) (facts c.args.world.now) (formula_of c.args.query.now) (formula_of c.get-inner.result.now) (environment c.args.bindings.now) c.args.bindings.now c.set_of.result c.set_of.new.bindings says c.set_of.ensures
+pub set_of-set_of-requires-in-Chain : goal.set_of-set_of-requires-in-Chain
+set_of-set_of-requires-in-Chain t c =
+    let w = facts c.args.world.now in
+    let x = formula_of c.get-first.result.now in
+    let os = c.as_slice-operations.result.now in
+    let says : formula_of c.args.query.now ≡ chained (formula_of c.get-first.result.now) (map step_of c.as_slice-operations.result.now) = first_of (search (rules, the_lemmas), grind (arith, common_steps, chain_says), grind (arith, common_steps)) in
+    (first_of (search rules, search (rules, the_lemmas), omega arith, grind (arith, common_steps)), start_bound w x os c.args.bound.now (bound_as w (formula_of c.args.query.now) (chained x (map step_of os)) c.args.bound.now c.args.bound.now says refl c.requires))
 
-pub set_of-returns-in-Set : goal.set_of-returns-in-Set
-set_of-returns-in-Set t c =
+pub set_of-chain_of-requires : goal.set_of-chain_of-requires
+set_of-chain_of-requires t c =
+    let w = facts c.args.world.now in
+    let x = formula_of c.get-first.result.now in
+    let os = c.as_slice-operations.result.now in
+    let says : formula_of c.args.query.now ≡ chained (formula_of c.get-first.result.now) (map step_of c.as_slice-operations.result.now) = first_of (search (rules, the_lemmas), grind (arith, common_steps, chain_says), grind (arith, common_steps)) in
+    let h = bound_as w (formula_of c.args.query.now) (chained x (map step_of os)) c.args.bound.now c.set_of-in-Chain.new.bound says c.in_ok-set-in-Chain.ensures.1 c.requires in
+    let first : length c.in_ok-set-in-Chain.set.items ≡ count_of w = c.in_ok-set-in-Chain.ensures.0.stands.0 in
+    let closed : AreClosed (length c.set_of-in-Chain.new.bound) (map step_of c.as_slice-operations.result.now) = rest_closed w x os c.set_of-in-Chain.new.bound h in
+    let sets : AreSets w c.set_of-in-Chain.new.bound = h.sets in
+    (first_of (search rules, search (rules, the_lemmas), omega arith, grind (arith, common_steps)), search rules)
+
+-- ---- queries
+
+pub set_of-returns-in-Named : goal.set_of-returns-in-Named
+set_of-returns-in-Named t c =
     let says : formula_of c.args.query.now ≡ named c.as_slice-texts.result.now = first_of (search (rules, the_lemmas), grind (arith, common_steps, words_say), grind (arith, common_steps)) in
-    reworded (λ v. v.items) (facts c.args.world.now) (formula_of c.args.query.now) (named c.as_slice-texts.result.now) (environment c.args.bindings.now) c.args.bindings.now c.named-in-Set.result c.args.bindings.now says (c.named-in-Set.ensures (environment c.args.bindings.now) c.args.bindings.now)
+    reworded (λ v. v.items) (facts c.args.world.now) (formula_of c.args.query.now) (named c.as_slice-texts.result.now) c.args.bound.now c.args.bound.now c.named.result c.args.bound.now says (c.named.ensures c.args.bound.now)
 
-pub set_of-returns-in-Call : goal.set_of-returns-in-Call
-set_of-returns-in-Call t c =
-    let call = call_by (function_named c.as_slice-name.result.now) (map part_of c.as_slice-arguments.result.now) in
-    let says : formula_of c.args.query.now ≡ call_by (function_named c.as_slice-name.result.now) (map part_of c.as_slice-arguments.result.now) = first_of (search (rules, the_lemmas), grind (arith, common_steps, call_says), grind (arith, common_steps)) in
-    reworded (λ v. v.items) (facts c.args.world.now) (formula_of c.args.query.now) call (environment c.args.bindings.now) c.args.bindings.now c.call_of.result c.call_of.new.bindings says c.call_of.ensures
+pub set_of-returns-in-One : goal.set_of-returns-in-One
+set_of-returns-in-One t c =
+    let says : formula_of c.args.query.now ≡ one c.in-One.function (formula_of c.get-x.result.now) = first_of (search (rules, the_lemmas), grind (arith, common_steps, one_says), grind (arith, common_steps)) in
+    reworded (λ v. v.items) (facts c.args.world.now) (formula_of c.args.query.now) (one c.in-One.function (formula_of c.get-x.result.now)) c.args.bound.now c.args.bound.now c.one_of.result c.one_of.new.bound says c.one_of.ensures
+
+pub set_of-returns-in_err-x-in-Two : goal.set_of-returns-in_err-x-in-Two
+set_of-returns-in_err-x-in-Two t c =
+    let w = facts c.args.world.now in
+    let a = formula_of c.get-first-in-Two.result.now in
+    let b = formula_of c.get-second.result.now in
+    let says : formula_of c.args.query.now ≡ two c.in-Two.function (formula_of c.get-first-in-Two.result.now) (formula_of c.get-second.result.now) = first_of (search (rules, the_lemmas), grind (arith, common_steps, two_says), grind (arith, common_steps)) in
+    let p = err_from_is_err_and c.from_residual-in_err-x-in-Two.result c.from_residual-in_err-x-in-Two.ensures.1 in
+    rw (p.1, p.2) (λ other. ap (fault_in w) says ∙ first_fails w c.in-Two.function a b _ (c.in_err-x-in-Two.ensures other))
+
+pub set_of-returns-in_err-y-in-Two : goal.set_of-returns-in_err-y-in-Two
+set_of-returns-in_err-y-in-Two t c =
+    let w = facts c.args.world.now in
+    let a = formula_of c.get-first-in-Two.result.now in
+    let b = formula_of c.get-second.result.now in
+    let says : formula_of c.args.query.now ≡ two c.in-Two.function (formula_of c.get-first-in-Two.result.now) (formula_of c.get-second.result.now) = first_of (search (rules, the_lemmas), grind (arith, common_steps, two_says), grind (arith, common_steps)) in
+    let p = err_from_is_err_and c.from_residual-in_err-y-in-Two.result c.from_residual-in_err-y-in-Two.ensures.1 in
+    rw (p.1, p.2) (λ other. ap (fault_in w) says ∙ second_fails w c.in-Two.function a b _ c.in_ok-x-in-Two.ensures.0.none (c.in_err-y-in-Two.ensures other))
+
+pub set_of-returns-in_ok-of_two-in-Two : goal.set_of-returns-in_ok-of_two-in-Two
+set_of-returns-in_ok-of_two-in-Two t c =
+    let w = facts c.args.world.now in
+    let f = c.in-Two.function in
+    let bs = c.args.bound.now in
+    let a = formula_of c.get-first-in-Two.result.now in
+    let b = formula_of c.get-second.result.now in
+    let says : formula_of c.args.query.now ≡ two c.in-Two.function (formula_of c.get-first-in-Two.result.now) (formula_of c.get-second.result.now) = first_of (search (rules, the_lemmas), grind (arith, common_steps, two_says), grind (arith, common_steps)) in
+    let x = c.in_ok-x-in-Two.x.items in
+    let y = c.in_ok-y-in-Two.y.items in
+    let r = c.in_ok-of_two-in-Two.field-0.items in
+    let s : IsSet (count_of w) r (OfTwo w f (Marked x) (Marked c.deref-in-Two.result.now)) =
+    subst (λ (ms : List Bool). IsSet (count_of w) r (OfTwo w f (Marked ms) (Marked c.deref-in-Two.result.now))) c.deref.ensures.value c.in_ok-of_two-in-Two.ensures in
+    let u : IsSet (count_of w) r (OfTwo w f (Marked x) (Marked y)) = subst (λ (ms : List Bool). IsSet (count_of w) r (OfTwo w f (Marked x) (Marked ms))) c.deref-in-Two.ensures.value s in
+    let h = both_answered w f a b bs c.set_of-in-Two.new.bound c.set_of-in-Two-2.new.bound x y r c.in_ok-x-in-Two.ensures c.in_ok-y-in-Two.ensures u in
+    (subst (λ (z : Formula). Has w bs z r) (sym says) h.0, h.1)
 
 pub set_of-returns-in_err-set-in-Let : goal.set_of-returns-in_err-set-in-Let
 set_of-returns-in_err-set-in-Let t c =
     let w = facts c.args.world.now in
     let a = formula_of c.get-value.result.now in
     let b = formula_of c.get-body.result.now in
-    let says : formula_of c.args.query.now ≡ binding c.in-Let.name (formula_of c.get-value.result.now) (formula_of c.get-body.result.now) = first_of (search (rules, the_lemmas), grind (arith, common_steps, let_says), grind (arith, common_steps)) in
-    let p = err_from_is_err_and c.from_residual.result c.from_residual.ensures.1 in
-    rw (p.1, p.2) (λ other. ap (fault_in w) says ∙ value_fails w c.in-Let.name a b _ (c.in_err-set-in-Let.ensures other))
+    let says : formula_of c.args.query.now ≡ let_in (formula_of c.get-value.result.now) (formula_of c.get-body.result.now) = first_of (search (rules, the_lemmas), grind (arith, common_steps, let_says), grind (arith, common_steps)) in
+    let p = err_from_is_err_and c.from_residual-in_err-set-in-Let.result c.from_residual-in_err-set-in-Let.ensures.1 in
+    rw (p.1, p.2) (λ other. ap (fault_in w) says ∙ value_fails w a b _ (c.in_err-set-in-Let.ensures other))
 
 pub set_of-returns-in_ok-set-in-Let : goal.set_of-returns-in_ok-set-in-Let
 set_of-returns-in_ok-set-in-Let t c =
     let w = facts c.args.world.now in
-    let bs = c.args.bindings.now in
+    let bs = c.args.bound.now in
     let a = formula_of c.get-value.result.now in
     let b = formula_of c.get-body.result.now in
-    let says : formula_of c.args.query.now ≡ binding c.in-Let.name (formula_of c.get-value.result.now) (formula_of c.get-body.result.now) = first_of (search (rules, the_lemmas), grind (arith, common_steps, let_says), grind (arith, common_steps)) in
-    reworded (λ v. v.items) w (formula_of c.args.query.now) (binding c.in-Let.name a b) (environment bs) bs c.let_of.result c.let_of.new.bindings says
-    (let_answered (λ v. v.items) w c.in-Let.name a b bs c.set_of-in-Let.new.bindings c.in_ok-set-in-Let.set.items c.let_of.result c.let_of.new.bindings c.in_ok-set-in-Let.ensures c.let_of.ensures)
+    let says : formula_of c.args.query.now ≡ let_in (formula_of c.get-value.result.now) (formula_of c.get-body.result.now) = first_of (search (rules, the_lemmas), grind (arith, common_steps, let_says), grind (arith, common_steps)) in
+    reworded (λ v. v.items) w (formula_of c.args.query.now) (let_in a b) bs bs c.let_of.result c.let_of.new.bound says
+    (let_answered (λ v. v.items) w a b bs c.set_of.new.bound c.in_ok-set-in-Let.set.items c.let_of.result c.let_of.new.bound c.in_ok-set-in-Let.ensures c.let_of.ensures)
 
 pub set_of-returns-in_err-set-in-Chain : goal.set_of-returns-in_err-set-in-Chain
 set_of-returns-in_err-set-in-Chain t c =
@@ -218,11 +240,11 @@ set_of-returns-in_err-set-in-Chain t c =
 pub set_of-returns-in_ok-set-in-Chain : goal.set_of-returns-in_ok-set-in-Chain
 set_of-returns-in_ok-set-in-Chain t c =
     let w = facts c.args.world.now in
-    let bs = c.args.bindings.now in
-    let middle = c.set_of-in-Chain.new.bindings in
+    let bs = c.args.bound.now in
+    let middle = c.set_of-in-Chain.new.bound in
     let x = formula_of c.get-first.result.now in
     let steps = map step_of c.as_slice-operations.result.now in
     let says : formula_of c.args.query.now ≡ chained (formula_of c.get-first.result.now) (map step_of c.as_slice-operations.result.now) = first_of (search (rules, the_lemmas), grind (arith, common_steps, chain_says), grind (arith, common_steps)) in
-    let has = subst (λ (all : List Binding). Has w (environment all) x c.in_ok-set-in-Chain.set.items) (sym c.in_ok-set-in-Chain.ensures.1) c.in_ok-set-in-Chain.ensures.0 in
-    reworded (λ v. v.items) w (formula_of c.args.query.now) (chained x steps) (environment bs) bs c.chain_of.result c.chain_of.new.bindings says
-    (kept_before (λ v. v.items) w (chained x steps) bs middle c.chain_of.result c.chain_of.new.bindings c.in_ok-set-in-Chain.ensures.1 (c.chain_of.ensures x has))
+    let has = subst (λ (all : Bound). Has w all x c.in_ok-set-in-Chain.set.items) (sym c.in_ok-set-in-Chain.ensures.1) c.in_ok-set-in-Chain.ensures.0 in
+    reworded (λ v. v.items) w (formula_of c.args.query.now) (chained x steps) bs bs c.chain_of.result c.chain_of.new.bound says
+    (kept_before (λ v. v.items) w (chained x steps) bs middle c.chain_of.result c.chain_of.new.bound c.in_ok-set-in-Chain.ensures.1 (c.chain_of.ensures x has))

@@ -1,7 +1,6 @@
 use Rattle.std.proofs.Common.{◌≡◌, length, map, drop}
 use Rattle.bq_answer.specs.World.{facts, count_of}
-use Rattle.bq_answer.specs.Formula.{Formula, step_of, chained}
-use Rattle.bq_answer.specs.Bindings.{environment}
+use Rattle.bq_query_check.specs.Formula.{Formula, step_of, chained}
 use Rattle.bq_answer.specs.Faults.{Has}
 use Rattle.bq_answer.proofs.Formulas.{SoFar}
 use Rattle.bq_answer.proofs.sets.+sets.Given as goal
@@ -9,8 +8,8 @@ use Rattle.bq_answer.proofs.sets.+sets.Given as goal
 abbrev pub invariant-chain_of-loop-operation : goal.invariant-chain_of-loop-operation
 invariant-chain_of-loop-operation l = record {
   so_far : (x : Formula)
-      → Has (facts l.world) (environment l.fn.bindings) x l.initial.set.items
-      → SoFar (facts l.world) (environment l.fn.bindings) (chained x (map step_of l.operations)) (map step_of (drop l.operation-index l.operations)) l.set.items;
-  kept : l.bindings ≡ l.fn.bindings;
+      → Has (facts l.world) l.fn.bound x l.initial.set.items
+      → SoFar (facts l.world) l.fn.bound (chained x (map step_of l.operations)) (map step_of (drop l.operation-index l.operations)) l.set.items;
+  kept : l.bound ≡ l.fn.bound;
   long : length l.set.items ≡ count_of (facts l.world);
 }

@@ -3,7 +3,7 @@ use Rattle.bq_source.specs.Gives.{Gives}
 use Rattle.bq_source.specs.declared.fault.SourceErr.TheVariants.{Bad}
 use Rattle.bq_label.specs.Label.{LabelParts, PackageParts, package_at}
 use Rattle.bq_label.specs.Reading.{label_of, or_bad_label}
-use Rattle.bq_query_verdict.proofs.Parts.{label_known}
+use Rattle.bq_query_verdict.proofs.Labels.{label_known}
 use Rattle.bq_query_verdict.proofs.leaves.is_label.Goals as goal
 
 pub returns : goal.returns

@@ -1,0 +1,39 @@
+//! What holds of the targets that queries stand for. The functions do nothing: their contracts are the laws.
+
+ghost use Rattle.std.specs.Prelude.{ℕ, List};
+ghost use Rattle.regex_hir.specs.Re.{Re};
+ghost use Rattle.bq_query_check.specs.Formula.{Formula};
+ghost use Rattle.bq_answer.specs.Stands.{Bound};
+ghost use Rattle.bq_answer.specs.World.{Facts};
+ghost use Rattle.bq_answer_laws.specs.Edges.{FunctionsByEdges};
+ghost use Rattle.bq_answer_laws.specs.Chosen.{Choose};
+ghost use Rattle.bq_answer_laws.specs.Missing.{FailsForFirstMissing};
+ghost use Rattle.bq_answer_laws.specs.Numbers.{NumbersAreDecimal};
+ghost use Rattle.bq_answer_laws.specs.InText.{WordsInTextOrder};
+
+/// An edge leads from a target to each whose label it writes. `deps(x)` is what edges lead to from `x`, and `deps(x, n)` what at most `n`
+/// of them do; `rdeps(u, x)` and `allpaths(u, x)` are the targets of `deps(u)` from which edges lead to `x`, and `rdeps(u, x, n)` those
+/// from which at most `n` do.
+pub fn functions_go_along_edges()
+    ensures { FunctionsByEdges }
+{}
+
+/// `kind` looks at how a target's kind is written, `filter` at its label in full, and `labels` at an attribute of rules alone.
+pub fn functions_look_at_targets()
+    ensures { (w : Facts) (a : Formula) (pattern : Re) (name : List ℕ) (bound : Bound) (y : ℕ) → Choose w a pattern name bound y }
+{}
+
+/// A query fails for the first of its words that names what is not there (Q5, Q6), and is answered where there is none.
+pub fn queries_fail_for_the_first_missing_word()
+    ensures { (w : Facts) (x : Formula) → FailsForFirstMissing w x }
+{}
+
+/// The target patterns of a query are words of its text, in the text's order.
+pub fn words_are_in_the_order_of_the_text()
+    ensures { WordsInTextOrder }
+{}
+
+/// A number of edges is read in decimal digits. From 2 ^ 32 on, which is more than any number of targets, numbers are not told apart.
+pub fn numbers_are_decimal()
+    ensures { NumbersAreDecimal }
+{}

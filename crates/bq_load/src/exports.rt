@@ -1,0 +1,133 @@
+//! What a module gives to the files that load it.
+
+ghost use Rattle.std.specs.Prelude.{◌≡◌, option_and_then, option_map, slice_get};
+ghost use Rattle.std.specs.Option.{option_copied, ForSome};
+ghost use Rattle.bq_source.specs.Gives.{Gives};
+ghost use Rattle.bq_source.specs.declared.fault.SourceErr.TheVariants.{Bad};
+ghost use Rattle.bq_value.specs.declared.error.EvalErr.TheVariants.{Bad as BadKind};
+ghost use Rattle.bq_load.specs.Views.{module_view};
+ghost use Rattle.bq_load.specs.Places.{HasPlaces};
+ghost use Rattle.bq_load.specs.Imports.{value_named, globals_by, names_by, global_of, global_by, is_private, exported, at_symbol, clause_values};
+
+use crate::outcome::LoadedModule;
+use crate::places::{Places, place_of};
+use bq_scope::{LoadedSymbol, Resolved};
+use bq_source::{Bytes, Fault, FaultKind, SourceErr};
+use bq_value::{EvalErr, Value};
+
+/// The value in the place in which its name is.
+#[tactic(auto, unfolding(crate::specs::Imports::value_named))]
+fn value_named<'a>(name: &Bytes, names: &[Bytes], values: &'a [Value]) -> Option<&'a Value>
+    ensures { option_copied result ≡ value_named name.now names.now values.now }
+{
+    let mut left = values;
+    for other in names {
+        let Some((value, rest)) = left.split_first() else {
+            return None;
+        };
+        if name == other {
+            return Some(value);
+        }
+        left = rest;
+    }
+    None
+}
+
+/// The value in a place.
+fn value_at(place: Option<usize>, values: &[Value]) -> Option<&Value>
+    ensures { option_copied result ≡ option_and_then (slice_get values.now) place }
+{
+    match place {
+        None => None,
+        Some(place) => values.get(place),
+    }
+}
+
+/// The value in the place in which its name is, by the places of the names where they are known.
+fn value_by<'v>(
+    places: Option<&Places<'_>>,
+    name: &Bytes,
+    names: &[Bytes],
+    values: &'v [Value],
+) -> Option<&'v Value>
+    requires { ForSome places (λ p. HasPlaces 0 names.now p.now) }
+    ensures { option_copied result ≡ value_named name.now names.now values.now }
+{
+    let Some(places) = places else {
+        return value_named(name, names, values);
+    };
+    value_at(place_of(places, name), values)
+}
+
+/// The names of the globals that the file of a module binds.
+pub(crate) fn globals_of(code: &[Option<Resolved>], number: u32) -> &[Bytes]
+    ensures { result.now ≡ globals_by (slice_get code.now number) }
+{
+    match code.get(number as usize) {
+        None => &[],
+        Some(None) => &[],
+        Some(Some(file)) => file.globals.as_slice(),
+    }
+}
+
+/// A module that a load names, and the code of all modules.
+#[derive(Clone, Copy)]
+pub(crate) struct Exports<'t, 'a> {
+    pub code: &'a [Option<Resolved>],
+    /// None: no such file is loaded.
+    pub module: Option<&'a LoadedModule>,
+    /// The places of its globals' names, where many clauses look for them.
+    pub places: Option<&'t Places<'a>>,
+    ghost placed: { ForSome places (λ p. HasPlaces 0 (names_by code.now (option_map module_view (option_copied «module»))) p.now) },
+}
+
+impl<'t, 'a> Exports<'t, 'a> {
+    /// What the module exports by this name: F34, F33.
+    #[tactic(auto, unfolding(crate::specs::Imports::exported))]
+    fn exported(&self, name: &Bytes) -> Result<Value, EvalErr>
+        ensures { Gives (λ v. v) BadKind result (exported self.now.code.now (option_map module_view (option_copied self.now.module)) name.now) }
+    {
+        if name.as_slice().starts_with(b"_") {
+            return Err(EvalErr::Bad(FaultKind::PrivateSymbol));
+        }
+        let Some(module) = self.module else {
+            return Err(EvalErr::Bad(FaultKind::NoSymbol));
+        };
+        let names = globals_of(self.code, module.frozen.module());
+        match value_by(self.places, name, names, module.frozen.globals()) {
+            None => Err(EvalErr::Bad(FaultKind::NoSymbol)),
+            Some(value) => Ok(value.share()?),
+        }
+    }
+
+    /// The value of a clause of a load in this line, or its fault.
+    fn clause_value(&self, line: u32, symbol: &Bytes) -> Result<Value, SourceErr>
+        ensures { Gives (λ v. v) Bad result (at_symbol line symbol.now (exported self.now.code.now (option_map module_view (option_copied self.now.module)) symbol.now)) }
+    {
+        match self.exported(symbol) {
+            Ok(value) => Ok(value),
+            Err(EvalErr::Bad(kind)) => Err(SourceErr::Bad(Fault {
+                kind,
+                line,
+                detail: symbol.share()?,
+            })),
+            Err(EvalErr::Memory) => Err(SourceErr::Memory),
+        }
+    }
+
+    /// Adds a value for each clause of a load in this line.
+    #[tactic(auto, unfolding(crate::specs::Imports::clause_values))]
+    pub(crate) fn clause_values(
+        &self,
+        line: u32,
+        values: &mut Vec<Value>,
+        clauses: &[LoadedSymbol],
+    ) -> Result<(), SourceErr>
+        ensures { Gives (λ _. values.new.items) Bad result (clause_values self.now.code.now (option_map module_view (option_copied self.now.module)) line values.old.items clauses.now) }
+    {
+        for clause in clauses {
+            values.push(self.clause_value(line, &clause.symbol)?)?;
+        }
+        Ok(())
+    }
+}

@@ -1,0 +1,48 @@
+//! The places of names, for those who look for many of them.
+
+ghost use Rattle.std.specs.Prelude.{◌≡◌, IfOk, Some, slice_get};
+ghost use Rattle.std.specs.Option.{ForSome};
+ghost use Rattle.bq_load.specs.Places.{place_in, HasPlaces};
+
+use bq_source::Bytes;
+use std::alloc::{AllocError, Global};
+use std::collections::BTreeMap;
+
+/// The place of each name: of two that are equal the first's. Names that strangers choose take no longer in a tree.
+pub(crate) type Places<'a> = BTreeMap<&'a [u8], usize>;
+
+/// The places of names.
+#[tactic(auto, using(crate::proofs::ByName::none_after))]
+pub(crate) fn places_by_name<'a>(
+    alloc: Global,
+    names: &'a [Bytes],
+) -> Result<Places<'a>, AllocError>
+    ensures { IfOk result (λ places. HasPlaces 0 names.now places) }
+{
+    let mut places = BTreeMap::new(alloc);
+    for i in (0..names.len()).rev() {
+        places.insert(names[i].as_slice(), i)?;
+    }
+    Ok(places)
+}
+
+/// The place of a name.
+pub(crate) fn place_of(places: &Places<'_>, name: &Bytes) -> Option<usize>
+    ensures { result ≡ place_in places.now name.now }
+{
+    places.get(name.as_slice()).copied()
+}
+
+/// The map in this place, if there is one.
+pub(crate) fn places_at<'t, 'a>(
+    all: &'t [Option<Places<'a>>],
+    number: usize,
+) -> Option<&'t Places<'a>>
+    ensures { ForSome result (λ places. slice_get all.now number ≡ Some (Some places.now)) }
+{
+    match all.get(number) {
+        None => None,
+        Some(None) => None,
+        Some(Some(places)) => Some(places),
+    }
+}

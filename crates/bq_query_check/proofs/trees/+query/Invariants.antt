@@ -1,0 +1,13 @@
+use Rattle.std.proofs.Common.{map, take}
+use Rattle.std.specs.List.{AllByRecursion}
+use Rattle.bq_query_verdict.specs.Verdict.{parts, operation_part}
+use Rattle.bq_query_check.specs.Checked.{Holds}
+use Rattle.bq_query_check.specs.Formula.{step_of}
+use Rattle.bq_query_check.specs.FormulaOf.{AreStepsOf}
+use Rattle.bq_query_check.proofs.trees.+query.Given as goal
+
+abbrev pub invariant-steps-loop-operation : goal.invariant-steps-loop-operation
+invariant-steps-loop-operation l = record {
+  hold : AllByRecursion Holds (parts (map operation_part (take l.operation-index l.operations)) l.names);
+  read : AreStepsOf l.names (take l.operation-index l.operations) (map step_of l.steps);
+}

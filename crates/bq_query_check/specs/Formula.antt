@@ -1,0 +1,74 @@
+-- What a query that was checked says: sets made of sets. Contracts see this of a `SetExpr`: a chain of operators is done from left to
+-- right, and a regular expression is what it means.
+use Rattle.std.specs.Prelude.{ℕ, ◌+◌, ◌<◌, List, [], ◌∷◌}
+use Rattle.std.specs.Coded.{×_prop, Unit-prop, le_prop}
+use Rattle.bq_query_tree.specs.declared.tree.Operator.{Operator}
+use Rattle.bq_query_check.specs.declared.formula.Unary.{Unary}
+use Rattle.bq_query_check.specs.declared.formula.Binary.{Binary}
+use Rattle.bq_query_check.specs.declared.formula.SetExpr.{SetExpr, fold-SetExpr}
+use Rattle.bq_query_check.specs.declared.formula.ChainStep.{ChainStep, fold-ChainStep}
+use Rattle.bq_query_check.specs.declared.formula.SetExpr.TheOpen as query
+use Rattle.bq_query_check.specs.declared.formula.SetExpr.TheOpen.{SetExpr-F, ChainStep-F}
+
+pub data Formula : Type 0 where
+  -- the targets that words name: a word alone, or those of `set(word ..)`
+  named : List (List ℕ) → Formula
+  -- `$name`: what the let of this number binds, of those around it, the outermost of which is 0
+  variable : ℕ → Formula
+  -- `let name = x in y`
+  let_in : Formula → Formula → Formula
+  -- `x + y`, `x ^ y`, `x - y`
+  combined : Operator → Formula → Formula → Formula
+  -- a function of one set: `deps(x)`, `kind(pattern, x)`, ..
+  one : Unary → Formula → Formula
+  -- a function of two: `rdeps(u, x)`, `allpaths(x, y)`
+  two : Binary → Formula → Formula → Formula
+
+-- a further operand of a chain
+pub record Step : Type 0 where
+  pub operator : Operator
+  pub formula : Formula
+
+-- from left to right
+abbrev pub chained : Formula → List Step → Formula
+chained x [] = x
+chained x (o ∷ os) = chained (combined o.operator x o.formula) os
+
+abbrev pub step_step : ChainStep-F Formula Step → Step
+step_step o = record { operator = o.operator; formula = o.operand }
+
+abbrev pub query_step : SetExpr-F Formula Step → Formula
+query_step (query.Named ws) = named ws
+query_step (query.Variable k) = variable k
+query_step (query.Let x y) = let_in x y
+query_step (query.Chain x os) = chained x os
+query_step (query.One f x) = one f x
+query_step (query.Two f x y) = two f x y
+
+abbrev pub formula_of : SetExpr → Formula
+formula_of = fold-SetExpr Formula Step query_step step_step
+
+abbrev pub step_of : ChainStep → Step
+step_of = fold-ChainStep Formula Step query_step step_step
+
+-- each variable is bound, where so many lets are around
+abbrev pub IsClosed : ℕ → Formula → Type 0
+IsClosed n (named words) = Unit {0}
+IsClosed n (variable k) = k < n
+IsClosed n (let_in x y) = IsClosed n x × IsClosed (n + 1) y
+IsClosed n (combined o x y) = IsClosed n x × IsClosed n y
+IsClosed n (one f x) = IsClosed n x
+IsClosed n (two f x y) = IsClosed n x × IsClosed n y
+
+pub IsClosed-prop : (n : ℕ) (x : Formula) → IsProp (IsClosed n x)
+IsClosed-prop n (named words) = Unit-prop
+IsClosed-prop n (variable k) = le_prop
+IsClosed-prop n (let_in x y) = ×_prop (IsClosed-prop n x) (IsClosed-prop (n + 1) y)
+IsClosed-prop n (combined o x y) = ×_prop (IsClosed-prop n x) (IsClosed-prop n y)
+IsClosed-prop n (one f x) = IsClosed-prop n x
+IsClosed-prop n (two f x y) = ×_prop (IsClosed-prop n x) (IsClosed-prop n y)
+
+-- so is each of the further operands of a chain
+abbrev pub AreClosed : ℕ → List Step → Type 0
+AreClosed n [] = Unit {0}
+AreClosed n (s ∷ ss) = IsClosed n s.formula × AreClosed n ss

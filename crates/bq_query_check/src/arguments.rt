@@ -1,0 +1,51 @@
+//! Arguments that are one word: patterns, names of attributes, and numbers of edges.
+
+ghost use Rattle.std.specs.Prelude.{Some, None};
+ghost use Rattle.bq_query.specs.declared.function.ArgumentKind.TheVariants as kind;
+ghost use Rattle.bq_query_verdict.specs.Verdict.{argument, part_of};
+ghost use Rattle.bq_query_check.specs.Checked.{Reads};
+ghost use Rattle.bq_query_check.specs.FormulaOf.{IsName, IsNumber, IsPattern};
+
+use crate::number::number;
+use crate::pattern::QueryPattern;
+use bq_query::QueryErr;
+use bq_query_tree::Query;
+use bq_query_verdict::{is_number, no_word};
+use bq_source::Bytes;
+use std::alloc::Global;
+
+/// A regular expression: Q4 where it is refused.
+pub fn pattern(alloc: Global, names: &[Bytes], query: &Query) -> Result<QueryPattern, QueryErr>
+    ensures { Reads (argument (Some kind.Pattern) (part_of query.now) names.now) (IsPattern query.now) result }
+{
+    match query {
+        Query::Word(text) => QueryPattern::read(alloc, text.as_slice()),
+        _ => Err(no_word(alloc, names, query)),
+    }
+}
+
+/// The name of an attribute.
+pub fn attribute(alloc: Global, names: &[Bytes], query: &Query) -> Result<Bytes, QueryErr>
+    ensures { Reads (argument (Some kind.Attribute) (part_of query.now) names.now) (IsName query.now) result }
+{
+    match query {
+        Query::Word(text) => Ok(text.share()?),
+        _ => Err(no_word(alloc, names, query)),
+    }
+}
+
+/// A number of edges: Q8 where it is not 1 to 9 digits.
+pub fn limit(alloc: Global, names: &[Bytes], query: &Query) -> Result<usize, QueryErr>
+    ensures { Reads (argument None (part_of query.now) names.now) (IsNumber query.now) result }
+{
+    match query {
+        Query::Word(text) => {
+            if is_number(text.as_slice()) {
+                Ok(number(text.as_slice()))
+            } else {
+                Err(QueryErr::Arguments)
+            }
+        }
+        _ => Err(no_word(alloc, names, query)),
+    }
+}

@@ -1,0 +1,12 @@
+//! Queries that were checked.
+
+ghost use Rattle.bq_query_check.specs.Formula.{formula_of, IsClosed, IsClosed-prop};
+
+use crate::formula::SetExpr;
+
+/// A query that can be answered: a set whose variables are bound, each by a let around it.
+#[derive(Drop)]
+pub struct CheckedQuery {
+    pub set: SetExpr,
+    pub ghost closed: { IsClosed 0 (formula_of set) } by { IsClosed-prop 0 (formula_of set) },
+}

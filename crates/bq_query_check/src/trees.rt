@@ -1,0 +1,262 @@
+//! Trees: what must hold of them is tested in the order of the text, and what they say is made on the way.
+
+ghost use Rattle.std.specs.Prelude.{◌≡◌, ◌++◌, [], ◌∷◌, map, IfOk};
+ghost use Rattle.bq_query.specs.Functions.{function_named};
+ghost use Rattle.bq_query.specs.declared.function.Function.TheVariants as f;
+ghost use Rattle.bq_query_verdict.specs.Verdict as spec;
+ghost use Rattle.bq_query_verdict.specs.Verdict.{no_fault, part_of, operation_part, call_of, call_by, variable};
+ghost use Rattle.bq_query_check.specs.Checked.{Reads};
+ghost use Rattle.bq_query_check.specs.Formula as formula;
+ghost use Rattle.bq_query_check.specs.Formula.{formula_of, step_of};
+ghost use Rattle.bq_query_check.specs.FormulaOf.{IsFormulaOf, AreStepsOf, IsCallOf, IsCallNamed, IsOne, IsBound};
+
+use crate::arguments::{attribute, limit, pattern};
+use crate::formula::{Binary, ChainStep, SetExpr, Unary};
+use crate::names::{innermost, shared, with_name};
+use bq_query::{Function, QueryErr, function_named};
+use bq_query_tree::{Operation, Query};
+use bq_query_verdict::{unknown, words};
+use bq_source::Bytes;
+use sqlite_items::{Boxed, Items};
+use std::alloc::{AllocError, Global};
+use std::slice::from_ref;
+
+/// Words as target patterns.
+fn named(alloc: Global, texts: &[Bytes]) -> Result<SetExpr, QueryErr>
+    ensures { Reads (no_fault (spec.words texts.now) ∷ []) (λ r. formula_of r ≡ formula.named texts.now) result }
+{
+    words(alloc, texts)?;
+    Ok(SetExpr::Named(shared(alloc, texts)?))
+}
+
+/// `$name`: Q7 where no let around it binds the name.
+fn bound(names: &[Bytes], name: &Bytes) -> Result<SetExpr, QueryErr>
+    ensures { Reads (no_fault (variable names.now name.now) ∷ []) (λ r. IsBound names.now name.now (formula_of r)) result }
+{
+    match innermost(names, name.as_slice()) {
+        Some(number) => Ok(SetExpr::Variable(number)),
+        None => Err(QueryErr::UnboundVariable(name.share()?)),
+    }
+}
+
+/// A function of two sets.
+fn two(alloc: Global, function: Binary, x: SetExpr, y: SetExpr) -> Result<SetExpr, AllocError>
+    ensures { IfOk result (λ r. formula_of r ≡ formula.two function (formula_of x) (formula_of y)) }
+{
+    Ok(SetExpr::Two(function, Boxed::new(alloc, x)?, Boxed::new(alloc, y)?))
+}
+
+/// `let name = value in body`
+fn let_in(alloc: Global, value: SetExpr, body: SetExpr) -> Result<SetExpr, AllocError>
+    ensures { IfOk result (λ r. formula_of r ≡ formula.let_in (formula_of value) (formula_of body)) }
+{
+    Ok(SetExpr::Let(Boxed::new(alloc, value)?, Boxed::new(alloc, body)?))
+}
+
+/// A query and the operations on it.
+fn chain(alloc: Global, first: SetExpr, steps: Items<ChainStep>) -> Result<SetExpr, AllocError>
+    ensures { IfOk result (λ r. formula_of r ≡ formula.chained (formula_of first) (map step_of steps)) }
+{
+    Ok(SetExpr::Chain(Boxed::new(alloc, first)?, steps))
+}
+
+/// A function of one set.
+#[cycle(query)]
+fn one(alloc: Global, names: &[Bytes], function: Unary, query: &Query) -> Result<SetExpr, QueryErr>
+    ensures { Reads ((part_of query.now).all names.now) (λ r. IsOne function names.now query.now (formula_of r)) result }
+{
+    let x = read(alloc, names, query)?;
+    Ok(SetExpr::One(function, Boxed::new(alloc, x)?))
+}
+
+/// `deps(x)`, `deps(x, n)`
+#[cycle(query)]
+fn deps(alloc: Global, names: &[Bytes], arguments: &[Query]) -> Result<SetExpr, QueryErr>
+    ensures { Reads (call_of f.Deps (map part_of arguments.now) names.now) (λ r. IsCallOf f.Deps names.now arguments.now (formula_of r)) result }
+{
+    match arguments {
+        [x] => one(alloc, names, Unary::Deps, x),
+        [x, n] => {
+            let x = read(alloc, names, x)?;
+            let limit = limit(alloc, names, n)?;
+            Ok(SetExpr::One(Unary::DepsWithin(limit), Boxed::new(alloc, x)?))
+        }
+        _ => Err(QueryErr::Arguments),
+    }
+}
+
+/// `rdeps(u, x)`, `rdeps(u, x, n)`
+#[cycle(query)]
+fn rdeps(alloc: Global, names: &[Bytes], arguments: &[Query]) -> Result<SetExpr, QueryErr>
+    ensures { Reads (call_of f.Rdeps (map part_of arguments.now) names.now) (λ r. IsCallOf f.Rdeps names.now arguments.now (formula_of r)) result }
+{
+    match arguments {
+        [u, x] => {
+            let u = read(alloc, names, u)?;
+            let x = read(alloc, names, x)?;
+            Ok(two(alloc, Binary::Rdeps, u, x)?)
+        }
+        [u, x, n] => {
+            let u = read(alloc, names, u)?;
+            let x = read(alloc, names, x)?;
+            let limit = limit(alloc, names, n)?;
+            Ok(two(alloc, Binary::RdepsWithin(limit), u, x)?)
+        }
+        _ => Err(QueryErr::Arguments),
+    }
+}
+
+/// `allpaths(x, y)`
+#[cycle(query)]
+fn allpaths(alloc: Global, names: &[Bytes], arguments: &[Query]) -> Result<SetExpr, QueryErr>
+    ensures { Reads (call_of f.Allpaths (map part_of arguments.now) names.now) (λ r. IsCallOf f.Allpaths names.now arguments.now (formula_of r)) result }
+{
+    match arguments {
+        [x, y] => {
+            let x = read(alloc, names, x)?;
+            let y = read(alloc, names, y)?;
+            Ok(two(alloc, Binary::Allpaths, x, y)?)
+        }
+        _ => Err(QueryErr::Arguments),
+    }
+}
+
+/// `kind(pattern, x)`
+#[cycle(query)]
+fn kind(alloc: Global, names: &[Bytes], arguments: &[Query]) -> Result<SetExpr, QueryErr>
+    ensures { Reads (call_of f.Kind (map part_of arguments.now) names.now) (λ r. IsCallOf f.Kind names.now arguments.now (formula_of r)) result }
+{
+    match arguments {
+        [p, x] => {
+            let function = Unary::Kind(pattern(alloc, names, p)?);
+            one(alloc, names, function, x)
+        }
+        _ => Err(QueryErr::Arguments),
+    }
+}
+
+/// `filter(pattern, x)`
+#[cycle(query)]
+fn filter(alloc: Global, names: &[Bytes], arguments: &[Query]) -> Result<SetExpr, QueryErr>
+    ensures { Reads (call_of f.Filter (map part_of arguments.now) names.now) (λ r. IsCallOf f.Filter names.now arguments.now (formula_of r)) result }
+{
+    match arguments {
+        [p, x] => {
+            let function = Unary::Filter(pattern(alloc, names, p)?);
+            one(alloc, names, function, x)
+        }
+        _ => Err(QueryErr::Arguments),
+    }
+}
+
+/// `labels(name, x)`
+#[cycle(query)]
+fn labels(alloc: Global, names: &[Bytes], arguments: &[Query]) -> Result<SetExpr, QueryErr>
+    ensures { Reads (call_of f.Labels (map part_of arguments.now) names.now) (λ r. IsCallOf f.Labels names.now arguments.now (formula_of r)) result }
+{
+    match arguments {
+        [name, x] => {
+            let function = Unary::Labels(attribute(alloc, names, name)?);
+            one(alloc, names, function, x)
+        }
+        _ => Err(QueryErr::Arguments),
+    }
+}
+
+/// `attr(name, pattern, x)`
+#[cycle(query)]
+fn attr(alloc: Global, names: &[Bytes], arguments: &[Query]) -> Result<SetExpr, QueryErr>
+    ensures { Reads (call_of f.Attr (map part_of arguments.now) names.now) (λ r. IsCallOf f.Attr names.now arguments.now (formula_of r)) result }
+{
+    match arguments {
+        [name, p, x] => {
+            let name = attribute(alloc, names, name)?;
+            let pattern = pattern(alloc, names, p)?;
+            one(alloc, names, Unary::Attr(name, pattern), x)
+        }
+        _ => Err(QueryErr::Arguments),
+    }
+}
+
+/// A function by its name, with its arguments: Q2 or Q3 where there is none that can be answered, Q8 where the number of arguments is
+/// another.
+#[cycle(query)]
+fn call(
+    alloc: Global,
+    names: &[Bytes],
+    name: &Bytes,
+    arguments: &[Query],
+) -> Result<SetExpr, QueryErr>
+    ensures { Reads (call_by (function_named name.now) name.now (map part_of arguments.now) names.now) (λ r. IsCallNamed name.now names.now arguments.now (formula_of r)) result }
+{
+    match function_named(name.as_slice()) {
+        Some(Function::Allpaths) => allpaths(alloc, names, arguments),
+        Some(Function::Attr) => attr(alloc, names, arguments),
+        Some(Function::Deps) => deps(alloc, names, arguments),
+        Some(Function::Filter) => filter(alloc, names, arguments),
+        Some(Function::Kind) => kind(alloc, names, arguments),
+        Some(Function::Labels) => labels(alloc, names, arguments),
+        Some(Function::Rdeps) => rdeps(alloc, names, arguments),
+        None => Err(unknown(name)?),
+    }
+}
+
+/// The further operands of a chain.
+#[cycle(query)]
+fn steps(
+    alloc: Global,
+    names: &[Bytes],
+    operations: &[Operation],
+) -> Result<Items<ChainStep>, QueryErr>
+    ensures { Reads (spec.parts (map operation_part operations.now) names.now) (λ r. AreStepsOf names.now operations.now (map step_of r)) result }
+{
+    let mut steps = Items::new(alloc);
+    for operation in operations {
+        let operand = read(alloc, names, &operation.operand)?;
+        steps.push(ChainStep {
+            operator: operation.operator,
+            operand,
+        })?;
+    }
+    Ok(steps)
+}
+
+/// The body of a let that binds the name.
+#[cycle(query)]
+fn body(alloc: Global, names: &[Bytes], name: &Bytes, query: &Query) -> Result<SetExpr, QueryErr>
+    ensures { Reads ((part_of query.now).all (names.now ++ name.now ∷ [])) (λ r. IsFormulaOf (names.now ++ name.now ∷ []) query.now (formula_of r)) result }
+{
+    let names = with_name(alloc, names, name)?;
+    read(alloc, names.as_slice(), query)
+}
+
+/// A tree where the lets around it bind these names.
+#[cycle(query)]
+fn read(alloc: Global, names: &[Bytes], query: &Query) -> Result<SetExpr, QueryErr>
+    ensures { Reads ((part_of query.now).all names.now) (λ r. IsFormulaOf names.now query.now (formula_of r)) result }
+{
+    match query {
+        Query::Word(text) => named(alloc, from_ref(text)),
+        Query::Variable(name) => bound(names, name),
+        Query::Parenthesized(inner) => read(alloc, names, inner.get()),
+        Query::Set(texts) => named(alloc, texts.as_slice()),
+        Query::Call(name, arguments) => call(alloc, names, name, arguments.as_slice()),
+        Query::Let(name, value, inner) => {
+            let value = read(alloc, names, value.get())?;
+            let inner = body(alloc, names, name, inner.get())?;
+            Ok(let_in(alloc, value, inner)?)
+        }
+        Query::Chain(first, operations) => {
+            let first = read(alloc, names, first.get())?;
+            let steps = steps(alloc, names, operations.as_slice())?;
+            Ok(chain(alloc, first, steps)?)
+        }
+    }
+}
+
+/// What a whole tree says, or its first fault in the order of the text.
+pub fn check(alloc: Global, query: &Query) -> Result<SetExpr, QueryErr>
+    ensures { Reads (spec.needs query.now) (λ r. IsFormulaOf [] query.now (formula_of r)) result }
+{
+    read(alloc, &[], query)
+}

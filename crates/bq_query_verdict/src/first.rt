@@ -1,0 +1,37 @@
+//! The faults at the first token of a part of a tree.
+
+ghost use Rattle.std.specs.Prelude.{◌≡◌, ◌≢◌, Some};
+ghost use Rattle.bq_query.specs.declared.query_error.QueryErr.TheVariants.{Memory};
+ghost use Rattle.bq_query_verdict.specs.Verdict as spec;
+ghost use Rattle.bq_query_verdict.specs.Verdict.{Tells, part_of};
+
+use crate::leaves::{function, variable, word};
+use bq_query::QueryErr;
+use bq_query_tree::Query;
+use bq_source::Bytes;
+use std::alloc::Global;
+
+/// The faults at the first token.
+fn at_first(alloc: Global, names: &[Bytes], query: &Query) -> Result<(), QueryErr>
+    ensures { Tells ((part_of query.now).at_first names.now) result }
+{
+    match query {
+        Query::Word(text) => word(alloc, text),
+        Query::Variable(name) => variable(names, name),
+        Query::Call(name, arguments) => function(name, arguments.len()),
+        Query::Chain(first, _) => at_first(alloc, names, first.get()),
+        Query::Parenthesized(_) => Ok(()),
+        Query::Set(_) => Ok(()),
+        Query::Let(_, _, _) => Ok(()),
+    }
+}
+
+/// What is wrong with an argument that has to be one word and is not: Q8 at its first token.
+pub fn no_word(alloc: Global, names: &[Bytes], query: &Query) -> QueryErr
+    ensures { result ≢ Memory → spec.no_word (part_of query.now) names.now ≡ Some result }
+{
+    match at_first(alloc, names, query) {
+        Ok(()) => QueryErr::Arguments,
+        Err(why) => why,
+    }
+}

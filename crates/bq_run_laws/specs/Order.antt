@@ -1,0 +1,13 @@
+-- What comes first where several things are wrong.
+use Rattle.std.specs.Prelude.{◌≡◌, Err}
+use Rattle.bq_query.specs.declared.query_error.QueryErr.{QueryErr}
+use Rattle.bq_query_check.specs.Checked.{IsWrong}
+use Rattle.bq_run.specs.Run.{Run}
+use Rattle.bq_run.specs.declared.error.RunErr.TheVariants as run
+use Rattle.bq_run.specs.declared.options.Options.{Options}
+
+-- the run ends with what is wrong with its query
+pub record EndsWithWrongQuery (o : Options) (what : Run) : Type 0 where
+  pub error : QueryErr
+  pub wrong : IsWrong o.query.items error
+  pub ends : what.end ≡ Err (run.Query error)
