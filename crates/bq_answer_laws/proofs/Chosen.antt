@@ -8,11 +8,12 @@ use Rattle.bq_label.specs.Label.{LabelParts, full_form}
 use Rattle.bq_label.proofs.Orders.{at_head, in_tail, head_or_tail}
 use Rattle.bq_pattern.specs.Patterns.{is_found}
 use Rattle.bq_query_check.specs.Formula.{Formula}
+use Rattle.bq_rule_class.specs.Class.{Class}
+use Rattle.bq_rule_class.specs.declared.value.AttributeValue.{AttributeValue}
+use Rattle.bq_rule_class.specs.declared.value.AttributeValue.TheVariants as v
 use Rattle.bq_target.specs.declared.target.Target.{Target}
 use Rattle.bq_target.specs.declared.target.TargetKind.{TargetKind}
 use Rattle.bq_target.specs.declared.target.TargetKind.TheVariants as k
-use Rattle.bq_target.specs.declared.value.AttributeValue.{AttributeValue}
-use Rattle.bq_target.specs.declared.value.AttributeValue.TheVariants as v
 use Rattle.bq_target.specs.declared.value.GivenAttribute.{GivenAttribute}
 use Rattle.bq_target_laws.proofs.Writing.{none_in}
 use Rattle.bq_target_sets.specs.Labels.{labels_in, labels_by, named_by, labels_named, is_among}
@@ -21,7 +22,8 @@ use Rattle.bq_target_sets.specs.Order.{is_text}
 use Rattle.bq_target_sets.specs.Texts.{kind_text, given}
 use Rattle.bq_target_sets.specs.Words.{Those}
 use Rattle.bq_answer.specs.Stands.{Bound}
-use Rattle.bq_answer.specs.World.{Facts, targets_of}
+use Rattle.bq_target_graph.specs.Graph.{GraphParts}
+use Rattle.bq_answer.specs.Graph.{targets_of}
 use Rattle.bq_answer_laws.specs.Chosen.{IsTargetWith, IsKind, KindMatches, HoldsLabel, FirstGiven, RuleNames, Choose}
 
 -- ---- tests of targets
@@ -65,14 +67,14 @@ unfolding kind_text
 kind_is t = by t.kind refl
   where
     by : (kind : TargetKind) → t.kind ≡ kind → IsKind t (kind_text kind)
-    by (k.Rule name) e = IsKind.rule name e refl
+    by (k.Rule name class) e = IsKind.rule name class e refl
     by k.Source e = IsKind.source e refl
     by (k.Generated rule) e = IsKind.generated rule e refl
     by k.Group e = IsKind.group e refl
 
 one_kind : (t : Target) (text : List ℕ) → IsKind t text → kind_text t.kind ≡ text
 unfolding kind_text
-one_kind t text (IsKind.rule name e f) = ap kind_text e ∙ sym f
+one_kind t text (IsKind.rule name class e f) = ap kind_text e ∙ sym f
 one_kind t text (IsKind.source e f) = ap kind_text e ∙ sym f
 one_kind t text (IsKind.generated rule e f) = ap kind_text e ∙ sym f
 one_kind t text (IsKind.group e f) = ap kind_text e ∙ sym f
@@ -145,8 +147,9 @@ finds name (b ∷ bs) after a e h =
 
 -- an attribute of a rule has the label
 record Named (name : List ℕ) (r : Target) (l : LabelParts) : Type 0 where
-  class : List ℕ
-  rule : r.kind ≡ k.Rule class
+  name_of_kind : List ℕ
+  class : Class
+  rule : r.kind ≡ k.Rule name_of_kind class
   attribute : GivenAttribute
   gives : FirstGiven r name attribute
   holds : HoldsLabel l attribute.value
@@ -155,10 +158,11 @@ named : (name : List ℕ) (r : Target) (l : LabelParts) → Contains (labels_nam
 unfolding labels_named
 named name r l c = by r.kind refl c
   where
-    by_given : (class : List ℕ) → r.kind ≡ k.Rule class → (o : Option GivenAttribute) → given name r ≡ o → Contains (labels_by o) l → Named name r l
-    by_given class e None f h = absurd (none_in l h)
-    by_given class e (Some a) f h =
+    by_given : (kind_name : List ℕ) (class : Class) → r.kind ≡ k.Rule kind_name class → (o : Option GivenAttribute) → given name r ≡ o → Contains (labels_by o) l → Named name r l
+    by_given kind_name class e None f h = absurd (none_in l h)
+    by_given kind_name class e (Some a) f h =
         let r = found name r.attributes a f in record {
+          name_of_kind = kind_name;
           class = class;
           rule = e;
           attribute = a;
@@ -167,7 +171,7 @@ named name r l c = by r.kind refl c
         }
 
     by : (kind : TargetKind) → r.kind ≡ kind → Contains (named_by kind name r) l → Named name r l
-    by (k.Rule class) e h = by_given class e (given name r) refl h
+    by (k.Rule kind_name class) e h = by_given kind_name class e (given name r) refl h
     by k.Source e h = absurd (none_in l h)
     by (k.Generated rule) e h = absurd (none_in l h)
     by k.Group e h = absurd (none_in l h)
@@ -218,15 +222,15 @@ rule_names name r t = (
   λ h.
       let a = among (labels_named name r) t h in
       let n = named name r a.label a.known in
-      record { class = n.class; rule = n.rule; attribute = n.attribute; gives = n.gives; label = a.label; holds = n.holds; same = a.same },
+      record { name_of_kind = n.name_of_kind; class = n.class; rule = n.rule; attribute = n.attribute; gives = n.gives; label = a.label; holds = n.holds; same = a.same },
   λ n.
       is_there (labels_named name r) t n.label
-      (is_named name r n.label (record { class = n.class; rule = n.rule; attribute = n.attribute; gives = n.gives; holds = n.holds })) n.same,
+      (is_named name r n.label (record { name_of_kind = n.name_of_kind; class = n.class; rule = n.rule; attribute = n.attribute; gives = n.gives; holds = n.holds })) n.same,
 )
 
 -- ---- the functions
 
-pub choose : (w : Facts) (a : Formula) (re : Re) (name : List ℕ) (bound : Bound) (y : ℕ) → Choose w a re name bound y
+pub choose : (w : GraphParts) (a : Formula) (re : Re) (name : List ℕ) (bound : Bound) (y : ℕ) → Choose w a re name bound y
 choose w a re name bound y =
     let ts = targets_of w in
     let kinds = those_with (has_kind re) (KindMatches re) (kind_matches re) ts y in
