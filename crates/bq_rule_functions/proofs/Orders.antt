@@ -1,0 +1,2 @@
+-- What rules are refused for, in order.
+use Rattle.std.proofs.Common.{◌≡◌}
