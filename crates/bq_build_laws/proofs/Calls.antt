@@ -25,7 +25,7 @@ use Rattle.bq_step_laws.specs.Laws.{Own}
 use Rattle.bq_step_laws.specs.Steps.{hosted, Begins, leaving, printed, Leaves, Takes}
 use Rattle.bq_step_laws.proofs.Collections.{new_list_owns}
 use Rattle.bq_step_laws.proofs.Machine.{given_owns, bind_owns}
-use Rattle.bq_step_laws.proofs.Owning.{begins_itself, at_no_cost, at_state}
+use Rattle.bq_step_laws.proofs.Owning.{begins_itself, stays_itself, at_no_cost, at_state}
 
 abbrev Ending : Type 0
 Ending = Run (State × HeldPackage) Datum
@@ -41,8 +41,8 @@ module _ (s : State) (d : Declaring) where
   settled_prints (Accepted after) = begins_itself s.prints
   settled_prints (Refused after) = begins_itself s.prints
 
-  settled_leaves : (x : Declared) → Leaves hosted (s.store.own, s.store.loaded) (settled s d x)
-  settled_leaves (Accepted after) = refl
+  settled_leaves : (x : Declared) → Leaves hosted s.store (settled s d x)
+  settled_leaves (Accepted after) = stays_itself s.store
   settled_leaves (Refused after) = tt
 
   module _ {A : Type 0} (declare : A → Declared) where
@@ -54,7 +54,7 @@ module _ (s : State) (d : Declaring) where
     declares_prints (Ok a) = settled_prints (declare a)
     declares_prints (Err why) = begins_itself s.prints
 
-    declares_leaves : (r : Result A FaultKind) → Leaves hosted (s.store.own, s.store.loaded) (declares s d r declare)
+    declares_leaves : (r : Result A FaultKind) → Leaves hosted s.store (declares s d r declare)
     declares_leaves (Ok a) = settled_leaves (declare a)
     declares_leaves (Err why) = tt
 
