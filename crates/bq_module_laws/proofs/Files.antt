@@ -48,12 +48,12 @@ unfolding content_at
 content_outside s home number apart = ap (λ b. cond b (slice_get s.cells number) (cell_of number (module_at home s.loaded))) (ne_eqb home s.own apart)
 
 module _ (first : StoreView) (home cell : ℕ) (apart : home ≢ first.own) where
-  stays_in : (s : StoreView) (gs : List Datum) → Stays first s → frozen_at (frozen s gs) home cell ≡ content_at first home cell
-  stays_in s gs h =
-      frozen_outside (frozen s gs) home cell (λ is. apart (is ∙ h.own)) ∙ (ap (λ ms. cell_of cell (module_at home ms)) h.modules ∙ sym (content_outside first home cell apart))
+  stays_in : (s : StoreView) (names : List Name) (gs : List Datum) → Stays first s → frozen_at (frozen s names gs) home cell ≡ content_at first home cell
+  stays_in s names gs h =
+      frozen_outside (frozen s names gs) home cell (λ is. apart (is ∙ h.own)) ∙ (ap (λ ms. cell_of cell (module_at home ms)) h.modules ∙ sym (content_outside first home cell apart))
 
   stays : {W : Type 0} (file : Resolved) (imports : List Datum) (r : Run (State × W) Frame) → Leaves hosted first r → FrozenAre (ended file imports r) (λ f. frozen_at f home cell ≡ content_at first home cell)
-  stays file imports (done globals s) h = stays_in s.0.store (frozen_values file imports globals) h
+  stays file imports (done globals s) h = stays_in s.0.store file.globals (frozen_values file imports globals) h
   stays file imports (stopped why) h = tt
 
 short_stays : (e : Ended) (prints : List (List ℕ)) (P : FrozenView → Type 0) → EndsShort e prints → FrozenAre e P
