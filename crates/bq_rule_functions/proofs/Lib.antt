@@ -1,6 +1,8 @@
 -- actions of a machine, beside what a host keeps
 pub mod Lifting
--- the attributes of a rule, by their names
+-- no key of a dict is twice, so no attribute of its rule is
 pub mod Names
+-- the attributes of a rule are those of its dict
+pub mod Entries
 -- what rules are refused for
 pub mod Orders
