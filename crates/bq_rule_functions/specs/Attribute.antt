@@ -4,7 +4,7 @@ use Rattle.std.specs.Prelude.{pos, Bool, true, false, ◌==◌, List, [], Option
 use Rattle.std.specs.Ordering.{int_eq}
 use Rattle.bq_source.specs.declared.fault.FaultKind.{FaultKind}
 use Rattle.bq_rule_class.specs.declared.attribute.Attribute.{Attribute}
-use Rattle.bq_rule_class.specs.declared.attribute.AttributeType.{AttributeType}
+use Rattle.bq_rule_class.specs.declared.attribute_type.AttributeType.{AttributeType}
 use Rattle.bq_rule_class.specs.declared.value.AttributeValue.{AttributeValue}
 use Rattle.bq_rule_class.specs.declared.value.AttributeValue.TheVariants as a
 use Rattle.bq_value.specs.Datum.{Datum, none}

@@ -5,8 +5,8 @@ use Rattle.bq_source.specs.declared.fault.FaultKind.TheVariants.{WrongType, BadV
 use Rattle.bq_predeclared.specs.declared.rule_function.RuleFunction.{RuleFunction}
 use Rattle.bq_predeclared.specs.declared.rule_function.RuleFunction.TheVariants as f
 use Rattle.bq_rule_class.specs.Class.{Class}
-use Rattle.bq_rule_class.specs.declared.attribute.AttributeType.{AttributeType}
-use Rattle.bq_rule_class.specs.declared.attribute.AttributeType.TheVariants as t
+use Rattle.bq_rule_class.specs.declared.attribute_type.AttributeType.{AttributeType}
+use Rattle.bq_rule_class.specs.declared.attribute_type.AttributeType.TheVariants as t
 use Rattle.bq_value.specs.Datum as datum
 use Rattle.bq_value.specs.Datum.{Datum}
 use Rattle.bq_value.specs.Contents as contents

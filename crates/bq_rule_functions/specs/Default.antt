@@ -3,8 +3,8 @@
 use Rattle.std.specs.Prelude.{ℕ, ℤ, pos, negsuc, Bool, true, false, ◌==◌, List, [], Option, Some, None, Result, Ok, Err, if◌then◌else◌}
 use Rattle.bq_source.specs.declared.fault.FaultKind.{FaultKind}
 use Rattle.bq_source.specs.declared.fault.FaultKind.TheVariants.{WrongType}
-use Rattle.bq_rule_class.specs.declared.attribute.AttributeType.{AttributeType}
-use Rattle.bq_rule_class.specs.declared.attribute.AttributeType.TheVariants as t
+use Rattle.bq_rule_class.specs.declared.attribute_type.AttributeType.{AttributeType}
+use Rattle.bq_rule_class.specs.declared.attribute_type.AttributeType.TheVariants as t
 use Rattle.bq_rule_class.specs.declared.value.AttributeValue.TheVariants as a
 use Rattle.bq_value.specs.Datum.{Datum, boolean, int, string, tuple, cell, list_of}
 use Rattle.bq_value.specs.Contents.{Contents, items}

@@ -30,21 +30,21 @@ fn implemented(value: Option<&Value>) -> Result<(), FaultKind>
     }
 }
 
-fn attribute_in(value: &Value) -> Result<Attribute, EvalErr>
+fn attribute_in(alloc: Global, value: &Value) -> Result<Attribute, EvalErr>
     ensures { Gives (λ x. x) Bad result (attribute_in value.now) }
 {
     match &value.node {
-        Node::Attribute(attribute) => Ok(attribute.share()?),
+        Node::Attribute(attribute) => Ok(attribute.share(alloc)?),
         _ => Err(EvalErr::Bad(FaultKind::WrongType)),
     }
 }
 
 /// An attribute by its name.
-fn entry(key: &Value, value: &Value) -> Result<(Bytes, Attribute), EvalErr>
+fn entry(alloc: Global, key: &Value, value: &Value) -> Result<(Bytes, Attribute), EvalErr>
     ensures { Gives (λ e. e) Bad result (entry (key.now, value.now)) }
 {
     let name = text_in(key)?;
-    Ok((name, attribute_in(value)?))
+    Ok((name, attribute_in(alloc, value)?))
 }
 
 /// The attributes that a dict holds, in its order.
@@ -56,7 +56,7 @@ fn entries(alloc: Global, dict: &Dict) -> Result<RuleClass, EvalErr>
     let mut class = RuleClass::empty(alloc)?;
     for i in 0..dict.len() {
         let (key, value) = dict.pair(i);
-        let (name, attribute) = entry(key.value(), value)?;
+        let (name, attribute) = entry(alloc, key.value(), value)?;
         match class.with(alloc, name.as_slice(), attribute)? {
             Some(more) => class = more,
             // no key is twice
