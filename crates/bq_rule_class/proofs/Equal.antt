@@ -1,0 +1,1 @@
+-- Attributes that are the same, and equal ones.
