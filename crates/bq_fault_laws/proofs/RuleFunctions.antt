@@ -8,8 +8,8 @@ use Rattle.bq_predeclared.specs.declared.rule_function.RuleFunction.{RuleFunctio
 use Rattle.bq_label.specs.Label.{LabelParts}
 use Rattle.bq_rule_class.specs.Class.{Class}
 use Rattle.bq_rule_class.specs.declared.attribute.Attribute.{Attribute}
-use Rattle.bq_rule_class.specs.declared.attribute.AttributeType.{AttributeType}
-use Rattle.bq_rule_class.specs.declared.attribute.AttributeType.TheVariants as t
+use Rattle.bq_rule_class.specs.declared.attribute_type.AttributeType.{AttributeType}
+use Rattle.bq_rule_class.specs.declared.attribute_type.AttributeType.TheVariants as t
 use Rattle.bq_value.specs.Cells.{StoreView, content_at, kind_of}
 use Rattle.bq_value.specs.Contents.{Contents, items, pairs, rule}
 use Rattle.bq_value.specs.Datum as datum

@@ -4,8 +4,8 @@ use Rattle.std.specs.Prelude.{ℕ, ◌++◌, List, [], ◌∷◌, map, Option, S
 use Rattle.std.specs.List.{find}
 use Rattle.std.specs.Fmt.{signed_decimal}
 use Rattle.bq_label.specs.Label.{full_form}
-use Rattle.bq_rule_class.specs.declared.attribute.AttributeType.{AttributeType}
-use Rattle.bq_rule_class.specs.declared.attribute.AttributeType.TheVariants as t
+use Rattle.bq_rule_class.specs.declared.attribute_type.AttributeType.{AttributeType}
+use Rattle.bq_rule_class.specs.declared.attribute_type.AttributeType.TheVariants as t
 use Rattle.bq_rule_class.specs.declared.value.AttributeValue.{AttributeValue}
 use Rattle.bq_rule_class.specs.declared.value.AttributeValue.TheVariants as v
 use Rattle.bq_rule_class.specs.Class.{Class}
