@@ -81,11 +81,7 @@ fn entries_in(alloc: Global, store: &Store, cell: Cell) -> Result<RuleClass, Eva
 }
 
 /// The attributes of a rule.
-fn attributes_in(
-    alloc: Global,
-    store: &Store,
-    value: Option<&Value>,
-) -> Result<RuleClass, EvalErr>
+fn attributes_in(alloc: Global, store: &Store, value: Option<&Value>) -> Result<RuleClass, EvalErr>
     ensures { Gives (λ c. c) Bad result (attributes_in store.now (option_copied value.entry)) }
 {
     let Some(value) = value else {
