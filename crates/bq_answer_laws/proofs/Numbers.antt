@@ -15,12 +15,12 @@ last_digit n (x ∷ xs) b = last_digit (min (n * 10 + (x - 48)) (2 ^ 32)) xs b
 cut_again : (c n d : ℕ) → min (min n c * 10 + d) c ≡ min (n * 10 + d) c
 cut_again c n d = elim (cases_lt n c) [
   | inl h ↦
-    let small : n ≤ c = omega (h, arith) in
-    ap (λ k. min (k * 10 + d) c) (min-eq_left small)
+      let small : n ≤ c = omega (h, arith) in
+      ap (λ k. min (k * 10 + d) c) (min-eq_left small)
   | inr h ↦
-    let low : c ≤ c * 10 + d = omega arith in
-    let high : c ≤ n * 10 + d = omega (h, arith) in
-    ap (λ k. min (k * 10 + d) c) (min-eq_right h) ∙ (min-eq_right low ∙ sym (min-eq_right high))
+      let low : c ≤ c * 10 + d = omega arith in
+      let high : c ≤ n * 10 + d = omega (h, arith) in
+      ap (λ k. min (k * 10 + d) c) (min-eq_right h) ∙ (min-eq_right low ∙ sym (min-eq_right high))
 ]
 
 digit_of : (d : ℕ) → (48 + d) - 48 ≡ d

@@ -46,11 +46,7 @@ fn frozen_of(
 }
 
 /// A .bzl file that ran to its end.
-fn bzl_module(
-    alloc: Global,
-    frozen: Frozen,
-    prints: Vec<Bytes>,
-) -> Result<LoadedModule, AllocError>
+fn bzl_module(alloc: Global, frozen: Frozen, prints: Vec<Bytes>) -> Result<LoadedModule, AllocError>
     ensures { IfOk result (λ m. module_view m ≡ module_with frozen prints.items None) }
 {
     Ok(LoadedModule {
