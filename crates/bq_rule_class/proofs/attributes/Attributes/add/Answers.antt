@@ -1,7 +1,7 @@
 use Rattle.std.proofs.Common.{◌≡◌, ◌∙◌, ap, sym, false, is_some}
-use Rattle.bq_schema.specs.Schema.{has_attribute, with_attribute}
-use Rattle.bq_schema.proofs.Keyed.{named, attribute_put}
-use Rattle.bq_schema.proofs.attributes.Attributes.add.Goals as goal
+use Rattle.bq_rule_class.specs.Class.{has_attribute, with_attribute}
+use Rattle.bq_rule_class.proofs.Keyed.{named, attribute_put}
+use Rattle.bq_rule_class.proofs.attributes.Attributes.add.Goals as goal
 
 pub returns-clause-after : goal.returns-clause-after
 returns-clause-after c =

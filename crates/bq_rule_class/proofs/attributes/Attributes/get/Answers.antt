@@ -1,8 +1,8 @@
 use Rattle.std.proofs.Common.{◌∙◌, ap}
 use Rattle.std.specs.Map.{lookup}
 use Rattle.std.specs.Str.{bytes_eq}
-use Rattle.bq_schema.proofs.Keyed.{lookup_mapped}
-use Rattle.bq_schema.proofs.attributes.Attributes.get.Goals as goal
+use Rattle.bq_rule_class.proofs.Keyed.{lookup_mapped}
+use Rattle.bq_rule_class.proofs.attributes.Attributes.get.Goals as goal
 
 pub returns : goal.returns
 returns c =
