@@ -1,5 +1,5 @@
 -- A look-up of `attr.NAME` finds the function of that name, and nothing else.
-use Rattle.std.proofs.Common.{◌≡◌, ◌≢◌, ⊥, absurd, ℕ, Bool, true, false, List, [], ◌∷◌, Option, Some, None, refl, subst, bytes_eq, cond}
+use Rattle.std.proofs.Common.{◌≡◌, ◌≢◌, ℕ, Bool, true, false, List, [], ◌∷◌, Option, Some, None, refl, subst, bytes_eq, cond}
 use Rattle.bq_predeclared.specs.declared.rule_function.RuleFunction.{RuleFunction}
 use Rattle.bq_predeclared.specs.declared.rule_function.RuleFunction.TheVariants as f
 use Rattle.bq_predeclared.specs.RuleFunctions.{attr_named, attr_functions, first_called, rule_function_name}
@@ -11,7 +11,7 @@ abbrev Fits : List ℕ → RuleFunction → Type 0
 Fits name x = (rule_function_name x ≡ name) × (x ≢ f.Rule)
 
 abbrev AllOfAttr : List RuleFunction → Type 0
-AllOfAttr [] = 0 ≡ 0
+AllOfAttr [] = Unit {0}
 AllOfAttr (x ∷ xs) = (x ≢ f.Rule) × AllOfAttr xs
 
 found_by : (b : Bool) (name : List ℕ) (x y : RuleFunction) (rest : Option RuleFunction) → bytes_eq name (rule_function_name x) ≡ b
@@ -27,7 +27,7 @@ first_fits name [] y all h = cc
 first_fits name (x ∷ xs) y all h = found_by (bytes_eq name (rule_function_name x)) name x y (first_called name xs) refl all.0 (first_fits name xs y all.1) h
 
 all_of_attr : AllOfAttr attr_functions
-all_of_attr = (λ h. cc, (λ h. cc, (λ h. cc, (λ h. cc, (λ h. cc, (λ h. cc, refl))))))
+all_of_attr = (λ h. cc, (λ h. cc, (λ h. cc, (λ h. cc, (λ h. cc, (λ h. cc, tt))))))
 
 pub no_other_attr_function : NoOtherAttrFunctionIsFound
 unfolding attr_named
