@@ -2,7 +2,9 @@
 
 use crate::chunks::{Subject, check_chunks};
 use crate::program::{Setting, run_chunk};
+use crate::workspace::no_packages;
 use bq_grammar::FileKind;
+use bq_label::PackageId;
 use bq_module::Outcome;
 use bq_package::BuildHost;
 use bq_source::FaultKind;
@@ -23,13 +25,18 @@ fn is_limit(outcome: &Outcome) -> bool {
 
 /// Whether so many steps suffice.
 fn suffices(alloc: Global, kind: FileKind, text: &[u8], limit: u64) -> Result<bool, AllocError> {
+    let own = PackageId::root();
+    let packages = no_packages(alloc)?;
     let setting = Setting {
         alloc,
         rules: &[],
+        own: &own,
+        packages: &packages,
         limit,
     };
+    let host = BuildHost::outside(alloc, &own, &packages)?;
     let mut whole = Vec::new(alloc);
-    match run_chunk(setting, kind, text, BuildHost::outside(), &mut whole)? {
+    match run_chunk(setting, kind, text, host, &mut whole)? {
         Some(evaluated) => Ok(!is_limit(&evaluated.outcome)),
         None => Ok(true),
     }
