@@ -39,7 +39,7 @@ evaluation x m l file modules values = module_run x.names meaning x.code m file 
 
 -- the frozen module of this number with no cell and no global
 abbrev pub without_cells : ℕ → FrozenView
-without_cells own = frozen (record { own = own; cells = []; loaded = [] }) []
+without_cells own = frozen (record { own = own; cells = []; loaded = [] }) [] []
 
 -- what stays of a frozen module: all of it, for those who load it; nothing where there is a package
 abbrev pub stays : FrozenView → Option PackageTargets → FrozenView

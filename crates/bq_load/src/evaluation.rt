@@ -66,7 +66,7 @@ fn build_module(
     ensures { IfOk result (λ m. module_view m ≡ record { frozen = without_cells number; prints = prints.items; «package» = Some (finished kept) }) }
 {
     let package = kept.finish(alloc)?;
-    let frozen = freeze(alloc, Store::new(alloc, number), Vec::new(alloc))?;
+    let frozen = freeze(alloc, Store::new(alloc, number), &[], Vec::new(alloc))?;
     Ok(LoadedModule {
         frozen: Arc::new(alloc, frozen)?,
         prints,
@@ -106,12 +106,12 @@ fn module_by(
 }
 
 impl<'a> Loading<'a> {
-    /// The host of a file's evaluation: where it is a BUILD file its package has no targets yet.
+    /// The host of a file's evaluation, in the package of the file. Where it is a BUILD file its package has no targets yet.
     fn host<'b>(&'b self, alloc: Global, label: &'b Label) -> Result<BuildHost<'b>, AllocError>
         ensures { IfOk result (λ h. held_by h ≡ kept_first (loading_of self.now) label.now) }
     {
         match kind_of(label) {
-            FileKind::Bzl => Ok(BuildHost::outside()),
+            FileKind::Bzl => BuildHost::outside(alloc, label.package_id(), &self.packages),
             FileKind::Build => {
                 let build_file = label.share()?;
                 BuildHost::inside(
