@@ -13,7 +13,7 @@ use Rattle.bq_walk.specs.Truth.{truth_of}
 use Rattle.bq_machine.specs.Args.{Passed}
 use Rattle.bq_machine.specs.Binding.{bind}
 use Rattle.bq_rule_functions.specs.declared.default.Written.{Written}
-use Rattle.bq_rule_functions.specs.Default.{written}
+use Rattle.bq_rule_functions.specs.Default.{written_as}
 use Rattle.bq_rule_functions.specs.Keywords.{attribute_parameters, argument, documented}
 use Rattle.bq_rule_functions.specs.Labels.{ReadLabel, resolved}
 use Rattle.bq_rule_functions.specs.Steps.{and_then}
@@ -22,7 +22,7 @@ use Rattle.bq_rule_functions.specs.Steps.{and_then}
 abbrev pub written_default : StoreView → AttributeType → Option Datum → Result (Option Written) FaultKind
 written_default store type None = Ok None
 written_default store type (Some none) = Ok None
-written_default store type (Some v) = and_then (written store type v) (λ x. Ok (Some x))
+written_default store type (Some v) = and_then (written_as store type v) (λ x. Ok (Some x))
 
 -- what an attribute of the type has by itself: nothing in it, 0 or `False`
 abbrev pub is_blank : AttributeValue → Bool

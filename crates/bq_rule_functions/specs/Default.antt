@@ -52,12 +52,12 @@ bool_in (int n) = bool_of n
 bool_in _ = Err WrongType
 
 -- a value of a type; no function declares outputs
-unfoldable pub written : StoreView → AttributeType → Datum → Result Written FaultKind
-written store t.String v = and_then (text_in v) (λ text. Ok (w.Value (a.String text)))
-written store t.Int v = and_then (int_in v) (λ n. Ok (w.Value (a.Int n)))
-written store t.Bool v = and_then (bool_in v) (λ b. Ok (w.Value (a.Bool b)))
-written store t.StringList v = and_then (texts_in store v) (λ texts. Ok (w.Value (a.StringList texts)))
-written store t.Label v = and_then (text_in v) (λ text. Ok (w.Label text))
-written store t.LabelList v = and_then (texts_in store v) (λ texts. Ok (w.Labels texts))
-written store t.Output v = Err WrongType
-written store t.OutputList v = Err WrongType
+unfoldable pub written_as : StoreView → AttributeType → Datum → Result Written FaultKind
+written_as store t.String v = and_then (text_in v) (λ text. Ok (w.Value (a.String text)))
+written_as store t.Int v = and_then (int_in v) (λ n. Ok (w.Value (a.Int n)))
+written_as store t.Bool v = and_then (bool_in v) (λ b. Ok (w.Value (a.Bool b)))
+written_as store t.StringList v = and_then (texts_in store v) (λ texts. Ok (w.Value (a.StringList texts)))
+written_as store t.Label v = and_then (text_in v) (λ text. Ok (w.Label text))
+written_as store t.LabelList v = and_then (texts_in store v) (λ texts. Ok (w.Labels texts))
+written_as store t.Output v = Err WrongType
+written_as store t.OutputList v = Err WrongType

@@ -5,7 +5,7 @@ ghost use Rattle.bq_source.specs.Gives.{Gives};
 ghost use Rattle.bq_value.specs.declared.error.EvalErr.TheVariants.{Bad};
 ghost use Rattle.bq_rule_functions.specs.Attribute.{written_default, is_blank, kept, resolved_default, is_mandatory, attribute_of, attribute};
 
-use crate::default::{Written, written};
+use crate::default::{Written, written_as};
 use crate::keywords::{argument, bind_attribute, documented};
 use crate::labels::resolved;
 use bq_host::Host;
@@ -29,7 +29,7 @@ fn written_default(
     };
     match &value.node {
         Node::NoneValue => Ok(None),
-        _ => Ok(Some(written(alloc, store, kind, value)?)),
+        _ => Ok(Some(written_as(alloc, store, kind, value)?)),
     }
 }
 

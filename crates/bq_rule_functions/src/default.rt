@@ -4,7 +4,7 @@ ghost use Rattle.std.specs.Prelude.{◌≡◌, Some};
 ghost use Rattle.bq_source.specs.Gives.{Gives};
 ghost use Rattle.bq_value.specs.declared.error.EvalErr.TheVariants.{Bad};
 ghost use Rattle.bq_rule_functions.specs.Steps.{and_then};
-ghost use Rattle.bq_rule_functions.specs.Default.{text_in, listed, all_texts, texts_in, int_in, bool_in, written};
+ghost use Rattle.bq_rule_functions.specs.Default.{text_in, listed, all_texts, texts_in, int_in, bool_in, written_as};
 
 use bq_rule_class::{AttributeType, AttributeValue};
 use bq_source::{Bytes, FaultKind};
@@ -93,14 +93,14 @@ fn bool_in(value: &Value) -> Result<bool, FaultKind>
 }
 
 /// A value of a type, or F40.
-#[tactic(auto, unfolding(crate::specs::Default::written))]
-pub(crate) fn written(
+#[tactic(auto, unfolding(crate::specs::Default::written_as))]
+pub(crate) fn written_as(
     alloc: Global,
     store: &Store,
     kind: AttributeType,
     value: &Value,
 ) -> Result<Written, EvalErr>
-    ensures { Gives (λ w. w) Bad result (written store.now kind value.now) }
+    ensures { Gives (λ w. w) Bad result (written_as store.now kind value.now) }
 {
     match kind {
         AttributeType::String => Ok(Written::Value(AttributeValue::String(text_in(value)?))),
