@@ -29,7 +29,7 @@ type_at (suc (suc (suc (suc (suc zero))))) = t.LabelList
 type_at (suc (suc (suc (suc (suc (suc zero)))))) = t.Output
 type_at _ = t.OutputList
 
-type_at-type_number : (k : AttributeType) → type_at (type_number k) ≡ k
+pub type_at-type_number : (k : AttributeType) → type_at (type_number k) ≡ k
 type_at-type_number t.String = refl
 type_at-type_number t.Int = refl
 type_at-type_number t.Bool = refl
@@ -71,7 +71,7 @@ value_of (inr (inl (inr ls))) = v.LabelList ls
 value_of (inr (inr (inl l))) = v.Output l
 value_of (inr (inr (inr ls))) = v.OutputList ls
 
-value_of-plain : (x : AttributeValue) → value_of (plain x) ≡ x
+pub value_of-plain : (x : AttributeValue) → value_of (plain x) ≡ x
 value_of-plain (v.String s) = refl
 value_of-plain (v.Int n) = refl
 value_of-plain (v.Bool b) = refl

@@ -33,7 +33,7 @@ kind_appended n j name [] = refl
 kind_appended n j name (k ∷ ks) = ap (λ o. cond (n == k.0) (Some k.1) o) (kind_appended n j name ks) ∙ appended_by (kind_at n ks) k.1 name (n == j) (n == k.0)
 
 -- the name, where it is for the rule of this number
-named : ℕ → Option ℕ → List ℕ → Option (List ℕ)
+abbrev named : ℕ → Option ℕ → List ℕ → Option (List ℕ)
 named n None name = None
 named n (Some j) name = cond (n == j) (Some name) None
 
@@ -57,8 +57,8 @@ kind_with n ks (Some j) name = kind_with_by n j name ks (is_some (kind_at j ks))
 module _ (own : ℕ) (cells : List Contents) (n : ℕ) (class : Class) (holds : slice_get cells n ≡ Some (rule class)) where
   -- another cell, where this one holds no rule
   apart : (j : ℕ) (name : List ℕ) (p : Bool) → (n == j) ≡ p → is_rule (slice_get cells j) ≡ false → None ≡ cond p (Some name) None
-  apart j name false e no = refl
-  apart j name true e no = absurd (clash (sym no ∙ ap (λ k. is_rule (slice_get cells k)) (sym (eqb-true n j e)) ∙ ap is_rule holds))
+  apart j name false e none_here = refl
+  apart j name true e none_here = absurd (clash (sym none_here ∙ ap (λ k. is_rule (slice_get cells k)) (sym (eqb-true n j e)) ∙ ap is_rule holds))
     where
       clash : false ≡ true → ⊥
       clash e = cc

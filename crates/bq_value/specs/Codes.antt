@@ -38,7 +38,7 @@ numbered-number_of f.AttrLabelList = refl
 pub numbers_differ : (g h : RuleFunction) → number_of g ≡ number_of h → g ≡ h
 numbers_differ g h e = sym (numbered-number_of g) ∙ (ap numbered e ∙ numbered-number_of h)
 
-abbrev coded_text : Coded (List ℕ)
+abbrev pub coded_text : Coded (List ℕ)
 coded_text = coded_list coded_ℕ
 
 abbrev mutual
