@@ -92,7 +92,7 @@ impl Store {
     pub fn kind(&self, cell: Cell) -> Option<&Bytes>
         ensures { option_copied result ≡ kind_of self.now cell.module cell.number }
     {
-        if cell.module == self.own {
+        if self.own == cell.module {
             return None;
         }
         self.loaded.kind(cell)
