@@ -1,5 +1,5 @@
 -- Walks over values are refused for faults of evaluation alone.
-use Rattle.std.proofs.Common.{◌==◌, ℕ, zero, suc, ℤ, Bool, true, false, cond, List, [], ◌∷◌, length, Option, Some, None, Ok, Err, refl}
+use Rattle.std.proofs.Common.{◌==◌, ◌&&◌, ℕ, zero, suc, ℤ, Bool, true, false, cond, List, [], ◌∷◌, length, Option, Some, None, Ok, Err, refl}
 use Rattle.std.specs.declared.cmp.Ordering.{Ordering}
 use Rattle.bq_source.specs.declared.fault.FaultKind.TheVariants.{TooDeep}
 use Rattle.bq_value.specs.Datum.{Datum, none, boolean, int, string, tuple, range, cell, function, built_in, rule_function, attribute, list_of}
@@ -40,19 +40,16 @@ module _ (same : Compares) (each : (x y : Datum) → Walks (λ n. same n x y)) w
       followed (λ n. partner_equal same n p.1 (found p.0 qs)) (λ r. if_so r (λ m. pairs_equal same m ps qs)) (λ kind. refl) (partner_walks p.1 (found p.0 qs))
       (so_walks (λ m. pairs_equal same m ps qs) (pairs_walk ps qs))
 
-  contents_walk : (c d : Contents) → Walks (λ n. contents_equal same n c d)
-  contents_walk (items xs) (items ys) = lists_walk xs ys
-  contents_walk (pairs ps) (pairs qs) = cond_walks (length ps == length qs) (λ n. pairs_equal same n ps qs) (pairs_walk ps qs)
-  contents_walk (items xs) (pairs qs) = λ n. tt
-  contents_walk (pairs ps) (items ys) = λ n. tt
-  contents_walk (rule c) d = λ n. tt
-  contents_walk c (rule d) = λ n. tt
+  contents_walk : (one : Bool) (c d : Contents) → Walks (λ n. contents_equal same n one c d)
+  contents_walk one (items xs) (items ys) = lists_walk xs ys
+  contents_walk one (pairs ps) (pairs qs) = cond_walks (length ps == length qs) (λ n. pairs_equal same n ps qs) (pairs_walk ps qs)
+  contents_walk one _ _ = λ n. tt
 
-  cells_walk : (c d : Option Contents) → Walks (λ n. cells_equal same n c d)
-  cells_walk (Some c) (Some d) = contents_walk c d
-  cells_walk None None = λ n. tt
-  cells_walk (Some c) None = λ n. tt
-  cells_walk None (Some d) = λ n. tt
+  cells_walk : (one : Bool) (c d : Option Contents) → Walks (λ n. cells_equal same n one c d)
+  cells_walk one (Some c) (Some d) = contents_walk one c d
+  cells_walk one None None = λ n. tt
+  cells_walk one (Some c) None = λ n. tt
+  cells_walk one None (Some d) = λ n. tt
 
   parts_walk : (s : StoreView) (x y : Datum) → Walks (λ n. parts_equal same s n x y)
   parts_walk s none none = λ n. tt
@@ -61,7 +58,7 @@ module _ (same : Compares) (each : (x y : Datum) → Walks (λ n. same n x y)) w
   parts_walk s (string a) (string b) = λ n. tt
   parts_walk s (tuple a) (tuple b) = lists_walk (list_of a) (list_of b)
   parts_walk s (range a b c) (range d e f) = λ n. tt
-  parts_walk s (cell a i) (cell b j) = cells_walk (content_at s a i) (content_at s b j)
+  parts_walk s (cell a i) (cell b j) = cells_walk ((a == b) && (i == j)) (content_at s a i) (content_at s b j)
   parts_walk s (function a i t vs) (function b j u ws) = λ n. tt
   parts_walk s (built_in a) (built_in b) = λ n. tt
   parts_walk s (rule_function f) (rule_function g) = λ n. tt
