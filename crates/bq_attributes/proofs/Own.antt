@@ -57,7 +57,7 @@ all_inside_is : (own : PackageParts) (packages : List BuildFile) (ls ms : List L
 unfolding all_inside
 all_inside_is own packages ls ms h = else_ok (list_any (own_label_crosses own packages) ls) ls ms f.CrossesPackage h
 
-label_read : (own : PackageParts) (packages : List BuildFile) (kind : TextKind) (text : List ℕ) (l : LabelParts) → label own packages kind text ≡ Ok l → read own kind text ≡ Ok l
+pub label_read : (own : PackageParts) (packages : List BuildFile) (kind : TextKind) (text : List ℕ) (l : LabelParts) → label own packages kind text ≡ Ok l → read own kind text ≡ Ok l
 unfolding label
 label_read own packages kind text l h = let r = both_ok (read own kind text) (inside own packages) l h in r.1 ∙ ap Ok (inside_is own packages r.0 l r.2)
 
