@@ -11,6 +11,7 @@ use Rattle.bq_value.specs.contracts.value.Value as Value
 use Rattle.bq_value.specs.contracts.key.Key as Key
 use Rattle.bq_value.specs.contracts.dict.Dict as Dict
 use Rattle.bq_value.specs.contracts.content.Content as Content
+use Rattle.bq_value.specs.contracts.kinds.Kinds as Kinds
 use Rattle.bq_value.specs.contracts.shared.Shared as Shared
 use Rattle.bq_value.specs.contracts.tree.Tree as Tree
 use Rattle.bq_value.specs.contracts.frozen.Frozen as Frozen
@@ -40,15 +41,21 @@ content_send = let v = value_send in let k = dict_send in let c = class_send in 
 pub content_sync : IsSync (Content.the_field).row
 content_sync = let v = value_sync in let k = dict_sync in let c = class_sync in search (crosses, sendable) depth 60 fits 20000
 
+pub kinds_send : IsSend (Kinds.the_field).row
+kinds_send = search (Bytes.the_send, Map.the_send, Builder.the_send, Hasher.the_send, crosses, sendable) depth 60 fits 20000
+
+pub kinds_sync : IsSync (Kinds.the_field).row
+kinds_sync = search (Bytes.the_sync, Map.the_sync, Builder.the_sync, Hasher.the_sync, crosses, sendable) depth 60 fits 20000
+
 pub shared_send : IsSend (Shared.the_field).row
 shared_send =
-    let vs = value_send in let vy = value_sync in let cs = content_send in let cy = content_sync in
-    search (Bytes.the_send, Bytes.the_sync, Map.the_send, Map.the_sync, Builder.the_send, Builder.the_sync, Hasher.the_send, Hasher.the_sync, crosses, sendable) depth 60 fits 20000
+    let vs = value_send in let vy = value_sync in let cs = content_send in let cy = content_sync in let ks = kinds_send in let ky = kinds_sync in
+    search (crosses, sendable) depth 60 fits 20000
 
 pub shared_sync : IsSync (Shared.the_field).row
 shared_sync =
-    let vs = value_send in let vy = value_sync in let cs = content_send in let cy = content_sync in
-    search (Bytes.the_send, Bytes.the_sync, Map.the_send, Map.the_sync, Builder.the_send, Builder.the_sync, Hasher.the_send, Hasher.the_sync, crosses, sendable) depth 60 fits 20000
+    let vs = value_send in let vy = value_sync in let cs = content_send in let cy = content_sync in let ks = kinds_send in let ky = kinds_sync in
+    search (crosses, sendable) depth 60 fits 20000
 
 pub tree_send : IsSend (Tree.the_field).row
 tree_send = let ss = shared_send in let sy = shared_sync in search (crosses, Trees.crosses, sendable) depth 60 fits 20000
