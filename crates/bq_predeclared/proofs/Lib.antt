@@ -1,3 +1,3 @@
 -- `Found`: a look-up by name finds what has the name, and nothing else. `AttrFound`: so does one of `attr.NAME`.
-mod Found
+pub mod Found
 mod AttrFound

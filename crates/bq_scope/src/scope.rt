@@ -136,11 +136,7 @@ impl FileNames {
     }
 
     /// What a namespace holds by this name.
-    pub fn member(
-        &self,
-        space: Namespace,
-        name: &Bytes,
-    ) -> Result<Option<Predeclared>, AllocError>
+    pub fn member(&self, space: Namespace, name: &Bytes) -> Result<Option<Predeclared>, AllocError>
         ensures { IfOk result (λ x. x ≡ member_named space self.now.universe.rules name.now) }
     {
         self.universe.member(space, name)

@@ -131,11 +131,7 @@ impl Universe {
 
     /// What a namespace holds by this name.
     #[tactic(auto, unfolding(crate::specs::Universe::member_named))]
-    pub fn member(
-        &self,
-        space: Namespace,
-        name: &Bytes,
-    ) -> Result<Option<Predeclared>, AllocError>
+    pub fn member(&self, space: Namespace, name: &Bytes) -> Result<Option<Predeclared>, AllocError>
         ensures { IfOk result (λ x. x ≡ member_named space self.now.rules name.now) }
     {
         match space {

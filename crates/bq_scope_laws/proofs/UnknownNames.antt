@@ -105,7 +105,7 @@ one_test file blocks name =
     ∙ ap (λ t. no_double file.universe.kind && t) (unbound (use_of file blocks name) ∙ ap not (known file blocks name))
 
 pub namespace_of : (file : FileParts) (blocks : List BlockParts) (o : ExprLayer) → namespace_at file blocks o ≡ as_namespace file (around_of blocks) o
-namespace_of file blocks (Expr-F.Expr::Name n) = ap (λ (t : Bool). if t then namespace_named n.name else None {Namespace}) (one_test file blocks n.name)
+namespace_of file blocks (Expr-F.Expr::Name n) = ap (λ (t : Bool). if t then namespace_named n.name else None) (one_test file blocks n.name)
 namespace_of file blocks (Expr-F.Int i) = refl
 namespace_of file blocks (Expr-F.String s) = refl
 namespace_of file blocks (Expr-F.Expr::List xs) = refl
@@ -173,7 +173,7 @@ unfolding file_names
 file_loaded universe ts name bound free =
     let file : FileParts = record { universe = universe; globals = global_names ts; loaded = loaded_names ts } in loaded_at file name free ((loads_bind ts name).1 bound)
 
-of_rule : (t : Bool) (id : ℕ) → (if t then Some (pre.RuleFunction function.Rule) else None {Predeclared}) ≡ Some (pre.Host id) → ⊥
+of_rule : (t : Bool) (id : ℕ) → (if t then Some (pre.RuleFunction function.Rule) else None) ≡ Some (pre.Host id) → ⊥
 of_rule true id h = cc
 of_rule false id h = cc
 

@@ -167,7 +167,7 @@ module _ (file : FileParts) where
   second true y h = h
   second false y h = absurd (false≢true h)
 
-  chosen : (t : Bool) (o : Option Namespace) (space : Namespace) → (if t then o else None {Namespace}) ≡ Some space → t ≡ true
+  chosen : (t : Bool) (o : Option Namespace) (space : Namespace) → (if t then o else None) ≡ Some space → t ≡ true
   chosen true o space h = refl
   chosen false o space h = absurd (let no : ⊥ = cc in no)
 
