@@ -2,3 +2,7 @@
 pub mod Keyed
 -- attributes that are the same, and equal ones
 pub mod Equal
+-- lists of labels that differ in length
+pub mod Lengths
+-- attributes that are copied one by one
+pub mod Copies

@@ -83,8 +83,10 @@ impl Attributes {
         ensures { IfOk result (λ c. c ≡ self.now) }
     {
         let mut copy = Attributes::new(alloc);
-        for (name, attribute) in &self.entries {
-            copy.add(alloc, name.as_slice(), attribute.share(alloc)?)?;
+        for place in 0..self.entries.len() {
+            if let Some((name, attribute)) = self.entry(place) {
+                copy.add(alloc, name, attribute.share(alloc)?)?;
+            }
         }
         Ok(copy)
     }
