@@ -2,7 +2,7 @@
 
 ghost use Rattle.std.specs.Prelude.{◌≡◌, [], map, option_map, IfOk};
 ghost use Rattle.bq_module.specs.Outcomes.{ended_of, run_of};
-ghost use Rattle.bq_package.specs.Calls.{held_by, meaning};
+ghost use Rattle.bq_package.specs.Calls.{held_by, package_in, meaning};
 ghost use Rattle.bq_target.specs.Package.{finished};
 ghost use Rattle.bq_eval.specs.Round.{views_of};
 ghost use Rattle.bq_source.specs.Gives.{Gives};
@@ -90,12 +90,11 @@ fn loaded_module(
 }
 
 /// What an evaluation ends in.
-#[tactic(auto, using(crate::proofs::Endings::finished_of))]
 fn module_by(
     alloc: Global,
     evaluated: Evaluated<BuildHost<'_>>,
 ) -> Result<Result<LoadedModule, FailedModule>, AllocError>
-    ensures { IfOk result (λ r. told module_view failed_view r ≡ module_by (ended_of evaluated.entry.outcome) (held_by evaluated.entry.host)) }
+    ensures { IfOk result (λ r. told module_view failed_view r ≡ module_by (ended_of evaluated.entry.outcome) (package_in (held_by evaluated.entry.host))) }
 {
     let Evaluated { outcome, host } = evaluated;
     let kept = host.into_package();
