@@ -220,7 +220,8 @@ const NAMES: [Explanation; 5] = [
         name: "UnknownName",
         text: r#"A name that nothing binds: no assignment, `def` or `load` of the file, no
 function of the language, and in a BUILD file no rule of the schema. In a .bzl
-file rules are `native.NAME`.
+file rules are `native.NAME`, and `attr` is no value: its functions are called as
+`attr.int(..)`. `rule` and `attr` are in .bzl files alone.
 
     === BUILD
     cc_library(name = "x", srcs = ["x.c"])
