@@ -50,7 +50,7 @@ impl Kinds {
         match number {
             None => Ok(()),
             Some(number) => {
-                if self.names.get(&number).is_some() {
+                if self.names.contains_key(&number) {
                     return Ok(());
                 }
                 self.names.insert(number, name.share()?)?;
