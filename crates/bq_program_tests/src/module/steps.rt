@@ -109,6 +109,36 @@ def f(x):
     else:
         pass
 f(2)
+---
+# `attr` takes none before its functions, and `rule` one as any name.
+#> 2
+attr.int()
+---
+#> 5
+def f(ctx): pass
+rule(f)
+---
+# Making a dict's key takes one; `rule` reads the keys of `attrs` without steps.
+#> 9
+def f(ctx): pass
+rule(f, {"a": attr.int()})
+---
+# Two attributes are one pair, whatever their defaults.
+#> 8
+x = attr.string_list(default = ["a", "b"]) == attr.string_list()
+---
+#> 10
+def f(ctx): pass
+r = rule(f)
+x = r == r
+---
+# One is visited, where it is printed.
+#> 5
+print(attr.int())
+---
+#> 7
+def f(ctx): pass
+print(rule(f))
 "#;
 
 const BUILD_FILES: &str = r#"
