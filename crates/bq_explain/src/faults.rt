@@ -773,7 +773,9 @@ The message says what the macro wants.
         text: r#"A value has the right type and can't be used: `int("x")`, a step of 0 in a range
 or slice, a shift by more than 63, an empty separator, `index` or `remove` of
 what is not there, `min` or `max` of nothing, or an assignment to more or fewer
-names than there are elements.
+names than there are elements. Of rules: an attribute of `rule` whose name no
+call could give or all rules have, `rule` in a macro that a BUILD file calls, and
+the call of a rule that no name of its own .bzl file stands for.
 
     === BUILD
     a, b = [1, 2, 3]
