@@ -15,13 +15,14 @@ use Rattle.bq_value.specs.Contents.{Contents, items, pairs, rule}
 use Rattle.bq_value.specs.Datum as datum
 use Rattle.bq_value.specs.Datum.{Datum, boolean, int, string, tuple, cell, function}
 use Rattle.bq_machine.specs.Action.{Action, Run, done, stopped, ◌>>=◌, pure, look, beside, on_machine}
+use Rattle.bq_machine.specs.Action as action
 use Rattle.bq_machine.specs.Args.{Passed}
 use Rattle.bq_machine.specs.Binding.{bind}
 use Rattle.bq_machine.specs.Cells.{new_content}
 use Rattle.bq_machine.specs.State.{State}
 use Rattle.bq_rule_functions.specs.Attribute.{written_default, resolved_default, kept, is_mandatory, attribute_of, attribute}
-use Rattle.bq_rule_functions.specs.Call.{new_attribute, new_rule, declare, type_of, call_rule_function, call_kind, call_content, call_cell}
-use Rattle.bq_rule_functions.specs.Default.{text_in, listed, elements_in, all_texts, texts_in, int_in, bool_of, bool_in, written}
+use Rattle.bq_rule_functions.specs.Call.{new_attribute, new_rule, declare, type_of, call_rule_function, class_in, call_kind, call_class, call_cell}
+use Rattle.bq_rule_functions.specs.Default.{text_in, listed, elements_in, all_texts, texts_in, int_in, bool_of, bool_in, written_as}
 use Rattle.bq_rule_functions.specs.Keywords.{attribute_parameters, rule_parameters, argument, documented}
 use Rattle.bq_rule_functions.specs.Labels.{ReadLabel, is_no_label, labels, resolved}
 use Rattle.bq_rule_functions.specs.Rule.{implemented, attribute_in, entry, entries, entries_in, attributes_in, are_named, if_declared, class_of, class}
@@ -32,6 +33,7 @@ use Rattle.bq_runtime.specs.Calling.{HostCalls}
 use Rattle.bq_fault_laws.specs.Faults.{IsRefusal, Refusing, Fine, HostRefuses}
 use Rattle.bq_fault_laws.proofs.Arguments.{bind_fine}
 use Rattle.bq_fault_laws.proofs.Fine.{fine_if}
+use Rattle.bq_fault_laws.proofs.Lawful.{both}
 use Rattle.bq_fault_laws.proofs.Machine.{Own, pure_owns, stop_owns, bind_owns, look_owns, new_owns}
 
 then_fine : {A B : Type 0} (r : Result A FaultKind) (next : A → Result B FaultKind) → Fine r → ((x : A) → Fine (next x)) → Fine (and_then r next)
@@ -78,8 +80,8 @@ bool_fine (boolean b) = tt
 bool_fine (int n) = bool_of_fine n
 bool_fine v = refl
 
-written_fine : (s : StoreView) (type : AttributeType) (v : Datum) → Fine (written s type v)
-unfolding written
+written_fine : (s : StoreView) (type : AttributeType) (v : Datum) → Fine (written_as s type v)
+unfolding written_as
 written_fine s t.String v = then_fine (text_in v) _ (text_fine v) (λ text. tt)
 written_fine s t.Int v = then_fine (int_in v) _ (int_fine v) (λ n. tt)
 written_fine s t.Bool v = then_fine (bool_in v) _ (bool_fine v) (λ b. tt)
@@ -92,7 +94,7 @@ written_fine s t.OutputList v = refl
 default_fine : (s : StoreView) (type : AttributeType) (o : Option Datum) → Fine (written_default s type o)
 default_fine s type None = tt
 default_fine s type (Some datum.none) = tt
-default_fine s type (Some v) = then_fine (written s type v) _ (written_fine s type v) (λ x. tt)
+default_fine s type (Some v) = then_fine (written_as s type v) _ (written_fine s type v) (λ x. tt)
 
 documented_fine : (o : Option Datum) → Fine (documented o)
 documented_fine None = tt
@@ -194,12 +196,20 @@ module _ {W : Type 0} (host : HostCalls W) (refuses : HostRefuses host) where
   kind_refuses None x args s = refl
   kind_refuses (Some kind) x args s = refuses.1 kind x args s
 
-  content_refuses : (c : Option Contents) (kind : Option (List ℕ)) (args : Passed) → Refusing Datum (call_content host c kind args)
-  content_refuses (Some (rule x)) kind args s = either (host.in_build s.1) (call_kind host kind x args) _ s (kind_refuses kind x args s) refl
-  content_refuses (Some (items vs)) kind args s = refl
-  content_refuses (Some (pairs ps)) kind args s = refl
-  content_refuses None kind args s = refl
+  class_refuses : (home number : ℕ) (x : Class) (args : Passed) → Refusing Datum (call_class host home number x args)
+  unfolding call_class
+  class_refuses home number x args s =
+      either (host.in_build s.1) (call_kind host (kind_of s.0.store home number) x args) (on_machine (action.stop f.NotInPackage)) s (kind_refuses (kind_of s.0.store home number) x args s) refl
+
+  class_in_fine : (c : Option Contents) → Fine (class_in c)
+  class_in_fine (Some (rule x)) = tt
+  class_in_fine (Some (items vs)) = refl
+  class_in_fine (Some (pairs ps)) = refl
+  class_in_fine None = refl
 
   pub cell_refuses : (home number : ℕ) (args : Passed) → Refusing Datum (call_cell host home number args)
   unfolding call_cell
-  cell_refuses home number args s = content_refuses (content_at s.0.store home number) (kind_of s.0.store home number) args s
+  cell_refuses home number args =
+      let found : Action State Class = look (λ t. class_in (content_at t.store home number)) in
+      both Class Datum (on_machine found) (λ x. call_class host home number x args)
+      (λ s. beside_it s.1 (found s.0) (look_owns (λ t. class_in (content_at t home number)) (λ t. class_in_fine (content_at t home number)) s.0)) (λ x. class_refuses home number x args)

@@ -9,7 +9,7 @@ use Rattle.bq_rule_class.specs.Class.{Class}
 use Rattle.bq_rule_class.specs.declared.attribute_type.AttributeType.{AttributeType}
 use Rattle.bq_scope.specs.Names.{Name}
 use Rattle.bq_value.specs.Cells.{content_at, kind_of}
-use Rattle.bq_value.specs.Contents.{Contents, items, pairs, rule}
+use Rattle.bq_value.specs.Contents.{rule}
 use Rattle.bq_value.specs.Datum as datum
 use Rattle.bq_value.specs.Datum.{Datum}
 use Rattle.bq_walk.specs.Truth.{truth_of}
@@ -22,7 +22,7 @@ use Rattle.bq_machine.specs.State.{State}
 use Rattle.bq_host.specs.BuiltIns.{function_named}
 use Rattle.bq_functions.specs.Call.{call_function}
 use Rattle.bq_rule_functions.specs.Attribute.{attribute}
-use Rattle.bq_rule_functions.specs.Call.{new_attribute, new_rule, declare, type_of, call_rule_function, call_kind, call_content, call_cell}
+use Rattle.bq_rule_functions.specs.Call.{new_attribute, new_rule, declare, type_of, call_rule_function, class_in, call_kind, call_class, call_cell}
 use Rattle.bq_rule_functions.specs.Labels.{ReadLabel}
 use Rattle.bq_rule_functions.specs.Rule.{class}
 use Rattle.bq_runtime.specs.Calling.{HostCalls, call_found, call_built_in}
@@ -110,21 +110,19 @@ module _ {W : Type 0} (names : List Name) (host : HostCalls W) (hosts : HostTake
   either_owns true a c h k = h
   either_owns false a c h k = k
 
-  content_owns : (c : Option Contents) (kind : Option (List ℕ)) (args : Passed) → HostOwns (call_content host c kind args)
-  content_owns (Some (rule x)) kind args s =
+  class_owns : (home number : ℕ) (x : Class) (args : Passed) → HostOwns (call_class host home number x args)
+  unfolding call_class
+  class_owns home number x args s =
       let outside : Action (State × W) Datum = on_machine (action.stop NotInPackage) in
-      let called : Action (State × W) Datum = if host.in_build s.1 then call_kind host kind x args else outside in
-      at_state hosted (call_content host (Some (rule x)) kind args) called s (λ n. refl)
-      (either_owns (host.in_build s.1) (call_kind host kind x args) outside (kind_owns kind x args) (lifted Datum (action.stop NotInPackage) (stop_owns Datum NotInPackage)) s)
-  content_owns (Some (items vs)) kind args = lifted Datum (action.stop WrongType) (stop_owns Datum WrongType)
-  content_owns (Some (pairs ps)) kind args = lifted Datum (action.stop WrongType) (stop_owns Datum WrongType)
-  content_owns None kind args = lifted Datum (action.stop WrongType) (stop_owns Datum WrongType)
+      let inside : Action (State × W) Datum = call_kind host (kind_of s.0.store home number) x args in
+      at_state hosted (call_class host home number x args) (if host.in_build s.1 then inside else outside) s (λ n. refl)
+      (either_owns (host.in_build s.1) inside outside (kind_owns (kind_of s.0.store home number) x args) (lifted Datum (action.stop NotInPackage) (stop_owns Datum NotInPackage)) s)
 
   cell_owns : (home number : ℕ) (args : Passed) → HostOwns (call_cell host home number args)
   unfolding call_cell
   cell_owns home number args s =
-      let called : Action (State × W) Datum = call_content host (content_at s.0.store home number) (kind_of s.0.store home number) args in
-      at_state hosted (call_cell host home number args) called s (λ n. refl) (content_owns (content_at s.0.store home number) (kind_of s.0.store home number) args s)
+      let found : Action State Class = look (λ t. class_in (content_at t.store home number)) in
+      followed hosted (on_machine found) (λ x. call_class host home number x args) s (lifted Class found (look_owns (λ t. class_in (content_at t home number))) s) (λ x t. class_owns home number x args t)
 
   pub own_steps : Respects (primitives names host) (OwnsItsSteps W)
   unfolding primitives
