@@ -1,4 +1,4 @@
--- What `kind`, `filter` and `labels` choose, in words of targets (Bazel query reference, "kind", "filter", "labels").
+-- What `kind`, `filter`, `attr` and `labels` choose, in words of targets (Bazel query reference, "kind", "filter", "attr", "labels").
 use Rattle.std.specs.Prelude.{◌≡◌, ◌≢◌, ◌↔◌, ℕ, ◌++◌, ◌∷◌, true, List, Some, slice_get, codes}
 use Rattle.std.specs.List.{AllByRecursion, Contains}
 use Rattle.regex_hir.specs.Re.{Re}
@@ -12,6 +12,8 @@ use Rattle.bq_rule_class.specs.declared.value.AttributeValue.TheVariants as v
 use Rattle.bq_target.specs.declared.target.Target.{Target}
 use Rattle.bq_target.specs.declared.target.TargetKind.TheVariants as k
 use Rattle.bq_target.specs.declared.value.GivenAttribute.{GivenAttribute}
+use Rattle.bq_target.specs.Value.{attribute_type}
+use Rattle.bq_target_sets.specs.Texts.{value_text, default_text}
 use Rattle.bq_answer.specs.Stands.{Stands, Bound}
 use Rattle.bq_target_graph.specs.Graph.{GraphParts}
 use Rattle.bq_answer.specs.Graph.{targets_of}
@@ -50,6 +52,21 @@ pub record FirstGiven (t : Target) (name : List ℕ) (a : GivenAttribute) : Type
   pub named : a.name ≡ name
   pub first : AllByRecursion (λ b. b.name ≢ name) before
 
+-- ---- texts of attributes
+
+-- how an attribute of a rule is written: as its value, or, where it has none, as what the type that the target's own rule declares for it
+-- has by default
+pub data IsAttributeText (t : Target) (name text : List ℕ) : Type 0 where
+  valued : (kind_name : List ℕ) (class : Class) (a : GivenAttribute) → t.kind ≡ k.Rule kind_name class → FirstGiven t name a → text ≡ value_text a.value → IsAttributeText t name text
+  blank : (kind_name : List ℕ) (class : Class) → t.kind ≡ k.Rule kind_name class → AllByRecursion (λ b. b.name ≢ name) t.attributes
+      → default_text (attribute_type class name) ≡ Some text → IsAttributeText t name text
+
+-- the pattern has a match in the attribute
+abbrev pub AttributeMatches : Re → List ℕ → Target → Type 0
+AttributeMatches re name t = (text : List ℕ) × IsAttributeText t name text × (is_found re text ≡ true)
+
+-- ---- labels of attributes, by target
+
 -- the first target is a rule, and its attribute of this name holds the label of the second
 pub record RuleNames (name : List ℕ) (r t : Target) : Type 0 where
   pub name_of_kind : List ℕ
@@ -68,5 +85,7 @@ pub record Choose (w : GraphParts) (a : Formula) (re : Re) (name : List ℕ) (bo
   pub kind : Stands w (one (unary.Kind re) a) bound y ↔ (Stands w a bound y × IsTargetWith (targets_of w) y (KindMatches re))
   -- filter(re, a)
   pub filter : Stands w (one (unary.Filter re) a) bound y ↔ (Stands w a bound y × IsTargetWith (targets_of w) y (λ t. is_found re (full_form t.label) ≡ true))
+  -- attr(name, re, a)
+  pub attr : Stands w (one (unary.Attr name re) a) bound y ↔ (Stands w a bound y × IsTargetWith (targets_of w) y (AttributeMatches re name))
   -- labels(name, a)
   pub labels : Stands w (one (unary.Labels name) a) bound y ↔ ((z : ℕ) × Stands w a bound z × IsTargetWith (targets_of w) z (λ r. IsTargetWith (targets_of w) y (RuleNames name r)))

@@ -18,7 +18,8 @@ pub fn functions_go_along_edges()
     ensures { FunctionsByEdges }
 {}
 
-/// `kind` looks at how a target's kind is written, `filter` at its label in full, and `labels` at an attribute of rules alone.
+/// `kind` looks at how a target's kind is written, `filter` at its label in full, and `attr` and `labels` at an attribute of rules alone:
+/// `attr` at how its value is written, or what the type that the target's own rule declares for it has by default.
 pub fn functions_look_at_targets()
     ensures { (w : GraphParts) (a : Formula) (pattern : Re) (name : List ℕ) (bound : Bound) (y : ℕ) → Choose w a pattern name bound y }
 {}
