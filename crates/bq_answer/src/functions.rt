@@ -35,9 +35,7 @@ pub fn of_one(
         Unary::DepsWithin(limit) => deps_within(alloc, edges, x, *limit),
         Unary::Kind(pattern) => kind(alloc, targets, pattern.regex(), x),
         Unary::Filter(pattern) => filter(alloc, targets, pattern.regex(), x),
-        Unary::Attr(name, pattern) => {
-            attr(alloc, targets, name.as_slice(), pattern.regex(), x)
-        }
+        Unary::Attr(name, pattern) => { attr(alloc, targets, name.as_slice(), pattern.regex(), x) }
         Unary::Labels(name) => labels(alloc, targets, name.as_slice(), x),
     }
 }

@@ -91,7 +91,11 @@ fn add_target(alloc: Global, whole: &mut Vec<u8>, target: &Target) -> Result<(),
 }
 
 /// The targets of a package but for its BUILD file.
-pub fn add_package(alloc: Global, whole: &mut Vec<u8>, package: &Package) -> Result<(), AllocError> {
+pub fn add_package(
+    alloc: Global,
+    whole: &mut Vec<u8>,
+    package: &Package,
+) -> Result<(), AllocError> {
     let build_file = package.build_file();
     for target in package.targets() {
         if target.label.name() != build_file.name() {

@@ -26,11 +26,7 @@ fn add_attribute(
     add_line(whole, &line)
 }
 
-fn add_attributes(
-    alloc: Global,
-    whole: &mut Vec<u8>,
-    class: &RuleClass,
-) -> Result<(), AllocError> {
+fn add_attributes(alloc: Global, whole: &mut Vec<u8>, class: &RuleClass) -> Result<(), AllocError> {
     for place in 0..99usize {
         match class.entry(place) {
             Some((name, attribute)) => add_attribute(alloc, whole, name, attribute)?,
