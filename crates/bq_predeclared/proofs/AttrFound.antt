@@ -1,5 +1,5 @@
 -- A look-up of `attr.NAME` finds the function of that name, and nothing else.
-use Rattle.std.proofs.Common.{◌≡◌, ◌≢◌, ℕ, Bool, true, false, List, [], ◌∷◌, Option, Some, None, refl, subst, bytes_eq, cond}
+use Rattle.std.proofs.Common.{◌≡◌, ◌≢◌, ℕ, Bool, true, false, List, [], ◌∷◌, Option, Some, refl, subst, bytes_eq, cond}
 use Rattle.bq_predeclared.specs.declared.rule_function.RuleFunction.{RuleFunction}
 use Rattle.bq_predeclared.specs.declared.rule_function.RuleFunction.TheVariants as f
 use Rattle.bq_predeclared.specs.RuleFunctions.{attr_named, attr_functions, first_called, rule_function_name}

@@ -10,7 +10,7 @@ use Rattle.bq_predeclared.specs.Predeclared.{first_named, predeclared_named}
 use Rattle.bq_predeclared.proofs.Found.{nothing_else, same_name}
 use Rattle.bq_scope.specs.declared.universe.Namespace.{Namespace}
 use Rattle.bq_scope.specs.declared.universe.Namespace.TheVariants as space
-use Rattle.bq_scope.specs.Universe.{UniverseParts, attr, in_build, native, rule_named, universe_has}
+use Rattle.bq_scope.specs.Universe.{attr, in_build, native, rule_named, universe_has}
 use Rattle.bq_scope.specs.Names.{Name}
 use Rattle.bq_scope_laws.specs.Binds.{BuildFilesDeclareNoRules, BzlFilesHaveRule, NamespacesAreNoValues}
 
@@ -24,8 +24,8 @@ no_rule None f h = cc
 no_rule (Some id) f h = cc
 
 in_build_by : (rules : List Name) (name : Name) (o : Option Predeclared) (f : RuleFunction) → (o ≡ Some (pre.RuleFunction f) → ⊥) → in_build rules name o ≡ Some (pre.RuleFunction f) → ⊥
-in_build_by rules name None f no h = no_rule (rule_named rules name) f h
-in_build_by rules name (Some x) f no h = no h
+in_build_by rules name None f other h = no_rule (rule_named rules name) f h
+in_build_by rules name (Some x) f other h = other h
 
 pub build_files_declare_none : BuildFilesDeclareNoRules
 unfolding universe_has
