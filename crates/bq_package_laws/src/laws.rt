@@ -17,6 +17,7 @@ ghost use Rattle.bq_package.specs.Groups.{group_named};
 ghost use Rattle.bq_package.specs.Place.{PlaceView};
 ghost use Rattle.bq_package.specs.Rules.{declared_target, rule_target};
 ghost use Rattle.bq_refusal_laws.specs.Refusals.{fault_in, fault_then, IsRefusedForFirst, FailsForFirst};
+ghost use Rattle.bq_package_laws.specs.Defaults.{DefaultsAreTakenAsValues};
 ghost use Rattle.bq_package_laws.specs.Nothing.{GivesNothing};
 ghost use Rattle.bq_package_laws.specs.Orders.{taken, globbing, naming_files};
 
@@ -40,4 +41,11 @@ pub fn declarations_are_refused_in_order()
 pub fn globs_that_give_nothing_are_refused()
     ensures refused { (p : PlaceView) (r : GlobRequest) → r.allows_empty ≡ false → GivesNothing p r → found p r ≡ Err GlobEmpty }
     ensures only { (p : PlaceView) (r : GlobRequest) (why : FaultKind) → found p r ≡ Err why → (why ≡ GlobEmpty) × (r.allows_empty ≡ false) × GivesNothing p r }
+{}
+
+/// What `attr.NAME(default = v)` keeps is what the call of a rule in a file of that package keeps of `v`; and one is refused where the
+/// other is.
+#[tactic(auto, using(crate::proofs::Defaults::defaults_are_taken_as_values))]
+pub fn defaults_are_taken_as_values()
+    ensures { DefaultsAreTakenAsValues }
 {}
