@@ -346,7 +346,10 @@ impl<'a> Host for BuildHost<'a> {
     ghost means = { meaning };
 
     fn in_build(&self) -> bool {
-        self.building.is_some()
+        match &self.building {
+            None => false,
+            Some(_) => true,
+        }
     }
 
     #[tactic(auto, using(crate::proofs::Refusals::label_refuses), unfolding(crate::specs::Calls::default_label))]

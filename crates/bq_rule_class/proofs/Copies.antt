@@ -9,7 +9,7 @@ use Rattle.std.proofs.lemmas.Map.Keys.{IsDistinct-head, IsDistinct-tail, IsDisti
 use Rattle.bq_rule_class.specs.declared.attribute.Attribute.{Attribute}
 use Rattle.bq_rule_class.specs.Class.{Class, has_attribute, with_attribute}
 
-abbrev names_of : Class → List (List ℕ)
+abbrev pub names_of : Class → List (List ℕ)
 names_of class = map (λ e. e.0) class
 
 -- ---- distinct names
@@ -43,9 +43,10 @@ copied_next class i n a d h =
     let next : i + 1 ≡ suc i = omega arith in
     with_new (take i class) n a lacks ∙ (sym r.2 ∙ ap (λ k. take k class) (sym next))
 
--- past the end there is nothing to copy
-pub copied_past : (class : Class) (i : ℕ) → slice_get class i ≡ None → take i class ≡ take (i + 1) class
-copied_past [] i h = refl
+-- past the end all are copied
+pub copied_past : (class : Class) (i : ℕ) → None ≡ slice_get class i → take i class ≡ class
+copied_past [] zero h = refl
+copied_past [] (suc i) h = refl
 copied_past (e ∷ es) zero h = absurd (cc)
 copied_past (e ∷ es) (suc i) h = ap (λ z. e ∷ z) (copied_past es i h)
 
@@ -61,9 +62,9 @@ module _ {K : Type 0} (f : K → List ℕ) where
   keys_seen [] h = tt
   keys_seen (k ∷ ks) h = (all_seen (λ y. bytes_eq (f k) y ≡ false) ks h.0, keys_seen ks h.1)
 
-  names_seen : {V : Type 0} (es : List (K × V)) → map f (map (λ e. e.0) es) ≡ map (λ e. e.0) (map (λ e. (f e.0, e.1)) es)
+  names_seen : (es : List (K × Attribute)) → map f (map (λ (e : K × Attribute). e.0) es) ≡ names_of (map (λ (e : K × Attribute). (f e.0, e.1)) es)
   names_seen [] = refl
   names_seen (e ∷ es) = ap (λ z. f e.0 ∷ z) (names_seen es)
 
-  pub distinct_names : (es : List (K × Attribute)) → IsDistinct (λ a b. bytes_eq (f a) (f b)) (map (λ e. e.0) es) → IsDistinct bytes_eq (names_of (map (λ e. (f e.0, e.1)) es))
-  distinct_names es h = subst (IsDistinct bytes_eq) (names_seen es) (keys_seen (map (λ e. e.0) es) h)
+  pub distinct_names : (es : List (K × Attribute)) → IsDistinct (λ a b. bytes_eq (f a) (f b)) (map (λ (e : K × Attribute). e.0) es) → IsDistinct bytes_eq (names_of (map (λ (e : K × Attribute). (f e.0, e.1)) es))
+  distinct_names es h = subst (IsDistinct bytes_eq) (names_seen es) (keys_seen (map (λ (e : K × Attribute). e.0) es) h)

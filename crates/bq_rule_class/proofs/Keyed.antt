@@ -1,9 +1,9 @@
 -- Keys are seen as names: what a hashed map answers of its keys is what its names answer.
-use Rattle.std.proofs.Common.{◌≡◌, ◌∙◌, ℕ, zero, suc, Bool, true, false, cond, List, [], ◌∷◌, ◌++◌, map, Option, Some, None, option_map, slice_get, refl, sym, ap}
+use Rattle.std.proofs.Common.{◌≡◌, ◌∙◌, ℕ, zero, suc, Bool, true, false, cond, List, [], ◌∷◌, ◌++◌, map, Option, Some, None, option_map, slice_get, refl, sym, ap, Bor}
 use Rattle.std.specs.Map.{lookup}
 use Rattle.indexmap.specs.IndexMap.{insert_entry}
 use Rattle.std.specs.Str.{bytes_eq}
-use Rattle.std.specs.Option.{is_some}
+use Rattle.std.specs.Option.{is_some, option_copied}
 use Rattle.bq_rule_class.specs.declared.attribute.Attribute.{Attribute}
 use Rattle.bq_rule_class.specs.Class.{has_attribute, with_attribute}
 
@@ -29,6 +29,11 @@ module _ {K N V : Type 0} (f : K → N) where
   pub entry_mapped : (eq : N → N → Bool) (es : List (K × V)) (k : K) (v : V) → lookup (eq (f k)) (named es) ≡ None → named (insert_entry (λ a b. eq (f a) (f b)) es k v) ≡ named es ++ (f k, v) ∷ []
   entry_mapped eq [] k v h = refl
   entry_mapped eq (e ∷ es) k v h = entry_by (eq (f k) (f e.0)) e v es (insert_entry (λ a b. eq (f a) (f b)) es k v) (lookup (eq (f k)) (named es)) (named es ++ (f k, v) ∷ []) h (entry_mapped eq es k v)
+
+-- whether a reference is there, and what is behind it
+pub copied_there : {A : Type 0} (o : Option (Bor A)) → is_some (option_copied o) ≡ is_some o
+copied_there None = refl
+copied_there (Some x) = refl
 
 none_from : {A : Type 0} (o : Option A) → is_some o ≡ false → o ≡ None
 none_from None h = refl

@@ -78,15 +78,30 @@ impl Attributes {
         Ok(true)
     }
 
+    /// Adds a share of an attribute as the last, where there is none of its name.
+    fn add_share(
+        &mut self,
+        alloc: Global,
+        name: &[u8],
+        attribute: &Attribute,
+    ) -> Result<(), AllocError>
+        ensures { OnOk result (self.new ≡ with_attribute self.old name.now attribute.now) }
+    {
+        let attribute = attribute.share(alloc)?;
+        self.add(alloc, name, attribute)?;
+        Ok(())
+    }
+
     /// The same attributes once more, in time linear in what they hold.
     pub(crate) fn copy(&self, alloc: Global) -> Result<Attributes, AllocError>
         ensures { IfOk result (λ c. c ≡ self.now) }
     {
         let mut copy = Attributes::new(alloc);
         for place in 0..self.entries.len() {
-            if let Some((name, attribute)) = self.entry(place) {
-                copy.add(alloc, name, attribute.share(alloc)?)?;
-            }
+            let Some((name, attribute)) = self.entry(place) else {
+                return Ok(copy);
+            };
+            copy.add_share(alloc, name, attribute)?;
         }
         Ok(copy)
     }

@@ -67,9 +67,20 @@ impl RuleClass {
         self.attributes.entry(place)
     }
 
+    /// The attributes themselves where this is their only owner, else the same ones once more.
+    fn into_attributes(self, alloc: Global) -> Result<Attributes, AllocError>
+        ensures { IfOk result (λ a. a ≡ self) }
+    {
+        let RuleClass { attributes } = self;
+        match Arc::try_unwrap(attributes) {
+            Ok(attributes) => Ok(attributes),
+            Err(shared) => shared.copy(alloc),
+        }
+    }
+
     /// With one attribute more, as the last; none where one has the name. The attributes are moved where nothing else owns them,
     /// else copied.
-    #[tactic(auto, unfolding(crate::specs::Class::extended))]
+    #[tactic(auto, unfolding(crate::specs::Class::extended, crate::specs::Class::with_attribute))]
     pub fn with(
         self,
         alloc: Global,
@@ -78,11 +89,7 @@ impl RuleClass {
     ) -> Result<Option<RuleClass>, AllocError>
         ensures { IfOk result (λ c. c ≡ extended self name.now attribute) }
     {
-        let RuleClass { attributes } = self;
-        let mut attributes = match Arc::try_unwrap(attributes) {
-            Ok(own) => own,
-            Err(shared) => shared.copy(alloc)?,
-        };
+        let mut attributes = self.into_attributes(alloc)?;
         if !attributes.add(alloc, name, attribute)? {
             return Ok(None);
         }

@@ -1,5 +1,5 @@
 -- One more attribute of the last rule.
-use Rattle.std.proofs.Common.{◌≡◌, ◌∙◌, ℕ, List, [], ◌∷◌, ◌++◌, length, Option, Some, None, refl, ap, arith}
+use Rattle.std.proofs.Common.{◌≡◌, ◌∙◌, ℕ, List, [], ◌∷◌, ◌++◌, length, Option, Some, None, refl, sym, ap, arith}
 use Rattle.bq_rule_class.specs.declared.attribute.Attribute.{Attribute}
 use Rattle.bq_rule_class.specs.Class.{Class, extended}
 use Rattle.bq_schema.specs.Schema.{Rules, last_by, last_of, with_last, onto, with_attribute_of_last}
@@ -28,3 +28,16 @@ unfolding with_attribute_of_last
 of_last names classes before class name a o h e =
     ap (with_last (rules_of names classes) before) e
     ∙ ap (onto (rules_of names classes) name a) (let is : Some (before, class) ≡ last_of classes = rw h (rw (last_pushed before class) refl) in is)
+
+pub no_last : (names : List (List ℕ)) (classes : List Class) (name : List ℕ) (a : Attribute) → classes ≡ [] → None ≡ with_attribute_of_last (rules_of names classes) name a
+no_last names classes name a h = sym (of_none names classes name a (ap length h))
+
+-- the last class has an attribute of the name
+pub none_more : (names : List (List ℕ)) (classes before : List Class) (class : Class) (name : List ℕ) (a : Attribute) → classes ≡ before ++ class ∷ [] → None ≡ extended class name a
+    → None ≡ with_attribute_of_last (rules_of names classes) name a
+none_more names classes before class name a h e = of_last names classes before class name a None h e
+
+-- it has none
+pub one_more : (names : List (List ℕ)) (classes before : List Class) (class next : Class) (name : List ℕ) (a : Attribute) → classes ≡ before ++ class ∷ [] → Some next ≡ extended class name a
+    → Some (rules_of names (before ++ next ∷ [])) ≡ with_attribute_of_last (rules_of names classes) name a
+one_more names classes before class next name a h e = of_last names classes before class name a (Some next) h e

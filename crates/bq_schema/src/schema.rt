@@ -7,6 +7,7 @@ use crate::line::Line;
 use crate::names::Names;
 use bq_rule_class::{Attribute, RuleClass};
 use bq_source::Bytes;
+use sqlite_items::Items;
 use std::alloc::{AllocError, Global};
 use std::marker::Model;
 
@@ -17,7 +18,7 @@ pub struct Schema {
     names: Vec<Bytes>,
     /// The same names, where each is found.
     places: Names,
-    classes: Vec<RuleClass>,
+    classes: Items<RuleClass>,
 }
 
 impl Model for Schema {
@@ -26,7 +27,7 @@ impl Model for Schema {
 
     ghost Value = { Rules };
 
-    ghost view = { λ s. record { names = s.names.items; classes = s.classes.items } };
+    ghost view = { λ s. record { names = s.names.items; classes = s.classes } };
 
     ghost invariant = { λ s. s.places ≡ s.names.items };
 }
@@ -44,11 +45,11 @@ fn add_rule(
     alloc: Global,
     names: &mut Vec<Bytes>,
     places: &mut Names,
-    classes: &mut Vec<RuleClass>,
+    classes: &mut Items<RuleClass>,
     name: Bytes,
 ) -> Result<bool, AllocError>
     requires { places.old ≡ names.old.items }
-    ensures says { IfOk result (λ is_new. (if is_new then Some (record { names = names.new.items; classes = classes.new.items }) else None) ≡ with_rule (record { names = names.old.items; classes = classes.old.items }) name) }
+    ensures says { IfOk result (λ is_new. (if is_new then Some (record { names = names.new.items; classes = classes.new }) else None) ≡ with_rule (record { names = names.old.items; classes = classes.old }) name) }
     ensures places { OnOk result (places.new ≡ names.new.items) }
 {
     if !places.add(alloc, name.as_slice())? {
@@ -59,14 +60,16 @@ fn add_rule(
     Ok(true)
 }
 
-/// Adds an attribute to the last rule, where there is one, and it has none of the name. Says whether it did.
+/// Adds an attribute to the last rule, where there is one, and it has none of the name. Says whether it did; where it didn't, the
+/// classes are given up.
+#[tactic(auto, using(crate::proofs::Lasts::no_last, crate::proofs::Lasts::none_more, crate::proofs::Lasts::one_more))]
 fn add_attribute(
     alloc: Global,
-    classes: &mut Vec<RuleClass>,
+    classes: &mut Items<RuleClass>,
     name: &[u8],
     attribute: Attribute,
 ) -> Result<bool, AllocError>
-    ensures { (names : List (List ℕ)) → IfOk result (λ is_new. (if is_new then Some (record { names = names; classes = classes.new.items }) else None) ≡ with_attribute_of_last (record { names = names; classes = classes.old.items }) name.now attribute) }
+    ensures { (names : List (List ℕ)) → IfOk result (λ is_new. (if is_new then Some (record { names = names; classes = classes.new }) else None) ≡ with_attribute_of_last (record { names = names; classes = classes.old }) name.now attribute) }
 {
     let Some(last) = classes.pop() else {
         return Ok(false);
@@ -87,7 +90,7 @@ impl Schema {
         Schema {
             names: Vec::new(alloc),
             places: Names::new(alloc),
-            classes: Vec::new(alloc),
+            classes: Items::new(alloc),
         }
     }
 

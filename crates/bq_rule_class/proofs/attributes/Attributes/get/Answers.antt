@@ -7,4 +7,4 @@ use Rattle.bq_rule_class.proofs.attributes.Attributes.get.Goals as goal
 pub returns : goal.returns
 returns c =
     let name = c.args.name.now in
-    c.copied.ensures ∙ (c.get.ensures.value ∙ (lookup_mapped (λ k. k.items) (bytes_eq name) c.self.inside.entries.entries ∙ ap (lookup (bytes_eq name)) c.self.view_is))
+    c.get.ensures.value ∙ (lookup_mapped (λ k. k.items) (bytes_eq name) c.self.inside.entries.entries ∙ ap (lookup (bytes_eq name)) c.self.view_is)
