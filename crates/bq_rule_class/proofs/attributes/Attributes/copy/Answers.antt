@@ -14,5 +14,5 @@ loop-place-preserved c =
     c.in_ok-add_share.ensures
     ∙ (ap (λ class. with_attribute class name attribute) c.loop-place.invariant ∙ copied_next c.args.self.now c.loop-place.place name attribute distinct (sym c.in-Some.ensures))
 
-pub returns-in-None : goal.returns-in-None
-returns-in-None c = c.loop-place.invariant ∙ copied_past c.args.self.now c.loop-place.place c.in-None.ensures
+pub returns-in_default : goal.returns-in_default
+returns-in_default c = c.loop-place.invariant ∙ copied_past c.args.self.now c.loop-place.place c.in_default.ensures
