@@ -1,6 +1,6 @@
 //! `==` (Starlark, "Comparisons").
 
-ghost use Rattle.std.specs.Prelude.{◌≡◌};
+ghost use Rattle.std.specs.Prelude.{◌≡◌, ◌==◌, ◌&&◌};
 ghost use Rattle.bq_walk.specs.Looked.{max_levels};
 ghost use Rattle.bq_walk.specs.Equality.{equal_at, range_equal, function_equal, tuple_equal, cell_equal, lists_equal, dicts_equal, contents_equal};
 
@@ -85,6 +85,13 @@ fn tuple_equal(
     }
 }
 
+/// Whether two cells are one.
+fn is_one(x: Cell, y: Cell) -> bool
+    ensures { result ≡ ((x.module == y.module) && (x.number == y.number)) }
+{
+    x.module == y.module && x.number == y.number
+}
+
 #[cycle(equal)]
 fn cell_equal(
     store: &Store,
@@ -97,7 +104,7 @@ fn cell_equal(
 {
     match &b.node {
         Node::Cell(y) => {
-            let one = x.module == y.module && x.number == y.number;
+            let one = is_one(x, *y);
             match (store.content(x), store.content(*y)) {
                 (Some(c), Some(d)) => contents_equal(store, levels, steps, one, c, d),
                 (None, None) => Ok((true, steps)),
