@@ -13,7 +13,7 @@ use Rattle.bq_rule_functions.specs.Rule.{attribute_in, entry, entries}
 use Rattle.bq_rule_functions.specs.Steps.{and_then, in_turn}
 
 -- the pair of a dict that an attribute comes from
-abbrev pair : List ℕ × Attribute → Datum × Datum
+abbrev pub pair : List ℕ × Attribute → Datum × Datum
 pair e = (datum.string e.0, datum.attribute e.1)
 
 text_is : (k : Datum) (name : List ℕ) → text_in k ≡ Ok name → k ≡ datum.string name
@@ -35,7 +35,7 @@ by_parts p (Ok name) (Ok x) e is_r is_q h =
     let second : p.1 ≡ datum.attribute e.1 = attribute_is p.1 e.1 (is_q ∙ ap (λ (d : List ℕ × Attribute). Ok d.1) both) in
     λ i. (first i, second i)
 
-entry_is : (p : Datum × Datum) (e : List ℕ × Attribute) → entry p ≡ Ok e → p ≡ pair e
+pub entry_is : (p : Datum × Datum) (e : List ℕ × Attribute) → entry p ≡ Ok e → p ≡ pair e
 entry_is p e h = by_parts p (text_in p.0) (attribute_in p.1) e refl refl h
 
 mutual

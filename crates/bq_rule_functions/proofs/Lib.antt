@@ -4,5 +4,7 @@ pub mod Lifting
 pub mod Names
 -- the attributes of a rule are those of its dict
 pub mod Entries
+-- the attributes of a rule as they are read one after another
+pub mod Building
 -- what rules are refused for
 pub mod Orders
