@@ -134,9 +134,10 @@ fn add_defaults(
     ensures { OnOk result (attributes.new ≡ attributes.old ++ defaults keywords.now class.now) }
 {
     for place in 0..class.len() {
-        if let Some((name, attribute)) = class.entry(place) {
-            add_default(alloc, keywords, name, attribute, attributes)?;
-        }
+        let Some((name, attribute)) = class.entry(place) else {
+            return Ok(());
+        };
+        add_default(alloc, keywords, name, attribute, attributes)?;
     }
     Ok(())
 }
