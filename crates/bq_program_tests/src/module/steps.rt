@@ -136,7 +136,7 @@ x = r == r
 #> 5
 print(attr.int())
 ---
-#> 7
+#> 8
 def f(ctx): pass
 print(rule(f))
 "#;
