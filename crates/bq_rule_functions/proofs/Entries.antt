@@ -39,9 +39,10 @@ pub entry_is : (p : Datum × Datum) (e : List ℕ × Attribute) → entry p ≡ 
 entry_is p e h = by_parts p (text_in p.0) (attribute_in p.1) e refl refl h
 
 mutual
+  unfolding in_turn
+
   -- what is there already comes from the pairs before
   all_are : (ps : List (Datum × Datum)) (done x : Class) → in_turn entry done ps ≡ Ok x → map pair done ++ ps ≡ map pair x
-  unfolding in_turn
   all_are [] done x h = let same : done ≡ x = cc in append-nil (map pair done) ∙ ap (map pair) same
   all_are (p ∷ ps) done x h = next_are p ps done x (entry p) refl h
 

@@ -6,5 +6,7 @@ pub mod Names
 pub mod Entries
 -- the attributes of a rule as they are read one after another
 pub mod Building
+-- the attributes of a rule, place by place
+pub mod Places
 -- what rules are refused for
 pub mod Orders
