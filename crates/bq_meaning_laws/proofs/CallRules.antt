@@ -118,7 +118,7 @@ module _ {S : Type 0} (m : Primitives S) (K : Relation S) (R : Respects m K) whe
   apply_by_rule : (units : Units) (inner : Option (Calls S)) → EveryInner inner → (v : Datum) (p : Passed) → Itself Datum (apply_by m units inner v p)
   apply_by_rule units inner inners (function home place name ds) p = call_at_rule units inner inners home place (list_of ds) p
   apply_by_rule units inner inners (built_in name) p = R.of_built_in name p
-  apply_by_rule units inner inners (rule_function function) p = R.of_rule_function function p
+  apply_by_rule units inner inners (rule_function g) p = R.of_rule_function g p
   apply_by_rule units inner inners (cell home number) p = R.of_cell home number p
   apply_by_rule units inner inners v p = R.of_stop Datum f.WrongType
 
