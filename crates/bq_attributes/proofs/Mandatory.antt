@@ -190,7 +190,7 @@ mandatory_attributes_are_given own packages store class rule line p t h e known 
 
 default_there : (keywords : List (Datum × Datum)) (e : List ℕ × Attribute) (v : AttributeValue) → gives keywords e.0 ≡ false → default_of e.1.default ≡ Some v → default_for keywords e ≡ record { name = e.0; value = v } ∷ []
 unfolding default_for
-default_there keywords e v no is = rw (no, is) refl
+default_there keywords e v lacks is = rw (lacks, is) refl
 
 in_part : {X Y : Type 0} (f : X → List Y) (xs : List X) (x : X) (y : Y) → Contains xs x → Contains (f x) y → Contains (flat_map f xs) y
 in_part f [] x y known inside = absurd (let within = known.1 in omega arith)
@@ -201,11 +201,11 @@ in_part f (z ∷ xs) x y known inside = elim (head_or_tail z xs x known) [
 
 -- an attribute that isn't given has its default
 pub defaults_are_given : DefaultsAreGiven
-defaults_are_given own packages store class rule line p b t h bound e known no v is =
+defaults_are_given own packages store class rule line p b t h bound e known lacks v is =
     let d = declares own packages store class rule line p t h in
     let same : d.bound ≡ b = same_ok (bind keywords_alone p) d.bound b d.is bound in
     let one : GivenAttribute = record { name = e.0; value = v } in
-    let at : Contains (default_for b.keywords e) one = subst (λ (gs : List GivenAttribute). Contains gs one) (sym (default_there b.keywords e v no is)) (at_head one []) in
+    let at : Contains (default_for b.keywords e) one = subst (λ (gs : List GivenAttribute). Contains gs one) (sym (default_there b.keywords e v lacks is)) (at_head one []) in
     let there : Contains (defaults b.keywords class) one = in_part (default_for b.keywords) class e one known at in
     subst (λ (gs : List GivenAttribute). Contains gs one) (sym (d.attributes ∙ ap (λ (c : BoundView). d.given.attributes ++ defaults c.keywords class) same)) (Contains-append_right d.given.attributes (defaults b.keywords class) one there)
   where
