@@ -136,7 +136,7 @@ module _ {S : Type 0} (m : Primitives S) (L : Lawful m) where
   apply_by_rule : (units : Units) → UnitsAreSound units → (inner : Option (Calls S)) → EveryInner inner → (v : Datum) (p : Passed) → Itself Datum (apply_by m units inner v p)
   apply_by_rule units sound inner inners (function home place name ds) p = call_at_rule units sound inner inners home place (list_of ds) p
   apply_by_rule units sound inner inners (built_in name) p = L.of_built_in name p
-  apply_by_rule units sound inner inners (rule_function function) p = L.of_rule_function function p
+  apply_by_rule units sound inner inners (rule_function g) p = L.of_rule_function g p
   apply_by_rule units sound inner inners (cell home number) p = L.of_cell home number p
   apply_by_rule units sound inner inners v p = stop_of m Datum f.WrongType refl
 

@@ -13,7 +13,7 @@ use Rattle.bq_rule_class.specs.declared.attribute_type.AttributeType.TheVariants
 use Rattle.bq_value.specs.Cells.{StoreView, content_at, kind_of}
 use Rattle.bq_value.specs.Contents.{Contents, items, pairs, rule}
 use Rattle.bq_value.specs.Datum as datum
-use Rattle.bq_value.specs.Datum.{Datum, boolean, int, string, tuple, cell, function}
+use Rattle.bq_value.specs.Datum.{Datum, boolean, int, string, tuple, cell}
 use Rattle.bq_machine.specs.Action.{Action, Run, done, stopped, ◌>>=◌, pure, look, beside, on_machine}
 use Rattle.bq_machine.specs.Action as action
 use Rattle.bq_machine.specs.Args.{Passed}
@@ -55,7 +55,7 @@ text_fine v = refl
 listed_fine : (c : Option Contents) → Fine (listed c)
 listed_fine (Some (items vs)) = tt
 listed_fine (Some (pairs ps)) = refl
-listed_fine (Some (rule class)) = refl
+listed_fine (Some (rule x)) = refl
 listed_fine None = refl
 
 elements_fine : (s : StoreView) (v : Datum) → Fine (elements_in s v)
@@ -132,7 +132,7 @@ module _ (read : ReadLabel) (reads : (text : List ℕ) → Fine (read text)) whe
 
 implemented_fine : (o : Option Datum) → Fine (implemented o)
 implemented_fine None = refl
-implemented_fine (Some (function home place name defaults)) = tt
+implemented_fine (Some (datum.function home place name defaults)) = tt
 implemented_fine (Some v) = refl
 
 attribute_in_fine : (v : Datum) → Fine (attribute_in v)

@@ -96,7 +96,7 @@ contained_walks s v (boolean b) = λ n. refl
 contained_walks s v (int n) = λ n. refl
 contained_walks s v (function home place name ds) = λ n. refl
 contained_walks s v (built_in name) = λ n. refl
-contained_walks s v (rule_function function) = λ n. refl
+contained_walks s v (rule_function g) = λ n. refl
 contained_walks s v (attribute a) = λ n. refl
 
 pub compared_walks : (c : Comparison) (s : StoreView) (a b : Datum) → Walks (λ n. compared c s n a b)
@@ -136,7 +136,7 @@ item_walks s (boolean b) at = λ n. refl
 item_walks s (int n) at = λ n. refl
 item_walks s (function home place name ds) at = λ n. refl
 item_walks s (built_in name) at = λ n. refl
-item_walks s (rule_function function) at = λ n. refl
+item_walks s (rule_function g) at = λ n. refl
 item_walks s (attribute a) at = λ n. refl
 
 -- ---- the place of an element

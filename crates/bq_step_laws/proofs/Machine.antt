@@ -197,6 +197,10 @@ module _ {A : Type 0} (home number : ℕ) (change : Change A) (spares : SparesRu
       no_rule (pairs ps) is = tt
       no_rule (rule class) is = subst IsRefused is (spares class)
 
+  own_cell : (d : Contents) → content_at s.store home number ≡ Some d → (home == s.store.own) ≡ true → slice_get s.store.cells number ≡ Some d
+  unfolding content_at
+  own_cell d at is = rw is at at in at
+
   -- what is in the cell; whether it is the running module's; and whether it is being walked
   in_cell : (c : Contents) → content_at s.store home number ≡ Some c → (own walked : Bool) → (home == s.store.own) ≡ own → is_walked home number s.walks ≡ walked → Takes machine (changing home number change) s
   unfolding changing can_change may_change content
@@ -204,10 +208,6 @@ module _ {A : Type 0} (home number : ℕ) (change : Change A) (spares : SparesRu
   in_cell c at true true is goes = at_state machine (changing home number change) (stop f.Iterating) s (λ n. rw (at, is, goes) refl) (stop_owns A f.Iterating s)
   in_cell c at true false is goes =
       at_state machine (changing home number change) (given (change c) >>= λ r. put_content number r.1 >> pure r.0) s (λ n. rw (at, is, goes) refl) (put_by c (own_cell c at is) (change c) refl)
-    where
-      own_cell : (d : Contents) → content_at s.store home number ≡ Some d → (home == s.store.own) ≡ true → slice_get s.store.cells number ≡ Some d
-      unfolding content_at
-      own_cell d at is = rw is at at in at
 
   in_store : (o : Option Contents) → content_at s.store home number ≡ o → Takes machine (changing home number change) s
   unfolding changing can_change content
