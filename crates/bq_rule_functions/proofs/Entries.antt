@@ -38,18 +38,20 @@ by_parts p (Ok name) (Ok x) e is_r is_q h =
 pub entry_is : (p : Datum × Datum) (e : List ℕ × Attribute) → entry p ≡ Ok e → p ≡ pair e
 entry_is p e h = by_parts p (text_in p.0) (attribute_in p.1) e refl refl h
 
-mutual
-  unfolding in_turn
+-- what is there already comes from the pairs before
+abbrev ComeFrom : List (Datum × Datum) → Class → Class → Type 0
+ComeFrom ps done x = in_turn entry done ps ≡ Ok x → map pair done ++ ps ≡ map pair x
 
-  -- what is there already comes from the pairs before
-  all_are : (ps : List (Datum × Datum)) (done x : Class) → in_turn entry done ps ≡ Ok x → map pair done ++ ps ≡ map pair x
-  all_are [] done x h = let same : done ≡ x = cc in append-nil (map pair done) ∙ ap (map pair) same
-  all_are (p ∷ ps) done x h = next_are p ps done x (entry p) refl h
+next_are : (p : Datum × Datum) (ps : List (Datum × Datum)) (done x : Class) (r : Result (List ℕ × Attribute) FaultKind) → entry p ≡ r → ((e : List ℕ × Attribute) → ComeFrom ps (done ++ e ∷ []) x)
+    → and_then r (λ e. in_turn entry (done ++ e ∷ []) ps) ≡ Ok x → map pair done ++ p ∷ ps ≡ map pair x
+next_are p ps done x (Err why) is later h = absurd (cc)
+next_are p ps done x (Ok e) is later h =
+    ap (λ q. map pair done ++ q ∷ ps) (entry_is p e is) ∙ sym (append_assoc (map pair done) (pair e ∷ []) ps) ∙ ap (λ es. es ++ ps) (sym (map_push pair done e)) ∙ later e h
 
-  next_are : (p : Datum × Datum) (ps : List (Datum × Datum)) (done x : Class) (r : Result (List ℕ × Attribute) FaultKind) → entry p ≡ r → and_then r (λ e. in_turn entry (done ++ e ∷ []) ps) ≡ Ok x → map pair done ++ p ∷ ps ≡ map pair x
-  next_are p ps done x (Err why) is h = absurd (cc)
-  next_are p ps done x (Ok e) is h =
-      ap (λ q. map pair done ++ q ∷ ps) (entry_is p e is) ∙ sym (append_assoc (map pair done) (pair e ∷ []) ps) ∙ ap (λ es. es ++ ps) (sym (map_push pair done e)) ∙ all_are ps (done ++ e ∷ []) x h
+all_are : (ps : List (Datum × Datum)) (done x : Class) → ComeFrom ps done x
+unfolding in_turn
+all_are [] done x h = let same : done ≡ x = cc in append-nil (map pair done) ∙ ap (map pair) same
+all_are (p ∷ ps) done x h = next_are p ps done x (entry p) refl (λ e. all_are ps (done ++ e ∷ []) x) h
 
 pub attributes_are : ARuleHasTheAttributesOfItsDict
 unfolding entries

@@ -1,5 +1,6 @@
 use Rattle.std.proofs.Common.{◌≡◌, ◌∙◌, sym, ap, subst, ◌+◌, Ok, Some, None}
 use Rattle.bq_rule_class.specs.Class.{extended}
+use Rattle.bq_value.specs.Datum.{Datum}
 use Rattle.bq_rule_functions.specs.Rule.{entry}
 use Rattle.bq_rule_functions.proofs.Building.{Left, first, more_is, none_missing}
 use Rattle.bq_rule_functions.proofs.rule.entries.Goals as goal
@@ -10,7 +11,7 @@ loop-i-init c = subst (Left c.args.dict.now 0) (sym c.in_ok-class.ensures) (firs
 pub returns-in-None : goal.returns-in-None
 returns-in-None c =
     let w = c.pair.result.1.now in
-    let p = (c.pair.result.0.now, w) in
+    let p : Datum × Datum = (c.pair.result.0.now, w) in
     let x = c.loop-i.class in
     let n = c.in_ok-name.name in
     let a = c.in_ok-name.attribute in
@@ -21,7 +22,7 @@ returns-in-None c =
 pub loop-i-preserved : goal.loop-i-preserved
 loop-i-preserved c =
     let w = c.pair.result.1.now in
-    let p = (c.pair.result.0.now, w) in
+    let p : Datum × Datum = (c.pair.result.0.now, w) in
     let x = c.loop-i.class in
     let n = c.in_ok-name.name in
     let a = c.in_ok-name.attribute in
