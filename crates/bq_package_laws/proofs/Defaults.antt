@@ -39,7 +39,7 @@ given (Err why) = None
 some_same : {A : Type 0} (x y : A) → Some x ≡ Some y → x ≡ y
 some_same x y e = cc
 
-both : {A B : Type 0} (r q : Result A FaultKind) (g h : A → Result B FaultKind) → given r ≡ given q → ((x : A) → given (g x) ≡ given (h x)) → given (and_then r g) ≡ given (and_then q h)
+both : {A B : Type 0} (r q : Result A FaultKind) (g h : A → Result B FaultKind) → given r ≡ given q → ((x : A) → given (g x) ≡ given (h x)) → given (turn.and_then r g) ≡ given (and_then q h)
 both (Ok x) (Ok y) g h e each = each x ∙ ap (λ z. given (h z)) (some_same x y e)
 both (Ok x) (Err why) g h e each = absurd (cc)
 both (Err why) (Ok y) g h e each = absurd (cc)
@@ -139,46 +139,47 @@ module _ (own : PackageParts) (packages : List BuildFile) where
   one_more : (done : List LabelParts) (l : LabelParts) (d b : Bool) → crossing done ≡ d → own_label_crosses own packages l ≡ b → crossing (done ++ l ∷ []) ≡ (d || (b || false))
   one_more done l d b h e = rw (list_any-append (own_label_crosses own packages) done (l ∷ []), h, e) refl
 
-  either : (b : Bool) → (b || (true || false)) ≡ true
-  either true = refl
-  either false = refl
 
   -- a label that crosses is found whatever is read after it
   crossed : (done : List LabelParts) (ts : List (List ℕ)) → crossing done ≡ true → given (read_first done ts) ≡ None
   unfolding in_turn all_inside
   crossed done [] h = rw h refl
-  crossed done (x ∷ xs) h = by (one x)
+  crossed done (x ∷ xs) h = by (one x) (λ l. crossed (done ++ l ∷ []) xs (one_more done l true (own_label_crosses own packages l) h refl))
     where
-      by : (r : Result LabelParts FaultKind) → given (and_then (and_then r (λ y. in_turn one (done ++ y ∷ []) xs)) (all_inside own packages)) ≡ None
-      by (Ok l) = crossed (done ++ l ∷ []) xs (one_more done l true (own_label_crosses own packages l) h refl)
-      by (Err why) = refl
+      by : (r : Result LabelParts FaultKind) → ((l : LabelParts) → given (read_first (done ++ l ∷ []) xs) ≡ None)
+          → given (and_then (and_then r (λ y. in_turn one (done ++ y ∷ []) xs)) (all_inside own packages)) ≡ None
+      by (Ok l) later = later l
+      by (Err why) later = refl
 
   -- each text is read and then seen, or all are read and then seen
   one_by_one : (done : List LabelParts) (ts : List (List ℕ)) → crossing done ≡ false → given (turn.in_turn (label own packages k.Label) done ts) ≡ given (read_first done ts)
   unfolding in_turn turn.in_turn all_inside label inside
   one_by_one done [] h = rw h refl
-  one_by_one done (x ∷ xs) h = by (one x)
+  one_by_one done (x ∷ xs) h = by (one x) (λ l. seen l (own_label_crosses own packages l) refl (λ e. one_by_one (done ++ l ∷ []) xs (one_more done l false false h e)))
     where
-      then_ : (l : LabelParts) (b : Bool) → own_label_crosses own packages l ≡ b
+      seen : (l : LabelParts) (b : Bool) → own_label_crosses own packages l ≡ b
+          → (own_label_crosses own packages l ≡ false → given (turn.in_turn (label own packages k.Label) (done ++ l ∷ []) xs) ≡ given (read_first (done ++ l ∷ []) xs))
           → given (turn.and_then (cond b (Err f.CrossesPackage) (Ok l)) (λ y. turn.in_turn (label own packages k.Label) (done ++ y ∷ []) xs)) ≡ given (read_first (done ++ l ∷ []) xs)
-      then_ l true e = sym (crossed (done ++ l ∷ []) xs (one_more done l false true h e))
-      then_ l false e = one_by_one (done ++ l ∷ []) xs (one_more done l false false h e)
+      seen l true e later = sym (crossed (done ++ l ∷ []) xs (one_more done l false true h e))
+      seen l false e later = later e
 
       by : (r : Result LabelParts FaultKind)
+          → ((l : LabelParts) → given (turn.and_then (cond (own_label_crosses own packages l) (Err f.CrossesPackage) (Ok l)) (λ y. turn.in_turn (label own packages k.Label) (done ++ y ∷ []) xs)) ≡ given (read_first (done ++ l ∷ []) xs))
           → given (turn.and_then (and_then r (inside own packages)) (λ y. turn.in_turn (label own packages k.Label) (done ++ y ∷ []) xs))
           ≡ given (and_then (and_then r (λ y. in_turn one (done ++ y ∷ []) xs)) (all_inside own packages))
-      by (Ok l) = then_ l (own_label_crosses own packages l) refl
-      by (Err why) = refl
+      by (Ok l) later = later l
+      by (Err why) later = refl
 
 -- where a text is no label, not all are read
 none_read : (g : ReadLabel) (done : List LabelParts) (ts : List (List ℕ)) → list_any (λ text. is_no_label (g text)) ts ≡ true → given (turn.in_turn g done ts) ≡ None
 unfolding turn.in_turn
 none_read g done [] h = absurd (cc)
-none_read g done (x ∷ xs) h = by (g x) h
+none_read g done (x ∷ xs) h = by (g x) h (λ l e. none_read g (done ++ l ∷ []) xs e)
   where
-    by : (r : Result LabelParts FaultKind) → (is_no_label r || list_any (λ text. is_no_label (g text)) xs) ≡ true → given (turn.and_then r (λ y. turn.in_turn g (done ++ y ∷ []) xs)) ≡ None
-    by (Ok l) e = none_read g (done ++ l ∷ []) xs e
-    by (Err why) e = refl
+    by : (r : Result LabelParts FaultKind) → (is_no_label r || list_any (λ text. is_no_label (g text)) xs) ≡ true
+        → ((l : LabelParts) → list_any (λ text. is_no_label (g text)) xs ≡ true → given (turn.in_turn g (done ++ l ∷ []) xs) ≡ None) → given (turn.and_then r (λ y. turn.in_turn g (done ++ y ∷ []) xs)) ≡ None
+    by (Ok l) e later = later l e
+    by (Err why) e later = refl
 
 labels_by : (g : ReadLabel) (ts : List (List ℕ)) (b : Bool) → list_any (λ text. is_no_label (g text)) ts ≡ b → given (cond b (Err f.BadLabel) (turn.in_turn g [] ts)) ≡ given (turn.in_turn g [] ts)
 labels_by g ts true h = sym (none_read g [] ts h)
@@ -242,7 +243,7 @@ ok_too (Err why) q x e h = absurd (cc)
 
 pub defaults_are_taken_as_values : DefaultsAreTakenAsValues
 unfolding default_label
-defaults_are_taken_as_values held store type v value has =
+defaults_are_taken_as_values held store type v x has =
     let alike = taken_alike (own_of held) (packages_of held) store type v has in
-    (ok_too (default_as held store type v) (value_as (own_of held) (packages_of held) store type v) value alike,
-     ok_too (value_as (own_of held) (packages_of held) store type v) (default_as held store type v) value (sym alike))
+    (ok_too (default_as held store type v) (value_as (own_of held) (packages_of held) store type v) x alike,
+     ok_too (value_as (own_of held) (packages_of held) store type v) (default_as held store type v) x (sym alike))
