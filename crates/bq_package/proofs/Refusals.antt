@@ -18,7 +18,8 @@ use Rattle.bq_target.specs.declared.value.GivenAttribute.{GivenAttribute}
 use Rattle.bq_value.specs.declared.error.EvalErr.{EvalErr}
 use Rattle.bq_value.specs.declared.error.EvalErr.TheVariants.{Bad}
 use Rattle.bq_value.specs.Datum.{Datum, none, boolean, int, string, tuple, range, cell, function, built_in, rule_function, attribute}
-use Rattle.bq_value.specs.Contents.{Contents, items, pairs, rule}
+use Rattle.bq_value.specs.Contents as content
+use Rattle.bq_value.specs.Contents.{Contents, items, pairs}
 use Rattle.bq_value.specs.Cells.{StoreView, content_at}
 use Rattle.bq_value.specs.Pairs.{put, found as key_found}
 use Rattle.bq_machine.specs.Args.{Passed}
@@ -115,7 +116,7 @@ of_listed : (c : Option Contents) → IsRefusable (listed c)
 of_listed None = refl
 of_listed (Some (items vs)) = tt
 of_listed (Some (pairs ps)) = refl
-of_listed (Some (rule c)) = refl
+of_listed (Some (content.rule c)) = refl
 
 of_elements : (store : StoreView) (v : Datum) → IsRefusable (elements_in store v)
 of_elements store none = refl
