@@ -1,5 +1,5 @@
 -- The attributes of a rule as they are read one after another.
-use Rattle.std.proofs.Common.{◌≡◌, ◌∙◌, sym, ap, refl, subst, ℕ, ◌+◌, false, List, [], ◌∷◌, Option, Some, None, Ok, drop}
+use Rattle.std.proofs.Common.{◌≡◌, ◌∙◌, sym, ap, refl, subst, ℕ, ◌+◌, false, List, [], ◌∷◌, Some, None, Ok, drop}
 use Rattle.std.specs.Prelude.{◌++◌}
 use Rattle.bq_rule_class.specs.Class.{Class, has_attribute, extended}
 use Rattle.bq_rule_class.specs.declared.attribute.Attribute.{Attribute}

@@ -1,7 +1,6 @@
 -- No key of a dict is twice, so no attribute of its rule is.
-use Rattle.std.proofs.Common.{◌≡◌, ◌∙◌, sym, ap, refl, ℕ, Bool, true, false, List, [], ◌∷◌, Option, Some, None, inl, inr}
-use Rattle.std.specs.Prelude.{cond, ◌++◌, ◌||◌, is_some, bytes_eq}
-use Rattle.std.specs.Map.{lookup}
+use Rattle.std.proofs.Common.{◌≡◌, ◌∙◌, sym, ap, refl, ℕ, Bool, true, false, List, [], ◌∷◌, Some, None, inl, inr}
+use Rattle.std.specs.Prelude.{cond, ◌++◌, bytes_eq}
 use Rattle.std.proofs.lemmas.Slice.Eq.{bytes_eq-Decides}
 use Rattle.bq_source.proofs.Choices.{by_bool}
 use Rattle.bq_rule_class.specs.Class.{Class, has_attribute}

@@ -1,6 +1,6 @@
 -- `attr.NAME(..)` (Bazel, "attr"): F52; F40 where the default isn't of the type, or `doc` is neither a string nor `None`; F78 and F37
 -- of the default's labels.
-use Rattle.std.specs.Prelude.{pos, Bool, true, false, ◌==◌, List, [], Option, Some, None, Result, Ok, Err, if◌then◌else◌}
+use Rattle.std.specs.Prelude.{pos, Bool, true, false, List, [], Option, Some, None, Result, Ok, if◌then◌else◌}
 use Rattle.std.specs.Ordering.{int_eq}
 use Rattle.bq_source.specs.declared.fault.FaultKind.{FaultKind}
 use Rattle.bq_rule_class.specs.declared.attribute.Attribute.{Attribute}

@@ -1,6 +1,6 @@
 -- The value that an attribute of a type has by default (Bazel, "attr"), before its labels are read. It is taken as the calls of rules
 -- take a value of that type, and another value is F40.
-use Rattle.std.specs.Prelude.{ℕ, ℤ, pos, negsuc, Bool, true, false, ◌==◌, List, [], Option, Some, None, Result, Ok, Err, if◌then◌else◌}
+use Rattle.std.specs.Prelude.{ℕ, ℤ, pos, negsuc, Bool, true, false, ◌==◌, List, [], Option, Some, Result, Ok, Err, if◌then◌else◌}
 use Rattle.bq_source.specs.declared.fault.FaultKind.{FaultKind}
 use Rattle.bq_source.specs.declared.fault.FaultKind.TheVariants.{WrongType}
 use Rattle.bq_rule_class.specs.declared.attribute_type.AttributeType.{AttributeType}

@@ -1,4 +1,4 @@
-use Rattle.std.proofs.Common.{◌≡◌, sym, ◌∙◌, ℕ, List}
+use Rattle.std.proofs.Common.{sym, ◌∙◌, ℕ, List}
 use Rattle.bq_rule_class.specs.declared.attribute.Attribute.{Attribute}
 use Rattle.bq_rule_functions.specs.Rule.{may_be_named, are_named}
 use Rattle.bq_rule_functions.proofs.Places.{one_fails, one_passes}

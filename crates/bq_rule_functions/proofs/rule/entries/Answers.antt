@@ -1,4 +1,4 @@
-use Rattle.std.proofs.Common.{◌≡◌, ◌∙◌, sym, ap, subst, ◌+◌, Ok, Some, None}
+use Rattle.std.proofs.Common.{◌≡◌, ◌∙◌, sym, ap, subst, Ok, Some, None}
 use Rattle.bq_rule_class.specs.Class.{extended}
 use Rattle.bq_value.specs.Datum.{Datum}
 use Rattle.bq_rule_functions.specs.Rule.{entry}
