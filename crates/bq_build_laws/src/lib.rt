@@ -11,5 +11,6 @@
 mod laws;
 
 pub use laws::{
-    build_calls_look_at_no_steps, build_files_take_their_steps, calls_keep_rules, other_modules_stay,
+    build_calls_look_at_no_steps, build_files_take_their_steps, calls_keep_rules,
+    other_modules_stay,
 };

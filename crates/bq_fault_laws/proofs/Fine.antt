@@ -6,7 +6,6 @@ use Rattle.bq_walk.specs.Looked.{Looked, stepped}
 use Rattle.bq_operate.specs.Operand.{and_then}
 use Rattle.bq_operate.specs.Subscript.{or_fault}
 use Rattle.bq_host.specs.Refusals.{is_refusal}
-
 pub use Rattle.bq_fault_laws.specs.Faults.{Fine}
 
 pub fine_cond : {A : Type 0} (t : Bool) (a c : Result A FaultKind) → Fine a → Fine c → Fine (cond t a c)

@@ -38,10 +38,10 @@ module _ {W A : Type 0} (action : Action (State × W) A) (s : State × W) (o : T
 still_there : (s t : StoreView) → Stays s t → (home number : ℕ) (class : Class) (own : Bool) → (home == s.own) ≡ own → content_at s home number ≡ Some (rule class) → content_at t home number ≡ Some (rule class)
 unfolding content_at
 still_there s t stay home number class true own at =
-    let found : slice_get s.cells number ≡ Some (rule class) = rw own at at in at in
+    let found : slice_get s.cells number ≡ Some (rule class) = rw own at at in
     rw (stay.own, own) (stay.rules number class found)
 still_there s t stay home number class false own at =
-    let found : cell_of number (module_at home s.loaded) ≡ Some (rule class) = rw own at at in at in
+    let found : cell_of number (module_at home s.loaded) ≡ Some (rule class) = rw own at at in
     rw (stay.own, own, stay.modules) found
 
 module _ {W : Type 0} (names : List Name) (host : HostCalls W) (hosts : HostTakes host) where

@@ -139,7 +139,6 @@ module _ (own : PackageParts) (packages : List BuildFile) where
   one_more : (done : List LabelParts) (l : LabelParts) (d b : Bool) → crossing done ≡ d → own_label_crosses own packages l ≡ b → crossing (done ++ l ∷ []) ≡ (d || (b || false))
   one_more done l d b h e = rw (list_any-append (own_label_crosses own packages) done (l ∷ []), h, e) refl
 
-
   -- a label that crosses is found whatever is read after it
   crossed : (done : List LabelParts) (ts : List (List ℕ)) → crossing done ≡ true → given (read_first done ts) ≡ None
   unfolding in_turn all_inside
@@ -244,6 +243,7 @@ ok_too (Err why) q x e h = absurd (cc)
 pub defaults_are_taken_as_values : DefaultsAreTakenAsValues
 unfolding default_label
 defaults_are_taken_as_values held store type v x has =
-    let alike = taken_alike (own_of held) (packages_of held) store type v has in
-    (ok_too (default_as held store type v) (value_as (own_of held) (packages_of held) store type v) x alike,
-     ok_too (value_as (own_of held) (packages_of held) store type v) (default_as held store type v) x (sym alike))
+    let alike = taken_alike (own_of held) (packages_of held) store type v has in (
+      ok_too (default_as held store type v) (value_as (own_of held) (packages_of held) store type v) x alike,
+      ok_too (value_as (own_of held) (packages_of held) store type v) (default_as held store type v) x (sym alike),
+    )

@@ -199,7 +199,7 @@ module _ {A : Type 0} (home number : ℕ) (change : Change A) (spares : SparesRu
 
   own_cell : (d : Contents) → content_at s.store home number ≡ Some d → (home == s.store.own) ≡ true → slice_get s.store.cells number ≡ Some d
   unfolding content_at
-  own_cell d at is = rw is at at in at
+  own_cell d at is = rw is at at
 
   -- what is in the cell; whether it is the running module's; and whether it is being walked
   in_cell : (c : Contents) → content_at s.store home number ≡ Some c → (own walked : Bool) → (home == s.store.own) ≡ own → is_walked home number s.walks ≡ walked → Takes machine (changing home number change) s
