@@ -187,9 +187,13 @@ abbrev pub SparesRules : {A : Type 0} → Change A → Type 0
 SparesRules change = (class : Class) → IsRefused (change (rule class))
 
 module _ {A : Type 0} (home number : ℕ) (change : Change A) (spares : SparesRules change) (s : State) where
-  -- what is put in the place of `c`
-  put_by : (c : Contents) → slice_get s.store.cells number ≡ Some c → (r : Result (A × Contents) FaultKind) → change c ≡ r → Takes machine (given r >>= λ r. put_content number r.1 >> pure r.0) s
-  put_by c at (Err kind) is = at_state machine (given (Err kind) >>= λ r. put_content number r.1 >> pure r.0) (stop kind) s (λ n. refl) (stop_owns A kind s)
+  -- what a change gives is put into the cell
+  abbrev put_of : Result (A × Contents) FaultKind → Action State A
+  put_of r = given r >>= λ (p : A × Contents). put_content number p.1 >> pure p.0
+
+  -- in the place of `c`
+  put_by : (c : Contents) → slice_get s.store.cells number ≡ Some c → (r : Result (A × Contents) FaultKind) → change c ≡ r → Takes machine (put_of r) s
+  put_by c at (Err kind) is = at_state machine (put_of (Err kind)) (stop kind) s (λ n. refl) (stop_owns A kind s)
   put_by c at (Ok r) is = followed machine (put_content number r.1) (λ _. pure r.0) s (put_owns number r.1 s (subst IsNoRule (sym at) (no_rule c is))) (λ _. pure_owns r.0)
     where
       no_rule : (d : Contents) → change d ≡ Ok r → IsNoRule (Some d)
@@ -207,7 +211,7 @@ module _ {A : Type 0} (home number : ℕ) (change : Change A) (spares : SparesRu
   in_cell c at false walked is goes = at_state machine (changing home number change) (stop f.Frozen) s (λ n. rw (at, is) refl) (stop_owns A f.Frozen s)
   in_cell c at true true is goes = at_state machine (changing home number change) (stop f.Iterating) s (λ n. rw (at, is, goes) refl) (stop_owns A f.Iterating s)
   in_cell c at true false is goes =
-      at_state machine (changing home number change) (given (change c) >>= λ r. put_content number r.1 >> pure r.0) s (λ n. rw (at, is, goes) refl) (put_by c (own_cell c at is) (change c) refl)
+      at_state machine (changing home number change) (put_of (change c)) s (λ n. rw (at, is, goes, at) refl) (put_by c (own_cell c at is) (change c) refl)
 
   in_store : (o : Option Contents) → content_at s.store home number ≡ o → Takes machine (changing home number change) s
   unfolding changing can_change content
