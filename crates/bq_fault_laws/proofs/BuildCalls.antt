@@ -160,6 +160,7 @@ module _ (own : PackageParts) (packages : List BuildFile) (s : StoreView) (class
       (λ g. whole_fine (gives_mandatory class b.keywords) kind line g.name (g.attributes ++ defaults b.keywords class)))
 
 target_fine : (p : PlaceView) (s : StoreView) (line : ℕ) (kind : List ℕ) (class : Class) (passed : Passed) → Fine (declared_target p s line kind class passed)
+unfolding declared_target
 target_fine p s line kind class passed = declaration_fine p.own p.packages s class kind line passed
 
 by_rule_fine : (p : PlaceView) (s : StoreView) (line : ℕ) (o : Option (List ℕ)) (class : Option Class) (passed : Passed) → Fine (target_by p s line o class passed)

@@ -189,6 +189,7 @@ refuses (Ok v) s m kept after function passed does = tt
 refuses (Err e) s m kept after function passed does = λ kind is. of_kept s kept function passed (stop_at kind m) (does kind is)
 
 of_rule_kept : (s : State) (kept : HeldPackage) (rule : List ℕ) (class : Class) (passed : Passed) (why : Stop) → rule_by s kept rule class passed ≡ stopped why → is_refusal why.kind ≡ true
+unfolding declared_target
 of_rule_kept s (outside own packages) rule class passed why h = stops s f.NotInPackage why h refl
 of_rule_kept s (declaring d) rule class passed why h =
     of_declares s d (declared_target d.place s.store s.line rule class passed) (declared d.package) why (of_declaration d.place.own d.place.packages s.store class rule s.line passed) h

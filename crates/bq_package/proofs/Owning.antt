@@ -77,6 +77,7 @@ pub group_owned : (kept : HeldPackage) (p : PlaceView) (store : StoreView) (line
 group_owned kept p store line passed t inside h = target_owned kept p t inside (group_own p store line passed t h)
 
 rule_own : (p : PlaceView) (store : StoreView) (line : ℕ) (name : Option (List ℕ)) (class : Option Class) (passed : Passed) (t : Target) → target_by p store line name class passed ≡ Ok t → IsOwnCall p.own t
+unfolding declared_target
 rule_own p store line None class passed t h = absurd (cc)
 rule_own p store line (Some rule) None passed t h = absurd (cc)
 rule_own p store line (Some rule) (Some class) passed t h = declared_own p.own p.packages store class rule line passed t h
@@ -87,6 +88,7 @@ rule_owned kept p store line rule passed t inside h = target_owned kept p t insi
 
 pub declared_owned : (kept : HeldPackage) (p : PlaceView) (store : StoreView) (line : ℕ) (rule : List ℕ) (class : Class) (passed : Passed) (t : Target) → place_in kept ≡ Ok p → declared_target p store line rule class passed ≡ Ok t
     → OwnsTarget kept t
+unfolding declared_target
 declared_owned kept p store line rule class passed t inside h = target_owned kept p t inside (declared_own p.own p.packages store class rule line passed t h)
 
 -- ---- the package that a call leaves

@@ -43,7 +43,7 @@ use Rattle.bq_package.specs.declared.glob.GlobRequest.{GlobRequest}
 use Rattle.bq_package.specs.Glob.{pattern, patterns, excludes_directories, allows_empty, asked, request_by, request_of, found, is_idle, is_nothing, names_of, globbed}
 use Rattle.bq_package.specs.Files.{files_named}
 use Rattle.bq_package.specs.Groups.{names_first, group, group_labels, group_of, group_named}
-use Rattle.bq_package.specs.Rules.{target_by, rule_target}
+use Rattle.bq_package.specs.Rules.{declared_target, target_by, rule_target}
 
 -- the fault is one of the table, where there is one
 abbrev pub IsRefusable : {A : Type 0} → Result A FaultKind → Type 0
@@ -252,7 +252,7 @@ of_declaration own packages store class rule line p =
     (of_arguments own packages store class nothing_given b.keywords) (λ g. of_whole (gives_mandatory class b.keywords) rule class line g.name (g.attributes ++ defaults b.keywords class)))
 
 pub of_rule : (p : PlaceView) (store : StoreView) (line rule : ℕ) (passed : Passed) → IsRefusable (rule_target p store line rule passed)
-unfolding rule_target
+unfolding rule_target declared_target
 of_rule p store line rule passed = by (slice_get p.rules.names rule) (slice_get p.rules.classes rule)
   where
     by : (name : Option (List ℕ)) (class : Option Class) → IsRefusable (target_by p store line name class passed)

@@ -10,7 +10,7 @@ use Rattle.bq_attributes.specs.Declarations.{declaration}
 use Rattle.bq_package.specs.Place.{PlaceView}
 
 -- the target that a call of a rule declares, by the rule's kind and its class
-abbrev pub declared_target : PlaceView → StoreView → ℕ → List ℕ → Class → Passed → Result Target FaultKind
+unfoldable pub declared_target : PlaceView → StoreView → ℕ → List ℕ → Class → Passed → Result Target FaultKind
 declared_target p store line rule class passed = declaration p.own p.packages store class rule line passed
 
 -- a rule that the schema doesn't have, which no program calls, is in no package

@@ -16,7 +16,6 @@ pub fn what_is_declared_stays()
 
 /// A rule that a .bzl file declares and a rule of the schema declare alike, where the one has the other's name as its kind, and its
 /// attributes.
-#[tactic(auto, using(crate::proofs::Alike::rules_declare_alike))]
 pub fn rules_declare_alike()
     ensures { RulesDeclareAlike }
 {}
@@ -28,7 +27,6 @@ pub fn in_build_is_said()
 {}
 
 /// A default is read as a label that a file of the package writes whose file is evaluated.
-#[tactic(auto, using(crate::proofs::Alike::defaults_are_read_in_the_package))]
 pub fn defaults_are_read_in_the_package()
     ensures { DefaultsAreReadInThePackage }
 {}

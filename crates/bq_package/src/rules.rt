@@ -18,6 +18,7 @@ use std::alloc::Global;
 
 impl<'a> Place<'a> {
     /// The target that a call of a rule declares, by the rule's kind and its class.
+    #[tactic(auto, unfolding(crate::specs::Rules::declared_target))]
     pub fn declared_target(
         &self,
         alloc: Global,
