@@ -43,7 +43,13 @@ module _ (same : Compares) (each : (x y : Datum) → Walks (λ n. same n x y)) w
   contents_walk : (one : Bool) (c d : Contents) → Walks (λ n. contents_equal same n one c d)
   contents_walk one (items xs) (items ys) = lists_walk xs ys
   contents_walk one (pairs ps) (pairs qs) = cond_walks (length ps == length qs) (λ n. pairs_equal same n ps qs) (pairs_walk ps qs)
-  contents_walk one _ _ = λ n. tt
+  contents_walk one (rule c) (rule d) = λ n. tt
+  contents_walk one (items xs) (pairs qs) = λ n. tt
+  contents_walk one (items xs) (rule d) = λ n. tt
+  contents_walk one (pairs ps) (items ys) = λ n. tt
+  contents_walk one (pairs ps) (rule d) = λ n. tt
+  contents_walk one (rule c) (items ys) = λ n. tt
+  contents_walk one (rule c) (pairs qs) = λ n. tt
 
   cells_walk : (one : Bool) (c d : Option Contents) → Walks (λ n. cells_equal same n one c d)
   cells_walk one (Some c) (Some d) = contents_walk one c d

@@ -1,5 +1,5 @@
 -- What stands in an expression resolves to what means the same: pairs, operations, choices, arguments and suffixes.
-use Rattle.std.proofs.Common.{◌≡◌, ℕ, List, [], ◌∷◌, Option, Some, None, sym, subst}
+use Rattle.std.proofs.Common.{◌≡◌, List, [], ◌∷◌, Option, Some, None, sym, subst}
 use Rattle.bq_source.specs.declared.fault.FaultKind.TheVariants as f
 use Rattle.bq_grammar.specs.declared.tree.Argument.TheOpen.{Argument-F, Suffix-F}
 use Rattle.bq_grammar.specs.declared.tree.Argument.{Argument, out-Argument}
