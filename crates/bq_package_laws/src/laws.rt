@@ -45,7 +45,6 @@ pub fn globs_that_give_nothing_are_refused()
 
 /// What `attr.NAME(default = v)` keeps is what the call of a rule in a file of that package keeps of `v`; and one is refused where the
 /// other is.
-#[tactic(auto, using(crate::proofs::Defaults::defaults_are_taken_as_values))]
 pub fn defaults_are_taken_as_values()
     ensures { DefaultsAreTakenAsValues }
 {}
