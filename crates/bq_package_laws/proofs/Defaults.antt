@@ -232,11 +232,8 @@ module _ (own : PackageParts) (packages : List BuildFile) (store : StoreView) wh
   taken_alike t.Output v h = absurd h
   taken_alike t.OutputList v h = absurd h
 
-ok_back : {A : Type 0} (y x : A) (r : Result A FaultKind) → r ≡ Ok y → r ≡ Ok x → y ≡ x
-ok_back y x r e h = cc
-
 ok_too : {A : Type 0} (r q : Result A FaultKind) (x : A) → given r ≡ given q → r ≡ Ok x → q ≡ Ok x
-ok_too (Ok y) (Ok z) x e h = ap Ok (sym (some_same y z e) ∙ ok_back y x (Ok y) refl h)
+ok_too (Ok y) (Ok z) x e h = let same : y ≡ x = cc in ap Ok (sym (some_same y z e) ∙ same)
 ok_too (Ok y) (Err why) x e h = absurd (cc)
 ok_too (Err why) q x e h = absurd (cc)
 
