@@ -153,7 +153,7 @@ fn full_store(alloc: Global) -> Result<Store, AllocError> {
 
 /// The number of the module that a store is frozen to, and the time since the start.
 fn frozen_since(rt: &HostRuntime, start: CpuInstant, store: Store) -> Result<(u32, Duration)> {
-    let frozen = freeze(rt.alloc(), store, Vec::new(rt.alloc()))?;
+    let frozen = freeze(rt.alloc(), store, &[], Vec::new(rt.alloc()))?;
     Ok((frozen.module(), start.elapsed(rt)?))
 }
 

@@ -7,7 +7,8 @@ use Rattle.bq_query_check.specs.declared.formula.Unary.{Unary}
 use Rattle.bq_query_check.specs.declared.formula.Binary.{Binary}
 use Rattle.bq_query_check.specs.Formula.{Formula, let_in, one, two}
 use Rattle.bq_query_verdict.specs.Verdict.{first_of}
-use Rattle.bq_answer.specs.World.{Facts, count_of}
+use Rattle.bq_target_graph.specs.Graph.{GraphParts}
+use Rattle.bq_answer.specs.Graph.{count_of}
 use Rattle.bq_answer.specs.Stands.{Stands, Bound}
 use Rattle.bq_answer.specs.Functions.{OfOne, OfTwo}
 use Rattle.bq_answer.specs.Faults.{Has, Answers, fault_in}
@@ -15,29 +16,29 @@ use Rattle.bq_answer.proofs.Same.{one_stands, two_stand}
 use Rattle.bq_answer.proofs.Formulas.{let_stands, popped}
 
 -- the formula in other words
-pub reworded : {A : Type 0} (marks : A → List Bool) (w : Facts) (x y : Formula) (bound : Bound) (before : Bound) (result : Result A QueryErr) (after : Bound) → x ≡ y
+pub reworded : {A : Type 0} (marks : A → List Bool) (w : GraphParts) (x y : Formula) (bound : Bound) (before : Bound) (result : Result A QueryErr) (after : Bound) → x ≡ y
     → Answers marks w y bound before result after → Answers marks w x bound before result after
 reworded marks w x y bound before result after e h = subst (λ (z : Formula). Answers marks w z bound before result after) (sym e) h
 
 -- the bindings were kept before
-pub kept_before : {A : Type 0} (marks : A → List Bool) (w : Facts) (x : Formula) (start before : Bound) (result : Result A QueryErr) (after : Bound) → before ≡ start
+pub kept_before : {A : Type 0} (marks : A → List Bool) (w : GraphParts) (x : Formula) (start before : Bound) (result : Result A QueryErr) (after : Bound) → before ≡ start
     → Answers marks w x before before result after → Answers marks w x start start result after
 kept_before marks w x start before result after e h = subst (λ (bs : Bound). Answers marks w x bs bs result after) e h
 
 -- ---- functions
 
-pub has_one : (w : Facts) (bound : Bound) (f : Unary) (a : Formula) (x r : List Bool) → Has w bound a x → IsSet (count_of w) r (OfOne w f (Marked x)) → Has w bound (one f a) r
+pub has_one : (w : GraphParts) (bound : Bound) (f : Unary) (a : Formula) (x r : List Bool) → Has w bound a x → IsSet (count_of w) r (OfOne w f (Marked x)) → Has w bound (one f a) r
 has_one w bound f a x r h t = record { none = h.none; stands = one_stands (count_of w) (count_of w) x r (Stands w a bound) h.stands w f t }
 
 -- the first of two sets fails, or the second
-pub first_fails : (w : Facts) (f : Binary) (a b : Formula) (why : QueryErr) → fault_in w a ≡ Some why → fault_in w (two f a b) ≡ Some why
+pub first_fails : (w : GraphParts) (f : Binary) (a b : Formula) (why : QueryErr) → fault_in w a ≡ Some why → fault_in w (two f a b) ≡ Some why
 first_fails w f a b why h = ap (λ e. first_of e (fault_in w b)) h
 
-pub second_fails : (w : Facts) (f : Binary) (a b : Formula) (why : QueryErr) → fault_in w a ≡ None → fault_in w b ≡ Some why → fault_in w (two f a b) ≡ Some why
+pub second_fails : (w : GraphParts) (f : Binary) (a b : Formula) (why : QueryErr) → fault_in w a ≡ None → fault_in w b ≡ Some why → fault_in w (two f a b) ≡ Some why
 second_fails w f a b why none h = ap (λ e. first_of e (fault_in w b)) none ∙ h
 
 -- both have sets
-pub both_answered : (w : Facts) (f : Binary) (a b : Formula) (before middle after : Bound) (x y r : List Bool) → Has w before a x × (middle ≡ before)
+pub both_answered : (w : GraphParts) (f : Binary) (a b : Formula) (before middle after : Bound) (x y r : List Bool) → Has w before a x × (middle ≡ before)
     → Has w middle b y × (after ≡ middle) → IsSet (count_of w) r (OfTwo w f (Marked x) (Marked y)) → Has w before (two f a b) r × (after ≡ before)
 both_answered w f a b before middle after x y r h k t =
     let second : Has w before b y = subst (λ (bs : Bound). Has w bs b y) h.1 k.0 in (
@@ -50,7 +51,7 @@ both_answered w f a b before middle after x y r h k t =
 
 -- ---- lets
 
-let_known : {A : Type 0} (marks : A → List Bool) (w : Facts) (a b : Formula) (before : Bound) (set : List Bool) (result : Result A QueryErr) (after : Bound)
+let_known : {A : Type 0} (marks : A → List Bool) (w : GraphParts) (a b : Formula) (before : Bound) (set : List Bool) (result : Result A QueryErr) (after : Bound)
     → Has w before a set → Answers marks w b (before ++ set ∷ []) before result after
     → Answers marks w (let_in a b) before before result after
 let_known marks w a b before set (Ok r) after h k = (
@@ -63,11 +64,11 @@ let_known marks w a b before set (Ok r) after h k = (
 let_known marks w a b before set (Err why) after h k = λ other. ap (λ e. first_of e (fault_in w b)) h.none ∙ k other
 
 -- something is missing from the value
-pub value_fails : (w : Facts) (a b : Formula) (why : QueryErr) → fault_in w a ≡ Some why → fault_in w (let_in a b) ≡ Some why
+pub value_fails : (w : GraphParts) (a b : Formula) (why : QueryErr) → fault_in w a ≡ Some why → fault_in w (let_in a b) ≡ Some why
 value_fails w a b why h = ap (λ e. first_of e (fault_in w b)) h
 
 -- the value has a set
-pub let_answered : {A : Type 0} (marks : A → List Bool) (w : Facts) (a b : Formula) (before middle : Bound) (set : List Bool) (result : Result A QueryErr) (after : Bound)
+pub let_answered : {A : Type 0} (marks : A → List Bool) (w : GraphParts) (a b : Formula) (before middle : Bound) (set : List Bool) (result : Result A QueryErr) (after : Bound)
     → Has w before a set × (middle ≡ before) → Answers marks w b (middle ++ set ∷ []) middle result after
     → Answers marks w (let_in a b) before before result after
 let_answered marks w a b before middle set result after h k =

@@ -1,7 +1,8 @@
 -- The sets of formulas whose parts' sets are known.
 use Rattle.std.proofs.Common.{◌≡◌, ◌∙◌, Bool, List, [], ◌∷◌, ◌++◌, Some, None, refl, sym, ap, subst}
 use Rattle.bq_graph.specs.Marks.{IsSet, Marked}
-use Rattle.bq_answer.specs.World.{Facts, count_of}
+use Rattle.bq_target_graph.specs.Graph.{GraphParts}
+use Rattle.bq_answer.specs.Graph.{count_of}
 use Rattle.bq_query_check.specs.Formula.{Formula, let_in, combined, Step, chained}
 use Rattle.bq_query.specs.declared.query_error.QueryErr.{QueryErr}
 use Rattle.bq_query_verdict.specs.Verdict.{first_of}
@@ -12,24 +13,24 @@ use Rattle.bq_answer.proofs.Same.{set_as, one_list, combined_stands}
 use Rattle.bq_answer.proofs.Firsts.{fault_stays}
 
 -- `let name = a in b`, where `set` is that of `a`
-pub let_stands : (w : Facts) (a b : Formula) (bound : Bound) (set r : List Bool) → IsSet (count_of w) set (Stands w a bound)
+pub let_stands : (w : GraphParts) (a b : Formula) (bound : Bound) (set r : List Bool) → IsSet (count_of w) set (Stands w a bound)
     → IsSet (count_of w) r (Stands w b (bound ++ set ∷ [])) → IsSet (count_of w) r (Stands w (let_in a b) bound)
 let_stands w a b bound set r s t =
     set_as (Stands w b (bound ++ set ∷ [])) (Stands w (let_in a b) bound) (count_of w) r (λ y h. (set, s, h))
     (λ y h. subst (λ (xs : List Bool). Stands w b (bound ++ xs ∷ []) y) (one_list (Stands w a bound) (count_of w) h.0 set h.1 s) h.2) t
 
 -- a part of a chain is done, and has these marks: what is left makes of it what the whole chain says
-pub record SoFar (w : Facts) (bound : Bound) (whole : Formula) (left : List Step) (set : List Bool) : Type 0 where
+pub record SoFar (w : GraphParts) (bound : Bound) (whole : Formula) (left : List Step) (set : List Bool) : Type 0 where
   pub done : Formula
   pub goes_on : chained done left ≡ whole
   pub has : Has w bound done set
 
 -- nothing of it
-pub none_done : (w : Facts) (bound : Bound) (x : Formula) (steps : List Step) (set : List Bool) → Has w bound x set → SoFar w bound (chained x steps) steps set
+pub none_done : (w : GraphParts) (bound : Bound) (x : Formula) (steps : List Step) (set : List Bool) → Has w bound x set → SoFar w bound (chained x steps) steps set
 none_done w bound x steps set h = record { done = x; goes_on = refl; has = h }
 
 -- one operation more
-pub one_more : (w : Facts) (bound : Bound) (whole : Formula) (o : Step) (left : List Step) (set operand r : List Bool) → SoFar w bound whole (o ∷ left) set → fault_in w o.formula ≡ None
+pub one_more : (w : GraphParts) (bound : Bound) (whole : Formula) (o : Step) (left : List Step) (set operand r : List Bool) → SoFar w bound whole (o ∷ left) set → fault_in w o.formula ≡ None
     → IsSet (count_of w) operand (Stands w o.formula bound) → IsSet (count_of w) r (Combined o.operator (Marked set) (Marked operand)) → SoFar w bound whole left r
 one_more w bound whole o left set operand r so_far none s t = record {
   done = combined o.operator so_far.done o.formula;
@@ -41,13 +42,13 @@ one_more w bound whole o left set operand r so_far none s t = record {
 }
 
 -- an operand of which something is missing
-pub fails_there : (w : Facts) (bound : Bound) (whole : Formula) (o : Step) (left : List Step) (set : List Bool) (why : QueryErr) → SoFar w bound whole (o ∷ left) set → fault_in w o.formula ≡ Some why
+pub fails_there : (w : GraphParts) (bound : Bound) (whole : Formula) (o : Step) (left : List Step) (set : List Bool) (why : QueryErr) → SoFar w bound whole (o ∷ left) set → fault_in w o.formula ≡ Some why
     → fault_in w whole ≡ Some why
 fails_there w bound whole o left set why so_far h =
     ap (fault_in w) (sym so_far.goes_on) ∙ fault_stays w (combined o.operator so_far.done o.formula) left why (ap (λ f. first_of f (fault_in w o.formula)) so_far.has.none ∙ h)
 
 -- all of it
-pub all_done : (w : Facts) (bound : Bound) (whole : Formula) (set : List Bool) → SoFar w bound whole [] set → Has w bound whole set
+pub all_done : (w : GraphParts) (bound : Bound) (whole : Formula) (set : List Bool) → SoFar w bound whole [] set → Has w bound whole set
 all_done w bound whole set so_far = subst (λ (x : Formula). Has w bound x set) so_far.goes_on so_far.has
 
 -- ---- lets

@@ -7,12 +7,12 @@ use Rattle.regex_hir.specs.Re.{Re}
 use Rattle.bq_graph.specs.Marks.{Marked}
 use Rattle.bq_target.specs.declared.target.Target.{Target}
 use Rattle.bq_target_sets.specs.Order.{by_text, AreInOrder}
-use Rattle.bq_answer.specs.World.{Facts}
+use Rattle.bq_target_graph.specs.Graph.{GraphParts}
 use Rattle.bq_query_check.specs.Formula.{Formula}
 use Rattle.bq_answer.specs.Stands.{Bound}
 use Rattle.bq_answer.specs.Laws.{LieWithin, Keep, IsItself, LabelsAscend}
 
-pub lie_within : (w : Facts) (a b : Formula) (n : ℕ) (bound : Bound) (y : ℕ) → LieWithin w a b n bound y
+pub lie_within : (w : GraphParts) (a b : Formula) (n : ℕ) (bound : Bound) (y : ℕ) → LieWithin w a b n bound y
 lie_within w a b n bound y = record {
   argument = λ h. record { from = y; starts = h; through = []; path = refl };
   near = λ e. record { from = e.from; starts = e.starts; through = e.through; path = e.path };
@@ -21,7 +21,7 @@ lie_within w a b n bound y = record {
   paths = λ e. e.reached;
 }
 
-pub keep : (w : Facts) (a : Formula) (name : List ℕ) (pattern : Re) (bound : Bound) (y : ℕ) → Keep w a name pattern bound y
+pub keep : (w : GraphParts) (a : Formula) (name : List ℕ) (pattern : Re) (bound : Bound) (y : ℕ) → Keep w a name pattern bound y
 keep w a name pattern bound y = record { kind = λ h. h.0; filter = λ h. h.0; attr = λ h. h.0 }
 
 -- what is bound last is there
@@ -29,7 +29,7 @@ last_set : (bound : Bound) (set : List Bool) → get_or (bound ++ set ∷ []) (l
 last_set [] set = refl
 last_set (s ∷ ss) set = last_set ss set
 
-pub itself : (w : Facts) (a : Formula) (bound : Bound) → IsItself w a bound
+pub itself : (w : GraphParts) (a : Formula) (bound : Bound) → IsItself w a bound
 itself w a bound marks s y = (
   λ h. (h.1.1 y).0 (subst (λ (set : List Bool). Marked set y) (last_set bound h.0) h.2),
   λ h. (marks, s, subst (λ (set : List Bool). Marked set y) (sym (last_set bound marks)) ((s.1 y).1 h)),

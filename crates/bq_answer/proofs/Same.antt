@@ -12,7 +12,8 @@ use Rattle.bq_query_check.specs.declared.formula.Unary.TheVariants as unary
 use Rattle.bq_query_check.specs.declared.formula.Binary.{Binary}
 use Rattle.bq_query_check.specs.declared.formula.Binary.TheVariants as binary
 use Rattle.bq_answer.specs.Functions.{OfOne, OfTwo, Combined}
-use Rattle.bq_answer.specs.World.{Facts, edges_of}
+use Rattle.bq_target_graph.specs.Graph.{GraphParts}
+use Rattle.bq_answer.specs.Graph.{edges_of}
 
 abbrev pub Within : (ℕ → Type 0) → (ℕ → Type 0) → Type 0
 Within P Q = (y : ℕ) → P y → Q y
@@ -49,7 +50,7 @@ rdeps_within_in g n U V X Y f h y e =
 paths_in : (g : List (List ℕ)) (A C B D : ℕ → Type 0) → Within A C → Within B D → Within (OnPaths g A B) (OnPaths g C D)
 paths_in g A C B D f h y e = record { reached = deps_in g A C f y e.reached; to = e.to; ends = h e.to e.ends; through = e.through; path = e.path }
 
-one_in : (w : Facts) (f : Unary) (P Q : ℕ → Type 0) → Within P Q → Within (OfOne w f P) (OfOne w f Q)
+one_in : (w : GraphParts) (f : Unary) (P Q : ℕ → Type 0) → Within P Q → Within (OfOne w f P) (OfOne w f Q)
 one_in w unary.Deps P Q g y e = deps_in (edges_of w) P Q g y e
 one_in w (unary.DepsWithin n) P Q g y e = deps_within_in (edges_of w) n P Q g y e
 one_in w (unary.Kind re) P Q g y e = (g y e.0, e.1)
@@ -57,7 +58,7 @@ one_in w (unary.Filter re) P Q g y e = (g y e.0, e.1)
 one_in w (unary.Attr name re) P Q g y e = (g y e.0, e.1)
 one_in w (unary.Labels name) P Q g y e = (e.0, g e.0 e.1, e.2)
 
-two_in : (w : Facts) (f : Binary) (A C B D : ℕ → Type 0) → Within A C → Within B D → Within (OfTwo w f A B) (OfTwo w f C D)
+two_in : (w : GraphParts) (f : Binary) (A C B D : ℕ → Type 0) → Within A C → Within B D → Within (OfTwo w f A B) (OfTwo w f C D)
 two_in w binary.Rdeps A C B D g h y e = rdeps_in (edges_of w) A C B D g h y e
 two_in w (binary.RdepsWithin n) A C B D g h y e = rdeps_within_in (edges_of w) n A C B D g h y e
 two_in w binary.Allpaths A C B D g h y e = paths_in (edges_of w) A C B D g h y e
@@ -68,11 +69,11 @@ combined_in op.Intersect A C B D f h k y e = (f y e.0, h y e.1)
 combined_in op.Except A C B D f h k y e = (f y e.0, λ d. e.1 (k y d))
 
 module _ (n m : ℕ) (x r : List Bool) (X : ℕ → Type 0) (s : IsSet n x X) where
-  pub one_stands : (w : Facts) (f : Unary) → IsSet m r (OfOne w f (Marked x)) → IsSet m r (OfOne w f X)
+  pub one_stands : (w : GraphParts) (f : Unary) → IsSet m r (OfOne w f (Marked x)) → IsSet m r (OfOne w f X)
   one_stands w f t = set_as (OfOne w f (Marked x)) (OfOne w f X) m r (one_in w f (Marked x) X (to_set X n x s)) (one_in w f X (Marked x) (from_set X n x s)) t
 
 module _ (n m : ℕ) (u x r : List Bool) (U X : ℕ → Type 0) (a : IsSet n u U) (s : IsSet n x X) where
-  pub two_stand : (w : Facts) (f : Binary) → IsSet m r (OfTwo w f (Marked u) (Marked x)) → IsSet m r (OfTwo w f U X)
+  pub two_stand : (w : GraphParts) (f : Binary) → IsSet m r (OfTwo w f (Marked u) (Marked x)) → IsSet m r (OfTwo w f U X)
   two_stand w f t =
       set_as (OfTwo w f (Marked u) (Marked x)) (OfTwo w f U X) m r (two_in w f (Marked u) U (Marked x) X (to_set U n u a) (to_set X n x s))
       (two_in w f U (Marked u) X (Marked x) (from_set U n u a) (from_set X n x s)) t

@@ -10,17 +10,18 @@ use Rattle.bq_query_check.specs.declared.formula.Binary.TheVariants as binary
 use Rattle.bq_target_sets.specs.Words.{Those}
 use Rattle.bq_target_sets.specs.Labels.{Labels}
 use Rattle.bq_target_sets.specs.Matching.{has_kind, has_text, has_attribute}
-use Rattle.bq_answer.specs.World.{Facts, edges_of, targets_of}
+use Rattle.bq_target_graph.specs.Graph.{GraphParts}
+use Rattle.bq_answer.specs.Graph.{edges_of, targets_of}
 
-abbrev pub OfOne : Facts → Unary → (ℕ → Type 0) → ℕ → Type 0
+abbrev pub OfOne : GraphParts → Unary → (ℕ → Type 0) → ℕ → Type 0
 OfOne w unary.Deps X y = Deps (edges_of w) X y
 OfOne w (unary.DepsWithin n) X y = DepsWithin (edges_of w) X n y
 OfOne w (unary.Kind re) X y = X y × Those (has_kind re) (targets_of w) y
 OfOne w (unary.Filter re) X y = X y × Those (has_text re) (targets_of w) y
-OfOne w (unary.Attr name re) X y = X y × Those (has_attribute w.schema name re) (targets_of w) y
+OfOne w (unary.Attr name re) X y = X y × Those (has_attribute name re) (targets_of w) y
 OfOne w (unary.Labels name) X y = Labels name (targets_of w) X y
 
-abbrev pub OfTwo : Facts → Binary → (ℕ → Type 0) → (ℕ → Type 0) → ℕ → Type 0
+abbrev pub OfTwo : GraphParts → Binary → (ℕ → Type 0) → (ℕ → Type 0) → ℕ → Type 0
 OfTwo w binary.Rdeps U X y = Rdeps (edges_of w) U X y
 OfTwo w (binary.RdepsWithin n) U X y = RdepsWithin (edges_of w) U X n y
 OfTwo w binary.Allpaths A B y = OnPaths (edges_of w) A B y

@@ -9,17 +9,18 @@ use Rattle.bq_query_check.specs.declared.formula.Binary.TheVariants as binary
 use Rattle.bq_query_check.specs.Formula.{Formula, variable, let_in, combined, one, two}
 use Rattle.bq_target.specs.declared.target.Target.{Target}
 use Rattle.bq_target_sets.specs.Order.{by_text}
-use Rattle.bq_answer.specs.World.{Facts, count_of}
+use Rattle.bq_target_graph.specs.Graph.{GraphParts}
+use Rattle.bq_answer.specs.Graph.{count_of}
 use Rattle.bq_answer.specs.Stands.{Stands, Bound}
 
 -- union, intersection and difference are those of sets
-pub record AreOfSets (w : Facts) (a b : Formula) (bound : Bound) (y : ℕ) : Type 0 where
+pub record AreOfSets (w : GraphParts) (a b : Formula) (bound : Bound) (y : ℕ) : Type 0 where
   pub union : Stands w (combined op.Union a b) bound y ↔ (Stands w a bound y ⊎ Stands w b bound y)
   pub intersection : Stands w (combined op.Intersect a b) bound y ↔ (Stands w a bound y × Stands w b bound y)
   pub difference : Stands w (combined op.Except a b) bound y ↔ (Stands w a bound y × (Stands w b bound y → ⊥))
 
 -- dependencies hold their argument, dependents and paths lie among dependencies, and by at most n edges there are no more
-pub record LieWithin (w : Facts) (a b : Formula) (n : ℕ) (bound : Bound) (y : ℕ) : Type 0 where
+pub record LieWithin (w : GraphParts) (a b : Formula) (n : ℕ) (bound : Bound) (y : ℕ) : Type 0 where
   pub argument : Stands w a bound y → Stands w (one unary.Deps a) bound y
   pub near : Stands w (one (unary.DepsWithin n) a) bound y → Stands w (one unary.Deps a) bound y
   pub dependents : Stands w (two binary.Rdeps a b) bound y → Stands w (one unary.Deps a) bound y
@@ -27,13 +28,13 @@ pub record LieWithin (w : Facts) (a b : Formula) (n : ℕ) (bound : Bound) (y : 
   pub paths : Stands w (two binary.Allpaths a b) bound y → Stands w (one unary.Deps a) bound y
 
 -- `kind`, `filter` and `attr` keep members of their argument
-pub record Keep (w : Facts) (a : Formula) (name : List ℕ) (pattern : Re) (bound : Bound) (y : ℕ) : Type 0 where
+pub record Keep (w : GraphParts) (a : Formula) (name : List ℕ) (pattern : Re) (bound : Bound) (y : ℕ) : Type 0 where
   pub kind : Stands w (one (unary.Kind pattern) a) bound y → Stands w a bound y
   pub filter : Stands w (one (unary.Filter pattern) a) bound y → Stands w a bound y
   pub attr : Stands w (one (unary.Attr name pattern) a) bound y → Stands w a bound y
 
 -- `let name = a in $name` is a
-abbrev pub IsItself : Facts → Formula → Bound → Type 0
+abbrev pub IsItself : GraphParts → Formula → Bound → Type 0
 IsItself w a bound = (marks : List Bool) → IsSet (count_of w) marks (Stands w a bound) → (y : ℕ) → Stands w (let_in a (variable (length bound))) bound y ↔ Stands w a bound y
 
 -- the label of each target of the answer comes before those of the targets after it, so none is there twice

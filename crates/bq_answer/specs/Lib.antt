@@ -1,4 +1,4 @@
-pub mod World
+pub mod Graph
 pub mod Functions
 pub mod Stands
 pub mod Faults

@@ -7,28 +7,28 @@ ghost use Rattle.regex_hir.specs.Re.{Re};
 ghost use Rattle.bq_query_check.specs.Formula.{Formula};
 ghost use Rattle.bq_target.specs.declared.target.Target.{Target};
 ghost use Rattle.bq_target_sets.specs.Order.{AreInOrder};
-ghost use Rattle.bq_answer.specs.World.{Facts};
+ghost use Rattle.bq_target_graph.specs.Graph.{GraphParts};
 ghost use Rattle.bq_answer.specs.Stands.{Bound};
 ghost use Rattle.bq_answer.specs.Laws.{AreOfSets, LieWithin, Keep, IsItself, LabelsAscend};
 
 /// Union, intersection and difference are those of sets.
 pub fn operators_are_of_sets()
-    ensures { (w : Facts) (a b : Formula) (bound : Bound) (y : ℕ) → AreOfSets w a b bound y }
+    ensures { (w : GraphParts) (a b : Formula) (bound : Bound) (y : ℕ) → AreOfSets w a b bound y }
 {}
 
 /// `deps(x)` holds `x`; `rdeps(u, x)` and `allpaths(u, x)` lie within `deps(u)`; with a number of edges there are no more.
 pub fn dependents_lie_within_dependencies()
-    ensures { (w : Facts) (a b : Formula) (n : ℕ) (bound : Bound) (y : ℕ) → LieWithin w a b n bound y }
+    ensures { (w : GraphParts) (a b : Formula) (n : ℕ) (bound : Bound) (y : ℕ) → LieWithin w a b n bound y }
 {}
 
 /// `kind`, `filter` and `attr` keep members of their argument.
 pub fn patterns_keep_members()
-    ensures { (w : Facts) (a : Formula) (name : List ℕ) (pattern : Re) (bound : Bound) (y : ℕ) → Keep w a name pattern bound y }
+    ensures { (w : GraphParts) (a : Formula) (name : List ℕ) (pattern : Re) (bound : Bound) (y : ℕ) → Keep w a name pattern bound y }
 {}
 
 /// `let v = x in $v` is `x`.
 pub fn a_name_is_its_value()
-    ensures { (w : Facts) (a : Formula) (bound : Bound) → IsItself w a bound }
+    ensures { (w : GraphParts) (a : Formula) (bound : Bound) → IsItself w a bound }
 {}
 
 /// The labels of an answer ascend, none of them twice.

@@ -5,7 +5,6 @@
 //!
 //! In reading order:
 //!
-//! - `world`: what a query is answered over;
 //! - `bindings`: the sets that lets bind;
 //! - `named`: the sets of words;
 //! - `functions`: what functions and operators make of sets;
@@ -22,7 +21,6 @@ mod named;
 mod print;
 mod sets;
 mod whole;
-mod world;
 
 pub use print::{OutputForm, print_answer};
 pub use whole::answer;

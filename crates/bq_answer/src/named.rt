@@ -1,23 +1,22 @@
 //! The sets of words.
 
 ghost use Rattle.bq_query_check.specs.Formula as formula;
-ghost use Rattle.bq_answer.specs.World.{facts};
 ghost use Rattle.bq_answer.specs.Stands.{Bound};
 ghost use Rattle.bq_answer.specs.Faults.{Meets, Answers, first_missing};
 
-use crate::world::World;
 use bq_query::QueryErr;
 use bq_source::Bytes;
+use bq_target_graph::TargetGraph;
 use bq_target_sets::missing::missing;
 use bq_target_sets::words;
 use std::alloc::Global;
 
 /// Q5 or Q6 for the first word that names what is not there.
-fn are_there(alloc: Global, world: &World<'_>, texts: &[Bytes]) -> Result<(), QueryErr>
-    ensures { Meets (first_missing (facts world.now) texts.now) result }
+fn are_there(alloc: Global, graph: &TargetGraph, texts: &[Bytes]) -> Result<(), QueryErr>
+    ensures { Meets (first_missing graph.now texts.now) result }
 {
-    let packages = world.graph.packages();
-    let targets = world.graph.targets();
+    let packages = graph.packages();
+    let targets = graph.targets();
     let mut rest = texts;
     while let [text, more @ ..] = rest {
         if let Some(fault) = missing(alloc, packages, targets, text.as_slice())? {
@@ -29,9 +28,9 @@ fn are_there(alloc: Global, world: &World<'_>, texts: &[Bytes]) -> Result<(), Qu
 }
 
 /// The targets that words name.
-pub fn named(alloc: Global, world: &World<'_>, texts: &[Bytes]) -> Result<Vec<bool>, QueryErr>
-    ensures { (bound : Bound) → Answers (λ v. v.items) (facts world.now) (formula.named texts.now) bound bound result bound }
+pub fn named(alloc: Global, graph: &TargetGraph, texts: &[Bytes]) -> Result<Vec<bool>, QueryErr>
+    ensures { (bound : Bound) → Answers (λ v. v.items) graph.now (formula.named texts.now) bound bound result bound }
 {
-    are_there(alloc, world, texts)?;
-    Ok(words(alloc, world.graph.targets(), texts)?)
+    are_there(alloc, graph, texts)?;
+    Ok(words(alloc, graph.targets(), texts)?)
 }

@@ -6,14 +6,12 @@ ghost use Rattle.std.specs.List.Sorted.{IsStrictlyIncreasing};
 ghost use Rattle.bq_query_check.specs.Formula.{formula_of};
 ghost use Rattle.bq_answer.specs.Stands.{Stands};
 ghost use Rattle.bq_answer.specs.Faults.{Meets, fault_in};
-ghost use Rattle.bq_answer.specs.Answer.{facts_of, AreThose};
+ghost use Rattle.bq_answer.specs.Answer.{AreThose};
 
 use crate::sets::set_of;
-use crate::world::World;
 use bq_graph::members;
 use bq_query::QueryErr;
 use bq_query_check::CheckedQuery;
-use bq_schema::Schema;
 use bq_target_graph::TargetGraph;
 use sqlite_items::Items;
 use std::alloc::Global;
@@ -22,16 +20,14 @@ use std::alloc::Global;
 pub fn answer(
     alloc: Global,
     graph: &TargetGraph,
-    schema: &Schema,
     query: &CheckedQuery,
 ) -> Result<Vec<usize>, QueryErr>
-    ensures fault { Meets (fault_in (facts_of graph.now schema.now) (formula_of query.now.set)) result }
+    ensures fault { Meets (fault_in graph.now (formula_of query.now.set)) result }
     ensures within { IfOk result (λ v. All (λ at. at < length graph.now.targets) v.items) }
     ensures ascending { IfOk result (λ v. IsStrictlyIncreasing v.items) }
-    ensures members { IfOk result (λ v. AreThose (Stands (facts_of graph.now schema.now) (formula_of query.now.set) []) v.items) }
+    ensures members { IfOk result (λ v. AreThose (Stands graph.now (formula_of query.now.set) []) v.items) }
 {
-    let world = World { graph, schema };
     let mut bound = Items::new(alloc);
-    let set = set_of(alloc, &world, &mut bound, &query.set)?;
+    let set = set_of(alloc, graph, &mut bound, &query.set)?;
     Ok(members(alloc, &set)?)
 }

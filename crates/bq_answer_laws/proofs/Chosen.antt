@@ -8,21 +8,23 @@ use Rattle.bq_label.specs.Label.{LabelParts, full_form}
 use Rattle.bq_label.proofs.Orders.{at_head, in_tail, head_or_tail}
 use Rattle.bq_pattern.specs.Patterns.{is_found}
 use Rattle.bq_query_check.specs.Formula.{Formula}
+use Rattle.bq_rule_class.specs.Class.{Class}
+use Rattle.bq_rule_class.specs.declared.value.AttributeValue.{AttributeValue}
+use Rattle.bq_rule_class.specs.declared.value.AttributeValue.TheVariants as v
 use Rattle.bq_target.specs.declared.target.Target.{Target}
 use Rattle.bq_target.specs.declared.target.TargetKind.{TargetKind}
 use Rattle.bq_target.specs.declared.target.TargetKind.TheVariants as k
-use Rattle.bq_target.specs.declared.value.AttributeValue.{AttributeValue}
-use Rattle.bq_target.specs.declared.value.AttributeValue.TheVariants as v
 use Rattle.bq_target.specs.declared.value.GivenAttribute.{GivenAttribute}
 use Rattle.bq_target_laws.proofs.Writing.{none_in}
 use Rattle.bq_target_sets.specs.Labels.{labels_in, labels_by, named_by, labels_named, is_among}
-use Rattle.bq_target_sets.specs.Matching.{has_kind, has_text}
+use Rattle.bq_target_sets.specs.Matching.{is_match, has_kind, has_text, has_attribute}
 use Rattle.bq_target_sets.specs.Order.{is_text}
-use Rattle.bq_target_sets.specs.Texts.{kind_text, given}
+use Rattle.bq_target_sets.specs.Texts.{kind_text, value_text, given, text_by, attribute_by, attribute_text}
 use Rattle.bq_target_sets.specs.Words.{Those}
 use Rattle.bq_answer.specs.Stands.{Bound}
-use Rattle.bq_answer.specs.World.{Facts, targets_of}
-use Rattle.bq_answer_laws.specs.Chosen.{IsTargetWith, IsKind, KindMatches, HoldsLabel, FirstGiven, RuleNames, Choose}
+use Rattle.bq_target_graph.specs.Graph.{GraphParts}
+use Rattle.bq_answer.specs.Graph.{targets_of}
+use Rattle.bq_answer_laws.specs.Chosen.{IsTargetWith, IsKind, KindMatches, HoldsLabel, FirstGiven, IsAttributeText, AttributeMatches, RuleNames, Choose}
 
 -- ---- tests of targets
 
@@ -65,14 +67,14 @@ unfolding kind_text
 kind_is t = by t.kind refl
   where
     by : (kind : TargetKind) → t.kind ≡ kind → IsKind t (kind_text kind)
-    by (k.Rule name) e = IsKind.rule name e refl
+    by (k.Rule name class) e = IsKind.rule name class e refl
     by k.Source e = IsKind.source e refl
     by (k.Generated rule) e = IsKind.generated rule e refl
     by k.Group e = IsKind.group e refl
 
 one_kind : (t : Target) (text : List ℕ) → IsKind t text → kind_text t.kind ≡ text
 unfolding kind_text
-one_kind t text (IsKind.rule name e f) = ap kind_text e ∙ sym f
+one_kind t text (IsKind.rule name class e f) = ap kind_text e ∙ sym f
 one_kind t text (IsKind.source e f) = ap kind_text e ∙ sym f
 one_kind t text (IsKind.generated rule e f) = ap kind_text e ∙ sym f
 one_kind t text (IsKind.group e f) = ap kind_text e ∙ sym f
@@ -143,10 +145,64 @@ finds name (b ∷ bs) after a e h =
     ap (λ t. cond t (Some b) (find (λ c. bytes_eq c.name name) (bs ++ a ∷ after))) (is_false (bytes_eq b.name name) (λ t. h.0 ((bytes_eq-Decides b.name name).0 t)))
     ∙ finds name bs after a e h.1
 
+-- ---- texts of attributes
+
+none_by : (name : List ℕ) (b : GivenAttribute) (all : List GivenAttribute) (t : Bool) → bytes_eq b.name name ≡ t
+    → (find (λ c. bytes_eq c.name name) all ≡ None → AllByRecursion (λ c. c.name ≢ name) all) → cond t (Some b) (find (λ c. bytes_eq c.name name) all) ≡ None
+    → AllByRecursion (λ c. c.name ≢ name) (b ∷ all)
+none_by name b all true h later e = absurd (none_some b (sym e))
+none_by name b all false h later e = (λ same. false≢true (sym h ∙ (bytes_eq-Decides b.name name).1 same), later e)
+
+none_given : (name : List ℕ) (all : List GivenAttribute) → find (λ c. bytes_eq c.name name) all ≡ None → AllByRecursion (λ c. c.name ≢ name) all
+none_given name [] e = tt
+none_given name (b ∷ all) e = none_by name b all (bytes_eq b.name name) refl (none_given name all) e
+
+finds_none : (name : List ℕ) (all : List GivenAttribute) → AllByRecursion (λ c. c.name ≢ name) all → find (λ c. bytes_eq c.name name) all ≡ None
+finds_none name [] h = refl
+finds_none name (b ∷ bs) h =
+    ap (λ t. cond t (Some b) (find (λ c. bytes_eq c.name name) bs)) (is_false (bytes_eq b.name name) (λ t. h.0 ((bytes_eq-Decides b.name name).0 t)))
+    ∙ finds_none name bs h.1
+
+attribute_is : (name : List ℕ) (t : Target) (text : List ℕ) → attribute_text name t ≡ Some text → IsAttributeText t name text
+unfolding attribute_text
+attribute_is name t text same = by t.kind refl same
+  where
+    by_given : (kind_name : List ℕ) (class : Class) → t.kind ≡ k.Rule kind_name class → (o : Option GivenAttribute) → given name t ≡ o → text_by o class name ≡ Some text
+        → IsAttributeText t name text
+    by_given kind_name class e None f h = IsAttributeText.blank kind_name class e (none_given name t.attributes f) h
+    by_given kind_name class e (Some a) f h =
+        let r = found name t.attributes a f in
+        let gives : FirstGiven t name a = record { before = r.before; after = r.after; given = r.given; named = r.named; first = r.first } in
+        IsAttributeText.valued kind_name class a e gives (same_some text (value_text a.value) (sym h))
+
+    by : (kind : TargetKind) → t.kind ≡ kind → attribute_by kind name t ≡ Some text → IsAttributeText t name text
+    by (k.Rule kind_name class) e h = by_given kind_name class e (given name t) refl h
+    by k.Source e h = absurd (none_some text h)
+    by (k.Generated rule) e h = absurd (none_some text h)
+    by k.Group e h = absurd (none_some text h)
+
+one_attribute : (name : List ℕ) (t : Target) (text : List ℕ) → IsAttributeText t name text → attribute_text name t ≡ Some text
+unfolding attribute_text
+one_attribute name t text (IsAttributeText.valued kind_name class a e g f) =
+    let same : given name t ≡ Some a = ap (find (λ b. bytes_eq b.name name)) g.given ∙ finds name g.before g.after a g.named g.first in
+    ap (λ kind. attribute_by kind name t) e ∙ (ap (λ (o : Option GivenAttribute). text_by o class name) same ∙ ap (λ (x : List ℕ). Some x) (sym f))
+one_attribute name t text (IsAttributeText.blank kind_name class e h d) =
+    ap (λ kind. attribute_by kind name t) e ∙ (ap (λ (o : Option GivenAttribute). text_by o class name) (finds_none name t.attributes h) ∙ d)
+
+attribute_matches : (re : Re) (name : List ℕ) (t : Target) → (has_attribute name re t ≡ true) ↔ AttributeMatches re name t
+attribute_matches re name t = (λ h. matched (attribute_text name t) refl h, λ h. ap (is_match re) (one_attribute name t h.0 h.1) ∙ h.2)
+  where
+    matched : (o : Option (List ℕ)) → attribute_text name t ≡ o → is_match re o ≡ true → AttributeMatches re name t
+    matched None e h = absurd (false≢true h)
+    matched (Some text) e h = (text, attribute_is name t text e, h)
+
+-- ---- labels of an attribute
+
 -- an attribute of a rule has the label
 record Named (name : List ℕ) (r : Target) (l : LabelParts) : Type 0 where
-  class : List ℕ
-  rule : r.kind ≡ k.Rule class
+  name_of_kind : List ℕ
+  class : Class
+  rule : r.kind ≡ k.Rule name_of_kind class
   attribute : GivenAttribute
   gives : FirstGiven r name attribute
   holds : HoldsLabel l attribute.value
@@ -155,10 +211,11 @@ named : (name : List ℕ) (r : Target) (l : LabelParts) → Contains (labels_nam
 unfolding labels_named
 named name r l c = by r.kind refl c
   where
-    by_given : (class : List ℕ) → r.kind ≡ k.Rule class → (o : Option GivenAttribute) → given name r ≡ o → Contains (labels_by o) l → Named name r l
-    by_given class e None f h = absurd (none_in l h)
-    by_given class e (Some a) f h =
+    by_given : (kind_name : List ℕ) (class : Class) → r.kind ≡ k.Rule kind_name class → (o : Option GivenAttribute) → given name r ≡ o → Contains (labels_by o) l → Named name r l
+    by_given kind_name class e None f h = absurd (none_in l h)
+    by_given kind_name class e (Some a) f h =
         let r = found name r.attributes a f in record {
+          name_of_kind = kind_name;
           class = class;
           rule = e;
           attribute = a;
@@ -167,7 +224,7 @@ named name r l c = by r.kind refl c
         }
 
     by : (kind : TargetKind) → r.kind ≡ kind → Contains (named_by kind name r) l → Named name r l
-    by (k.Rule class) e h = by_given class e (given name r) refl h
+    by (k.Rule kind_name class) e h = by_given kind_name class e (given name r) refl h
     by k.Source e h = absurd (none_in l h)
     by (k.Generated rule) e h = absurd (none_in l h)
     by k.Group e h = absurd (none_in l h)
@@ -218,19 +275,20 @@ rule_names name r t = (
   λ h.
       let a = among (labels_named name r) t h in
       let n = named name r a.label a.known in
-      record { class = n.class; rule = n.rule; attribute = n.attribute; gives = n.gives; label = a.label; holds = n.holds; same = a.same },
+      record { name_of_kind = n.name_of_kind; class = n.class; rule = n.rule; attribute = n.attribute; gives = n.gives; label = a.label; holds = n.holds; same = a.same },
   λ n.
       is_there (labels_named name r) t n.label
-      (is_named name r n.label (record { class = n.class; rule = n.rule; attribute = n.attribute; gives = n.gives; holds = n.holds })) n.same,
+      (is_named name r n.label (record { name_of_kind = n.name_of_kind; class = n.class; rule = n.rule; attribute = n.attribute; gives = n.gives; holds = n.holds })) n.same,
 )
 
 -- ---- the functions
 
-pub choose : (w : Facts) (a : Formula) (re : Re) (name : List ℕ) (bound : Bound) (y : ℕ) → Choose w a re name bound y
+pub choose : (w : GraphParts) (a : Formula) (re : Re) (name : List ℕ) (bound : Bound) (y : ℕ) → Choose w a re name bound y
 choose w a re name bound y =
     let ts = targets_of w in
     let kinds = those_with (has_kind re) (KindMatches re) (kind_matches re) ts y in
     let texts = those_with (has_text re) (λ t. is_found re (full_form t.label) ≡ true) (λ t. (λ h. h, λ h. h)) ts y in
+    let attributes = those_with (has_attribute name re) (AttributeMatches re name) (attribute_matches re name) ts y in
     let of : (r : Target) → Those (is_among (labels_named name r)) ts y ↔ IsTargetWith ts y (RuleNames name r) =
     λ r. those_with (is_among (labels_named name r)) (RuleNames name r) (rule_names name r) ts y in
     let by : (z : ℕ) → IsSomeAnd (slice_get ts z) (λ r. Those (is_among (labels_named name r)) ts y) ↔ IsTargetWith ts z (λ r. Those (is_among (labels_named name r)) ts y) =
@@ -238,6 +296,7 @@ choose w a re name bound y =
     record {
       kind = (λ h. (h.0, kinds.0 h.1), λ h. (h.0, kinds.1 h.1));
       filter = (λ h. (h.0, texts.0 h.1), λ h. (h.0, texts.1 h.1));
+      attr = (λ h. (h.0, attributes.0 h.1), λ h. (h.0, attributes.1 h.1));
       labels = (
         λ h.
             (h.0, h.1, with_other ts h.0 (λ r. Those (is_among (labels_named name r)) ts y) (λ r. IsTargetWith ts y (RuleNames name r)) (λ r. (of r).0) ((by h.0).0 h.2)),

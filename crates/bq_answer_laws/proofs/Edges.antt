@@ -103,9 +103,9 @@ module _ (ps : List PackageTargets) (g : GraphParts) (made : IsGraphOf ps g) whe
 
 pub by_edges : FunctionsByEdges
 by_edges ps w a b n bound y made = record {
-  deps = reached ps w.graph made (Stands w a bound) y;
-  deps_within = reached_within ps w.graph made (Stands w a bound) y n;
-  rdeps = leads_into ps w.graph made (Stands w a bound) (Stands w b bound) y;
-  rdeps_within = leads_into_within ps w.graph made (Stands w a bound) (Stands w b bound) y n;
-  allpaths = on_paths ps w.graph made (Stands w a bound) (Stands w b bound) y;
+  deps = reached ps w made (Stands w a bound) y;
+  deps_within = reached_within ps w made (Stands w a bound) y n;
+  rdeps = leads_into ps w made (Stands w a bound) (Stands w b bound) y;
+  rdeps_within = leads_into_within ps w made (Stands w a bound) (Stands w b bound) y n;
+  allpaths = on_paths ps w made (Stands w a bound) (Stands w b bound) y;
 }

@@ -4,7 +4,7 @@ use Rattle.bq_query.specs.declared.query_error.QueryErr.{QueryErr}
 use Rattle.bq_query_verdict.specs.Verdict.{Fault, first_of}
 use Rattle.bq_query_check.specs.Formula.{Formula, named, variable, let_in, combined, one, two}
 use Rattle.bq_answer.specs.Faults.{fault_in, first_missing}
-use Rattle.bq_answer.specs.World.{Facts}
+use Rattle.bq_target_graph.specs.Graph.{GraphParts}
 use Rattle.bq_answer_laws.specs.Missing.{target_words, missing_of, AreThere, FailsForFirstMissing}
 
 none_some : {A : Type 0} (x : A) → None ≡ Some x → ⊥
@@ -16,7 +16,7 @@ first_then : (f g h : Fault) → first_of (first_of f g) h ≡ first_of f (first
 first_then None g h = refl
 first_then (Some why) g h = refl
 
-module _ (w : Facts) where
+module _ (w : GraphParts) where
   joined : (xs ys : List (List ℕ)) → first_missing w (xs ++ ys) ≡ first_of (first_missing w xs) (first_missing w ys)
   joined [] ys = refl
   joined (x ∷ xs) ys = ap (first_of (missing_of w x)) (joined xs ys) ∙ sym (first_then (missing_of w x) (first_missing w xs) (first_missing w ys))
@@ -71,7 +71,7 @@ module _ (w : Facts) where
   none_missing [] h = refl
   none_missing (x ∷ xs) h = ap (λ (f : Fault). first_of f (first_missing w xs)) h.0 ∙ none_missing xs h.1
 
-pub fails_for_first : (w : Facts) (x : Formula) → FailsForFirstMissing w x
+pub fails_for_first : (w : GraphParts) (x : Formula) → FailsForFirstMissing w x
 fails_for_first w x = record {
   first = λ why e.
       let r = first w (target_words x) why (sym (of_words w x) ∙ e) in

@@ -9,7 +9,8 @@ use Rattle.bq_target.specs.Package.{PackageTargets}
 use Rattle.bq_target_graph.specs.Edges.{IsGraphOf}
 use Rattle.bq_target_laws.specs.Names.{Depends}
 use Rattle.bq_answer.specs.Stands.{Stands, Bound}
-use Rattle.bq_answer.specs.World.{Facts, targets_of}
+use Rattle.bq_target_graph.specs.Graph.{GraphParts}
+use Rattle.bq_answer.specs.Graph.{targets_of}
 
 -- an edge: the first target writes the label of the second
 pub record IsEdge (ts : List Target) (a b : ℕ) : Type 0 where
@@ -37,7 +38,7 @@ pub record LeadsInto (ts : List Target) (n : ℕ) (X : ℕ → Type 0) (y : ℕ)
   pub lead : EdgesLead ts n y to
 
 -- over the graph of packages, what each of them stands for by the edges
-pub record AreByEdges (w : Facts) (a b : Formula) (n : ℕ) (bound : Bound) (y : ℕ) : Type 0 where
+pub record AreByEdges (w : GraphParts) (a b : Formula) (n : ℕ) (bound : Bound) (y : ℕ) : Type 0 where
   -- deps(a)
   pub deps : Stands w (one unary.Deps a) bound y ↔ ((k : ℕ) × IsReached (targets_of w) k (Stands w a bound) y)
   -- deps(a, n)
@@ -50,4 +51,4 @@ pub record AreByEdges (w : Facts) (a b : Formula) (n : ℕ) (bound : Bound) (y :
   pub allpaths : Stands w (two binary.Allpaths a b) bound y ↔ (Stands w (one unary.Deps a) bound y × ((k : ℕ) × LeadsInto (targets_of w) k (Stands w b bound) y))
 
 abbrev pub FunctionsByEdges : Type 0
-FunctionsByEdges = (ps : List PackageTargets) (w : Facts) (a b : Formula) (n : ℕ) (bound : Bound) (y : ℕ) → IsGraphOf ps w.graph → AreByEdges w a b n bound y
+FunctionsByEdges = (ps : List PackageTargets) (w : GraphParts) (a b : Formula) (n : ℕ) (bound : Bound) (y : ℕ) → IsGraphOf ps w → AreByEdges w a b n bound y

@@ -5,7 +5,8 @@ use Rattle.bq_query.specs.declared.query_error.QueryErr.{QueryErr}
 use Rattle.bq_query_check.specs.Formula.{Formula, named, variable, let_in, combined, one, two}
 use Rattle.bq_target_sets.specs.Missing.{missing}
 use Rattle.bq_answer.specs.Faults.{fault_in}
-use Rattle.bq_answer.specs.World.{Facts, targets_of, packages_of}
+use Rattle.bq_target_graph.specs.Graph.{GraphParts}
+use Rattle.bq_answer.specs.Graph.{targets_of, packages_of}
 
 -- the target patterns of a query, one after another
 abbrev pub target_words : Formula → List (List ℕ)
@@ -17,15 +18,15 @@ target_words (one f a) = target_words a
 target_words (two f a b) = target_words a ++ target_words b
 
 -- what the word names that is not there
-abbrev pub missing_of : Facts → List ℕ → Option QueryErr
+abbrev pub missing_of : GraphParts → List ℕ → Option QueryErr
 missing_of w word = missing (packages_of w) (targets_of w) word
 
 -- nothing is missing of these words
-abbrev pub AreThere : Facts → List (List ℕ) → Type 0
+abbrev pub AreThere : GraphParts → List (List ℕ) → Type 0
 AreThere w words = AllByRecursion (λ word. missing_of w word ≡ None) words
 
 -- the first word of which something is missing
-pub record IsFirstMissing (w : Facts) (x : Formula) (why : QueryErr) : Type 0 where
+pub record IsFirstMissing (w : GraphParts) (x : Formula) (why : QueryErr) : Type 0 where
   pub before : List (List ℕ)
   pub word : List ℕ
   pub after : List (List ℕ)
@@ -33,7 +34,7 @@ pub record IsFirstMissing (w : Facts) (x : Formula) (why : QueryErr) : Type 0 wh
   pub there : AreThere w before
   pub missing : missing_of w word ≡ Some why
 
-pub record FailsForFirstMissing (w : Facts) (x : Formula) : Type 0 where
+pub record FailsForFirstMissing (w : GraphParts) (x : Formula) : Type 0 where
   pub first : (why : QueryErr) → fault_in w x ≡ Some why → IsFirstMissing w x why
   pub fails : (why : QueryErr) → IsFirstMissing w x why → fault_in w x ≡ Some why
   pub answers : fault_in w x ≡ None → AreThere w (target_words x)

@@ -4,7 +4,7 @@ ghost use Rattle.std.specs.Prelude.{ℕ, List};
 ghost use Rattle.regex_hir.specs.Re.{Re};
 ghost use Rattle.bq_query_check.specs.Formula.{Formula};
 ghost use Rattle.bq_answer.specs.Stands.{Bound};
-ghost use Rattle.bq_answer.specs.World.{Facts};
+ghost use Rattle.bq_target_graph.specs.Graph.{GraphParts};
 ghost use Rattle.bq_answer_laws.specs.Edges.{FunctionsByEdges};
 ghost use Rattle.bq_answer_laws.specs.Chosen.{Choose};
 ghost use Rattle.bq_answer_laws.specs.Missing.{FailsForFirstMissing};
@@ -18,14 +18,15 @@ pub fn functions_go_along_edges()
     ensures { FunctionsByEdges }
 {}
 
-/// `kind` looks at how a target's kind is written, `filter` at its label in full, and `labels` at an attribute of rules alone.
+/// `kind` looks at how a target's kind is written, `filter` at its label in full, and `attr` and `labels` at an attribute of rules alone:
+/// `attr` at how its value is written, or what the type that the target's own rule declares for it has by default.
 pub fn functions_look_at_targets()
-    ensures { (w : Facts) (a : Formula) (pattern : Re) (name : List ℕ) (bound : Bound) (y : ℕ) → Choose w a pattern name bound y }
+    ensures { (w : GraphParts) (a : Formula) (pattern : Re) (name : List ℕ) (bound : Bound) (y : ℕ) → Choose w a pattern name bound y }
 {}
 
 /// A query fails for the first of its words that names what is not there (Q5, Q6), and is answered where there is none.
 pub fn queries_fail_for_the_first_missing_word()
-    ensures { (w : Facts) (x : Formula) → FailsForFirstMissing w x }
+    ensures { (w : GraphParts) (x : Formula) → FailsForFirstMissing w x }
 {}
 
 /// The target patterns of a query are words of its text, in the text's order.

@@ -1,8 +1,8 @@
 //! Laws of answers, by the definitions of `bq_answer`.
 //!
 //! In: nothing; the functions do nothing, and their contracts are the laws. The promise: what the functions over edges stand for is said
-//! by targets and the labels that they write; `kind`, `filter` and `labels` look at the kinds, the labels and the attributes of targets;
-//! a query fails for the first word of its text that names what is not there; and numbers are read in decimal digits.
+//! by targets and the labels that they write; `kind`, `filter`, `attr` and `labels` look at the kinds, the labels and the attributes of
+//! targets; a query fails for the first word of its text that names what is not there; and numbers are read in decimal digits.
 #![tactic(auto)]
 
 mod laws;

@@ -4,7 +4,7 @@ ghost use Rattle.std.specs.Prelude.{◌≡◌, ℕ, List, None, Err, codes, byte
 ghost use Rattle.bq_source.specs.declared.fault.FaultKind.TheVariants.{NoAttribute};
 ghost use Rattle.bq_label.specs.declared.packages.BuildFile.{BuildFile};
 ghost use Rattle.bq_label.specs.Label.{PackageParts};
-ghost use Rattle.bq_schema.specs.Schema.{Rules};
+ghost use Rattle.bq_rule_class.specs.Class.{Class};
 ghost use Rattle.bq_target.specs.Value.{attribute_type};
 ghost use Rattle.bq_value.specs.Cells.{StoreView};
 ghost use Rattle.bq_value.specs.Datum.{Datum};
@@ -19,13 +19,13 @@ ghost use Rattle.bq_attribute_laws.specs.Orders.{giving, naming, declaring};
 /// the name for not being a string before it is read as a label.
 #[tactic(auto, using(crate::proofs::Orders::given_in_order, crate::proofs::Orders::unknown_attribute, crate::proofs::Orders::named_in_order))]
 pub fn arguments_are_refused_in_order()
-    ensures attribute { (own : PackageParts) (packages : List BuildFile) (store : StoreView) (rules : Rules) (rule : List ℕ) (g : Given) (argument : Datum × Datum) → bytes_eq (keyword argument.0) (codes "name") ≡ false → FailsForFirst (with_argument own packages store rules rule g argument) (giving own packages store rules rule argument) }
-    ensures unknown { (own : PackageParts) (packages : List BuildFile) (store : StoreView) (rules : Rules) (rule : List ℕ) (g : Given) (argument : Datum × Datum) → bytes_eq (keyword argument.0) (codes "name") ≡ false → attribute_type rules rule (keyword argument.0) ≡ None → with_argument own packages store rules rule g argument ≡ Err NoAttribute }
-    ensures name { (own : PackageParts) (packages : List BuildFile) (store : StoreView) (rules : Rules) (rule : List ℕ) (g : Given) (argument : Datum × Datum) → bytes_eq (keyword argument.0) (codes "name") ≡ true → FailsForFirst (with_argument own packages store rules rule g argument) (naming own packages argument.1) }
+    ensures attribute { (own : PackageParts) (packages : List BuildFile) (store : StoreView) (class : Class) (g : Given) (argument : Datum × Datum) → bytes_eq (keyword argument.0) (codes "name") ≡ false → FailsForFirst (with_argument own packages store class g argument) (giving own packages store class argument) }
+    ensures unknown { (own : PackageParts) (packages : List BuildFile) (store : StoreView) (class : Class) (g : Given) (argument : Datum × Datum) → bytes_eq (keyword argument.0) (codes "name") ≡ false → attribute_type class (keyword argument.0) ≡ None → with_argument own packages store class g argument ≡ Err NoAttribute }
+    ensures name { (own : PackageParts) (packages : List BuildFile) (store : StoreView) (class : Class) (g : Given) (argument : Datum × Datum) → bytes_eq (keyword argument.0) (codes "name") ≡ true → FailsForFirst (with_argument own packages store class g argument) (naming own packages argument.1) }
 {}
 
 /// A call of a rule is refused for the first of what is listed, and for nothing else: F72 comes after each fault of an argument.
 #[tactic(auto, using(crate::proofs::Orders::declared_in_order))]
 pub fn calls_of_rules_are_refused_in_order()
-    ensures { (own : PackageParts) (packages : List BuildFile) (store : StoreView) (rules : Rules) (rule : List ℕ) (line : ℕ) (passed : Passed) → FailsForFirst (declaration own packages store rules rule line passed) (declaring own packages store rules rule passed) }
+    ensures { (own : PackageParts) (packages : List BuildFile) (store : StoreView) (class : Class) (rule : List ℕ) (line : ℕ) (passed : Passed) → FailsForFirst (declaration own packages store class rule line passed) (declaring own packages store class passed) }
 {}

@@ -1,10 +1,15 @@
 -- A table that is read place by place.
-use Rattle.std.proofs.Common.{◌≡◌, ◌∙◌, ℕ, Bool, ◌-◌, ◌<◌, inl, inr, List, [], ◌∷◌, ◌++◌, Some, None, sym, ap, map, drop, length, append_assoc, length-append, append-nil, arith, slice_get}
+use Rattle.std.proofs.Common.{◌≡◌, ◌∙◌, ℕ, Bool, ◌-◌, ◌+◌, ◌<◌, inl, inr, List, [], ◌∷◌, ◌++◌, Some, None, sym, ap, map, drop, length, append_assoc, length-append, append-nil, arith, slice_get}
 use Rattle.std.specs.List.{list_all}
 use Rattle.std.proofs.lemmas.List.Folds.{list_all-map}
 use Rattle.std.proofs.lemmas.List.{drop_all}
 use Rattle.std.proofs.lemmas.Option.{slice_get_cases, slice_get_within}
+use Rattle.bq_rule_class.specs.Class.{Class}
+use Rattle.bq_rule_class.specs.declared.attribute.Attribute.{Attribute}
+use Rattle.bq_target.specs.declared.value.GivenAttribute.{GivenAttribute}
+use Rattle.bq_value.specs.Datum.{Datum}
 use Rattle.bq_value.proofs.Lookups.{drop_found}
+use Rattle.bq_attributes.specs.Declarations.{default_for, defaults}
 
 module _ {A B : Type 0} (f : A → B) (table : List A) (met : List B) (past : met ++ map f (drop (length met) table) ≡ map f table) (n : ℕ) (at : n ≡ length met) where
   entry_there : (e : A) → Some e ≡ slice_get table n → slice_get table (length met) ≡ Some e
@@ -29,3 +34,18 @@ module _ {A B : Type 0} (f : A → B) (table : List A) (met : List B) (past : me
 
 pub all_of : {A : Type 0} (f : A → Bool) (xs : List A) → list_all (λ b. b) (map f xs) ≡ list_all f xs
 all_of f xs = list_all-map (λ b. b) f xs
+
+-- ---- defaults
+
+-- the default of one attribute more
+pub defaults_next : (keywords : List (Datum × Datum)) (class : Class) (i : ℕ) (e : List ℕ × Attribute) (gs more all : List GivenAttribute) → Some e ≡ slice_get class i
+    → gs ++ defaults keywords (drop i class) ≡ all → more ≡ gs ++ default_for keywords e → more ++ defaults keywords (drop (i + 1) class) ≡ all
+defaults_next keywords class i e gs more all h past grown =
+    rw (grown, append_assoc gs (default_for keywords e) (defaults keywords (drop (i + 1) class))) (ap (λ (z : Class). gs ++ defaults keywords z) (sym (drop_found class i e (sym h))) ∙ past)
+
+-- no attribute is left
+pub defaults_end : (keywords : List (Datum × Datum)) (class : Class) (i : ℕ) (gs all : List GivenAttribute) → None ≡ slice_get class i → gs ++ defaults keywords (drop i class) ≡ all → gs ≡ all
+defaults_end keywords class i gs all h past = elim ((slice_get_cases class i).1) [
+  | inl w ↦ let bad : Some w.0 ≡ None = sym w.2 ∙ sym h in absurd (cc)
+  | inr w ↦ let left : drop i class ≡ [] = drop_all i class w.0 in sym (append-nil gs) ∙ (ap (λ (z : Class). gs ++ defaults keywords z) (sym left) ∙ past)
+]

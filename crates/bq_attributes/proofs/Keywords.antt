@@ -5,7 +5,7 @@ use Rattle.bq_source.specs.declared.fault.FaultKind.{FaultKind}
 use Rattle.bq_source.specs.declared.fault.FaultKind.TheVariants.{Args}
 use Rattle.bq_label.specs.declared.packages.BuildFile.{BuildFile}
 use Rattle.bq_label.specs.Label.{PackageParts}
-use Rattle.bq_schema.specs.Schema.{Rules}
+use Rattle.bq_rule_class.specs.Class.{Class}
 use Rattle.bq_value.specs.Datum.{Datum, string}
 use Rattle.bq_value.specs.Same.{same}
 use Rattle.bq_value.specs.Pairs.{found, put}
@@ -64,10 +64,10 @@ keywords_keep_their_order p b h = by (too_many keywords_alone p.positional) h
 
 -- ---- the first faulty one
 
-module _ (own : PackageParts) (packages : List BuildFile) (store : StoreView) (rules : Rules) (rule : List ℕ) where
-  first_by : (g : Given) (x : Datum × Datum) (xs : List (Datum × Datum)) (why : FaultKind) (r : Result Given FaultKind) → with_argument own packages store rules rule g x ≡ r
-      → ((more : Given) → with_arguments own packages store rules rule more xs ≡ Err why → IsFirstFaulty own packages store rules rule more xs why)
-      → and_then r (λ more. with_arguments own packages store rules rule more xs) ≡ Err why → IsFirstFaulty own packages store rules rule g (x ∷ xs) why
+module _ (own : PackageParts) (packages : List BuildFile) (store : StoreView) (class : Class) where
+  first_by : (g : Given) (x : Datum × Datum) (xs : List (Datum × Datum)) (why : FaultKind) (r : Result Given FaultKind) → with_argument own packages store class g x ≡ r
+      → ((more : Given) → with_arguments own packages store class more xs ≡ Err why → IsFirstFaulty own packages store class more xs why)
+      → and_then r (λ more. with_arguments own packages store class more xs) ≡ Err why → IsFirstFaulty own packages store class g (x ∷ xs) why
   unfolding with_arguments
   first_by g x xs why (Err other) is later h =
       record { before = []; argument = x; after = xs; given = g; cut = refl; read = refl; bad = is ∙ h }
@@ -75,10 +75,10 @@ module _ (own : PackageParts) (packages : List BuildFile) (store : StoreView) (r
       let l = later more h in
       record { before = x ∷ l.before; argument = l.argument; after = l.after; given = l.given; cut = ap (λ z. x ∷ z) l.cut; read = rw is l.read; bad = l.bad }
 
-  first : (g : Given) (xs : List (Datum × Datum)) (why : FaultKind) → with_arguments own packages store rules rule g xs ≡ Err why → IsFirstFaulty own packages store rules rule g xs why
+  first : (g : Given) (xs : List (Datum × Datum)) (why : FaultKind) → with_arguments own packages store class g xs ≡ Err why → IsFirstFaulty own packages store class g xs why
   unfolding with_arguments
   first g [] why h = absurd (cc)
-  first g (x ∷ xs) why h = first_by g x xs why (with_argument own packages store rules rule g x) refl (λ more e. first more xs why e) h
+  first g (x ∷ xs) why h = first_by g x xs why (with_argument own packages store class g x) refl (λ more e. first more xs why e) h
 
 pub the_first_faulty_argument_decides : TheFirstFaultyArgumentDecides
-the_first_faulty_argument_decides own packages store rules rule g xs why h = first own packages store rules rule g xs why h
+the_first_faulty_argument_decides own packages store class g xs why h = first own packages store class g xs why h

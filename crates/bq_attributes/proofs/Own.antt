@@ -9,13 +9,13 @@ use Rattle.bq_source.specs.declared.fault.FaultKind.TheVariants as f
 use Rattle.bq_label.specs.declared.packages.BuildFile.{BuildFile}
 use Rattle.bq_label.specs.Label.{PackageParts, LabelParts, label_in}
 use Rattle.bq_label.specs.Paths.{is_path}
-use Rattle.bq_schema.specs.declared.attribute.AttributeType.{AttributeType}
-use Rattle.bq_schema.specs.declared.attribute.AttributeType.TheVariants as t
-use Rattle.bq_schema.specs.Schema.{Rules}
+use Rattle.bq_rule_class.specs.declared.attribute_type.AttributeType.{AttributeType}
+use Rattle.bq_rule_class.specs.declared.attribute_type.AttributeType.TheVariants as t
+use Rattle.bq_rule_class.specs.Class.{Class}
 use Rattle.bq_value.specs.Datum.{Datum}
 use Rattle.bq_value.specs.Cells.{StoreView}
-use Rattle.bq_target.specs.declared.value.AttributeValue.{AttributeValue}
-use Rattle.bq_target.specs.declared.value.AttributeValue.TheVariants as a
+use Rattle.bq_rule_class.specs.declared.value.AttributeValue.{AttributeValue}
+use Rattle.bq_rule_class.specs.declared.value.AttributeValue.TheVariants as a
 use Rattle.bq_target.specs.declared.value.GivenAttribute.{GivenAttribute}
 use Rattle.bq_target.specs.Value.{outputs_of, outputs_in, attribute_type}
 use Rattle.bq_target.specs.Target.{is_of}
@@ -57,7 +57,7 @@ all_inside_is : (own : PackageParts) (packages : List BuildFile) (ls ms : List L
 unfolding all_inside
 all_inside_is own packages ls ms h = else_ok (list_any (own_label_crosses own packages) ls) ls ms f.CrossesPackage h
 
-label_read : (own : PackageParts) (packages : List BuildFile) (kind : TextKind) (text : List ℕ) (l : LabelParts) → label own packages kind text ≡ Ok l → read own kind text ≡ Ok l
+pub label_read : (own : PackageParts) (packages : List BuildFile) (kind : TextKind) (text : List ℕ) (l : LabelParts) → label own packages kind text ≡ Ok l → read own kind text ≡ Ok l
 unfolding label
 label_read own packages kind text l h = let r = both_ok (read own kind text) (inside own packages) l h in r.1 ∙ ap Ok (inside_is own packages r.0 l r.2)
 
@@ -167,19 +167,19 @@ attribute_given_own own packages store (Some kind) name v g after h past = by (i
     by true e = let is : g ≡ after = cc in same_own own g after is past
     by false e = typed_given_own own packages store kind name v g after e past
 
-argument_own : (own : PackageParts) (packages : List BuildFile) (store : StoreView) (rules : Rules) (rule : List ℕ) (g after : Given) (argument : Datum × Datum)
-    → with_argument own packages store rules rule g argument ≡ Ok after → IsOwnGiven own g → IsOwnGiven own after
+argument_own : (own : PackageParts) (packages : List BuildFile) (store : StoreView) (class : Class) (g after : Given) (argument : Datum × Datum)
+    → with_argument own packages store class g argument ≡ Ok after → IsOwnGiven own g → IsOwnGiven own after
 unfolding with_argument with_attribute
-argument_own own packages store rules rule g after argument h past = by (bytes_eq (keyword argument.0) (codes "name")) h
+argument_own own packages store class g after argument h past = by (bytes_eq (keyword argument.0) (codes "name")) h
   where
-    by : (b : Bool) → cond b (with_name own packages argument.1 g) (with_attribute own packages store rules rule (keyword argument.0) argument.1 g) ≡ Ok after → IsOwnGiven own after
+    by : (b : Bool) → cond b (with_name own packages argument.1 g) (with_attribute own packages store class (keyword argument.0) argument.1 g) ≡ Ok after → IsOwnGiven own after
     by true e = name_given_own own packages argument.1 g after e past
-    by false e = attribute_given_own own packages store (attribute_type rules rule (keyword argument.0)) (keyword argument.0) argument.1 g after e past
+    by false e = attribute_given_own own packages store (attribute_type class (keyword argument.0)) (keyword argument.0) argument.1 g after e past
 
-pub arguments_own : (own : PackageParts) (packages : List BuildFile) (store : StoreView) (rules : Rules) (rule : List ℕ) (g after : Given) (arguments : List (Datum × Datum))
-    → with_arguments own packages store rules rule g arguments ≡ Ok after → IsOwnGiven own g → IsOwnGiven own after
+pub arguments_own : (own : PackageParts) (packages : List BuildFile) (store : StoreView) (class : Class) (g after : Given) (arguments : List (Datum × Datum))
+    → with_arguments own packages store class g arguments ≡ Ok after → IsOwnGiven own g → IsOwnGiven own after
 unfolding with_arguments
-arguments_own own packages store rules rule g after [] h past = let is : g ≡ after = cc in same_own own g after is past
-arguments_own own packages store rules rule g after (x ∷ xs) h past =
-    let r = both_ok (with_argument own packages store rules rule g x) (λ more. with_arguments own packages store rules rule more xs) after h in
-    arguments_own own packages store rules rule r.0 after xs r.2 (argument_own own packages store rules rule g r.0 x r.1 past)
+arguments_own own packages store class g after [] h past = let is : g ≡ after = cc in same_own own g after is past
+arguments_own own packages store class g after (x ∷ xs) h past =
+    let r = both_ok (with_argument own packages store class g x) (λ more. with_arguments own packages store class more xs) after h in
+    arguments_own own packages store class r.0 after xs r.2 (argument_own own packages store class g r.0 x r.1 past)

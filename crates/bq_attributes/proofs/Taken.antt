@@ -7,12 +7,12 @@ use Rattle.bq_source.specs.declared.fault.FaultKind.{FaultKind}
 use Rattle.bq_source.specs.declared.fault.FaultKind.TheVariants as f
 use Rattle.bq_label.specs.declared.packages.BuildFile.{BuildFile}
 use Rattle.bq_label.specs.Label.{PackageParts}
-use Rattle.bq_schema.specs.declared.attribute.AttributeType.{AttributeType}
-use Rattle.bq_schema.specs.declared.attribute.AttributeType.TheVariants as t
-use Rattle.bq_target.specs.declared.value.AttributeValue.{AttributeValue}
-use Rattle.bq_target.specs.declared.value.AttributeValue.TheVariants as a
-use Rattle.bq_value.specs.Datum.{Datum, none, boolean, int, string, tuple, range, cell, function, built_in, list_of}
-use Rattle.bq_value.specs.Contents.{Contents, items, pairs}
+use Rattle.bq_rule_class.specs.declared.attribute_type.AttributeType.{AttributeType}
+use Rattle.bq_rule_class.specs.declared.attribute_type.AttributeType.TheVariants as t
+use Rattle.bq_rule_class.specs.declared.value.AttributeValue.{AttributeValue}
+use Rattle.bq_rule_class.specs.declared.value.AttributeValue.TheVariants as a
+use Rattle.bq_value.specs.Datum.{Datum, none, boolean, int, string, tuple, range, cell, function, built_in, rule_function, attribute, list_of}
+use Rattle.bq_value.specs.Contents.{Contents, items, pairs, rule}
 use Rattle.bq_value.specs.Cells.{StoreView, content_at}
 use Rattle.bq_attributes.specs.declared.label_texts.TextKind.TheVariants as k
 use Rattle.bq_attributes.specs.Texts.{text_in, listed, elements_in, all_texts, texts_in}
@@ -40,6 +40,8 @@ text_cases (range a b c) = inr refl
 text_cases (cell m n) = inr refl
 text_cases (function m n name vs) = inr refl
 text_cases (built_in name) = inr refl
+text_cases (rule_function g) = inr refl
+text_cases (attribute x) = inr refl
 
 text_of : (v : Datum) (s : List ℕ) → v ≡ string s → text_in v ≡ Ok s
 unfolding text_in
@@ -72,6 +74,8 @@ int_cases (range a b c) = inr refl
 int_cases (cell m n) = inr refl
 int_cases (function m n name vs) = inr refl
 int_cases (built_in name) = inr refl
+int_cases (rule_function g) = inr refl
+int_cases (attribute x) = inr refl
 
 data IsBoolean (v : Datum) : Type 0 where
   itself : (b : Bool) → v ≡ boolean b → bool_in v ≡ Ok b → IsBoolean v
@@ -101,6 +105,8 @@ bool_cases (range a b c) = no_boolean refl
 bool_cases (cell m n) = no_boolean refl
 bool_cases (function m n name vs) = no_boolean refl
 bool_cases (built_in name) = no_boolean refl
+bool_cases (rule_function g) = no_boolean refl
+bool_cases (attribute x) = no_boolean refl
 
 -- ---- lists
 
@@ -114,6 +120,7 @@ module _ (store : StoreView) where
       by : (c : Option Contents) → content_at store m n ≡ c → HasElements (cell m n)
       by (Some (items vs)) e = inl (vs, is_list m n refl e, rw e refl)
       by (Some (pairs ps)) e = inr (rw e refl)
+      by (Some (rule class)) e = inr (rw e refl)
       by None e = inr (rw e refl)
 
   element_cases : (v : Datum) → HasElements v
@@ -126,6 +133,8 @@ module _ (store : StoreView) where
   element_cases (cell m n) = cell_cases m n
   element_cases (function m n name vs) = inr refl
   element_cases (built_in name) = inr refl
+  element_cases (rule_function g) = inr refl
+  element_cases (attribute x) = inr refl
 
   elements_of : (v : Datum) (vs : List Datum) → IsListOf store v vs → elements_in store v ≡ Ok vs
   elements_of v vs (is_tuple d e l) = subst (λ (z : Datum). elements_in store z ≡ Ok vs) (sym e) (ap Ok l)

@@ -5,10 +5,10 @@ use Rattle.bq_source.specs.declared.fault.FaultKind.{FaultKind}
 use Rattle.bq_source.specs.declared.fault.FaultKind.TheVariants.{NoAttribute}
 use Rattle.bq_label.specs.declared.packages.BuildFile.{BuildFile}
 use Rattle.bq_label.specs.Label.{PackageParts, LabelParts}
-use Rattle.bq_schema.specs.declared.attribute.AttributeType.{AttributeType}
-use Rattle.bq_schema.specs.Schema.{Rules}
-use Rattle.bq_target.specs.declared.value.AttributeValue.{AttributeValue}
-use Rattle.bq_target.specs.declared.value.AttributeValue.TheVariants as a
+use Rattle.bq_rule_class.specs.declared.attribute_type.AttributeType.{AttributeType}
+use Rattle.bq_rule_class.specs.Class.{Class}
+use Rattle.bq_rule_class.specs.declared.value.AttributeValue.{AttributeValue}
+use Rattle.bq_rule_class.specs.declared.value.AttributeValue.TheVariants as a
 use Rattle.bq_target.specs.Value.{attribute_type}
 use Rattle.bq_value.specs.Datum.{Datum, none, string}
 use Rattle.bq_value.specs.Cells.{StoreView}
@@ -46,21 +46,21 @@ with_attribute_by own packages store (Some kind) name v g =
     if is_none v then Ok g else and_then (value_as own packages store kind v) (λ value. Ok (with_value name value g))
 
 -- any other argument: F71 where the rule has no such attribute, then the faults of its value
-unfoldable pub with_attribute : PackageParts → List BuildFile → StoreView → Rules → List ℕ → List ℕ → Datum → Given → Result Given FaultKind
-with_attribute own packages store rules rule name v g = with_attribute_by own packages store (attribute_type rules rule name) name v g
+unfoldable pub with_attribute : PackageParts → List BuildFile → StoreView → Class → List ℕ → Datum → Given → Result Given FaultKind
+with_attribute own packages store class name v g = with_attribute_by own packages store (attribute_type class name) name v g
 
 -- the name of a keyword argument, which stands as the key of a dict
 abbrev pub keyword : Datum → List ℕ
 keyword (string name) = name
 keyword _ = []
 
-unfoldable pub with_argument : PackageParts → List BuildFile → StoreView → Rules → List ℕ → Given → Datum × Datum → Result Given FaultKind
-with_argument own packages store rules rule g argument =
+unfoldable pub with_argument : PackageParts → List BuildFile → StoreView → Class → Given → Datum × Datum → Result Given FaultKind
+with_argument own packages store class g argument =
     if bytes_eq (keyword argument.0) (codes "name") then with_name own packages argument.1 g
-    else with_attribute own packages store rules rule (keyword argument.0) argument.1 g
+    else with_attribute own packages store class (keyword argument.0) argument.1 g
 
 -- the arguments, from the first on: the first faulty one decides
-unfoldable pub with_arguments : PackageParts → List BuildFile → StoreView → Rules → List ℕ → Given → List (Datum × Datum) → Result Given FaultKind
-with_arguments own packages store rules rule g [] = Ok g
-with_arguments own packages store rules rule g (argument ∷ arguments) =
-    and_then (with_argument own packages store rules rule g argument) (λ more. with_arguments own packages store rules rule more arguments)
+unfoldable pub with_arguments : PackageParts → List BuildFile → StoreView → Class → Given → List (Datum × Datum) → Result Given FaultKind
+with_arguments own packages store class g [] = Ok g
+with_arguments own packages store class g (argument ∷ arguments) =
+    and_then (with_argument own packages store class g argument) (λ more. with_arguments own packages store class more arguments)

@@ -10,9 +10,9 @@ use crate::scope::Scope;
 use crate::texts::text_in;
 use crate::values::value_as;
 use bq_label::Label;
-use bq_schema::Schema;
+use bq_rule_class::{AttributeValue, RuleClass};
 use bq_source::{Bytes, FaultKind};
-use bq_target::{AttributeValue, GivenAttribute, attribute_type};
+use bq_target::{GivenAttribute, attribute_type};
 use bq_value::{Dict, EvalErr, Key, Node, Store, Value};
 use sqlite_items::Items;
 use std::alloc::{AllocError, Global};
@@ -31,9 +31,10 @@ pub struct Given {
 pub struct Callee<'a> {
     pub scope: Scope<'a>,
     pub store: &'a Store,
-    pub schema: &'a Schema,
-    /// The rule's name.
-    pub rule: &'a Bytes,
+    /// The attributes that the rule has of its own.
+    pub class: &'a RuleClass,
+    /// The name of the rule's kind.
+    pub kind: &'a Bytes,
 }
 
 /// The name of a keyword argument.
@@ -105,10 +106,9 @@ impl Given {
         name: &Bytes,
         value: &Value,
     ) -> Result<(), EvalErr>
-        ensures { Gives (λ _. self.new) Bad result (with_attribute callee.entry.scope.own.now callee.entry.scope.packages.now callee.entry.store.now callee.entry.schema.now callee.entry.rule.now name.now value.now self.old) }
+        ensures { Gives (λ _. self.new) Bad result (with_attribute callee.entry.scope.own.now callee.entry.scope.packages.now callee.entry.store.now callee.entry.class.now name.now value.now self.old) }
     {
-        let kind = attribute_type(callee.schema, callee.rule.as_slice(), name.as_slice());
-        let Some(kind) = kind else {
+        let Some(kind) = attribute_type(callee.class, name.as_slice()) else {
             return Err(EvalErr::Bad(FaultKind::NoAttribute));
         };
         if is_none(value) {
@@ -128,7 +128,7 @@ impl Given {
         key: &Key,
         value: &Value,
     ) -> Result<(), EvalErr>
-        ensures { Gives (λ _. self.new) Bad result (with_argument callee.entry.scope.own.now callee.entry.scope.packages.now callee.entry.store.now callee.entry.schema.now callee.entry.rule.now self.old (key.now, value.now)) }
+        ensures { Gives (λ _. self.new) Bad result (with_argument callee.entry.scope.own.now callee.entry.scope.packages.now callee.entry.store.now callee.entry.class.now self.old (key.now, value.now)) }
     {
         let name = keyword(key)?;
         if name.as_slice() == b"name".as_slice() {
@@ -145,7 +145,7 @@ impl Given {
         callee: Callee<'_>,
         keywords: &Dict,
     ) -> Result<(), EvalErr>
-        ensures { Gives (λ _. self.new) Bad result (with_arguments callee.entry.scope.own.now callee.entry.scope.packages.now callee.entry.store.now callee.entry.schema.now callee.entry.rule.now self.old keywords.now) }
+        ensures { Gives (λ _. self.new) Bad result (with_arguments callee.entry.scope.own.now callee.entry.scope.packages.now callee.entry.store.now callee.entry.class.now self.old keywords.now) }
     {
         for i in 0..keywords.len() {
             let (key, value) = keywords.pair(i);

@@ -1,6 +1,6 @@
 //! The target that a call of a rule declares.
 
-ghost use Rattle.std.specs.Prelude.{◌≡◌, map, IfOk};
+ghost use Rattle.std.specs.Prelude.{◌≡◌, ◌++◌, map, option_copied, IfOk, OnOk};
 ghost use Rattle.std.specs.List.{list_all};
 ghost use Rattle.bq_source.specs.Gives.{Gives};
 ghost use Rattle.bq_value.specs.declared.error.EvalErr.TheVariants.{Bad};
@@ -8,14 +8,15 @@ ghost use Rattle.bq_machine.specs.Binding.{bind};
 ghost use Rattle.std.specs.Prelude.{Ok};
 ghost use Rattle.bq_attributes.specs.Steps.{and_then};
 ghost use Rattle.bq_attributes.specs.Arguments.{nothing_given, with_arguments};
-ghost use Rattle.bq_attributes.specs.Declarations.{keywords_alone, gives, is_met, gives_mandatory, own_attributes, if_whole, target, declaration};
+ghost use Rattle.bq_attributes.specs.Declarations.{keywords_alone, gives, is_met, gives_mandatory, default_of, default_for, defaults, if_whole, target, declaration};
 
 use crate::arguments::{Callee, Given, is_none};
 use bq_machine::{Args, Signature, bind};
-use bq_schema::{Attribute, Attributes, Schema};
+use bq_rule_class::{Attribute, AttributeValue, RuleClass};
 use bq_source::{Bytes, FaultKind};
-use bq_target::{Target, TargetKind};
+use bq_target::{GivenAttribute, Target, TargetKind};
 use bq_value::{Dict, EvalErr, Key, Value};
+use sqlite_items::Items;
 use std::alloc::{AllocError, Global};
 
 /// The arguments of a call that has keyword arguments alone, or F52.
@@ -48,9 +49,9 @@ fn is_met(
     alloc: Global,
     keywords: &Dict,
     name: &[u8],
-    attribute: Attribute,
+    attribute: &Attribute,
 ) -> Result<bool, AllocError>
-    ensures { IfOk result (λ met. met ≡ is_met keywords.now (name.now, attribute)) }
+    ensures { IfOk result (λ met. met ≡ is_met keywords.now (name.now, attribute.now)) }
 {
     if !attribute.is_mandatory {
         return Ok(true);
@@ -60,12 +61,12 @@ fn is_met(
 
 /// Which of the attributes are given or need not be.
 #[tactic(auto, using(crate::proofs::Entries::entry_end))]
-fn are_met(alloc: Global, table: &Attributes, keywords: &Dict) -> Result<Vec<bool>, AllocError>
-    ensures { IfOk result (λ met. met.items ≡ map (is_met keywords.now) table.now) }
+fn are_met(alloc: Global, class: &RuleClass, keywords: &Dict) -> Result<Vec<bool>, AllocError>
+    ensures { IfOk result (λ met. met.items ≡ map (is_met keywords.now) class.now) }
 {
     let mut met = Vec::new(alloc);
     'entries: loop {
-        let Some((name, attribute)) = table.entry(met.len()) else {
+        let Some((name, attribute)) = class.entry(met.len()) else {
             return Ok(met);
         };
         met.push(is_met(alloc, keywords, name, attribute)?)?;
@@ -79,34 +80,71 @@ fn are_all(met: &[bool]) -> bool
 }
 
 /// Whether each attribute that has to be given is.
-fn gives_all(alloc: Global, table: &Attributes, keywords: &Dict) -> Result<bool, AllocError>
-    ensures { IfOk result (λ all. all ≡ gives_mandatory table.now keywords.now) }
+fn gives_mandatory(alloc: Global, class: &RuleClass, keywords: &Dict) -> Result<bool, AllocError>
+    ensures { IfOk result (λ all. all ≡ gives_mandatory class.now keywords.now) }
 {
-    let met = are_met(alloc, table, keywords)?;
+    let met = are_met(alloc, class, keywords)?;
     Ok(are_all(&met))
 }
 
-#[tactic(auto, unfolding(crate::specs::Declarations::gives_mandatory))]
-fn gives_mandatory(
-    alloc: Global,
-    schema: &Schema,
-    rule: &Bytes,
-    keywords: &Dict,
-) -> Result<bool, AllocError>
-    ensures { IfOk result (λ all. all ≡ gives_mandatory (own_attributes schema.now rule.now) keywords.now) }
+/// The default of an attribute. The names of outputs have none.
+fn default_of(attribute: &Attribute) -> Option<&AttributeValue>
+    ensures { option_copied result ≡ default_of attribute.now.default }
 {
-    match schema.rule(rule.as_slice()) {
-        None => Ok(true),
-        Some(number) => match schema.attributes(number) {
-            None => Ok(true),
-            Some(table) => gives_all(alloc, table, keywords),
+    match &attribute.default {
+        None => None,
+        Some(value) => match value {
+            AttributeValue::Output(_) => None,
+            AttributeValue::OutputList(_) => None,
+            _ => Some(value),
         },
     }
 }
 
+/// Adds the default of an attribute that the keyword arguments don't give.
+#[tactic(auto, unfolding(crate::specs::Declarations::default_for))]
+fn add_default(
+    alloc: Global,
+    keywords: &Dict,
+    name: &[u8],
+    attribute: &Attribute,
+    attributes: &mut Items<GivenAttribute>,
+) -> Result<(), AllocError>
+    ensures { OnOk result (attributes.new ≡ attributes.old ++ default_for keywords.now (name.now, attribute.now)) }
+{
+    let Some(value) = default_of(attribute) else {
+        return Ok(());
+    };
+    if gives(alloc, keywords, name)? {
+        return Ok(());
+    }
+    let name = Bytes::from_slice(alloc, name)?;
+    let value = value.share(alloc)?;
+    attributes.push(GivenAttribute { name, value })?;
+    Ok(())
+}
+
+/// Adds the defaults of the attributes that the keyword arguments don't give, in the order of the class.
+fn add_defaults(
+    alloc: Global,
+    class: &RuleClass,
+    keywords: &Dict,
+    attributes: &mut Items<GivenAttribute>,
+) -> Result<(), AllocError>
+    ensures { OnOk result (attributes.new ≡ attributes.old ++ defaults keywords.now class.now) }
+{
+    for place in 0..class.len() {
+        let Some((name, attribute)) = class.entry(place) else {
+            return Ok(());
+        };
+        add_default(alloc, keywords, name, attribute, attributes)?;
+    }
+    Ok(())
+}
+
 /// What keyword arguments give.
 fn given(alloc: Global, callee: Callee<'_>, keywords: &Dict) -> Result<Given, EvalErr>
-    ensures { Gives (λ g. g) Bad result (with_arguments callee.entry.scope.own.now callee.entry.scope.packages.now callee.entry.store.now callee.entry.schema.now callee.entry.rule.now nothing_given keywords.now) }
+    ensures { Gives (λ g. g) Bad result (with_arguments callee.entry.scope.own.now callee.entry.scope.packages.now callee.entry.store.now callee.entry.class.now nothing_given keywords.now) }
 {
     let mut given = Given::nothing(alloc, keywords.len())?;
     match given.take_arguments(alloc, callee, keywords) {
@@ -116,19 +154,30 @@ fn given(alloc: Global, callee: Callee<'_>, keywords: &Dict) -> Result<Given, Ev
 }
 
 /// The target of what is given: F72 where its name isn't given, or another attribute that has to be.
-fn whole(rule: &Bytes, line: u32, is_whole: bool, given: Given) -> Result<Target, EvalErr>
-    ensures { Gives (λ t. t) Bad result (if_whole is_whole rule.now line given.name given) }
+fn whole(
+    alloc: Global,
+    callee: Callee<'_>,
+    line: u32,
+    keywords: &Dict,
+    is_whole: bool,
+    given: Given,
+) -> Result<Target, EvalErr>
+    ensures { Gives (λ t. t) Bad result (if_whole is_whole callee.entry.kind.now callee.entry.class.now line given.name (given.attributes ++ defaults keywords.now callee.entry.class.now)) }
 {
     if !is_whole {
         return Err(EvalErr::Bad(FaultKind::MissingAttribute));
     }
-    let Given { name, attributes } = given;
+    let Given {
+        name,
+        mut attributes,
+    } = given;
     let Some(label) = name else {
         return Err(EvalErr::Bad(FaultKind::MissingAttribute));
     };
+    add_defaults(alloc, callee.class, keywords, &mut attributes)?;
     Ok(Target {
         label,
-        kind: TargetKind::Rule(rule.share()?),
+        kind: TargetKind::Rule(callee.kind.share()?, callee.class.share()?),
         attributes,
         line,
     })
@@ -137,11 +186,11 @@ fn whole(rule: &Bytes, line: u32, is_whole: bool, given: Given) -> Result<Target
 /// The target of these keyword arguments.
 #[tactic(auto, unfolding(crate::specs::Declarations::target))]
 fn target(alloc: Global, callee: Callee<'_>, line: u32, keywords: &Dict) -> Result<Target, EvalErr>
-    ensures { Gives (λ t. t) Bad result (target callee.entry.scope.own.now callee.entry.scope.packages.now callee.entry.store.now callee.entry.schema.now callee.entry.rule.now line keywords.now) }
+    ensures { Gives (λ t. t) Bad result (target callee.entry.scope.own.now callee.entry.scope.packages.now callee.entry.store.now callee.entry.class.now callee.entry.kind.now line keywords.now) }
 {
-    let is_whole = gives_mandatory(alloc, callee.schema, callee.rule, keywords)?;
+    let is_whole = gives_mandatory(alloc, callee.class, keywords)?;
     let given = given(alloc, callee, keywords)?;
-    whole(callee.rule, line, is_whole, given)
+    whole(alloc, callee, line, keywords, is_whole, given)
 }
 
 /// The target that a call of a rule declares, with the line of the call; or F52, the faults of the arguments, F72.
@@ -152,7 +201,7 @@ pub fn declaration(
     line: u32,
     args: Args,
 ) -> Result<Target, EvalErr>
-    ensures { Gives (λ t. t) Bad result (declaration callee.entry.scope.own.now callee.entry.scope.packages.now callee.entry.store.now callee.entry.schema.now callee.entry.rule.now line args) }
+    ensures { Gives (λ t. t) Bad result (declaration callee.entry.scope.own.now callee.entry.scope.packages.now callee.entry.store.now callee.entry.class.now callee.entry.kind.now line args) }
 {
     let keywords = keywords(alloc, args)?;
     target(alloc, callee, line, &keywords)

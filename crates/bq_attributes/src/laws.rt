@@ -3,18 +3,18 @@
 ghost use Rattle.std.specs.Prelude.{◌≡◌, ℕ, List, Ok};
 ghost use Rattle.bq_label.specs.declared.packages.BuildFile.{BuildFile};
 ghost use Rattle.bq_label.specs.Label.{PackageParts};
-ghost use Rattle.bq_schema.specs.Schema.{Rules};
+ghost use Rattle.bq_rule_class.specs.Class.{Class};
 ghost use Rattle.bq_value.specs.Cells.{StoreView};
 ghost use Rattle.bq_machine.specs.Args.{Passed};
 ghost use Rattle.bq_target.specs.declared.target.Target.{Target};
 ghost use Rattle.bq_target.specs.Package.{IsOwnCall};
 ghost use Rattle.bq_attributes.specs.Declarations.{declaration};
-ghost use Rattle.bq_attributes.specs.Laws.{KeywordsKeepTheirOrder, TheFirstFaultyArgumentDecides, MandatoryAttributesAreGiven, EachTypeTakesItsValues, EachTypeRefusesOtherValues};
+ghost use Rattle.bq_attributes.specs.Laws.{KeywordsKeepTheirOrder, TheFirstFaultyArgumentDecides, MandatoryAttributesAreGiven, DefaultsAreGiven, EachTypeTakesItsValues, EachTypeRefusesOtherValues};
 
 /// The target that a call declares is of the package of its BUILD file, and so are the files that the rule makes.
 #[tactic(auto, using(crate::proofs::Declared::declared_own))]
 pub fn calls_declare_targets_of_their_package()
-    ensures { (own : PackageParts) (packages : List BuildFile) (store : StoreView) (rules : Rules) (rule : List ℕ) (line : ℕ) (passed : Passed) (t : Target) → declaration own packages store rules rule line passed ≡ Ok t → IsOwnCall own t }
+    ensures { (own : PackageParts) (packages : List BuildFile) (store : StoreView) (class : Class) (rule : List ℕ) (line : ℕ) (passed : Passed) (t : Target) → declaration own packages store class rule line passed ≡ Ok t → IsOwnCall own t }
 {}
 
 /// The keyword arguments of a call are its named arguments, in the order in which they are written.
@@ -33,6 +33,12 @@ pub fn the_first_faulty_argument_decides()
 #[tactic(auto, using(crate::proofs::Mandatory::mandatory_attributes_are_given))]
 pub fn mandatory_attributes_are_given()
     ensures { MandatoryAttributesAreGiven }
+{}
+
+/// A target has the default of each attribute that its call doesn't give.
+#[tactic(auto, using(crate::proofs::Mandatory::defaults_are_given))]
+pub fn defaults_are_given()
+    ensures { DefaultsAreGiven }
 {}
 
 /// An attribute of each type takes just the values of its type: a boolean also 0 and 1, a list also a tuple, and of labels and

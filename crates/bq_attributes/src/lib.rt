@@ -1,8 +1,10 @@
 //! The arguments of a call of a rule come in; the target that it declares goes out, with its typed attributes, or its first fault.
 //!
 //! The promise: [`declaration`] gives exactly the target of `specs/Declarations.antt`, unless memory runs out. The faults come in this
-//! order: F52; then the arguments in the order in which they are written, each F71, F73, F78, F75, F37; then F72. No text is copied
-//! that is longer than 22 bytes, and a call takes time linear in what it passes.
+//! order: F52; then the arguments in the order in which they are written, each F71, F73, F78, F75, F37; then F72. The attributes that
+//! a call doesn't give have their defaults, after those that it gives. A rule is its kind and its class, whether a schema or a .bzl
+//! file declares it. No text is copied that is longer than 22 bytes, but for names of attributes with defaults, and a call takes time
+//! linear in what it passes and in the attributes of its rule.
 //!
 //! In reading order:
 //!
@@ -27,7 +29,7 @@ pub use arguments::Callee;
 pub use declarations::declaration;
 pub use label_texts::{TextKind, label, labels};
 pub use laws::{
-    calls_declare_targets_of_their_package, each_type_refuses_other_values,
+    calls_declare_targets_of_their_package, defaults_are_given, each_type_refuses_other_values,
     each_type_takes_its_values, keywords_keep_their_order, mandatory_attributes_are_given,
     the_first_faulty_argument_decides,
 };

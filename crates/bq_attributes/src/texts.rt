@@ -40,6 +40,7 @@ fn content_texts(alloc: Global, content: &Content) -> Result<Items<Bytes>, EvalE
     match &content.body {
         Body::List(values) => all_texts(alloc, values),
         Body::Dict(_) => Err(EvalErr::Bad(FaultKind::AttributeType)),
+        Body::Rule(_) => Err(EvalErr::Bad(FaultKind::AttributeType)),
     }
 }
 

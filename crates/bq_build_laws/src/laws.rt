@@ -3,9 +3,10 @@
 ghost use Rattle.std.specs.Prelude.{List};
 ghost use Rattle.bq_scope.specs.Names.{Name};
 ghost use Rattle.bq_package.specs.Calls.{meaning};
-ghost use Rattle.bq_module_laws.specs.Files.{HostTakes, FilesTakeTheirSteps, OtherModulesStay};
+ghost use Rattle.bq_module_laws.specs.Files.{HostTakes, FilesTakeTheirSteps, OtherModulesStay, CallsKeepRules};
 
-/// No call of a build function or of a rule looks at the steps that are left; it keeps what was printed, and changes no other module.
+/// No call of a build function, of a rule of the schema or of one that a .bzl file declares looks at the steps that are left; it keeps
+/// what was printed, and changes no other module and no rule.
 pub fn build_calls_look_at_no_steps()
     ensures { HostTakes meaning }
 {}
@@ -20,4 +21,10 @@ pub fn build_files_take_their_steps()
 /// module were called (F47).
 pub fn other_modules_stay()
     ensures { (names : List Name) → OtherModulesStay names meaning }
+{}
+
+/// A rule that a .bzl file declares holds the same attributes after each call, whatever is called: a build function, a rule, or the rule
+/// itself.
+pub fn calls_keep_rules()
+    ensures { (names : List Name) → CallsKeepRules names meaning }
 {}

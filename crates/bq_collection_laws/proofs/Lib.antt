@@ -8,3 +8,5 @@ pub mod Dicts
 pub mod Same
 -- what `popitem` answers
 pub mod Items
+-- a rule is refused for its type
+pub mod Rules

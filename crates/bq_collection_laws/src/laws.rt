@@ -2,19 +2,21 @@
 
 ghost use Rattle.std.specs.Prelude.{◌≡◌, ◌∷◌, [], ℕ, List, length, map, Option, None, Some, Ok, Err};
 ghost use Rattle.bq_source.specs.declared.fault.FaultKind.{FaultKind};
+ghost use Rattle.bq_source.specs.declared.fault.FaultKind.TheVariants.{WrongType};
 ghost use Rattle.bq_grammar.specs.declared.tree.Operator.TheVariants as op;
+ghost use Rattle.bq_rule_class.specs.Class.{Class};
 ghost use Rattle.bq_value.specs.Datum.{Datum, cell};
-ghost use Rattle.bq_machine.specs.Action.{done};
+ghost use Rattle.bq_machine.specs.Action.{done, stopped};
 ghost use Rattle.bq_machine.specs.Args.{Passed};
 ghost use Rattle.bq_machine.specs.Iteration.{elements_in};
-ghost use Rattle.bq_machine.specs.State.{State};
+ghost use Rattle.bq_machine.specs.State.{State, stop_at};
 ghost use Rattle.bq_operate.specs.InPlace.{augment, set_index};
 ghost use Rattle.bq_collections.specs.Arguments.{no_argument, one_argument, two_arguments, optional_argument, one_or_two, or_none};
 ghost use Rattle.bq_collections.specs.Dict as dict;
 ghost use Rattle.bq_collections.specs.Dict.{first_out, pair_tuple};
 ghost use Rattle.bq_collections.specs.List as list;
 ghost use Rattle.bq_refusal_laws.specs.Refusals.{IsRefusedForFirst};
-ghost use Rattle.bq_collection_laws.specs.Laws.{IsList, IsDict, StaysTheSameList};
+ghost use Rattle.bq_collection_laws.specs.Laws.{IsList, IsDict, IsRule, StaysTheSameList};
 ghost use Rattle.bq_collection_laws.specs.Orders.{appending, clearing, extending, inserting, popping, removing, setting_element, taking_out, taking_first, setting_default, updating, setting_pair};
 
 /// A wrong number of arguments (F52) comes before all that is wrong with the list or dict, or with the arguments.
@@ -54,6 +56,14 @@ pub fn dicts_are_refused_in_order()
     ensures setdefault { (home number : ℕ) (ps : List (Datum × Datum)) (k : Datum) (o : Option Datum) (args : List Datum) (s : State) → one_or_two args ≡ Ok (k, o) → IsDict s home number ps → IsRefusedForFirst (dict.setdefault home number args s) (setting_default s home number ps k (or_none o)) }
     ensures update { (home number : ℕ) (args : Passed) (s : State) → IsRefusedForFirst (dict.update home number args s) (updating s home number args) }
     ensures set { (home number : ℕ) (ps : List (Datum × Datum)) (k v : Datum) (s : State) → IsDict s home number ps → IsRefusedForFirst (set_index (cell home number) k v s) (setting_pair s home number ps k v) }
+{}
+
+/// A rule is neither a list nor a dict: an assignment to an index or key of it, `+=` and `|=` are refused for its type (F40), whether
+/// it is frozen or not.
+pub fn rules_are_no_lists_and_no_dicts()
+    ensures set { (home number : ℕ) (class : Class) (at v : Datum) (s : State) → IsRule s home number class → set_index (cell home number) at v s ≡ stopped (stop_at WrongType s) }
+    ensures sum { (home number : ℕ) (class : Class) (b : Datum) (s : State) → IsRule s home number class → augment op.Add (cell home number) b s ≡ stopped (stop_at WrongType s) }
+    ensures union { (home number : ℕ) (class : Class) (b : Datum) (s : State) → IsRule s home number class → augment op.BitOr (cell home number) b s ≡ stopped (stop_at WrongType s) }
 {}
 
 /// `a += b` keeps the list `a` the same list: it has the elements of `b` behind its own, and no new list is made.

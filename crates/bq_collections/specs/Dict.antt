@@ -4,7 +4,7 @@ use Rattle.bq_source.specs.declared.fault.FaultKind.{FaultKind}
 use Rattle.bq_source.specs.declared.fault.FaultKind.TheVariants.{WrongType, NoKey}
 use Rattle.bq_operators.specs.Length.{within}
 use Rattle.bq_value.specs.Datum.{Datum, none, tuple, end, datum}
-use Rattle.bq_value.specs.Contents.{Contents, items, pairs}
+use Rattle.bq_value.specs.Contents.{Contents, items, pairs, rule}
 use Rattle.bq_value.specs.Pairs.{found, put, without, keys}
 use Rattle.bq_machine.specs.State.{State}
 use Rattle.bq_machine.specs.Action.{Action, ◌>>=◌, ◌>>◌, pure, given}
@@ -31,10 +31,12 @@ as_pairs (Err kind) = Err kind
 unfoldable pub on_pairs : DictChange → Change Datum
 on_pairs f (pairs ps) = as_pairs (f ps)
 on_pairs f (items xs) = Err WrongType
+on_pairs f (rule c) = Err WrongType
 
 abbrev pub dict_of : Contents → Result Pairs FaultKind
 dict_of (pairs ps) = Ok ps
 dict_of (items xs) = Err WrongType
+dict_of (rule c) = Err WrongType
 
 -- the pairs of a dict
 unfoldable pub pairs_in : ℕ → ℕ → Action State Pairs

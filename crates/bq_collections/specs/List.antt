@@ -5,7 +5,7 @@ use Rattle.bq_source.specs.declared.fault.FaultKind.TheVariants.{WrongType, Inde
 use Rattle.bq_operators.specs.Length.{within}
 use Rattle.bq_operators.specs.Place.{clamped, indexed}
 use Rattle.bq_value.specs.Datum.{Datum, none, int}
-use Rattle.bq_value.specs.Contents.{Contents, items, pairs}
+use Rattle.bq_value.specs.Contents.{Contents, items, pairs, rule}
 use Rattle.bq_machine.specs.State.{State}
 use Rattle.bq_machine.specs.Action.{Action, ◌>>=◌, ◌>>◌, stop, given}
 use Rattle.bq_machine.specs.Cells.{Change, changing, may_change, content}
@@ -27,6 +27,7 @@ as_items (Err kind) = Err kind
 unfoldable pub on_items : ListChange → Change Datum
 on_items f (items xs) = as_items (f xs)
 on_items f (pairs ps) = Err WrongType
+on_items f (rule c) = Err WrongType
 
 abbrev pub and_then : {A B : Type 0} → Result A FaultKind → (A → Result B FaultKind) → Result B FaultKind
 and_then (Ok a) next = next a
@@ -99,6 +100,7 @@ pop home number args = given (optional_argument args) >>= λ o. given (index_or_
 abbrev pub list_of : Contents → Result (List Datum) FaultKind
 list_of (items xs) = Ok xs
 list_of (pairs ps) = Err WrongType
+list_of (rule c) = Err WrongType
 
 -- the values of a list
 unfoldable pub list_in : ℕ → ℕ → Action State (List Datum)

@@ -23,6 +23,7 @@ fn pairs_in(machine: &Machine, dict: Cell) -> Result<&Dict, EvalErr>
     match &content.body {
         Body::Dict(pairs) => Ok(pairs),
         Body::List(_) => Err(EvalErr::Bad(FaultKind::WrongType)),
+        Body::Rule(_) => Err(EvalErr::Bad(FaultKind::WrongType)),
     }
 }
 

@@ -42,6 +42,7 @@ fn edit_content(alloc: Global, content: &mut Content, edit: DictEdit) -> Result<
     match &mut content.body {
         Body::Dict(pairs) => edit_pairs(alloc, pairs, edit),
         Body::List(_) => Err(EvalErr::Bad(FaultKind::WrongType)),
+        Body::Rule(_) => Err(EvalErr::Bad(FaultKind::WrongType)),
     }
 }
 

@@ -78,6 +78,7 @@ fn list_in(machine: &Machine, list: Cell) -> Result<&[Value], EvalErr>
     match &content.body {
         Body::List(values) => Ok(values),
         Body::Dict(_) => Err(EvalErr::Bad(FaultKind::WrongType)),
+        Body::Rule(_) => Err(EvalErr::Bad(FaultKind::WrongType)),
     }
 }
 

@@ -44,6 +44,7 @@ fn edit_content(content: &mut Content, edit: ListEdit) -> Result<Value, EvalErr>
     match &mut content.body {
         Body::List(values) => edit_values(values, edit),
         Body::Dict(_) => Err(EvalErr::Bad(FaultKind::WrongType)),
+        Body::Rule(_) => Err(EvalErr::Bad(FaultKind::WrongType)),
     }
 }
 

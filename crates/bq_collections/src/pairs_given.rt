@@ -153,6 +153,7 @@ fn dict_of<'s>(store: &'s Store, value: &Value) -> Option<&'s Dict>
         Some(content) => match &content.body {
             Body::Dict(dict) => Some(dict),
             Body::List(_) => None,
+            Body::Rule(_) => None,
         },
     }
 }
@@ -169,6 +170,7 @@ fn pair_in(store: &Store, element: &Value) -> Result<Option<(Value, Value)>, Eva
             Some(content) => match &content.body {
                 Body::List(values) => Ok(two(values)?),
                 Body::Dict(_) => Err(EvalErr::Bad(FaultKind::WrongType)),
+                Body::Rule(_) => Err(EvalErr::Bad(FaultKind::WrongType)),
             },
         },
         _ => Err(EvalErr::Bad(FaultKind::WrongType)),

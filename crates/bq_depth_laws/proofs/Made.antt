@@ -2,6 +2,7 @@
 use Rattle.std.proofs.Common.{◌≡◌, ◌≤◌, ℕ, zero, suc, List, [], ◌∷◌, sym, ap, ◌∙◌, subst, arith}
 use Rattle.std.specs.List.{AllByRecursion}
 use Rattle.bq_grammar.specs.declared.tree.Operator.{Operator}
+use Rattle.bq_predeclared.specs.declared.predeclared.Predeclared.{Predeclared}
 use Rattle.bq_scope.specs.declared.code.Code.TheOpen.{Code-F}
 use Rattle.bq_scope.specs.declared.code.Code.{Code, out-Code, roll-Code, out-roll-Code}
 use Rattle.bq_scope.specs.declared.code.Code.TheVariants as c
@@ -67,7 +68,7 @@ pub others_of : {A : Type 0} (P Q : A → Type 0) (xs : List A) → AllByRecursi
 others_of P Q [] h = tt
 others_of P Q (x ∷ xs) h = (h.0.1, others_of P Q xs h.1)
 
--- `native.name` has one layer, as a name has
-pub native_fits : (n id : ℕ) → 1 ≤ n → CodeFits n (c.Native id)
-native_fits zero id h = absurd (omega arith)
-native_fits (suc n) id h = made_code n (c.Native id) (Code-F.Native id) (c.rolls-Native id) tt tt
+-- `native.name` and `attr.name` have one layer, as a name has
+pub member_fits : (n : ℕ) (p : Predeclared) → 1 ≤ n → CodeFits n (c.Member p)
+member_fits zero p h = absurd (omega arith)
+member_fits (suc n) p h = made_code n (c.Member p) (Code-F.Member p) (c.rolls-Member p) tt tt

@@ -33,16 +33,17 @@ use Rattle.bq_scope.specs.declared.code.CodeTarget.{CodeTarget}
 use Rattle.bq_scope.specs.declared.code.CodeTarget.TheVariants as t
 use Rattle.bq_scope.specs.Names.{Name, TargetLayer, ClauseLayer, max_layers, has, with_name, comprehension_names}
 use Rattle.bq_scope.specs.Scope.{BlockParts, FileParts, use_of}
-use Rattle.bq_scope.specs.Universe.{host_named}
+use Rattle.bq_scope.specs.Universe.{member_named}
+use Rattle.bq_scope.specs.declared.universe.Namespace.{Namespace}
 use Rattle.bq_scope.specs.Visit.{Passed, Visit, ◌>>=◌, pure, given, fault_of, each, optional}
-use Rattle.bq_scope.specs.Expressions.{place_of, is_bzl, bind_global, bind_in, framed, native_by, native_call, is_native, use_at, name_target, target_by, target_to, pair, operation, choice, argument_by, arguments, suffix_by, suffixes, operand, host_call, primary_by, primary, clause_by, clauses, in_block, comprehension, expr_by, expr_to}
+use Rattle.bq_scope.specs.Expressions.{place_of, is_bzl, bind_global, bind_in, framed, member_by, member_call, namespace_at, use_at, name_target, target_by, target_to, pair, operation, choice, argument_by, arguments, suffix_by, suffixes, operand, call_member, primary_by, primary, clause_by, clauses, in_block, comprehension, expr_by, expr_to}
 use Rattle.bq_tree_laws.specs.Depth.{deepest}
 use Rattle.bq_depth_laws.proofs.Layers.{expr_layers, target_layers, argument_layers, clause_layers, suffix_layers, choice_layers, operation_layers, pair_layers}
 use Rattle.bq_meaning_laws.specs.Layers.{PairParts, OperationParts, ChoiceParts, ArgumentParts, OptionalParts, SuffixParts, ClauseParts}
 use Rattle.bq_depth_laws.specs.Fits.{TargetFits, Variables, CodeFits}
 use Rattle.bq_depth_laws.proofs.Steps.{part_layers}
 use Rattle.bq_depth_laws.proofs.Opened.{argument_layer, clause_layer, suffix_layer, target_layer, expr_layer, opened_argument, opened_clause, opened_suffix, opened_target, target_has_layers, opened_expr, expr_has_layers, opened_pair, opened_operation, opened_choice}
-use Rattle.bq_depth_laws.proofs.Made.{made_code, made_target, made_pair, made_operation, made_choice, made_argument, made_suffix, made_clause, parts_of, others_of, native_fits}
+use Rattle.bq_depth_laws.proofs.Made.{made_code, made_target, made_pair, made_operation, made_choice, made_argument, made_suffix, made_clause, parts_of, others_of, member_fits}
 use Rattle.bq_depth_laws.proofs.Gives.{FunctionsFit, Giving, Gives, gives_bind, gives_map, gives_two, gives_three, gives_given, gives_each, gives_optional}
 
 -- ---- names
@@ -183,38 +184,38 @@ module _ (file : FileParts) (visit : List BlockParts → Expr → Visit Code)
         gives_two (CodeFits n) (λ zs. AllByRecursion (SuffixParts (CodeFits n)) zs) (λ z. CodeFits (suc n) z) (visit blocks x) (suffixes file visit blocks [] ss) (λ y ts. c.Primary y ts)
         (visits n small blocks x h) (suffixes_give blocks [] ss tt k) (λ y ts p q. made_code n (c.Primary y ts) (Code-F.Primary y ts) (c.rolls-Primary y ts) (p, q) tt)
 
-    -- ---- `native`: a layer that a name would have
+    -- ---- `native` and `attr`: a layer that a name would have
 
-    host_gives : 1 ≤ n → (blocks : List BlockParts) (m : Identifier) (xs : List Argument) (ss : List Suffix) → deepest (map argument_layers xs) ≤ n → deepest (map suffix_layers ss) ≤ n
-        → Gives (λ z. CodeFits (suc n) z) (host_call file visit blocks m xs ss)
-    unfolding host_call
-    host_gives some blocks m xs ss h k =
-        gives_bind (λ _. Unit {0}) (λ z. CodeFits (suc n) z) (given (fault_of f.UnknownName m) (host_named file.universe.rules m.name))
-        (λ id. arguments file visit blocks xs >>= λ ys. suffixes file visit blocks (s.Call ys ∷ []) ss >>= λ ts. pure (c.Primary (c.Native id) ts))
-        (gives_given (fault_of f.UnknownName m) (host_named file.universe.rules m.name))
-        (λ id _. gives_bind (λ zs. AllByRecursion (ArgumentParts (CodeFits n)) zs) (λ z. CodeFits (suc n) z) (arguments file visit blocks xs)
-        (λ ys. suffixes file visit blocks (s.Call ys ∷ []) ss >>= λ ts. pure (c.Primary (c.Native id) ts)) (arguments_give blocks xs h)
-        (λ ys d. gives_map (λ zs. AllByRecursion (SuffixParts (CodeFits n)) zs) (λ z. CodeFits (suc n) z) (suffixes file visit blocks (s.Call ys ∷ []) ss) (λ ts. c.Primary (c.Native id) ts)
+    member_gives : 1 ≤ n → (blocks : List BlockParts) (space : Namespace) (m : Identifier) (xs : List Argument) (ss : List Suffix) → deepest (map argument_layers xs) ≤ n → deepest (map suffix_layers ss) ≤ n
+        → Gives (λ z. CodeFits (suc n) z) (call_member file visit blocks space m xs ss)
+    unfolding call_member
+    member_gives some blocks space m xs ss h k =
+        gives_bind (λ _. Unit {0}) (λ z. CodeFits (suc n) z) (given (fault_of f.UnknownName m) (member_named space file.universe.rules m.name))
+        (λ p. arguments file visit blocks xs >>= λ ys. suffixes file visit blocks (s.Call ys ∷ []) ss >>= λ ts. pure (c.Primary (c.Member p) ts))
+        (gives_given (fault_of f.UnknownName m) (member_named space file.universe.rules m.name))
+        (λ p _. gives_bind (λ zs. AllByRecursion (ArgumentParts (CodeFits n)) zs) (λ z. CodeFits (suc n) z) (arguments file visit blocks xs)
+        (λ ys. suffixes file visit blocks (s.Call ys ∷ []) ss >>= λ ts. pure (c.Primary (c.Member p) ts)) (arguments_give blocks xs h)
+        (λ ys d. gives_map (λ zs. AllByRecursion (SuffixParts (CodeFits n)) zs) (λ z. CodeFits (suc n) z) (suffixes file visit blocks (s.Call ys ∷ []) ss) (λ ts. c.Primary (c.Member p) ts)
         (suffixes_give blocks (s.Call ys ∷ []) ss (made_suffix (CodeFits n) (s.Call ys) (CodeSuffix-F.Call ys) (s.rolls-Call ys) d, tt) k)
-        (λ ts e. made_code n (c.Primary (c.Native id) ts) (Code-F.Primary (c.Native id) ts) (c.rolls-Primary (c.Native id) ts) (native_fits n id some, e) tt)))
+        (λ ts e. made_code n (c.Primary (c.Member p) ts) (Code-F.Primary (c.Member p) ts) (c.rolls-Primary (c.Member p) ts) (member_fits n p some, e) tt)))
 
-    native_by_gives : (blocks : List BlockParts) (x : Expr) (ss rest : List Suffix) (o : SuffixLayer) → expr_layers x ≤ n → deepest (map suffix_layers ss) ≤ n → suffix_layer o ≤ n
-        → deepest (map suffix_layers rest) ≤ n → Gives (λ z. CodeFits (suc n) z) (primary_by file visit blocks x ss (native_by o rest))
-    native_by_gives blocks x ss rest (Suffix-F.Call xs) h k l m = operand_gives blocks x ss h k
-    native_by_gives blocks x ss rest (Suffix-F.Method name xs) h k l m = host_gives (omega (arith, opened_expr x, expr_has_layers (out-Expr x))) blocks name xs rest l m
-    native_by_gives blocks x ss rest (Suffix-F.Attribute name) h k l m = operand_gives blocks x ss h k
-    native_by_gives blocks x ss rest (Suffix-F.Suffix::Index i) h k l m = operand_gives blocks x ss h k
-    native_by_gives blocks x ss rest (Suffix-F.Slice i j y) h k l m = operand_gives blocks x ss h k
+    member_by_gives : (blocks : List BlockParts) (x : Expr) (space : Namespace) (ss rest : List Suffix) (o : SuffixLayer) → expr_layers x ≤ n → deepest (map suffix_layers ss) ≤ n → suffix_layer o ≤ n
+        → deepest (map suffix_layers rest) ≤ n → Gives (λ z. CodeFits (suc n) z) (primary_by file visit blocks x ss (member_by space o rest))
+    member_by_gives blocks x space ss rest (Suffix-F.Call xs) h k l m = operand_gives blocks x ss h k
+    member_by_gives blocks x space ss rest (Suffix-F.Method name xs) h k l m = member_gives (omega (arith, opened_expr x, expr_has_layers (out-Expr x))) blocks space name xs rest l m
+    member_by_gives blocks x space ss rest (Suffix-F.Attribute name) h k l m = operand_gives blocks x ss h k
+    member_by_gives blocks x space ss rest (Suffix-F.Suffix::Index i) h k l m = operand_gives blocks x ss h k
+    member_by_gives blocks x space ss rest (Suffix-F.Slice i j y) h k l m = operand_gives blocks x ss h k
 
-    native_gives : (blocks : List BlockParts) (x : Expr) (t : Bool) (ss : List Suffix) → expr_layers x ≤ n → deepest (map suffix_layers ss) ≤ n
-        → Gives (λ z. CodeFits (suc n) z) (primary_by file visit blocks x ss (native_call t ss))
-    native_gives blocks x false ss h k = operand_gives blocks x ss h k
-    native_gives blocks x true [] h k = operand_gives blocks x [] h k
-    native_gives blocks x true (u ∷ us) h k = native_by_gives blocks x (u ∷ us) us (out-Suffix u) h k (omega (arith, opened_suffix u)) (omega arith)
+    called_gives : (blocks : List BlockParts) (x : Expr) (o : Option Namespace) (ss : List Suffix) → expr_layers x ≤ n → deepest (map suffix_layers ss) ≤ n
+        → Gives (λ z. CodeFits (suc n) z) (primary_by file visit blocks x ss (member_call o ss))
+    called_gives blocks x None ss h k = operand_gives blocks x ss h k
+    called_gives blocks x (Some space) [] h k = operand_gives blocks x [] h k
+    called_gives blocks x (Some space) (u ∷ us) h k = member_by_gives blocks x space (u ∷ us) us (out-Suffix u) h k (omega (arith, opened_suffix u)) (omega arith)
 
     primary_gives : (blocks : List BlockParts) (x : Expr) (ss : List Suffix) → expr_layers x ≤ n → deepest (map suffix_layers ss) ≤ n → Gives (λ z. CodeFits (suc n) z) (primary file visit blocks x ss)
     unfolding primary
-    primary_gives blocks x ss h k = native_gives blocks x (is_native file blocks (out-Expr x)) ss h k
+    primary_gives blocks x ss h k = called_gives blocks x (namespace_at file blocks (out-Expr x)) ss h k
 
     -- ---- comprehensions
 

@@ -48,7 +48,7 @@ module _ (P Q : Code → Type 0) (weaker : (x : Code) → P x → Q x) where
 
   code : (o : CodeLayer) → CodeParts P o → CodeParts Q o
   code (Code-F.Use x) h = tt
-  code (Code-F.Native id) h = tt
+  code (Code-F.Member p) h = tt
   code (Code-F.Int n) h = tt
   code (Code-F.String t) h = tt
   code (Code-F.Code::List xs) h = each P Q weaker xs h

@@ -146,6 +146,8 @@ pub fn apply<R: Runtime>(
             args,
         ),
         Node::BuiltIn(name) => runtime.call_built_in(context.alloc, name, args),
+        Node::RuleFunction(function) => runtime.call_rule_function(context.alloc, *function, args),
+        Node::Cell(cell) => runtime.call_cell(context.alloc, *cell, args),
         _ => Err(EvalErr::Bad(FaultKind::WrongType)),
     }
 }

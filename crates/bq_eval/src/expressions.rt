@@ -1,7 +1,6 @@
 //! Expressions.
 
 ghost use Rattle.std.specs.Prelude.{◌≡◌};
-ghost use Rattle.bq_predeclared.specs.declared.predeclared.Predeclared.TheVariants.{Host};
 ghost use Rattle.bq_value.specs.Datum.{string};
 ghost use Rattle.bq_machine.specs.Action.{done};
 ghost use Rattle.bq_meaning.specs.Expressions as meaning;
@@ -69,12 +68,12 @@ impl<
         Ok(use_of(context, frame, runtime, binding)?.own()?)
     }
 
-    /// A value that a host gives.
+    /// A function of `native` or `attr`, by its name there.
     #[inline(always)]
-    fn native(&self, runtime: &mut R, id: u32) -> Result<Value, EvalErr>
-        ensures { Acts R.means (λ v. v) result (R.seen runtime.new) (done (R.means.predeclared (Host id)) (R.seen runtime.old)) }
+    fn member(&self, runtime: &mut R, function: Predeclared) -> Result<Value, EvalErr>
+        ensures { Acts R.means (λ v. v) result (R.seen runtime.new) (done (R.means.predeclared function) (R.seen runtime.old)) }
     {
-        Ok(runtime.predeclared(Predeclared::Host(id))?)
+        Ok(runtime.predeclared(function)?)
     }
 
     /// A string. No byte is copied.
@@ -101,7 +100,7 @@ impl<
     {
         match code {
             Code::Use(binding) => self.use_of(context, frame, runtime, *binding),
-            Code::Native(id) => self.native(runtime, *id),
+            Code::Member(function) => self.member(runtime, *function),
             Code::Int(n) => self.literal(runtime, Value::int(*n)),
             Code::String(text) => self.string(runtime, text),
             Code::List(codes) => self.list_display(context, frame, runtime, codes.as_slice()),

@@ -6,9 +6,9 @@ ghost use Rattle.bq_eval.specs.Acts.{Acts};
 
 use bq_grammar::{Comparison, Operator, UnaryOperator};
 use bq_machine::{Args, Elements};
-use bq_predeclared::Predeclared;
+use bq_predeclared::{Predeclared, RuleFunction};
 use bq_source::Bytes;
-use bq_value::{Content, EvalErr, Value};
+use bq_value::{Cell, Content, EvalErr, Value};
 use std::alloc::{AllocError, Global};
 
 /// The operations of the language, on a state. A call that is refused for want of memory may leave any state.
@@ -127,6 +127,19 @@ pub trait Runtime {
     /// A built-in function, by its name.
     fn call_built_in(&mut self, alloc: Global, name: &Bytes, args: Args) -> Result<Value, EvalErr>
         ensures { Acts means (λ v. v) result (seen self.new) (means.call_built_in name.now args (seen self.old)) };
+
+    /// A function that declares rules.
+    fn call_rule_function(
+        &mut self,
+        alloc: Global,
+        function: RuleFunction,
+        args: Args,
+    ) -> Result<Value, EvalErr>
+        ensures { Acts means (λ v. v) result (seen self.new) (means.call_rule_function function args (seen self.old)) };
+
+    /// A cell, which can be called where it is a rule.
+    fn call_cell(&mut self, alloc: Global, cell: Cell, args: Args) -> Result<Value, EvalErr>
+        ensures { Acts means (λ v. v) result (seen self.new) (means.call_cell cell.«module» cell.number args (seen self.old)) };
 
     /// A function of a module becomes active.
     fn enter(&mut self, home: u32, place: u32) -> Result<(), EvalErr>

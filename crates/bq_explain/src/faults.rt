@@ -220,7 +220,8 @@ const NAMES: [Explanation; 5] = [
         name: "UnknownName",
         text: r#"A name that nothing binds: no assignment, `def` or `load` of the file, no
 function of the language, and in a BUILD file no rule of the schema. In a .bzl
-file rules are `native.NAME`.
+file rules are `native.NAME`, and `attr` is no value: its functions are called as
+`attr.int(..)`. `rule` and `attr` are in .bzl files alone.
 
     === BUILD
     cc_library(name = "x", srcs = ["x.c"])
@@ -772,7 +773,9 @@ The message says what the macro wants.
         text: r#"A value has the right type and can't be used: `int("x")`, a step of 0 in a range
 or slice, a shift by more than 63, an empty separator, `index` or `remove` of
 what is not there, `min` or `max` of nothing, or an assignment to more or fewer
-names than there are elements.
+names than there are elements. Of rules: an attribute of `rule` whose name no
+call could give or all rules have, `rule` in a macro that a BUILD file calls, and
+the call of a rule that no name of its own .bzl file stands for.
 
     === BUILD
     a, b = [1, 2, 3]

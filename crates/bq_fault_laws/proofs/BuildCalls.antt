@@ -6,23 +6,24 @@ use Rattle.bq_label.specs.declared.packages.BuildFile.{BuildFile}
 use Rattle.bq_label.specs.Label.{PackageParts, LabelParts}
 use Rattle.bq_label.specs.Paths.{is_path}
 use Rattle.bq_label.specs.Reading.{label_of}
-use Rattle.bq_schema.specs.Schema.{Rules}
-use Rattle.bq_schema.specs.declared.attribute.AttributeType.{AttributeType}
-use Rattle.bq_schema.specs.declared.attribute.AttributeType.TheVariants as t
+use Rattle.bq_rule_class.specs.Class.{Class}
+use Rattle.bq_rule_class.specs.declared.attribute_type.AttributeType.{AttributeType}
+use Rattle.bq_rule_class.specs.declared.attribute_type.AttributeType.TheVariants as t
 use Rattle.bq_target.specs.Calls.{declared, exported}
 use Rattle.bq_target.specs.Value.{attribute_type}
+use Rattle.bq_target.specs.declared.value.GivenAttribute.{GivenAttribute}
 use Rattle.bq_target.specs.declared.state.Declared.{Declared}
 use Rattle.bq_target.specs.declared.state.Declared.TheVariants.{Accepted, Refused}
 use Rattle.bq_glob.specs.Pattern.{is_pattern}
 use Rattle.bq_value.specs.Cells.{StoreView, content_at}
-use Rattle.bq_value.specs.Contents.{Contents, items, pairs}
+use Rattle.bq_value.specs.Contents.{Contents, items, pairs, rule}
 use Rattle.bq_value.specs.Datum.{Datum, boolean, int, string, tuple, cell}
 use Rattle.bq_machine.specs.Action.{Run, done, stopped, given, beside}
 use Rattle.bq_machine.specs.Args.{Passed}
 use Rattle.bq_machine.specs.Binding.{bind}
 use Rattle.bq_machine.specs.State.{State}
 use Rattle.bq_attributes.specs.Arguments.{is_none, with_name, with_attribute_by, with_attribute, keyword, with_argument, with_arguments, nothing_given}
-use Rattle.bq_attributes.specs.Declarations.{keywords_alone, own_attributes, gives_mandatory, if_whole, target, declaration}
+use Rattle.bq_attributes.specs.Declarations.{keywords_alone, gives_mandatory, defaults, if_whole, target, declaration}
 use Rattle.bq_attributes.specs.LabelTexts.{label_found, named, without_colon, read, read_all, label, labels}
 use Rattle.bq_attributes.specs.Scope.{own_label_crosses, inside, all_inside}
 use Rattle.bq_attributes.specs.Steps.{and_then, in_turn}
@@ -32,13 +33,13 @@ use Rattle.bq_attributes.specs.declared.arguments.Given.{Given}
 use Rattle.bq_attributes.specs.declared.label_texts.TextKind.{TextKind}
 use Rattle.bq_attributes.specs.declared.label_texts.TextKind.TheVariants as k
 use Rattle.bq_package.specs.Bound.{no_parameters, any_parameters, glob_parameters, exports_parameters, group_parameters, argument, text_of, texts_of}
-use Rattle.bq_package.specs.Calls.{Declaring, HeldPackage, new_strings, package_name, ignored, settled, declares, call_in, call_by, meaning}
+use Rattle.bq_package.specs.Calls.{Declaring, HeldPackage, outside, declaring, own_of, packages_of, new_strings, package_name, ignored, settled, declares, call_in, call_by, call_of, rule_by, rule_call, default_label, meaning}
 use Rattle.bq_package.specs.Files.{files_named}
 use Rattle.bq_package.specs.Functions.{function_of}
 use Rattle.bq_package.specs.Glob.{pattern, patterns, excludes_directories, allows_empty, request_by, request_of, is_nothing, names_of, is_idle, found, globbed}
 use Rattle.bq_package.specs.Groups.{names_first, group_labels, group_of, group_named}
 use Rattle.bq_package.specs.Place.{PlaceView}
-use Rattle.bq_package.specs.Rules.{target_by, rule_target}
+use Rattle.bq_package.specs.Rules.{declared_target, target_by, rule_target}
 use Rattle.bq_package.specs.declared.function.BuildFunction.{BuildFunction}
 use Rattle.bq_package.specs.declared.function.BuildFunction.TheVariants as b
 use Rattle.bq_package.specs.declared.glob.GlobRequest.{GlobRequest}
@@ -66,6 +67,7 @@ text_fine v = refl
 listed_fine : (c : Option Contents) → Fine (listed c)
 listed_fine (Some (items vs)) = tt
 listed_fine (Some (pairs ps)) = refl
+listed_fine (Some (rule class)) = refl
 listed_fine None = refl
 
 elements_fine : (s : StoreView) (v : Datum) → Fine (elements_in s v)
@@ -127,7 +129,7 @@ value_fine own packages s t.OutputList v = then_fine (texts_in s v) _ (texts_fin
 
 -- ---- calls of rules
 
-module _ (own : PackageParts) (packages : List BuildFile) (s : StoreView) (rules : Rules) (rule : List ℕ) where
+module _ (own : PackageParts) (packages : List BuildFile) (s : StoreView) (class : Class) where
   name_fine : (v : Datum) (g : Given) → Fine (with_name own packages v g)
   unfolding with_name
   name_fine v g = fine_if (is_none v) _ _ tt (then_fine (text_in v) _ (text_fine v) (λ text. then_fine (label own packages k.Name text) _ (label_fine own packages k.Name text) (λ l. tt)))
@@ -136,34 +138,39 @@ module _ (own : PackageParts) (packages : List BuildFile) (s : StoreView) (rules
   attribute_by_fine None name v g = refl
   attribute_by_fine (Some kind) name v g = fine_if (is_none v) _ _ tt (then_fine (value_as own packages s kind v) _ (value_fine own packages s kind v) (λ value. tt))
 
-  argument_fine : (g : Given) (a : Datum × Datum) → Fine (with_argument own packages s rules rule g a)
+  argument_fine : (g : Given) (a : Datum × Datum) → Fine (with_argument own packages s class g a)
   unfolding with_argument with_attribute
   argument_fine g a =
-      fine_if (bytes_eq (keyword a.0) (codes "name")) _ _ (name_fine a.1 g) (attribute_by_fine (attribute_type rules rule (keyword a.0)) (keyword a.0) a.1 g)
+      fine_if (bytes_eq (keyword a.0) (codes "name")) _ _ (name_fine a.1 g) (attribute_by_fine (attribute_type class (keyword a.0)) (keyword a.0) a.1 g)
 
-  arguments_fine : (g : Given) (xs : List (Datum × Datum)) → Fine (with_arguments own packages s rules rule g xs)
+  arguments_fine : (g : Given) (xs : List (Datum × Datum)) → Fine (with_arguments own packages s class g xs)
   unfolding with_arguments
   arguments_fine g [] = tt
-  arguments_fine g (x ∷ xs) = then_fine (with_argument own packages s rules rule g x) _ (argument_fine g x) (λ more. arguments_fine more xs)
+  arguments_fine g (x ∷ xs) = then_fine (with_argument own packages s class g x) _ (argument_fine g x) (λ more. arguments_fine more xs)
 
-  whole_fine : (others : Bool) (line : ℕ) (o : Option LabelParts) (g : Given) → Fine (if_whole others rule line o g)
-  whole_fine others line None g = refl
-  whole_fine others line (Some l) g = fine_if others _ _ tt refl
+  whole_fine : (others : Bool) (kind : List ℕ) (line : ℕ) (o : Option LabelParts) (attributes : List GivenAttribute) → Fine (if_whole others kind class line o attributes)
+  whole_fine others kind line None attributes = refl
+  whole_fine others kind line (Some l) attributes = fine_if others _ _ tt refl
 
-  declaration_fine : (line : ℕ) (passed : Passed) → Fine (declaration own packages s rules rule line passed)
+  declaration_fine : (kind : List ℕ) (line : ℕ) (passed : Passed) → Fine (declaration own packages s class kind line passed)
   unfolding declaration target
-  declaration_fine line passed =
+  declaration_fine kind line passed =
       then_fine (bind keywords_alone passed) _ (bind_fine keywords_alone passed)
-      (λ b. then_fine (with_arguments own packages s rules rule nothing_given b.keywords) _ (arguments_fine nothing_given b.keywords)
-      (λ g. whole_fine (gives_mandatory (own_attributes rules rule) b.keywords) line g.name g))
+      (λ b. then_fine (with_arguments own packages s class nothing_given b.keywords) _ (arguments_fine nothing_given b.keywords)
+      (λ g. whole_fine (gives_mandatory class b.keywords) kind line g.name (g.attributes ++ defaults b.keywords class)))
 
-by_rule_fine : (p : PlaceView) (s : StoreView) (line : ℕ) (o : Option (List ℕ)) (passed : Passed) → Fine (target_by p s line o passed)
-by_rule_fine p s line None passed = refl
-by_rule_fine p s line (Some rule) passed = declaration_fine p.own p.packages s p.rules rule line passed
+target_fine : (p : PlaceView) (s : StoreView) (line : ℕ) (kind : List ℕ) (class : Class) (passed : Passed) → Fine (declared_target p s line kind class passed)
+unfolding declared_target
+target_fine p s line kind class passed = declaration_fine p.own p.packages s class kind line passed
 
-rule_fine : (p : PlaceView) (s : StoreView) (line rule : ℕ) (passed : Passed) → Fine (rule_target p s line rule passed)
+by_rule_fine : (p : PlaceView) (s : StoreView) (line : ℕ) (o : Option (List ℕ)) (class : Option Class) (passed : Passed) → Fine (target_by p s line o class passed)
+by_rule_fine p s line None class passed = refl
+by_rule_fine p s line (Some kind) None passed = refl
+by_rule_fine p s line (Some kind) (Some class) passed = target_fine p s line kind class passed
+
+rule_fine : (p : PlaceView) (s : StoreView) (line number : ℕ) (passed : Passed) → Fine (rule_target p s line number passed)
 unfolding rule_target
-rule_fine p s line rule passed = by_rule_fine p s line (slice_get p.rules.names rule) passed
+rule_fine p s line number passed = by_rule_fine p s line (slice_get p.rules.names number) (slice_get p.rules.classes number) passed
 
 -- ---- calls of build functions
 
@@ -250,18 +257,28 @@ strings_own texts = new_list_owns _
 
 in_package : (d : Declaring) (s : State) (function : BuildFunction) (passed : Passed) → IsRefusal (call_in d s function passed)
 unfolding call_in
-in_package d s b.Glob passed = beside_so (Some d) _ (bind_owns (given (globbed d.place s.store passed)) new_strings (given_owns _ (glob_fine d.place s.store passed)) strings_own s)
-in_package d s b.PackageName passed = beside_so (Some d) _ (given_owns _ (package_fine d.place passed) s)
-in_package d s b.Package passed = beside_so (Some d) _ (given_owns _ (ignored_fine passed) s)
-in_package d s b.Licenses passed = beside_so (Some d) _ (given_owns _ (ignored_fine passed) s)
+in_package d s b.Glob passed = beside_so (declaring d) _ (bind_owns (given (globbed d.place s.store passed)) new_strings (given_owns _ (glob_fine d.place s.store passed)) strings_own s)
+in_package d s b.PackageName passed = beside_so (declaring d) _ (given_owns _ (package_fine d.place passed) s)
+in_package d s b.Package passed = beside_so (declaring d) _ (given_owns _ (ignored_fine passed) s)
+in_package d s b.Licenses passed = beside_so (declaring d) _ (given_owns _ (ignored_fine passed) s)
 in_package d s b.ExportsFiles passed = declares_so s d (files_named d.place s.store passed) (λ ls. exported d.package ls s.line) (files_fine d.place s.store passed)
 in_package d s b.PackageGroup passed = declares_so s d (group_named d.place s.store s.line passed) (declared d.package) (group_fine d.place s.store s.line passed)
-in_package d s (b.Rule rule) passed = declares_so s d (rule_target d.place s.store s.line rule passed) (declared d.package) (rule_fine d.place s.store s.line rule passed)
+in_package d s (b.Rule number) passed = declares_so s d (rule_target d.place s.store s.line number passed) (declared d.package) (rule_fine d.place s.store s.line number passed)
 
 by_kept : (s : State) (kept : HeldPackage) (function : BuildFunction) (passed : Passed) → IsRefusal (call_by s kept function passed)
-by_kept s None function passed = refl
-by_kept s (Some d) function passed = in_package d s function passed
+by_kept s (outside own packages) function passed = refl
+by_kept s (declaring d) function passed = in_package d s function passed
+
+-- a call of a rule that a .bzl file declares
+rule_by_kept : (s : State) (kept : HeldPackage) (kind : List ℕ) (class : Class) (passed : Passed) → IsRefusal (rule_by s kept kind class passed)
+rule_by_kept s (outside own packages) kind class passed = refl
+rule_by_kept s (declaring d) kind class passed =
+    declares_so s d (declared_target d.place s.store s.line kind class passed) (declared d.package) (target_fine d.place s.store s.line kind class passed)
+
+default_label_fine : (kept : HeldPackage) (text : List ℕ) → Fine (default_label kept text)
+unfolding default_label
+default_label_fine kept text = label_fine (own_of kept) (packages_of kept) k.Label text
 
 pub calls_refuse : HostRefuses meaning
-unfolding meaning
-calls_refuse id passed q = by_kept q.0 q.1 (function_of id) passed
+unfolding call_of rule_call
+calls_refuse = ((λ id passed q. by_kept q.0 q.1 (function_of id) passed), (λ kind class passed q. rule_by_kept q.0 q.1 kind class passed), default_label_fine)

@@ -2,7 +2,7 @@
 use Rattle.std.proofs.Common.{ℕ, ◌+◌, ℤ, List, [], ◌∷◌, length, slice_get, Option, Some, None, Result, Ok, Err, refl}
 use Rattle.bq_source.specs.declared.fault.FaultKind.{FaultKind}
 use Rattle.bq_value.specs.Cells.{StoreView, content_at}
-use Rattle.bq_value.specs.Contents.{Contents, items, pairs}
+use Rattle.bq_value.specs.Contents.{Contents, items, pairs, rule}
 use Rattle.bq_value.specs.Datum.{Datum, none, int, tuple, cell}
 use Rattle.bq_value.specs.Pairs.{found}
 use Rattle.bq_machine.specs.Args.{Passed}
@@ -98,6 +98,7 @@ pub on_items_fine : (f : ListChange) → ((xs : List Datum) → Fine (f xs)) →
 unfolding on_items
 on_items_fine f h (items xs) = items_fine (f xs) (h xs)
 on_items_fine f h (pairs ps) = refl
+on_items_fine f h (rule class) = refl
 
 pub appended_fine : (v : Datum) (xs : List Datum) → Fine (appended v xs)
 unfolding appended
@@ -134,6 +135,7 @@ dropped_fine at xs = by_value (slice_get xs at)
 pub list_of_fine : (c : Contents) → Fine (list.list_of c)
 list_of_fine (items xs) = tt
 list_of_fine (pairs ps) = refl
+list_of_fine (rule class) = refl
 
 place_fine : (o : Option ℕ) → Fine (place_by o)
 place_fine (Some at) = within_fine at
@@ -153,10 +155,12 @@ pub on_pairs_fine : (f : DictChange) → ((ps : List (Datum × Datum)) → Fine 
 unfolding on_pairs
 on_pairs_fine f h (pairs ps) = pairs_fine (f ps) (h ps)
 on_pairs_fine f h (items xs) = refl
+on_pairs_fine f h (rule class) = refl
 
 pub dict_of_fine : (c : Contents) → Fine (dict.dict_of c)
 dict_of_fine (pairs ps) = tt
 dict_of_fine (items xs) = refl
+dict_of_fine (rule class) = refl
 
 pub emptied_fine : (ps : List (Datum × Datum)) → Fine (emptied ps)
 unfolding emptied
@@ -192,6 +196,7 @@ with_default_fine k d ps = by_value (found k ps)
 values_fine : (c : Option Contents) → Fine (values_of_content c)
 values_fine (Some (items xs)) = tt
 values_fine (Some (pairs ps)) = refl
+values_fine (Some (rule class)) = refl
 values_fine None = refl
 
 parts_fine : (s : StoreView) (v : Datum) → Fine (parts_of s v)

@@ -4,7 +4,7 @@ use Rattle.std.specs.List.{AllByRecursion}
 use Rattle.std.specs.Map.{lookup}
 use Rattle.std.specs.Str.{bytes_eq}
 use Rattle.bq_source.specs.declared.fault.FaultKind.TheVariants as f
-use Rattle.bq_value.specs.Contents.{Contents, items, pairs}
+use Rattle.bq_value.specs.Contents.{Contents, items, pairs, rule}
 use Rattle.bq_value.specs.Datum.{Datum, none, string, cell}
 use Rattle.bq_value.specs.Pairs.{found, keys}
 use Rattle.bq_format.specs.Method.{formatted}
@@ -301,6 +301,7 @@ of_dict_owns name home number args =
 by_owns : (c : Contents) (name : List ℕ) (home number : ℕ) (args : Passed) → Own (call_by c name home number args)
 by_owns (items xs) name home number args = of_list_owns name home number args
 by_owns (pairs ps) name home number args = of_dict_owns name home number args
+by_owns (rule class) name home number args = stop_owns Datum f.NoMethod refl
 
 of_cell_owns : (name : List ℕ) (home number : ℕ) (args : Passed) → Own (call_of_cell name home number args)
 unfolding call_of_cell

@@ -6,7 +6,6 @@ use Rattle.bq_grammar.specs.declared.tree.Comparison.{Comparison}
 use Rattle.bq_grammar.specs.declared.tree.Operator.{Operator}
 use Rattle.bq_grammar.specs.declared.tree.Operator.TheVariants as operator
 use Rattle.bq_grammar.specs.declared.tree.UnaryOperator.{UnaryOperator}
-use Rattle.bq_predeclared.specs.declared.predeclared.Predeclared.TheVariants as predeclared
 use Rattle.bq_scope.specs.declared.code.Binding.{Binding}
 use Rattle.bq_scope.specs.declared.code.Binding.TheVariants as b
 use Rattle.bq_scope.specs.declared.code.Code.{Code, out-Code}
@@ -206,7 +205,7 @@ module _ {S : Type 0} (m : Primitives S) (L : Lawful m) where
       module _ (round : Surroundings) where
         expr_by_rule : (e : Code) (o : CodeLayer) → BodyParts P (out-Code e) → CodeParts P o → VariableParts AreNames o → IsKept o → (env : Frame) → Refusing Datum (expr_by m eval call round e o env)
         expr_by_rule e (Code-F.Use x) d h names kept env = use_rule round x env
-        expr_by_rule e (Code-F.Native id) d h names kept env = value_of Datum (m.predeclared (predeclared.Host id))
+        expr_by_rule e (Code-F.Member p) d h names kept env = value_of Datum (m.predeclared p)
         expr_by_rule e (Code-F.Int n) d h names kept env = literal_rule (int n)
         expr_by_rule e (Code-F.String t) d h names kept env = literal_rule (string t)
         expr_by_rule e (Code-F.Code::List xs) d h names kept env = list_rule xs h env

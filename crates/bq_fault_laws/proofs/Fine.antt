@@ -6,10 +6,7 @@ use Rattle.bq_walk.specs.Looked.{Looked, stepped}
 use Rattle.bq_operate.specs.Operand.{and_then}
 use Rattle.bq_operate.specs.Subscript.{or_fault}
 use Rattle.bq_host.specs.Refusals.{is_refusal}
-
-abbrev pub Fine : {A : Type 0} → Result A FaultKind → Type 0
-Fine (Ok x) = Unit {0}
-Fine (Err kind) = is_refusal kind ≡ true
+pub use Rattle.bq_fault_laws.specs.Faults.{Fine}
 
 pub fine_cond : {A : Type 0} (t : Bool) (a c : Result A FaultKind) → Fine a → Fine c → Fine (cond t a c)
 fine_cond true a c h k = h

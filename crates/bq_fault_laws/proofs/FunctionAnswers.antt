@@ -5,9 +5,9 @@ use Rattle.std.specs.Str.Parse.{without_leading_sign, signed_digits_value}
 use Rattle.bq_source.specs.declared.fault.FaultKind.{FaultKind}
 use Rattle.bq_source.specs.declared.fault.FaultKind.TheVariants.{BadValue}
 use Rattle.bq_value.specs.Cells.{StoreView, content_at}
-use Rattle.bq_value.specs.Contents.{Contents, items, pairs}
+use Rattle.bq_value.specs.Contents.{Contents, items, pairs, rule}
 use Rattle.bq_value.specs.Datum as datum
-use Rattle.bq_value.specs.Datum.{Datum, none, boolean, string, cell, function, built_in, list_of, data_of}
+use Rattle.bq_value.specs.Datum.{Datum, none, boolean, string, cell, function, built_in, rule_function, attribute, list_of, data_of}
 use Rattle.bq_machine.specs.Args.{Passed}
 use Rattle.bq_machine.specs.Iteration.{elements_in}
 use Rattle.bq_operators.specs.Integer.{fitted}
@@ -217,6 +217,7 @@ int_fine p = then_fine (only_argument p) _ (only_fine p) (λ v. as_int_fine (int
 content_length_fine : (c : Option Contents) → Fine (content_length c)
 content_length_fine (Some (items xs)) = tt
 content_length_fine (Some (pairs ps)) = tt
+content_length_fine (Some (rule class)) = refl
 content_length_fine None = refl
 
 length_fine : (s : StoreView) (v : Datum) → Fine (length_in s v)
@@ -254,6 +255,7 @@ range_fine p = then_fine (by_place p) _ (by_place_fine p) (λ vs. then_fine (one
 content_type_fine : (c : Option Contents) → Fine (content_type c)
 content_type_fine (Some (items xs)) = tt
 content_type_fine (Some (pairs ps)) = tt
+content_type_fine (Some (rule class)) = tt
 content_type_fine None = refl
 
 type_name_fine : (s : StoreView) (v : Datum) → Fine (type_name s v)
@@ -267,6 +269,8 @@ type_name_fine s (datum.range start stop step) = tt
 type_name_fine s (cell home number) = content_type_fine (content_at s home number)
 type_name_fine s (function home place name defaults) = tt
 type_name_fine s (built_in name) = tt
+type_name_fine s (rule_function g) = tt
+type_name_fine s (attribute a) = tt
 
 pub type_of_fine : (s : StoreView) (p : Passed) → Fine (type_of s p)
 unfolding type_of

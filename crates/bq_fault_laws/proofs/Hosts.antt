@@ -19,6 +19,7 @@ use Rattle.bq_fault_laws.proofs.Functions.{function_owns}
 use Rattle.bq_fault_laws.proofs.Lawful.{Lawful}
 use Rattle.bq_fault_laws.proofs.Machine.{Own, stop_owns, step_owns, enter_owns, new_owns, begin_owns}
 use Rattle.bq_fault_laws.proofs.Making.{add_owns, put_pair_owns, add_pair_owns, pass_owns, pass_named_owns, pass_all_owns, pass_all_named_owns, parts_owns}
+use Rattle.bq_fault_laws.proofs.RuleFunctions.{function_refuses, cell_refuses}
 use Rattle.bq_fault_laws.proofs.Operators.{binary_owns, unary_owns, compare_owns, index_owns, slice_owns, augment_owns, set_index_owns}
 
 module _ {W : Type 0} (names : List Name) (host : HostCalls W) (refuses : HostRefuses host) where
@@ -32,7 +33,7 @@ module _ {W : Type 0} (names : List Name) (host : HostCalls W) (refuses : HostRe
 
   found_refuses : (o : Option Predeclared) (args : Passed) → Refusing Datum (call_found host o args)
   found_refuses None args = lifted Datum (action.stop WrongType) (stop_owns Datum WrongType refl)
-  found_refuses (Some (p.Host id)) args = refuses id args
+  found_refuses (Some (p.Host id)) args = refuses.0 id args
   found_refuses (Some x) args = lifted Datum (call_function x args) (function_owns x args)
 
   built_in_refuses : (name : List ℕ) (args : Passed) → Refusing Datum (call_built_in names host name args)
@@ -61,6 +62,8 @@ module _ {W : Type 0} (names : List Name) (host : HostCalls W) (refuses : HostRe
     of_pass_all = λ q v. lifted Passed _ (pass_all_owns q v);
     of_pass_all_named = λ q v. lifted Passed _ (pass_all_named_owns q v);
     of_built_in = λ name q. built_in_refuses name q;
+    of_rule_function = λ function q. function_refuses host refuses function q;
+    of_cell = λ home number q. cell_refuses host refuses home number q;
     of_method = λ name v q. lifted Datum _ (method_owns name v q);
     of_enter = λ home place. lifted (Unit {0}) _ (enter_owns home place);
   }

@@ -9,13 +9,14 @@ pub mod FunctionAnswers
 pub mod Values
 pub mod Texts
 pub mod Walks
--- the machine, operators, methods and built-in functions
+-- the machine, operators, methods, built-in functions and what declares rules
 pub mod Lawful
 pub mod Machine
 pub mod Operators
 pub mod Making
 pub mod Collections
 pub mod Functions
+pub mod RuleFunctions
 pub mod Hosts
 -- the rules of the language
 pub mod TargetRules

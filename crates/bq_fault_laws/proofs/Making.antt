@@ -1,7 +1,7 @@
 -- Lists and dicts that are being made, and the arguments of calls, stop for faults of evaluation alone.
 use Rattle.std.proofs.Common.{ℕ, ◌+◌, ◌==◌, nat_le, List, [], ◌∷◌, ◌++◌, length, is_some, Result, Ok, Err, refl}
 use Rattle.bq_source.specs.declared.fault.FaultKind.{FaultKind}
-use Rattle.bq_value.specs.Contents.{Contents, items, pairs}
+use Rattle.bq_value.specs.Contents.{Contents, items, pairs, rule}
 use Rattle.bq_value.specs.Datum.{Datum, string}
 use Rattle.bq_machine.specs.Action.{given, look}
 use Rattle.bq_machine.specs.Args.{Passed}
@@ -22,16 +22,19 @@ element_fine : (c : Contents) (v : Datum) → Fine (with_element c v)
 unfolding with_element
 element_fine (items xs) v = fine_then (limited (xs ++ v ∷ [])) _ (limited_fine (xs ++ v ∷ [])) (λ ys. tt)
 element_fine (pairs ps) v = refl
+element_fine (rule class) v = refl
 
 pair_fine : (c : Contents) (k v : Datum) → Fine (with_pair c k v)
 unfolding with_pair
 pair_fine (pairs ps) k v = fine_then (limited (put k v ps)) _ (limited_fine (put k v ps)) (λ qs. tt)
 pair_fine (items xs) k v = refl
+pair_fine (rule class) k v = refl
 
 new_pair_fine : (c : Contents) (k v : Datum) → Fine (with_new_pair c k v)
 unfolding with_new_pair
 new_pair_fine (pairs ps) k v = fine_cond (is_some (found k ps)) _ _ refl (pair_fine (pairs ps) k v)
 new_pair_fine (items xs) k v = refl
+new_pair_fine (rule class) k v = refl
 
 few_fine : (p : Passed) → Fine (if_few p)
 few_fine p = fine_cond (nat_le (length p.positional + length p.named) max_len) _ _ tt refl

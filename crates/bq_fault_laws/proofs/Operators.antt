@@ -7,7 +7,7 @@ use Rattle.bq_grammar.specs.declared.tree.Operator.{Operator}
 use Rattle.bq_grammar.specs.declared.tree.Operator.TheVariants as op
 use Rattle.bq_grammar.specs.declared.tree.UnaryOperator.{UnaryOperator}
 use Rattle.bq_value.specs.Cells.{StoreView}
-use Rattle.bq_value.specs.Contents.{Contents, items, pairs}
+use Rattle.bq_value.specs.Contents.{Contents, items, pairs, rule}
 use Rattle.bq_value.specs.Datum.{Datum, boolean, int, string, tuple, cell, list_of}
 use Rattle.bq_format.specs.Percent.{percent_of}
 use Rattle.bq_machine.specs.Action.{pure, given, look}
@@ -127,6 +127,7 @@ set_in_owns : (home number : ℕ) (at v : Datum) (c : Contents) → Own (set_in 
 set_in_owns home number at v (items xs) = bind_owns (given (int_of at)) _ (given_owns (int_of at) (int_of_fine at)) (λ i. changing_owns home number (element_set i v) (element_set_fine i v))
 set_in_owns home number at v (pairs ps) =
     then_owns (may_change home number) _ (may_owns home number) (bind_owns (key at) _ (key_owns at) (λ k. changing_owns home number (pair_put k v) (pair_put_fine k v)))
+set_in_owns home number at v (rule class) = stop_owns (Unit {0}) f.WrongType refl
 
 set_item_owns : (home number : ℕ) (at v : Datum) → Own (set_item home number at v)
 unfolding set_item

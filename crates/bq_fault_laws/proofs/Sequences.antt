@@ -8,7 +8,7 @@ use Rattle.bq_grammar.specs.declared.tree.Operator.TheVariants as op
 use Rattle.bq_grammar.specs.declared.tree.UnaryOperator.{UnaryOperator}
 use Rattle.bq_grammar.specs.declared.tree.UnaryOperator.TheVariants as sign
 use Rattle.bq_value.specs.Cells.{StoreView, content_at}
-use Rattle.bq_value.specs.Contents.{Contents, items, pairs}
+use Rattle.bq_value.specs.Contents.{Contents, items, pairs, rule}
 use Rattle.bq_value.specs.Datum.{Datum, none, int, string, tuple, range, cell, data_of, list_of}
 use Rattle.bq_value.specs.Pairs.{put}
 use Rattle.bq_value.specs.Range.{range_count}
@@ -41,11 +41,13 @@ int_of_fine v = refl
 pub list_content_fine : (c : Option Contents) → Fine (list_of_content c)
 list_content_fine (Some (items xs)) = tt
 list_content_fine (Some (pairs ps)) = refl
+list_content_fine (Some (rule class)) = refl
 list_content_fine None = refl
 
 pub dict_content_fine : (c : Option Contents) → Fine (dict_of_content c)
 dict_content_fine (Some (pairs ps)) = tt
 dict_content_fine (Some (items xs)) = refl
+dict_content_fine (Some (rule class)) = refl
 dict_content_fine None = refl
 
 pub list_in_fine : (s : StoreView) (v : Datum) → Fine (list_in s v)
@@ -59,6 +61,7 @@ dict_in_fine s v = refl
 content_fine : (c : Option Contents) → Fine (content_elements c)
 content_fine (Some (items xs)) = tt
 content_fine (Some (pairs ps)) = tt
+content_fine (Some (rule class)) = refl
 content_fine None = refl
 
 pub elements_fine : (s : StoreView) (v : Datum) → Fine (elements_in s v)
@@ -227,18 +230,22 @@ pub list_extended_fine : (more : List Datum) (c : Contents) → Fine (list_exten
 unfolding list_extended
 list_extended_fine more (items xs) = fine_then (joined xs more) _ (joined_fine xs more) (λ ys. tt)
 list_extended_fine more (pairs ps) = refl
+list_extended_fine more (rule class) = refl
 
 pub dict_united_fine : (more : List (Datum × Datum)) (c : Contents) → Fine (dict_united more c)
 unfolding dict_united
 dict_united_fine more (pairs ps) = fine_then (limited (put_all ps more)) _ (limited_fine (put_all ps more)) (λ qs. tt)
 dict_united_fine more (items xs) = refl
+dict_united_fine more (rule class) = refl
 
 pub element_set_fine : (i : ℤ) (v : Datum) (c : Contents) → Fine (element_set i v c)
 unfolding element_set
 element_set_fine i v (items xs) = fine_then (indexed (length xs) i) _ (indexed_fine (length xs) i) (λ k. tt)
 element_set_fine i v (pairs ps) = refl
+element_set_fine i v (rule class) = refl
 
 pub pair_put_fine : (k v : Datum) (c : Contents) → Fine (pair_put k v c)
 unfolding pair_put
 pair_put_fine k v (pairs ps) = fine_then (limited (put k v ps)) _ (limited_fine (put k v ps)) (λ qs. tt)
 pair_put_fine k v (items xs) = refl
+pair_put_fine k v (rule class) = refl

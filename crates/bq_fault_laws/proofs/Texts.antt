@@ -2,8 +2,8 @@
 use Rattle.std.proofs.Common.{ℕ, zero, suc, List, [], ◌∷◌, Option, Some, None, Ok, Err, refl}
 use Rattle.std.specs.Prelude.{codes}
 use Rattle.bq_source.specs.declared.fault.FaultKind.TheVariants.{TooDeep}
-use Rattle.bq_value.specs.Datum.{Datum, none, boolean, int, string, tuple, range, cell, function, built_in, list_of}
-use Rattle.bq_value.specs.Contents.{Contents, items, pairs}
+use Rattle.bq_value.specs.Datum.{Datum, none, boolean, int, string, tuple, range, cell, function, built_in, rule_function, attribute, list_of}
+use Rattle.bq_value.specs.Contents.{Contents, items, pairs, rule}
 use Rattle.bq_value.specs.Cells.{StoreView, content_at}
 use Rattle.bq_walk.specs.Looked.{max_levels}
 use Rattle.bq_text.specs.Page.{PageView, written}
@@ -32,6 +32,7 @@ module _ (show : Shows) (each : (page : PageView) (v : Datum) → Walks (λ n. s
   contents_walk page (items xs) = list_walks (codes "[") (codes "]") page xs
   contents_walk page (pairs ps) =
       followed (λ n. pairs_shown show [] (written page (codes "{")) n ps) (λ r. closed (codes "}") r) (λ kind. refl) (pairs_walk [] (written page (codes "{")) ps) (λ p. (λ n. tt))
+  contents_walk page (rule class) = λ n. tt
 
   cell_walks : (page : PageView) (c : Option Contents) → Walks (λ n. cell_shown show page n c)
   cell_walks page (Some c) = contents_walk page c
@@ -47,6 +48,8 @@ module _ (show : Shows) (each : (page : PageView) (v : Datum) → Walks (λ n. s
   parts_walk s page (range a b c) = λ n. tt
   parts_walk s page (function m i t vs) = λ n. tt
   parts_walk s page (built_in t) = λ n. tt
+  parts_walk s page (rule_function f) = λ n. tt
+  parts_walk s page (attribute a) = λ n. tt
 
 shown_walks : (l : ℕ) (s : StoreView) (page : PageView) (v : Datum) → Walks (λ n. shown_at l s page n v)
 shown_walks zero s page v = stepped_walks (λ m. Err TooDeep) (λ n. refl)

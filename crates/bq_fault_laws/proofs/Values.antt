@@ -1,9 +1,9 @@
 -- Walks over values are refused for faults of evaluation alone.
-use Rattle.std.proofs.Common.{◌==◌, ℕ, zero, suc, ℤ, Bool, true, false, cond, List, [], ◌∷◌, length, Option, Some, None, Ok, Err, refl}
+use Rattle.std.proofs.Common.{◌==◌, ◌&&◌, ℕ, zero, suc, ℤ, Bool, true, false, cond, List, [], ◌∷◌, length, Option, Some, None, Ok, Err, refl}
 use Rattle.std.specs.declared.cmp.Ordering.{Ordering}
 use Rattle.bq_source.specs.declared.fault.FaultKind.TheVariants.{TooDeep}
-use Rattle.bq_value.specs.Datum.{Datum, none, boolean, int, string, tuple, range, cell, function, built_in, list_of}
-use Rattle.bq_value.specs.Contents.{Contents, items, pairs}
+use Rattle.bq_value.specs.Datum.{Datum, none, boolean, int, string, tuple, range, cell, function, built_in, rule_function, attribute, list_of}
+use Rattle.bq_value.specs.Contents.{Contents, items, pairs, rule}
 use Rattle.bq_value.specs.Cells.{StoreView, content_at}
 use Rattle.bq_value.specs.Pairs.{found}
 use Rattle.bq_walk.specs.Looked.{Looked}
@@ -40,17 +40,22 @@ module _ (same : Compares) (each : (x y : Datum) → Walks (λ n. same n x y)) w
       followed (λ n. partner_equal same n p.1 (found p.0 qs)) (λ r. if_so r (λ m. pairs_equal same m ps qs)) (λ kind. refl) (partner_walks p.1 (found p.0 qs))
       (so_walks (λ m. pairs_equal same m ps qs) (pairs_walk ps qs))
 
-  contents_walk : (c d : Contents) → Walks (λ n. contents_equal same n c d)
-  contents_walk (items xs) (items ys) = lists_walk xs ys
-  contents_walk (pairs ps) (pairs qs) = cond_walks (length ps == length qs) (λ n. pairs_equal same n ps qs) (pairs_walk ps qs)
-  contents_walk (items xs) (pairs qs) = λ n. tt
-  contents_walk (pairs ps) (items ys) = λ n. tt
+  contents_walk : (one : Bool) (c d : Contents) → Walks (λ n. contents_equal same n one c d)
+  contents_walk one (items xs) (items ys) = lists_walk xs ys
+  contents_walk one (pairs ps) (pairs qs) = cond_walks (length ps == length qs) (λ n. pairs_equal same n ps qs) (pairs_walk ps qs)
+  contents_walk one (rule c) (rule d) = λ n. tt
+  contents_walk one (items xs) (pairs qs) = λ n. tt
+  contents_walk one (items xs) (rule d) = λ n. tt
+  contents_walk one (pairs ps) (items ys) = λ n. tt
+  contents_walk one (pairs ps) (rule d) = λ n. tt
+  contents_walk one (rule c) (items ys) = λ n. tt
+  contents_walk one (rule c) (pairs qs) = λ n. tt
 
-  cells_walk : (c d : Option Contents) → Walks (λ n. cells_equal same n c d)
-  cells_walk (Some c) (Some d) = contents_walk c d
-  cells_walk None None = λ n. tt
-  cells_walk (Some c) None = λ n. tt
-  cells_walk None (Some d) = λ n. tt
+  cells_walk : (one : Bool) (c d : Option Contents) → Walks (λ n. cells_equal same n one c d)
+  cells_walk one (Some c) (Some d) = contents_walk one c d
+  cells_walk one None None = λ n. tt
+  cells_walk one (Some c) None = λ n. tt
+  cells_walk one None (Some d) = λ n. tt
 
   parts_walk : (s : StoreView) (x y : Datum) → Walks (λ n. parts_equal same s n x y)
   parts_walk s none none = λ n. tt
@@ -59,9 +64,11 @@ module _ (same : Compares) (each : (x y : Datum) → Walks (λ n. same n x y)) w
   parts_walk s (string a) (string b) = λ n. tt
   parts_walk s (tuple a) (tuple b) = lists_walk (list_of a) (list_of b)
   parts_walk s (range a b c) (range d e f) = λ n. tt
-  parts_walk s (cell a i) (cell b j) = cells_walk (content_at s a i) (content_at s b j)
+  parts_walk s (cell a i) (cell b j) = cells_walk ((a == b) && (i == j)) (content_at s a i) (content_at s b j)
   parts_walk s (function a i t vs) (function b j u ws) = λ n. tt
   parts_walk s (built_in a) (built_in b) = λ n. tt
+  parts_walk s (rule_function f) (rule_function g) = λ n. tt
+  parts_walk s (attribute a) (attribute b) = λ n. tt
   parts_walk s _ _ = λ n. tt
 
 pub equal_walks : (l : ℕ) (s : StoreView) (x y : Datum) → Walks (λ n. equal_at l s n x y)
@@ -84,7 +91,9 @@ module _ (same : Compares) (order : Orders) (same_each : (x y : Datum) → Walks
   ordered_contents_walk : (c d : Contents) → Walks (λ n. contents_ordered same order n c d)
   ordered_contents_walk (items xs) (items ys) = orders_walk xs ys
   ordered_contents_walk (items xs) (pairs qs) = λ n. refl
+  ordered_contents_walk (items xs) (rule d) = λ n. refl
   ordered_contents_walk (pairs ps) d = λ n. refl
+  ordered_contents_walk (rule c) d = λ n. refl
 
   ordered_cells_walk : (c d : Option Contents) → Walks (λ n. cells_ordered same order n c d)
   ordered_cells_walk (Some c) (Some d) = ordered_contents_walk c d
@@ -126,6 +135,8 @@ module _ (same : Compares) (order : Orders) (same_each : (x y : Datum) → Walks
   ordered_parts_walk s (range a b c) y = λ n. refl
   ordered_parts_walk s (function a i t vs) y = λ n. refl
   ordered_parts_walk s (built_in t) y = λ n. refl
+  ordered_parts_walk s (rule_function f) y = λ n. refl
+  ordered_parts_walk s (attribute a) y = λ n. refl
 
 pub order_walks : (l : ℕ) (s : StoreView) (x y : Datum) → Walks (λ n. ordered_at l s n x y)
 order_walks zero s x y = stepped_walks (λ m. Err TooDeep) (λ n. refl)
@@ -157,6 +168,8 @@ module _ (walk : ℕ → Datum → Walked) (each : (x : Datum) (n : ℕ) → Fin
   key_parts (cell a i) n = refl
   key_parts (function a i s xs) n = refl
   key_parts (built_in s) n = refl
+  key_parts (rule_function f) n = refl
+  key_parts (attribute a) n = refl
 
 walked_fine : (l : ℕ) (x : Datum) (n : ℕ) → Fine (walked_at l n x)
 walked_fine zero x n = key_step (λ m. Err TooDeep) (λ m. refl) n

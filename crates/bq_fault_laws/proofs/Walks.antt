@@ -7,8 +7,8 @@ use Rattle.bq_source.specs.declared.fault.FaultKind.{FaultKind}
 use Rattle.bq_source.specs.declared.fault.FaultKind.TheVariants as f
 use Rattle.bq_grammar.specs.declared.tree.Comparison.{Comparison}
 use Rattle.bq_grammar.specs.declared.tree.Comparison.TheVariants as comparison
-use Rattle.bq_value.specs.Datum.{Datum, none, boolean, int, string, tuple, range, cell, function, built_in, list_of}
-use Rattle.bq_value.specs.Contents.{Contents, items, pairs}
+use Rattle.bq_value.specs.Datum.{Datum, none, boolean, int, string, tuple, range, cell, function, built_in, rule_function, attribute, list_of}
+use Rattle.bq_value.specs.Contents.{Contents, items, pairs, rule}
 use Rattle.bq_value.specs.Pairs.{found}
 use Rattle.bq_value.specs.Cells.{StoreView, content_at}
 use Rattle.bq_walk.specs.Looked.{Looked, max_levels}
@@ -83,6 +83,7 @@ dict_walks v ps = followed (λ n. keyed v (walked_at max_levels n v)) (λ r. amo
 content_walks : (s : StoreView) (v : Datum) (c : Option Contents) → Walks (λ n. in_content s n v c)
 content_walks s v (Some (items xs)) = list_walks s v xs
 content_walks s v (Some (pairs ps)) = dict_walks v ps
+content_walks s v (Some (rule class)) = λ n. refl
 content_walks s v None = λ n. refl
 
 contained_walks : (s : StoreView) (v container : Datum) → Walks (λ n. contained s n v container)
@@ -95,6 +96,8 @@ contained_walks s v (boolean b) = λ n. refl
 contained_walks s v (int n) = λ n. refl
 contained_walks s v (function home place name ds) = λ n. refl
 contained_walks s v (built_in name) = λ n. refl
+contained_walks s v (rule_function g) = λ n. refl
+contained_walks s v (attribute a) = λ n. refl
 
 pub compared_walks : (c : Comparison) (s : StoreView) (a b : Datum) → Walks (λ n. compared c s n a b)
 unfolding compared
@@ -120,6 +123,7 @@ value_walks ps key = followed (λ n. keyed key (walked_at max_levels n key)) (λ
 content_item_walks : (c : Option Contents) (at : Datum) → Walks (λ n. content_item n c at)
 content_item_walks (Some (items xs)) at = free_walks (item_in xs at) (item_in_fine xs at)
 content_item_walks (Some (pairs ps)) at = value_walks ps at
+content_item_walks (Some (rule class)) at = λ n. refl
 content_item_walks None at = λ n. refl
 
 pub item_walks : (s : StoreView) (container at : Datum) → Walks (λ n. item_of s n container at)
@@ -132,6 +136,8 @@ item_walks s (boolean b) at = λ n. refl
 item_walks s (int n) at = λ n. refl
 item_walks s (function home place name ds) at = λ n. refl
 item_walks s (built_in name) at = λ n. refl
+item_walks s (rule_function g) at = λ n. refl
+item_walks s (attribute a) at = λ n. refl
 
 -- ---- the place of an element
 
@@ -227,6 +233,8 @@ percent_walks s format (range a b c) = draft_walks (λ n. filled (length format)
 percent_walks s format (cell a i) = draft_walks (λ n. filled (length format) s blank n (cell a i ∷ []) format) (filled_walks (length format) s blank (cell a i ∷ []) format)
 percent_walks s format (function a i t ds) = draft_walks (λ n. filled (length format) s blank n (function a i t ds ∷ []) format) (filled_walks (length format) s blank (function a i t ds ∷ []) format)
 percent_walks s format (built_in t) = draft_walks (λ n. filled (length format) s blank n (built_in t ∷ []) format) (filled_walks (length format) s blank (built_in t ∷ []) format)
+percent_walks s format (rule_function g) = draft_walks (λ n. filled (length format) s blank n (rule_function g ∷ []) format) (filled_walks (length format) s blank (rule_function g ∷ []) format)
+percent_walks s format (attribute a) = draft_walks (λ n. filled (length format) s blank n (attribute a ∷ []) format) (filled_walks (length format) s blank (attribute a ∷ []) format)
 
 field_walks : (s : StoreView) (d : DraftView) (o : Option Datum) → Walks (λ n. field_shown s d n o)
 field_walks s d None = λ n. tt

@@ -1,7 +1,8 @@
 -- What the evaluation of a file may fail with: a fault of evaluation (F40 to F60), one of the calls of build functions and rules (F70 to
 -- F78), or a name of the own package whose file lies in another one (F37). The table is that of a host's refusals.
-use Rattle.std.specs.Prelude.{◌≡◌, ℕ, List, Option, Some, Ok, true}
+use Rattle.std.specs.Prelude.{◌≡◌, ℕ, List, Option, Some, Result, Ok, Err, true}
 use Rattle.std.specs.List.{AllByRecursion}
+use Rattle.bq_source.specs.declared.fault.FaultKind.{FaultKind}
 use Rattle.bq_grammar.specs.Lexeme.{Lexeme}
 use Rattle.bq_grammar.specs.Parses.{Parses}
 use Rattle.bq_grammar.specs.declared.tree.FileKind.{FileKind}
@@ -10,6 +11,7 @@ use Rattle.bq_scope.specs.Files.{resolved}
 use Rattle.bq_scope.specs.Names.{Name}
 use Rattle.bq_scope.specs.Universe.{UniverseParts}
 use Rattle.bq_scope.specs.declared.code.Resolved.{Resolved}
+use Rattle.bq_rule_class.specs.Class.{Class}
 use Rattle.bq_value.specs.Cells.{FrozenView}
 use Rattle.bq_value.specs.Datum.{Datum}
 use Rattle.bq_machine.specs.Action.{Action, Run, done, stopped}
@@ -28,9 +30,18 @@ IsRefusal (stopped why) = is_refusal why.kind ≡ true
 abbrev pub Refusing : {S : Type 0} (A : Type 0) → Action S A → Type 0
 Refusing {S = S} A action = (s : S) → IsRefusal (action s)
 
--- a host whose calls are refused for nothing else
+-- an answer that is refused, if it is, for one of these
+abbrev pub Fine : {A : Type 0} → Result A FaultKind → Type 0
+Fine (Ok x) = Unit {0}
+Fine (Err kind) = is_refusal kind ≡ true
+
+-- a host whose calls are refused for nothing else: those of its own functions, those of rules that .bzl files declare, and the labels of
+-- defaults
 abbrev pub HostRefuses : {W : Type 0} → HostCalls W → Type 0
-HostRefuses {W = W} host = (id : ℕ) (args : Passed) → Refusing {S = State × W} Datum (host id args)
+HostRefuses {W = W} host =
+    ((id : ℕ) (args : Passed) → Refusing {S = State × W} Datum (host.call id args))
+    × ((kind : List ℕ) (class : Class) (args : Passed) → Refusing {S = State × W} Datum (host.call_rule kind class args))
+    × ((kept : W) (text : List ℕ) → Fine (host.read_default kept text))
 
 -- a file that fails, if it does, with one of these
 abbrev pub FailsAsEvaluated : Ended → Type 0

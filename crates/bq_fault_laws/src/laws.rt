@@ -13,7 +13,8 @@ pub fn files_fail_as_evaluated<H: Host>()
     ensures { (names : List Name) → HostRefuses H.means → FilesFailAsEvaluated names H.means }
 {}
 
-/// A call of a build function or of a rule is refused for one of these alone.
+/// A call of a build function, of a rule of the schema or of one that a .bzl file declares, and the label of a default are refused for one
+/// of these alone.
 pub fn build_calls_are_refused_as_evaluated()
     ensures { HostRefuses meaning }
 {}

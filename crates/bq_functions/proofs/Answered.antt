@@ -17,8 +17,8 @@ use Rattle.bq_source.specs.declared.fault.FaultKind.{FaultKind}
 use Rattle.bq_source.specs.declared.fault.FaultKind.TheVariants.{BadValue, Args}
 use Rattle.bq_operators.specs.Integer.{fitted}
 use Rattle.bq_operators.proofs.Fits.{fitted_some}
-use Rattle.bq_value.specs.Datum.{Datum, none, boolean, int, string, tuple, range, cell, function, built_in, data_of, list_of}
-use Rattle.bq_value.specs.Contents.{Contents, items, pairs}
+use Rattle.bq_value.specs.Datum.{Datum, none, boolean, int, string, tuple, range, cell, function, built_in, rule_function, attribute, data_of, list_of}
+use Rattle.bq_value.specs.Contents.{Contents, items, pairs, rule}
 use Rattle.bq_value.specs.Range.{range_count}
 use Rattle.bq_value.specs.Pairs.{keys}
 use Rattle.bq_value.specs.Cells.{StoreView, content_at}
@@ -45,6 +45,7 @@ keys_length ps = length-map ps (λ p. p.0)
 content_counts : (c : Option Contents) (xs : List Datum) (n : ℕ) → content_elements c ≡ Ok xs → content_length c ≡ Ok n → length xs ≡ n
 content_counts (Some (items ys)) xs n e l = ap length (sym (the_ok ys xs e)) ∙ the_ok (length ys) n l
 content_counts (Some (pairs ps)) xs n e l = ap length (sym (the_ok (keys ps) xs e)) ∙ (keys_length ps ∙ the_ok (length ps) n l)
+content_counts (Some (rule class)) xs n e l = absurd (cc)
 content_counts None xs n e l = absurd (cc)
 
 pub counts : (s : StoreView) (v : Datum) (xs : List Datum) (n : ℕ) → elements_in s v ≡ Ok xs → length_in s v ≡ Ok n → length xs ≡ n
@@ -59,6 +60,8 @@ counts s (int i) xs n e l = absurd (cc)
 counts s (string t) xs n e l = absurd (cc)
 counts s (function home place name ds) xs n e l = absurd (cc)
 counts s (built_in name) xs n e l = absurd (cc)
+counts s (rule_function f) xs n e l = absurd (cc)
+counts s (attribute a) xs n e l = absurd (cc)
 
 -- ---- `zip`
 

@@ -13,7 +13,7 @@ use Rattle.bq_source.specs.declared.fault.FaultKind.TheVariants.{BadValue, TooLo
 use Rattle.bq_operators.specs.Length.{max_len}
 use Rattle.bq_operators.specs.RangeItem.{range_has}
 use Rattle.bq_operators.proofs.Items.{has_elements}
-use Rattle.bq_value.specs.Datum.{Datum, none, boolean, int, string, tuple, range, cell, function, built_in}
+use Rattle.bq_value.specs.Datum.{Datum, none, boolean, int, string, tuple, range, cell, function, built_in, rule_function, attribute}
 use Rattle.bq_value.specs.Range.{range_count, range_element}
 use Rattle.bq_value.specs.Cells.{StoreView}
 use Rattle.bq_walk.specs.Truth.{truth_of}
@@ -176,6 +176,8 @@ long_range_is_too_long s (tuple xs) reverse h = absurd (cc)
 long_range_is_too_long s (cell home number) reverse h = absurd (cc)
 long_range_is_too_long s (function home place name xs) reverse h = absurd (cc)
 long_range_is_too_long s (built_in name) reverse h = absurd (cc)
+long_range_is_too_long s (rule_function f) reverse h = absurd (cc)
+long_range_is_too_long s (attribute a) reverse h = absurd (cc)
 
 pub long_range_is_not_sorted : (s : StoreView) (p : Passed) (v : Datum) (o : Option Datum) (reverse : Bool) → one_and_named (codes "reverse") p ≡ Ok (v, o) → flag o ≡ Ok reverse → is_long_range v ≡ true → sorted s p ≡ Err TooLong
 unfolding sorted

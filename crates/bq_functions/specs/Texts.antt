@@ -2,8 +2,8 @@
 use Rattle.std.specs.Prelude.{ℕ, List, [], ◌∷◌, codes, Option, Some, None, Result, Ok, Err}
 use Rattle.bq_source.specs.declared.fault.FaultKind.{FaultKind}
 use Rattle.bq_source.specs.declared.fault.FaultKind.TheVariants.{WrongType}
-use Rattle.bq_value.specs.Datum.{Datum, none, boolean, int, string, tuple, range, cell, function, built_in}
-use Rattle.bq_value.specs.Contents.{Contents, items, pairs}
+use Rattle.bq_value.specs.Datum.{Datum, none, boolean, int, string, tuple, range, cell, function, built_in, rule_function, attribute}
+use Rattle.bq_value.specs.Contents.{Contents, items, pairs, rule}
 use Rattle.bq_value.specs.Cells.{StoreView, content_at}
 use Rattle.bq_walk.specs.Looked.{Looked}
 use Rattle.bq_text.specs.Page.{PageView, written}
@@ -23,6 +23,7 @@ use Rattle.bq_functions.specs.Arguments.{by_place, only_argument, only_named, te
 abbrev pub content_type : Option Contents → Result (List ℕ) FaultKind
 content_type (Some (items xs)) = Ok (codes "list")
 content_type (Some (pairs ps)) = Ok (codes "dict")
+content_type (Some (rule c)) = Ok (codes "rule")
 content_type None = Err WrongType
 
 unfoldable pub type_name : StoreView → Datum → Result (List ℕ) FaultKind
@@ -35,6 +36,8 @@ type_name s (range start stop step) = Ok (codes "range")
 type_name s (cell home number) = content_type (content_at s home number)
 type_name s (function home place name defaults) = Ok (codes "function")
 type_name s (built_in name) = Ok (codes "builtin_function_or_method")
+type_name s (rule_function f) = Ok (codes "builtin_function_or_method")
+type_name s (attribute a) = Ok (codes "Attribute")
 
 unfoldable pub type_of : StoreView → Passed → Result Datum FaultKind
 type_of s p = and_then (only_argument p) (λ v. and_then (type_name s v) (λ name. Ok (string name)))

@@ -57,7 +57,8 @@ enum ListFunction {
     Zip,
 }
 
-/// The built-in function that a predeclared name stands for; none for constants and for what the host carries out.
+/// The built-in function that a predeclared name stands for; none for constants, for what the host carries out, and for what declares
+/// rules.
 fn built_in(predeclared: Predeclared) -> Option<BuiltInFunction>
     ensures { result ≡ built_in predeclared }
 {
@@ -83,7 +84,11 @@ fn built_in(predeclared: Predeclared) -> Option<BuiltInFunction>
         Predeclared::Tuple => Some(BuiltInFunction::Value(ValueFunction::Tuple)),
         Predeclared::Type => Some(BuiltInFunction::Value(ValueFunction::Type)),
         Predeclared::Zip => Some(BuiltInFunction::List(ListFunction::Zip)),
-        Predeclared::None | Predeclared::True | Predeclared::False | Predeclared::Host(_) => None,
+        Predeclared::None
+        | Predeclared::True
+        | Predeclared::False
+        | Predeclared::Host(_)
+        | Predeclared::RuleFunction(_) => None,
     }
 }
 

@@ -86,12 +86,13 @@ pub(crate) fn int(args: &Args) -> Result<Value, EvalErr>
     Ok(Value::int(integer_from(value)?))
 }
 
-fn content_length(content: &Content) -> usize
-    ensures { Ok result ≡ content_length (Some content.now) }
+fn content_length(content: &Content) -> Result<usize, FaultKind>
+    ensures { result ≡ content_length (Some content.now) }
 {
     match &content.body {
-        Body::List(values) => values.len(),
-        Body::Dict(pairs) => pairs.len(),
+        Body::List(values) => Ok(values.len()),
+        Body::Dict(pairs) => Ok(pairs.len()),
+        Body::Rule(_) => Err(FaultKind::WrongType),
     }
 }
 
@@ -105,7 +106,7 @@ fn length_in(store: &Store, value: &Value) -> Result<u64, FaultKind>
         Node::Tuple(items) => Ok(items.len() as u64),
         Node::Range(range) => Ok(range.count()),
         Node::Cell(cell) => match store.content(*cell) {
-            Some(content) => Ok(content_length(content) as u64),
+            Some(content) => Ok(content_length(content)? as u64),
             None => Err(FaultKind::WrongType),
         },
         _ => Err(FaultKind::WrongType),

@@ -21,6 +21,7 @@ fn content_type(content: &Content) -> &'static [u8]
     match &content.body {
         Body::List(_) => b"list",
         Body::Dict(_) => b"dict",
+        Body::Rule(_) => b"rule",
     }
 }
 
@@ -41,6 +42,8 @@ fn type_name(store: &Store, value: &Value) -> Result<&'static [u8], EvalErr>
         },
         Node::Function(_) => Ok(b"function"),
         Node::BuiltIn(_) => Ok(b"builtin_function_or_method"),
+        Node::RuleFunction(_) => Ok(b"builtin_function_or_method"),
+        Node::Attribute(_) => Ok(b"Attribute"),
     }
 }
 

@@ -53,6 +53,7 @@ each_is_called each rules are p.None name h = cc
 each_is_called each rules are p.True name h = cc
 each_is_called each rules are p.False name h = cc
 each_is_called each rules are (p.Host id) name h = host rules id name (name_of (p.Host id)) are each refl h
+each_is_called each rules are (p.RuleFunction f) name h = cc
 each_is_called each rules are p.All name h = named rules p.All name each h
 each_is_called each rules are p.Any name h = named rules p.Any name each h
 each_is_called each rules are p.Bool name h = named rules p.Bool name each h

@@ -6,7 +6,7 @@ use Rattle.bq_predeclared.specs.declared.predeclared.Predeclared.TheVariants as 
 use Rattle.bq_predeclared.specs.Predeclared.{name_of, predeclared_named}
 use Rattle.bq_scope.specs.Names.{Name}
 use Rattle.bq_scope.specs.Universe.{in_build}
-use Rattle.bq_value.specs.Datum.{Datum, none, boolean, built_in}
+use Rattle.bq_value.specs.Datum.{Datum, none, boolean, built_in, rule_function}
 
 -- the name of a function of a host: the build functions have theirs, and the rules those of the schema
 abbrev pub host_name : List Name → ℕ → Option Name → Option Name
@@ -24,6 +24,7 @@ predeclared_value rules p.None = none
 predeclared_value rules p.True = boolean true
 predeclared_value rules p.False = boolean false
 predeclared_value rules (p.Host id) = function_of (host_name rules id (name_of (p.Host id)))
+predeclared_value rules (p.RuleFunction f) = rule_function f
 predeclared_value rules x = function_of (name_of x)
 
 -- the built-in function of that name: one of the language, a build function or a rule

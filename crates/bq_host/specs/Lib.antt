@@ -1,3 +1,4 @@
 pub mod Refusals
+pub mod Host
 pub mod BuiltIns
 pub mod Laws

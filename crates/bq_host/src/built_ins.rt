@@ -92,6 +92,7 @@ impl BuiltIns {
             Predeclared::True => Ok(Value::bool(true)),
             Predeclared::False => Ok(Value::bool(false)),
             Predeclared::Host(id) => self.host_function(alloc, id),
+            Predeclared::RuleFunction(function) => Ok(Value::rule_function(function)),
             name => function_of(alloc, name.name()),
         }
     }

@@ -1,27 +1,40 @@
 //! What carries out build functions and rules.
 
-ghost use Rattle.std.specs.Prelude.{ℕ};
-ghost use Rattle.bq_value.specs.Datum.{Datum};
-ghost use Rattle.bq_machine.specs.Args.{Passed};
-ghost use Rattle.bq_machine.specs.State.{State};
-ghost use Rattle.bq_machine.specs.Action.{Action, HostDoes};
+ghost use Rattle.std.specs.Prelude.{◌≡◌};
+ghost use Rattle.bq_source.specs.Gives.{Gives};
+ghost use Rattle.bq_value.specs.declared.error.EvalErr.TheVariants.{Bad};
+ghost use Rattle.bq_machine.specs.Action.{HostDoes};
 ghost use Rattle.bq_host.specs.Refusals.{Refuses, KeepsIfRefused};
+ghost use Rattle.bq_host.specs.Host.{HostCalls};
 
+use bq_label::Label;
 use bq_machine::{Args, Machine};
+use bq_rule_class::RuleClass;
+use bq_source::Bytes;
 use bq_value::{EvalErr, Value};
 use std::alloc::Global;
 
-/// Carries out the functions of a host, by their ids: 0 to 5 are `glob`, `package_name`, `package`, `licenses`, `exports_files` and
-/// `package_group`, and 6 + r is rule r of the schema.
+/// Carries out the functions of a host, and the calls of rules that .bzl files declare.
 pub trait Host {
     /// What contracts see of what it keeps.
     ghost Kept: { Type 0 };
 
     ghost seen: { Self → Kept };
 
-    /// What a call of the function of an id means.
-    ghost means: { ℕ → Passed → Action (State × Kept) Datum };
+    /// What calls mean.
+    ghost means: { HostCalls Kept };
 
+    /// Whether a BUILD file is evaluated.
+    fn in_build(&self) -> bool
+        ensures { result ≡ means.in_build (seen self.now) };
+
+    /// The label that a text stands for as a default of an attribute, read in the package of the module that is evaluated.
+    fn read_default(&self, alloc: Global, text: &Bytes) -> Result<Label, EvalErr>
+        ensures says { Gives (λ l. l) Bad result (means.read_default (seen self.now) text.now) }
+        ensures refuses { Refuses result };
+
+    /// A function of the host by its id: 0 to 5 are `glob`, `package_name`, `package`, `licenses`, `exports_files` and
+    /// `package_group`, and 6 + r is rule r of the schema.
     fn call(
         &mut self,
         alloc: Global,
@@ -29,7 +42,20 @@ pub trait Host {
         args: Args,
         machine: &mut Machine,
     ) -> Result<Value, EvalErr>
-        ensures says { HostDoes (λ v. v) result machine.new (seen self.new) (means id args (machine.old, seen self.old)) }
+        ensures says { HostDoes (λ v. v) result machine.new (seen self.new) (means.call id args (machine.old, seen self.old)) }
+        ensures keeps { KeepsIfRefused result (seen self.old) (seen self.new) }
+        ensures refuses { Refuses result };
+
+    /// A rule that a .bzl file declares, by its kind and its attributes.
+    fn call_rule(
+        &mut self,
+        alloc: Global,
+        kind: &Bytes,
+        class: &RuleClass,
+        args: Args,
+        machine: &mut Machine,
+    ) -> Result<Value, EvalErr>
+        ensures says { HostDoes (λ v. v) result machine.new (seen self.new) (means.call_rule kind.now class.now args (machine.old, seen self.old)) }
         ensures keeps { KeepsIfRefused result (seen self.old) (seen self.new) }
         ensures refuses { Refuses result };
 }

@@ -1,7 +1,8 @@
 //! What carries out the functions that the language leaves to the tool round it, and the built-in functions by their names.
 //!
-//! The promise: a [`Host`] carries out a call of a build function or of a rule as its meaning says; a call that it refuses leaves what
-//! it keeps as it was. Which faults it may refuse a call for is a table (`specs/Refusals.antt`).
+//! The promise: a [`Host`] carries out a call of a build function or of a rule, of the schema or of a .bzl file, as its meaning says
+//! (`specs/Host.antt`); a call that it refuses leaves what it keeps as it was. Which faults it may refuse a call for is a table
+//! (`specs/Refusals.antt`).
 //!
 //! The evaluator is proved over any host. What a host keeps, a package and its targets for the one of a BUILD file, stands beside the
 //! state of the machine (`on_machine`, `specs/Action.antt` of bq_machine), and the evaluator hands it on without a look into it.

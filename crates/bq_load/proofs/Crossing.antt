@@ -1,3 +1,5 @@
+-- labels, and what rules say of their attributes
+pub mod Classes
 -- values, and modules whose evaluation has ended
 pub mod Values
 -- the trees of resolved files

@@ -1,5 +1,5 @@
 -- What a module evaluates to, by the modules that it loads: its own fault; else the first symbol that they lack; else what its statements
--- give, run on a fresh machine with all its steps. What a BUILD file made is given up once its package is finished: nobody loads one.
+-- give, run on a fresh machine with all its steps. The host has the package of the file. What a BUILD file made is given up once its package is finished: nobody loads one.
 use Rattle.std.specs.Prelude.{ℕ, List, [], map, Option, Some, None, Result, Ok, Err, slice_get, option_map}
 use Rattle.bq_source.specs.declared.fault.Fault.{Fault}
 use Rattle.bq_source.specs.declared.fault.FaultKind.TheVariants as f
@@ -16,7 +16,7 @@ use Rattle.bq_machine.specs.State.{State}
 use Rattle.bq_meaning.specs.Frame.{Frame}
 use Rattle.bq_module.specs.Module.{Ended, evaluated, failed, ended, kept_after, module_run}
 use Rattle.bq_target.specs.Package.{PackageTargets, no_targets, finished}
-use Rattle.bq_package.specs.Calls.{HeldPackage, meaning}
+use Rattle.bq_package.specs.Calls.{HeldPackage, outside, declaring, package_in, meaning}
 use Rattle.bq_front.specs.Front.{kind_of}
 use Rattle.bq_load.specs.declared.source.Source.{Source}
 use Rattle.bq_load.specs.Views.{ModuleView, FailedView, not_evaluated}
@@ -26,10 +26,10 @@ use Rattle.bq_load.specs.Imports.{LoadedParts, imports}
 -- ---- a file that is evaluated
 
 abbrev pub kept_by : LoadingParts → LabelParts → FileKind → HeldPackage
-kept_by x l kinds.Bzl = None
-kept_by x l kinds.Build = Some (record { place = record { own = package_of l; files = x.files; packages = x.packages; rules = x.rules }; «package» = no_targets l })
+kept_by x l kinds.Bzl = outside (package_of l) x.packages
+kept_by x l kinds.Build = declaring (record { place = record { own = package_of l; files = x.files; packages = x.packages; rules = x.rules }; «package» = no_targets l })
 
--- a BUILD file begins with a package without targets; a .bzl file has none
+-- what the host of a file keeps at first: a BUILD file begins with a package without targets; a .bzl file declares none
 abbrev pub kept_first : LoadingParts → LabelParts → HeldPackage
 kept_first x l = kept_by x l (kind_of l)
 
@@ -39,7 +39,7 @@ evaluation x m l file modules values = module_run x.names meaning x.code m file 
 
 -- the frozen module of this number with no cell and no global
 abbrev pub without_cells : ℕ → FrozenView
-without_cells own = frozen (record { own = own; cells = []; loaded = [] }) []
+without_cells own = frozen (record { own = own; cells = []; loaded = [] }) [] []
 
 -- what stays of a frozen module: all of it, for those who load it; nothing where there is a package
 abbrev pub stays : FrozenView → Option PackageTargets → FrozenView
@@ -49,17 +49,18 @@ stays made (Some p) = without_cells made.own
 abbrev pub module_with : FrozenView → List (List ℕ) → Option PackageTargets → ModuleView
 module_with made prints p = record { frozen = stays made p; prints = prints; «package» = p }
 
--- what an evaluation ends in, with the package that is kept then
-abbrev pub module_by : Ended → HeldPackage → Result ModuleView FailedView
-module_by (evaluated made prints) kept = Ok (module_with made prints (option_map (λ d. finished d.package) kept))
-module_by (failed why prints) kept = Err (record { fault = why; prints = prints })
+-- what an evaluation ends in, with the package that is declared then
+abbrev pub module_by : Ended → Option PackageTargets → Result ModuleView FailedView
+module_by (evaluated made prints) p = Ok (module_with made prints (option_map finished p))
+module_by (failed why prints) p = Err (record { fault = why; prints = prints })
 
-abbrev pub or_nothing : Option HeldPackage → HeldPackage
-or_nothing None = None
-or_nothing (Some kept) = kept
+-- the package that an evaluation declares
+abbrev pub package_left : Option HeldPackage → Option PackageTargets
+package_left None = None
+package_left (Some kept) = package_in kept
 
 unfoldable pub module_after : Resolved → List Datum → Run (State × HeldPackage) Frame → Result ModuleView FailedView
-module_after file values run = module_by (ended file values run) (or_nothing (kept_after run))
+module_after file values run = module_by (ended file values run) (package_left (kept_after run))
 
 -- ---- a module
 

@@ -2,7 +2,7 @@
 
 ghost use Rattle.std.specs.Prelude.{◌≡◌, [], map, option_map, IfOk};
 ghost use Rattle.bq_module.specs.Outcomes.{ended_of, run_of};
-ghost use Rattle.bq_package.specs.Calls.{held_by, meaning};
+ghost use Rattle.bq_package.specs.Calls.{held_by, package_in, meaning};
 ghost use Rattle.bq_target.specs.Package.{finished};
 ghost use Rattle.bq_eval.specs.Round.{views_of};
 ghost use Rattle.bq_source.specs.Gives.{Gives};
@@ -66,7 +66,7 @@ fn build_module(
     ensures { IfOk result (λ m. module_view m ≡ record { frozen = without_cells number; prints = prints.items; «package» = Some (finished kept) }) }
 {
     let package = kept.finish(alloc)?;
-    let frozen = freeze(alloc, Store::new(alloc, number), Vec::new(alloc))?;
+    let frozen = freeze(alloc, Store::new(alloc, number), &[], Vec::new(alloc))?;
     Ok(LoadedModule {
         frozen: Arc::new(alloc, frozen)?,
         prints,
@@ -90,12 +90,11 @@ fn loaded_module(
 }
 
 /// What an evaluation ends in.
-#[tactic(auto, using(crate::proofs::Endings::finished_of))]
 fn module_by(
     alloc: Global,
     evaluated: Evaluated<BuildHost<'_>>,
 ) -> Result<Result<LoadedModule, FailedModule>, AllocError>
-    ensures { IfOk result (λ r. told module_view failed_view r ≡ module_by (ended_of evaluated.entry.outcome) (held_by evaluated.entry.host)) }
+    ensures { IfOk result (λ r. told module_view failed_view r ≡ module_by (ended_of evaluated.entry.outcome) (package_in (held_by evaluated.entry.host))) }
 {
     let Evaluated { outcome, host } = evaluated;
     let kept = host.into_package();
@@ -106,12 +105,12 @@ fn module_by(
 }
 
 impl<'a> Loading<'a> {
-    /// The host of a file's evaluation: where it is a BUILD file its package has no targets yet.
+    /// The host of a file's evaluation, in the package of the file. Where it is a BUILD file its package has no targets yet.
     fn host<'b>(&'b self, alloc: Global, label: &'b Label) -> Result<BuildHost<'b>, AllocError>
         ensures { IfOk result (λ h. held_by h ≡ kept_first (loading_of self.now) label.now) }
     {
         match kind_of(label) {
-            FileKind::Bzl => Ok(BuildHost::outside()),
+            FileKind::Bzl => BuildHost::outside(alloc, label.package_id(), &self.packages),
             FileKind::Build => {
                 let build_file = label.share()?;
                 BuildHost::inside(

@@ -1,11 +1,12 @@
 -- Each call of a build function or of a rule leaves the label of the package.
-use Rattle.std.proofs.Common.{◌≡◌, ◌∙◌, ℕ, Bool, true, false, List, Option, Some, None, Result, Ok, Err, refl}
+use Rattle.std.proofs.Common.{◌≡◌, ◌∙◌, ℕ, Bool, true, false, List, Result, Ok, Err, refl}
 use Rattle.std.specs.Prelude.{if◌then◌else◌}
 use Rattle.std.specs.List.{list_any}
 use Rattle.bq_source.specs.declared.fault.FaultKind.{FaultKind}
 use Rattle.bq_grammar.specs.declared.tree.FileKind.{FileKind}
 use Rattle.bq_grammar.specs.declared.tree.FileKind.TheVariants as kinds
 use Rattle.bq_label.specs.Label.{LabelParts}
+use Rattle.bq_rule_class.specs.Class.{Class}
 use Rattle.bq_machine.specs.Action.{Run, given, ◌>>=◌}
 use Rattle.bq_machine.specs.Args.{Passed}
 use Rattle.bq_machine.specs.State.{State}
@@ -21,16 +22,17 @@ use Rattle.bq_package.specs.declared.function.BuildFunction.TheVariants as b
 use Rattle.bq_package.specs.Glob.{globbed}
 use Rattle.bq_package.specs.Files.{files_named}
 use Rattle.bq_package.specs.Groups.{group_named}
-use Rattle.bq_package.specs.Rules.{rule_target}
+use Rattle.bq_package.specs.Rules.{declared_target, rule_target}
 use Rattle.bq_package.specs.Functions.{function_of}
-use Rattle.bq_package.specs.Calls.{Declaring, HeldPackage, new_strings, package_name, ignored, settled, declares, call_in, call_by, meaning}
+use Rattle.bq_package.specs.Calls.{Declaring, HeldPackage, outside, declaring, new_strings, package_name, ignored, settled, declares, call_in, call_by, call_of, rule_by, rule_call}
 use Rattle.bq_load_package_laws.proofs.Keeping.{Left, beside_left}
 
 -- while a BUILD file is evaluated a package of its label is kept, else none
 abbrev pub Held : FileKind → LabelParts → HeldPackage → Type 0
-Held kinds.Bzl l kept = kept ≡ None
-Held kinds.Build l None = ⊥
-Held kinds.Build l (Some d) = d.package.build_file ≡ l
+Held kinds.Bzl l (outside own packages) = Unit {0}
+Held kinds.Bzl l (declaring d) = ⊥
+Held kinds.Build l (outside own packages) = ⊥
+Held kinds.Build l (declaring d) = d.package.build_file ≡ l
 
 -- what is declared leaves the label
 abbrev Same : PackageTargets → Declared → Type 0
@@ -64,19 +66,28 @@ module _ (l : LabelParts) (s : State) (d : Declaring) (h : d.package.build_file 
 
   in_package : (f : BuildFunction) (passed : Passed) → Left (Held kinds.Build l) (call_in d s f passed)
   unfolding call_in
-  in_package b.Glob passed = beside_left (Held kinds.Build l) (Some d) h ((given (globbed d.place s.store passed) >>= new_strings) s)
-  in_package b.PackageName passed = beside_left (Held kinds.Build l) (Some d) h (given (package_name d.place passed) s)
-  in_package b.Package passed = beside_left (Held kinds.Build l) (Some d) h (given (ignored passed) s)
-  in_package b.Licenses passed = beside_left (Held kinds.Build l) (Some d) h (given (ignored passed) s)
+  in_package b.Glob passed = beside_left (Held kinds.Build l) (declaring d) h ((given (globbed d.place s.store passed) >>= new_strings) s)
+  in_package b.PackageName passed = beside_left (Held kinds.Build l) (declaring d) h (given (package_name d.place passed) s)
+  in_package b.Package passed = beside_left (Held kinds.Build l) (declaring d) h (given (ignored passed) s)
+  in_package b.Licenses passed = beside_left (Held kinds.Build l) (declaring d) h (given (ignored passed) s)
   in_package b.ExportsFiles passed = declares_left (files_named d.place s.store passed) (λ ls. exported d.package ls s.line) (λ ls. exported_same d.package ls s.line)
   in_package b.PackageGroup passed = declares_left (group_named d.place s.store s.line passed) (declared d.package) (declared_same d.package)
   in_package (b.Rule rule) passed = declares_left (rule_target d.place s.store s.line rule passed) (declared d.package) (declared_same d.package)
 
 by_kept : (k : FileKind) (l : LabelParts) (s : State) (kept : HeldPackage) (f : BuildFunction) (passed : Passed) → Held k l kept → Left (Held k l) (call_by s kept f passed)
-by_kept k l s None f passed h = tt
-by_kept kinds.Build l s (Some d) f passed h = in_package l s d h f passed
-by_kept kinds.Bzl l s (Some d) f passed h = absurd (cc)
+by_kept k l s (outside own packages) f passed h = tt
+by_kept kinds.Build l s (declaring d) f passed h = in_package l s d h f passed
+by_kept kinds.Bzl l s (declaring d) f passed h = absurd h
 
-pub calls_keep : (k : FileKind) (l : LabelParts) (id : ℕ) (passed : Passed) (q : State × HeldPackage) → Held k l q.1 → Left (Held k l) (meaning id passed q)
-unfolding meaning
+by_rule : (k : FileKind) (l : LabelParts) (s : State) (kept : HeldPackage) (rule : List ℕ) (class : Class) (passed : Passed) → Held k l kept → Left (Held k l) (rule_by s kept rule class passed)
+by_rule k l s (outside own packages) rule class passed h = tt
+by_rule kinds.Build l s (declaring d) rule class passed h = declares_left l s d h (declared_target d.place s.store s.line rule class passed) (declared d.package) (declared_same d.package)
+by_rule kinds.Bzl l s (declaring d) rule class passed h = absurd h
+
+pub rules_keep : (k : FileKind) (l : LabelParts) (rule : List ℕ) (class : Class) (passed : Passed) (q : State × HeldPackage) → Held k l q.1 → Left (Held k l) (rule_call rule class passed q)
+unfolding rule_call
+rules_keep k l rule class passed q h = by_rule k l q.0 q.1 rule class passed h
+
+pub calls_keep : (k : FileKind) (l : LabelParts) (id : ℕ) (passed : Passed) (q : State × HeldPackage) → Held k l q.1 → Left (Held k l) (call_of id passed q)
+unfolding call_of
 calls_keep k l id passed q h = by_kept k l q.0 q.1 (function_of id) passed h

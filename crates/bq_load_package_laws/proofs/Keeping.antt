@@ -1,13 +1,16 @@
 -- What a host keeps has a property after all that a program does, if it has it before, and each call of the host leaves it.
 use Rattle.std.proofs.Common.{ℕ, Bool, true, false, List, Option, Some, None}
 use Rattle.std.specs.Prelude.{if◌then◌else◌}
-use Rattle.bq_source.specs.declared.fault.FaultKind.TheVariants.{WrongType}
+use Rattle.bq_source.specs.declared.fault.FaultKind.TheVariants.{WrongType, BadValue, NotInPackage}
 use Rattle.bq_predeclared.specs.declared.predeclared.Predeclared.{Predeclared}
 use Rattle.bq_predeclared.specs.declared.predeclared.Predeclared.TheVariants as p
+use Rattle.bq_predeclared.specs.declared.rule_function.RuleFunction.{RuleFunction}
+use Rattle.bq_rule_class.specs.Class.{Class}
 use Rattle.bq_scope.specs.Names.{Name}
+use Rattle.bq_value.specs.Cells.{content_at, kind_of}
 use Rattle.bq_value.specs.Datum.{Datum}
 use Rattle.bq_walk.specs.Truth.{truth_of}
-use Rattle.bq_machine.specs.Action.{Action, Run, done, stopped, following, beside, on_machine}
+use Rattle.bq_machine.specs.Action.{Action, Run, done, stopped, following, beside, look, on_machine}
 use Rattle.bq_machine.specs.Action as action
 use Rattle.bq_machine.specs.Args.{Passed}
 use Rattle.bq_machine.specs.State.{State}
@@ -20,6 +23,7 @@ use Rattle.bq_operate.specs.InPlace as in_place
 use Rattle.bq_methods.specs.Call as methods
 use Rattle.bq_host.specs.BuiltIns.{function_named}
 use Rattle.bq_functions.specs.Call.{call_function}
+use Rattle.bq_rule_functions.specs.Call.{class_in, declare, type_of, call_rule_function, call_kind, call_class, call_cell}
 use Rattle.bq_runtime.specs.Calling.{HostCalls, call_found, call_built_in}
 use Rattle.bq_runtime.specs.Making as making
 use Rattle.bq_runtime.specs.Passing as passing
@@ -45,7 +49,8 @@ module _ {W : Type 0} (P : W → Type 0) where
   followed (done x s) f h next = next x s h
   followed (stopped why) f h next = tt
 
-  module _ (names : List Name) (host : HostCalls W) (hosts : (id : ℕ) (args : Passed) (s : State × W) → P s.1 → Left (host id args s)) where
+  module _ (names : List Name) (host : HostCalls W) (hosts : (id : ℕ) (args : Passed) (s : State × W) → P s.1 → Left (host.call id args s))
+      (rules : (kind : List ℕ) (class : Class) (args : Passed) (s : State × W) → P s.1 → Left (host.call_rule kind class args s)) where
     found_keeps : (o : Option Predeclared) (args : Passed) (s : State × W) → P s.1 → Left (call_found host o args s)
     found_keeps None args s h = tt
     found_keeps (Some (p.Host id)) args s h = hosts id args s h
@@ -54,6 +59,26 @@ module _ {W : Type 0} (P : W → Type 0) where
     built_in_keeps : (name : List ℕ) (args : Passed) (s : State × W) → P s.1 → Left (call_built_in names host name args s)
     unfolding call_built_in
     built_in_keeps name args s h = found_keeps (function_named names name) args s h
+
+    rule_function_keeps : (function : RuleFunction) (args : Passed) (s : State × W) → P s.1 → Left (call_rule_function host function args s)
+    unfolding call_rule_function
+    rule_function_keeps function args s h = beside_left s.1 h (declare (host.read_default s.1) (host.in_build s.1) (type_of function) args s.0)
+
+    kind_keeps : (in_build : Bool) (kind : Option (List ℕ)) (class : Class) (args : Passed) (s : State × W) → P s.1
+        → Left ((if in_build then call_kind host kind class args else on_machine (action.stop NotInPackage)) s)
+    kind_keeps false kind class args s h = tt
+    kind_keeps true None class args s h = tt
+    kind_keeps true (Some kind) class args s h = rules kind class args s h
+
+    class_keeps : (home number : ℕ) (class : Class) (args : Passed) (s : State × W) → P s.1 → Left (call_class host home number class args s)
+    unfolding call_class
+    class_keeps home number class args s h = kind_keeps (host.in_build s.1) (kind_of s.0.store home number) class args s h
+
+    cell_keeps : (home number : ℕ) (args : Passed) (s : State × W) → P s.1 → Left (call_cell host home number args s)
+    unfolding call_cell
+    cell_keeps home number args s h =
+        followed (on_machine (look (λ t. class_in (content_at t.store home number))) s) (λ class. call_class host home number class args)
+        (beside_left s.1 h (look (λ t. class_in (content_at t.store home number)) s.0)) (λ class t k. class_keeps home number class args t k)
 
     pub all_keep : Respects (primitives names host) Keeps
     unfolding primitives
@@ -83,6 +108,8 @@ module _ {W : Type 0} (P : W → Type 0) where
       of_pass_all = λ q v s h. beside_left s.1 h (passing.pass_all q v s.0);
       of_pass_all_named = λ q v s h. beside_left s.1 h (passing.pass_all_named q v s.0);
       of_built_in = λ name q s h. built_in_keeps name q s h;
+      of_rule_function = λ function q s h. rule_function_keeps function q s h;
+      of_cell = λ home number q s h. cell_keeps home number q s h;
       of_method = λ name v q s h. beside_left s.1 h (methods.call_method name v q s.0);
       of_enter = λ home place s h. beside_left s.1 h (calls.enter home place s.0);
       of_leave = λ s h. h;

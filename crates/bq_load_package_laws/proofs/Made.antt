@@ -17,7 +17,7 @@ use Rattle.bq_module.specs.Module.{first_store, module_run}
 use Rattle.bq_meaning_laws.proofs.ModuleRules.{module_rule}
 use Rattle.bq_target.specs.Target.{is_of}
 use Rattle.bq_target.specs.Package.{PackageTargets, no_targets, finished}
-use Rattle.bq_package.specs.Calls.{HeldPackage, meaning}
+use Rattle.bq_package.specs.Calls.{HeldPackage, outside, declaring, package_in, meaning}
 use Rattle.bq_front.specs.Front.{kind_of}
 use Rattle.bq_load.specs.declared.source.Source.{Source}
 use Rattle.bq_load.specs.Views.{ModuleView, FailedView}
@@ -27,10 +27,10 @@ use Rattle.bq_load.specs.Evaluation.{kept_by, kept_first, evaluation, module_aft
 use Rattle.bq_load.specs.Loaded.{package_by, own_package}
 use Rattle.bq_load_package_laws.specs.Packages.{IsOwnOf, FilesMakeTheirPackages, PackagesCount}
 use Rattle.bq_load_package_laws.proofs.Keeping.{Left, Keeps, all_keep}
-use Rattle.bq_load_package_laws.proofs.Calls.{Held, calls_keep}
+use Rattle.bq_load_package_laws.proofs.Calls.{Held, calls_keep, rules_keep}
 
 begun : (x : LoadingParts) (l : LabelParts) (k : FileKind) → Held k l (kept_by x l k)
-begun x l kinds.Bzl = refl
+begun x l kinds.Bzl = tt
 begun x l kinds.Build = refl
 
 -- what is kept once the statements of a file have run
@@ -39,14 +39,14 @@ unfolding evaluation module_run
 left_by x m l file modules values =
     let loaded = map (λ v. v.frozen) modules in
     let kept = Held (kind_of l) l in
-    module_rule (primitives x.names meaning) (Keeps kept) (all_keep kept x.names meaning (calls_keep (kind_of l) l)) (frozen_units x.code loaded) m file values (started (first_store m loaded) x.limit, kept_first x l) (begun x l (kind_of l))
+    module_rule (primitives x.names meaning) (Keeps kept) (all_keep kept x.names meaning (calls_keep (kind_of l) l) (rules_keep (kind_of l) l)) (frozen_units x.code loaded) m file values (started (first_store m loaded) x.limit, kept_first x l) (begun x l (kind_of l))
 
-packed : (k : FileKind) (l : LabelParts) (kept : HeldPackage) → Held k l kept → IsOwnOf k l (option_map (λ d. finished d.package) kept)
+packed : (k : FileKind) (l : LabelParts) (kept : HeldPackage) → Held k l kept → IsOwnOf k l (option_map finished (package_in kept))
 unfolding finished
-packed kinds.Bzl l None h = refl
-packed kinds.Bzl l (Some d) h = absurd (cc)
-packed kinds.Build l None h = absurd h
-packed kinds.Build l (Some d) h = h
+packed kinds.Bzl l (outside own packages) h = refl
+packed kinds.Bzl l (declaring d) h = absurd h
+packed kinds.Build l (outside own packages) h = absurd h
+packed kinds.Build l (declaring d) h = h
 
 module _ (k : FileKind) (l : LabelParts) where
   abbrev pub Own : ModuleView → Type 0

@@ -5,7 +5,7 @@ use Rattle.std.proofs.lemmas.Bool.Decides.{nat_tests}
 use Rattle.std.specs.Cmp.{unsigned_Decides}
 use Rattle.bq_source.specs.declared.fault.FaultKind.{FaultKind}
 use Rattle.bq_source.specs.declared.fault.FaultKind.TheVariants.{StepLimit, Iterating, Frozen, Recursion, CallDepth}
-use Rattle.bq_value.specs.Datum.{Datum, none, boolean, int, string, tuple, range, cell, function, built_in}
+use Rattle.bq_value.specs.Datum.{Datum, none, boolean, int, string, tuple, range, cell, function, built_in, rule_function, attribute}
 use Rattle.bq_value.specs.Range.{range_element, range_count}
 use Rattle.bq_machine.specs.State.{State, stop_at}
 use Rattle.bq_machine.specs.Action.{done, stopped, following, given, stop}
@@ -46,6 +46,8 @@ ended_marked (tuple vs) s = refl
 ended_marked (range a b c) s = refl
 ended_marked (function m i t vs) s = refl
 ended_marked (built_in t) s = refl
+ended_marked (rule_function f) s = refl
+ended_marked (attribute a) s = refl
 
 pub walk_ends : (v : Datum) (s t : State) (xs : List Datum) → begin_walk v s ≡ done xs t → end_walk v t ≡ s
 walk_ends v s t xs h = ap (end_walk v) (sym (begun v s t xs h)) ∙ ended_marked v s

@@ -1,4 +1,4 @@
--- Lists and dicts as a machine has them (Starlark, "Freezing a value", "Lists", "Dictionaries").
+-- Lists, dicts and rules as a machine has them (Starlark, "Freezing a value", "Lists", "Dictionaries").
 use Rattle.std.specs.Prelude.{ℕ, Bool, cond, ◌&&◌, List, [], ◌∷◌, ◌++◌, length, Option, Some, None, Result, Ok, Err, ◌==◌}
 use Rattle.std.specs.List.{list_any}
 use Rattle.bq_source.specs.declared.fault.FaultKind.{FaultKind}

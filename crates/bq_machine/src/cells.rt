@@ -1,4 +1,4 @@
-//! Lists and dicts: new ones, what they hold, and leave to change it.
+//! Lists, dicts and rules: new ones, what they hold, and leave to change it.
 
 ghost use Rattle.std.specs.Prelude.{◌≡◌, ◌<◌, IfOk, OnOk, Some, length};
 ghost use Rattle.std.specs.Borrow.{sem};
@@ -12,7 +12,7 @@ use bq_source::FaultKind;
 use bq_value::{Cell, Content, Dict, EvalErr, Value};
 
 impl Machine {
-    /// A new list or dict.
+    /// A new list, dict or rule.
     #[tactic(auto, unfolding(crate::specs::Cells::new_content))]
     pub fn new_content(&mut self, content: Content) -> Result<Value, EvalErr>
         ensures { Does (λ v. v) result self.new (new_content content self.old) }
@@ -36,7 +36,7 @@ impl Machine {
         self.new_content(Content::dict(pairs))
     }
 
-    /// What a list or dict holds.
+    /// What a list, dict or rule holds.
     #[tactic(auto, unfolding(crate::specs::Cells::content))]
     pub fn content(&self, cell: Cell) -> Result<&Content, EvalErr>
         ensures { Does (λ c. c.now) result self.now (content cell.module cell.number self.now) }

@@ -1,7 +1,9 @@
 //! Walks over iterables (Starlark, "Iteration protocol").
 
 ghost use Rattle.std.specs.Prelude.{◌≡◌, length, IfOk, map};
+ghost use Rattle.bq_source.specs.Gives.{Gives};
 ghost use Rattle.bq_value.specs.Datum.{int};
+ghost use Rattle.bq_value.specs.declared.error.EvalErr.TheVariants.{Bad};
 ghost use Rattle.bq_value.specs.Pairs.{keys};
 ghost use Rattle.bq_machine.specs.Action.{Does};
 ghost use Rattle.bq_machine.specs.Iteration.{range_integers, content_elements, elements, begin_walk, end_walk, IsNext};
@@ -151,11 +153,12 @@ pub fn keys_of(alloc: Global, dict: &Dict) -> Result<Vec<Value>, AllocError>
     Ok(shares)
 }
 
-fn content_elements(alloc: Global, content: &Content) -> Result<Vec<Value>, AllocError>
-    ensures { IfOk result (λ xs. Ok xs.items ≡ content_elements (Some content.now)) }
+fn content_elements(alloc: Global, content: &Content) -> Result<Vec<Value>, EvalErr>
+    ensures { Gives (λ xs. xs.items) Bad result (content_elements (Some content.now)) }
 {
     match &content.body {
-        Body::List(items) => copies(alloc, items),
-        Body::Dict(dict) => keys_of(alloc, dict),
+        Body::List(items) => Ok(copies(alloc, items)?),
+        Body::Dict(dict) => Ok(keys_of(alloc, dict)?),
+        Body::Rule(_) => Err(EvalErr::Bad(FaultKind::WrongType)),
     }
 }

@@ -12,7 +12,7 @@
 //!
 //! - `machine`: the state; steps, prints, `fail`, the line that is running;
 //! - `walks`: equality, order, texts and keys, with the machine's steps;
-//! - `cells`: new lists and dicts, what they hold, and leave to change it;
+//! - `cells`: new lists, dicts and rules, what they hold, and leave to change it;
 //! - `range_walk`, `iteration`: the elements of an iterable, and walks over them;
 //! - `calls`: which functions are active;
 //! - `args`, `parameters`, `binding`: what a call passes, what a function takes, and which argument goes to which parameter;

@@ -6,7 +6,6 @@ use Rattle.bq_grammar.specs.declared.tree.Comparison.{Comparison}
 use Rattle.bq_grammar.specs.declared.tree.Operator.{Operator}
 use Rattle.bq_grammar.specs.declared.tree.Operator.TheVariants as operator
 use Rattle.bq_grammar.specs.declared.tree.UnaryOperator.{UnaryOperator}
-use Rattle.bq_predeclared.specs.declared.predeclared.Predeclared.TheVariants as predeclared
 use Rattle.bq_scope.specs.declared.code.Binding.{Binding}
 use Rattle.bq_scope.specs.declared.code.Binding.TheVariants as b
 use Rattle.bq_scope.specs.declared.code.Code.{Code, out-Code}
@@ -182,7 +181,7 @@ module _ {S : Type 0} (m : Primitives S) (eval : Eval S) where
 
       abbrev pub expr_by : Code → CodeLayer → Frame → Action S Datum
       expr_by e (Code-F.Use x) env = use_of m round x env
-      expr_by e (Code-F.Native id) env = pure (m.predeclared (predeclared.Host id))
+      expr_by e (Code-F.Member p) env = pure (m.predeclared p)
       expr_by e (Code-F.Int n) env = literal m (int n)
       expr_by e (Code-F.String t) env = literal m (string t)
       expr_by e (Code-F.Code::List xs) env = list_display xs env

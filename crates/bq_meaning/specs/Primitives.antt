@@ -6,6 +6,7 @@ use Rattle.bq_grammar.specs.declared.tree.Comparison.{Comparison}
 use Rattle.bq_grammar.specs.declared.tree.Operator.{Operator}
 use Rattle.bq_grammar.specs.declared.tree.UnaryOperator.{UnaryOperator}
 use Rattle.bq_predeclared.specs.declared.predeclared.Predeclared.{Predeclared}
+use Rattle.bq_predeclared.specs.declared.rule_function.RuleFunction.{RuleFunction}
 use Rattle.bq_value.specs.Contents.{Contents}
 use Rattle.bq_value.specs.Datum.{Datum}
 use Rattle.bq_machine.specs.Action.{Action, done, stopped}
@@ -56,6 +57,10 @@ pub record Primitives (S : Type 0) : Type 0 where
   pub pass_all_named : Passed → Datum → Action S Passed
   -- the built-in function of that name
   pub call_built_in : List ℕ → Passed → Action S Datum
+  -- a function that declares rules
+  pub call_rule_function : RuleFunction → Passed → Action S Datum
+  -- what a cell holds, which is a rule, or can't be called (F40)
+  pub call_cell : ℕ → ℕ → Passed → Action S Datum
   -- `v.name(..)`
   pub call_method : List ℕ → Datum → Passed → Action S Datum
   -- a function of a module becomes active (F50), and is left

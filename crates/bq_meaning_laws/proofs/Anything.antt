@@ -48,7 +48,7 @@ clauses = each (ClauseParts Holds) (λ c. clause (out-CodeClause c))
 
 pub code : (o : CodeLayer) → CodeParts Holds o
 code (Code-F.Use x) = tt
-code (Code-F.Native id) = tt
+code (Code-F.Member p) = tt
 code (Code-F.Int n) = tt
 code (Code-F.String t) = tt
 code (Code-F.Code::List xs) = each Holds (λ _. tt) xs

@@ -6,7 +6,6 @@ use Rattle.bq_grammar.specs.declared.tree.Comparison.{Comparison}
 use Rattle.bq_grammar.specs.declared.tree.Operator.{Operator}
 use Rattle.bq_grammar.specs.declared.tree.Operator.TheVariants as operator
 use Rattle.bq_grammar.specs.declared.tree.UnaryOperator.{UnaryOperator}
-use Rattle.bq_predeclared.specs.declared.predeclared.Predeclared.TheVariants as predeclared
 use Rattle.bq_scope.specs.declared.code.Binding.{Binding}
 use Rattle.bq_scope.specs.declared.code.Binding.TheVariants as b
 use Rattle.bq_scope.specs.declared.code.Code.{Code, out-Code}
@@ -203,7 +202,7 @@ module _ {S : Type 0} (m : Primitives S) (K : Relation S) (R : Respects m K) whe
       module _ (round : Surroundings) where
         expr_by_rule : (e : Code) (o : CodeLayer) → BodyParts P (out-Code e) → CodeParts P o → (env : Frame) → K Datum (expr_by m eval call round e o env) (expr_by m other call round e o env)
         expr_by_rule e (Code-F.Use x) d h env = use_rule round x env
-        expr_by_rule e (Code-F.Native id) d h env = R.of_value Datum (m.predeclared (predeclared.Host id))
+        expr_by_rule e (Code-F.Member p) d h env = R.of_value Datum (m.predeclared p)
         expr_by_rule e (Code-F.Int n) d h env = literal_rule (int n)
         expr_by_rule e (Code-F.String t) d h env = literal_rule (string t)
         expr_by_rule e (Code-F.Code::List xs) d h env = list_rule xs h env

@@ -60,7 +60,7 @@ module _ (P : Code → Type 0) where
 
   abbrev pub CodeParts : CodeLayer → Type 0
   CodeParts (Code-F.Use x) = Unit {0}
-  CodeParts (Code-F.Native id) = Unit {0}
+  CodeParts (Code-F.Member p) = Unit {0}
   CodeParts (Code-F.Int n) = Unit {0}
   CodeParts (Code-F.String t) = Unit {0}
   CodeParts (Code-F.Code::List xs) = AllByRecursion P xs

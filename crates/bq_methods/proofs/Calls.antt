@@ -1,8 +1,9 @@
 -- Calls that are refused.
 use Rattle.std.proofs.Common.{◌≡◌, ◌∙◌, refl, ap, ℕ, false, List, ◌∷◌, Some, None, Err}
 use Rattle.bq_source.specs.declared.fault.FaultKind.TheVariants.{Args, NoMethod}
-use Rattle.bq_value.specs.Datum.{Datum, none, boolean, int, string, tuple, range, cell, function, built_in}
-use Rattle.bq_value.specs.Contents.{Contents, items, pairs}
+use Rattle.bq_rule_class.specs.Class.{Class}
+use Rattle.bq_value.specs.Datum.{Datum, none, boolean, int, string, tuple, range, cell, function, built_in, rule_function, attribute}
+use Rattle.bq_value.specs.Contents.{Contents, items, pairs, rule}
 use Rattle.bq_value.specs.Cells.{content_at}
 use Rattle.bq_machine.specs.State.{State}
 use Rattle.bq_machine.specs.Action.{following, ◌>>=◌, given}
@@ -42,6 +43,9 @@ dict_lacks_it name home number args s h = ap (λ o. if_found o (λ method. dict_
 pub dict_lacks : (name : List ℕ) (home number : ℕ) (dict : List (Datum × Datum)) (args : Passed) (s : State) → content_at s.store home number ≡ Some (pairs dict) → dict_method name ≡ None → Refused NoMethod s (call_method name (cell home number) args s)
 dict_lacks name home number dict args s at h = of_cell name home number (pairs dict) args s at ∙ dict_lacks_it name home number args s h
 
+pub rule_lacks : (name : List ℕ) (home number : ℕ) (class : Class) (args : Passed) (s : State) → content_at s.store home number ≡ Some (rule class) → Refused NoMethod s (call_method name (cell home number) args s)
+rule_lacks name home number class args s at = of_cell name home number (rule class) args s at
+
 pub others_lack : (name : List ℕ) (receiver : Datum) (args : Passed) (s : State) → has_methods receiver ≡ false → Refused NoMethod s (call_method name receiver args s)
 unfolding call_method
 others_lack name none args s h = refl
@@ -53,6 +57,8 @@ others_lack name (range a b c) args s h = refl
 others_lack name (cell home number) args s h = absurd (cc)
 others_lack name (function home place own defaults) args s h = refl
 others_lack name (built_in own) args s h = refl
+others_lack name (rule_function f) args s h = refl
+others_lack name (attribute a) args s h = refl
 
 not_placed : (args : Passed) (a : List ℕ × Datum) (others : List (List ℕ × Datum)) → args.named ≡ a ∷ others → placed args ≡ Err Args
 unfolding placed

@@ -2,7 +2,7 @@
 use Rattle.std.specs.Prelude.{ℕ, List, Option, Some, None}
 use Rattle.bq_source.specs.declared.fault.FaultKind.TheVariants.{NoMethod}
 use Rattle.bq_value.specs.Datum.{Datum, string, cell}
-use Rattle.bq_value.specs.Contents.{Contents, items, pairs}
+use Rattle.bq_value.specs.Contents.{Contents, items, pairs, rule}
 use Rattle.bq_machine.specs.State.{State}
 use Rattle.bq_machine.specs.Action.{Action, ◌>>=◌, stop, given}
 use Rattle.bq_machine.specs.Args.{Passed}
@@ -28,6 +28,7 @@ call_of_dict name home number args = if_found (dict_method name) (λ method. dic
 abbrev pub call_by : Contents → List ℕ → ℕ → ℕ → Passed → Action State Datum
 call_by (items xs) name home number args = call_of_list name home number args
 call_by (pairs ps) name home number args = call_of_dict name home number args
+call_by (rule c) name home number args = stop NoMethod
 
 unfoldable pub call_of_cell : List ℕ → ℕ → ℕ → Passed → Action State Datum
 call_of_cell name home number args = content home number >>= λ c. call_by c name home number args

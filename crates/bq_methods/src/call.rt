@@ -59,6 +59,7 @@ fn call_of_cell(
     match &machine.content(receiver)?.body {
         Body::List(_) => call_of_list(alloc, machine, name, receiver, &args),
         Body::Dict(_) => call_of_dict(alloc, machine, name, receiver, args),
+        Body::Rule(_) => Err(EvalErr::Bad(FaultKind::NoMethod)),
     }
 }
 

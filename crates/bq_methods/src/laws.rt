@@ -3,7 +3,8 @@
 ghost use Rattle.std.specs.Prelude.{◌≡◌, ◌∷◌, ℕ, List, Some, None, false};
 ghost use Rattle.bq_source.specs.declared.fault.FaultKind.TheVariants.{Args as ArgsFault, NoMethod};
 ghost use Rattle.bq_value.specs.Datum.{Datum, string, cell};
-ghost use Rattle.bq_value.specs.Contents.{items, pairs};
+ghost use Rattle.bq_value.specs.Contents.{items, pairs, rule};
+ghost use Rattle.bq_rule_class.specs.Class.{Class};
 ghost use Rattle.bq_value.specs.Cells.{content_at};
 ghost use Rattle.bq_machine.specs.State.{State};
 ghost use Rattle.bq_machine.specs.Args.{Passed};
@@ -23,11 +24,12 @@ pub fn tables_name_their_methods()
     ensures dicts { NamesItsMethods dict_methods }
 {}
 
-/// A method that the receiver's type lacks is F58, whatever the arguments are.
+/// A method that the receiver's type lacks is F58, whatever the arguments are. Rules have none.
 pub fn a_method_that_a_type_lacks()
     ensures strings { (name text : List ℕ) (args : Passed) (s : State) → string_method name ≡ None → Refused NoMethod s (call_method name (string text) args s) }
     ensures lists { (name : List ℕ) (home number : ℕ) (values : List Datum) (args : Passed) (s : State) → content_at s.store home number ≡ Some (items values) → list_method name ≡ None → Refused NoMethod s (call_method name (cell home number) args s) }
     ensures dicts { (name : List ℕ) (home number : ℕ) (dict : List (Datum × Datum)) (args : Passed) (s : State) → content_at s.store home number ≡ Some (pairs dict) → dict_method name ≡ None → Refused NoMethod s (call_method name (cell home number) args s) }
+    ensures rules { (name : List ℕ) (home number : ℕ) (class : Class) (args : Passed) (s : State) → content_at s.store home number ≡ Some (rule class) → Refused NoMethod s (call_method name (cell home number) args s) }
     ensures others { (name : List ℕ) (receiver : Datum) (args : Passed) (s : State) → has_methods receiver ≡ false → Refused NoMethod s (call_method name receiver args s) }
 {}
 

@@ -13,7 +13,7 @@ use Rattle.bq_meaning.specs.Frame.{Frame}
 use Rattle.bq_module.specs.Module.{evaluated, failed, fault_of, frozen_values, ended, kept_after}
 
 pub ended_done : {W : Type 0} (file : Resolved) (imports : List Datum) (run : Run (State × W) Frame) (globals : Frame) (s : State × W) → run ≡ done globals s
-    → ended file imports run ≡ evaluated (frozen s.0.store (frozen_values file imports globals)) s.0.prints
+    → ended file imports run ≡ evaluated (frozen s.0.store file.globals (frozen_values file imports globals)) s.0.prints
 ended_done file imports run globals s h = ap (ended file imports) h
 
 pub ended_stopped : {W : Type 0} (file : Resolved) (imports : List Datum) (run : Run (State × W) Frame) (why : Stop) → run ≡ stopped why → ended file imports run ≡ failed (fault_of why) why.prints

@@ -1,6 +1,5 @@
 -- A module of a program is a file that runs as the statements of it do.
-use Rattle.std.proofs.Common.{◌≡◌, ℕ, List, Result, Option, refl, subst}
-use Rattle.std.specs.declared.alloc.Global.{Global}
+use Rattle.std.proofs.Common.{◌≡◌, List, refl}
 use Rattle.bq_scope.specs.declared.code.CodeTopLevel.{CodeTopLevel}
 use Rattle.bq_scope.specs.declared.code.LoadStmt.{LoadStmt}
 use Rattle.bq_scope.specs.declared.code.Resolved.{Resolved}

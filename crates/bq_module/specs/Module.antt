@@ -54,7 +54,7 @@ abbrev pub fault_of : Stop → Fault
 fault_of why = record { kind = why.kind; line = why.line; detail = detail_of why.kind why.message }
 
 abbrev pub ended : {W : Type 0} → Resolved → List Datum → Run (State × W) Frame → Ended
-ended file imports (done globals s) = evaluated (frozen s.0.store (frozen_values file imports globals)) s.0.prints
+ended file imports (done globals s) = evaluated (frozen s.0.store file.globals (frozen_values file imports globals)) s.0.prints
 ended file imports (stopped why) = failed (fault_of why) why.prints
 
 -- what a host keeps where a file ran to its end

@@ -70,11 +70,12 @@ pub(crate) fn module_of(
     globals: &Frame<'_>,
     machine: Machine,
 ) -> Result<Outcome, AllocError>
-    ensures { IfOk result (λ o. ended_of o ≡ evaluated (frozen machine.store (frozen_values «module».now.file.now «module».now.imports.now (slots_of globals.now))) machine.prints) }
+    ensures { IfOk result (λ o. ended_of o ≡ evaluated (frozen machine.store «module».now.file.now.globals (frozen_values «module».now.file.now «module».now.imports.now (slots_of globals.now))) machine.prints) }
 {
     let (store, prints) = machine.into_parts();
     let values = frozen_values(alloc, module, globals)?;
-    Ok(Outcome::Module(freeze(alloc, store, values)?, prints))
+    let frozen = freeze(alloc, store, module.file.globals.as_slice(), values)?;
+    Ok(Outcome::Module(frozen, prints))
 }
 
 /// The fault of a file that stopped.

@@ -14,7 +14,7 @@ use Rattle.bq_runtime.specs.Runtime.{primitives}
 use Rattle.bq_module.specs.Module.{Ended, evaluated, failed, loading, first_store, frozen_values, ended, module_run}
 use Rattle.bq_meaning_laws.proofs.ModuleRules.{module_rule}
 use Rattle.bq_module_laws.specs.Files.{HostTakes, prints_of, EndsShort, FileTakes, FrozenAre, ends, FilesTakeTheirSteps, OtherModulesStay}
-use Rattle.bq_step_laws.specs.Steps.{hosted, leaving, printed, IsCutShort, Leaves, Takes}
+use Rattle.bq_step_laws.specs.Steps.{hosted, leaving, printed, IsCutShort, Stays, Leaves, Takes}
 use Rattle.bq_module_laws.proofs.Hosts.{OwnsItsSteps, own_steps}
 
 module _ {W : Type 0} (file : Resolved) (imports : List Datum) where
@@ -48,13 +48,12 @@ unfolding content_at
 content_outside s home number apart = ap (λ b. cond b (slice_get s.cells number) (cell_of number (module_at home s.loaded))) (ne_eqb home s.own apart)
 
 module _ (first : StoreView) (home cell : ℕ) (apart : home ≢ first.own) where
-  stays_in : (s : StoreView) (gs : List Datum) (outside : ℕ × Modules) → outside ≡ (first.own, first.loaded) → s.own ≡ outside.0 → s.loaded ≡ outside.1 → frozen_at (frozen s gs) home cell ≡ content_at first home cell
-  stays_in s gs outside same own loaded =
-      frozen_outside (frozen s gs) home cell (λ is. apart (is ∙ (own ∙ ap (λ o. o.0) same)))
-      ∙ (ap (λ ms. cell_of cell (module_at home ms)) (loaded ∙ ap (λ o. o.1) same) ∙ sym (content_outside first home cell apart))
+  stays_in : (s : StoreView) (names : List Name) (gs : List Datum) → Stays first s → frozen_at (frozen s names gs) home cell ≡ content_at first home cell
+  stays_in s names gs h =
+      frozen_outside (frozen s names gs) home cell (λ is. apart (is ∙ h.own)) ∙ (ap (λ ms. cell_of cell (module_at home ms)) h.modules ∙ sym (content_outside first home cell apart))
 
-  stays : {W : Type 0} (file : Resolved) (imports : List Datum) (r : Run (State × W) Frame) → Leaves hosted (first.own, first.loaded) r → FrozenAre (ended file imports r) (λ f. frozen_at f home cell ≡ content_at first home cell)
-  stays file imports (done globals s) h = stays_in s.0.store (frozen_values file imports globals) (s.0.store.own, s.0.store.loaded) h refl refl
+  stays : {W : Type 0} (file : Resolved) (imports : List Datum) (r : Run (State × W) Frame) → Leaves hosted first r → FrozenAre (ended file imports r) (λ f. frozen_at f home cell ≡ content_at first home cell)
+  stays file imports (done globals s) h = stays_in s.0.store file.globals (frozen_values file imports globals) h
   stays file imports (stopped why) h = tt
 
 short_stays : (e : Ended) (prints : List (List ℕ)) (P : FrozenView → Type 0) → EndsShort e prints → FrozenAre e P

@@ -4,3 +4,5 @@ pub mod Making
 pub mod Hosts
 -- files
 pub mod Files
+-- rules
+pub mod Rules

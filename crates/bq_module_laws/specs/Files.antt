@@ -1,19 +1,27 @@
--- The laws of files: their steps, and the frozen modules.
-use Rattle.std.specs.Prelude.{◌≡◌, ◌≢◌, ℕ, ◌<◌, ◌≤◌, List, Option}
+-- The laws of files: their steps, the frozen modules, and the rules that are declared.
+use Rattle.std.specs.Prelude.{◌≡◌, ◌≢◌, ℕ, ◌<◌, ◌≤◌, List, Option, Some}
 use Rattle.bq_source.specs.declared.fault.FaultKind.TheVariants.{StepLimit}
 use Rattle.bq_scope.specs.Names.{Name}
 use Rattle.bq_scope.specs.declared.code.Resolved.{Resolved}
+use Rattle.bq_rule_class.specs.Class.{Class}
 use Rattle.bq_value.specs.Cells.{FrozenView, content_at, frozen_at}
+use Rattle.bq_value.specs.Contents.{rule}
 use Rattle.bq_value.specs.Datum.{Datum}
+use Rattle.bq_machine.specs.Action.{done}
 use Rattle.bq_machine.specs.Args.{Passed}
 use Rattle.bq_machine.specs.State.{State}
+use Rattle.bq_meaning.specs.Calls.{Units, calls}
 use Rattle.bq_runtime.specs.Calling.{HostCalls}
+use Rattle.bq_runtime.specs.Runtime.{primitives}
 use Rattle.bq_module.specs.Module.{Ended, evaluated, failed, ended, first_store, module_run}
 use Rattle.bq_step_laws.specs.Steps.{hosted, Begins, Takes}
 
--- a host whose calls don't look at the steps that are left, nor change what was printed or the frozen modules
+-- a host whose calls don't look at the steps that are left, nor change what was printed, the frozen modules or a rule: those of its own
+-- functions, and those of rules that .bzl files declare
 abbrev pub HostTakes : {W : Type 0} → HostCalls W → Type 0
-HostTakes {W = W} host = (id : ℕ) (args : Passed) (s : State × W) → Takes hosted (host id args) s
+HostTakes {W = W} host =
+    ((id : ℕ) (args : Passed) (s : State × W) → Takes hosted (host.call id args) s)
+    × ((kind : List ℕ) (class : Class) (args : Passed) (s : State × W) → Takes hosted (host.call_rule kind class args) s)
 
 abbrev pub prints_of : Ended → List (List ℕ)
 prints_of (evaluated frozen prints) = prints
@@ -50,3 +58,9 @@ module _ {W : Type 0} (names : List Name) (host : HostCalls W) where
   OtherModulesStay =
       (code : List (Option Resolved)) (number : ℕ) (file : Resolved) (loaded : List FrozenView) (imports : List Datum) (kept : W) (limit : ℕ) (home cell : ℕ) → home ≢ number
       → FrozenAre (ends code number file loaded imports kept limit) (λ f. frozen_at f home cell ≡ content_at (first_store number loaded) home cell)
+
+  -- A rule holds the attributes that it was declared with, whatever is called after that.
+  abbrev pub CallsKeepRules : Type 0
+  CallsKeepRules =
+      (left : ℕ) (units : Units) (v : Datum) (args : Passed) (s : State × W) (result : Datum) (t : State × W) → calls left (primitives names host) units v args s ≡ done result t
+      → (home number : ℕ) (class : Class) → content_at s.0.store home number ≡ Some (rule class) → content_at t.0.store home number ≡ Some (rule class)

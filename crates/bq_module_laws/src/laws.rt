@@ -2,7 +2,7 @@
 
 ghost use Rattle.std.specs.Prelude.{List};
 ghost use Rattle.bq_scope.specs.Names.{Name};
-ghost use Rattle.bq_module_laws.specs.Files.{HostTakes, FilesTakeTheirSteps, OtherModulesStay};
+ghost use Rattle.bq_module_laws.specs.Files.{HostTakes, FilesTakeTheirSteps, OtherModulesStay, CallsKeepRules};
 
 use bq_host::Host;
 
@@ -15,4 +15,9 @@ pub fn files_take_their_steps<H: Host>()
 /// A cell of another module holds at the end of a file what it held at its start, whatever functions of that module were called (F47).
 pub fn other_modules_stay<H: Host>()
     ensures { (names : List Name) → HostTakes H.means → OtherModulesStay names H.means }
+{}
+
+/// A rule that a .bzl file declares holds the same attributes after each call, whatever is called.
+pub fn calls_keep_rules<H: Host>()
+    ensures { (names : List Name) → HostTakes H.means → CallsKeepRules names H.means }
 {}

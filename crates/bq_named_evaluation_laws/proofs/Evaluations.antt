@@ -1,5 +1,5 @@
 -- Evaluations end by names in what they end in by slots.
-use Rattle.std.proofs.Common.{◌≡◌, ℕ, List, Option, Some, refl, ap, ◌∙◌}
+use Rattle.std.proofs.Common.{◌≡◌, ℕ, List, Option, Some, refl, ap, sym, ◌∙◌}
 use Rattle.bq_scope.specs.declared.code.Resolved.{Resolved}
 use Rattle.bq_scope.specs.Names.{Name, place_among, global_names}
 use Rattle.bq_value.specs.Cells.{FrozenView, frozen}
@@ -27,8 +27,9 @@ module _ {W : Type 0} (file : ParsedFile) (code : Resolved) (imports : List Datu
 
   ends_same : (p : Run (State × W) Env) (q : Run (State × W) Frame) → Ends p q → ended file imports p ≡ by_slots.ended code imports q
   ends_same (done env s) (done frame t) h =
-      ap (λ w. evaluated (frozen w.0.store (frozen_values file imports env)) w.0.prints) h.0
-      ∙ ap (λ vs. evaluated (frozen t.0.store vs) t.0.prints) (frozen_same file code globals imports env frame h.1)
+      ap (λ w. evaluated (frozen w.0.store (global_names file.statements) (frozen_values file imports env)) w.0.prints) h.0
+      ∙ (ap (λ vs. evaluated (frozen t.0.store (global_names file.statements) vs) t.0.prints) (frozen_same file code globals imports env frame h.1)
+      ∙ ap (λ names. evaluated (frozen t.0.store names (by_slots.frozen_values code imports frame)) t.0.prints) (sym globals))
   ends_same (done env s) (stopped why) h = absurd h
   ends_same (stopped because) (done frame t) h = absurd h
   ends_same (stopped because) (stopped why) h = ap (λ w. failed (fault_of w) w.prints) h

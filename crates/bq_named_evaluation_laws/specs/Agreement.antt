@@ -47,8 +47,8 @@ abbrev pub FrozenUnitsAgree : Type 0
 FrozenUnitsAgree = (files : List (Option ParsedFile)) (codes : List (Option Resolved)) → AreCodesOf files codes → (loaded : List FrozenView) → UnitsAgree (frozen_units files loaded) (slots.frozen_units codes loaded)
 
 module _ {W : Type 0} (rules : List Name) (host : HostCalls W) where
-  -- A file ends by names in what its code ends in by slots: the same frozen module, with the same cells and values of its globals, or the same
-  -- fault; the same prints; and the host keeps the same.
+  -- A file ends by names in what its code ends in by slots: the same frozen module, with the same cells, values of its globals and kinds of
+  -- its rules, or the same fault; the same prints; and the host keeps the same.
   abbrev pub EvaluationsAgree : Type 0
   EvaluationsAgree =
       (files : List (Option ParsedFile)) (codes : List (Option Resolved)) → AreCodesOf files codes → (number : ℕ) (file : ParsedFile) (code : Resolved) → IsCodeOf file code

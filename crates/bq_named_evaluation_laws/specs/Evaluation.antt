@@ -54,7 +54,7 @@ unfoldable pub frozen_values : ParsedFile → List Datum → Env → List Datum
 frozen_values file imports globals = map (λ name. value_of (globals name)) (global_names file.statements) ++ imports
 
 abbrev pub ended : {W : Type 0} → ParsedFile → List Datum → Run (State × W) Env → Ended
-ended file imports (done globals s) = evaluated (frozen s.0.store (frozen_values file imports globals)) s.0.prints
+ended file imports (done globals s) = evaluated (frozen s.0.store (global_names file.statements) (frozen_values file imports globals)) s.0.prints
 ended file imports (stopped why) = failed (fault_of why) why.prints
 
 -- what a host keeps where a file ran to its end

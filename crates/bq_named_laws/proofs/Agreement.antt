@@ -1,7 +1,7 @@
 -- The law of names, by induction on the layers of the tree.
 use Rattle.std.proofs.Common.{◌≡◌, ◌≤◌, ◌+◌, ℕ, zero, suc, List, [], refl, sym, ap, ◌∙◌, subst, arith}
 use Rattle.bq_grammar.specs.declared.tree.Expr.{Expr, out-Expr}
-use Rattle.bq_predeclared.specs.declared.predeclared.Predeclared.TheVariants as predeclared
+use Rattle.bq_predeclared.specs.declared.predeclared.Predeclared.{Predeclared}
 use Rattle.bq_scope.specs.declared.code.Code.{Code, out-Code, out-roll-Code}
 use Rattle.bq_scope.specs.declared.code.Code.TheOpen.{Code-F}
 use Rattle.bq_scope.specs.declared.code.Code.TheVariants as c
@@ -25,11 +25,11 @@ use Rattle.bq_named_laws.proofs.Parts.{Agree}
 use Rattle.bq_named_laws.proofs.ResolvedExpressions.{expr_by_walks}
 
 module _ {S : Type 0} (m : Primitives S) (file : FileParts) (round : Round) (surroundings : Surroundings) (call other : Calls S) (around : Around file round surroundings) (called : CallsAgree call other) where
-  native_means : (l id : ℕ) (frame : Frame) (s : S) → slots.expr_to (suc l) m other surroundings (c.Native id) frame s ≡ done (m.predeclared (predeclared.Host id)) s
+  member_means : (l : ℕ) (p : Predeclared) (frame : Frame) (s : S) → slots.expr_to (suc l) m other surroundings (c.Member p) frame s ≡ done (m.predeclared p) s
   unfolding slots.expr_to slots.expr
-  native_means l id frame s =
-      subst (λ z. slots.expr_by m (slots.expr_to l m other surroundings) other surroundings (c.Native id) z frame s ≡ done (m.predeclared (predeclared.Host id)) s)
-      (sym (out-roll-Code (Code-F.Native id)) ∙ ap out-Code (c.rolls-Native id)) refl
+  member_means l p frame s =
+      subst (λ z. slots.expr_by m (slots.expr_to l m other surroundings) other surroundings (c.Member p) z frame s ≡ done (m.predeclared p) s)
+      (sym (out-roll-Code (Code-F.Member p)) ∙ ap out-Code (c.rolls-Member p)) refl
 
   step_means : (l : ℕ) (x : Code) (frame : Frame) (s : S) → slots.expr_to (suc l) m other surroundings x frame s ≡ slots.expr m (slots.expr_to l m other surroundings) other surroundings x frame s
   unfolding slots.expr_to
@@ -44,7 +44,7 @@ module _ {S : Type 0} (m : Primitives S) (file : FileParts) (round : Round) (sur
   expr_walks (suc n) (suc k) (suc zero) few enough blocks nested x = absurd (omega arith)
   expr_walks (suc n) (suc k) (suc (suc l)) few enough blocks nested x =
       expr_by_walks m file (scope.expr_to n file) (names.expr_to k m call round) call other called round surroundings around (slots.expr_to (suc l) m other surroundings) (slots.expr_to l m other surroundings)
-      (step_means l) (native_means l) (expr_walks n k (suc l) (omega arith) (omega arith)) (expr_walks n k l (omega arith) (omega arith)) blocks nested (out-Expr x)
+      (step_means l) (member_means l) (expr_walks n k (suc l) (omega arith) (omega arith)) (expr_walks n k l (omega arith) (omega arith)) blocks nested (out-Expr x)
 
   pub layers_agree : LayersAgree m file round surroundings call other
   layers_agree n k l blocks x z p q few enough nested below e env frame s shows =

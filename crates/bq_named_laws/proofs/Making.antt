@@ -9,7 +9,7 @@ use Rattle.bq_grammar.specs.declared.tree.Operation.{Operation, out-Operation}
 use Rattle.bq_grammar.specs.declared.tree.Pair.{Pair, out-Pair}
 use Rattle.bq_grammar.specs.declared.tree.Suffix.{Suffix, out-Suffix}
 use Rattle.bq_grammar.specs.Targets.{SuffixLayer}
-use Rattle.bq_predeclared.specs.declared.predeclared.Predeclared.TheVariants as predeclared
+use Rattle.bq_predeclared.specs.declared.predeclared.Predeclared.{Predeclared}
 use Rattle.bq_scope.specs.declared.code.Code.{Code, out-Code, roll-Code, out-roll-Code}
 use Rattle.bq_scope.specs.declared.code.Code.TheOpen.{CodeArgument-F, CodeSuffix-F}
 use Rattle.bq_scope.specs.declared.code.Code.TheVariants as c
@@ -20,7 +20,8 @@ use Rattle.bq_scope.specs.declared.code.CodePair.{roll-CodePair, out-roll-CodePa
 use Rattle.bq_scope.specs.declared.code.CodeSuffix.{CodeSuffix, out-CodeSuffix, roll-CodeSuffix, out-roll-CodeSuffix}
 use Rattle.bq_scope.specs.declared.code.CodeSuffix.TheVariants as suffix
 use Rattle.bq_scope.specs.Scope.{BlockParts}
-use Rattle.bq_scope.specs.Universe.{host_named}
+use Rattle.bq_scope.specs.Universe.{member_named}
+use Rattle.bq_scope.specs.declared.universe.Namespace.{Namespace}
 use Rattle.bq_value.specs.Datum.{Datum}
 use Rattle.bq_machine.specs.Action.{Action, done, following, ◌>>=◌}
 use Rattle.bq_machine.specs.Args.{Passed}
@@ -131,25 +132,25 @@ module _ {S : Type 0} (m : Primitives S) (E : Eval S) (F : trees.Eval S) (blocks
       made_expr f c o e h env frame shows s =
           subst (λ z. Alike Same (f env s) (slots.expr_by m F other surroundings c z frame s)) (sym (out-roll-Code o) ∙ ap out-Code e) (h env frame shows s)
 
-      -- `native.name(arguments)`, and what is done to its result
-      module _ (native : (id : ℕ) (frame : Frame) (s : S) → F (c.Native id) frame s ≡ done (m.predeclared (predeclared.Host id)) s) where
-        called_alike : (id : ℕ) (xs : List Argument) (ys : List CodeArgument) (ss : List Suffix) (ts : List CodeSuffix) → Pairwise (ArgumentAgree m E F blocks) xs ys
+      -- `native.name(arguments)` or `attr.name(arguments)`, and what is done to its result
+      module _ (member : (p : Predeclared) (frame : Frame) (s : S) → F (c.Member p) frame s ≡ done (m.predeclared p) s) where
+        called_alike : (p : Predeclared) (xs : List Argument) (ys : List CodeArgument) (ss : List Suffix) (ts : List CodeSuffix) → Pairwise (ArgumentAgree m E F blocks) xs ys
             → Pairwise (SuffixAgree m E F blocks call other called) ss ts → (env : Env) (frame : Frame) → Shows blocks env frame → (s : S)
-            → Alike Same (following (done (m.predeclared (predeclared.Host id)) s) (λ v. names.call_of m E call xs env v >>= λ u. names.suffixes m E call ss env u))
-            (following (F (c.Native id) frame s) (λ v. slots.suffixes m F other (suffix.Call ys ∷ ts) frame v))
+            → Alike Same (following (done (m.predeclared p) s) (λ v. names.call_of m E call xs env v >>= λ u. names.suffixes m E call ss env u))
+            (following (F (c.Member p) frame s) (λ v. slots.suffixes m F other (suffix.Call ys ∷ ts) frame v))
         unfolding slots.suffixes
-        called_alike id xs ys ss ts h k env frame shows s =
-            rw (native id frame s)
-            (then_same Same (names.call_of m E call xs env (m.predeclared (predeclared.Host id)) s) (slots.suffix m F other (suffix.Call ys) frame (m.predeclared (predeclared.Host id)) s)
+        called_alike p xs ys ss ts h k env frame shows s =
+            rw (member p frame s)
+            (then_same Same (names.call_of m E call xs env (m.predeclared p) s) (slots.suffix m F other (suffix.Call ys) frame (m.predeclared p) s)
             (λ u. names.suffixes m E call ss env u) (λ u. slots.suffixes m F other ts frame u)
-            (call_agrees xs ys (suffix.Call ys) (suffix.rolls-Call ys) h env frame shows (m.predeclared (predeclared.Host id)) s)
+            (call_agrees xs ys (suffix.Call ys) (suffix.rolls-Call ys) h env frame shows (m.predeclared p) s)
             (λ v u. suffixes_alike m E F blocks call other called ss ts k env frame shows v u))
 
-        pub host_alike : (n : Identifier) (id : ℕ) → host_named round.universe.rules n.name ≡ Some id → (xs : List Argument) (ys : List CodeArgument) (ss : List Suffix) (ts : List CodeSuffix)
+        pub member_alike : (space : Namespace) (n : Identifier) (p : Predeclared) → member_named space round.universe.rules n.name ≡ Some p → (xs : List Argument) (ys : List CodeArgument) (ss : List Suffix) (ts : List CodeSuffix)
             → Pairwise (ArgumentAgree m E F blocks) xs ys → Pairwise (SuffixAgree m E F blocks call other called) ss ts → (env : Env) (frame : Frame) → Shows blocks env frame → (s : S)
-            → Alike Same (names.host_call m E call round n xs ss env s) (slots.primary m F other (c.Native id) (suffix.Call ys ∷ ts) frame s)
-        unfolding names.host_call slots.primary
-        host_alike n id known xs ys ss ts h k env frame shows s =
+            → Alike Same (names.call_member m E call round space n xs ss env s) (slots.primary m F other (c.Member p) (suffix.Call ys ∷ ts) frame s)
+        unfolding names.call_member slots.primary
+        member_alike space n p known xs ys ss ts h k env frame shows s =
             rw (same_length (SuffixAgree m E F blocks call other called) ss ts k, known)
-            (then_both Same (m.step (suc (length ts)) s) (λ _ t. following (done (m.predeclared (predeclared.Host id)) t) (λ v. names.call_of m E call xs env v >>= λ u. names.suffixes m E call ss env u))
-            (λ _ t. following (F (c.Native id) frame t) (λ v. slots.suffixes m F other (suffix.Call ys ∷ ts) frame v)) (λ _ t. called_alike id xs ys ss ts h k env frame shows t))
+            (then_both Same (m.step (suc (length ts)) s) (λ _ t. following (done (m.predeclared p) t) (λ v. names.call_of m E call xs env v >>= λ u. names.suffixes m E call ss env u))
+            (λ _ t. following (F (c.Member p) frame t) (λ v. slots.suffixes m F other (suffix.Call ys ∷ ts) frame v)) (λ _ t. called_alike p xs ys ss ts h k env frame shows t))

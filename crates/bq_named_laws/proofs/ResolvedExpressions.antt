@@ -7,7 +7,7 @@ use Rattle.bq_grammar.specs.declared.tree.Clause.{Clause}
 use Rattle.bq_grammar.specs.declared.tree.Expr.{Expr}
 use Rattle.bq_grammar.specs.declared.tree.Pair.{Pair}
 use Rattle.bq_grammar.specs.Targets.{ExprLayer}
-use Rattle.bq_predeclared.specs.declared.predeclared.Predeclared.TheVariants as predeclared
+use Rattle.bq_predeclared.specs.declared.predeclared.Predeclared.{Predeclared}
 use Rattle.bq_scope.specs.declared.code.Code.{Code, roll-Code}
 use Rattle.bq_scope.specs.declared.code.Code.TheOpen.{Code-F}
 use Rattle.bq_scope.specs.declared.code.Code.TheVariants as c
@@ -86,7 +86,7 @@ module _ {S : Type 0} (m : Primitives S) (file : FileParts) (visit : List BlockP
   -- ---- all forms: `F` looks at one layer more than `G`
 
   module _ (F G : trees.Eval S) (step : (x : Code) (frame : Frame) (s : S) → F x frame s ≡ slots.expr m G other surroundings x frame s)
-      (native : (id : ℕ) (frame : Frame) (s : S) → F (c.Native id) frame s ≡ done (m.predeclared (predeclared.Host id)) s)
+      (member : (p : Predeclared) (frame : Frame) (s : S) → F (c.Member p) frame s ≡ done (m.predeclared p) s)
       (visits : (blocks : List BlockParts) → Nested blocks → (x : Expr) → Walks {A = Code} blocks (λ z. Agree m E F blocks x z) (visit blocks x))
       (within : (blocks : List BlockParts) → Nested blocks → (x : Expr) → Walks {A = Code} blocks (λ z. Agree m E G blocks x z) (visit blocks x)) where
     -- outside functions a comprehension has a layer that gives it a frame
@@ -145,7 +145,7 @@ module _ {S : Type 0} (m : Primitives S) (file : FileParts) (visit : List BlockP
           (walks_all blocks (PairAgree m E F blocks) (scope.pair file visit blocks) (pair_walks m file visit E F blocks (visits blocks nested)) ps)
       expr_by_walks (Expr-F.ListComprehension x cs) = list_comprehension blocks nested x cs
       expr_by_walks (Expr-F.DictComprehension p cs) = dict_comprehension blocks nested p cs
-      expr_by_walks (Expr-F.Primary x ss) = primary_walks m file visit E F blocks (visits blocks nested) call other called round surroundings around native x ss
+      expr_by_walks (Expr-F.Primary x ss) = primary_walks m file visit E F blocks (visits blocks nested) call other called round surroundings around member x ss
       expr_by_walks (Expr-F.Unary os x) =
           walks_map blocks (λ y. Agree m E F blocks x y) (λ z. Here (Expr-F.Unary os x) z) (visit blocks x) (λ y. c.Unary os y)
           (λ y h. made (Expr-F.Unary os x) (c.Unary os y) (Code-F.Unary os y) (c.rolls-Unary os y) (unary_alike m E F blocks os x y h)) (visits blocks nested x)

@@ -1,5 +1,5 @@
 -- What stands in an expression resolves to what means the same: pairs, operations, choices, arguments and suffixes.
-use Rattle.std.proofs.Common.{◌≡◌, ℕ, List, [], ◌∷◌, Option, Some, None, sym, subst}
+use Rattle.std.proofs.Common.{◌≡◌, List, [], ◌∷◌, Option, Some, None, sym, subst}
 use Rattle.bq_source.specs.declared.fault.FaultKind.TheVariants as f
 use Rattle.bq_grammar.specs.declared.tree.Argument.TheOpen.{Argument-F, Suffix-F}
 use Rattle.bq_grammar.specs.declared.tree.Argument.{Argument, out-Argument}
@@ -10,7 +10,7 @@ use Rattle.bq_grammar.specs.declared.tree.Operation.{Operation, out-Operation}
 use Rattle.bq_grammar.specs.declared.tree.Pair.{Pair, out-Pair}
 use Rattle.bq_grammar.specs.declared.tree.Suffix.{Suffix, out-Suffix}
 use Rattle.bq_grammar.specs.Targets.{SuffixLayer}
-use Rattle.bq_predeclared.specs.declared.predeclared.Predeclared.TheVariants as predeclared
+use Rattle.bq_predeclared.specs.declared.predeclared.Predeclared.{Predeclared}
 use Rattle.bq_scope.specs.declared.code.Code.{Code}
 use Rattle.bq_scope.specs.declared.code.Code.TheOpen.{Code-F}
 use Rattle.bq_scope.specs.declared.code.Code.TheVariants as c
@@ -22,8 +22,10 @@ use Rattle.bq_scope.specs.declared.code.CodePair.{CodePair, roll-CodePair}
 use Rattle.bq_scope.specs.declared.code.CodeSuffix.{CodeSuffix}
 use Rattle.bq_scope.specs.declared.code.CodeSuffix.TheVariants as suffix
 use Rattle.bq_scope.specs.Expressions as scope
+use Rattle.bq_scope.specs.Expressions.{MemberCall}
 use Rattle.bq_scope.specs.Scope.{BlockParts, FileParts}
-use Rattle.bq_scope.specs.Universe.{host_named}
+use Rattle.bq_scope.specs.Universe.{member_named}
+use Rattle.bq_scope.specs.declared.universe.Namespace.{Namespace}
 use Rattle.bq_scope.specs.Visit.{Visit, ◌>>=◌, pure, given, fault_of, optional}
 use Rattle.bq_value.specs.Datum.{Datum}
 use Rattle.bq_machine.specs.Action.{Action, done}
@@ -39,10 +41,10 @@ use Rattle.bq_named_meaning.specs.Trees.{Eval, ArgumentLayer}
 use Rattle.bq_named_laws.specs.Alike.{Alike, Same}
 use Rattle.bq_named_laws.specs.Shows.{Around}
 use Rattle.bq_named_laws.proofs.Walks.{Pairwise, Optional, After, any, Walks, walks_bind, walks_weaker, walks_pure, walks_given, walks_map, walks_two, walks_three, walks_each, walks_all, walks_optional}
-use Rattle.bq_named_laws.proofs.Uses.{native_is}
+use Rattle.bq_named_laws.proofs.Uses.{namespace_is}
 use Rattle.bq_named_laws.proofs.Parts.{Agree, PairAgree, OperationAgree, ChoiceAgree, ArgumentAgree, SuffixAgree, operand_alike}
 use Rattle.bq_named_laws.proofs.Making as making
-use Rattle.bq_named_laws.proofs.Making.{Means, ArgumentLayerAgree, SuffixLayerAgree, made_pair, made_operation, made_choice, made_expr, host_alike}
+use Rattle.bq_named_laws.proofs.Making.{Means, ArgumentLayerAgree, SuffixLayerAgree, made_pair, made_operation, made_choice, made_expr, member_alike}
 
 module _ {S : Type 0} (m : Primitives S) (file : FileParts) (visit : List BlockParts → Expr → Visit Code) (E : Eval S) (F : trees.Eval S) (blocks : List BlockParts)
     (visits : (x : Expr) → Walks {A = Code} blocks (λ z. Agree m E F blocks x z) (visit blocks x)) where
@@ -136,33 +138,33 @@ module _ {S : Type 0} (m : Primitives S) (file : FileParts) (visit : List BlockP
           (λ env frame shows s. subst (λ z. Alike Same (names.operand m E call x ss env s) (slots.primary m F other y z frame s)) (sym a.2) (operand_alike m E F blocks call other called x y ss a.0 h a.1 env frame shows s)))
           (visits x) (suffixes_walk [] ss)
 
-      module _ (around : Around file round surroundings) (native : (id : ℕ) (frame : Frame) (s : S) → F (c.Native id) frame s ≡ done (m.predeclared (predeclared.Host id)) s) where
-        host_walks : (n : Identifier) (xs : List Argument) (ss : List Suffix) → Walks {A = Code} blocks (λ z. Good (names.host_call m E call round n xs ss) z) (scope.host_call file visit blocks n xs ss)
-        unfolding scope.host_call
-        host_walks n xs ss =
-            walks_bind blocks (λ id. host_named file.universe.rules n.name ≡ Some id) (λ z. Good (names.host_call m E call round n xs ss) z) (given (fault_of f.UnknownName n) (host_named file.universe.rules n.name))
-            (λ id. scope.arguments file visit blocks xs >>= λ ys. scope.suffixes file visit blocks (suffix.Call ys ∷ []) ss >>= λ ts. pure (c.Primary (c.Native id) ts))
-            (walks_given blocks (fault_of f.UnknownName n) (host_named file.universe.rules n.name))
-            (λ id known. walks_bind blocks (λ ys. Pairwise (ArgumentAgree m E F blocks) xs ys) (λ z. Good (names.host_call m E call round n xs ss) z) (scope.arguments file visit blocks xs)
-            (λ ys. scope.suffixes file visit blocks (suffix.Call ys ∷ []) ss >>= λ ts. pure (c.Primary (c.Native id) ts)) (arguments_walk xs)
-            (λ ys h. walks_map blocks (λ zs. SuffixesAfter (suffix.Call ys ∷ []) ss zs) (λ z. Good (names.host_call m E call round n xs ss) z) (scope.suffixes file visit blocks (suffix.Call ys ∷ []) ss)
-            (λ ts. c.Primary (c.Native id) ts)
-            (λ ts a. made_expr m E F blocks call other called round surroundings (names.host_call m E call round n xs ss) (c.Primary (c.Native id) ts) (Code-F.Primary (c.Native id) ts)
-            (c.rolls-Primary (c.Native id) ts)
-            (λ env frame shows s. subst (λ z. Alike Same (names.host_call m E call round n xs ss env s) (slots.primary m F other (c.Native id) z frame s)) (sym a.2)
-            (host_alike m E F blocks call other called round surroundings native n id (rw around.universe known) xs ys ss a.0 h a.1 env frame shows s)))
+      module _ (around : Around file round surroundings) (member : (p : Predeclared) (frame : Frame) (s : S) → F (c.Member p) frame s ≡ done (m.predeclared p) s) where
+        member_walks : (space : Namespace) (n : Identifier) (xs : List Argument) (ss : List Suffix) → Walks {A = Code} blocks (λ z. Good (names.call_member m E call round space n xs ss) z) (scope.call_member file visit blocks space n xs ss)
+        unfolding scope.call_member
+        member_walks space n xs ss =
+            walks_bind blocks (λ p. member_named space file.universe.rules n.name ≡ Some p) (λ z. Good (names.call_member m E call round space n xs ss) z) (given (fault_of f.UnknownName n) (member_named space file.universe.rules n.name))
+            (λ p. scope.arguments file visit blocks xs >>= λ ys. scope.suffixes file visit blocks (suffix.Call ys ∷ []) ss >>= λ ts. pure (c.Primary (c.Member p) ts))
+            (walks_given blocks (fault_of f.UnknownName n) (member_named space file.universe.rules n.name))
+            (λ p known. walks_bind blocks (λ ys. Pairwise (ArgumentAgree m E F blocks) xs ys) (λ z. Good (names.call_member m E call round space n xs ss) z) (scope.arguments file visit blocks xs)
+            (λ ys. scope.suffixes file visit blocks (suffix.Call ys ∷ []) ss >>= λ ts. pure (c.Primary (c.Member p) ts)) (arguments_walk xs)
+            (λ ys h. walks_map blocks (λ zs. SuffixesAfter (suffix.Call ys ∷ []) ss zs) (λ z. Good (names.call_member m E call round space n xs ss) z) (scope.suffixes file visit blocks (suffix.Call ys ∷ []) ss)
+            (λ ts. c.Primary (c.Member p) ts)
+            (λ ts a. made_expr m E F blocks call other called round surroundings (names.call_member m E call round space n xs ss) (c.Primary (c.Member p) ts) (Code-F.Primary (c.Member p) ts)
+            (c.rolls-Primary (c.Member p) ts)
+            (λ env frame shows s. subst (λ z. Alike Same (names.call_member m E call round space n xs ss env s) (slots.primary m F other (c.Member p) z frame s)) (sym a.2)
+            (member_alike m E F blocks call other called round surroundings member space n p (rw around.universe known) xs ys ss a.0 h a.1 env frame shows s)))
             (suffixes_walk (suffix.Call ys ∷ []) ss)))
 
-        primary_by_walks : (x : Expr) (ss : List Suffix) (o : Option (Identifier × List Argument × List Suffix))
+        primary_by_walks : (x : Expr) (ss : List Suffix) (o : Option MemberCall)
             → Walks {A = Code} blocks (λ z. Good (names.primary_by m E call round x ss o) z) (scope.primary_by file visit blocks x ss o)
         primary_by_walks x ss None = operand_walks x ss
-        primary_by_walks x ss (Some (n, xs, rest)) = host_walks n xs rest
+        primary_by_walks x ss (Some (space, n, xs, rest)) = member_walks space n xs rest
 
         pub primary_walks : (x : Expr) (ss : List Suffix) → Walks {A = Code} blocks (λ z. Good (names.primary m E call round x ss) z) (scope.primary file visit blocks x ss)
         unfolding scope.primary names.primary
         primary_walks x ss =
-            walks_weaker blocks (λ z. Good (names.primary_by m E call round x ss (scope.native_call (scope.is_native file blocks (out-Expr x)) ss)) z) (λ z. Good (names.primary m E call round x ss) z)
+            walks_weaker blocks (λ z. Good (names.primary_by m E call round x ss (scope.member_call (scope.namespace_at file blocks (out-Expr x)) ss)) z) (λ z. Good (names.primary m E call round x ss) z)
             (scope.primary file visit blocks x ss)
-            (λ z h env frame shows s. subst (λ t. Alike Same (names.primary_by m E call round x ss (scope.native_call t ss) env s) (slots.expr m F other surroundings z frame s))
-            (sym (native_is m round surroundings frame file around blocks env shows (out-Expr x))) (h env frame shows s))
-            (primary_by_walks x ss (scope.native_call (scope.is_native file blocks (out-Expr x)) ss))
+            (λ z h env frame shows s. subst (λ t. Alike Same (names.primary_by m E call round x ss (scope.member_call t ss) env s) (slots.expr m F other surroundings z frame s))
+            (sym (namespace_is m round surroundings frame file around blocks env shows (out-Expr x))) (h env frame shows s))
+            (primary_by_walks x ss (scope.member_call (scope.namespace_at file blocks (out-Expr x)) ss))

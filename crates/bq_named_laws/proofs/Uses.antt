@@ -60,18 +60,18 @@ module _ {S : Type 0} (m : Primitives S) (round : Round) (surroundings : Surroun
     unfolding use_of file_has
     unknown_is n = rw (held_is n) (unknown_of (slot_of blocks n) (place_among n file.globals) (place_among n file.loaded) (universe_has file.universe n))
 
-    pub native_is : (o : ExprLayer) → names.is_native m round o env ≡ scope.is_native file blocks o
-    native_is (Expr-F.Expr::Name n) = rw (unknown_is n.name, around.universe) refl
-    native_is (Expr-F.Int i) = refl
-    native_is (Expr-F.String s) = refl
-    native_is (Expr-F.Expr::List xs) = refl
-    native_is (Expr-F.Expr::Tuple xs) = refl
-    native_is (Expr-F.Dict ps) = refl
-    native_is (Expr-F.ListComprehension x xs) = refl
-    native_is (Expr-F.DictComprehension p xs) = refl
-    native_is (Expr-F.Primary x ss) = refl
-    native_is (Expr-F.Unary os x) = refl
-    native_is (Expr-F.Binary x os) = refl
-    native_is (Expr-F.Compare x o z) = refl
-    native_is (Expr-F.Conditional xs z) = refl
-    native_is Expr-F.Lambda = refl
+    pub namespace_is : (o : ExprLayer) → names.namespace_at m round o env ≡ scope.namespace_at file blocks o
+    namespace_is (Expr-F.Expr::Name n) = rw (unknown_is n.name, around.universe) refl
+    namespace_is (Expr-F.Int i) = refl
+    namespace_is (Expr-F.String s) = refl
+    namespace_is (Expr-F.Expr::List xs) = refl
+    namespace_is (Expr-F.Expr::Tuple xs) = refl
+    namespace_is (Expr-F.Dict ps) = refl
+    namespace_is (Expr-F.ListComprehension x xs) = refl
+    namespace_is (Expr-F.DictComprehension p xs) = refl
+    namespace_is (Expr-F.Primary x ss) = refl
+    namespace_is (Expr-F.Unary os x) = refl
+    namespace_is (Expr-F.Binary x os) = refl
+    namespace_is (Expr-F.Compare x o z) = refl
+    namespace_is (Expr-F.Conditional xs z) = refl
+    namespace_is Expr-F.Lambda = refl

@@ -12,7 +12,7 @@ use Rattle.bq_package.specs.Calls.{meaning}
 use Rattle.bq_front.specs.Front.{kind_of}
 use Rattle.bq_module.specs.Module.{module_run}
 use Rattle.bq_load.specs.Evaluation as slots
-use Rattle.bq_load.specs.Evaluation.{module_by, or_nothing}
+use Rattle.bq_load.specs.Evaluation.{module_by, package_left}
 use Rattle.bq_load.specs.Imports as loads
 use Rattle.bq_load.specs.Sources.{LoadingParts}
 use Rattle.bq_load.specs.Views.{ModuleView}
@@ -49,7 +49,7 @@ module _ (x : LoadingParts) (parsed : List (Option ParsedFile)) (are : AreCodesO
     unfolding module_after slots.module_after evaluation slots.evaluation
     run_same l modules values =
         let agree = evaluations_agree x.names meaning parsed x.code are m file code is (map (λ v. v.frozen) modules) values x.limit (kept_first named l) in
-        (λ i. module_by (agree.0 i) (or_nothing (agree.1 i)))
+        (λ i. module_by (agree.0 i) (package_left (agree.1 i)))
         ∙ ap (λ kept. slots.module_after code values (module_run x.names meaning x.code m code (map (λ v. v.frozen) modules) values x.limit kept)) (kept_same l (kind_of l))
 
     imports_by : (l : LabelParts) (modules : List ModuleView) (r : Result (List Datum) Fault) → by_imports named m l file modules r ≡ slots.by_imports x m l code modules r

@@ -10,11 +10,11 @@ use Rattle.bq_value.specs.Datum.{Datum}
 use Rattle.bq_machine.specs.Action.{Run}
 use Rattle.bq_machine.specs.State.{State}
 use Rattle.bq_target.specs.Package.{no_targets}
-use Rattle.bq_package.specs.Calls.{HeldPackage, meaning}
+use Rattle.bq_package.specs.Calls.{HeldPackage, outside, declaring, meaning}
 use Rattle.bq_front.specs.Front.{kind_of}
 use Rattle.bq_load.specs.declared.source.Source.{Source}
 use Rattle.bq_load.specs.Views.{ModuleView, FailedView, not_evaluated}
-use Rattle.bq_load.specs.Evaluation.{module_by, or_nothing, or_no_file}
+use Rattle.bq_load.specs.Evaluation.{module_by, package_left, or_no_file}
 use Rattle.bq_named_meaning.specs.Names.{Env}
 use Rattle.bq_named_evaluation_laws.specs.Evaluation.{ParsedFile, ended, kept_after, module_run}
 use Rattle.bq_named_evaluation_laws.specs.Loads.{file_loads}
@@ -24,10 +24,10 @@ use Rattle.bq_named_load_laws.specs.Parsed.{ParsedParts}
 -- ---- a file that is evaluated
 
 abbrev pub kept_by : ParsedParts → LabelParts → FileKind → HeldPackage
-kept_by x l kinds.Bzl = None
-kept_by x l kinds.Build = Some (record { place = record { own = package_of l; files = x.files; packages = x.packages; rules = x.rules }; «package» = no_targets l })
+kept_by x l kinds.Bzl = outside (package_of l) x.packages
+kept_by x l kinds.Build = declaring (record { place = record { own = package_of l; files = x.files; packages = x.packages; rules = x.rules }; «package» = no_targets l })
 
--- a BUILD file begins with a package without targets; a .bzl file has none
+-- what the host of a file keeps at first: a BUILD file begins with a package without targets; a .bzl file declares none
 abbrev pub kept_first : ParsedParts → LabelParts → HeldPackage
 kept_first x l = kept_by x l (kind_of l)
 
@@ -37,7 +37,7 @@ evaluation x m l file modules values = module_run x.names meaning x.parsed m fil
 
 -- what an evaluation ends in, and the package that is kept then
 unfoldable pub module_after : ParsedFile → List Datum → Run (State × HeldPackage) Env → Result ModuleView FailedView
-module_after file values run = module_by (ended file values run) (or_nothing (kept_after run))
+module_after file values run = module_by (ended file values run) (package_left (kept_after run))
 
 -- ---- a module
 

@@ -15,10 +15,11 @@ use Rattle.bq_grammar.specs.declared.tree.Pair.{Pair, out-Pair}
 use Rattle.bq_grammar.specs.declared.tree.Suffix.{Suffix, out-Suffix}
 use Rattle.bq_grammar.specs.declared.tree.UnaryOperator.{UnaryOperator}
 use Rattle.bq_grammar.specs.Targets.{ExprLayer, SuffixLayer}
-use Rattle.bq_predeclared.specs.declared.predeclared.Predeclared.TheVariants as predeclared
+use Rattle.bq_predeclared.specs.declared.predeclared.Predeclared.{Predeclared}
 use Rattle.bq_scope.specs.Names.{max_layers}
-use Rattle.bq_scope.specs.Expressions.{native_call}
-use Rattle.bq_scope.specs.Universe.{host_named}
+use Rattle.bq_scope.specs.Expressions.{MemberCall, member_call}
+use Rattle.bq_scope.specs.Universe.{member_named}
+use Rattle.bq_scope.specs.declared.universe.Namespace.{Namespace}
 use Rattle.bq_value.specs.Contents.{Contents, items, pairs}
 use Rattle.bq_value.specs.Datum.{Datum, none, int, string, tuple, data_of}
 use Rattle.bq_machine.specs.Action.{Action, ◌>>=◌, pure}
@@ -26,7 +27,7 @@ use Rattle.bq_machine.specs.Args.{Passed, nothing_passed}
 use Rattle.bq_meaning.specs.Primitives.{Primitives, stop}
 use Rattle.bq_meaning.specs.Expressions.{literal, unary_each}
 use Rattle.bq_meaning.specs.Trees.{Calls}
-use Rattle.bq_named_meaning.specs.Names.{Env, Round, use_of, is_native}
+use Rattle.bq_named_meaning.specs.Names.{Env, Round, use_of, namespace_at}
 use Rattle.bq_named_meaning.specs.Comprehensions.{element, pair_element, comprehension}
 use Rattle.bq_named_meaning.specs.Trees.{Eval, ArgumentLayer}
 
@@ -153,22 +154,22 @@ module _ {S : Type 0} (m : Primitives S) (eval : Eval S) where
     operand x xs env = m.step (length xs) >>= λ _. eval x env >>= λ v. suffixes xs env v
 
     module _ (round : Round) where
-      -- the build function or rule of this name, or F20
-      abbrev pub host_by : Option ℕ → Action S Datum
-      host_by None = stop m f.UnknownName
-      host_by (Some id) = pure (m.predeclared (predeclared.Host id))
+      -- what a namespace holds by this name, or F20
+      abbrev pub member_by : Option Predeclared → Action S Datum
+      member_by None = stop m f.UnknownName
+      member_by (Some p) = pure (m.predeclared p)
 
-      -- `native.name(arguments)`, and what is done to its result
-      unfoldable pub host_call : Identifier → List Argument → List Suffix → Env → Action S Datum
-      host_call n xs ss env =
-          m.step (suc (length ss)) >>= λ _. host_by (host_named round.universe.rules n.name) >>= λ v. call_of xs env v >>= λ u. suffixes ss env u
+      -- `native.name(arguments)` or `attr.name(arguments)`, and what is done to its result
+      unfoldable pub call_member : Namespace → Identifier → List Argument → List Suffix → Env → Action S Datum
+      call_member space n xs ss env =
+          m.step (suc (length ss)) >>= λ _. member_by (member_named space round.universe.rules n.name) >>= λ v. call_of xs env v >>= λ u. suffixes ss env u
 
-      abbrev pub primary_by : Expr → List Suffix → Option (Identifier × List Argument × List Suffix) → Env → Action S Datum
+      abbrev pub primary_by : Expr → List Suffix → Option MemberCall → Env → Action S Datum
       primary_by x ss None env = operand x ss env
-      primary_by x ss (Some (n, xs, rest)) env = host_call n xs rest env
+      primary_by x ss (Some (space, n, xs, rest)) env = call_member space n xs rest env
 
       unfoldable pub primary : Expr → List Suffix → Env → Action S Datum
-      primary x ss env = primary_by x ss (native_call (is_native m round (out-Expr x) env) ss) env
+      primary x ss env = primary_by x ss (member_call (namespace_at m round (out-Expr x) env) ss) env
 
       -- ---- expressions
 

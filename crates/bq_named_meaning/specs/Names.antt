@@ -7,7 +7,8 @@ use Rattle.bq_grammar.specs.Targets.{ExprLayer}
 use Rattle.bq_scope.specs.Names.{Name, has}
 use Rattle.bq_scope.specs.Scope.{or_else}
 use Rattle.bq_scope.specs.Expressions.{is_bzl}
-use Rattle.bq_scope.specs.Universe.{UniverseParts, native, universe_has}
+use Rattle.bq_scope.specs.Universe.{UniverseParts, namespace_named, universe_has}
+use Rattle.bq_scope.specs.declared.universe.Namespace.{Namespace}
 use Rattle.bq_value.specs.Datum.{Datum}
 use Rattle.bq_machine.specs.Action.{Action, ◌>>=◌}
 use Rattle.bq_meaning.specs.Primitives.{Primitives, stop}
@@ -54,7 +55,7 @@ module _ {S : Type 0} (m : Primitives S) (round : Round) where
   is_unknown None = true
   is_unknown (Some v) = false
 
-  -- `native` of a .bzl file, where no such name is bound
-  abbrev pub is_native : ExprLayer → Env → Bool
-  is_native (Expr-F.Expr::Name n) env = is_bzl round.universe.kind && (bytes_eq n.name native && is_unknown (held env n.name))
-  is_native _ env = false
+  -- a namespace of a .bzl file, where no such name is bound
+  abbrev pub namespace_at : ExprLayer → Env → Option Namespace
+  namespace_at (Expr-F.Expr::Name n) env = if is_bzl round.universe.kind && is_unknown (held env n.name) then namespace_named n.name else None
+  namespace_at _ env = None

@@ -4,7 +4,7 @@ use Rattle.std.specs.List.{AllByRecursion}
 use Rattle.bq_scope.specs.declared.code.CodeFunction.{CodeFunction}
 use Rattle.bq_scope.specs.Scope.{FileParts}
 use Rattle.bq_scope_laws.specs.Resolution.{InOrder, Maybe}
-use Rattle.bq_value.specs.Datum.{Datum, none, boolean, int, string, tuple, range, cell, function, built_in, list_of}
+use Rattle.bq_value.specs.Datum.{Datum, none, boolean, int, string, tuple, range, cell, function, built_in, rule_function, attribute, list_of}
 use Rattle.bq_machine.specs.Args.{Passed}
 use Rattle.bq_depth_laws.specs.Fits.{FunctionFits}
 use Rattle.bq_meaning.specs.Calls as slots
@@ -80,13 +80,15 @@ module _ {S : Type 0} (m : Primitives S) where
     unfolding names.apply slots.apply names.call_at slots.call_at
     apply_alike i j h (function home place name ds) p s = unit_alike i j h home place (list_of ds) p (named home) (units home) (agree home) s
     apply_alike i j h (built_in name) p s = itself (m.call_built_in name p s)
+    apply_alike i j h (rule_function f) p s = itself (m.call_rule_function f p s)
+    apply_alike i j h (cell home number) p s = itself (m.call_cell home number p s)
     apply_alike i j h none p s = refl
     apply_alike i j h (boolean b) p s = refl
     apply_alike i j h (int n) p s = refl
     apply_alike i j h (string t) p s = refl
     apply_alike i j h (tuple xs) p s = refl
     apply_alike i j h (range a b c) p s = refl
-    apply_alike i j h (cell a b) p s = refl
+    apply_alike i j h (attribute a) p s = refl
 
     pub calls_agree : (n : ℕ) → CallsAgree (names.calls n m named) (slots.calls n m units)
     unfolding names.calls slots.calls

@@ -20,14 +20,14 @@ module _ (o : Options) (files : List File) (r : ReportView) where
   by_slots (IsReportByNames.wrong_schema query line checked schema is) = IsReportOn.wrong_schema query line checked schema is
   by_slots (IsReportByNames.too_many query rules checked schema many is) = IsReportOn.too_many query rules checked schema many is
   by_slots (IsReportByNames.loaded query rules g checked schema graph reports) =
-      IsReportOn.loaded query rules g checked schema graph (subst (λ (i : Inside). Reports i rules query o.output r) (inside_same files rules o.max_steps g graph) reports)
+      IsReportOn.loaded query rules g checked schema graph (subst (λ (i : Inside). Reports i query o.output r) (inside_same files rules o.max_steps g graph) reports)
 
   by_names : IsReportOn o files r → IsReportByNames o files r
   by_names (IsReportOn.wrong_query why wrong is) = IsReportByNames.wrong_query why wrong is
   by_names (IsReportOn.wrong_schema query line checked schema is) = IsReportByNames.wrong_schema query line checked schema is
   by_names (IsReportOn.too_many query rules checked schema many is) = IsReportByNames.too_many query rules checked schema many is
   by_names (IsReportOn.loaded query rules g checked schema graph reports) =
-      IsReportByNames.loaded query rules g checked schema graph (subst (λ (i : Inside). Reports i rules query o.output r) (sym (inside_same files rules o.max_steps g graph)) reports)
+      IsReportByNames.loaded query rules g checked schema graph (subst (λ (i : Inside). Reports i query o.output r) (sym (inside_same files rules o.max_steps g graph)) reports)
 
   pub reports_agree : IsReportByNames o files r ↔ IsReportOn o files r
   reports_agree = (by_slots, by_names)

@@ -38,4 +38,4 @@ pub data IsReportByNames (o : Options) (files : List File) (r : ReportView) : Ty
   too_many : (query : CheckedQuery) (rules : Rules) → IsChecked o.query.items query → schema_in files ≡ Ok rules → AreTooMany (inputs_of files rules)
       → r ≡ refused TooManyModules → IsReportByNames o files r
   loaded : (query : CheckedQuery) (rules : Rules) (g : GraphParts) → IsChecked o.query.items query → schema_in files ≡ Ok rules
-      → IsLoadGraph (inputs_of files rules) g → Reports (loaded_by_names files rules o.max_steps g) rules query o.output r → IsReportByNames o files r
+      → IsLoadGraph (inputs_of files rules) g → Reports (loaded_by_names files rules o.max_steps g) query o.output r → IsReportByNames o files r

@@ -4,7 +4,7 @@ use Rattle.bq_source.specs.declared.fault.FaultKind.TheVariants.{WrongType}
 use Rattle.bq_grammar.specs.declared.tree.Operator.{Operator}
 use Rattle.bq_grammar.specs.declared.tree.Operator.TheVariants as op
 use Rattle.bq_value.specs.Datum.{Datum, cell}
-use Rattle.bq_value.specs.Contents.{Contents, items, pairs}
+use Rattle.bq_value.specs.Contents.{Contents, items, pairs, rule}
 use Rattle.bq_value.specs.Pairs.{put}
 use Rattle.bq_operators.specs.Place.{indexed}
 use Rattle.bq_machine.specs.State.{State}
@@ -24,21 +24,25 @@ use Rattle.bq_operate.specs.Operate.{binary}
 unfoldable pub list_extended : List Datum → Change (Unit {0})
 list_extended more (items xs) = and_then (joined xs more) (λ ys. Ok (tt, items ys))
 list_extended more (pairs ps) = Err WrongType
+list_extended more (rule c) = Err WrongType
 
 -- these pairs put in turn
 unfoldable pub dict_united : List (Datum × Datum) → Change (Unit {0})
 dict_united more (pairs ps) = and_then (limited (put_all ps more)) (λ qs. Ok (tt, pairs qs))
 dict_united more (items xs) = Err WrongType
+dict_united more (rule c) = Err WrongType
 
 -- another value at an index (F43)
 unfoldable pub element_set : ℤ → Datum → Change (Unit {0})
 element_set i v (items xs) = and_then (indexed (length xs) i) (λ k. Ok (tt, items (set xs k v)))
 element_set i v (pairs ps) = Err WrongType
+element_set i v (rule c) = Err WrongType
 
 -- another value of a key, or a new pair (F54)
 unfoldable pub pair_put : Datum → Datum → Change (Unit {0})
 pair_put k v (pairs ps) = and_then (limited (put k v ps)) (λ qs. Ok (tt, pairs qs))
 pair_put k v (items xs) = Err WrongType
+pair_put k v (rule c) = Err WrongType
 
 -- ---- the operators
 
@@ -60,10 +64,11 @@ augment op.Add a b = augment_sum a b
 augment op.BitOr a b = augment_union a b
 augment operator a b = binary operator a b
 
--- a list by an index, a dict by a key
+-- a list by an index, a dict by a key; a rule is neither
 abbrev pub set_in : ℕ → ℕ → Datum → Datum → Contents → Action State (Unit {0})
 set_in home number at v (items xs) = given (int_of at) >>= λ i. changing home number (element_set i v)
 set_in home number at v (pairs ps) = may_change home number >> (key at >>= λ k. changing home number (pair_put k v))
+set_in home number at v (rule c) = stop WrongType
 
 unfoldable pub set_item : ℕ → ℕ → Datum → Datum → Action State (Unit {0})
 set_item home number at v = content home number >>= λ c. set_in home number at v c

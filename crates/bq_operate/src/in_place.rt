@@ -70,6 +70,7 @@ fn list_extended(content: &mut Content, more: Elements) -> Result<(), EvalErr>
     match &mut content.body {
         Body::List(values) => push_all(values, more),
         Body::Dict(_) => Err(EvalErr::Bad(FaultKind::WrongType)),
+        Body::Rule(_) => Err(EvalErr::Bad(FaultKind::WrongType)),
     }
 }
 
@@ -141,6 +142,7 @@ fn dict_united(content: &mut Content, more: &[(Key, Value)]) -> Result<(), EvalE
     match &mut content.body {
         Body::List(_) => Err(EvalErr::Bad(FaultKind::WrongType)),
         Body::Dict(dict) => put_pairs(dict, more),
+        Body::Rule(_) => Err(EvalErr::Bad(FaultKind::WrongType)),
     }
 }
 
@@ -208,6 +210,7 @@ fn set_item(machine: &mut Machine, cell: Cell, at: &Value, value: Value) -> Resu
             let key = machine.key(at)?;
             set_value(machine, cell, key, value)
         }
+        Body::Rule(_) => Err(EvalErr::Bad(FaultKind::WrongType)),
     }
 }
 
@@ -230,6 +233,7 @@ fn element_set(content: &mut Content, at: i64, value: Value) -> Result<(), EvalE
             Ok(())
         }
         Body::Dict(_) => Err(EvalErr::Bad(FaultKind::WrongType)),
+        Body::Rule(_) => Err(EvalErr::Bad(FaultKind::WrongType)),
     }
 }
 
@@ -251,5 +255,6 @@ fn pair_put(content: &mut Content, key: Key, value: Value) -> Result<(), EvalErr
             put_pair(dict, key, value)?;
             check_len(dict)
         }
+        Body::Rule(_) => Err(EvalErr::Bad(FaultKind::WrongType)),
     }
 }

@@ -34,7 +34,7 @@ pub(crate) fn contained(
     }
 }
 
-/// In a list or dict.
+/// In what a cell holds.
 fn in_content(
     store: &Store,
     steps: u64,
@@ -46,6 +46,7 @@ fn in_content(
     match &content.body {
         Body::List(values) => Ok(in_list(store, steps, value, values)?),
         Body::Dict(dict) => in_dict(steps, value, dict),
+        Body::Rule(_) => Err(EvalErr::Bad(FaultKind::WrongType)),
     }
 }
 

@@ -28,6 +28,7 @@ pub(crate) fn list_in<'s>(store: &'s Store, value: &Value) -> Result<&'s [Value]
             Some(content) => match &content.body {
                 Body::List(values) => Ok(values.as_slice()),
                 Body::Dict(_) => Err(EvalErr::Bad(FaultKind::WrongType)),
+                Body::Rule(_) => Err(EvalErr::Bad(FaultKind::WrongType)),
             },
         },
         _ => Err(EvalErr::Bad(FaultKind::WrongType)),
@@ -44,6 +45,7 @@ pub(crate) fn dict_in<'s>(store: &'s Store, value: &Value) -> Result<&'s Dict, E
             Some(content) => match &content.body {
                 Body::List(_) => Err(EvalErr::Bad(FaultKind::WrongType)),
                 Body::Dict(dict) => Ok(dict),
+                Body::Rule(_) => Err(EvalErr::Bad(FaultKind::WrongType)),
             },
         },
         _ => Err(EvalErr::Bad(FaultKind::WrongType)),

@@ -35,13 +35,14 @@ pub(crate) fn item_of(
     }
 }
 
-/// Of a list or dict.
+/// Of what a cell holds.
 fn content_item(steps: u64, content: &Content, at: &Value) -> Result<(Value, u64), EvalErr>
     ensures { Gives (λ answer. answer) Bad result (content_item steps (Some content.now) at.now) }
 {
     match &content.body {
         Body::List(values) => Ok((item_in(values, at)?, steps)),
         Body::Dict(dict) => value_in(steps, dict, at),
+        Body::Rule(_) => Err(EvalErr::Bad(FaultKind::WrongType)),
     }
 }
 

@@ -10,3 +10,5 @@ pub mod Settling
 pub mod Owning
 -- what is declared stays
 pub mod Staying
+-- both ways of declaring rules are one; what a host says beside
+pub mod Alike

@@ -1,9 +1,10 @@
 -- What calls mean, one function at a time, from what is read of their arguments.
-use Rattle.std.proofs.Common.{◌≡◌, ℕ, true, List, Some, None, Result, Ok, Err, refl, subst}
+use Rattle.std.proofs.Common.{◌≡◌, ℕ, true, List, Result, Ok, Err, refl, subst}
 use Rattle.bq_source.specs.Gives.{Gives}
 use Rattle.bq_source.specs.declared.fault.FaultKind.{FaultKind}
 use Rattle.bq_source.specs.declared.fault.FaultKind.TheVariants as f
 use Rattle.bq_label.specs.Label.{LabelParts}
+use Rattle.bq_rule_class.specs.Class.{Class}
 use Rattle.bq_value.specs.Datum.{Datum, none, string}
 use Rattle.bq_value.specs.declared.error.EvalErr.{EvalErr}
 use Rattle.bq_value.specs.declared.error.EvalErr.TheVariants.{Bad}
@@ -24,75 +25,75 @@ use Rattle.bq_package.specs.Bound.{any_parameters, no_parameters}
 use Rattle.bq_package.specs.Glob.{globbed}
 use Rattle.bq_package.specs.Files.{files_named}
 use Rattle.bq_package.specs.Groups.{group_named}
-use Rattle.bq_package.specs.Rules.{rule_target}
-use Rattle.bq_package.specs.Calls.{HeldPackage, Declaring, place_in, new_strings, package_name, ignored, settled, declares, call_in, call_by}
+use Rattle.bq_package.specs.Rules.{declared_target, rule_target}
+use Rattle.bq_package.specs.Calls.{HeldPackage, outside, declaring, Declaring, place_in, new_strings, package_name, ignored, settled, declares, call_in, call_by, rule_by}
 use Rattle.bq_package.specs.Keeping.{IsSettled}
-use Rattle.bq_package.proofs.Refusals.{IsRefusable, of_glob, of_files, of_group, of_rule, of_both, of_bind}
+use Rattle.bq_package.proofs.Refusals.{IsRefusable, of_glob, of_files, of_group, of_rule, of_declaration, of_both, of_bind}
 
 abbrev Answer : Type 0
 Answer = Result Datum EvalErr
 
 -- no BUILD file is evaluated
-pub outside : (s : State) (kept : HeldPackage) (function : BuildFunction) (passed : Passed) (why : FaultKind) → place_in kept ≡ Err why → call_by s kept function passed ≡ stopped (stop_at why s)
-outside s None function passed why h = let e : f.NotInPackage ≡ why = cc in subst (λ (w : FaultKind). call_by s None function passed ≡ stopped (stop_at w s)) e refl
-outside s (Some d) function passed why h = absurd (cc)
+pub refused_outside : (s : State) (kept : HeldPackage) (function : BuildFunction) (passed : Passed) (why : FaultKind) → place_in kept ≡ Err why → call_by s kept function passed ≡ stopped (stop_at why s)
+refused_outside s (outside own packages) function passed why h = let e : f.NotInPackage ≡ why = cc in subst (λ (w : FaultKind). call_by s (outside own packages) function passed ≡ stopped (stop_at w s)) e refl
+refused_outside s (declaring d) function passed why h = absurd (cc)
 
 pub glob_refused : (s : State) (kept : HeldPackage) (p : PlaceView) (passed : Passed) (why : FaultKind) → place_in kept ≡ Ok p → globbed p s.store passed ≡ Err why → call_by s kept b.Glob passed ≡ stopped (stop_at why s)
 unfolding call_in
-glob_refused s None p passed why inside h = absurd (cc)
-glob_refused s (Some d) p passed why inside h = let e : d.place ≡ p = cc in rw (e, h) refl
+glob_refused s (outside own packages) p passed why inside h = absurd (cc)
+glob_refused s (declaring d) p passed why inside h = let e : d.place ≡ p = cc in rw (e, h) refl
 
 pub files_refused : (s : State) (kept : HeldPackage) (p : PlaceView) (passed : Passed) (why : FaultKind) → place_in kept ≡ Ok p → files_named p s.store passed ≡ Err why → call_by s kept b.ExportsFiles passed ≡ stopped (stop_at why s)
 unfolding call_in
-files_refused s None p passed why inside h = absurd (cc)
-files_refused s (Some d) p passed why inside h = let e : d.place ≡ p = cc in rw (e, h) refl
+files_refused s (outside own packages) p passed why inside h = absurd (cc)
+files_refused s (declaring d) p passed why inside h = let e : d.place ≡ p = cc in rw (e, h) refl
 
 pub group_refused : (s : State) (kept : HeldPackage) (p : PlaceView) (passed : Passed) (why : FaultKind) → place_in kept ≡ Ok p → group_named p s.store s.line passed ≡ Err why → call_by s kept b.PackageGroup passed ≡ stopped (stop_at why s)
 unfolding call_in
-group_refused s None p passed why inside h = absurd (cc)
-group_refused s (Some d) p passed why inside h = let e : d.place ≡ p = cc in rw (e, h) refl
+group_refused s (outside own packages) p passed why inside h = absurd (cc)
+group_refused s (declaring d) p passed why inside h = let e : d.place ≡ p = cc in rw (e, h) refl
 
 pub rule_refused : (s : State) (kept : HeldPackage) (p : PlaceView) (passed : Passed) (rule : ℕ) (why : FaultKind) → place_in kept ≡ Ok p → rule_target p s.store s.line rule passed ≡ Err why
     → call_by s kept (b.Rule rule) passed ≡ stopped (stop_at why s)
 unfolding call_in
-rule_refused s None p passed rule why inside h = absurd (cc)
-rule_refused s (Some d) p passed rule why inside h = let e : d.place ≡ p = cc in rw (e, h) refl
+rule_refused s (outside own packages) p passed rule why inside h = absurd (cc)
+rule_refused s (declaring d) p passed rule why inside h = let e : d.place ≡ p = cc in rw (e, h) refl
 
 -- the names that `glob` gives become a new list
 pub glob_done : (s m : State) (kept : HeldPackage) (p : PlaceView) (passed : Passed) (names : List (List ℕ)) (result : Answer) → place_in kept ≡ Ok p → globbed p s.store passed ≡ Ok names
     → Does (λ v. v) result m (new_strings names s) → HostDoes (λ v. v) result m kept (call_by s kept b.Glob passed)
 unfolding call_in
-glob_done s m None p passed names result inside h does = absurd (cc)
-glob_done s m (Some d) p passed names (Ok v) inside h does = let e : d.place ≡ p = cc in rw (e, h, does) refl
-glob_done s m (Some d) p passed names (Err x) inside h does = λ why is. let e : d.place ≡ p = cc in rw (e, h, does why is) refl
+glob_done s m (outside own packages) p passed names result inside h does = absurd (cc)
+glob_done s m (declaring d) p passed names (Ok v) inside h does = let e : d.place ≡ p = cc in rw (e, h, does) refl
+glob_done s m (declaring d) p passed names (Err x) inside h does = λ why is. let e : d.place ≡ p = cc in rw (e, h, does why is) refl
 
 pub name_done : (kept : HeldPackage) (p : PlaceView) (passed : Passed) (result : Answer) → place_in kept ≡ Ok p → Gives (λ v. v) Bad result (package_name p passed)
     → (s : State) → HostDoes (λ v. v) result s kept (call_by s kept b.PackageName passed)
 unfolding call_in
-name_done None p passed result inside gives s = absurd (cc)
-name_done (Some d) p passed (Ok v) inside gives s = let e : d.place ≡ p = cc in rw (e, gives) refl
-name_done (Some d) p passed (Err x) inside gives s = λ why is. let e : d.place ≡ p = cc in rw (e, gives why is) refl
+name_done (outside own packages) p passed result inside gives s = absurd (cc)
+name_done (declaring d) p passed (Ok v) inside gives s = let e : d.place ≡ p = cc in rw (e, gives) refl
+name_done (declaring d) p passed (Err x) inside gives s = λ why is. let e : d.place ≡ p = cc in rw (e, gives why is) refl
 
 pub package_done : (kept : HeldPackage) (p : PlaceView) (passed : Passed) (result : Answer) → place_in kept ≡ Ok p → Gives (λ v. v) Bad result (ignored passed)
     → (s : State) → HostDoes (λ v. v) result s kept (call_by s kept b.Package passed)
 unfolding call_in
-package_done None p passed result inside gives s = absurd (cc)
-package_done (Some d) p passed (Ok v) inside gives s = rw gives refl
-package_done (Some d) p passed (Err x) inside gives s = λ why is. rw (gives why is) refl
+package_done (outside own packages) p passed result inside gives s = absurd (cc)
+package_done (declaring d) p passed (Ok v) inside gives s = rw gives refl
+package_done (declaring d) p passed (Err x) inside gives s = λ why is. rw (gives why is) refl
 
 pub licenses_done : (kept : HeldPackage) (p : PlaceView) (passed : Passed) (result : Answer) → place_in kept ≡ Ok p → Gives (λ v. v) Bad result (ignored passed)
     → (s : State) → HostDoes (λ v. v) result s kept (call_by s kept b.Licenses passed)
 unfolding call_in
-licenses_done None p passed result inside gives s = absurd (cc)
-licenses_done (Some d) p passed (Ok v) inside gives s = rw gives refl
-licenses_done (Some d) p passed (Err x) inside gives s = λ why is. rw (gives why is) refl
+licenses_done (outside own packages) p passed result inside gives s = absurd (cc)
+licenses_done (declaring d) p passed (Ok v) inside gives s = rw gives refl
+licenses_done (declaring d) p passed (Err x) inside gives s = λ why is. rw (gives why is) refl
 
 -- a call that declares
 pub files_done : (s : State) (kept after : HeldPackage) (p : PlaceView) (passed : Passed) (ls : List LabelParts) (result : Answer) → place_in kept ≡ Ok p → files_named p s.store passed ≡ Ok ls
     → IsSettled result kept after (λ q. exported q ls s.line) → HostDoes (λ v. v) result s after (call_by s kept b.ExportsFiles passed)
 unfolding call_in
-files_done s None after p passed ls result inside h settles = absurd (cc)
-files_done s (Some d) after p passed ls result inside h settles =
+files_done s (outside own packages) after p passed ls result inside h settles = absurd (cc)
+files_done s (declaring d) after p passed ls result inside h settles =
     let e : p ≡ d.place = cc in
     let here : files_named d.place s.store passed ≡ Ok ls = subst (λ (q : PlaceView). files_named q s.store passed ≡ Ok ls) e h in
     rw here (settles.says s d refl)
@@ -100,8 +101,8 @@ files_done s (Some d) after p passed ls result inside h settles =
 pub group_done : (s : State) (kept after : HeldPackage) (p : PlaceView) (passed : Passed) (t : Target) (result : Answer) → place_in kept ≡ Ok p → group_named p s.store s.line passed ≡ Ok t
     → IsSettled result kept after (λ q. declared q t) → HostDoes (λ v. v) result s after (call_by s kept b.PackageGroup passed)
 unfolding call_in
-group_done s None after p passed t result inside h settles = absurd (cc)
-group_done s (Some d) after p passed t result inside h settles =
+group_done s (outside own packages) after p passed t result inside h settles = absurd (cc)
+group_done s (declaring d) after p passed t result inside h settles =
     let e : p ≡ d.place = cc in
     let here : group_named d.place s.store s.line passed ≡ Ok t = subst (λ (q : PlaceView). group_named q s.store s.line passed ≡ Ok t) e h in
     rw here (settles.says s d refl)
@@ -109,10 +110,28 @@ group_done s (Some d) after p passed t result inside h settles =
 pub rule_done : (s : State) (kept after : HeldPackage) (p : PlaceView) (passed : Passed) (rule : ℕ) (t : Target) (result : Answer) → place_in kept ≡ Ok p
     → rule_target p s.store s.line rule passed ≡ Ok t → IsSettled result kept after (λ q. declared q t) → HostDoes (λ v. v) result s after (call_by s kept (b.Rule rule) passed)
 unfolding call_in
-rule_done s None after p passed rule t result inside h settles = absurd (cc)
-rule_done s (Some d) after p passed rule t result inside h settles =
+rule_done s (outside own packages) after p passed rule t result inside h settles = absurd (cc)
+rule_done s (declaring d) after p passed rule t result inside h settles =
     let e : p ≡ d.place = cc in
     let here : rule_target d.place s.store s.line rule passed ≡ Ok t = subst (λ (q : PlaceView). rule_target q s.store s.line rule passed ≡ Ok t) e h in
+    rw here (settles.says s d refl)
+
+-- a rule that a .bzl file declares
+pub rule_outside : (s : State) (kept : HeldPackage) (rule : List ℕ) (class : Class) (passed : Passed) (why : FaultKind) → place_in kept ≡ Err why → rule_by s kept rule class passed ≡ stopped (stop_at why s)
+rule_outside s (outside own packages) rule class passed why h = let e : f.NotInPackage ≡ why = cc in subst (λ (w : FaultKind). rule_by s (outside own packages) rule class passed ≡ stopped (stop_at w s)) e refl
+rule_outside s (declaring d) rule class passed why h = absurd (cc)
+
+pub declared_refused : (s : State) (kept : HeldPackage) (p : PlaceView) (rule : List ℕ) (class : Class) (passed : Passed) (why : FaultKind) → place_in kept ≡ Ok p
+    → declared_target p s.store s.line rule class passed ≡ Err why → rule_by s kept rule class passed ≡ stopped (stop_at why s)
+declared_refused s (outside own packages) p rule class passed why inside h = absurd (cc)
+declared_refused s (declaring d) p rule class passed why inside h = let e : d.place ≡ p = cc in rw (e, h) refl
+
+pub declared_done : (s : State) (kept after : HeldPackage) (p : PlaceView) (rule : List ℕ) (class : Class) (passed : Passed) (t : Target) (result : Answer) → place_in kept ≡ Ok p
+    → declared_target p s.store s.line rule class passed ≡ Ok t → IsSettled result kept after (λ q. declared q t) → HostDoes (λ v. v) result s after (rule_by s kept rule class passed)
+declared_done s (outside own packages) after p rule class passed t result inside h settles = absurd (cc)
+declared_done s (declaring d) after p rule class passed t result inside h settles =
+    let e : p ≡ d.place = cc in
+    let here : declared_target d.place s.store s.line rule class passed ≡ Ok t = subst (λ (q : PlaceView). declared_target q s.store s.line rule class passed ≡ Ok t) e h in
     rw here (settles.says s d refl)
 
 -- ---- refusals
@@ -123,11 +142,11 @@ halted why = stopped why
 stops : (s : State) (kind : FaultKind) (why : Stop) → halted (stop_at kind s) ≡ halted why → is_refusal kind ≡ true → is_refusal why.kind ≡ true
 stops s kind why h is = let e : stop_at kind s ≡ why = cc in subst (λ (w : Stop). is_refusal w.kind ≡ true) e is
 
-of_answer : (s : State) (d : Declaring) (r : Result Datum FaultKind) (why : Stop) → IsRefusable r → on_machine {W = HeldPackage} (given r) (s, Some d) ≡ stopped why → is_refusal why.kind ≡ true
+of_answer : (s : State) (d : Declaring) (r : Result Datum FaultKind) (why : Stop) → IsRefusable r → on_machine {W = HeldPackage} (given r) (s, declaring d) ≡ stopped why → is_refusal why.kind ≡ true
 of_answer s d (Ok v) why is h = absurd (cc)
 of_answer s d (Err kind) why is h = stops s kind why h is
 
-of_names : (s : State) (d : Declaring) (r : Result (List (List ℕ)) FaultKind) (why : Stop) → IsRefusable r → on_machine {W = HeldPackage} (given r >>= new_strings) (s, Some d) ≡ stopped why
+of_names : (s : State) (d : Declaring) (r : Result (List (List ℕ)) FaultKind) (why : Stop) → IsRefusable r → on_machine {W = HeldPackage} (given r >>= new_strings) (s, declaring d) ≡ stopped why
     → is_refusal why.kind ≡ true
 unfolding new_strings new_list new_content
 of_names s d (Ok names) why is h = absurd (cc)
@@ -161,10 +180,20 @@ of_call s d b.PackageGroup passed why h = of_declares s d (group_named d.place s
 of_call s d (b.Rule rule) passed why h = of_declares s d (rule_target d.place s.store s.line rule passed) (declared d.package) why (of_rule d.place s.store s.line rule passed) h
 
 of_kept : (s : State) (kept : HeldPackage) (function : BuildFunction) (passed : Passed) (why : Stop) → call_by s kept function passed ≡ stopped why → is_refusal why.kind ≡ true
-of_kept s None function passed why h = stops s f.NotInPackage why h refl
-of_kept s (Some d) function passed why h = of_call s d function passed why h
+of_kept s (outside own packages) function passed why h = stops s f.NotInPackage why h refl
+of_kept s (declaring d) function passed why h = of_call s d function passed why h
 
 -- a call is refused for a fault of the table
 pub refuses : (result : Answer) (s m : State) (kept after : HeldPackage) (function : BuildFunction) (passed : Passed) → HostDoes (λ v. v) result m after (call_by s kept function passed) → Refuses result
 refuses (Ok v) s m kept after function passed does = tt
 refuses (Err e) s m kept after function passed does = λ kind is. of_kept s kept function passed (stop_at kind m) (does kind is)
+
+of_rule_kept : (s : State) (kept : HeldPackage) (rule : List ℕ) (class : Class) (passed : Passed) (why : Stop) → rule_by s kept rule class passed ≡ stopped why → is_refusal why.kind ≡ true
+unfolding declared_target
+of_rule_kept s (outside own packages) rule class passed why h = stops s f.NotInPackage why h refl
+of_rule_kept s (declaring d) rule class passed why h =
+    of_declares s d (declared_target d.place s.store s.line rule class passed) (declared d.package) why (of_declaration d.place.own d.place.packages s.store class rule s.line passed) h
+
+pub rule_refuses : (result : Answer) (s m : State) (kept after : HeldPackage) (rule : List ℕ) (class : Class) (passed : Passed) → HostDoes (λ v. v) result m after (rule_by s kept rule class passed) → Refuses result
+rule_refuses (Ok v) s m kept after rule class passed does = tt
+rule_refuses (Err e) s m kept after rule class passed does = λ kind is. of_rule_kept s kept rule class passed (stop_at kind m) (does kind is)

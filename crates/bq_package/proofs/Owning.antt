@@ -2,6 +2,7 @@
 use Rattle.std.proofs.Common.{◌≡◌, ℕ, Bool, true, false, cond, List, ◌++◌, Option, Some, None, Ok, refl, sym, subst, slice_get}
 use Rattle.std.specs.List.{list_all, list_any}
 use Rattle.bq_label.specs.Label.{PackageParts, LabelParts, package_of}
+use Rattle.bq_rule_class.specs.Class.{Class}
 use Rattle.bq_value.specs.Cells.{StoreView}
 use Rattle.bq_machine.specs.Args.{Passed}
 use Rattle.bq_machine.specs.Binding.{bind}
@@ -22,8 +23,8 @@ use Rattle.bq_package.specs.Place.{PlaceView}
 use Rattle.bq_package.specs.Bound.{exports_parameters, group_parameters, argument, text_of, texts_of}
 use Rattle.bq_package.specs.Files.{files_named}
 use Rattle.bq_package.specs.Groups.{names_first, group, group_labels, group_of, group_named}
-use Rattle.bq_package.specs.Rules.{target_by, rule_target}
-use Rattle.bq_package.specs.Calls.{HeldPackage, place_in}
+use Rattle.bq_package.specs.Rules.{declared_target, target_by, rule_target}
+use Rattle.bq_package.specs.Calls.{HeldPackage, outside, declaring, place_in}
 use Rattle.bq_package.specs.Keeping.{package_after, OwnsTarget, OwnsFiles}
 
 -- ---- files
@@ -36,14 +37,14 @@ files_of p store passed ls h =
     name_labels_own p.own p.packages q.0 ls q.2
 
 pub files_owned : (kept : HeldPackage) (p : PlaceView) (store : StoreView) (passed : Passed) (ls : List LabelParts) → place_in kept ≡ Ok p → files_named p store passed ≡ Ok ls → OwnsFiles kept ls
-files_owned None p store passed ls inside h = tt
-files_owned (Some d) p store passed ls inside h = let e : p ≡ d.place = cc in subst (λ (q : PlaceView). list_all (is_of q.own) ls ≡ true) e (files_of p store passed ls h)
+files_owned (outside own packages) p store passed ls inside h = tt
+files_owned (declaring d) p store passed ls inside h = let e : p ≡ d.place = cc in subst (λ (q : PlaceView). list_all (is_of q.own) ls ≡ true) e (files_of p store passed ls h)
 
 -- ---- targets
 
 target_owned : (kept : HeldPackage) (p : PlaceView) (t : Target) → place_in kept ≡ Ok p → IsOwnCall p.own t → OwnsTarget kept t
-target_owned None p t inside h = tt
-target_owned (Some d) p t inside h = let e : p ≡ d.place = cc in subst (λ (q : PlaceView). IsOwnCall q.own t) e h
+target_owned (outside own packages) p t inside h = tt
+target_owned (declaring d) p t inside h = let e : p ≡ d.place = cc in subst (λ (q : PlaceView). IsOwnCall q.own t) e h
 
 group_is_own : (own : PackageParts) (line : ℕ) (l : LabelParts) (includes : List LabelParts) → is_of own l ≡ true → IsOwnCall own (group line l includes)
 unfolding declares_targets
@@ -75,13 +76,20 @@ group_own p store line passed t h =
 pub group_owned : (kept : HeldPackage) (p : PlaceView) (store : StoreView) (line : ℕ) (passed : Passed) (t : Target) → place_in kept ≡ Ok p → group_named p store line passed ≡ Ok t → OwnsTarget kept t
 group_owned kept p store line passed t inside h = target_owned kept p t inside (group_own p store line passed t h)
 
-rule_own : (p : PlaceView) (store : StoreView) (line : ℕ) (name : Option (List ℕ)) (passed : Passed) (t : Target) → target_by p store line name passed ≡ Ok t → IsOwnCall p.own t
-rule_own p store line None passed t h = absurd (cc)
-rule_own p store line (Some rule) passed t h = declared_own p.own p.packages store p.rules rule line passed t h
+rule_own : (p : PlaceView) (store : StoreView) (line : ℕ) (name : Option (List ℕ)) (class : Option Class) (passed : Passed) (t : Target) → target_by p store line name class passed ≡ Ok t → IsOwnCall p.own t
+unfolding declared_target
+rule_own p store line None class passed t h = absurd (cc)
+rule_own p store line (Some rule) None passed t h = absurd (cc)
+rule_own p store line (Some rule) (Some class) passed t h = declared_own p.own p.packages store class rule line passed t h
 
 pub rule_owned : (kept : HeldPackage) (p : PlaceView) (store : StoreView) (line rule : ℕ) (passed : Passed) (t : Target) → place_in kept ≡ Ok p → rule_target p store line rule passed ≡ Ok t → OwnsTarget kept t
 unfolding rule_target
-rule_owned kept p store line rule passed t inside h = target_owned kept p t inside (rule_own p store line (slice_get p.rules.names rule) passed t h)
+rule_owned kept p store line rule passed t inside h = target_owned kept p t inside (rule_own p store line (slice_get p.rules.names rule) (slice_get p.rules.classes rule) passed t h)
+
+pub declared_owned : (kept : HeldPackage) (p : PlaceView) (store : StoreView) (line : ℕ) (rule : List ℕ) (class : Class) (passed : Passed) (t : Target) → place_in kept ≡ Ok p → declared_target p store line rule class passed ≡ Ok t
+    → OwnsTarget kept t
+unfolding declared_target
+declared_owned kept p store line rule class passed t inside h = target_owned kept p t inside (declared_own p.own p.packages store class rule line passed t h)
 
 -- ---- the package that a call leaves
 

@@ -1,19 +1,24 @@
 -- Each fault for which a call is refused is one that a host may refuse a call for.
-use Rattle.std.proofs.Common.{◌≡◌, ℕ, Bool, true, false, cond, List, [], ◌∷◌, ◌++◌, Option, Some, None, Result, Ok, Err, refl, slice_get}
+use Rattle.std.proofs.Common.{◌≡◌, ℕ, Bool, true, false, cond, List, [], ◌∷◌, ◌++◌, Option, Some, None, Result, Ok, Err, refl, subst, slice_get}
 use Rattle.std.specs.Prelude.{◌||◌, ◌==◌, pos, negsuc, ℤ, codes, bytes_eq, is_some}
 use Rattle.std.specs.List.{list_any, position_from}
+use Rattle.bq_source.specs.Gives.{Gives}
 use Rattle.bq_source.specs.declared.fault.FaultKind.{FaultKind}
 use Rattle.bq_source.specs.declared.fault.FaultKind.TheVariants as f
 use Rattle.bq_label.specs.declared.packages.BuildFile.{BuildFile}
 use Rattle.bq_label.specs.Label.{PackageParts, LabelParts, label_in}
 use Rattle.bq_label.specs.Paths.{is_path}
 use Rattle.bq_label.specs.Reading.{label_of}
-use Rattle.bq_schema.specs.declared.attribute.AttributeType.{AttributeType}
-use Rattle.bq_schema.specs.declared.attribute.AttributeType.TheVariants as t
-use Rattle.bq_schema.specs.Schema.{Rules}
-use Rattle.bq_target.specs.declared.value.AttributeValue.TheVariants as a
+use Rattle.bq_rule_class.specs.declared.attribute_type.AttributeType.{AttributeType}
+use Rattle.bq_rule_class.specs.declared.attribute_type.AttributeType.TheVariants as t
+use Rattle.bq_rule_class.specs.Class.{Class}
+use Rattle.bq_rule_class.specs.declared.value.AttributeValue.TheVariants as a
 use Rattle.bq_target.specs.Value.{attribute_type}
-use Rattle.bq_value.specs.Datum.{Datum, none, boolean, int, string, tuple, range, cell, function, built_in}
+use Rattle.bq_target.specs.declared.value.GivenAttribute.{GivenAttribute}
+use Rattle.bq_value.specs.declared.error.EvalErr.{EvalErr}
+use Rattle.bq_value.specs.declared.error.EvalErr.TheVariants.{Bad}
+use Rattle.bq_value.specs.Datum.{Datum, none, boolean, int, string, tuple, range, cell, function, built_in, rule_function, attribute}
+use Rattle.bq_value.specs.Contents as content
 use Rattle.bq_value.specs.Contents.{Contents, items, pairs}
 use Rattle.bq_value.specs.Cells.{StoreView, content_at}
 use Rattle.bq_value.specs.Pairs.{put, found as key_found}
@@ -21,7 +26,7 @@ use Rattle.bq_machine.specs.Args.{Passed}
 use Rattle.bq_machine.specs.Parameters.{SignatureView, is_called}
 use Rattle.bq_machine.specs.Binding.{BoundView, Binding, fill, fill_by, take_keyword, take_named, take_named_by, take_all_named, and_bind, is_complete, if_complete, too_many, placed, bind}
 use Rattle.bq_glob.specs.Pattern.{is_pattern}
-use Rattle.bq_host.specs.Refusals.{is_refusal}
+use Rattle.bq_host.specs.Refusals.{is_refusal, Refuses}
 use Rattle.bq_attributes.specs.declared.arguments.Given.{Given}
 use Rattle.bq_attributes.specs.declared.label_texts.TextKind.{TextKind}
 use Rattle.bq_attributes.specs.declared.label_texts.TextKind.TheVariants as k
@@ -31,14 +36,14 @@ use Rattle.bq_attributes.specs.Texts.{text_in, listed, elements_in, all_texts, t
 use Rattle.bq_attributes.specs.LabelTexts.{label_found, named, without_colon, read, read_all, label, labels}
 use Rattle.bq_attributes.specs.Values.{int_in, bool_of, bool_in, value_as}
 use Rattle.bq_attributes.specs.Arguments.{nothing_given, is_none, keyword, with_value, with_label, with_name, with_attribute_by, with_attribute, with_argument, with_arguments}
-use Rattle.bq_attributes.specs.Declarations.{keywords_alone, gives_mandatory, own_attributes, if_whole, target_of, target, declaration}
+use Rattle.bq_attributes.specs.Declarations.{keywords_alone, gives_mandatory, defaults, if_whole, target_of, target, declaration}
 use Rattle.bq_package.specs.Place.{PlaceView}
 use Rattle.bq_package.specs.Bound.{glob_parameters, exports_parameters, group_parameters, argument, text_of, texts_of}
 use Rattle.bq_package.specs.declared.glob.GlobRequest.{GlobRequest}
 use Rattle.bq_package.specs.Glob.{pattern, patterns, excludes_directories, allows_empty, asked, request_by, request_of, found, is_idle, is_nothing, names_of, globbed}
 use Rattle.bq_package.specs.Files.{files_named}
 use Rattle.bq_package.specs.Groups.{names_first, group, group_labels, group_of, group_named}
-use Rattle.bq_package.specs.Rules.{target_by, rule_target}
+use Rattle.bq_package.specs.Rules.{declared_target, target_by, rule_target}
 
 -- the fault is one of the table, where there is one
 abbrev pub IsRefusable : {A : Type 0} → Result A FaultKind → Type 0
@@ -104,11 +109,14 @@ of_text (range x y z) = refl
 of_text (cell m n) = refl
 of_text (function m n s xs) = refl
 of_text (built_in s) = refl
+of_text (rule_function x) = refl
+of_text (attribute x) = refl
 
 of_listed : (c : Option Contents) → IsRefusable (listed c)
 of_listed None = refl
 of_listed (Some (items vs)) = tt
 of_listed (Some (pairs ps)) = refl
+of_listed (Some (content.rule c)) = refl
 
 of_elements : (store : StoreView) (v : Datum) → IsRefusable (elements_in store v)
 of_elements store none = refl
@@ -120,6 +128,8 @@ of_elements store (range x y z) = refl
 of_elements store (cell m n) = of_listed (content_at store m n)
 of_elements store (function m n s xs) = refl
 of_elements store (built_in s) = refl
+of_elements store (rule_function x) = refl
+of_elements store (attribute x) = refl
 
 of_texts : (store : StoreView) (v : Datum) → IsRefusable (texts_in store v)
 unfolding texts_in all_texts
@@ -161,6 +171,8 @@ of_int (range x y z) = refl
 of_int (cell m n) = refl
 of_int (function m n s xs) = refl
 of_int (built_in s) = refl
+of_int (rule_function x) = refl
+of_int (attribute x) = refl
 
 of_bool_of : (n : ℤ) → IsRefusable (bool_of n)
 of_bool_of (pos n) = of_if (n == 0) (Ok false) (cond (n == 1) (Ok true) (Err f.AttributeType)) tt (of_if (n == 1) (Ok true) (Err f.AttributeType) tt refl)
@@ -176,6 +188,8 @@ of_bool (range x y z) = refl
 of_bool (cell m n) = refl
 of_bool (function m n s xs) = refl
 of_bool (built_in s) = refl
+of_bool (rule_function x) = refl
+of_bool (attribute x) = refl
 
 of_value : (own : PackageParts) (packages : List BuildFile) (store : StoreView) (kind : AttributeType) (v : Datum) → IsRefusable (value_as own packages store kind v)
 unfolding value_as
@@ -210,40 +224,46 @@ of_attribute own packages store (Some kind) name v g =
     of_if (is_none v) (Ok g) (and_then (value_as own packages store kind v) (λ value. Ok (with_value name value g))) tt
     (of_both (value_as own packages store kind v) (λ value. Ok (with_value name value g)) (of_value own packages store kind v) (λ value. tt))
 
-of_argument : (own : PackageParts) (packages : List BuildFile) (store : StoreView) (rules : Rules) (rule : List ℕ) (g : Given) (x : Datum × Datum)
-    → IsRefusable (with_argument own packages store rules rule g x)
+of_argument : (own : PackageParts) (packages : List BuildFile) (store : StoreView) (class : Class) (g : Given) (x : Datum × Datum)
+    → IsRefusable (with_argument own packages store class g x)
 unfolding with_argument with_attribute
-of_argument own packages store rules rule g x =
-    of_if (bytes_eq (keyword x.0) (codes "name")) (with_name own packages x.1 g) (with_attribute own packages store rules rule (keyword x.0) x.1 g) (of_name_given own packages x.1 g)
-    (of_attribute own packages store (attribute_type rules rule (keyword x.0)) (keyword x.0) x.1 g)
+of_argument own packages store class g x =
+    of_if (bytes_eq (keyword x.0) (codes "name")) (with_name own packages x.1 g) (with_attribute own packages store class (keyword x.0) x.1 g) (of_name_given own packages x.1 g)
+    (of_attribute own packages store (attribute_type class (keyword x.0)) (keyword x.0) x.1 g)
 
-of_arguments : (own : PackageParts) (packages : List BuildFile) (store : StoreView) (rules : Rules) (rule : List ℕ) (g : Given) (xs : List (Datum × Datum))
-    → IsRefusable (with_arguments own packages store rules rule g xs)
+of_arguments : (own : PackageParts) (packages : List BuildFile) (store : StoreView) (class : Class) (g : Given) (xs : List (Datum × Datum))
+    → IsRefusable (with_arguments own packages store class g xs)
 unfolding with_arguments
-of_arguments own packages store rules rule g [] = tt
-of_arguments own packages store rules rule g (x ∷ xs) =
-    of_both (with_argument own packages store rules rule g x) (λ more. with_arguments own packages store rules rule more xs) (of_argument own packages store rules rule g x)
-    (λ more. of_arguments own packages store rules rule more xs)
+of_arguments own packages store class g [] = tt
+of_arguments own packages store class g (x ∷ xs) =
+    of_both (with_argument own packages store class g x) (λ more. with_arguments own packages store class more xs) (of_argument own packages store class g x)
+    (λ more. of_arguments own packages store class more xs)
 
-of_whole : (whole : Bool) (rule : List ℕ) (line : ℕ) (name : Option LabelParts) (g : Given) → IsRefusable (if_whole whole rule line name g)
-of_whole whole rule line None g = refl
-of_whole whole rule line (Some l) g = of_if whole (Ok (target_of rule line l g)) (Err f.MissingAttribute) tt refl
+of_whole : (whole : Bool) (rule : List ℕ) (class : Class) (line : ℕ) (name : Option LabelParts) (gs : List GivenAttribute) → IsRefusable (if_whole whole rule class line name gs)
+of_whole whole rule class line None gs = refl
+of_whole whole rule class line (Some l) gs = of_if whole (Ok (target_of rule class line l gs)) (Err f.MissingAttribute) tt refl
 
-of_declaration : (own : PackageParts) (packages : List BuildFile) (store : StoreView) (rules : Rules) (rule : List ℕ) (line : ℕ) (p : Passed)
-    → IsRefusable (declaration own packages store rules rule line p)
+pub of_declaration : (own : PackageParts) (packages : List BuildFile) (store : StoreView) (class : Class) (rule : List ℕ) (line : ℕ) (p : Passed)
+    → IsRefusable (declaration own packages store class rule line p)
 unfolding declaration target
-of_declaration own packages store rules rule line p =
-    of_both (bind keywords_alone p) (λ b. target own packages store rules rule line b.keywords) (of_bind keywords_alone p)
-    (λ b. of_both (with_arguments own packages store rules rule nothing_given b.keywords) (λ g. if_whole (gives_mandatory (own_attributes rules rule) b.keywords) rule line g.name g)
-    (of_arguments own packages store rules rule nothing_given b.keywords) (λ g. of_whole (gives_mandatory (own_attributes rules rule) b.keywords) rule line g.name g))
+of_declaration own packages store class rule line p =
+    of_both (bind keywords_alone p) (λ b. target own packages store class rule line b.keywords) (of_bind keywords_alone p)
+    (λ b. of_both (with_arguments own packages store class nothing_given b.keywords) (λ g. if_whole (gives_mandatory class b.keywords) rule class line g.name (g.attributes ++ defaults b.keywords class))
+    (of_arguments own packages store class nothing_given b.keywords) (λ g. of_whole (gives_mandatory class b.keywords) rule class line g.name (g.attributes ++ defaults b.keywords class)))
 
 pub of_rule : (p : PlaceView) (store : StoreView) (line rule : ℕ) (passed : Passed) → IsRefusable (rule_target p store line rule passed)
-unfolding rule_target
-of_rule p store line rule passed = by (slice_get p.rules.names rule)
+unfolding rule_target declared_target
+of_rule p store line rule passed = by (slice_get p.rules.names rule) (slice_get p.rules.classes rule)
   where
-    by : (name : Option (List ℕ)) → IsRefusable (target_by p store line name passed)
-    by None = refl
-    by (Some name) = of_declaration p.own p.packages store p.rules name line passed
+    by : (name : Option (List ℕ)) (class : Option Class) → IsRefusable (target_by p store line name class passed)
+    by None class = refl
+    by (Some name) None = refl
+    by (Some name) (Some class) = of_declaration p.own p.packages store class name line passed
+
+-- a label is refused for a fault of the table
+pub label_refuses : (own : PackageParts) (packages : List BuildFile) (text : List ℕ) (result : Result LabelParts EvalErr) → Gives (λ l. l) Bad result (label own packages k.Label text) → Refuses result
+label_refuses own packages text (Ok l) gives = tt
+label_refuses own packages text (Err e) gives = λ kind is. subst (λ (r : Result LabelParts FaultKind). IsRefusable r) (gives kind is) (of_label own packages k.Label text)
 
 -- ---- the build functions
 

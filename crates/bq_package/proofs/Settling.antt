@@ -1,9 +1,10 @@
 -- What is kept after a call that declares.
-use Rattle.std.proofs.Common.{◌≡◌, ◌∙◌, ℕ, Bool, true, false, cond, List, ◌++◌, Some, None, Result, Ok, Err, refl, sym, ap, subst}
+use Rattle.std.proofs.Common.{◌≡◌, ◌∙◌, ℕ, Bool, true, false, cond, List, ◌++◌, Result, Ok, Err, refl, sym, ap, subst}
 use Rattle.std.specs.List.{list_any}
 use Rattle.bq_source.specs.declared.fault.FaultKind.{FaultKind}
 use Rattle.bq_source.specs.declared.fault.FaultKind.TheVariants as f
-use Rattle.bq_label.specs.Label.{LabelParts}
+use Rattle.bq_label.specs.declared.packages.BuildFile.{BuildFile}
+use Rattle.bq_label.specs.Label.{PackageParts, LabelParts}
 use Rattle.bq_value.specs.Datum.{Datum, none}
 use Rattle.bq_value.specs.declared.error.EvalErr.{EvalErr}
 use Rattle.bq_value.specs.declared.error.EvalErr.TheVariants.{Bad, Memory}
@@ -18,7 +19,7 @@ use Rattle.bq_target.specs.Names.{are_new}
 use Rattle.bq_target.specs.Package.{PackageTargets, is_taken, files}
 use Rattle.bq_target.specs.Calls.{declared, exported}
 use Rattle.bq_package.specs.Place.{PlaceView}
-use Rattle.bq_package.specs.Calls.{HeldPackage, Declaring, settled}
+use Rattle.bq_package.specs.Calls.{HeldPackage, outside, declaring, Declaring, settled}
 use Rattle.bq_package.specs.Keeping.{Settles, IsSettled}
 
 abbrev Answer : Type 0
@@ -44,20 +45,20 @@ exported_leaves : (ls : List LabelParts) (line : ℕ) → LeavesIfRefused (λ p.
 unfolding exported
 exported_leaves ls line p r h = refused_taken p (record p { targets = p.targets ++ files line p.targets ls }) r (list_any (is_taken p.targets) ls) h
 
-settled_as : (s : State) (d : Declaring) (p : PlaceView) (q : PackageTargets) (outcome : Declared) (result : Answer) (after : HeldPackage) → Some (record { place = p; «package» = q }) ≡ Some d
+settled_as : (s : State) (d : Declaring) (p : PlaceView) (q : PackageTargets) (outcome : Declared) (result : Answer) (after : HeldPackage) → declaring (record { place = p; «package» = q }) ≡ declaring d
     → Settles result after p outcome → HostDoes (λ v. v) result s after (settled s d outcome)
 settled_as s d p q (Accepted r) result after e (is, kept) =
     let at : record { place = p; «package» = q } ≡ d = cc in
-    rw (is, kept) (subst (λ (x : Declaring). settled s x (Accepted r) ≡ done none (s, Some (record { place = p; «package» = r }))) at refl)
+    rw (is, kept) (subst (λ (x : Declaring). settled s x (Accepted r) ≡ done none (s, declaring (record { place = p; «package» = r }))) at refl)
 settled_as s d p q (Refused r) result after e (is, kept) = rw is (λ why same. let k : f.DoubleTarget ≡ why = cc in ap (λ (w : FaultKind). stopped (stop_at w s)) k)
 
 kept_as : (p : PlaceView) (q : PackageTargets) (outcome : Declared) (result : Answer) (after : HeldPackage) → ((r : PackageTargets) → outcome ≡ Refused r → r ≡ q) → Settles result after p outcome
-    → KeepsIfRefused result (Some (record { place = p; «package» = q })) after
+    → KeepsIfRefused result (declaring (record { place = p; «package» = q })) after
 kept_as p q (Accepted r) result after leaves (is, kept) = rw is tt
-kept_as p q (Refused r) result after leaves (is, kept) = rw is (λ why same. kept ∙ ap (λ (x : PackageTargets). Some (record { place = p; «package» = x })) (leaves r refl))
+kept_as p q (Refused r) result after leaves (is, kept) = rw is (λ why same. kept ∙ ap (λ (x : PackageTargets). declaring (record { place = p; «package» = x })) (leaves r refl))
 
 settles_all : (declare : PackageTargets → Declared) → LeavesIfRefused declare → (p : PlaceView) (q : PackageTargets) (outcome : Declared) (result : Answer) (after : HeldPackage) → outcome ≡ declare q
-    → Settles result after p outcome → IsSettled result (Some (record { place = p; «package» = q })) after declare
+    → Settles result after p outcome → IsSettled result (declaring (record { place = p; «package» = q })) after declare
 settles_all declare leaves p q outcome result after is settles = record {
   says = λ s d e.
       let at : record { place = p; «package» = q } ≡ d = cc in
@@ -67,11 +68,11 @@ settles_all declare leaves p q outcome result after is settles = record {
 }
 
 pub declare_settles : (t : Target) (p : PlaceView) (q : PackageTargets) (outcome : Declared) (result : Answer) (after : HeldPackage) → outcome ≡ declared q t → Settles result after p outcome
-    → IsSettled result (Some (record { place = p; «package» = q })) after (λ x. declared x t)
+    → IsSettled result (declaring (record { place = p; «package» = q })) after (λ x. declared x t)
 declare_settles t = settles_all (λ x. declared x t) (declared_leaves t)
 
 pub export_settles : (ls : List LabelParts) (line : ℕ) (p : PlaceView) (q : PackageTargets) (outcome : Declared) (result : Answer) (after : HeldPackage) → outcome ≡ exported q ls line
-    → Settles result after p outcome → IsSettled result (Some (record { place = p; «package» = q })) after (λ x. exported x ls line)
+    → Settles result after p outcome → IsSettled result (declaring (record { place = p; «package» = q })) after (λ x. exported x ls line)
 export_settles ls line = settles_all (λ x. exported x ls line) (exported_leaves ls line)
 
 -- out of memory nothing is said
@@ -79,8 +80,8 @@ pub memory_settles : (before after : HeldPackage) (declare : PackageTargets → 
 memory_settles before after declare = record { says = λ s d e. λ why same. absurd (cc); keeps = λ why same. absurd (cc) }
 
 -- no BUILD file is evaluated
-pub none_settles : (why : FaultKind) (declare : PackageTargets → Declared) → IsSettled (Err (Bad why)) None None declare
-none_settles why declare = record { says = λ s d e. absurd (cc); keeps = λ kind same. refl }
+pub none_settles : (own : PackageParts) (packages : List BuildFile) (why : FaultKind) (declare : PackageTargets → Declared) → IsSettled (Err (Bad why)) (outside own packages) (outside own packages) declare
+none_settles own packages why declare = record { says = λ s d e. absurd (cc); keeps = λ kind same. refl }
 
 -- what nothing changes stays
 pub keeps_same : {A W : Type 0} (result : Result A EvalErr) (kept : W) → KeepsIfRefused result kept kept

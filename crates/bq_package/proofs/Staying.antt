@@ -1,8 +1,9 @@
 -- What is declared stays.
-use Rattle.std.proofs.Common.{◌≡◌, ◌∙◌, ℕ, Bool, true, false, cond, List, [], ◌++◌, Some, Result, Ok, Err, refl, sym, ap, append-nil}
+use Rattle.std.proofs.Common.{◌≡◌, ◌∙◌, ℕ, Bool, true, false, cond, List, [], ◌++◌, Result, Ok, Err, refl, sym, ap, append-nil}
 use Rattle.std.specs.List.{list_any}
 use Rattle.bq_source.specs.declared.fault.FaultKind.{FaultKind}
 use Rattle.bq_label.specs.Label.{LabelParts}
+use Rattle.bq_rule_class.specs.Class.{Class}
 use Rattle.bq_value.specs.Datum.{Datum}
 use Rattle.bq_machine.specs.Args.{Passed}
 use Rattle.bq_machine.specs.State.{State}
@@ -20,14 +21,14 @@ use Rattle.bq_package.specs.declared.function.BuildFunction.TheVariants as b
 use Rattle.bq_package.specs.Glob.{globbed}
 use Rattle.bq_package.specs.Files.{files_named}
 use Rattle.bq_package.specs.Groups.{group_named}
-use Rattle.bq_package.specs.Rules.{rule_target}
+use Rattle.bq_package.specs.Rules.{declared_target, rule_target}
 use Rattle.bq_package.specs.Functions.{function_of}
-use Rattle.bq_package.specs.Calls.{HeldPackage, Declaring, new_strings, package_name, ignored, settled, declares, call_in, meaning}
+use Rattle.bq_package.specs.Calls.{HeldPackage, outside, declaring, Declaring, new_strings, package_name, ignored, settled, declares, call_in, rule_by, call_of, rule_call}
 use Rattle.bq_package.specs.Laws.{CallsOutsideAreRefused, GoesOn, WhatIsDeclaredStays}
 
 pub calls_outside_are_refused : CallsOutsideAreRefused
-unfolding meaning
-calls_outside_are_refused id passed s = refl
+unfolding call_of rule_call
+calls_outside_are_refused = record { calls = λ id passed s own packages. refl; rules = λ rule class passed s own packages. refl }
 
 abbrev Ending : Type 0
 Ending = Run (State × HeldPackage) Datum
@@ -36,12 +37,12 @@ abbrev ended : Datum → State × HeldPackage → Ending
 ended v q = done v q
 
 -- nothing is declared
-same_package : (d : Declaring) (v w : Datum) (s t : State) (after : HeldPackage) → ended v (s, Some d) ≡ ended w (t, after) → GoesOn d after
+same_package : (d : Declaring) (v w : Datum) (s t : State) (after : HeldPackage) → ended v (s, declaring d) ≡ ended w (t, after) → GoesOn d after
 same_package d v w s t after h =
-    let q : (s, Some d) ≡ (t, after) = cc in
+    let q : (s, declaring d) ≡ (t, after) = cc in
     record { next = d; more = []; kept = sym (ap (λ (x : State × HeldPackage). x.1) q); place = refl; targets = sym (append-nil d.package.targets) }
 
-answer_stays : (s t : State) (d : Declaring) (r : Result Datum FaultKind) (w : Datum) (after : HeldPackage) → on_machine {W = HeldPackage} (given r) (s, Some d) ≡ done w (t, after) → GoesOn d after
+answer_stays : (s t : State) (d : Declaring) (r : Result Datum FaultKind) (w : Datum) (after : HeldPackage) → on_machine {W = HeldPackage} (given r) (s, declaring d) ≡ done w (t, after) → GoesOn d after
 answer_stays s t d (Ok v) w after h = same_package d v w s t after h
 answer_stays s t d (Err kind) w after h = absurd (cc)
 
@@ -50,7 +51,7 @@ module _ (d : Declaring) (s t : State) (w : Datum) (after : HeldPackage) where
   adds : (declare : PackageTargets → Declared) → ((q : PackageTargets) → declare d.package ≡ Accepted q → (more : List Target) × (q.targets ≡ d.package.targets ++ more)) → (outcome : Declared)
       → declare d.package ≡ outcome → settled s d outcome ≡ done w (t, after) → GoesOn d after
   adds declare each (Accepted q) is h =
-      let e : (s, Some (record d { «package» = q })) ≡ (t, after) = cc in
+      let e : (s, declaring (record d { «package» = q })) ≡ (t, after) = cc in
       let m = each q is in
       record { next = record d { «package» = q }; more = m.0; kept = sym (ap (λ (x : State × HeldPackage). x.1) e); place = refl; targets = m.1 }
   adds declare each (Refused q) is h = absurd (cc)
@@ -77,7 +78,7 @@ exported_adds : (line : ℕ) (ls : List LabelParts) (p q : PackageTargets) → e
 unfolding exported
 exported_adds line ls p q h = by_taken p (record p { targets = p.targets ++ files line p.targets ls }) q (files line p.targets ls) (list_any (is_taken p.targets) ls) refl h
 
-names_stay : (s t : State) (d : Declaring) (r : Result (List (List ℕ)) FaultKind) (w : Datum) (after : HeldPackage) → on_machine {W = HeldPackage} (given r >>= new_strings) (s, Some d) ≡ done w (t, after)
+names_stay : (s t : State) (d : Declaring) (r : Result (List (List ℕ)) FaultKind) (w : Datum) (after : HeldPackage) → on_machine {W = HeldPackage} (given r >>= new_strings) (s, declaring d) ≡ done w (t, after)
     → GoesOn d after
 unfolding new_strings new_list new_content
 names_stay s t d (Err kind) w after h = absurd (cc)
@@ -86,7 +87,7 @@ names_stay s t d (Ok names) w after h =
   where
     state_of : Ending → HeldPackage
     state_of (done v q) = q.1
-    state_of (stopped why) = Some d
+    state_of (stopped why) = declaring d
 
     kept_of : {run : Ending} → run ≡ done w (t, after) → state_of run ≡ after
     kept_of e = ap state_of e
@@ -104,6 +105,13 @@ call_stays b.PackageGroup passed s t d w after h =
 call_stays (b.Rule rule) passed s t d w after h =
     declares_stays d s t w after (rule_target d.place s.store s.line rule passed) (λ x p. declared p x) (λ x q is. declared_adds x d.package q is) h
 
+rule_stays : (rule : List ℕ) (class : Class) (passed : Passed) (s t : State) (d : Declaring) (w : Datum) (after : HeldPackage) → rule_by s (declaring d) rule class passed ≡ done w (t, after) → GoesOn d after
+rule_stays rule class passed s t d w after h =
+    declares_stays d s t w after (declared_target d.place s.store s.line rule class passed) (λ x p. declared p x) (λ x q is. declared_adds x d.package q is) h
+
 pub what_is_declared_stays : WhatIsDeclaredStays
-unfolding meaning
-what_is_declared_stays id passed s t d v after h = call_stays (function_of id) passed s t d v after h
+unfolding call_of rule_call
+what_is_declared_stays = record {
+  calls = λ id passed s t d v after h. call_stays (function_of id) passed s t d v after h;
+  rules = λ rule class passed s t d v after h. rule_stays rule class passed s t d v after h;
+}

@@ -1,19 +1,26 @@
 -- What the calls of build functions and of rules mean (Bazel, Build Encyclopedia, "Functions"). While no BUILD file is evaluated each of
--- them is F70, before any other fault.
-use Rattle.std.specs.Prelude.{ℕ, List, map, Option, Some, None, Result, Ok, Err, option_map}
+-- them is F70, before any other fault. A rule that a .bzl file declares and a rule of the schema declare targets by one definition.
+use Rattle.std.specs.Prelude.{ℕ, List, map, Bool, true, false, Option, Some, None, Result, Ok, Err}
 use Rattle.bq_source.specs.declared.fault.FaultKind.{FaultKind}
 use Rattle.bq_source.specs.declared.fault.FaultKind.TheVariants.{NotInPackage, DoubleTarget}
+use Rattle.bq_label.specs.declared.packages.BuildFile.{BuildFile}
+use Rattle.bq_label.specs.Label.{PackageParts, LabelParts}
+use Rattle.bq_rule_class.specs.Class.{Class}
 use Rattle.bq_value.specs.Datum.{Datum, none, string}
 use Rattle.bq_machine.specs.Args.{Passed}
 use Rattle.bq_machine.specs.State.{State, stop_at}
 use Rattle.bq_machine.specs.Action.{Run, Action, done, stopped, ◌>>=◌, given, on_machine}
 use Rattle.bq_machine.specs.Binding.{bind}
 use Rattle.bq_machine.specs.Cells.{new_list}
+use Rattle.bq_host.specs.Host.{HostCalls}
 use Rattle.bq_target.specs.declared.state.Declared.{Declared}
 use Rattle.bq_target.specs.declared.state.Declared.TheVariants.{Accepted, Refused}
 use Rattle.bq_target.specs.Package.{PackageTargets}
 use Rattle.bq_target.specs.Calls.{declared, exported}
+use Rattle.bq_attributes.specs.declared.label_texts.TextKind.TheVariants as k
+use Rattle.bq_attributes.specs.declared.scope.Scope.{Scope}
 use Rattle.bq_attributes.specs.Steps.{and_then}
+use Rattle.bq_attributes.specs.LabelTexts.{label}
 use Rattle.bq_package.specs.declared.building.BuildHost.{BuildHost}
 use Rattle.bq_package.specs.declared.building.Building.{Building}
 use Rattle.bq_package.specs.declared.function.BuildFunction.{BuildFunction}
@@ -23,7 +30,7 @@ use Rattle.bq_package.specs.Bound.{no_parameters, any_parameters}
 use Rattle.bq_package.specs.Glob.{globbed}
 use Rattle.bq_package.specs.Files.{files_named}
 use Rattle.bq_package.specs.Groups.{group_named}
-use Rattle.bq_package.specs.Rules.{rule_target}
+use Rattle.bq_package.specs.Rules.{declared_target, rule_target}
 use Rattle.bq_package.specs.Functions.{function_of}
 
 -- a package whose BUILD file is evaluated: where it is, and what the calls have declared
@@ -31,20 +38,41 @@ pub record Declaring : Type 0 where
   pub place : PlaceView
   pub «package» : PackageTargets
 
--- what is kept: the package of the BUILD file that is evaluated, where one is
-abbrev pub HeldPackage : Type 0
-HeldPackage = Option Declaring
+-- what is kept: the package of the BUILD file that is evaluated; outside of one, the package of the file that is, and the packages of the
+-- workspace
+pub data HeldPackage : Type 0 where
+  outside : PackageParts → List BuildFile → HeldPackage
+  declaring : Declaring → HeldPackage
 
 abbrev pub declaring_of : Building → Declaring
 declaring_of b = record { place = place_of b.place; «package» = b.package }
 
+abbrev pub held_of : Scope → Option Building → HeldPackage
+held_of scope None = outside scope.own.now scope.packages.now
+held_of scope (Some b) = declaring (declaring_of b)
+
 abbrev pub held_by : BuildHost → HeldPackage
-held_by h = option_map declaring_of h.building
+held_by h = held_of h.scope h.building
+
+-- what the calls have declared, where a BUILD file is evaluated
+abbrev pub package_in : HeldPackage → Option PackageTargets
+package_in (outside own packages) = None
+package_in (declaring d) = Some d.package
 
 -- where the BUILD file is evaluated, or F70
 abbrev pub place_in : HeldPackage → Result PlaceView FaultKind
-place_in None = Err NotInPackage
-place_in (Some d) = Ok d.place
+place_in (outside own packages) = Err NotInPackage
+place_in (declaring d) = Ok d.place
+
+-- the package of the file that is evaluated
+abbrev pub own_of : HeldPackage → PackageParts
+own_of (outside own packages) = own
+own_of (declaring d) = d.place.own
+
+-- the packages of the workspace
+abbrev pub packages_of : HeldPackage → List BuildFile
+packages_of (outside own packages) = packages
+packages_of (declaring d) = d.place.packages
 
 -- a new list of strings
 unfoldable pub new_strings : List (List ℕ) → Action State Datum
@@ -60,7 +88,7 @@ ignored passed = and_then (bind any_parameters passed) (λ b. Ok none)
 
 -- a call that declares targets gives `None`; a call that is refused, F74, leaves all as it was
 abbrev pub settled : State → Declaring → Declared → Run (State × HeldPackage) Datum
-settled s d (Accepted after) = done none (s, Some (record d { «package» = after }))
+settled s d (Accepted after) = done none (s, declaring (record d { «package» = after }))
 settled s d (Refused after) = stopped (stop_at DoubleTarget s)
 
 -- a call that declares what its arguments say, or their fault
@@ -69,18 +97,38 @@ declares s d (Ok a) declare = settled s d (declare a)
 declares s d (Err why) declare = stopped (stop_at why s)
 
 unfoldable pub call_in : Declaring → State → BuildFunction → Passed → Run (State × HeldPackage) Datum
-call_in d s b.Glob passed = on_machine (given (globbed d.place s.store passed) >>= new_strings) (s, Some d)
-call_in d s b.PackageName passed = on_machine (given (package_name d.place passed)) (s, Some d)
-call_in d s b.Package passed = on_machine (given (ignored passed)) (s, Some d)
-call_in d s b.Licenses passed = on_machine (given (ignored passed)) (s, Some d)
+call_in d s b.Glob passed = on_machine (given (globbed d.place s.store passed) >>= new_strings) (s, declaring d)
+call_in d s b.PackageName passed = on_machine (given (package_name d.place passed)) (s, declaring d)
+call_in d s b.Package passed = on_machine (given (ignored passed)) (s, declaring d)
+call_in d s b.Licenses passed = on_machine (given (ignored passed)) (s, declaring d)
 call_in d s b.ExportsFiles passed = declares s d (files_named d.place s.store passed) (λ ls. exported d.package ls s.line)
 call_in d s b.PackageGroup passed = declares s d (group_named d.place s.store s.line passed) (declared d.package)
 call_in d s (b.Rule rule) passed = declares s d (rule_target d.place s.store s.line rule passed) (declared d.package)
 
 abbrev pub call_by : State → HeldPackage → BuildFunction → Passed → Run (State × HeldPackage) Datum
-call_by s None function passed = stopped (stop_at NotInPackage s)
-call_by s (Some d) function passed = call_in d s function passed
+call_by s (outside own packages) function passed = stopped (stop_at NotInPackage s)
+call_by s (declaring d) function passed = call_in d s function passed
 
 -- a call of the function of an id
-unfoldable pub meaning : ℕ → Passed → Action (State × HeldPackage) Datum
-meaning id passed q = call_by q.0 q.1 (function_of id) passed
+unfoldable pub call_of : ℕ → Passed → Action (State × HeldPackage) Datum
+call_of id passed q = call_by q.0 q.1 (function_of id) passed
+
+abbrev pub rule_by : State → HeldPackage → List ℕ → Class → Passed → Run (State × HeldPackage) Datum
+rule_by s (outside own packages) rule class passed = stopped (stop_at NotInPackage s)
+rule_by s (declaring d) rule class passed = declares s d (declared_target d.place s.store s.line rule class passed) (declared d.package)
+
+-- a call of a rule that a .bzl file declares, by its kind and its class
+unfoldable pub rule_call : List ℕ → Class → Passed → Action (State × HeldPackage) Datum
+rule_call rule class passed q = rule_by q.0 q.1 rule class passed
+
+abbrev pub is_building : HeldPackage → Bool
+is_building (outside own packages) = false
+is_building (declaring d) = true
+
+-- the label of a default, read in the package of the file that is evaluated: F78, and F37 where it crosses into another package
+unfoldable pub default_label : HeldPackage → List ℕ → Result LabelParts FaultKind
+default_label held text = label (own_of held) (packages_of held) k.Label text
+
+-- what the host makes of calls
+abbrev pub meaning : HostCalls HeldPackage
+meaning = record { call = call_of; in_build = is_building; read_default = default_label; call_rule = rule_call }

@@ -11,7 +11,7 @@ use Rattle.bq_machine.specs.Args.{Passed}
 use Rattle.bq_machine.specs.Binding.{bind}
 use Rattle.bq_target.specs.declared.target.Target.{Target}
 use Rattle.bq_target.specs.declared.target.TargetKind.TheVariants as target
-use Rattle.bq_target.specs.declared.value.AttributeValue.TheVariants as a
+use Rattle.bq_rule_class.specs.declared.value.AttributeValue.TheVariants as a
 use Rattle.bq_attributes.specs.declared.label_texts.TextKind.TheVariants as k
 use Rattle.bq_attributes.specs.Steps.{and_then}
 use Rattle.bq_attributes.specs.LabelTexts.{label, labels}

@@ -1,25 +1,49 @@
 -- Words of the laws.
-use Rattle.std.specs.Prelude.{◌≡◌, ℕ, List, ◌++◌, Some, None}
+use Rattle.std.specs.Prelude.{◌≡◌, ◌↔◌, ℕ, ◌+◌, List, ◌++◌, true, Some, Ok, slice_get}
 use Rattle.bq_source.specs.declared.fault.FaultKind.TheVariants.{NotInPackage}
+use Rattle.bq_label.specs.declared.packages.BuildFile.{BuildFile}
+use Rattle.bq_label.specs.Label.{PackageParts, LabelParts, ReadsAs}
+use Rattle.bq_rule_class.specs.Class.{Class}
 use Rattle.bq_value.specs.Datum.{Datum}
 use Rattle.bq_machine.specs.Args.{Passed}
 use Rattle.bq_machine.specs.State.{State, stop_at}
 use Rattle.bq_machine.specs.Action.{done, stopped}
 use Rattle.bq_target.specs.declared.target.Target.{Target}
-use Rattle.bq_package.specs.Calls.{HeldPackage, Declaring, meaning}
+use Rattle.bq_package.specs.Calls.{HeldPackage, outside, declaring, Declaring, own_of, meaning}
 
--- while no BUILD file is evaluated every call is F70
-abbrev pub CallsOutsideAreRefused : Type 0
-CallsOutsideAreRefused = (id : ℕ) (passed : Passed) (s : State) → meaning id passed (s, None) ≡ stopped (stop_at NotInPackage s)
+-- while no BUILD file is evaluated every call is F70, also of a rule that a .bzl file declares
+pub record CallsOutsideAreRefused : Type 0 where
+  pub calls : (id : ℕ) (passed : Passed) (s : State) (own : PackageParts) (packages : List BuildFile) → meaning.call id passed (s, outside own packages) ≡ stopped (stop_at NotInPackage s)
+  pub rules : (rule : List ℕ) (class : Class) (passed : Passed) (s : State) (own : PackageParts) (packages : List BuildFile) → meaning.call_rule rule class passed (s, outside own packages) ≡ stopped (stop_at NotInPackage s)
 
 -- the package goes on: in its place, with the targets that it had, and then others
 pub record GoesOn (d : Declaring) (after : HeldPackage) : Type 0 where
   pub next : Declaring
   pub more : List Target
-  pub kept : after ≡ Some next
+  pub kept : after ≡ declaring next
   pub place : next.place ≡ d.place
   pub targets : next.package.targets ≡ d.package.targets ++ more
 
 -- what is declared stays, in its order, whatever is called then
-abbrev pub WhatIsDeclaredStays : Type 0
-WhatIsDeclaredStays = (id : ℕ) (passed : Passed) (s t : State) (d : Declaring) (v : Datum) (after : HeldPackage) → meaning id passed (s, Some d) ≡ done v (t, after) → GoesOn d after
+pub record WhatIsDeclaredStays : Type 0 where
+  pub calls : (id : ℕ) (passed : Passed) (s t : State) (d : Declaring) (v : Datum) (after : HeldPackage) → meaning.call id passed (s, declaring d) ≡ done v (t, after) → GoesOn d after
+  pub rules : (rule : List ℕ) (class : Class) (passed : Passed) (s t : State) (d : Declaring) (v : Datum) (after : HeldPackage) → meaning.call_rule rule class passed (s, declaring d) ≡ done v (t, after) → GoesOn d after
+
+-- A call of a rule that a .bzl file declares does what a call of the schema's rule does that has the kind as its name, and the same
+-- attributes.
+abbrev pub RulesDeclareAlike : Type 0
+RulesDeclareAlike =
+    (d : Declaring) (number : ℕ) (rule : List ℕ) (class : Class) (passed : Passed) (s : State) → slice_get d.place.rules.names number ≡ Some rule → slice_get d.place.rules.classes number ≡ Some class
+    → meaning.call (6 + number) passed (s, declaring d) ≡ meaning.call_rule rule class passed (s, declaring d)
+
+-- it is said whether a BUILD file is evaluated
+abbrev pub IsInBuild : HeldPackage → Type 0
+IsInBuild held = (d : Declaring) × (held ≡ declaring d)
+
+abbrev pub InBuildIsSaid : Type 0
+InBuildIsSaid = (held : HeldPackage) → (meaning.in_build held ≡ true) ↔ IsInBuild held
+
+-- a default is read as a label that a BUILD file of the package may write, whatever file is evaluated
+abbrev pub DefaultsAreReadInThePackage : Type 0
+DefaultsAreReadInThePackage =
+    (held : HeldPackage) (text : List ℕ) (l : LabelParts) → meaning.read_default held text ≡ Ok l → ReadsAs (own_of held) text l

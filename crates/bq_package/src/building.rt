@@ -4,11 +4,14 @@ ghost use Rattle.std.specs.Prelude.{◌≡◌};
 ghost use Rattle.bq_label.specs.Label.{package_of};
 
 use crate::place::Place;
+use bq_attributes::Scope;
 use bq_target::PackageState;
 
 /// Carries out the calls of build functions and of rules, in a BUILD file or outside of one. Contracts see what it keeps by `held_by`.
 #[derive(Drop)]
 pub struct BuildHost<'a> {
+    /// The package of the file that is evaluated, among the others.
+    pub(crate) scope: Scope<'a>,
     pub(crate) building: Option<Building<'a>>,
 }
 

@@ -1,6 +1,6 @@
 //! The host of a BUILD file's evaluation.
 
-ghost use Rattle.std.specs.Prelude.{◌≡◌, map, option_map, IfOk};
+ghost use Rattle.std.specs.Prelude.{◌≡◌, map, IfOk};
 ghost use Rattle.bq_source.specs.Gives.{Gives};
 ghost use Rattle.bq_value.specs.declared.error.EvalErr.TheVariants.{Bad};
 ghost use Rattle.bq_label.specs.Label.{package_of};
@@ -11,16 +11,17 @@ ghost use Rattle.bq_value.specs.Datum.{string};
 ghost use Rattle.bq_target.specs.Package.{no_targets};
 ghost use Rattle.bq_target.specs.Calls.{declared, exported};
 ghost use Rattle.bq_package.specs.Place.{place_of};
-ghost use Rattle.bq_package.specs.Calls.{HeldPackage, held_by, place_in, new_strings, package_name, ignored, call_by, meaning};
+ghost use Rattle.bq_package.specs.Calls.{HeldPackage, outside, declaring, held_by, package_in, place_in, own_of, packages_of, new_strings, package_name, ignored, call_by, rule_by, is_building, default_label, meaning};
 ghost use Rattle.bq_package.specs.Keeping.{answer, package_after, Settles, IsSettled, OwnsTarget, OwnsFiles};
 
 use crate::building::{BuildHost, Building};
 use crate::function::{BuildFunction, function_of};
 use crate::place::Place;
-use bq_attributes::Scope;
+use bq_attributes::{Scope, TextKind, label};
 use bq_host::Host;
 use bq_label::{Label, PackageId, Packages, Workspace};
 use bq_machine::{Args, Machine, Signature, bind};
+use bq_rule_class::RuleClass;
 use bq_schema::Schema;
 use bq_source::{Bytes, FaultKind};
 use bq_target::{Declared, PackageState, Target};
@@ -102,11 +103,18 @@ fn package_after(declared: Declared) -> PackageState
 }
 
 impl<'a> BuildHost<'a> {
-    /// No BUILD file is evaluated: every call is F70.
-    pub fn outside() -> BuildHost<'a>
-        ensures { held_by result ≡ None }
+    /// No BUILD file is evaluated, but a file of this package: every call is F70.
+    pub fn outside(
+        alloc: Global,
+        own: &'a PackageId,
+        packages: &'a Packages,
+    ) -> Result<BuildHost<'a>, AllocError>
+        ensures { IfOk result (λ h. held_by h ≡ outside own.now packages.now) }
     {
-        BuildHost { building: None }
+        Ok(BuildHost {
+            scope: Scope::new(alloc, own, packages)?,
+            building: None,
+        })
     }
 
     /// The BUILD file of that label is evaluated.
@@ -119,10 +127,11 @@ impl<'a> BuildHost<'a> {
         build_file: Label,
     ) -> Result<BuildHost<'a>, AllocError>
         requires { package_of build_file ≡ own.now }
-        ensures { IfOk result (λ h. held_by h ≡ Some (record { place = record { own = own.now; files = workspace.now; packages = packages.now; rules = schema.now }; «package» = no_targets build_file })) }
+        ensures { IfOk result (λ h. held_by h ≡ declaring (record { place = record { own = own.now; files = workspace.now; packages = packages.now; rules = schema.now }; «package» = no_targets build_file })) }
     {
         let scope = Scope::new(alloc, own, packages)?;
         Ok(BuildHost {
+            scope,
             building: Some(Building {
                 place: Place {
                     workspace,
@@ -136,9 +145,9 @@ impl<'a> BuildHost<'a> {
 
     /// What the accepted calls have declared, where a BUILD file is evaluated.
     pub fn into_package(self) -> Option<PackageState>
-        ensures { result ≡ option_map (λ d. d.package) (held_by self.entry) }
+        ensures { result ≡ package_in (held_by self.entry) }
     {
-        let BuildHost { building } = self;
+        let BuildHost { scope: _, building } = self;
         match building {
             None => None,
             Some(Building { place: _, package }) => Some(package),
@@ -152,6 +161,17 @@ impl<'a> BuildHost<'a> {
         match &self.building {
             None => Err(EvalErr::Bad(FaultKind::NotInPackage)),
             Some(building) => Ok(building.place),
+        }
+    }
+
+    /// The package of the file that is evaluated, among the others.
+    fn scope(&self) -> Scope<'a>
+        ensures own { result.own.now ≡ own_of (held_by self.now) }
+        ensures packages { result.packages.now ≡ packages_of (held_by self.now) }
+    {
+        match &self.building {
+            None => self.scope,
+            Some(building) => building.place.scope,
         }
     }
 
@@ -197,7 +217,7 @@ impl<'a> BuildHost<'a> {
     }
 
     /// A call of `glob`.
-    #[tactic(auto, using(crate::proofs::Meaning::outside, crate::proofs::Meaning::glob_refused, crate::proofs::Meaning::glob_done))]
+    #[tactic(auto, using(crate::proofs::Meaning::refused_outside, crate::proofs::Meaning::glob_refused, crate::proofs::Meaning::glob_done))]
     fn glob(&self, alloc: Global, args: Args, machine: &mut Machine) -> Result<Value, EvalErr>
         ensures { HostDoes (λ v. v) result machine.new (held_by self.now) (call_by machine.old (held_by self.now) BuildFunction.Glob args) }
     {
@@ -207,7 +227,7 @@ impl<'a> BuildHost<'a> {
     }
 
     /// A call of `exports_files`.
-    #[tactic(auto, using(crate::proofs::Meaning::outside, crate::proofs::Meaning::files_refused, crate::proofs::Meaning::files_done, crate::proofs::Owning::files_owned))]
+    #[tactic(auto, using(crate::proofs::Meaning::refused_outside, crate::proofs::Meaning::files_refused, crate::proofs::Meaning::files_done, crate::proofs::Owning::files_owned))]
     fn exports_files(
         &mut self,
         alloc: Global,
@@ -223,7 +243,7 @@ impl<'a> BuildHost<'a> {
     }
 
     /// A call of `package_group`.
-    #[tactic(auto, using(crate::proofs::Meaning::outside, crate::proofs::Meaning::group_refused, crate::proofs::Meaning::group_done, crate::proofs::Owning::group_owned))]
+    #[tactic(auto, using(crate::proofs::Meaning::refused_outside, crate::proofs::Meaning::group_refused, crate::proofs::Meaning::group_done, crate::proofs::Owning::group_owned))]
     fn package_group(
         &mut self,
         alloc: Global,
@@ -238,8 +258,8 @@ impl<'a> BuildHost<'a> {
         self.declare(alloc, target)
     }
 
-    /// A call of the rule of this number.
-    #[tactic(auto, using(crate::proofs::Meaning::outside, crate::proofs::Meaning::rule_refused, crate::proofs::Meaning::rule_done, crate::proofs::Owning::rule_owned))]
+    /// A call of the schema's rule of this number.
+    #[tactic(auto, using(crate::proofs::Meaning::refused_outside, crate::proofs::Meaning::rule_refused, crate::proofs::Meaning::rule_done, crate::proofs::Owning::rule_owned))]
     fn rule(
         &mut self,
         alloc: Global,
@@ -256,8 +276,27 @@ impl<'a> BuildHost<'a> {
         self.declare(alloc, target)
     }
 
+    /// A call of a rule that a .bzl file declares, by its kind and its class.
+    #[tactic(auto, using(crate::proofs::Meaning::rule_outside, crate::proofs::Meaning::declared_refused, crate::proofs::Meaning::declared_done, crate::proofs::Owning::declared_owned))]
+    fn declared_rule(
+        &mut self,
+        alloc: Global,
+        kind: &Bytes,
+        class: &RuleClass,
+        args: Args,
+        machine: &Machine,
+    ) -> Result<Value, EvalErr>
+        ensures says { HostDoes (λ v. v) result machine.now (held_by self.new) (rule_by machine.now (held_by self.old) kind.now class.now args) }
+        ensures keeps { KeepsIfRefused result (held_by self.old) (held_by self.new) }
+    {
+        let place = self.place()?;
+        let line = machine.line();
+        let target = place.declared_target(alloc, machine.store(), line, kind, class, args)?;
+        self.declare(alloc, target)
+    }
+
     /// A call of `package_name`.
-    #[tactic(auto, using(crate::proofs::Meaning::outside, crate::proofs::Meaning::name_done))]
+    #[tactic(auto, using(crate::proofs::Meaning::refused_outside, crate::proofs::Meaning::name_done))]
     fn name(&self, alloc: Global, args: Args) -> Result<Value, EvalErr>
         ensures { (s : State) → HostDoes (λ v. v) result s (held_by self.now) (call_by s (held_by self.now) BuildFunction.PackageName args) }
     {
@@ -266,7 +305,7 @@ impl<'a> BuildHost<'a> {
     }
 
     /// A call that takes any arguments and changes nothing.
-    #[tactic(auto, using(crate::proofs::Meaning::outside, crate::proofs::Meaning::package_done, crate::proofs::Meaning::licenses_done))]
+    #[tactic(auto, using(crate::proofs::Meaning::refused_outside, crate::proofs::Meaning::package_done, crate::proofs::Meaning::licenses_done))]
     fn nothing(&self, alloc: Global, args: Args) -> Result<Value, EvalErr>
         ensures as_package { (s : State) → HostDoes (λ v. v) result s (held_by self.now) (call_by s (held_by self.now) BuildFunction.Package args) }
         ensures as_licenses { (s : State) → HostDoes (λ v. v) result s (held_by self.now) (call_by s (held_by self.now) BuildFunction.Licenses args) }
@@ -306,7 +345,19 @@ impl<'a> Host for BuildHost<'a> {
 
     ghost means = { meaning };
 
-    #[tactic(auto, using(crate::proofs::Meaning::refuses), unfolding(crate::specs::Calls::meaning))]
+    fn in_build(&self) -> bool {
+        match &self.building {
+            None => false,
+            Some(_) => true,
+        }
+    }
+
+    #[tactic(auto, using(crate::proofs::Refusals::label_refuses), unfolding(crate::specs::Calls::default_label))]
+    fn read_default(&self, alloc: Global, text: &Bytes) -> Result<Label, EvalErr> {
+        label(alloc, self.scope(), TextKind::Label, text)
+    }
+
+    #[tactic(auto, using(crate::proofs::Meaning::refuses), unfolding(crate::specs::Calls::call_of))]
     fn call(
         &mut self,
         alloc: Global,
@@ -315,5 +366,17 @@ impl<'a> Host for BuildHost<'a> {
         machine: &mut Machine,
     ) -> Result<Value, EvalErr> {
         self.carry_out(alloc, function_of(id), args, machine)
+    }
+
+    #[tactic(auto, using(crate::proofs::Meaning::rule_refuses), unfolding(crate::specs::Calls::rule_call))]
+    fn call_rule(
+        &mut self,
+        alloc: Global,
+        kind: &Bytes,
+        class: &RuleClass,
+        args: Args,
+        machine: &mut Machine,
+    ) -> Result<Value, EvalErr> {
+        self.declared_rule(alloc, kind, class, args, machine)
     }
 }

@@ -1,8 +1,8 @@
 //! Laws of the definitions: each is the contract of a function that does nothing.
 
-ghost use Rattle.bq_package.specs.Laws.{CallsOutsideAreRefused, WhatIsDeclaredStays};
+ghost use Rattle.bq_package.specs.Laws.{CallsOutsideAreRefused, WhatIsDeclaredStays, RulesDeclareAlike, InBuildIsSaid, DefaultsAreReadInThePackage};
 
-/// While no BUILD file is evaluated every call is F70.
+/// While no BUILD file is evaluated every call is F70, of whatever rule.
 #[tactic(auto, using(crate::proofs::Staying::calls_outside_are_refused))]
 pub fn calls_outside_are_refused()
     ensures { CallsOutsideAreRefused }
@@ -12,4 +12,21 @@ pub fn calls_outside_are_refused()
 #[tactic(auto, using(crate::proofs::Staying::what_is_declared_stays))]
 pub fn what_is_declared_stays()
     ensures { WhatIsDeclaredStays }
+{}
+
+/// A rule that a .bzl file declares and a rule of the schema declare alike, where the one has the other's name as its kind, and its
+/// attributes.
+pub fn rules_declare_alike()
+    ensures { RulesDeclareAlike }
+{}
+
+/// What `in_build` says is whether a BUILD file is evaluated.
+#[tactic(auto, using(crate::proofs::Alike::in_build_is_said))]
+pub fn in_build_is_said()
+    ensures { InBuildIsSaid }
+{}
+
+/// A default is read as a label that a file of the package writes whose file is evaluated.
+pub fn defaults_are_read_in_the_package()
+    ensures { DefaultsAreReadInThePackage }
 {}

@@ -2,7 +2,8 @@
 //! targets.
 //!
 //! The promise: [`BuildHost`] carries out each call as its meaning says (`meaning`, `specs/Calls.antt`), unless memory runs out. A call
-//! that is refused leaves the package as it was. While no BUILD file is evaluated every call is F70.
+//! that is refused leaves the package as it was. While no BUILD file is evaluated every call is F70. A rule that a .bzl file declares is
+//! called as a rule of the schema is: both are a kind and a class, and there is one definition of what such a call declares.
 //!
 //! In reading order:
 //!
@@ -30,4 +31,7 @@ mod place;
 mod rules;
 
 pub use building::BuildHost;
-pub use laws::{calls_outside_are_refused, what_is_declared_stays};
+pub use laws::{
+    calls_outside_are_refused, defaults_are_read_in_the_package, in_build_is_said,
+    rules_declare_alike, what_is_declared_stays,
+};

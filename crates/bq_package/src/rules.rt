@@ -4,19 +4,42 @@ ghost use Rattle.std.specs.Prelude.{◌≡◌, IfOk};
 ghost use Rattle.bq_source.specs.Gives.{Gives};
 ghost use Rattle.bq_value.specs.declared.error.EvalErr.TheVariants.{Bad};
 ghost use Rattle.bq_package.specs.Place.{place_of};
-ghost use Rattle.bq_package.specs.Rules.{rule_target};
+ghost use Rattle.bq_package.specs.Rules.{declared_target, rule_target};
 
 use crate::place::Place;
 use bq_attributes::{Callee, declaration};
 use bq_machine::Args;
+use bq_rule_class::RuleClass;
 use bq_schema::rule_names;
-use bq_source::FaultKind;
+use bq_source::{Bytes, FaultKind};
 use bq_target::Target;
 use bq_value::{EvalErr, Store};
 use std::alloc::Global;
 
 impl<'a> Place<'a> {
-    /// The target that a call of the rule of this number declares.
+    /// The target that a call of a rule declares, by the rule's kind and its class.
+    #[tactic(auto, unfolding(crate::specs::Rules::declared_target))]
+    pub fn declared_target(
+        &self,
+        alloc: Global,
+        store: &Store,
+        line: u32,
+        kind: &Bytes,
+        class: &RuleClass,
+        args: Args,
+    ) -> Result<Target, EvalErr>
+        ensures { Gives (λ t. t) Bad result (declared_target (place_of self.now) store.now line kind.now class.now args) }
+    {
+        let callee = Callee {
+            scope: self.scope,
+            store,
+            class,
+            kind,
+        };
+        declaration(alloc, callee, line, args)
+    }
+
+    /// The target that a call of the schema's rule of this number declares.
     #[tactic(auto, unfolding(crate::specs::Rules::rule_target))]
     pub fn rule_target(
         &self,
@@ -28,15 +51,12 @@ impl<'a> Place<'a> {
     ) -> Result<Target, EvalErr>
         ensures { Gives (λ t. t) Bad result (rule_target (place_of self.now) store.now line rule args) }
     {
-        let Some(rule) = rule_names(self.schema).get(rule) else {
+        let Some(kind) = rule_names(self.schema).get(rule) else {
             return Err(EvalErr::Bad(FaultKind::NotInPackage));
         };
-        let callee = Callee {
-            scope: self.scope,
-            store,
-            schema: self.schema,
-            rule,
+        let Some(class) = self.schema.class(rule) else {
+            return Err(EvalErr::Bad(FaultKind::NotInPackage));
         };
-        declaration(alloc, callee, line, args)
+        self.declared_target(alloc, store, line, kind, class, args)
     }
 }

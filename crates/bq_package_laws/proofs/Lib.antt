@@ -2,3 +2,5 @@
 pub mod Orders
 -- a `glob` that gives nothing
 pub mod Nothing
+-- defaults, beside the values of calls
+pub mod Defaults

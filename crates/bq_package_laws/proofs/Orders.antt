@@ -3,6 +3,7 @@ use Rattle.std.proofs.Common.{◌≡◌, ◌∙◌, ap, refl, ℕ, Bool, true, f
 use Rattle.std.specs.Prelude.{not}
 use Rattle.bq_source.specs.declared.fault.FaultKind.{FaultKind}
 use Rattle.bq_source.specs.declared.fault.FaultKind.TheVariants.{BadValue}
+use Rattle.bq_rule_class.specs.Class.{Class}
 use Rattle.bq_value.specs.Cells.{StoreView}
 use Rattle.bq_value.specs.Datum.{Datum}
 use Rattle.bq_machine.specs.Args.{Passed}
@@ -17,12 +18,12 @@ use Rattle.bq_attributes.specs.Steps.{and_then}
 use Rattle.bq_package.specs.declared.function.BuildFunction.TheVariants as f
 use Rattle.bq_package.specs.declared.glob.GlobRequest.{GlobRequest}
 use Rattle.bq_package.specs.Bound.{glob_parameters, exports_parameters, argument, texts_of}
-use Rattle.bq_package.specs.Calls.{Declaring, settled, declares, call_in}
+use Rattle.bq_package.specs.Calls.{Declaring, declaring, settled, declares, call_in, rule_by}
 use Rattle.bq_package.specs.Files.{files_named}
 use Rattle.bq_package.specs.Glob.{patterns, excludes_directories, allows_empty, asked, request_by, request_of, found, globbed}
 use Rattle.bq_package.specs.Groups.{group_named}
 use Rattle.bq_package.specs.Place.{PlaceView}
-use Rattle.bq_package.specs.Rules.{rule_target}
+use Rattle.bq_package.specs.Rules.{declared_target, rule_target}
 use Rattle.bq_refusal_laws.specs.Refusals.{Check, when, first_fault, fault_of, fault_in, fault_then, IsRefusedForFirst, FailsForFirst}
 use Rattle.bq_package_laws.specs.Orders.{taken, requesting, globbing, naming_files}
 
@@ -108,6 +109,10 @@ module _ (d : Declaring) (s : State) where
   pub rule_in_order : (rule : ℕ) (passed : Passed) → IsRefusedForFirst (call_in d s (f.Rule rule) passed) (fault_in (rule_target d.place s.store s.line rule passed) ∷ fault_then (rule_target d.place s.store s.line rule passed) (λ t. taken (declared d.package t)) ∷ [])
   unfolding call_in
   rule_in_order rule passed = declared_in_order (rule_target d.place s.store s.line rule passed) (declared d.package)
+
+  pub declared_rule_in_order : (rule : List ℕ) (class : Class) (passed : Passed)
+      → IsRefusedForFirst (rule_by s (declaring d) rule class passed) (fault_in (declared_target d.place s.store s.line rule class passed) ∷ fault_then (declared_target d.place s.store s.line rule class passed) (λ t. taken (declared d.package t)) ∷ [])
+  declared_rule_in_order rule class passed = declared_in_order (declared_target d.place s.store s.line rule class passed) (declared d.package)
 
   pub group_in_order : (passed : Passed) → IsRefusedForFirst (call_in d s f.PackageGroup passed) (fault_in (group_named d.place s.store s.line passed) ∷ fault_then (group_named d.place s.store s.line passed) (λ t. taken (declared d.package t)) ∷ [])
   unfolding call_in

@@ -3,19 +3,21 @@
 ghost use Rattle.std.specs.Prelude.{◌≡◌, ◌∷◌, [], ℕ, List, Err, true, false};
 ghost use Rattle.bq_source.specs.declared.fault.FaultKind.{FaultKind};
 ghost use Rattle.bq_source.specs.declared.fault.FaultKind.TheVariants.{GlobEmpty};
+ghost use Rattle.bq_rule_class.specs.Class.{Class};
 ghost use Rattle.bq_value.specs.Cells.{StoreView};
 ghost use Rattle.bq_machine.specs.Args.{Passed};
 ghost use Rattle.bq_machine.specs.State.{State};
 ghost use Rattle.bq_target.specs.Calls.{declared, exported};
 ghost use Rattle.bq_package.specs.declared.function.BuildFunction.TheVariants as f;
 ghost use Rattle.bq_package.specs.declared.glob.GlobRequest.{GlobRequest};
-ghost use Rattle.bq_package.specs.Calls.{Declaring, call_in};
+ghost use Rattle.bq_package.specs.Calls.{Declaring, declaring, call_in, rule_by};
 ghost use Rattle.bq_package.specs.Files.{files_named};
 ghost use Rattle.bq_package.specs.Glob.{found, globbed};
 ghost use Rattle.bq_package.specs.Groups.{group_named};
 ghost use Rattle.bq_package.specs.Place.{PlaceView};
-ghost use Rattle.bq_package.specs.Rules.{rule_target};
+ghost use Rattle.bq_package.specs.Rules.{declared_target, rule_target};
 ghost use Rattle.bq_refusal_laws.specs.Refusals.{fault_in, fault_then, IsRefusedForFirst, FailsForFirst};
+ghost use Rattle.bq_package_laws.specs.Defaults.{DefaultsAreTakenAsValues};
 ghost use Rattle.bq_package_laws.specs.Nothing.{GivesNothing};
 ghost use Rattle.bq_package_laws.specs.Orders.{taken, globbing, naming_files};
 
@@ -25,9 +27,11 @@ pub fn build_functions_are_refused_in_order()
     ensures exports_files { (p : PlaceView) (store : StoreView) (passed : Passed) → FailsForFirst (files_named p store passed) (naming_files p store passed) }
 {}
 
-/// A call that declares targets is refused for its arguments before a name that is taken (F74).
+/// A call that declares targets is refused for its arguments before a name that is taken (F74), also of a rule that a .bzl file
+/// declares.
 pub fn declarations_are_refused_in_order()
     ensures rule { (d : Declaring) (s : State) (rule : ℕ) (passed : Passed) → IsRefusedForFirst (call_in d s (f.Rule rule) passed) (fault_in (rule_target d.place s.store s.line rule passed) ∷ fault_then (rule_target d.place s.store s.line rule passed) (λ t. taken (declared d.package t)) ∷ []) }
+    ensures declared_rule { (d : Declaring) (s : State) (rule : List ℕ) (class : Class) (passed : Passed) → IsRefusedForFirst (rule_by s (declaring d) rule class passed) (fault_in (declared_target d.place s.store s.line rule class passed) ∷ fault_then (declared_target d.place s.store s.line rule class passed) (λ t. taken (declared d.package t)) ∷ []) }
     ensures package_group { (d : Declaring) (s : State) (passed : Passed) → IsRefusedForFirst (call_in d s f.PackageGroup passed) (fault_in (group_named d.place s.store s.line passed) ∷ fault_then (group_named d.place s.store s.line passed) (λ t. taken (declared d.package t)) ∷ []) }
     ensures exports_files { (d : Declaring) (s : State) (passed : Passed) → IsRefusedForFirst (call_in d s f.ExportsFiles passed) (fault_in (files_named d.place s.store passed) ∷ fault_then (files_named d.place s.store passed) (λ ls. taken (exported d.package ls s.line)) ∷ []) }
 {}
@@ -37,4 +41,10 @@ pub fn declarations_are_refused_in_order()
 pub fn globs_that_give_nothing_are_refused()
     ensures refused { (p : PlaceView) (r : GlobRequest) → r.allows_empty ≡ false → GivesNothing p r → found p r ≡ Err GlobEmpty }
     ensures only { (p : PlaceView) (r : GlobRequest) (why : FaultKind) → found p r ≡ Err why → (why ≡ GlobEmpty) × (r.allows_empty ≡ false) × GivesNothing p r }
+{}
+
+/// What `attr.NAME(default = v)` keeps is what the call of a rule in a file of that package keeps of `v`; and one is refused where the
+/// other is.
+pub fn defaults_are_taken_as_values()
+    ensures { DefaultsAreTakenAsValues }
 {}

@@ -6,7 +6,7 @@ use Rattle.bq_predeclared.specs.declared.predeclared.Predeclared.TheVariants as 
 use Rattle.bq_predeclared.specs.Predeclared.{name_of, predeclared_named, first_named, all_predeclared, is_named, has_name}
 use Rattle.bq_predeclared.specs.Laws.{EachNameIsFound, NothingElseIsFound}
 
-same_name : (name own : List ℕ) → bytes_eq name own ≡ true → own ≡ name
+pub same_name : (name own : List ℕ) → bytes_eq name own ≡ true → own ≡ name
 same_name name own h = sym ((bytes_eq-Decides name own).0 h)
 
 has_name-is : (name : List ℕ) (own : Option (List ℕ)) → has_name name own ≡ true → own ≡ Some name
@@ -63,3 +63,4 @@ each_name (p.Host (suc (suc (suc zero)))) name h = found_as (p.Host 3) (codes "l
 each_name (p.Host (suc (suc (suc (suc zero))))) name h = found_as (p.Host 4) (codes "exports_files") name refl h
 each_name (p.Host (suc (suc (suc (suc (suc zero)))))) name h = found_as (p.Host 5) (codes "package_group") name refl h
 each_name (p.Host (suc (suc (suc (suc (suc (suc n))))))) name h = cc
+each_name (p.RuleFunction f) name h = cc

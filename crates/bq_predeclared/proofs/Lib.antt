@@ -1,2 +1,3 @@
--- `Found`: a look-up by name finds what has the name, and nothing else.
-mod Found
+-- `Found`: a look-up by name finds what has the name, and nothing else. `AttrFound`: so does one of `attr.NAME`.
+pub mod Found
+mod AttrFound

@@ -1,2 +1,3 @@
+pub mod RuleFunctions
 pub mod Predeclared
 pub mod Laws

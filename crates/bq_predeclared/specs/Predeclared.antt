@@ -1,5 +1,5 @@
 -- The predeclared names (Starlark specification, "Built-in constants and functions"; Bazel, Build Encyclopedia, "Functions"), but for
--- those of rules.
+-- those of rules and of the functions that declare rules.
 use Rattle.std.specs.Prelude.{ℕ, List, [], ◌∷◌, Bool, false, Option, Some, None, codes, bytes_eq, slice_get, if◌then◌else◌}
 use Rattle.bq_predeclared.specs.declared.predeclared.Predeclared.{Predeclared}
 use Rattle.bq_predeclared.specs.declared.predeclared.Predeclared.TheVariants as p
@@ -9,7 +9,7 @@ abbrev pub build_functions : List (List ℕ)
 build_functions =
     codes "glob" ∷ codes "package_name" ∷ codes "package" ∷ codes "licenses" ∷ codes "exports_files" ∷ codes "package_group" ∷ []
 
--- its name, in the language or as a build function
+-- the name that it is looked up by, in the language or as a build function; the functions that declare rules aren't looked up so
 abbrev pub name_of : Predeclared → Option (List ℕ)
 name_of p.None = Some (codes "None")
 name_of p.True = Some (codes "True")
@@ -36,8 +36,9 @@ name_of p.Tuple = Some (codes "tuple")
 name_of p.Type = Some (codes "type")
 name_of p.Zip = Some (codes "zip")
 name_of (p.Host id) = slice_get build_functions id
+name_of (p.RuleFunction f) = None
 
--- all but the rules
+-- all but the rules and the functions that declare rules
 abbrev pub all_predeclared : List Predeclared
 all_predeclared =
     p.None ∷ p.True ∷ p.False ∷ p.All ∷ p.Any ∷ p.Bool ∷ p.Dict ∷ p.Enumerate ∷ p.Fail ∷ p.Int ∷ p.Len ∷ p.List ∷ p.Max ∷ p.Min

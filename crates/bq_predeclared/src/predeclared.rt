@@ -3,6 +3,8 @@
 ghost use Rattle.std.specs.Prelude.{◌≡◌, option_copied};
 ghost use Rattle.bq_predeclared.specs.Predeclared.{predeclared_named, first_named, is_named, name_of};
 
+use crate::rule_function::RuleFunction;
+
 /// What a predeclared name stands for.
 #[derive(Clone, Copy, Debug, PartialEq, Eq)]
 pub enum Predeclared {
@@ -34,6 +36,8 @@ pub enum Predeclared {
     Zip,
     /// A function that the host carries out, by its id: 0 to 5 are the build functions, and 6 + r is rule r of the schema.
     Host(u32),
+    /// A function that declares rules. It is in no table of names: a .bzl file has `rule` and `attr.NAME`, for the resolver to find.
+    RuleFunction(RuleFunction),
 }
 
 /// The build functions, in the order of their ids.
@@ -46,7 +50,7 @@ const BUILD_FUNCTIONS: [&[u8]; 6] = [
     b"package_group",
 ];
 
-/// All but the rules.
+/// All but the rules and the functions that declare rules.
 const PREDECLARED: [Predeclared; 30] = [
     Predeclared::None,
     Predeclared::True,
@@ -81,7 +85,8 @@ const PREDECLARED: [Predeclared; 30] = [
 ];
 
 impl Predeclared {
-    /// Its name; none for a rule, whose name is the schema's.
+    /// The name that it is looked up by. None for a rule, whose name is the schema's, and for a function that declares rules: `int` is
+    /// not `attr.int`, and a schema may name a rule `rule`.
     pub fn name(self) -> Option<&'static [u8]>
         ensures { option_copied result ≡ name_of self }
     {
@@ -111,6 +116,7 @@ impl Predeclared {
             Predeclared::Type => Some(b"type"),
             Predeclared::Zip => Some(b"zip"),
             Predeclared::Host(id) => BUILD_FUNCTIONS.get(id as usize).copied(),
+            Predeclared::RuleFunction(_) => None,
         }
     }
 }

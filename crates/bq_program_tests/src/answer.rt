@@ -61,7 +61,6 @@ filegroup(name = "let", srcs = ["a b.txt"])
 #[derive(Clone, Copy)]
 struct Asked<'a> {
     graph: &'a TargetGraph,
-    schema: &'a Schema,
     form: OutputForm,
     /// Whether each line stands for a long query.
     is_long: bool,
@@ -79,7 +78,7 @@ fn refused(alloc: Global, error: &QueryErr) -> Result<Vec<u8>, AllocError> {
 
 /// The lines of an answer.
 fn lines_of(alloc: Global, asked: Asked<'_>, query: &CheckedQuery) -> Result<Vec<u8>, QueryErr> {
-    let found = answer(alloc, asked.graph, asked.schema, query)?;
+    let found = answer(alloc, asked.graph, query)?;
     Ok(print_answer(alloc, asked.form, asked.graph.targets(), &found)?)
 }
 
@@ -162,7 +161,6 @@ fn check_in(
     let graph = TargetGraph::new(alloc, made)?;
     let asked = Asked {
         graph: &graph,
-        schema,
         form: queries.form,
         is_long: queries.is_long,
     };

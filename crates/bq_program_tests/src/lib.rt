@@ -20,6 +20,8 @@ mod random;
 #[cfg(test)]
 mod refused;
 #[cfg(test)]
+mod rules;
+#[cfg(test)]
 mod workers;
 #[cfg(test)]
 mod workspace;

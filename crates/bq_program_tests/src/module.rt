@@ -12,20 +12,27 @@ mod steps;
 
 use crate::chunks::{Subject, check_chunks};
 use crate::program::{Setting, run_chunk};
+use crate::workspace::no_packages;
 use bq_grammar::FileKind;
+use bq_label::PackageId;
 use bq_package::BuildHost;
 use std::alloc::{AllocError, Global};
 
 /// What a chunk prints, where its one file is of this kind, and no build function may be called.
 impl Subject for FileKind {
     fn answer(&self, alloc: Global, text: &[u8]) -> Result<Vec<u8>, AllocError> {
+        let own = PackageId::root();
+        let packages = no_packages(alloc)?;
         let setting = Setting {
             alloc,
             rules: &[],
+            own: &own,
+            packages: &packages,
             limit: 100_000,
         };
+        let host = BuildHost::outside(alloc, &own, &packages)?;
         let mut whole = Vec::new(alloc);
-        let _evaluated = run_chunk(setting, *self, text, BuildHost::outside(), &mut whole)?;
+        let _evaluated = run_chunk(setting, *self, text, host, &mut whole)?;
         Ok(whole)
     }
 }

@@ -12,9 +12,10 @@ mod schemas;
 use crate::chunks::{Subject, add_line, check_chunks};
 use crate::workspace::{Tree, files, package_id, package_of};
 use bq_label::{Label, Packages, Workspace};
+use bq_rule_class::AttributeValue;
 use bq_schema::{Schema, read_schema};
 use bq_source::Bytes;
-use bq_target::{AttributeValue, GivenAttribute, Package, Target};
+use bq_target::{GivenAttribute, Package, Target};
 use bq_target_sets::{write_kind, write_label};
 use std::alloc::{AllocError, Global};
 use std::fmt::Write;
@@ -90,7 +91,11 @@ fn add_target(alloc: Global, whole: &mut Vec<u8>, target: &Target) -> Result<(),
 }
 
 /// The targets of a package but for its BUILD file.
-fn add_package(alloc: Global, whole: &mut Vec<u8>, package: &Package) -> Result<(), AllocError> {
+pub fn add_package(
+    alloc: Global,
+    whole: &mut Vec<u8>,
+    package: &Package,
+) -> Result<(), AllocError> {
     let build_file = package.build_file();
     for target in package.targets() {
         if target.label.name() != build_file.name() {

@@ -4,6 +4,7 @@ use crate::chunks::add_line;
 use bq_front::code_of;
 use bq_grammar::FileKind;
 use bq_host::{BuiltIns, Host};
+use bq_label::{PackageId, Packages};
 use bq_module::{Evaluated, Outcome, ResolvedModule, eval_module};
 use bq_package::BuildHost;
 use bq_scope::{LoadStmt, Resolved, Universe};
@@ -66,11 +67,13 @@ pub fn add_outcome(
     }
 }
 
-/// What files are evaluated with: the names of the rules, and the most steps.
+/// What files are evaluated with: the names of the rules, the package that they are of, all packages, and the most steps.
 #[derive(Clone, Copy)]
 pub struct Setting<'a> {
     pub alloc: Global,
     pub rules: &'a [Bytes],
+    pub own: &'a PackageId,
+    pub packages: &'a Packages,
     pub limit: u64,
 }
 
@@ -238,7 +241,8 @@ fn outcome_of(
     file: &Resolved,
     whole: &mut Vec<u8>,
 ) -> Result<Outcome, AllocError> {
-    let evaluated = run_alone(setting, file, BuildHost::outside(), whole)?;
+    let host = BuildHost::outside(setting.alloc, setting.own, setting.packages)?;
+    let evaluated = run_alone(setting, file, host, whole)?;
     let Evaluated {
         outcome,
         host: _host,

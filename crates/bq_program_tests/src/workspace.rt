@@ -51,6 +51,14 @@ pub fn package_id(alloc: Global, repo: &str, path: &str) -> Result<PackageId, Al
     }
 }
 
+/// No packages.
+pub fn no_packages(alloc: Global) -> Result<Packages, AllocError> {
+    match Workspace::new(Vec::new(alloc)) {
+        Ok(workspace) => Packages::of(alloc, &workspace),
+        Err(_) => Err(AllocError),
+    }
+}
+
 /// What BUILD files are evaluated in.
 #[derive(Clone, Copy)]
 pub struct Tree<'a> {
@@ -79,6 +87,8 @@ fn evaluated(
     let setting = Setting {
         alloc: tree.alloc,
         rules: bq_schema::rule_names(tree.schema),
+        own: &own,
+        packages: tree.packages,
         limit: 1_000_000,
     };
     match run_chunk(setting, FileKind::Build, chunk, host, whole)? {

@@ -10,12 +10,11 @@ use Rattle.bq_query_check.specs.declared.formula.Binary.TheVariants as binary
 use Rattle.bq_query_check.specs.Formula.{Formula, named, variable, let_in, combined, one, two}
 use Rattle.bq_query_tree.specs.declared.tree.Operator.{Operator}
 use Rattle.bq_query_tree.specs.declared.tree.Operator.TheVariants as op
-use Rattle.bq_schema.specs.Schema.{Rules}
 use Rattle.bq_target.specs.declared.target.Target.{Target}
 use Rattle.bq_answer.specs.Faults.{fault_in}
 use Rattle.bq_answer.specs.Functions.{OfOne, OfTwo, Combined}
 use Rattle.bq_answer.specs.Stands.{Stands, Bound}
-use Rattle.bq_answer.specs.World.{Facts}
+use Rattle.bq_target_graph.specs.Graph.{GraphParts}
 use Rattle.bq_answer.proofs.Same.{Within, set_as}
 
 -- the same targets
@@ -62,14 +61,14 @@ combined_in op.Union A C B D f k y e = elim e [ inl a ↦ inl (f.0 y a) | inr b 
 combined_in op.Intersect A C B D f k y e = (f.0 y e.0, k.0 y e.1)
 combined_in op.Except A C B D f k y e = (f.0 y e.0, λ d. e.1 (k.1 y d))
 
--- ---- worlds that differ in their edges
+-- ---- graphs that differ in their edges
 
-abbrev pub world : List Target → List PackageParts → Rules → List (List ℕ) → Facts
-world ts ps rules edges = record { graph = record { targets = ts; packages = ps; edges = edges }; schema = rules }
+abbrev pub graph : List Target → List PackageParts → List (List ℕ) → GraphParts
+graph ts ps edges = record { targets = ts; packages = ps; edges = edges }
 
-module _ (ts : List Target) (ps : List PackageParts) (rules : Rules) (g h : List (List ℕ)) where
+module _ (ts : List Target) (ps : List PackageParts) (g h : List (List ℕ)) where
   -- what is missing hangs on the targets and packages alone
-  pub same_fault : (x : Formula) → fault_in (world ts ps rules g) x ≡ fault_in (world ts ps rules h) x
+  pub same_fault : (x : Formula) → fault_in (graph ts ps g) x ≡ fault_in (graph ts ps h) x
   same_fault (named words) = refl
   same_fault (variable k) = refl
   same_fault (let_in a b) = rw (same_fault a, same_fault b) refl
@@ -77,8 +76,8 @@ module _ (ts : List Target) (ps : List PackageParts) (rules : Rules) (g h : List
   same_fault (one f a) = same_fault a
   same_fault (two f a b) = rw (same_fault a, same_fault b) refl
 
-module _ (ts : List Target) (ps : List PackageParts) (rules : Rules) (g h : List (List ℕ)) (to : PairsIn g h) where
-  one_in : (f : Unary) (P Q : ℕ → Type 0) → Within P Q → Within (OfOne (world ts ps rules g) f P) (OfOne (world ts ps rules h) f Q)
+module _ (ts : List Target) (ps : List PackageParts) (g h : List (List ℕ)) (to : PairsIn g h) where
+  one_in : (f : Unary) (P Q : ℕ → Type 0) → Within P Q → Within (OfOne (graph ts ps g) f P) (OfOne (graph ts ps h) f Q)
   one_in unary.Deps P Q k y e = deps_in g h to P Q k y e
   one_in (unary.DepsWithin n) P Q k y e = deps_within_in g h to n P Q k y e
   one_in (unary.Kind re) P Q k y e = (k y e.0, e.1)
@@ -86,17 +85,17 @@ module _ (ts : List Target) (ps : List PackageParts) (rules : Rules) (g h : List
   one_in (unary.Attr name re) P Q k y e = (k y e.0, e.1)
   one_in (unary.Labels name) P Q k y e = (e.0, k e.0 e.1, e.2)
 
-  two_in : (f : Binary) (A C B D : ℕ → Type 0) → Within A C → Within B D → Within (OfTwo (world ts ps rules g) f A B) (OfTwo (world ts ps rules h) f C D)
+  two_in : (f : Binary) (A C B D : ℕ → Type 0) → Within A C → Within B D → Within (OfTwo (graph ts ps g) f A B) (OfTwo (graph ts ps h) f C D)
   two_in binary.Rdeps A C B D j k y e = rdeps_in g h to A C B D j k y e
   two_in (binary.RdepsWithin n) A C B D j k y e = rdeps_within_in g h to n A C B D j k y e
   two_in binary.Allpaths A C B D j k y e = paths_in g h to A C B D j k y e
 
-module _ (ts : List Target) (ps : List PackageParts) (rules : Rules) (g h : List (List ℕ)) (to : PairsIn g h) (from : PairsIn h g) where
+module _ (ts : List Target) (ps : List PackageParts) (g h : List (List ℕ)) (to : PairsIn g h) (from : PairsIn h g) where
   abbrev left : Formula → Bound → ℕ → Type 0
-  left x bound y = Stands (world ts ps rules g) x bound y
+  left x bound y = Stands (graph ts ps g) x bound y
 
   abbrev right : Formula → Bound → ℕ → Type 0
-  right x bound y = Stands (world ts ps rules h) x bound y
+  right x bound y = Stands (graph ts ps h) x bound y
 
   pub same_set : (x : Formula) (bound : Bound) → Same (left x bound) (right x bound)
   same_set (named words) bound = (λ y e. e, λ y e. e)
@@ -114,10 +113,10 @@ module _ (ts : List Target) (ps : List PackageParts) (rules : Rules) (g h : List
       )
   same_set (one f a) bound =
       let s = same_set a bound in
-      (one_in ts ps rules g h to f (left a bound) (right a bound) s.0, one_in ts ps rules h g from f (right a bound) (left a bound) s.1)
+      (one_in ts ps g h to f (left a bound) (right a bound) s.0, one_in ts ps h g from f (right a bound) (left a bound) s.1)
   same_set (two f a b) bound =
       let s = same_set a bound in
       let t = same_set b bound in (
-        two_in ts ps rules g h to f (left a bound) (right a bound) (left b bound) (right b bound) s.0 t.0,
-        two_in ts ps rules h g from f (right a bound) (left a bound) (right b bound) (left b bound) s.1 t.1,
+        two_in ts ps g h to f (left a bound) (right a bound) (left b bound) (right b bound) s.0 t.0,
+        two_in ts ps h g from f (right a bound) (left a bound) (right b bound) (left b bound) s.1 t.1,
       )

@@ -2,7 +2,6 @@
 use Rattle.std.specs.Prelude.{◌≡◌, ℕ, ◌++◌, List, [], None, Some, Result, Ok, Err}
 use Rattle.std.specs.List.{flat_map}
 use Rattle.std.specs.List.Sorted.{IsStrictlyIncreasing}
-use Rattle.bq_schema.specs.Schema.{Rules}
 use Rattle.bq_fault_line.specs.declared.fault_line.FaultLine.{FaultLine}
 use Rattle.bq_fault_line.specs.FaultLine.{put_lines}
 use Rattle.bq_fault_line.specs.LineText.{line_text}
@@ -13,10 +12,10 @@ use Rattle.bq_target_graph.specs.Dangling.{all_dangling}
 use Rattle.bq_query_verdict.specs.Verdict.{Fault}
 use Rattle.bq_query_check.specs.declared.checked.CheckedQuery.{CheckedQuery}
 use Rattle.bq_query_check.specs.Formula.{Formula, formula_of}
-use Rattle.bq_answer.specs.World.{Facts, targets_of}
+use Rattle.bq_answer.specs.Graph.{targets_of}
 use Rattle.bq_answer.specs.Stands.{Stands}
 use Rattle.bq_answer.specs.Faults.{fault_in}
-use Rattle.bq_answer.specs.Answer.{facts_of, AreThose}
+use Rattle.bq_answer.specs.Answer.{AreThose}
 use Rattle.bq_answer.specs.Printed.{printed}
 use Rattle.bq_answer.specs.declared.print.OutputForm.{OutputForm}
 use Rattle.bq_report.specs.Ending.{status_by}
@@ -50,7 +49,7 @@ fault_text i = i.prints ++ flat_map line_text (all_faults i)
 -- ---- the answer
 
 -- the targets that a query stands for, by number, in the order of their labels
-pub record IsAnswer (w : Facts) (x : Formula) (v : List ℕ) : Type 0 where
+pub record IsAnswer (w : GraphParts) (x : Formula) (v : List ℕ) : Type 0 where
   pub ascending : IsStrictlyIncreasing v
   pub members : AreThose (Stands w x []) v
 
@@ -63,18 +62,18 @@ abbrev pub reply_view : Reply → ReplyView
 reply_view r = record { text = r.text.items; end = r.end }
 
 -- the lines of the answer, where no word of the query names what is not there
-abbrev pub RepliesBy : Fault → Facts → Formula → OutputForm → Status → ReplyView → Type 0
+abbrev pub RepliesBy : Fault → GraphParts → Formula → OutputForm → Status → ReplyView → Type 0
 RepliesBy None w x form status reply = (v : List ℕ) × IsAnswer w x v × (reply ≡ record { text = printed form (targets_of w) v; end = Ok status })
 RepliesBy (Some why) w x form status reply = reply ≡ record { text = []; end = Err (Query why) }
 
-abbrev pub Replies : Facts → Formula → OutputForm → Status → ReplyView → Type 0
+abbrev pub Replies : GraphParts → Formula → OutputForm → Status → ReplyView → Type 0
 Replies w x form status reply = RepliesBy (fault_in w x) w x form status reply
 
 -- the reply over the graph of the targets of these packages
-pub record RepliesOver (packages : List PackageTargets) (rules : Rules) (query : CheckedQuery) (form : OutputForm) (status : Status) (reply : ReplyView) : Type 0 where
+pub record RepliesOver (packages : List PackageTargets) (query : CheckedQuery) (form : OutputForm) (status : Status) (reply : ReplyView) : Type 0 where
   pub graph : GraphParts
   pub made : IsGraphOf packages graph
-  pub replies : Replies (facts_of graph rules) (formula_of query.set) form status reply
+  pub replies : Replies graph (formula_of query.set) form status reply
 
 -- ---- the report
 
@@ -88,9 +87,9 @@ pub record ReportView : Type 0 where
 abbrev pub report_view : Report → ReportView
 report_view r = record { faults = r.faults.items; answer = r.answer.items; end = r.end }
 
--- the report on a workspace with these rules, and on this query
-pub record Reports (i : Inside) (rules : Rules) (query : CheckedQuery) (form : OutputForm) (r : ReportView) : Type 0 where
+-- the report on a workspace and on this query
+pub record Reports (i : Inside) (query : CheckedQuery) (form : OutputForm) (r : ReportView) : Type 0 where
   pub graph : GraphParts
   pub made : IsGraphOf i.packages graph
   pub faults : r.faults ≡ fault_text i
-  pub reply : Replies (facts_of graph rules) (formula_of query.set) form (status_by (all_faults i)) (record { text = r.answer; end = r.end })
+  pub reply : Replies graph (formula_of query.set) form (status_by (all_faults i)) (record { text = r.answer; end = r.end })

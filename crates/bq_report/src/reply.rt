@@ -2,14 +2,12 @@
 
 ghost use Rattle.std.specs.Prelude.{IfOk};
 ghost use Rattle.bq_query_check.specs.Formula.{formula_of};
-ghost use Rattle.bq_answer.specs.Answer.{facts_of};
 ghost use Rattle.bq_report.specs.Report.{Replies, RepliesOver, reply_view};
 ghost use Rattle.bq_target_graph.specs.Order.{PackagesAscend};
 
 use crate::ending::{Refusal, Status, refusal_of};
 use bq_answer::{OutputForm, answer, print_answer};
 use bq_query_check::CheckedQuery;
-use bq_schema::Schema;
 use bq_target::Package;
 use bq_target_graph::TargetGraph;
 use std::alloc::{AllocError, Global};
@@ -17,7 +15,6 @@ use std::alloc::{AllocError, Global};
 /// What is asked of a workspace.
 #[derive(Clone, Copy)]
 pub struct Question<'a> {
-    pub schema: &'a Schema,
     pub query: &'a CheckedQuery,
     pub form: OutputForm,
 }
@@ -36,9 +33,9 @@ fn reply_to(
     question: Question<'_>,
     status: Status,
 ) -> Result<Reply, AllocError>
-    ensures { IfOk result (λ r. Replies (facts_of graph.now question.entry.schema.now) (formula_of question.entry.query.now.set) question.entry.form status (reply_view r)) }
+    ensures { IfOk result (λ r. Replies graph.now (formula_of question.entry.query.now.set) question.entry.form status (reply_view r)) }
 {
-    match answer(alloc, graph, question.schema, question.query) {
+    match answer(alloc, graph, question.query) {
         Ok(numbers) => Ok(Reply {
             text: print_answer(alloc, question.form, graph.targets(), &numbers)?,
             end: Ok(status),
@@ -58,7 +55,7 @@ pub fn reply_over(
     status: Status,
 ) -> Result<Reply, AllocError>
     requires { PackagesAscend packages.items }
-    ensures { IfOk result (λ r. RepliesOver packages.items question.entry.schema.now question.entry.query.now question.entry.form status (reply_view r)) }
+    ensures { IfOk result (λ r. RepliesOver packages.items question.entry.query.now question.entry.form status (reply_view r)) }
 {
     let graph = TargetGraph::new(alloc, packages)?;
     reply_to(alloc, &graph, question, status)

@@ -50,7 +50,7 @@ pub fn report_on(
     question: Question<'_>,
 ) -> Result<Report, AllocError>
     requires { PackagesAscend contents.packages.items }
-    ensures { IfOk result (λ r. Reports (inside contents) question.entry.schema.now question.entry.query.now question.entry.form (report_view r)) }
+    ensures { IfOk result (λ r. Reports (inside contents) question.entry.query.now question.entry.form (report_view r)) }
 {
     let Contents {
         prints,

@@ -1,4 +1,4 @@
-//! An operand with what is done to it, among them `native.NAME(..)`.
+//! An operand with what is done to it, among them `native.NAME(..)` and `attr.NAME(..)`.
 
 ghost use Rattle.std.specs.Prelude.{◌≡◌, [], ◌∷◌, IfOk};
 ghost use Rattle.bq_grammar.specs.declared.tree.Expr.{out-Expr};
@@ -10,25 +10,33 @@ use crate::identifier::fault_of;
 use crate::rules::Rules;
 use crate::walk::Walk;
 use bq_grammar::{Argument, Expr, FileKind, Identifier, Suffix};
-use bq_scope::{Block, Code, CodeArgument, CodeSuffix, FileNames};
+use bq_scope::{Block, Code, CodeArgument, CodeSuffix, FileNames, Namespace};
 use bq_source::{FaultKind, SourceErr};
 use sqlite_items::{Boxed, Items};
 use std::alloc::{AllocError, Global};
 
-/// The operand is `native` of a .bzl file that binds no such name.
-fn is_native(file: &FileNames, blocks: &[Block], operand: &Expr) -> Result<bool, AllocError>
-    ensures { IfOk result (λ b. b ≡ spec.is_native file.now blocks.now (out-Expr operand.now)) }
+/// The namespace that the operand is: of a .bzl file that binds no such name.
+fn namespace_at(
+    file: &FileNames,
+    blocks: &[Block],
+    operand: &Expr,
+) -> Result<Option<Namespace>, AllocError>
+    ensures { IfOk result (λ x. x ≡ spec.namespace_at file.now blocks.now (out-Expr operand.now)) }
 {
     let Expr::Name(name) = operand else {
-        return Ok(false);
+        return Ok(None);
     };
     match file.kind() {
-        FileKind::Build => Ok(false),
+        FileKind::Build => Ok(None),
         FileKind::Bzl => {
-            if name.name.as_slice() != b"native".as_slice() {
-                return Ok(false);
+            let space = Namespace::named(name.name.as_slice());
+            if space.is_none() {
+                return Ok(None);
             }
-            Ok(file.use_of(blocks, &name.name)?.is_none())
+            match file.use_of(blocks, &name.name)? {
+                None => Ok(space),
+                Some(_) => Ok(None),
+            }
         }
     }
 }
@@ -45,27 +53,28 @@ fn called(alloc: Global, arguments: Items<CodeArgument>) -> Result<Items<CodeSuf
 impl<F: Fn(Global, &FileNames, usize, &[Block], &mut Walk, &Expr) -> Result<Code, SourceErr>> Rules<
     F,
 > {
-    /// `native.name(arguments)`, and what is done to its result.
-    #[tactic(auto, unfolding(bq_scope::specs::Expressions::host_call))]
-    fn host_call(
+    /// `native.name(arguments)` or `attr.name(arguments)`, and what is done to its result.
+    #[tactic(auto, unfolding(bq_scope::specs::Expressions::call_member))]
+    fn call_member(
         &self,
         file: &FileNames,
         blocks: &[Block],
         walk: &mut Walk,
+        space: Namespace,
         name: &Identifier,
         arguments: &[Argument],
         suffixes: &[Suffix],
     ) -> Result<Code, SourceErr>
         requires { WalksNested self.now.depth (F.pre self.now.visit) (F.post self.now.visit) }
-        ensures { Walks (spec.host_call file.now (spec.expr_to self.now.depth file.now) blocks.now name.now arguments.now suffixes.now walk.old) result walk.new }
+        ensures { Walks (spec.call_member file.now (spec.expr_to self.now.depth file.now) blocks.now space name.now arguments.now suffixes.now walk.old) result walk.new }
     {
-        let Some(id) = file.host(&name.name)? else {
+        let Some(member) = file.member(space, &name.name)? else {
             return Err(SourceErr::Bad(fault_of(FaultKind::UnknownName, name)?));
         };
         let arguments = self.arguments(file, blocks, walk, arguments)?;
         let done = called(self.alloc, arguments)?;
         let suffixes = self.suffixes(file, blocks, walk, done, suffixes)?;
-        Ok(Code::Primary(Boxed::new(self.alloc, Code::Native(id))?, suffixes))
+        Ok(Code::Primary(Boxed::new(self.alloc, Code::Member(member))?, suffixes))
     }
 
     /// An operand, and what is done to it.
@@ -86,7 +95,8 @@ impl<F: Fn(Global, &FileNames, usize, &[Block], &mut Walk, &Expr) -> Result<Code
         Ok(Code::Primary(operand, self.suffixes(file, blocks, walk, done, suffixes)?))
     }
 
-    /// An operand, and what is done to it: `native.name(..)` is the build function or rule `name`, else F20 at `name`.
+    /// An operand, and what is done to it: `native.name(..)` is the build function or rule `name`, `attr.name(..)` the function that
+    /// makes an attribute, else F20 at `name`.
     #[tactic(auto, unfolding(bq_scope::specs::Expressions::primary))]
     pub fn primary(
         &self,
@@ -99,12 +109,12 @@ impl<F: Fn(Global, &FileNames, usize, &[Block], &mut Walk, &Expr) -> Result<Code
         requires { WalksNested self.now.depth (F.pre self.now.visit) (F.post self.now.visit) }
         ensures { Walks (spec.primary file.now (spec.expr_to self.now.depth file.now) blocks.now operand.now suffixes.now walk.old) result walk.new }
     {
-        if !is_native(file, blocks, operand)? {
+        let Some(space) = namespace_at(file, blocks, operand)? else {
             return self.operand(file, blocks, walk, operand, suffixes);
-        }
+        };
         match suffixes {
             [Suffix::Method(name, arguments), rest @ ..] => {
-                self.host_call(file, blocks, walk, name, arguments.as_slice(), rest)
+                self.call_member(file, blocks, walk, space, name, arguments.as_slice(), rest)
             }
             _ => self.operand(file, blocks, walk, operand, suffixes),
         }

@@ -1,5 +1,5 @@
 -- Expressions that are not too deep never have the fault F11.
-use Rattle.std.proofs.Common.{◌≤◌, ℕ, zero, suc, ◌+◌, Bool, true, false, ◌&&◌, ◌||◌, List, [], ◌∷◌, map, length, Option, Some, None, Result, Ok, Err, arith}
+use Rattle.std.proofs.Common.{◌≤◌, ℕ, zero, suc, ◌+◌, ◌&&◌, ◌||◌, List, [], ◌∷◌, map, length, Option, Some, None, Result, Ok, Err, arith}
 use Rattle.bq_source.specs.declared.fault.Fault.{Fault}
 use Rattle.bq_source.specs.declared.fault.FaultKind.TheVariants as f
 use Rattle.bq_grammar.specs.declared.tree.FileKind.{FileKind}
@@ -28,9 +28,10 @@ use Rattle.bq_scope.specs.declared.code.CodeTarget.{CodeTarget}
 use Rattle.bq_scope.specs.declared.code.CodeTarget.TheVariants as t
 use Rattle.bq_scope.specs.Names.{Name, TargetLayer, ClauseLayer, max_layers, has, with_name, comprehension_names}
 use Rattle.bq_scope.specs.Scope.{BlockParts, FileParts, use_of}
-use Rattle.bq_scope.specs.Universe.{host_named}
+use Rattle.bq_scope.specs.declared.universe.Namespace.{Namespace}
+use Rattle.bq_scope.specs.Universe.{member_named}
 use Rattle.bq_scope.specs.Visit.{Passed, Visit, ◌>>=◌, pure, given, fault_of, each, optional}
-use Rattle.bq_scope.specs.Expressions.{place_of, is_bzl, bind_global, bind_in, framed, in_frame, native_by, native_call, is_native, use_at, name_target, target_by, target_to, pair, operation, choice, argument_by, arguments, suffix_by, suffixes, operand, host_call, primary_by, primary, clause_by, clauses, in_block, comprehension, expr_by, expr_to}
+use Rattle.bq_scope.specs.Expressions.{place_of, is_bzl, bind_global, bind_in, framed, in_frame, member_by, member_call, namespace_at, use_at, name_target, target_by, target_to, pair, operation, choice, argument_by, arguments, suffix_by, suffixes, operand, call_member, primary_by, primary, clause_by, clauses, in_block, comprehension, expr_by, expr_to}
 use Rattle.bq_tree_laws.specs.Depth.{deepest, expr_depth, target_depth, argument_depth, clause_depth, suffix_depth, choice_depth, operation_depth, pair_depth}
 use Rattle.bq_resolve_laws.proofs.Layers.{part_depth, argument_layer, clause_layer, suffix_layer, target_layer, expr_layer, opened_argument, opened_clause, opened_suffix, opened_target, target_has_depth, opened_expr, expr_has_depth, opened_pair, opened_operation, opened_choice}
 use Rattle.bq_resolve_laws.proofs.Calm.{IsCalm, Calm, unknown_is_other, rebound_is_other, calm_bind, calm_map, calm_two, calm_three, calm_given, calm_if, calm_each}
@@ -143,32 +144,32 @@ module _ (file : FileParts) (n : ℕ) (visit : List BlockParts → Expr → Visi
   unfolding operand
   operand_calm blocks x ss h k = calm_two (visit blocks x) (suffixes file visit blocks [] ss) (λ y ts. c.Primary y ts) (visits blocks x h) (suffixes_calm blocks [] ss k)
 
-  host_calm : (blocks : List BlockParts) (m : Identifier) (xs : List Argument) (ss : List Suffix) → deepest (map argument_depth xs) ≤ n → deepest (map suffix_depth ss) ≤ n
-      → Calm (host_call file visit blocks m xs ss)
-  unfolding host_call
-  host_calm blocks m xs ss h k =
-      calm_bind (given (fault_of f.UnknownName m) (host_named file.universe.rules m.name))
-      (λ id. arguments file visit blocks xs >>= λ ys. suffixes file visit blocks (s.Call ys ∷ []) ss >>= λ ts. pure (c.Primary (c.Native id) ts))
-      (calm_given (fault_of f.UnknownName m) (host_named file.universe.rules m.name) unknown_is_other)
-      (λ id. calm_bind (arguments file visit blocks xs) (λ ys. suffixes file visit blocks (s.Call ys ∷ []) ss >>= λ ts. pure (c.Primary (c.Native id) ts)) (arguments_calm blocks xs h)
-      (λ ys. calm_map (suffixes file visit blocks (s.Call ys ∷ []) ss) (λ ts. c.Primary (c.Native id) ts) (suffixes_calm blocks (s.Call ys ∷ []) ss k)))
+  member_calm : (blocks : List BlockParts) (space : Namespace) (m : Identifier) (xs : List Argument) (ss : List Suffix) → deepest (map argument_depth xs) ≤ n → deepest (map suffix_depth ss) ≤ n
+      → Calm (call_member file visit blocks space m xs ss)
+  unfolding call_member
+  member_calm blocks space m xs ss h k =
+      calm_bind (given (fault_of f.UnknownName m) (member_named space file.universe.rules m.name))
+      (λ p. arguments file visit blocks xs >>= λ ys. suffixes file visit blocks (s.Call ys ∷ []) ss >>= λ ts. pure (c.Primary (c.Member p) ts))
+      (calm_given (fault_of f.UnknownName m) (member_named space file.universe.rules m.name) unknown_is_other)
+      (λ p. calm_bind (arguments file visit blocks xs) (λ ys. suffixes file visit blocks (s.Call ys ∷ []) ss >>= λ ts. pure (c.Primary (c.Member p) ts)) (arguments_calm blocks xs h)
+      (λ ys. calm_map (suffixes file visit blocks (s.Call ys ∷ []) ss) (λ ts. c.Primary (c.Member p) ts) (suffixes_calm blocks (s.Call ys ∷ []) ss k)))
 
-  native_by_calm : (blocks : List BlockParts) (x : Expr) (ss rest : List Suffix) (o : SuffixLayer) → expr_depth x ≤ n → deepest (map suffix_depth ss) ≤ n → suffix_layer o ≤ n
-      → deepest (map suffix_depth rest) ≤ n → Calm (primary_by file visit blocks x ss (native_by o rest))
-  native_by_calm blocks x ss rest (Suffix-F.Call xs) h k l m = operand_calm blocks x ss h k
-  native_by_calm blocks x ss rest (Suffix-F.Method name xs) h k l m = host_calm blocks name xs rest l m
-  native_by_calm blocks x ss rest (Suffix-F.Attribute name) h k l m = operand_calm blocks x ss h k
-  native_by_calm blocks x ss rest (Suffix-F.Suffix::Index i) h k l m = operand_calm blocks x ss h k
-  native_by_calm blocks x ss rest (Suffix-F.Slice i j y) h k l m = operand_calm blocks x ss h k
+  member_by_calm : (blocks : List BlockParts) (space : Namespace) (x : Expr) (ss rest : List Suffix) (o : SuffixLayer) → expr_depth x ≤ n → deepest (map suffix_depth ss) ≤ n → suffix_layer o ≤ n
+      → deepest (map suffix_depth rest) ≤ n → Calm (primary_by file visit blocks x ss (member_by space o rest))
+  member_by_calm blocks space x ss rest (Suffix-F.Call xs) h k l m = operand_calm blocks x ss h k
+  member_by_calm blocks space x ss rest (Suffix-F.Method name xs) h k l m = member_calm blocks space name xs rest l m
+  member_by_calm blocks space x ss rest (Suffix-F.Attribute name) h k l m = operand_calm blocks x ss h k
+  member_by_calm blocks space x ss rest (Suffix-F.Suffix::Index i) h k l m = operand_calm blocks x ss h k
+  member_by_calm blocks space x ss rest (Suffix-F.Slice i j y) h k l m = operand_calm blocks x ss h k
 
-  native_calm : (blocks : List BlockParts) (x : Expr) (b : Bool) (ss : List Suffix) → expr_depth x ≤ n → deepest (map suffix_depth ss) ≤ n → Calm (primary_by file visit blocks x ss (native_call b ss))
-  native_calm blocks x false ss h k = operand_calm blocks x ss h k
-  native_calm blocks x true [] h k = operand_calm blocks x [] h k
-  native_calm blocks x true (u ∷ us) h k = native_by_calm blocks x (u ∷ us) us (out-Suffix u) h k (omega (arith, opened_suffix u)) (omega arith)
+  member_call_calm : (blocks : List BlockParts) (x : Expr) (o : Option Namespace) (ss : List Suffix) → expr_depth x ≤ n → deepest (map suffix_depth ss) ≤ n → Calm (primary_by file visit blocks x ss (member_call o ss))
+  member_call_calm blocks x None ss h k = operand_calm blocks x ss h k
+  member_call_calm blocks x (Some space) [] h k = operand_calm blocks x [] h k
+  member_call_calm blocks x (Some space) (u ∷ us) h k = member_by_calm blocks space x (u ∷ us) us (out-Suffix u) h k (omega (arith, opened_suffix u)) (omega arith)
 
   primary_calm : (blocks : List BlockParts) (x : Expr) (ss : List Suffix) → expr_depth x ≤ n → deepest (map suffix_depth ss) ≤ n → Calm (primary file visit blocks x ss)
   unfolding primary
-  primary_calm blocks x ss h k = native_calm blocks x (is_native file blocks (out-Expr x)) ss h k
+  primary_calm blocks x ss h k = member_call_calm blocks x (namespace_at file blocks (out-Expr x)) ss h k
 
   -- ---- comprehensions
 

@@ -25,6 +25,6 @@ loaded_inside x p l is =
     ∙ ap (λ (c : List PackageTargets). inside_of (inside_by x p).prints (inside_by x p).faults c) is.packages
 
 pub loaded_report : (o : Options) (files : List File) (query : CheckedQuery) (rules : Rules) (l : Loaded) (r : ReportView) → IsChecked o.query.items query → schema_in files ≡ Ok rules
-    → LoadsWorkspace files rules o.max_steps (Ok l) → Reports (record { prints = l.prints.items; faults = l.faults; packages = l.packages.items }) rules query o.output r → IsReportOn o files r
+    → LoadsWorkspace files rules o.max_steps (Ok l) → Reports (record { prints = l.prints.items; faults = l.faults; packages = l.packages.items }) query o.output r → IsReportOn o files r
 loaded_report o files query rules l r checked schema loads reports =
-    IsReportOn.loaded query rules loads.0 checked schema loads.1 (subst (λ (i : Inside). Reports i rules query o.output r) (loaded_inside _ _ l loads.2) reports)
+    IsReportOn.loaded query rules loads.0 checked schema loads.1 (subst (λ (i : Inside). Reports i query o.output r) (loaded_inside _ _ l loads.2) reports)

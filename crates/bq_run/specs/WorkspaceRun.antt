@@ -40,4 +40,4 @@ pub data IsReportOn (o : Options) (files : List File) (r : ReportView) : Type 0 
   too_many : (query : CheckedQuery) (rules : Rules) → IsChecked o.query.items query → schema_in files ≡ Ok rules → AreTooMany (inputs_of files rules)
       → r ≡ refused TooManyModules → IsReportOn o files r
   loaded : (query : CheckedQuery) (rules : Rules) (g : GraphParts) → IsChecked o.query.items query → schema_in files ≡ Ok rules
-      → IsLoadGraph (inputs_of files rules) g → Reports (loaded_in files rules o.max_steps g) rules query o.output r → IsReportOn o files r
+      → IsLoadGraph (inputs_of files rules) g → Reports (loaded_in files rules o.max_steps g) query o.output r → IsReportOn o files r

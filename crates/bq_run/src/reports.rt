@@ -34,12 +34,13 @@ fn report_by<T: Threads + Wait + Sync>(
     rt: &T,
     alloc: Global,
     workspace: &Workspace,
+    schema: &Schema,
     question: Question<'_>,
     options: &Options,
 ) -> Result<Report, AllocError>
     requires in_range { IsInRange options.now }
     requires query { IsChecked options.now.query.items question.query.now }
-    requires schema { schema_in workspace.now ≡ Ok question.schema.now }
+    requires schema { schema_in workspace.now ≡ Ok schema.now }
     requires form { question.form ≡ options.now.output }
     ensures { IfOk result (λ r. IsReportOn options.now workspace.now (report_view r)) }
 {
@@ -48,7 +49,7 @@ fn report_by<T: Threads + Wait + Sync>(
         rt,
         alloc,
         workspace,
-        question.schema,
+        schema,
         options.max_steps,
         jobs,
         &OpenGate,
@@ -88,11 +89,10 @@ fn report_query<T: Threads + Wait + Sync>(
     match schema_of(alloc, workspace) {
         Ok(schema) => {
             let question = Question {
-                schema: &schema,
                 query,
                 form: options.output,
             };
-            report_by(rt, alloc, workspace, question, options)
+            report_by(rt, alloc, workspace, &schema, question, options)
         }
         Err(LoadErr::Schema(line)) => Ok(refused(alloc, Refusal::Schema(line))),
         Err(_) => Err(AllocError),

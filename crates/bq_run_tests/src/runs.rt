@@ -8,6 +8,7 @@ use crate::examples::example;
 use crate::generated::generated;
 use crate::options::{corner, options};
 use crate::rows::{Row, check_answer, is_row, row_of};
+use crate::rules::over_rules;
 use crate::within::{Surroundings, within};
 use bq_run::{
     Counted, Metered, Options, OutputForm, RunErr, Status, read_bundle, run, run_files, status_of,
@@ -119,6 +120,7 @@ pub enum Table {
     Generated,
     Within(Surroundings),
     Beginnings,
+    Rules,
 }
 
 fn answer<R: Threads + Wait + Sync>(
@@ -138,6 +140,7 @@ fn answer<R: Threads + Wait + Sync>(
         Table::Generated => generated(rt, alloc, row),
         Table::Within(around) => within(rt, alloc, around, row),
         Table::Beginnings => over_beginnings(rt, alloc, row),
+        Table::Rules => over_rules(rt, alloc, row),
     }
 }
 

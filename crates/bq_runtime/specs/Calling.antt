@@ -1,5 +1,5 @@
 -- What a built-in function does that is called by its name (Starlark specification, "Function and method calls").
-use Rattle.std.specs.Prelude.{ℕ, List, Option, Some, None}
+use Rattle.std.specs.Prelude.{List, Option, Some, None}
 use Rattle.bq_source.specs.declared.fault.FaultKind.TheVariants.{WrongType}
 use Rattle.bq_predeclared.specs.declared.predeclared.Predeclared.{Predeclared}
 use Rattle.bq_predeclared.specs.declared.predeclared.Predeclared.TheVariants as p
@@ -9,16 +9,13 @@ use Rattle.bq_machine.specs.Action.{Action, stop, on_machine}
 use Rattle.bq_machine.specs.Args.{Passed}
 use Rattle.bq_scope.specs.Names.{Name}
 use Rattle.bq_host.specs.BuiltIns.{function_named}
+pub use Rattle.bq_host.specs.Host.{HostCalls}
 use Rattle.bq_functions.specs.Call.{call_function}
-
--- what the functions of a host mean, by their ids
-abbrev pub HostCalls : Type 0 → Type 0
-HostCalls W = ℕ → Passed → Action (State × W) Datum
 
 -- a host carries out its own functions; what is no function of this workspace, which no program has, can't be called (F40)
 abbrev pub call_found : {W : Type 0} → HostCalls W → Option Predeclared → Passed → Action (State × W) Datum
 call_found host None args = on_machine (stop WrongType)
-call_found host (Some (p.Host id)) args = host id args
+call_found host (Some (p.Host id)) args = host.call id args
 call_found host (Some x) args = on_machine (call_function x args)
 
 unfoldable pub call_built_in : {W : Type 0} → List Name → HostCalls W → Name → Passed → Action (State × W) Datum

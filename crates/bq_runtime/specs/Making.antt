@@ -14,17 +14,17 @@ use Rattle.bq_operate.specs.Sequence.{limited}
 -- a list with one more element (F54)
 unfoldable pub with_element : Contents → Datum → Result Contents FaultKind
 with_element (items xs) v = and_then (limited (xs ++ v ∷ [])) (λ ys. Ok (items ys))
-with_element (pairs ps) v = Err WrongType
+with_element _ v = Err WrongType
 
 -- a dict in which the key has this value (F54)
 unfoldable pub with_pair : Contents → Datum → Datum → Result Contents FaultKind
 with_pair (pairs ps) k v = and_then (limited (put k v ps)) (λ qs. Ok (pairs qs))
-with_pair (items xs) k v = Err WrongType
+with_pair _ k v = Err WrongType
 
 -- a key that is there already is F46
 unfoldable pub with_new_pair : Contents → Datum → Datum → Result Contents FaultKind
 with_new_pair (pairs ps) k v = cond (is_some (found k ps)) (Err DoubleKey) (with_pair (pairs ps) k v)
-with_new_pair (items xs) k v = Err WrongType
+with_new_pair _ k v = Err WrongType
 
 unfoldable pub add : Contents → Datum → Action State Contents
 add c v = given (with_element c v)

@@ -1,5 +1,5 @@
 -- What the rules of the language ask for, on the state of a machine, beside which a host keeps something: the operators, walks, built-in
--- functions and methods of the language, and the functions of the host.
+-- functions and methods of the language, the functions that declare rules, and the functions of the host.
 use Rattle.std.specs.Prelude.{◌≡◌, List, refl}
 use Rattle.bq_walk.specs.Truth.{truth_of}
 use Rattle.bq_scope.specs.Names.{Name}
@@ -14,6 +14,7 @@ use Rattle.bq_operate.specs.InPlace as in_place
 use Rattle.bq_methods.specs.Call as methods
 use Rattle.bq_meaning.specs.Primitives.{Primitives}
 use Rattle.bq_host.specs.BuiltIns.{predeclared_value}
+use Rattle.bq_rule_functions.specs.Call as rules
 use Rattle.bq_runtime.specs.Making as making
 use Rattle.bq_runtime.specs.Passing as passing
 use Rattle.bq_runtime.specs.Unpacking as unpacking
@@ -25,12 +26,12 @@ of_machine f s = (f s.0, s.1)
 
 -- where the schema's rules have these names
 unfoldable pub primitives : {W : Type 0} → List Name → HostCalls W → Primitives (State × W)
-primitives rules host = record {
+primitives names host = record {
   machine = λ s. s.0;
   step = λ count. on_machine (machine.step count);
   at_line = λ line. of_machine (λ s. record s { line = line });
   truth = λ v s. truth_of s.0.store v;
-  predeclared = predeclared_value rules;
+  predeclared = predeclared_value names;
   unary = λ operator v. on_machine (operate.unary operator v);
   binary = λ operator v w. on_machine (operate.binary operator v w);
   compare = λ operator v w. on_machine (operate.compare operator v w);
@@ -49,7 +50,9 @@ primitives rules host = record {
   pass_named = λ args name v. on_machine (passing.pass_named args name v);
   pass_all = λ args v. on_machine (passing.pass_all args v);
   pass_all_named = λ args v. on_machine (passing.pass_all_named args v);
-  call_built_in = call_built_in rules host;
+  call_built_in = call_built_in names host;
+  call_rule_function = rules.call_rule_function host;
+  call_cell = rules.call_cell host;
   call_method = λ name v args. on_machine (methods.call_method name v args);
   enter = λ home place. on_machine (calls.enter home place);
   leave = of_machine calls.leave;

@@ -11,9 +11,9 @@ use bq_eval::Runtime;
 use bq_grammar::{Comparison, Operator, UnaryOperator};
 use bq_host::{BuiltIns, Host};
 use bq_machine::{Args, Elements, Machine};
-use bq_predeclared::Predeclared;
+use bq_predeclared::{Predeclared, RuleFunction};
 use bq_source::{Bytes, FaultKind};
-use bq_value::{Content, EvalErr, Value};
+use bq_value::{Cell, Content, EvalErr, Value};
 use std::alloc::{AllocError, Global};
 use std::marker::{Brand, PhantomData};
 
@@ -234,6 +234,21 @@ impl<'a, H: Host, K: RuleNames> Runtime for Evaluation<'a, H, K> {
                 bq_functions::call_function(alloc, &mut self.machine, function, args)
             }
         }
+    }
+
+    #[tactic(auto, unfolding(crate::specs::Runtime::primitives))]
+    fn call_rule_function(
+        &mut self,
+        alloc: Global,
+        function: RuleFunction,
+        args: Args,
+    ) -> Result<Value, EvalErr> {
+        bq_rule_functions::call_rule_function(alloc, &self.host, function, args, &mut self.machine)
+    }
+
+    #[tactic(auto, unfolding(crate::specs::Runtime::primitives))]
+    fn call_cell(&mut self, alloc: Global, cell: Cell, args: Args) -> Result<Value, EvalErr> {
+        bq_rule_functions::call_cell(alloc, &mut self.host, cell, args, &mut self.machine)
     }
 
     #[tactic(auto, using(crate::proofs::Lifting::lifted), unfolding(crate::specs::Runtime::primitives))]

@@ -1,8 +1,8 @@
 //! What the evaluator asks for, carried out on a machine and a host.
 //!
 //! The promise: an [`Evaluation`] is a `Runtime` of bq_eval whose meaning is `primitives` (`specs/Runtime.antt`), one line for each
-//! operation: the operators of bq_operate, the walks of bq_machine, the methods and functions of the language, and the functions
-//! of the host, which are called by their names.
+//! operation: the operators of bq_operate, the walks of bq_machine, the methods and functions of the language, the functions that
+//! declare rules and the rules, and the functions of the host, which are called by their names.
 //!
 //! In reading order:
 //!

@@ -15,7 +15,6 @@ pub(crate) fn with_element(content: &mut Content, value: Value) -> Result<(), Ev
     ensures { Gives (λ _. content.new) Bad result (with_element content.old value) }
 {
     match &mut content.body {
-        Body::Dict(_) => Err(EvalErr::Bad(FaultKind::WrongType)),
         Body::List(values) => {
             if values.len() >= MAX_LEN {
                 return Err(EvalErr::Bad(FaultKind::TooLong));
@@ -23,6 +22,7 @@ pub(crate) fn with_element(content: &mut Content, value: Value) -> Result<(), Ev
             values.push(value)?;
             Ok(())
         }
+        _ => Err(EvalErr::Bad(FaultKind::WrongType)),
     }
 }
 
@@ -32,7 +32,6 @@ pub(crate) fn with_pair(content: &mut Content, key: Key, value: Value) -> Result
     ensures { Gives (λ _. content.new) Bad result (with_pair content.old key value) }
 {
     match &mut content.body {
-        Body::List(_) => Err(EvalErr::Bad(FaultKind::WrongType)),
         Body::Dict(dict) => {
             let _before = dict.insert(key, value)?;
             if dict.len() > MAX_LEN {
@@ -40,6 +39,7 @@ pub(crate) fn with_pair(content: &mut Content, key: Key, value: Value) -> Result
             }
             Ok(())
         }
+        _ => Err(EvalErr::Bad(FaultKind::WrongType)),
     }
 }
 
@@ -49,12 +49,12 @@ pub(crate) fn with_new_pair(content: &mut Content, key: Key, value: Value) -> Re
     ensures { Gives (λ _. content.new) Bad result (with_new_pair content.old key value) }
 {
     match &content.body {
-        Body::List(_) => return Err(EvalErr::Bad(FaultKind::WrongType)),
         Body::Dict(dict) => {
             if dict.get(&key).is_some() {
                 return Err(EvalErr::Bad(FaultKind::DoubleKey));
             }
         }
+        _ => return Err(EvalErr::Bad(FaultKind::WrongType)),
     }
     with_pair(content, key, value)
 }

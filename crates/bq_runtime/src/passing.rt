@@ -98,8 +98,8 @@ pub(crate) fn dict_in<'s>(store: &'s Store, value: &Value) -> Result<&'s Dict, E
         Node::Cell(cell) => match store.content(*cell) {
             None => Err(EvalErr::Bad(FaultKind::WrongType)),
             Some(content) => match &content.body {
-                Body::List(_) => Err(EvalErr::Bad(FaultKind::WrongType)),
                 Body::Dict(dict) => Ok(dict),
+                _ => Err(EvalErr::Bad(FaultKind::WrongType)),
             },
         },
         _ => Err(EvalErr::Bad(FaultKind::WrongType)),

@@ -4,11 +4,12 @@ use Rattle.std.specs.Option.{is_some}
 use Rattle.std.specs.Map.{lookup}
 use Rattle.std.proofs.lemmas.Slice.Eq.{bytes_eq-Decides}
 use Rattle.bq_source.specs.declared.fault.Fault.{Fault}
-use Rattle.bq_schema.specs.declared.attribute.Attribute.{Attribute}
+use Rattle.bq_rule_class.specs.declared.attribute.Attribute.{Attribute}
+use Rattle.bq_rule_class.specs.Class.{Class, has_attribute, extended}
 use Rattle.bq_schema.specs.declared.line.Line.{Line}
 use Rattle.bq_schema.specs.declared.line.Line.TheVariants as line
 use Rattle.bq_schema.specs.Line.{line_of}
-use Rattle.bq_schema.specs.Schema.{Rules, Table, has, has_attribute, with_rule, with_attribute_of_last, last_by, last_of, onto, after}
+use Rattle.bq_schema.specs.Schema.{Rules, has, with_rule, with_attribute_of_last, last_by, last_of, with_last, onto, after}
 use Rattle.bq_schema.specs.Reading.{declared_by}
 use Rattle.bq_schema.specs.Laws.{NoneTwice, EachNoneTwice, AreRules, names_of}
 use Rattle.bq_schema.proofs.Lines.{nothing_left, goes_on}
@@ -54,11 +55,11 @@ some_by true a o rest h = refl
 some_by false a o rest h = h
 
 -- the names of a table are those of its attributes
-named_there : (table : Table) (name : List ℕ) → has_attribute table name ≡ has (names_of table) name
+named_there : (table : Class) (name : List ℕ) → has_attribute table name ≡ has (names_of table) name
 named_there [] name = refl
 named_there (e ∷ es) name = some_by (bytes_eq name e.0) e.1 (lookup (bytes_eq name) es) (has (names_of es) name) (named_there es name)
 
-names_pushed : (table : Table) (name : List ℕ) (a : Attribute) → names_of (table ++ (name, a) ∷ []) ≡ names_of table ++ name ∷ []
+names_pushed : (table : Class) (name : List ℕ) (a : Attribute) → names_of (table ++ (name, a) ∷ []) ≡ names_of table ++ name ∷ []
 names_pushed [] name a = refl
 names_pushed (e ∷ es) name a = ap (λ ns. e.0 ∷ ns) (names_pushed es name a)
 
@@ -66,7 +67,7 @@ length_pushed : {A : Type 0} (xs : List A) (x : A) → length (xs ++ x ∷ []) �
 length_pushed [] x = refl
 length_pushed (y ∷ ys) x = ap suc (length_pushed ys x)
 
-each_pushed : (tables : List Table) (table : Table) → EachNoneTwice tables → NoneTwice (names_of table) → EachNoneTwice (tables ++ table ∷ [])
+each_pushed : (tables : List Class) (table : Class) → EachNoneTwice tables → NoneTwice (names_of table) → EachNoneTwice (tables ++ table ∷ [])
 each_pushed [] table each once = (once, tt)
 each_pushed (t ∷ ts) table each once = (each.0, each_pushed ts table each.1 once)
 
@@ -92,31 +93,31 @@ unfolding last_of
 ends [] p h = absurd (let no : ⊥ = cc in no)
 ends (x ∷ xs) p h = ends_by (last_of xs) x xs p refl (ends xs) h
 
-each_before : (tables : List Table) (table : Table) → EachNoneTwice (tables ++ table ∷ []) → EachNoneTwice tables
+each_before : (tables : List Class) (table : Class) → EachNoneTwice (tables ++ table ∷ []) → EachNoneTwice tables
 each_before [] table each = tt
 each_before (t ∷ ts) table each = (each.0, each_before ts table each.1)
 
-each_last : (tables : List Table) (table : Table) → EachNoneTwice (tables ++ table ∷ []) → NoneTwice (names_of table)
+each_last : (tables : List Class) (table : Class) → EachNoneTwice (tables ++ table ∷ []) → NoneTwice (names_of table)
 each_last [] table each = each.0
 each_last (t ∷ ts) table each = each_last ts table each.1
 
 rule_by : (b : Bool) (rules next : Rules) (name : List ℕ) → AreRules rules → has rules.names name ≡ b
-    → cond b None (Some (record { names = rules.names ++ name ∷ []; attributes = rules.attributes ++ [] ∷ [] })) ≡ Some next → AreRules next
+    → cond b None (Some (record { names = rules.names ++ name ∷ []; classes = rules.classes ++ [] ∷ [] })) ≡ Some next → AreRules next
 rule_by true rules next name are e h = absurd (no_next next h)
 rule_by false rules next name are e h =
     subst AreRules (some_same _ next h)
     (record {
       rules_differ = none_twice_pushed rules.names name are.rules_differ e;
-      attributes_differ = each_pushed rules.attributes [] are.attributes_differ tt;
-      as_many = length_pushed rules.attributes [] ∙ (ap suc are.as_many ∙ sym (length_pushed rules.names name));
+      attributes_differ = each_pushed rules.classes [] are.attributes_differ tt;
+      as_many = length_pushed rules.classes [] ∙ (ap suc are.as_many ∙ sym (length_pushed rules.names name));
     })
 
 with_rule_are : (rules next : Rules) (name : List ℕ) → AreRules rules → with_rule rules name ≡ Some next → AreRules next
 unfolding with_rule
 with_rule_are rules next name are h = rule_by (has rules.names name) rules next name are refl h
 
-attribute_by : (b : Bool) (rules next : Rules) (name : List ℕ) (a : Attribute) (before : List Table) (table : Table) → AreRules rules → rules.attributes ≡ before ++ table ∷ [] → has_attribute table name ≡ b
-    → cond b None (Some (record { names = rules.names; attributes = before ++ (table ++ (name, a) ∷ []) ∷ [] })) ≡ Some next → AreRules next
+attribute_by : (b : Bool) (rules next : Rules) (name : List ℕ) (a : Attribute) (before : List Class) (table : Class) → AreRules rules → rules.classes ≡ before ++ table ∷ [] → has_attribute table name ≡ b
+    → with_last rules before (cond b None (Some (table ++ (name, a) ∷ []))) ≡ Some next → AreRules next
 attribute_by true rules next name a before table are is e h = absurd (no_next next h)
 attribute_by false rules next name a before table are is e h =
     let each : EachNoneTwice (before ++ table ∷ []) = subst EachNoneTwice is are.attributes_differ in
@@ -128,13 +129,14 @@ attribute_by false rules next name a before table are is e h =
       as_many = length_pushed before (table ++ (name, a) ∷ []) ∙ (sym (length_pushed before table) ∙ (sym (ap length is) ∙ are.as_many));
     })
 
-onto_are : (o : Option (List Table × Table)) (rules next : Rules) (name : List ℕ) (a : Attribute) → AreRules rules → last_of rules.attributes ≡ o → onto rules name a o ≡ Some next → AreRules next
+onto_are : (o : Option (List Class × Class)) (rules next : Rules) (name : List ℕ) (a : Attribute) → AreRules rules → last_of rules.classes ≡ o → onto rules name a o ≡ Some next → AreRules next
+unfolding extended
 onto_are None rules next name a are e h = absurd (no_next next h)
-onto_are (Some p) rules next name a are e h = attribute_by (has_attribute p.1 name) rules next name a p.0 p.1 are (ends rules.attributes p e) refl h
+onto_are (Some p) rules next name a are e h = attribute_by (has_attribute p.1 name) rules next name a p.0 p.1 are (ends rules.classes p e) refl h
 
 with_attribute_are : (rules next : Rules) (name : List ℕ) (a : Attribute) → AreRules rules → with_attribute_of_last rules name a ≡ Some next → AreRules next
 unfolding with_attribute_of_last
-with_attribute_are rules next name a are h = onto_are (last_of rules.attributes) rules next name a are refl h
+with_attribute_are rules next name a are h = onto_are (last_of rules.classes) rules next name a are refl h
 
 after_are : (l : Line) (rules next : Rules) → AreRules rules → after rules l ≡ Some next → AreRules next
 unfolding after

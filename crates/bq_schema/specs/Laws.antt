@@ -1,10 +1,11 @@
 -- Words of the laws.
 use Rattle.std.specs.Prelude.{◌≡◌, ◌≢◌, ℕ, List, [], ◌∷◌, ◌++◌, length, map, false, None, Ok, Err}
 use Rattle.bq_source.specs.declared.fault.Fault.{Fault}
-use Rattle.bq_schema.specs.declared.attribute.Attribute.{Attribute}
+use Rattle.bq_rule_class.specs.Class.{Class}
+use Rattle.bq_rule_class.specs.declared.attribute.Attribute.{Attribute}
 use Rattle.bq_schema.specs.declared.line.Line.TheVariants as line
 use Rattle.bq_schema.specs.Line.{line_of}
-use Rattle.bq_schema.specs.Schema.{Rules, Table, no_rules, has, after}
+use Rattle.bq_schema.specs.Schema.{Rules, no_rules, has, after}
 use Rattle.bq_schema.specs.Reading.{lines, bad_line, declared_by, schema_of}
 
 -- the lines before this one declare rules, and it is a bad one after them
@@ -32,22 +33,22 @@ abbrev pub NoneTwice : List (List ℕ) → Type 0
 NoneTwice [] = Unit {0}
 NoneTwice (name ∷ names) = (has names name ≡ false) × NoneTwice names
 
-abbrev pub names_of : Table → List (List ℕ)
-names_of table = map (λ e. e.0) table
+abbrev pub names_of : Class → List (List ℕ)
+names_of class = map (λ e. e.0) class
 
-abbrev pub EachNoneTwice : List Table → Type 0
+abbrev pub EachNoneTwice : List Class → Type 0
 EachNoneTwice [] = Unit {0}
-EachNoneTwice (table ∷ tables) = NoneTwice (names_of table) × EachNoneTwice tables
+EachNoneTwice (class ∷ classes) = NoneTwice (names_of class) × EachNoneTwice classes
 
 -- No two rules have one name, nor have two attributes of a rule. Each rule has its attributes.
 pub record AreRules (rules : Rules) : Type 0 where
   pub rules_differ : NoneTwice rules.names
-  pub attributes_differ : EachNoneTwice rules.attributes
-  pub as_many : length rules.attributes ≡ length rules.names
+  pub attributes_differ : EachNoneTwice rules.classes
+  pub as_many : length rules.classes ≡ length rules.names
 
 abbrev pub NamesDiffer : Type 0
 NamesDiffer = (text : List ℕ) (rules : Rules) → schema_of text ≡ Ok rules → AreRules rules
 
 -- an attribute without a rule before it is a bad line
 abbrev pub AttributesAreOfARule : Type 0
-AttributesAreOfARule = (rules : Rules) (name : List ℕ) (attribute : Attribute) → rules.attributes ≡ [] → after rules (line.Attribute name attribute) ≡ None
+AttributesAreOfARule = (rules : Rules) (name : List ℕ) (attribute : Attribute) → rules.classes ≡ [] → after rules (line.Attribute name attribute) ≡ None

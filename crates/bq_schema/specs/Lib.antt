@@ -1,4 +1,3 @@
-pub mod Attribute
 pub mod Line
 pub mod Schema
 pub mod Reading

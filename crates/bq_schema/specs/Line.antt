@@ -1,11 +1,11 @@
 -- What one line of a schema says (ours): `rule NAME`, `attr NAME TYPE` or `attr NAME TYPE mandatory`, its words parted by single
--- spaces. A line is skipped that is blank or begins with `#`.
+-- spaces. A line is skipped that is blank or begins with `#`. No attribute of a schema has a default.
 use Rattle.std.specs.Prelude.{ℕ, List, [], ◌∷◌, Bool, true, false, not, ◌&&◌, ◌||◌, ◌==◌, Option, Some, None, is_some, codes, bytes_eq, if◌then◌else◌}
 use Rattle.std.specs.List.{list_all, slice_split}
 use Rattle.bq_grammar.specs.Literals.{is_identifier}
 use Rattle.bq_predeclared.specs.Predeclared.{predeclared_named}
-use Rattle.bq_schema.specs.Attribute.{type_named, common_attribute}
-use Rattle.bq_schema.specs.declared.attribute.AttributeType.{AttributeType}
+use Rattle.bq_rule_class.specs.AttributeType.{type_named, common_attribute}
+use Rattle.bq_rule_class.specs.declared.attribute_type.AttributeType.{AttributeType}
 use Rattle.bq_schema.specs.declared.line.Line.{Line}
 use Rattle.bq_schema.specs.declared.line.Line.TheVariants as line
 
@@ -39,7 +39,7 @@ rule_line name = if names_rule name then line.Rule name else line.Other
 
 abbrev pub typed : Option AttributeType → List ℕ → Bool → Line
 typed None name mandatory = line.Other
-typed (Some kind) name mandatory = line.Attribute name (record { kind = kind; is_mandatory = mandatory })
+typed (Some kind) name mandatory = line.Attribute name (record { kind = kind; is_mandatory = mandatory; default = None })
 
 unfoldable pub attribute_line : List ℕ → List ℕ → Bool → Line
 attribute_line name kind mandatory = if names_attribute name then typed (type_named kind) name mandatory else line.Other

@@ -1,22 +1,18 @@
 -- The rules that the lines of a schema have declared so far, and what a further line makes of them (ours).
-use Rattle.std.specs.Prelude.{ℕ, List, [], ◌∷◌, ◌++◌, Bool, Option, Some, None, is_some, bytes_eq, if◌then◌else◌}
+use Rattle.std.specs.Prelude.{ℕ, List, [], ◌∷◌, ◌++◌, Bool, Option, Some, None, bytes_eq, if◌then◌else◌}
 use Rattle.std.specs.List.{list_any}
-use Rattle.std.specs.Map.{lookup}
-use Rattle.bq_schema.specs.declared.attribute.Attribute.{Attribute}
+use Rattle.bq_rule_class.specs.Class.{Class, extended}
+use Rattle.bq_rule_class.specs.declared.attribute.Attribute.{Attribute}
 use Rattle.bq_schema.specs.declared.line.Line.{Line}
 use Rattle.bq_schema.specs.declared.line.Line.TheVariants as line
-
--- the attributes of a rule with their names, in order
-abbrev pub Table : Type 0
-Table = List (List ℕ × Attribute)
 
 -- The names of the rules in the order in which they are declared, and the attributes of each in the same order.
 pub record Rules : Type 0 where
   pub names : List (List ℕ)
-  pub attributes : List Table
+  pub classes : List Class
 
 abbrev pub no_rules : Rules
-no_rules = record { names = []; attributes = [] }
+no_rules = record { names = []; classes = [] }
 
 abbrev pub has : List (List ℕ) → List ℕ → Bool
 has names name = list_any (bytes_eq name) names
@@ -25,16 +21,9 @@ has names name = list_any (bytes_eq name) names
 unfoldable pub with_name : List (List ℕ) → List ℕ → List (List ℕ)
 with_name names name = if has names name then names else names ++ name ∷ []
 
-abbrev pub has_attribute : Table → List ℕ → Bool
-has_attribute table name = is_some (lookup (bytes_eq name) table)
-
--- the attribute as the last, where there is none of its name
-unfoldable pub with_attribute : Table → List ℕ → Attribute → Table
-with_attribute table name attribute = if has_attribute table name then table else table ++ (name, attribute) ∷ []
-
 -- one more rule, without attributes of its own; none where one has the name
 unfoldable pub with_rule : Rules → List ℕ → Option Rules
-with_rule rules name = if has rules.names name then None else Some (record { names = rules.names ++ name ∷ []; attributes = rules.attributes ++ [] ∷ [] })
+with_rule rules name = if has rules.names name then None else Some (record { names = rules.names ++ name ∷ []; classes = rules.classes ++ [] ∷ [] })
 
 abbrev pub last_by : {A : Type 0} → A → Option (List A × A) → List A × A
 last_by x None = ([], x)
@@ -45,14 +34,17 @@ unfoldable pub last_of : {A : Type 0} → List A → Option (List A × A)
 last_of [] = None
 last_of (x ∷ xs) = Some (last_by x (last_of xs))
 
-abbrev pub onto : Rules → List ℕ → Attribute → Option (List Table × Table) → Option Rules
+abbrev pub with_last : Rules → List Class → Option Class → Option Rules
+with_last rules before None = None
+with_last rules before (Some class) = Some (record { names = rules.names; classes = before ++ class ∷ [] })
+
+abbrev pub onto : Rules → List ℕ → Attribute → Option (List Class × Class) → Option Rules
 onto rules name attribute None = None
-onto rules name attribute (Some p) =
-    if has_attribute p.1 name then None else Some (record { names = rules.names; attributes = p.0 ++ (p.1 ++ (name, attribute) ∷ []) ∷ [] })
+onto rules name attribute (Some p) = with_last rules p.0 (extended p.1 name attribute)
 
 -- one more attribute of the last rule; none where there is no rule, or it has one of the name
 unfoldable pub with_attribute_of_last : Rules → List ℕ → Attribute → Option Rules
-with_attribute_of_last rules name attribute = onto rules name attribute (last_of rules.attributes)
+with_attribute_of_last rules name attribute = onto rules name attribute (last_of rules.classes)
 
 -- what a line makes of the rules before it; none where it is a bad one
 unfoldable pub after : Rules → Line → Option Rules

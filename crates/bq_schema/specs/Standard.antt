@@ -1,9 +1,9 @@
 -- The schema of a workspace without a file of its own (ours: a part of the rules of Bazel, Build Encyclopedia: filegroup, genrule, alias,
 -- test_suite).
-use Rattle.std.specs.Prelude.{ℕ, List, [], ◌∷◌, true, false, codes}
-use Rattle.bq_schema.specs.declared.attribute.Attribute.{Attribute}
-use Rattle.bq_schema.specs.declared.attribute.AttributeType.{AttributeType}
-use Rattle.bq_schema.specs.declared.attribute.AttributeType.TheVariants as t
+use Rattle.std.specs.Prelude.{ℕ, List, [], ◌∷◌, true, false, None, codes}
+use Rattle.bq_rule_class.specs.declared.attribute.Attribute.{Attribute}
+use Rattle.bq_rule_class.specs.declared.attribute_type.AttributeType.{AttributeType}
+use Rattle.bq_rule_class.specs.declared.attribute_type.AttributeType.TheVariants as t
 use Rattle.bq_schema.specs.Schema.{Rules}
 
 -- its lines
@@ -17,16 +17,16 @@ standard_lines =
     ∷ codes "rule test_suite" ∷ codes "attr tests label_list" ∷ []
 
 abbrev optional : List ℕ → AttributeType → List ℕ × Attribute
-optional name kind = (name, record { kind = kind; is_mandatory = false })
+optional name kind = (name, record { kind = kind; is_mandatory = false; default = None })
 
 abbrev mandatory : List ℕ → AttributeType → List ℕ × Attribute
-mandatory name kind = (name, record { kind = kind; is_mandatory = true })
+mandatory name kind = (name, record { kind = kind; is_mandatory = true; default = None })
 
 -- the rules of a workspace without a schema of its own
 abbrev pub standard_rules : Rules
 standard_rules = record {
   names = codes "filegroup" ∷ codes "genrule" ∷ codes "alias" ∷ codes "test_suite" ∷ [];
-  attributes =
+  classes =
       (optional (codes "srcs") t.LabelList ∷ optional (codes "data") t.LabelList ∷ optional (codes "output_group") t.String ∷ [])
       ∷ (optional (codes "srcs") t.LabelList ∷ mandatory (codes "outs") t.OutputList ∷ optional (codes "cmd") t.String ∷ optional (codes "cmd_bash") t.String
       ∷ optional (codes "cmd_bat") t.String ∷ optional (codes "cmd_ps") t.String ∷ optional (codes "output_to_bindir") t.Bool ∷ optional (codes "executable") t.Bool

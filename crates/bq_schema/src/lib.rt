@@ -5,17 +5,14 @@
 //!
 //! In reading order:
 //!
-//! - `attribute`: the types of attributes, and the attributes that all rules have;
 //! - `line`: what one line of a schema says;
-//! - `names`, `attributes`: names with their places, and the attributes of a rule by their names;
+//! - `names`: names with their places;
 //! - `schema`: the rules declared so far, and what a further line makes of them;
 //! - `read`: the lines of a whole text;
 //! - `standard`: the schema of a workspace without a file of its own;
 //! - `laws`: what holds of every schema, in words of its lines and names.
 #![tactic(auto)]
 
-mod attribute;
-mod attributes;
 mod laws;
 mod line;
 mod names;
@@ -23,8 +20,6 @@ mod read;
 mod schema;
 mod standard;
 
-pub use attribute::{Attribute, AttributeType, common_attribute, type_named};
-pub use attributes::Attributes;
 pub use laws::{
     attributes_are_of_a_rule, each_line_has_a_form, faults_name_the_first_bad_line, names_differ,
 };

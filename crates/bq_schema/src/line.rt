@@ -5,9 +5,9 @@ ghost use Rattle.std.specs.List.{list_all, slice_split};
 ghost use Rattle.bq_schema.specs.Line.{is_blank, is_skipped, is_predeclared, names_rule, names_attribute, words, rule_line, attribute_line, words_line, line_of};
 ghost use Rattle.bq_schema.specs.declared.line.Line.TheVariants as line;
 
-use crate::attribute::{Attribute, common_attribute, type_named};
 use bq_grammar::is_identifier;
 use bq_predeclared::predeclared_named;
+use bq_rule_class::{Attribute, common_attribute, type_named};
 use bq_source::Bytes;
 use std::alloc::{AllocError, Global};
 
@@ -107,7 +107,12 @@ fn attribute_line(
         return Ok(Line::Other);
     };
     let name = Bytes::from_slice(alloc, name)?;
-    Ok(Line::Attribute(name, Attribute { kind, is_mandatory }))
+    let attribute = Attribute {
+        kind,
+        is_mandatory,
+        default: None,
+    };
+    Ok(Line::Attribute(name, attribute))
 }
 
 fn is_word(word: &[u8], other: &[u8]) -> bool

@@ -3,11 +3,11 @@
 ghost use Rattle.std.specs.Prelude.{◌≡◌, ℕ, List, Some, None, position, slice_get, option_copied, bytes_eq, if◌then◌else◌, IfOk, OnOk};
 ghost use Rattle.bq_schema.specs.Schema.{no_rules, with_rule, with_attribute_of_last, after};
 
-use crate::attribute::Attribute;
-use crate::attributes::Attributes;
 use crate::line::Line;
 use crate::names::Names;
+use bq_rule_class::{Attribute, RuleClass};
 use bq_source::Bytes;
+use sqlite_items::Items;
 use std::alloc::{AllocError, Global};
 use std::marker::Model;
 
@@ -18,7 +18,7 @@ pub struct Schema {
     names: Vec<Bytes>,
     /// The same names, where each is found.
     places: Names,
-    attributes: Vec<Attributes>,
+    classes: Items<RuleClass>,
 }
 
 impl Model for Schema {
@@ -27,7 +27,7 @@ impl Model for Schema {
 
     ghost Value = { Rules };
 
-    ghost view = { λ s. record { names = s.names.items; attributes = s.attributes.items } };
+    ghost view = { λ s. record { names = s.names.items; classes = s.classes } };
 
     ghost invariant = { λ s. s.places ≡ s.names.items };
 }
@@ -45,33 +45,41 @@ fn add_rule(
     alloc: Global,
     names: &mut Vec<Bytes>,
     places: &mut Names,
-    attributes: &mut Vec<Attributes>,
+    classes: &mut Items<RuleClass>,
     name: Bytes,
 ) -> Result<bool, AllocError>
     requires { places.old ≡ names.old.items }
-    ensures says { IfOk result (λ is_new. (if is_new then Some (record { names = names.new.items; attributes = attributes.new.items }) else None) ≡ with_rule (record { names = names.old.items; attributes = attributes.old.items }) name) }
+    ensures says { IfOk result (λ is_new. (if is_new then Some (record { names = names.new.items; classes = classes.new }) else None) ≡ with_rule (record { names = names.old.items; classes = classes.old }) name) }
     ensures places { OnOk result (places.new ≡ names.new.items) }
 {
     if !places.add(alloc, name.as_slice())? {
         return Ok(false);
     }
     names.push(name)?;
-    attributes.push(Attributes::new(alloc))?;
+    classes.push(RuleClass::empty(alloc)?)?;
     Ok(true)
 }
 
-/// Adds an attribute to the last rule, where there is one, and it has none of the name. Says whether it did.
+/// Adds an attribute to the last rule, where there is one, and it has none of the name. Says whether it did; where it didn't, the
+/// classes are given up.
+#[tactic(auto, using(crate::proofs::Lasts::no_last, crate::proofs::Lasts::none_more, crate::proofs::Lasts::one_more))]
 fn add_attribute(
     alloc: Global,
-    attributes: &mut Vec<Attributes>,
+    classes: &mut Items<RuleClass>,
     name: &[u8],
     attribute: Attribute,
 ) -> Result<bool, AllocError>
-    ensures { (names : List (List ℕ)) → IfOk result (λ is_new. (if is_new then Some (record { names = names; attributes = attributes.new.items }) else None) ≡ with_attribute_of_last (record { names = names; attributes = attributes.old.items }) name.now attribute) }
+    ensures { (names : List (List ℕ)) → IfOk result (λ is_new. (if is_new then Some (record { names = names; classes = classes.new }) else None) ≡ with_attribute_of_last (record { names = names; classes = classes.old }) name.now attribute) }
 {
-    match attributes.last_mut() {
+    let Some(last) = classes.pop() else {
+        return Ok(false);
+    };
+    match last.with(alloc, name, attribute)? {
         None => Ok(false),
-        Some(last) => last.add(alloc, name, attribute),
+        Some(class) => {
+            classes.push(class)?;
+            Ok(true)
+        }
     }
 }
 
@@ -82,7 +90,7 @@ impl Schema {
         Schema {
             names: Vec::new(alloc),
             places: Names::new(alloc),
-            attributes: Vec::new(alloc),
+            classes: Items::new(alloc),
         }
     }
 
@@ -94,10 +102,10 @@ impl Schema {
     }
 
     /// The attributes that the rule of this number has of its own.
-    pub fn attributes(&self, rule: usize) -> Option<&Attributes>
-        ensures { option_copied result ≡ slice_get self.now.attributes rule }
+    pub fn class(&self, rule: usize) -> Option<&RuleClass>
+        ensures { option_copied result ≡ slice_get self.now.classes rule }
     {
-        self.attributes.get(rule)
+        self.classes.get(rule)
     }
 
     /// One more rule; none where one has the name.
@@ -109,7 +117,7 @@ impl Schema {
             alloc,
             &mut rules.names,
             &mut rules.places,
-            &mut rules.attributes,
+            &mut rules.classes,
             name,
         )?;
         Ok(is_new.then_some(rules))
@@ -125,7 +133,7 @@ impl Schema {
         ensures { IfOk result (λ s. s ≡ with_attribute_of_last self name attribute) }
     {
         let mut rules = self;
-        let is_new = add_attribute(alloc, &mut rules.attributes, name.as_slice(), attribute)?;
+        let is_new = add_attribute(alloc, &mut rules.classes, name.as_slice(), attribute)?;
         Ok(is_new.then_some(rules))
     }
 

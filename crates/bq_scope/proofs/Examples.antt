@@ -22,20 +22,24 @@ use Rattle.bq_grammar.specs.declared.tree.Suffix.TheVariants as suffix
 use Rattle.bq_grammar.specs.declared.tree.Target.{Target, out-Target, roll-Target}
 use Rattle.bq_grammar.specs.declared.tree.Target.TheVariants as target_of
 use Rattle.bq_predeclared.specs.Predeclared.{first_named, predeclared_named}
+use Rattle.bq_predeclared.specs.RuleFunctions.{attr_named, first_called}
 use Rattle.bq_scope.specs.Names.{max_layers, place_among, with_name, with_target_to, with_target, with_clause, comprehension_names, with_small, with_stmt_to, with_stmt, function_names, global_names, with_load, with_loads, loaded_names}
-use Rattle.bq_scope.specs.Universe.{host_named, universe_has}
+use Rattle.bq_scope.specs.Universe.{host_named, member_named, universe_has}
 use Rattle.bq_scope.specs.Scope.{slot_in, slot_of, file_has, use_of}
 use Rattle.bq_scope.specs.Visit.{each}
-use Rattle.bq_scope.specs.Expressions.{bind_global, use_at, name_target, target_to, arguments, suffixes, operand, host_call, primary, clauses, in_block, comprehension, expr_to}
+use Rattle.bq_scope.specs.Expressions.{bind_global, use_at, name_target, target_to, arguments, suffixes, operand, call_member, primary, clauses, in_block, comprehension, expr_to}
 use Rattle.bq_scope.specs.Statements.{expr, target, load_clause, load, assign, augment, returned, load_in, in_loop, small_stmt, branch, if_stmt, for_stmt, stmt_to, named_parameter, default_parameter, next_parameter, parameters, function}
 use Rattle.bq_scope.specs.Files.{file_names, def_stmt, top_level, resolved}
-use Rattle.bq_scope.specs.Examples.{word, named, simple, each_of, LoadedAndBound, Rebound, LoadedTwice, FirstFault, Rules, Native, FirstIterable, OneNameThrice, Default, Flow, Parameters, Examples}
+use Rattle.bq_scope.specs.Examples.{word, named, simple, each_of, LoadedAndBound, Rebound, LoadedTwice, FirstFault, Rules, Native, Attr, OwnAttr, OfRule, FirstIterable, OneNameThrice, Default, Flow, Parameters, Examples}
 
 open_name : (n : Identifier) → out-Expr (e.Name n) ≡ Expr-F.Expr::Name n
 open_name n = search (rules, the_lemmas)
 
 open_primary : (x : Expr) (ss : List Suffix) → out-Expr (e.Primary x ss) ≡ Expr-F.Primary x ss
 open_primary x ss = search (rules, the_lemmas)
+
+open_list : (xs : List Expr) → out-Expr (e.List xs) ≡ Expr-F.Expr::List xs
+open_list xs = search (rules, the_lemmas)
 
 open_comprehension : (x : Expr) (cs : List Clause) → out-Expr (e.ListComprehension x cs) ≡ Expr-F.ListComprehension x cs
 open_comprehension x cs = search (rules, the_lemmas)
@@ -59,29 +63,29 @@ open_simple : (n : List SmallStmt) → out-Stmt (stmt.Simple n) ≡ Stmt-F.Simpl
 open_simple n = search (rules, statement.the_lemmas)
 
 loaded_and_bound : LoadedAndBound
-unfolding first_named predeclared_named max_layers place_among with_name with_target_to with_target with_clause comprehension_names with_small with_stmt_to with_stmt function_names global_names with_load with_loads loaded_names host_named universe_has slot_in slot_of file_has use_of each bind_global use_at name_target target_to arguments suffixes operand host_call primary clauses in_block comprehension expr_to expr target load_clause load assign augment returned load_in in_loop small_stmt branch if_stmt for_stmt stmt_to named_parameter default_parameter next_parameter parameters function file_names def_stmt top_level resolved out-Stmt roll-Stmt out-Expr roll-Expr out-Target roll-Target out
+unfolding first_called attr_named first_named predeclared_named max_layers place_among with_name with_target_to with_target with_clause comprehension_names with_small with_stmt_to with_stmt function_names global_names with_load with_loads loaded_names host_named member_named universe_has slot_in slot_of file_has use_of each bind_global use_at name_target target_to arguments suffixes operand call_member primary clauses in_block comprehension expr_to expr target load_clause load assign augment returned load_in in_loop small_stmt branch if_stmt for_stmt stmt_to named_parameter default_parameter next_parameter parameters function file_names def_stmt top_level resolved out-Stmt roll-Stmt out-Expr roll-Expr out-Target roll-Target out
 loaded_and_bound = refl
 
 rebound : Rebound
-unfolding first_named predeclared_named max_layers place_among with_name with_target_to with_target with_clause comprehension_names with_small with_stmt_to with_stmt function_names global_names with_load with_loads loaded_names host_named universe_has slot_in slot_of file_has use_of each bind_global use_at name_target target_to arguments suffixes operand host_call primary clauses in_block comprehension expr_to expr target load_clause load assign augment returned load_in in_loop small_stmt branch if_stmt for_stmt stmt_to named_parameter default_parameter next_parameter parameters function file_names def_stmt top_level resolved out-Stmt roll-Stmt out-Expr roll-Expr out-Target roll-Target out
+unfolding first_called attr_named first_named predeclared_named max_layers place_among with_name with_target_to with_target with_clause comprehension_names with_small with_stmt_to with_stmt function_names global_names with_load with_loads loaded_names host_named member_named universe_has slot_in slot_of file_has use_of each bind_global use_at name_target target_to arguments suffixes operand call_member primary clauses in_block comprehension expr_to expr target load_clause load assign augment returned load_in in_loop small_stmt branch if_stmt for_stmt stmt_to named_parameter default_parameter next_parameter parameters function file_names def_stmt top_level resolved out-Stmt roll-Stmt out-Expr roll-Expr out-Target roll-Target out
 rebound = (refl, refl, refl)
 
 loaded_twice : LoadedTwice
-unfolding first_named predeclared_named max_layers place_among with_name with_target_to with_target with_clause comprehension_names with_small with_stmt_to with_stmt function_names global_names with_load with_loads loaded_names host_named universe_has slot_in slot_of file_has use_of each bind_global use_at name_target target_to arguments suffixes operand host_call primary clauses in_block comprehension expr_to expr target load_clause load assign augment returned load_in in_loop small_stmt branch if_stmt for_stmt stmt_to named_parameter default_parameter next_parameter parameters function file_names def_stmt top_level resolved out-Stmt roll-Stmt out-Expr roll-Expr out-Target roll-Target out
+unfolding first_called attr_named first_named predeclared_named max_layers place_among with_name with_target_to with_target with_clause comprehension_names with_small with_stmt_to with_stmt function_names global_names with_load with_loads loaded_names host_named member_named universe_has slot_in slot_of file_has use_of each bind_global use_at name_target target_to arguments suffixes operand call_member primary clauses in_block comprehension expr_to expr target load_clause load assign augment returned load_in in_loop small_stmt branch if_stmt for_stmt stmt_to named_parameter default_parameter next_parameter parameters function file_names def_stmt top_level resolved out-Stmt roll-Stmt out-Expr roll-Expr out-Target roll-Target out
 loaded_twice = (refl, refl, refl)
 
 first_fault : FirstFault
-unfolding first_named predeclared_named max_layers place_among with_name with_target_to with_target with_clause comprehension_names with_small with_stmt_to with_stmt function_names global_names with_load with_loads loaded_names host_named universe_has slot_in slot_of file_has use_of each bind_global use_at name_target target_to arguments suffixes operand host_call primary clauses in_block comprehension expr_to expr target load_clause load assign augment returned load_in in_loop small_stmt branch if_stmt for_stmt stmt_to named_parameter default_parameter next_parameter parameters function file_names def_stmt top_level resolved out-Stmt roll-Stmt out-Expr roll-Expr out-Target roll-Target out
+unfolding first_called attr_named first_named predeclared_named max_layers place_among with_name with_target_to with_target with_clause comprehension_names with_small with_stmt_to with_stmt function_names global_names with_load with_loads loaded_names host_named member_named universe_has slot_in slot_of file_has use_of each bind_global use_at name_target target_to arguments suffixes operand call_member primary clauses in_block comprehension expr_to expr target load_clause load assign augment returned load_in in_loop small_stmt branch if_stmt for_stmt stmt_to named_parameter default_parameter next_parameter parameters function file_names def_stmt top_level resolved out-Stmt roll-Stmt out-Expr roll-Expr out-Target roll-Target out
 first_fault = refl
 
 first_iterable : FirstIterable
-unfolding first_named predeclared_named max_layers place_among with_name with_target_to with_target with_clause comprehension_names with_small with_stmt_to with_stmt function_names global_names with_load with_loads loaded_names host_named universe_has slot_in slot_of file_has use_of each bind_global use_at name_target target_to arguments suffixes operand host_call primary clauses in_block comprehension expr_to expr target load_clause load assign augment returned load_in in_loop small_stmt branch if_stmt for_stmt stmt_to named_parameter default_parameter next_parameter parameters function file_names def_stmt top_level resolved out-Stmt roll-Stmt out-Target roll-Target out
+unfolding first_called attr_named first_named predeclared_named max_layers place_among with_name with_target_to with_target with_clause comprehension_names with_small with_stmt_to with_stmt function_names global_names with_load with_loads loaded_names host_named member_named universe_has slot_in slot_of file_has use_of each bind_global use_at name_target target_to arguments suffixes operand call_member primary clauses in_block comprehension expr_to expr target load_clause load assign augment returned load_in in_loop small_stmt branch if_stmt for_stmt stmt_to named_parameter default_parameter next_parameter parameters function file_names def_stmt top_level resolved out-Stmt roll-Stmt out-Target roll-Target out
 first_iterable =
     let y = codes "y" in
     rw (open_comprehension (named 1 y) (clause.For (target_of.Name (word 1 y)) (named 1 y) ∷ []), open_for (target_of.Name (word 1 y)) (named 1 y), open_name (word 1 y)) refl
 
 rules_of_schema : Rules
-unfolding first_named predeclared_named max_layers place_among with_name with_target_to with_target with_clause comprehension_names with_small with_stmt_to with_stmt function_names global_names with_load with_loads loaded_names host_named universe_has slot_in slot_of file_has use_of each bind_global use_at name_target target_to arguments suffixes operand host_call primary clauses in_block comprehension expr_to expr target load_clause load assign augment returned load_in in_loop small_stmt branch if_stmt for_stmt stmt_to named_parameter default_parameter next_parameter parameters function file_names def_stmt top_level resolved out-Stmt roll-Stmt out-Target roll-Target out
+unfolding first_called attr_named first_named predeclared_named max_layers place_among with_name with_target_to with_target with_clause comprehension_names with_small with_stmt_to with_stmt function_names global_names with_load with_loads loaded_names host_named member_named universe_has slot_in slot_of file_has use_of each bind_global use_at name_target target_to arguments suffixes operand call_member primary clauses in_block comprehension expr_to expr target load_clause load assign augment returned load_in in_loop small_stmt branch if_stmt for_stmt stmt_to named_parameter default_parameter next_parameter parameters function file_names def_stmt top_level resolved out-Stmt roll-Stmt out-Target roll-Target out
 rules_of_schema =
     let n = codes "filegroup" in (
       rw (open_primary (named 1 n) (suffix.Call [] ∷ []), open_name (word 1 n), open_name (word 1 n), open_call []) refl,
@@ -90,14 +94,44 @@ rules_of_schema =
     )
 
 native_names : Native
-unfolding first_named predeclared_named max_layers place_among with_name with_target_to with_target with_clause comprehension_names with_small with_stmt_to with_stmt function_names global_names with_load with_loads loaded_names host_named universe_has slot_in slot_of file_has use_of each bind_global use_at name_target target_to arguments suffixes operand host_call primary clauses in_block comprehension expr_to expr target load_clause load assign augment returned load_in in_loop small_stmt branch if_stmt for_stmt stmt_to named_parameter default_parameter next_parameter parameters function file_names def_stmt top_level resolved out-Stmt roll-Stmt out-Target roll-Target out
+unfolding first_called attr_named first_named predeclared_named max_layers place_among with_name with_target_to with_target with_clause comprehension_names with_small with_stmt_to with_stmt function_names global_names with_load with_loads loaded_names host_named member_named universe_has slot_in slot_of file_has use_of each bind_global use_at name_target target_to arguments suffixes operand call_member primary clauses in_block comprehension expr_to expr target load_clause load assign augment returned load_in in_loop small_stmt branch if_stmt for_stmt stmt_to named_parameter default_parameter next_parameter parameters function file_names def_stmt top_level resolved out-Stmt roll-Stmt out-Target roll-Target out
 native_names = (
   rw (open_primary (named 1 (codes "native")) (suffix.Method (word 1 (codes "nope")) [] ∷ []), open_name (word 1 (codes "native")), open_method (word 1 (codes "nope")) []) refl,
   rw (open_primary (named 1 (codes "native")) (suffix.Method (word 1 (codes "glob")) [] ∷ []), open_name (word 1 (codes "native")), open_name (word 1 (codes "native"))) refl,
 )
 
+attr_names : Attr
+unfolding first_called attr_named first_named predeclared_named max_layers place_among with_name with_target_to with_target with_clause comprehension_names with_small with_stmt_to with_stmt function_names global_names with_load with_loads loaded_names host_named member_named universe_has slot_in slot_of file_has use_of each bind_global use_at name_target target_to arguments suffixes operand call_member primary clauses in_block comprehension expr_to expr target load_clause load assign augment returned load_in in_loop small_stmt branch if_stmt for_stmt stmt_to named_parameter default_parameter next_parameter parameters function file_names def_stmt top_level resolved out-Stmt roll-Stmt out-Target roll-Target out
+attr_names =
+    let a = codes "attr" in (
+      rw (open_primary (named 1 a) (suffix.Method (word 1 (codes "int")) [] ∷ []), open_name (word 1 a), open_method (word 1 (codes "int")) []) refl,
+      rw (open_primary (named 1 a) (suffix.Method (word 1 (codes "nope")) [] ∷ []), open_name (word 1 a), open_method (word 1 (codes "nope")) []) refl,
+      rw (open_name (word 1 a)) refl,
+      rw (open_primary (named 1 a) (suffix.Method (word 1 (codes "int")) [] ∷ []), open_name (word 1 a), open_name (word 1 a)) refl,
+    )
+
+own_attr : OwnAttr
+unfolding first_called attr_named first_named predeclared_named max_layers place_among with_name with_target_to with_target with_clause comprehension_names with_small with_stmt_to with_stmt function_names global_names with_load with_loads loaded_names host_named member_named universe_has slot_in slot_of file_has use_of each bind_global use_at name_target target_to arguments suffixes operand call_member primary clauses in_block comprehension expr_to expr target load_clause load assign augment returned load_in in_loop small_stmt branch if_stmt for_stmt stmt_to named_parameter default_parameter next_parameter parameters function file_names def_stmt top_level resolved out-Stmt roll-Stmt out-Target roll-Target out
+own_attr =
+    let a = codes "attr" in let i = codes "int" in (
+      rw (open_list [], open_primary (named 2 a) (suffix.Method (word 2 i) [] ∷ []), open_name (word 2 a), open_name (word 2 a), open_method (word 2 i) []) refl,
+      rw (open_primary (named 2 a) (suffix.Method (word 2 i) [] ∷ []), open_name (word 2 a), open_name (word 2 a), open_method (word 2 i) []) refl,
+    )
+
+of_rule : OfRule
+unfolding first_called attr_named first_named predeclared_named max_layers place_among with_name with_target_to with_target with_clause comprehension_names with_small with_stmt_to with_stmt function_names global_names with_load with_loads loaded_names host_named member_named universe_has slot_in slot_of file_has use_of each bind_global use_at name_target target_to arguments suffixes operand call_member primary clauses in_block comprehension expr_to expr target load_clause load assign augment returned load_in in_loop small_stmt branch if_stmt for_stmt stmt_to named_parameter default_parameter next_parameter parameters function file_names def_stmt top_level resolved out-Stmt roll-Stmt out-Target roll-Target out
+of_rule =
+    let n = codes "rule" in let a = codes "attr" in (
+      rw (open_primary (named 1 n) (suffix.Call [] ∷ []), open_name (word 1 n), open_name (word 1 n), open_call []) refl,
+      rw (open_primary (named 1 n) (suffix.Call [] ∷ []), open_name (word 1 n), open_name (word 1 n)) refl,
+      rw (open_primary (named 1 n) (suffix.Call [] ∷ []), open_name (word 1 n), open_name (word 1 n), open_call []) refl,
+      rw (open_primary (named 1 a) (suffix.Call [] ∷ []), open_name (word 1 a), open_name (word 1 a), open_call []) refl,
+      rw (open_primary (named 1 n) (suffix.Call [] ∷ []), open_name (word 1 n), open_name (word 1 n), open_call []) refl,
+      rw (open_primary (named 1 (codes "native")) (suffix.Method (word 1 n) [] ∷ []), open_name (word 1 (codes "native")), open_method (word 1 n) []) refl,
+    )
+
 one_name_thrice : OneNameThrice
-unfolding first_named predeclared_named max_layers place_among with_name with_target_to with_target with_clause comprehension_names with_small with_stmt_to with_stmt function_names global_names with_load with_loads loaded_names host_named universe_has slot_in slot_of file_has use_of each bind_global use_at name_target target_to arguments suffixes operand host_call primary clauses in_block comprehension expr_to expr target load_clause load assign augment returned load_in in_loop small_stmt branch if_stmt for_stmt stmt_to named_parameter default_parameter next_parameter parameters function file_names def_stmt top_level resolved out-Target roll-Target out
+unfolding first_called attr_named first_named predeclared_named max_layers place_among with_name with_target_to with_target with_clause comprehension_names with_small with_stmt_to with_stmt function_names global_names with_load with_loads loaded_names host_named member_named universe_has slot_in slot_of file_has use_of each bind_global use_at name_target target_to arguments suffixes operand call_member primary clauses in_block comprehension expr_to expr target load_clause load assign augment returned load_in in_loop small_stmt branch if_stmt for_stmt stmt_to named_parameter default_parameter next_parameter parameters function file_names def_stmt top_level resolved out-Target roll-Target out
 one_name_thrice =
     let x = codes "x" in λ file.
     rw (
@@ -109,22 +143,22 @@ one_name_thrice =
     ) refl
 
 default_outside : Default
-unfolding first_named predeclared_named max_layers place_among with_name with_target_to with_target with_clause comprehension_names with_small with_stmt_to with_stmt function_names global_names with_load with_loads loaded_names host_named universe_has slot_in slot_of file_has use_of each bind_global use_at name_target target_to arguments suffixes operand host_call primary clauses in_block comprehension expr_to expr target load_clause load assign augment returned load_in in_loop small_stmt branch if_stmt for_stmt stmt_to named_parameter default_parameter next_parameter parameters function file_names def_stmt top_level resolved out-Target roll-Target out
+unfolding first_called attr_named first_named predeclared_named max_layers place_among with_name with_target_to with_target with_clause comprehension_names with_small with_stmt_to with_stmt function_names global_names with_load with_loads loaded_names host_named member_named universe_has slot_in slot_of file_has use_of each bind_global use_at name_target target_to arguments suffixes operand call_member primary clauses in_block comprehension expr_to expr target load_clause load assign augment returned load_in in_loop small_stmt branch if_stmt for_stmt stmt_to named_parameter default_parameter next_parameter parameters function file_names def_stmt top_level resolved out-Target roll-Target out
 default_outside =
     rw (open_name (word 1 (codes "b"))) refl
 
 flow_outside : Flow
-unfolding first_named predeclared_named max_layers place_among with_name with_target_to with_target with_clause comprehension_names with_small with_stmt_to with_stmt function_names global_names with_load with_loads loaded_names host_named universe_has slot_in slot_of file_has use_of each bind_global use_at name_target target_to arguments suffixes operand host_call primary clauses in_block comprehension expr_to expr target load_clause load assign augment returned load_in in_loop small_stmt branch if_stmt for_stmt stmt_to named_parameter default_parameter next_parameter parameters function file_names def_stmt top_level resolved out-Target roll-Target out
+unfolding first_called attr_named first_named predeclared_named max_layers place_among with_name with_target_to with_target with_clause comprehension_names with_small with_stmt_to with_stmt function_names global_names with_load with_loads loaded_names host_named member_named universe_has slot_in slot_of file_has use_of each bind_global use_at name_target target_to arguments suffixes operand call_member primary clauses in_block comprehension expr_to expr target load_clause load assign augment returned load_in in_loop small_stmt branch if_stmt for_stmt stmt_to named_parameter default_parameter next_parameter parameters function file_names def_stmt top_level resolved out-Target roll-Target out
 flow_outside = (
   rw (open_simple (record { line = 1; kind = small.Return (Some (e.Int (pos 1))) } ∷ [])) refl,
   rw (open_loop (target_of.Name (word 2 (codes "x"))) (e.List []) (simple 2 small.Pass ∷ [])) refl,
 )
 
 two_parameters : Parameters
-unfolding first_named predeclared_named max_layers place_among with_name with_target_to with_target with_clause comprehension_names with_small with_stmt_to with_stmt function_names global_names with_load with_loads loaded_names host_named universe_has slot_in slot_of file_has use_of each bind_global use_at name_target target_to arguments suffixes operand host_call primary clauses in_block comprehension expr_to expr target load_clause load assign augment returned load_in in_loop small_stmt branch if_stmt for_stmt stmt_to named_parameter default_parameter next_parameter parameters function file_names def_stmt top_level resolved out-Target roll-Target out
+unfolding first_called attr_named first_named predeclared_named max_layers place_among with_name with_target_to with_target with_clause comprehension_names with_small with_stmt_to with_stmt function_names global_names with_load with_loads loaded_names host_named member_named universe_has slot_in slot_of file_has use_of each bind_global use_at name_target target_to arguments suffixes operand call_member primary clauses in_block comprehension expr_to expr target load_clause load assign augment returned load_in in_loop small_stmt branch if_stmt for_stmt stmt_to named_parameter default_parameter next_parameter parameters function file_names def_stmt top_level resolved out-Target roll-Target out
 two_parameters =
     let a = codes "a" in
     rw (open_def (word 1 (codes "f")) (parameter.Plain (word 1 a) ∷ parameter.Plain (word 1 a) ∷ []) (simple 1 small.Pass ∷ [])) refl
 
 pub examples : Examples
-examples = (first_iterable, one_name_thrice, default_outside, loaded_and_bound, rules_of_schema, native_names, rebound, loaded_twice, flow_outside, two_parameters, first_fault)
+examples = (first_iterable, one_name_thrice, default_outside, loaded_and_bound, rules_of_schema, native_names, attr_names, own_attr, of_rule, rebound, loaded_twice, flow_outside, two_parameters, first_fault)

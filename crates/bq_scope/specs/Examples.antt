@@ -1,5 +1,5 @@
 -- What some files resolve to, by hand from the Starlark specification, "Name binding and variables", and Bazel's rules on .bzl files.
-use Rattle.std.specs.Prelude.{◌≡◌, ℕ, pos, List, [], ◌∷◌, Some, Result, Ok, Err, codes}
+use Rattle.std.specs.Prelude.{◌≡◌, ℕ, pos, List, [], ◌∷◌, Some, None, Result, Ok, Err, codes}
 use Rattle.bq_source.specs.declared.fault.Fault.{Fault}
 use Rattle.bq_source.specs.declared.fault.FaultKind.{FaultKind}
 use Rattle.bq_source.specs.declared.fault.FaultKind.TheVariants as f
@@ -18,6 +18,7 @@ use Rattle.bq_grammar.specs.declared.tree.Suffix.TheVariants as suffix
 use Rattle.bq_grammar.specs.declared.tree.Target.TheVariants as target
 use Rattle.bq_grammar.specs.declared.tree.TopLevel.{TopLevel}
 use Rattle.bq_predeclared.specs.declared.predeclared.Predeclared.TheVariants as p
+use Rattle.bq_predeclared.specs.declared.rule_function.RuleFunction.TheVariants as function
 use Rattle.bq_scope.specs.declared.code.Binding.TheVariants as binding
 use Rattle.bq_scope.specs.declared.code.Code.{Code}
 use Rattle.bq_scope.specs.declared.code.Code.TheVariants as code
@@ -46,6 +47,13 @@ bzl = record { kind = kinds.Bzl; rules = codes "filegroup" ∷ [] }
 abbrev pub build : UniverseParts
 build = record { kind = kinds.Build; rules = codes "filegroup" ∷ [] }
 
+-- of a schema whose only rule is called `rule`, and of one whose only rule is called `attr`
+abbrev pub bzl_beside : List ℕ → UniverseParts
+bzl_beside name = record { kind = kinds.Bzl; rules = name ∷ [] }
+
+abbrev pub build_beside : List ℕ → UniverseParts
+build_beside name = record { kind = kinds.Build; rules = name ∷ [] }
+
 abbrev pub word : ℕ → List ℕ → Identifier
 word line name = record { name = name; line = line }
 
@@ -68,9 +76,15 @@ load label line name = small.Load (record { label = label; clauses = record { lo
 abbrev pub call : ℕ → List ℕ → Expr
 call line name = e.Primary (named line name) (suffix.Call [] ∷ [])
 
--- `native.name()`
+-- `space.name()`
+abbrev pub member_call : ℕ → List ℕ → List ℕ → Expr
+member_call line space name = e.Primary (named line space) (suffix.Method (word line name) [] ∷ [])
+
 abbrev pub native_call : ℕ → List ℕ → Expr
-native_call line name = e.Primary (named line (codes "native")) (suffix.Method (word line name) [] ∷ [])
+native_call line name = member_call line (codes "native") name
+
+abbrev pub attr_call : ℕ → List ℕ → Expr
+attr_call line name = member_call line (codes "attr") name
 
 -- `[name for name in x]`
 abbrev pub each_of : ℕ → List ℕ → Expr → Expr
@@ -86,6 +100,14 @@ line_of line x = record { line = line; statement = file_stmt.Simple (x ∷ []) }
 
 abbrev pub of_lines : List CodeTopLevel → List (List ℕ) → Result Resolved Fault
 of_lines ls globals = Ok (record { statements = ls; functions = []; globals = globals; loads = [] })
+
+-- the call of a code without arguments
+abbrev pub called : Code → CodeSmall
+called x = code_small.Expr (code.Primary x (code_suffix.Call [] ∷ []))
+
+-- the call of a value's method `int`
+abbrev pub int_method : Code → CodeSmall
+int_method x = code_small.Expr (code.Primary x (code_suffix.Method (codes "int") [] ∷ []))
 
 abbrev pub local_each : ℕ → Code → Code
 local_each slot x = code.ListComprehension (code.Use (binding.Local slot)) (code_clause.For (code_target.Local slot) x ∷ [])
@@ -132,15 +154,49 @@ abbrev pub Rules : Type 0
 Rules =
     let n = codes "filegroup" in
     (resolved build (top 1 (simple 1 (small.Expr (call 1 n))) ∷ [])
-    ≡ of_lines (line_of 1 (code_small.Expr (code.Primary (code.Use (binding.Predeclared (p.Host 6))) (code_suffix.Call [] ∷ []))) ∷ []) [])
+    ≡ of_lines (line_of 1 (called (code.Use (binding.Predeclared (p.Host 6)))) ∷ []) [])
     × (resolved bzl (top 1 (simple 1 (small.Expr (call 1 n))) ∷ []) ≡ fault f.UnknownName 1 n)
-    × (resolved bzl (top 1 (simple 1 (small.Expr (native_call 1 n))) ∷ []) ≡ of_lines (line_of 1 (code_small.Expr (code.Primary (code.Native 6) (code_suffix.Call [] ∷ []))) ∷ []) [])
+    × (resolved bzl (top 1 (simple 1 (small.Expr (native_call 1 n))) ∷ []) ≡ of_lines (line_of 1 (called (code.Member (p.Host 6))) ∷ []) [])
 
 -- `native.nope()` is F20 at `nope`, and in a BUILD file `native.glob()` at `native`
 abbrev pub Native : Type 0
 Native =
     (resolved bzl (top 1 (simple 1 (small.Expr (native_call 1 (codes "nope")))) ∷ []) ≡ fault f.UnknownName 1 (codes "nope"))
     × (resolved build (top 1 (simple 1 (small.Expr (native_call 1 (codes "glob")))) ∷ []) ≡ fault f.UnknownName 1 (codes "native"))
+
+-- `attr.int()` makes an attribute in a .bzl file; `attr.nope()` is F20 at `nope`; `attr` alone, and `attr.int()` in a BUILD file, at `attr`
+abbrev pub Attr : Type 0
+Attr =
+    (resolved bzl (top 1 (simple 1 (small.Expr (attr_call 1 (codes "int")))) ∷ []) ≡ of_lines (line_of 1 (called (code.Member (p.RuleFunction function.AttrInt))) ∷ []) [])
+    × (resolved bzl (top 1 (simple 1 (small.Expr (attr_call 1 (codes "nope")))) ∷ []) ≡ fault f.UnknownName 1 (codes "nope"))
+    × (resolved bzl (top 1 (simple 1 (small.Expr (named 1 (codes "attr")))) ∷ []) ≡ fault f.UnknownName 1 (codes "attr"))
+    × (resolved build (top 1 (simple 1 (small.Expr (attr_call 1 (codes "int")))) ∷ []) ≡ fault f.UnknownName 1 (codes "attr"))
+
+-- `attr = []`, then `attr.int()`: a file's own `attr` is a value like another; so is one that it loads
+abbrev pub OwnAttr : Type 0
+OwnAttr =
+    let attr = codes "attr" in
+    (resolved bzl (top 1 (simple 1 (assign 1 attr (e.List []))) ∷ top 2 (simple 2 (small.Expr (attr_call 2 (codes "int")))) ∷ [])
+    ≡ of_lines (line_of 1 (code_small.Assign (code_target.Global 0) (code.List [])) ∷ line_of 2 (int_method (code.Use (binding.Global 0))) ∷ []) (attr ∷ []))
+    × (resolved bzl (top 1 (simple 1 (load (codes ":m") 1 attr)) ∷ top 2 (simple 2 (small.Expr (attr_call 2 (codes "int")))) ∷ [])
+    ≡ Ok (record {
+      statements = line_of 1 code_small.Load ∷ line_of 2 (int_method (code.Use (binding.Loaded 0))) ∷ [];
+      functions = [];
+      globals = [];
+      loads = record { label = codes ":m"; line = 1; clauses = record { local = attr; symbol = attr; global = None } ∷ [] } ∷ [];
+    }))
+
+-- `rule()` declares a rule in a .bzl file, and is F20 in a BUILD file; a schema's rule of that name, or of the name `attr`, counts in
+-- BUILD files, and in .bzl files as `native.rule()`
+abbrev pub OfRule : Type 0
+OfRule =
+    let n = codes "rule" in let attr = codes "attr" in
+    (resolved bzl (top 1 (simple 1 (small.Expr (call 1 n))) ∷ []) ≡ of_lines (line_of 1 (called (code.Use (binding.Predeclared (p.RuleFunction function.Rule)))) ∷ []) [])
+    × (resolved build (top 1 (simple 1 (small.Expr (call 1 n))) ∷ []) ≡ fault f.UnknownName 1 n)
+    × (resolved (build_beside n) (top 1 (simple 1 (small.Expr (call 1 n))) ∷ []) ≡ of_lines (line_of 1 (called (code.Use (binding.Predeclared (p.Host 6)))) ∷ []) [])
+    × (resolved (build_beside attr) (top 1 (simple 1 (small.Expr (call 1 attr))) ∷ []) ≡ of_lines (line_of 1 (called (code.Use (binding.Predeclared (p.Host 6)))) ∷ []) [])
+    × (resolved (bzl_beside n) (top 1 (simple 1 (small.Expr (call 1 n))) ∷ []) ≡ of_lines (line_of 1 (called (code.Use (binding.Predeclared (p.RuleFunction function.Rule)))) ∷ []) [])
+    × (resolved (bzl_beside n) (top 1 (simple 1 (small.Expr (native_call 1 n))) ∷ []) ≡ of_lines (line_of 1 (called (code.Member (p.Host 6))) ∷ []) [])
 
 -- ---- faults
 
@@ -179,4 +235,4 @@ abbrev pub FirstFault : Type 0
 FirstFault = resolved bzl (top 1 (simple 1 (small.Expr (named 1 (codes "b")))) ∷ top 2 (simple 2 (small.Expr (named 2 (codes "a")))) ∷ []) ≡ fault f.UnknownName 1 (codes "b")
 
 abbrev pub Examples : Type 0
-Examples = FirstIterable × OneNameThrice × Default × LoadedAndBound × Rules × Native × Rebound × LoadedTwice × Flow × Parameters × FirstFault
+Examples = FirstIterable × OneNameThrice × Default × LoadedAndBound × Rules × Native × Attr × OwnAttr × OfRule × Rebound × LoadedTwice × Flow × Parameters × FirstFault

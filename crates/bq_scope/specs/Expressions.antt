@@ -1,5 +1,5 @@
 -- What an expression resolves to, a case for each form, in the order of its text. `visit` resolves the expressions in it.
-use Rattle.std.specs.Prelude.{ℕ, zero, suc, ◌+◌, List, [], ◌∷◌, length, Bool, true, false, ◌||◌, ◌&&◌, Option, Some, None, Result, Ok, Err, bytes_eq, if◌then◌else◌}
+use Rattle.std.specs.Prelude.{ℕ, zero, suc, ◌+◌, List, [], ◌∷◌, length, Bool, true, false, ◌||◌, ◌&&◌, Option, Some, None, Result, Ok, Err, if◌then◌else◌}
 use Rattle.bq_source.specs.declared.fault.Fault.{Fault}
 use Rattle.bq_source.specs.declared.fault.FaultKind.TheVariants as f
 use Rattle.bq_source.specs.Fault.{fault_at}
@@ -16,6 +16,7 @@ use Rattle.bq_grammar.specs.declared.tree.Pair.{Pair, out-Pair}
 use Rattle.bq_grammar.specs.declared.tree.Suffix.{Suffix, out-Suffix}
 use Rattle.bq_grammar.specs.declared.tree.Target.{Target, out-Target}
 use Rattle.bq_grammar.specs.Targets.{ExprLayer, SuffixLayer}
+use Rattle.bq_scope.specs.declared.universe.Namespace.{Namespace}
 use Rattle.bq_scope.specs.declared.code.Binding.{Binding}
 use Rattle.bq_scope.specs.declared.code.Binding.TheVariants as b
 use Rattle.bq_scope.specs.declared.code.Code.{Code}
@@ -31,7 +32,7 @@ use Rattle.bq_scope.specs.declared.code.CodeSuffix.{CodeSuffix}
 use Rattle.bq_scope.specs.declared.code.CodeSuffix.TheVariants as suffix
 use Rattle.bq_scope.specs.declared.code.CodeTarget.{CodeTarget}
 use Rattle.bq_scope.specs.declared.code.CodeTarget.TheVariants as target
-use Rattle.bq_scope.specs.Universe.{native, host_named}
+use Rattle.bq_scope.specs.Universe.{member_named, namespace_named}
 use Rattle.bq_scope.specs.Names.{Name, max_layers, has, with_name, TargetLayer, ClauseLayer, comprehension_names}
 use Rattle.bq_scope.specs.Scope.{BlockParts, FileParts, use_of}
 use Rattle.bq_scope.specs.Visit.{Passed, Visit, ◌>>=◌, pure, stop, given, fault_of, each, optional}
@@ -72,27 +73,30 @@ abbrev pub in_frame : List BlockParts → Visit Code → Visit Code
 in_frame [] v = λ s. framed s.slots (v (record s { slots = 0 }))
 in_frame (block ∷ blocks) v = v
 
--- `.name(arguments)` after `native`, and what is done to its result
-abbrev pub native_by : SuffixLayer → List Suffix → Option (Identifier × List Argument × List Suffix)
-native_by (Suffix-F.Method m xs) ss = Some (m, xs, ss)
-native_by _ ss = None
+-- `.name(arguments)` after a namespace, and what is done to its result
+abbrev pub MemberCall : Type 0
+MemberCall = Namespace × Identifier × List Argument × List Suffix
 
-abbrev pub native_in : List Suffix → Option (Identifier × List Argument × List Suffix)
-native_in [] = None
-native_in (s ∷ ss) = native_by (out-Suffix s) ss
+abbrev pub member_by : Namespace → SuffixLayer → List Suffix → Option MemberCall
+member_by space (Suffix-F.Method m xs) ss = Some (space, m, xs, ss)
+member_by space _ ss = None
 
-abbrev pub native_call : Bool → List Suffix → Option (Identifier × List Argument × List Suffix)
-native_call true ss = native_in ss
-native_call false ss = None
+abbrev pub member_in : Namespace → List Suffix → Option MemberCall
+member_in space [] = None
+member_in space (s ∷ ss) = member_by space (out-Suffix s) ss
+
+abbrev pub member_call : Option Namespace → List Suffix → Option MemberCall
+member_call None ss = None
+member_call (Some space) ss = member_in space ss
 
 abbrev pub is_unbound : Option Binding → Bool
 is_unbound None = true
 is_unbound (Some x) = false
 
--- `native` of a .bzl file that binds no such name
-abbrev pub is_native : FileParts → List BlockParts → ExprLayer → Bool
-is_native file blocks (Expr-F.Expr::Name n) = is_bzl file.universe.kind && (bytes_eq n.name native && is_unbound (use_of file blocks n.name))
-is_native file blocks _ = false
+-- a namespace of a .bzl file that binds no such name
+abbrev pub namespace_at : FileParts → List BlockParts → ExprLayer → Option Namespace
+namespace_at file blocks (Expr-F.Expr::Name n) = if is_bzl file.universe.kind && is_unbound (use_of file blocks n.name) then namespace_named n.name else None
+namespace_at file blocks _ = None
 
 -- the use of a name: of the innermost block that holds it, else F20
 unfoldable pub use_at : FileParts → List BlockParts → Identifier → Visit Binding
@@ -152,18 +156,19 @@ module _ (file : FileParts) (visit : List BlockParts → Expr → Visit Code) wh
   unfoldable pub operand : List BlockParts → Expr → List Suffix → Visit Code
   operand blocks x ss = visit blocks x >>= λ y. suffixes blocks [] ss >>= λ ts. pure (c.Primary y ts)
 
-  -- `native.name(arguments)` is the build function or rule `name`, else F20 at `name`
-  unfoldable pub host_call : List BlockParts → Identifier → List Argument → List Suffix → Visit Code
-  host_call blocks m xs ss =
-      given (fault_of f.UnknownName m) (host_named file.universe.rules m.name) >>= λ id. arguments blocks xs
-      >>= λ ys. suffixes blocks (suffix.Call ys ∷ []) ss >>= λ ts. pure (c.Primary (c.Native id) ts)
+  -- `native.name(arguments)` is the build function or rule `name`, `attr.name(arguments)` the function that makes an attribute, else F20
+  -- at `name`
+  unfoldable pub call_member : List BlockParts → Namespace → Identifier → List Argument → List Suffix → Visit Code
+  call_member blocks space m xs ss =
+      given (fault_of f.UnknownName m) (member_named space file.universe.rules m.name) >>= λ p. arguments blocks xs
+      >>= λ ys. suffixes blocks (suffix.Call ys ∷ []) ss >>= λ ts. pure (c.Primary (c.Member p) ts)
 
-  abbrev pub primary_by : List BlockParts → Expr → List Suffix → Option (Identifier × List Argument × List Suffix) → Visit Code
+  abbrev pub primary_by : List BlockParts → Expr → List Suffix → Option MemberCall → Visit Code
   primary_by blocks x ss None = operand blocks x ss
-  primary_by blocks x ss (Some (m, xs, rest)) = host_call blocks m xs rest
+  primary_by blocks x ss (Some (space, m, xs, rest)) = call_member blocks space m xs rest
 
   unfoldable pub primary : List BlockParts → Expr → List Suffix → Visit Code
-  primary blocks x ss = primary_by blocks x ss (native_call (is_native file blocks (out-Expr x)) ss)
+  primary blocks x ss = primary_by blocks x ss (member_call (namespace_at file blocks (out-Expr x)) ss)
 
   -- ---- comprehensions: an iterable is resolved among `round`, all else among `blocks`
 

@@ -1,17 +1,31 @@
 -- The names that a file has without binding them (Bazel, Build Encyclopedia, "Functions": a BUILD file has the build functions and
--- rules by name, a .bzl file as `native.NAME`).
-use Rattle.std.specs.Prelude.{ℕ, ◌+◌, List, Option, Some, None, codes, nat_lt, if◌then◌else◌}
+-- rules by name, a .bzl file as `native.NAME`; "Rules", "attr": a .bzl file has `rule` and `attr.NAME`, which declare rules).
+use Rattle.std.specs.Prelude.{ℕ, ◌+◌, List, Option, Some, None, codes, bytes_eq, nat_lt, if◌then◌else◌}
 use Rattle.std.specs.Option.{option_map}
 use Rattle.bq_grammar.specs.declared.tree.FileKind.{FileKind}
 use Rattle.bq_grammar.specs.declared.tree.FileKind.TheVariants as file
 use Rattle.bq_predeclared.specs.declared.predeclared.Predeclared.{Predeclared}
 use Rattle.bq_predeclared.specs.declared.predeclared.Predeclared.TheVariants as p
+use Rattle.bq_predeclared.specs.declared.rule_function.RuleFunction.TheVariants as f
 use Rattle.bq_predeclared.specs.Predeclared.{predeclared_named}
+use Rattle.bq_predeclared.specs.RuleFunctions.{attr_named}
+use Rattle.bq_scope.specs.declared.universe.Namespace.{Namespace}
+use Rattle.bq_scope.specs.declared.universe.Namespace.TheVariants as space
 use Rattle.bq_scope.specs.Names.{place_among}
 
--- the name `native`
+-- the namespaces: their names are no values, only what they hold is called, as `NAME.function(..)`
 abbrev pub native : List ℕ
 native = codes "native"
+
+abbrev pub attr : List ℕ
+attr = codes "attr"
+
+abbrev pub namespace_named : List ℕ → Option Namespace
+namespace_named name = if bytes_eq name native then Some space.Native else if bytes_eq name attr then Some space.Attr else None
+
+-- the function that makes a rule
+abbrev pub rule : List ℕ
+rule = codes "rule"
 
 -- a file's kind, and the names of the schema's rules, none of them twice
 pub record UniverseParts : Type 0 where
@@ -37,18 +51,23 @@ host_by rules name (Some _) = None
 unfoldable pub host_named : List (List ℕ) → List ℕ → Option ℕ
 host_named rules name = host_by rules name (predeclared_named name)
 
+-- what a namespace holds by this name: `native` a build function or rule, `attr` a function that makes attributes
+unfoldable pub member_named : Namespace → List (List ℕ) → List ℕ → Option Predeclared
+member_named space.Native rules name = option_map p.Host (host_named rules name)
+member_named space.Attr rules name = option_map p.RuleFunction (attr_named name)
+
 abbrev pub in_build : List (List ℕ) → List ℕ → Option Predeclared → Option Predeclared
 in_build rules name None = option_map p.Host (rule_named rules name)
 in_build rules name (Some x) = Some x
 
-abbrev pub in_bzl : Option Predeclared → Option Predeclared
-in_bzl None = None
-in_bzl (Some (p.Host id)) = None
-in_bzl (Some x) = Some x
+abbrev pub in_bzl : List ℕ → Option Predeclared → Option Predeclared
+in_bzl name None = if bytes_eq name rule then Some (p.RuleFunction f.Rule) else None
+in_bzl name (Some (p.Host id)) = None
+in_bzl name (Some x) = Some x
 
 abbrev pub in_kind : FileKind → List (List ℕ) → List ℕ → Option Predeclared → Option Predeclared
 in_kind file.Build rules name x = in_build rules name x
-in_kind file.Bzl rules name x = in_bzl x
+in_kind file.Bzl rules name x = in_bzl name x
 
 -- what the name stands for in a file that doesn't bind it
 unfoldable pub universe_has : UniverseParts → List ℕ → Option Predeclared

@@ -23,8 +23,8 @@ pub enum Binding {
 pub enum Code {
     /// The use of a name.
     Use(Binding),
-    /// `native.NAME`: a function of the host, by its id. It is no expression of its own.
-    Native(u32),
+    /// `native.NAME` or `attr.NAME`: what the namespace holds by that name. It is no expression of its own.
+    Member(Predeclared),
     Int(i64),
     String(Bytes),
     List(Items<Code>),

@@ -20,7 +20,7 @@
 //! - `code`: resolved trees;
 //! - `names`: sets of names;
 //! - `binding`: what targets, clauses, statements, functions and files bind;
-//! - `universe`: what every file of a kind has;
+//! - `universe`: what every file of a kind has, and the namespaces `native` and `attr` of .bzl files;
 //! - `scope`: what a name stands for;
 //! - `laws`: what holds of scopes.
 #![tactic(auto)]
@@ -44,4 +44,4 @@ pub use laws::{
 };
 pub use names::Names;
 pub use scope::{Block, FileNames, inside};
-pub use universe::Universe;
+pub use universe::{Namespace, Universe};

@@ -4,13 +4,14 @@ ghost use Rattle.std.specs.Prelude.{◌≡◌, ◌+◌, ◌<◌, ◌^◌, ◌∷
 ghost use Rattle.bq_scope.specs.Names.{place_among};
 ghost use Rattle.bq_scope.specs.Scope.{slot_in, slot_of, file_has, use_of};
 ghost use Rattle.bq_scope.specs.Files.{file_names};
-ghost use Rattle.bq_scope.specs.Universe.{host_named};
+ghost use Rattle.bq_scope.specs.Universe.{member_named};
 
 use crate::binding::{global_names, loaded_names};
 use crate::code::Binding;
 use crate::names::Names;
-use crate::universe::Universe;
+use crate::universe::{Namespace, Universe};
 use bq_grammar::{FileKind, TopLevel};
+use bq_predeclared::Predeclared;
 use bq_source::Bytes;
 use sqlite_items::Items;
 use std::alloc::{AllocError, Global};
@@ -134,11 +135,11 @@ impl FileNames {
         self.universe.kind()
     }
 
-    /// The id of the build function or rule of this name: of `native.NAME`, in a .bzl file.
-    pub fn host(&self, name: &Bytes) -> Result<Option<u32>, AllocError>
-        ensures { IfOk result (λ id. id ≡ host_named self.now.universe.rules name.now) }
+    /// What a namespace holds by this name.
+    pub fn member(&self, space: Namespace, name: &Bytes) -> Result<Option<Predeclared>, AllocError>
+        ensures { IfOk result (λ x. x ≡ member_named space self.now.universe.rules name.now) }
     {
-        self.universe.host(name)
+        self.universe.member(space, name)
     }
 
     /// The names that the file binds, but for its loads, in order of first binding.

@@ -2,11 +2,11 @@
 
 ghost use Rattle.std.specs.Prelude.{◌≡◌, [], map, IfOk};
 ghost use Rattle.bq_scope.specs.Names.{with_each, with_name};
-ghost use Rattle.bq_scope.specs.Universe.{rule_named, host_by, host_named, in_build, in_bzl, in_kind, universe_has};
+ghost use Rattle.bq_scope.specs.Universe.{rule_named, host_by, host_named, in_build, in_bzl, in_kind, member_named, namespace_named, universe_has};
 
 use crate::names::Names;
 use bq_grammar::FileKind;
-use bq_predeclared::{Predeclared, predeclared_named};
+use bq_predeclared::{Predeclared, RuleFunction, attr_named, predeclared_named};
 use bq_source::Bytes;
 use std::alloc::{AllocError, Global};
 use std::marker::Model;
@@ -14,6 +14,46 @@ use std::sync::Arc;
 
 /// An id is below 2^32: rules past that have none.
 const MAX_RULES: usize = 4_294_967_290;
+
+/// A name of .bzl files that is no value: only what it holds is called, as `NAME.function(..)`.
+#[derive(Clone, Copy)]
+pub enum Namespace {
+    /// `native`: the build functions and the rules of the schema.
+    Native,
+    /// `attr`: the functions that make attributes.
+    Attr,
+}
+
+impl Namespace {
+    /// The namespace of this name.
+    pub fn named(name: &[u8]) -> Option<Namespace>
+        ensures { result ≡ namespace_named name.now }
+    {
+        if name == b"native".as_slice() {
+            return Some(Namespace::Native);
+        }
+        if name == b"attr".as_slice() {
+            return Some(Namespace::Attr);
+        }
+        None
+    }
+}
+
+/// What a name that is predeclared as this in files of all kinds stands for in a .bzl file.
+fn in_bzl(name: &[u8], found: Option<Predeclared>) -> Option<Predeclared>
+    ensures { result ≡ in_bzl name.now found }
+{
+    match found {
+        None => {
+            if name == b"rule".as_slice() {
+                return Some(Predeclared::RuleFunction(RuleFunction::Rule));
+            }
+            None
+        }
+        Some(Predeclared::Host(_)) => None,
+        Some(found) => Some(found),
+    }
+}
 
 /// What the files of a kind have. Contracts see the kind, and the names of the rules in the order of their ids.
 #[derive(Drop)]
@@ -77,15 +117,32 @@ impl Universe {
         }
     }
 
-    /// The id of the build function or rule of this name: of `native.NAME`, in a .bzl file.
+    /// The id of the build function or rule of this name.
     #[tactic(auto, unfolding(crate::specs::Universe::host_named))]
-    pub fn host(&self, name: &Bytes) -> Result<Option<u32>, AllocError>
+    fn host(&self, name: &Bytes) -> Result<Option<u32>, AllocError>
         ensures { IfOk result (λ id. id ≡ host_named self.now.rules name.now) }
     {
         match predeclared_named(name.as_slice()) {
             None => self.rule(name),
             Some(Predeclared::Host(id)) => Ok(Some(id)),
             Some(_) => Ok(None),
+        }
+    }
+
+    /// What a namespace holds by this name.
+    #[tactic(auto, unfolding(crate::specs::Universe::member_named))]
+    pub fn member(&self, space: Namespace, name: &Bytes) -> Result<Option<Predeclared>, AllocError>
+        ensures { IfOk result (λ x. x ≡ member_named space self.now.rules name.now) }
+    {
+        match space {
+            Namespace::Native => match self.host(name)? {
+                None => Ok(None),
+                Some(id) => Ok(Some(Predeclared::Host(id))),
+            },
+            Namespace::Attr => match attr_named(name.as_slice()) {
+                None => Ok(None),
+                Some(function) => Ok(Some(Predeclared::RuleFunction(function))),
+            },
         }
     }
 
@@ -114,10 +171,7 @@ impl Universe {
         let found = predeclared_named(name.as_slice());
         match self.kind {
             FileKind::Build => self.in_build(name, found),
-            FileKind::Bzl => match found {
-                Some(Predeclared::Host(_)) => Ok(None),
-                found => Ok(found),
-            },
+            FileKind::Bzl => Ok(in_bzl(name.as_slice(), found)),
         }
     }
 }

@@ -29,9 +29,11 @@ use Rattle.bq_scope.specs.declared.code.CodeTarget.{CodeTarget}
 use Rattle.bq_scope.specs.declared.code.CodeTarget.TheVariants as t
 use Rattle.bq_scope.specs.Names.{Name, TargetLayer, ClauseLayer, max_layers, comprehension_names}
 use Rattle.bq_scope.specs.Scope.{BlockParts, FileParts}
-use Rattle.bq_scope.specs.Universe.{host_named}
+use Rattle.bq_predeclared.specs.declared.predeclared.Predeclared.{Predeclared}
+use Rattle.bq_scope.specs.declared.universe.Namespace.{Namespace}
+use Rattle.bq_scope.specs.Universe.{member_named}
 use Rattle.bq_scope.specs.Visit.{Passed, Visit, ◌>>=◌, pure, given, fault_of, each, optional}
-use Rattle.bq_scope.specs.Expressions.{framed, in_frame, native_call, is_native, use_at, target_by, target_to, pair, operation, choice, argument_by, arguments, suffix_by, suffixes, operand, host_call, primary_by, primary, clause_by, clauses, in_block, comprehension, expr_by, expr_to}
+use Rattle.bq_scope.specs.Expressions.{framed, in_frame, MemberCall, member_call, namespace_at, use_at, target_by, target_to, pair, operation, choice, argument_by, arguments, suffix_by, suffixes, operand, call_member, primary_by, primary, clause_by, clauses, in_block, comprehension, expr_by, expr_to}
 use Rattle.bq_scope_laws.specs.Slots.{most, binding_slots, framed_slots, code_slots, argument_slots, clause_slots, suffix_slots, target_slots, choice_slots, operation_slots, pair_slots}
 use Rattle.bq_scope_laws.proofs.Steps as S
 use Rattle.bq_scope_laws.proofs.Steps.{part_slots}
@@ -153,29 +155,29 @@ module _ (file : FileParts) (visit : List BlockParts → Expr → Visit Code) (v
   called_slots : (ys : List CodeArgument) → most (map suffix_slots (s.Call ys ∷ [])) ≤ max (max 0 0) (most (map argument_slots ys))
   called_slots ys = omega (arith, S.slots-Call ys)
 
-  none_of : ℕ → ℕ
-  none_of id = 0
+  none_of : Predeclared → ℕ
+  none_of p = 0
 
-  host_needs : (blocks : List BlockParts) (m : Identifier) (xs : List Argument) (ss : List Suffix) → Needs blocks 0 code_slots (host_call file visit blocks m xs ss)
-  unfolding host_call none_of
-  host_needs blocks m xs ss =
-      needs_bind blocks 0 none_of code_slots (given (fault_of f.UnknownName m) (host_named file.universe.rules m.name))
-      (λ id. arguments file visit blocks xs >>= λ ys. suffixes file visit blocks (s.Call ys ∷ []) ss >>= λ ts. pure (c.Primary (c.Native id) ts))
-      (needs_given blocks 0 none_of (fault_of f.UnknownName m) (host_named file.universe.rules m.name) (λ k x w h. omega arith))
-      (λ id. needs_bind blocks (max 0 0) (λ ys. most (map argument_slots ys)) code_slots (arguments file visit blocks xs)
-      (λ ys. suffixes file visit blocks (s.Call ys ∷ []) ss >>= λ ts. pure (c.Primary (c.Native id) ts))
+  member_needs : (blocks : List BlockParts) (space : Namespace) (m : Identifier) (xs : List Argument) (ss : List Suffix) → Needs blocks 0 code_slots (call_member file visit blocks space m xs ss)
+  unfolding call_member none_of
+  member_needs blocks space m xs ss =
+      needs_bind blocks 0 none_of code_slots (given (fault_of f.UnknownName m) (member_named space file.universe.rules m.name))
+      (λ p. arguments file visit blocks xs >>= λ ys. suffixes file visit blocks (s.Call ys ∷ []) ss >>= λ ts. pure (c.Primary (c.Member p) ts))
+      (needs_given blocks 0 none_of (fault_of f.UnknownName m) (member_named space file.universe.rules m.name) (λ k x w h. omega arith))
+      (λ p. needs_bind blocks (max 0 0) (λ ys. most (map argument_slots ys)) code_slots (arguments file visit blocks xs)
+      (λ ys. suffixes file visit blocks (s.Call ys ∷ []) ss >>= λ ts. pure (c.Primary (c.Member p) ts))
       (weaker blocks (max 0 0) (λ ys. most (map argument_slots ys)) (arguments file visit blocks xs) (arguments_need blocks xs))
       (λ ys. needs_map blocks (max (max 0 0) (most (map argument_slots ys))) (λ ts. most (map suffix_slots ts)) code_slots (suffixes file visit blocks (s.Call ys ∷ []) ss)
-      (λ ts. c.Primary (c.Native id) ts) (suffixes_need blocks (max (max 0 0) (most (map argument_slots ys))) (s.Call ys ∷ []) ss (called_slots ys))
-      (λ ts. omega (arith, S.slots-Primary (c.Native id) ts, S.slots-Native id))))
+      (λ ts. c.Primary (c.Member p) ts) (suffixes_need blocks (max (max 0 0) (most (map argument_slots ys))) (s.Call ys ∷ []) ss (called_slots ys))
+      (λ ts. omega (arith, S.slots-Primary (c.Member p) ts, S.slots-Member p))))
 
-  primary_by_needs : (blocks : List BlockParts) (x : Expr) (ss : List Suffix) (o : Option (Identifier × List Argument × List Suffix)) → Needs blocks 0 code_slots (primary_by file visit blocks x ss o)
+  primary_by_needs : (blocks : List BlockParts) (x : Expr) (ss : List Suffix) (o : Option MemberCall) → Needs blocks 0 code_slots (primary_by file visit blocks x ss o)
   primary_by_needs blocks x ss None = operand_needs blocks x ss
-  primary_by_needs blocks x ss (Some (m, xs, rest)) = host_needs blocks m xs rest
+  primary_by_needs blocks x ss (Some (space, m, xs, rest)) = member_needs blocks space m xs rest
 
   primary_needs : (blocks : List BlockParts) (x : Expr) (ss : List Suffix) → Needs blocks 0 code_slots (primary file visit blocks x ss)
   unfolding primary
-  primary_needs blocks x ss = primary_by_needs blocks x ss (native_call (is_native file blocks (out-Expr x)) ss)
+  primary_needs blocks x ss = primary_by_needs blocks x ss (member_call (namespace_at file blocks (out-Expr x)) ss)
 
   -- ---- comprehensions
 

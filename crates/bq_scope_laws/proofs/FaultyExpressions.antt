@@ -1,5 +1,5 @@
 -- The fault of an expression is the first rule that it breaks.
-use Rattle.std.proofs.Common.{ℕ, zero, suc, ◌+◌, Bool, true, false, List, [], ◌∷◌, ◌++◌, length, Option, is_some, Result, Ok, Err, inl, inr, refl, subst}
+use Rattle.std.proofs.Common.{ℕ, zero, suc, ◌+◌, List, [], ◌∷◌, ◌++◌, length, Option, Some, None, is_some, Result, Ok, Err, inl, inr, refl, subst}
 use Rattle.bq_source.specs.declared.fault.Fault.{Fault}
 use Rattle.bq_source.specs.declared.fault.FaultKind.TheVariants as f
 use Rattle.bq_grammar.specs.declared.tree.Argument.TheOpen.{Expr-F, Suffix-F, Argument-F, Clause-F, Target-F}
@@ -27,14 +27,15 @@ use Rattle.bq_scope.specs.declared.code.CodeTarget.{CodeTarget}
 use Rattle.bq_scope.specs.declared.code.CodeTarget.TheVariants as t
 use Rattle.bq_scope.specs.Names.{Name, TargetLayer, ClauseLayer, max_layers, comprehension_names}
 use Rattle.bq_scope.specs.Scope.{BlockParts, FileParts}
-use Rattle.bq_scope.specs.Universe.{host_named}
+use Rattle.bq_scope.specs.declared.universe.Namespace.{Namespace}
+use Rattle.bq_scope.specs.Universe.{member_named}
 use Rattle.bq_scope.specs.Visit.{Passed, Visit, ◌>>=◌, pure, given, fault_of, each, optional}
-use Rattle.bq_scope.specs.Expressions.{framed, in_frame, native_by, native_call, is_native, use_at, target_by, target_to, pair, operation, choice, argument_by, arguments, suffix_by, suffixes, operand, host_call, primary_by, primary, clause_by, clauses, in_block, comprehension, expr_by, expr_to}
+use Rattle.bq_scope.specs.Expressions.{framed, in_frame, member_by, member_call, namespace_at, use_at, target_by, target_to, pair, operation, choice, argument_by, arguments, suffix_by, suffixes, operand, call_member, primary_by, primary, clause_by, clauses, in_block, comprehension, expr_by, expr_to}
 use Rattle.bq_scope_laws.specs.Binds.{AnyOf, target_binds_by, TargetBindsTo, TargetBinds, clause_binds_by, ClauseBinds}
-use Rattle.bq_scope_laws.specs.Violations.{of_all, of_part, unless, Around, Before, in_use, in_host, in_target_by, in_target_to, in_pair, in_operation, in_choice, in_argument_by, in_arguments, in_suffix_by, in_suffixes, in_operand, in_method, in_primary_by, in_primary, in_clause_by, in_clauses, in_comprehension, in_expr_by, in_expr_to}
+use Rattle.bq_scope_laws.specs.Violations.{of_all, of_part, unless, Around, Before, in_use, in_member, in_target_by, in_target_to, in_pair, in_operation, in_choice, in_argument_by, in_arguments, in_suffix_by, in_suffixes, in_operand, in_method, in_primary_by, in_primary, in_clause_by, in_clauses, in_comprehension, in_expr_by, in_expr_to}
 use Rattle.bq_scope_laws.proofs.Binds.{comprehension_binds}
 use Rattle.bq_scope_laws.proofs.Finds.{before, Finding, Finds, Holds, finds_map, finds_two, finds_bind, finds_three, finds_given, finds_each, finds_held, finds_optional}
-use Rattle.bq_scope_laws.proofs.UnknownNames.{around_of, use_finds, host_of, local_finds}
+use Rattle.bq_scope_laws.proofs.UnknownNames.{around_of, use_finds, namespace_of, local_finds}
 
 -- ---- frames
 
@@ -125,36 +126,36 @@ module _ (file : FileParts) (visit : List BlockParts → Expr → Visit Code) (i
       finds_two (visit blocks x) (suffixes file visit blocks [] ss) (λ y ts. c.Primary y ts) (inner (around_of blocks) x) (in_suffixes file inner (around_of blocks) ss)
       (visits blocks x) (suffixes_find blocks [] ss)
 
-  host_finds : (blocks : List BlockParts) (m : Identifier) (xs : List Argument) (ss : List Suffix)
-      → Finds (in_host file m ++ (in_arguments file inner (around_of blocks) xs ++ in_suffixes file inner (around_of blocks) ss)) (host_call file visit blocks m xs ss)
-  unfolding in_host host_call
-  host_finds blocks m xs ss =
-      finds_bind (given (fault_of f.UnknownName m) (host_named file.universe.rules m.name))
-      (λ id. arguments file visit blocks xs >>= λ ys. suffixes file visit blocks (s.Call ys ∷ []) ss >>= λ ts. pure (c.Primary (c.Native id) ts))
-      (unless (is_some (host_named file.universe.rules m.name)) (fault_of f.UnknownName m)) (in_arguments file inner (around_of blocks) xs ++ in_suffixes file inner (around_of blocks) ss)
-      (finds_given (fault_of f.UnknownName m) (host_named file.universe.rules m.name))
-      (λ id. finds_bind (arguments file visit blocks xs) (λ ys. suffixes file visit blocks (s.Call ys ∷ []) ss >>= λ ts. pure (c.Primary (c.Native id) ts))
+  member_finds : (blocks : List BlockParts) (space : Namespace) (m : Identifier) (xs : List Argument) (ss : List Suffix)
+      → Finds (in_member file space m ++ (in_arguments file inner (around_of blocks) xs ++ in_suffixes file inner (around_of blocks) ss)) (call_member file visit blocks space m xs ss)
+  unfolding in_member call_member
+  member_finds blocks space m xs ss =
+      finds_bind (given (fault_of f.UnknownName m) (member_named space file.universe.rules m.name))
+      (λ p. arguments file visit blocks xs >>= λ ys. suffixes file visit blocks (s.Call ys ∷ []) ss >>= λ ts. pure (c.Primary (c.Member p) ts))
+      (unless (is_some (member_named space file.universe.rules m.name)) (fault_of f.UnknownName m)) (in_arguments file inner (around_of blocks) xs ++ in_suffixes file inner (around_of blocks) ss)
+      (finds_given (fault_of f.UnknownName m) (member_named space file.universe.rules m.name))
+      (λ p. finds_bind (arguments file visit blocks xs) (λ ys. suffixes file visit blocks (s.Call ys ∷ []) ss >>= λ ts. pure (c.Primary (c.Member p) ts))
       (in_arguments file inner (around_of blocks) xs) (in_suffixes file inner (around_of blocks) ss) (arguments_find blocks xs)
-      (λ ys. finds_map (suffixes file visit blocks (s.Call ys ∷ []) ss) (λ ts. c.Primary (c.Native id) ts) (in_suffixes file inner (around_of blocks) ss) (suffixes_find blocks (s.Call ys ∷ []) ss)))
+      (λ ys. finds_map (suffixes file visit blocks (s.Call ys ∷ []) ss) (λ ts. c.Primary (c.Member p) ts) (in_suffixes file inner (around_of blocks) ss) (suffixes_find blocks (s.Call ys ∷ []) ss)))
 
-  method_finds : (blocks : List BlockParts) (x : Expr) (ss rest : List Suffix) (o : SuffixLayer)
-      → Finds (in_method file inner (around_of blocks) x ss rest o) (primary_by file visit blocks x ss (native_by o rest))
-  method_finds blocks x ss rest (Suffix-F.Method m xs) = host_finds blocks m xs rest
-  method_finds blocks x ss rest (Suffix-F.Call xs) = operand_finds blocks x ss
-  method_finds blocks x ss rest (Suffix-F.Attribute m) = operand_finds blocks x ss
-  method_finds blocks x ss rest (Suffix-F.Suffix::Index i) = operand_finds blocks x ss
-  method_finds blocks x ss rest (Suffix-F.Slice i j k) = operand_finds blocks x ss
+  method_finds : (blocks : List BlockParts) (space : Namespace) (x : Expr) (ss rest : List Suffix) (o : SuffixLayer)
+      → Finds (in_method file inner (around_of blocks) space x ss rest o) (primary_by file visit blocks x ss (member_by space o rest))
+  method_finds blocks space x ss rest (Suffix-F.Method m xs) = member_finds blocks space m xs rest
+  method_finds blocks space x ss rest (Suffix-F.Call xs) = operand_finds blocks x ss
+  method_finds blocks space x ss rest (Suffix-F.Attribute m) = operand_finds blocks x ss
+  method_finds blocks space x ss rest (Suffix-F.Suffix::Index i) = operand_finds blocks x ss
+  method_finds blocks space x ss rest (Suffix-F.Slice i j k) = operand_finds blocks x ss
 
-  primary_by_finds : (blocks : List BlockParts) (x : Expr) (b : Bool) (ss : List Suffix) → Finds (in_primary_by file inner (around_of blocks) x b ss) (primary_by file visit blocks x ss (native_call b ss))
-  primary_by_finds blocks x false ss = operand_finds blocks x ss
-  primary_by_finds blocks x true [] = operand_finds blocks x []
-  primary_by_finds blocks x true (y ∷ ys) = method_finds blocks x (y ∷ ys) ys (out-Suffix y)
+  primary_by_finds : (blocks : List BlockParts) (x : Expr) (o : Option Namespace) (ss : List Suffix) → Finds (in_primary_by file inner (around_of blocks) x o ss) (primary_by file visit blocks x ss (member_call o ss))
+  primary_by_finds blocks x None ss = operand_finds blocks x ss
+  primary_by_finds blocks x (Some space) [] = operand_finds blocks x []
+  primary_by_finds blocks x (Some space) (y ∷ ys) = method_finds blocks space x (y ∷ ys) ys (out-Suffix y)
 
   primary_finds : (blocks : List BlockParts) (x : Expr) (ss : List Suffix) → Finds (in_primary file inner (around_of blocks) x ss) (primary file visit blocks x ss)
   unfolding in_primary primary
   primary_finds blocks x ss =
-      subst (λ b. Finds (in_primary_by file inner (around_of blocks) x b ss) (primary_by file visit blocks x ss (native_call (is_native file blocks (out-Expr x)) ss))) (host_of file blocks (out-Expr x))
-      (primary_by_finds blocks x (is_native file blocks (out-Expr x)) ss)
+      subst (λ o. Finds (in_primary_by file inner (around_of blocks) x o ss) (primary_by file visit blocks x ss (member_call (namespace_at file blocks (out-Expr x)) ss))) (namespace_of file blocks (out-Expr x))
+      (primary_by_finds blocks x (namespace_at file blocks (out-Expr x)) ss)
 
   -- ---- comprehensions
 

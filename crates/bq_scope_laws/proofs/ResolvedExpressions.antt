@@ -29,11 +29,12 @@ use Rattle.bq_scope.specs.declared.code.CodeTarget.{CodeTarget}
 use Rattle.bq_scope.specs.declared.code.CodeTarget.TheVariants as t
 use Rattle.bq_scope.specs.Names.{Name, TargetLayer, ClauseLayer, max_layers, comprehension_names}
 use Rattle.bq_scope.specs.Scope.{BlockParts, FileParts, use_of}
-use Rattle.bq_scope.specs.Universe.{host_named}
+use Rattle.bq_scope.specs.declared.universe.Namespace.{Namespace}
+use Rattle.bq_scope.specs.Universe.{member_named}
 use Rattle.bq_scope.specs.Visit.{Passed, Visit, ◌>>=◌, pure, given, fault_of, each, optional}
 use Rattle.bq_grammar.specs.declared.tree.FileKind.{FileKind}
 use Rattle.bq_scope.specs.Names.{has, with_name}
-use Rattle.bq_scope.specs.Expressions.{place_of, is_bzl, bind_global, bind_in, name_target, framed, native_call, is_native, use_at, target_by, target_to, pair, operation, choice, argument_by, arguments, suffix_by, suffixes, operand, host_call, primary_by, primary, clause_by, clauses, in_block, comprehension, expr_by, expr_to}
+use Rattle.bq_scope.specs.Expressions.{place_of, is_bzl, bind_global, bind_in, name_target, framed, MemberCall, member_call, namespace_at, use_at, target_by, target_to, pair, operation, choice, argument_by, arguments, suffix_by, suffixes, operand, call_member, primary_by, primary, clause_by, clauses, in_block, comprehension, expr_by, expr_to}
 use Rattle.bq_scope_laws.specs.Resolution.{InOrder, Maybe, target_is_by, TargetTo, PairIs, OperationIs, ChoiceIs, argument_is_by, ArgumentsAre, suffix_is_by, SuffixesAre, primary_is_by, clause_is_by, ClausesAre, in_block_is, comprehension_is, expr_is_by, ExprTo}
 use Rattle.bq_scope_laws.proofs.Makes.{Making, Makes, After, from, makes_bind, makes_weaker, makes_map, makes_two, makes_three, makes_given, makes_each, makes_all, makes_optional}
 
@@ -138,25 +139,25 @@ module _ (file : FileParts) (visit : List BlockParts → Expr → Visit Code) (I
       (λ z g. (g.0, g.3.0, g.2, g.3.1, g.4 ∙ ap (λ ts. c.Primary g.0 ts) g.3.2))
       (makes_two (Is blocks x) More (visit blocks x) (suffixes file visit blocks [] ss) (λ y ts. c.Primary y ts) (visits blocks x) (suffixes_make blocks [] ss))
 
-  host_makes : (blocks : List BlockParts) (x : Expr) (all : List Suffix) (m : Identifier) (xs : List Argument) (ss : List Suffix)
-      → Makes (primary_is_by file Is blocks x all (Some (m, xs, ss))) (host_call file visit blocks m xs ss)
-  unfolding host_call
-  host_makes blocks x all m xs ss =
-      let P : Code → Type 0 = primary_is_by file Is blocks x all (Some (m, xs, ss)) in
-      makes_bind (λ id. host_named file.universe.rules m.name ≡ Some id) P (given (fault_of f.UnknownName m) (host_named file.universe.rules m.name))
-      (λ id. arguments file visit blocks xs >>= λ ys. suffixes file visit blocks (s.Call ys ∷ []) ss >>= λ ts. pure (c.Primary (c.Native id) ts))
-      (makes_given (fault_of f.UnknownName m) (host_named file.universe.rules m.name))
-      (λ id e. makes_bind (ArgumentsAre file Is blocks xs) P (arguments file visit blocks xs) (λ ys. suffixes file visit blocks (s.Call ys ∷ []) ss >>= λ ts. pure (c.Primary (c.Native id) ts)) (arguments_make blocks xs)
-      (λ ys r. makes_bind (λ zs. (ts : List CodeSuffix) × SuffixesAre file Is blocks ss ts × (zs ≡ (s.Call ys ∷ []) ++ ts)) P (suffixes file visit blocks (s.Call ys ∷ []) ss) (λ ts. pure (c.Primary (c.Native id) ts))
-      (suffixes_make blocks (s.Call ys ∷ []) ss) (λ zs g u. ((id, ys, g.0, e, r, g.1, ap (λ ts. c.Primary (c.Native id) ts) g.2), refl, refl))))
+  member_makes : (blocks : List BlockParts) (x : Expr) (all : List Suffix) (space : Namespace) (m : Identifier) (xs : List Argument) (ss : List Suffix)
+      → Makes (primary_is_by file Is blocks x all (Some (space, m, xs, ss))) (call_member file visit blocks space m xs ss)
+  unfolding call_member
+  member_makes blocks x all space m xs ss =
+      let P : Code → Type 0 = primary_is_by file Is blocks x all (Some (space, m, xs, ss)) in
+      makes_bind (λ p. member_named space file.universe.rules m.name ≡ Some p) P (given (fault_of f.UnknownName m) (member_named space file.universe.rules m.name))
+      (λ p. arguments file visit blocks xs >>= λ ys. suffixes file visit blocks (s.Call ys ∷ []) ss >>= λ ts. pure (c.Primary (c.Member p) ts))
+      (makes_given (fault_of f.UnknownName m) (member_named space file.universe.rules m.name))
+      (λ p e. makes_bind (ArgumentsAre file Is blocks xs) P (arguments file visit blocks xs) (λ ys. suffixes file visit blocks (s.Call ys ∷ []) ss >>= λ ts. pure (c.Primary (c.Member p) ts)) (arguments_make blocks xs)
+      (λ ys r. makes_bind (λ zs. (ts : List CodeSuffix) × SuffixesAre file Is blocks ss ts × (zs ≡ (s.Call ys ∷ []) ++ ts)) P (suffixes file visit blocks (s.Call ys ∷ []) ss) (λ ts. pure (c.Primary (c.Member p) ts))
+      (suffixes_make blocks (s.Call ys ∷ []) ss) (λ zs g u. ((p, ys, g.0, e, r, g.1, ap (λ ts. c.Primary (c.Member p) ts) g.2), refl, refl))))
 
-  primary_by_makes : (blocks : List BlockParts) (x : Expr) (ss : List Suffix) (o : Option (Identifier × List Argument × List Suffix)) → Makes (primary_is_by file Is blocks x ss o) (primary_by file visit blocks x ss o)
+  primary_by_makes : (blocks : List BlockParts) (x : Expr) (ss : List Suffix) (o : Option MemberCall) → Makes (primary_is_by file Is blocks x ss o) (primary_by file visit blocks x ss o)
   primary_by_makes blocks x ss None = operand_makes blocks x ss
-  primary_by_makes blocks x ss (Some (m, xs, rest)) = host_makes blocks x ss m xs rest
+  primary_by_makes blocks x ss (Some (space, m, xs, rest)) = member_makes blocks x ss space m xs rest
 
-  primary_makes : (blocks : List BlockParts) (x : Expr) (ss : List Suffix) → Makes (primary_is_by file Is blocks x ss (native_call (is_native file blocks (out-Expr x)) ss)) (primary file visit blocks x ss)
+  primary_makes : (blocks : List BlockParts) (x : Expr) (ss : List Suffix) → Makes (primary_is_by file Is blocks x ss (member_call (namespace_at file blocks (out-Expr x)) ss)) (primary file visit blocks x ss)
   unfolding primary
-  primary_makes blocks x ss = primary_by_makes blocks x ss (native_call (is_native file blocks (out-Expr x)) ss)
+  primary_makes blocks x ss = primary_by_makes blocks x ss (member_call (namespace_at file blocks (out-Expr x)) ss)
 
   -- ---- comprehensions
 

@@ -3,6 +3,7 @@ use Rattle.std.proofs.Common.{◌≡◌, ℕ, ◌+◌, max, ℤ, List, map, Opti
 use Rattle.bq_grammar.specs.declared.tree.Comparison.{Comparison}
 use Rattle.bq_grammar.specs.declared.tree.Operator.{Operator}
 use Rattle.bq_grammar.specs.declared.tree.UnaryOperator.{UnaryOperator}
+use Rattle.bq_predeclared.specs.declared.predeclared.Predeclared.{Predeclared}
 use Rattle.bq_scope.specs.declared.code.Binding.{Binding}
 use Rattle.bq_scope.specs.declared.code.Code.{Code, the_lemmas}
 use Rattle.bq_scope.specs.declared.code.Code.TheVariants as c
@@ -27,8 +28,8 @@ use Rattle.bq_scope_laws.specs.Slots.{most, binding_slots, framed_slots, code_sl
 pub slots-Use : (x : Binding) → code_slots (c.Use x) ≡ binding_slots x
 slots-Use x = search (rules, the_lemmas)
 
-pub slots-Native : (id : ℕ) → code_slots (c.Native id) ≡ 0
-slots-Native id = search (rules, the_lemmas)
+pub slots-Member : (p : Predeclared) → code_slots (c.Member p) ≡ 0
+slots-Member p = search (rules, the_lemmas)
 
 pub slots-Int : (i : ℤ) → code_slots (c.Int i) ≡ 0
 slots-Int i = search (rules, the_lemmas)

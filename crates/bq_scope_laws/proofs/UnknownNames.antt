@@ -14,18 +14,19 @@ use Rattle.bq_scope.specs.declared.code.Binding.{Binding}
 use Rattle.bq_scope.specs.declared.code.Binding.TheVariants as b
 use Rattle.bq_scope.specs.declared.code.CodeTarget.{CodeTarget}
 use Rattle.bq_scope.specs.declared.code.CodeTarget.TheVariants as target
-use Rattle.bq_scope.specs.Universe.{native, in_bzl, universe_has}
+use Rattle.bq_scope.specs.Universe.{in_bzl, namespace_named, rule, universe_has}
 use Rattle.bq_scope.specs.Names.{Name, has, with_name, place_among, global_names, loaded_names}
 use Rattle.bq_scope.specs.Scope.{BlockParts, FileParts, or_else, slot_in, slot_of, file_has, use_of}
 use Rattle.bq_scope.specs.Visit.{Passed, following, given, fault_of}
-use Rattle.bq_scope.specs.Expressions.{place_of, is_bzl, bind_global, is_unbound, is_native, use_at, name_target}
-use Rattle.bq_scope_laws.specs.Violations.{Around, Before, unless, when, no_double, is_known, in_use, in_binding, is_host}
+use Rattle.bq_scope.specs.Expressions.{place_of, is_bzl, bind_global, is_unbound, namespace_at, use_at, name_target}
+use Rattle.bq_scope_laws.specs.Violations.{Around, Before, unless, when, no_double, is_known, in_use, in_binding, as_namespace}
 use Rattle.bq_scope_laws.proofs.Binds.{loads_bind}
 use Rattle.bq_scope_laws.proofs.Bound.{there, local_at, global_at}
 use Rattle.bq_scope_laws.proofs.Uses.{place_within}
 use Rattle.bq_scope_laws.specs.Binds.{LoadedNamesAreLoaded, BzlFilesHaveNoBuildFunctions}
 use Rattle.bq_predeclared.specs.declared.predeclared.Predeclared.{Predeclared}
 use Rattle.bq_predeclared.specs.declared.predeclared.Predeclared.TheVariants as pre
+use Rattle.bq_predeclared.specs.declared.rule_function.RuleFunction.TheVariants as function
 use Rattle.bq_predeclared.specs.Predeclared.{predeclared_named}
 use Rattle.bq_scope.specs.Files.{file_names}
 use Rattle.bq_scope_laws.proofs.Finds.{before, Finding, Tells, Finds, finds_given}
@@ -86,7 +87,7 @@ use_finds file blocks n =
     subst (λ t. Finds (unless t (fault_of f.UnknownName n)) (given (fault_of f.UnknownName n) (use_of file blocks n.name))) (known file blocks n.name)
     (finds_given (fault_of f.UnknownName n) (use_of file blocks n.name))
 
--- ---- `native`
+-- ---- `native` and `attr`
 
 pub one_kind : (kind : FileKind) → is_bzl kind ≡ no_double kind
 one_kind kinds.Build = refl
@@ -96,27 +97,27 @@ unbound : (o : Option Binding) → is_unbound o ≡ not (is_some o)
 unbound None = refl
 unbound (Some x) = refl
 
-named_native : (file : FileParts) (blocks : List BlockParts) (n : Identifier)
-    → (is_bzl file.universe.kind && (bytes_eq n.name native && is_unbound (use_of file blocks n.name))) ≡ (no_double file.universe.kind && (bytes_eq n.name native && not (is_known file (around_of blocks) n.name)))
-named_native file blocks n =
-    ap (λ t. t && (bytes_eq n.name native && is_unbound (use_of file blocks n.name))) (one_kind file.universe.kind)
-    ∙ ap (λ t. no_double file.universe.kind && (bytes_eq n.name native && t)) (unbound (use_of file blocks n.name) ∙ ap not (known file blocks n.name))
+one_test : (file : FileParts) (blocks : List BlockParts) (name : Name)
+    → (is_bzl file.universe.kind && is_unbound (use_of file blocks name)) ≡ (no_double file.universe.kind && not (is_known file (around_of blocks) name))
+one_test file blocks name =
+    ap (λ t. t && is_unbound (use_of file blocks name)) (one_kind file.universe.kind)
+    ∙ ap (λ t. no_double file.universe.kind && t) (unbound (use_of file blocks name) ∙ ap not (known file blocks name))
 
-pub host_of : (file : FileParts) (blocks : List BlockParts) (o : ExprLayer) → is_native file blocks o ≡ is_host file (around_of blocks) o
-host_of file blocks (Expr-F.Expr::Name n) = named_native file blocks n
-host_of file blocks (Expr-F.Int i) = refl
-host_of file blocks (Expr-F.String s) = refl
-host_of file blocks (Expr-F.Expr::List xs) = refl
-host_of file blocks (Expr-F.Expr::Tuple xs) = refl
-host_of file blocks (Expr-F.Dict ps) = refl
-host_of file blocks (Expr-F.ListComprehension x cs) = refl
-host_of file blocks (Expr-F.DictComprehension p cs) = refl
-host_of file blocks (Expr-F.Primary x ss) = refl
-host_of file blocks (Expr-F.Unary os x) = refl
-host_of file blocks (Expr-F.Binary x os) = refl
-host_of file blocks (Expr-F.Compare x o y) = refl
-host_of file blocks (Expr-F.Conditional cs x) = refl
-host_of file blocks Expr-F.Lambda = refl
+pub namespace_of : (file : FileParts) (blocks : List BlockParts) (o : ExprLayer) → namespace_at file blocks o ≡ as_namespace file (around_of blocks) o
+namespace_of file blocks (Expr-F.Expr::Name n) = ap (λ (t : Bool). if t then namespace_named n.name else None) (one_test file blocks n.name)
+namespace_of file blocks (Expr-F.Int i) = refl
+namespace_of file blocks (Expr-F.String s) = refl
+namespace_of file blocks (Expr-F.Expr::List xs) = refl
+namespace_of file blocks (Expr-F.Expr::Tuple xs) = refl
+namespace_of file blocks (Expr-F.Dict ps) = refl
+namespace_of file blocks (Expr-F.ListComprehension x cs) = refl
+namespace_of file blocks (Expr-F.DictComprehension p cs) = refl
+namespace_of file blocks (Expr-F.Primary x ss) = refl
+namespace_of file blocks (Expr-F.Unary os x) = refl
+namespace_of file blocks (Expr-F.Binary x os) = refl
+namespace_of file blocks (Expr-F.Compare x o y) = refl
+namespace_of file blocks (Expr-F.Conditional cs x) = refl
+namespace_of file blocks Expr-F.Lambda = refl
 
 -- ---- names that are bound
 
@@ -171,11 +172,15 @@ unfolding file_names
 file_loaded universe ts name bound free =
     let file : FileParts = record { universe = universe; globals = global_names ts; loaded = loaded_names ts } in loaded_at file name free ((loads_bind ts name).1 bound)
 
-not_host : (o : Option Predeclared) (id : ℕ) → in_bzl o ≡ Some (pre.Host id) → ⊥
-not_host None id h = cc
-not_host (Some (pre.Host k)) id h = cc
-not_host (Some x) id h = cc
+of_rule : (t : Bool) (id : ℕ) → (if t then Some (pre.RuleFunction function.Rule) else None) ≡ Some (pre.Host id) → ⊥
+of_rule true id h = cc
+of_rule false id h = cc
+
+not_host : (name : Name) (o : Option Predeclared) (id : ℕ) → in_bzl name o ≡ Some (pre.Host id) → ⊥
+not_host name None id h = of_rule (bytes_eq name rule) id h
+not_host name (Some (pre.Host k)) id h = cc
+not_host name (Some x) id h = cc
 
 pub no_build_functions : BzlFilesHaveNoBuildFunctions
 unfolding universe_has
-no_build_functions rules name id h = not_host (predeclared_named name) id h
+no_build_functions rules name id h = not_host name (predeclared_named name) id h

@@ -1,6 +1,6 @@
 -- Which names a block binds, in words (Starlark specification, "Name binding and variables"): whether a name is bound by a target, a
 -- clause, a statement, a parameter or a load. Of a tree so many layers are looked at as `bq_scope` does (`max_layers`).
-use Rattle.std.specs.Prelude.{◌≡◌, ◌≢◌, ◌<◌, ℕ, zero, suc, ◌+◌, List, [], ◌∷◌, length, true, false, Some, ◌⊎◌, ◌↔◌}
+use Rattle.std.specs.Prelude.{◌≡◌, ◌≢◌, ◌<◌, ℕ, zero, suc, ◌+◌, List, [], ◌∷◌, length, true, false, Some, None, codes, ◌⊎◌, ◌↔◌}
 use Rattle.bq_grammar.specs.declared.tree.Argument.TheOpen.{Clause-F, Target-F}
 use Rattle.bq_grammar.specs.declared.tree.Branch.{Branch, out-Branch}
 use Rattle.bq_grammar.specs.declared.tree.Clause.{Clause, out-Clause}
@@ -16,7 +16,10 @@ use Rattle.bq_grammar.specs.declared.tree.TopLevel.{TopLevel}
 use Rattle.bq_scope.specs.declared.code.Binding.TheVariants as b
 use Rattle.bq_grammar.specs.declared.tree.FileKind.TheVariants as kinds
 use Rattle.bq_predeclared.specs.declared.predeclared.Predeclared.TheVariants as pre
-use Rattle.bq_scope.specs.Universe.{UniverseParts, universe_has}
+use Rattle.bq_predeclared.specs.declared.rule_function.RuleFunction.{RuleFunction}
+use Rattle.bq_predeclared.specs.declared.rule_function.RuleFunction.TheVariants as function
+use Rattle.bq_scope.specs.declared.universe.Namespace.{Namespace}
+use Rattle.bq_scope.specs.Universe.{UniverseParts, namespace_named, universe_has}
 use Rattle.bq_scope.specs.Scope.{BlockParts, FileParts, use_of}
 use Rattle.bq_scope.specs.Files.{file_names}
 use Rattle.bq_scope.specs.Names.{Name, TargetLayer, ClauseLayer, max_layers, has, comprehension_names, function_names, global_names, loaded_names}
@@ -130,3 +133,17 @@ LoadedNamesAreLoaded = (universe : UniverseParts) (ts : List TopLevel) (name : N
 -- .. and in a .bzl file no name is a build function or a rule that the file doesn't bind.
 abbrev pub BzlFilesHaveNoBuildFunctions : Type 0
 BzlFilesHaveNoBuildFunctions = (rules : List Name) (name : Name) (id : ℕ) → universe_has (record { kind = kinds.Bzl; rules = rules }) name ≢ Some (pre.Host id)
+
+-- ---- names of a kind of files
+
+-- What declares rules is in .bzl files alone: no name of a BUILD file that doesn't bind it is it.
+abbrev pub BuildFilesDeclareNoRules : Type 0
+BuildFilesDeclareNoRules = (rules : List Name) (name : Name) (f : RuleFunction) → universe_has (record { kind = kinds.Build; rules = rules }) name ≢ Some (pre.RuleFunction f)
+
+-- In a .bzl file `rule` is, also where the schema has a rule of that name.
+abbrev pub BzlFilesHaveRule : Type 0
+BzlFilesHaveRule = (rules : List Name) → universe_has (record { kind = kinds.Bzl; rules = rules }) (codes "rule") ≡ Some (pre.RuleFunction function.Rule)
+
+-- A namespace is no value of a .bzl file.
+abbrev pub NamespacesAreNoValues : Type 0
+NamespacesAreNoValues = (rules : List Name) (name : Name) (space : Namespace) → namespace_named name ≡ Some space → universe_has (record { kind = kinds.Bzl; rules = rules }) name ≡ None

@@ -52,10 +52,11 @@ use Rattle.bq_scope.specs.declared.code.FileStmt.TheVariants as top
 use Rattle.bq_scope.specs.declared.code.LoadStmt.{LoadStmt}
 use Rattle.bq_scope.specs.declared.code.LoadedSymbol.{LoadedSymbol}
 use Rattle.bq_scope.specs.declared.code.Resolved.{Resolved}
-use Rattle.bq_scope.specs.Universe.{UniverseParts, host_named}
+use Rattle.bq_predeclared.specs.declared.predeclared.Predeclared.{Predeclared}
+use Rattle.bq_scope.specs.Universe.{UniverseParts, member_named}
 use Rattle.bq_scope.specs.Names.{TargetLayer, ClauseLayer, max_layers, place_among, comprehension_names, function_names, global_names}
 use Rattle.bq_scope.specs.Scope.{BlockParts, FileParts, use_of}
-use Rattle.bq_scope.specs.Expressions.{place_of, native_call, is_native}
+use Rattle.bq_scope.specs.Expressions.{place_of, MemberCall, member_call, namespace_at}
 use Rattle.bq_scope.specs.Files.{file_names, resolved}
 
 -- the one to the other, in their order
@@ -113,12 +114,13 @@ module _ (file : FileParts) where
     abbrev pub SuffixesAre : List BlockParts → List Suffix → List CodeSuffix → Type 0
     SuffixesAre blocks ss ts = InOrder (λ s t. suffix_is_by blocks (out-Suffix s) t) ss ts
 
-    -- `native.name(arguments)` calls the build function or rule, and what is done to its result comes after
-    abbrev pub primary_is_by : List BlockParts → Expr → List Suffix → Option (Identifier × List Argument × List Suffix) → Code → Type 0
+    -- `native.name(arguments)` calls the build function or rule, `attr.name(arguments)` the function that makes an attribute, and what is
+    -- done to its result comes after
+    abbrev pub primary_is_by : List BlockParts → Expr → List Suffix → Option MemberCall → Code → Type 0
     primary_is_by blocks x ss None z = (y : Code) × (ts : List CodeSuffix) × Is blocks x y × SuffixesAre blocks ss ts × (z ≡ c.Primary y ts)
-    primary_is_by blocks x ss (Some (m, xs, rest)) z =
-        (id : ℕ) × (ys : List CodeArgument) × (ts : List CodeSuffix) × (host_named file.universe.rules m.name ≡ Some id) × ArgumentsAre blocks xs ys × SuffixesAre blocks rest ts
-        × (z ≡ c.Primary (c.Native id) (suffix.Call ys ∷ ts))
+    primary_is_by blocks x ss (Some (space, m, xs, rest)) z =
+        (p : Predeclared) × (ys : List CodeArgument) × (ts : List CodeSuffix) × (member_named space file.universe.rules m.name ≡ Some p) × ArgumentsAre blocks xs ys × SuffixesAre blocks rest ts
+        × (z ≡ c.Primary (c.Member p) (suffix.Call ys ∷ ts))
 
     -- an iterable stands among `round`, all else of a clause among `blocks`
     abbrev pub clause_is_by : List BlockParts → List BlockParts → ClauseLayer → CodeClause → Type 0
@@ -150,7 +152,7 @@ module _ (file : FileParts) where
     expr_is_by blocks (Expr-F.Dict ps) z = (qs : List CodePair) × InOrder (PairIs blocks) ps qs × (z ≡ c.Dict qs)
     expr_is_by blocks (Expr-F.ListComprehension x xs) z = comprehension_is (λ bs y. Is bs x y) c.ListComprehension blocks xs z
     expr_is_by blocks (Expr-F.DictComprehension p xs) z = comprehension_is (λ bs q. PairIs bs p q) c.DictComprehension blocks xs z
-    expr_is_by blocks (Expr-F.Primary x ss) z = primary_is_by blocks x ss (native_call (is_native file blocks (out-Expr x)) ss) z
+    expr_is_by blocks (Expr-F.Primary x ss) z = primary_is_by blocks x ss (member_call (namespace_at file blocks (out-Expr x)) ss) z
     expr_is_by blocks (Expr-F.Unary os x) z = (y : Code) × Is blocks x y × (z ≡ c.Unary os y)
     expr_is_by blocks (Expr-F.Binary x os) z = (y : Code) × (ps : List CodeOperation) × Is blocks x y × InOrder (OperationIs blocks) os ps × (z ≡ c.Binary y ps)
     expr_is_by blocks (Expr-F.Compare x o w) z = (y : Code) × (v : Code) × Is blocks x y × Is blocks w v × (z ≡ c.Compare y o v)

@@ -55,7 +55,7 @@ framed_slots slots n = if nat_lt slots n then too_many else 0
 
 abbrev pub code_step : Code-F ℕ ℕ ℕ ℕ ℕ ℕ ℕ ℕ → ℕ
 code_step (Code-F.Use x) = binding_slots x
-code_step (Code-F.Native id) = 0
+code_step (Code-F.Member p) = 0
 code_step (Code-F.Int i) = 0
 code_step (Code-F.String s) = 0
 code_step (Code-F.Code::List ns) = most ns

@@ -1,7 +1,7 @@
 -- The rules of names and of flow that a file breaks, in the order of its text: each as the fault that names the token at which it is
 -- broken. Nothing is resolved here, and nothing ends at the first one. A block is the set of its names; of a tree so many layers are
 -- looked at as `bq_scope` does (`max_layers`).
-use Rattle.std.specs.Prelude.{◌≡◌, ◌↔◌, ℕ, zero, suc, List, [], ◌∷◌, ◌++◌, Bool, true, false, ◌||◌, ◌&&◌, not, Option, Some, None, is_some, Ok, Err, bytes_eq, if◌then◌else◌}
+use Rattle.std.specs.Prelude.{◌≡◌, ◌↔◌, ℕ, zero, suc, List, [], ◌∷◌, ◌++◌, Bool, true, false, ◌||◌, ◌&&◌, not, Option, Some, None, is_some, Ok, Err, if◌then◌else◌}
 use Rattle.std.specs.List.{list_any}
 use Rattle.bq_source.specs.declared.fault.Fault.{Fault}
 use Rattle.bq_source.specs.declared.fault.FaultKind.TheVariants as f
@@ -30,7 +30,8 @@ use Rattle.bq_grammar.specs.declared.tree.Target.{Target, out-Target}
 use Rattle.bq_grammar.specs.declared.tree.TopLevel.{TopLevel}
 use Rattle.bq_grammar.specs.Targets.{ExprLayer, SuffixLayer}
 use Rattle.bq_scope.specs.declared.code.Resolved.{Resolved}
-use Rattle.bq_scope.specs.Universe.{UniverseParts, native, universe_has, host_named}
+use Rattle.bq_scope.specs.declared.universe.Namespace.{Namespace}
+use Rattle.bq_scope.specs.Universe.{UniverseParts, member_named, namespace_named, universe_has}
 use Rattle.bq_scope.specs.Names.{Name, TargetLayer, ClauseLayer, max_layers, has, with_name, with_each, with_target_to, with_small, with_load, with_load_clause, with_parameter, comprehension_names, function_names}
 use Rattle.bq_scope.specs.Scope.{FileParts}
 use Rattle.bq_scope.specs.Visit.{fault_of}
@@ -107,14 +108,14 @@ module _ (file : FileParts) where
   unfoldable pub in_use : Around → Identifier → List Fault
   in_use around n = unless (is_known around n.name) (fault_of f.UnknownName n)
 
-  -- `native.name(..)` where no build function and no rule has the name
-  unfoldable pub in_host : Identifier → List Fault
-  in_host n = unless (is_some (host_named file.universe.rules n.name)) (fault_of f.UnknownName n)
+  -- `native.name(..)` where no build function and no rule has the name, or `attr.name(..)` where no type of attributes has it
+  unfoldable pub in_member : Namespace → Identifier → List Fault
+  in_member space n = unless (is_some (member_named space file.universe.rules n.name)) (fault_of f.UnknownName n)
 
-  -- `native` stands for the build functions in .bzl files that don't bind it
-  abbrev pub is_host : Around → ExprLayer → Bool
-  is_host around (Expr-F.Expr::Name n) = no_double file.universe.kind && (bytes_eq n.name native && not (is_known around n.name))
-  is_host around _ = false
+  -- `native` and `attr` are namespaces in .bzl files that don't bind them
+  abbrev pub as_namespace : Around → ExprLayer → Option Namespace
+  as_namespace around (Expr-F.Expr::Name n) = if no_double file.universe.kind && not (is_known around n.name) then namespace_named n.name else None
+  as_namespace around _ = None
 
   -- ---- F21 and F22: a name that is bound twice
 
@@ -173,17 +174,17 @@ module _ (file : FileParts) where
     unfoldable pub in_operand : Around → Expr → List Suffix → List Fault
     in_operand around x ss = inner around x ++ in_suffixes around ss
 
-    abbrev pub in_method : Around → Expr → List Suffix → List Suffix → SuffixLayer → List Fault
-    in_method around x ss rest (Suffix-F.Method m xs) = in_host m ++ (in_arguments around xs ++ in_suffixes around rest)
-    in_method around x ss rest _ = in_operand around x ss
+    abbrev pub in_method : Around → Namespace → Expr → List Suffix → List Suffix → SuffixLayer → List Fault
+    in_method around space x ss rest (Suffix-F.Method m xs) = in_member space m ++ (in_arguments around xs ++ in_suffixes around rest)
+    in_method around space x ss rest _ = in_operand around x ss
 
-    -- an operand with suffixes, of which the first may call a build function or rule as a method of `native`
-    abbrev pub in_primary_by : Around → Expr → Bool → List Suffix → List Fault
-    in_primary_by around x true (s ∷ ss) = in_method around x (s ∷ ss) ss (out-Suffix s)
+    -- an operand with suffixes, of which the first may call what a namespace holds, as a method of it
+    abbrev pub in_primary_by : Around → Expr → Option Namespace → List Suffix → List Fault
+    in_primary_by around x (Some space) (s ∷ ss) = in_method around space x (s ∷ ss) ss (out-Suffix s)
     in_primary_by around x _ ss = in_operand around x ss
 
     unfoldable pub in_primary : Around → Expr → List Suffix → List Fault
-    in_primary around x ss = in_primary_by around x (is_host around (out-Expr x)) ss
+    in_primary around x ss = in_primary_by around x (as_namespace around (out-Expr x)) ss
 
     -- an iterable stands among `outer`, all else of a clause among `around`
     abbrev pub in_clause_by : Around → Around → ClauseLayer → List Fault

@@ -1,6 +1,6 @@
 //! What holds of resolved files. The functions do nothing: their contracts are the laws.
 
-ghost use Rattle.bq_scope_laws.specs.Binds.{ComprehensionBinds, FunctionBinds, FileBinds, LoadsBind, FunctionNamesAreLocal, ComprehensionNamesAreLocal, FileNamesAreGlobal, LoadedNamesAreLoaded, BzlFilesHaveNoBuildFunctions};
+ghost use Rattle.bq_scope_laws.specs.Binds.{ComprehensionBinds, FunctionBinds, FileBinds, LoadsBind, FunctionNamesAreLocal, ComprehensionNamesAreLocal, FileNamesAreGlobal, LoadedNamesAreLoaded, BzlFilesHaveNoBuildFunctions, BuildFilesDeclareNoRules, BzlFilesHaveRule, NamespacesAreNoValues};
 ghost use Rattle.bq_scope_laws.specs.Resolution.{FilesResolveToThemselves};
 ghost use Rattle.bq_scope_laws.specs.Slots.{EverySlotIsBelow};
 ghost use Rattle.bq_scope_laws.specs.Violations.{FaultsAreFirstViolations, FilesWithoutViolationsResolve};
@@ -21,6 +21,14 @@ pub fn what_is_bound_is_found()
     ensures file { FileNamesAreGlobal }
     ensures loaded { LoadedNamesAreLoaded }
     ensures bzl { BzlFilesHaveNoBuildFunctions }
+{}
+
+/// What declares rules is in .bzl files alone, whatever rules the schema has, and what holds most of it, `attr`, is no value, nor is
+/// `native`.
+pub fn rules_are_declared_in_bzl_files()
+    ensures build { BuildFilesDeclareNoRules }
+    ensures bzl { BzlFilesHaveRule }
+    ensures namespaces { NamespacesAreNoValues }
 {}
 
 /// Every slot of a file that resolves is below the number of slots of its frame.

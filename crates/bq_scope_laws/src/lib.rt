@@ -17,5 +17,5 @@ mod laws;
 
 pub use laws::{
     blocks_hold_what_is_bound, every_slot_is_below, faults_are_first_violations,
-    files_resolve_to_themselves, what_is_bound_is_found,
+    files_resolve_to_themselves, rules_are_declared_in_bzl_files, what_is_bound_is_found,
 };

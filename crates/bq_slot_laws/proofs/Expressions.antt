@@ -1,5 +1,5 @@
 -- Expressions list the slots of their uses.
-use Rattle.std.proofs.Common.{◌≡◌, ◌∙◌, ℕ, zero, suc, ◌+◌, Bool, true, false, List, [], ◌∷◌, ◌++◌, map, length, length-append, Option, Some, None, refl, sym, ap, subst}
+use Rattle.std.proofs.Common.{◌≡◌, ◌∙◌, ℕ, zero, suc, ◌+◌, List, [], ◌∷◌, ◌++◌, map, length, length-append, Option, Some, None, refl, sym, ap, subst}
 use Rattle.std.proofs.lemmas.List.{append-nil}
 use Rattle.bq_source.specs.declared.fault.FaultKind.TheVariants as f
 use Rattle.bq_source.specs.Fault.{fault_at}
@@ -29,15 +29,17 @@ use Rattle.bq_scope.specs.declared.code.CodeTarget.{CodeTarget}
 use Rattle.bq_scope.specs.declared.code.CodeTarget.TheVariants as t
 use Rattle.bq_scope.specs.Names.{Name, TargetLayer, ClauseLayer, max_layers, comprehension_names}
 use Rattle.bq_scope.specs.Scope.{BlockParts, FileParts}
-use Rattle.bq_scope.specs.Universe.{host_named}
+use Rattle.bq_predeclared.specs.declared.predeclared.Predeclared.{Predeclared}
+use Rattle.bq_scope.specs.declared.universe.Namespace.{Namespace}
+use Rattle.bq_scope.specs.Universe.{member_named}
 use Rattle.bq_scope.specs.Visit.{Passed, Visit, ◌>>=◌, pure, given, fault_of, each, optional}
-use Rattle.bq_scope.specs.Expressions.{native_by, native_call, is_native, use_at, target_by, target_to, pair, operation, choice, argument_by, arguments, suffix_by, suffixes, operand, host_call, primary_by, primary, clause_by, clauses, in_block, comprehension, expr_by, expr_to}
+use Rattle.bq_scope.specs.Expressions.{member_by, member_call, namespace_at, use_at, target_by, target_to, pair, operation, choice, argument_by, arguments, suffix_by, suffixes, operand, call_member, primary_by, primary, clause_by, clauses, in_block, comprehension, expr_by, expr_to}
 use Rattle.bq_scope.specs.Statements.{expr, target}
 use Rattle.bq_slot_laws.specs.Slots.{all, argument_slots, binding_slots, choice_slots, clause_slots, code_slots, operation_slots, pair_slots, suffix_slots, target_slots}
 use Rattle.bq_slot_laws.specs.Uses as uses
 use Rattle.bq_slot_laws.specs.Uses.{Block, Part, Use, both, use_among}
 use Rattle.bq_slot_laws.proofs.Lists.{Fits, Inside, Listed, Lists, joined, lists_all, lists_bind, lists_each, lists_map, lists_optional, lists_pure, lists_stop, lists_three, lists_two, mapped}
-use Rattle.bq_slot_laws.proofs.Names.{lists_as, name_lists, native_is, unbound_is, use_lists}
+use Rattle.bq_slot_laws.proofs.Names.{lists_as, name_lists, namespace_is, unbound_is, use_lists}
 use Rattle.bq_slot_laws.proofs.Opened.{at_end, round_more, stacked_more}
 use Rattle.bq_slot_laws.proofs.Steps as S
 use Rattle.bq_slot_laws.proofs.Steps.{part_slots}
@@ -128,60 +130,60 @@ module _ (file : FileParts) (visit : List BlockParts → Expr → Visit Code) (l
       lists_two rs bs code_slots (λ ts. all (map suffix_slots ts)) code_slots (listed rs x) (uses.suffixes listed rs ss) (visit bs x) (suffixes file visit bs [] ss) (λ y ts. c.Primary y ts)
       (visits rs bs x) (suffixes_list rs bs [] ss) S.slots-Primary
 
-  called : (id : ℕ) (ts : List CodeSuffix) → code_slots (c.Primary (c.Native id) ts) ≡ all (map suffix_slots ts)
-  called id ts = S.slots-Primary (c.Native id) ts ∙ ap (λ (z : List ℕ). z ++ all (map suffix_slots ts)) (S.slots-Native id)
+  called : (p : Predeclared) (ts : List CodeSuffix) → code_slots (c.Primary (c.Member p) ts) ≡ all (map suffix_slots ts)
+  called p ts = S.slots-Primary (c.Member p) ts ∙ ap (λ (z : List ℕ). z ++ all (map suffix_slots ts)) (S.slots-Member p)
 
   first_call : (ys : List CodeArgument) → all (map suffix_slots (s.Call ys ∷ [])) ≡ all (map argument_slots ys)
   first_call ys = append-nil (suffix_slots (s.Call ys)) ∙ S.slots-Call ys
 
-  -- the arguments of a build function or rule, and what is done to its result
-  host_after : (rs : List Block) (bs : List BlockParts) (id : ℕ) (xs : List Argument) (ss : List Suffix)
-      → Lists rs bs [] code_slots (both (uses.arguments listed rs xs) (uses.suffixes listed rs ss)) (arguments file visit bs xs >>= λ ys. suffixes file visit bs (s.Call ys ∷ []) ss >>= λ ts. pure (c.Primary (c.Native id) ts))
-  host_after rs bs id xs ss =
+  -- the arguments of what a namespace holds, and what is done to its result
+  member_after : (rs : List Block) (bs : List BlockParts) (p : Predeclared) (xs : List Argument) (ss : List Suffix)
+      → Lists rs bs [] code_slots (both (uses.arguments listed rs xs) (uses.suffixes listed rs ss)) (arguments file visit bs xs >>= λ ys. suffixes file visit bs (s.Call ys ∷ []) ss >>= λ ts. pure (c.Primary (c.Member p) ts))
+  member_after rs bs p xs ss =
       lists_bind rs bs [] (λ ys. all (map argument_slots ys)) code_slots (uses.arguments listed rs xs) (uses.suffixes listed rs ss) (arguments file visit bs xs)
-      (λ ys. suffixes file visit bs (s.Call ys ∷ []) ss >>= λ ts. pure (c.Primary (c.Native id) ts)) (arguments_list rs bs xs)
-      (λ ys. subst (λ (d : List ℕ). Lists rs bs d code_slots (uses.suffixes listed rs ss) (suffixes file visit bs (s.Call ys ∷ []) ss >>= λ ts. pure (c.Primary (c.Native id) ts))) (first_call ys)
-      (mapped rs bs (all (map suffix_slots (s.Call ys ∷ []))) (λ ts. all (map suffix_slots ts)) code_slots (uses.suffixes listed rs ss) (suffixes file visit bs (s.Call ys ∷ []) ss) (λ ts. c.Primary (c.Native id) ts)
-      (suffixes_list rs bs (s.Call ys ∷ []) ss) (called id)))
+      (λ ys. suffixes file visit bs (s.Call ys ∷ []) ss >>= λ ts. pure (c.Primary (c.Member p) ts)) (arguments_list rs bs xs)
+      (λ ys. subst (λ (d : List ℕ). Lists rs bs d code_slots (uses.suffixes listed rs ss) (suffixes file visit bs (s.Call ys ∷ []) ss >>= λ ts. pure (c.Primary (c.Member p) ts))) (first_call ys)
+      (mapped rs bs (all (map suffix_slots (s.Call ys ∷ []))) (λ ts. all (map suffix_slots ts)) code_slots (uses.suffixes listed rs ss) (suffixes file visit bs (s.Call ys ∷ []) ss) (λ ts. c.Primary (c.Member p) ts)
+      (suffixes_list rs bs (s.Call ys ∷ []) ss) (called p)))
 
-  host_by : (rs : List Block) (bs : List BlockParts) (m : Identifier) (xs : List Argument) (ss : List Suffix) (o : Option ℕ)
+  member_of : (rs : List Block) (bs : List BlockParts) (m : Identifier) (xs : List Argument) (ss : List Suffix) (o : Option Predeclared)
       → Lists rs bs [] code_slots (both (uses.arguments listed rs xs) (uses.suffixes listed rs ss))
-      (given (fault_of f.UnknownName m) o >>= λ id. arguments file visit bs xs >>= λ ys. suffixes file visit bs (s.Call ys ∷ []) ss >>= λ ts. pure (c.Primary (c.Native id) ts))
-  host_by rs bs m xs ss None = lists_stop rs bs [] code_slots (both (uses.arguments listed rs xs) (uses.suffixes listed rs ss)) (fault_of f.UnknownName m)
-  host_by rs bs m xs ss (Some id) = host_after rs bs id xs ss
+      (given (fault_of f.UnknownName m) o >>= λ p. arguments file visit bs xs >>= λ ys. suffixes file visit bs (s.Call ys ∷ []) ss >>= λ ts. pure (c.Primary (c.Member p) ts))
+  member_of rs bs m xs ss None = lists_stop rs bs [] code_slots (both (uses.arguments listed rs xs) (uses.suffixes listed rs ss)) (fault_of f.UnknownName m)
+  member_of rs bs m xs ss (Some p) = member_after rs bs p xs ss
 
-  host_lists : (rs : List Block) (bs : List BlockParts) (m : Identifier) (xs : List Argument) (ss : List Suffix)
-      → Lists rs bs [] code_slots (both (uses.arguments listed rs xs) (uses.suffixes listed rs ss)) (host_call file visit bs m xs ss)
-  unfolding host_call
-  host_lists rs bs m xs ss = host_by rs bs m xs ss (host_named file.universe.rules m.name)
+  member_lists : (rs : List Block) (bs : List BlockParts) (space : Namespace) (m : Identifier) (xs : List Argument) (ss : List Suffix)
+      → Lists rs bs [] code_slots (both (uses.arguments listed rs xs) (uses.suffixes listed rs ss)) (call_member file visit bs space m xs ss)
+  unfolding call_member
+  member_lists rs bs space m xs ss = member_of rs bs m xs ss (member_named space file.universe.rules m.name)
 
-  -- `native` is no use of a name that a block holds
-  native_part : (rs : List Block) (x : Expr) (first : Suffix) (ss : List Suffix) (m : Identifier) (xs : List Argument) (k : ℕ) → listed rs x k ≡ ([], k) → out-Suffix first ≡ Suffix-F.Method m xs
+  -- a namespace is no use of a name that a block holds
+  member_part : (rs : List Block) (x : Expr) (first : Suffix) (ss : List Suffix) (m : Identifier) (xs : List Argument) (k : ℕ) → listed rs x k ≡ ([], k) → out-Suffix first ≡ Suffix-F.Method m xs
       → both (uses.arguments listed rs xs) (uses.suffixes listed rs ss) k ≡ both (listed rs x) (uses.suffixes listed rs (first ∷ ss)) k
-  native_part rs x first ss m xs k none is =
+  member_part rs x first ss m xs k none is =
       sym (ap (λ (q : List Use × ℕ). (q.0 ++ (uses.suffixes listed rs (first ∷ ss) q.1).0, (uses.suffixes listed rs (first ∷ ss) q.1).1)) none
       ∙ ap (λ (o : SuffixLayer). both (uses.suffix_by listed rs o) (uses.suffixes listed rs ss) k) is)
 
-  by_suffix : (rs : List Block) (bs : List BlockParts) (x : Expr) → is_native file bs (out-Expr x) ≡ true → (first : Suffix) (ss : List Suffix) (o : SuffixLayer) → out-Suffix first ≡ o
-      → Lists rs bs [] code_slots (both (listed rs x) (uses.suffixes listed rs (first ∷ ss))) (primary_by file visit bs x (first ∷ ss) (native_by o ss))
-  by_suffix rs bs x native first ss (Suffix-F.Call xs) is = operand_lists rs bs x (first ∷ ss)
-  by_suffix rs bs x native first ss (Suffix-F.Attribute m) is = operand_lists rs bs x (first ∷ ss)
-  by_suffix rs bs x native first ss (Suffix-F.Suffix::Index i) is = operand_lists rs bs x (first ∷ ss)
-  by_suffix rs bs x native first ss (Suffix-F.Slice i j k) is = operand_lists rs bs x (first ∷ ss)
-  by_suffix rs bs x native first ss (Suffix-F.Method m xs) is =
-      let name = native_is file bs (out-Expr x) native in
-      lists_as rs bs [] code_slots (both (uses.arguments listed rs xs) (uses.suffixes listed rs ss)) (both (listed rs x) (uses.suffixes listed rs (first ∷ ss))) (host_call file visit bs m xs ss)
-      (λ opened round k. native_part rs x first ss m xs k (plain rs x name.0 k name.1 (unbound_is file opened rs bs name.0.name round name.2)) is) (host_lists rs bs m xs ss)
+  by_suffix : (rs : List Block) (bs : List BlockParts) (x : Expr) (space : Namespace) → namespace_at file bs (out-Expr x) ≡ Some space → (first : Suffix) (ss : List Suffix) (o : SuffixLayer) → out-Suffix first ≡ o
+      → Lists rs bs [] code_slots (both (listed rs x) (uses.suffixes listed rs (first ∷ ss))) (primary_by file visit bs x (first ∷ ss) (member_by space o ss))
+  by_suffix rs bs x space named first ss (Suffix-F.Call xs) is = operand_lists rs bs x (first ∷ ss)
+  by_suffix rs bs x space named first ss (Suffix-F.Attribute m) is = operand_lists rs bs x (first ∷ ss)
+  by_suffix rs bs x space named first ss (Suffix-F.Suffix::Index i) is = operand_lists rs bs x (first ∷ ss)
+  by_suffix rs bs x space named first ss (Suffix-F.Slice i j k) is = operand_lists rs bs x (first ∷ ss)
+  by_suffix rs bs x space named first ss (Suffix-F.Method m xs) is =
+      let name = namespace_is file bs (out-Expr x) space named in
+      lists_as rs bs [] code_slots (both (uses.arguments listed rs xs) (uses.suffixes listed rs ss)) (both (listed rs x) (uses.suffixes listed rs (first ∷ ss))) (call_member file visit bs space m xs ss)
+      (λ opened round k. member_part rs x first ss m xs k (plain rs x name.0 k name.1 (unbound_is file opened rs bs name.0.name round name.2)) is) (member_lists rs bs space m xs ss)
 
-  by_native : (rs : List Block) (bs : List BlockParts) (x : Expr) (ss : List Suffix) (native : Bool) → is_native file bs (out-Expr x) ≡ native
-      → Lists rs bs [] code_slots (both (listed rs x) (uses.suffixes listed rs ss)) (primary_by file visit bs x ss (native_call native ss))
-  by_native rs bs x ss false is = operand_lists rs bs x ss
-  by_native rs bs x [] true is = operand_lists rs bs x []
-  by_native rs bs x (first ∷ ss) true is = by_suffix rs bs x is first ss (out-Suffix first) refl
+  by_namespace : (rs : List Block) (bs : List BlockParts) (x : Expr) (ss : List Suffix) (o : Option Namespace) → namespace_at file bs (out-Expr x) ≡ o
+      → Lists rs bs [] code_slots (both (listed rs x) (uses.suffixes listed rs ss)) (primary_by file visit bs x ss (member_call o ss))
+  by_namespace rs bs x ss None is = operand_lists rs bs x ss
+  by_namespace rs bs x [] (Some space) is = operand_lists rs bs x []
+  by_namespace rs bs x (first ∷ ss) (Some space) is = by_suffix rs bs x space is first ss (out-Suffix first) refl
 
   primary_lists : (rs : List Block) (bs : List BlockParts) (x : Expr) (ss : List Suffix) → Lists rs bs [] code_slots (both (listed rs x) (uses.suffixes listed rs ss)) (primary file visit bs x ss)
   unfolding primary
-  primary_lists rs bs x ss = by_native rs bs x ss (is_native file bs (out-Expr x)) refl
+  primary_lists rs bs x ss = by_namespace rs bs x ss (namespace_at file bs (out-Expr x)) refl
 
   -- ---- comprehensions
 

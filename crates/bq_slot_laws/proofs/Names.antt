@@ -1,6 +1,6 @@
 -- Uses of names list their slots.
 use Rattle.std.proofs.Common.{◌≡◌, ◌∙◌, ℕ, suc, ◌+◌, Bool, true, false, cond, ◌||◌, List, [], ◌∷◌, length, Option, Some, None, refl, sym, ap, subst, bytes_eq}
-use Rattle.std.specs.Prelude.{◌&&◌}
+use Rattle.std.specs.Prelude.{◌&&◌, if◌then◌else◌}
 use Rattle.std.specs.Option.{option_map}
 use Rattle.std.proofs.lemmas.Bool.{false≢true}
 use Rattle.bq_source.specs.declared.fault.FaultKind.TheVariants as f
@@ -8,15 +8,16 @@ use Rattle.bq_predeclared.specs.declared.predeclared.Predeclared.{Predeclared}
 use Rattle.bq_grammar.specs.declared.tree.Argument.TheOpen.{Expr-F}
 use Rattle.bq_grammar.specs.declared.tree.Identifier.{Identifier}
 use Rattle.bq_grammar.specs.Targets.{ExprLayer}
+use Rattle.bq_scope.specs.declared.universe.Namespace.{Namespace}
 use Rattle.bq_scope.specs.declared.code.Binding.{Binding}
 use Rattle.bq_scope.specs.declared.code.Binding.TheVariants as b
 use Rattle.bq_scope.specs.declared.code.CodeTarget.{CodeTarget}
 use Rattle.bq_scope.specs.declared.code.CodeTarget.TheVariants as t
 use Rattle.bq_scope.specs.Names.{Name, has, place_among}
 use Rattle.bq_scope.specs.Scope.{BlockParts, FileParts, file_has, or_else, slot_in, slot_of, use_of}
-use Rattle.bq_scope.specs.Universe.{native, universe_has}
+use Rattle.bq_scope.specs.Universe.{namespace_named, universe_has}
 use Rattle.bq_scope.specs.Visit.{Visit, fault_of}
-use Rattle.bq_scope.specs.Expressions.{is_bzl, is_native, is_unbound, name_target, place_of, use_at}
+use Rattle.bq_scope.specs.Expressions.{is_bzl, is_unbound, namespace_at, name_target, place_of, use_at}
 use Rattle.bq_scope_laws.specs.Resolution.{InOrder}
 use Rattle.bq_slot_laws.specs.Slots.{binding_slots, target_slots}
 use Rattle.bq_slot_laws.specs.Uses.{Block, Part, Use, name_use, use_among}
@@ -139,7 +140,7 @@ module _ (file : FileParts) where
   name_lists rs (block ∷ bs) n opened s t x inside fits h =
       lists_given rs (block ∷ bs) target_slots (use_among rs n.name) (fault_of f.UnknownName n) (place_of (use_of file (block ∷ bs) n.name)) (λ opened round. place_are n.name opened rs (block ∷ bs) round) opened s t x inside fits h
 
-  -- ---- `native`
+  -- ---- `native` and `attr`
 
   no_uses : (opened : List BlockParts) (us : List Use) → InOrder (IsSlot opened) us [] → us ≡ []
   no_uses opened [] h = refl
@@ -162,26 +163,31 @@ module _ (file : FileParts) where
   unbound_by None h = refl
   unbound_by (Some x) h = absurd (false≢true h)
 
-  third : (x y z : Bool) → (x && (y && z)) ≡ true → z ≡ true
-  third true true z h = h
-  third true false z h = absurd (false≢true h)
-  third false y z h = absurd (false≢true h)
+  second : (x y : Bool) → (x && y) ≡ true → y ≡ true
+  second true y h = h
+  second false y h = absurd (false≢true h)
 
-  pub native_is : (bs : List BlockParts) (o : ExprLayer) → is_native file bs o ≡ true → (n : Identifier) × (o ≡ Expr-F.Expr::Name n) × (use_of file bs n.name ≡ None)
-  native_is bs (Expr-F.Expr::Name n) h = (n, refl, unbound_by (use_of file bs n.name) (third (is_bzl file.universe.kind) (bytes_eq n.name native) (is_unbound (use_of file bs n.name)) h))
-  native_is bs (Expr-F.Int i) h = absurd (false≢true h)
-  native_is bs (Expr-F.String s) h = absurd (false≢true h)
-  native_is bs (Expr-F.Expr::List xs) h = absurd (false≢true h)
-  native_is bs (Expr-F.Expr::Tuple xs) h = absurd (false≢true h)
-  native_is bs (Expr-F.Dict ps) h = absurd (false≢true h)
-  native_is bs (Expr-F.ListComprehension x xs) h = absurd (false≢true h)
-  native_is bs (Expr-F.DictComprehension p xs) h = absurd (false≢true h)
-  native_is bs (Expr-F.Primary x ss) h = absurd (false≢true h)
-  native_is bs (Expr-F.Unary os x) h = absurd (false≢true h)
-  native_is bs (Expr-F.Binary x os) h = absurd (false≢true h)
-  native_is bs (Expr-F.Compare x o z) h = absurd (false≢true h)
-  native_is bs (Expr-F.Conditional xs z) h = absurd (false≢true h)
-  native_is bs Expr-F.Lambda h = absurd (false≢true h)
+  chosen : (t : Bool) (o : Option Namespace) (space : Namespace) → (if t then o else None) ≡ Some space → t ≡ true
+  chosen true o space h = refl
+  chosen false o space h = absurd (let no : ⊥ = cc in no)
+
+  pub namespace_is : (bs : List BlockParts) (o : ExprLayer) (space : Namespace) → namespace_at file bs o ≡ Some space → (n : Identifier) × (o ≡ Expr-F.Expr::Name n) × (use_of file bs n.name ≡ None)
+  namespace_is bs (Expr-F.Expr::Name n) space h =
+      let t : Bool = is_bzl file.universe.kind && is_unbound (use_of file bs n.name) in
+      (n, refl, unbound_by (use_of file bs n.name) (second (is_bzl file.universe.kind) (is_unbound (use_of file bs n.name)) (chosen t (namespace_named n.name) space h)))
+  namespace_is bs (Expr-F.Int i) space h = absurd (let no : ⊥ = cc in no)
+  namespace_is bs (Expr-F.String s) space h = absurd (let no : ⊥ = cc in no)
+  namespace_is bs (Expr-F.Expr::List xs) space h = absurd (let no : ⊥ = cc in no)
+  namespace_is bs (Expr-F.Expr::Tuple xs) space h = absurd (let no : ⊥ = cc in no)
+  namespace_is bs (Expr-F.Dict ps) space h = absurd (let no : ⊥ = cc in no)
+  namespace_is bs (Expr-F.ListComprehension x xs) space h = absurd (let no : ⊥ = cc in no)
+  namespace_is bs (Expr-F.DictComprehension p xs) space h = absurd (let no : ⊥ = cc in no)
+  namespace_is bs (Expr-F.Primary x ss) space h = absurd (let no : ⊥ = cc in no)
+  namespace_is bs (Expr-F.Unary os x) space h = absurd (let no : ⊥ = cc in no)
+  namespace_is bs (Expr-F.Binary x os) space h = absurd (let no : ⊥ = cc in no)
+  namespace_is bs (Expr-F.Compare x o z) space h = absurd (let no : ⊥ = cc in no)
+  namespace_is bs (Expr-F.Conditional xs z) space h = absurd (let no : ⊥ = cc in no)
+  namespace_is bs Expr-F.Lambda space h = absurd (let no : ⊥ = cc in no)
 
 -- the same list in other words
 pub lists_as : {A : Type 0} (rs : List Block) (bs : List BlockParts) (done : List ℕ) (f : A → List ℕ) (part other : Part) (v : Visit A)

@@ -3,6 +3,7 @@ use Rattle.std.proofs.Common.{◌≡◌, ℕ, ◌++◌, ℤ, List, [], ◌∷◌
 use Rattle.bq_grammar.specs.declared.tree.Comparison.{Comparison}
 use Rattle.bq_grammar.specs.declared.tree.Operator.{Operator}
 use Rattle.bq_grammar.specs.declared.tree.UnaryOperator.{UnaryOperator}
+use Rattle.bq_predeclared.specs.declared.predeclared.Predeclared.{Predeclared}
 use Rattle.bq_scope.specs.declared.code.Binding.{Binding}
 use Rattle.bq_scope.specs.declared.code.Code.{Code, the_lemmas}
 use Rattle.bq_scope.specs.declared.code.Code.TheVariants as c
@@ -27,8 +28,8 @@ use Rattle.bq_slot_laws.specs.Slots.{all, binding_slots, code_slots, argument_sl
 pub slots-Use : (x : Binding) → code_slots (c.Use x) ≡ binding_slots x
 slots-Use x = search (rules, the_lemmas)
 
-pub slots-Native : (id : ℕ) → code_slots (c.Native id) ≡ []
-slots-Native id = search (rules, the_lemmas)
+pub slots-Member : (p : Predeclared) → code_slots (c.Member p) ≡ []
+slots-Member p = search (rules, the_lemmas)
 
 pub slots-Int : (i : ℤ) → code_slots (c.Int i) ≡ []
 slots-Int i = search (rules, the_lemmas)

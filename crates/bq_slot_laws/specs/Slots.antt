@@ -36,7 +36,7 @@ binding_slots _ = []
 
 abbrev pub code_step : Code-F (List ℕ) (List ℕ) (List ℕ) (List ℕ) (List ℕ) (List ℕ) (List ℕ) (List ℕ) → List ℕ
 code_step (Code-F.Use x) = binding_slots x
-code_step (Code-F.Native id) = []
+code_step (Code-F.Member p) = []
 code_step (Code-F.Int i) = []
 code_step (Code-F.String s) = []
 code_step (Code-F.Code::List ns) = all ns

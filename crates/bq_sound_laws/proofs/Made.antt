@@ -2,6 +2,7 @@
 use Rattle.std.proofs.Common.{◌≡◌, ◌≤◌, ℕ, zero, suc, List, [], ◌∷◌, sym, ap, ◌∙◌, subst, arith}
 use Rattle.std.specs.List.{AllByRecursion}
 use Rattle.bq_grammar.specs.declared.tree.Operator.{Operator}
+use Rattle.bq_predeclared.specs.declared.predeclared.Predeclared.{Predeclared}
 use Rattle.bq_scope.specs.declared.code.Code.TheOpen.{Code-F}
 use Rattle.bq_scope.specs.declared.code.Code.{Code, out-Code, roll-Code, out-roll-Code}
 use Rattle.bq_scope.specs.declared.code.Code.TheVariants as c
@@ -70,7 +71,7 @@ pub others_of : {A : Type 0} (P Q : A → Type 0) (xs : List A) → AllByRecursi
 others_of P Q [] h = tt
 others_of P Q (x ∷ xs) h = (h.0.1, others_of P Q xs h.1)
 
--- `native.name` has one layer, as a name has
-pub native_is_sound : (n id : ℕ) → 1 ≤ n → CodeIsSound n (c.Native id)
-native_is_sound zero id h = absurd (omega arith)
-native_is_sound (suc n) id h = made_code n (c.Native id) (Code-F.Native id) (c.rolls-Native id) tt tt tt
+-- `native.name` and `attr.name` have one layer, as a name has
+pub member_is_sound : (n : ℕ) (p : Predeclared) → 1 ≤ n → CodeIsSound n (c.Member p)
+member_is_sound zero p h = absurd (omega arith)
+member_is_sound (suc n) p h = made_code n (c.Member p) (Code-F.Member p) (c.rolls-Member p) tt tt tt

@@ -4,7 +4,7 @@ use Rattle.std.specs.List.{AllByRecursion}
 use Rattle.std.specs.Map.{lookup}
 use Rattle.std.specs.Str.{bytes_eq}
 use Rattle.bq_source.specs.declared.fault.FaultKind.TheVariants as f
-use Rattle.bq_value.specs.Contents.{Contents, items, pairs}
+use Rattle.bq_value.specs.Contents.{Contents, items, pairs, rule}
 use Rattle.bq_value.specs.Datum.{Datum, none, string, cell}
 use Rattle.bq_value.specs.Pairs.{found, keys}
 use Rattle.bq_format.specs.Method.{formatted}
@@ -21,9 +21,9 @@ use Rattle.bq_operate.specs.Union.{put_all}
 use Rattle.bq_collections.specs.Arguments as arguments
 use Rattle.bq_collections.specs.Arguments.{no_argument, one_argument, two_arguments, optional_argument, one_or_two, one_to_three, optional_integer, index_or_last, or_none}
 use Rattle.bq_collections.specs.Dict as dict
-use Rattle.bq_collections.specs.Dict.{on_pairs, dict_of, pairs_in, pair_tuple, or_value, emptied, taken_out, first_out, with_default, key_to_change}
+use Rattle.bq_collections.specs.Dict.{on_pairs, DictChange, dict_of, pairs_in, pair_tuple, or_value, emptied, taken_out, first_out, with_default, key_to_change}
 use Rattle.bq_collections.specs.List as list
-use Rattle.bq_collections.specs.List.{on_items, appended, cleared, extended, inserted, popped, dropped, list_of, list_in, find, place_value, drop_at}
+use Rattle.bq_collections.specs.List.{on_items, ListChange, appended, cleared, extended, inserted, popped, dropped, list_of, list_in, find, place_value, drop_at}
 use Rattle.bq_collections.specs.PairsGiven.{Pairs, GivenView, take_elements, read_by, read, pairs_signature, first_value, nothing_read, read_optional, pairs_given, make_key, make_keys, all_pairs}
 use Rattle.bq_collections.specs.PairsGiven as given_pairs
 use Rattle.bq_collections.specs.Search.{found_between}
@@ -40,8 +40,8 @@ use Rattle.bq_string_methods.specs.declared.method.StringMethod.TheVariants as s
 use Rattle.bq_step_laws.specs.Steps.{machine}
 use Rattle.bq_step_laws.proofs.Owning.{at_state}
 use Rattle.bq_step_laws.specs.Laws.{Own}
-use Rattle.bq_step_laws.proofs.Machine.{pure_owns, stop_owns, given_owns, bind_owns, then_owns, look_owns, walk_owns, new_owns, content_owns, may_owns, changing_owns, elements_owns}
-use Rattle.bq_step_laws.proofs.Operators.{key_owns}
+use Rattle.bq_step_laws.proofs.Machine.{pure_owns, stop_owns, given_owns, bind_owns, then_owns, look_owns, walk_owns, new_owns, content_owns, may_owns, SparesRules, changing_owns, elements_owns}
+use Rattle.bq_step_laws.proofs.Operators.{key_owns, united_spares}
 use Rattle.bq_step_laws.proofs.Walks.{found_takes, formatted_takes}
 
 pub new_list_owns : (xs : List Datum) → Own (new_list xs)
@@ -54,30 +54,38 @@ new_dict_owns ps = new_owns (pairs ps)
 
 -- ---- lists
 
+items_spare : (change : ListChange) → SparesRules (on_items change)
+unfolding on_items
+items_spare change class = tt
+
+pairs_spare : (change : DictChange) → SparesRules (on_pairs change)
+unfolding on_pairs
+pairs_spare change class = tt
+
 append_owns : (home number : ℕ) (args : List Datum) → Own (list.append home number args)
 unfolding list.append
-append_owns home number args = bind_owns (given (one_argument args)) _ (given_owns (one_argument args)) (λ v. changing_owns home number (on_items (appended v)))
+append_owns home number args = bind_owns (given (one_argument args)) _ (given_owns (one_argument args)) (λ v. changing_owns home number (on_items (appended v)) (items_spare (appended v)))
 
 clear_owns : (home number : ℕ) (args : List Datum) → Own (list.clear home number args)
 unfolding list.clear
-clear_owns home number args = then_owns (given (no_argument args)) _ (given_owns (no_argument args)) (changing_owns home number (on_items cleared))
+clear_owns home number args = then_owns (given (no_argument args)) _ (given_owns (no_argument args)) (changing_owns home number (on_items cleared) (items_spare cleared))
 
 extend_owns : (home number : ℕ) (args : List Datum) → Own (list.extend home number args)
 unfolding list.extend
 extend_owns home number args =
-    bind_owns (given (one_argument args)) _ (given_owns (one_argument args)) (λ x. bind_owns (elements x) _ (elements_owns x) (λ ys. changing_owns home number (on_items (extended ys))))
+    bind_owns (given (one_argument args)) _ (given_owns (one_argument args)) (λ x. bind_owns (elements x) _ (elements_owns x) (λ ys. changing_owns home number (on_items (extended ys)) (items_spare (extended ys))))
 
 insert_owns : (home number : ℕ) (args : List Datum) → Own (list.insert_at home number args)
 unfolding list.insert_at
 insert_owns home number args =
     bind_owns (given (two_arguments args)) _ (given_owns (two_arguments args))
-    (λ r. bind_owns (given (arguments.integer r.0)) _ (given_owns (arguments.integer r.0)) (λ i. changing_owns home number (on_items (inserted i r.1))))
+    (λ r. bind_owns (given (arguments.integer r.0)) _ (given_owns (arguments.integer r.0)) (λ i. changing_owns home number (on_items (inserted i r.1)) (items_spare (inserted i r.1))))
 
 pop_owns : (home number : ℕ) (args : List Datum) → Own (list.pop home number args)
 unfolding list.pop
 pop_owns home number args =
     bind_owns (given (optional_argument args)) _ (given_owns (optional_argument args))
-    (λ o. bind_owns (given (index_or_last o)) _ (given_owns (index_or_last o)) (λ i. changing_owns home number (on_items (popped i))))
+    (λ o. bind_owns (given (index_or_last o)) _ (given_owns (index_or_last o)) (λ i. changing_owns home number (on_items (popped i)) (items_spare (popped i))))
 
 list_in_owns : (home number : ℕ) → Own (list_in home number)
 unfolding list_in
@@ -97,7 +105,7 @@ index_owns home number args =
     (λ end. bind_owns (find home number r.0 start end) _ (find_owns home number r.0 start end) (λ at. given_owns (place_value at)))))
 
 drop_owns : (home number : ℕ) (at : Option ℕ) → Own (drop_at home number at)
-drop_owns home number (Some at) = changing_owns home number (on_items (dropped at))
+drop_owns home number (Some at) = changing_owns home number (on_items (dropped at)) (items_spare (dropped at))
 drop_owns home number None = stop_owns Datum f.BadValue
 
 remove_owns : (home number : ℕ) (args : List Datum) → Own (list.remove_value home number args)
@@ -147,7 +155,7 @@ pairs_in_owns home number = bind_owns (content home number) (λ c. given (dict_o
 
 dict_clear_owns : (home number : ℕ) (args : List Datum) → Own (dict.clear home number args)
 unfolding dict.clear
-dict_clear_owns home number args = then_owns (given (no_argument args)) _ (given_owns (no_argument args)) (changing_owns home number (on_pairs emptied))
+dict_clear_owns home number args = then_owns (given (no_argument args)) _ (given_owns (no_argument args)) (changing_owns home number (on_pairs emptied) (pairs_spare emptied))
 
 get_owns : (home number : ℕ) (args : List Datum) → Own (dict.get home number args)
 unfolding dict.get
@@ -180,17 +188,17 @@ dict_pop_owns : (home number : ℕ) (args : List Datum) → Own (dict.pop home n
 unfolding dict.pop
 dict_pop_owns home number args =
     bind_owns (given (one_or_two args)) _ (given_owns (one_or_two args))
-    (λ r. bind_owns (key_to_change home number r.0) _ (to_change_owns home number r.0) (λ q. changing_owns home number (on_pairs (taken_out q r.1))))
+    (λ r. bind_owns (key_to_change home number r.0) _ (to_change_owns home number r.0) (λ q. changing_owns home number (on_pairs (taken_out q r.1)) (pairs_spare (taken_out q r.1))))
 
 popitem_owns : (home number : ℕ) (args : List Datum) → Own (dict.popitem home number args)
 unfolding dict.popitem
-popitem_owns home number args = then_owns (given (no_argument args)) _ (given_owns (no_argument args)) (changing_owns home number (on_pairs first_out))
+popitem_owns home number args = then_owns (given (no_argument args)) _ (given_owns (no_argument args)) (changing_owns home number (on_pairs first_out) (pairs_spare first_out))
 
 setdefault_owns : (home number : ℕ) (args : List Datum) → Own (dict.setdefault home number args)
 unfolding dict.setdefault
 setdefault_owns home number args =
     bind_owns (given (one_or_two args)) _ (given_owns (one_or_two args))
-    (λ r. bind_owns (key_to_change home number r.0) _ (to_change_owns home number r.0) (λ q. changing_owns home number (on_pairs (with_default q (or_none r.1)))))
+    (λ r. bind_owns (key_to_change home number r.0) _ (to_change_owns home number r.0) (λ q. changing_owns home number (on_pairs (with_default q (or_none r.1))) (pairs_spare (with_default q (or_none r.1)))))
 
 update_owns : (home number : ℕ) (args : Passed) → Own (dict.update home number args)
 unfolding dict.update
@@ -198,7 +206,7 @@ update_owns home number args =
     bind_owns (pairs_given args) _ (given_pairs_own args)
     (λ g. then_owns (may_change home number) _ (may_owns home number)
     (bind_owns (all_pairs g) _ (all_pairs_own g)
-    (λ ps. then_owns (changing home number (dict_united ps)) (pure none) (changing_owns home number (dict_united ps)) (pure_owns none))))
+    (λ ps. then_owns (changing home number (dict_united ps)) (pure none) (changing_owns home number (dict_united ps) (united_spares ps)) (pure_owns none))))
 
 pub dict_made_owns : (args : Passed) → Own (dict.dict_made args)
 unfolding dict.dict_made
@@ -308,6 +316,7 @@ of_dict_owns name home number args =
 by_owns : (c : Contents) (name : List ℕ) (home number : ℕ) (args : Passed) → Own (call_by c name home number args)
 by_owns (items xs) name home number args = of_list_owns name home number args
 by_owns (pairs ps) name home number args = of_dict_owns name home number args
+by_owns (rule class) name home number args = stop_owns Datum f.NoMethod
 
 of_cell_owns : (name : List ℕ) (home number : ℕ) (args : Passed) → Own (call_of_cell name home number args)
 unfolding call_of_cell

@@ -1,9 +1,10 @@
 -- What a machine does has a number of steps and an outcome of its own.
-use Rattle.std.proofs.Common.{◌≡◌, ◌∙◌, ◌<◌, ℕ, ◌+◌, ◌-◌, Bool, true, false, cond, List, [], ◌∷◌, ◌++◌, Result, Ok, Err, nat_lt, ◌==◌, length, refl, sym, ap, subst, arith, le-ltb, lt-ltb}
+use Rattle.std.proofs.Common.{◌≡◌, ◌∙◌, ◌<◌, ℕ, zero, suc, ◌+◌, ◌-◌, Bool, true, false, cond, List, [], ◌∷◌, ◌++◌, Option, Some, None, Result, Ok, Err, nat_lt, ◌==◌, length, slice_get, set, refl, sym, ap, subst, arith, le-ltb, lt-ltb}
 use Rattle.bq_source.specs.declared.fault.FaultKind.{FaultKind}
 use Rattle.bq_source.specs.declared.fault.FaultKind.TheVariants as f
+use Rattle.bq_rule_class.specs.Class.{Class}
 use Rattle.bq_value.specs.Cells.{StoreView, with_cells, content_at}
-use Rattle.bq_value.specs.Contents.{Contents}
+use Rattle.bq_value.specs.Contents.{Contents, items, pairs, rule}
 use Rattle.bq_value.specs.Datum.{Datum, cell}
 use Rattle.bq_walk.specs.Looked.{Looked}
 use Rattle.bq_walk.specs.Laws.{with_left}
@@ -15,11 +16,11 @@ use Rattle.bq_machine.specs.Iteration.{elements_in, elements, marked, begin_walk
 use Rattle.bq_machine.specs.Machine.{with_steps, step, after_walk, walk, print, fail}
 use Rattle.bq_machine.specs.State.{State, stop_at}
 use Rattle.bq_step_laws.specs.Laws.{Own}
-use Rattle.bq_step_laws.specs.Steps.{machine, Begins, leaving, printed, IsCutShort, Leaves}
-use Rattle.bq_step_laws.proofs.Owning.{begins_itself, at_no_cost, at_state, followed}
+use Rattle.bq_step_laws.specs.Steps.{machine, Begins, leaving, printed, IsCutShort, Leaves, Takes}
+use Rattle.bq_step_laws.proofs.Owning.{begins_itself, stays_itself, at_no_cost, at_state, followed}
 
 pub pure_owns : {A : Type 0} (x : A) → Own (pure x)
-pure_owns x s = at_no_cost machine (pure x) s (done x s) (λ n. refl) (begins_itself s.prints) refl
+pure_owns x s = at_no_cost machine (pure x) s (done x s) (λ n. refl) (begins_itself s.prints) (stays_itself s.store)
 
 pub stop_owns : (A : Type 0) (kind : FaultKind) → Own {A = A} (stop kind)
 stop_owns A kind s = at_no_cost machine {A = A} (stop kind) s (stopped (stop_at kind s)) (λ n. refl) (begins_itself s.prints) tt
@@ -61,8 +62,8 @@ module _ {A : Type 0} (looked : StoreView → ℕ → Looked A) where
   walk_grows s (Ok x) = begins_itself s.prints
   walk_grows s (Err kind) = begins_itself s.prints
 
-  walk_leaves : (s : State) (o : Result A FaultKind) → Leaves machine (s.store.own, s.store.loaded) (walked_run s o)
-  walk_leaves s (Ok x) = refl
+  walk_leaves : (s : State) (o : Result A FaultKind) → Leaves machine s.store (walked_run s o)
+  walk_leaves s (Ok x) = stays_itself s.store
   walk_leaves s (Err kind) = tt
 
   pub walk_owns : ((store : StoreView) → walks.Takes (λ n. looked store n)) → Own (walk looked)
@@ -100,7 +101,7 @@ step_owns count s = record {
   enough = λ more. taken count more s (nat_lt (count + more) count) refl (not_less more);
   short = λ n h. not_taken count n s (nat_lt n count) (is_less n h);
   grows = begins_itself s.prints;
-  leaves = refl;
+  leaves = stays_itself s.store;
 }
   where
     not_less : (more : ℕ) → nat_lt (count + more) count ≡ false
@@ -114,7 +115,7 @@ step_owns count s = record {
 pub print_owns : (bytes : List ℕ) → Own (print bytes)
 unfolding print
 print_owns bytes s =
-    at_no_cost machine (change (λ t. record t { prints = t.prints ++ bytes ∷ [] })) s (done tt (record s { prints = s.prints ++ bytes ∷ [] })) (λ n. refl) (bytes ∷ [], refl) refl
+    at_no_cost machine (change (λ t. record t { prints = t.prints ++ bytes ∷ [] })) s (done tt (record s { prints = s.prints ++ bytes ∷ [] })) (λ n. refl) (bytes ∷ [], refl) (stays_itself s.store)
 
 pub fail_owns : (A : Type 0) (bytes : List ℕ) → Own {A = A} (fail bytes)
 unfolding fail
@@ -127,14 +128,20 @@ enter_owns home place s =
     at_state machine (enter home place) (λ t. cond (is_active home place s.active) (stop f.Recursion t) (cond (nat_lt (length s.active) max_active) (entered t) (stop f.CallDepth t))) s (λ n. refl)
     (cond_owns (is_active home place s.active) (stop f.Recursion) (λ t. cond (nat_lt (length s.active) max_active) (entered t) (stop f.CallDepth t)) (stop_owns (Unit {0}) f.Recursion)
     (cond_owns (nat_lt (length s.active) max_active) entered (stop f.CallDepth)
-    (λ t. at_no_cost machine entered t (done tt (record t { active = t.active ++ (home, place) ∷ [] })) (λ n. refl) (begins_itself t.prints) refl) (stop_owns (Unit {0}) f.CallDepth)) s)
+    (λ t. at_no_cost machine entered t (done tt (record t { active = t.active ++ (home, place) ∷ [] })) (λ n. refl) (begins_itself t.prints) (stays_itself t.store)) (stop_owns (Unit {0}) f.CallDepth)) s)
 
 -- ---- cells
 
 pub new_owns : (c : Contents) → Own (new_content c)
 unfolding new_content
 new_owns c s =
-    at_no_cost machine (new_content c) s (done (cell s.store.own (length s.store.cells)) (record s { store = with_cells (s.store.cells ++ c ∷ []) s.store })) (λ n. refl) (begins_itself s.prints) refl
+    at_no_cost machine (new_content c) s (done (cell s.store.own (length s.store.cells)) (record s { store = with_cells (s.store.cells ++ c ∷ []) s.store })) (λ n. refl) (begins_itself s.prints)
+    (record { own = refl; modules = refl; rules = λ number class is. in_front s.store.cells (c ∷ []) number (rule class) is })
+  where
+    in_front : (xs ys : List Contents) (n : ℕ) (d : Contents) → slice_get xs n ≡ Some d → slice_get (xs ++ ys) n ≡ Some d
+    in_front [] ys n d is = let no : ⊥ = cc in absurd no
+    in_front (x ∷ xs) ys zero d is = is
+    in_front (x ∷ xs) ys (suc n) d is = in_front xs ys n d is
 
 pub content_owns : (home number : ℕ) → Own (content home number)
 unfolding content
@@ -152,15 +159,67 @@ can_owns : (home number : ℕ) → Own (can_change home number)
 unfolding can_change
 can_owns home number = then_owns (content home number) (may_change home number) (content_owns home number) (may_owns home number)
 
-put_owns : (number : ℕ) (c : Contents) → Own (put_content number c)
-put_owns number c s = at_no_cost machine (put_content number c) s (done tt (with_content s number c)) (λ n. refl) (begins_itself s.prints) refl
+-- ---- changes: a rule is none of a list or dict
 
-pub changing_owns : {A : Type 0} (home number : ℕ) (change : Change A) → Own (changing home number change)
-unfolding changing
-changing_owns home number change =
-    then_owns (can_change home number) _ (can_owns home number)
-    (bind_owns (content home number) _ (content_owns home number)
-    (λ c. bind_owns (given (change c)) _ (given_owns (change c)) (λ r. then_owns (put_content number r.1) (pure r.0) (put_owns number r.1) (pure_owns r.0))))
+abbrev IsNoRule : Option Contents → Type 0
+IsNoRule (Some (rule class)) = ⊥
+IsNoRule _ = Unit {0}
+
+-- another cell than a rule's is set
+rules_kept : (xs : List Contents) (i : ℕ) (x : Contents) (n : ℕ) (class : Class) → IsNoRule (slice_get xs i) → slice_get xs n ≡ Some (rule class) → slice_get (set xs i x) n ≡ Some (rule class)
+rules_kept [] i x n class other is = is
+rules_kept (y ∷ ys) zero x zero class other is = absurd (subst IsNoRule is other)
+rules_kept (y ∷ ys) zero x (suc n) class other is = is
+rules_kept (y ∷ ys) (suc i) x zero class other is = is
+rules_kept (y ∷ ys) (suc i) x (suc n) class other is = rules_kept ys i x n class other is
+
+put_owns : (number : ℕ) (c : Contents) (s : State) → IsNoRule (slice_get s.store.cells number) → Takes machine (put_content number c) s
+put_owns number c s other =
+    at_no_cost machine (put_content number c) s (done tt (with_content s number c)) (λ n. refl) (begins_itself s.prints)
+    (record { own = refl; modules = refl; rules = λ n class is. rules_kept s.store.cells number c n class other is })
+
+abbrev IsRefused : {A : Type 0} → Result A FaultKind → Type 0
+IsRefused (Ok x) = ⊥
+IsRefused (Err kind) = Unit {0}
+
+-- a change of lists or dicts, which refuses a rule
+abbrev pub SparesRules : {A : Type 0} → Change A → Type 0
+SparesRules change = (class : Class) → IsRefused (change (rule class))
+
+module _ {A : Type 0} (home number : ℕ) (change : Change A) (spares : SparesRules change) (s : State) where
+  -- what a change gives is put into the cell
+  abbrev put_of : Result (A × Contents) FaultKind → Action State A
+  put_of r = given r >>= λ (p : A × Contents). put_content number p.1 >> pure p.0
+
+  -- in the place of `c`
+  put_by : (c : Contents) → slice_get s.store.cells number ≡ Some c → (r : Result (A × Contents) FaultKind) → change c ≡ r → Takes machine (put_of r) s
+  put_by c at (Err kind) is = at_state machine (put_of (Err kind)) (stop kind) s (λ n. refl) (stop_owns A kind s)
+  put_by c at (Ok r) is = followed machine (put_content number r.1) (λ _. pure r.0) s (put_owns number r.1 s (subst IsNoRule (sym at) (no_rule c is))) (λ _. pure_owns r.0)
+    where
+      no_rule : (d : Contents) → change d ≡ Ok r → IsNoRule (Some d)
+      no_rule (items xs) is = tt
+      no_rule (pairs ps) is = tt
+      no_rule (rule class) is = subst IsRefused is (spares class)
+
+  own_cell : (d : Contents) → content_at s.store home number ≡ Some d → (home == s.store.own) ≡ true → slice_get s.store.cells number ≡ Some d
+  unfolding content_at
+  own_cell d at is = rw is at at
+
+  -- what is in the cell; whether it is the running module's; and whether it is being walked
+  in_cell : (c : Contents) → content_at s.store home number ≡ Some c → (own walked : Bool) → (home == s.store.own) ≡ own → is_walked home number s.walks ≡ walked → Takes machine (changing home number change) s
+  unfolding changing can_change may_change content
+  in_cell c at false walked is goes = at_state machine (changing home number change) (stop f.Frozen) s (λ n. rw (at, is) refl) (stop_owns A f.Frozen s)
+  in_cell c at true true is goes = at_state machine (changing home number change) (stop f.Iterating) s (λ n. rw (at, is, goes) refl) (stop_owns A f.Iterating s)
+  in_cell c at true false is goes =
+      at_state machine (changing home number change) (put_of (change c)) s (λ n. rw (at, is, goes, at) refl) (put_by c (own_cell c at is) (change c) refl)
+
+  in_store : (o : Option Contents) → content_at s.store home number ≡ o → Takes machine (changing home number change) s
+  unfolding changing can_change content
+  in_store None at = at_state machine (changing home number change) (stop f.WrongType) s (λ n. rw at refl) (stop_owns A f.WrongType s)
+  in_store (Some c) at = in_cell c at (home == s.store.own) (is_walked home number s.walks) refl refl
+
+pub changing_owns : {A : Type 0} (home number : ℕ) (change : Change A) → SparesRules change → Own (changing home number change)
+changing_owns home number change spares s = in_store home number change spares s (content_at s.store home number) refl
 
 -- ---- iterables
 
@@ -169,7 +228,7 @@ unfolding elements
 elements_owns v = look_owns (λ st. elements_in st v)
 
 mark_owns : (v : Datum) → Own (change (marked v))
-mark_owns (cell home number) s = at_no_cost machine (change (marked (cell home number))) s (done tt (marked (cell home number) s)) (λ n. refl) (begins_itself s.prints) refl
+mark_owns (cell home number) s = at_no_cost machine (change (marked (cell home number))) s (done tt (marked (cell home number) s)) (λ n. refl) (begins_itself s.prints) (stays_itself s.store)
 mark_owns v s = pure_owns tt s
 
 pub begin_owns : (v : Datum) → Own (begin_walk v)
@@ -178,12 +237,12 @@ begin_owns v = bind_owns (elements v) (λ xs. change (marked v) >> pure xs) (ele
 
 pub end_owns : (v : Datum) → Own (change (end_walk v))
 unfolding end_walk
-end_owns (cell home number) s = at_no_cost machine (change (end_walk (cell home number))) s (done tt (end_walk (cell home number) s)) (λ n. refl) (begins_itself s.prints) refl
+end_owns (cell home number) s = at_no_cost machine (change (end_walk (cell home number))) s (done tt (end_walk (cell home number) s)) (λ n. refl) (begins_itself s.prints) (stays_itself s.store)
 end_owns v s = pure_owns tt s
 
 pub leave_owns : Own (change leave)
 unfolding leave
-leave_owns s = at_no_cost machine (change leave) s (done tt (leave s)) (λ n. refl) (begins_itself s.prints) refl
+leave_owns s = at_no_cost machine (change leave) s (done tt (leave s)) (λ n. refl) (begins_itself s.prints) (stays_itself s.store)
 
 pub line_owns : (line : ℕ) → Own (change (λ s. record s { line = line }))
-line_owns line s = at_no_cost machine (change (λ t. record t { line = line })) s (done tt (record s { line = line })) (λ n. refl) (begins_itself s.prints) refl
+line_owns line s = at_no_cost machine (change (λ t. record t { line = line })) s (done tt (record s { line = line })) (λ n. refl) (begins_itself s.prints) (stays_itself s.store)

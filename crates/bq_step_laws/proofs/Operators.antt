@@ -7,7 +7,7 @@ use Rattle.bq_grammar.specs.declared.tree.Operator.{Operator}
 use Rattle.bq_grammar.specs.declared.tree.Operator.TheVariants as op
 use Rattle.bq_grammar.specs.declared.tree.UnaryOperator.{UnaryOperator}
 use Rattle.bq_value.specs.Cells.{StoreView}
-use Rattle.bq_value.specs.Contents.{Contents, items, pairs}
+use Rattle.bq_value.specs.Contents.{Contents, items, pairs, rule}
 use Rattle.bq_value.specs.Datum.{Datum, boolean, int, string, tuple, cell, list_of}
 use Rattle.bq_walk.specs.Looked.{max_levels}
 use Rattle.bq_walk.specs.KeyWalk.{walked_at, keyed}
@@ -31,7 +31,7 @@ use Rattle.bq_operate.specs.Union.{dict_union, union}
 use Rattle.bq_operate.specs.Operate.{binary, unary, compare, index, list_slice, slice}
 use Rattle.bq_operate.specs.InPlace.{list_extended, dict_united, element_set, pair_put, augment_sum, augment_union, augment, set_in, set_item, set_index}
 use Rattle.bq_step_laws.specs.Laws.{Own}
-use Rattle.bq_step_laws.proofs.Machine.{pure_owns, stop_owns, given_owns, bind_owns, then_owns, look_owns, walk_owns, new_owns, content_owns, may_owns, changing_owns, elements_owns}
+use Rattle.bq_step_laws.proofs.Machine.{pure_owns, stop_owns, given_owns, bind_owns, then_owns, look_owns, walk_owns, new_owns, content_owns, may_owns, SparesRules, changing_owns, elements_owns}
 use Rattle.bq_step_laws.proofs.Walks.{key_looked, compared_takes, item_takes, percent_takes}
 
 pub key_owns : (v : Datum) → Own (key v)
@@ -116,12 +116,28 @@ slice_owns a start stop step = listed_owns (λ s. list_slice s a start stop step
 
 -- ---- changes in place
 
+extended_spares : (more : List Datum) → SparesRules (list_extended more)
+unfolding list_extended
+extended_spares more class = tt
+
+pub united_spares : (more : List (Datum × Datum)) → SparesRules (dict_united more)
+unfolding dict_united
+united_spares more class = tt
+
+set_spares : (i : ℤ) (v : Datum) → SparesRules (element_set i v)
+unfolding element_set
+set_spares i v class = tt
+
+put_spares : (k v : Datum) → SparesRules (pair_put k v)
+unfolding pair_put
+put_spares k v class = tt
+
 augment_sum_owns : (a b : Datum) → Own (augment_sum a b)
 unfolding augment_sum
 augment_sum_owns (cell home number) b =
     bind_owns (look (λ s. list_in s.store (cell home number))) _ (look_owns (λ s. list_in s (cell home number)))
     (λ xs. bind_owns (elements b) _ (elements_owns b)
-    (λ more. bind_owns (changing home number (list_extended more)) (λ u. pure (cell home number)) (changing_owns home number (list_extended more)) (λ u. pure_owns (cell home number))))
+    (λ more. bind_owns (changing home number (list_extended more)) (λ u. pure (cell home number)) (changing_owns home number (list_extended more) (extended_spares more)) (λ u. pure_owns (cell home number))))
 augment_sum_owns a b = sum_owns a b
 
 augment_union_owns : (a b : Datum) → Own (augment_union a b)
@@ -129,7 +145,7 @@ unfolding augment_union
 augment_union_owns (cell home number) b =
     bind_owns (look (λ s. dict_in s.store (cell home number))) _ (look_owns (λ s. dict_in s (cell home number)))
     (λ ps. bind_owns (look (λ s. dict_in s.store b)) _ (look_owns (λ s. dict_in s b))
-    (λ more. bind_owns (changing home number (dict_united more)) (λ u. pure (cell home number)) (changing_owns home number (dict_united more)) (λ u. pure_owns (cell home number))))
+    (λ more. bind_owns (changing home number (dict_united more)) (λ u. pure (cell home number)) (changing_owns home number (dict_united more) (united_spares more)) (λ u. pure_owns (cell home number))))
 augment_union_owns a b = union_owns a b
 
 pub augment_owns : (o : Operator) (a b : Datum) → Own (augment o a b)
@@ -139,9 +155,10 @@ augment_owns op.BitOr a b = augment_union_owns a b
 augment_owns o a b = binary_owns o a b
 
 set_in_owns : (home number : ℕ) (at v : Datum) (c : Contents) → Own (set_in home number at v c)
-set_in_owns home number at v (items xs) = bind_owns (given (int_of at)) _ (given_owns (int_of at)) (λ i. changing_owns home number (element_set i v))
+set_in_owns home number at v (items xs) = bind_owns (given (int_of at)) _ (given_owns (int_of at)) (λ i. changing_owns home number (element_set i v) (set_spares i v))
 set_in_owns home number at v (pairs ps) =
-    then_owns (may_change home number) _ (may_owns home number) (bind_owns (key at) _ (key_owns at) (λ k. changing_owns home number (pair_put k v)))
+    then_owns (may_change home number) _ (may_owns home number) (bind_owns (key at) _ (key_owns at) (λ k. changing_owns home number (pair_put k v) (put_spares k v)))
+set_in_owns home number at v (rule class) = stop_owns (Unit {0}) f.WrongType
 
 set_item_owns : (home number : ℕ) (at v : Datum) → Own (set_item home number at v)
 unfolding set_item

@@ -1,9 +1,9 @@
 -- Actions with a number of steps and an outcome of their own: what is so made is so itself.
-use Rattle.std.proofs.Common.{◌≡◌, ◌∙◌, ◌<◌, ◌≤◌, ◌⊎◌, inl, inr, ℕ, ◌+◌, ◌-◌, List, [], ◌++◌, sym, ap, subst, arith, append_assoc, append-nil}
+use Rattle.std.proofs.Common.{◌≡◌, ◌∙◌, ◌<◌, ◌≤◌, ◌⊎◌, inl, inr, ℕ, ◌+◌, ◌-◌, List, [], ◌++◌, refl, sym, ap, subst, arith, append_assoc, append-nil}
 use Rattle.std.proofs.lemmas.Bool.{cases_lt}
-use Rattle.bq_value.specs.Cells.{Modules}
+use Rattle.bq_value.specs.Cells.{StoreView}
 use Rattle.bq_machine.specs.Action.{Action, Run, done, stopped, following}
-use Rattle.bq_step_laws.specs.Steps.{Seen, Begins, leaving, printed, IsCutShort, Leaves, Takes}
+use Rattle.bq_step_laws.specs.Steps.{Seen, Begins, leaving, printed, IsCutShort, Stays, Leaves, Takes}
 
 pub begins_itself : (ps : List (List ℕ)) → Begins ps ps
 begins_itself ps = ([], append-nil ps)
@@ -11,10 +11,16 @@ begins_itself ps = ([], append-nil ps)
 pub begins_on : (ps qs rs : List (List ℕ)) → Begins ps qs → Begins qs rs → Begins ps rs
 begins_on ps qs rs h k = (h.0 ++ k.0, sym (append_assoc ps h.0 k.0) ∙ (ap (λ xs. xs ++ k.0) h.1 ∙ k.1))
 
+pub stays_itself : (s : StoreView) → Stays s s
+stays_itself s = record { own = refl; modules = refl; rules = λ number class is. is }
+
+stays_on : (s t u : StoreView) → Stays s t → Stays t u → Stays s u
+stays_on s t u h k = record { own = k.own ∙ h.own; modules = k.modules ∙ h.modules; rules = λ number class is. k.rules number class (h.rules number class is) }
+
 module _ {S : Type 0} (c : Seen S) where
   -- no step is taken
   pub at_no_cost : {A : Type 0} (action : Action S A) (s : S) (outcome : Run S A) → ((n : ℕ) → action (c.left n s) ≡ leaving c n outcome) → Begins (c.prints s) (printed c outcome)
-      → Leaves c (c.outside s) outcome → Takes c action s
+      → Leaves c (c.store s) outcome → Takes c action s
   at_no_cost action s outcome is grows leaves = record {
     steps = 0;
     outcome = outcome;
@@ -44,9 +50,9 @@ module _ {S : Type 0} (c : Seen S) where
   short_after (done x s) f ps qs h k = absurd h
   short_after (stopped why) f ps qs h k = (h.0, begins_on why.prints ps qs h.1 k)
 
-  leaves_on : {A : Type 0} (first second : ℕ × Modules) (r : Run S A) → second ≡ first → Leaves c second r → Leaves c first r
-  leaves_on first second (done x s) same h = h ∙ same
-  leaves_on first second (stopped why) same h = tt
+  leaves_on : {A : Type 0} (first second : StoreView) (r : Run S A) → Stays first second → Leaves c second r → Leaves c first r
+  leaves_on first second (done x s) stay h = stays_on first second (c.store s) stay h
+  leaves_on first second (stopped why) stay h = tt
 
   module _ {A B : Type 0} (action : Action S A) (f : A → Action S B) (s : S) where
     short_by : (x : A) (t : S) (steps more : ℕ) (ps : List (List ℕ)) → ((left : ℕ) → action (c.left (steps + left) s) ≡ done x (c.left left t))
@@ -59,7 +65,7 @@ module _ {S : Type 0} (c : Seen S) where
         subst (λ r. IsCutShort c (following r f) ps) (sym is) (after (n - steps) (omega (arith, h, k)))
 
     followed_by : (steps : ℕ) (outcome : Run S A) → ((more : ℕ) → action (c.left (steps + more) s) ≡ leaving c more outcome) → ((n : ℕ) → n < steps → IsCutShort c (action (c.left n s)) (printed c outcome))
-        → Begins (c.prints s) (printed c outcome) → Leaves c (c.outside s) outcome → ((x : A) (t : S) → Takes c (f x) t) → Takes c (λ t. following (action t) f) s
+        → Begins (c.prints s) (printed c outcome) → Leaves c (c.store s) outcome → ((x : A) (t : S) → Takes c (f x) t) → Takes c (λ t. following (action t) f) s
     followed_by steps (stopped why) enough short grows leaves next = record {
       steps = steps;
       outcome = stopped why;
@@ -76,7 +82,7 @@ module _ {S : Type 0} (c : Seen S) where
           enough = λ more. ap (λ (k : ℕ). following (action (c.left k s)) f) (regrouped steps o.steps more) ∙ (ap (λ r. following r f) (enough (o.steps + more)) ∙ o.enough more);
           short = λ n h. short_by x t steps o.steps (printed c o.outcome) enough short o.short o.grows n h (cases_lt n steps);
           grows = begins_on (c.prints s) (c.prints t) (printed c o.outcome) grows o.grows;
-          leaves = leaves_on (c.outside s) (c.outside t) o.outcome leaves o.leaves;
+          leaves = leaves_on (c.store s) (c.store t) o.outcome leaves o.leaves;
         }
       where
         regrouped : (a b d : ℕ) → (a + b) + d ≡ a + (b + d)

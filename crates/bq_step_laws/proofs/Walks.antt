@@ -7,8 +7,8 @@ use Rattle.bq_source.specs.declared.fault.FaultKind.{FaultKind}
 use Rattle.bq_source.specs.declared.fault.FaultKind.TheVariants as f
 use Rattle.bq_grammar.specs.declared.tree.Comparison.{Comparison}
 use Rattle.bq_grammar.specs.declared.tree.Comparison.TheVariants as comparison
-use Rattle.bq_value.specs.Datum.{Datum, none, boolean, int, string, tuple, range, cell, function, built_in, list_of}
-use Rattle.bq_value.specs.Contents.{Contents, items, pairs}
+use Rattle.bq_value.specs.Datum.{Datum, none, boolean, int, string, tuple, range, cell, function, built_in, rule_function, attribute, list_of}
+use Rattle.bq_value.specs.Contents.{Contents, items, pairs, rule}
 use Rattle.bq_value.specs.Pairs.{found}
 use Rattle.bq_value.specs.Cells.{StoreView, content_at}
 use Rattle.bq_walk.specs.Looked.{Looked, max_levels}
@@ -85,6 +85,7 @@ dict_takes v ps = followed (λ n. keyed v (walked_at max_levels n v)) (λ r. amo
 content_takes : (s : StoreView) (v : Datum) (c : Option Contents) → Takes (λ n. in_content s n v c)
 content_takes s v (Some (items xs)) = list_takes s v xs
 content_takes s v (Some (pairs ps)) = dict_takes v ps
+content_takes s v (Some (rule class)) = err_takes f.WrongType
 content_takes s v None = err_takes f.WrongType
 
 contained_takes : (s : StoreView) (v container : Datum) → Takes (λ n. contained s n v container)
@@ -97,6 +98,8 @@ contained_takes s v (boolean b) = err_takes f.WrongType
 contained_takes s v (int n) = err_takes f.WrongType
 contained_takes s v (function home place name ds) = err_takes f.WrongType
 contained_takes s v (built_in name) = err_takes f.WrongType
+contained_takes s v (rule_function g) = err_takes f.WrongType
+contained_takes s v (attribute a) = err_takes f.WrongType
 
 pub compared_takes : (c : Comparison) (s : StoreView) (a b : Datum) → Takes (λ n. compared c s n a b)
 unfolding compared
@@ -122,6 +125,7 @@ value_takes ps key = followed (λ n. keyed key (walked_at max_levels n key)) (λ
 content_item_takes : (c : Option Contents) (at : Datum) → Takes (λ n. content_item n c at)
 content_item_takes (Some (items xs)) at = free_takes (item_in xs at)
 content_item_takes (Some (pairs ps)) at = value_takes ps at
+content_item_takes (Some (rule class)) at = err_takes f.WrongType
 content_item_takes None at = err_takes f.WrongType
 
 pub item_takes : (s : StoreView) (container at : Datum) → Takes (λ n. item_of s n container at)
@@ -134,6 +138,8 @@ item_takes s (boolean b) at = err_takes f.WrongType
 item_takes s (int n) at = err_takes f.WrongType
 item_takes s (function home place name ds) at = err_takes f.WrongType
 item_takes s (built_in name) at = err_takes f.WrongType
+item_takes s (rule_function g) at = err_takes f.WrongType
+item_takes s (attribute a) at = err_takes f.WrongType
 
 -- ---- the place of an element
 
@@ -224,6 +230,8 @@ percent_takes s format (range a b c) = draft_takes (λ n. filled (length format)
 percent_takes s format (cell a i) = draft_takes (λ n. filled (length format) s blank n (cell a i ∷ []) format) (filled_takes (length format) s blank (cell a i ∷ []) format)
 percent_takes s format (function a i t ds) = draft_takes (λ n. filled (length format) s blank n (function a i t ds ∷ []) format) (filled_takes (length format) s blank (function a i t ds ∷ []) format)
 percent_takes s format (built_in t) = draft_takes (λ n. filled (length format) s blank n (built_in t ∷ []) format) (filled_takes (length format) s blank (built_in t ∷ []) format)
+percent_takes s format (rule_function g) = draft_takes (λ n. filled (length format) s blank n (rule_function g ∷ []) format) (filled_takes (length format) s blank (rule_function g ∷ []) format)
+percent_takes s format (attribute a) = draft_takes (λ n. filled (length format) s blank n (attribute a ∷ []) format) (filled_takes (length format) s blank (attribute a ∷ []) format)
 
 field_takes : (s : StoreView) (d : DraftView) (o : Option Datum) → Takes (λ n. field_shown s d n o)
 field_takes s d None = ok_takes (spoiled d)

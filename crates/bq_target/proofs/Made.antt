@@ -5,6 +5,7 @@ use Rattle.std.proofs.lemmas.Bool.{cases_Bool}
 use Rattle.std.proofs.lemmas.List.Elements.{Contains-append_cases, Contains-append_left, Contains-append_right}
 use Rattle.bq_label.specs.Label.{LabelParts, package_of}
 use Rattle.bq_label.proofs.Orders.{at_head, in_tail, head_or_tail}
+use Rattle.bq_rule_class.specs.Class.{Class}
 use Rattle.bq_target.specs.declared.target.Target.{Target}
 use Rattle.bq_target.specs.declared.target.TargetKind.{TargetKind}
 use Rattle.bq_target.specs.declared.target.TargetKind.TheVariants as k
@@ -53,11 +54,11 @@ no_files_made line ls file rule c e =
     let r = mapped (λ (l : LabelParts). source l line) ls file c in
     no_source rule (ap (λ (t : Target). t.kind) r.is ∙ e)
 
-no_rule : (kind : TargetKind) (rule : LabelParts) → ((name : List ℕ) × (kind ≡ k.Rule name)) ⊎ (kind ≡ k.Group) → kind ≡ k.Generated rule → ⊥
-no_rule kind rule (inl r) e = differ r.0 (sym r.1 ∙ e)
+no_rule : (kind : TargetKind) (rule : LabelParts) → ((name : List ℕ) × ((class : Class) × (kind ≡ k.Rule name class))) ⊎ (kind ≡ k.Group) → kind ≡ k.Generated rule → ⊥
+no_rule kind rule (inl r) e = differ r.0 r.1.0 (sym r.1.1 ∙ e)
   where
-    differ : (name : List ℕ) → k.Rule name ≡ k.Generated rule → ⊥
-    differ name e = cc
+    differ : (name : List ℕ) (class : Class) → k.Rule name class ≡ k.Generated rule → ⊥
+    differ name class e = cc
 no_rule kind rule (inr g) e = differ (sym g ∙ e)
   where
     differ : k.Group ≡ k.Generated rule → ⊥
@@ -67,7 +68,7 @@ same_rule : (a b : LabelParts) → k.Generated a ≡ k.Generated b → a ≡ b
 same_rule a b e = cc
 
 -- the files of a call are made by its rule
-call_made : (xs : List Target) (t : Target) → ((name : List ℕ) × (t.kind ≡ k.Rule name)) ⊎ (t.kind ≡ k.Group) → EachIsMade xs → EachIsMade (xs ++ declares t)
+call_made : (xs : List Target) (t : Target) → ((name : List ℕ) × ((class : Class) × (t.kind ≡ k.Rule name class))) ⊎ (t.kind ≡ k.Group) → EachIsMade xs → EachIsMade (xs ++ declares t)
 call_made xs t r f file rule c e = elim (Contains-append_cases xs (declares t) file c) [
   | inl here ↦ makes_more xs (declares t) rule file.label (f file rule here e)
   | inr later ↦

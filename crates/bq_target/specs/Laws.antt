@@ -2,6 +2,7 @@
 use Rattle.std.specs.Prelude.{◌≡◌, ℕ, ◌↔◌, ◌⊎◌, List, [], ◌∷◌, ◌++◌, bytes_eq}
 use Rattle.std.specs.List.{Contains, IsDistinct}
 use Rattle.bq_label.specs.Label.{LabelParts}
+use Rattle.bq_rule_class.specs.Class.{Class}
 use Rattle.bq_target.specs.declared.target.Target.{Target}
 use Rattle.bq_target.specs.declared.target.TargetKind.TheVariants as k
 use Rattle.bq_target.specs.declared.state.Declared.{Declared}
@@ -33,7 +34,7 @@ after_calls p (c ∷ cs) = after_calls (after p c) cs
 -- a call declares a rule or a group
 abbrev pub IsRuleOrGroup : Call → Type 0
 IsRuleOrGroup (exports ls line) = Unit {0}
-IsRuleOrGroup (rule_or_group t) = ((name : List ℕ) × (t.kind ≡ k.Rule name)) ⊎ (t.kind ≡ k.Group)
+IsRuleOrGroup (rule_or_group t) = ((name : List ℕ) × ((class : Class) × (t.kind ≡ k.Rule name class))) ⊎ (t.kind ≡ k.Group)
 
 abbrev pub AreRulesOrGroups : List Call → Type 0
 AreRulesOrGroups [] = Unit {0}

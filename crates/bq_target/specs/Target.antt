@@ -8,7 +8,7 @@ use Rattle.bq_target.specs.Value.{labels_in, outputs_in}
 
 abbrev pub is_source : TargetKind → Bool
 is_source k.Source = true
-is_source (k.Rule name) = false
+is_source (k.Rule name class) = false
 is_source (k.Generated rule) = false
 is_source k.Group = false
 
@@ -30,7 +30,7 @@ generated rule l = record { label = l; kind = k.Generated rule.label; attributes
 
 abbrev pub dependencies_by : TargetKind → List LabelParts → List LabelParts
 dependencies_by (k.Generated rule) named = rule ∷ []
-dependencies_by (k.Rule name) named = named
+dependencies_by (k.Rule name class) named = named
 dependencies_by k.Source named = named
 dependencies_by k.Group named = named
 

@@ -1,27 +1,16 @@
--- The values of attributes (Bazel, "attr"): their types, the labels of other targets in them, and the files that they name as outputs.
-use Rattle.std.specs.Prelude.{ℕ, List, [], ◌∷◌, Option, Some, None, bytes_eq, slice_get, position, option_and_then}
+-- The values of attributes (Bazel, "attr"): the labels of other targets in them, and the files that they name as outputs; and the types
+-- of the attributes of a rule.
+use Rattle.std.specs.Prelude.{ℕ, List, [], ◌∷◌, Option, Some, None, bytes_eq}
 use Rattle.std.specs.Option.{option_map}
 use Rattle.std.specs.List.{flat_map}
 use Rattle.std.specs.Map.{lookup}
 use Rattle.bq_label.specs.Label.{LabelParts}
-use Rattle.bq_schema.specs.declared.attribute.AttributeType.{AttributeType}
-use Rattle.bq_schema.specs.declared.attribute.AttributeType.TheVariants as t
-use Rattle.bq_schema.specs.Attribute.{common_attribute}
-use Rattle.bq_schema.specs.Schema.{Rules}
-use Rattle.bq_target.specs.declared.value.AttributeValue.{AttributeValue}
-use Rattle.bq_target.specs.declared.value.AttributeValue.TheVariants as v
+use Rattle.bq_rule_class.specs.declared.attribute_type.AttributeType.{AttributeType}
+use Rattle.bq_rule_class.specs.AttributeType.{common_attribute}
+use Rattle.bq_rule_class.specs.Class.{Class}
+use Rattle.bq_rule_class.specs.declared.value.AttributeValue.{AttributeValue}
+use Rattle.bq_rule_class.specs.declared.value.AttributeValue.TheVariants as v
 use Rattle.bq_target.specs.declared.value.GivenAttribute.{GivenAttribute}
-
--- the type of attributes that take this value
-abbrev pub type_of : AttributeValue → AttributeType
-type_of (v.String s) = t.String
-type_of (v.Int n) = t.Int
-type_of (v.Bool b) = t.Bool
-type_of (v.StringList ss) = t.StringList
-type_of (v.Label l) = t.Label
-type_of (v.LabelList ls) = t.LabelList
-type_of (v.Output l) = t.Output
-type_of (v.OutputList ls) = t.OutputList
 
 -- the targets that a value names: those of types label and label_list alone
 abbrev pub labels_of : AttributeValue → List LabelParts
@@ -54,14 +43,13 @@ abbrev pub outputs_in : List GivenAttribute → List LabelParts
 outputs_in given = flat_map (λ a. outputs_of a.value) given
 
 -- the type of an attribute that a rule has of its own
-abbrev pub own_type : Rules → List ℕ → List ℕ → Option AttributeType
-own_type rules rule name =
-    option_map (λ a. a.kind) (option_and_then (λ table. lookup (bytes_eq name) table) (option_and_then (slice_get rules.attributes) (position (bytes_eq rule) rules.names)))
+abbrev pub own_type : Class → List ℕ → Option AttributeType
+own_type class name = option_map (λ a. a.kind) (lookup (bytes_eq name) class)
 
 abbrev pub or_own : Option AttributeType → Option AttributeType → Option AttributeType
 or_own (Some kind) own = Some kind
 or_own None own = own
 
 -- the type of an attribute of a rule: one that all rules have, or one of its own
-unfoldable pub attribute_type : Rules → List ℕ → List ℕ → Option AttributeType
-attribute_type rules rule name = or_own (common_attribute name) (own_type rules rule name)
+unfoldable pub attribute_type : Class → List ℕ → Option AttributeType
+attribute_type class name = or_own (common_attribute name) (own_type class name)

@@ -8,8 +8,8 @@ ghost use Rattle.bq_target.specs.Names.{are_new};
 use crate::names::Names;
 use crate::state::{Declared, PackageState};
 use crate::target::Target;
-use crate::value::AttributeValue;
 use bq_label::Label;
+use bq_rule_class::AttributeValue;
 use sqlite_items::Items;
 use std::alloc::{AllocError, Global};
 

@@ -7,8 +7,9 @@ ghost use Rattle.bq_target.specs.Target.{is_of};
 
 use crate::names::Names;
 use crate::target::Target;
-use crate::value::{AttributeValue, GivenAttribute};
+use crate::value::GivenAttribute;
 use bq_label::{Label, PackageId};
+use bq_rule_class::AttributeValue;
 use sqlite_items::Items;
 use std::alloc::{AllocError, Global};
 

@@ -7,7 +7,7 @@
 //!
 //! In reading order:
 //!
-//! - `value`: typed values of attributes, and the attributes that rules have;
+//! - `value`: attributes with their values, and the types of the attributes of a rule;
 //! - `target`: what a target is, and which targets it names;
 //! - `names`: the names that are taken;
 //! - `package`: a package and its targets;
@@ -38,4 +38,4 @@ pub use laws::{
 pub use package::Package;
 pub use state::{Declared, PackageState};
 pub use target::{Target, TargetKind};
-pub use value::{AttributeValue, GivenAttribute, attribute_type};
+pub use value::{GivenAttribute, attribute_type};

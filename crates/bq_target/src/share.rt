@@ -3,31 +3,9 @@
 ghost use Rattle.std.specs.Prelude.{◌≡◌, IfOk};
 
 use crate::target::{Target, TargetKind};
-use crate::value::{AttributeValue, GivenAttribute};
-use bq_label::Label;
-use bq_source::Bytes;
+use crate::value::GivenAttribute;
 use sqlite_items::Items;
 use std::alloc::{AllocError, Global};
-
-fn texts(alloc: Global, texts: &[Bytes]) -> Result<Items<Bytes>, AllocError>
-    ensures { IfOk result (λ shared. shared ≡ texts.now) }
-{
-    let mut shared = Vec::with_capacity(alloc, texts.len())?;
-    for text in texts {
-        shared.push(text.share()?)?;
-    }
-    Ok(Items::from_vec(shared))
-}
-
-fn labels(alloc: Global, labels: &[Label]) -> Result<Items<Label>, AllocError>
-    ensures { IfOk result (λ shared. shared ≡ labels.now) }
-{
-    let mut shared = Vec::with_capacity(alloc, labels.len())?;
-    for label in labels {
-        shared.push(label.share()?)?;
-    }
-    Ok(Items::from_vec(shared))
-}
 
 fn attributes(
     alloc: Global,
@@ -53,30 +31,6 @@ pub(crate) fn targets(alloc: Global, targets: &[Target]) -> Result<Items<Target>
     Ok(Items::from_vec(shared))
 }
 
-impl AttributeValue {
-    /// The same value. No text is copied that is longer than 22 bytes.
-    pub fn share(&self, alloc: Global) -> Result<AttributeValue, AllocError>
-        ensures { IfOk result (λ v. v ≡ self.now) }
-    {
-        Ok(match self {
-            AttributeValue::String(text) => AttributeValue::String(text.share()?),
-            AttributeValue::Int(n) => AttributeValue::Int(*n),
-            AttributeValue::Bool(b) => AttributeValue::Bool(*b),
-            AttributeValue::StringList(all) => {
-                AttributeValue::StringList(texts(alloc, all.as_slice())?)
-            }
-            AttributeValue::Label(label) => AttributeValue::Label(label.share()?),
-            AttributeValue::LabelList(all) => {
-                AttributeValue::LabelList(labels(alloc, all.as_slice())?)
-            }
-            AttributeValue::Output(label) => AttributeValue::Output(label.share()?),
-            AttributeValue::OutputList(all) => {
-                AttributeValue::OutputList(labels(alloc, all.as_slice())?)
-            }
-        })
-    }
-}
-
 impl GivenAttribute {
     /// The same attribute with the same value.
     pub fn share(&self, alloc: Global) -> Result<GivenAttribute, AllocError>
@@ -95,7 +49,7 @@ impl TargetKind {
         ensures { IfOk result (λ k. k ≡ self.now) }
     {
         Ok(match self {
-            TargetKind::Rule(name) => TargetKind::Rule(name.share()?),
+            TargetKind::Rule(name, class) => TargetKind::Rule(name.share()?, class.share()?),
             TargetKind::Source => TargetKind::Source,
             TargetKind::Generated(rule) => TargetKind::Generated(rule.share()?),
             TargetKind::Group => TargetKind::Group,

@@ -5,6 +5,7 @@ ghost use Rattle.bq_target.specs.Target.{is_source, source, generated};
 
 use crate::value::GivenAttribute;
 use bq_label::Label;
+use bq_rule_class::RuleClass;
 use bq_source::Bytes;
 use sqlite_items::Items;
 use std::alloc::{AllocError, Global};
@@ -12,8 +13,8 @@ use std::alloc::{AllocError, Global};
 /// What a target is.
 #[derive(Drop)]
 pub enum TargetKind {
-    /// A rule, with the name of its kind, as `genrule`.
-    Rule(Bytes),
+    /// A rule, with the name of its kind, as `genrule`, and the attributes that it has of its own.
+    Rule(Bytes, RuleClass),
     /// A file of the workspace.
     Source,
     /// A file that this rule makes.
@@ -27,7 +28,7 @@ pub enum TargetKind {
 pub struct Target {
     pub label: Label,
     pub kind: TargetKind,
-    /// What its call gives; of a file nothing.
+    /// What its call gives, and the defaults of what it doesn't give; of a file nothing.
     pub attributes: Items<GivenAttribute>,
     /// The line of the call that declares it; 0 where none does.
     pub line: u32,

@@ -5,9 +5,9 @@ use Rattle.std.proofs.lemmas.List.{drop_more, drop_all, take-append-drop, map-ap
 use Rattle.std.proofs.lemmas.List.Concat.{flat_map-append}
 use Rattle.bq_label.specs.Label.{LabelParts}
 use Rattle.bq_graph.specs.declared.edge.Edge.{Edge}
+use Rattle.bq_rule_class.specs.declared.value.AttributeValue.{AttributeValue}
+use Rattle.bq_rule_class.specs.declared.value.AttributeValue.TheVariants as v
 use Rattle.bq_target.specs.declared.target.Target.{Target}
-use Rattle.bq_target.specs.declared.value.AttributeValue.{AttributeValue}
-use Rattle.bq_target.specs.declared.value.AttributeValue.TheVariants as v
 use Rattle.bq_target.specs.declared.target.TargetKind.{TargetKind}
 use Rattle.bq_target.specs.declared.target.TargetKind.TheVariants as k
 use Rattle.bq_target.specs.Value.{labels_in}
@@ -67,7 +67,7 @@ one_edge ls a l o h = append-nil (edge_by a (position (same_label l) ls)) ∙ ap
 
 by_kind : (kind : TargetKind) (named : List LabelParts) → ((rule : LabelParts) → kind ≡ k.Generated rule → ⊥) → dependencies_by kind named ≡ named
 by_kind (k.Generated rule) named f = absurd (f rule refl)
-by_kind (k.Rule name) named f = refl
+by_kind (k.Rule name class) named f = refl
 by_kind k.Source named f = refl
 by_kind k.Group named f = refl
 

@@ -15,8 +15,9 @@ ghost use Rattle.bq_target_graph.specs.Dangling.{dangling, dangling_line, dangli
 use bq_fault_line::{FaultLine, FaultLines};
 use bq_label::{Label, print_label};
 use bq_label_set::LabelSet;
+use bq_rule_class::AttributeValue;
 use bq_source::{Bytes, FaultKind};
-use bq_target::{AttributeValue, GivenAttribute, Package, Target, TargetKind, is_of};
+use bq_target::{GivenAttribute, Package, Target, TargetKind, is_of};
 use std::alloc::{AllocError, Global};
 
 /// The call that declares a target whose labels are looked at, and the labels of all targets.

@@ -11,7 +11,8 @@ ghost use Rattle.bq_target_graph.specs.Edges.{edges_to, edges_from};
 use bq_graph::Edge;
 use bq_label::Label;
 use bq_label_set::LabelSet;
-use bq_target::{AttributeValue, GivenAttribute, Target, TargetKind};
+use bq_rule_class::AttributeValue;
+use bq_target::{GivenAttribute, Target, TargetKind};
 use std::alloc::{AllocError, Global};
 
 /// The labels of targets in order, each with its target's number.

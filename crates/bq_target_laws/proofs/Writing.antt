@@ -4,11 +4,11 @@ use Rattle.std.specs.List.{Contains}
 use Rattle.std.proofs.lemmas.List.Elements.{Contains-append_cases, Contains-append_left, Contains-append_right}
 use Rattle.bq_label.specs.Label.{LabelParts}
 use Rattle.bq_label.proofs.Orders.{at_head, in_tail, head_or_tail}
+use Rattle.bq_rule_class.specs.declared.value.AttributeValue.{AttributeValue}
+use Rattle.bq_rule_class.specs.declared.value.AttributeValue.TheVariants as v
 use Rattle.bq_target.specs.declared.target.Target.{Target}
 use Rattle.bq_target.specs.declared.target.TargetKind.{TargetKind}
 use Rattle.bq_target.specs.declared.target.TargetKind.TheVariants as k
-use Rattle.bq_target.specs.declared.value.AttributeValue.{AttributeValue}
-use Rattle.bq_target.specs.declared.value.AttributeValue.TheVariants as v
 use Rattle.bq_target.specs.declared.value.GivenAttribute.{GivenAttribute}
 use Rattle.bq_target.specs.Value.{labels_of, labels_in}
 use Rattle.bq_target.specs.Target.{dependencies_by, dependencies}
@@ -72,9 +72,9 @@ only_written t l = by_kind t.kind refl
   where
     by_kind : (kind : TargetKind) → t.kind ≡ kind → Contains (dependencies_by kind (labels_in t.attributes)) l → Depends t l
     by_kind (k.Generated rule) e c = on_its_rule (e ∙ ap k.Generated (alone rule l c))
-    by_kind (k.Rule name) e c = on_what_it_writes (λ rule is. differ rule (sym e ∙ is)) (written t l c)
+    by_kind (k.Rule name class) e c = on_what_it_writes (λ rule is. differ rule (sym e ∙ is)) (written t l c)
       where
-        differ : (rule : LabelParts) → k.Rule name ≡ k.Generated rule → ⊥
+        differ : (rule : LabelParts) → k.Rule name class ≡ k.Generated rule → ⊥
         differ rule h = cc
     by_kind k.Source e c = on_what_it_writes (λ rule is. differ rule (sym e ∙ is)) (written t l c)
       where
@@ -92,6 +92,6 @@ all_written t l (on_what_it_writes other w) = by_kind t.kind refl
   where
     by_kind : (kind : TargetKind) → t.kind ≡ kind → Contains (dependencies_by kind (labels_in t.attributes)) l
     by_kind (k.Generated rule) e = absurd (other rule e)
-    by_kind (k.Rule name) e = writes t l w
+    by_kind (k.Rule name class) e = writes t l w
     by_kind k.Source e = writes t l w
     by_kind k.Group e = writes t l w

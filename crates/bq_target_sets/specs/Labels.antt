@@ -2,12 +2,12 @@
 use Rattle.std.specs.Prelude.{ℕ, Bool, List, [], ◌∷◌, Option, Some, None, slice_get, IsSomeAnd}
 use Rattle.std.specs.List.{list_any}
 use Rattle.bq_label.specs.Label.{LabelParts, full_form}
+use Rattle.bq_rule_class.specs.declared.value.AttributeValue.{AttributeValue}
+use Rattle.bq_rule_class.specs.declared.value.AttributeValue.TheVariants as v
 use Rattle.bq_target.specs.declared.target.TargetKind.{TargetKind}
 use Rattle.bq_target.specs.declared.target.TargetKind.TheVariants as kind
 use Rattle.bq_target.specs.declared.target.Target.{Target}
 use Rattle.bq_target.specs.declared.value.GivenAttribute.{GivenAttribute}
-use Rattle.bq_target.specs.declared.value.AttributeValue.{AttributeValue}
-use Rattle.bq_target.specs.declared.value.AttributeValue.TheVariants as v
 use Rattle.bq_target_sets.specs.Order.{is_text}
 use Rattle.bq_target_sets.specs.Words.{Those}
 use Rattle.bq_target_sets.specs.Texts.{given}
@@ -28,7 +28,7 @@ labels_by None = []
 labels_by (Some a) = labels_in a.value
 
 abbrev pub named_by : TargetKind → List ℕ → Target → List LabelParts
-named_by (kind.Rule rule) name t = labels_by (given name t)
+named_by (kind.Rule rule class) name t = labels_by (given name t)
 named_by kind.Source name t = []
 named_by (kind.Generated rule) name t = []
 named_by kind.Group name t = []

@@ -2,7 +2,6 @@
 use Rattle.std.specs.Prelude.{◌≡◌, ℕ, ◌&&◌, Bool, false, List, map, length, slice_index_or, Option, Some, None}
 use Rattle.regex_hir.specs.Re.{Re}
 use Rattle.bq_pattern.specs.Patterns.{is_found}
-use Rattle.bq_schema.specs.Schema.{Rules}
 use Rattle.bq_target.specs.declared.target.Target.{Target}
 use Rattle.bq_target_sets.specs.Order.{text_of}
 use Rattle.bq_target_sets.specs.Texts.{kind_text, attribute_text}
@@ -21,8 +20,8 @@ abbrev pub has_text : Re → Target → Bool
 has_text re t = is_found re (text_of t)
 
 -- `attr(name, re, ..)`
-abbrev pub has_attribute : Rules → List ℕ → Re → Target → Bool
-has_attribute schema name re t = is_match re (attribute_text schema name t)
+abbrev pub has_attribute : List ℕ → Re → Target → Bool
+has_attribute name re t = is_match re (attribute_text name t)
 
 -- of the set x, the targets that pass the test
 abbrev pub Keeps : (Target → Bool) → List Target → List Bool → List Bool → Type 0

@@ -4,14 +4,14 @@ use Rattle.std.specs.Prelude.{ℕ, ◌++◌, List, [], ◌∷◌, map, Option, S
 use Rattle.std.specs.List.{find}
 use Rattle.std.specs.Fmt.{signed_decimal}
 use Rattle.bq_label.specs.Label.{full_form}
-use Rattle.bq_schema.specs.declared.attribute.AttributeType.{AttributeType}
-use Rattle.bq_schema.specs.declared.attribute.AttributeType.TheVariants as t
-use Rattle.bq_schema.specs.Schema.{Rules}
+use Rattle.bq_rule_class.specs.declared.attribute_type.AttributeType.{AttributeType}
+use Rattle.bq_rule_class.specs.declared.attribute_type.AttributeType.TheVariants as t
+use Rattle.bq_rule_class.specs.declared.value.AttributeValue.{AttributeValue}
+use Rattle.bq_rule_class.specs.declared.value.AttributeValue.TheVariants as v
+use Rattle.bq_rule_class.specs.Class.{Class}
 use Rattle.bq_target.specs.declared.target.TargetKind.{TargetKind}
 use Rattle.bq_target.specs.declared.target.TargetKind.TheVariants as kind
 use Rattle.bq_target.specs.declared.target.Target.{Target}
-use Rattle.bq_target.specs.declared.value.AttributeValue.{AttributeValue}
-use Rattle.bq_target.specs.declared.value.AttributeValue.TheVariants as v
 use Rattle.bq_target.specs.declared.value.GivenAttribute.{GivenAttribute}
 use Rattle.bq_target.specs.Value.{attribute_type}
 use Rattle.bq_target_sets.specs.Order.{text_of}
@@ -20,7 +20,7 @@ use Rattle.bq_target_sets.specs.declared.text.Subject.TheVariants as subject
 
 -- `NAME rule`, `source file`, `generated file` or `package group`
 unfoldable pub kind_text : TargetKind → List ℕ
-kind_text (kind.Rule name) = name ++ codes " rule"
+kind_text (kind.Rule name class) = name ++ codes " rule"
 kind_text kind.Source = codes "source file"
 kind_text (kind.Generated rule) = codes "generated file"
 kind_text kind.Group = codes "package group"
@@ -49,7 +49,7 @@ value_text (v.LabelList ls) = list_text (map full_form ls)
 value_text (v.Output l) = full_form l
 value_text (v.OutputList ls) = list_text (map full_form ls)
 
--- of an attribute that isn't given; a label or output that isn't given has none
+-- of an attribute that isn't given and has no default of its own; a label or output then has none
 unfoldable pub default_text : Option AttributeType → Option (List ℕ)
 default_text None = None
 default_text (Some t.String) = Some []
@@ -61,29 +61,29 @@ default_text (Some t.LabelList) = Some (codes "[]")
 default_text (Some t.Output) = None
 default_text (Some t.OutputList) = Some (codes "[]")
 
--- what the target's call gives this attribute
+-- what this attribute of the target has: what the call gives it, or the default that the rule gives it
 abbrev pub given : List ℕ → Target → Option GivenAttribute
 given name t = find (λ a. bytes_eq a.name name) t.attributes
 
-abbrev pub text_by : Option GivenAttribute → Rules → List ℕ → List ℕ → Option (List ℕ)
-text_by (Some a) schema rule name = Some (value_text a.value)
-text_by None schema rule name = default_text (attribute_type schema rule name)
+abbrev pub text_by : Option GivenAttribute → Class → List ℕ → Option (List ℕ)
+text_by (Some a) class name = Some (value_text a.value)
+text_by None class name = default_text (attribute_type class name)
 
-abbrev pub attribute_by : TargetKind → Rules → List ℕ → Target → Option (List ℕ)
-attribute_by (kind.Rule rule) schema name t = text_by (given name t) schema rule name
-attribute_by kind.Source schema name t = None
-attribute_by (kind.Generated rule) schema name t = None
-attribute_by kind.Group schema name t = None
+abbrev pub attribute_by : TargetKind → List ℕ → Target → Option (List ℕ)
+attribute_by (kind.Rule rule class) name t = text_by (given name t) class name
+attribute_by kind.Source name t = None
+attribute_by (kind.Generated rule) name t = None
+attribute_by kind.Group name t = None
 
--- of an attribute of a rule
-unfoldable pub attribute_text : Rules → List ℕ → Target → Option (List ℕ)
-attribute_text schema name t = attribute_by t.kind schema name t
+-- of an attribute of a rule, by the class that the rule has
+unfoldable pub attribute_text : List ℕ → Target → Option (List ℕ)
+attribute_text name t = attribute_by t.kind name t
 
 -- the text of a target that a pattern is looked for in; none where it has no such text
 abbrev pub subject_text : Subject → Target → Option (List ℕ)
 subject_text subject.Kind t = Some (kind_text t.kind)
 subject_text subject.Label t = Some (text_of t)
-subject_text (subject.Attribute schema name) t = attribute_text schema.now name.now t
+subject_text (subject.Attribute name) t = attribute_text name.now t
 
 -- a text after what is written already
 abbrev pub onto : List ℕ → Option (List ℕ) → Option (List ℕ)

@@ -20,7 +20,7 @@ abbrev pub Those : (Target → Bool) → List Target → ℕ → Type 0
 Those test targets = Marked (map test targets)
 
 abbrev pub is_rule_kind : TargetKind → Bool
-is_rule_kind (kind.Rule name) = true
+is_rule_kind (kind.Rule name class) = true
 is_rule_kind kind.Source = false
 is_rule_kind (kind.Generated rule) = false
 is_rule_kind kind.Group = false

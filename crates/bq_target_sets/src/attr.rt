@@ -1,5 +1,5 @@
 //! `attr(name, pattern, x)`: the rules of `x` that have the attribute, whose text has a match of the pattern. An attribute that isn't
-//! given has its default's text. Lists are written `[v1, v2]`, so `[\[ ]v[,\]]` finds the item `v`.
+//! given has its default's text, by the class of the target's own rule. Lists are written `[v1, v2]`, so `[\[ ]v[,\]]` finds the item `v`.
 
 ghost use Rattle.std.specs.Prelude.{◌≡◌, length, IfOk};
 ghost use Rattle.regex.specs.Bytes.{regex_pattern};
@@ -9,7 +9,6 @@ ghost use Rattle.bq_target_sets.specs.Matching.{has_attribute};
 
 use crate::matching::matching;
 use crate::text::Subject;
-use bq_schema::Schema;
 use bq_target::Target;
 use regex::bytes::Regex;
 use std::alloc::{AllocError, Global};
@@ -17,13 +16,12 @@ use std::alloc::{AllocError, Global};
 pub fn attr(
     alloc: Global,
     targets: &[Target],
-    schema: &Schema,
     name: &[u8],
     pattern: &Regex,
     x: &[bool],
 ) -> Result<Vec<bool>, AllocError>
     requires { length x.now ≡ length targets.now }
-    ensures { IfOk result (λ r. IsSet (length targets.now) r.items (λ y. Marked x.now y × Those (has_attribute schema.now name.now (regex_pattern pattern.now)) targets.now y)) }
+    ensures { IfOk result (λ r. IsSet (length targets.now) r.items (λ y. Marked x.now y × Those (has_attribute name.now (regex_pattern pattern.now)) targets.now y)) }
 {
-    matching(alloc, targets, Subject::Attribute(schema, name), pattern, x)
+    matching(alloc, targets, Subject::Attribute(name), pattern, x)
 }

@@ -10,7 +10,8 @@ use crate::set::no_target;
 use crate::text::given;
 use crate::word::add_label;
 use bq_label::Label;
-use bq_target::{AttributeValue, Target, TargetKind};
+use bq_rule_class::AttributeValue;
+use bq_target::{Target, TargetKind};
 use std::alloc::{AllocError, Global};
 
 fn add_labels(
@@ -62,7 +63,7 @@ fn add_named(
     ensures { OnOk result (Adds (is_among (labels_named name.now target.now)) targets.now marks.old.items marks.new.items) }
 {
     match &target.kind {
-        TargetKind::Rule(_) => match given(name, target) {
+        TargetKind::Rule(_, _) => match given(name, target) {
             Some(attribute) => add_value(alloc, targets, &attribute.value, marks),
             None => Ok(()),
         },

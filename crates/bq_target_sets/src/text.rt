@@ -9,9 +9,9 @@ ghost use Rattle.bq_target_sets.specs.Texts as spec;
 ghost use Rattle.bq_target_sets.specs.Texts.{further, kind_text, list_text, value_text, default_text, given, subject_text, attribute_text, text_by};
 
 use bq_label::Label;
-use bq_schema::{AttributeType, Schema};
+use bq_rule_class::{AttributeType, AttributeValue, RuleClass};
 use bq_source::Bytes;
-use bq_target::{AttributeValue, GivenAttribute, Target, TargetKind, attribute_type};
+use bq_target::{GivenAttribute, Target, TargetKind, attribute_type};
 use itoa::Buffer;
 use std::alloc::AllocError;
 
@@ -20,8 +20,8 @@ use std::alloc::AllocError;
 pub enum Subject<'a> {
     Kind,
     Label,
-    /// The attribute of this name, by the schema that the rules are declared in.
-    Attribute(&'a Schema, &'a [u8]),
+    /// The attribute of this name.
+    Attribute(&'a [u8]),
 }
 
 /// `NAME rule`, `source file`, `generated file` or `package group`.
@@ -30,7 +30,7 @@ pub fn write_kind(kind: &TargetKind, text: &mut Vec<u8>) -> Result<(), AllocErro
     ensures { OnOk result (text.new.items ≡ text.old.items ++ kind_text kind.now) }
 {
     match kind {
-        TargetKind::Rule(name) => {
+        TargetKind::Rule(name, _) => {
             text.extend_from_slice(name.as_slice())?;
             text.extend_from_slice(b" rule")
         }
@@ -124,7 +124,7 @@ fn write_value(value: &AttributeValue, text: &mut Vec<u8>) -> Result<(), AllocEr
     }
 }
 
-/// Of an attribute that isn't given.
+/// Of an attribute that isn't given and has no default of its own.
 #[tactic(auto, unfolding(crate::specs::Texts::default_text))]
 fn default_text(kind: Option<AttributeType>) -> Option<&'static [u8]>
     ensures { option_copied result ≡ default_text kind }
@@ -142,7 +142,7 @@ fn default_text(kind: Option<AttributeType>) -> Option<&'static [u8]>
     }
 }
 
-/// What the target's call gives an attribute.
+/// What an attribute of the target has: what the call gives it, or the default that the rule gives it.
 pub fn given<'a>(name: &[u8], target: &'a Target) -> Option<&'a GivenAttribute>
     ensures { option_copied result ≡ given name.now target.now }
 {
@@ -158,20 +158,19 @@ pub fn given<'a>(name: &[u8], target: &'a Target) -> Option<&'a GivenAttribute>
 
 /// Of an attribute of a rule. Says whether there is one.
 fn write_attribute(
-    schema: &Schema,
-    rule: &[u8],
+    class: &RuleClass,
     name: &[u8],
     target: &Target,
     text: &mut Vec<u8>,
 ) -> Result<bool, AllocError>
-    ensures { IfOk result (λ has. (if has then Some text.new.items else None) ≡ spec.onto text.old.items (text_by (given name.now target.now) schema.now rule.now name.now)) }
+    ensures { IfOk result (λ has. (if has then Some text.new.items else None) ≡ spec.onto text.old.items (text_by (given name.now target.now) class.now name.now)) }
 {
     match given(name, target) {
         Some(attribute) => {
             write_value(&attribute.value, text)?;
             Ok(true)
         }
-        None => match default_text(attribute_type(schema, rule, name)) {
+        None => match default_text(attribute_type(class, name)) {
             Some(default) => {
                 text.extend_from_slice(default)?;
                 Ok(true)
@@ -199,10 +198,8 @@ pub fn write_subject(
             write_label(&target.label, text)?;
             Ok(true)
         }
-        Subject::Attribute(schema, name) => match &target.kind {
-            TargetKind::Rule(rule) => {
-                write_attribute(schema, rule.as_slice(), name, target, text)
-            }
+        Subject::Attribute(name) => match &target.kind {
+            TargetKind::Rule(_, class) => write_attribute(class, name, target, text),
             _ => Ok(false),
         },
     }

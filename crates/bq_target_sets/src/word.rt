@@ -16,7 +16,7 @@ fn is_rule(target: &Target) -> bool
     ensures { result ≡ is_rule target.now }
 {
     match target.kind {
-        TargetKind::Rule(_) => true,
+        TargetKind::Rule(_, _) => true,
         _ => false,
     }
 }

@@ -4,7 +4,8 @@
 //! A file is written as its statements in order, each after its line and a colon, then its functions, its loads and the names that it
 //! binds. Of a tree only what names stand for is written, in its order:
 //!
-//! - a use: `local0`, `global0`, `loaded0`, or what is predeclared, as `Len` or `Host(6)`; `native6`; a binding: `local0=`, `global0=`;
+//! - a use: `local0`, `global0`, `loaded0`, or what is predeclared, as `Len` or `Host(6)`; `. Host(6)` what a namespace holds; a
+//!   binding: `local0=`, `global0=`;
 //! - an integer; `{2 .. }` a comprehension with a frame of its own, of two slots;
 //! - `;` after a small statement, `if .. : .. else .. end`, `for .. : .. end`, `def global0= function0`, then the defaults;
 //! - `function f 3 ( 0 1= * 2 ) ..`: a name, its slots, its parameters, its statements; `load :m 1 a=b>0`: a label, its line, a name,
@@ -31,7 +32,6 @@ enum Part<'a> {
     Nothing,
     Word(&'static str),
     Binding(Binding),
-    Native(u32),
     Bound(Binding),
     Int(i64),
     Frame(usize),
@@ -74,7 +74,10 @@ fn one(part: Part<'_>) -> Parts<'_> {
 fn operand_parts(code: &Code) -> Parts<'_> {
     match code {
         Code::Use(binding) => one(Part::Binding(*binding)),
-        Code::Native(id) => one(Part::Native(*id)),
+        Code::Member(member) => two(
+            Part::Word("."),
+            Part::Binding(Binding::Predeclared(*member)),
+        ),
         Code::Int(number) => one(Part::Int(*number)),
         Code::List(items) => one(Part::Codes(items.as_slice())),
         Code::Tuple(items) => one(Part::Codes(items.as_slice())),
@@ -269,7 +272,6 @@ fn write_leaf(out: &mut String, part: Part<'_>) -> Result<(), AllocError> {
     match part {
         Part::Word(word) => write!(out, " {word}"),
         Part::Binding(binding) => write_binding(out, binding, ""),
-        Part::Native(id) => write!(out, " native{id}"),
         Part::Bound(binding) => write_binding(out, binding, "="),
         Part::Int(number) => write!(out, " {number}"),
         Part::Frame(slots) => write!(out, " {{{slots}"),
@@ -390,11 +392,21 @@ fn text_of(alloc: Global, file: &Resolved) -> Result<String, AllocError> {
     Ok(out)
 }
 
-/// The universe of a workspace whose schema has the rules `filegroup` and `genrule`, in this order.
-fn universe_of(alloc: Global, kind: FileKind) -> Result<Universe, AllocError> {
-    let filegroup = Bytes::from_slice(alloc, b"filegroup")?;
-    let genrule = Bytes::from_slice(alloc, b"genrule")?;
-    Universe::new(alloc, kind, &[filegroup, genrule])
+/// A file's kind, and the rules of the schema, in their order.
+#[derive(Clone, Copy)]
+struct Scopes {
+    kind: FileKind,
+    rules: [&'static str; 2],
+}
+
+const USUAL_RULES: [&str; 2] = ["filegroup", "genrule"];
+
+const RULES_CALLED_RULE_AND_ATTR: [&str; 2] = ["rule", "attr"];
+
+fn universe_of(alloc: Global, scopes: Scopes) -> Result<Universe, AllocError> {
+    let first = Bytes::from_slice(alloc, scopes.rules[0].as_bytes())?;
+    let second = Bytes::from_slice(alloc, scopes.rules[1].as_bytes())?;
+    Universe::new(alloc, scopes.kind, &[first, second])
 }
 
 fn file_of(alloc: Global, text: &[u8], kind: FileKind) -> Result<File, SourceErr> {
@@ -402,43 +414,73 @@ fn file_of(alloc: Global, text: &[u8], kind: FileKind) -> Result<File, SourceErr
     parse(alloc, &tokens, text, kind)
 }
 
-fn scopes_of(alloc: Global, file: &File, kind: FileKind) -> Result<Resolved, SourceErr> {
-    let universe = universe_of(alloc, kind)?;
+fn scopes_of(alloc: Global, file: &File, scopes: Scopes) -> Result<Resolved, SourceErr> {
+    let universe = universe_of(alloc, scopes)?;
     resolve(alloc, file, &universe)
 }
 
-fn resolved(alloc: Global, text: &[u8], kind: FileKind) -> Result<String, SourceErr> {
-    let file = file_of(alloc, text, kind)?;
-    let scopes = scopes_of(alloc, &file, kind)?;
-    Ok(text_of(alloc, &scopes)?)
+fn resolved(alloc: Global, text: &[u8], scopes: Scopes) -> Result<String, SourceErr> {
+    let file = file_of(alloc, text, scopes.kind)?;
+    let resolved = scopes_of(alloc, &file, scopes)?;
+    Ok(text_of(alloc, &resolved)?)
 }
 
 /// What a file of this kind resolves to, or its fault.
-struct Scopes(FileKind);
-
 impl Subject for Scopes {
     fn answer(&self, alloc: Global, text: &[u8], _row: Row) -> Result<Vec<u8>, AllocError> {
-        match resolved(alloc, text, self.0) {
+        match resolved(alloc, text, *self) {
             Ok(written) => written.as_bytes().trim_ascii().to_vec(alloc),
             Err(error) => refusal(alloc, &error),
         }
     }
 }
 
+const IN_BUILD: Scopes = Scopes {
+    kind: FileKind::Build,
+    rules: USUAL_RULES,
+};
+
+const IN_BZL: Scopes = Scopes {
+    kind: FileKind::Bzl,
+    rules: USUAL_RULES,
+};
+
+const IN_BUILD_BESIDE: Scopes = Scopes {
+    kind: FileKind::Build,
+    rules: RULES_CALLED_RULE_AND_ATTR,
+};
+
+const IN_BZL_BESIDE: Scopes = Scopes {
+    kind: FileKind::Bzl,
+    rules: RULES_CALLED_RULE_AND_ATTR,
+};
+
 #[test]
 fn resolves_names_in_both_kinds(rt: HostRuntime) -> Result<(), AllocError> {
-    check_rows(&rt, rt.alloc(), BOTH, &Scopes(FileKind::Build))?;
-    check_rows(&rt, rt.alloc(), BOTH, &Scopes(FileKind::Bzl))
+    check_rows(&rt, rt.alloc(), BOTH, &IN_BUILD)?;
+    check_rows(&rt, rt.alloc(), BOTH, &IN_BZL)
 }
 
 #[test]
 fn resolves_names_of_build_files(rt: HostRuntime) -> Result<(), AllocError> {
-    check_rows(&rt, rt.alloc(), BUILD, &Scopes(FileKind::Build))
+    check_rows(&rt, rt.alloc(), BUILD, &IN_BUILD)
 }
 
 #[test]
 fn resolves_names_of_bzl_files(rt: HostRuntime) -> Result<(), AllocError> {
-    check_rows(&rt, rt.alloc(), BZL, &Scopes(FileKind::Bzl))
+    check_rows(&rt, rt.alloc(), BZL, &IN_BZL)
+}
+
+#[test]
+fn resolves_rule_and_attr(rt: HostRuntime) -> Result<(), AllocError> {
+    check_rows(&rt, rt.alloc(), RULES_IN_BUILD, &IN_BUILD)?;
+    check_rows(&rt, rt.alloc(), RULES_IN_BZL, &IN_BZL)
+}
+
+#[test]
+fn resolves_rules_called_rule_and_attr(rt: HostRuntime) -> Result<(), AllocError> {
+    check_rows(&rt, rt.alloc(), BESIDE_IN_BUILD, &IN_BUILD_BESIDE)?;
+    check_rows(&rt, rt.alloc(), BESIDE_IN_BZL, &IN_BZL_BESIDE)
 }
 
 const BOTH: &str = r#"
@@ -527,9 +569,9 @@ x = 1\nx = y | line 2: F21 Rebound x
 # The build functions and the rules of the schema, by `native`.
 filegroup(name = "x") | line 1: F20 UnknownName filegroup
 glob([]) | line 1: F20 UnknownName glob
-native.filegroup(name = "x") | 1: native6 ;
-native.glob([1]) | 1: native0 1 ;
-native.glob([]).append(1) | 1: native0 1 ;
+native.filegroup(name = "x") | 1: . Host(6) ;
+native.glob([1]) | 1: . Host(0) 1 ;
+native.glob([]).append(1) | 1: . Host(0) 1 ;
 native.nope() | line 1: F20 UnknownName nope
 native.nope(x) | line 1: F20 UnknownName nope
 native.len(1) | line 1: F20 UnknownName len
@@ -571,4 +613,97 @@ def f(a, *, b, **a): pass | line 1: F24 DoubleParameter a
 def f(a, a = b): pass | line 1: F24 DoubleParameter a
 def f(a = b, a = 1): pass | line 1: F20 UnknownName b
 def f(a = b): return c | line 1: F20 UnknownName b
+"#;
+
+/// What declares rules is in .bzl files alone.
+const RULES_IN_BUILD: &str = r#"
+rule() | line 1: F20 UnknownName rule
+x = rule | line 1: F20 UnknownName rule
+attr | line 1: F20 UnknownName attr
+attr() | line 1: F20 UnknownName attr
+attr.int() | line 1: F20 UnknownName attr
+attr.nope() | line 1: F20 UnknownName attr
+# A file's own.
+attr = 1\nattr.int() | 1: global0= 1 ; 2: global0 ; globals attr
+rule = 1\nrule | 1: global0= 1 ; 2: global0 ; globals rule
+load(":m", "rule")\nrule() | 1: load ; 2: loaded0 ; load :m 1 rule=rule
+load(":m", "attr")\nattr.int() | 1: load ; 2: loaded0 ; load :m 1 attr=attr
+"#;
+
+const RULES_IN_BZL: &str = r#"
+# `rule` is a value, as the name of another function.
+rule(1) | 1: RuleFunction(Rule) 1 ;
+x = rule | 1: global0= RuleFunction(Rule) ; globals x
+[rule for x in [1]] | 1: {1 RuleFunction(Rule) local0= 1 } ;
+native.rule() | line 1: F20 UnknownName rule
+# What `attr` holds.
+attr.string() | 1: . RuleFunction(AttrString) ;
+attr.int() | 1: . RuleFunction(AttrInt) ;
+attr.bool(default = len) | 1: . RuleFunction(AttrBool) Len ;
+attr.string_list(default = [1]) | 1: . RuleFunction(AttrStringList) 1 ;
+attr.label(mandatory = True) | 1: . RuleFunction(AttrLabel) True ;
+attr.label_list() | 1: . RuleFunction(AttrLabelList) ;
+attr.int().x(1)[2] | 1: . RuleFunction(AttrInt) 1 2 ;
+(attr).int() | 1: . RuleFunction(AttrInt) ;
+x = {"a": attr.int(), "b": attr.bool()} | 1: global0= . RuleFunction(AttrInt) . RuleFunction(AttrBool) ; globals x
+def f(x): return attr.int(default = x) | 1: def global0= function0 ; function f 1 ( 0 ) return . RuleFunction(AttrInt) local0 ; globals f
+# What it doesn't hold.
+attr.nope() | line 1: F20 UnknownName nope
+attr.nope(x) | line 1: F20 UnknownName nope
+attr.rule() | line 1: F20 UnknownName rule
+attr.output() | line 1: F20 UnknownName output
+attr.filegroup() | line 1: F20 UnknownName filegroup
+attr.len(1) | line 1: F20 UnknownName len
+attr.int(default = x) | line 1: F20 UnknownName x
+native.int() | line 1: F20 UnknownName int
+# It is no value.
+attr | line 1: F20 UnknownName attr
+attr() | line 1: F20 UnknownName attr
+attr[0] | line 1: F20 UnknownName attr
+x = attr | line 1: F20 UnknownName attr
+len(attr) | line 1: F20 UnknownName attr
+len(attr = 1) | 1: Len 1 ;
+attr.int | line 1: F12 LeftOut
+x = attr.int | line 1: F12 LeftOut
+def f(a = attr): pass | line 1: F20 UnknownName attr
+# A file's own `attr` is a value like another.
+attr = 1\nattr.int() | 1: global0= 1 ; 2: global0 ; globals attr
+attr.nope()\nattr = 1 | 1: global0 ; 2: global0= 1 ; globals attr
+attr = attr.int() | 1: global0= global0 ; globals attr
+load(":m", "attr")\nattr.int() | 1: load ; 2: loaded0 ; load :m 1 attr=attr
+load(":m", x = "attr")\nattr.int() | 1: load ; 2: . RuleFunction(AttrInt) ; load :m 1 x=attr
+load(":m", "attr")\nattr = 1 | line 2: F21 Rebound attr
+def attr(): return attr.int() | 1: def global0= function0 ; function attr 0 ( ) return global0 ; globals attr
+def f(attr): return attr.int() | 1: def global0= function0 ; function f 1 ( 0 ) return local0 ; globals f
+def f(attr = attr.int()): return attr | 1: def global0= function0 . RuleFunction(AttrInt) ; function f 1 ( 0= ) return local0 ; globals f
+def f():\n attr.int()\n attr = 1 | 1: def global0= function0 ; function f 1 ( ) local0 ; local0= 1 ; globals f
+def f():\n attr = 1\n[attr.int() for x in [1]] | 1: def global0= function0 ; 3: {1 . RuleFunction(AttrInt) local0= 1 } ; function f 1 ( ) local0= 1 ; globals f
+[attr.int() for attr in [1]] | 1: {1 local0 local0= 1 } ;
+[1 for attr in attr.int()] | 1: {1 1 local0= . RuleFunction(AttrInt) } ;
+[1 for attr in [1] for y in attr.int()] | 1: {2 1 local0= 1 local1= local0 } ;
+# So is its own `rule`.
+rule = 1\nrule | 1: global0= 1 ; 2: global0 ; globals rule
+rule\nrule = 1 | 1: global0 ; 2: global0= 1 ; globals rule
+x = rule\nrule = 1\nrule = 2 | line 3: F21 Rebound rule
+load(":m", "rule")\nrule() | 1: load ; 2: loaded0 ; load :m 1 rule=rule
+def rule(): return rule | 1: def global0= function0 ; function rule 0 ( ) return global0 ; globals rule
+def f(rule): return rule() | 1: def global0= function0 ; function f 1 ( 0 ) return local0 ; globals f
+def f(a = rule): return a | 1: def global0= function0 RuleFunction(Rule) ; function f 1 ( 0= ) return local0 ; globals f
+"#;
+
+/// A schema's rules that are called `rule` and `attr` are those of BUILD files.
+const BESIDE_IN_BUILD: &str = r#"
+rule(name = "x") | 1: Host(6) ;
+attr(name = "x") | 1: Host(7) ;
+attr.int() | 1: Host(7) ;
+x = attr | 1: global0= Host(7) ; globals x
+rule = 1\nrule | 1: global0= 1 ; 2: global0 ; globals rule
+"#;
+
+const BESIDE_IN_BZL: &str = r#"
+rule(name = "x") | 1: RuleFunction(Rule) ;
+attr.int() | 1: . RuleFunction(AttrInt) ;
+attr(name = "x") | line 1: F20 UnknownName attr
+native.rule(name = "x") | 1: . Host(6) ;
+native.attr(name = "x") | 1: . Host(7) ;
 "#;

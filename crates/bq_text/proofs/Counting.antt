@@ -2,8 +2,8 @@
 use Rattle.std.proofs.Common.{ℕ, zero, suc, List, [], ◌∷◌, Option, Some, None, Ok, Err, refl}
 use Rattle.std.specs.Prelude.{codes}
 use Rattle.bq_source.specs.declared.fault.FaultKind.TheVariants.{TooDeep, TooLong}
-use Rattle.bq_value.specs.Datum.{Datum, none, boolean, int, string, tuple, range, cell, function, built_in, list_of}
-use Rattle.bq_value.specs.Contents.{Contents, items, pairs}
+use Rattle.bq_value.specs.Datum.{Datum, none, boolean, int, string, tuple, range, cell, function, built_in, rule_function, attribute, list_of}
+use Rattle.bq_value.specs.Contents.{Contents, items, pairs, rule}
 use Rattle.bq_value.specs.Cells.{StoreView, content_at}
 use Rattle.bq_walk.specs.Looked.{max_levels}
 use Rattle.bq_walk.specs.Laws.{Takes}
@@ -33,6 +33,7 @@ module _ (show : Shows) (takes : (page : PageView) (v : Datum) → Takes (λ n. 
   contents_take page (items xs) = list_takes (codes "[") (codes "]") page xs
   contents_take page (pairs ps) =
       followed (λ n. pairs_shown show [] (written page (codes "{")) n ps) (λ r. closed (codes "}") r) (λ kind. refl) (pairs_take [] (written page (codes "{")) ps) (λ p. ok_takes (written p (codes "}")))
+  contents_take page (rule c) = ok_takes _
 
   cell_takes : (page : PageView) (c : Option Contents) → Takes (λ n. cell_shown show page n c)
   cell_takes page (Some c) = contents_take page c
@@ -48,6 +49,8 @@ module _ (show : Shows) (takes : (page : PageView) (v : Datum) → Takes (λ n. 
   parts_take s page (range a b c) = ok_takes _
   parts_take s page (function m i t vs) = ok_takes _
   parts_take s page (built_in t) = ok_takes _
+  parts_take s page (rule_function f) = ok_takes _
+  parts_take s page (attribute a) = ok_takes _
 
 shown_takes : (l : ℕ) (s : StoreView) (page : PageView) (v : Datum) → Takes (λ n. shown_at l s page n v)
 shown_takes zero s page v = stepped_takes (λ m. Err TooDeep) (err_takes TooDeep)

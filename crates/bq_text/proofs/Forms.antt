@@ -4,8 +4,10 @@ use Rattle.std.specs.Prelude.{codes}
 use Rattle.std.specs.Ordering.{int_eq}
 use Rattle.std.specs.Fmt.{signed_decimal}
 use Rattle.bq_source.specs.StringLiteral.{quoted}
-use Rattle.bq_value.specs.Datum.{Datum, none, boolean, int, string, tuple, range, cell, function, built_in, list_of}
-use Rattle.bq_value.specs.Contents.{Contents, items, pairs}
+use Rattle.bq_predeclared.specs.RuleFunctions.{rule_function_name}
+use Rattle.bq_rule_class.specs.AttributeType.{type_name}
+use Rattle.bq_value.specs.Datum.{Datum, none, boolean, int, string, tuple, range, cell, function, built_in, rule_function, attribute, list_of}
+use Rattle.bq_value.specs.Contents.{Contents, items, pairs, rule}
 use Rattle.bq_value.specs.Cells.{StoreView, content_at}
 use Rattle.bq_walk.specs.Looked.{Looked, max_levels}
 use Rattle.bq_text.specs.Laws.{joined_on, joined, tuple_close, step_text, HasTexts, AllHaveText, PairHasText, PairsHaveText, ContentHasText, IsTextOf, HasText}
@@ -176,6 +178,7 @@ module _ (has : HasTexts) (show : Shows) (h : (page : PageView) → IsWritten pa
   cell_written (Some (pairs ps)) page w n p m e =
       let a = dict_written ps page n p m e in
       (codes "{" ++ (joined a.0 ++ codes "}"), ((a.0, (a.1.0, refl)), a.1.1))
+  cell_written (Some (rule c)) page w n p m e = (codes "<rule>", (refl, sym (ap page_in e)))
   cell_written None page w n p m e = ([], (refl, sym (ap page_in e) ∙ sym w))
 
   tuple_written : (xs : List Datum) (page : PageView) (n : ℕ)
@@ -199,6 +202,10 @@ module _ (has : HasTexts) (show : Shows) (h : (page : PageView) → IsWritten pa
       (codes "<function " ++ (name ++ codes ">"), (refl, sym (ap page_in e) ∙ row page (codes "<function ") name (codes ">")))
   form_written s page w n (built_in name) p m e =
       (codes "<built-in function " ++ (name ++ codes ">"), (refl, sym (ap page_in e) ∙ row page (codes "<built-in function ") name (codes ">")))
+  form_written s page w n (rule_function f) p m e =
+      (codes "<built-in function " ++ (rule_function_name f ++ codes ">"), (refl, sym (ap page_in e) ∙ row page (codes "<built-in function ") (rule_function_name f) (codes ">")))
+  form_written s page w n (attribute a) p m e =
+      (codes "<attr." ++ (type_name a.kind ++ codes ">"), (refl, sym (ap page_in e) ∙ row page (codes "<attr.") (type_name a.kind) (codes ">")))
 
 level_written : (l : ℕ) (s : StoreView) (page : PageView) → IsWritten page → (n : ℕ) (v : Datum) → Writes (HasText l s v) page (shown_at l s page n v)
 level_written zero s page w zero v p m e = absurd (cc)

@@ -4,8 +4,10 @@ use Rattle.std.specs.Fmt.{signed_decimal}
 use Rattle.std.specs.Ordering.{int_eq}
 use Rattle.std.specs.Int.Signed.{mag}
 use Rattle.bq_source.specs.StringLiteral.{quoted}
-use Rattle.bq_value.specs.Datum.{Datum, none, boolean, int, string, tuple, range, cell, function, built_in, Data, end, datum, list_of}
-use Rattle.bq_value.specs.Contents.{Contents, items, pairs}
+use Rattle.bq_predeclared.specs.RuleFunctions.{rule_function_name}
+use Rattle.bq_rule_class.specs.AttributeType.{type_name}
+use Rattle.bq_value.specs.Datum.{Datum, none, boolean, int, string, tuple, range, cell, function, built_in, rule_function, attribute, Data, end, datum, list_of}
+use Rattle.bq_value.specs.Contents.{Contents, items, pairs, rule}
 use Rattle.bq_value.specs.Cells.{StoreView, content_at}
 
 -- keys (`None`, bools, integers, strings and tuples of these), the integers of which have 64 bits
@@ -63,6 +65,7 @@ abbrev pub ContentHasText : HasTexts → Option Contents → List ℕ → Type 0
 ContentHasText has None t = t ≡ []
 ContentHasText has (Some (items xs)) t = (ts : List (List ℕ)) × (AllHaveText has xs ts × (t ≡ codes "[" ++ (joined ts ++ codes "]")))
 ContentHasText has (Some (pairs ps)) t = (ts : List (List ℕ)) × (PairsHaveText has ps ts × (t ≡ codes "{" ++ (joined ts ++ codes "}")))
+ContentHasText has (Some (rule c)) t = t ≡ codes "<rule>"
 
 -- the forms of texts, where those of the values within are known
 abbrev pub IsTextOf : HasTexts → StoreView → Datum → List ℕ → Type 0
@@ -76,6 +79,8 @@ IsTextOf has s (range start stop step) t = t ≡ codes "range(" ++ (signed_decim
 IsTextOf has s (cell home number) t = ContentHasText has (content_at s home number) t
 IsTextOf has s (function home place name defaults) t = t ≡ codes "<function " ++ (name ++ codes ">")
 IsTextOf has s (built_in name) t = t ≡ codes "<built-in function " ++ (name ++ codes ">")
+IsTextOf has s (rule_function f) t = t ≡ codes "<built-in function " ++ (rule_function_name f ++ codes ">")
+IsTextOf has s (attribute a) t = t ≡ codes "<attr." ++ (type_name a.kind ++ codes ">")
 
 -- of a value of at most so many levels
 abbrev pub HasText : ℕ → StoreView → Datum → List ℕ → Type 0

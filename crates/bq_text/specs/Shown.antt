@@ -2,7 +2,7 @@
 use Rattle.std.specs.Prelude.{ℕ, zero, suc, cond, List, [], ◌∷◌, length, Option, Some, None, Ok, Err, ◌==◌, codes}
 use Rattle.bq_source.specs.declared.fault.FaultKind.TheVariants.{TooDeep, TooLong}
 use Rattle.bq_value.specs.Datum.{Datum, string, tuple, cell, list_of}
-use Rattle.bq_value.specs.Contents.{Contents, items, pairs}
+use Rattle.bq_value.specs.Contents.{Contents, items, pairs, rule}
 use Rattle.bq_value.specs.Cells.{StoreView, content_at}
 use Rattle.bq_walk.specs.Looked.{Looked, stepped, max_levels}
 use Rattle.bq_text.specs.Page.{PageView, written}
@@ -40,6 +40,7 @@ dict_shown show page n ps = closed (codes "}") (pairs_shown show [] (written pag
 abbrev pub contents_shown : Shows → PageView → ℕ → Contents → Looked PageView
 contents_shown show page n (items xs) = list_shown show (codes "[") (codes "]") page n xs
 contents_shown show page n (pairs ps) = dict_shown show page n ps
+contents_shown show page n (rule c) = Ok (written page (codes "<rule>"), n)
 
 -- a cell that the store doesn't know, which no program has, has no text
 abbrev pub cell_shown : Shows → PageView → ℕ → Option Contents → Looked PageView

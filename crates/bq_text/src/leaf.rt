@@ -11,7 +11,7 @@ use bq_value::{Node, Range, Value};
 use itoa::Buffer;
 use std::alloc::AllocError;
 
-/// Writes a value that is no tuple, list or dict; of these it writes nothing.
+/// Writes a value that is no tuple, list, dict or rule; of these it writes nothing.
 #[tactic(auto, unfolding(crate::specs::Leaf::leaf_written))]
 pub(crate) fn write_leaf(value: &Value, page: &mut Page) -> Result<(), AllocError>
     ensures { OnOk result (page.new ≡ leaf_written page.old value.now) }
@@ -25,6 +25,10 @@ pub(crate) fn write_leaf(value: &Value, page: &mut Page) -> Result<(), AllocErro
         Node::Range(range) => write_range(*range, page),
         Node::Function(function) => write_named(b"<function ", function.name.as_slice(), page),
         Node::BuiltIn(name) => write_named(b"<built-in function ", name.as_slice(), page),
+        Node::RuleFunction(function) => {
+            write_named(b"<built-in function ", function.name(), page)
+        }
+        Node::Attribute(attribute) => write_named(b"<attr.", attribute.kind.name(), page),
         Node::Tuple(_) | Node::Cell(_) => Ok(()),
     }
 }
@@ -52,7 +56,7 @@ fn write_range(range: Range, page: &mut Page) -> Result<(), AllocError>
     page.write(b")")
 }
 
-/// `<function NAME>`, `<built-in function NAME>`.
+/// `<function NAME>`, `<built-in function NAME>`, `<attr.NAME>`.
 #[tactic(auto, unfolding(crate::specs::Leaf::named_written))]
 fn write_named(before: &[u8], name: &[u8], page: &mut Page) -> Result<(), AllocError>
     ensures { OnOk result (page.new ≡ named_written before.now name.now page.old) }

@@ -73,6 +73,7 @@ fn string_in(value: &Value) -> Option<&Bytes>
         Node::Text(bytes) => Some(bytes),
         Node::NoneValue | Node::Bool(_) | Node::Int(_) | Node::Tuple(_) | Node::Range(_) => None,
         Node::Cell(_) | Node::Function(_) | Node::BuiltIn(_) => None,
+        Node::RuleFunction(_) | Node::Attribute(_) => None,
     }
 }
 
@@ -124,6 +125,10 @@ fn show_content(
     match &content.body {
         Body::List(items) => show_items(store, levels, steps, b"[", items, b"]", page),
         Body::Dict(pairs) => show_pairs(store, levels, steps, pairs, page),
+        Body::Rule(_) => {
+            page.write(b"<rule>")?;
+            Ok(steps)
+        }
     }
 }
 

@@ -8,9 +8,9 @@ use Rattle.bq_value.specs.Contents.{Contents}
 use Rattle.bq_value.specs.Lending.{with_cell}
 use Rattle.bq_value.specs.Cells.{FrozenCells, Modules, StoreView, FrozenView, module_at, cell_of, content_at, frozen_at, frozen, placed, added, brought, with_loaded}
 
-pub frozen_keeps : (s : StoreView) (gs : List Datum) (home number : ℕ) → frozen_at (frozen s gs) home number ≡ content_at s home number
+pub frozen_keeps : (s : StoreView) (names : List (List ℕ)) (gs : List Datum) (home number : ℕ) → frozen_at (frozen s names gs) home number ≡ content_at s home number
 unfolding content_at frozen_at
-frozen_keeps s gs home number = refl
+frozen_keeps s names gs home number = refl
 
 or_none : (o : Option FrozenCells) → o ≡ option_or o None
 or_none (Some x) = refl

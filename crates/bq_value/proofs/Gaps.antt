@@ -70,7 +70,7 @@ below_by k f ps i false e within less =
 pub below : (k : Datum) (f : ℕ) (ps : Dict) (i : ℕ) → first k ps ≡ i → f ≤ length ps → nat_lt i f ≡ is_some (found k (take f ps))
 below k f ps i e within = below_by k f ps i (nat_lt i f) e within refl
 
-pub none_of : (o : Option Datum) → is_some o ≡ false → o ≡ None
+pub none_of : {A : Type 0} (o : Option A) → is_some o ≡ false → o ≡ None
 none_of (Some x) h = absurd (cc)
 none_of None h = refl
 

@@ -14,5 +14,7 @@ pub mod Splits
 pub mod Tries
 -- what cells hold after a module was frozen or loaded, or a cell was changed
 pub mod Freezes
+-- which names rules have
+pub mod Naming
 -- how many elements a range has
 pub mod Elements

@@ -4,11 +4,13 @@ use Rattle.std.specs.Coded.{Coded, code_by, coded×, coded_ℕ, coded_list}
 use Rattle.bq_value.specs.Datum.{Datum}
 use Rattle.bq_value.specs.Codes.{coded_datum}
 use Rattle.bq_value.specs.Contents.{Contents, coded_contents}
+use Rattle.bq_value.specs.Kinds.{Kinds, coded_kinds, kind_at, kinds_of}
 
--- the cells of a frozen module, by number, and the values of its globals
+-- the cells of a frozen module, by number, the values of its globals, and the kinds of its rules
 pub record FrozenCells : Type 0 where
   pub cells : List Contents
   pub globals : List Datum
+  pub kinds : Kinds
 
 -- frozen modules, each with its number, in the order of their numbers
 abbrev pub Modules : Type 0
@@ -35,6 +37,10 @@ abbrev pub cell_of : ℕ → Option FrozenCells → Option Contents
 cell_of number None = None
 cell_of number (Some c) = slice_get c.cells number
 
+abbrev pub kind_in : ℕ → Option FrozenCells → Option (List ℕ)
+kind_in number None = None
+kind_in number (Some c) = kind_at number c.kinds
+
 abbrev pub globals_of : Option FrozenCells → Option (List Datum)
 globals_of None = None
 globals_of (Some c) = Some c.globals
@@ -43,6 +49,10 @@ globals_of (Some c) = Some c.globals
 unfoldable pub content_at : StoreView → ℕ → ℕ → Option Contents
 content_at s home number = cond (home == s.own) (slice_get s.cells number) (cell_of number (module_at home s.loaded))
 
+-- the kind of the rule in a cell of a frozen module; a rule of the running module has none yet
+unfoldable pub kind_of : StoreView → ℕ → ℕ → Option (List ℕ)
+kind_of s home number = cond (home == s.own) None (kind_in number (module_at home s.loaded))
+
 unfoldable pub frozen_at : FrozenView → ℕ → ℕ → Option Contents
 frozen_at f home number = cond (home == f.own) (slice_get f.cells.cells number) (cell_of number (module_at home f.reached))
 
@@ -50,9 +60,10 @@ frozen_at f home number = cond (home == f.own) (slice_get f.cells.cells number) 
 unfoldable pub globals_at : FrozenView → ℕ → Option (List Datum)
 globals_at f home = cond (home == f.own) (Some f.cells.globals) (globals_of (module_at home f.reached))
 
--- the running module comes to its end, with these globals
-abbrev pub frozen : StoreView → List Datum → FrozenView
-frozen s gs = record { own = s.own; cells = record { cells = s.cells; globals = gs }; reached = s.loaded }
+-- the running module comes to its end, where its globals have these names and values; after them come the values that it loads
+abbrev pub frozen : StoreView → List (List ℕ) → List Datum → FrozenView
+frozen s names gs =
+    record { own = s.own; cells = record { cells = s.cells; globals = gs; kinds = kinds_of s.own s.cells names gs }; reached = s.loaded }
 
 -- a module before the first one with a greater number
 abbrev pub placed : ℕ × FrozenCells → Modules → Modules
@@ -74,7 +85,9 @@ abbrev pub with_cells : List Contents → StoreView → StoreView
 with_cells cs s = record s { cells = cs }
 
 abbrev pub coded_cells : Coded FrozenCells
-coded_cells = code_by (List Contents × List Datum) (coded× (coded_list coded_contents) (coded_list coded_datum)) (λ c. (c.cells, c.globals)) (λ p. record { cells = p.0; globals = p.1 }) (λ _. refl)
+coded_cells =
+    code_by (List Contents × (List Datum × Kinds)) (coded× (coded_list coded_contents) (coded× (coded_list coded_datum) coded_kinds))
+    (λ c. (c.cells, (c.globals, c.kinds))) (λ p. record { cells = p.0; globals = p.1.0; kinds = p.1.1 }) (λ _. refl)
 
 abbrev pub coded_modules : Coded Modules
 coded_modules = coded_list (coded× coded_ℕ coded_cells)

@@ -1,9 +1,11 @@
 -- What a value is (Starlark, "Data types"), as plain data: nothing of how it is shared or laid out.
 use Rattle.std.specs.Prelude.{◌≡◌, ℕ, ◌+◌, ℤ, Bool, List, [], ◌∷◌, refl}
 use Rattle.std.proofs.Common.{ap}
+use Rattle.bq_predeclared.specs.declared.rule_function.RuleFunction.{RuleFunction}
+use Rattle.bq_rule_class.specs.declared.attribute.Attribute.{Attribute}
 
 mutual
-  -- a value; a list or dict is a cell, the number of which stands with its module
+  -- a value; a list, a dict or a rule is a cell, the number of which stands with its module
   pub data Datum : Type 0 where
     none : Datum
     boolean : Bool → Datum
@@ -14,6 +16,8 @@ mutual
     cell : ℕ → ℕ → Datum
     function : ℕ → ℕ → List ℕ → Data → Datum
     built_in : List ℕ → Datum
+    rule_function : RuleFunction → Datum
+    attribute : Attribute → Datum
 
   -- the values of a tuple, or the defaults of a function, in order
   pub data Data : Type 0 where
@@ -44,6 +48,8 @@ abbrev mutual
   weight (cell m n) = 1
   weight (function m n name xs) = weights xs + 1
   weight (built_in name) = 1
+  weight (rule_function f) = 1
+  weight (attribute a) = 1
 
   pub weights : Data → ℕ
   weights end = 1

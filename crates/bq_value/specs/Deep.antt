@@ -17,3 +17,5 @@ deep_le-weight (node.Range r) = omega arith
 deep_le-weight (node.Cell c) = omega arith
 deep_le-weight (node.Function f) = omega (arith, most_le-weights f.value.defaults.items)
 deep_le-weight (node.BuiltIn name) = omega arith
+deep_le-weight (node.RuleFunction f) = omega arith
+deep_le-weight (node.Attribute a) = omega arith

@@ -9,6 +9,7 @@ pub mod Key
 pub mod Pairs
 pub mod Contents
 pub mod ContentOf
+pub mod Kinds
 pub mod Cells
 pub mod CellsOf
 pub mod Tries

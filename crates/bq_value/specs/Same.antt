@@ -4,7 +4,9 @@ use Rattle.std.specs.Prelude.{Bool, true, false, ◌&&◌, [], ◌∷◌, ◌++�
 use Rattle.std.specs.Ordering.{int_eq}
 use Rattle.std.specs.Cmp.Lexicographic.{pointwise}
 use Rattle.std.specs.Hash as fed
-use Rattle.bq_value.specs.Datum.{Datum, none, boolean, int, string, tuple, range, cell, function, built_in, Data, end, datum}
+use Rattle.bq_rule_class.specs.Same.{same_attribute}
+use Rattle.bq_value.specs.Codes.{number_of}
+use Rattle.bq_value.specs.Datum.{Datum, none, boolean, int, string, tuple, range, cell, function, built_in, rule_function, attribute, Data, end, datum}
 
 abbrev pub bool_same : Bool → Bool → Bool
 bool_same true b = b
@@ -22,6 +24,8 @@ abbrev mutual
   same (cell a i) (cell b j) = (a == b) && (i == j)
   same (function a i s vs) (function b j t ws) = (a == b) && (i == j) && pointwise ◌==◌ s t && same_all vs ws
   same (built_in a) (built_in b) = pointwise ◌==◌ a b
+  same (rule_function f) (rule_function g) = number_of f == number_of g
+  same (attribute a) (attribute b) = same_attribute a b
   same _ _ = false
 
   pub same_all : Data → Data → Bool

@@ -5,7 +5,11 @@ use Rattle.std.specs.Ordering.{int_eq}
 use Rattle.std.specs.Cmp.{signed_Decides, unsigned_Decides, IsEquivalence, decided}
 use Rattle.std.specs.Cmp.Lexicographic.{pointwise}
 use lib.Pointwise.{bytes_decides}
-use Rattle.bq_value.specs.Datum.{Datum, none, boolean, int, string, tuple, range, cell, function, built_in, Data, end, datum}
+use Rattle.bq_rule_class.proofs.Equal.{same_attribute_true, same_attribute_refl}
+use Rattle.bq_rule_class.specs.Same.{same_attribute}
+use Rattle.bq_rule_class.specs.declared.attribute.Attribute.{Attribute}
+use Rattle.bq_value.specs.Codes.{number_of, numbers_differ}
+use Rattle.bq_value.specs.Datum.{Datum, none, boolean, int, string, tuple, range, cell, function, built_in, rule_function, attribute, Data, end, datum}
 use Rattle.bq_value.specs.Same.{bool_same, same, same_all, feed}
 
 both : (a b : Bool) → (a && b) ≡ true → (a ≡ true) × (b ≡ true)
@@ -60,6 +64,8 @@ mutual
       let r = both _ _ q.0 in
       λ k. function (nat_true a b r.0 k) (nat_true i j r.1 k) (text_true s t q.1 k) (same_all-true vs ws p.1 k)
   same-true (built_in a) (built_in b) h = ap built_in (text_true a b h)
+  same-true (rule_function f) (rule_function g) h = ap rule_function (numbers_differ f g (nat_true (number_of f) (number_of g) h))
+  same-true (attribute a) (attribute b) h = ap attribute (same_attribute_true a b h)
   same-true _ _ h = cc
 
   pub same_all-true : (x y : Data) → same_all x y ≡ true → x ≡ y
@@ -78,10 +84,15 @@ mutual
   same-refl (cell a i) = all_true (nat_refl a) (nat_refl i)
   same-refl (function a i s vs) = all_true (all_true (all_true (nat_refl a) (nat_refl i)) (text_refl s)) (same_all-refl vs)
   same-refl (built_in a) = text_refl a
+  same-refl (rule_function f) = nat_refl (number_of f)
+  same-refl (attribute a) = same_attribute_refl a
 
   pub same_all-refl : (x : Data) → same_all x x ≡ true
   same_all-refl end = refl
   same_all-refl (datum v vs) = all_true (same-refl v) (same_all-refl vs)
+
+pub attributes_decide : (a b : Attribute) → Decides (same_attribute a b) (a ≡ b)
+attributes_decide a b = (same_attribute_true a b, λ e. ap (same_attribute a) (sym e) ∙ same_attribute_refl a)
 
 pub same_decides : (x y : Datum) → Decides (same x y) (x ≡ y)
 same_decides x y = (same-true x y, λ e. ap (λ z. same x z) (sym e) ∙ same-refl x)

@@ -1,13 +1,14 @@
 //! What a cell holds.
 
 ghost use Rattle.std.specs.Prelude.{◌≡◌, Some};
-ghost use Rattle.bq_value.specs.Contents.{items, pairs, KeysDiffer};
+ghost use Rattle.bq_value.specs.Contents.{items, pairs, rule, KeysDiffer};
 
 use crate::dict::Dict;
 use crate::value::Value;
+use bq_rule_class::RuleClass;
 use std::marker::Model;
 
-/// A list or a dict. Contracts see its `Contents`.
+/// A list, a dict or a rule. Contracts see its `Contents`.
 #[derive(Drop)]
 pub struct Content {
     pub body: Body,
@@ -17,6 +18,8 @@ pub struct Content {
 pub enum Body {
     List(Vec<Value>),
     Dict(Dict),
+    /// A rule that a `.bzl` file declares. Nothing changes it.
+    Rule(RuleClass),
 }
 
 impl Model for Content {
@@ -47,6 +50,7 @@ impl Content {
         match &self.body {
             Body::List(_) => {}
             Body::Dict(dict) => dict.has_no_key_twice(),
+            Body::Rule(_) => {}
         }
     }
 
@@ -55,6 +59,14 @@ impl Content {
     {
         Content {
             body: Body::Dict(dict),
+        }
+    }
+
+    pub fn rule(class: RuleClass) -> Content
+        ensures { result ≡ rule class }
+    {
+        Content {
+            body: Body::Rule(class),
         }
     }
 }

@@ -4,10 +4,12 @@ ghost use Rattle.std.specs.Prelude.{◌≡◌, None, Some, MatchOption, IfOk};
 ghost use Rattle.bq_value.specs.Cells.{frozen_at, globals_at, frozen};
 
 use crate::content::Content;
+use crate::kinds::kinds_of;
 use crate::modules::Modules;
 use crate::shared::Shared;
 use crate::store::Store;
 use crate::value::{Cell, Value};
+use bq_source::Bytes;
 use std::alloc::{AllocError, Global};
 use std::marker::Model;
 
@@ -69,12 +71,19 @@ impl Frozen {
     }
 }
 
-/// Ends a module's evaluation: each cell stays as it is, and none is copied.
-pub fn freeze(alloc: Global, store: Store, globals: Vec<Value>) -> Result<Frozen, AllocError>
-    ensures { IfOk result (λ f. f ≡ frozen store globals.items) }
+/// Ends a module's evaluation, where its globals have these names and values: each cell stays as it is, and none is copied. After
+/// the values of the globals come those that the module loads.
+pub fn freeze(
+    alloc: Global,
+    store: Store,
+    names: &[Bytes],
+    globals: Vec<Value>,
+) -> Result<Frozen, AllocError>
+    ensures { IfOk result (λ f. f ≡ frozen store names.now globals.items) }
 {
     let Store { own, cells, loaded } = store;
-    let cells = Shared::new(alloc, cells, globals)?;
+    let kinds = kinds_of(alloc, own, &cells, names, &globals)?;
+    let cells = Shared::new(alloc, cells, globals, kinds)?;
     Ok(Frozen {
         own,
         cells,

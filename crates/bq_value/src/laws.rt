@@ -3,12 +3,14 @@
 
 ghost use Rattle.std.specs.Prelude.{◌≡◌, ◌≢◌, ◌↔◌, ◌<◌, ◌++◌, ◌∷◌, [], List, ℕ, ℤ, pos, Some, None, cond, fold, is_some, true, false, ◌==◌};
 ghost use Rattle.std.specs.Option.{option_or};
-ghost use Rattle.bq_value.specs.Datum.{Datum};
+ghost use Rattle.bq_rule_class.specs.Class.{Class};
+ghost use Rattle.bq_value.specs.Datum.{Datum, cell};
 ghost use Rattle.bq_value.specs.Same.{same};
 ghost use Rattle.bq_value.specs.Range.{IsBefore, range_element, range_count};
 ghost use Rattle.bq_value.specs.Pairs.{found, put, without, keys, TakenOut, HasNoKeyTwice};
-ghost use Rattle.bq_value.specs.Contents.{Contents, KeysDiffer};
-ghost use Rattle.bq_value.specs.Cells.{StoreView, FrozenView, Modules, module_at, content_at, frozen_at, frozen, added, brought, with_loaded};
+ghost use Rattle.bq_value.specs.Contents.{Contents, rule, KeysDiffer};
+ghost use Rattle.bq_value.specs.Kinds.{kind_at, first_holding};
+ghost use Rattle.bq_value.specs.Cells.{StoreView, FrozenView, Modules, module_at, content_at, kind_of, frozen_at, frozen, added, brought, with_loaded};
 ghost use Rattle.bq_value.specs.Lending.{with_cell};
 
 use crate::store::Store;
@@ -59,7 +61,16 @@ pub fn dicts_of_stores_have_distinct_keys(store: &Store, cell: Cell)
 
 /// Freezing keeps every cell.
 pub fn freezing_keeps_every_cell()
-    ensures { (s : StoreView) (globals : List Datum) (home number : ℕ) → frozen_at (frozen s globals) home number ≡ content_at s home number }
+    ensures { (s : StoreView) (names : List (List ℕ)) (globals : List Datum) (home number : ℕ) → frozen_at (frozen s names globals) home number ≡ content_at s home number }
+{}
+
+/// A rule of a frozen module has as its kind the name of the first of that module's globals, in order, that is the rule, and no
+/// kind where none is. Who loads the module finds that kind, whatever it calls the rule; in the module itself, which isn't frozen
+/// yet, the rule has none.
+pub fn a_kind_is_the_first_name()
+    ensures frozen { (s : StoreView) (names : List (List ℕ)) (globals : List Datum) (number : ℕ) (class : Class) → content_at s s.own number ≡ Some (rule class) → kind_at number (frozen s names globals).cells.kinds ≡ first_holding (cell s.own number) names globals }
+    ensures loaded { (s t : StoreView) (names : List (List ℕ)) (globals : List Datum) (number : ℕ) (class : Class) → t.own ≢ s.own → module_at t.own s.loaded ≡ None → content_at t t.own number ≡ Some (rule class) → kind_of (with_loaded (fold added s.loaded (brought (frozen t names globals))) s) t.own number ≡ first_holding (cell t.own number) names globals }
+    ensures own { (s : StoreView) (number : ℕ) → kind_of s s.own number ≡ None }
 {}
 
 /// What is reached after a load is by its number what was there before, or else what the load brings.

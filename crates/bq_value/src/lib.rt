@@ -1,8 +1,9 @@
-//! Values as data: what a value is, how it is shared and given up, the keys of dicts, and the lists and dicts that a module
-//! makes, while it runs and once it is frozen.
+//! Values as data: what a value is, how it is shared and given up, the keys of dicts, and the lists, dicts and rules that a
+//! module makes, while it runs and once it is frozen.
 //!
-//! The promise: a store and a frozen module are finite maps from cells to lists and dicts (`content_at`, `frozen_at`,
-//! `specs/Cells.antt`); nothing changes a cell of another module, and freezing keeps every cell.
+//! The promise: a store and a frozen module are finite maps from cells to lists, dicts and rules (`content_at`, `frozen_at`,
+//! `specs/Cells.antt`); nothing changes a cell of another module, and freezing keeps every cell and names the rules
+//! (`specs/Kinds.antt`).
 //!
 //! A list or dict is never in a value: the value is a *cell*, the number of the module that made it and its number there, and
 //! the *store* says what the cell holds. So values are trees without cycles, a list that holds itself is a cell whose list has
@@ -11,11 +12,12 @@
 //!
 //! In reading order:
 //!
-//! - `value`: the nine kinds of values, their sharing and their end;
+//! - `value`: the eleven kinds of values, their sharing and their end;
 //! - `range`: how many elements a range has, and when two have the same;
 //! - `same`, `key`: when two keys are one, and what they feed to a hash;
 //! - `dict`: pairs with distinct keys in the order in which the keys came;
 //! - `content`: what a cell holds;
+//! - `kinds`: by which names rules are called;
 //! - `shared`, `tree`, `modules`, `frozen`: modules whose evaluation has ended, each shared by all that reach it;
 //! - `store`: the cells of the running module;
 //! - `error`: why an evaluation has no answer;
@@ -27,6 +29,7 @@ mod dict;
 mod error;
 mod frozen;
 mod key;
+mod kinds;
 pub mod laws;
 mod modules;
 mod range;

@@ -2,13 +2,14 @@
 
 ghost use Rattle.std.specs.Prelude.{◌≡◌, ◌<◌, ◌≤◌, ◌^◌, [], None, Some, MatchOption, IfOk, OnOk, OnErr, fold};
 ghost use Rattle.std.specs.Option.{option_copied};
-ghost use Rattle.bq_value.specs.Cells.{module_at, cell_of, globals_of, added};
+ghost use Rattle.bq_value.specs.Cells.{module_at, cell_of, kind_in, globals_of, added};
 ghost use Rattle.bq_value.specs.Tries.{IsShaped, entries};
 
 use crate::content::Content;
 use crate::shared::Shared;
 use crate::tree::Tree;
 use crate::value::{Cell, Value};
+use bq_source::Bytes;
 use std::alloc::{AllocError, Global};
 use std::marker::Model;
 
@@ -54,6 +55,16 @@ impl Modules {
         match self.get(cell.module) {
             None => None,
             Some(shared) => shared.content(cell.number),
+        }
+    }
+
+    /// The kind of the rule in a cell of one of these modules.
+    pub(crate) fn kind(&self, cell: Cell) -> Option<&Bytes>
+        ensures { option_copied result ≡ kind_in cell.number (module_at cell.module self.now) }
+    {
+        match self.get(cell.module) {
+            None => None,
+            Some(shared) => shared.kind(cell.number),
         }
     }
 

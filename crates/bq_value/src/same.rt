@@ -1,11 +1,14 @@
 //! When two values are the same in each part, and what one feeds to a hash. Dicts look keys up by these.
 
 ghost use Rattle.std.specs.Prelude.{◌≡◌, fold};
-ghost use Rattle.bq_value.specs.Datum.{none, boolean, int, string, tuple, range, cell, function, built_in, data_of};
+ghost use Rattle.bq_value.specs.Datum.{none, boolean, int, string, tuple, range, cell, function, built_in, rule_function, attribute, data_of};
+ghost use Rattle.bq_value.specs.Codes.{number_of};
 ghost use Rattle.bq_value.specs.Same.{same, same_all, feed, feed_all};
 
 use crate::range::Range;
 use crate::value::{Cell, Function, Node, Value};
+use bq_predeclared::RuleFunction;
+use bq_rule_class::Attribute;
 use std::hash::{Hash, Hasher};
 
 impl Value {
@@ -58,6 +61,41 @@ impl Value {
             _ => false,
         }
     }
+
+    /// Whether this is that function that declares rules.
+    pub fn is_rule_function(&self, function: RuleFunction) -> bool
+        ensures { result ≡ same (rule_function function) self.now }
+    {
+        match &self.node {
+            Node::RuleFunction(other) => number_of(function) == number_of(*other),
+            _ => false,
+        }
+    }
+
+    /// Whether this is an attribute of the same type, mandatory as that one, and with the same default.
+    pub fn is_attribute(&self, parts: &Attribute) -> bool
+        ensures { result ≡ same (attribute parts.now) self.now }
+    {
+        match &self.node {
+            Node::Attribute(other) => parts.is_same(other),
+            _ => false,
+        }
+    }
+}
+
+/// Functions that declare rules, by numbers.
+fn number_of(function: RuleFunction) -> u8
+    ensures { result ≡ number_of function }
+{
+    match function {
+        RuleFunction::Rule => 0,
+        RuleFunction::AttrString => 1,
+        RuleFunction::AttrInt => 2,
+        RuleFunction::AttrBool => 3,
+        RuleFunction::AttrStringList => 4,
+        RuleFunction::AttrLabel => 5,
+        RuleFunction::AttrLabelList => 6,
+    }
 }
 
 fn is_same_range(x: Range, b: &Value) -> bool
@@ -92,6 +130,8 @@ pub(crate) fn is_same(a: &Value, b: &Value) -> bool
         Node::Cell(x) => is_same_cell(*x, b),
         Node::Function(f) => is_same_function(f, b),
         Node::BuiltIn(x) => b.is_built_in(x.as_slice()),
+        Node::RuleFunction(x) => b.is_rule_function(*x),
+        Node::Attribute(x) => b.is_attribute(x),
     }
 }
 

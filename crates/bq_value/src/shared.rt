@@ -1,18 +1,22 @@
 //! The cells of a frozen module, shared.
 
-ghost use Rattle.std.specs.Prelude.{◌≡◌, None, Some, MatchOption, IfOk, slice_get};
+ghost use Rattle.std.specs.Prelude.{◌≡◌, None, Some, MatchOption, IfOk, slice_get, option_copied};
+ghost use Rattle.bq_value.specs.Kinds.{kind_at};
 
 use crate::content::Content;
+use crate::kinds::Kinds;
 use crate::value::Value;
+use bq_source::Bytes;
 use std::alloc::{AllocError, Global};
 use std::marker::Model;
 use std::sync::Arc;
 
-/// The cells of one module by their numbers, and the values of its globals.
+/// The cells of one module by their numbers, the values of its globals, and the kinds of its rules.
 #[derive(Drop)]
 pub struct Cells {
     pub(crate) contents: Vec<Content>,
     pub(crate) globals: Vec<Value>,
+    pub(crate) kinds: Kinds,
 }
 
 /// The cells of a frozen module, which nothing changes.
@@ -38,11 +42,19 @@ impl Shared {
         alloc: Global,
         contents: Vec<Content>,
         globals: Vec<Value>,
+        kinds: Kinds,
     ) -> Result<Shared, AllocError>
-        ensures { IfOk result (λ s. s ≡ record { cells = contents.items; globals = globals.items }) }
+        ensures { IfOk result (λ s. s ≡ record { cells = contents.items; globals = globals.items; kinds = kinds }) }
     {
         Ok(Shared {
-            cells: Arc::new(alloc, Cells { contents, globals })?,
+            cells: Arc::new(
+                alloc,
+                Cells {
+                    contents,
+                    globals,
+                    kinds,
+                },
+            )?,
         })
     }
 
@@ -58,6 +70,13 @@ impl Shared {
         ensures { MatchOption result (slice_get self.now.cells number ≡ None) (λ c. slice_get self.now.cells number ≡ Some c.now) }
     {
         self.cells.contents.get(number)
+    }
+
+    /// The kind of the rule in a cell.
+    pub(crate) fn kind(&self, number: usize) -> Option<&Bytes>
+        ensures { option_copied result ≡ kind_at number self.now.kinds }
+    {
+        self.cells.kinds.get(number)
     }
 
     pub(crate) fn globals(&self) -> &[Value]

@@ -1,17 +1,17 @@
 //! The store of a running module.
 
 ghost use Rattle.std.specs.Prelude.{◌≡◌, [], ◌∷◌, ◌++◌, None, Some, MatchOption, IfOk, OnOk, OnErr, fold, length};
-ghost use Rattle.std.specs.Prelude.{◌<◌, ◌≢◌, slice_get, IsOkAnd, IsErrOf};
+ghost use Rattle.std.specs.Prelude.{◌<◌, ◌≢◌, slice_get, option_copied, IsOkAnd, IsErrOf};
 ghost use Rattle.std.specs.Borrow.{sem};
 ghost use Rattle.bq_value.specs.Lending.{LendsCell, LendsCellIfOk};
-ghost use Rattle.bq_value.specs.Cells.{content_at, with_loaded, with_cells, added, brought};
+ghost use Rattle.bq_value.specs.Cells.{content_at, kind_of, with_loaded, with_cells, added, brought};
 
 use crate::content::Content;
 use crate::error::EvalErr;
 use crate::frozen::Frozen;
 use crate::modules::Modules;
 use crate::value::Cell;
-use bq_source::FaultKind;
+use bq_source::{Bytes, FaultKind};
 use std::alloc::{AllocError, Global};
 use std::marker::Model;
 
@@ -85,6 +85,17 @@ impl Store {
             return self.cells.get(cell.number);
         }
         self.loaded.content(cell)
+    }
+
+    /// The kind of the rule in a cell of a frozen module. A rule of the running module has none yet.
+    #[tactic(auto, unfolding(crate::specs::Cells::kind_of))]
+    pub fn kind(&self, cell: Cell) -> Option<&Bytes>
+        ensures { option_copied result ≡ kind_of self.now cell.module cell.number }
+    {
+        if self.own == cell.module {
+            return None;
+        }
+        self.loaded.kind(cell)
     }
 
     /// A cell of the running module, to be changed.

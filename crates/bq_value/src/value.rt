@@ -1,9 +1,11 @@
 //! Values (Starlark, "Data types").
 
 ghost use Rattle.std.specs.Prelude.{◌≡◌, ◌+◌, ◌<◌, ◌≤◌, IfOk, IfSome};
-ghost use Rattle.bq_value.specs.Datum.{Datum, none, boolean, int, string, tuple, range, cell, function, built_in, data_of, weight, weights};
+ghost use Rattle.bq_value.specs.Datum.{Datum, none, boolean, int, string, tuple, range, cell, function, built_in, rule_function, attribute, data_of, weight, weights};
 
 use crate::range::Range;
+use bq_predeclared::RuleFunction;
+use bq_rule_class::Attribute;
 use bq_source::Bytes;
 use std::alloc::{AllocError, Global};
 use std::marker::Model;
@@ -18,7 +20,7 @@ pub struct Value {
     pub node: Node,
 }
 
-/// The nine kinds of values. A list or dict is a cell of a store.
+/// The eleven kinds of values. A list, a dict or a rule is a cell of a store.
 #[cycle(value)]
 pub enum Node {
     NoneValue,
@@ -31,9 +33,13 @@ pub enum Node {
     Function(Arc<Function>),
     /// A built-in function, by its name.
     BuiltIn(Bytes),
+    /// A function that declares rules, or their attributes.
+    RuleFunction(RuleFunction),
+    /// What such a function says of an attribute.
+    Attribute(Arc<Attribute>),
 }
 
-/// The place of a list or dict: the module that made it, and the number there in order of creation.
+/// The place of a list, a dict or a rule: the module that made it, and the number there in order of creation.
 #[derive(Clone, Copy)]
 pub struct Cell {
     pub module: u32,
@@ -83,7 +89,9 @@ impl Drop for Value {
             | Node::Range(_)
             | Node::Cell(_)
             | Node::Text(_)
-            | Node::BuiltIn(_) => {}
+            | Node::BuiltIn(_)
+            | Node::RuleFunction(_)
+            | Node::Attribute(_) => {}
             Node::Tuple(shared) => {
                 if let Some(items) = Arc::into_inner(shared) {
                     give_up(items);
@@ -147,7 +155,9 @@ impl Value {
             | Node::Range(_)
             | Node::Cell(_)
             | Node::Text(_)
-            | Node::BuiltIn(_) => None,
+            | Node::BuiltIn(_)
+            | Node::RuleFunction(_)
+            | Node::Attribute(_) => None,
             Node::Tuple(shared) => Arc::into_inner(shared),
             Node::Function(shared) => match Arc::into_inner(shared) {
                 None => None,
@@ -207,7 +217,7 @@ impl Value {
         }
     }
 
-    /// The list or dict in this cell.
+    /// The list, dict or rule in this cell.
     pub fn cell(place: Cell) -> Value
         ensures { result ≡ cell place.module place.number }
     {
@@ -222,6 +232,22 @@ impl Value {
         Value {
             node: Node::BuiltIn(name),
         }
+    }
+
+    pub fn rule_function(function: RuleFunction) -> Value
+        ensures { result ≡ rule_function function }
+    {
+        Value {
+            node: Node::RuleFunction(function),
+        }
+    }
+
+    pub fn attribute(alloc: Global, parts: Attribute) -> Result<Value, AllocError>
+        ensures { IfOk result (λ v. v ≡ attribute parts) }
+    {
+        Ok(Value {
+            node: Node::Attribute(Arc::new(alloc, parts)?),
+        })
     }
 
     pub fn function(alloc: Global, parts: Function) -> Result<Value, AllocError>
@@ -246,6 +272,8 @@ impl Value {
             Node::Cell(cell) => Node::Cell(*cell),
             Node::Function(function) => Node::Function(function.clone()?),
             Node::BuiltIn(name) => Node::BuiltIn(name.share()?),
+            Node::RuleFunction(function) => Node::RuleFunction(*function),
+            Node::Attribute(attribute) => Node::Attribute(attribute.clone()?),
         };
         Ok(Value { node })
     }

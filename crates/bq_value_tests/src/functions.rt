@@ -284,6 +284,13 @@ s | type/1 | "string"
 r062 | type/1 | "range"
 f12ab | type/1 | "function"
 blen | type/1 | "builtin_function_or_method"
+prule | type/1 | "builtin_function_or_method"
+q07int | type/1 | "Attribute"
+R | type/1 | "rule"
+R | str/1 | "<rule>"
+R | len/1 | F40 Type
+R | list/1 | F40 Type
+q07int | bool/1 | True
 sab | str/1 | "ab"
 sab | repr/1 | "\\"ab\\""
 i1 sa [2 | str/1 | "[1, \\"a\\"]"

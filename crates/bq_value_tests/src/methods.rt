@@ -276,6 +276,9 @@ sa i1 sb i2 {4 | update | {0 {0 |  | F52 Args
 [0 | add |  |  | F58 NoMethod
 [0 | keys |  |  | F58 NoMethod
 {0 | append |  |  | F58 NoMethod
+R | append | i1 |  | F58 NoMethod
+R | keys |  |  | F58 NoMethod
+q07int | keys |  |  | F58 NoMethod
 {0 | index |  |  | F58 NoMethod
 {0 | copy |  |  | F58 NoMethod
 sa | append |  |  | F58 NoMethod

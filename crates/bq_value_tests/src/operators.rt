@@ -386,6 +386,8 @@ in | i6 r063 | False
 in | m3 r063 | False
 in | sa r031 | F40 Type
 in | T r031 | F40 Type
+in | i1 R | F40 Type
+in | i1 q07int | F40 Type
 in | i1 i1 | F40 Type
 in | N N [1 | True
 not in | i1 i3 i1 [2 | False
@@ -466,6 +468,7 @@ of | i1 [1 N | F40 Type
 of | i1 [1 T | F40 Type
 of | sabc sa | F40 Type
 of | i1 i0 | F40 Type
+of | R i0 | F40 Type
 of | N i0 | F40 Type
 of | i1 i2 [2 i9223372036854775807 | F43 Index
 of | i1 i2 [2 m9223372036854775808 | F43 Index
@@ -554,6 +557,10 @@ const AUGMENT: &str = r#"
 + | i1 i2 | 3
 + | i9223372036854775807 i1 | F41 Overflow
 + | {0 {0 | F40 Type
++ | R [0 | F40 Type
++ | [0 R | F40 Type
+\x7c | R {0 | F40 Type
+\x7c | {0 R | F40 Type
 \x7c | sa i1 {2 sb i2 {2 | {"a": 1, "b": 2}
 \x7c | sa i1 {2 sa i2 {2 | {"a": 2}
 \x7c | sa i1 {2 sb i2 (2 [1 | F40 Type

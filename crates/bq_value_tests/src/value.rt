@@ -185,7 +185,7 @@ fn frozen_of(alloc: Global, words: &[u8]) -> Result<Frozen, EvalErr> {
     let mut store = Store::new(alloc, 1);
     let mut globals = Vec::new(alloc);
     push_values(alloc, &mut store, &mut globals, words)?;
-    Ok(freeze(alloc, store, globals)?)
+    Ok(freeze(alloc, store, &[], globals)?)
 }
 
 /// The globals of a frozen module.
@@ -278,6 +278,27 @@ const EQUAL: &str = r#"
 99 | blen | blen | true 1
 99 | blen | bint | false 1
 99 | blen | slen | false 1
+# Functions that declare rules by which they are, attributes by what they say, rules by identity.
+99 | prule | prule | true 1
+99 | prule | pint | false 1
+99 | prule | brule | false 1
+99 | pint | bint | false 1
+99 | q07int | q07int | true 1
+99 | q07int | q08int | false 1
+99 | q07int | q17int | false 1
+99 | q00string | q00label | false 1
+99 | q00string_list | q00string_list | true 1
+99 | q00string | pstring | false 1
+99 | q07int | i7 | false 1
+99 | R | c | true 1
+99 | R | R | false 1
+99 | R (1 | c | true 2
+99 | R (1 | R (1 | false 2
+99 | R | [0 | false 1
+99 | {0 | R | false 1
+99 | R | q00string | false 1
+1 | q07int | q07int | true 1
+0 | q07int | q07int | F53 StepLimit
 # The last step, and the one after it.
 4 | i1 i2 [1 [2 | i1 i2 [1 [2 | true 4
 3 | i1 i2 [1 [2 | i1 i2 [1 [2 | F53 StepLimit
@@ -326,6 +347,11 @@ const LESS: &str = r#"
 99 | r001 | r001 | F40 Type
 99 | f12g | f12g | F40 Type
 99 | blen | blen | F40 Type
+99 | prule | prule | F40 Type
+99 | q07int | q08int | F40 Type
+99 | R | c | F40 Type
+99 | R | [0 | F40 Type
+99 | [0 | R | F40 Type
 # Equal elements are not ordered.
 99 | N [1 | N [1 | false 2
 # The last step, and the one after it.
@@ -353,6 +379,13 @@ const TEXTS: &str = r#"
 99 | r062 | 1 range(0, 6, 2)
 99 | blen | 1 <built-in function len>
 99 | f12ab | 1 <function ab>
+99 | prule | 1 <built-in function rule>
+99 | q07int | 1 <attr.int>
+99 | q10label_list | 1 <attr.label_list>
+99 | q10output | 1 <attr.output>
+99 | R | 1 <rule>
+99 | R q00string [2 | 3 [<rule>, <attr.string>]
+0 | R | F53 StepLimit
 99 | sa [1 | 2 ["a"]
 # Three keys; and a key that is put again keeps its place.
 99 | i1 sa T sb s1 sc {6 | 7 {1: "a", True: "b", "1": "c"}
@@ -400,6 +433,10 @@ const KEYS: &str = r#"
 99 | r011 | F45 Unhashable
 99 | f12g | F45 Unhashable
 99 | blen | F45 Unhashable
+99 | prule | F45 Unhashable
+99 | q07int | F45 Unhashable
+99 | R | F45 Unhashable
+99 | R (1 | F45 Unhashable
 3 | i1 i2 (2 | 3
 2 | i1 i2 (2 | F53 StepLimit
 99 | i1 v63 | 64
@@ -426,6 +463,9 @@ const TRUTH: &str = r#"
 0 | r011 | true
 0 | f12g | true
 0 | blen | true
+0 | prule | true
+0 | q00int | true
+0 | R | true
 "#;
 
 /// The same, of values that nest deep or are wide: tuples to the left and to the right, a wide one, two shares of one, and defaults.
@@ -444,4 +484,7 @@ i1 i2 [1 [2 | i1 i2 [1 [2 | true 4
 i1 i2 {2 | i1 i2 {2 | true 2
 i1 i2 {2 | i1 i3 {2 | false 2
 [0 | i1 [1 | false 1
+R | R | false 1
+R | c | true 1
+q17int | q17int | true 1
 "#;

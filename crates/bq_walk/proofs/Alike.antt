@@ -4,10 +4,13 @@ use Rattle.std.specs.Ordering.{int_eq}
 use Rattle.std.proofs.Math.Nat.{suc_inj}
 use Rattle.std.specs.Cmp.Lexicographic.{pointwise}
 use lib.Pointwise.{bytes_decides}
-use Rattle.bq_value.specs.Datum.{Datum, none, boolean, int, string, tuple, range, cell, function, built_in, list_of}
+use Rattle.bq_value.specs.Datum.{Datum, none, boolean, int, string, tuple, range, cell, function, built_in, rule_function, attribute, list_of}
 use Rattle.bq_value.specs.Range.{ranges_same}
+use Rattle.bq_rule_class.specs.Same.{same_attribute}
+use Rattle.bq_value.specs.Codes.{number_of, numbers_differ}
 use Rattle.bq_value.specs.Same.{bool_same}
-use Rattle.bq_value.specs.Contents.{Contents, items, pairs}
+use Rattle.bq_value.specs.SameLaws.{attributes_decide}
+use Rattle.bq_value.specs.Contents.{Contents, items, pairs, rule}
 use Rattle.bq_value.specs.Cells.{StoreView, content_at}
 use Rattle.bq_value.specs.Pairs.{found}
 use Rattle.bq_walk.specs.Looked.{Looked}
@@ -31,15 +34,17 @@ abbrev pub PartnersAlike : Relates → List (Datum × Datum) → List (Datum × 
 PartnersAlike r [] qs = Unit {0}
 PartnersAlike r (p ∷ ps) qs = PartnerAlike r p.1 (found p.0 qs) × PartnersAlike r ps qs
 
-abbrev pub ContentsAlike : Relates → Contents → Contents → Type 0
-ContentsAlike r (items xs) (items ys) = AllAlike r xs ys
-ContentsAlike r (pairs ps) (pairs qs) = (length ps ≡ length qs) × PartnersAlike r ps qs
-ContentsAlike r _ _ = ⊥
+-- what two cells hold, where this says that they are one cell
+abbrev pub ContentsAlike : Relates → Type 0 → Contents → Contents → Type 0
+ContentsAlike r one (items xs) (items ys) = AllAlike r xs ys
+ContentsAlike r one (pairs ps) (pairs qs) = (length ps ≡ length qs) × PartnersAlike r ps qs
+ContentsAlike r one (rule c) (rule d) = one
+ContentsAlike r one _ _ = ⊥
 
-abbrev pub CellsAlike : Relates → Option Contents → Option Contents → Type 0
-CellsAlike r (Some c) (Some d) = ContentsAlike r c d
-CellsAlike r None None = Unit {0}
-CellsAlike r _ _ = ⊥
+abbrev pub CellsAlike : Relates → Type 0 → Option Contents → Option Contents → Type 0
+CellsAlike r one (Some c) (Some d) = ContentsAlike r one c d
+CellsAlike r one None None = Unit {0}
+CellsAlike r one _ _ = ⊥
 
 abbrev pub PartsAlike : Relates → StoreView → Datum → Datum → Type 0
 PartsAlike r s none none = Unit {0}
@@ -48,9 +53,11 @@ PartsAlike r s (int a) (int b) = a ≡ b
 PartsAlike r s (string a) (string b) = a ≡ b
 PartsAlike r s (tuple a) (tuple b) = AllAlike r (list_of a) (list_of b)
 PartsAlike r s (range a b c) (range d e f) = AreRangesSame a b c d e f
-PartsAlike r s (cell a i) (cell b j) = CellsAlike r (content_at s a i) (content_at s b j)
+PartsAlike r s (cell a i) (cell b j) = CellsAlike r ((a ≡ b) × (i ≡ j)) (content_at s a i) (content_at s b j)
 PartsAlike r s (function a i m vs) (function b j o ws) = (a ≡ b) × (i ≡ j)
 PartsAlike r s (built_in a) (built_in b) = a ≡ b
+PartsAlike r s (rule_function f) (rule_function g) = f ≡ g
+PartsAlike r s (attribute a) (attribute b) = a ≡ b
 PartsAlike r s _ _ = ⊥
 
 abbrev pub Alike : ℕ → StoreView → Relates
@@ -154,29 +161,32 @@ module _ (same : Compares) (r : Relates) (h : (n m : ℕ) (x y : Datum) (b : Boo
   of_as_many ps qs l true t = (l, t)
   of_as_many ps qs l false t = λ a. t a.1
 
-  contents_tell : (c d : Contents) (n : ℕ) (b : Bool) (m : ℕ) → contents_equal same n c d ≡ Ok (b, m) → Tells b (ContentsAlike r c d)
-  contents_tell (items xs) (items ys) n b m e = lists_tell xs ys n b m e
-  contents_tell (pairs ps) (pairs qs) n b m e =
-      cond_tells (length ps == length qs) n (pairs_equal same n ps qs) (λ a. nat_test (length ps) (length qs) a.0)
-      (λ t c k f. of_as_many ps qs (nat_true (length ps) (length qs) t) c (pairs_tell ps qs n c k f)) b m e
-  contents_tell (items xs) (pairs qs) n true m e = no_yes n m e
-  contents_tell (items xs) (pairs qs) n false m e = λ a. a
-  contents_tell (pairs ps) (items ys) n true m e = no_yes n m e
-  contents_tell (pairs ps) (items ys) n false m e = λ a. a
-
-  cells_tell : (c d : Option Contents) (n : ℕ) (b : Bool) (m : ℕ) → cells_equal same n c d ≡ Ok (b, m) → Tells b (CellsAlike r c d)
-  cells_tell (Some c) (Some d) n b m e = contents_tell c d n b m e
-  cells_tell None None n true m e = tt
-  cells_tell None None n false m e = yes_no n m e
-  cells_tell (Some c) None n true m e = no_yes n m e
-  cells_tell (Some c) None n false m e = λ a. a
-  cells_tell None (Some d) n true m e = no_yes n m e
-  cells_tell None (Some d) n false m e = λ a. a
-
   -- values of unlike types
   unlike : {p : Type 0} (n : ℕ) → (p → ⊥) → (b : Bool) (m : ℕ) → answered false n ≡ answered b m → Tells b p
   unlike n never true m e = no_yes n m e
   unlike n never false m e = never
+
+  -- two cells, of which a test says whether they are one
+  module _ (one : Bool) (is_one : Type 0) (test : (b : Bool) → one ≡ b → Tells b is_one) where
+    contents_tell : (c d : Contents) (n : ℕ) (b : Bool) (m : ℕ) → contents_equal same n one c d ≡ Ok (b, m) → Tells b (ContentsAlike r is_one c d)
+    contents_tell (items xs) (items ys) n b m e = lists_tell xs ys n b m e
+    contents_tell (pairs ps) (pairs qs) n b m e =
+        cond_tells (length ps == length qs) n (pairs_equal same n ps qs) (λ a. nat_test (length ps) (length qs) a.0)
+        (λ t c k f. of_as_many ps qs (nat_true (length ps) (length qs) t) c (pairs_tell ps qs n c k f)) b m e
+    contents_tell (rule c) (rule d) n b m e = test b (answer_of one b n m e)
+    contents_tell _ _ n b m e = unlike n (λ a. a) b m e
+
+    cells_tell : (c d : Option Contents) (n : ℕ) (b : Bool) (m : ℕ) → cells_equal same n one c d ≡ Ok (b, m) → Tells b (CellsAlike r is_one c d)
+    cells_tell (Some c) (Some d) n b m e = contents_tell c d n b m e
+    cells_tell None None n true m e = tt
+    cells_tell None None n false m e = yes_no n m e
+    cells_tell (Some c) None n b m e = unlike n (λ a. a) b m e
+    cells_tell None (Some d) n b m e = unlike n (λ a. a) b m e
+
+  -- two numbers by their tests
+  two_tell : (a b i j : ℕ) (c : Bool) → ((a == b) && (i == j)) ≡ c → Tells c ((a ≡ b) × (i ≡ j))
+  two_tell a b i j c e =
+      tested ((a == b) && (i == j)) (λ f. let p = both_true (a == b) (i == j) f in (nat_true a b p.0, nat_true i j p.1)) (λ f. all_true (a == b) (i == j) (nat_test a b f.0) (nat_test i j f.1)) c e
 
   parts_tell : (s : StoreView) (x y : Datum) (n : ℕ) (b : Bool) (m : ℕ) → parts_equal same s n x y ≡ Ok (b, m) → Tells b (PartsAlike r s x y)
   parts_tell s none none n true m e = tt
@@ -186,10 +196,13 @@ module _ (same : Compares) (r : Relates) (h : (n m : ℕ) (x y : Datum) (b : Boo
   parts_tell s (string a) (string b) n c m e = tested (pointwise ◌==◌ a b) (bytes_decides a b).0 (bytes_decides a b).1 c (answer_of (pointwise ◌==◌ a b) c n m e)
   parts_tell s (tuple a) (tuple b) n c m e = lists_tell (list_of a) (list_of b) n c m e
   parts_tell s (range a b c) (range d e f) n t m k = tested (ranges_same a b c d e f) (ranges_from a b c d e f) (ranges_test a b c d e f) t (answer_of (ranges_same a b c d e f) t n m k)
-  parts_tell s (cell a i) (cell b j) n c m e = cells_tell (content_at s a i) (content_at s b j) n c m e
-  parts_tell s (function a i t vs) (function b j u ws) n c m e =
-      tested ((a == b) && (i == j)) (λ f. let p = both_true (a == b) (i == j) f in (nat_true a b p.0, nat_true i j p.1)) (λ f. all_true (a == b) (i == j) (nat_test a b f.0) (nat_test i j f.1)) c (answer_of ((a == b) && (i == j)) c n m e)
+  parts_tell s (cell a i) (cell b j) n c m e = cells_tell ((a == b) && (i == j)) ((a ≡ b) × (i ≡ j)) (two_tell a b i j) (content_at s a i) (content_at s b j) n c m e
+  parts_tell s (function a i t vs) (function b j u ws) n c m e = two_tell a b i j c (answer_of ((a == b) && (i == j)) c n m e)
   parts_tell s (built_in a) (built_in b) n c m e = tested (pointwise ◌==◌ a b) (bytes_decides a b).0 (bytes_decides a b).1 c (answer_of (pointwise ◌==◌ a b) c n m e)
+  parts_tell s (rule_function f) (rule_function g) n c m e =
+      tested (number_of f == number_of g) (λ t. numbers_differ f g (nat_true (number_of f) (number_of g) t)) (λ h. nat_test (number_of f) (number_of g) (ap number_of h)) c (answer_of (number_of f == number_of g) c n m e)
+  parts_tell s (attribute a) (attribute b) n c m e =
+      tested (same_attribute a b) (attributes_decide a b).0 (attributes_decide a b).1 c (answer_of (same_attribute a b) c n m e)
   parts_tell s _ _ n c m e = unlike n (λ h. h) c m e
 
 -- what `==` answers says whether they are alike

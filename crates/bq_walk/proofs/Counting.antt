@@ -1,11 +1,11 @@
 -- Each walk takes a number of steps of its own.
-use Rattle.std.proofs.Common.{◌≡◌, ◌∙◌, ◌+◌, ◌-◌, ◌<◌, ◌≤◌, ◌⊎◌, inl, inr, ◌==◌, ℕ, zero, suc, ℤ, Bool, true, false, cond, List, [], ◌∷◌, length, Option, Some, None, Result, Ok, Err, refl, ap, arith}
+use Rattle.std.proofs.Common.{◌≡◌, ◌∙◌, ◌+◌, ◌-◌, ◌<◌, ◌≤◌, ◌⊎◌, inl, inr, ◌==◌, ◌&&◌, ℕ, zero, suc, ℤ, Bool, true, false, cond, List, [], ◌∷◌, length, Option, Some, None, Result, Ok, Err, refl, ap, arith}
 use Rattle.std.proofs.lemmas.Bool.{cases_lt}
 use Rattle.std.specs.declared.cmp.Ordering.{Ordering}
 use Rattle.bq_source.specs.declared.fault.FaultKind.{FaultKind}
 use Rattle.bq_source.specs.declared.fault.FaultKind.TheVariants.{StepLimit, TooDeep, WrongType}
-use Rattle.bq_value.specs.Datum.{Datum, none, boolean, int, string, tuple, range, cell, function, built_in, list_of}
-use Rattle.bq_value.specs.Contents.{Contents, items, pairs}
+use Rattle.bq_value.specs.Datum.{Datum, none, boolean, int, string, tuple, range, cell, function, built_in, rule_function, attribute, list_of}
+use Rattle.bq_value.specs.Contents.{Contents, items, pairs, rule}
 use Rattle.bq_value.specs.Cells.{StoreView, content_at}
 use Rattle.bq_value.specs.Pairs.{found}
 use Rattle.bq_walk.specs.Looked.{Looked, stepped}
@@ -94,17 +94,17 @@ module _ (same : Compares) (takes : (x y : Datum) → Takes (λ n. same n x y)) 
       followed (λ n. partner_equal same n p.1 (found p.0 qs)) (λ r. if_so r (λ m. pairs_equal same m ps qs)) (λ kind. refl) (partner_takes p.1 (found p.0 qs))
       (so_takes (λ m. pairs_equal same m ps qs) (pairs_take ps qs))
 
-  contents_take : (c d : Contents) → Takes (λ n. contents_equal same n c d)
-  contents_take (items xs) (items ys) = lists_take xs ys
-  contents_take (pairs ps) (pairs qs) = cond_takes (length ps == length qs) (λ n. pairs_equal same n ps qs) (pairs_take ps qs)
-  contents_take (items xs) (pairs qs) = ok_takes false
-  contents_take (pairs ps) (items ys) = ok_takes false
+  contents_take : (one : Bool) (c d : Contents) → Takes (λ n. contents_equal same n one c d)
+  contents_take one (items xs) (items ys) = lists_take xs ys
+  contents_take one (pairs ps) (pairs qs) = cond_takes (length ps == length qs) (λ n. pairs_equal same n ps qs) (pairs_take ps qs)
+  contents_take one (rule c) (rule d) = ok_takes one
+  contents_take one _ _ = ok_takes false
 
-  cells_take : (c d : Option Contents) → Takes (λ n. cells_equal same n c d)
-  cells_take (Some c) (Some d) = contents_take c d
-  cells_take None None = ok_takes true
-  cells_take (Some c) None = ok_takes false
-  cells_take None (Some d) = ok_takes false
+  cells_take : (one : Bool) (c d : Option Contents) → Takes (λ n. cells_equal same n one c d)
+  cells_take one (Some c) (Some d) = contents_take one c d
+  cells_take one None None = ok_takes true
+  cells_take one (Some c) None = ok_takes false
+  cells_take one None (Some d) = ok_takes false
 
   parts_take : (s : StoreView) (x y : Datum) → Takes (λ n. parts_equal same s n x y)
   parts_take s none none = ok_takes true
@@ -113,9 +113,11 @@ module _ (same : Compares) (takes : (x y : Datum) → Takes (λ n. same n x y)) 
   parts_take s (string a) (string b) = ok_takes _
   parts_take s (tuple a) (tuple b) = lists_take (list_of a) (list_of b)
   parts_take s (range a b c) (range d e f) = ok_takes _
-  parts_take s (cell a i) (cell b j) = cells_take (content_at s a i) (content_at s b j)
+  parts_take s (cell a i) (cell b j) = cells_take ((a == b) && (i == j)) (content_at s a i) (content_at s b j)
   parts_take s (function a i t vs) (function b j u ws) = ok_takes _
   parts_take s (built_in a) (built_in b) = ok_takes _
+  parts_take s (rule_function f) (rule_function g) = ok_takes _
+  parts_take s (attribute a) (attribute b) = ok_takes _
   parts_take s _ _ = ok_takes false
 
 pub equal_takes : (l : ℕ) (s : StoreView) (x y : Datum) → Takes (λ n. equal_at l s n x y)
@@ -138,7 +140,9 @@ module _ (same : Compares) (order : Orders) (same_takes : (x y : Datum) → Take
   ordered_contents_take : (c d : Contents) → Takes (λ n. contents_ordered same order n c d)
   ordered_contents_take (items xs) (items ys) = orders_take xs ys
   ordered_contents_take (items xs) (pairs qs) = err_takes WrongType
+  ordered_contents_take (items xs) (rule d) = err_takes WrongType
   ordered_contents_take (pairs ps) d = err_takes WrongType
+  ordered_contents_take (rule c) d = err_takes WrongType
 
   ordered_cells_take : (c d : Option Contents) → Takes (λ n. cells_ordered same order n c d)
   ordered_cells_take (Some c) (Some d) = ordered_contents_take c d
@@ -180,6 +184,8 @@ module _ (same : Compares) (order : Orders) (same_takes : (x y : Datum) → Take
   ordered_parts_take s (range a b c) y = err_takes WrongType
   ordered_parts_take s (function a i t vs) y = err_takes WrongType
   ordered_parts_take s (built_in t) y = err_takes WrongType
+  ordered_parts_take s (rule_function f) y = err_takes WrongType
+  ordered_parts_take s (attribute a) y = err_takes WrongType
 
 pub order_takes : (l : ℕ) (s : StoreView) (x y : Datum) → Takes (λ n. ordered_at l s n x y)
 order_takes zero s x y = stepped_takes (λ m. Err TooDeep) (err_takes TooDeep)

@@ -3,10 +3,15 @@ use Rattle.std.proofs.Common.{◌≡◌, ◌∙◌, ◌==◌, ℕ, zero, suc, �
 use Rattle.std.specs.Cmp.Lexicographic.{pointwise}
 use Rattle.std.specs.Ordering.{int_eq}
 use lib.Pointwise.{bytes_decides}
-use Rattle.bq_value.specs.Datum.{Datum, none, boolean, int, string, tuple, range, cell, function, built_in, Data, list_of}
+use Rattle.bq_value.specs.Datum.{Datum, none, boolean, int, string, tuple, range, cell, function, built_in, rule_function, attribute, Data, list_of}
 use Rattle.bq_value.specs.Range.{ranges_same}
+use Rattle.bq_predeclared.specs.declared.rule_function.RuleFunction.{RuleFunction}
+use Rattle.bq_rule_class.specs.Same.{same_attribute}
+use Rattle.bq_rule_class.specs.declared.attribute.Attribute.{Attribute}
+use Rattle.bq_value.specs.Codes.{number_of}
 use Rattle.bq_value.specs.Same.{bool_same}
-use Rattle.bq_value.specs.Contents.{Contents, items, pairs, KeysDiffer}
+use Rattle.bq_value.specs.SameLaws.{attributes_decide}
+use Rattle.bq_value.specs.Contents.{Contents, items, pairs, rule, KeysDiffer}
 use Rattle.bq_value.specs.Cells.{StoreView, content_at}
 use Rattle.bq_value.specs.Pairs.{found, HasNoKeyTwice}
 use Rattle.bq_walk.specs.Looked.{Looked}
@@ -27,18 +32,19 @@ module _ (r : Relates) (back : (x y : Datum) → r x y → r y x) where
   turned v None h = h
   turned v (Some w) h = back w v h
 
-  contents_back : (c d : Contents) → KeysDiffer (Some c) → KeysDiffer (Some d) → ContentsAlike r c d → ContentsAlike r d c
-  contents_back (items xs) (items ys) dc dd h = all_back xs ys h
-  contents_back (pairs ps) (pairs qs) dc dd h =
-      (sym h.0, partners_all r qs ps dd (λ k w e. turned w (found k ps) (flipped r ps qs dc (partners r ps qs h.1) (omega (arith, h.0)) k w e)))
-  contents_back (items xs) (pairs qs) dc dd h = absurd h
-  contents_back (pairs ps) (items ys) dc dd h = absurd h
+  module _ (p q : Type 0) (turn : p → q) where
+    contents_back : (c d : Contents) → KeysDiffer (Some c) → KeysDiffer (Some d) → ContentsAlike r p c d → ContentsAlike r q d c
+    contents_back (items xs) (items ys) dc dd h = all_back xs ys h
+    contents_back (pairs ps) (pairs qs) dc dd h =
+        (sym h.0, partners_all r qs ps dd (λ k w e. turned w (found k ps) (flipped r ps qs dc (partners r ps qs h.1) (omega (arith, h.0)) k w e)))
+    contents_back (rule c) (rule d) dc dd h = turn h
+    contents_back _ _ dc dd h = absurd h
 
-  cells_back : (c d : Option Contents) → KeysDiffer c → KeysDiffer d → CellsAlike r c d → CellsAlike r d c
-  cells_back (Some c) (Some d) dc dd h = contents_back c d dc dd h
-  cells_back None None dc dd h = tt
-  cells_back (Some c) None dc dd h = absurd h
-  cells_back None (Some d) dc dd h = absurd h
+    cells_back : (c d : Option Contents) → KeysDiffer c → KeysDiffer d → CellsAlike r p c d → CellsAlike r q d c
+    cells_back (Some c) (Some d) dc dd h = contents_back c d dc dd h
+    cells_back None None dc dd h = tt
+    cells_back (Some c) None dc dd h = absurd h
+    cells_back None (Some d) dc dd h = absurd h
 
   parts_back : (s : StoreView) → KeysAreDistinct s → (x y : Datum) → PartsAlike r s x y → PartsAlike r s y x
   parts_back s ds none none h = tt
@@ -47,9 +53,12 @@ module _ (r : Relates) (back : (x y : Datum) → r x y → r y x) where
   parts_back s ds (string a) (string b) h = sym h
   parts_back s ds (tuple a) (tuple b) h = all_back (list_of a) (list_of b) h
   parts_back s ds (range a b c) (range d e f) h = ranges_back a b c d e f h
-  parts_back s ds (cell a i) (cell b j) h = cells_back (content_at s a i) (content_at s b j) (ds a i) (ds b j) h
+  parts_back s ds (cell a i) (cell b j) h =
+      cells_back ((a ≡ b) × (i ≡ j)) ((b ≡ a) × (j ≡ i)) (λ e. (sym e.0, sym e.1)) (content_at s a i) (content_at s b j) (ds a i) (ds b j) h
   parts_back s ds (function a i t vs) (function b j u ws) h = (sym h.0, sym h.1)
   parts_back s ds (built_in a) (built_in b) h = sym h
+  parts_back s ds (rule_function f) (rule_function g) h = sym h
+  parts_back s ds (attribute a) (attribute b) h = sym h
   parts_back s ds _ _ h = absurd h
 
 pub alike_back : (l : ℕ) (s : StoreView) → KeysAreDistinct s → (x y : Datum) → Alike l s x y → Alike l s y x
@@ -73,20 +82,34 @@ module _ (r : Relates) (on : (x y z : Datum) → r x y → r y z → r x z) wher
   partners_on [] qs rs h k = tt
   partners_on (p ∷ ps) qs rs h k = (partner_on p.1 (found p.0 qs) (found p.0 rs) h.0 (λ w e. k p.0 w e), partners_on ps qs rs h.1 k)
 
-  contents_on : (c d e : Contents) → ContentsAlike r c d → ContentsAlike r d e → ContentsAlike r c e
-  contents_on (items xs) (items ys) (items zs) h k = all_on xs ys zs h k
-  contents_on (pairs ps) (pairs qs) (pairs rs) h k = (h.0 ∙ k.0, partners_on ps qs rs h.1 (partners r qs rs k.1))
-  contents_on (items xs) (items ys) (pairs rs) h k = absurd k
-  contents_on (pairs ps) (pairs qs) (items zs) h k = absurd k
-  contents_on (items xs) (pairs qs) e h k = absurd h
-  contents_on (pairs ps) (items ys) e h k = absurd h
+  module _ (p q s : Type 0) (chain : p → q → s) where
+    contents_on : (c d e : Contents) → ContentsAlike r p c d → ContentsAlike r q d e → ContentsAlike r s c e
+    contents_on (items xs) (items ys) (items zs) h k = all_on xs ys zs h k
+    contents_on (pairs ps) (pairs qs) (pairs rs) h k = (h.0 ∙ k.0, partners_on ps qs rs h.1 (partners r qs rs k.1))
+    contents_on (rule c) (rule d) (rule e) h k = chain h k
+    contents_on (items xs) (items ys) (pairs rs) h k = absurd k
+    contents_on (items xs) (items ys) (rule e) h k = absurd k
+    contents_on (pairs ps) (pairs qs) (items zs) h k = absurd k
+    contents_on (pairs ps) (pairs qs) (rule e) h k = absurd k
+    contents_on (rule c) (rule d) (items zs) h k = absurd k
+    contents_on (rule c) (rule d) (pairs rs) h k = absurd k
+    contents_on (items xs) (pairs qs) e h k = absurd h
+    contents_on (items xs) (rule d) e h k = absurd h
+    contents_on (pairs ps) (items ys) e h k = absurd h
+    contents_on (pairs ps) (rule d) e h k = absurd h
+    contents_on (rule c) (items ys) e h k = absurd h
+    contents_on (rule c) (pairs qs) e h k = absurd h
 
-  cells_on : (c d e : Option Contents) → CellsAlike r c d → CellsAlike r d e → CellsAlike r c e
-  cells_on (Some c) (Some d) (Some e) h k = contents_on c d e h k
-  cells_on None None e h k = k
-  cells_on (Some c) (Some d) None h k = absurd k
-  cells_on (Some c) None e h k = absurd h
-  cells_on None (Some d) e h k = absurd h
+    none_on : (e : Option Contents) → CellsAlike r q None e → CellsAlike r s None e
+    none_on None k = tt
+    none_on (Some e) k = absurd k
+
+    cells_on : (c d e : Option Contents) → CellsAlike r p c d → CellsAlike r q d e → CellsAlike r s c e
+    cells_on (Some c) (Some d) (Some e) h k = contents_on c d e h k
+    cells_on None None e h k = none_on e k
+    cells_on (Some c) (Some d) None h k = absurd k
+    cells_on (Some c) None e h k = absurd h
+    cells_on None (Some d) e h k = absurd h
 
   tuple_on : (s : StoreView) (a b : Data) (z : Datum) → AllAlike r (list_of a) (list_of b) → PartsAlike r s (tuple b) z → PartsAlike r s (tuple a) z
   tuple_on s a b (tuple c) h k = all_on (list_of a) (list_of b) (list_of c) h k
@@ -96,8 +119,9 @@ module _ (r : Relates) (on : (x y z : Datum) → r x y → r y z → r x z) wher
   range_on s a b c d e f (range g i j) h k = ranges_on a b c d e f g i j h k
   range_on s a b c d e f _ h k = absurd k
 
-  cell_on : (s : StoreView) (a i b j : ℕ) (z : Datum) → CellsAlike r (content_at s a i) (content_at s b j) → PartsAlike r s (cell b j) z → PartsAlike r s (cell a i) z
-  cell_on s a i b j (cell c m) h k = cells_on (content_at s a i) (content_at s b j) (content_at s c m) h k
+  cell_on : (s : StoreView) (a i b j : ℕ) (z : Datum) → CellsAlike r ((a ≡ b) × (i ≡ j)) (content_at s a i) (content_at s b j) → PartsAlike r s (cell b j) z → PartsAlike r s (cell a i) z
+  cell_on s a i b j (cell c m) h k =
+      cells_on ((a ≡ b) × (i ≡ j)) ((b ≡ c) × (j ≡ m)) ((a ≡ c) × (i ≡ m)) (λ e f. (e.0 ∙ f.0, e.1 ∙ f.1)) (content_at s a i) (content_at s b j) (content_at s c m) h k
   cell_on s a i b j _ h k = absurd k
 
   function_on : (s : StoreView) (a i b j : ℕ) (t u : List ℕ) (vs ws : Data) (z : Datum) → (a ≡ b) × (i ≡ j) → PartsAlike r s (function b j u ws) z → PartsAlike r s (function a i t vs) z
@@ -114,6 +138,8 @@ module _ (r : Relates) (on : (x y z : Datum) → r x y → r y z → r x z) wher
   parts_on s (cell a i) (cell b j) z h k = cell_on s a i b j z h k
   parts_on s (function a i t vs) (function b j u ws) z h k = function_on s a i b j t u vs ws z h k
   parts_on s (built_in a) (built_in b) z h k = subst (λ (c : List ℕ). PartsAlike r s (built_in c) z) (sym h) k
+  parts_on s (rule_function f) (rule_function g) z h k = subst (λ (c : RuleFunction). PartsAlike r s (rule_function c) z) (sym h) k
+  parts_on s (attribute a) (attribute b) z h k = subst (λ (c : Attribute). PartsAlike r s (attribute c) z) (sym h) k
   parts_on s _ _ z h k = absurd h
 
 pub alike_on : (l : ℕ) (s : StoreView) (x y z : Datum) → Alike l s x y → Alike l s y z → Alike l s x z
@@ -154,14 +180,18 @@ module _ (same : Compares) (h : (n m : ℕ) (x : Datum) (b : Bool) → same n x 
   own_partners : (ps : List (Datum × Datum)) → HasNoKeyTwice ps → PartnersAlike (λ x y. x ≡ y) ps ps
   own_partners ps d = partners_all (λ x y. x ≡ y) ps ps d (λ k v e. subst (λ (o : Option Datum). PartnerAlike (λ x y. x ≡ y) v o) (sym e) refl)
 
-  contents_itself : (c : Contents) → KeysDiffer (Some c) → (n : ℕ) (b : Bool) (m : ℕ) → contents_equal same n c c ≡ Ok (b, m) → b ≡ true
-  contents_itself (items xs) d n b m e = lists_itself xs n b m e
-  contents_itself (pairs ps) d n b m e =
+  contents_itself : (one : Bool) → one ≡ true → (c : Contents) → KeysDiffer (Some c) → (n : ℕ) (b : Bool) (m : ℕ) → contents_equal same n one c c ≡ Ok (b, m) → b ≡ true
+  contents_itself one so (items xs) d n b m e = lists_itself xs n b m e
+  contents_itself one so (pairs ps) d n b m e =
       cond_itself (length ps == length ps) (nat_test (length ps) (length ps) refl) n (pairs_equal same n ps ps) (λ c k f. pairs_itself ps ps (own_partners ps d) n c k f) b m e
+  contents_itself one so (rule c) d n b m e = sym (answer_of one b n m e) ∙ so
 
-  cells_itself : (c : Option Contents) → KeysDiffer c → (n : ℕ) (b : Bool) (m : ℕ) → cells_equal same n c c ≡ Ok (b, m) → b ≡ true
-  cells_itself None d n b m e = sym (answer_of true b n m e)
-  cells_itself (Some c) d n b m e = contents_itself c d n b m e
+  cells_itself : (one : Bool) → one ≡ true → (c : Option Contents) → KeysDiffer c → (n : ℕ) (b : Bool) (m : ℕ) → cells_equal same n one c c ≡ Ok (b, m) → b ≡ true
+  cells_itself one so None d n b m e = sym (answer_of true b n m e)
+  cells_itself one so (Some c) d n b m e = contents_itself one so c d n b m e
+
+  one_itself : (a i : ℕ) → ((a == a) && (i == i)) ≡ true
+  one_itself a i = all_true (a == a) (i == i) (nat_test a a refl) (nat_test i i refl)
 
   parts_itself : (s : StoreView) → KeysAreDistinct s → (x : Datum) (n : ℕ) (b : Bool) (m : ℕ) → parts_equal same s n x x ≡ Ok (b, m) → b ≡ true
   parts_itself s ds none n b m e = sym (answer_of true b n m e)
@@ -170,9 +200,11 @@ module _ (same : Compares) (h : (n m : ℕ) (x : Datum) (b : Bool) → same n x 
   parts_itself s ds (string a) n b m e = sym (answer_of (pointwise ◌==◌ a a) b n m e) ∙ (bytes_decides a a).1 refl
   parts_itself s ds (tuple a) n b m e = lists_itself (list_of a) n b m e
   parts_itself s ds (range a b c) n t m e = sym (answer_of (ranges_same a b c a b c) t n m e) ∙ ranges_itself a b c
-  parts_itself s ds (cell a i) n b m e = cells_itself (content_at s a i) (ds a i) n b m e
-  parts_itself s ds (function a i t vs) n b m e = sym (answer_of ((a == a) && (i == i)) b n m e) ∙ all_true (a == a) (i == i) (nat_test a a refl) (nat_test i i refl)
+  parts_itself s ds (cell a i) n b m e = cells_itself ((a == a) && (i == i)) (one_itself a i) (content_at s a i) (ds a i) n b m e
+  parts_itself s ds (function a i t vs) n b m e = sym (answer_of ((a == a) && (i == i)) b n m e) ∙ one_itself a i
   parts_itself s ds (built_in a) n b m e = sym (answer_of (pointwise ◌==◌ a a) b n m e) ∙ (bytes_decides a a).1 refl
+  parts_itself s ds (rule_function f) n b m e = sym (answer_of (number_of f == number_of f) b n m e) ∙ nat_test (number_of f) (number_of f) refl
+  parts_itself s ds (attribute a) n b m e = sym (answer_of (same_attribute a a) b n m e) ∙ (attributes_decide a a).1 refl
 
 pub equal_itself : (l : ℕ) (s : StoreView) → KeysAreDistinct s → (n m : ℕ) (x : Datum) (b : Bool) → equal_at l s n x x ≡ Ok (b, m) → b ≡ true
 equal_itself zero s ds zero m x b e = absurd (cc)

@@ -1,7 +1,7 @@
 -- The walk of a key takes a number of steps of its own.
 use Rattle.std.proofs.Common.{◌≡◌, ◌∙◌, ◌+◌, ℕ, zero, suc, List, [], ◌∷◌, Ok, Err, refl}
 use Rattle.bq_source.specs.declared.fault.FaultKind.TheVariants.{TooDeep, Unhashable}
-use Rattle.bq_value.specs.Datum.{Datum, none, boolean, int, string, tuple, range, cell, function, built_in, list_of}
+use Rattle.bq_value.specs.Datum.{Datum, none, boolean, int, string, tuple, range, cell, function, built_in, rule_function, attribute, list_of}
 use Rattle.bq_walk.specs.Looked.{Looked, stepped}
 use Rattle.bq_walk.specs.KeyWalk.{Walked, walk_step, and_walk, all_walked, parts_walked, walked_at, keyed}
 use Rattle.bq_walk.specs.Laws.{Takes}
@@ -48,6 +48,8 @@ module _ (v : Datum) where
     parts_take (cell a i) = err_takes Unhashable
     parts_take (function a i s xs) = err_takes Unhashable
     parts_take (built_in s) = err_takes Unhashable
+    parts_take (rule_function f) = err_takes Unhashable
+    parts_take (attribute a) = err_takes Unhashable
 
   pub key_takes : (l : ℕ) (x : Datum) → Takes (λ n. keyed v (walked_at l n x))
   key_takes zero x = takes_as (λ n. stepped n (λ m. Err TooDeep)) (λ n. keyed v (walk_step n (λ m. Err TooDeep))) (λ n. step_keyed n (λ m. Err TooDeep)) (stepped_takes (λ m. Err TooDeep) (err_takes TooDeep))

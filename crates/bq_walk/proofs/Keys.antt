@@ -1,7 +1,7 @@
 -- A value that the walk goes through may be a key, and of a value that may be one it never says that it may not.
 use Rattle.std.proofs.Common.{◌≡◌, ◌≢◌, ℕ, zero, suc, Ok, Err, refl, sym, ap}
 use Rattle.bq_source.specs.declared.fault.FaultKind.TheVariants.{Unhashable}
-use Rattle.bq_value.specs.Datum.{Datum, none, boolean, int, string, tuple, range, cell, function, built_in, Data, end, datum, list_of}
+use Rattle.bq_value.specs.Datum.{Datum, none, boolean, int, string, tuple, range, cell, function, built_in, rule_function, attribute, Data, end, datum, list_of}
 use Rattle.bq_value.specs.Key.{IsKey, AreKeys}
 use Rattle.bq_walk.specs.Looked.{Looked}
 use Rattle.bq_walk.specs.KeyWalk.{Walked, and_walk, all_walked, parts_walked, walked_at, keyed}
@@ -26,6 +26,8 @@ module _ (walk : ℕ → Datum → Walked) (h : (n m : ℕ) (v : Datum) → walk
   parts_key (cell a b) n m e = cc
   parts_key (function a b s vs) n m e = cc
   parts_key (built_in s) n m e = cc
+  parts_key (rule_function f) n m e = cc
+  parts_key (attribute a) n m e = cc
 
 pub walked_key : (l n m : ℕ) (v : Datum) → walked_at l n v ≡ Ok m → IsKey v
 walked_key zero zero m v e = cc
@@ -52,6 +54,8 @@ module _ (walk : ℕ → Datum → Walked) (h : (n : ℕ) (v : Datum) → IsKey 
   parts_never (cell a b) n ks = absurd ks
   parts_never (function a b s vs) n ks = absurd ks
   parts_never (built_in s) n ks = absurd ks
+  parts_never (rule_function f) n ks = absurd ks
+  parts_never (attribute a) n ks = absurd ks
 
 walked_never : (l n : ℕ) (v : Datum) → IsKey v → walked_at l n v ≢ Err Unhashable
 walked_never zero zero v ks = λ e. cc

@@ -7,8 +7,8 @@ use Rattle.std.specs.Cmp.{IsTotalOrder, bool_cmp_total}
 use Rattle.std.specs.Cmp.Lexicographic.{slice_cmp}
 use Rattle.std.proofs.lemmas.Cmp.{int_cmp_total, nat_list_cmp_total, tied_itself}
 use Rattle.std.proofs.lemmas.Map.Lookups.{exact_signed, exact_bytes}
-use Rattle.bq_value.specs.Datum.{Datum, none, boolean, int, string, tuple, range, cell, function, built_in, Data, list_of}
-use Rattle.bq_value.specs.Contents.{Contents, items, pairs}
+use Rattle.bq_value.specs.Datum.{Datum, none, boolean, int, string, tuple, range, cell, function, built_in, rule_function, attribute, Data, list_of}
+use Rattle.bq_value.specs.Contents.{Contents, items, pairs, rule}
 use Rattle.bq_value.specs.Cells.{StoreView, content_at}
 use Rattle.bq_walk.specs.Looked.{Looked}
 use Rattle.bq_walk.specs.Equality.{Compares, equal_at}
@@ -95,15 +95,17 @@ module _ (same : Compares) (order : Orders) (e r : Relates) (back : (x y : Datum
   lists_told (x ∷ xs) (y ∷ ys) n o m h =
       first_told x y xs ys (same n x y) (λ b k f. alike n k x y b f) (λ k p j f. lists_told xs ys k p j f) o m h
 
-  contents_told : (c d : Contents) (n : ℕ) (o : Ordering) (m : ℕ) → contents_ordered same order n c d ≡ Ok (o, m) → MatchOrdering o (ContentsLesser e r c d) (ContentsAlike e c d) (ContentsLesser e r d c)
-  contents_told (items xs) (items ys) n o m h = lists_told xs ys n o m h
-  contents_told (items xs) (pairs qs) n o m h = absurd (cc)
-  contents_told (pairs ps) d n o m h = absurd (cc)
+  contents_told : (one : Type 0) (c d : Contents) (n : ℕ) (o : Ordering) (m : ℕ) → contents_ordered same order n c d ≡ Ok (o, m) → MatchOrdering o (ContentsLesser e r c d) (ContentsAlike e one c d) (ContentsLesser e r d c)
+  contents_told one (items xs) (items ys) n o m h = lists_told xs ys n o m h
+  contents_told one (items xs) (pairs qs) n o m h = absurd (cc)
+  contents_told one (items xs) (rule d) n o m h = absurd (cc)
+  contents_told one (pairs ps) d n o m h = absurd (cc)
+  contents_told one (rule c) d n o m h = absurd (cc)
 
-  cells_told : (c d : Option Contents) (n : ℕ) (o : Ordering) (m : ℕ) → cells_ordered same order n c d ≡ Ok (o, m) → MatchOrdering o (CellsLesser e r c d) (CellsAlike e c d) (CellsLesser e r d c)
-  cells_told (Some c) (Some d) n o m h = contents_told c d n o m h
-  cells_told (Some c) None n o m h = absurd (cc)
-  cells_told None d n o m h = absurd (cc)
+  cells_told : (one : Type 0) (c d : Option Contents) (n : ℕ) (o : Ordering) (m : ℕ) → cells_ordered same order n c d ≡ Ok (o, m) → MatchOrdering o (CellsLesser e r c d) (CellsAlike e one c d) (CellsLesser e r d c)
+  cells_told one (Some c) (Some d) n o m h = contents_told one c d n o m h
+  cells_told one (Some c) None n o m h = absurd (cc)
+  cells_told one None d n o m h = absurd (cc)
 
   module _ (s : StoreView) where
     abbrev PartsTold : Ordering → Datum → Datum → Type 0
@@ -131,7 +133,7 @@ module _ (same : Compares) (order : Orders) (e r : Relates) (back : (x y : Datum
 
     cell_told : (a i : ℕ) (y : Datum) (n : ℕ) (o : Ordering) (m : ℕ) → cell_ordered same order s n (content_at s a i) y ≡ Ok (o, m) → PartsTold o (cell a i) y
     unfolding cell_ordered
-    cell_told a i (cell b j) n o m h = cells_told (content_at s a i) (content_at s b j) n o m h
+    cell_told a i (cell b j) n o m h = cells_told ((a ≡ b) × (i ≡ j)) (content_at s a i) (content_at s b j) n o m h
     cell_told a i _ n o m h = absurd (cc)
 
     parts_told : (x y : Datum) (n : ℕ) (o : Ordering) (m : ℕ) → parts_ordered same order s n x y ≡ Ok (o, m) → PartsTold o x y
@@ -144,6 +146,8 @@ module _ (same : Compares) (order : Orders) (e r : Relates) (back : (x y : Datum
     parts_told (range a b c) y n o m h = absurd (cc)
     parts_told (function a i t vs) y n o m h = absurd (cc)
     parts_told (built_in t) y n o m h = absurd (cc)
+    parts_told (rule_function f) y n o m h = absurd (cc)
+    parts_told (attribute a) y n o m h = absurd (cc)
 
 -- what the order answers says which value is less, or that they are alike
 pub order_tells : (l : ℕ) (s : StoreView) → KeysAreDistinct s → (n m : ℕ) (x y : Datum) (o : Ordering) → ordered_at l s n x y ≡ Ok (o, m) → MatchOrdering o (Lesser l s x y) (Alike l s x y) (Lesser l s y x)
@@ -197,25 +201,38 @@ module _ (e r : Relates) (e_on : (x y z : Datum) → e x y → e y z → e x z) 
   contents_on : (c d f : Contents) → ContentsLesser e r c d → ContentsLesser e r d f → ContentsLesser e r c f
   contents_on (items xs) (items ys) (items zs) h k = lists_on xs ys zs h k
   contents_on (items xs) (items ys) (pairs rs) h k = absurd k
+  contents_on (items xs) (items ys) (rule f) h k = absurd k
   contents_on (items xs) (pairs qs) f h k = absurd h
+  contents_on (items xs) (rule d) f h k = absurd h
   contents_on (pairs ps) d f h k = absurd h
+  contents_on (rule c) d f h k = absurd h
 
-  contents_first : (c d f : Contents) → ContentsAlike e c d → ContentsLesser e r d f → ContentsLesser e r c f
-  contents_first (items xs) (items ys) (items zs) h k = lists_first xs ys zs h k
-  contents_first (items xs) (items ys) (pairs rs) h k = absurd k
-  contents_first (items xs) (pairs qs) f h k = absurd h
-  contents_first (pairs ps) (items ys) f h k = absurd h
-  contents_first (pairs ps) (pairs qs) f h k = absurd k
+  contents_first : (one : Type 0) (c d f : Contents) → ContentsAlike e one c d → ContentsLesser e r d f → ContentsLesser e r c f
+  contents_first one (items xs) (items ys) (items zs) h k = lists_first xs ys zs h k
+  contents_first one (items xs) (items ys) (pairs rs) h k = absurd k
+  contents_first one (items xs) (items ys) (rule f) h k = absurd k
+  contents_first one (items xs) (pairs qs) f h k = absurd h
+  contents_first one (items xs) (rule d) f h k = absurd h
+  contents_first one (pairs ps) (items ys) f h k = absurd h
+  contents_first one (pairs ps) (pairs qs) f h k = absurd k
+  contents_first one (pairs ps) (rule d) f h k = absurd h
+  contents_first one (rule c) (items ys) f h k = absurd h
+  contents_first one (rule c) (pairs qs) f h k = absurd k
+  contents_first one (rule c) (rule d) f h k = absurd k
 
-  contents_second : (c d f : Contents) → ContentsLesser e r c d → ContentsAlike e d f → ContentsLesser e r c f
-  contents_second (items xs) (items ys) (items zs) h k = lists_second xs ys zs h k
-  contents_second (items xs) (items ys) (pairs rs) h k = absurd k
-  contents_second (items xs) (pairs qs) f h k = absurd h
-  contents_second (pairs ps) d f h k = absurd h
+  contents_second : (one : Type 0) (c d f : Contents) → ContentsLesser e r c d → ContentsAlike e one d f → ContentsLesser e r c f
+  contents_second one (items xs) (items ys) (items zs) h k = lists_second xs ys zs h k
+  contents_second one (items xs) (items ys) (pairs rs) h k = absurd k
+  contents_second one (items xs) (items ys) (rule f) h k = absurd k
+  contents_second one (items xs) (pairs qs) f h k = absurd h
+  contents_second one (items xs) (rule d) f h k = absurd h
+  contents_second one (pairs ps) d f h k = absurd h
+  contents_second one (rule c) d f h k = absurd h
 
   contents_itself : (c : Contents) → ContentsLesser e r c c → ⊥
   contents_itself (items xs) h = lists_itself xs h
   contents_itself (pairs ps) h = h
+  contents_itself (rule c) h = h
 
   cells_on : (c d f : Option Contents) → CellsLesser e r c d → CellsLesser e r d f → CellsLesser e r c f
   cells_on (Some c) (Some d) (Some f) h k = contents_on c d f h k
@@ -223,21 +240,21 @@ module _ (e r : Relates) (e_on : (x y z : Datum) → e x y → e y z → e x z) 
   cells_on (Some c) None f h k = absurd h
   cells_on None d f h k = absurd h
 
-  cells_first : (c d f : Option Contents) → CellsAlike e c d → CellsLesser e r d f → CellsLesser e r c f
-  cells_first (Some c) (Some d) (Some f) h k = contents_first c d f h k
-  cells_first (Some c) (Some d) None h k = absurd k
-  cells_first (Some c) None f h k = absurd h
-  cells_first None d f h k = none_first d f h k
+  cells_first : (one : Type 0) (c d f : Option Contents) → CellsAlike e one c d → CellsLesser e r d f → CellsLesser e r c f
+  cells_first one (Some c) (Some d) (Some f) h k = contents_first one c d f h k
+  cells_first one (Some c) (Some d) None h k = absurd k
+  cells_first one (Some c) None f h k = absurd h
+  cells_first one None d f h k = none_first d f h k
     where
-      none_first : (d f : Option Contents) → CellsAlike e None d → CellsLesser e r d f → CellsLesser e r None f
+      none_first : (d f : Option Contents) → CellsAlike e one None d → CellsLesser e r d f → CellsLesser e r None f
       none_first None f h k = absurd k
       none_first (Some d) f h k = absurd h
 
-  cells_second : (c d f : Option Contents) → CellsLesser e r c d → CellsAlike e d f → CellsLesser e r c f
-  cells_second (Some c) (Some d) (Some f) h k = contents_second c d f h k
-  cells_second (Some c) (Some d) None h k = absurd k
-  cells_second (Some c) None f h k = absurd h
-  cells_second None d f h k = absurd h
+  cells_second : (one : Type 0) (c d f : Option Contents) → CellsLesser e r c d → CellsAlike e one d f → CellsLesser e r c f
+  cells_second one (Some c) (Some d) (Some f) h k = contents_second one c d f h k
+  cells_second one (Some c) (Some d) None h k = absurd k
+  cells_second one (Some c) None f h k = absurd h
+  cells_second one None d f h k = absurd h
 
   cells_itself : (c : Option Contents) → CellsLesser e r c c → ⊥
   cells_itself (Some c) h = contents_itself c h
@@ -276,8 +293,8 @@ module _ (e r : Relates) (e_on : (x y z : Datum) → e x y → e y z → e x z) 
     tuple_first a b (tuple c) h k = lists_first (list_of a) (list_of b) (list_of c) h k
     tuple_first a b _ h k = absurd k
 
-    cell_first : (a i b j : ℕ) (z : Datum) → CellsAlike e (content_at s a i) (content_at s b j) → PartsLesser e r s (cell b j) z → PartsLesser e r s (cell a i) z
-    cell_first a i b j (cell c m) h k = cells_first (content_at s a i) (content_at s b j) (content_at s c m) h k
+    cell_first : (a i b j : ℕ) (z : Datum) → CellsAlike e ((a ≡ b) × (i ≡ j)) (content_at s a i) (content_at s b j) → PartsLesser e r s (cell b j) z → PartsLesser e r s (cell a i) z
+    cell_first a i b j (cell c m) h k = cells_first ((a ≡ b) × (i ≡ j)) (content_at s a i) (content_at s b j) (content_at s c m) h k
     cell_first a i b j _ h k = absurd k
 
     parts_first : (x y z : Datum) → PartsAlike e s x y → PartsLesser e r s y z → PartsLesser e r s x z
@@ -290,6 +307,8 @@ module _ (e r : Relates) (e_on : (x y z : Datum) → e x y → e y z → e x z) 
     parts_first (range a b c) (range d f g) z h k = absurd k
     parts_first (function a i t vs) (function b j u ws) z h k = absurd k
     parts_first (built_in a) (built_in b) z h k = absurd k
+    parts_first (rule_function f) (rule_function g) z h k = absurd k
+    parts_first (attribute a) (attribute b) z h k = absurd k
     parts_first _ _ z h k = absurd h
 
     bool_second : (a b : Bool) (z : Datum) → bool_cmp a b ≡ Less → PartsAlike e s (boolean b) z → PartsLesser e r s (boolean a) z
@@ -309,7 +328,7 @@ module _ (e r : Relates) (e_on : (x y z : Datum) → e x y → e y z → e x z) 
     tuple_second a b _ h k = absurd k
 
     cell_second : (a i b j : ℕ) (z : Datum) → CellsLesser e r (content_at s a i) (content_at s b j) → PartsAlike e s (cell b j) z → PartsLesser e r s (cell a i) z
-    cell_second a i b j (cell c m) h k = cells_second (content_at s a i) (content_at s b j) (content_at s c m) h k
+    cell_second a i b j (cell c m) h k = cells_second ((b ≡ c) × (j ≡ m)) (content_at s a i) (content_at s b j) (content_at s c m) h k
     cell_second a i b j _ h k = absurd k
 
     parts_second : (x y z : Datum) → PartsLesser e r s x y → PartsAlike e s y z → PartsLesser e r s x z
@@ -333,6 +352,8 @@ module _ (e r : Relates) (e_on : (x y z : Datum) → e x y → e y z → e x z) 
     parts_itself (range a b c) h = h
     parts_itself (function a i t vs) h = h
     parts_itself (built_in a) h = h
+    parts_itself (rule_function f) h = h
+    parts_itself (attribute a) h = h
 
     parts_rank : Ranks (PartsAlike e s) (PartsLesser e r s)
     parts_rank = record { on = parts_on; first = parts_first; second = parts_second; itself = parts_itself }

@@ -20,5 +20,7 @@ pub mod Counting
 pub mod KeySteps
 -- ranges are equal by their elements, functions by their `def`
 pub mod Elements
+-- rules are equal by their cells, attributes by what they say
+pub mod Identity
 -- a step for each level, and at most 64
 pub mod Deep

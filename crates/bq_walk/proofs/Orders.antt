@@ -4,8 +4,8 @@ use Rattle.std.specs.declared.cmp.Ordering.{Ordering}
 use Rattle.std.specs.declared.cmp.Ordering.TheVariants.{Less, Equal, Greater}
 use Rattle.std.specs.Ordering.{int_cmp, nat_cmp, bool_cmp, ordering_reverse, MatchOrdering}
 use Rattle.std.specs.Cmp.Lexicographic.{slice_cmp}
-use Rattle.bq_value.specs.Datum.{Datum, none, boolean, int, string, tuple, range, cell, function, built_in, Data, end, datum, list_of}
-use Rattle.bq_value.specs.Contents.{Contents, items, pairs}
+use Rattle.bq_value.specs.Datum.{Datum, none, boolean, int, string, tuple, range, cell, function, built_in, rule_function, attribute, Data, end, datum, list_of}
+use Rattle.bq_value.specs.Contents.{Contents, items, pairs, rule}
 use Rattle.bq_value.specs.Cells.{StoreView, content_at}
 use Rattle.bq_value.specs.Key.{IsKey, AreKeys}
 use Rattle.bq_walk.specs.Looked.{Looked, max_levels}
@@ -32,14 +32,12 @@ pub equals_on : (s : StoreView) (a b c : Datum) (so : Bool) → Equals s a b tru
 equals_on s a b c so h k j = equal_on max_levels s h.steps h.left k.steps k.left j.steps j.left a b c so h.is k.is j.is
 
 -- values that are alike have one type
-content_kinds : (r : Relates) (c d : Option Contents) → CellsAlike r c d → content_kind c ≡ content_kind d
-content_kinds r (Some (items xs)) (Some (items ys)) h = refl
-content_kinds r (Some (pairs ps)) (Some (pairs qs)) h = refl
-content_kinds r None None h = refl
-content_kinds r (Some (items xs)) (Some (pairs qs)) h = absurd h
-content_kinds r (Some (pairs ps)) (Some (items ys)) h = absurd h
-content_kinds r (Some c) None h = absurd h
-content_kinds r None (Some d) h = absurd h
+content_kinds : (r : Relates) (one : Type 0) (c d : Option Contents) → CellsAlike r one c d → content_kind c ≡ content_kind d
+content_kinds r one (Some (items xs)) (Some (items ys)) h = refl
+content_kinds r one (Some (pairs ps)) (Some (pairs qs)) h = refl
+content_kinds r one (Some (rule c)) (Some (rule d)) h = refl
+content_kinds r one None None h = refl
+content_kinds r one _ _ h = absurd h
 
 kinds : (r : Relates) (s : StoreView) (x y : Datum) → PartsAlike r s x y → kind_of s x ≡ kind_of s y
 kinds r s none none h = refl
@@ -48,9 +46,11 @@ kinds r s (int a) (int b) h = refl
 kinds r s (string a) (string b) h = refl
 kinds r s (tuple a) (tuple b) h = refl
 kinds r s (range a b c) (range d e f) h = refl
-kinds r s (cell a i) (cell b j) h = content_kinds r (content_at s a i) (content_at s b j) h
+kinds r s (cell a i) (cell b j) h = content_kinds r ((a ≡ b) × (i ≡ j)) (content_at s a i) (content_at s b j) h
 kinds r s (function a i t vs) (function b j u ws) h = refl
 kinds r s (built_in a) (built_in b) h = refl
+kinds r s (rule_function f) (rule_function g) h = refl
+kinds r s (attribute a) (attribute b) h = refl
 kinds r s _ _ h = absurd h
 
 alike_kinds : (l : ℕ) (s : StoreView) (x y : Datum) → Alike l s x y → kind_of s x ≡ kind_of s y
@@ -82,6 +82,8 @@ module _ (r : Relates) (one : (x y : Datum) → IsKey x → r x y → x ≡ y) w
   parts_one s (cell a i) y k h = absurd k
   parts_one s (function a i t vs) y k h = absurd k
   parts_one s (built_in a) y k h = absurd k
+  parts_one s (rule_function f) y k h = absurd k
+  parts_one s (attribute a) y k h = absurd k
   parts_one s _ _ k h = absurd h
 
 keys_one : (l : ℕ) (s : StoreView) (x y : Datum) → IsKey x → Alike l s x y → x ≡ y

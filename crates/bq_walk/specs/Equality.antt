@@ -4,7 +4,7 @@ use Rattle.bq_source.specs.declared.fault.FaultKind.TheVariants.{TooDeep}
 use Rattle.bq_value.specs.Datum.{Datum, tuple, range, cell, function, list_of}
 use Rattle.bq_value.specs.Range.{ranges_same}
 use Rattle.bq_value.specs.Same.{same}
-use Rattle.bq_value.specs.Contents.{Contents, items, pairs}
+use Rattle.bq_value.specs.Contents.{Contents, items, pairs, rule}
 use Rattle.bq_value.specs.Cells.{StoreView, content_at}
 use Rattle.bq_value.specs.Pairs.{found}
 use Rattle.bq_walk.specs.Looked.{Looked, stepped}
@@ -41,16 +41,18 @@ pairs_equal compare n (p ∷ ps) qs = if_so (partner_equal compare n p.1 (found 
 abbrev pub dicts_equal : Compares → ℕ → List (Datum × Datum) → List (Datum × Datum) → Looked Bool
 dicts_equal compare n ps qs = cond (length ps == length qs) (pairs_equal compare n ps qs) (Ok (false, n))
 
-abbrev pub contents_equal : Compares → ℕ → Contents → Contents → Looked Bool
-contents_equal compare n (items xs) (items ys) = lists_equal compare n xs ys
-contents_equal compare n (pairs ps) (pairs qs) = dicts_equal compare n ps qs
-contents_equal compare n _ _ = Ok (false, n)
+-- what two cells hold, and whether they are one cell: a rule is equal to itself alone
+abbrev pub contents_equal : Compares → ℕ → Bool → Contents → Contents → Looked Bool
+contents_equal compare n one (items xs) (items ys) = lists_equal compare n xs ys
+contents_equal compare n one (pairs ps) (pairs qs) = dicts_equal compare n ps qs
+contents_equal compare n one (rule c) (rule d) = Ok (one, n)
+contents_equal compare n one _ _ = Ok (false, n)
 
 -- Of cells that the store doesn't know, which no program has, it is said that they are equal.
-abbrev pub cells_equal : Compares → ℕ → Option Contents → Option Contents → Looked Bool
-cells_equal compare n (Some c) (Some d) = contents_equal compare n c d
-cells_equal compare n None None = Ok (true, n)
-cells_equal compare n _ _ = Ok (false, n)
+abbrev pub cells_equal : Compares → ℕ → Bool → Option Contents → Option Contents → Looked Bool
+cells_equal compare n one (Some c) (Some d) = contents_equal compare n one c d
+cells_equal compare n one None None = Ok (true, n)
+cells_equal compare n one _ _ = Ok (false, n)
 
 -- ranges are equal by their elements
 abbrev pub range_equal : ℤ → ℤ → ℤ → Datum → Bool
@@ -66,15 +68,15 @@ abbrev pub tuple_equal : Compares → ℕ → List Datum → Datum → Looked Bo
 tuple_equal compare n xs (tuple ys) = lists_equal compare n xs (list_of ys)
 tuple_equal compare n xs _ = Ok (false, n)
 
-abbrev pub cell_equal : Compares → StoreView → ℕ → Option Contents → Datum → Looked Bool
-cell_equal compare s n c (cell b j) = cells_equal compare n c (content_at s b j)
-cell_equal compare s n c _ = Ok (false, n)
+abbrev pub cell_equal : Compares → StoreView → ℕ → ℕ → ℕ → Datum → Looked Bool
+cell_equal compare s n a i (cell b j) = cells_equal compare n ((a == b) && (i == j)) (content_at s a i) (content_at s b j)
+cell_equal compare s n a i _ = Ok (false, n)
 
 -- two values whose parts are compared so: values of unlike types differ, and those without parts are equal where they are the same
 abbrev pub parts_equal : Compares → StoreView → ℕ → Datum → Datum → Looked Bool
 parts_equal compare s n (tuple xs) b = tuple_equal compare n (list_of xs) b
 parts_equal compare s n (range start stop step) b = Ok (range_equal start stop step b, n)
-parts_equal compare s n (cell a i) b = cell_equal compare s n (content_at s a i) b
+parts_equal compare s n (cell a i) b = cell_equal compare s n a i b
 parts_equal compare s n (function a i _ _) b = Ok (function_equal a i b, n)
 parts_equal compare s n a b = Ok (same a b, n)
 

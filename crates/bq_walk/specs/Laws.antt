@@ -4,9 +4,9 @@ use Rattle.std.specs.declared.cmp.Ordering.{Ordering}
 use Rattle.std.specs.declared.cmp.Ordering.TheVariants.{Less, Equal, Greater}
 use Rattle.bq_source.specs.declared.fault.FaultKind.{FaultKind}
 use Rattle.bq_source.specs.declared.fault.FaultKind.TheVariants.{StepLimit}
-use Rattle.bq_value.specs.Datum.{Datum, none, boolean, int, string, tuple, range, cell, function, built_in, end, datum}
+use Rattle.bq_value.specs.Datum.{Datum, none, boolean, int, string, tuple, range, cell, function, built_in, rule_function, attribute, end, datum}
 use Rattle.bq_value.specs.Range.{range_count, range_element}
-use Rattle.bq_value.specs.Contents.{Contents, items, pairs, KeysDiffer}
+use Rattle.bq_value.specs.Contents.{Contents, items, pairs, rule, KeysDiffer}
 use Rattle.bq_value.specs.Cells.{StoreView, content_at}
 use Rattle.bq_walk.specs.Looked.{Looked, max_levels}
 use Rattle.bq_walk.specs.Equality.{equal_at}
@@ -42,11 +42,15 @@ pub data Kind : Type 0 where
   dict_type : Kind
   function_type : Kind
   built_in_type : Kind
+  rule_function_type : Kind
+  attribute_type : Kind
+  rule_type : Kind
   no_type : Kind
 
 abbrev pub content_kind : Option Contents → Kind
 content_kind (Some (items xs)) = list_type
 content_kind (Some (pairs ps)) = dict_type
+content_kind (Some (rule c)) = rule_type
 content_kind None = no_type
 
 abbrev pub kind_of : StoreView → Datum → Kind
@@ -59,6 +63,8 @@ kind_of s (range a b c) = range_type
 kind_of s (cell m i) = content_kind (content_at s m i)
 kind_of s (function m i t vs) = function_type
 kind_of s (built_in t) = built_in_type
+kind_of s (rule_function f) = rule_function_type
+kind_of s (attribute a) = attribute_type
 
 -- Two lists by their first unequal values: a list that ends there, where the other goes on, is less.
 pub data Decided (s : StoreView) (levels : ℕ) : List Datum → List Datum → Ordering → Type 0 where

@@ -3,7 +3,7 @@ use Rattle.std.specs.Prelude.{Bool, true, false, not, pos, List, [], ◌∷◌, 
 use Rattle.std.specs.Ordering.{int_eq}
 use Rattle.bq_value.specs.Datum.{Datum, none, boolean, int, string, tuple, range, cell, list_of}
 use Rattle.bq_value.specs.Range.{range_count}
-use Rattle.bq_value.specs.Contents.{Contents, items, pairs}
+use Rattle.bq_value.specs.Contents.{Contents, items, pairs, rule}
 use Rattle.bq_value.specs.Cells.{StoreView, content_at}
 
 abbrev pub some_element : {A : Type 0} → List A → Bool
@@ -14,6 +14,7 @@ abbrev pub content_truth : Option Contents → Bool
 content_truth None = false
 content_truth (Some (items xs)) = some_element xs
 content_truth (Some (pairs ps)) = some_element ps
+content_truth (Some (rule c)) = true
 
 abbrev pub truth_of : StoreView → Datum → Bool
 truth_of s none = false

@@ -23,6 +23,8 @@ pub fn truth(store: &Store, value: &Value) -> bool
         },
         Node::Function(_) => true,
         Node::BuiltIn(_) => true,
+        Node::RuleFunction(_) => true,
+        Node::Attribute(_) => true,
     }
 }
 
@@ -32,5 +34,6 @@ fn is_filled(content: &Content) -> bool
     match &content.body {
         Body::List(items) => items.len() > 0,
         Body::Dict(dict) => dict.len() > 0,
+        Body::Rule(_) => true,
     }
 }

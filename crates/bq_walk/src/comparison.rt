@@ -54,9 +54,9 @@ fn values_ordered(
         Node::Text(x) => strings(steps, x, b),
         Node::Tuple(xs) => tuples(store, below, steps, xs, b),
         Node::Cell(x) => cells(store, below, steps, store.content(*x), b),
-        Node::NoneValue | Node::Range(_) | Node::Function(_) | Node::BuiltIn(_) => {
-            Err(FaultKind::WrongType)
-        }
+        Node::NoneValue => Err(FaultKind::WrongType),
+        Node::Range(_) | Node::Function(_) | Node::BuiltIn(_) => Err(FaultKind::WrongType),
+        Node::RuleFunction(_) | Node::Attribute(_) => Err(FaultKind::WrongType),
     }
 }
 

@@ -1,12 +1,12 @@
 //! `==` (Starlark, "Comparisons").
 
-ghost use Rattle.std.specs.Prelude.{◌≡◌, option_copied};
+ghost use Rattle.std.specs.Prelude.{◌≡◌, ◌==◌, ◌&&◌};
 ghost use Rattle.bq_walk.specs.Looked.{max_levels};
 ghost use Rattle.bq_walk.specs.Equality.{equal_at, range_equal, function_equal, tuple_equal, cell_equal, lists_equal, dicts_equal, contents_equal};
 
 use crate::MAX_LEVELS;
 use bq_source::FaultKind;
-use bq_value::{Body, Content, Dict, Function, Node, Range, Store, Value};
+use bq_value::{Body, Cell, Content, Dict, Function, Node, Range, Store, Value};
 
 /// Whether two values are equal, and the steps that are left of these.
 pub fn equal(store: &Store, steps: u64, a: &Value, b: &Value) -> Result<(bool, u64), FaultKind>
@@ -42,9 +42,11 @@ pub(crate) fn values_equal(
         Node::Text(x) => Ok((b.is_string(x.as_slice()), steps)),
         Node::Tuple(xs) => tuple_equal(store, below, steps, xs, b),
         Node::Range(x) => Ok((range_equal(*x, b), steps)),
-        Node::Cell(x) => cell_equal(store, below, steps, store.content(*x), b),
+        Node::Cell(x) => cell_equal(store, below, steps, *x, b),
         Node::Function(f) => Ok((function_equal(f, b), steps)),
         Node::BuiltIn(x) => Ok((b.is_built_in(x.as_slice()), steps)),
+        Node::RuleFunction(x) => Ok((b.is_rule_function(*x), steps)),
+        Node::Attribute(x) => Ok((b.is_attribute(x), steps)),
     }
 }
 
@@ -83,39 +85,52 @@ fn tuple_equal(
     }
 }
 
+/// Whether two cells are one.
+fn is_one(x: Cell, y: Cell) -> bool
+    ensures { result ≡ ((x.module == y.module) && (x.number == y.number)) }
+{
+    x.module == y.module && x.number == y.number
+}
+
 #[cycle(equal)]
 fn cell_equal(
     store: &Store,
     levels: u32,
     steps: u64,
-    a: Option<&Content>,
+    x: Cell,
     b: &Value,
 ) -> Result<(bool, u64), FaultKind>
-    ensures { result ≡ cell_equal (equal_at levels store.now) store.now steps (option_copied a.entry) b.now }
+    ensures { result ≡ cell_equal (equal_at levels store.now) store.now steps x.module x.number b.now }
 {
     match &b.node {
-        Node::Cell(y) => match (a, store.content(*y)) {
-            (Some(c), Some(d)) => cells_equal(store, levels, steps, c, d),
-            (None, None) => Ok((true, steps)),
-            _ => Ok((false, steps)),
-        },
+        Node::Cell(y) => {
+            let one = is_one(x, *y);
+            match (store.content(x), store.content(*y)) {
+                (Some(c), Some(d)) => contents_equal(store, levels, steps, one, c, d),
+                (None, None) => Ok((true, steps)),
+                _ => Ok((false, steps)),
+            }
+        }
         _ => Ok((false, steps)),
     }
 }
 
+/// What two cells hold, and whether they are one cell.
 #[cycle(equal)]
-fn cells_equal(
+fn contents_equal(
     store: &Store,
     levels: u32,
     steps: u64,
+    one: bool,
     a: &Content,
     b: &Content,
 ) -> Result<(bool, u64), FaultKind>
-    ensures { result ≡ contents_equal (equal_at levels store.now) steps a.now b.now }
+    ensures { result ≡ contents_equal (equal_at levels store.now) steps one a.now b.now }
 {
     match (&a.body, &b.body) {
         (Body::List(xs), Body::List(ys)) => slices_equal(store, levels, steps, xs, ys),
         (Body::Dict(ps), Body::Dict(qs)) => entries_equal(store, levels, steps, ps, qs),
+        (Body::Rule(_), Body::Rule(_)) => Ok((one, steps)),
         _ => Ok((false, steps)),
     }
 }

@@ -36,7 +36,12 @@ fn walk(levels: u32, steps: u64, value: &Value) -> Result<u64, FaultKind>
     match &value.node {
         Node::NoneValue | Node::Bool(_) | Node::Int(_) | Node::Text(_) => Ok(steps),
         Node::Tuple(items) => walk_all(levels - 1, steps, items),
-        _ => Err(FaultKind::Unhashable),
+        Node::Range(_)
+        | Node::Cell(_)
+        | Node::Function(_)
+        | Node::BuiltIn(_)
+        | Node::RuleFunction(_)
+        | Node::Attribute(_) => Err(FaultKind::Unhashable),
     }
 }
 

@@ -1,14 +1,17 @@
 //! Laws of the definitions: each is the contract of a function that does nothing.
 
-ghost use Rattle.std.specs.Prelude.{◌≡◌, ◌≢◌, ◌↔◌, ◌+◌, ℕ, ℤ, Bool, true, false, List, Some, Ok, Err};
+ghost use Rattle.std.specs.Prelude.{◌≡◌, ◌≢◌, ◌↔◌, ◌+◌, ℕ, suc, ℤ, Bool, true, false, List, Some, Ok, Err};
 ghost use Rattle.std.specs.declared.cmp.Ordering.{Ordering};
 ghost use Rattle.std.specs.declared.cmp.Ordering.TheVariants.{Less, Equal};
 ghost use Rattle.std.specs.Ordering.{int_cmp, nat_cmp, bool_cmp, ordering_reverse};
 ghost use Rattle.std.specs.Cmp.Lexicographic.{slice_cmp};
 ghost use Rattle.bq_source.specs.declared.fault.FaultKind.TheVariants.{TooDeep, Unhashable};
-ghost use Rattle.bq_value.specs.Datum.{Datum, boolean, int, string, tuple, range, cell, function, Data, list_of};
+ghost use Rattle.bq_rule_class.specs.Class.{Class};
+ghost use Rattle.bq_rule_class.specs.Same.{same_attribute};
+ghost use Rattle.bq_rule_class.specs.declared.attribute.Attribute.{Attribute};
+ghost use Rattle.bq_value.specs.Datum.{Datum, boolean, int, string, tuple, range, cell, function, attribute, Data, list_of};
 ghost use Rattle.bq_value.specs.Key.{IsKey};
-ghost use Rattle.bq_value.specs.Contents.{items};
+ghost use Rattle.bq_value.specs.Contents.{items, rule};
 ghost use Rattle.bq_value.specs.Cells.{StoreView, content_at};
 ghost use Rattle.bq_walk.specs.Looked.{max_levels};
 ghost use Rattle.bq_walk.specs.Equality.{equal_at};
@@ -69,6 +72,18 @@ pub fn ranges_are_equal_by_their_elements()
 /// Functions are equal where they come from one `def` of one module, whatever their defaults.
 pub fn functions_are_equal_by_their_def()
     ensures { (s : StoreView) (a i b j : ℕ) (t u : List ℕ) (vs ws : Data) (so : Bool) → Equals s (function a i t vs) (function b j u ws) so → (so ≡ true) ↔ ((a ≡ b) × (i ≡ j)) }
+{}
+
+/// A rule is equal to itself alone, whatever attributes another one has.
+pub fn rules_are_equal_by_identity()
+    ensures { (s : StoreView) (a i b j : ℕ) (c d : Class) (so : Bool) → content_at s a i ≡ Some (rule c) → content_at s b j ≡ Some (rule d) → Equals s (cell a i) (cell b j) so → (so ≡ true) ↔ ((a ≡ b) × (i ≡ j)) }
+{}
+
+/// Attributes are equal where they have one type and one default, and both or neither has to be given. It takes one step, whatever
+/// the defaults are.
+pub fn attributes_are_equal_by_what_they_say()
+    ensures parts { (s : StoreView) (a b : Attribute) (so : Bool) → Equals s (attribute a) (attribute b) so → (so ≡ true) ↔ (a ≡ b) }
+    ensures step { (s : StoreView) (a b : Attribute) (n : ℕ) → equal_at max_levels s (suc n) (attribute a) (attribute b) ≡ Ok (same_attribute a b, n) }
 {}
 
 /// A key is the value that it is made of. Only a value that may be a key makes one, and none of these is F45.

@@ -14,7 +14,8 @@ use Rattle.bq_load.specs.contracts.gate.GateWatch as GateWatch
 use Rattle.bq_load.proofs.Crossing.Values.{frozen_send, frozen_sync}
 use Rattle.bq_load.proofs.Crossing.Trees.{resolved_sync}
 use Rattle.bq_load.proofs.Crossing.Targets.{package_send, package_sync}
-use Rattle.bq_load.proofs.Crossing.Workspaces.{label_send, label_sync, workspace_sync, packages_sync, schema_sync}
+use Rattle.bq_load.proofs.Crossing.Classes.{label_send, label_sync}
+use Rattle.bq_load.proofs.Crossing.Workspaces.{workspace_sync, packages_sync, schema_sync}
 
 pub loaded_send : IsSend (LoadedModule.the_field).row
 loaded_send = let fs = frozen_send in let fy = frozen_sync in let p = package_send in search (crosses, sendable) depth 60 fits 20000

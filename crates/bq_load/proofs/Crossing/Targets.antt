@@ -1,18 +1,11 @@
 -- Targets and packages may cross threads.
 use denote.Param.Send.{IsSend, IsSync, sendable}
 use Rattle.std.proofs.Crossing.{crosses}
-use Rattle.bq_target.specs.contracts.value.AttributeValue as AttributeValue
 use Rattle.bq_target.specs.contracts.value.GivenAttribute as GivenAttribute
 use Rattle.bq_target.specs.contracts.target.TargetKind as TargetKind
 use Rattle.bq_target.specs.contracts.target.Target as Target
 use Rattle.bq_target.specs.contracts.package.Package as Package
-use Rattle.bq_load.proofs.Crossing.Workspaces.{label_send, label_sync}
-
-pub value_send : IsSend (AttributeValue.the_field).row
-value_send = let l = label_send in search (crosses, sendable) depth 60 fits 20000
-
-pub value_sync : IsSync (AttributeValue.the_field).row
-value_sync = let l = label_sync in search (crosses, sendable) depth 60 fits 20000
+use Rattle.bq_load.proofs.Crossing.Classes.{label_send, label_sync, value_send, value_sync, class_send, class_sync}
 
 pub given_send : IsSend (GivenAttribute.the_field).row
 given_send = let v = value_send in search (crosses, sendable) depth 60 fits 20000
@@ -21,10 +14,10 @@ pub given_sync : IsSync (GivenAttribute.the_field).row
 given_sync = let v = value_sync in search (crosses, sendable) depth 60 fits 20000
 
 pub kind_send : IsSend (TargetKind.the_field).row
-kind_send = let l = label_send in search (crosses, sendable) depth 60 fits 20000
+kind_send = let l = label_send in let c = class_send in search (crosses, sendable) depth 60 fits 20000
 
 pub kind_sync : IsSync (TargetKind.the_field).row
-kind_sync = let l = label_sync in search (crosses, sendable) depth 60 fits 20000
+kind_sync = let l = label_sync in let c = class_sync in search (crosses, sendable) depth 60 fits 20000
 
 pub target_send : IsSend (Target.the_field).row
 target_send = let l = label_send in let k = kind_send in let g = given_send in search (crosses, sendable) depth 60 fits 20000

@@ -1,6 +1,8 @@
 -- The trees of resolved files may cross threads.
 use denote.Param.Send.{IsSend, IsSync, sendable}
 use Rattle.std.proofs.Crossing.{crosses}
+use Rattle.bq_predeclared.specs.contracts.rule_function.RuleFunction as RuleFunction
+use Rattle.bq_predeclared.specs.contracts.predeclared.Predeclared as Predeclared
 use Rattle.bq_scope.proofs.code.Code.TheLaws.TheKnot as Codes
 use Rattle.bq_scope.proofs.code.CodeStmt.TheLaws.TheKnot as Blocks
 use Rattle.bq_scope.specs.contracts.code.Code as Code
@@ -15,17 +17,29 @@ use Rattle.bq_scope.specs.contracts.code.CodeTopLevel as CodeTopLevel
 use Rattle.bq_scope.specs.contracts.code.LoadStmt as LoadStmt
 use Rattle.bq_scope.specs.contracts.code.Resolved as Resolved
 
+pub rule_function_send : IsSend (RuleFunction.the_field).row
+rule_function_send = search (crosses, sendable) depth 60 fits 20000
+
+pub rule_function_sync : IsSync (RuleFunction.the_field).row
+rule_function_sync = search (crosses, sendable) depth 60 fits 20000
+
+pub predeclared_send : IsSend (Predeclared.the_field).row
+predeclared_send = let function = rule_function_send in search (crosses, sendable) depth 60 fits 20000
+
+pub predeclared_sync : IsSync (Predeclared.the_field).row
+predeclared_sync = let function = rule_function_sync in search (crosses, sendable) depth 60 fits 20000
+
 pub code_send : IsSend (Code.the_field).row
-code_send = search (crosses, Codes.crosses, sendable) depth 60 fits 20000
+code_send = let predeclared = predeclared_send in search (crosses, Codes.crosses, sendable) depth 60 fits 20000
 
 pub code_sync : IsSync (Code.the_field).row
-code_sync = search (crosses, Codes.crosses, sendable) depth 60 fits 20000
+code_sync = let predeclared = predeclared_sync in search (crosses, Codes.crosses, sendable) depth 60 fits 20000
 
 pub target_send : IsSend (CodeTarget.the_field).row
-target_send = search (crosses, Codes.crosses, sendable) depth 60 fits 20000
+target_send = let predeclared = predeclared_send in search (crosses, Codes.crosses, sendable) depth 60 fits 20000
 
 pub target_sync : IsSync (CodeTarget.the_field).row
-target_sync = search (crosses, Codes.crosses, sendable) depth 60 fits 20000
+target_sync = let predeclared = predeclared_sync in search (crosses, Codes.crosses, sendable) depth 60 fits 20000
 
 pub small_send : IsSend (CodeSmall.the_field).row
 small_send = let code = code_send in let target = target_send in search (crosses, sendable) depth 60 fits 20000

@@ -4,21 +4,25 @@ use Rattle.std.proofs.Crossing.{crosses}
 use Rattle.std.proofs.hash.BuildHasherDefault.TheSendSync as Builder
 use Rattle.std.proofs.hash.FoldHasher.TheSendSync as Hasher
 use Rattle.indexmap.proofs.map.IndexMap.TheSendSync as Map
+use Rattle.bq_source.proofs.bytes.Bytes.TheSendSync as Bytes
 use Rattle.bq_value.proofs.value.Value.TheLaws.TheKnot as Knot
 use Rattle.bq_value.proofs.tree.Tree.TheLaws.TheKnot as Trees
 use Rattle.bq_value.specs.contracts.value.Value as Value
 use Rattle.bq_value.specs.contracts.key.Key as Key
 use Rattle.bq_value.specs.contracts.dict.Dict as Dict
 use Rattle.bq_value.specs.contracts.content.Content as Content
+use Rattle.bq_value.specs.contracts.kinds.Kinds as Kinds
 use Rattle.bq_value.specs.contracts.shared.Shared as Shared
 use Rattle.bq_value.specs.contracts.tree.Tree as Tree
 use Rattle.bq_value.specs.contracts.frozen.Frozen as Frozen
+use Rattle.bq_load.proofs.Crossing.Classes.{attribute_send, attribute_sync, class_send, class_sync}
+use Rattle.bq_load.proofs.Crossing.Trees.{rule_function_send, rule_function_sync}
 
 pub value_send : IsSend (Value.the_field).row
-value_send = search (crosses, Knot.crosses, sendable) depth 60 fits 20000
+value_send = let s = attribute_send in let y = attribute_sync in let f = rule_function_send in search (crosses, Knot.crosses, sendable) depth 60 fits 20000
 
 pub value_sync : IsSync (Value.the_field).row
-value_sync = search (crosses, Knot.crosses, sendable) depth 60 fits 20000
+value_sync = let s = attribute_send in let y = attribute_sync in let f = rule_function_sync in search (crosses, Knot.crosses, sendable) depth 60 fits 20000
 
 pub key_send : IsSend (Key.the_field).row
 key_send = let s = value_send in search (crosses, sendable) depth 60 fits 20000
@@ -33,19 +37,25 @@ pub dict_sync : IsSync (Dict.the_field).row
 dict_sync = let v = value_sync in let k = key_sync in search (Map.the_sync, Builder.the_sync, Hasher.the_sync, crosses, sendable) depth 60 fits 20000
 
 pub content_send : IsSend (Content.the_field).row
-content_send = let v = value_send in let k = dict_send in search (crosses, sendable) depth 60 fits 20000
+content_send = let v = value_send in let k = dict_send in let c = class_send in search (crosses, sendable) depth 60 fits 20000
 
 pub content_sync : IsSync (Content.the_field).row
-content_sync = let v = value_sync in let k = dict_sync in search (crosses, sendable) depth 60 fits 20000
+content_sync = let v = value_sync in let k = dict_sync in let c = class_sync in search (crosses, sendable) depth 60 fits 20000
+
+pub kinds_send : IsSend (Kinds.the_field).row
+kinds_send = search (Bytes.the_send, Map.the_send, Builder.the_send, Hasher.the_send, crosses, sendable) depth 60 fits 20000
+
+pub kinds_sync : IsSync (Kinds.the_field).row
+kinds_sync = search (Bytes.the_sync, Map.the_sync, Builder.the_sync, Hasher.the_sync, crosses, sendable) depth 60 fits 20000
 
 pub shared_send : IsSend (Shared.the_field).row
 shared_send =
-    let vs = value_send in let vy = value_sync in let cs = content_send in let cy = content_sync in
+    let vs = value_send in let vy = value_sync in let cs = content_send in let cy = content_sync in let ks = kinds_send in let ky = kinds_sync in
     search (crosses, sendable) depth 60 fits 20000
 
 pub shared_sync : IsSync (Shared.the_field).row
 shared_sync =
-    let vs = value_send in let vy = value_sync in let cs = content_send in let cy = content_sync in
+    let vs = value_send in let vy = value_sync in let cs = content_send in let cy = content_sync in let ks = kinds_send in let ky = kinds_sync in
     search (crosses, sendable) depth 60 fits 20000
 
 pub tree_send : IsSend (Tree.the_field).row

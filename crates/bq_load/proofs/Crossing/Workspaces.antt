@@ -1,23 +1,16 @@
--- The files of a workspace, its packages and its schema may be shared by threads, and so may the targets of a package.
+-- The files of a workspace, its packages and its schema may be shared by threads.
 use denote.Param.Send.{IsSend, IsSync, sendable}
 use Rattle.std.proofs.Crossing.{crosses}
 use Rattle.std.proofs.hash.BuildHasherDefault.TheSendSync as Builder
 use Rattle.std.proofs.hash.FoldHasher.TheSendSync as Hasher
-use Rattle.indexmap.proofs.map.IndexMap.TheSendSync as Map
 use Rattle.indexmap.proofs.set.IndexSet.TheSendSync as Set
 use Rattle.bq_source.proofs.bytes.Bytes.TheSendSync as Bytes
-use Rattle.bq_label.specs.contracts.label.Label as Label
 use Rattle.bq_label.specs.contracts.workspace.File as File
 use Rattle.bq_label.specs.contracts.workspace.Workspace as Workspace
 use Rattle.bq_label.specs.contracts.packages.BuildFile as BuildFile
 use Rattle.bq_label.specs.contracts.packages.Packages as Packages
 use Rattle.bq_schema.specs.contracts.schema.Schema as Schema
-
-pub label_send : IsSend (Label.the_field).row
-label_send = search (Bytes.the_send, crosses, sendable) depth 60 fits 20000
-
-pub label_sync : IsSync (Label.the_field).row
-label_sync = search (Bytes.the_sync, crosses, sendable) depth 60 fits 20000
+use Rattle.bq_load.proofs.Crossing.Classes.{label_sync, class_sync}
 
 pub file_sync : IsSync (File.the_field).row
 file_sync = search (crosses, sendable) depth 60 fits 20000
@@ -32,4 +25,4 @@ pub packages_sync : IsSync (Packages.the_field).row
 packages_sync = let f = build_file_sync in search (crosses, sendable) depth 60 fits 20000
 
 pub schema_sync : IsSync (Schema.the_field).row
-schema_sync = search (Bytes.the_sync, Map.the_sync, Set.the_sync, Builder.the_sync, Hasher.the_sync, crosses, sendable) depth 60 fits 100000
+schema_sync = let c = class_sync in search (Bytes.the_sync, Set.the_sync, Builder.the_sync, Hasher.the_sync, crosses, sendable) depth 60 fits 100000

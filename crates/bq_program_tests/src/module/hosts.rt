@@ -3,15 +3,18 @@ ghost use Rattle.bq_program_tests.specs.Noting.{noted};
 
 use crate::chunks::{Subject, add_line, check_chunks};
 use crate::program::{Setting, run_chunk};
+use crate::workspace::no_packages;
 use bq_grammar::FileKind;
 use bq_host::Host;
+use bq_label::{Label, PackageId};
 use bq_machine::{Args, Machine};
+use bq_rule_class::RuleClass;
 use bq_source::{Bytes, FaultKind};
 use bq_value::{EvalErr, Value};
 use std::alloc::{AllocError, Global};
 use std::fmt::Write;
 
-/// Notes the ids of the calls that it accepts: all but those of `licenses`, which are F70.
+/// Notes the ids of the calls that it accepts: all but those of `licenses`, which are F70; and 99 for a call of a declared rule.
 #[derive(Drop)]
 struct Noting {
     ids: Vec<u32>,
@@ -26,7 +29,15 @@ impl Host for Noting {
 
     ghost means = { noted };
 
-    #[tactic(auto, unfolding(crate::specs::Noting::noted))]
+    fn in_build(&self) -> bool {
+        true
+    }
+
+    fn read_default(&self, _alloc: Global, _text: &Bytes) -> Result<Label, EvalErr> {
+        Err(EvalErr::Bad(FaultKind::BadLabel))
+    }
+
+    #[tactic(auto, unfolding(crate::specs::Noting::noted_call))]
     fn call(
         &mut self,
         _alloc: Global,
@@ -38,6 +49,19 @@ impl Host for Noting {
             return Err(EvalErr::Bad(FaultKind::NotInPackage));
         }
         self.ids.push(id)?;
+        Ok(Value::none())
+    }
+
+    #[tactic(auto, unfolding(crate::specs::Noting::noted_rule))]
+    fn call_rule(
+        &mut self,
+        _alloc: Global,
+        _kind: &Bytes,
+        _class: &RuleClass,
+        _args: Args,
+        _machine: &mut Machine,
+    ) -> Result<Value, EvalErr> {
+        self.ids.push(99)?;
         Ok(Value::none())
     }
 }
@@ -65,9 +89,13 @@ struct Calls;
 impl Subject for Calls {
     fn answer(&self, alloc: Global, text: &[u8]) -> Result<Vec<u8>, AllocError> {
         let rules = rules(alloc)?;
+        let own = PackageId::root();
+        let packages = no_packages(alloc)?;
         let setting = Setting {
             alloc,
             rules: &rules,
+            own: &own,
+            packages: &packages,
             limit: 1_000_000,
         };
         let host = Noting {
@@ -134,6 +162,39 @@ print(f, f == filegroup, [glob], type(package)) #> <built-in function filegroup>
 # A name of the file takes the place of a rule.
 filegroup = len
 print(filegroup("abc")) #> 3
+#> calls
+---
+# A rule that a .bzl file declares is called by its kind; one without a kind, and `rule` itself, don't reach the host.
+def _impl(ctx):
+    pass
+my = rule(_impl)
+def f(name):
+    my(name = name)
+    native.genrule(name = name)
+===
+load(":m.bzl", "f", "my")
+my(name = "a")
+f("b")
+print(my, type(my), my == my) #> <rule> rule True
+#> calls 99 99 7
+---
+def _impl(ctx):
+    pass
+rules = [rule(_impl)]
+===
+load(":m.bzl", "rules")
+glob([])
+rules[0](name = "a") #! F57 BadValue
+#> calls 0
+---
+# The package of defaults is the host's matter.
+def f():
+    attr.label()
+    attr.label(default = None)
+    attr.label(default = ":x")
+===
+load(":m.bzl", "f")
+f() #! F78 BadLabel
 #> calls
 ---
 native.glob([]) #! F20 UnknownName native

@@ -2,7 +2,9 @@
 
 use crate::chunks::{Subject, check_chunks};
 use crate::program::{Setting, run_chunk};
+use crate::workspace::no_packages;
 use bq_grammar::FileKind;
+use bq_label::PackageId;
 use bq_module::Outcome;
 use bq_package::BuildHost;
 use bq_source::FaultKind;
@@ -23,13 +25,18 @@ fn is_limit(outcome: &Outcome) -> bool {
 
 /// Whether so many steps suffice.
 fn suffices(alloc: Global, kind: FileKind, text: &[u8], limit: u64) -> Result<bool, AllocError> {
+    let own = PackageId::root();
+    let packages = no_packages(alloc)?;
     let setting = Setting {
         alloc,
         rules: &[],
+        own: &own,
+        packages: &packages,
         limit,
     };
+    let host = BuildHost::outside(alloc, &own, &packages)?;
     let mut whole = Vec::new(alloc);
-    match run_chunk(setting, kind, text, BuildHost::outside(), &mut whole)? {
+    match run_chunk(setting, kind, text, host, &mut whole)? {
         Some(evaluated) => Ok(!is_limit(&evaluated.outcome)),
         None => Ok(true),
     }
@@ -102,6 +109,36 @@ def f(x):
     else:
         pass
 f(2)
+---
+# `attr` takes none before its functions, and `rule` one as any name.
+#> 2
+attr.int()
+---
+#> 5
+def f(ctx): pass
+rule(f)
+---
+# Making a dict's key takes one; `rule` reads the keys of `attrs` without steps.
+#> 9
+def f(ctx): pass
+rule(f, {"a": attr.int()})
+---
+# Two attributes are one pair, whatever their defaults.
+#> 8
+x = attr.string_list(default = ["a", "b"]) == attr.string_list()
+---
+#> 10
+def f(ctx): pass
+r = rule(f)
+x = r == r
+---
+# One is visited, where it is printed.
+#> 5
+print(attr.int())
+---
+#> 8
+def f(ctx): pass
+print(rule(f))
 "#;
 
 const BUILD_FILES: &str = r#"

@@ -2,7 +2,8 @@
 
 use crate::chunks::{Subject, add_line, check_chunks};
 use crate::program::add_refusal;
-use bq_schema::{Attribute, Attributes, Schema, read_schema, rule_names};
+use bq_rule_class::{Attribute, RuleClass};
+use bq_schema::{Schema, read_schema, rule_names};
 use std::alloc::{AllocError, Global};
 use std::fmt::Write;
 
@@ -13,7 +14,7 @@ fn add_attribute(
     alloc: Global,
     whole: &mut Vec<u8>,
     name: &[u8],
-    attribute: Attribute,
+    attribute: &Attribute,
 ) -> Result<(), AllocError> {
     let mut text = String::new(alloc);
     write!(text, " {:?}", attribute.kind)?;
@@ -25,13 +26,9 @@ fn add_attribute(
     add_line(whole, &line)
 }
 
-fn add_attributes(
-    alloc: Global,
-    whole: &mut Vec<u8>,
-    attributes: &Attributes,
-) -> Result<(), AllocError> {
+fn add_attributes(alloc: Global, whole: &mut Vec<u8>, class: &RuleClass) -> Result<(), AllocError> {
     for place in 0..99usize {
-        match attributes.entry(place) {
+        match class.entry(place) {
             Some((name, attribute)) => add_attribute(alloc, whole, name, attribute)?,
             None => return Ok(()),
         }
@@ -42,8 +39,8 @@ fn add_attributes(
 fn add_schema(alloc: Global, whole: &mut Vec<u8>, schema: &Schema) -> Result<(), AllocError> {
     for (rule, name) in rule_names(schema).iter().enumerate() {
         add_line(whole, name.as_slice())?;
-        if let Some(attributes) = schema.attributes(rule) {
-            add_attributes(alloc, whole, attributes)?;
+        if let Some(class) = schema.class(rule) {
+            add_attributes(alloc, whole, class)?;
         }
     }
     Ok(())

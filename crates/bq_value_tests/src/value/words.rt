@@ -2,12 +2,16 @@
 //!
 //! - `N`, `T` and `F` are `None`, `True` and `False`, `i7` and `m7` are 7 and -7, `sab` is `"ab"`, `x9` a string of nine bytes `a`,
 //!   `r062` is `range(0, 6, 2)`, `bab` the built-in function `ab`, and `f12ab` the function `ab` that the `def` 2 of module 1 made;
+//! - `prule` and `pint` are `rule` and `attr.int`, `q07int` is what `attr.int(default = 7)` gives, `q17int` the same where it is
+//!   mandatory, and `R` a rule without attributes;
 //! - `(2`, `[2` and `{2` take so many values from the stack and put a tuple, a list or a dict of them; `o2` a list of them and itself;
 //! - the others take the top value: `v9` and `w9` put it into so many tuples or lists in one another, `l9` and `a9` into tuples beside
 //!   `None`, as the first or the last item, `d9` into so many defaults in one another; `t9` and `y9` put a tuple or a list that has
 //!   it so many times; and `c` puts it there twice.
 
 use crate::rows::number_of;
+use bq_predeclared::{RuleFunction, attr_named};
+use bq_rule_class::{Attribute, AttributeType, AttributeValue, RuleClass, type_named};
 use bq_source::Bytes;
 use bq_value::{Body, Content, Dict, EvalErr, Function, Range, Store, Value};
 use bq_walk::key_of;
@@ -57,6 +61,7 @@ fn value_of(
             compound(alloc, store, letter, values)
         }
         b'c' => Ok(copied(stack)?),
+        b'R' => rule_of(alloc, store),
         _ => Ok(plain(alloc, letter, rest)?),
     }
 }
@@ -109,6 +114,12 @@ fn dict_of(alloc: Global, store: &mut Store, mut values: Vec<Value>) -> Result<V
         dict.insert(key, top(&mut values))?;
     }
     Ok(Value::cell(store.make(Content::dict(dict))?))
+}
+
+/// A rule without attributes.
+fn rule_of(alloc: Global, store: &mut Store) -> Result<Value, EvalErr> {
+    let class = RuleClass::empty(alloc)?;
+    Ok(Value::cell(store.make(Content::rule(class))?))
 }
 
 fn list_with_itself(store: &mut Store, values: Vec<Value>) -> Result<Value, EvalErr> {
@@ -167,6 +178,36 @@ fn function_of(alloc: Global, word: &[u8], defaults: Vec<Value>) -> Result<Value
     )
 }
 
+/// Integers alone have a default.
+fn default_of(kind: AttributeType, digit: u8) -> Option<AttributeValue> {
+    match kind {
+        AttributeType::Int => Some(AttributeValue::Int(i64::from(digit))),
+        _ => None,
+    }
+}
+
+fn attribute_of(alloc: Global, word: &[u8]) -> Result<Value, AllocError> {
+    let kind = match type_named(word.get(2..).unwrap_or(b"")) {
+        Some(kind) => kind,
+        None => AttributeType::String,
+    };
+    Value::attribute(
+        alloc,
+        Attribute {
+            kind,
+            is_mandatory: digit_at(word, 0) == 1,
+            default: default_of(kind, digit_at(word, 1)),
+        },
+    )
+}
+
+fn rule_function_of(name: &[u8]) -> Value {
+    Value::rule_function(match attr_named(name) {
+        Some(function) => function,
+        None => RuleFunction::Rule,
+    })
+}
+
 fn range_of(digits: &[u8]) -> Value {
     Value::range(Range {
         start: i64::from(digit_at(digits, 0)),
@@ -195,6 +236,8 @@ fn plain(alloc: Global, letter: u8, rest: &[u8]) -> Result<Value, AllocError> {
         b'x' => long_string(alloc, number_of(rest)),
         b's' => Ok(Value::string(Bytes::from_slice(alloc, rest)?)),
         b'f' => function_of(alloc, rest, Vec::new(alloc)),
+        b'p' => Ok(rule_function_of(rest)),
+        b'q' => attribute_of(alloc, rest),
         _ => Ok(Value::built_in(Bytes::from_slice(alloc, rest)?)),
     }
 }

@@ -8,13 +8,13 @@ use Rattle.bq_query_check.specs.declared.formula.Unary.{Unary}
 use Rattle.bq_target.specs.declared.target.Target.{Target}
 use Rattle.bq_target_sets.specs.Words.{Those}
 use Rattle.bq_target_sets.specs.Matching.{has_kind, has_text, has_attribute}
-use Rattle.bq_answer.specs.World.{facts, count_of, targets_of}
+use Rattle.bq_answer.specs.Graph.{count_of, targets_of}
 use Rattle.bq_answer.specs.Functions.{OfOne}
 use Rattle.bq_answer.proofs.functions.of_one.Goals as goal
 
 pub returns-in-Kind : goal.returns-in-Kind
 returns-in-Kind c =
-    let w = facts c.args.world.now in
+    let w = c.args.graph.now in
     let x = c.args.x.now in
     subst (λ (f : Unary). IfOk c.kind.result (λ r. IsSet (count_of w) r.items (OfOne w f (Marked x)))) (sym c.in-Kind.is)
     (IfOk-weaker c.kind.result _ _
@@ -24,7 +24,7 @@ returns-in-Kind c =
 
 pub returns-in-Filter : goal.returns-in-Filter
 returns-in-Filter c =
-    let w = facts c.args.world.now in
+    let w = c.args.graph.now in
     let x = c.args.x.now in
     subst (λ (f : Unary). IfOk c.filter.result (λ r. IsSet (count_of w) r.items (OfOne w f (Marked x)))) (sym c.in-Filter.is)
     (IfOk-weaker c.filter.result _ _
@@ -34,11 +34,11 @@ returns-in-Filter c =
 
 pub returns-in-Attr : goal.returns-in-Attr
 returns-in-Attr c =
-    let w = facts c.args.world.now in
+    let w = c.args.graph.now in
     let x = c.args.x.now in
     subst (λ (f : Unary). IfOk c.attr.result (λ r. IsSet (count_of w) r.items (OfOne w f (Marked x)))) (sym c.in-Attr.is)
     (IfOk-weaker c.attr.result _ _
-    (λ r s. subst (λ (re : Re). IsSet (count_of w) r.items (λ y. Marked x y × Those (has_attribute w.schema c.in-Attr.name re) (targets_of w) y)) c.regex-in-Attr.ensures
-    (subst (λ (n : List ℕ). IsSet (count_of w) r.items (λ y. Marked x y × Those (has_attribute w.schema n (regex_pattern c.regex-in-Attr.result.now)) (targets_of w) y)) c.as_slice.ensures
-    (subst (λ (ts : List Target). IsSet (length ts) r.items (λ y. Marked x y × Those (has_attribute w.schema c.as_slice.result.now (regex_pattern c.regex-in-Attr.result.now)) ts y)) c.targets-targets.ensures.value s)))
+    (λ r s. subst (λ (re : Re). IsSet (count_of w) r.items (λ y. Marked x y × Those (has_attribute c.in-Attr.name re) (targets_of w) y)) c.regex-in-Attr.ensures
+    (subst (λ (n : List ℕ). IsSet (count_of w) r.items (λ y. Marked x y × Those (has_attribute n (regex_pattern c.regex-in-Attr.result.now)) (targets_of w) y)) c.as_slice.ensures
+    (subst (λ (ts : List Target). IsSet (length ts) r.items (λ y. Marked x y × Those (has_attribute c.as_slice.result.now (regex_pattern c.regex-in-Attr.result.now)) ts y)) c.targets-targets.ensures.value s)))
     c.attr.ensures)

@@ -5,7 +5,7 @@ use Rattle.std.proofs.lemmas.Result.{err_from_is_err_and}
 use Rattle.bq_graph.specs.Marks.{IsSet, Marked}
 use Rattle.bq_query_check.specs.declared.formula.SetExpr.TheFolds.{the_lemmas}
 use Rattle.bq_query_check.specs.Formula.{Formula, Step, formula_of, step_of, chained, named, variable, let_in, one, two, AreClosed}
-use Rattle.bq_answer.specs.World.{facts, count_of}
+use Rattle.bq_answer.specs.Graph.{count_of}
 use Rattle.bq_answer.specs.Functions.{OfOne, OfTwo, Combined}
 use Rattle.bq_answer.specs.Stands.{Bound, AreSets}
 use Rattle.bq_answer.specs.Faults.{Has, AreBound, fault_in}
@@ -26,7 +26,7 @@ one_of-returns-in_err-x t c =
 
 pub one_of-returns : goal.one_of-returns
 one_of-returns t c =
-    let w = facts c.args.world.now in
+    let w = c.args.graph.now in
     let f = c.args.function.now in
     let x = c.in_ok-x.x.items in
     let r = c.in_ok-of_one.field-0.items in
@@ -40,7 +40,7 @@ one_of-set_of-requires t c = (first_of (search rules, search (rules, the_lemmas)
 
 pub chain_of-set_of-requires : goal.chain_of-set_of-requires
 chain_of-set_of-requires t c =
-    let w = facts c.args.world.now in
+    let w = c.args.graph.now in
     let item = c.operation-item.result in
     let os = c.args.operations.now in
     let here : AreBound w (formula_of item.operand) c.args.bound.now = record {
@@ -52,11 +52,11 @@ chain_of-set_of-requires t c =
 -- ---- lets
 
 pub let_of-set_of-requires : goal.let_of-set_of-requires
-let_of-set_of-requires t c = (first_of (search rules, search (rules, the_lemmas), omega arith, grind (arith, common_steps)), subst (λ (bs : Bound). AreBound (facts c.args.world.now) (formula_of c.args.body.now) bs) (sym c.in_ok-bind.ensures) c.requires)
+let_of-set_of-requires t c = (first_of (search rules, search (rules, the_lemmas), omega arith, grind (arith, common_steps)), subst (λ (bs : Bound). AreBound c.args.graph.now (formula_of c.args.body.now) bs) (sym c.in_ok-bind.ensures) c.requires)
 
 pub let_of-returns : goal.let_of-returns
 let_of-returns t c =
-    let w = facts c.args.world.now in (
+    let w = c.args.graph.now in (
       subst (λ (bs : Bound). Has w bs (formula_of c.args.body.now) c.in_ok-found.found.items) c.in_ok-bind.ensures c.in_ok-found.ensures.0,
       popped_kept c.args.bound.now c.set_of.new.bound c.pop.new.self c.args.set.items c.pop.result c.pop.ensures (c.in_ok-found.ensures.1 ∙ c.in_ok-bind.ensures),
     )
@@ -65,14 +65,14 @@ let_of-returns t c =
 
 pub chain_of-loop-operation-init : goal.chain_of-loop-operation-init
 chain_of-loop-operation-init t c = record {
-  so_far = λ x h. none_done (facts c.args.world.now) c.args.bound.now x (map step_of c.args.operations.now) c.args.first.items h;
+  so_far = λ x h. none_done c.args.graph.now c.args.bound.now x (map step_of c.args.operations.now) c.args.first.items h;
   kept = refl;
   long = c.requires.first;
 }
 
 pub chain_of-returns-in_err-operand : goal.chain_of-returns-in_err-operand
 chain_of-returns-in_err-operand t c =
-    let w = facts c.args.world.now in
+    let w = c.args.graph.now in
     let env = c.args.bound.now in
     let i = c.loop-operation.operation-index in
     let os = c.args.operations.now in
@@ -88,7 +88,7 @@ chain_of-returns-in_err-operand t c =
 
 pub chain_of-loop-operation-preserved : goal.chain_of-loop-operation-preserved
 chain_of-loop-operation-preserved t c =
-    let w = facts c.args.world.now in
+    let w = c.args.graph.now in
     let env = c.args.bound.now in
     let i = c.loop-operation.operation-index in
     let os = c.args.operations.now in
@@ -114,7 +114,7 @@ chain_of-loop-operation-preserved t c =
 
 pub chain_of-returns : goal.chain_of-returns
 chain_of-returns t c =
-    let w = facts c.args.world.now in
+    let w = c.args.graph.now in
     let env = c.args.bound.now in
     let i = c.loop-operation.operation-index in
     let os = c.args.operations.now in
@@ -130,21 +130,21 @@ chain_of-returns t c =
 
 pub set_of-set_bound-requires : goal.set_of-set_bound-requires
 set_of-set_bound-requires t c =
-    let w = facts c.args.world.now in
+    let w = c.args.graph.now in
     let says : formula_of c.args.query.now ≡ variable c.in-Variable.number = first_of (search (rules, the_lemmas), grind (arith, common_steps, variable_says), grind (arith, common_steps)) in
     let h = bound_as w (formula_of c.args.query.now) (variable c.in-Variable.number) c.args.bound.now c.args.bound.now says refl c.requires in
     subst (λ (bs : Bound). c.in-Variable.number < length bs) (sym c.as_slice.ensures) h.closed
 
 pub set_of-one_of-requires : goal.set_of-one_of-requires
 set_of-one_of-requires t c =
-    let w = facts c.args.world.now in
+    let w = c.args.graph.now in
     let x = formula_of c.get-x.result.now in
     let says : formula_of c.args.query.now ≡ one c.in-One.function (formula_of c.get-x.result.now) = first_of (search (rules, the_lemmas), grind (arith, common_steps, one_says), grind (arith, common_steps)) in
     (first_of (search rules, search (rules, the_lemmas), omega arith, grind (arith, common_steps)), one_bound w c.in-One.function x c.args.bound.now (bound_as w (formula_of c.args.query.now) (one c.in-One.function x) c.args.bound.now c.args.bound.now says refl c.requires))
 
 pub set_of-set_of-requires-in-Chain : goal.set_of-set_of-requires-in-Chain
 set_of-set_of-requires-in-Chain t c =
-    let w = facts c.args.world.now in
+    let w = c.args.graph.now in
     let x = formula_of c.get-first.result.now in
     let os = c.as_slice-operations.result.now in
     let says : formula_of c.args.query.now ≡ chained (formula_of c.get-first.result.now) (map step_of c.as_slice-operations.result.now) = first_of (search (rules, the_lemmas), grind (arith, common_steps, chain_says), grind (arith, common_steps)) in
@@ -152,7 +152,7 @@ set_of-set_of-requires-in-Chain t c =
 
 pub set_of-chain_of-requires : goal.set_of-chain_of-requires
 set_of-chain_of-requires t c =
-    let w = facts c.args.world.now in
+    let w = c.args.graph.now in
     let x = formula_of c.get-first.result.now in
     let os = c.as_slice-operations.result.now in
     let says : formula_of c.args.query.now ≡ chained (formula_of c.get-first.result.now) (map step_of c.as_slice-operations.result.now) = first_of (search (rules, the_lemmas), grind (arith, common_steps, chain_says), grind (arith, common_steps)) in
@@ -167,16 +167,16 @@ set_of-chain_of-requires t c =
 pub set_of-returns-in-Named : goal.set_of-returns-in-Named
 set_of-returns-in-Named t c =
     let says : formula_of c.args.query.now ≡ named c.as_slice-texts.result.now = first_of (search (rules, the_lemmas), grind (arith, common_steps, words_say), grind (arith, common_steps)) in
-    reworded (λ v. v.items) (facts c.args.world.now) (formula_of c.args.query.now) (named c.as_slice-texts.result.now) c.args.bound.now c.args.bound.now c.named.result c.args.bound.now says (c.named.ensures c.args.bound.now)
+    reworded (λ v. v.items) c.args.graph.now (formula_of c.args.query.now) (named c.as_slice-texts.result.now) c.args.bound.now c.args.bound.now c.named.result c.args.bound.now says (c.named.ensures c.args.bound.now)
 
 pub set_of-returns-in-One : goal.set_of-returns-in-One
 set_of-returns-in-One t c =
     let says : formula_of c.args.query.now ≡ one c.in-One.function (formula_of c.get-x.result.now) = first_of (search (rules, the_lemmas), grind (arith, common_steps, one_says), grind (arith, common_steps)) in
-    reworded (λ v. v.items) (facts c.args.world.now) (formula_of c.args.query.now) (one c.in-One.function (formula_of c.get-x.result.now)) c.args.bound.now c.args.bound.now c.one_of.result c.one_of.new.bound says c.one_of.ensures
+    reworded (λ v. v.items) c.args.graph.now (formula_of c.args.query.now) (one c.in-One.function (formula_of c.get-x.result.now)) c.args.bound.now c.args.bound.now c.one_of.result c.one_of.new.bound says c.one_of.ensures
 
 pub set_of-returns-in_err-x-in-Two : goal.set_of-returns-in_err-x-in-Two
 set_of-returns-in_err-x-in-Two t c =
-    let w = facts c.args.world.now in
+    let w = c.args.graph.now in
     let a = formula_of c.get-first-in-Two.result.now in
     let b = formula_of c.get-second.result.now in
     let says : formula_of c.args.query.now ≡ two c.in-Two.function (formula_of c.get-first-in-Two.result.now) (formula_of c.get-second.result.now) = first_of (search (rules, the_lemmas), grind (arith, common_steps, two_says), grind (arith, common_steps)) in
@@ -185,7 +185,7 @@ set_of-returns-in_err-x-in-Two t c =
 
 pub set_of-returns-in_err-y-in-Two : goal.set_of-returns-in_err-y-in-Two
 set_of-returns-in_err-y-in-Two t c =
-    let w = facts c.args.world.now in
+    let w = c.args.graph.now in
     let a = formula_of c.get-first-in-Two.result.now in
     let b = formula_of c.get-second.result.now in
     let says : formula_of c.args.query.now ≡ two c.in-Two.function (formula_of c.get-first-in-Two.result.now) (formula_of c.get-second.result.now) = first_of (search (rules, the_lemmas), grind (arith, common_steps, two_says), grind (arith, common_steps)) in
@@ -194,7 +194,7 @@ set_of-returns-in_err-y-in-Two t c =
 
 pub set_of-returns-in_ok-of_two-in-Two : goal.set_of-returns-in_ok-of_two-in-Two
 set_of-returns-in_ok-of_two-in-Two t c =
-    let w = facts c.args.world.now in
+    let w = c.args.graph.now in
     let f = c.in-Two.function in
     let bs = c.args.bound.now in
     let a = formula_of c.get-first-in-Two.result.now in
@@ -211,7 +211,7 @@ set_of-returns-in_ok-of_two-in-Two t c =
 
 pub set_of-returns-in_err-set-in-Let : goal.set_of-returns-in_err-set-in-Let
 set_of-returns-in_err-set-in-Let t c =
-    let w = facts c.args.world.now in
+    let w = c.args.graph.now in
     let a = formula_of c.get-value.result.now in
     let b = formula_of c.get-body.result.now in
     let says : formula_of c.args.query.now ≡ let_in (formula_of c.get-value.result.now) (formula_of c.get-body.result.now) = first_of (search (rules, the_lemmas), grind (arith, common_steps, let_says), grind (arith, common_steps)) in
@@ -220,7 +220,7 @@ set_of-returns-in_err-set-in-Let t c =
 
 pub set_of-returns-in_ok-set-in-Let : goal.set_of-returns-in_ok-set-in-Let
 set_of-returns-in_ok-set-in-Let t c =
-    let w = facts c.args.world.now in
+    let w = c.args.graph.now in
     let bs = c.args.bound.now in
     let a = formula_of c.get-value.result.now in
     let b = formula_of c.get-body.result.now in
@@ -230,7 +230,7 @@ set_of-returns-in_ok-set-in-Let t c =
 
 pub set_of-returns-in_err-set-in-Chain : goal.set_of-returns-in_err-set-in-Chain
 set_of-returns-in_err-set-in-Chain t c =
-    let w = facts c.args.world.now in
+    let w = c.args.graph.now in
     let x = formula_of c.get-first.result.now in
     let steps = map step_of c.as_slice-operations.result.now in
     let says : formula_of c.args.query.now ≡ chained (formula_of c.get-first.result.now) (map step_of c.as_slice-operations.result.now) = first_of (search (rules, the_lemmas), grind (arith, common_steps, chain_says), grind (arith, common_steps)) in
@@ -239,7 +239,7 @@ set_of-returns-in_err-set-in-Chain t c =
 
 pub set_of-returns-in_ok-set-in-Chain : goal.set_of-returns-in_ok-set-in-Chain
 set_of-returns-in_ok-set-in-Chain t c =
-    let w = facts c.args.world.now in
+    let w = c.args.graph.now in
     let bs = c.args.bound.now in
     let middle = c.set_of-in-Chain.new.bound in
     let x = formula_of c.get-first.result.now in

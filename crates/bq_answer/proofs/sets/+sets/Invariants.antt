@@ -1,5 +1,5 @@
 use Rattle.std.proofs.Common.{◌≡◌, length, map, drop}
-use Rattle.bq_answer.specs.World.{facts, count_of}
+use Rattle.bq_answer.specs.Graph.{count_of}
 use Rattle.bq_query_check.specs.Formula.{Formula, step_of, chained}
 use Rattle.bq_answer.specs.Faults.{Has}
 use Rattle.bq_answer.proofs.Formulas.{SoFar}
@@ -8,8 +8,8 @@ use Rattle.bq_answer.proofs.sets.+sets.Given as goal
 abbrev pub invariant-chain_of-loop-operation : goal.invariant-chain_of-loop-operation
 invariant-chain_of-loop-operation l = record {
   so_far : (x : Formula)
-      → Has (facts l.world) l.fn.bound x l.initial.set.items
-      → SoFar (facts l.world) l.fn.bound (chained x (map step_of l.operations)) (map step_of (drop l.operation-index l.operations)) l.set.items;
+      → Has l.graph l.fn.bound x l.initial.set.items
+      → SoFar l.graph l.fn.bound (chained x (map step_of l.operations)) (map step_of (drop l.operation-index l.operations)) l.set.items;
   kept : l.bound ≡ l.fn.bound;
-  long : length l.set.items ≡ count_of (facts l.world);
+  long : length l.set.items ≡ count_of l.graph;
 }

@@ -1,15 +1,14 @@
 use Rattle.std.proofs.Common.{List, [], Bool, subst}
 use Rattle.bq_graph.specs.Marks.{IsSet, Held}
-use Rattle.bq_answer.specs.World.{count_of}
+use Rattle.bq_answer.specs.Graph.{count_of}
 use Rattle.bq_query_check.specs.Formula.{formula_of}
 use Rattle.bq_answer.specs.Stands.{Stands, Bound}
-use Rattle.bq_answer.specs.Answer.{facts_of}
 use Rattle.bq_answer.proofs.Members.{those, inside}
 use Rattle.bq_answer.proofs.whole.answer.Goals as goal
 
 pub returns-clause-within : goal.returns-clause-within
 returns-clause-within c =
-    let w = facts_of c.args.graph.now c.args.schema.now in
+    let w = c.args.graph.now in
     let f = formula_of c.args.query.now.set in
     let set = c.in_ok-set.set.items in
     let v = c.in_ok-members.field-0.items in
@@ -18,7 +17,7 @@ returns-clause-within c =
 
 pub returns-clause-members : goal.returns-clause-members
 returns-clause-members c =
-    let w = facts_of c.args.graph.now c.args.schema.now in
+    let w = c.args.graph.now in
     let f = formula_of c.args.query.now.set in
     let set = c.in_ok-set.set.items in
     let v = c.in_ok-members.field-0.items in

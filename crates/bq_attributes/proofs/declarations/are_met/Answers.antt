@@ -7,10 +7,10 @@ pub entries-preserved : goal.entries-preserved
 entries-preserved c =
     let l = c.entries in
     let at : c.len.result ≡ length l.met.items = omega (arith, c.len.ensures, l.met.ok) in
-    entry_next (is_met c.args.keywords.now) c.args.table.now l.met.items l.invariant c.len.result at (c.in-Some.name.now, c.in-Some.attribute) _ _ c.in-Some.ensures c.in_ok-is_met.ensures c.in_ok-push.ensures.items
+    entry_next (is_met c.args.keywords.now) c.args.class.now l.met.items l.invariant c.len.result at (c.in-Some.name.now, c.in-Some.attribute.now) _ _ c.in-Some.ensures c.in_ok-is_met.ensures c.in_ok-push.ensures.items
 
 pub entries-smaller : goal.entries-smaller
 entries-smaller c =
     let l = c.entries in
     let at : c.len.result ≡ length l.met.items = omega (arith, c.len.ensures, l.met.ok) in
-    entry_smaller (is_met c.args.keywords.now) c.args.table.now l.met.items l.invariant c.len.result at (c.in-Some.name.now, c.in-Some.attribute) _ _ c.in-Some.ensures c.in_ok-push.ensures.items
+    entry_smaller (is_met c.args.keywords.now) c.args.class.now l.met.items l.invariant c.len.result at (c.in-Some.name.now, c.in-Some.attribute.now) _ _ c.in-Some.ensures c.in_ok-push.ensures.items

@@ -4,7 +4,7 @@ use Rattle.bq_attributes.specs.Declarations.{is_met}
 use Rattle.bq_attributes.proofs.declarations.are_met.Given as goal
 
 abbrev pub invariant-entries : goal.invariant-entries
-invariant-entries l = l.met.items ++ map (is_met l.keywords) (drop (length l.met.items) l.table) ≡ map (is_met l.keywords) l.table
+invariant-entries l = l.met.items ++ map (is_met l.keywords) (drop (length l.met.items) l.class) ≡ map (is_met l.keywords) l.class
 
 abbrev pub decreases-entries : goal.decreases-entries
-decreases-entries l = length l.table - length l.met.items
+decreases-entries l = length l.class - length l.met.items

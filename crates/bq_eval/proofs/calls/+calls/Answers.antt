@@ -49,6 +49,14 @@ pub apply-returns-in-BuiltIn : goal.apply-returns-in-BuiltIn
 unfolding apply
 apply-returns-in-BuiltIn g t c = grind (arith, common_steps)
 
+pub apply-returns-in-RuleFunction : goal.apply-returns-in-RuleFunction
+unfolding apply
+apply-returns-in-RuleFunction g t c = grind (arith, common_steps)
+
+pub apply-returns-in-Cell : goal.apply-returns-in-Cell
+unfolding apply
+apply-returns-in-Cell g t c = grind (arith, common_steps)
+
 pub call-returns : goal.call-returns
 unfolding inside
 call-returns g t c =

@@ -10,10 +10,9 @@ use Rattle.bq_report.proofs.whole.report_on.Goals as goal
 pub returns : goal.returns
 returns c =
     let i = inside c.args.contents in
-    let rules = c.args.question.schema.now in
     let query = c.args.question.query.now in
     let form = c.args.question.form in
     let reply = c.in_ok-reply.reply in
-    whole i rules query form c.add_dangling.new.lines c.in_ok-text.text.items reply.text.items reply.end
+    whole i query form c.add_dangling.new.lines c.in_ok-text.text.items reply.text.items reply.end
     (c.in_ok-add_dangling.ensures ∙ ap (λ (ps : List PackageTargets). put_lines i.faults (all_dangling ps)) c.deref.ensures.value) c.in_ok-text.ensures
-    (subst (λ (status : Status). RepliesOver i.packages rules query form status (reply_view reply)) c.status_by-status.ensures c.in_ok-reply.ensures)
+    (subst (λ (status : Status). RepliesOver i.packages query form status (reply_view reply)) c.status_by-status.ensures c.in_ok-reply.ensures)

@@ -10,13 +10,12 @@ returns-in-Ok g c =
     let o = c.args.options.now in
     let l = c.in-Ok.loaded in
     let query = c.args.question.query.now in
-    let kinds = c.args.question.schema.now in
     let inside : Inside = record { prints = l.prints.items; faults = l.faults; packages = l.packages.items } in
-    IfOk-weaker c.report_on.result (λ r. Reports inside kinds query c.args.question.form (report_view r)) (λ r. IsReportOn o c.args.workspace.now (report_view r))
-    (λ r h. loaded_report o c.args.workspace.now query kinds l (report_view r) c.requires.query c.requires.schema c.in-Ok.ensures
-    (subst (λ f. Reports inside kinds query f (report_view r)) c.requires.form h))
+    IfOk-weaker c.report_on.result (λ r. Reports inside query c.args.question.form (report_view r)) (λ r. IsReportOn o c.args.workspace.now (report_view r))
+    (λ r h. loaded_report o c.args.workspace.now query c.args.schema.now l (report_view r) c.requires.query c.requires.schema c.in-Ok.ensures
+    (subst (λ f. Reports inside query f (report_view r)) c.requires.form h))
     c.report_on.ensures
 
 pub returns-in-Err-TooManyModules : goal.returns-in-Err-TooManyModules
 returns-in-Err-TooManyModules g c =
-    IsReportOn.too_many c.args.question.query.now c.args.question.schema.now c.requires.query c.requires.schema (c.in-Err-TooManyModules.ensures.0 (search rules)) c.refused.ensures
+    IsReportOn.too_many c.args.question.query.now c.args.schema.now c.requires.query c.requires.schema (c.in-Err-TooManyModules.ensures.0 (search rules)) c.refused.ensures

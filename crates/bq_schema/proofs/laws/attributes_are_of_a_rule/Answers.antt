@@ -5,4 +5,4 @@ use Rattle.bq_schema.proofs.laws.attributes_are_of_a_rule.Goals as goal
 
 pub returns : goal.returns
 unfolding after
-returns c rules name attribute h = of_none rules.names rules.attributes name attribute (ap length h)
+returns c rules name attribute h = of_none rules.names rules.classes name attribute (ap length h)

@@ -12,8 +12,8 @@ decreases-tuple_equal l = 4 * l.levels + 2
 abbrev pub decreases-cell_equal : goal.decreases-cell_equal
 decreases-cell_equal l = 4 * l.levels + 3
 
-abbrev pub decreases-cells_equal : goal.decreases-cells_equal
-decreases-cells_equal l = 4 * l.levels + 2
+abbrev pub decreases-contents_equal : goal.decreases-contents_equal
+decreases-contents_equal l = 4 * l.levels + 2
 
 abbrev pub decreases-slices_equal : goal.decreases-slices_equal
 decreases-slices_equal l = 4 * l.levels + 1

@@ -5,5 +5,5 @@ use Rattle.bq_attributes.proofs.arguments.Given.take_arguments.Given as goal
 
 abbrev pub invariant-loop-i : goal.invariant-loop-i
 invariant-loop-i l =
-    with_arguments l.callee.scope.own.now l.callee.scope.packages.now l.callee.store.now l.callee.schema.now l.callee.rule.now l.fn.self l.keywords
-    ≡ with_arguments l.callee.scope.own.now l.callee.scope.packages.now l.callee.store.now l.callee.schema.now l.callee.rule.now l.self (drop l.i l.keywords)
+    with_arguments l.callee.scope.own.now l.callee.scope.packages.now l.callee.store.now l.callee.class.now l.fn.self l.keywords
+    ≡ with_arguments l.callee.scope.own.now l.callee.scope.packages.now l.callee.store.now l.callee.class.now l.self (drop l.i l.keywords)

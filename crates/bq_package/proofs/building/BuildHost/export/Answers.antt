@@ -1,8 +1,8 @@
-use Rattle.std.proofs.Common.{◌≡◌, Some, Option, option_map, ap, subst, rules}
+use Rattle.std.proofs.Common.{◌≡◌, Some, Option, ap, subst, rules}
 use Rattle.bq_target.specs.Calls.{exported}
 use Rattle.bq_package.specs.declared.building.Building.{Building}
 use Rattle.bq_package.specs.Place.{place_of}
-use Rattle.bq_package.specs.Calls.{HeldPackage, declaring_of, held_by}
+use Rattle.bq_package.specs.Calls.{HeldPackage, held_of, held_by}
 use Rattle.bq_package.specs.Keeping.{IsSettled}
 use Rattle.bq_package.proofs.Owning.{exported_in}
 use Rattle.bq_package.proofs.Settling.{export_settles}
@@ -17,5 +17,5 @@ pub returns : goal.returns
 returns c =
     let b = c.in-Some.building in
     let held : Some b ≡ c.args.self.now.building = search rules in
-    subst (λ (k : HeldPackage). IsSettled c.settle.result k (held_by c.settle.new.self) (λ p. exported p c.args.labels.now c.args.line)) (ap (λ (o : Option Building). option_map declaring_of o) held)
+    subst (λ (k : HeldPackage). IsSettled c.settle.result k (held_by c.settle.new.self) (λ p. exported p c.args.labels.now c.args.line)) (ap (λ (o : Option Building). held_of c.args.self.now.scope o) held)
     (export_settles c.args.labels.now c.args.line (place_of b.place) b.«package» c.in_ok-declared.declared c.settle.result (held_by c.settle.new.self) c.in_ok-declared.ensures c.settle.ensures)

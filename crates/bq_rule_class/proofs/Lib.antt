@@ -1,0 +1,8 @@
+-- what a map with keys of bytes says of names
+pub mod Keyed
+-- attributes that are the same, and equal ones
+pub mod Equal
+-- lists of labels that differ in length
+pub mod Lengths
+-- attributes that are copied one by one
+pub mod Copies

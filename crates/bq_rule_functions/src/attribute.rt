@@ -1,0 +1,117 @@
+//! `attr.NAME(..)` (Bazel, "attr").
+
+ghost use Rattle.std.specs.Prelude.{◌≡◌, option_copied};
+ghost use Rattle.bq_source.specs.Gives.{Gives};
+ghost use Rattle.bq_value.specs.declared.error.EvalErr.TheVariants.{Bad};
+ghost use Rattle.bq_rule_functions.specs.Attribute.{written_default, is_blank, kept, resolved_default, is_mandatory, attribute_of, attribute};
+
+use crate::default::{Written, written_as};
+use crate::keywords::{argument, bind_attribute, documented};
+use crate::labels::resolved;
+use bq_host::Host;
+use bq_machine::Args;
+use bq_rule_class::{Attribute, AttributeType, AttributeValue};
+use bq_value::{EvalErr, Node, Store, Value};
+use bq_walk::truth;
+use std::alloc::Global;
+
+/// The default as it is written, where one is given that isn't `None`.
+fn written_default(
+    alloc: Global,
+    store: &Store,
+    kind: AttributeType,
+    value: Option<&Value>,
+) -> Result<Option<Written>, EvalErr>
+    ensures { Gives (λ w. w) Bad result (written_default store.now kind (option_copied value.entry)) }
+{
+    let Some(value) = value else {
+        return Ok(None);
+    };
+    match &value.node {
+        Node::NoneValue => Ok(None),
+        _ => Ok(Some(written_as(alloc, store, kind, value)?)),
+    }
+}
+
+/// Whether an attribute of the type has this by itself.
+fn is_blank(value: &AttributeValue) -> bool
+    ensures { result ≡ is_blank value.now }
+{
+    match value {
+        AttributeValue::String(text) => text.as_slice().is_empty(),
+        AttributeValue::Int(n) => *n == 0,
+        AttributeValue::Bool(b) => !*b,
+        AttributeValue::StringList(texts) => texts.as_slice().is_empty(),
+        AttributeValue::LabelList(labels) => labels.as_slice().is_empty(),
+        _ => false,
+    }
+}
+
+/// The default that is kept.
+fn kept(value: AttributeValue) -> Option<AttributeValue>
+    ensures { result ≡ kept value }
+{
+    if is_blank(&value) {
+        return None;
+    }
+    Some(value)
+}
+
+fn resolved_default<H: Host>(
+    alloc: Global,
+    host: &H,
+    written: Option<Written>,
+) -> Result<Option<AttributeValue>, EvalErr>
+    ensures { Gives (λ v. v) Bad result (resolved_default (H.means.read_default (H.seen host.now)) written) }
+{
+    match written {
+        None => Ok(None),
+        Some(written) => Ok(kept(resolved(alloc, host, written)?)),
+    }
+}
+
+/// By the truth of the argument.
+fn is_mandatory(store: &Store, value: Option<&Value>) -> bool
+    ensures { result ≡ is_mandatory store.now (option_copied value.entry) }
+{
+    match value {
+        None => false,
+        Some(value) => truth(store, value),
+    }
+}
+
+/// An attribute of a type, of the arguments of its parameters.
+#[tactic(auto, unfolding(crate::specs::Attribute::attribute_of))]
+fn attribute_of<H: Host>(
+    alloc: Global,
+    host: &H,
+    store: &Store,
+    kind: AttributeType,
+    values: &[Option<Value>],
+) -> Result<Attribute, EvalErr>
+    ensures { Gives (λ x. x) Bad result (attribute_of (H.means.read_default (H.seen host.now)) store.now kind values.now) }
+{
+    let written = written_default(alloc, store, kind, argument(values, 0))?;
+    documented(argument(values, 2))?;
+    let default = resolved_default(alloc, host, written)?;
+    Ok(Attribute {
+        kind,
+        is_mandatory: is_mandatory(store, argument(values, 1)),
+        default,
+    })
+}
+
+/// The attribute that a call declares.
+#[tactic(auto, unfolding(crate::specs::Attribute::attribute))]
+pub(crate) fn attribute<H: Host>(
+    alloc: Global,
+    host: &H,
+    store: &Store,
+    kind: AttributeType,
+    args: Args,
+) -> Result<Attribute, EvalErr>
+    ensures { Gives (λ x. x) Bad result (attribute (H.means.read_default (H.seen host.now)) store.now kind args) }
+{
+    let bound = bind_attribute(alloc, args)?;
+    attribute_of(alloc, host, store, kind, &bound.values)
+}

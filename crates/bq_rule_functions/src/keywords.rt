@@ -1,0 +1,140 @@
+//! The arguments of the functions that declare rules.
+
+ghost use Rattle.std.specs.Prelude.{◌≡◌, option_copied};
+ghost use Rattle.bq_source.specs.Gives.{Gives};
+ghost use Rattle.bq_value.specs.declared.error.EvalErr.TheVariants.{Bad};
+ghost use Rattle.bq_machine.specs.Binding.{bind};
+ghost use Rattle.bq_rule_functions.specs.Keywords.{attribute_parameters, rule_parameters, argument, documented};
+
+use bq_machine::{Args, Bound, Parameter, Signature, bind};
+use bq_source::FaultKind;
+use bq_value::{EvalErr, Node, Value};
+use std::alloc::Global;
+
+/// `(*, default, mandatory = False, doc = "")`, and what is accepted and changes nothing.
+const ATTRIBUTE: Signature<'static> = Signature {
+    parameters: &[
+        Parameter {
+            name: Some(b"default"),
+            is_required: false,
+        },
+        Parameter {
+            name: Some(b"mandatory"),
+            is_required: false,
+        },
+        Parameter {
+            name: Some(b"doc"),
+            is_required: false,
+        },
+        Parameter {
+            name: Some(b"allow_files"),
+            is_required: false,
+        },
+        Parameter {
+            name: Some(b"allow_single_file"),
+            is_required: false,
+        },
+        Parameter {
+            name: Some(b"providers"),
+            is_required: false,
+        },
+        Parameter {
+            name: Some(b"cfg"),
+            is_required: false,
+        },
+        Parameter {
+            name: Some(b"executable"),
+            is_required: false,
+        },
+        Parameter {
+            name: Some(b"values"),
+            is_required: false,
+        },
+        Parameter {
+            name: Some(b"allow_empty"),
+            is_required: false,
+        },
+    ],
+    placed: 0,
+    takes_rest: false,
+    takes_keywords: false,
+};
+
+/// `(implementation, attrs = {}, doc = "")`, and by keyword what is accepted and changes nothing.
+const RULE: Signature<'static> = Signature {
+    parameters: &[
+        Parameter {
+            name: Some(b"implementation"),
+            is_required: true,
+        },
+        Parameter {
+            name: Some(b"attrs"),
+            is_required: false,
+        },
+        Parameter {
+            name: Some(b"doc"),
+            is_required: false,
+        },
+        Parameter {
+            name: Some(b"executable"),
+            is_required: false,
+        },
+        Parameter {
+            name: Some(b"test"),
+            is_required: false,
+        },
+        Parameter {
+            name: Some(b"provides"),
+            is_required: false,
+        },
+        Parameter {
+            name: Some(b"toolchains"),
+            is_required: false,
+        },
+        Parameter {
+            name: Some(b"fragments"),
+            is_required: false,
+        },
+    ],
+    placed: 3,
+    takes_rest: false,
+    takes_keywords: false,
+};
+
+/// The arguments of `attr.NAME`, or F52.
+pub(crate) fn bind_attribute(alloc: Global, args: Args) -> Result<Bound, EvalErr>
+    ensures { Gives (λ b. b) Bad result (bind attribute_parameters args) }
+{
+    bind(alloc, &ATTRIBUTE, args)
+}
+
+/// The arguments of `rule`, or F52.
+pub(crate) fn bind_rule(alloc: Global, args: Args) -> Result<Bound, EvalErr>
+    ensures { Gives (λ b. b) Bad result (bind rule_parameters args) }
+{
+    bind(alloc, &RULE, args)
+}
+
+/// The argument of the parameter at this place, where it has one.
+pub(crate) fn argument(values: &[Option<Value>], index: usize) -> Option<&Value>
+    ensures { option_copied result ≡ argument values.now index }
+{
+    match values.get(index) {
+        Some(Some(value)) => Some(value),
+        _ => None,
+    }
+}
+
+/// F40 where `doc` is neither a string nor `None`.
+pub(crate) fn documented(value: Option<&Value>) -> Result<(), FaultKind>
+    ensures { result ≡ documented (option_copied value.entry) }
+{
+    match value {
+        None => Ok(()),
+        Some(value) => match &value.node {
+            Node::NoneValue => Ok(()),
+            Node::Text(_) => Ok(()),
+            _ => Err(FaultKind::WrongType),
+        },
+    }
+}

@@ -1,0 +1,11 @@
+use Rattle.bq_value.proofs.Naming.{frozen_kind, loaded_kind, own_kind}
+use Rattle.bq_value.proofs.laws.a_kind_is_the_first_name.Goals as goal
+
+pub returns-clause-frozen : goal.returns-clause-frozen
+returns-clause-frozen c = frozen_kind
+
+pub returns-clause-loaded : goal.returns-clause-loaded
+returns-clause-loaded c = loaded_kind
+
+pub returns-clause-own : goal.returns-clause-own
+returns-clause-own c = own_kind
