@@ -5,27 +5,25 @@ use Rattle.std.specs.List.{list_any}
 use Rattle.bq_source.specs.declared.fault.FaultKind.{FaultKind}
 use Rattle.bq_source.specs.declared.fault.FaultKind.TheVariants as f
 use Rattle.bq_predeclared.specs.declared.rule_function.RuleFunction.{RuleFunction}
-use Rattle.bq_label.specs.Label.{LabelParts}
 use Rattle.bq_rule_class.specs.Class.{Class}
-use Rattle.bq_rule_class.specs.declared.attribute.Attribute.{Attribute}
 use Rattle.bq_rule_class.specs.declared.attribute_type.AttributeType.{AttributeType}
 use Rattle.bq_rule_class.specs.declared.attribute_type.AttributeType.TheVariants as t
 use Rattle.bq_value.specs.Cells.{StoreView, content_at, kind_of}
 use Rattle.bq_value.specs.Contents.{Contents, items, pairs, rule}
 use Rattle.bq_value.specs.Datum as datum
 use Rattle.bq_value.specs.Datum.{Datum, boolean, int, string, tuple, cell}
-use Rattle.bq_machine.specs.Action.{Action, Run, done, stopped, ◌>>=◌, pure, look, beside, on_machine}
+use Rattle.bq_machine.specs.Action.{Action, Run, done, stopped, pure, look, beside, on_machine}
 use Rattle.bq_machine.specs.Action as action
 use Rattle.bq_machine.specs.Args.{Passed}
 use Rattle.bq_machine.specs.Binding.{bind}
 use Rattle.bq_machine.specs.Cells.{new_content}
 use Rattle.bq_machine.specs.State.{State}
-use Rattle.bq_rule_functions.specs.Attribute.{written_default, resolved_default, kept, is_mandatory, attribute_of, attribute}
+use Rattle.bq_rule_functions.specs.Attribute.{written_default, resolved_default, attribute_of, attribute}
 use Rattle.bq_rule_functions.specs.Call.{new_attribute, new_rule, declare, type_of, call_rule_function, class_in, call_kind, call_class, call_cell}
 use Rattle.bq_rule_functions.specs.Default.{text_in, listed, elements_in, all_texts, texts_in, int_in, bool_of, bool_in, written_as}
 use Rattle.bq_rule_functions.specs.Keywords.{attribute_parameters, rule_parameters, argument, documented}
 use Rattle.bq_rule_functions.specs.Labels.{ReadLabel, is_no_label, labels, resolved}
-use Rattle.bq_rule_functions.specs.Rule.{implemented, attribute_in, entry, entries, entries_in, attributes_in, are_named, if_declared, class_of, class}
+use Rattle.bq_rule_functions.specs.Rule.{implemented, attribute_in, entry, entries, entries_in, attributes_in, are_named, class_of, class}
 use Rattle.bq_rule_functions.specs.Steps.{and_then, in_turn}
 use Rattle.bq_rule_functions.specs.declared.default.Written.{Written}
 use Rattle.bq_rule_functions.specs.declared.default.Written.TheVariants as w
@@ -34,7 +32,7 @@ use Rattle.bq_fault_laws.specs.Faults.{IsRefusal, Refusing, Fine, HostRefuses}
 use Rattle.bq_fault_laws.proofs.Arguments.{bind_fine}
 use Rattle.bq_fault_laws.proofs.Fine.{fine_if}
 use Rattle.bq_fault_laws.proofs.Lawful.{both}
-use Rattle.bq_fault_laws.proofs.Machine.{Own, pure_owns, stop_owns, bind_owns, look_owns, new_owns}
+use Rattle.bq_fault_laws.proofs.Machine.{Own, pure_owns, bind_owns, look_owns, new_owns}
 
 then_fine : {A B : Type 0} (r : Result A FaultKind) (next : A → Result B FaultKind) → Fine r → ((x : A) → Fine (next x)) → Fine (and_then r next)
 then_fine (Ok x) next h k = k x

@@ -3,7 +3,7 @@ use Rattle.std.proofs.Common.{◌≡◌, ◌≢◌, ◌∙◌, ◌<◌, ◌≤�
 use Rattle.std.proofs.lemmas.Bool.{cases_lt}
 use Rattle.bq_scope.specs.Names.{Name}
 use Rattle.bq_scope.specs.declared.code.Resolved.{Resolved}
-use Rattle.bq_value.specs.Cells.{StoreView, FrozenView, Modules, module_at, cell_of, content_at, frozen_at, frozen}
+use Rattle.bq_value.specs.Cells.{StoreView, FrozenView, module_at, cell_of, content_at, frozen_at, frozen}
 use Rattle.bq_value.specs.Datum.{Datum}
 use Rattle.bq_machine.specs.Action.{Run, done, stopped}
 use Rattle.bq_machine.specs.State.{State, started}

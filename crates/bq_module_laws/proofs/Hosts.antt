@@ -13,7 +13,7 @@ use Rattle.bq_value.specs.Contents.{rule}
 use Rattle.bq_value.specs.Datum as datum
 use Rattle.bq_value.specs.Datum.{Datum}
 use Rattle.bq_walk.specs.Truth.{truth_of}
-use Rattle.bq_machine.specs.Action.{Action, Run, done, stopped, ◌>>=◌, pure, look, beside, on_machine}
+use Rattle.bq_machine.specs.Action.{Action, Run, done, stopped, pure, look, beside, on_machine}
 use Rattle.bq_machine.specs.Action as action
 use Rattle.bq_machine.specs.Args.{Passed}
 use Rattle.bq_machine.specs.Cells.{new_content}

@@ -1,11 +1,10 @@
 -- A rule holds the same attributes after a call, whatever is called.
-use Rattle.std.proofs.Common.{◌≡◌, ◌∙◌, ◌<◌, ◌≤◌, ◌⊎◌, inl, inr, ℕ, ◌+◌, ◌-◌, ◌==◌, Bool, true, false, cond, List, Option, Some, None, slice_get, refl, sym, ap, subst, arith}
+use Rattle.std.proofs.Common.{◌≡◌, ◌∙◌, ◌<◌, ◌≤◌, ◌⊎◌, inl, inr, ℕ, ◌+◌, ◌-◌, ◌==◌, Bool, true, false, List, Some, slice_get, refl, sym, ap, subst, arith}
 use Rattle.std.proofs.lemmas.Bool.{cases_lt}
 use Rattle.bq_rule_class.specs.Class.{Class}
 use Rattle.bq_scope.specs.Names.{Name}
 use Rattle.bq_value.specs.Cells.{StoreView, module_at, cell_of, content_at}
 use Rattle.bq_value.specs.Contents.{rule}
-use Rattle.bq_value.specs.Datum.{Datum}
 use Rattle.bq_machine.specs.Action.{Action, Run, done, stopped}
 use Rattle.bq_machine.specs.Machine.{with_steps}
 use Rattle.bq_machine.specs.State.{State}
