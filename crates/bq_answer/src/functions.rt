@@ -18,7 +18,8 @@ use bq_target_sets::kind::kind;
 use bq_target_sets::labels::labels;
 use std::alloc::{AllocError, Global};
 
-/// What a function makes of a set.
+/// What a function makes of a set. Not inlined, so that only this call has the frame that a search takes.
+#[inline(never)]
 pub fn of_one(
     alloc: Global,
     graph: &TargetGraph,

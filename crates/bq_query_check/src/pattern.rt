@@ -10,10 +10,18 @@ use regex::bytes::Regex;
 use std::alloc::Global;
 use std::marker::Model;
 
-/// A regular expression of a query, compiled. Contracts see what it means.
-#[derive(Drop)]
+/// A regular expression of a query, compiled. Contracts see what it means. It is boxed since it is large: a frame for each function of a
+/// query holds one while the function's argument is read.
 pub struct QueryPattern {
-    regex: Regex,
+    regex: Box<Regex>,
+}
+
+// Written out and not inlined, so that only this call has the frame that an unboxed expression takes.
+impl Drop for QueryPattern {
+    #[inline(never)]
+    fn drop(self) {
+        let QueryPattern { regex: _regex } = self;
+    }
 }
 
 impl Model for QueryPattern {
@@ -25,17 +33,20 @@ impl Model for QueryPattern {
 
     ghost coded = { coded_re };
 
-    ghost view = { λ p. regex_pattern p.regex };
+    ghost view = { λ p. regex_pattern p.regex.value };
 }
 
 impl QueryPattern {
-    /// The pattern of this text: Q4 where it is refused.
+    /// The pattern of this text: Q4 where it is refused. Not inlined, so that only this call has the frame that compiling takes.
+    #[inline(never)]
     pub fn read(alloc: Global, text: &[u8]) -> Result<QueryPattern, QueryErr>
         ensures read { IfOk result (λ p. IsPatternOf text.now p) }
         ensures refused { IfErr result (IsRefused text.now) }
     {
         match read_pattern(alloc, text) {
-            Ok(regex) => Ok(QueryPattern { regex }),
+            Ok(regex) => Ok(QueryPattern {
+                regex: Box::new(alloc, regex)?,
+            }),
             Err(PatternErr::BadRegex) => Err(QueryErr::BadRegex),
             Err(PatternErr::Memory) => Err(QueryErr::Memory),
         }
