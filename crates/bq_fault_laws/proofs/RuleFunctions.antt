@@ -17,7 +17,7 @@ use Rattle.bq_machine.specs.Binding.{bind}
 use Rattle.bq_machine.specs.Cells.{new_content}
 use Rattle.bq_machine.specs.State.{State}
 use Rattle.bq_typed.specs.declared.written.Written.{Written}
-use Rattle.bq_typed.specs.Argument.{argument}
+use Rattle.bq_typed.specs.Parameters.{argument}
 use Rattle.bq_typed.specs.Steps.{and_then, in_turn}
 use Rattle.bq_typed.specs.Texts.{text_in}
 use Rattle.bq_typed.specs.Written.{written_as}

@@ -20,7 +20,7 @@ use Rattle.bq_typed.proofs.Steps.{both_ok}
 use Rattle.bq_typed.proofs.Own.{name_label_own, name_labels_own}
 use Rattle.bq_attributes.proofs.Declared.{declared_own}
 use Rattle.bq_package.specs.Place.{PlaceView}
-use Rattle.bq_typed.specs.Argument.{argument}
+use Rattle.bq_typed.specs.Parameters.{argument}
 use Rattle.bq_package.specs.Bound.{exports_parameters, group_parameters, text_of, texts_of}
 use Rattle.bq_package.specs.Files.{files_named}
 use Rattle.bq_package.specs.Groups.{names_first, group, group_labels, group_of, group_named}

@@ -42,7 +42,7 @@ use Rattle.bq_typed.specs.Values.{typed, value_as}
 use Rattle.bq_attributes.specs.Arguments.{nothing_given, is_none, keyword, with_value, with_label, with_name, with_attribute_by, with_attribute, with_argument, with_arguments}
 use Rattle.bq_attributes.specs.Declarations.{keywords_alone, gives_mandatory, defaults, if_whole, target_of, target, declaration}
 use Rattle.bq_package.specs.Place.{PlaceView}
-use Rattle.bq_typed.specs.Argument.{argument}
+use Rattle.bq_typed.specs.Parameters.{argument}
 use Rattle.bq_package.specs.Bound.{glob_parameters, exports_parameters, group_parameters, text_of, texts_of}
 use Rattle.bq_package.specs.declared.glob.GlobRequest.{GlobRequest}
 use Rattle.bq_package.specs.Glob.{pattern, patterns, excludes_directories, allows_empty, asked, request_by, request_of, found, is_idle, is_nothing, names_of, globbed}

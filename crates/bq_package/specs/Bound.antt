@@ -5,7 +5,7 @@ use Rattle.bq_source.specs.declared.fault.FaultKind.TheVariants.{AttributeType}
 use Rattle.bq_value.specs.Datum.{Datum}
 use Rattle.bq_value.specs.Cells.{StoreView}
 use Rattle.bq_machine.specs.Parameters.{SignatureView}
-use Rattle.bq_typed.specs.Argument.{required, optional}
+use Rattle.bq_typed.specs.Parameters.{required, optional}
 use Rattle.bq_typed.specs.Texts.{text_in, texts_in}
 
 -- `(include, exclude = [], exclude_directories = 1, allow_empty = True)`

@@ -9,7 +9,7 @@ use Rattle.bq_typed.specs.declared.label_texts.TextKind.TheVariants as k
 use Rattle.bq_typed.specs.Steps.{and_then}
 use Rattle.bq_typed.specs.LabelTexts.{labels}
 use Rattle.bq_package.specs.Place.{PlaceView}
-use Rattle.bq_typed.specs.Argument.{argument}
+use Rattle.bq_typed.specs.Parameters.{argument}
 use Rattle.bq_package.specs.Bound.{exports_parameters, texts_of}
 
 -- the files that a call names

@@ -14,7 +14,7 @@ use Rattle.bq_glob.specs.Names.{glob}
 use Rattle.bq_typed.specs.Steps.{and_then, in_turn}
 use Rattle.bq_package.specs.declared.glob.GlobRequest.{GlobRequest}
 use Rattle.bq_package.specs.Place.{PlaceView}
-use Rattle.bq_typed.specs.Argument.{argument}
+use Rattle.bq_typed.specs.Parameters.{argument}
 use Rattle.bq_package.specs.Bound.{glob_parameters, texts_of}
 
 abbrev pub pattern : List ℕ → Result (List ℕ) FaultKind

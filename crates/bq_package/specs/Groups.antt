@@ -16,7 +16,7 @@ use Rattle.bq_typed.specs.declared.label_texts.TextKind.TheVariants as k
 use Rattle.bq_typed.specs.Steps.{and_then}
 use Rattle.bq_typed.specs.LabelTexts.{label, labels}
 use Rattle.bq_package.specs.Place.{PlaceView}
-use Rattle.bq_typed.specs.Argument.{argument}
+use Rattle.bq_typed.specs.Parameters.{argument}
 use Rattle.bq_package.specs.Bound.{group_parameters, text_of, texts_of}
 
 -- the name isn't written after the included groups, among named arguments

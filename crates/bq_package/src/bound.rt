@@ -3,7 +3,7 @@
 ghost use Rattle.std.specs.Prelude.{◌≡◌};
 ghost use Rattle.bq_source.specs.Gives.{Gives};
 ghost use Rattle.bq_value.specs.declared.error.EvalErr.TheVariants.{Bad};
-ghost use Rattle.bq_typed.specs.Argument.{argument};
+ghost use Rattle.bq_typed.specs.Parameters.{argument};
 ghost use Rattle.bq_package.specs.Bound.{text_of, texts_of};
 
 use bq_source::{Bytes, FaultKind};

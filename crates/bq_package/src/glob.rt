@@ -6,7 +6,7 @@ ghost use Rattle.bq_source.specs.Gives.{Gives};
 ghost use Rattle.bq_value.specs.declared.error.EvalErr.TheVariants.{Bad};
 ghost use Rattle.bq_machine.specs.Binding.{bind};
 ghost use Rattle.bq_package.specs.Place.{place_of};
-ghost use Rattle.bq_typed.specs.Argument.{argument};
+ghost use Rattle.bq_typed.specs.Parameters.{argument};
 ghost use Rattle.bq_package.specs.Bound.{glob_parameters};
 ghost use Rattle.bq_package.specs.Glob.{pattern, patterns, excludes_directories, allows_empty, request_by, request_of, is_nothing, names_of, is_idle, found, globbed};
 

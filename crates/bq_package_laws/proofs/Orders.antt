@@ -17,7 +17,7 @@ use Rattle.bq_typed.specs.LabelTexts.{labels}
 use Rattle.bq_typed.specs.Steps.{and_then}
 use Rattle.bq_package.specs.declared.function.BuildFunction.TheVariants as f
 use Rattle.bq_package.specs.declared.glob.GlobRequest.{GlobRequest}
-use Rattle.bq_typed.specs.Argument.{argument}
+use Rattle.bq_typed.specs.Parameters.{argument}
 use Rattle.bq_package.specs.Bound.{glob_parameters, exports_parameters, texts_of}
 use Rattle.bq_package.specs.Calls.{Declaring, declaring, settled, declares, call_in, rule_by}
 use Rattle.bq_package.specs.Files.{files_named}

@@ -15,7 +15,7 @@ use Rattle.bq_machine.specs.Args.{Passed}
 use Rattle.bq_machine.specs.Binding.{bind}
 use Rattle.bq_typed.specs.declared.written.Written.{Written}
 use Rattle.bq_typed.specs.Steps.{and_then}
-use Rattle.bq_typed.specs.Argument.{argument}
+use Rattle.bq_typed.specs.Parameters.{argument}
 use Rattle.bq_typed.specs.Written.{written_as}
 use Rattle.bq_host.specs.Host.{ReadDefault}
 use Rattle.bq_rule_functions.specs.Keywords.{attribute_parameters, documented}

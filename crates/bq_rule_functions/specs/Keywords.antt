@@ -4,7 +4,7 @@ use Rattle.bq_source.specs.declared.fault.FaultKind.{FaultKind}
 use Rattle.bq_source.specs.declared.fault.FaultKind.TheVariants.{WrongType}
 use Rattle.bq_value.specs.Datum.{Datum, none, string}
 use Rattle.bq_machine.specs.Parameters.{SignatureView}
-use Rattle.bq_typed.specs.Argument.{required, optional}
+use Rattle.bq_typed.specs.Parameters.{required, optional}
 
 -- `(*, default, mandatory = False, doc = "")` of `attr.NAME`, and what is accepted and changes nothing: keywords alone
 abbrev pub attribute_parameters : SignatureView

@@ -8,7 +8,7 @@ use Rattle.bq_value.specs.Datum.{Datum}
 use Rattle.bq_value.specs.Cells.{StoreView}
 use Rattle.bq_machine.specs.Args.{Passed}
 use Rattle.bq_machine.specs.Binding.{bind}
-use Rattle.bq_typed.specs.Argument.{argument}
+use Rattle.bq_typed.specs.Parameters.{argument}
 use Rattle.bq_rule_functions.specs.Keywords.{rule_parameters, documented}
 use Rattle.bq_rule_functions.specs.Rule.{implemented, attributes_in, entries, are_named, class}
 

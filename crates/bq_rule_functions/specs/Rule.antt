@@ -14,7 +14,7 @@ use Rattle.bq_value.specs.Contents.{Contents, pairs}
 use Rattle.bq_value.specs.Cells.{StoreView, content_at}
 use Rattle.bq_machine.specs.Args.{Passed}
 use Rattle.bq_machine.specs.Binding.{bind}
-use Rattle.bq_typed.specs.Argument.{argument}
+use Rattle.bq_typed.specs.Parameters.{argument}
 use Rattle.bq_typed.specs.Steps.{and_then, in_turn}
 use Rattle.bq_typed.specs.Texts.{text_in}
 use Rattle.bq_rule_functions.specs.Keywords.{rule_parameters, documented}

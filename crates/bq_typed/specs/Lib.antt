@@ -1,5 +1,5 @@
 pub mod Steps
-pub mod Argument
+pub mod Parameters
 pub mod Scope
 pub mod Texts
 pub mod LabelTexts

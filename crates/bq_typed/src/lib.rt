@@ -10,7 +10,7 @@
 //!
 //! In reading order:
 //!
-//! - `argument`: the arguments that parameters take;
+//! - `parameters`: the arguments that parameters take;
 //! - `scope`: a package among the others, and which labels cross into another one;
 //! - `texts`: strings, and lists of strings, in values;
 //! - `label_texts`: the labels that texts stand for;
@@ -19,17 +19,17 @@
 //! - `laws`: which values an attribute of each type takes.
 #![tactic(auto)]
 
-mod argument;
 mod label_texts;
 mod laws;
+mod parameters;
 mod scope;
 mod texts;
 mod values;
 mod written;
 
-pub use argument::argument;
 pub use label_texts::{TextKind, label, labels};
 pub use laws::{each_type_refuses_other_values, each_type_takes_its_values};
+pub use parameters::argument;
 pub use scope::Scope;
 pub use texts::{text_in, texts_in};
 pub use values::{typed, value_as};

@@ -1,7 +1,7 @@
 //! The arguments that parameters take.
 
 ghost use Rattle.std.specs.Prelude.{◌≡◌, option_copied};
-ghost use Rattle.bq_typed.specs.Argument.{argument};
+ghost use Rattle.bq_typed.specs.Parameters.{argument};
 
 use bq_value::Value;
 
