@@ -8,10 +8,8 @@ use Rattle.bq_target.specs.declared.state.Declared.TheVariants.{Accepted, Refuse
 use Rattle.bq_value.specs.Cells.{StoreView}
 use Rattle.bq_machine.specs.Action.{Run, done, stopped, given, beside}
 use Rattle.bq_machine.specs.Args.{Passed}
-use Rattle.bq_machine.specs.Binding.{bind}
 use Rattle.bq_machine.specs.State.{State}
 use Rattle.bq_typed.specs.declared.written.Written.{Written}
-use Rattle.bq_package.specs.Bound.{no_parameters, any_parameters}
 use Rattle.bq_package.specs.Calls.{Declaring, HeldPackage, outside, declaring, own_of, packages_of, new_strings, package_name, ignored, settled, declares, call_in, call_by, call_of, rule_by, rule_call, default_value, meaning}
 use Rattle.bq_package.specs.Files.{files_named}
 use Rattle.bq_package.specs.Functions.{function_of}
@@ -21,7 +19,8 @@ use Rattle.bq_package.specs.Place.{PlaceView}
 use Rattle.bq_package.specs.Rules.{declared_target, rule_target}
 use Rattle.bq_package.specs.declared.function.BuildFunction.{BuildFunction}
 use Rattle.bq_package.specs.declared.function.BuildFunction.TheVariants as b
-use Rattle.bq_package.proofs.Refusals.{of_both, of_bind, of_glob, of_files, of_group, of_rule, of_declaration, of_typed}
+use Rattle.bq_package.proofs.Meaning.{of_name, of_ignored}
+use Rattle.bq_package.proofs.Refusals.{of_glob, of_files, of_group, of_rule, of_declaration, of_typed}
 use Rattle.bq_fault_laws.specs.Faults.{IsRefusal, HostRefuses}
 use Rattle.bq_fault_laws.proofs.Fine.{Fine, fine_so}
 use Rattle.bq_fault_laws.proofs.Machine.{given_owns, bind_owns, new_list_owns, Own}
@@ -31,14 +30,6 @@ use Rattle.bq_fault_laws.proofs.Machine.{given_owns, bind_owns, new_list_owns, O
 target_fine : (p : PlaceView) (s : StoreView) (line : ℕ) (kind : List ℕ) (class : Class) (passed : Passed) → Fine (declared_target p s line kind class passed)
 unfolding declared_target
 target_fine p s line kind class passed = fine_so _ (of_declaration p.own p.packages s class kind line passed)
-
-package_fine : (p : PlaceView) (passed : Passed) → Fine (package_name p passed)
-unfolding package_name
-package_fine p passed = fine_so _ (of_both (bind no_parameters passed) _ (of_bind no_parameters passed) (λ b. tt))
-
-ignored_fine : (passed : Passed) → Fine (ignored passed)
-unfolding ignored
-ignored_fine passed = fine_so _ (of_both (bind any_parameters passed) _ (of_bind any_parameters passed) (λ b. tt))
 
 -- ---- all calls
 
@@ -61,9 +52,9 @@ strings_own texts = new_list_owns _
 in_package : (d : Declaring) (s : State) (function : BuildFunction) (passed : Passed) → IsRefusal (call_in d s function passed)
 unfolding call_in
 in_package d s b.Glob passed = beside_so (declaring d) _ (bind_owns (given (globbed d.place s.store passed)) new_strings (given_owns _ (fine_so _ (of_glob d.place s.store passed))) strings_own s)
-in_package d s b.PackageName passed = beside_so (declaring d) _ (given_owns _ (package_fine d.place passed) s)
-in_package d s b.Package passed = beside_so (declaring d) _ (given_owns _ (ignored_fine passed) s)
-in_package d s b.Licenses passed = beside_so (declaring d) _ (given_owns _ (ignored_fine passed) s)
+in_package d s b.PackageName passed = beside_so (declaring d) _ (given_owns _ (fine_so _ (of_name d.place passed)) s)
+in_package d s b.Package passed = beside_so (declaring d) _ (given_owns _ (fine_so _ (of_ignored passed)) s)
+in_package d s b.Licenses passed = beside_so (declaring d) _ (given_owns _ (fine_so _ (of_ignored passed)) s)
 in_package d s b.ExportsFiles passed = declares_so s d (files_named d.place s.store passed) (λ ls. exported d.package ls s.line) (fine_so _ (of_files d.place s.store passed))
 in_package d s b.PackageGroup passed = declares_so s d (group_named d.place s.store s.line passed) (declared d.package) (fine_so _ (of_group d.place s.store s.line passed))
 in_package d s (b.Rule number) passed = declares_so s d (rule_target d.place s.store s.line number passed) (declared d.package) (fine_so _ (of_rule d.place s.store s.line number passed))
