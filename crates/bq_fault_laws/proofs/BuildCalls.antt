@@ -10,7 +10,7 @@ use Rattle.bq_machine.specs.Action.{Run, done, stopped, given, beside}
 use Rattle.bq_machine.specs.Args.{Passed}
 use Rattle.bq_machine.specs.State.{State}
 use Rattle.bq_typed.specs.declared.written.Written.{Written}
-use Rattle.bq_package.specs.Calls.{Declaring, HeldPackage, outside, declaring, own_of, packages_of, new_strings, package_name, ignored, settled, declares, call_in, call_by, call_of, rule_by, rule_call, default_value, meaning}
+use Rattle.bq_package.specs.Calls.{Declaring, HeldPackage, outside, declaring, own_of, packages_of, new_strings, settled, declares, call_in, call_by, call_of, rule_by, rule_call, default_value, meaning}
 use Rattle.bq_package.specs.Files.{files_named}
 use Rattle.bq_package.specs.Functions.{function_of}
 use Rattle.bq_package.specs.Glob.{globbed}

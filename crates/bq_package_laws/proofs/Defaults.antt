@@ -1,5 +1,5 @@
 -- Defaults are taken as calls of rules take values: another type alone is another fault.
-use Rattle.std.proofs.Common.{◌≡◌, ℕ, ℤ, Bool, true, false, cond, List, [], ◌∷◌, ◌++◌, Option, Some, None, Result, Ok, Err, refl, subst}
+use Rattle.std.proofs.Common.{◌≡◌, ℤ, Bool, true, false, cond, List, [], ◌∷◌, ◌++◌, Option, Some, None, Result, Ok, Err, refl, subst}
 use Rattle.std.specs.Prelude.{◌==◌, pos, negsuc}
 use Rattle.bq_source.specs.declared.fault.FaultKind.{FaultKind}
 use Rattle.bq_source.specs.declared.fault.FaultKind.TheVariants as f
@@ -15,8 +15,8 @@ use Rattle.bq_typed.specs.Steps.{and_then, in_turn}
 use Rattle.bq_typed.specs.Texts.{text_in, listed, elements_in, all_texts, texts_in}
 use Rattle.bq_typed.specs.Written.{int_in, bool_of, bool_in, written_as}
 use Rattle.bq_typed.specs.Values.{typed, value_as}
-use Rattle.bq_package.specs.Calls.{HeldPackage, own_of, packages_of, default_value}
-use Rattle.bq_package_laws.specs.Defaults.{default_as, DefaultsAreTakenAsValues}
+use Rattle.bq_package.specs.Calls.{own_of, packages_of, default_value}
+use Rattle.bq_package_laws.specs.Defaults.{DefaultsAreTakenAsValues}
 
 -- both give one thing, or neither gives anything
 abbrev Alike : {A : Type 0} → Result A FaultKind → Result A FaultKind → Type 0
