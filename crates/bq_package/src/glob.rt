@@ -75,7 +75,7 @@ fn pattern(alloc: Global, text: &Bytes) -> Result<Pattern, EvalErr>
 }
 
 /// Texts as patterns, or F77.
-#[tactic(auto, unfolding(crate::specs::Glob::patterns, bq_attributes::specs::Steps::in_turn))]
+#[tactic(auto, unfolding(crate::specs::Glob::patterns, bq_typed::specs::Steps::in_turn))]
 fn patterns(alloc: Global, texts: &[Bytes]) -> Result<Items<Pattern>, EvalErr>
     ensures { Gives (λ ps. ps) Bad result (patterns texts.now) }
 {
