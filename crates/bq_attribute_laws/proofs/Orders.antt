@@ -2,7 +2,7 @@
 use Rattle.std.proofs.Common.{◌≡◌, refl, ℕ, inl, inr, Bool, true, false, List, [], ◌∷◌, ◌++◌, Option, Some, None, Result, Ok, Err, codes}
 use Rattle.std.specs.Prelude.{not, ◌&&◌, is_some, bytes_eq}
 use Rattle.bq_source.specs.declared.fault.FaultKind.{FaultKind}
-use Rattle.bq_source.specs.declared.fault.FaultKind.TheVariants.{NoAttribute, MissingAttribute}
+use Rattle.bq_source.specs.declared.fault.FaultKind.TheVariants as f
 use Rattle.bq_source.proofs.Choices.{by_bool}
 use Rattle.bq_label.specs.declared.packages.BuildFile.{BuildFile}
 use Rattle.bq_label.specs.Label.{PackageParts, LabelParts}
@@ -15,11 +15,11 @@ use Rattle.bq_value.specs.Cells.{StoreView}
 use Rattle.bq_machine.specs.Args.{Passed}
 use Rattle.bq_machine.specs.Binding.{Binding, bind}
 use Rattle.bq_attributes.specs.declared.arguments.Given.{Given}
-use Rattle.bq_attributes.specs.declared.label_texts.TextKind.TheVariants as k
-use Rattle.bq_attributes.specs.Steps.{and_then}
-use Rattle.bq_attributes.specs.Texts.{text_in}
-use Rattle.bq_attributes.specs.LabelTexts.{label}
-use Rattle.bq_attributes.specs.Values.{value_as}
+use Rattle.bq_typed.specs.declared.label_texts.TextKind.TheVariants as k
+use Rattle.bq_typed.specs.Steps.{and_then}
+use Rattle.bq_typed.specs.Texts.{text_in}
+use Rattle.bq_typed.specs.LabelTexts.{label}
+use Rattle.bq_typed.specs.Values.{value_as}
 use Rattle.bq_attributes.specs.Arguments.{nothing_given, is_none, with_value, with_label, with_name, with_attribute_by, with_attribute, keyword, with_argument, with_arguments}
 use Rattle.bq_attributes.specs.Declarations.{keywords_alone, gives_mandatory, defaults, if_whole, target, declaration}
 use Rattle.bq_refusal_laws.specs.Refusals.{when, fault_in, fault_then, first_fault, FailsForFirst}
@@ -31,7 +31,7 @@ changed_only (Ok a) f = refl
 changed_only (Err why) f = refl
 
 module _ (own : PackageParts) (packages : List BuildFile) (store : StoreView) (class : Class) (g : Given) where
-  by_type : (o : Option AttributeType) (name : List ℕ) (v : Datum) → fault_in (with_attribute_by own packages store o name v g) ≡ first_fault (when (not (is_some o)) NoAttribute ∷ bad_value own packages store o v ∷ [])
+  by_type : (o : Option AttributeType) (name : List ℕ) (v : Datum) → fault_in (with_attribute_by own packages store o name v g) ≡ first_fault (when (not (is_some o)) f.NoAttribute ∷ bad_value own packages store o v ∷ [])
   by_type None name v = refl
   by_type (Some type) name v = elim (by_bool (is_none v)) [
     | inl t ↦ rw t refl
@@ -42,7 +42,7 @@ module _ (own : PackageParts) (packages : List BuildFile) (store : StoreView) (c
   unfolding with_argument with_attribute
   given_in_order argument h = rw h (by_type (attribute_type class (keyword argument.0)) (keyword argument.0) argument.1)
 
-  pub unknown_attribute : (argument : Datum × Datum) → bytes_eq (keyword argument.0) (codes "name") ≡ false → attribute_type class (keyword argument.0) ≡ None → with_argument own packages store class g argument ≡ Err NoAttribute
+  pub unknown_attribute : (argument : Datum × Datum) → bytes_eq (keyword argument.0) (codes "name") ≡ false → attribute_type class (keyword argument.0) ≡ None → with_argument own packages store class g argument ≡ Err f.NoAttribute
   unfolding with_argument with_attribute
   unknown_attribute argument h none = rw (h, none) refl
 
@@ -55,11 +55,11 @@ module _ (own : PackageParts) (packages : List BuildFile) (store : StoreView) (c
   unfolding with_argument with_name
   named_in_order argument h = elim (by_bool (is_none argument.1)) [
     | inl t ↦ rw (h, t) refl
-    | inr t ↦ rw (h, t) (by_text (text_in argument.1))
+    | inr t ↦ rw (h, t) (by_text (text_in f.AttributeType argument.1))
   ]
 
 module _ (own : PackageParts) (packages : List BuildFile) (store : StoreView) (class : Class) (rule : List ℕ) (line : ℕ) where
-  whole : (given : Bool) (o : Option LabelParts) (gs : List GivenAttribute) → fault_in (if_whole given rule class line o gs) ≡ first_fault (when (not (is_some o && given)) MissingAttribute ∷ [])
+  whole : (given : Bool) (o : Option LabelParts) (gs : List GivenAttribute) → fault_in (if_whole given rule class line o gs) ≡ first_fault (when (not (is_some o && given)) f.MissingAttribute ∷ [])
   whole true None gs = refl
   whole false None gs = refl
   whole true (Some l) gs = refl

@@ -1,6 +1,6 @@
 -- In which order a call of a rule, and each of its arguments, is refused (ours: the order).
 use Rattle.std.specs.Prelude.{ℕ, not, ◌&&◌, cond, List, [], ◌∷◌, Option, Some, None, is_some}
-use Rattle.bq_source.specs.declared.fault.FaultKind.TheVariants.{NoAttribute, MissingAttribute}
+use Rattle.bq_source.specs.declared.fault.FaultKind.TheVariants as f
 use Rattle.bq_label.specs.declared.packages.BuildFile.{BuildFile}
 use Rattle.bq_label.specs.Label.{PackageParts}
 use Rattle.bq_rule_class.specs.declared.attribute_type.AttributeType.{AttributeType}
@@ -11,17 +11,17 @@ use Rattle.bq_value.specs.Cells.{StoreView}
 use Rattle.bq_machine.specs.Args.{Passed}
 use Rattle.bq_machine.specs.Binding.{bind}
 use Rattle.bq_attributes.specs.declared.arguments.Given.{Given}
-use Rattle.bq_attributes.specs.declared.label_texts.TextKind.TheVariants as k
-use Rattle.bq_attributes.specs.Texts.{text_in}
-use Rattle.bq_attributes.specs.LabelTexts.{label}
-use Rattle.bq_attributes.specs.Values.{value_as}
+use Rattle.bq_typed.specs.declared.label_texts.TextKind.TheVariants as k
+use Rattle.bq_typed.specs.Texts.{text_in}
+use Rattle.bq_typed.specs.LabelTexts.{label}
+use Rattle.bq_typed.specs.Values.{value_as}
 use Rattle.bq_attributes.specs.Arguments.{nothing_given, is_none, keyword, with_arguments}
 use Rattle.bq_attributes.specs.Declarations.{keywords_alone, gives_mandatory}
 use Rattle.bq_refusal_laws.specs.Refusals.{Check, when, fault_in, fault_then}
 
 -- F71: the rule has no attribute of that name
 abbrev pub no_attribute : Class → List ℕ → Check
-no_attribute class name = when (not (is_some (attribute_type class name))) NoAttribute
+no_attribute class name = when (not (is_some (attribute_type class name))) f.NoAttribute
 
 -- F73, F75, F78, F37: the value is none of the attribute; `None` is taken for no value
 abbrev pub bad_value : PackageParts → List BuildFile → StoreView → Option AttributeType → Datum → Check
@@ -35,11 +35,11 @@ giving own packages store class argument =
 
 -- the name: a string (F73) that names a target of the package (F75, F37)
 abbrev pub naming : PackageParts → List BuildFile → Datum → List Check
-naming own packages v = cond (is_none v) [] (fault_in (text_in v) ∷ fault_then (text_in v) (λ text. fault_in (label own packages k.Name text)) ∷ [])
+naming own packages v = cond (is_none v) [] (fault_in (text_in f.AttributeType v) ∷ fault_then (text_in f.AttributeType v) (λ text. fault_in (label own packages k.Name text)) ∷ [])
 
 -- F72: neither the name nor an attribute that has to be given is missing
 abbrev pub missing : Class → List (Datum × Datum) → Given → Check
-missing class keywords g = when (not (is_some g.name && gives_mandatory class keywords)) MissingAttribute
+missing class keywords g = when (not (is_some g.name && gives_mandatory class keywords)) f.MissingAttribute
 
 -- a call of a rule: the form of its arguments (F52), what is wrong with one of them, and what is missing
 abbrev pub declaring : PackageParts → List BuildFile → StoreView → Class → Passed → List Check

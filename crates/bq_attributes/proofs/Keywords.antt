@@ -12,7 +12,7 @@ use Rattle.bq_value.specs.Pairs.{found, put}
 use Rattle.bq_value.specs.Cells.{StoreView}
 use Rattle.bq_machine.specs.Binding.{BoundView, Binding, take_keyword, take_named, take_all_named, and_bind, if_complete, placed, too_many, bind}
 use Rattle.bq_attributes.specs.declared.arguments.Given.{Given}
-use Rattle.bq_attributes.specs.Steps.{and_then}
+use Rattle.bq_typed.specs.Steps.{and_then}
 use Rattle.bq_attributes.specs.Arguments.{with_argument, with_arguments}
 use Rattle.bq_attributes.specs.Declarations.{keywords_alone}
 use Rattle.bq_attributes.specs.Laws.{KeywordsKeepTheirOrder, IsFirstFaulty, TheFirstFaultyArgumentDecides}

@@ -25,15 +25,15 @@ use Rattle.bq_rule_class.specs.declared.value.AttributeValue.TheVariants as a
 use Rattle.bq_target.specs.declared.value.GivenAttribute.{GivenAttribute}
 use Rattle.bq_target.specs.Value.{attribute_type}
 use Rattle.bq_attributes.specs.declared.arguments.Given.{Given}
-use Rattle.bq_attributes.specs.declared.label_texts.TextKind.TheVariants as k
-use Rattle.bq_attributes.specs.Steps.{and_then}
-use Rattle.bq_attributes.specs.Texts.{text_in}
-use Rattle.bq_attributes.specs.LabelTexts.{label}
-use Rattle.bq_attributes.specs.Values.{value_as}
+use Rattle.bq_typed.specs.declared.label_texts.TextKind.TheVariants as k
+use Rattle.bq_typed.specs.Steps.{and_then}
+use Rattle.bq_typed.specs.Texts.{text_in}
+use Rattle.bq_typed.specs.LabelTexts.{label}
+use Rattle.bq_typed.specs.Values.{value_as}
 use Rattle.bq_attributes.specs.Arguments.{nothing_given, is_none, keyword, with_value, with_label, with_name, with_attribute_by, with_attribute, with_argument, with_arguments}
 use Rattle.bq_attributes.specs.Declarations.{keywords_alone, is_value, gives, is_met, gives_mandatory, default_of, default_for, defaults, if_whole, target_of, target, declaration}
 use Rattle.bq_attributes.specs.Laws.{has_attribute, MandatoryAttributesAreGiven, DefaultsAreGiven}
-use Rattle.bq_attributes.proofs.Steps.{both_ok, then_ok, then_true}
+use Rattle.bq_typed.proofs.Steps.{both_ok, then_ok, then_true}
 
 -- ---- one attribute more
 
@@ -64,10 +64,10 @@ name_adds : (own : PackageParts) (packages : List BuildFile) (v : Datum) (g afte
 unfolding with_name
 name_adds own packages v g after h = by (is_none v) refl h
   where
-    by : (b : Bool) → is_none v ≡ b → cond b (Ok g) (and_then (text_in v) (λ text. and_then (label own packages k.Name text) (λ l. Ok (with_label text l g)))) ≡ Ok after → Adds (codes "name") v g after
+    by : (b : Bool) → is_none v ≡ b → cond b (Ok g) (and_then (text_in f.AttributeType v) (λ text. and_then (label own packages k.Name text) (λ l. Ok (with_label text l g)))) ≡ Ok after → Adds (codes "name") v g after
     by true is e = let same : g ≡ after = cc in adds_nothing (codes "name") v g after is same
     by false is e =
-        let r = both_ok (text_in v) (λ text. and_then (label own packages k.Name text) (λ l. Ok (with_label text l g))) after e in
+        let r = both_ok (text_in f.AttributeType v) (λ text. and_then (label own packages k.Name text) (λ l. Ok (with_label text l g))) after e in
         let q = both_ok (label own packages k.Name r.0) (λ l. Ok (with_label r.0 l g)) after r.2 in
         let same : with_label r.0 q.0 g ≡ after = cc in
         subst (Adds (codes "name") v g) same (record {

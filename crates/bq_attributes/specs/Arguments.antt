@@ -2,7 +2,7 @@
 -- An argument that is `None` gives nothing.
 use Rattle.std.specs.Prelude.{ℕ, Bool, true, false, ◌++◌, List, [], ◌∷◌, Option, Some, None, Result, Ok, Err, codes, bytes_eq, if◌then◌else◌}
 use Rattle.bq_source.specs.declared.fault.FaultKind.{FaultKind}
-use Rattle.bq_source.specs.declared.fault.FaultKind.TheVariants.{NoAttribute}
+use Rattle.bq_source.specs.declared.fault.FaultKind.TheVariants as f
 use Rattle.bq_label.specs.declared.packages.BuildFile.{BuildFile}
 use Rattle.bq_label.specs.Label.{PackageParts, LabelParts}
 use Rattle.bq_rule_class.specs.declared.attribute_type.AttributeType.{AttributeType}
@@ -13,11 +13,11 @@ use Rattle.bq_target.specs.Value.{attribute_type}
 use Rattle.bq_value.specs.Datum.{Datum, none, string}
 use Rattle.bq_value.specs.Cells.{StoreView}
 use Rattle.bq_attributes.specs.declared.arguments.Given.{Given}
-use Rattle.bq_attributes.specs.declared.label_texts.TextKind.TheVariants as k
-use Rattle.bq_attributes.specs.Steps.{and_then}
-use Rattle.bq_attributes.specs.Texts.{text_in}
-use Rattle.bq_attributes.specs.LabelTexts.{label}
-use Rattle.bq_attributes.specs.Values.{value_as}
+use Rattle.bq_typed.specs.declared.label_texts.TextKind.TheVariants as k
+use Rattle.bq_typed.specs.Steps.{and_then}
+use Rattle.bq_typed.specs.Texts.{text_in}
+use Rattle.bq_typed.specs.LabelTexts.{label}
+use Rattle.bq_typed.specs.Values.{value_as}
 
 abbrev pub nothing_given : Given
 nothing_given = record { name = None; attributes = [] }
@@ -38,10 +38,10 @@ is_none _ = false
 -- the argument `name`: F73, F75, F37
 unfoldable pub with_name : PackageParts → List BuildFile → Datum → Given → Result Given FaultKind
 with_name own packages v g =
-    if is_none v then Ok g else and_then (text_in v) (λ text. and_then (label own packages k.Name text) (λ l. Ok (with_label text l g)))
+    if is_none v then Ok g else and_then (text_in f.AttributeType v) (λ text. and_then (label own packages k.Name text) (λ l. Ok (with_label text l g)))
 
 abbrev pub with_attribute_by : PackageParts → List BuildFile → StoreView → Option AttributeType → List ℕ → Datum → Given → Result Given FaultKind
-with_attribute_by own packages store None name v g = Err NoAttribute
+with_attribute_by own packages store None name v g = Err f.NoAttribute
 with_attribute_by own packages store (Some kind) name v g =
     if is_none v then Ok g else and_then (value_as own packages store kind v) (λ value. Ok (with_value name value g))
 

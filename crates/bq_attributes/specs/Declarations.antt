@@ -20,7 +20,7 @@ use Rattle.bq_value.specs.Pairs.{found}
 use Rattle.bq_machine.specs.Args.{Passed}
 use Rattle.bq_machine.specs.Parameters.{SignatureView}
 use Rattle.bq_machine.specs.Binding.{bind}
-use Rattle.bq_attributes.specs.Steps.{and_then}
+use Rattle.bq_typed.specs.Steps.{and_then}
 use Rattle.bq_attributes.specs.Arguments.{nothing_given, is_none, with_arguments}
 
 -- `**` alone

@@ -1,11 +1,10 @@
 -- Words of the laws.
-use Rattle.std.specs.Prelude.{◌≡◌, ◌↔◌, ℕ, Bool, true, false, List, ◌∷◌, ◌++◌, map, Some, Ok, Err, bytes_eq}
+use Rattle.std.specs.Prelude.{◌≡◌, ℕ, Bool, true, false, List, ◌∷◌, ◌++◌, map, Some, Ok, Err, bytes_eq}
 use Rattle.std.specs.List.{list_any, Contains}
 use Rattle.bq_source.specs.declared.fault.FaultKind.{FaultKind}
 use Rattle.bq_label.specs.declared.packages.BuildFile.{BuildFile}
 use Rattle.bq_label.specs.Label.{PackageParts}
 use Rattle.bq_rule_class.specs.declared.attribute.Attribute.{Attribute}
-use Rattle.bq_rule_class.specs.declared.attribute_type.AttributeType.{AttributeType}
 use Rattle.bq_rule_class.specs.Class.{Class}
 use Rattle.bq_target.specs.declared.target.Target.{Target}
 use Rattle.bq_rule_class.specs.declared.value.AttributeValue.{AttributeValue}
@@ -15,8 +14,6 @@ use Rattle.bq_value.specs.Cells.{StoreView}
 use Rattle.bq_machine.specs.Args.{Passed}
 use Rattle.bq_machine.specs.Binding.{BoundView, bind}
 use Rattle.bq_attributes.specs.declared.arguments.Given.{Given}
-use Rattle.bq_attributes.specs.Values.{value_as}
-use Rattle.bq_attributes.specs.Taken.{IsTakenAs, IsRefusedFor}
 use Rattle.bq_attributes.specs.Arguments.{with_argument, with_arguments}
 use Rattle.bq_attributes.specs.Declarations.{keywords_alone, gives, default_of, declaration}
 
@@ -57,15 +54,3 @@ DefaultsAreGiven =
     (own : PackageParts) (packages : List BuildFile) (store : StoreView) (class : Class) (rule : List ℕ) (line : ℕ) (p : Passed) (b : BoundView) (t : Target)
     → declaration own packages store class rule line p ≡ Ok t → bind keywords_alone p ≡ Ok b
     → (e : List ℕ × Attribute) → Contains class e → gives b.keywords e.0 ≡ false → (v : AttributeValue) → default_of e.1.default ≡ Some v → Contains t.attributes (record { name = e.0; value = v })
-
--- an attribute takes just the values of its type, and each as what it is
-abbrev pub EachTypeTakesItsValues : Type 0
-EachTypeTakesItsValues =
-    (own : PackageParts) (packages : List BuildFile) (store : StoreView) (type : AttributeType) (v : Datum) (w : AttributeValue)
-    → (value_as own packages store type v ≡ Ok w) ↔ IsTakenAs own packages store v w type
-
--- it refuses the others, each for what is wrong with it
-abbrev pub EachTypeRefusesOtherValues : Type 0
-EachTypeRefusesOtherValues =
-    (own : PackageParts) (packages : List BuildFile) (store : StoreView) (type : AttributeType) (v : Datum) (why : FaultKind)
-    → (value_as own packages store type v ≡ Err why) ↔ IsRefusedFor own packages store v type why

@@ -5,14 +5,11 @@ ghost use Rattle.bq_source.specs.Gives.{Gives};
 ghost use Rattle.bq_value.specs.declared.error.EvalErr.TheVariants.{Bad};
 ghost use Rattle.bq_attributes.specs.Arguments.{nothing_given, is_none, keyword, with_value, with_label, with_name, with_attribute, with_argument, with_arguments};
 
-use crate::label_texts::{TextKind, label};
-use crate::scope::Scope;
-use crate::texts::text_in;
-use crate::values::value_as;
 use bq_label::Label;
 use bq_rule_class::{AttributeValue, RuleClass};
 use bq_source::{Bytes, FaultKind};
 use bq_target::{GivenAttribute, attribute_type};
+use bq_typed::{Scope, TextKind, label, text_in, value_as};
 use bq_value::{Dict, EvalErr, Key, Node, Store, Value};
 use sqlite_items::Items;
 use std::alloc::{AllocError, Global};
@@ -91,7 +88,7 @@ impl Given {
         if is_none(value) {
             return Ok(());
         }
-        let text = text_in(value)?;
+        let text = text_in(value, FaultKind::AttributeType)?;
         let label = label(alloc, scope, TextKind::Name, &text)?;
         self.set_name(alloc, label, text)?;
         Ok(())

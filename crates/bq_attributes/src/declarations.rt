@@ -6,7 +6,7 @@ ghost use Rattle.bq_source.specs.Gives.{Gives};
 ghost use Rattle.bq_value.specs.declared.error.EvalErr.TheVariants.{Bad};
 ghost use Rattle.bq_machine.specs.Binding.{bind};
 ghost use Rattle.std.specs.Prelude.{Ok};
-ghost use Rattle.bq_attributes.specs.Steps.{and_then};
+ghost use Rattle.bq_typed.specs.Steps.{and_then};
 ghost use Rattle.bq_attributes.specs.Arguments.{nothing_given, with_arguments};
 ghost use Rattle.bq_attributes.specs.Declarations.{keywords_alone, gives, is_met, gives_mandatory, default_of, default_for, defaults, if_whole, target, declaration};
 

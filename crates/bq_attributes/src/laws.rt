@@ -9,7 +9,7 @@ ghost use Rattle.bq_machine.specs.Args.{Passed};
 ghost use Rattle.bq_target.specs.declared.target.Target.{Target};
 ghost use Rattle.bq_target.specs.Package.{IsOwnCall};
 ghost use Rattle.bq_attributes.specs.Declarations.{declaration};
-ghost use Rattle.bq_attributes.specs.Laws.{KeywordsKeepTheirOrder, TheFirstFaultyArgumentDecides, MandatoryAttributesAreGiven, DefaultsAreGiven, EachTypeTakesItsValues, EachTypeRefusesOtherValues};
+ghost use Rattle.bq_attributes.specs.Laws.{KeywordsKeepTheirOrder, TheFirstFaultyArgumentDecides, MandatoryAttributesAreGiven, DefaultsAreGiven};
 
 /// The target that a call declares is of the package of its BUILD file, and so are the files that the rule makes.
 #[tactic(auto, using(crate::proofs::Declared::declared_own))]
@@ -39,18 +39,4 @@ pub fn mandatory_attributes_are_given()
 #[tactic(auto, using(crate::proofs::Mandatory::defaults_are_given))]
 pub fn defaults_are_given()
     ensures { DefaultsAreGiven }
-{}
-
-/// An attribute of each type takes just the values of its type: a boolean also 0 and 1, a list also a tuple, and of labels and
-/// outputs those that stand for a target or file and stay inside of their package.
-#[tactic(auto, using(crate::proofs::Taken::each_type_takes_its_values))]
-pub fn each_type_takes_its_values()
-    ensures { EachTypeTakesItsValues }
-{}
-
-/// It refuses each other value: F73 where it is of another type, then F78 or F75 where a text stands for nothing, then F37 where a
-/// label crosses into another package.
-#[tactic(auto, using(crate::proofs::Taken::each_type_refuses_other_values))]
-pub fn each_type_refuses_other_values()
-    ensures { EachTypeRefusesOtherValues }
 {}

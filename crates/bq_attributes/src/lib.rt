@@ -8,10 +8,6 @@
 //!
 //! In reading order:
 //!
-//! - `scope`: the package among the others, and which labels cross into another one;
-//! - `texts`: strings, and lists of strings, in values;
-//! - `label_texts`: the labels that texts stand for;
-//! - `values`: what a value is as the value of an attribute;
 //! - `arguments`: what the arguments of a call give;
 //! - `declarations`: the target that a call declares;
 //! - `laws`: what holds of all calls.
@@ -19,19 +15,11 @@
 
 mod arguments;
 mod declarations;
-mod label_texts;
 mod laws;
-mod scope;
-mod texts;
-mod values;
 
 pub use arguments::Callee;
 pub use declarations::declaration;
-pub use label_texts::{TextKind, label, labels};
 pub use laws::{
-    calls_declare_targets_of_their_package, defaults_are_given, each_type_refuses_other_values,
-    each_type_takes_its_values, keywords_keep_their_order, mandatory_attributes_are_given,
-    the_first_faulty_argument_decides,
+    calls_declare_targets_of_their_package, defaults_are_given, keywords_keep_their_order,
+    mandatory_attributes_are_given, the_first_faulty_argument_decides,
 };
-pub use scope::Scope;
-pub use texts::{text_in, texts_in};

@@ -12,7 +12,7 @@ use Rattle.bq_collections.specs.Arguments.{no_argument, one_argument, two_argume
 use Rattle.bq_collections.specs.Dict as dict
 use Rattle.bq_collections.specs.Dict.{DictChange, as_pairs, on_pairs, emptied, or_no_key, taken_out_by, taken_out, first_out, with_default_by, with_default}
 use Rattle.bq_collections.specs.List as list
-use Rattle.bq_collections.specs.List.{ListChange, as_items, on_items, and_then, appended, extended, inserted, taken_by, taken, popped, cleared, dropped_by, dropped, place_by, place_value}
+use Rattle.bq_collections.specs.List.{ListChange, as_items, on_items, and_then, appended, extended, inserted, taken_by, popped, cleared, dropped_by, dropped, place_by, place_value}
 use Rattle.bq_collections.specs.PairsGiven.{GivenView, values_of_content, parts_of, two, pair_in, with_pair, take_element, take_elements}
 use Rattle.bq_methods.specs.Placed.{placed_by, placed}
 use Rattle.bq_fault_laws.proofs.Fine.{Fine}

@@ -6,7 +6,13 @@ use Rattle.bq_walk.specs.Looked.{Looked, stepped}
 use Rattle.bq_operate.specs.Operand.{and_then}
 use Rattle.bq_operate.specs.Subscript.{or_fault}
 use Rattle.bq_host.specs.Refusals.{is_refusal}
+use Rattle.bq_package.proofs.Refusals.{IsRefusable}
 pub use Rattle.bq_fault_laws.specs.Faults.{Fine}
+
+-- what a package refuses calls for is fine
+pub fine_so : {A : Type 0} (r : Result A FaultKind) → IsRefusable r → Fine r
+fine_so (Ok x) h = tt
+fine_so (Err kind) h = h
 
 pub fine_cond : {A : Type 0} (t : Bool) (a c : Result A FaultKind) → Fine a → Fine c → Fine (cond t a c)
 fine_cond true a c h k = h

@@ -7,7 +7,7 @@ use Rattle.bq_source.specs.declared.fault.FaultKind.TheVariants.{BadValue}
 use Rattle.bq_value.specs.Cells.{StoreView, content_at}
 use Rattle.bq_value.specs.Contents.{Contents, items, pairs, rule}
 use Rattle.bq_value.specs.Datum as datum
-use Rattle.bq_value.specs.Datum.{Datum, none, boolean, string, cell, function, built_in, rule_function, attribute, list_of, data_of}
+use Rattle.bq_value.specs.Datum.{Datum, none, boolean, string, cell, function, built_in, rule_function, attribute}
 use Rattle.bq_machine.specs.Args.{Passed}
 use Rattle.bq_machine.specs.Iteration.{elements_in}
 use Rattle.bq_operators.specs.Integer.{fitted}

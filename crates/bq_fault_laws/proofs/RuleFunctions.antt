@@ -1,36 +1,36 @@
 -- Calls of the functions that declare rules, and of rules, stop for faults of evaluation alone, beside a host whose calls do.
-use Rattle.std.proofs.Common.{ℕ, ℤ, pos, negsuc, ◌==◌, ◌||◌, not, Bool, true, false, List, [], ◌∷◌, ◌++◌, Option, Some, None, Result, Ok, Err, refl}
+use Rattle.std.proofs.Common.{ℕ, ◌||◌, not, Bool, true, false, List, [], ◌∷◌, ◌++◌, Option, Some, None, Result, Ok, Err, refl}
 use Rattle.std.specs.Prelude.{if◌then◌else◌}
-use Rattle.std.specs.List.{list_any}
 use Rattle.bq_source.specs.declared.fault.FaultKind.{FaultKind}
 use Rattle.bq_source.specs.declared.fault.FaultKind.TheVariants as f
 use Rattle.bq_predeclared.specs.declared.rule_function.RuleFunction.{RuleFunction}
 use Rattle.bq_rule_class.specs.Class.{Class}
 use Rattle.bq_rule_class.specs.declared.attribute_type.AttributeType.{AttributeType}
-use Rattle.bq_rule_class.specs.declared.attribute_type.AttributeType.TheVariants as t
 use Rattle.bq_value.specs.Cells.{StoreView, content_at, kind_of}
 use Rattle.bq_value.specs.Contents.{Contents, items, pairs, rule}
 use Rattle.bq_value.specs.Datum as datum
-use Rattle.bq_value.specs.Datum.{Datum, boolean, int, string, tuple, cell}
+use Rattle.bq_value.specs.Datum.{Datum, string, cell}
 use Rattle.bq_machine.specs.Action.{Action, Run, done, stopped, pure, look, beside, on_machine}
 use Rattle.bq_machine.specs.Action as action
 use Rattle.bq_machine.specs.Args.{Passed}
 use Rattle.bq_machine.specs.Binding.{bind}
 use Rattle.bq_machine.specs.Cells.{new_content}
 use Rattle.bq_machine.specs.State.{State}
+use Rattle.bq_typed.specs.declared.written.Written.{Written}
+use Rattle.bq_typed.specs.Parameters.{argument}
+use Rattle.bq_typed.specs.Steps.{and_then, in_turn}
+use Rattle.bq_typed.specs.Texts.{text_in}
+use Rattle.bq_typed.specs.Written.{written_as}
+use Rattle.bq_host.specs.Host.{ReadDefault}
 use Rattle.bq_rule_functions.specs.Attribute.{written_default, resolved_default, attribute_of, attribute}
 use Rattle.bq_rule_functions.specs.Call.{new_attribute, new_rule, declare, type_of, call_rule_function, class_in, call_kind, call_class, call_cell}
-use Rattle.bq_rule_functions.specs.Default.{text_in, listed, elements_in, all_texts, texts_in, int_in, bool_of, bool_in, written_as}
-use Rattle.bq_rule_functions.specs.Keywords.{attribute_parameters, rule_parameters, argument, documented}
-use Rattle.bq_rule_functions.specs.Labels.{ReadLabel, is_no_label, labels, resolved}
+use Rattle.bq_rule_functions.specs.Keywords.{attribute_parameters, rule_parameters, documented}
 use Rattle.bq_rule_functions.specs.Rule.{implemented, attribute_in, entry, entries, entries_in, attributes_in, are_named, class_of, class}
-use Rattle.bq_rule_functions.specs.Steps.{and_then, in_turn}
-use Rattle.bq_rule_functions.specs.declared.default.Written.{Written}
-use Rattle.bq_rule_functions.specs.declared.default.Written.TheVariants as w
+use Rattle.bq_package.proofs.Refusals.{of_text, of_written}
 use Rattle.bq_runtime.specs.Calling.{HostCalls}
 use Rattle.bq_fault_laws.specs.Faults.{IsRefusal, Refusing, Fine, HostRefuses}
 use Rattle.bq_fault_laws.proofs.Arguments.{bind_fine}
-use Rattle.bq_fault_laws.proofs.Fine.{fine_if}
+use Rattle.bq_fault_laws.proofs.Fine.{fine_if, fine_so}
 use Rattle.bq_fault_laws.proofs.Lawful.{both}
 use Rattle.bq_fault_laws.proofs.Machine.{Own, pure_owns, bind_owns, look_owns, new_owns}
 
@@ -45,54 +45,10 @@ turn_fine one ones so_far (x ∷ xs) = then_fine (one x) _ (ones x) (λ y. turn_
 
 -- ---- defaults
 
-text_fine : (v : Datum) → Fine (text_in v)
-unfolding text_in
-text_fine (string text) = tt
-text_fine v = refl
-
-listed_fine : (c : Option Contents) → Fine (listed c)
-listed_fine (Some (items vs)) = tt
-listed_fine (Some (pairs ps)) = refl
-listed_fine (Some (rule x)) = refl
-listed_fine None = refl
-
-elements_fine : (s : StoreView) (v : Datum) → Fine (elements_in s v)
-elements_fine s (tuple vs) = tt
-elements_fine s (cell home number) = listed_fine (content_at s home number)
-elements_fine s v = refl
-
-texts_fine : (s : StoreView) (v : Datum) → Fine (texts_in s v)
-unfolding texts_in all_texts
-texts_fine s v = then_fine (elements_in s v) all_texts (elements_fine s v) (λ vs. turn_fine text_in text_fine [] vs)
-
-int_fine : (v : Datum) → Fine (int_in v)
-int_fine (int n) = tt
-int_fine v = refl
-
-bool_of_fine : (n : ℤ) → Fine (bool_of n)
-bool_of_fine (pos n) = fine_if (n == 0) _ _ tt (fine_if (n == 1) _ _ tt refl)
-bool_of_fine (negsuc n) = refl
-
-bool_fine : (v : Datum) → Fine (bool_in v)
-bool_fine (boolean b) = tt
-bool_fine (int n) = bool_of_fine n
-bool_fine v = refl
-
-written_fine : (s : StoreView) (type : AttributeType) (v : Datum) → Fine (written_as s type v)
-unfolding written_as
-written_fine s t.String v = then_fine (text_in v) _ (text_fine v) (λ text. tt)
-written_fine s t.Int v = then_fine (int_in v) _ (int_fine v) (λ n. tt)
-written_fine s t.Bool v = then_fine (bool_in v) _ (bool_fine v) (λ b. tt)
-written_fine s t.StringList v = then_fine (texts_in s v) _ (texts_fine s v) (λ texts. tt)
-written_fine s t.Label v = then_fine (text_in v) _ (text_fine v) (λ text. tt)
-written_fine s t.LabelList v = then_fine (texts_in s v) _ (texts_fine s v) (λ texts. tt)
-written_fine s t.Output v = refl
-written_fine s t.OutputList v = refl
-
 default_fine : (s : StoreView) (type : AttributeType) (o : Option Datum) → Fine (written_default s type o)
 default_fine s type None = tt
 default_fine s type (Some datum.none) = tt
-default_fine s type (Some v) = then_fine (written_as s type v) _ (written_fine s type v) (λ x. tt)
+default_fine s type (Some v) = then_fine (written_as f.WrongType s type v) _ (fine_so _ (of_written f.WrongType refl s type v)) (λ x. tt)
 
 documented_fine : (o : Option Datum) → Fine (documented o)
 documented_fine None = tt
@@ -100,21 +56,11 @@ documented_fine (Some datum.none) = tt
 documented_fine (Some (string text)) = tt
 documented_fine (Some v) = refl
 
--- where the labels of defaults are read
-module _ (read : ReadLabel) (reads : (text : List ℕ) → Fine (read text)) where
-  labels_fine : (texts : List (List ℕ)) → Fine (labels read texts)
-  unfolding labels
-  labels_fine texts = fine_if (list_any (λ text. is_no_label (read text)) texts) _ _ refl (turn_fine read reads [] texts)
-
-  resolved_fine : (x : Written) → Fine (resolved read x)
-  unfolding resolved
-  resolved_fine (w.Value v) = tt
-  resolved_fine (w.Label text) = then_fine (read text) _ (reads text) (λ l. tt)
-  resolved_fine (w.Labels texts) = then_fine (labels read texts) _ (labels_fine texts) (λ ls. tt)
-
+-- where defaults are read
+module _ (read : ReadDefault) (reads : (written : Written) → Fine (read written)) where
   kept_fine : (o : Option Written) → Fine (resolved_default read o)
   kept_fine None = tt
-  kept_fine (Some x) = then_fine (resolved read x) _ (resolved_fine x) (λ v. tt)
+  kept_fine (Some x) = then_fine (read x) _ (reads x) (λ v. tt)
 
   attribute_of_fine : (s : StoreView) (type : AttributeType) (vs : List (Option Datum)) → Fine (attribute_of read s type vs)
   unfolding attribute_of
@@ -138,7 +84,7 @@ attribute_in_fine (datum.attribute x) = tt
 attribute_in_fine v = refl
 
 entry_fine : (p : Datum × Datum) → Fine (entry p)
-entry_fine p = then_fine (text_in p.0) _ (text_fine p.0) (λ name. then_fine (attribute_in p.1) _ (attribute_in_fine p.1) (λ x. tt))
+entry_fine p = then_fine (text_in f.WrongType p.0) _ (fine_so _ (of_text f.WrongType refl p.0)) (λ name. then_fine (attribute_in p.1) _ (attribute_in_fine p.1) (λ x. tt))
 
 entries_fine : (ps : List (Datum × Datum)) → Fine (entries ps)
 unfolding entries
@@ -168,7 +114,7 @@ class_fine in_build s passed = then_fine (bind rule_parameters passed) _ (bind_f
 
 -- ---- calls
 
-declare_owns : (read : ReadLabel) → ((text : List ℕ) → Fine (read text)) → (in_build : Bool) (type : Option AttributeType) (args : Passed) → Own (declare read in_build type args)
+declare_owns : (read : ReadDefault) → ((written : Written) → Fine (read written)) → (in_build : Bool) (type : Option AttributeType) (args : Passed) → Own (declare read in_build type args)
 unfolding new_attribute new_rule
 declare_owns read reads in_build None args = bind_owns (look (λ s. class in_build s.store args)) (λ x. new_content (rule x)) (look_owns (λ s. class in_build s args) (λ s. class_fine in_build s args)) (λ x. new_owns (rule x))
 declare_owns read reads in_build (Some type) args =
@@ -182,8 +128,8 @@ module _ {W : Type 0} (host : HostCalls W) (refuses : HostRefuses host) where
   pub function_refuses : (function : RuleFunction) (args : Passed) → Refusing Datum (call_rule_function host function args)
   unfolding call_rule_function
   function_refuses function args s =
-      let read : ReadLabel = host.read_default s.1 in
-      let reads : (text : List ℕ) → Fine (read text) = refuses.2 s.1 in
+      let read : ReadDefault = host.read_default s.1 in
+      let reads : (written : Written) → Fine (read written) = refuses.2 s.1 in
       beside_it s.1 (declare read (host.in_build s.1) (type_of function) args s.0) (declare_owns read reads (host.in_build s.1) (type_of function) args s.0)
 
   either : {A : Type 0} (t : Bool) (a b : Action (State × W) A) (s : State × W) → IsRefusal (a s) → IsRefusal (b s) → IsRefusal ((if t then a else b) s)

@@ -17,6 +17,7 @@ use Rattle.bq_value.specs.Datum.{Datum}
 use Rattle.bq_machine.specs.Action.{Action, Run, done, stopped}
 use Rattle.bq_machine.specs.Args.{Passed}
 use Rattle.bq_machine.specs.State.{State}
+use Rattle.bq_typed.specs.declared.written.Written.{Written}
 use Rattle.bq_host.specs.Refusals.{is_refusal}
 use Rattle.bq_runtime.specs.Calling.{HostCalls}
 use Rattle.bq_module.specs.Module.{Ended, evaluated, failed, ended, module_run}
@@ -35,13 +36,13 @@ abbrev pub Fine : {A : Type 0} → Result A FaultKind → Type 0
 Fine (Ok x) = Unit {0}
 Fine (Err kind) = is_refusal kind ≡ true
 
--- a host whose calls are refused for nothing else: those of its own functions, those of rules that .bzl files declare, and the labels of
--- defaults
+-- a host whose calls are refused for nothing else: those of its own functions, those of rules that .bzl files declare, and the defaults
+-- that it reads
 abbrev pub HostRefuses : {W : Type 0} → HostCalls W → Type 0
 HostRefuses {W = W} host =
     ((id : ℕ) (args : Passed) → Refusing {S = State × W} Datum (host.call id args))
     × ((kind : List ℕ) (class : Class) (args : Passed) → Refusing {S = State × W} Datum (host.call_rule kind class args))
-    × ((kept : W) (text : List ℕ) → Fine (host.read_default kept text))
+    × ((kept : W) (written : Written) → Fine (host.read_default kept written))
 
 -- a file that fails, if it does, with one of these
 abbrev pub FailsAsEvaluated : Ended → Type 0

@@ -7,10 +7,10 @@ ghost use Rattle.bq_machine.specs.Action.{HostDoes};
 ghost use Rattle.bq_host.specs.Refusals.{Refuses, KeepsIfRefused};
 ghost use Rattle.bq_host.specs.Host.{HostCalls};
 
-use bq_label::Label;
 use bq_machine::{Args, Machine};
-use bq_rule_class::RuleClass;
+use bq_rule_class::{AttributeValue, RuleClass};
 use bq_source::Bytes;
+use bq_typed::Written;
 use bq_value::{EvalErr, Value};
 use std::alloc::Global;
 
@@ -28,9 +28,9 @@ pub trait Host {
     fn in_build(&self) -> bool
         ensures { result ≡ means.in_build (seen self.now) };
 
-    /// The label that a text stands for as a default of an attribute, read in the package of the module that is evaluated.
-    fn read_default(&self, alloc: Global, text: &Bytes) -> Result<Label, EvalErr>
-        ensures says { Gives (λ l. l) Bad result (means.read_default (seen self.now) text.now) }
+    /// The value of a default, with its labels read in the package of the module that is evaluated.
+    fn read_default(&self, alloc: Global, written: Written) -> Result<AttributeValue, EvalErr>
+        ensures says { Gives (λ v. v) Bad result (means.read_default (seen self.now) written) }
         ensures refuses { Refuses result };
 
     /// A function of the host by its id: 0 to 5 are `glob`, `package_name`, `package`, `licenses`, `exports_files` and

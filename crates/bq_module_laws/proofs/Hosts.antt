@@ -22,8 +22,8 @@ use Rattle.bq_machine.specs.State.{State}
 use Rattle.bq_host.specs.BuiltIns.{function_named}
 use Rattle.bq_functions.specs.Call.{call_function}
 use Rattle.bq_rule_functions.specs.Attribute.{attribute}
+use Rattle.bq_host.specs.Host.{ReadDefault}
 use Rattle.bq_rule_functions.specs.Call.{new_attribute, new_rule, declare, type_of, call_rule_function, class_in, call_kind, call_class, call_cell}
-use Rattle.bq_rule_functions.specs.Labels.{ReadLabel}
 use Rattle.bq_rule_functions.specs.Rule.{class}
 use Rattle.bq_runtime.specs.Calling.{HostCalls, call_found, call_built_in}
 use Rattle.bq_runtime.specs.Runtime.{primitives}
@@ -90,7 +90,7 @@ module _ {W : Type 0} (names : List Name) (host : HostCalls W) (hosts : HostTake
 
   -- ---- what declares rules, and rules
 
-  declare_owns : (read : ReadLabel) (in_build : Bool) (type : Option AttributeType) (args : Passed) → Own (declare read in_build type args)
+  declare_owns : (read : ReadDefault) (in_build : Bool) (type : Option AttributeType) (args : Passed) → Own (declare read in_build type args)
   unfolding new_attribute new_rule
   declare_owns read in_build None args = bind_owns (look (λ s. class in_build s.store args)) (λ x. new_content (rule x)) (look_owns (λ s. class in_build s args)) (λ x. new_owns (rule x))
   declare_owns read in_build (Some type) args =

@@ -161,11 +161,11 @@ of_declares : {A : Type 0} (s : State) (d : Declaring) (r : Result A FaultKind) 
 of_declares s d (Ok x) declare why is h = of_settled s d (declare x) why h
 of_declares s d (Err kind) declare why is h = stops s kind why h is
 
-of_name : (p : PlaceView) (passed : Passed) → IsRefusable (package_name p passed)
+pub of_name : (p : PlaceView) (passed : Passed) → IsRefusable (package_name p passed)
 unfolding package_name
 of_name p passed = of_both (bind no_parameters passed) (λ b. Ok (string p.own.package)) (of_bind no_parameters passed) (λ b. tt)
 
-of_ignored : (passed : Passed) → IsRefusable (ignored passed)
+pub of_ignored : (passed : Passed) → IsRefusable (ignored passed)
 unfolding ignored
 of_ignored passed = of_both (bind any_parameters passed) (λ b. Ok none) (of_bind any_parameters passed) (λ b. tt)
 

@@ -13,14 +13,15 @@ use Rattle.bq_target.specs.Target.{is_of, names_of, declares as declares_targets
 use Rattle.bq_target.specs.Names.{are_new}
 use Rattle.bq_target.specs.Package.{PackageTargets, IsOwnCall, is_taken, files}
 use Rattle.bq_target.specs.Calls.{declared, exported}
-use Rattle.bq_attributes.specs.declared.label_texts.TextKind.TheVariants as k
-use Rattle.bq_attributes.specs.Steps.{and_then}
-use Rattle.bq_attributes.specs.LabelTexts.{label, labels}
-use Rattle.bq_attributes.proofs.Steps.{both_ok}
-use Rattle.bq_attributes.proofs.Own.{name_label_own, name_labels_own}
+use Rattle.bq_typed.specs.declared.label_texts.TextKind.TheVariants as k
+use Rattle.bq_typed.specs.Steps.{and_then}
+use Rattle.bq_typed.specs.LabelTexts.{label, labels}
+use Rattle.bq_typed.proofs.Steps.{both_ok}
+use Rattle.bq_typed.proofs.Own.{name_label_own, name_labels_own}
 use Rattle.bq_attributes.proofs.Declared.{declared_own}
 use Rattle.bq_package.specs.Place.{PlaceView}
-use Rattle.bq_package.specs.Bound.{exports_parameters, group_parameters, argument, text_of, texts_of}
+use Rattle.bq_typed.specs.Parameters.{argument}
+use Rattle.bq_package.specs.Bound.{exports_parameters, group_parameters, text_of, texts_of}
 use Rattle.bq_package.specs.Files.{files_named}
 use Rattle.bq_package.specs.Groups.{names_first, group, group_labels, group_of, group_named}
 use Rattle.bq_package.specs.Rules.{declared_target, target_by, rule_target}

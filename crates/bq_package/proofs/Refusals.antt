@@ -12,12 +12,13 @@ use Rattle.bq_label.specs.Reading.{label_of}
 use Rattle.bq_rule_class.specs.declared.attribute_type.AttributeType.{AttributeType}
 use Rattle.bq_rule_class.specs.declared.attribute_type.AttributeType.TheVariants as t
 use Rattle.bq_rule_class.specs.Class.{Class}
+use Rattle.bq_rule_class.specs.declared.value.AttributeValue.{AttributeValue}
 use Rattle.bq_rule_class.specs.declared.value.AttributeValue.TheVariants as a
 use Rattle.bq_target.specs.Value.{attribute_type}
 use Rattle.bq_target.specs.declared.value.GivenAttribute.{GivenAttribute}
 use Rattle.bq_value.specs.declared.error.EvalErr.{EvalErr}
 use Rattle.bq_value.specs.declared.error.EvalErr.TheVariants.{Bad}
-use Rattle.bq_value.specs.Datum.{Datum, none, boolean, int, string, tuple, range, cell, function, built_in, rule_function, attribute}
+use Rattle.bq_value.specs.Datum.{Datum, boolean, int, string, tuple, cell}
 use Rattle.bq_value.specs.Contents as content
 use Rattle.bq_value.specs.Contents.{Contents, items, pairs}
 use Rattle.bq_value.specs.Cells.{StoreView, content_at}
@@ -28,17 +29,21 @@ use Rattle.bq_machine.specs.Binding.{BoundView, Binding, fill, fill_by, take_key
 use Rattle.bq_glob.specs.Pattern.{is_pattern}
 use Rattle.bq_host.specs.Refusals.{is_refusal, Refuses}
 use Rattle.bq_attributes.specs.declared.arguments.Given.{Given}
-use Rattle.bq_attributes.specs.declared.label_texts.TextKind.{TextKind}
-use Rattle.bq_attributes.specs.declared.label_texts.TextKind.TheVariants as k
-use Rattle.bq_attributes.specs.Steps.{and_then, in_turn}
-use Rattle.bq_attributes.specs.Scope.{own_label_crosses, inside, all_inside}
-use Rattle.bq_attributes.specs.Texts.{text_in, listed, elements_in, all_texts, texts_in}
-use Rattle.bq_attributes.specs.LabelTexts.{label_found, named, without_colon, read, read_all, label, labels}
-use Rattle.bq_attributes.specs.Values.{int_in, bool_of, bool_in, value_as}
+use Rattle.bq_typed.specs.declared.label_texts.TextKind.{TextKind}
+use Rattle.bq_typed.specs.declared.label_texts.TextKind.TheVariants as k
+use Rattle.bq_typed.specs.declared.written.Written.{Written}
+use Rattle.bq_typed.specs.declared.written.Written.TheVariants as w
+use Rattle.bq_typed.specs.Steps.{and_then, in_turn}
+use Rattle.bq_typed.specs.Scope.{own_label_crosses, inside, all_inside}
+use Rattle.bq_typed.specs.Texts.{text_in, listed, elements_in, all_texts, texts_in}
+use Rattle.bq_typed.specs.LabelTexts.{label_found, named, without_colon, read, read_all, label, labels}
+use Rattle.bq_typed.specs.Written.{int_in, bool_of, bool_in, written_as}
+use Rattle.bq_typed.specs.Values.{typed, value_as}
 use Rattle.bq_attributes.specs.Arguments.{nothing_given, is_none, keyword, with_value, with_label, with_name, with_attribute_by, with_attribute, with_argument, with_arguments}
 use Rattle.bq_attributes.specs.Declarations.{keywords_alone, gives_mandatory, defaults, if_whole, target_of, target, declaration}
 use Rattle.bq_package.specs.Place.{PlaceView}
-use Rattle.bq_package.specs.Bound.{glob_parameters, exports_parameters, group_parameters, argument, text_of, texts_of}
+use Rattle.bq_typed.specs.Parameters.{argument}
+use Rattle.bq_package.specs.Bound.{glob_parameters, exports_parameters, group_parameters, text_of, texts_of}
 use Rattle.bq_package.specs.declared.glob.GlobRequest.{GlobRequest}
 use Rattle.bq_package.specs.Glob.{pattern, patterns, excludes_directories, allows_empty, asked, request_by, request_of, found, is_idle, is_nothing, names_of, globbed}
 use Rattle.bq_package.specs.Files.{files_named}
@@ -70,7 +75,7 @@ of_if false r q h e = e
 of_fill : (slot : Option (Option Datum)) (i : ℕ) (v : Datum) (b : BoundView) → IsRefusable (fill_by slot i v b)
 of_fill None i v b = refl
 of_fill (Some None) i v b = tt
-of_fill (Some (Some w)) i v b = refl
+of_fill (Some (Some x)) i v b = refl
 
 of_named : (place : Option ℕ) (s : SignatureView) (name : List ℕ) (v : Datum) (b : BoundView) → IsRefusable (take_named_by place s name v b)
 unfolding fill take_keyword
@@ -96,44 +101,54 @@ of_bind s p =
     of_if (too_many s p.positional) (Err f.Args) (and_bind (take_all_named s p.named (placed s p.positional)) (if_complete s)) refl
     (of_bind_both (take_all_named s p.named (placed s p.positional)) (if_complete s) (of_all_named s p.named (placed s p.positional)) (λ b. of_if (is_complete s.parameters b.values) (Ok b) (Err f.Args) tt refl))
 
--- ---- texts and labels
+-- ---- typed values, where another type is refused for a fault of the table
 
-of_text : (v : Datum) → IsRefusable (text_in v)
-unfolding text_in
-of_text none = refl
-of_text (boolean b) = refl
-of_text (int n) = refl
-of_text (string s) = tt
-of_text (tuple xs) = refl
-of_text (range x y z) = refl
-of_text (cell m n) = refl
-of_text (function m n s xs) = refl
-of_text (built_in s) = refl
-of_text (rule_function x) = refl
-of_text (attribute x) = refl
+module _ (why : FaultKind) (refusal : is_refusal why ≡ true) where
+  pub of_text : (v : Datum) → IsRefusable (text_in why v)
+  unfolding text_in
+  of_text (string s) = tt
+  of_text v = refusal
 
-of_listed : (c : Option Contents) → IsRefusable (listed c)
-of_listed None = refl
-of_listed (Some (items vs)) = tt
-of_listed (Some (pairs ps)) = refl
-of_listed (Some (content.rule c)) = refl
+  of_listed : (c : Option Contents) → IsRefusable (listed why c)
+  of_listed None = refusal
+  of_listed (Some (items vs)) = tt
+  of_listed (Some (pairs ps)) = refusal
+  of_listed (Some (content.rule c)) = refusal
 
-of_elements : (store : StoreView) (v : Datum) → IsRefusable (elements_in store v)
-of_elements store none = refl
-of_elements store (boolean b) = refl
-of_elements store (int n) = refl
-of_elements store (string s) = refl
-of_elements store (tuple xs) = tt
-of_elements store (range x y z) = refl
-of_elements store (cell m n) = of_listed (content_at store m n)
-of_elements store (function m n s xs) = refl
-of_elements store (built_in s) = refl
-of_elements store (rule_function x) = refl
-of_elements store (attribute x) = refl
+  of_elements : (store : StoreView) (v : Datum) → IsRefusable (elements_in why store v)
+  of_elements store (tuple xs) = tt
+  of_elements store (cell m n) = of_listed (content_at store m n)
+  of_elements store v = refusal
 
-of_texts : (store : StoreView) (v : Datum) → IsRefusable (texts_in store v)
-unfolding texts_in all_texts
-of_texts store v = of_both (elements_in store v) all_texts (of_elements store v) (λ vs. of_turn text_in of_text [] vs)
+  pub of_texts : (store : StoreView) (v : Datum) → IsRefusable (texts_in why store v)
+  unfolding texts_in all_texts
+  of_texts store v = of_both (elements_in why store v) (all_texts why) (of_elements store v) (λ vs. of_turn (text_in why) of_text [] vs)
+
+  of_int : (v : Datum) → IsRefusable (int_in why v)
+  of_int (int n) = tt
+  of_int v = refusal
+
+  of_bool_of : (n : ℤ) → IsRefusable (bool_of why n)
+  of_bool_of (pos n) = of_if (n == 0) (Ok false) (cond (n == 1) (Ok true) (Err why)) tt (of_if (n == 1) (Ok true) (Err why) tt refusal)
+  of_bool_of (negsuc n) = refusal
+
+  of_bool : (v : Datum) → IsRefusable (bool_in why v)
+  of_bool (boolean b) = tt
+  of_bool (int n) = of_bool_of n
+  of_bool v = refusal
+
+  pub of_written : (store : StoreView) (type : AttributeType) (v : Datum) → IsRefusable (written_as why store type v)
+  unfolding written_as
+  of_written store t.String v = of_both (text_in why v) (λ text. Ok (w.Value (a.String text))) (of_text v) (λ text. tt)
+  of_written store t.Int v = of_both (int_in why v) (λ n. Ok (w.Value (a.Int n))) (of_int v) (λ n. tt)
+  of_written store t.Bool v = of_both (bool_in why v) (λ b. Ok (w.Value (a.Bool b))) (of_bool v) (λ b. tt)
+  of_written store t.StringList v = of_both (texts_in why store v) (λ texts. Ok (w.Value (a.StringList texts))) (of_texts store v) (λ texts. tt)
+  of_written store t.Label v = of_both (text_in why v) (λ text. Ok (w.Label text)) (of_text v) (λ text. tt)
+  of_written store t.LabelList v = of_both (texts_in why store v) (λ texts. Ok (w.LabelList texts)) (of_texts store v) (λ texts. tt)
+  of_written store t.Output v = of_both (text_in why v) (λ text. Ok (w.Output text)) (of_text v) (λ text. tt)
+  of_written store t.OutputList v = of_both (texts_in why store v) (λ texts. Ok (w.OutputList texts)) (of_texts store v) (λ texts. tt)
+
+-- ---- labels
 
 of_label_found : (l : Option LabelParts) → IsRefusable (label_found l)
 of_label_found None = refl
@@ -161,60 +176,24 @@ of_labels own packages kind texts =
 
 -- ---- values and arguments of rules
 
-of_int : (v : Datum) → IsRefusable (int_in v)
-of_int none = refl
-of_int (boolean b) = refl
-of_int (int n) = tt
-of_int (string s) = refl
-of_int (tuple xs) = refl
-of_int (range x y z) = refl
-of_int (cell m n) = refl
-of_int (function m n s xs) = refl
-of_int (built_in s) = refl
-of_int (rule_function x) = refl
-of_int (attribute x) = refl
-
-of_bool_of : (n : ℤ) → IsRefusable (bool_of n)
-of_bool_of (pos n) = of_if (n == 0) (Ok false) (cond (n == 1) (Ok true) (Err f.AttributeType)) tt (of_if (n == 1) (Ok true) (Err f.AttributeType) tt refl)
-of_bool_of (negsuc n) = refl
-
-of_bool : (v : Datum) → IsRefusable (bool_in v)
-of_bool none = refl
-of_bool (boolean b) = tt
-of_bool (int n) = of_bool_of n
-of_bool (string s) = refl
-of_bool (tuple xs) = refl
-of_bool (range x y z) = refl
-of_bool (cell m n) = refl
-of_bool (function m n s xs) = refl
-of_bool (built_in s) = refl
-of_bool (rule_function x) = refl
-of_bool (attribute x) = refl
+pub of_typed : (own : PackageParts) (packages : List BuildFile) (x : Written) → IsRefusable (typed own packages x)
+unfolding typed
+of_typed own packages (w.Value v) = tt
+of_typed own packages (w.Label text) = of_both (label own packages k.Label text) (λ l. Ok (a.Label l)) (of_label own packages k.Label text) (λ l. tt)
+of_typed own packages (w.LabelList texts) = of_both (labels own packages k.Label texts) (λ ls. Ok (a.LabelList ls)) (of_labels own packages k.Label texts) (λ ls. tt)
+of_typed own packages (w.Output text) = of_both (label own packages k.Output text) (λ l. Ok (a.Output l)) (of_label own packages k.Output text) (λ l. tt)
+of_typed own packages (w.OutputList texts) = of_both (labels own packages k.Output texts) (λ ls. Ok (a.OutputList ls)) (of_labels own packages k.Output texts) (λ ls. tt)
 
 of_value : (own : PackageParts) (packages : List BuildFile) (store : StoreView) (kind : AttributeType) (v : Datum) → IsRefusable (value_as own packages store kind v)
 unfolding value_as
-of_value own packages store t.String v = of_both (text_in v) (λ text. Ok (a.String text)) (of_text v) (λ text. tt)
-of_value own packages store t.Int v = of_both (int_in v) (λ n. Ok (a.Int n)) (of_int v) (λ n. tt)
-of_value own packages store t.Bool v = of_both (bool_in v) (λ b. Ok (a.Bool b)) (of_bool v) (λ b. tt)
-of_value own packages store t.StringList v = of_both (texts_in store v) (λ texts. Ok (a.StringList texts)) (of_texts store v) (λ texts. tt)
-of_value own packages store t.Label v =
-    of_both (text_in v) (λ text. and_then (label own packages k.Label text) (λ l. Ok (a.Label l))) (of_text v)
-    (λ text. of_both (label own packages k.Label text) (λ l. Ok (a.Label l)) (of_label own packages k.Label text) (λ l. tt))
-of_value own packages store t.LabelList v =
-    of_both (texts_in store v) (λ texts. and_then (labels own packages k.Label texts) (λ ls. Ok (a.LabelList ls))) (of_texts store v)
-    (λ texts. of_both (labels own packages k.Label texts) (λ ls. Ok (a.LabelList ls)) (of_labels own packages k.Label texts) (λ ls. tt))
-of_value own packages store t.Output v =
-    of_both (text_in v) (λ text. and_then (label own packages k.Output text) (λ l. Ok (a.Output l))) (of_text v)
-    (λ text. of_both (label own packages k.Output text) (λ l. Ok (a.Output l)) (of_label own packages k.Output text) (λ l. tt))
-of_value own packages store t.OutputList v =
-    of_both (texts_in store v) (λ texts. and_then (labels own packages k.Output texts) (λ ls. Ok (a.OutputList ls))) (of_texts store v)
-    (λ texts. of_both (labels own packages k.Output texts) (λ ls. Ok (a.OutputList ls)) (of_labels own packages k.Output texts) (λ ls. tt))
+of_value own packages store kind v =
+    of_both (written_as f.AttributeType store kind v) (typed own packages) (of_written f.AttributeType refl store kind v) (of_typed own packages)
 
 of_name_given : (own : PackageParts) (packages : List BuildFile) (v : Datum) (g : Given) → IsRefusable (with_name own packages v g)
 unfolding with_name
 of_name_given own packages v g =
-    of_if (is_none v) (Ok g) (and_then (text_in v) (λ text. and_then (label own packages k.Name text) (λ l. Ok (with_label text l g)))) tt
-    (of_both (text_in v) (λ text. and_then (label own packages k.Name text) (λ l. Ok (with_label text l g))) (of_text v)
+    of_if (is_none v) (Ok g) (and_then (text_in f.AttributeType v) (λ text. and_then (label own packages k.Name text) (λ l. Ok (with_label text l g)))) tt
+    (of_both (text_in f.AttributeType v) (λ text. and_then (label own packages k.Name text) (λ l. Ok (with_label text l g))) (of_text f.AttributeType refl v)
     (λ text. of_both (label own packages k.Name text) (λ l. Ok (with_label text l g)) (of_label own packages k.Name text) (λ l. tt)))
 
 of_attribute : (own : PackageParts) (packages : List BuildFile) (store : StoreView) (kind : Option AttributeType) (name : List ℕ) (v : Datum) (g : Given)
@@ -260,20 +239,20 @@ of_rule p store line rule passed = by (slice_get p.rules.names rule) (slice_get 
     by (Some name) None = refl
     by (Some name) (Some class) = of_declaration p.own p.packages store class name line passed
 
--- a label is refused for a fault of the table
-pub label_refuses : (own : PackageParts) (packages : List BuildFile) (text : List ℕ) (result : Result LabelParts EvalErr) → Gives (λ l. l) Bad result (label own packages k.Label text) → Refuses result
-label_refuses own packages text (Ok l) gives = tt
-label_refuses own packages text (Err e) gives = λ kind is. subst (λ (r : Result LabelParts FaultKind). IsRefusable r) (gives kind is) (of_label own packages k.Label text)
+-- a default is refused for a fault of the table
+pub default_refuses : (own : PackageParts) (packages : List BuildFile) (x : Written) (result : Result AttributeValue EvalErr) → Gives (λ v. v) Bad result (typed own packages x) → Refuses result
+default_refuses own packages x (Ok v) gives = tt
+default_refuses own packages x (Err e) gives = λ kind is. subst (λ (r : Result AttributeValue FaultKind). IsRefusable r) (gives kind is) (of_typed own packages x)
 
 -- ---- the build functions
 
 of_text_of : (v : Option Datum) → IsRefusable (text_of v)
 of_text_of None = refl
-of_text_of (Some v) = of_text v
+of_text_of (Some v) = of_text f.AttributeType refl v
 
 of_texts_of : (store : StoreView) (v : Option Datum) → IsRefusable (texts_of store v)
 of_texts_of store None = tt
-of_texts_of store (Some v) = of_texts store v
+of_texts_of store (Some v) = of_texts f.AttributeType refl store v
 
 of_pattern : (text : List ℕ) → IsRefusable (pattern text)
 of_pattern text = of_if (is_pattern text) (Ok text) (Err f.GlobPattern) tt refl

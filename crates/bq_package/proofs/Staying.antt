@@ -23,7 +23,7 @@ use Rattle.bq_package.specs.Files.{files_named}
 use Rattle.bq_package.specs.Groups.{group_named}
 use Rattle.bq_package.specs.Rules.{declared_target, rule_target}
 use Rattle.bq_package.specs.Functions.{function_of}
-use Rattle.bq_package.specs.Calls.{HeldPackage, outside, declaring, Declaring, new_strings, package_name, ignored, settled, declares, call_in, rule_by, call_of, rule_call}
+use Rattle.bq_package.specs.Calls.{HeldPackage, declaring, Declaring, new_strings, package_name, ignored, settled, declares, call_in, rule_by, call_of, rule_call}
 use Rattle.bq_package.specs.Laws.{CallsOutsideAreRefused, GoesOn, WhatIsDeclaredStays}
 
 pub calls_outside_are_refused : CallsOutsideAreRefused

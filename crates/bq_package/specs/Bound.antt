@@ -1,17 +1,12 @@
 -- The parameters of the build functions (Bazel, Build Encyclopedia, "Functions"), and what is read of the arguments that they take.
-use Rattle.std.specs.Prelude.{ℕ, true, false, List, [], ◌∷◌, Option, Some, None, Result, Ok, Err, slice_get, codes}
+use Rattle.std.specs.Prelude.{ℕ, true, false, List, [], ◌∷◌, Option, Some, None, Result, Ok, Err, codes}
 use Rattle.bq_source.specs.declared.fault.FaultKind.{FaultKind}
 use Rattle.bq_source.specs.declared.fault.FaultKind.TheVariants.{AttributeType}
 use Rattle.bq_value.specs.Datum.{Datum}
 use Rattle.bq_value.specs.Cells.{StoreView}
-use Rattle.bq_machine.specs.Parameters.{ParameterView, SignatureView}
-use Rattle.bq_attributes.specs.Texts.{text_in, texts_in}
-
-abbrev pub required : List ℕ → ParameterView
-required name = record { name = Some name; is_required = true }
-
-abbrev pub optional : List ℕ → ParameterView
-optional name = record { name = Some name; is_required = false }
+use Rattle.bq_machine.specs.Parameters.{SignatureView}
+use Rattle.bq_typed.specs.Parameters.{required, optional}
+use Rattle.bq_typed.specs.Texts.{text_in, texts_in}
 
 -- `(include, exclude = [], exclude_directories = 1, allow_empty = True)`
 abbrev pub glob_parameters : SignatureView
@@ -48,20 +43,12 @@ group_parameters = record {
   takes_keywords = false;
 }
 
-abbrev pub given_by : Option (Option Datum) → Option Datum
-given_by (Some v) = v
-given_by None = None
-
--- the argument of a parameter, where it has one
-abbrev pub argument : List (Option Datum) → ℕ → Option Datum
-argument values i = given_by (slice_get values i)
-
 -- a string (F73)
 abbrev pub text_of : Option Datum → Result (List ℕ) FaultKind
 text_of None = Err AttributeType
-text_of (Some v) = text_in v
+text_of (Some v) = text_in AttributeType v
 
 -- a list or a tuple of strings (F73); none where the argument is left out
 abbrev pub texts_of : StoreView → Option Datum → Result (List (List ℕ)) FaultKind
 texts_of store None = Ok []
-texts_of store (Some v) = texts_in store v
+texts_of store (Some v) = texts_in AttributeType store v

@@ -4,8 +4,9 @@ use Rattle.std.specs.Prelude.{ℕ, List, map, Bool, true, false, Option, Some, N
 use Rattle.bq_source.specs.declared.fault.FaultKind.{FaultKind}
 use Rattle.bq_source.specs.declared.fault.FaultKind.TheVariants.{NotInPackage, DoubleTarget}
 use Rattle.bq_label.specs.declared.packages.BuildFile.{BuildFile}
-use Rattle.bq_label.specs.Label.{PackageParts, LabelParts}
+use Rattle.bq_label.specs.Label.{PackageParts}
 use Rattle.bq_rule_class.specs.Class.{Class}
+use Rattle.bq_rule_class.specs.declared.value.AttributeValue.{AttributeValue}
 use Rattle.bq_value.specs.Datum.{Datum, none, string}
 use Rattle.bq_machine.specs.Args.{Passed}
 use Rattle.bq_machine.specs.State.{State, stop_at}
@@ -17,10 +18,10 @@ use Rattle.bq_target.specs.declared.state.Declared.{Declared}
 use Rattle.bq_target.specs.declared.state.Declared.TheVariants.{Accepted, Refused}
 use Rattle.bq_target.specs.Package.{PackageTargets}
 use Rattle.bq_target.specs.Calls.{declared, exported}
-use Rattle.bq_attributes.specs.declared.label_texts.TextKind.TheVariants as k
-use Rattle.bq_attributes.specs.declared.scope.Scope.{Scope}
-use Rattle.bq_attributes.specs.Steps.{and_then}
-use Rattle.bq_attributes.specs.LabelTexts.{label}
+use Rattle.bq_typed.specs.declared.scope.Scope.{Scope}
+use Rattle.bq_typed.specs.declared.written.Written.{Written}
+use Rattle.bq_typed.specs.Steps.{and_then}
+use Rattle.bq_typed.specs.Values.{typed}
 use Rattle.bq_package.specs.declared.building.BuildHost.{BuildHost}
 use Rattle.bq_package.specs.declared.building.Building.{Building}
 use Rattle.bq_package.specs.declared.function.BuildFunction.{BuildFunction}
@@ -125,10 +126,11 @@ abbrev pub is_building : HeldPackage → Bool
 is_building (outside own packages) = false
 is_building (declaring d) = true
 
--- the label of a default, read in the package of the file that is evaluated: F78, and F37 where it crosses into another package
-unfoldable pub default_label : HeldPackage → List ℕ → Result LabelParts FaultKind
-default_label held text = label (own_of held) (packages_of held) k.Label text
+-- the value of a default, with its labels read in the package of the file that is evaluated: F78, and F37 where one crosses into another
+-- package
+unfoldable pub default_value : HeldPackage → Written → Result AttributeValue FaultKind
+default_value held written = typed (own_of held) (packages_of held) written
 
 -- what the host makes of calls
 abbrev pub meaning : HostCalls HeldPackage
-meaning = record { call = call_of; in_build = is_building; read_default = default_label; call_rule = rule_call }
+meaning = record { call = call_of; in_build = is_building; read_default = default_value; call_rule = rule_call }

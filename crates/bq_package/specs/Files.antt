@@ -5,11 +5,12 @@ use Rattle.bq_label.specs.Label.{LabelParts}
 use Rattle.bq_value.specs.Cells.{StoreView}
 use Rattle.bq_machine.specs.Args.{Passed}
 use Rattle.bq_machine.specs.Binding.{bind}
-use Rattle.bq_attributes.specs.declared.label_texts.TextKind.TheVariants as k
-use Rattle.bq_attributes.specs.Steps.{and_then}
-use Rattle.bq_attributes.specs.LabelTexts.{labels}
+use Rattle.bq_typed.specs.declared.label_texts.TextKind.TheVariants as k
+use Rattle.bq_typed.specs.Steps.{and_then}
+use Rattle.bq_typed.specs.LabelTexts.{labels}
 use Rattle.bq_package.specs.Place.{PlaceView}
-use Rattle.bq_package.specs.Bound.{exports_parameters, argument, texts_of}
+use Rattle.bq_typed.specs.Parameters.{argument}
+use Rattle.bq_package.specs.Bound.{exports_parameters, texts_of}
 
 -- the files that a call names
 unfoldable pub files_named : PlaceView → StoreView → Passed → Result (List LabelParts) FaultKind

@@ -11,10 +11,11 @@ use Rattle.bq_machine.specs.Args.{Passed}
 use Rattle.bq_machine.specs.Binding.{bind}
 use Rattle.bq_glob.specs.Pattern.{is_pattern}
 use Rattle.bq_glob.specs.Names.{glob}
-use Rattle.bq_attributes.specs.Steps.{and_then, in_turn}
+use Rattle.bq_typed.specs.Steps.{and_then, in_turn}
 use Rattle.bq_package.specs.declared.glob.GlobRequest.{GlobRequest}
 use Rattle.bq_package.specs.Place.{PlaceView}
-use Rattle.bq_package.specs.Bound.{glob_parameters, argument, texts_of}
+use Rattle.bq_typed.specs.Parameters.{argument}
+use Rattle.bq_package.specs.Bound.{glob_parameters, texts_of}
 
 abbrev pub pattern : List ℕ → Result (List ℕ) FaultKind
 pattern text = if is_pattern text then Ok text else Err GlobPattern

@@ -12,11 +12,12 @@ use Rattle.bq_machine.specs.Binding.{bind}
 use Rattle.bq_target.specs.declared.target.Target.{Target}
 use Rattle.bq_target.specs.declared.target.TargetKind.TheVariants as target
 use Rattle.bq_rule_class.specs.declared.value.AttributeValue.TheVariants as a
-use Rattle.bq_attributes.specs.declared.label_texts.TextKind.TheVariants as k
-use Rattle.bq_attributes.specs.Steps.{and_then}
-use Rattle.bq_attributes.specs.LabelTexts.{label, labels}
+use Rattle.bq_typed.specs.declared.label_texts.TextKind.TheVariants as k
+use Rattle.bq_typed.specs.Steps.{and_then}
+use Rattle.bq_typed.specs.LabelTexts.{label, labels}
 use Rattle.bq_package.specs.Place.{PlaceView}
-use Rattle.bq_package.specs.Bound.{group_parameters, argument, text_of, texts_of}
+use Rattle.bq_typed.specs.Parameters.{argument}
+use Rattle.bq_package.specs.Bound.{group_parameters, text_of, texts_of}
 
 -- the name isn't written after the included groups, among named arguments
 unfoldable pub is_name_first : List (List ℕ × Datum) → Bool

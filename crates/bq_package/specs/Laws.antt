@@ -1,14 +1,17 @@
 -- Words of the laws.
 use Rattle.std.specs.Prelude.{◌≡◌, ◌↔◌, ℕ, ◌+◌, List, ◌++◌, true, Some, Ok, slice_get}
+use Rattle.std.specs.List.{AllZip}
 use Rattle.bq_source.specs.declared.fault.FaultKind.TheVariants.{NotInPackage}
 use Rattle.bq_label.specs.declared.packages.BuildFile.{BuildFile}
 use Rattle.bq_label.specs.Label.{PackageParts, LabelParts, ReadsAs}
 use Rattle.bq_rule_class.specs.Class.{Class}
+use Rattle.bq_rule_class.specs.declared.value.AttributeValue.TheVariants as a
 use Rattle.bq_value.specs.Datum.{Datum}
 use Rattle.bq_machine.specs.Args.{Passed}
 use Rattle.bq_machine.specs.State.{State, stop_at}
 use Rattle.bq_machine.specs.Action.{done, stopped}
 use Rattle.bq_target.specs.declared.target.Target.{Target}
+use Rattle.bq_typed.specs.declared.written.Written.TheVariants as w
 use Rattle.bq_package.specs.Calls.{HeldPackage, outside, declaring, Declaring, own_of, meaning}
 
 -- while no BUILD file is evaluated every call is F70, also of a rule that a .bzl file declares
@@ -43,7 +46,7 @@ IsInBuild held = (d : Declaring) × (held ≡ declaring d)
 abbrev pub InBuildIsSaid : Type 0
 InBuildIsSaid = (held : HeldPackage) → (meaning.in_build held ≡ true) ↔ IsInBuild held
 
--- a default is read as a label that a BUILD file of the package may write, whatever file is evaluated
-abbrev pub DefaultsAreReadInThePackage : Type 0
-DefaultsAreReadInThePackage =
-    (held : HeldPackage) (text : List ℕ) (l : LabelParts) → meaning.read_default held text ≡ Ok l → ReadsAs (own_of held) text l
+-- the labels of a default are read as labels that a BUILD file of the package may write, whatever file is evaluated
+pub record DefaultsAreReadInThePackage : Type 0 where
+  pub label : (held : HeldPackage) (text : List ℕ) (l : LabelParts) → meaning.read_default held (w.Label text) ≡ Ok (a.Label l) → ReadsAs (own_of held) text l
+  pub labels : (held : HeldPackage) (texts : List (List ℕ)) (ls : List LabelParts) → meaning.read_default held (w.LabelList texts) ≡ Ok (a.LabelList ls) → AllZip (ReadsAs (own_of held)) texts ls

@@ -1,25 +1,16 @@
 //! What is read of the arguments that the parameters of a build function take.
 
-ghost use Rattle.std.specs.Prelude.{◌≡◌, option_copied};
+ghost use Rattle.std.specs.Prelude.{◌≡◌};
 ghost use Rattle.bq_source.specs.Gives.{Gives};
 ghost use Rattle.bq_value.specs.declared.error.EvalErr.TheVariants.{Bad};
-ghost use Rattle.bq_package.specs.Bound.{argument, text_of, texts_of};
+ghost use Rattle.bq_typed.specs.Parameters.{argument};
+ghost use Rattle.bq_package.specs.Bound.{text_of, texts_of};
 
-use bq_attributes::{text_in, texts_in};
 use bq_source::{Bytes, FaultKind};
+use bq_typed::{argument, text_in, texts_in};
 use bq_value::{EvalErr, Store, Value};
 use sqlite_items::Items;
 use std::alloc::Global;
-
-/// The argument of the parameter at this place, where it has one.
-pub fn argument(values: &[Option<Value>], index: usize) -> Option<&Value>
-    ensures { option_copied result ≡ argument values.now index }
-{
-    match values.get(index) {
-        Some(Some(value)) => Some(value),
-        _ => None,
-    }
-}
 
 /// A string, or F73.
 pub fn text_of(values: &[Option<Value>], index: usize) -> Result<Bytes, EvalErr>
@@ -27,7 +18,7 @@ pub fn text_of(values: &[Option<Value>], index: usize) -> Result<Bytes, EvalErr>
 {
     match argument(values, index) {
         None => Err(EvalErr::Bad(FaultKind::AttributeType)),
-        Some(value) => text_in(value),
+        Some(value) => text_in(value, FaultKind::AttributeType),
     }
 }
 
@@ -42,6 +33,6 @@ pub fn texts_of(
 {
     match argument(values, index) {
         None => Ok(Items::new(alloc)),
-        Some(value) => texts_in(alloc, store, value),
+        Some(value) => texts_in(alloc, store, value, FaultKind::AttributeType),
     }
 }

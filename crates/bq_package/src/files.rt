@@ -10,9 +10,9 @@ ghost use Rattle.bq_package.specs.Files.{files_named};
 
 use crate::bound::texts_of;
 use crate::place::Place;
-use bq_attributes::{TextKind, labels};
 use bq_label::Label;
 use bq_machine::{Args, Bound, Parameter, Signature, bind};
+use bq_typed::{TextKind, labels};
 use bq_value::{EvalErr, Store};
 use sqlite_items::Items;
 use std::alloc::Global;

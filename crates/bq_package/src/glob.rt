@@ -6,14 +6,16 @@ ghost use Rattle.bq_source.specs.Gives.{Gives};
 ghost use Rattle.bq_value.specs.declared.error.EvalErr.TheVariants.{Bad};
 ghost use Rattle.bq_machine.specs.Binding.{bind};
 ghost use Rattle.bq_package.specs.Place.{place_of};
-ghost use Rattle.bq_package.specs.Bound.{glob_parameters, argument};
+ghost use Rattle.bq_typed.specs.Parameters.{argument};
+ghost use Rattle.bq_package.specs.Bound.{glob_parameters};
 ghost use Rattle.bq_package.specs.Glob.{pattern, patterns, excludes_directories, allows_empty, request_by, request_of, is_nothing, names_of, is_idle, found, globbed};
 
-use crate::bound::{argument, texts_of};
+use crate::bound::texts_of;
 use crate::place::Place;
 use bq_glob::{Pattern, glob, read_pattern};
 use bq_machine::{Args, Bound, Parameter, Signature, bind};
 use bq_source::{Bytes, FaultKind, SourceErr};
+use bq_typed::argument;
 use bq_value::{EvalErr, Node, Store, Value};
 use bq_walk::truth;
 use sqlite_items::Items;
@@ -73,7 +75,7 @@ fn pattern(alloc: Global, text: &Bytes) -> Result<Pattern, EvalErr>
 }
 
 /// Texts as patterns, or F77.
-#[tactic(auto, unfolding(crate::specs::Glob::patterns, bq_attributes::specs::Steps::in_turn))]
+#[tactic(auto, unfolding(crate::specs::Glob::patterns, bq_typed::specs::Steps::in_turn))]
 fn patterns(alloc: Global, texts: &[Bytes]) -> Result<Items<Pattern>, EvalErr>
     ensures { Gives (λ ps. ps) Bad result (patterns texts.now) }
 {

@@ -11,20 +11,20 @@ ghost use Rattle.bq_value.specs.Datum.{string};
 ghost use Rattle.bq_target.specs.Package.{no_targets};
 ghost use Rattle.bq_target.specs.Calls.{declared, exported};
 ghost use Rattle.bq_package.specs.Place.{place_of};
-ghost use Rattle.bq_package.specs.Calls.{HeldPackage, outside, declaring, held_by, package_in, place_in, own_of, packages_of, new_strings, package_name, ignored, call_by, rule_by, is_building, default_label, meaning};
+ghost use Rattle.bq_package.specs.Calls.{HeldPackage, outside, declaring, held_by, package_in, place_in, own_of, packages_of, new_strings, package_name, ignored, call_by, rule_by, is_building, default_value, meaning};
 ghost use Rattle.bq_package.specs.Keeping.{answer, package_after, Settles, IsSettled, OwnsTarget, OwnsFiles};
 
 use crate::building::{BuildHost, Building};
 use crate::function::{BuildFunction, function_of};
 use crate::place::Place;
-use bq_attributes::{Scope, TextKind, label};
 use bq_host::Host;
 use bq_label::{Label, PackageId, Packages, Workspace};
 use bq_machine::{Args, Machine, Signature, bind};
-use bq_rule_class::RuleClass;
+use bq_rule_class::{AttributeValue, RuleClass};
 use bq_schema::Schema;
 use bq_source::{Bytes, FaultKind};
 use bq_target::{Declared, PackageState, Target};
+use bq_typed::{Scope, Written, typed};
 use bq_value::{EvalErr, Value};
 use std::alloc::{AllocError, Global};
 
@@ -352,9 +352,9 @@ impl<'a> Host for BuildHost<'a> {
         }
     }
 
-    #[tactic(auto, using(crate::proofs::Refusals::label_refuses), unfolding(crate::specs::Calls::default_label))]
-    fn read_default(&self, alloc: Global, text: &Bytes) -> Result<Label, EvalErr> {
-        label(alloc, self.scope(), TextKind::Label, text)
+    #[tactic(auto, using(crate::proofs::Refusals::default_refuses), unfolding(crate::specs::Calls::default_value))]
+    fn read_default(&self, alloc: Global, written: Written) -> Result<AttributeValue, EvalErr> {
+        typed(alloc, self.scope(), written)
     }
 
     #[tactic(auto, using(crate::proofs::Meaning::refuses), unfolding(crate::specs::Calls::call_of))]

@@ -26,7 +26,7 @@ pub fn in_build_is_said()
     ensures { InBuildIsSaid }
 {}
 
-/// A default is read as a label that a file of the package writes whose file is evaluated.
+/// The labels of a default are read as labels that a file of the package writes whose file is evaluated.
 pub fn defaults_are_read_in_the_package()
     ensures { DefaultsAreReadInThePackage }
 {}

@@ -12,12 +12,13 @@ use Rattle.bq_machine.specs.State.{State}
 use Rattle.bq_target.specs.declared.state.Declared.{Declared}
 use Rattle.bq_target.specs.declared.state.Declared.TheVariants.{Accepted, Refused}
 use Rattle.bq_target.specs.Calls.{declared, exported}
-use Rattle.bq_attributes.specs.declared.label_texts.TextKind.TheVariants as k
-use Rattle.bq_attributes.specs.LabelTexts.{labels}
-use Rattle.bq_attributes.specs.Steps.{and_then}
+use Rattle.bq_typed.specs.declared.label_texts.TextKind.TheVariants as k
+use Rattle.bq_typed.specs.LabelTexts.{labels}
+use Rattle.bq_typed.specs.Steps.{and_then}
 use Rattle.bq_package.specs.declared.function.BuildFunction.TheVariants as f
 use Rattle.bq_package.specs.declared.glob.GlobRequest.{GlobRequest}
-use Rattle.bq_package.specs.Bound.{glob_parameters, exports_parameters, argument, texts_of}
+use Rattle.bq_typed.specs.Parameters.{argument}
+use Rattle.bq_package.specs.Bound.{glob_parameters, exports_parameters, texts_of}
 use Rattle.bq_package.specs.Calls.{Declaring, declaring, settled, declares, call_in, rule_by}
 use Rattle.bq_package.specs.Files.{files_named}
 use Rattle.bq_package.specs.Glob.{patterns, excludes_directories, allows_empty, asked, request_by, request_of, found, globbed}

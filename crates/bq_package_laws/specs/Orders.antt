@@ -7,9 +7,10 @@ use Rattle.bq_machine.specs.Args.{Passed}
 use Rattle.bq_machine.specs.Binding.{bind}
 use Rattle.bq_target.specs.declared.state.Declared.{Declared}
 use Rattle.bq_target.specs.declared.state.Declared.TheVariants.{Accepted, Refused}
-use Rattle.bq_attributes.specs.declared.label_texts.TextKind.TheVariants as k
-use Rattle.bq_attributes.specs.LabelTexts.{labels}
-use Rattle.bq_package.specs.Bound.{glob_parameters, exports_parameters, argument, texts_of}
+use Rattle.bq_typed.specs.declared.label_texts.TextKind.TheVariants as k
+use Rattle.bq_typed.specs.LabelTexts.{labels}
+use Rattle.bq_typed.specs.Parameters.{argument}
+use Rattle.bq_package.specs.Bound.{glob_parameters, exports_parameters, texts_of}
 use Rattle.bq_package.specs.Glob.{patterns, excludes_directories, request_of, found}
 use Rattle.bq_package.specs.Place.{PlaceView}
 use Rattle.bq_refusal_laws.specs.Refusals.{Check, when, first_fault, fault_in, fault_then}

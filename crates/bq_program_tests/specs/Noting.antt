@@ -1,5 +1,5 @@
 -- A host that notes which calls it accepts: those of its own functions by their ids, all but the one of id 3, which is F70, and those of
--- declared rules as 99. A BUILD file is evaluated, and no text is a label.
+-- declared rules as 99. A BUILD file is evaluated, and no default is read.
 use Rattle.std.specs.Prelude.{ℕ, List, [], ◌∷◌, ◌++◌, ◌==◌, true, Err, if◌then◌else◌}
 use Rattle.bq_source.specs.declared.fault.FaultKind.TheVariants.{NotInPackage, BadLabel}
 use Rattle.bq_rule_class.specs.Class.{Class}
@@ -16,4 +16,4 @@ unfoldable pub noted_rule : List ℕ → Class → Passed → Action (State × L
 noted_rule kind class passed p = done none (p.0, p.1 ++ 99 ∷ [])
 
 abbrev pub noted : HostCalls (List ℕ)
-noted = record { call = noted_call; in_build = λ ids. true; read_default = λ ids text. Err BadLabel; call_rule = noted_rule }
+noted = record { call = noted_call; in_build = λ ids. true; read_default = λ ids written. Err BadLabel; call_rule = noted_rule }

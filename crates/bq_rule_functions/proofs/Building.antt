@@ -6,7 +6,7 @@ use Rattle.bq_rule_class.specs.declared.attribute.Attribute.{Attribute}
 use Rattle.bq_value.specs.Datum.{Datum, string}
 use Rattle.bq_value.specs.Pairs.{found, HasNoKeyTwice}
 use Rattle.bq_rule_functions.specs.Rule.{entry}
-use Rattle.bq_rule_functions.specs.Steps.{in_turn}
+use Rattle.bq_typed.specs.Steps.{in_turn}
 use Rattle.bq_rule_functions.proofs.Entries.{entry_is}
 use Rattle.bq_rule_functions.proofs.Names.{AreNew, new_to_none, still_new}
 

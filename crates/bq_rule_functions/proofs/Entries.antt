@@ -3,20 +3,21 @@ use Rattle.std.proofs.Common.{◌≡◌, ◌∙◌, sym, ap, refl, ℕ, List, []
 use Rattle.std.specs.Prelude.{◌++◌, map}
 use Rattle.std.proofs.lemmas.List.{map_push, append_assoc, append-nil}
 use Rattle.bq_source.specs.declared.fault.FaultKind.{FaultKind}
+use Rattle.bq_source.specs.declared.fault.FaultKind.TheVariants.{WrongType}
 use Rattle.bq_rule_class.specs.Class.{Class}
 use Rattle.bq_rule_class.specs.declared.attribute.Attribute.{Attribute}
 use Rattle.bq_value.specs.Datum as datum
 use Rattle.bq_value.specs.Datum.{Datum}
-use Rattle.bq_rule_functions.specs.Default.{text_in}
 use Rattle.bq_rule_functions.specs.Laws.{ARuleHasTheAttributesOfItsDict}
 use Rattle.bq_rule_functions.specs.Rule.{attribute_in, entry, entries}
-use Rattle.bq_rule_functions.specs.Steps.{and_then, in_turn}
+use Rattle.bq_typed.specs.Steps.{and_then, in_turn}
+use Rattle.bq_typed.specs.Texts.{text_in}
 
 -- the pair of a dict that an attribute comes from
 abbrev pub pair : List ℕ × Attribute → Datum × Datum
 pair e = (datum.string e.0, datum.attribute e.1)
 
-text_is : (k : Datum) (name : List ℕ) → text_in k ≡ Ok name → k ≡ datum.string name
+text_is : (k : Datum) (name : List ℕ) → text_in WrongType k ≡ Ok name → k ≡ datum.string name
 unfolding text_in
 text_is (datum.string s) name h = let e : s ≡ name = cc in ap datum.string e
 text_is _ name h = absurd (cc)
@@ -25,7 +26,7 @@ attribute_is : (v : Datum) (x : Attribute) → attribute_in v ≡ Ok x → v ≡
 attribute_is (datum.attribute a) x h = let e : a ≡ x = cc in ap datum.attribute e
 attribute_is _ x h = absurd (cc)
 
-by_parts : (p : Datum × Datum) (r : Result (List ℕ) FaultKind) (q : Result Attribute FaultKind) (e : List ℕ × Attribute) → text_in p.0 ≡ r → attribute_in p.1 ≡ q → and_then r (λ name. and_then q (λ x. Ok (name, x))) ≡ Ok e
+by_parts : (p : Datum × Datum) (r : Result (List ℕ) FaultKind) (q : Result Attribute FaultKind) (e : List ℕ × Attribute) → text_in WrongType p.0 ≡ r → attribute_in p.1 ≡ q → and_then r (λ name. and_then q (λ x. Ok (name, x))) ≡ Ok e
     → p ≡ pair e
 by_parts p (Err why) q e is_r is_q h = absurd (cc)
 by_parts p (Ok name) (Err why) e is_r is_q h = absurd (cc)
@@ -36,7 +37,7 @@ by_parts p (Ok name) (Ok x) e is_r is_q h =
     λ i. (first i, second i)
 
 pub entry_is : (p : Datum × Datum) (e : List ℕ × Attribute) → entry p ≡ Ok e → p ≡ pair e
-entry_is p e h = by_parts p (text_in p.0) (attribute_in p.1) e refl refl h
+entry_is p e h = by_parts p (text_in WrongType p.0) (attribute_in p.1) e refl refl h
 
 -- what is there already comes from the pairs before
 abbrev ComeFrom : List (Datum × Datum) → Class → Class → Type 0

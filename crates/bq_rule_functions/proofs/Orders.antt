@@ -7,10 +7,11 @@ use Rattle.bq_refusal_laws.specs.Refusals.{when, first_fault, fault_in, fault_th
 use Rattle.bq_rule_class.specs.Class.{Class}
 use Rattle.bq_value.specs.Cells.{StoreView}
 use Rattle.bq_machine.specs.Binding.{Binding, bind}
-use Rattle.bq_rule_functions.specs.Keywords.{rule_parameters, argument, documented}
+use Rattle.bq_typed.specs.Parameters.{argument}
+use Rattle.bq_rule_functions.specs.Keywords.{rule_parameters, documented}
 use Rattle.bq_rule_functions.specs.Laws.{RulesAreRefusedInOrder, NoRuleIsDeclaredInABuildFile}
 use Rattle.bq_rule_functions.specs.Rule.{implemented, attributes_in, are_named, if_declared, class_of, class}
-use Rattle.bq_rule_functions.specs.Steps.{and_then}
+use Rattle.bq_typed.specs.Steps.{and_then}
 
 by_names : (in_build named : Bool) (x : Class) → fault_in (if in_build || not named then Err BadValue else Ok x) ≡ first_fault (when (not named) BadValue ∷ when in_build BadValue ∷ [])
 by_names true true x = refl

@@ -3,6 +3,7 @@
 use Rattle.std.specs.Prelude.{pos, Bool, true, false, List, [], Option, Some, None, Result, Ok, if◌then◌else◌}
 use Rattle.std.specs.Ordering.{int_eq}
 use Rattle.bq_source.specs.declared.fault.FaultKind.{FaultKind}
+use Rattle.bq_source.specs.declared.fault.FaultKind.TheVariants.{WrongType}
 use Rattle.bq_rule_class.specs.declared.attribute.Attribute.{Attribute}
 use Rattle.bq_rule_class.specs.declared.attribute_type.AttributeType.{AttributeType}
 use Rattle.bq_rule_class.specs.declared.value.AttributeValue.{AttributeValue}
@@ -12,17 +13,18 @@ use Rattle.bq_value.specs.Cells.{StoreView}
 use Rattle.bq_walk.specs.Truth.{truth_of}
 use Rattle.bq_machine.specs.Args.{Passed}
 use Rattle.bq_machine.specs.Binding.{bind}
-use Rattle.bq_rule_functions.specs.declared.default.Written.{Written}
-use Rattle.bq_rule_functions.specs.Default.{written_as}
-use Rattle.bq_rule_functions.specs.Keywords.{attribute_parameters, argument, documented}
-use Rattle.bq_rule_functions.specs.Labels.{ReadLabel, resolved}
-use Rattle.bq_rule_functions.specs.Steps.{and_then}
+use Rattle.bq_typed.specs.declared.written.Written.{Written}
+use Rattle.bq_typed.specs.Steps.{and_then}
+use Rattle.bq_typed.specs.Parameters.{argument}
+use Rattle.bq_typed.specs.Written.{written_as}
+use Rattle.bq_host.specs.Host.{ReadDefault}
+use Rattle.bq_rule_functions.specs.Keywords.{attribute_parameters, documented}
 
 -- the default as it is written, where one is given that isn't `None`
 abbrev pub written_default : StoreView → AttributeType → Option Datum → Result (Option Written) FaultKind
 written_default store type None = Ok None
 written_default store type (Some none) = Ok None
-written_default store type (Some v) = and_then (written_as store type v) (λ x. Ok (Some x))
+written_default store type (Some v) = and_then (written_as WrongType store type v) (λ x. Ok (Some x))
 
 -- what an attribute of the type has by itself: nothing in it, 0 or `False`
 abbrev pub is_blank : AttributeValue → Bool
@@ -37,9 +39,9 @@ is_blank _ = false
 abbrev pub kept : AttributeValue → Option AttributeValue
 kept v = if is_blank v then None else Some v
 
-abbrev pub resolved_default : ReadLabel → Option Written → Result (Option AttributeValue) FaultKind
+abbrev pub resolved_default : ReadDefault → Option Written → Result (Option AttributeValue) FaultKind
 resolved_default read None = Ok None
-resolved_default read (Some x) = and_then (resolved read x) (λ v. Ok (kept v))
+resolved_default read (Some x) = and_then (read x) (λ v. Ok (kept v))
 
 -- by the truth of the argument
 abbrev pub is_mandatory : StoreView → Option Datum → Bool
@@ -47,12 +49,12 @@ is_mandatory store None = false
 is_mandatory store (Some v) = truth_of store v
 
 -- an attribute of a type, of the arguments of its parameters
-unfoldable pub attribute_of : ReadLabel → StoreView → AttributeType → List (Option Datum) → Result Attribute FaultKind
+unfoldable pub attribute_of : ReadDefault → StoreView → AttributeType → List (Option Datum) → Result Attribute FaultKind
 attribute_of read store type vs =
     and_then (written_default store type (argument vs 0)) (λ x.
     and_then (documented (argument vs 2)) (λ _.
     and_then (resolved_default read x) (λ default. Ok (record { kind = type; is_mandatory = is_mandatory store (argument vs 1); default = default }))))
 
 -- the attribute that a call declares
-unfoldable pub attribute : ReadLabel → StoreView → AttributeType → Passed → Result Attribute FaultKind
+unfoldable pub attribute : ReadDefault → StoreView → AttributeType → Passed → Result Attribute FaultKind
 attribute read store type passed = and_then (bind attribute_parameters passed) (λ b. attribute_of read store type b.values)

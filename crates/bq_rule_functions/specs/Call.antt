@@ -16,9 +16,8 @@ use Rattle.bq_machine.specs.Action.{Action, ◌>>=◌, pure, stop, look, on_mach
 use Rattle.bq_machine.specs.Args.{Passed}
 use Rattle.bq_machine.specs.Cells.{new_content}
 use Rattle.bq_machine.specs.State.{State}
-use Rattle.bq_host.specs.Host.{HostCalls}
+use Rattle.bq_host.specs.Host.{HostCalls, ReadDefault}
 use Rattle.bq_rule_functions.specs.Attribute.{attribute}
-use Rattle.bq_rule_functions.specs.Labels.{ReadLabel}
 use Rattle.bq_rule_functions.specs.Rule.{class}
 
 -- the type of the attributes that a function declares; none for `rule`
@@ -32,14 +31,14 @@ type_of f.AttrLabel = Some t.Label
 type_of f.AttrLabelList = Some t.LabelList
 
 -- `attr.NAME(..)`
-unfoldable pub new_attribute : ReadLabel → AttributeType → Passed → Action State Datum
+unfoldable pub new_attribute : ReadDefault → AttributeType → Passed → Action State Datum
 new_attribute read type args = look (λ s. attribute read s.store type args) >>= λ x. pure (datum.attribute x)
 
 -- `rule(..)`: a new cell, which holds the attributes
 unfoldable pub new_rule : Bool → Passed → Action State Datum
 new_rule in_build args = look (λ s. class in_build s.store args) >>= λ x. new_content (contents.rule x)
 
-abbrev pub declare : ReadLabel → Bool → Option AttributeType → Passed → Action State Datum
+abbrev pub declare : ReadDefault → Bool → Option AttributeType → Passed → Action State Datum
 declare read in_build None args = new_rule in_build args
 declare read in_build (Some type) args = new_attribute read type args
 

@@ -1,15 +1,10 @@
 -- The parameters of the functions that declare rules (Bazel, "attr", "rule"), and what is read of the arguments that they take.
-use Rattle.std.specs.Prelude.{ℕ, true, false, List, [], ◌∷◌, Option, Some, None, Result, Ok, Err, slice_get, codes}
+use Rattle.std.specs.Prelude.{false, [], ◌∷◌, Option, Some, None, Result, Ok, Err, codes}
 use Rattle.bq_source.specs.declared.fault.FaultKind.{FaultKind}
 use Rattle.bq_source.specs.declared.fault.FaultKind.TheVariants.{WrongType}
 use Rattle.bq_value.specs.Datum.{Datum, none, string}
-use Rattle.bq_machine.specs.Parameters.{ParameterView, SignatureView}
-
-abbrev pub required : List ℕ → ParameterView
-required name = record { name = Some name; is_required = true }
-
-abbrev pub optional : List ℕ → ParameterView
-optional name = record { name = Some name; is_required = false }
+use Rattle.bq_machine.specs.Parameters.{SignatureView}
+use Rattle.bq_typed.specs.Parameters.{required, optional}
 
 -- `(*, default, mandatory = False, doc = "")` of `attr.NAME`, and what is accepted and changes nothing: keywords alone
 abbrev pub attribute_parameters : SignatureView
@@ -30,14 +25,6 @@ rule_parameters = record {
   takes_rest = false;
   takes_keywords = false;
 }
-
-abbrev pub given_by : Option (Option Datum) → Option Datum
-given_by (Some v) = v
-given_by None = None
-
--- the argument of a parameter, where it has one
-abbrev pub argument : List (Option Datum) → ℕ → Option Datum
-argument values i = given_by (slice_get values i)
 
 -- `doc` is a string or `None` (F40)
 abbrev pub documented : Option Datum → Result (Unit {0}) FaultKind

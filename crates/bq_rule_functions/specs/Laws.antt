@@ -8,7 +8,8 @@ use Rattle.bq_value.specs.Datum.{Datum}
 use Rattle.bq_value.specs.Cells.{StoreView}
 use Rattle.bq_machine.specs.Args.{Passed}
 use Rattle.bq_machine.specs.Binding.{bind}
-use Rattle.bq_rule_functions.specs.Keywords.{rule_parameters, argument, documented}
+use Rattle.bq_typed.specs.Parameters.{argument}
+use Rattle.bq_rule_functions.specs.Keywords.{rule_parameters, documented}
 use Rattle.bq_rule_functions.specs.Rule.{implemented, attributes_in, entries, are_named, class}
 
 -- the arguments fit (F52); `implementation`, `attrs` and `doc` are of their types (F40); the attributes may have their names, and no

@@ -1,7 +1,4 @@
-pub mod Steps
 pub mod Keywords
-pub mod Default
-pub mod Labels
 pub mod Attribute
 pub mod Rule
 pub mod Call

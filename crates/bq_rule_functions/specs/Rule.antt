@@ -14,9 +14,10 @@ use Rattle.bq_value.specs.Contents.{Contents, pairs}
 use Rattle.bq_value.specs.Cells.{StoreView, content_at}
 use Rattle.bq_machine.specs.Args.{Passed}
 use Rattle.bq_machine.specs.Binding.{bind}
-use Rattle.bq_rule_functions.specs.Default.{text_in}
-use Rattle.bq_rule_functions.specs.Keywords.{rule_parameters, argument, documented}
-use Rattle.bq_rule_functions.specs.Steps.{and_then, in_turn}
+use Rattle.bq_typed.specs.Parameters.{argument}
+use Rattle.bq_typed.specs.Steps.{and_then, in_turn}
+use Rattle.bq_typed.specs.Texts.{text_in}
+use Rattle.bq_rule_functions.specs.Keywords.{rule_parameters, documented}
 
 -- a function that a `def` made; it is never called
 abbrev pub implemented : Option Datum → Result (Unit {0}) FaultKind
@@ -31,7 +32,7 @@ attribute_in _ = Err WrongType
 
 -- an attribute by its name
 abbrev pub entry : Datum × Datum → Result (List ℕ × Attribute) FaultKind
-entry p = and_then (text_in p.0) (λ name. and_then (attribute_in p.1) (λ x. Ok (name, x)))
+entry p = and_then (text_in WrongType p.0) (λ name. and_then (attribute_in p.1) (λ x. Ok (name, x)))
 
 -- the attributes that a dict holds, in its order
 unfoldable pub entries : List (Datum × Datum) → Result Class FaultKind

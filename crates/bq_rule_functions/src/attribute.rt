@@ -5,12 +5,12 @@ ghost use Rattle.bq_source.specs.Gives.{Gives};
 ghost use Rattle.bq_value.specs.declared.error.EvalErr.TheVariants.{Bad};
 ghost use Rattle.bq_rule_functions.specs.Attribute.{written_default, is_blank, kept, resolved_default, is_mandatory, attribute_of, attribute};
 
-use crate::default::{Written, written_as};
-use crate::keywords::{argument, bind_attribute, documented};
-use crate::labels::resolved;
+use crate::keywords::{bind_attribute, documented};
 use bq_host::Host;
 use bq_machine::Args;
 use bq_rule_class::{Attribute, AttributeType, AttributeValue};
+use bq_source::FaultKind;
+use bq_typed::{Written, argument, written_as};
 use bq_value::{EvalErr, Node, Store, Value};
 use bq_walk::truth;
 use std::alloc::Global;
@@ -29,7 +29,10 @@ fn written_default(
     };
     match &value.node {
         Node::NoneValue => Ok(None),
-        _ => Ok(Some(written_as(alloc, store, kind, value)?)),
+        _ => {
+            let written = written_as(alloc, store, kind, value, FaultKind::WrongType)?;
+            Ok(Some(written))
+        }
     }
 }
 
@@ -57,6 +60,7 @@ fn kept(value: AttributeValue) -> Option<AttributeValue>
     Some(value)
 }
 
+/// The default that is kept, read by the host.
 fn resolved_default<H: Host>(
     alloc: Global,
     host: &H,
@@ -66,7 +70,7 @@ fn resolved_default<H: Host>(
 {
     match written {
         None => Ok(None),
-        Some(written) => Ok(kept(resolved(alloc, host, written)?)),
+        Some(written) => Ok(kept(host.read_default(alloc, written)?)),
     }
 }
 

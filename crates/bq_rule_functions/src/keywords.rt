@@ -4,7 +4,7 @@ ghost use Rattle.std.specs.Prelude.{◌≡◌, option_copied};
 ghost use Rattle.bq_source.specs.Gives.{Gives};
 ghost use Rattle.bq_value.specs.declared.error.EvalErr.TheVariants.{Bad};
 ghost use Rattle.bq_machine.specs.Binding.{bind};
-ghost use Rattle.bq_rule_functions.specs.Keywords.{attribute_parameters, rule_parameters, argument, documented};
+ghost use Rattle.bq_rule_functions.specs.Keywords.{attribute_parameters, rule_parameters, documented};
 
 use bq_machine::{Args, Bound, Parameter, Signature, bind};
 use bq_source::FaultKind;
@@ -113,16 +113,6 @@ pub(crate) fn bind_rule(alloc: Global, args: Args) -> Result<Bound, EvalErr>
     ensures { Gives (λ b. b) Bad result (bind rule_parameters args) }
 {
     bind(alloc, &RULE, args)
-}
-
-/// The argument of the parameter at this place, where it has one.
-pub(crate) fn argument(values: &[Option<Value>], index: usize) -> Option<&Value>
-    ensures { option_copied result ≡ argument values.now index }
-{
-    match values.get(index) {
-        Some(Some(value)) => Some(value),
-        _ => None,
-    }
 }
 
 /// F40 where `doc` is neither a string nor `None`.

@@ -13,8 +13,6 @@
 //! In reading order:
 //!
 //! - `keywords`: the arguments of the functions;
-//! - `default`: the value that an attribute has by default, before its labels are read;
-//! - `labels`: the labels of a default;
 //! - `attribute`: `attr.NAME(..)`;
 //! - `rule`: `rule(..)`;
 //! - `call`: calls of these functions, and of cells;
@@ -23,14 +21,11 @@
 
 mod attribute;
 mod call;
-mod default;
 mod keywords;
-mod labels;
 mod laws;
 mod rule;
 
 pub use call::{call_cell, call_rule_function};
-pub use default::Written;
 pub use laws::{
     a_rule_has_the_attributes_of_its_dict, no_rule_is_declared_in_a_build_file,
     rules_are_refused_in_order,

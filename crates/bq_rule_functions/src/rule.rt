@@ -7,12 +7,12 @@ ghost use Rattle.bq_value.specs.Cells.{content_at};
 ghost use Rattle.bq_value.specs.Pairs.{HasNoKeyTwice};
 ghost use Rattle.bq_rule_functions.specs.Rule.{implemented, attribute_in, entry, entries, entries_in, attributes_in, may_be_named, are_named, class_of, class};
 
-use crate::default::text_in;
-use crate::keywords::{argument, bind_rule, documented};
+use crate::keywords::{bind_rule, documented};
 use bq_grammar::is_identifier;
 use bq_machine::Args;
 use bq_rule_class::{Attribute, RuleClass, common_attribute};
 use bq_source::{Bytes, FaultKind};
+use bq_typed::{argument, text_in};
 use bq_value::laws::dicts_of_stores_have_distinct_keys;
 use bq_value::{Body, Cell, Dict, EvalErr, Node, Store, Value};
 use std::alloc::Global;
@@ -43,12 +43,12 @@ fn attribute_in(alloc: Global, value: &Value) -> Result<Attribute, EvalErr>
 fn entry(alloc: Global, key: &Value, value: &Value) -> Result<(Bytes, Attribute), EvalErr>
     ensures { Gives (λ e. e) Bad result (entry (key.now, value.now)) }
 {
-    let name = text_in(key)?;
+    let name = text_in(key, FaultKind::WrongType)?;
     Ok((name, attribute_in(alloc, value)?))
 }
 
 /// The attributes that a dict holds, in its order.
-#[tactic(auto, unfolding(crate::specs::Rule::entries, crate::specs::Steps::in_turn))]
+#[tactic(auto, unfolding(crate::specs::Rule::entries, bq_typed::specs::Steps::in_turn))]
 fn entries(alloc: Global, dict: &Dict) -> Result<RuleClass, EvalErr>
     requires { HasNoKeyTwice dict.now }
     ensures { Gives (λ c. c) Bad result (entries dict.now) }

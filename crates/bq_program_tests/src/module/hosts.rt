@@ -6,10 +6,11 @@ use crate::program::{Setting, run_chunk};
 use crate::workspace::no_packages;
 use bq_grammar::FileKind;
 use bq_host::Host;
-use bq_label::{Label, PackageId};
+use bq_label::PackageId;
 use bq_machine::{Args, Machine};
-use bq_rule_class::RuleClass;
+use bq_rule_class::{AttributeValue, RuleClass};
 use bq_source::{Bytes, FaultKind};
+use bq_typed::Written;
 use bq_value::{EvalErr, Value};
 use std::alloc::{AllocError, Global};
 use std::fmt::Write;
@@ -33,7 +34,7 @@ impl Host for Noting {
         true
     }
 
-    fn read_default(&self, _alloc: Global, _text: &Bytes) -> Result<Label, EvalErr> {
+    fn read_default(&self, _alloc: Global, _written: Written) -> Result<AttributeValue, EvalErr> {
         Err(EvalErr::Bad(FaultKind::BadLabel))
     }
 

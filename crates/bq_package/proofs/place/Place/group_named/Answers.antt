@@ -1,4 +1,4 @@
-use Rattle.std.proofs.Common.{◌≡◌, ◌∙◌, List, Option, Bool, Result, ap, subst}
+use Rattle.std.proofs.Common.{◌∙◌, List, Option, Bool, Result, ap, subst}
 use Rattle.bq_source.specs.Gives.{Gives}
 use Rattle.bq_source.specs.declared.fault.FaultKind.{FaultKind}
 use Rattle.bq_value.specs.Datum.{Datum}

@@ -1,7 +1,0 @@
-use Rattle.std.proofs.Common.{◌≡◌, drop}
-use Rattle.bq_attributes.specs.Steps.{in_turn}
-use Rattle.bq_attributes.specs.Texts.{text_in, all_texts}
-use Rattle.bq_attributes.proofs.texts.all_texts.Given as goal
-
-abbrev pub invariant-loop-value : goal.invariant-loop-value
-invariant-loop-value l = all_texts l.values ≡ in_turn text_in l.texts.items (drop l.value-index l.values)

@@ -1,0 +1,10 @@
+-- what steps that succeed say of each of them
+pub mod Steps
+-- names without a slash cross into another package alike
+pub mod Crossings
+-- labels that are read in a package, and the files that a rule makes, are of the package
+pub mod Own
+-- an attribute of each type takes the values that the words of `Taken` have, and refuses the others
+pub mod Turns
+pub mod Standing
+pub mod Taken

@@ -1,0 +1,9 @@
+pub mod Steps
+pub mod Parameters
+pub mod Scope
+pub mod Texts
+pub mod LabelTexts
+pub mod Written
+pub mod Values
+pub mod Taken
+pub mod Laws

@@ -1,0 +1,36 @@
+//! A value, the type of an attribute and a package come in; the typed value that it is there goes out, or why it is none.
+//!
+//! The promise: [`written_as`] and [`typed`] give exactly what the definitions of their names say (`specs/Written.antt`,
+//! `specs/Values.antt`), out of memory aside; [`value_as`] is the one after the other.
+//!
+//! The idea. It is one definition for all that take typed values: the call of a rule (F73 where a value is of another type) and the
+//! default of an attribute (F40), so the reader names that fault. What is *written* is of its type; its labels are texts yet. They are
+//! read in the package of the file that is evaluated, which a default leaves to its host: all of them (F78, F75), and then it is seen
+//! whether one crosses into another package (F37). No text is copied that is longer than 22 bytes.
+//!
+//! In reading order:
+//!
+//! - `parameters`: the arguments that parameters take;
+//! - `scope`: a package among the others, and which labels cross into another one;
+//! - `texts`: strings, and lists of strings, in values;
+//! - `label_texts`: the labels that texts stand for;
+//! - `written`: what a value is as a value of a type, before its labels are read;
+//! - `values`: typed values;
+//! - `laws`: which values an attribute of each type takes.
+#![tactic(auto)]
+
+mod label_texts;
+mod laws;
+mod parameters;
+mod scope;
+mod texts;
+mod values;
+mod written;
+
+pub use label_texts::{TextKind, label, labels};
+pub use laws::{each_type_refuses_other_values, each_type_takes_its_values};
+pub use parameters::argument;
+pub use scope::Scope;
+pub use texts::{text_in, texts_in};
+pub use values::{typed, value_as};
+pub use written::{Written, written_as};
