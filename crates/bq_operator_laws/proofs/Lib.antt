@@ -1,0 +1,4 @@
+-- opposite comparisons
+pub mod Comparisons
+-- what is in a list, a tuple or a dict
+pub mod Members
