@@ -64,15 +64,14 @@ fn show<R: Print + Eprint>(rt: &R, error: &Error) -> u8
     ensures help { kind_of error.now ≡ ErrorKind.DisplayHelp → (result ≡ 0) ⊎ (result ≡ 5) }
     ensures refused { kind_of error.now ≢ ErrorKind.OutOfMemory → kind_of error.now ≢ ErrorKind.DisplayHelp → result ≡ 2 }
 {
-    let kind = error.kind();
-    if kind == ErrorKind::OutOfMemory {
-        return report_no_memory(rt);
+    match error.kind() {
+        ErrorKind::OutOfMemory => report_no_memory(rt),
+        ErrorKind::DisplayHelp => printed_status(&error.print(rt)),
+        _ => {
+            let _ = error.print(rt);
+            REFUSED
+        }
     }
-    let printed = error.print(rt);
-    if kind == ErrorKind::DisplayHelp {
-        return printed_status(&printed);
-    }
-    REFUSED
 }
 
 /// Prints what is said of a number.
@@ -119,7 +118,8 @@ fn run_by_words<T: Threads + Wait + Sync>(
             options,
         ),
     };
-    end_run(&mut standard_faults(rt).sink, &ended)
+    let mut errors = standard_faults(rt);
+    end_run(&mut errors.sink, &ended)
 }
 
 fn main(rt: HostRuntime) -> ExitCode {

@@ -8,6 +8,7 @@ ghost use Rattle.bq_machine.specs.Action.{done};
 ghost use Rattle.bq_machine.specs.Iteration.{elements_in};
 ghost use Rattle.bq_machine.specs.State.{State};
 ghost use Rattle.bq_functions.specs.Integers.{range};
+ghost use Rattle.bq_functions.specs.Sequences as sequences;
 ghost use Rattle.bq_functions.specs.Sequences.{reversed};
 ghost use Rattle.bq_functions.specs.Texts.{print};
 ghost use Rattle.bq_functions.specs.Truths.{all, any};
@@ -42,4 +43,10 @@ pub fn ranges_are_counted()
 pub fn prints_have_the_separator_between()
     ensures space { (a b : List ℕ) (v : Datum) (s t : State) → print (by_place (string a ∷ string b ∷ [])) s ≡ done v t → t.prints ≡ s.prints ++ ((a ++ codes " ") ++ b) ∷ [] }
     ensures sep { (a b between : List ℕ) (v : Datum) (s t : State) → print (record { positional = string a ∷ string b ∷ []; named = (codes "sep", string between) ∷ [] }) s ≡ done v t → t.prints ≡ s.prints ++ ((a ++ between) ++ b) ∷ [] }
+{}
+
+/// `list` and `tuple` have the elements, each once and in their order.
+pub fn lists_and_tuples_have_the_elements()
+    ensures list { (s : StoreView) (x : Datum) (xs ys : List Datum) → elements_in s x ≡ Ok xs → sequences.list s (by_place (x ∷ [])) ≡ Ok ys → ys ≡ xs }
+    ensures tuple { (s : StoreView) (x : Datum) (xs : List Datum) (v : Datum) → elements_in s x ≡ Ok xs → sequences.tuple s (by_place (x ∷ [])) ≡ Ok v → v ≡ tuple (data_of xs) }
 {}
