@@ -8,3 +8,5 @@ pub mod Ranges
 pub mod Prints
 -- lists and tuples of elements
 pub mod Listed
+-- lists that are sorted backwards
+pub mod Backwards

@@ -1,12 +1,13 @@
 //! What holds of built-in functions. The functions do nothing: their contracts are the laws.
 
-ghost use Rattle.std.specs.Prelude.{◌≡◌, ◌≢◌, ◌+◌, ◌++◌, ◌∷◌, [], ℕ, ℤ, pos, List, length, slice_get, Ok, true, false, codes, Any, All};
+ghost use Rattle.std.specs.Prelude.{◌≡◌, ◌≢◌, ◌+◌, ◌++◌, ◌∷◌, [], ℕ, ℤ, pos, List, length, reverse, slice_get, Ok, true, false, codes, Any, All};
 ghost use Rattle.bq_value.specs.Cells.{StoreView};
 ghost use Rattle.bq_value.specs.Datum.{Datum, boolean, int, string, tuple, data_of};
 ghost use Rattle.bq_walk.specs.Truth.{truth_of};
 ghost use Rattle.bq_machine.specs.Action.{done};
 ghost use Rattle.bq_machine.specs.Iteration.{elements_in};
 ghost use Rattle.bq_machine.specs.State.{State};
+ghost use Rattle.bq_functions.specs.Choosing.{sorted};
 ghost use Rattle.bq_functions.specs.Integers.{range};
 ghost use Rattle.bq_functions.specs.Sequences as sequences;
 ghost use Rattle.bq_functions.specs.Sequences.{reversed};
@@ -49,4 +50,9 @@ pub fn prints_have_the_separator_between()
 pub fn lists_and_tuples_have_the_elements()
     ensures list { (s : StoreView) (x : Datum) (xs ys : List Datum) → elements_in s x ≡ Ok xs → sequences.list s (by_place (x ∷ [])) ≡ Ok ys → ys ≡ xs }
     ensures tuple { (s : StoreView) (x : Datum) (xs : List Datum) (v : Datum) → elements_in s x ≡ Ok xs → sequences.tuple s (by_place (x ∷ [])) ≡ Ok v → v ≡ tuple (data_of xs) }
+{}
+
+/// `sorted(x, reverse = True)` is what `sorted(x)` is, from its end to its start.
+pub fn reverse_turns_what_is_sorted()
+    ensures { (s : StoreView) (x : Datum) (us zs : List Datum) → sorted s (by_place (x ∷ [])) ≡ Ok us → sorted s (record { positional = x ∷ []; named = (codes "reverse", boolean true) ∷ [] }) ≡ Ok zs → zs ≡ reverse us }
 {}
