@@ -8,3 +8,5 @@ pub mod Missing
 pub mod InText
 -- what is read of decimal digits is their number
 pub mod Numbers
+-- operators in a row are done from left to right
+pub mod Chains

@@ -1,8 +1,8 @@
 //! What holds of the targets that queries stand for. The functions do nothing: their contracts are the laws.
 
-ghost use Rattle.std.specs.Prelude.{ℕ, List};
+ghost use Rattle.std.specs.Prelude.{◌≡◌, ◌∷◌, ◌++◌, [], ℕ, List};
 ghost use Rattle.regex_hir.specs.Re.{Re};
-ghost use Rattle.bq_query_check.specs.Formula.{Formula};
+ghost use Rattle.bq_query_check.specs.Formula.{Formula, Step, chained, combined};
 ghost use Rattle.bq_answer.specs.Stands.{Bound};
 ghost use Rattle.bq_target_graph.specs.Graph.{GraphParts};
 ghost use Rattle.bq_answer_laws.specs.Edges.{FunctionsByEdges};
@@ -37,4 +37,9 @@ pub fn words_are_in_the_order_of_the_text()
 /// A number of edges is read in decimal digits. From 2 ^ 32 on, which is more than any number of targets, numbers are not told apart.
 pub fn numbers_are_decimal()
     ensures { NumbersAreDecimal }
+{}
+
+/// Operators in a row are done from left to right: the last one is between all that is before it and its right side.
+pub fn chains_go_from_left_to_right()
+    ensures { (x : Formula) (steps : List Step) (last : Step) → chained x (steps ++ last ∷ []) ≡ combined last.operator (chained x steps) last.formula }
 {}

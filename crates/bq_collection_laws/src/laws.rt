@@ -6,6 +6,7 @@ ghost use Rattle.bq_source.specs.declared.fault.FaultKind.TheVariants.{WrongType
 ghost use Rattle.bq_grammar.specs.declared.tree.Operator.TheVariants as op;
 ghost use Rattle.bq_rule_class.specs.Class.{Class};
 ghost use Rattle.bq_value.specs.Datum.{Datum, cell};
+ghost use Rattle.bq_value.specs.Pairs.{found};
 ghost use Rattle.bq_machine.specs.Action.{done, stopped};
 ghost use Rattle.bq_machine.specs.Args.{Passed};
 ghost use Rattle.bq_machine.specs.Iteration.{elements_in};
@@ -13,7 +14,7 @@ ghost use Rattle.bq_machine.specs.State.{State, stop_at};
 ghost use Rattle.bq_operate.specs.InPlace.{augment, set_index};
 ghost use Rattle.bq_collections.specs.Arguments.{no_argument, one_argument, two_arguments, optional_argument, one_or_two, or_none};
 ghost use Rattle.bq_collections.specs.Dict as dict;
-ghost use Rattle.bq_collections.specs.Dict.{first_out, pair_tuple};
+ghost use Rattle.bq_collections.specs.Dict.{first_out, pair_tuple, with_default};
 ghost use Rattle.bq_collections.specs.List as list;
 ghost use Rattle.bq_refusal_laws.specs.Refusals.{IsRefusedForFirst};
 ghost use Rattle.bq_collection_laws.specs.Laws.{IsList, IsDict, IsRule, StaysTheSameList};
@@ -75,4 +76,10 @@ pub fn lists_stay_the_same_lists()
 #[tactic(auto, using(crate::proofs::Items::first_item))]
 pub fn the_first_item_is_popped()
     ensures { (ps left : List (Datum × Datum)) (answer : Datum) → first_out ps ≡ Ok (answer, left) → map pair_tuple ps ≡ answer ∷ map pair_tuple left }
+{}
+
+/// `setdefault` of a key that is there changes nothing, and answers the key's value.
+#[tactic(auto, using(crate::proofs::Items::value_stays))]
+pub fn a_value_that_is_there_stays()
+    ensures { (k d v : Datum) (ps : List (Datum × Datum)) → found k ps ≡ Some v → with_default k d ps ≡ Ok (v, ps) }
 {}

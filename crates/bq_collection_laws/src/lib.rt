@@ -10,7 +10,7 @@
 mod laws;
 
 pub use laws::{
-    dicts_are_refused_in_order, lists_are_refused_in_order, lists_stay_the_same_lists,
-    rules_are_no_lists_and_no_dicts, the_first_item_is_popped,
+    a_value_that_is_there_stays, dicts_are_refused_in_order, lists_are_refused_in_order,
+    lists_stay_the_same_lists, rules_are_no_lists_and_no_dicts, the_first_item_is_popped,
     wrong_numbers_of_arguments_come_first,
 };

@@ -6,3 +6,7 @@ pub mod Truths
 pub mod Ranges
 -- what is printed
 pub mod Prints
+-- lists and tuples of elements
+pub mod Listed
+-- lists that are sorted backwards
+pub mod Backwards

@@ -1,13 +1,15 @@
 //! What holds of built-in functions. The functions do nothing: their contracts are the laws.
 
-ghost use Rattle.std.specs.Prelude.{◌≡◌, ◌≢◌, ◌+◌, ◌++◌, ◌∷◌, [], ℕ, ℤ, pos, List, length, slice_get, Ok, true, false, codes, Any, All};
+ghost use Rattle.std.specs.Prelude.{◌≡◌, ◌≢◌, ◌+◌, ◌++◌, ◌∷◌, [], ℕ, ℤ, pos, List, length, reverse, slice_get, Ok, true, false, codes, Any, All};
 ghost use Rattle.bq_value.specs.Cells.{StoreView};
 ghost use Rattle.bq_value.specs.Datum.{Datum, boolean, int, string, tuple, data_of};
 ghost use Rattle.bq_walk.specs.Truth.{truth_of};
 ghost use Rattle.bq_machine.specs.Action.{done};
 ghost use Rattle.bq_machine.specs.Iteration.{elements_in};
 ghost use Rattle.bq_machine.specs.State.{State};
+ghost use Rattle.bq_functions.specs.Choosing.{sorted};
 ghost use Rattle.bq_functions.specs.Integers.{range};
+ghost use Rattle.bq_functions.specs.Sequences as sequences;
 ghost use Rattle.bq_functions.specs.Sequences.{reversed};
 ghost use Rattle.bq_functions.specs.Texts.{print};
 ghost use Rattle.bq_functions.specs.Truths.{all, any};
@@ -42,4 +44,15 @@ pub fn ranges_are_counted()
 pub fn prints_have_the_separator_between()
     ensures space { (a b : List ℕ) (v : Datum) (s t : State) → print (by_place (string a ∷ string b ∷ [])) s ≡ done v t → t.prints ≡ s.prints ++ ((a ++ codes " ") ++ b) ∷ [] }
     ensures sep { (a b between : List ℕ) (v : Datum) (s t : State) → print (record { positional = string a ∷ string b ∷ []; named = (codes "sep", string between) ∷ [] }) s ≡ done v t → t.prints ≡ s.prints ++ ((a ++ between) ++ b) ∷ [] }
+{}
+
+/// `list` and `tuple` have the elements, each once and in their order.
+pub fn lists_and_tuples_have_the_elements()
+    ensures list { (s : StoreView) (x : Datum) (xs ys : List Datum) → elements_in s x ≡ Ok xs → sequences.list s (by_place (x ∷ [])) ≡ Ok ys → ys ≡ xs }
+    ensures tuple { (s : StoreView) (x : Datum) (xs : List Datum) (v : Datum) → elements_in s x ≡ Ok xs → sequences.tuple s (by_place (x ∷ [])) ≡ Ok v → v ≡ tuple (data_of xs) }
+{}
+
+/// `sorted(x, reverse = True)` is what `sorted(x)` is, from its end to its start.
+pub fn reverse_turns_what_is_sorted()
+    ensures { (s : StoreView) (x : Datum) (us zs : List Datum) → sorted s (by_place (x ∷ [])) ≡ Ok us → sorted s (record { positional = x ∷ []; named = (codes "reverse", boolean true) ∷ [] }) ≡ Ok zs → zs ≡ reverse us }
 {}

@@ -2,3 +2,7 @@
 pub mod Orders
 -- the first load of a file
 pub mod FirstLoad
+-- what a module exports
+pub mod Exports
+-- what a module printed
+pub mod Prints

@@ -15,8 +15,10 @@ ghost use Rattle.bq_load.specs.Results.{load_fault, result_of};
 ghost use Rattle.bq_load.specs.Sources.{LoadingParts};
 ghost use Rattle.bq_load.specs.Views.{ModuleView};
 ghost use Rattle.bq_refusal_laws.specs.Refusals.{first_fault, FailsForFirst};
+ghost use Rattle.bq_load_laws.specs.Exports.{ModulesExportTheirOwn};
 ghost use Rattle.bq_load_laws.specs.FirstLoad.{IsFirstLoadOf};
 ghost use Rattle.bq_load_laws.specs.Orders.{exporting, failure, loading};
+ghost use Rattle.bq_load_laws.specs.Prints.{PrintsAreKept};
 
 /// A private symbol is F34 whether the module has it or not; another that it hasn't is F33.
 pub fn symbols_are_refused_in_order()
@@ -31,4 +33,14 @@ pub fn modules_fail_in_order()
 /// What F35, F36 and F38 name is the line of the file's first load of the module, though later ones load it too, and the module's label.
 pub fn faults_of_loads_name_the_first_load()
     ensures { (x : LoadingParts) (m k : ℕ) (s loaded : Source) (kind : FaultKind) (file : Resolved) (load : LoadStmt) → slice_get x.code m ≡ Some (Some file) → slice_get x.sources k ≡ Some loaded → IsFirstLoadOf loaded.label load file.loads s.loads → load_fault x m s kind k ≡ record { kind = kind; line = load.line; detail = full_form loaded.label } }
+{}
+
+/// A module exports what its own file binds outside all functions, with its value there, and nothing else: no name that it loads.
+pub fn modules_export_their_own()
+    ensures { ModulesExportTheirOwn }
+{}
+
+/// What a module printed stays, one line a call, whether it ran to its end or failed then.
+pub fn prints_are_kept()
+    ensures { PrintsAreKept }
 {}

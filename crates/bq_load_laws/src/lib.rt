@@ -1,11 +1,13 @@
 //! Laws of loading, by the definition of `bq_load`.
 //!
 //! In: nothing; the functions do nothing, and their contracts are the laws. The promise: a module fails for the first of the reasons
-//! that are listed, a symbol that it loads too; and a fault of a load names the line of the first load of that file.
+//! that are listed, a symbol that it loads too; a fault of a load names the line of the first load of that file; a module exports what
+//! its own file binds; and what it printed stays.
 #![tactic(auto)]
 
 mod laws;
 
 pub use laws::{
-    faults_of_loads_name_the_first_load, modules_fail_in_order, symbols_are_refused_in_order,
+    faults_of_loads_name_the_first_load, modules_export_their_own, modules_fail_in_order,
+    prints_are_kept, symbols_are_refused_in_order,
 };

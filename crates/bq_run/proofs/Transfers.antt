@@ -1,5 +1,6 @@
 -- One transfer after another.
-use Rattle.std.proofs.Common.{◌≡◌, ◌+◌, ℕ, zero, suc, ◌-◌, take_all, length-drop, length-append, le_refl, if◌then◌else◌, subst, List, [], ◌++◌, Option, None, Some, length, take, drop, ap, sym, ◌∙◌, append_assoc, refl, arith, rules}
+use Rattle.std.proofs.Common.{◌≡◌, ◌+◌, ℕ, zero, suc, ◌-◌, take_all, length-drop, length-append, le_refl, if◌then◌else◌, subst, List, [], ◌++◌, Option, None, Some, Result, Ok, Err, length, take, drop, ap, sym, ◌∙◌, append_assoc, refl, arith, rules, ◌⊎◌, inl, inr}
+use Rattle.std.specs.Prelude.{OnOk, OnErr}
 use Rattle.std.specs.Io.KnownBytes.{Appends, Consumes, Keeps}
 use Rattle.std.proofs.Math.Seq.{take-add, take-append-add}
 use Rattle.std.proofs.lemmas.List.{take-append-le}
@@ -58,3 +59,8 @@ Begins-front a b xs ys h = (h.0, omega (arith, h.1, length-append xs ys), subst 
 pub Begins-more : (a b c : Option (List ℕ)) (xs ys : List ℕ) → Appends a b xs → Begins b c ys → Begins a c (xs ++ ys)
 Begins-more a b c xs ys h k =
     (length xs + k.0, omega (arith, k.1, length-append xs ys), subst (Appends a c) (sym (take-append-add xs ys k.0)) (Appends-more a b c xs (take k.0 ys) h k.2))
+
+-- what holds of a call that is right, or of one that failed
+pub right_or_failed : {A E : Type 0} (r : Result A E) (P Q : Type 0) → OnOk r P → OnErr r Q → P ⊎ Q
+right_or_failed (Ok a) P Q p q = inl p
+right_or_failed (Err e) P Q p q = inr q

@@ -35,7 +35,7 @@ pub use error::RunErr;
 pub use options::{MAX_JOBS, Options};
 pub use runs::{run, run_files};
 pub use status::{
-    ANSWERED, DEVICE_FAILED, NO_MEMORY, REFUSED, WITH_FAULTS, status_code, status_of,
+    ANSWERED, DEVICE_FAILED, NO_MEMORY, REFUSED, WITH_FAULTS, end_run, status_code, status_of,
     write_status_line,
 };
 pub use transfer::{ReadFault, WriteFault, read_all, write_all};

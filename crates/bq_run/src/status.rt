@@ -1,6 +1,6 @@
 //! The exit status, and the line that names an error.
 
-ghost use Rattle.std.specs.Prelude.{◌≡◌, ◌++◌, ◌-◌, ◌^◌, ◌<◌, IfOk, OnOk};
+ghost use Rattle.std.specs.Prelude.{◌≡◌, ◌⊎◌, ◌++◌, ◌+◌, ◌-◌, ◌^◌, ◌<◌, IfOk, OnOk, OnErr};
 ghost use Rattle.std.specs.Io.KnownBytes.{Appends};
 ghost use Rattle.bq_fault_line.specs.LineText.{detail_text};
 ghost use Rattle.bq_run.specs.Device.{Begins};
@@ -87,6 +87,7 @@ fn write_detail<W: Sink>(writer: &mut W, detail: &[u8]) -> Result<(), WriteFault
     requires { W.failed writer.old < 2 ^ 64 - 1 }
     ensures whole { OnOk result (Appends (W.contents writer.old) (W.contents writer.new) (detail_text detail.now)) }
     ensures begins { Begins (W.contents writer.old) (W.contents writer.new) (detail_text detail.now) }
+    ensures device { OnErr result (W.failed writer.new ≡ W.failed writer.old + 1) }
     ensures quiet { OnOk result (W.failed writer.new ≡ W.failed writer.old) }
 {
     if detail.is_empty() {
@@ -101,6 +102,7 @@ fn write_line<W: Sink>(writer: &mut W, error: &RunErr) -> Result<(), WriteFault>
     requires { W.failed writer.old < 2 ^ 64 - 1 }
     ensures whole { OnOk result (Appends (W.contents writer.old) (W.contents writer.new) (error_line error.now)) }
     ensures begins { Begins (W.contents writer.old) (W.contents writer.new) (error_line error.now) }
+    ensures device { OnErr result (W.failed writer.new ≡ W.failed writer.old + 1) }
 {
     let mut digits = Buffer::new();
     let detail = detail_of(error, &mut digits);
@@ -119,9 +121,21 @@ pub fn write_status_line<W: Sink>(
     requires { W.failed writer.old < 2 ^ 64 - 1 }
     ensures whole { OnOk result (Appends (W.contents writer.old) (W.contents writer.new) (status_line ended.now)) }
     ensures begins { Begins (W.contents writer.old) (W.contents writer.new) (status_line ended.now) }
+    ensures device { OnErr result (W.failed writer.new ≡ W.failed writer.old + 1) }
 {
     match ended {
         Ok(_) => Ok(()),
         Err(error) => write_line(writer, error),
     }
+}
+
+/// Ends a run: writes its error line, where it has one, and returns its exit status. Where the writer fails the line is lost, and with
+/// it only that: the status is the same.
+pub fn end_run<W: Sink>(writer: &mut W, ended: &Result<Status, RunErr>) -> u8
+    requires { W.failed writer.old < 2 ^ 64 - 1 }
+    ensures code { result ≡ status_code ended.now }
+    ensures line { Appends (W.contents writer.old) (W.contents writer.new) (status_line ended.now) ⊎ (W.failed writer.new ≡ W.failed writer.old + 1) }
+{
+    let _ = write_status_line(writer, ended);
+    status_code(ended)
 }

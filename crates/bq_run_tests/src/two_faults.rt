@@ -6,7 +6,7 @@ use std::alloc::AllocError;
 
 /// A call on a list or dict of another module.
 const ON_FROZEN: Surroundings = Surroundings {
-    before: b"=== m.bzl\nl = [1]\ne = []\nd = {1: 2}\n=== BUILD\nload(\":m.bzl\", \"l\", \"e\", \"d\")\n",
+    before: b"=== m.bzl\nl = [1]\ne = []\nd = {1: 2}\ns = []\ns.append(s)\n=== BUILD\nload(\":m.bzl\", \"l\", \"e\", \"d\", \"s\")\n",
     after: b"\n",
     other_faults: b"",
 };
@@ -29,6 +29,13 @@ const ON_WALKED_DICT: Surroundings = Surroundings {
     other_faults: LOAD_FAILED,
 };
 
+/// A call on a dict of another module that is being walked.
+const ON_BOTH_DICT: Surroundings = Surroundings {
+    before: b"=== m.bzl\nd = {1: 2}\n=== BUILD\nload(\":f.bzl\")\n=== f.bzl\nload(\":m.bzl\", \"d\")\ndef f(v):\n    for x in v:\n        ",
+    after: b"\nf(d)\n",
+    other_faults: LOAD_FAILED,
+};
+
 /// A call on a list of another module that is being walked.
 const ON_BOTH: Surroundings = Surroundings {
     before: b"=== m.bzl\nl = [1]\n=== BUILD\nload(\":f.bzl\")\n=== f.bzl\nload(\":m.bzl\", \"l\")\ndef f(v):\n    for x in v:\n        ",
@@ -46,7 +53,13 @@ fn of_calls_on_walked_lists_and_dicts(rt: HostRuntime) -> Result<(), AllocError>
     let alloc = rt.alloc();
     check_runs(&rt, alloc, Table::Within(ON_WALKED_LIST), WALKED_LIST)?;
     check_runs(&rt, alloc, Table::Within(ON_WALKED_DICT), WALKED_DICT)?;
-    check_runs(&rt, alloc, Table::Within(ON_BOTH), FROZEN_AND_WALKED)
+    check_runs(&rt, alloc, Table::Within(ON_BOTH), FROZEN_AND_WALKED)?;
+    check_runs(
+        &rt,
+        alloc,
+        Table::Within(ON_BOTH_DICT),
+        FROZEN_AND_WALKED_DICT,
+    )
 }
 
 #[test]
@@ -60,6 +73,8 @@ fn of_files(rt: HostRuntime) -> Result<(), AllocError> {
 fn of_modules_and_runs(rt: HostRuntime) -> Result<(), AllocError> {
     let alloc = rt.alloc();
     check_runs(&rt, alloc, Table::Examples, MODULES)?;
+    check_runs(&rt, alloc, Table::Generated, LONG)?;
+    check_runs(&rt, alloc, Table::Examples, FULL_DICTS)?;
     check_runs(&rt, alloc, Table::Examples, RUNS)
 }
 
@@ -72,6 +87,9 @@ l.insert(0) | //:BUILD:2: F52 Args
 l.pop(0, 1) | //:BUILD:2: F52 Args
 l.remove() | //:BUILD:2: F52 Args
 l.extend(x = []) | //:BUILD:2: F52 Args
+l.extend(1, 2) | //:BUILD:2: F52 Args
+l.insert("a") | //:BUILD:2: F52 Args
+l.pop("a", 1) | //:BUILD:2: F52 Args
 l.extend(1) | //:BUILD:2: F40 Type
 l.insert("a", 1) | //:BUILD:2: F40 Type
 l.pop("a") | //:BUILD:2: F40 Type
@@ -84,6 +102,7 @@ l.pop(9) | //:BUILD:2: F47 Frozen
 e.pop() | //:BUILD:2: F47 Frozen
 l.remove(2) | //:BUILD:2: F47 Frozen
 l.remove(l) | //:BUILD:2: F47 Frozen
+s.remove(s) | //:BUILD:2: F47 Frozen
 # a dict: the same, with keys
 d.clear(1) | //:BUILD:2: F52 Args
 d.pop() | //:BUILD:2: F52 Args
@@ -124,6 +143,10 @@ v.remove(2) | //:f.bzl:4: F48 Iterating
 v.remove(v) | //:f.bzl:4: F48 Iterating
 v.append(v) | //:f.bzl:4: F48 Iterating
 v.clear() | //:f.bzl:4: F48 Iterating
+v.insert("a", 1) | //:f.bzl:4: F40 Type
+v.extend(v) | //:f.bzl:4: F48 Iterating
+v += [1] | //:f.bzl:4: F48 Iterating
+v += 1 | //:f.bzl:4: F40 Type
 v["a"] = 1 | //:f.bzl:4: F40 Type
 v[9] = 1 | //:f.bzl:4: F48 Iterating
 v[9] += 1 | //:f.bzl:4: F43 Index
@@ -149,8 +172,25 @@ const FROZEN_AND_WALKED: &str = r#"
 v.append() | //:f.bzl:5: F52 Args
 v.pop("a") | //:f.bzl:5: F40 Type
 v.append(1) | //:f.bzl:5: F47 Frozen
+v.clear() | //:f.bzl:5: F47 Frozen
+v.extend([1]) | //:f.bzl:5: F47 Frozen
+v.insert(0, 1) | //:f.bzl:5: F47 Frozen
+v.remove(1) | //:f.bzl:5: F47 Frozen
+v += [1] | //:f.bzl:5: F47 Frozen
 v.pop(9) | //:f.bzl:5: F47 Frozen
 v[0] = 1 | //:f.bzl:5: F47 Frozen
+"#;
+
+const FROZEN_AND_WALKED_DICT: &str = r#"
+v.pop() | //:f.bzl:5: F52 Args
+v.update(1) | //:f.bzl:5: F40 Type
+v.clear() | //:f.bzl:5: F47 Frozen
+v.pop(1) | //:f.bzl:5: F47 Frozen
+v.popitem() | //:f.bzl:5: F47 Frozen
+v.setdefault(1) | //:f.bzl:5: F47 Frozen
+v.update({1: 3}) | //:f.bzl:5: F47 Frozen
+v[1] = 3 | //:f.bzl:5: F47 Frozen
+v \x7c= {1: 3} | //:f.bzl:5: F47 Frozen
 "#;
 
 const BUILD_FILES: &str = r#"
@@ -194,6 +234,9 @@ filegroup(name = "x", data = ["sub/f"], srcs = ["//a//b"]) | //:BUILD:1: F37 Cro
 filegroup(srcs = ["sub/f"]) | //:BUILD:1: F37 CrossesPackage
 filegroup(srcs = "s") | //:BUILD:1: F73 AttributeType
 genrule(outs = ["a//b"]) | //:BUILD:1: F75 BadName
+genrule(outs = ["a//b", 1]) | //:BUILD:1: F73 AttributeType
+genrule(outs = ["sub/f", "a//b"]) | //:BUILD:1: F75 BadName
+filegroup(name = "sub//f") | //:BUILD:1: F75 BadName
 genrule(outs = ["a"], cmd = 1) | //:BUILD:1: F73 AttributeType
 genrule(name = "sub/f") | //:BUILD:1: F37 CrossesPackage
 filegroup(name = "x")\ngenrule(name = "x") | //:BUILD:2: F72 MissingAttribute
@@ -202,6 +245,8 @@ filegroup(name = "x")\ngenrule(name = "x", outs = ["x"]) | //:BUILD:2: F74 Doubl
 # build functions: F52, F73, F57, F77, F75, F78, F37, F76 or F74
 glob(1, 2, 3, 4, 5) | //:BUILD:1: F52 Args
 glob("a", exclude_directories = 0) | //:BUILD:1: F73 AttributeType
+glob(["a"], "b", exclude_directories = 0) | //:BUILD:1: F73 AttributeType
+glob(["a**"], "b") | //:BUILD:1: F73 AttributeType
 glob(["a**"], exclude_directories = 0) | //:BUILD:1: F57 BadValue
 glob(["a**"], allow_empty = False) | //:BUILD:1: F77 GlobPattern
 glob(["*.zz"], ["a**"], allow_empty = False) | //:BUILD:1: F77 GlobPattern
@@ -247,6 +292,13 @@ load("//:sub/f.bzl")\nload("//none:f.bzl") | //:BUILD:1: F37 CrossesPackage //:s
 "#;
 
 const BZL_FILES: &str = r#"
+# a list that is as long as a list may be, and is being walked
+def f(v):\n    for x in v:\n        v.append(1)\nf([1] * 1048576) | //:f.bzl:4: F48 Iterating
+def f(v):\n    for x in v:\n        v.extend([1])\nf([1] * 1048576) | //:f.bzl:4: F48 Iterating
+def f(v):\n    for x in v:\n        v.insert(0, 1)\nf([1] * 1048576) | //:f.bzl:4: F48 Iterating
+def f(v):\n    for x in v:\n        v += [1]\nf([1] * 1048576) | //:f.bzl:4: F48 Iterating
+# one that holds itself, and is being walked
+def f(v):\n    for x in v:\n        v.remove(v)\ns = []\ns.append(s)\nf(s) | //:f.bzl:6: F48 Iterating
 # calls: what is called, the arguments, their binding, F50
 def f(a):\n    f()\nf(1) | //:f.bzl:3: F52 Args
 def f(a):\n    f(1 // 0)\nf(1) | //:f.bzl:3: F42 DivZero
@@ -270,6 +322,12 @@ break\nx = 1\nx = 2 | //:f.bzl:1: F23 BadFlow
 load(":a.bzl", "x")\nx = 1 | //:f.bzl:2: F21 Rebound x
 "#;
 
+/// As in `generated`: F35 and F38 of one module, and F38 and F36.
+const LONG: &str = r#"
+ | === m#.bzl\nload(":m$.bzl")\n | 1000 | === m1000.bzl\n=== BUILD\nload(":c.bzl")\n=== c.bzl\nload(":m0.bzl")\nload(":c.bzl")\n | //... | | | //:BUILD:1: F35 CycleReached //:c.bzl\n//:c.bzl:2: F35 CycleReached //:c.bzl\n>>>3 0
+ | === m#.bzl\nload(":m$.bzl")\n | 1000 | === m1000.bzl\n=== BUILD\nload(":bad.bzl")\nload(":m0.bzl")\n=== bad.bzl\nb = 1 // 0\n | //... | | | //:BUILD:2: F38 LoadDepth //:m0.bzl\n//:bad.bzl:1: F42 DivZero\n>>>3 0
+"#;
+
 /// A module: its own fault, a load that names no file, F35, F36, F34 and F33, its evaluation.
 const MODULES: &str = r#"
 === BUILD\nload(":a.bzl")\nload(":none.bzl")\n=== a.bzl\nload(":b.bzl")\nb = 1\n=== b.bzl\nload(":a.bzl")\n | //... | | | //:BUILD:2: F31 NoSuchFile //:none.bzl\n>>>3 0
@@ -284,7 +342,15 @@ const MODULES: &str = r#"
 === BUILD\nload(":good.bzl", "none", "_p")\n=== good.bzl\ng = 1\n_p = 2\n | //... | | | //:BUILD:1: F33 NoSymbol none\n>>>3 0
 === BUILD\nload(":good.bzl", "_p", "none")\n=== good.bzl\ng = 1\n_p = 2\n | //... | | | //:BUILD:1: F34 PrivateSymbol _p\n>>>3 0
 === BUILD\nload(":good.bzl", "g")\nx = 1 // 0\nload(":good.bzl", "none")\n=== good.bzl\ng = 1\n_p = 2\n | //... | | | //:BUILD:3: F33 NoSymbol none\n>>>3 0
+=== a/BUILD\nload("//none:sub/f.bzl")\n=== none/sub/BUILD\n=== none/sub/f.bzl\n | //... | | | //a:BUILD:1: F32 NoPackage //none:sub/f.bzl\n>>>3 0
 === BUILD\nprint("not before its loads")\nload(":bad.bzl")\n=== bad.bzl\nb = 1 // 0\n | //... | | | //:BUILD:2: F36 LoadFailed //:bad.bzl\n//:bad.bzl:1: F42 DivZero\n>>>3 0
+"#;
+
+/// A dict that is as large as a dict may be: what making a key finds, and F57, before F54.
+const FULL_DICTS: &str = r#"
+=== BUILD\nd = {i: 0 for i in range(1048576)}\nd.setdefault([]) | //... | | 9000000 | //:BUILD:2: F45 Unhashable\n>>>3 0
+=== BUILD\nd = {i: 0 for i in range(1048576)}\nd[[]] = 1 | //... | | 9000000 | //:BUILD:2: F45 Unhashable\n>>>3 0
+=== BUILD\nd = {i: 0 for i in range(1048576)}\nd.update([(-1, 1), (1,)]) | //... | | 9000000 | //:BUILD:2: F57 BadValue\n>>>3 0
 "#;
 
 const RUNS: &str = r#"

@@ -4,3 +4,5 @@ pub mod Affixes
 pub mod Partitions
 -- the parts of a text that is split at space
 pub mod Words
+-- affixes that are removed
+pub mod Removing

@@ -1,12 +1,14 @@
 //! What holds of the methods of strings. The functions do nothing: their contracts are the laws.
 
-ghost use Rattle.std.specs.Prelude.{◌≡◌, ◌∷◌, [], ℕ, List, Ok, true, false, Any, All};
+ghost use Rattle.std.specs.Prelude.{◌≡◌, ◌∷◌, ◌++◌, [], ℕ, List, Ok, true, false, Any, All};
 ghost use Rattle.std.specs.List.{AllByRecursion};
 ghost use Rattle.bq_string_methods.specs.Affixes.{ends, texts_of};
 ghost use Rattle.bq_string_methods.specs.Cuts.{partition, words_of};
+ghost use Rattle.bq_string_methods.specs.Strips.{strip};
 ghost use Rattle.bq_string_methods.specs.declared.affixes.EndMethod.{EndMethod};
 ghost use Rattle.bq_string_methods.specs.declared.cuts.Side.{Side};
 ghost use Rattle.bq_string_methods.specs.declared.cuts.Side.TheVariants.{Left};
+ghost use Rattle.bq_string_methods.specs.declared.strips.StripMethod.TheVariants.{Removeprefix, Removesuffix};
 ghost use Rattle.bq_value.specs.Datum.{Datum, boolean, string, tuple, data_of};
 ghost use Rattle.bq_string_method_laws.specs.Parts.{AreThreeParts, BeginsWithoutSpace};
 
@@ -28,4 +30,10 @@ pub fn three_parts_are_the_text()
 #[tactic(auto, using(crate::proofs::Words::parts_begin))]
 pub fn parts_begin_without_space()
     ensures { (most : ℕ) (text : List ℕ) → AllByRecursion BeginsWithoutSpace (words_of Left most text) }
+{}
+
+/// `removeprefix` and `removesuffix` take off the affix once: what is left is the text beside it, also where that has the affix again.
+pub fn affixes_are_removed_once()
+    ensures prefix { (affix text : List ℕ) → strip Removeprefix (affix ++ text) (string affix ∷ []) ≡ Ok text }
+    ensures suffix { (text affix : List ℕ) → strip Removesuffix (text ++ affix) (string affix ∷ []) ≡ Ok text }
 {}

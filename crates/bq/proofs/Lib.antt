@@ -1,0 +1,2 @@
+-- the numbers of options
+pub mod Numbers
