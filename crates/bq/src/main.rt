@@ -19,6 +19,7 @@ use clap::Error;
 use clap::error::ErrorKind;
 use std::alloc::Global;
 use std::process::ExitCode;
+use std::random::RandomSource;
 use std::sync::Wait;
 use std::thread::Threads;
 use std::{env, io};
@@ -73,7 +74,7 @@ fn run_err(error: DirectoryErr) -> RunErr {
 }
 
 /// Runs over the bundle on standard input, with threads of that handle.
-fn run_on_bundle<T: Threads + Wait + Sync>(
+fn run_on_bundle<T: Threads + Wait + RandomSource + Sync>(
     rt: &HostRuntime,
     threads: &T,
     alloc: Global,
@@ -95,7 +96,7 @@ fn run_on_bundle<T: Threads + Wait + Sync>(
 }
 
 /// Runs over the files of a directory, with threads of that handle.
-fn run_on_directory<T: Threads + Wait + Sync>(
+fn run_on_directory<T: Threads + Wait + RandomSource + Sync>(
     rt: &HostRuntime,
     threads: &T,
     alloc: Global,
@@ -121,7 +122,7 @@ fn run_on_directory<T: Threads + Wait + Sync>(
 }
 
 /// Runs as the words say, and ends with the error line, if there is one.
-fn run_by_words<T: Threads + Wait + Sync>(
+fn run_by_words<T: Threads + Wait + RandomSource + Sync>(
     rt: &HostRuntime,
     threads: &T,
     alloc: Global,

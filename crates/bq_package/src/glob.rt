@@ -13,6 +13,7 @@ use crate::bound::{argument, texts_of};
 use crate::place::Place;
 use bq_glob::{Pattern, glob, read_pattern};
 use bq_machine::{Args, Bound, Parameter, Signature, bind};
+use bq_seed::Seed;
 use bq_source::{Bytes, FaultKind, SourceErr};
 use bq_value::{EvalErr, Node, Store, Value};
 use bq_walk::truth;
@@ -57,7 +58,7 @@ const GLOB: Signature<'static> = Signature {
 fn bind_glob(alloc: Global, args: Args) -> Result<Bound, EvalErr>
     ensures { Gives (λ b. b) Bad result (bind glob_parameters args) }
 {
-    bind(alloc, &GLOB, args)
+    bind(alloc, Seed::fixed(), &GLOB, args)
 }
 
 /// A text as a pattern, or F77.

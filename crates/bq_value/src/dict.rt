@@ -8,6 +8,7 @@ ghost use Rattle.bq_value.specs.Pairs.{found, put, without, HasNoKeyTwice};
 
 use crate::key::Key;
 use crate::value::Value;
+use bq_seed::Seed;
 use indexmap::IndexMap;
 use std::alloc::{AllocError, Global};
 use std::marker::Model;
@@ -19,7 +20,7 @@ use std::mem;
 /// where the first one is taken out.
 #[derive(Drop)]
 pub struct Dict {
-    entries: IndexMap<Key, Value>,
+    entries: IndexMap<Key, Value, Seed>,
     /// How many places at the front are empty.
     gone: usize,
 }
@@ -39,12 +40,12 @@ impl Model for Dict {
 }
 
 impl Dict {
-    /// `{}`
-    pub fn new(alloc: Global) -> Dict
+    /// `{}`, whose keys are found by this seed.
+    pub fn new(alloc: Global, seed: Seed) -> Dict
         ensures { result ≡ [] }
     {
         Dict {
-            entries: IndexMap::new(alloc),
+            entries: IndexMap::with_hasher(alloc, seed),
             gone: 0,
         }
     }
@@ -123,7 +124,7 @@ impl Dict {
 }
 
 /// A key stands in one of the places that are empty.
-fn is_gone(entries: &IndexMap<Key, Value>, gone: usize, key: &Key) -> bool
+fn is_gone(entries: &IndexMap<Key, Value, Seed>, gone: usize, key: &Key) -> bool
     requires { gone ≤ index_map_len entries.now }
     ensures before { result ≡ is_some (found key.now (take gone entries.now.entries)) }
     ensures absent { IsTrue result → found key.now (drop gone entries.now.entries) ≡ None }
@@ -138,7 +139,7 @@ fn is_gone(entries: &IndexMap<Key, Value>, gone: usize, key: &Key) -> bool
 }
 
 /// Takes the value out at an index, and moves its place to the end of those that are empty.
-fn take_early(entries: &mut IndexMap<Key, Value>, gone: usize, index: usize) -> Value
+fn take_early(entries: &mut IndexMap<Key, Value, Seed>, gone: usize, index: usize) -> Value
     requires after { gone ≤ index }
     requires within { index < index_map_len entries.old }
     ensures value { slice_get (values entries.old) index ≡ Some result }
@@ -151,7 +152,7 @@ fn take_early(entries: &mut IndexMap<Key, Value>, gone: usize, index: usize) -> 
 }
 
 /// Closes up the empty places where they are more than half. The answer is how many are left.
-fn without_many(entries: &mut IndexMap<Key, Value>, gone: usize) -> usize
+fn without_many(entries: &mut IndexMap<Key, Value, Seed>, gone: usize) -> usize
     requires { gone ≤ index_map_len entries.old }
     ensures pairs { drop result entries.new.entries ≡ drop gone entries.old.entries }
     ensures within { result ≤ index_map_len entries.new }
@@ -164,7 +165,7 @@ fn without_many(entries: &mut IndexMap<Key, Value>, gone: usize) -> usize
 }
 
 /// Takes the places at the front out.
-fn close_up(entries: &mut IndexMap<Key, Value>, gone: usize)
+fn close_up(entries: &mut IndexMap<Key, Value, Seed>, gone: usize)
     requires { gone ≤ index_map_len entries.old }
     ensures { entries.new.entries ≡ drop gone entries.old.entries }
 {
