@@ -98,7 +98,14 @@ fn alone<H: Host + Drop>(
         code: &[],
     };
     let built_ins = BuiltIns::new(setting.alloc, setting.rules)?;
-    eval_module(setting.alloc, &built_ins, &module, host, setting.limit, Seed::fixed())
+    eval_module(
+        setting.alloc,
+        &built_ins,
+        &module,
+        host,
+        setting.limit,
+        Seed::fixed(),
+    )
 }
 
 /// The global of this name; `None` where the file binds none.
@@ -166,7 +173,14 @@ fn above<H: Host + Drop>(
         code: &code,
     };
     let built_ins = BuiltIns::new(alloc, setting.rules)?;
-    eval_module(alloc, &built_ins, &module, host, setting.limit, Seed::fixed())
+    eval_module(
+        alloc,
+        &built_ins,
+        &module,
+        host,
+        setting.limit,
+        Seed::fixed(),
+    )
 }
 
 /// Evaluates a file that loads nothing, and adds what is printed of it.

@@ -27,7 +27,13 @@ struct Tree<'a> {
 }
 
 fn by_one_thread(tree: Tree<'_>) -> Result<Loaded, LoadErr> {
-    load_one_thread(tree.alloc, tree.workspace, tree.schema, LIMIT, Seed::fixed())
+    load_one_thread(
+        tree.alloc,
+        tree.workspace,
+        tree.schema,
+        LIMIT,
+        Seed::fixed(),
+    )
 }
 
 fn by_workers<R: Threads + Wait + Sync, G: Gate>(

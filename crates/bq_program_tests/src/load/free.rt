@@ -36,7 +36,16 @@ fn loaded<R: Threads + Wait + Sync>(
     let (Ok(workspace), Ok(schema)) = (&workspace, &schema) else {
         return Err(LoadErr::Memory);
     };
-    let loaded = load_with(rt, alloc, workspace, schema, 100, Seed::fixed(), workers, &OpenGate)?;
+    let loaded = load_with(
+        rt,
+        alloc,
+        workspace,
+        schema,
+        100,
+        Seed::fixed(),
+        workers,
+        &OpenGate,
+    )?;
     Ok(loaded.packages.len())
 }
 

@@ -37,7 +37,16 @@ struct Tree<'a> {
 /// Whether `c.bzl` enters while `b.bzl` is held, by two workers.
 fn workers_meet<R: Threads + Wait + Sync>(rt: &R, tree: Tree<'_>) -> Result<bool, LoadErr> {
     let gate = Holding::new();
-    let loaded = load_with(rt, tree.alloc, tree.workspace, tree.schema, LIMIT, Seed::fixed(), 2, &gate)?;
+    let loaded = load_with(
+        rt,
+        tree.alloc,
+        tree.workspace,
+        tree.schema,
+        LIMIT,
+        Seed::fixed(),
+        2,
+        &gate,
+    )?;
     Ok(gate.both_met() && loaded.modules.len() == 4 && loaded.faults.is_empty())
 }
 
