@@ -5,6 +5,7 @@ use crate::strings::{label_key, string};
 use anyhow::Result;
 use bq_machine::{Args, Machine, copies};
 use bq_methods::call_method;
+use bq_seed::Seed;
 use bq_source::Bytes;
 use bq_value::{Content, Dict, EvalErr, Store, Value};
 use std::alloc::{AllocError, Global};
@@ -119,7 +120,7 @@ fn long_text(alloc: Global, names: u32) -> Result<Value, AllocError> {
 
 /// The names of a dict, each with its number.
 fn names(alloc: Global, count: i64) -> Result<Dict, AllocError> {
-    let mut dict = Dict::new(alloc);
+    let mut dict = Dict::new(alloc, Seed::fixed());
     for n in 0..count {
         dict.insert(label_key(alloc, n)?, Value::int(n))?;
     }
@@ -201,19 +202,19 @@ fn measure_all(
 }
 
 fn measure_lists(rt: &HostRuntime) -> Result<()> {
-    let mut store = Store::new(rt.alloc(), 0);
+    let mut store = Store::new(rt.alloc(), 0, Seed::fixed());
     let cell = store.make(Content::list(Vec::new(rt.alloc())))?;
     measure_all(rt, store, &Value::cell(cell), &OF_LISTS)
 }
 
 fn measure_dicts(rt: &HostRuntime) -> Result<()> {
-    let mut store = Store::new(rt.alloc(), 0);
+    let mut store = Store::new(rt.alloc(), 0, Seed::fixed());
     let cell = store.make(Content::dict(names(rt.alloc(), 5_000)?))?;
     measure_all(rt, store, &Value::cell(cell), &OF_DICTS)
 }
 
 fn measure_strings(rt: &HostRuntime, text: &Value, table: &[Calls<'_>]) -> Result<()> {
-    measure_all(rt, Store::new(rt.alloc(), 0), text, table)
+    measure_all(rt, Store::new(rt.alloc(), 0, Seed::fixed()), text, table)
 }
 
 pub fn measure(rt: &HostRuntime) -> Result<()> {

@@ -3,6 +3,7 @@
 use crate::clock::CpuInstant;
 use crate::strings::{label_key, string};
 use anyhow::Result;
+use bq_seed::Seed;
 use bq_value::{Content, Dict, Key, Store, Value, freeze};
 use bq_walk::equal;
 use std::alloc::{AllocError, Global};
@@ -65,7 +66,7 @@ fn string_keys(alloc: Global) -> Result<Vec<Key>, AllocError> {
 }
 
 fn put_all(alloc: Global, keys: &[Key]) -> Result<Dict, AllocError> {
-    let mut dict = Dict::new(alloc);
+    let mut dict = Dict::new(alloc, Seed::fixed());
     for key in keys {
         dict.insert(key.share()?, Value::none())?;
     }
@@ -136,7 +137,7 @@ fn compare(rt: &HostRuntime, store: &Store, a: &Value, b: &Value) -> Result<()> 
 }
 
 fn measure_equal(rt: &HostRuntime) -> Result<()> {
-    let mut store = Store::new(rt.alloc(), 0);
+    let mut store = Store::new(rt.alloc(), 0, Seed::fixed());
     let a = list_cell(rt.alloc(), &mut store)?;
     let b = list_cell(rt.alloc(), &mut store)?;
     compare(rt, &store, &a, &b)
@@ -144,7 +145,7 @@ fn measure_equal(rt: &HostRuntime) -> Result<()> {
 
 /// A store of so many empty lists.
 fn full_store(alloc: Global) -> Result<Store, AllocError> {
-    let mut store = Store::new(alloc, 0);
+    let mut store = Store::new(alloc, 0, Seed::fixed());
     for _ in 0..MANY {
         store.make(Content::list(Vec::new(alloc)))?;
     }

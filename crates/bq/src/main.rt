@@ -23,6 +23,7 @@ use clap::error::ErrorKind;
 use runs::{run_on_bundle, run_on_directory};
 use std::alloc::Global;
 use std::process::ExitCode;
+use std::random::RandomSource;
 use std::sync::Wait;
 use std::thread::Threads;
 use std::{env, io};
@@ -85,7 +86,7 @@ fn show_explanation(rt: &impl Print, explanation: &Explanation) -> u8
 }
 
 /// Runs as the words say, with threads of that handle, and ends with the error line, if there is one.
-fn run_by_words<T: Threads + Wait + Sync>(
+fn run_by_words<T: Threads + Wait + RandomSource + Sync>(
     rt: &HostRuntime,
     threads: &T,
     alloc: Global,

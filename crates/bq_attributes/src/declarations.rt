@@ -13,6 +13,7 @@ ghost use Rattle.bq_attributes.specs.Declarations.{keywords_alone, gives, is_met
 use crate::arguments::{Callee, Given, is_none};
 use bq_machine::{Args, Signature, bind};
 use bq_rule_class::{Attribute, AttributeValue, RuleClass};
+use bq_seed::Seed;
 use bq_source::{Bytes, FaultKind};
 use bq_target::{GivenAttribute, Target, TargetKind};
 use bq_value::{Dict, EvalErr, Key, Value};
@@ -20,7 +21,7 @@ use sqlite_items::Items;
 use std::alloc::{AllocError, Global};
 
 /// The arguments of a call that has keyword arguments alone, or F52.
-fn keywords(alloc: Global, args: Args) -> Result<Dict, EvalErr>
+fn keywords(alloc: Global, seed: Seed, args: Args) -> Result<Dict, EvalErr>
     ensures { Gives (λ keywords. keywords) Bad result (and_then (bind keywords_alone args) (λ b. Ok b.keywords)) }
 {
     let signature = Signature {
@@ -29,7 +30,7 @@ fn keywords(alloc: Global, args: Args) -> Result<Dict, EvalErr>
         takes_rest: false,
         takes_keywords: true,
     };
-    let bound = bind(alloc, &signature, args)?;
+    let bound = bind(alloc, seed, &signature, args)?;
     Ok(bound.keywords)
 }
 
@@ -203,6 +204,6 @@ pub fn declaration(
 ) -> Result<Target, EvalErr>
     ensures { Gives (λ t. t) Bad result (declaration callee.entry.scope.own.now callee.entry.scope.packages.now callee.entry.store.now callee.entry.class.now callee.entry.kind.now line args) }
 {
-    let keywords = keywords(alloc, args)?;
+    let keywords = keywords(alloc, callee.store.seed(), args)?;
     target(alloc, callee, line, &keywords)
 }

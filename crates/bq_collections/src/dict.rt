@@ -220,7 +220,7 @@ pub fn new_dict(alloc: Global, machine: &mut Machine, args: Args) -> Result<Valu
 {
     let given = PairsGiven::of(alloc, machine, args)?;
     let pairs = given.into_pairs(machine)?;
-    let mut dict = Dict::new(alloc);
+    let mut dict = Dict::new(alloc, machine.store().seed());
     put_pairs(&mut dict, &pairs)?;
     machine.new_dict(dict)
 }

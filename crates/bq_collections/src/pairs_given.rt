@@ -56,7 +56,7 @@ impl PairsGiven {
     pub(crate) fn of(alloc: Global, machine: &Machine, args: Args) -> Result<PairsGiven, EvalErr>
         ensures { Does (λ g. g) result machine.now (pairs_given args machine.now) }
     {
-        let bound = bind(alloc, &PAIRS, args)?;
+        let bound = bind(alloc, machine.store().seed(), &PAIRS, args)?;
         let Bound {
             values,
             keywords,

@@ -33,7 +33,7 @@ pub fn entry<'f, R: Runtime>(
     ensures { Acts R.means slots_of result (R.seen runtime.new) (meaning.entry R.means function.now defaults.now args (R.seen runtime.old)) }
 {
     let parameters = function.parameters.as_slice();
-    let bound = bind_args(alloc, parameters, args)?;
+    let bound = bind_args(alloc, runtime.seed(), parameters, args)?;
     let Bound {
         values,
         rest,

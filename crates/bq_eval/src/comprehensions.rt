@@ -301,7 +301,7 @@ impl<
         requires { Nests R.means R.seen context.now.left self.now.depth self.now.call (F.pre self.now.eval) (F.post self.now.eval) }
         ensures { Acts R.means (λ v. v) result (R.seen runtime.new) (meaning.comprehension R.means (nested R.means self.now.depth context.now) (pairs []) comprehension.now clauses.now (slots_of frame.now) (R.seen runtime.old)) }
     {
-        let empty = Content::dict(Dict::new(context.alloc));
+        let empty = Content::dict(Dict::new(context.alloc, runtime.seed()));
         self.comprehension(context, frame, runtime, empty, comprehension, clauses)
     }
 }

@@ -123,7 +123,7 @@ impl<
         ensures { Acts R.means (λ v. v) result (R.seen runtime.new) (meaning.dict_display R.means (nested R.means self.now.depth context.now) pairs.now (slots_of frame.now) (R.seen runtime.old)) }
     {
         runtime.step(1)?;
-        let mut content = Content::dict(Dict::new(context.alloc));
+        let mut content = Content::dict(Dict::new(context.alloc, runtime.seed()));
         self.pairs_each(context, frame, runtime, &mut content, pairs)?;
         runtime.make(content)
     }

@@ -11,6 +11,7 @@ ghost use Rattle.bq_eval.specs.Acts.{Acts};
 use crate::runtime::Runtime;
 use bq_machine::{Args, Bound, Parameter, Signature, bind};
 use bq_scope::CodeParameter;
+use bq_seed::Seed;
 use bq_value::{Content, Dict, EvalErr, Value};
 use std::alloc::{AllocError, Global};
 
@@ -100,7 +101,12 @@ pub fn has_star_star(parameters: &[CodeParameter]) -> bool
 
 /// Binds the arguments of a call, or F52.
 #[tactic(auto, unfolding(bq_meaning::specs::Calls::signature))]
-pub fn bind_args(alloc: Global, parameters: &[CodeParameter], args: Args) -> Result<Bound, EvalErr>
+pub fn bind_args(
+    alloc: Global,
+    seed: Seed,
+    parameters: &[CodeParameter],
+    args: Args,
+) -> Result<Bound, EvalErr>
     ensures { Gives (λ b. b) Bad result (binding.bind (meaning.signature parameters.now) args) }
 {
     let singles = singles(alloc, parameters)?;
@@ -110,7 +116,7 @@ pub fn bind_args(alloc: Global, parameters: &[CodeParameter], args: Args) -> Res
         takes_rest: has_star(parameters),
         takes_keywords: has_star_star(parameters),
     };
-    bind(alloc, &signature, args)
+    bind(alloc, seed, &signature, args)
 }
 
 /// What `**` holds.

@@ -7,6 +7,7 @@ ghost use Rattle.bq_eval.specs.Acts.{Acts};
 use bq_grammar::{Comparison, Operator, UnaryOperator};
 use bq_machine::{Args, Elements};
 use bq_predeclared::{Predeclared, RuleFunction};
+use bq_seed::Seed;
 use bq_source::Bytes;
 use bq_value::{Cell, Content, EvalErr, Value};
 use std::alloc::{AllocError, Global};
@@ -20,6 +21,9 @@ pub trait Runtime {
 
     /// What the operations mean.
     ghost means: { Primitives State };
+
+    /// By which the keys of new dicts are found.
+    fn seed(&self) -> Seed;
 
     /// Takes steps.
     fn step(&mut self, count: u64) -> Result<(), EvalErr>

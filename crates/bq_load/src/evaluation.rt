@@ -25,6 +25,7 @@ use bq_label_set::LabelSet;
 use bq_module::{Evaluated, Outcome, ResolvedModule, eval_module};
 use bq_package::BuildHost;
 use bq_scope::Resolved;
+use bq_seed::Seed;
 use bq_source::{Bytes, SourceErr};
 use bq_target::PackageState;
 use bq_value::{Frozen, Store, Value, freeze};
@@ -66,7 +67,12 @@ fn build_module(
     ensures { IfOk result (λ m. module_view m ≡ record { frozen = without_cells number; prints = prints.items; «package» = Some (finished kept) }) }
 {
     let package = kept.finish(alloc)?;
-    let frozen = freeze(alloc, Store::new(alloc, number), &[], Vec::new(alloc))?;
+    let frozen = freeze(
+        alloc,
+        Store::new(alloc, number, Seed::fixed()),
+        &[],
+        Vec::new(alloc),
+    )?;
     Ok(LoadedModule {
         frozen: Arc::new(alloc, frozen)?,
         prints,
@@ -136,7 +142,7 @@ impl<'a> Loading<'a> {
         ensures { IfOk result (λ r. told module_view failed_view r ≡ module_after «module».now.file.now «module».now.imports.now (run_of self.now.built_ins meaning «module».now self.now.limit (kept_first (loading_of self.now) label.now))) }
     {
         let host = self.host(alloc, label)?;
-        let evaluated = eval_module(alloc, &self.built_ins, module, host, self.limit)?;
+        let evaluated = eval_module(alloc, &self.built_ins, module, host, self.limit, self.seed)?;
         module_by(alloc, evaluated)
     }
 

@@ -18,6 +18,7 @@ use bq_discover::{LoadErr, discover, discover_by_workers};
 use bq_label::Workspace;
 use bq_load_order::{Unwatched, outcomes_one_thread};
 use bq_schema::Schema;
+use bq_seed::Seed;
 use bq_workers::MAX_WORKERS;
 use std::alloc::{AllocError, Global};
 use std::marker::Sync;
@@ -80,6 +81,7 @@ pub fn load_one_thread(
     workspace: &Workspace,
     schema: &Schema,
     limit: u64,
+    seed: Seed,
 ) -> Result<Loaded, LoadErr>
     ensures { LoadsWorkspace workspace.now schema.now limit result }
 {
@@ -88,7 +90,7 @@ pub fn load_one_thread(
         Ok(graph) => graph,
         Err(why) => return Err(why),
     };
-    let (loading, edges) = Loading::of(alloc, workspace, schema, limit, graph)?;
+    let (loading, edges) = Loading::of(alloc, workspace, schema, limit, seed, graph)?;
     Ok(loaded_one_thread(alloc, loading, edges)?)
 }
 
@@ -101,6 +103,7 @@ pub fn load_with<R: Threads + Wait + Sync, G: Gate>(
     workspace: &Workspace,
     schema: &Schema,
     limit: u64,
+    seed: Seed,
     workers: usize,
     gate: &G,
 ) -> Result<Loaded, LoadErr>
@@ -112,6 +115,6 @@ pub fn load_with<R: Threads + Wait + Sync, G: Gate>(
         Ok(graph) => graph,
         Err(why) => return Err(why),
     };
-    let (pool, seats) = Pool::open(alloc, workspace, schema, limit, graph, workers)?;
+    let (pool, seats) = Pool::open(alloc, workspace, schema, limit, seed, graph, workers)?;
     Ok(loaded_by_workers(rt, alloc, pool, seats, gate)?)
 }

@@ -12,6 +12,7 @@ use bq_host::BuiltIns;
 use bq_label::{Packages, Workspace};
 use bq_schema::{Schema, rule_names};
 use bq_scope::Resolved;
+use bq_seed::Seed;
 use std::alloc::{AllocError, Global};
 
 /// The modules of a workspace before their evaluation, by their numbers. Threads may share it.
@@ -26,6 +27,8 @@ pub struct Loading<'a> {
     pub code: Vec<Option<Resolved>>,
     /// How many steps the evaluation of each module may take.
     pub limit: u64,
+    /// By which dicts find their keys.
+    pub seed: Seed,
 }
 
 impl<'a> Loading<'a> {
@@ -36,6 +39,7 @@ impl<'a> Loading<'a> {
         workspace: &'a Workspace,
         schema: &'a Schema,
         limit: u64,
+        seed: Seed,
         graph: LoadGraph,
     ) -> Result<(Loading<'a>, Graph), AllocError>
         ensures decides { IfOk result (λ r. loading_of r.0 ≡ loading_in workspace.now schema.now limit graph) }
@@ -54,6 +58,7 @@ impl<'a> Loading<'a> {
             sources,
             code,
             limit,
+            seed,
         };
         Ok((loading, edges))
     }

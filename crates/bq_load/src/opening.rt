@@ -18,6 +18,7 @@ use bq_board::{Graph, MAX_SEATS};
 use bq_discover::LoadGraph;
 use bq_label::{Packages, Workspace};
 use bq_schema::Schema;
+use bq_seed::Seed;
 use std::alloc::{AllocError, Global};
 
 impl<'a> Pool<'a> {
@@ -28,6 +29,7 @@ impl<'a> Pool<'a> {
         workspace: &'a Workspace,
         schema: &'a Schema,
         limit: u64,
+        seed: Seed,
         graph: LoadGraph,
         seats: usize,
     ) -> Result<(Pool<'a>, Vec<PoolSeat<'a>>), AllocError>
@@ -38,7 +40,7 @@ impl<'a> Pool<'a> {
         ensures count { IfOk result (λ r. vec_len r.1 ≡ seats) }
         ensures fresh { IfOk result (λ r. All (λ s. IsSeatOf r.0.shared.board s.place × (view_of s.place ≡ blank (base_of r.0.shared.board) r.0.shared.board.plan)) r.1.items) }
     {
-        let (loading, edges) = Loading::of(alloc, workspace, schema, limit, graph)?;
+        let (loading, edges) = Loading::of(alloc, workspace, schema, limit, seed, graph)?;
         let (shared, seats) = bq_workers::Pool::open(alloc, loading, edges, seats)?;
         let pool = Pool { shared };
         Ok((pool, seats))

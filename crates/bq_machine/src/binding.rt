@@ -10,6 +10,7 @@ ghost use Rattle.bq_machine.specs.Binding.{placed_values, placed, has_value, fil
 use crate::args::Args;
 use crate::iteration::Elements;
 use crate::parameters::{Parameter, Signature, parameter_called, places_by_name};
+use bq_seed::Seed;
 use bq_source::{Bytes, FaultKind};
 use bq_value::{Dict, EvalErr, Key, Value};
 use std::alloc::{AllocError, Global};
@@ -42,16 +43,21 @@ impl Model for Bound {
     ghost view = { bound_of };
 }
 
-/// Binds arguments to parameters, or F52.
+/// Binds arguments to parameters, or F52. What `**` takes is found by this seed.
 #[tactic(auto, unfolding(crate::specs::Binding::bind))]
-pub fn bind(alloc: Global, signature: &Signature<'_>, args: Args) -> Result<Bound, EvalErr>
+pub fn bind(
+    alloc: Global,
+    seed: Seed,
+    signature: &Signature<'_>,
+    args: Args,
+) -> Result<Bound, EvalErr>
     ensures { Gives (λ b. b) Bad result (bind (signature_of signature.now) args) }
 {
     let Args { positional, named } = args;
     if is_too_many(signature, positional.len()) {
         return Err(EvalErr::Bad(FaultKind::Args));
     }
-    let mut bound = Bound::placed(alloc, signature, positional)?;
+    let mut bound = Bound::placed(alloc, seed, signature, positional)?;
     bound.take_all_named(alloc, signature, named)?;
     if !is_complete(signature.parameters, &bound.values) {
         return Err(EvalErr::Bad(FaultKind::Args));
@@ -125,6 +131,7 @@ impl Bound {
     /// The positional arguments go to the parameters in their order.
     fn placed(
         alloc: Global,
+        seed: Seed,
         signature: &Signature<'_>,
         positional: Vec<Value>,
     ) -> Result<Bound, AllocError>
@@ -141,7 +148,7 @@ impl Bound {
         Ok(Bound {
             values,
             rest,
-            keywords: Dict::new(alloc),
+            keywords: Dict::new(alloc, seed),
         })
     }
 

@@ -20,6 +20,7 @@ use bq_eval::Frame;
 use bq_host::{BuiltIns, Host};
 use bq_machine::Machine;
 use bq_runtime::{Evaluation, RuleNames};
+use bq_seed::Seed;
 use bq_value::EvalErr;
 use std::alloc::{AllocError, Global};
 use std::marker::Brand;
@@ -69,28 +70,31 @@ fn evaluate<H: Host + Drop, K: RuleNames>(
     module: &ResolvedModule<'_>,
     host: H,
     limit: u64,
+    seed: Seed,
 ) -> Result<Evaluated<H>, AllocError>
     requires { built_ins.now ≡ K.rules }
     ensures outcome { IfOk result (λ e. ended_of e.outcome ≡ ended «module».now.file.now «module».now.imports.now (run_of K.rules H.means «module».now limit (H.seen host))) }
     ensures host { IfOk result (λ e. IfSome (kept_after (run_of K.rules H.means «module».now limit (H.seen host))) (λ kept. H.seen e.host ≡ kept)) }
 {
-    let store = first_store(alloc, module.number, module.loaded)?;
+    let store = first_store(alloc, module.number, module.loaded, seed)?;
     let machine = Machine::new(alloc, store, limit);
     let (ran, machine, host) = run_on::<H, K>(alloc, built_ins, module, machine, host);
     let outcome = outcome_of(alloc, module, ran, machine, &host)?;
     Ok(Evaluated { outcome, host })
 }
 
-/// Evaluates a file: its statements run in order on a fresh machine, with so many steps.
+/// Evaluates a file: its statements run in order on a fresh machine, with so many steps. Its dicts find their keys by
+/// this seed, which shows nowhere.
 pub fn eval_module<H: Host + Drop>(
     alloc: Global,
     built_ins: &BuiltIns,
     module: &ResolvedModule<'_>,
     host: H,
     limit: u64,
+    seed: Seed,
 ) -> Result<Evaluated<H>, AllocError>
     ensures outcome { IfOk result (λ e. ended_of e.outcome ≡ ended «module».now.file.now «module».now.imports.now (run_of built_ins.now H.means «module».now limit (H.seen host))) }
     ensures host { IfOk result (λ e. IfSome (kept_after (run_of built_ins.now H.means «module».now limit (H.seen host))) (λ kept. H.seen e.host ≡ kept)) }
 {
-    evaluate::<H, Brand>(alloc, built_ins, module, host, limit)
+    evaluate::<H, Brand>(alloc, built_ins, module, host, limit, seed)
 }

@@ -8,6 +8,7 @@ ghost use Rattle.bq_module.specs.Module.{first_store};
 
 use bq_eval::Frame;
 use bq_scope::{LoadStmt, LoadedSymbol};
+use bq_seed::Seed;
 use bq_value::{Frozen, Store, Value};
 use std::alloc::{AllocError, Global};
 use std::sync::Arc;
@@ -17,10 +18,11 @@ pub(crate) fn first_store(
     alloc: Global,
     number: u32,
     loaded: &[Arc<Frozen>],
+    seed: Seed,
 ) -> Result<Store, AllocError>
     ensures { IfOk result (λ s. s ≡ first_store number (views_of loaded.now)) }
 {
-    let mut store = Store::new(alloc, number);
+    let mut store = Store::new(alloc, number, seed);
     for frozen in loaded {
         store.load(frozen)?;
     }

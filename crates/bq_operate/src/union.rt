@@ -11,6 +11,7 @@ use crate::operand::dict_in;
 use bq_grammar::Operator;
 use bq_machine::Machine;
 use bq_operators::MAX_LEN;
+use bq_seed::Seed;
 use bq_source::FaultKind;
 use bq_value::{Content, Dict, EvalErr, Node, Store, Value};
 use std::alloc::{AllocError, Global};
@@ -41,15 +42,15 @@ fn dict_union(alloc: Global, store: &Store, a: &Value, b: &Value) -> Result<Dict
 {
     let dict = dict_in(store, a)?;
     let more = dict_in(store, b)?;
-    united(alloc, dict, more)
+    united(alloc, store.seed(), dict, more)
 }
 
 /// A new dict into which the pairs of both are put in turn.
 #[tactic(auto, unfolding(crate::specs::Union::united))]
-fn united(alloc: Global, dict: &Dict, more: &Dict) -> Result<Dict, EvalErr>
+fn united(alloc: Global, seed: Seed, dict: &Dict, more: &Dict) -> Result<Dict, EvalErr>
     ensures { Gives (λ all. all) Bad result (united dict.now more.now) }
 {
-    let mut all = Dict::new(alloc);
+    let mut all = Dict::new(alloc, seed);
     put_all(&mut all, dict)?;
     put_all(&mut all, more)?;
     if all.len() > MAX_LEN {

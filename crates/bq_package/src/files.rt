@@ -12,6 +12,7 @@ use crate::bound::texts_of;
 use crate::place::Place;
 use bq_label::Label;
 use bq_machine::{Args, Bound, Parameter, Signature, bind};
+use bq_seed::Seed;
 use bq_typed::{TextKind, labels};
 use bq_value::{EvalErr, Store};
 use sqlite_items::Items;
@@ -41,7 +42,7 @@ const EXPORTS_FILES: Signature<'static> = Signature {
 fn bind_exports(alloc: Global, args: Args) -> Result<Bound, EvalErr>
     ensures { Gives (λ b. b) Bad result (bind exports_parameters args) }
 {
-    bind(alloc, &EXPORTS_FILES, args)
+    bind(alloc, Seed::fixed(), &EXPORTS_FILES, args)
 }
 
 impl<'a> Place<'a> {

@@ -14,6 +14,7 @@ use crate::bound::texts_of;
 use crate::place::Place;
 use bq_glob::{Pattern, glob, read_pattern};
 use bq_machine::{Args, Bound, Parameter, Signature, bind};
+use bq_seed::Seed;
 use bq_source::{Bytes, FaultKind, SourceErr};
 use bq_typed::argument;
 use bq_value::{EvalErr, Node, Store, Value};
@@ -59,7 +60,7 @@ const GLOB: Signature<'static> = Signature {
 fn bind_glob(alloc: Global, args: Args) -> Result<Bound, EvalErr>
     ensures { Gives (λ b. b) Bad result (bind glob_parameters args) }
 {
-    bind(alloc, &GLOB, args)
+    bind(alloc, Seed::fixed(), &GLOB, args)
 }
 
 /// A text as a pattern, or F77.

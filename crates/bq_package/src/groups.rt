@@ -14,6 +14,7 @@ use crate::place::Place;
 use bq_label::Label;
 use bq_machine::{Args, Bound, Parameter, Signature, bind};
 use bq_rule_class::AttributeValue;
+use bq_seed::Seed;
 use bq_source::Bytes;
 use bq_target::{GivenAttribute, Target, TargetKind};
 use bq_typed::{TextKind, label, labels};
@@ -45,7 +46,7 @@ const PACKAGE_GROUP: Signature<'static> = Signature {
 fn bind_group(alloc: Global, args: Args) -> Result<Bound, EvalErr>
     ensures { Gives (λ b. b) Bad result (bind group_parameters args) }
 {
-    bind(alloc, &PACKAGE_GROUP, args)
+    bind(alloc, Seed::fixed(), &PACKAGE_GROUP, args)
 }
 
 /// Whether the name isn't written after the included groups, among named arguments.

@@ -22,6 +22,7 @@ use bq_label::{Label, PackageId, Packages, Workspace};
 use bq_machine::{Args, Machine, Signature, bind};
 use bq_rule_class::{AttributeValue, RuleClass};
 use bq_schema::Schema;
+use bq_seed::Seed;
 use bq_source::{Bytes, FaultKind};
 use bq_target::{Declared, PackageState, Target};
 use bq_typed::{Scope, Written, typed};
@@ -68,17 +69,17 @@ fn strings(alloc: Global, texts: Vec<Bytes>) -> Result<Vec<Value>, AllocError>
 fn package_name(alloc: Global, place: Place<'_>, args: Args) -> Result<Value, EvalErr>
     ensures { Gives (λ v. v) Bad result (package_name (place_of place.entry) args) }
 {
-    let _none = bind(alloc, &NO_PARAMETERS, args)?;
+    let _none = bind(alloc, Seed::fixed(), &NO_PARAMETERS, args)?;
     let name = place.scope.own.package().share()?;
     Ok(Value::string(name))
 }
 
 /// What a call gives that takes any arguments and changes nothing.
 #[tactic(auto, unfolding(crate::specs::Calls::ignored))]
-fn ignored(alloc: Global, args: Args) -> Result<Value, EvalErr>
+fn ignored(alloc: Global, seed: Seed, args: Args) -> Result<Value, EvalErr>
     ensures { Gives (λ v. v) Bad result (ignored args) }
 {
-    let _any = bind(alloc, &ANY_PARAMETERS, args)?;
+    let _any = bind(alloc, seed, &ANY_PARAMETERS, args)?;
     Ok(Value::none())
 }
 
@@ -306,12 +307,12 @@ impl<'a> BuildHost<'a> {
 
     /// A call that takes any arguments and changes nothing.
     #[tactic(auto, using(crate::proofs::Meaning::refused_outside, crate::proofs::Meaning::package_done, crate::proofs::Meaning::licenses_done))]
-    fn nothing(&self, alloc: Global, args: Args) -> Result<Value, EvalErr>
+    fn nothing(&self, alloc: Global, seed: Seed, args: Args) -> Result<Value, EvalErr>
         ensures as_package { (s : State) → HostDoes (λ v. v) result s (held_by self.now) (call_by s (held_by self.now) BuildFunction.Package args) }
         ensures as_licenses { (s : State) → HostDoes (λ v. v) result s (held_by self.now) (call_by s (held_by self.now) BuildFunction.Licenses args) }
     {
         let _place = self.place()?;
-        ignored(alloc, args)
+        ignored(alloc, seed, args)
     }
 
     /// A call of a function.
@@ -329,8 +330,8 @@ impl<'a> BuildHost<'a> {
         match function {
             BuildFunction::Glob => self.glob(alloc, args, machine),
             BuildFunction::PackageName => self.name(alloc, args),
-            BuildFunction::Package => self.nothing(alloc, args),
-            BuildFunction::Licenses => self.nothing(alloc, args),
+            BuildFunction::Package => self.nothing(alloc, machine.store().seed(), args),
+            BuildFunction::Licenses => self.nothing(alloc, machine.store().seed(), args),
             BuildFunction::ExportsFiles => self.exports_files(alloc, args, machine),
             BuildFunction::PackageGroup => self.package_group(alloc, args, machine),
             BuildFunction::Rule(rule) => self.rule(alloc, rule, args, machine),

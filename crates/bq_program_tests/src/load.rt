@@ -15,6 +15,7 @@ use bq_discover::LoadErr;
 use bq_label::{File, Workspace};
 use bq_load::{Loaded, load_one_thread};
 use bq_schema::Schema;
+use bq_seed::Seed;
 use std::alloc::{AllocError, Global};
 
 /// The path in the first line of a text, and the lines after it.
@@ -53,7 +54,7 @@ fn printed(
     schema: &Schema,
     limit: u64,
 ) -> Result<Vec<u8>, AllocError> {
-    match load_one_thread(alloc, workspace, schema, limit) {
+    match load_one_thread(alloc, workspace, schema, limit, Seed::fixed()) {
         Ok(loaded) => text_of(alloc, &loaded),
         Err(LoadErr::TooManyModules) => b"too many modules\n".to_vec(alloc),
         Err(LoadErr::Schema(_)) => b"a bad schema\n".to_vec(alloc),

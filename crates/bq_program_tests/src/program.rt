@@ -8,6 +8,7 @@ use bq_label::{PackageId, Packages};
 use bq_module::{Evaluated, Outcome, ResolvedModule, eval_module};
 use bq_package::BuildHost;
 use bq_scope::{LoadStmt, Resolved, Universe};
+use bq_seed::Seed;
 use bq_source::{Bytes, Fault, SourceErr};
 use bq_value::{Frozen, Value};
 use std::alloc::{AllocError, Global};
@@ -97,7 +98,14 @@ fn alone<H: Host + Drop>(
         code: &[],
     };
     let built_ins = BuiltIns::new(setting.alloc, setting.rules)?;
-    eval_module(setting.alloc, &built_ins, &module, host, setting.limit)
+    eval_module(
+        setting.alloc,
+        &built_ins,
+        &module,
+        host,
+        setting.limit,
+        Seed::fixed(),
+    )
 }
 
 /// The global of this name; `None` where the file binds none.
@@ -165,7 +173,14 @@ fn above<H: Host + Drop>(
         code: &code,
     };
     let built_ins = BuiltIns::new(alloc, setting.rules)?;
-    eval_module(alloc, &built_ins, &module, host, setting.limit)
+    eval_module(
+        alloc,
+        &built_ins,
+        &module,
+        host,
+        setting.limit,
+        Seed::fixed(),
+    )
 }
 
 /// Evaluates a file that loads nothing, and adds what is printed of it.

@@ -17,6 +17,7 @@ use bq_discover::schema_of;
 use bq_grammar::FileKind;
 use bq_label::Workspace;
 use bq_load::{Loaded, load_one_thread};
+use bq_seed::Seed;
 use std::alloc::{AllocError, Global};
 
 /// The third line of a .bzl file, below a function: what it prints, or its fault.
@@ -47,7 +48,7 @@ fn shown(alloc: Global, workspace: &Workspace) -> Result<Vec<u8>, AllocError> {
     let Ok(schema) = schema_of(alloc, workspace) else {
         return b"no schema\n".to_vec(alloc);
     };
-    match load_one_thread(alloc, workspace, &schema, 1_000_000) {
+    match load_one_thread(alloc, workspace, &schema, 1_000_000, Seed::fixed()) {
         Ok(loaded) => add_loaded(alloc, &mut whole, &loaded)?,
         Err(_) => return b"not loaded\n".to_vec(alloc),
     }

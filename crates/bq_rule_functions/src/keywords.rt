@@ -7,6 +7,7 @@ ghost use Rattle.bq_machine.specs.Binding.{bind};
 ghost use Rattle.bq_rule_functions.specs.Keywords.{attribute_parameters, rule_parameters, documented};
 
 use bq_machine::{Args, Bound, Parameter, Signature, bind};
+use bq_seed::Seed;
 use bq_source::FaultKind;
 use bq_value::{EvalErr, Node, Value};
 use std::alloc::Global;
@@ -105,14 +106,14 @@ const RULE: Signature<'static> = Signature {
 pub(crate) fn bind_attribute(alloc: Global, args: Args) -> Result<Bound, EvalErr>
     ensures { Gives (λ b. b) Bad result (bind attribute_parameters args) }
 {
-    bind(alloc, &ATTRIBUTE, args)
+    bind(alloc, Seed::fixed(), &ATTRIBUTE, args)
 }
 
 /// The arguments of `rule`, or F52.
 pub(crate) fn bind_rule(alloc: Global, args: Args) -> Result<Bound, EvalErr>
     ensures { Gives (λ b. b) Bad result (bind rule_parameters args) }
 {
-    bind(alloc, &RULE, args)
+    bind(alloc, Seed::fixed(), &RULE, args)
 }
 
 /// F40 where `doc` is neither a string nor `None`.

@@ -14,7 +14,9 @@ use bq_load::{Loaded, OpenGate, load_with};
 use bq_query_check::{CheckedQuery, parse_query};
 use bq_report::{Contents, Question, Refusal, Report, refusal_of, report_on};
 use bq_schema::Schema;
+use bq_seed::Seed;
 use std::alloc::{AllocError, Global};
+use std::random::RandomSource;
 use std::sync::Wait;
 use std::thread::Threads;
 
@@ -30,7 +32,7 @@ fn refused(alloc: Global, why: Refusal) -> Report
 }
 
 /// The report on a workspace whose schema and query are read.
-fn report_by<T: Threads + Wait + Sync>(
+fn report_by<T: Threads + Wait + RandomSource + Sync>(
     rt: &T,
     alloc: Global,
     workspace: &Workspace,
@@ -51,6 +53,7 @@ fn report_by<T: Threads + Wait + Sync>(
         workspace,
         schema,
         options.max_steps,
+        Seed::draw(rt),
         jobs,
         &OpenGate,
     ) {
@@ -75,7 +78,7 @@ fn report_by<T: Threads + Wait + Sync>(
 }
 
 /// The report on a workspace and a query that is read.
-fn report_query<T: Threads + Wait + Sync>(
+fn report_query<T: Threads + Wait + RandomSource + Sync>(
     rt: &T,
     alloc: Global,
     workspace: &Workspace,
@@ -101,7 +104,7 @@ fn report_query<T: Threads + Wait + Sync>(
 
 /// The texts of a run over this workspace, and how it ends once they are written. Only a lack of memory is an error; Q1 to Q8, E6 and E7
 /// are in the ending.
-pub fn report_workspace<T: Threads + Wait + Sync>(
+pub fn report_workspace<T: Threads + Wait + RandomSource + Sync>(
     rt: &T,
     alloc: Global,
     workspace: &Workspace,

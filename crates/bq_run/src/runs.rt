@@ -15,6 +15,7 @@ use crate::transfer::{WriteFault, write_all};
 use bq_label::Workspace;
 use bq_report::{Refusal, Report, Status};
 use std::alloc::Global;
+use std::random::RandomSource;
 use std::sync::Wait;
 use std::thread::Threads;
 
@@ -77,7 +78,7 @@ fn send<W: Sink, F: Sink>(
 }
 
 /// A run over a workspace in hand: [`run`] without its reader.
-pub fn run_files<T: Threads + Wait + Sync, W: Sink, F: Sink>(
+pub fn run_files<T: Threads + Wait + RandomSource + Sync, W: Sink, F: Sink>(
     rt: &T,
     alloc: Global,
     workspace: &Workspace,
@@ -105,7 +106,7 @@ pub fn run_files<T: Threads + Wait + Sync, W: Sink, F: Sink>(
 /// E4, E5 with Q1 to Q4, Q7 or Q8, E6 and E7 take precedence in this order, and nothing is written with them. With Q5 or Q6 only the
 /// faults are written. E1 comes before the first byte is written.
 #[tactic(auto, unfolding(crate::specs::Run::IsRunOf))]
-pub fn run<T: Threads + Wait + Sync, R: Source, W: Sink, F: Sink>(
+pub fn run<T: Threads + Wait + RandomSource + Sync, R: Source, W: Sink, F: Sink>(
     rt: &T,
     alloc: Global,
     reader: &mut R,

@@ -5,6 +5,7 @@ use crate::rows::Row;
 use crate::runs::{Table, UNFAILING, check_runs, written};
 use bq_run::OutputForm;
 use std::alloc::{AllocError, Global};
+use std::random::RandomSource;
 use std::sync::Wait;
 use std::thread::Threads;
 
@@ -12,7 +13,7 @@ use std::thread::Threads;
 const WHOLE: &[u8] =
     b"=== p/BUILD\nfilegroup(name = \"t\", srcs = [\":l\", \":r\"])\nfilegroup(name = \"l\", srcs = [\":leaf\"])\nfilegroup(name = \"r\", srcs = [\":leaf\"])\nfilegroup(name = \"up\", srcs = [\":leaf\"])\nfilegroup(name = \"leaf\")\n";
 
-fn over_beginning<R: Threads + Wait + Sync>(
+fn over_beginning<R: Threads + Wait + RandomSource + Sync>(
     rt: &R,
     alloc: Global,
     len: u64,
@@ -26,7 +27,7 @@ fn over_beginning<R: Threads + Wait + Sync>(
 }
 
 /// What is written of `//p:t` over the beginnings of that bundle, from so many bytes to so many, where it is the same of all.
-pub fn over_beginnings<R: Threads + Wait + Sync>(
+pub fn over_beginnings<R: Threads + Wait + RandomSource + Sync>(
     rt: &R,
     alloc: Global,
     row: Row,

@@ -5,6 +5,7 @@ use crate::rows::Row;
 use crate::runs::{Table, UNFAILING, check_runs, output_named, written, written_of_files};
 use bq_run::OutputForm;
 use std::alloc::{AllocError, Global};
+use std::random::RandomSource;
 use std::sync::Wait;
 use std::thread::Threads;
 
@@ -17,7 +18,7 @@ pub struct Asked<'a> {
 }
 
 /// What is written over a bundle with so many workers.
-fn with_jobs<R: Threads + Wait + Sync>(
+fn with_jobs<R: Threads + Wait + RandomSource + Sync>(
     rt: &R,
     alloc: Global,
     bundle: &[u8],
@@ -30,7 +31,7 @@ fn with_jobs<R: Threads + Wait + Sync>(
 
 /// What is written over a bundle with one worker, where other numbers of workers write the same; else what the first of those writes that
 /// doesn't.
-pub fn by_jobs<R: Threads + Wait + Sync>(
+pub fn by_jobs<R: Threads + Wait + RandomSource + Sync>(
     rt: &R,
     alloc: Global,
     bundle: &[u8],
@@ -48,7 +49,7 @@ pub fn by_jobs<R: Threads + Wait + Sync>(
 }
 
 /// What is written over the files of a bundle.
-fn over_files<R: Threads + Wait + Sync>(
+fn over_files<R: Threads + Wait + RandomSource + Sync>(
     rt: &R,
     alloc: Global,
     bundle: &[u8],
@@ -72,7 +73,7 @@ pub fn asked_in<'a>(row: Row, cell: usize, query: &'a [u8]) -> Asked<'a> {
 }
 
 /// What is written over the bundle in cell 0, where a run over its files writes the same.
-pub fn example<R: Threads + Wait + Sync>(
+pub fn example<R: Threads + Wait + RandomSource + Sync>(
     rt: &R,
     alloc: Global,
     row: Row,

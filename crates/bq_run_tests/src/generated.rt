@@ -4,6 +4,7 @@ use crate::examples::{asked_in, by_jobs};
 use crate::rows::Row;
 use crate::runs::{Table, check_runs};
 use std::alloc::{AllocError, Global};
+use std::random::RandomSource;
 use std::sync::Wait;
 use std::thread::Threads;
 
@@ -54,7 +55,7 @@ fn summary(alloc: Global, text: &[u8]) -> Result<Vec<u8>, AllocError> {
 }
 
 /// What is written by any number of jobs over the bundle in cells 0 to 3, by the query in cell 4. It is shortened where it is long.
-pub fn generated<R: Threads + Wait + Sync>(
+pub fn generated<R: Threads + Wait + RandomSource + Sync>(
     rt: &R,
     alloc: Global,
     row: Row,

@@ -7,6 +7,7 @@ use crate::rows::Row;
 use crate::runs::{Table, UNFAILING, check_runs, written};
 use bq_run::{MAX_JOBS, Options, OutputForm};
 use std::alloc::{AllocError, Global};
+use std::random::RandomSource;
 use std::sync::Wait;
 use std::thread::Threads;
 
@@ -29,7 +30,7 @@ pub fn options(
 }
 
 /// What is written of `//a:x` with so many workers, and so many steps for a module.
-pub fn corner<R: Threads + Wait + Sync>(
+pub fn corner<R: Threads + Wait + RandomSource + Sync>(
     rt: &R,
     alloc: Global,
     row: Row,

@@ -4,6 +4,7 @@ use crate::examples::{asked_in, by_jobs};
 use crate::rows::Row;
 use crate::runs::{Table, check_runs};
 use std::alloc::{AllocError, Global};
+use std::random::RandomSource;
 use std::sync::Wait;
 use std::thread::Threads;
 
@@ -41,7 +42,7 @@ filegroup(name = "h", srcs = "h.txt")
 "#;
 
 /// What is written of a query over that workspace, by one worker and by four.
-pub fn over_rules<R: Threads + Wait + Sync>(
+pub fn over_rules<R: Threads + Wait + RandomSource + Sync>(
     rt: &R,
     alloc: Global,
     row: Row,

@@ -15,6 +15,7 @@ use bq_run::{
 };
 use std::alloc::{AllocError, Global};
 use std::process::Abort;
+use std::random::RandomSource;
 use std::sync::Wait;
 use std::thread::Threads;
 
@@ -61,7 +62,7 @@ fn joined(alloc: Global, texts: &[&[u8]]) -> Result<Vec<u8>, AllocError> {
 }
 
 /// What a run over devices of one byte a call writes.
-pub fn written<R: Threads + Wait + Sync>(
+pub fn written<R: Threads + Wait + RandomSource + Sync>(
     rt: &R,
     alloc: Global,
     bundle: &[u8],
@@ -88,7 +89,7 @@ pub fn written<R: Threads + Wait + Sync>(
 }
 
 /// What a run over the files of a bundle writes, as of a directory; where it is none, what a run over the bundle does.
-pub fn written_of_files<R: Threads + Wait + Sync>(
+pub fn written_of_files<R: Threads + Wait + RandomSource + Sync>(
     rt: &R,
     alloc: Global,
     bundle: &[u8],
@@ -123,7 +124,7 @@ pub enum Table {
     Rules,
 }
 
-fn answer<R: Threads + Wait + Sync>(
+fn answer<R: Threads + Wait + RandomSource + Sync>(
     rt: &R,
     alloc: Global,
     table: Table,
@@ -145,7 +146,7 @@ fn answer<R: Threads + Wait + Sync>(
 }
 
 /// Goes through a table of runs: each row has what is wanted written.
-pub fn check_runs<R: Threads + Wait + Sync + Abort>(
+pub fn check_runs<R: Threads + Wait + RandomSource + Sync + Abort>(
     rt: &R,
     alloc: Global,
     table: Table,
@@ -170,7 +171,7 @@ pub fn output_named(word: &[u8]) -> OutputForm {
 }
 
 /// What a run over a bundle writes of a query.
-fn queried<R: Threads + Wait + Sync>(
+fn queried<R: Threads + Wait + RandomSource + Sync>(
     rt: &R,
     alloc: Global,
     row: Row,
@@ -193,7 +194,7 @@ const BUNDLE: &[u8] =
 const FAULTS: &[u8] = b"//b:BUILD:1: F20 UnknownName none\n";
 
 /// What a run over that bundle writes of `//a:x`.
-fn faulty<R: Threads + Wait + Sync>(
+fn faulty<R: Threads + Wait + RandomSource + Sync>(
     rt: &R,
     alloc: Global,
     failing: Failing,
@@ -212,7 +213,7 @@ fn failing_writers(row: Row) -> Failing {
 }
 
 /// What a run over that bundle writes of a query, where one writer fails at this call, quietly or not.
-fn with_failing_writers<R: Threads + Wait + Sync>(
+fn with_failing_writers<R: Threads + Wait + RandomSource + Sync>(
     rt: &R,
     alloc: Global,
     row: Row,
@@ -229,7 +230,7 @@ fn fails_with_its_writer(rt: HostRuntime) -> Result<(), AllocError> {
     check_runs(&rt, rt.alloc(), Table::FailingWriters, FAILING_WRITERS)
 }
 
-fn failing_reader<R: Threads + Wait + Sync>(
+fn failing_reader<R: Threads + Wait + RandomSource + Sync>(
     rt: &R,
     alloc: Global,
     reader: u64,
@@ -245,7 +246,7 @@ fn failing_reader<R: Threads + Wait + Sync>(
 }
 
 /// What a run writes whose reader fails at the calls from one number to another, where all of them write the same.
-fn with_failing_reader<R: Threads + Wait + Sync>(
+fn with_failing_reader<R: Threads + Wait + RandomSource + Sync>(
     rt: &R,
     alloc: Global,
     row: Row,
@@ -266,7 +267,7 @@ fn fails_with_its_reader(rt: HostRuntime) -> Result<(), AllocError> {
     check_runs(&rt, rt.alloc(), Table::FailingReader, FAILING_READER)
 }
 
-fn fails_at<R: Threads + Wait + Sync>(
+fn fails_at<R: Threads + Wait + RandomSource + Sync>(
     rt: &R,
     alloc: Global,
     faults_writer: u64,
@@ -293,7 +294,7 @@ fn is_beginning(found: &[u8], len: usize) -> bool {
 }
 
 /// `each` where the writer of the faults may fail at each call, holds the faults up to there, and nothing else is written.
-fn with_failing_faults<R: Threads + Wait + Sync>(
+fn with_failing_faults<R: Threads + Wait + RandomSource + Sync>(
     rt: &R,
     alloc: Global,
 ) -> Result<Vec<u8>, AllocError> {
@@ -313,7 +314,7 @@ fn fails_with_its_faults_writer(rt: HostRuntime) -> Result<(), AllocError> {
 }
 
 /// Over std's own readers and writers. A body that always answers E1 is caught here.
-fn over_plain_devices<R: Threads + Wait + Sync>(
+fn over_plain_devices<R: Threads + Wait + RandomSource + Sync>(
     rt: &R,
     alloc: Global,
     row: Row,

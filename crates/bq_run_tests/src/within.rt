@@ -4,6 +4,7 @@ use crate::examples::{Asked, by_jobs};
 use crate::rows::Row;
 use bq_run::OutputForm;
 use std::alloc::{AllocError, Global};
+use std::random::RandomSource;
 use std::sync::Wait;
 use std::thread::Threads;
 
@@ -46,7 +47,7 @@ fn own_fault<'a>(text: &'a [u8], other_faults: &[u8]) -> &'a [u8] {
 }
 
 /// The fault of the text in cell 0 within its surroundings; where it has none, all that is written.
-pub fn within<R: Threads + Wait + Sync>(
+pub fn within<R: Threads + Wait + RandomSource + Sync>(
     rt: &R,
     alloc: Global,
     around: Surroundings,

@@ -12,6 +12,7 @@ use bq_grammar::{Comparison, Operator, UnaryOperator};
 use bq_host::{BuiltIns, Host};
 use bq_machine::{Args, Elements, Machine};
 use bq_predeclared::{Predeclared, RuleFunction};
+use bq_seed::Seed;
 use bq_source::{Bytes, FaultKind};
 use bq_value::{Cell, Content, EvalErr, Value};
 use std::alloc::{AllocError, Global};
@@ -74,6 +75,10 @@ impl<'a, H: Host, K: RuleNames> Runtime for Evaluation<'a, H, K> {
     ghost seen = { λ e. (e.machine, H.seen e.host) };
 
     ghost means = { primitives K.rules H.means };
+
+    fn seed(&self) -> Seed {
+        self.machine.store().seed()
+    }
 
     #[tactic(auto, using(crate::proofs::Lifting::lifted), unfolding(crate::specs::Runtime::primitives))]
     fn step(&mut self, count: u64) -> Result<(), EvalErr> {

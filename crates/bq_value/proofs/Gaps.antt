@@ -25,7 +25,7 @@ first_by : (b : Bool) (m n : ℕ) → m ≡ n → cond b 0 (suc m) ≡ cond (not
 first_by true m n e = refl
 first_by false m n e = omega arith
 
-first_is : (k : Datum) (ps : Dict) → first k ps ≡ position_or_len (same k) (keys ps)
+pub first_is : (k : Datum) (ps : Dict) → first k ps ≡ position_or_len (same k) (keys ps)
 first_is k [] = refl
 first_is k (p ∷ ps) = first_by (same k p.0) _ _ (first_is k ps)
 

@@ -8,6 +8,8 @@ pub mod Lookups
 pub mod Puts
 -- a dict whose first places are empty
 pub mod Gaps
+-- a key that gets out of those places
+pub mod Vacated
 -- a list of modules that is split at a number
 pub mod Splits
 -- a trie of modules and the list of them

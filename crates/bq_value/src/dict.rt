@@ -1,6 +1,6 @@
 //! Dicts (Starlark, "Dictionaries").
 
-ghost use Rattle.std.specs.Prelude.{◌≡◌, [], length, option_copied, take, drop, remove, slice_get, Some, None, is_some, ◌∷◌, ◌+◌, ◌<◌, ◌≤◌, IfOk, OnOk, OnErr, IsTrue};
+ghost use Rattle.std.specs.Prelude.{◌≡◌, [], length, option_copied, take, drop, remove, slice_get, Some, None, is_some, ◌∷◌, ◌+◌, ◌<◌, ◌≤◌, IfOk, IfSome, OnOk, OnErr, IsTrue};
 ghost use Rattle.std.specs.Map.Iter.{deref_pair};
 ghost use Rattle.std.specs.HashMap.{values};
 ghost use Rattle.indexmap.specs.IndexMap.{index_map_len};
@@ -8,6 +8,7 @@ ghost use Rattle.bq_value.specs.Pairs.{found, put, without, HasNoKeyTwice};
 
 use crate::key::Key;
 use crate::value::Value;
+use bq_seed::Seed;
 use indexmap::IndexMap;
 use std::alloc::{AllocError, Global};
 use std::marker::Model;
@@ -16,12 +17,14 @@ use std::mem;
 /// Pairs with distinct keys, in the order in which the keys came. Contracts see the list of the pairs.
 ///
 /// Places at the front are left empty, with their keys and without their values, until they are half of all: so no pair moves
-/// where the first one is taken out.
+/// where the first one is taken out. A key of theirs that comes again goes last, and its place gets a key that nothing has.
 #[derive(Drop)]
 pub struct Dict {
-    entries: IndexMap<Key, Value>,
+    entries: IndexMap<Key, Value, Seed>,
     /// How many places at the front are empty.
     gone: usize,
+    /// The integer that is tried next for a key that nothing has.
+    next: i64,
 }
 
 impl Model for Dict {
@@ -39,13 +42,14 @@ impl Model for Dict {
 }
 
 impl Dict {
-    /// `{}`
-    pub fn new(alloc: Global) -> Dict
+    /// `{}`, whose keys are found by this seed.
+    pub fn new(alloc: Global, seed: Seed) -> Dict
         ensures { result ≡ [] }
     {
         Dict {
-            entries: IndexMap::new(alloc),
+            entries: IndexMap::with_hasher(alloc, seed),
             gone: 0,
+            next: i64::MIN,
         }
     }
 
@@ -88,11 +92,7 @@ impl Dict {
         ensures after { OnOk result (self.new ≡ put key value self.old) }
         ensures err { OnErr result (self.new ≡ self.old) }
     {
-        if is_gone(&self.entries, self.gone, &key) {
-            close_up(&mut self.entries, self.gone);
-            self.gone = 0;
-            return Ok(self.entries.insert(key, value)?);
-        }
+        self.gone = without_key(&mut self.entries, self.gone, &mut self.next, &key)?;
         Ok(self.entries.insert(key, value)?)
     }
 
@@ -123,7 +123,7 @@ impl Dict {
 }
 
 /// A key stands in one of the places that are empty.
-fn is_gone(entries: &IndexMap<Key, Value>, gone: usize, key: &Key) -> bool
+fn is_gone(entries: &IndexMap<Key, Value, Seed>, gone: usize, key: &Key) -> bool
     requires { gone ≤ index_map_len entries.now }
     ensures before { result ≡ is_some (found key.now (take gone entries.now.entries)) }
     ensures absent { IsTrue result → found key.now (drop gone entries.now.entries) ≡ None }
@@ -137,8 +137,47 @@ fn is_gone(entries: &IndexMap<Key, Value>, gone: usize, key: &Key) -> bool
     }
 }
 
+/// An integer that is no key here. Each that was tried is tried once more only after all others.
+fn absent_key(entries: &IndexMap<Key, Value, Seed>, next: &mut i64) -> Option<Key>
+    ensures { IfSome result (λ key. found key entries.now.entries ≡ None) }
+{
+    for _ in 0..entries.len() + 1 {
+        let key = Key::new(Value::int(*next));
+        *next = next.wrapping_add(1);
+        if entries.get(&key).is_none() {
+            return Some(key);
+        }
+    }
+    None
+}
+
+/// Takes a key out of the places that are empty, if it is there: a new key gets its place. The answer is how many are empty.
+fn without_key(
+    entries: &mut IndexMap<Key, Value, Seed>,
+    gone: usize,
+    next: &mut i64,
+    key: &Key,
+) -> Result<usize, AllocError>
+    requires { gone ≤ index_map_len entries.old }
+    ensures pairs { IfOk result (λ left. drop left entries.new.entries ≡ drop gone entries.old.entries) }
+    ensures within { IfOk result (λ left. left ≤ index_map_len entries.new) }
+    ensures absent { IfOk result (λ left. found key.now (take left entries.new.entries) ≡ None) }
+    ensures err { OnErr result (entries.new.entries ≡ entries.old.entries) }
+{
+    if !is_gone(entries, gone, key) {
+        return Ok(gone);
+    }
+    let Some(other) = absent_key(entries, next) else {
+        close_up(entries, gone);
+        return Ok(0);
+    };
+    entries.insert(other, Value::none())?;
+    let _gone = entries.swap_remove(key);
+    Ok(gone)
+}
+
 /// Takes the value out at an index, and moves its place to the end of those that are empty.
-fn take_early(entries: &mut IndexMap<Key, Value>, gone: usize, index: usize) -> Value
+fn take_early(entries: &mut IndexMap<Key, Value, Seed>, gone: usize, index: usize) -> Value
     requires after { gone ≤ index }
     requires within { index < index_map_len entries.old }
     ensures value { slice_get (values entries.old) index ≡ Some result }
@@ -151,7 +190,7 @@ fn take_early(entries: &mut IndexMap<Key, Value>, gone: usize, index: usize) -> 
 }
 
 /// Closes up the empty places where they are more than half. The answer is how many are left.
-fn without_many(entries: &mut IndexMap<Key, Value>, gone: usize) -> usize
+fn without_many(entries: &mut IndexMap<Key, Value, Seed>, gone: usize) -> usize
     requires { gone ≤ index_map_len entries.old }
     ensures pairs { drop result entries.new.entries ≡ drop gone entries.old.entries }
     ensures within { result ≤ index_map_len entries.new }
@@ -164,7 +203,7 @@ fn without_many(entries: &mut IndexMap<Key, Value>, gone: usize) -> usize
 }
 
 /// Takes the places at the front out.
-fn close_up(entries: &mut IndexMap<Key, Value>, gone: usize)
+fn close_up(entries: &mut IndexMap<Key, Value, Seed>, gone: usize)
     requires { gone ≤ index_map_len entries.old }
     ensures { entries.new.entries ≡ drop gone entries.old.entries }
 {

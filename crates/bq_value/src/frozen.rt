@@ -81,7 +81,12 @@ pub fn freeze(
 ) -> Result<Frozen, AllocError>
     ensures { IfOk result (λ f. f ≡ frozen store names.now globals.items) }
 {
-    let Store { own, cells, loaded } = store;
+    let Store {
+        own,
+        cells,
+        loaded,
+        ..
+    } = store;
     let kinds = kinds_of(alloc, own, &cells, names, &globals)?;
     let cells = Shared::new(alloc, cells, globals, kinds)?;
     Ok(Frozen {

@@ -11,6 +11,7 @@ use crate::error::EvalErr;
 use crate::frozen::Frozen;
 use crate::modules::Modules;
 use crate::value::Cell;
+use bq_seed::Seed;
 use bq_source::{Bytes, FaultKind};
 use std::alloc::{AllocError, Global};
 use std::marker::Model;
@@ -21,6 +22,8 @@ pub struct Store {
     pub(crate) own: u32,
     pub(crate) cells: Vec<Content>,
     pub(crate) loaded: Modules,
+    /// By which the keys of its dicts are found.
+    seed: Seed,
 }
 
 impl Model for Store {
@@ -36,15 +39,21 @@ impl Model for Store {
 }
 
 impl Store {
-    /// The store of a module that has made no cell and loaded nothing.
-    pub fn new(alloc: Global, own: u32) -> Store
+    /// The store of a module that has made no cell and loaded nothing. Its dicts find their keys by this seed.
+    pub fn new(alloc: Global, own: u32, seed: Seed) -> Store
         ensures { result ≡ record { own = own; cells = []; loaded = [] } }
     {
         Store {
             own,
             cells: Vec::new(alloc),
             loaded: Modules::new(alloc),
+            seed,
         }
+    }
+
+    /// By which the keys of new dicts are found.
+    pub fn seed(&self) -> Seed {
+        self.seed
     }
 
     /// The running module's number.

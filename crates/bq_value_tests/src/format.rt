@@ -4,6 +4,7 @@ use crate::rows::{Row, Subject, check_rows, number_of};
 use crate::value::words::{push_values, top};
 use crate::value::{refusal, written};
 use bq_format::{format, percent};
+use bq_seed::Seed;
 use bq_source::Bytes;
 use bq_value::{EvalErr, Store, Value};
 use std::alloc::{AllocError, Global};
@@ -22,7 +23,7 @@ fn formatted_in(
 }
 
 fn formatted(alloc: Global, steps: u64, row: Row) -> Result<Vec<u8>, EvalErr> {
-    let mut store = Store::new(alloc, 1);
+    let mut store = Store::new(alloc, 1, Seed::fixed());
     formatted_in(alloc, &mut store, steps, row)
 }
 
@@ -74,7 +75,7 @@ fn filled_in(alloc: Global, store: &mut Store, steps: u64, row: Row) -> Result<V
 }
 
 fn filled(alloc: Global, steps: u64, row: Row) -> Result<Vec<u8>, EvalErr> {
-    let mut store = Store::new(alloc, 1);
+    let mut store = Store::new(alloc, 1, Seed::fixed());
     filled_in(alloc, &mut store, steps, row)
 }
 

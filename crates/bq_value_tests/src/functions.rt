@@ -6,6 +6,7 @@ use crate::value::words::{push_values, top};
 use bq_functions::call_function;
 use bq_machine::{Args, Machine};
 use bq_predeclared::{Predeclared, predeclared_named};
+use bq_seed::Seed;
 use bq_source::{Bytes, FaultKind};
 use bq_text::repr;
 use bq_value::{EvalErr, Store, Value};
@@ -103,7 +104,7 @@ fn call_words(
 }
 
 fn called_row(alloc: Global, words: &[u8], row: Row) -> Result<Vec<u8>, EvalErr> {
-    let mut store = Store::new(alloc, 1);
+    let mut store = Store::new(alloc, 1, Seed::fixed());
     let mut stack = Vec::new(alloc);
     push_values(alloc, &mut store, &mut stack, words)?;
     let mut machine = Machine::new(alloc, store, 1000);

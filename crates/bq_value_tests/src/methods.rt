@@ -5,6 +5,7 @@ use crate::value::refusal;
 use crate::value::words::{push_values, top};
 use bq_machine::{Args, Machine};
 use bq_methods::call_method;
+use bq_seed::Seed;
 use bq_source::Bytes;
 use bq_value::{EvalErr, Node, Store, Value};
 use std::alloc::{AllocError, Global};
@@ -65,7 +66,7 @@ fn call(
 }
 
 fn called(alloc: Global, receiver: &[u8], row: Row) -> Result<Vec<u8>, EvalErr> {
-    let mut store = Store::new(alloc, 1);
+    let mut store = Store::new(alloc, 1, Seed::fixed());
     let receiver = value_of(alloc, &mut store, receiver)?;
     let args = args_of(alloc, &mut store, row)?;
     let mut machine = Machine::new(alloc, store, 10_000);

@@ -7,6 +7,7 @@ use crate::value::words::{push_values, top};
 use bq_grammar::{Comparison, Operator, UnaryOperator};
 use bq_machine::Machine;
 use bq_operate::{augment, binary, compare, index, slice, unary};
+use bq_seed::Seed;
 use bq_value::{EvalErr, Store, Value};
 use std::alloc::{AllocError, Global};
 
@@ -116,7 +117,7 @@ fn shown(
 
 /// The same of the values of these words.
 fn answer(alloc: Global, kind: Kind, word: &[u8], values: &[u8]) -> Result<Vec<u8>, EvalErr> {
-    let mut store = Store::new(alloc, 1);
+    let mut store = Store::new(alloc, 1, Seed::fixed());
     let mut stack = Vec::new(alloc);
     push_values(alloc, &mut store, &mut stack, values)?;
     let mut machine = Machine::new(alloc, store, 10_000_000);

@@ -5,6 +5,7 @@ use crate::rows::{Row, Subject, check_rows};
 use crate::value::refusal;
 use crate::value::words::push_values;
 use bq_machine::{Args, Machine};
+use bq_seed::Seed;
 use bq_source::FaultKind;
 use bq_string_methods::{StringMethod, call, string_method};
 use bq_text::repr;
@@ -31,7 +32,7 @@ fn shown_call(
 
 /// What the method of a row gives of a text and the values of the row.
 fn called(alloc: Global, method: StringMethod, text: &[u8], row: Row) -> Result<Vec<u8>, EvalErr> {
-    let mut store = Store::new(alloc, 1);
+    let mut store = Store::new(alloc, 1, Seed::fixed());
     let mut args = Args::new(alloc);
     push_values(
         alloc,

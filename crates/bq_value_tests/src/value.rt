@@ -4,6 +4,7 @@
 pub mod words;
 
 use crate::rows::{Row, Subject, check_rows, number_of};
+use bq_seed::Seed;
 use bq_source::{Bytes, FaultKind};
 use bq_text::{repr, text};
 use bq_value::{EvalErr, Frozen, Key, Store, Value, freeze};
@@ -128,7 +129,7 @@ fn walked_in(
 }
 
 fn walked_row(alloc: Global, walk: Walk, steps: u64, row: Row) -> Result<Vec<u8>, EvalErr> {
-    let mut store = Store::new(alloc, 1);
+    let mut store = Store::new(alloc, 1, Seed::fixed());
     walked_in(alloc, &mut store, walk, steps, row)
 }
 
@@ -182,7 +183,7 @@ struct FrozenValues;
 
 /// A module whose one global is the value of these words.
 fn frozen_of(alloc: Global, words: &[u8]) -> Result<Frozen, EvalErr> {
-    let mut store = Store::new(alloc, 1);
+    let mut store = Store::new(alloc, 1, Seed::fixed());
     let mut globals = Vec::new(alloc);
     push_values(alloc, &mut store, &mut globals, words)?;
     Ok(freeze(alloc, store, &[], globals)?)
@@ -211,7 +212,7 @@ fn walked_with(
 }
 
 fn read_frozen(alloc: Global, frozen: &Frozen, words: &[u8]) -> Result<Vec<u8>, EvalErr> {
-    let mut store = Store::new(alloc, 2);
+    let mut store = Store::new(alloc, 2, Seed::fixed());
     walked_with(alloc, &mut store, frozen, words)
 }
 

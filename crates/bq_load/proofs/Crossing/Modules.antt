@@ -5,6 +5,8 @@ use denote.Param.Send.{IsSend, IsSync, sendable}
 use Rattle.std.proofs.Crossing.{crosses}
 use Rattle.std.proofs.hash.BuildHasherDefault.TheSendSync as Builder
 use Rattle.std.proofs.hash.FoldHasher.TheSendSync as Hasher
+use Rattle.bq_seed.proofs.seed.Seed.TheSendSync as Seed
+use Rattle.bq_seed.proofs.hasher.KeyHasher.TheSendSync as KeyHasher
 use Rattle.bq_source.proofs.fault.Fault.TheSendSync as Fault
 use Rattle.bq_host.specs.contracts.built_ins.BuiltIns as BuiltIns
 use Rattle.bq_load.specs.contracts.outcome.LoadedModule as LoadedModule
@@ -32,7 +34,7 @@ source_sync = let ls = label_send in let ly = label_sync in search (Fault.the_sy
 pub loading_sync : (a : NamedLft) → IsSync (Loading.the_row a)
 loading_sync a =
     let w = workspace_sync in let p = packages_sync in let s = schema_sync in let b = built_ins_sync in let o = source_sync in let r = resolved_sync in
-    search (crosses, sendable) depth 60 fits 20000
+    search (Seed.the_sync, KeyHasher.the_sync, crosses, sendable) depth 60 fits 20000
 
 pub watch_sync : (a : NamedLft) (T : RattleType) → IsSync T → IsSync (GateWatch.the_row a T)
 watch_sync a T gate = let l = loading_sync a in search (crosses, sendable) depth 60 fits 20000

@@ -4,6 +4,8 @@ use Rattle.std.proofs.Crossing.{crosses}
 use Rattle.std.proofs.hash.BuildHasherDefault.TheSendSync as Builder
 use Rattle.std.proofs.hash.FoldHasher.TheSendSync as Hasher
 use Rattle.indexmap.proofs.map.IndexMap.TheSendSync as Map
+use Rattle.bq_seed.proofs.seed.Seed.TheSendSync as Seed
+use Rattle.bq_seed.proofs.hasher.KeyHasher.TheSendSync as KeyHasher
 use Rattle.bq_source.proofs.bytes.Bytes.TheSendSync as Bytes
 use Rattle.bq_value.proofs.value.Value.TheLaws.TheKnot as Knot
 use Rattle.bq_value.proofs.tree.Tree.TheLaws.TheKnot as Trees
@@ -31,10 +33,10 @@ pub key_sync : IsSync (Key.the_field).row
 key_sync = let y = value_sync in search (crosses, sendable) depth 60 fits 20000
 
 pub dict_send : IsSend (Dict.the_field).row
-dict_send = let v = value_send in let k = key_send in search (Map.the_send, Builder.the_send, Hasher.the_send, crosses, sendable) depth 60 fits 20000
+dict_send = let v = value_send in let k = key_send in search (Map.the_send, Seed.the_send, KeyHasher.the_send, crosses, sendable) depth 60 fits 20000
 
 pub dict_sync : IsSync (Dict.the_field).row
-dict_sync = let v = value_sync in let k = key_sync in search (Map.the_sync, Builder.the_sync, Hasher.the_sync, crosses, sendable) depth 60 fits 20000
+dict_sync = let v = value_sync in let k = key_sync in search (Map.the_sync, Seed.the_sync, KeyHasher.the_sync, crosses, sendable) depth 60 fits 20000
 
 pub content_send : IsSend (Content.the_field).row
 content_send = let v = value_send in let k = dict_send in let c = class_send in search (crosses, sendable) depth 60 fits 20000

@@ -8,6 +8,7 @@ use bq_discover::LoadErr;
 use bq_label::{File, Workspace};
 use bq_load::{Gate, Loaded, OpenGate, load_one_thread, load_with};
 use bq_schema::Schema;
+use bq_seed::Seed;
 use bq_workers::MAX_WORKERS;
 use std::alloc::{AllocError, Global};
 use std::process::Abort;
@@ -26,7 +27,13 @@ struct Tree<'a> {
 }
 
 fn by_one_thread(tree: Tree<'_>) -> Result<Loaded, LoadErr> {
-    load_one_thread(tree.alloc, tree.workspace, tree.schema, LIMIT)
+    load_one_thread(
+        tree.alloc,
+        tree.workspace,
+        tree.schema,
+        LIMIT,
+        Seed::fixed(),
+    )
 }
 
 fn by_workers<R: Threads + Wait + Sync, G: Gate>(
@@ -43,6 +50,7 @@ fn by_workers<R: Threads + Wait + Sync, G: Gate>(
         tree.workspace,
         tree.schema,
         LIMIT,
+        Seed::fixed(),
         workers,
         gate,
     )

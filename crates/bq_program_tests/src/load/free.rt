@@ -6,6 +6,7 @@ use bq_discover::LoadErr;
 use bq_label::{File, Workspace};
 use bq_load::{OpenGate, load_with};
 use bq_schema::Schema;
+use bq_seed::Seed;
 use bq_workers::MAX_WORKERS;
 use std::alloc::{AllocError, Global};
 use std::sync::Wait;
@@ -35,7 +36,16 @@ fn loaded<R: Threads + Wait + Sync>(
     let (Ok(workspace), Ok(schema)) = (&workspace, &schema) else {
         return Err(LoadErr::Memory);
     };
-    let loaded = load_with(rt, alloc, workspace, schema, 100, workers, &OpenGate)?;
+    let loaded = load_with(
+        rt,
+        alloc,
+        workspace,
+        schema,
+        100,
+        Seed::fixed(),
+        workers,
+        &OpenGate,
+    )?;
     Ok(loaded.packages.len())
 }
 

@@ -6,6 +6,7 @@ use bq_discover::LoadErr;
 use bq_label::Workspace;
 use bq_load::load_with;
 use bq_schema::Schema;
+use bq_seed::Seed;
 use std::alloc::Global;
 use std::sync::Wait;
 use std::thread::Threads;
@@ -36,7 +37,16 @@ struct Tree<'a> {
 /// Whether `c.bzl` enters while `b.bzl` is held, by two workers.
 fn workers_meet<R: Threads + Wait + Sync>(rt: &R, tree: Tree<'_>) -> Result<bool, LoadErr> {
     let gate = Holding::new();
-    let loaded = load_with(rt, tree.alloc, tree.workspace, tree.schema, LIMIT, 2, &gate)?;
+    let loaded = load_with(
+        rt,
+        tree.alloc,
+        tree.workspace,
+        tree.schema,
+        LIMIT,
+        Seed::fixed(),
+        2,
+        &gate,
+    )?;
     Ok(gate.both_met() && loaded.modules.len() == 4 && loaded.faults.is_empty())
 }
 

@@ -12,6 +12,7 @@
 use crate::rows::number_of;
 use bq_predeclared::{RuleFunction, attr_named};
 use bq_rule_class::{Attribute, AttributeType, AttributeValue, RuleClass, type_named};
+use bq_seed::Seed;
 use bq_source::Bytes;
 use bq_value::{Body, Content, Dict, EvalErr, Function, Range, Store, Value};
 use bq_walk::key_of;
@@ -107,7 +108,7 @@ fn compound(
 
 /// The dict of keys and values in turn.
 fn dict_of(alloc: Global, store: &mut Store, mut values: Vec<Value>) -> Result<Value, EvalErr> {
-    let mut dict = Dict::new(alloc);
+    let mut dict = Dict::new(alloc, Seed::fixed());
     values.reverse();
     for _ in 0..values.len() / 2 {
         let (key, _left) = key_of(1000, &top(&mut values))?;
