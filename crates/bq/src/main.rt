@@ -2,9 +2,12 @@
 //! faults and the error line to standard error. All that it promises is `bq_run::run`'s, and `bq_run::run_files`' of a directory; of
 //! `--explain`, `bq_explain::explain`'s.
 //!
-//! - `words`: the command line.
+//! - `words`: the command line;
+//! - `tests`: its tests.
 #![tactic(auto)]
 
+#[cfg(test)]
+mod tests;
 mod words;
 
 ghost use Rattle.bq_run.specs.Run.{IsInRange};
