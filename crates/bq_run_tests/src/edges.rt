@@ -23,7 +23,7 @@ fn bundle_of(alloc: Global, packages: u64, files: u64) -> Result<String, AllocEr
     Ok(whole)
 }
 
-/// What is written over as many packages as cell 0 says, each of which loads as many files as cell 1 says.
+/// What is written by one worker over as many packages as cell 0 says, each of which loads as many files as cell 1 says.
 pub fn over_edges<R: Threads + Wait + Sync>(
     rt: &R,
     alloc: Global,
@@ -35,7 +35,7 @@ pub fn over_edges<R: Threads + Wait + Sync>(
         output: OutputForm::Label,
         steps: 1_000_000,
     };
-    by_jobs(rt, alloc, bundle.as_bytes(), asked, &[2])
+    by_jobs(rt, alloc, bundle.as_bytes(), asked, &[])
 }
 
 #[test]

@@ -92,9 +92,7 @@ fn status(rt: &HostRuntime, line: &[u8]) -> Result<u8, AllocError> {
 #[test]
 fn end_with_help_or_a_refusal(rt: HostRuntime) -> Result<(), AllocError> {
     assert!(rt; status(&rt, b"--help")? == 0);
-    assert!(rt; status(&rt, b"-h")? == 0);
     assert!(rt; status(&rt, b"--jobs 0 //a:x")? == 2);
-    assert!(rt; status(&rt, b"--none //a:x")? == 2);
     assert!(rt; status(&rt, b"")? == 2);
     Ok(())
 }

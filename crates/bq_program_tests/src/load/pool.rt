@@ -57,13 +57,13 @@ fn worked<'s, R: Wait>(
 }
 
 /// What two threads bring, each at a seat.
-fn both<'s, R: Threads + Wait + Sync>(
-    rt: &'s R,
+fn both<'p, 's, R: Threads + Wait + Sync>(
+    rt: &'p R,
     alloc: Global,
-    pool: &'s Pool<'s>,
+    pool: &'p Pool<'s>,
     one: PoolSeat<'s>,
     other: PoolSeat<'s>,
-    gate: &'s Holding,
+    gate: &'p Holding,
 ) -> (Result<Worked, AllocError>, Result<Worked, AllocError>)
     requires one { IsSeatOf pool.now.shared.board one.place }
     requires other { IsSeatOf pool.now.shared.board other.place }
