@@ -4,11 +4,14 @@
 //!
 //! - `words`: the command line;
 //! - `streams`: where the program writes;
-//! - `runs`: runs over a bundle and over a directory.
+//! - `runs`: runs over a bundle and over a directory;
+//! - `tests`: its tests.
 #![tactic(auto)]
 
 mod runs;
 mod streams;
+#[cfg(test)]
+mod tests;
 mod words;
 
 ghost use Rattle.std.specs.Prelude.{◌≡◌, ◌≢◌, ◌⊎◌, is_ok};

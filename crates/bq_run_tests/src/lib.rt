@@ -10,6 +10,8 @@ mod cuts;
 #[cfg(test)]
 mod devices;
 #[cfg(test)]
+mod edges;
+#[cfg(test)]
 mod examples;
 #[cfg(test)]
 mod generated;

@@ -4,6 +4,7 @@ ghost use Rattle.bq_run.specs.Run.{IsInRange};
 
 use crate::cuts::over_beginnings;
 use crate::devices::{make_drip, make_sip};
+use crate::edges::over_edges;
 use crate::examples::example;
 use crate::generated::generated;
 use crate::options::{corner, options};
@@ -122,6 +123,7 @@ pub enum Table {
     Within(Surroundings),
     Beginnings,
     Rules,
+    Edges,
 }
 
 fn answer<R: Threads + Wait + RandomSource + Sync>(
@@ -142,6 +144,7 @@ fn answer<R: Threads + Wait + RandomSource + Sync>(
         Table::Within(around) => within(rt, alloc, around, row),
         Table::Beginnings => over_beginnings(rt, alloc, row),
         Table::Rules => over_rules(rt, alloc, row),
+        Table::Edges => over_edges(rt, alloc, row),
     }
 }
 

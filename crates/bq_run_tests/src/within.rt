@@ -61,6 +61,6 @@ pub fn within<R: Threads + Wait + RandomSource + Sync>(
         output: OutputForm::Label,
         steps: 1_000_000,
     };
-    let found = by_jobs(rt, alloc, &bundle, asked, &[4])?;
+    let found = by_jobs(rt, alloc, &bundle, asked, &[2, 64])?;
     own_fault(&found, around.other_faults).to_vec(alloc)
 }

@@ -150,19 +150,12 @@ load(":y.bzl", "b")
 print(a + b)
 "#;
 
-/// Whether the two files are in evaluation at once in one of a few tries, and each module enters once in each.
+/// Whether the two files are in evaluation at once, and each module enters once.
 fn meet<R: Threads + Wait + Sync>(rt: &R, tree: Tree<'_>) -> Result<bool, LoadErr> {
-    for _ in 0..5 {
-        let gate = Meeting::new();
-        let loaded = by_workers(rt, tree, 2, &gate)?;
-        if !gate.entered_once() || loaded.prints.as_slice() != b"//:BUILD: 3\n".as_slice() {
-            return Ok(false);
-        }
-        if gate.both_met() {
-            return Ok(true);
-        }
-    }
-    Ok(false)
+    let gate = Meeting::new();
+    let loaded = by_workers(rt, tree, 2, &gate)?;
+    let is_whole = loaded.prints.as_slice() == b"//:BUILD: 3\n".as_slice();
+    Ok(gate.both_met() && gate.entered_once() && is_whole)
 }
 
 fn check_meeting<R: Abort + Threads + Wait + Sync>(rt: &R, tree: Tree<'_>) -> Result<(), LoadErr> {

@@ -1,0 +1,7 @@
+//! What no clause says of the program: clap's texts, the options that words give, and how runs over directories end.
+//!
+//! - `lines`: command lines, and what they ask for;
+//! - `directories`: runs over directories.
+
+mod directories;
+mod lines;
