@@ -4,14 +4,22 @@ ghost use Rattle.std.specs.Prelude.{◌≡◌, [], IfOk, MatchOption};
 
 use crate::path::{is_package, is_repository};
 use bq_source::Bytes;
-use std::alloc::AllocError;
+use std::alloc::{AllocError, Global};
 use std::marker::Model;
+use std::sync::Arc;
 
-/// A package: its repository and its path there. Contracts see both as bytes.
-#[derive(Debug, PartialEq, Eq, Drop)]
-pub struct PackageId {
+/// What names a package.
+#[derive(Debug, Drop)]
+struct Names {
     repo: Bytes,
     package: Bytes,
+}
+
+/// A package: its repository and its path there, with many owners, since each label of the package names it. Contracts see both as
+/// bytes.
+#[derive(Debug, Drop)]
+pub struct PackageId {
+    names: Arc<Names>,
 }
 
 impl Model for PackageId {
@@ -19,11 +27,9 @@ impl Model for PackageId {
 
     ghost Value = { PackageParts };
 
-    ghost view = { λ p. package_at p.repo p.package };
+    ghost view = { λ p. package_at p.names.value.repo p.names.value.package };
 
-    ghost invariant = { λ p. IsPackage (package_at p.repo p.package) };
-
-    ghost inverse = { λ p. record { repo = p.repo; «package» = p.package } };
+    ghost invariant = { λ p. IsPackage (package_at p.names.value.repo p.names.value.package) };
 }
 
 impl PackageId {
@@ -31,33 +37,36 @@ impl PackageId {
 
     /// The package of a repository, whose name is empty for the main one, at a path, which is empty for the root. There
     /// is none where one of them is not valid.
-    pub fn new(repo: Bytes, package: Bytes) -> Option<PackageId>
-        ensures { MatchOption result (IsPackage (package_at repo «package») → ⊥) (λ p. (p ≡ package_at repo «package») × IsPackage p) }
+    pub fn new(alloc: Global, repo: Bytes, package: Bytes) -> Result<Option<PackageId>, AllocError>
+        ensures { IfOk result (λ found. MatchOption found (IsPackage (package_at repo «package») → ⊥) (λ p. (p ≡ package_at repo «package») × IsPackage p)) }
     {
         if is_repository(repo.as_slice()) && is_package(package.as_slice()) {
-            Some(PackageId { repo, package })
+            Ok(Some(PackageId::from_parts(alloc, repo, package)?))
         } else {
-            None
+            Ok(None)
         }
     }
 
     /// The package, where both names are known to be valid.
-    pub(crate) fn from_parts(repo: Bytes, package: Bytes) -> PackageId
+    pub(crate) fn from_parts(
+        alloc: Global,
+        repo: Bytes,
+        package: Bytes,
+    ) -> Result<PackageId, AllocError>
         requires { IsPackage (package_at repo «package») }
-        ensures { result ≡ package_at repo «package» }
+        ensures { IfOk result (λ p. p ≡ package_at repo «package») }
     {
-        PackageId { repo, package }
+        Ok(PackageId {
+            names: Arc::new(alloc, Names { repo, package })?,
+        })
     }
 
     /// The root package of the main repository.
     #[tactic(auto, unfolding(crate::specs::Paths::is_repository, crate::specs::Paths::is_package))]
-    pub fn root() -> PackageId
-        ensures { result ≡ package_at [] [] }
+    pub fn root(alloc: Global) -> Result<PackageId, AllocError>
+        ensures { IfOk result (λ p. p ≡ package_at [] []) }
     {
-        PackageId {
-            repo: Bytes::empty(),
-            package: Bytes::empty(),
-        }
+        PackageId::from_parts(alloc, Bytes::empty(), Bytes::empty())
     }
 
     /// The repository's name, empty for the main one.
@@ -65,7 +74,7 @@ impl PackageId {
         ensures value { result.now ≡ self.now.repo }
         ensures valid { IsPackage self.now }
     {
-        &self.repo
+        &self.names.repo
     }
 
     /// The path in the repository, empty for the root.
@@ -73,7 +82,7 @@ impl PackageId {
         ensures value { result.now ≡ self.now.package }
         ensures valid { IsPackage self.now }
     {
-        &self.package
+        &self.names.package
     }
 
     /// The same package. No byte is copied.
@@ -81,8 +90,7 @@ impl PackageId {
         ensures { IfOk result (λ p. p ≡ self.now) }
     {
         Ok(PackageId {
-            repo: self.repo.share()?,
-            package: self.package.share()?,
+            names: self.names.clone()?,
         })
     }
 }

@@ -116,7 +116,7 @@ fn package_of_file(
     let repo = Bytes::from_slice(alloc, found.repo)?;
     let path = Bytes::from_slice(alloc, directory_of(found.rest))?;
     Ok(Some(BuildFile {
-        id: PackageId::from_parts(repo, path),
+        id: PackageId::from_parts(alloc, repo, path)?,
         file: file.share()?,
     }))
 }

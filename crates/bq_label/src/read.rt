@@ -38,7 +38,7 @@ fn read_parts(alloc: Global, repo: Bytes, package: &[u8], name: &[u8]) -> Result
     ensures { Gives (λ label. label) Bad result (or_bad_label (valid_label (label_at repo «package».now name.now))) }
 {
     let package = Bytes::from_slice(alloc, package)?;
-    match PackageId::new(repo, package) {
+    match PackageId::new(alloc, repo, package)? {
         Some(package) => read_name(alloc, package, name),
         None => Err(bad_label()),
     }

@@ -1,6 +1,7 @@
 -- The predeclared names (Starlark specification, "Built-in constants and functions"; Bazel, Build Encyclopedia, "Functions"), but for
 -- those of rules and of the functions that declare rules.
-use Rattle.std.specs.Prelude.{ℕ, List, [], ◌∷◌, Bool, false, Option, Some, None, codes, bytes_eq, slice_get, if◌then◌else◌}
+use Rattle.std.specs.Prelude.{ℕ, List, [], ◌∷◌, length, Bool, false, ◌&&◌, ◌==◌, Option, Some, None, codes, bytes_eq, slice_get, if◌then◌else◌}
+use Rattle.std.specs.List.{list_any}
 use Rattle.bq_predeclared.specs.declared.predeclared.Predeclared.{Predeclared}
 use Rattle.bq_predeclared.specs.declared.predeclared.Predeclared.TheVariants as p
 
@@ -51,6 +52,18 @@ has_name name (Some own) = bytes_eq name own
 
 abbrev pub is_named : List ℕ → Predeclared → Bool
 is_named name x = has_name name (name_of x)
+
+-- the first byte and the length of each name, each pair once
+abbrev pub heads : List (ℕ × ℕ)
+heads =
+    (78, 4) ∷ (84, 4) ∷ (70, 5) ∷ (97, 3) ∷ (98, 4) ∷ (100, 4) ∷ (101, 9) ∷ (102, 4) ∷ (105, 3) ∷ (108, 3) ∷ (108, 4)
+    ∷ (109, 3) ∷ (112, 5) ∷ (114, 5) ∷ (114, 4) ∷ (114, 8) ∷ (115, 6) ∷ (115, 3) ∷ (116, 5) ∷ (116, 4) ∷ (122, 3)
+    ∷ (103, 4) ∷ (112, 12) ∷ (112, 7) ∷ (108, 8) ∷ (101, 13) ∷ (112, 13) ∷ []
+
+-- a name of such a first byte and length
+abbrev pub has_head : List ℕ → Bool
+has_head [] = false
+has_head (b ∷ bs) = list_any (λ h. h.0 == b && h.1 == length (b ∷ bs)) heads
 
 unfoldable pub first_named : List ℕ → List Predeclared → Option Predeclared
 first_named name [] = None

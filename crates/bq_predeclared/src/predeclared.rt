@@ -1,7 +1,8 @@
 //! The predeclared names (Starlark specification, "Built-in constants and functions"; Bazel, Build Encyclopedia, "Functions").
 
-ghost use Rattle.std.specs.Prelude.{◌≡◌, option_copied};
-ghost use Rattle.bq_predeclared.specs.Predeclared.{predeclared_named, first_named, is_named, name_of};
+ghost use Rattle.std.specs.Prelude.{◌≡◌, ◌==◌, ◌&&◌, option_copied};
+ghost use Rattle.std.specs.List.{list_any};
+ghost use Rattle.bq_predeclared.specs.Predeclared.{predeclared_named, first_named, is_named, name_of, has_head};
 
 use crate::rule_function::RuleFunction;
 
@@ -131,6 +132,60 @@ fn is_named(predeclared: Predeclared, name: &[u8]) -> bool
     }
 }
 
+/// The first byte and the length of each name, each pair once.
+const HEADS: [(u8, usize); 27] = [
+    (b'N', 4),
+    (b'T', 4),
+    (b'F', 5),
+    (b'a', 3),
+    (b'b', 4),
+    (b'd', 4),
+    (b'e', 9),
+    (b'f', 4),
+    (b'i', 3),
+    (b'l', 3),
+    (b'l', 4),
+    (b'm', 3),
+    (b'p', 5),
+    (b'r', 5),
+    (b'r', 4),
+    (b'r', 8),
+    (b's', 6),
+    (b's', 3),
+    (b't', 5),
+    (b't', 4),
+    (b'z', 3),
+    (b'g', 4),
+    (b'p', 12),
+    (b'p', 7),
+    (b'l', 8),
+    (b'e', 13),
+    (b'p', 13),
+];
+
+/// One of these is of that first byte and length.
+fn is_head(mut table: &[(u8, usize)], first: u8, len: usize) -> bool
+    ensures { result ≡ list_any (λ h. h.0 == first && h.1 == len) table.entry.now }
+{
+    while let [entry, rest @ ..] = table {
+        if entry.0 == first && entry.1 == len {
+            return true;
+        }
+        table = rest;
+    }
+    false
+}
+
+/// A predeclared name has this first byte and this length. Most names have neither, and need no walk along all.
+fn has_head(name: &[u8]) -> bool
+    ensures { result ≡ has_head name.now }
+{
+    match name {
+        [first, ..] => is_head(&HEADS, *first, name.len()),
+        [] => false,
+    }
+}
+
 #[tactic(auto, unfolding(crate::specs::Predeclared::first_named))]
 fn first_named(mut table: &[Predeclared], name: &[u8]) -> Option<Predeclared>
     ensures { result ≡ first_named name.now table.entry.now }
@@ -145,9 +200,12 @@ fn first_named(mut table: &[Predeclared], name: &[u8]) -> Option<Predeclared>
 }
 
 /// What the name stands for; none for the name of a rule, and for one that nothing has.
-#[tactic(auto, unfolding(crate::specs::Predeclared::predeclared_named))]
+#[tactic(auto, using(crate::proofs::Heads::headless), unfolding(crate::specs::Predeclared::predeclared_named))]
 pub fn predeclared_named(name: &[u8]) -> Option<Predeclared>
     ensures { result ≡ predeclared_named name.now }
 {
+    if !has_head(name) {
+        return None;
+    }
     first_named(&PREDECLARED, name)
 }

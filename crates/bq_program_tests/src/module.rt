@@ -21,7 +21,7 @@ use std::alloc::{AllocError, Global};
 /// What a chunk prints, where its one file is of this kind, and no build function may be called.
 impl Subject for FileKind {
     fn answer(&self, alloc: Global, text: &[u8]) -> Result<Vec<u8>, AllocError> {
-        let own = PackageId::root();
+        let own = PackageId::root(alloc)?;
         let packages = no_packages(alloc)?;
         let setting = Setting {
             alloc,

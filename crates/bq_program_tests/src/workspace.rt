@@ -45,9 +45,9 @@ pub fn bundle(alloc: Global, files: &[(&str, &str)]) -> Result<Vec<File>, AllocE
 pub fn package_id(alloc: Global, repo: &str, path: &str) -> Result<PackageId, AllocError> {
     let repo = Bytes::from_slice(alloc, repo.as_bytes())?;
     let path = Bytes::from_slice(alloc, path.as_bytes())?;
-    match PackageId::new(repo, path) {
+    match PackageId::new(alloc, repo, path)? {
         Some(found) => Ok(found),
-        None => Ok(PackageId::root()),
+        None => PackageId::root(alloc),
     }
 }
 

@@ -27,7 +27,8 @@ fn is_read<T: Drop>(read: Result<T, SourceErr>) -> Result<bool, AllocError>
 fn is_label(alloc: Global, text: &[u8]) -> Result<bool, AllocError>
     ensures { IfOk result (λ b. b ≡ is_some (label_of (package_at [] []) text.now)) }
 {
-    is_read(read_label(alloc, text, &PackageId::root()))
+    let root = PackageId::root(alloc)?;
+    is_read(read_label(alloc, text, &root))
 }
 
 /// A word as a target pattern: Q3 where it begins as none that can be answered, Q8 where it can't be read.

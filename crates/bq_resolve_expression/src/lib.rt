@@ -15,6 +15,7 @@
 //!
 //! - `walk`: what is carried along a file;
 //! - `identifier`: uses of names, and names that are bound;
+//! - `room`: lists whose length is known;
 //! - `rules`: the resolver of what stands inside, and lists of it;
 //! - `suffixes`, `primary`, `targets`, `comprehensions`: the rules;
 //! - `expressions`: all forms of expressions.
@@ -24,6 +25,7 @@ mod comprehensions;
 mod expressions;
 mod identifier;
 mod primary;
+mod room;
 mod rules;
 mod suffixes;
 mod targets;
@@ -31,5 +33,6 @@ mod walk;
 
 pub use expressions::expr_to;
 pub use identifier::{fault_of, name_target, use_at};
+pub use room::with_room;
 pub use rules::Rules;
 pub use walk::Walk;

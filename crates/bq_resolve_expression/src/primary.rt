@@ -7,6 +7,7 @@ ghost use Rattle.bq_scope.specs.Expressions as spec;
 ghost use Rattle.bq_resolve_expression.specs.Walks.{Walks, WalksNested};
 
 use crate::identifier::fault_of;
+use crate::room::with_room;
 use crate::rules::Rules;
 use crate::walk::Walk;
 use bq_grammar::{Argument, Expr, FileKind, Identifier, Suffix};
@@ -91,7 +92,7 @@ impl<F: Fn(Global, &FileNames, usize, &[Block], &mut Walk, &Expr) -> Result<Code
         ensures { Walks (spec.operand file.now (spec.expr_to self.now.depth file.now) blocks.now operand.now suffixes.now walk.old) result walk.new }
     {
         let operand = self.boxed(file, blocks, walk, operand)?;
-        let done = Items::new(self.alloc);
+        let done = with_room(self.alloc, suffixes.len())?;
         Ok(Code::Primary(operand, self.suffixes(file, blocks, walk, done, suffixes)?))
     }
 

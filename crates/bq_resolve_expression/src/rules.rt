@@ -5,6 +5,7 @@ ghost use Rattle.bq_scope.specs.Visit as visit;
 ghost use Rattle.bq_scope.specs.Expressions as spec;
 ghost use Rattle.bq_resolve_expression.specs.Walks.{Walks, WalksNested};
 
+use crate::room::with_room;
 use crate::walk::Walk;
 use bq_grammar::{Choice, Expr, Operation, Pair};
 use bq_scope::{Block, Code, CodeChoice, CodeOperation, CodePair, FileNames};
@@ -64,7 +65,7 @@ impl<F: Fn(Global, &FileNames, usize, &[Block], &mut Walk, &Expr) -> Result<Code
         requires { WalksNested self.now.depth (F.pre self.now.visit) (F.post self.now.visit) }
         ensures { Walks (visit.each (spec.expr_to self.now.depth file.now blocks.now) [] exprs.now walk.old) result walk.new }
     {
-        let mut done = Items::new(self.alloc);
+        let mut done = with_room(self.alloc, exprs.len())?;
         for expr in exprs {
             done.push(self.expr(file, blocks, walk, expr)?)?;
         }
@@ -121,7 +122,7 @@ impl<F: Fn(Global, &FileNames, usize, &[Block], &mut Walk, &Expr) -> Result<Code
         requires { WalksNested self.now.depth (F.pre self.now.visit) (F.post self.now.visit) }
         ensures { Walks (visit.each (spec.operation file.now (spec.expr_to self.now.depth file.now) blocks.now) [] operations.now walk.old) result walk.new }
     {
-        let mut done = Items::new(self.alloc);
+        let mut done = with_room(self.alloc, operations.len())?;
         for operation in operations {
             done.push(self.operation(file, blocks, walk, operation)?)?;
         }
@@ -139,7 +140,7 @@ impl<F: Fn(Global, &FileNames, usize, &[Block], &mut Walk, &Expr) -> Result<Code
         requires { WalksNested self.now.depth (F.pre self.now.visit) (F.post self.now.visit) }
         ensures { Walks (visit.each (spec.pair file.now (spec.expr_to self.now.depth file.now) blocks.now) [] pairs.now walk.old) result walk.new }
     {
-        let mut done = Items::new(self.alloc);
+        let mut done = with_room(self.alloc, pairs.len())?;
         for pair in pairs {
             done.push(self.pair(file, blocks, walk, pair)?)?;
         }
@@ -177,7 +178,7 @@ impl<F: Fn(Global, &FileNames, usize, &[Block], &mut Walk, &Expr) -> Result<Code
         requires { WalksNested self.now.depth (F.pre self.now.visit) (F.post self.now.visit) }
         ensures { Walks (visit.each (spec.choice file.now (spec.expr_to self.now.depth file.now) blocks.now) [] choices.now walk.old) result walk.new }
     {
-        let mut done = Items::new(self.alloc);
+        let mut done = with_room(self.alloc, choices.len())?;
         for choice in choices {
             done.push(self.choice(file, blocks, walk, choice)?)?;
         }

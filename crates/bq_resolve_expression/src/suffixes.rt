@@ -7,6 +7,7 @@ ghost use Rattle.bq_scope.specs.Visit as visit;
 ghost use Rattle.bq_scope.specs.Expressions as spec;
 ghost use Rattle.bq_resolve_expression.specs.Walks.{Walks, WalksNested};
 
+use crate::room::with_room;
 use crate::rules::Rules;
 use crate::walk::Walk;
 use bq_grammar::{Argument, Expr, Identifier, Suffix};
@@ -69,7 +70,7 @@ impl<F: Fn(Global, &FileNames, usize, &[Block], &mut Walk, &Expr) -> Result<Code
         requires { WalksNested self.now.depth (F.pre self.now.visit) (F.post self.now.visit) }
         ensures { Walks (spec.arguments file.now (spec.expr_to self.now.depth file.now) blocks.now arguments.now walk.old) result walk.new }
     {
-        let mut done = Items::new(self.alloc);
+        let mut done = with_room(self.alloc, arguments.len())?;
         for argument in arguments {
             done.push(self.argument(file, blocks, walk, argument)?)?;
         }

@@ -1,14 +1,15 @@
 -- The items of a string literal's body, one at a time.
-use Rattle.std.proofs.Common.{◌≡◌, ℕ, zero, suc, ◌+◌, ◌<◌, List, [], ◌∷◌, ◌++◌, Option, Some, None, length, take, drop, cond, is_none, refl, sym, ap, ◌∙◌, arith, length-append, IfSome, IsSome, unwrap_or, subst, append_assoc}
+use Rattle.std.proofs.Common.{◌≡◌, ℕ, zero, suc, ◌+◌, ◌<◌, ◌≤◌, ◌==◌, Bool, true, false, not, ◌&&◌, List, [], ◌∷◌, ◌++◌, Option, Some, None, length, take, drop, cond, is_none, refl, sym, ap, ◌∙◌, arith, length-append, IfSome, IsSome, unwrap_or, subst, append_assoc}
 use Rattle.std.proofs.lemmas.List.{drop-drop, length-take-le, append-nil}
 use Rattle.std.specs.Prelude.{option_map}
+use Rattle.std.specs.List.{prefix_len}
 use Rattle.std.specs.Option.{option_or}
 use Rattle.bq_source.specs.declared.string_literal.Quoting.{Quoting}
 use Rattle.bq_source.specs.declared.string_literal.ItemValue.{ItemValue}
 use Rattle.bq_source.specs.declared.string_literal.ItemValue.TheVariants.{Byte, BackslashAnd, Empty, BadEscape}
 use Rattle.bq_source.specs.declared.string_literal.BodyPart.{BodyPart}
 use Rattle.bq_source.specs.declared.string_literal.BodyPart.TheVariants.{Closing, Unclosed, Item}
-use Rattle.bq_source.specs.StringLiteral.{opening, opening_len, quotes_len, body_part, BodyItem, item_value, items, items_by, spelling, values, bad_escape, literal_from, scan_string, scan_string_by}
+use Rattle.bq_source.specs.StringLiteral.{opening, opening_len, quotes_len, is_plain, body_part, BodyItem, item_value, items, items_by, spelling, values, bad_escape, literal_from, scan_string, scan_string_by}
 
 skipped : (q : Quoting) (k : ℕ) (text : List ℕ) → items q k text ≡ items q 0 (drop k text)
 unfolding items
@@ -133,3 +134,62 @@ joined_all q vs text none some =
 pub mapped : (os : Option (List BodyItem)) → IsSome os → IsSome (option_map values os)
 mapped None some = cc
 mapped (Some is) some = refl
+
+-- ---- bytes that stand for themselves
+
+plain_left : (a b : Bool) → (a && b) ≡ true → a ≡ true
+plain_left true b e = refl
+plain_left false b e = cc
+
+plain_right : (a b : Bool) → (a && b) ≡ true → b ≡ true
+plain_right true b e = e
+plain_right false b e = cc
+
+unset : (b : Bool) → not b ≡ true → b ≡ false
+unset true e = cc
+unset false e = refl
+
+plain_part : (q : Quoting) (b : ℕ) (bs : List ℕ) → is_plain q.quote b ≡ true → body_part q (b ∷ bs) ≡ Item 0 (Byte b)
+unfolding body_part
+plain_part q b bs e =
+    let after = plain_right (not (b == q.quote)) (not (b == 92) && (not (b == 10) && not (b == 13))) e in
+    let ends = plain_right (not (b == 92)) (not (b == 10) && not (b == 13)) after in
+    let no_quote = unset (b == q.quote) (plain_left (not (b == q.quote)) (not (b == 92) && (not (b == 10) && not (b == 13))) e) in
+    let no_escape = unset (b == 92) (plain_left (not (b == 92)) (not (b == 10) && not (b == 13)) after) in
+    let no_feed = unset (b == 10) (plain_left (not (b == 10)) (not (b == 13)) ends) in
+    let no_return = unset (b == 13) (plain_right (not (b == 10)) (not (b == 13)) ends) in
+    rw (no_quote, no_escape, no_feed, no_return) refl
+
+plain_step : (q : Quoting) (at : ℕ) (bad : Option ℕ) (b : ℕ) (bs : List ℕ) → is_plain q.quote b ≡ true
+    → literal_from q at bad (items q 0 (b ∷ bs)) ≡ literal_from q (at + 1) bad (items q 0 bs)
+plain_step q at bad b bs e =
+    let i : BodyItem = record { spelled = b ∷ []; value = Some (b ∷ []) } in
+    ap (literal_from q at bad) (items_ahead q (b ∷ bs) ∙ ap (λ part. ahead q part (b ∷ bs)) (plain_part q b bs e))
+    ∙ (passed q at 1 bad i (items q 0 bs) refl ∙ ap (λ o. literal_from q (at + 1) o (items q 0 bs)) (or_none bad))
+
+plain_by : (p : Bool) (q : Quoting) (at : ℕ) (bad : Option ℕ) (b : ℕ) (bs : List ℕ) (n : ℕ) → is_plain q.quote b ≡ p
+    → literal_from q (at + 1) bad (items q 0 bs) ≡ literal_from q (at + 1 + n) bad (items q 0 (drop n bs))
+    → literal_from q at bad (items q 0 (b ∷ bs)) ≡ literal_from q (at + cond p (1 + n) 0) bad (items q 0 (drop (cond p (1 + n) 0) (b ∷ bs)))
+plain_by true q at bad b bs n e more =
+    let same : at + 1 + n ≡ at + (1 + n) = omega arith in
+    let next : suc n ≡ 1 + n = omega arith in
+    plain_step q at bad b bs e
+    ∙ (more ∙ (ap (λ m. literal_from q m bad (items q 0 (drop n bs))) same ∙ ap (λ k. literal_from q (at + (1 + n)) bad (items q 0 (drop k (b ∷ bs)))) next))
+plain_by false q at bad b bs n e more = ap (λ m. literal_from q m bad (items q 0 (b ∷ bs))) (let same : at ≡ at + 0 = omega arith in same)
+
+plain_run : (q : Quoting) (at : ℕ) (bad : Option ℕ) (text : List ℕ)
+    → literal_from q at bad (items q 0 text) ≡ literal_from q (at + prefix_len (is_plain q.quote) text) bad (items q 0 (drop (prefix_len (is_plain q.quote) text) text))
+plain_run q at bad [] = ap (λ m. literal_from q m bad (items q 0 [])) (let same : at ≡ at + 0 = omega arith in same)
+plain_run q at bad (b ∷ bs) = plain_by (is_plain q.quote b) q at bad b bs (prefix_len (is_plain q.quote) bs) refl (plain_run q (at + 1) bad bs)
+
+-- past bytes that stand for themselves the literal is the same
+pub past_plain : (q : Quoting) (at here : ℕ) (bad : Option ℕ) (whole : List ℕ) → here ≡ at + prefix_len (is_plain q.quote) (drop at whole)
+    → literal_from q at bad (items q 0 (drop at whole)) ≡ literal_from q here bad (items q 0 (drop here whole))
+past_plain q at here bad whole e =
+    let n = prefix_len (is_plain q.quote) (drop at whole) in
+    plain_run q at bad (drop at whole)
+    ∙ (ap (λ rest. literal_from q (at + n) bad (items q 0 rest)) (drop-drop n at whole) ∙ ap (λ m. literal_from q m bad (items q 0 (drop m whole))) (sym e))
+
+pub later_still : (bad : Option ℕ) (at here : ℕ) → at ≤ here → IfSome bad (λ k. k < at) → IfSome bad (λ k. k < here)
+later_still None at here le h = tt
+later_still (Some k) at here le h = omega arith

@@ -76,6 +76,10 @@ abbrev pub plain_by : Quoting → ℕ → ℕ → BodyPart
 plain_by q b zero = Item 0 (Byte b)
 plain_by q b (suc n) = if q.triple then Item n (Byte 10) else Unclosed
 
+-- a byte that stands for itself wherever it is in a body with this quote
+abbrev pub is_plain : ℕ → ℕ → Bool
+is_plain quote b = not (b == quote) && (not (b == 92) && (not (b == 10) && not (b == 13)))
+
 -- what is at one place of a literal's body
 unfoldable pub body_part : Quoting → List ℕ → BodyPart
 body_part q [] = Unclosed

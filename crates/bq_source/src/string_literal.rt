@@ -5,7 +5,7 @@
 
 ghost use Rattle.std.specs.Prelude.{◌≡◌, ◌<◌, ◌≤◌, ◌+◌, ℕ, length, IfOk, IfSome, IsSome, Some, None, if◌then◌else◌, is_none, unwrap_or, ◌++◌, drop, take, OnOk, option_map, List, []};
 ghost use Rattle.std.specs.Option.{option_or};
-ghost use Rattle.std.specs.List.{list_all};
+ghost use Rattle.std.specs.List.{list_all, prefix_len};
 ghost use Rattle.bq_source.specs.StringLiteral as spec;
 ghost use Rattle.bq_source.specs.StringLiteral.{BodyItem, values, FoundLiteral, SameCut, ValuedLiteral, IsLiteral, IsOpenLiteral, literal_of, AllStand, quoted};
 ghost use Rattle.bq_source.specs.declared.string_literal.Quoting.{Quoting};
@@ -227,6 +227,26 @@ fn rest_of(text: &[u8], at: usize) -> &[u8]
     &text[at..]
 }
 
+/// The byte stands for itself wherever it is in a body with this quote.
+fn is_plain(quote: u8, b: u8) -> bool
+    ensures { result ≡ spec.is_plain quote b }
+{
+    b != quote && b != b'\\' && b != b'\n' && b != b'\r'
+}
+
+/// The place of the first byte from here on that need not stand for itself, or the end.
+fn past_plain(quote: u8, text: &[u8], at: usize) -> usize
+    requires { at ≤ length text.now }
+    ensures run { result ≡ at + prefix_len (spec.is_plain quote) (drop at text.now) }
+    ensures within { result ≤ length text.now }
+{
+    let mut end = at;
+    while end < text.len() && is_plain(quote, text[end]) {
+        end += 1;
+    }
+    end
+}
+
 /// The string literal that begins here, none where it does not end.
 pub fn scan_string(text: &[u8]) -> Option<StringLiteral>
     ensures literal { result ≡ spec.scan_string text.now }
@@ -237,15 +257,16 @@ pub fn scan_string(text: &[u8]) -> Option<StringLiteral>
     let mut at = quoting.opening_len();
     let mut bad_escape = None;
     'items: loop {
-        match body_part(quoting, rest_of(text, at)) {
+        let here = past_plain(quoting.quote, text, at);
+        match body_part(quoting, rest_of(text, here)) {
             BodyPart::Closing => {
-                let len = at + quoting.quotes_len();
+                let len = here + quoting.quotes_len();
                 return Some(StringLiteral { len, bad_escape });
             }
             BodyPart::Unclosed => return None,
             BodyPart::Item(more, value) => {
-                bad_escape = first_bad(bad_escape, at, value);
-                at += 1 + more;
+                bad_escape = first_bad(bad_escape, here, value);
+                at = here + (1 + more);
             }
         }
     }

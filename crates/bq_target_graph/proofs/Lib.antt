@@ -4,3 +4,4 @@ pub mod EdgeWalks
 pub mod Depends
 pub mod Whole
 pub mod Danglings
+pub mod Inside

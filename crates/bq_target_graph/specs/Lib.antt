@@ -2,3 +2,4 @@ pub mod Order
 pub mod Graph
 pub mod Edges
 pub mod Dangling
+pub mod Own

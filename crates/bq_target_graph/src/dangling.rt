@@ -12,6 +12,7 @@ ghost use Rattle.bq_label_set.specs.Labels.{has_label, with_labels};
 ghost use Rattle.bq_target_graph.specs.Order.{all_targets, labels_of};
 ghost use Rattle.bq_target_graph.specs.Dangling.{dangling, dangling_line, dangling_in, dangling_of, all_dangling, IsDangling};
 
+use crate::own::are_closed;
 use bq_fault_line::{FaultLine, FaultLines};
 use bq_label::{Label, print_label};
 use bq_label_set::LabelSet;
@@ -190,6 +191,9 @@ pub fn add_dangling(
 ) -> Result<(), AllocError>
     ensures { OnOk result (lines.new ≡ put_lines lines.old (all_dangling packages.now)) }
 {
+    if are_closed(packages) {
+        return Ok(());
+    }
     let known = known_labels(alloc, packages)?;
     add_packages(alloc, &known, packages, lines)
 }

@@ -9,6 +9,7 @@
 //! - `order`: the targets of all packages in order;
 //! - `edges`: which targets depend on which;
 //! - `graph`, `build`: the graph, and how it is made of packages;
+//! - `own`: targets that name labels of their own package alone;
 //! - `dangling`: the labels of other packages that name no target.
 #![tactic(auto)]
 
@@ -17,6 +18,7 @@ mod dangling;
 mod edges;
 mod graph;
 mod order;
+mod own;
 
 pub use dangling::{add_dangling, dangling_in_words};
 pub use graph::TargetGraph;

@@ -43,7 +43,8 @@ fn read_or_none<T>(read: Result<T, SourceErr>) -> Result<Option<T>, AllocError>
 pub fn label_named(alloc: Global, word: &[u8]) -> Result<Option<Label>, AllocError>
     ensures { IfOk result (λ l. l ≡ label_named word.now) }
 {
-    read_or_none(read_label(alloc, word, &PackageId::root()))
+    let root = PackageId::root(alloc)?;
+    read_or_none(read_label(alloc, word, &root))
 }
 
 /// The label `part:x`.

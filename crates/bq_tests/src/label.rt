@@ -14,9 +14,9 @@ use std::cmp::Ordering;
 pub fn package(alloc: Global, repo: &[u8], path: &[u8]) -> Result<PackageId, AllocError> {
     let repo = Bytes::from_slice(alloc, repo)?;
     let path = Bytes::from_slice(alloc, path)?;
-    match PackageId::new(repo, path) {
+    match PackageId::new(alloc, repo, path)? {
         Some(found) => Ok(found),
-        None => Ok(PackageId::root()),
+        None => PackageId::root(alloc),
     }
 }
 
@@ -159,7 +159,8 @@ fn file_path(alloc: Global, found: Option<&File>) -> Result<Vec<u8>, AllocError>
 }
 
 fn named_file(alloc: Global, workspace: &Workspace, text: &[u8]) -> Result<Vec<u8>, AllocError> {
-    let read = read_label(alloc, text, &PackageId::root());
+    let root = PackageId::root(alloc)?;
+    let read = read_label(alloc, text, &root);
     match &read {
         Ok(label) => file_path(alloc, label_file(alloc, workspace, label)?),
         Err(error) => refusal(alloc, error),
@@ -228,11 +229,11 @@ fn order_of(less: &Result<Label, SourceErr>, more: &Result<Label, SourceErr>) ->
 }
 
 /// How the labels that two texts read as compare.
-fn compared(alloc: Global, less: &[u8], more: &[u8]) -> &'static str {
-    let root = PackageId::root();
+fn compared(alloc: Global, less: &[u8], more: &[u8]) -> Result<&'static str, AllocError> {
+    let root = PackageId::root(alloc)?;
     let less = read_label(alloc, less, &root);
     let more = read_label(alloc, more, &root);
-    order_of(&less, &more)
+    Ok(order_of(&less, &more))
 }
 
 /// The order of two labels.
@@ -240,7 +241,7 @@ struct LabelOrder;
 
 impl Subject for LabelOrder {
     fn answer(&self, alloc: Global, text: &[u8], row: Row) -> Result<Vec<u8>, AllocError> {
-        compared(alloc, text, row.word(1)).as_bytes().to_vec(alloc)
+        compared(alloc, text, row.word(1))?.as_bytes().to_vec(alloc)
     }
 }
 

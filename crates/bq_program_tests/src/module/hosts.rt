@@ -90,7 +90,7 @@ struct Calls;
 impl Subject for Calls {
     fn answer(&self, alloc: Global, text: &[u8]) -> Result<Vec<u8>, AllocError> {
         let rules = rules(alloc)?;
-        let own = PackageId::root();
+        let own = PackageId::root(alloc)?;
         let packages = no_packages(alloc)?;
         let setting = Setting {
             alloc,

@@ -25,7 +25,7 @@ fn is_limit(outcome: &Outcome) -> bool {
 
 /// Whether so many steps suffice.
 fn suffices(alloc: Global, kind: FileKind, text: &[u8], limit: u64) -> Result<bool, AllocError> {
-    let own = PackageId::root();
+    let own = PackageId::root(alloc)?;
     let packages = no_packages(alloc)?;
     let setting = Setting {
         alloc,

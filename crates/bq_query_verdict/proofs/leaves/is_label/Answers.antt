@@ -8,5 +8,5 @@ use Rattle.bq_query_verdict.proofs.leaves.is_label.Goals as goal
 
 pub returns : goal.returns
 returns c =
-    let read = subst (λ (p : PackageParts). Gives (λ (l : LabelParts). l) Bad c.read_label-2.result (or_bad_label (label_of p c.args.text.now))) c.root.ensures c.read_label-2.ensures in
-    label_known (label_of (package_at [] []) c.args.text.now) c.read_label-2.result c.is_read.result read c.is_read.ensures
+    let read = subst (λ (p : PackageParts). Gives (λ (l : LabelParts). l) Bad c.read_label.result (or_bad_label (label_of p c.args.text.now))) c.in_ok-root.ensures c.read_label.ensures in
+    label_known (label_of (package_at [] []) c.args.text.now) c.read_label.result c.is_read.result read c.is_read.ensures

@@ -22,5 +22,5 @@ all_known o r (Err why) h e = tt
 
 pub returns : goal.returns
 returns c =
-    let read = subst (λ (p : PackageParts). Gives (λ (x : LabelParts). x) Bad c.read_label-2.result (or_bad_label (label_of p c.args.word.now))) c.root.ensures c.read_label-2.ensures in
-    all_known (label_of (package_at [] []) c.args.word.now) c.read_label-2.result c.read_or_none.result read c.read_or_none.ensures
+    let read = subst (λ (p : PackageParts). Gives (λ (x : LabelParts). x) Bad c.read_label.result (or_bad_label (label_of p c.args.word.now))) c.in_ok-root.ensures c.read_label.ensures in
+    all_known (label_of (package_at [] []) c.args.word.now) c.read_label.result c.read_or_none.result read c.read_or_none.ensures
