@@ -1,4 +1,4 @@
-//! Measures [`Graph::new`] and the operators of queries: graphs of 80,000 and 320,000 targets with five edges each, to targets that
+//! Measures [`DependencyGraph::new`] and the operators of queries: graphs of 80,000 and 320,000 targets with five edges each, to targets that
 //! come later. Standard output says how large the sets are.
 
 ghost use Rattle.std.specs.Prelude.{◌≡◌, ◌<◌, length, vec_len, IfOk};
@@ -9,7 +9,7 @@ use anyhow::Result;
 use bq_graph::allpaths::allpaths;
 use bq_graph::deps::{deps, deps_within};
 use bq_graph::rdeps::rdeps;
-use bq_graph::{Edge, Graph, members};
+use bq_graph::{Edge, DependencyGraph, members};
 use std::alloc::{AllocError, Global};
 
 /// How far the five edges of a target lead.
@@ -54,7 +54,7 @@ enum Form {
 
 fn set_of(
     alloc: Global,
-    graph: &Graph,
+    graph: &DependencyGraph,
     form: Form,
     a: &[bool],
     b: &[bool],
@@ -75,7 +75,7 @@ fn measure_form(
     rt: &HostRuntime,
     name: &str,
     form: Form,
-    graph: &Graph,
+    graph: &DependencyGraph,
     a: &[bool],
     b: &[bool],
 ) -> Result<()>
@@ -92,7 +92,7 @@ fn measure_form(
     Ok(())
 }
 
-fn measure_each(rt: &HostRuntime, graph: &Graph, a: &[bool], b: &[bool]) -> Result<()>
+fn measure_each(rt: &HostRuntime, graph: &DependencyGraph, a: &[bool], b: &[bool]) -> Result<()>
     requires a { length a.now ≡ length graph.now }
     requires b { length b.now ≡ length graph.now }
 {
@@ -109,17 +109,17 @@ fn show_build(rt: &HostRuntime, count: usize, start: CpuInstant) -> Result<()> {
 }
 
 /// Builds the graph of these edges.
-fn graph_of(rt: &HostRuntime, count: usize, edges: &[Edge]) -> Result<Graph>
+fn graph_of(rt: &HostRuntime, count: usize, edges: &[Edge]) -> Result<DependencyGraph>
     requires { AreBetween count edges.now }
     ensures { IfOk result (λ g. length g ≡ count) }
 {
     let start = CpuInstant::now(rt)?;
-    let graph = Graph::new(rt.alloc(), count, edges)?;
+    let graph = DependencyGraph::new(rt.alloc(), count, edges)?;
     show_build(rt, count, start)?;
     Ok(graph)
 }
 
-fn measured_graph(rt: &HostRuntime, count: usize) -> Result<Graph>
+fn measured_graph(rt: &HostRuntime, count: usize) -> Result<DependencyGraph>
     requires { count < 1000000 }
     ensures { IfOk result (λ g. length g ≡ count) }
 {

@@ -9,7 +9,7 @@ use crate::rounds::{Measured, measure_in_rounds};
 use crate::text::{FILE_LENGTHS, build_file};
 use anyhow::Result;
 use bq_expression::expr_list;
-use bq_grammar::{Expr, Refusal};
+use bq_grammar::{Expr, SyntaxErr};
 use bq_source::{Token, TokenKind, lex, tokens_lie_within};
 use bq_tokens::Tokens;
 use sqlite_items::Items;
@@ -58,7 +58,7 @@ fn read_statement(
     alloc: Global,
     tokens: &mut Tokens<'_>,
     trees: &mut Items<Expr>,
-) -> Result<(), Refusal> {
+) -> Result<(), SyntaxErr> {
     trees.push(expr_list(alloc, tokens, DEPTH)?)?;
     tokens.expect(TokenKind::Newline)
 }
@@ -67,7 +67,7 @@ fn read_statements(
     alloc: Global,
     tokens: &mut Tokens<'_>,
     trees: &mut Items<Expr>,
-) -> Result<(), Refusal> {
+) -> Result<(), SyntaxErr> {
     for _ in 0..tokens.left() {
         if tokens.left() == 0 {
             break;

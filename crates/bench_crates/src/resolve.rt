@@ -4,7 +4,7 @@
 use crate::clock::CpuInstant;
 use crate::rounds::{Measured, measure_in_rounds};
 use anyhow::Result;
-use bq_file::{File, parse};
+use bq_file::{ParsedFile, parse};
 use bq_grammar::FileKind;
 use bq_resolve::resolve;
 use bq_scope::{Resolved, Universe};
@@ -100,7 +100,7 @@ fn files(alloc: Global) -> Result<Vec<ResolvedFile>, AllocError> {
     Ok(files)
 }
 
-fn read(alloc: Global, text: &[u8], kind: FileKind) -> Result<File, SourceErr> {
+fn read(alloc: Global, text: &[u8], kind: FileKind) -> Result<ParsedFile, SourceErr> {
     let tokens = lex(alloc, text)?;
     parse(alloc, &tokens, text, kind)
 }
@@ -116,7 +116,7 @@ fn slots(resolved: &Resolved) -> usize {
 /// Resolves a file that it took so long to read.
 fn resolving_of(
     rt: &HostRuntime,
-    file: &File,
+    file: &ParsedFile,
     kind: FileKind,
     read: Duration,
 ) -> Result<Resolving> {

@@ -7,14 +7,14 @@ ghost use Rattle.bq_run.specs.Run.{DoesOne, IsInRange, IsRunOf, IsRunOver};
 use crate::streams::{Answers, Faults};
 use bq_directory::{DirectoryErr, read_directory};
 use bq_label::Workspace;
-use bq_run::{Options, RunErr, Sink, Source, Status, run, run_files};
+use bq_run::{Options, RunErr, ByteSink, ByteSource, Status, run, run_files};
 use std::alloc::Global;
 use std::random::RandomSource;
 use std::sync::Wait;
 use std::thread::Threads;
 
 /// Runs over the bundle of a reader, with threads of that handle.
-pub fn run_on_bundle<T: Threads + Wait + RandomSource + Sync, R: Source, W: Sink, F: Sink>(
+pub fn run_on_bundle<T: Threads + Wait + RandomSource + Sync, R: ByteSource, W: ByteSink, F: ByteSink>(
     threads: &T,
     alloc: Global,
     reader: &mut R,
@@ -39,7 +39,7 @@ pub fn run_on_bundle<T: Threads + Wait + RandomSource + Sync, R: Source, W: Sink
 }
 
 /// Runs over files in hand.
-fn run_on_files<T: Threads + Wait + RandomSource + Sync, W: Sink, F: Sink>(
+fn run_on_files<T: Threads + Wait + RandomSource + Sync, W: ByteSink, F: ByteSink>(
     threads: &T,
     alloc: Global,
     workspace: &Workspace,
@@ -74,7 +74,7 @@ fn run_err(error: DirectoryErr) -> RunErr
 }
 
 /// Runs over the files of a directory. Which files are there no contract says.
-pub fn run_on_directory<T: Threads + Wait + RandomSource + Sync, W: Sink, F: Sink>(
+pub fn run_on_directory<T: Threads + Wait + RandomSource + Sync, W: ByteSink, F: ByteSink>(
     rt: &HostRuntime,
     threads: &T,
     alloc: Global,

@@ -5,8 +5,8 @@ use Rattle.std.specs.List.{AllByRecursion}
 use Rattle.std.proofs.lemmas.List.{ext_get_or}
 use Rattle.bq_graph.specs.Paths.{Deps, DepsWithin, Rdeps, RdepsWithin, OnPaths}
 use Rattle.bq_graph.specs.Marks.{IsSet, Marked}
-use Rattle.bq_query_tree.specs.declared.tree.Operator.{Operator}
-use Rattle.bq_query_tree.specs.declared.tree.Operator.TheVariants as op
+use Rattle.bq_query_tree.specs.declared.tree.SetOperator.{SetOperator}
+use Rattle.bq_query_tree.specs.declared.tree.SetOperator.TheVariants as op
 use Rattle.bq_query_check.specs.declared.formula.Unary.{Unary}
 use Rattle.bq_query_check.specs.declared.formula.Unary.TheVariants as unary
 use Rattle.bq_query_check.specs.declared.formula.Binary.{Binary}
@@ -63,7 +63,7 @@ two_in w binary.Rdeps A C B D g h y e = rdeps_in (edges_of w) A C B D g h y e
 two_in w (binary.RdepsWithin n) A C B D g h y e = rdeps_within_in (edges_of w) n A C B D g h y e
 two_in w binary.Allpaths A C B D g h y e = paths_in (edges_of w) A C B D g h y e
 
-combined_in : (o : Operator) (A C B D : ℕ → Type 0) → Within A C → Within B D → Within D B → Within (Combined o A B) (Combined o C D)
+combined_in : (o : SetOperator) (A C B D : ℕ → Type 0) → Within A C → Within B D → Within D B → Within (Combined o A B) (Combined o C D)
 combined_in op.Union A C B D f h k y e = elim e [ inl a ↦ inl (f y a) | inr b ↦ inr (h y b) ]
 combined_in op.Intersect A C B D f h k y e = (f y e.0, h y e.1)
 combined_in op.Except A C B D f h k y e = (f y e.0, λ d. e.1 (k y d))
@@ -78,7 +78,7 @@ module _ (n m : ℕ) (u x r : List Bool) (U X : ℕ → Type 0) (a : IsSet n u U
       set_as (OfTwo w f (Marked u) (Marked x)) (OfTwo w f U X) m r (two_in w f (Marked u) U (Marked x) X (to_set U n u a) (to_set X n x s))
       (two_in w f U (Marked u) X (Marked x) (from_set U n u a) (from_set X n x s)) t
 
-  pub combined_stands : (o : Operator) → IsSet m r (Combined o (Marked u) (Marked x)) → IsSet m r (Combined o U X)
+  pub combined_stands : (o : SetOperator) → IsSet m r (Combined o (Marked u) (Marked x)) → IsSet m r (Combined o U X)
   combined_stands o t =
       set_as (Combined o (Marked u) (Marked x)) (Combined o U X) m r (combined_in o (Marked u) U (Marked x) X (to_set U n u a) (to_set X n x s) (from_set X n x s))
       (combined_in o U (Marked u) X (Marked x) (from_set U n u a) (from_set X n x s) (to_set X n x s)) t

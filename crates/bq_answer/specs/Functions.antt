@@ -1,8 +1,8 @@
 -- What functions and operators make of sets (Bazel query reference, "Functions" and "Set operations").
 use Rattle.std.specs.Prelude.{◌⊎◌, ℕ}
 use Rattle.bq_graph.specs.Paths.{Deps, DepsWithin, Rdeps, RdepsWithin, OnPaths}
-use Rattle.bq_query_tree.specs.declared.tree.Operator.{Operator}
-use Rattle.bq_query_tree.specs.declared.tree.Operator.TheVariants as op
+use Rattle.bq_query_tree.specs.declared.tree.SetOperator.{SetOperator}
+use Rattle.bq_query_tree.specs.declared.tree.SetOperator.TheVariants as op
 use Rattle.bq_query_check.specs.declared.formula.Unary.{Unary}
 use Rattle.bq_query_check.specs.declared.formula.Unary.TheVariants as unary
 use Rattle.bq_query_check.specs.declared.formula.Binary.{Binary}
@@ -26,7 +26,7 @@ OfTwo w binary.Rdeps U X y = Rdeps (edges_of w) U X y
 OfTwo w (binary.RdepsWithin n) U X y = RdepsWithin (edges_of w) U X n y
 OfTwo w binary.Allpaths A B y = OnPaths (edges_of w) A B y
 
-abbrev pub Combined : Operator → (ℕ → Type 0) → (ℕ → Type 0) → ℕ → Type 0
+abbrev pub Combined : SetOperator → (ℕ → Type 0) → (ℕ → Type 0) → ℕ → Type 0
 Combined op.Union X Y y = X y ⊎ Y y
 Combined op.Intersect X Y y = X y × Y y
 Combined op.Except X Y y = X y × (Y y → ⊥)

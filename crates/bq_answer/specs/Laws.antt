@@ -3,7 +3,7 @@ use Rattle.std.specs.Prelude.{◌≡◌, ◌↔◌, ◌⊎◌, ℕ, ◌<◌, Boo
 use Rattle.std.specs.declared.cmp.Ordering.TheVariants.{Less}
 use Rattle.regex_hir.specs.Re.{Re}
 use Rattle.bq_graph.specs.Marks.{IsSet}
-use Rattle.bq_query_tree.specs.declared.tree.Operator.TheVariants as op
+use Rattle.bq_query_tree.specs.declared.tree.SetOperator.TheVariants as op
 use Rattle.bq_query_check.specs.declared.formula.Unary.TheVariants as unary
 use Rattle.bq_query_check.specs.declared.formula.Binary.TheVariants as binary
 use Rattle.bq_query_check.specs.Formula.{Formula, variable, let_in, combined, one, two}

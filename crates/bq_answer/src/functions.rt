@@ -10,7 +10,7 @@ use bq_graph::deps::{deps, deps_within};
 use bq_graph::rdeps::{rdeps, rdeps_within};
 use bq_graph::{difference, intersection, union};
 use bq_query_check::{Binary, Unary};
-use bq_query_tree::Operator;
+use bq_query_tree::SetOperator;
 use bq_target_graph::TargetGraph;
 use bq_target_sets::attr::attr;
 use bq_target_sets::filter::filter;
@@ -65,7 +65,7 @@ pub fn of_two(
 pub fn combined(
     alloc: Global,
     graph: &TargetGraph,
-    operator: Operator,
+    operator: SetOperator,
     x: &[bool],
     y: &[bool],
 ) -> Result<Vec<bool>, AllocError>
@@ -74,8 +74,8 @@ pub fn combined(
     ensures { IfOk result (λ r. IsSet (count_of graph.now) r.items (Combined operator (Marked x.now) (Marked y.now))) }
 {
     match operator {
-        Operator::Union => union(alloc, x, y),
-        Operator::Intersect => intersection(alloc, x, y),
-        Operator::Except => difference(alloc, x, y),
+        SetOperator::Union => union(alloc, x, y),
+        SetOperator::Intersect => intersection(alloc, x, y),
+        SetOperator::Except => difference(alloc, x, y),
     }
 }

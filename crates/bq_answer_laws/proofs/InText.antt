@@ -1,17 +1,17 @@
 -- The target patterns of a query are words of its text, in its order: by the words of its tree.
 use Rattle.std.proofs.Common.{◌≡◌, ◌∙◌, ℕ, zero, suc, List, [], ◌∷◌, ◌++◌, map, Option, Some, None, refl, sym, ap, subst, append-nil, append_assoc, rules}
-use Rattle.bq_query.specs.declared.function.ArgumentKind.{ArgumentKind}
-use Rattle.bq_query.specs.declared.function.ArgumentKind.TheVariants as kind
-use Rattle.bq_query.specs.declared.function.Function.{Function}
+use Rattle.bq_query.specs.declared.function.QueryArgumentKind.{QueryArgumentKind}
+use Rattle.bq_query.specs.declared.function.QueryArgumentKind.TheVariants as kind
+use Rattle.bq_query.specs.declared.function.QueryFunction.{QueryFunction}
 use Rattle.bq_query.specs.Functions.{function_named, arguments_of}
 use Rattle.bq_query_tree.specs.Grammar.{IsWord, AreArguments, IsOperand, IsLet, AreOperations, IsQueryOver, IsQueryTo, max_open, chain_of, operation}
 use Rattle.bq_query_tree.specs.Lexeme.{Lexeme, lexemes}
 use Rattle.bq_query_tree.specs.Phrases.{Phrase, Repeat, CommaThen, none}
 use Rattle.bq_query_tree.specs.declared.tree.Query.{Query, fold-Query}
-use Rattle.bq_query_tree.specs.declared.tree.Operation.{Operation, fold-Operation}
+use Rattle.bq_query_tree.specs.declared.tree.SetOperation.{SetOperation, fold-SetOperation}
 use Rattle.bq_query_tree.specs.declared.tree.Query.TheFolds.{the_lemmas}
 use Rattle.bq_query_tree.specs.declared.tree.Query.TheOpen as open_tree
-use Rattle.bq_query_tree.specs.declared.tree.Query.TheOpen.{Query-F, Operation-F}
+use Rattle.bq_query_tree.specs.declared.tree.Query.TheOpen.{Query-F, SetOperation-F}
 use Rattle.bq_query_tree.specs.declared.tree.Query.TheVariants as tree
 use Rattle.bq_query_check.specs.Formula.{Formula, Step, combined, chained}
 use Rattle.bq_query_check.specs.FormulaOf.{IsFormulaOf, AreStepsOf, IsCallOf}
@@ -24,14 +24,14 @@ Words = List (List ℕ)
 -- ---- the words of a tree
 
 -- those of the arguments that are queries
-abbrev picked : List ArgumentKind → List Words → Words
+abbrev picked : List QueryArgumentKind → List Words → Words
 picked ks [] = []
 picked [] (x ∷ xs) = []
 picked (kind.Query ∷ ks) (x ∷ xs) = x ++ picked ks xs
 picked (kind.Pattern ∷ ks) (x ∷ xs) = picked ks xs
 picked (kind.Attribute ∷ ks) (x ∷ xs) = picked ks xs
 
-abbrev call_words : Option Function → List Words → Words
+abbrev call_words : Option QueryFunction → List Words → Words
 call_words None xs = []
 call_words (Some f) xs = picked (arguments_of f) xs
 
@@ -39,7 +39,7 @@ abbrev joined : List Words → Words
 joined [] = []
 joined (x ∷ xs) = x ++ joined xs
 
-abbrev operation_step : Operation-F Words Words → Words
+abbrev operation_step : SetOperation-F Words Words → Words
 operation_step o = o.operand
 
 abbrev query_step : Query-F Words Words → Words
@@ -54,8 +54,8 @@ query_step (open_tree.Chain x os) = x ++ joined os
 abbrev tree_words : Query → Words
 tree_words = fold-Query Words Words query_step operation_step
 
-abbrev operation_words : Operation → Words
-operation_words = fold-Operation Words Words query_step operation_step
+abbrev operation_words : SetOperation → Words
+operation_words = fold-SetOperation Words Words query_step operation_step
 
 of_word : (w : List ℕ) → tree_words (tree.Word w) ≡ w ∷ []
 of_word w = search (rules, the_lemmas)
@@ -75,10 +75,10 @@ of_call f xs = search (rules, the_lemmas)
 of_let : (n : List ℕ) (x y : Query) → tree_words (tree.Let n x y) ≡ tree_words x ++ tree_words y
 of_let n x y = search (rules, the_lemmas)
 
-of_chain : (x : Query) (os : List Operation) → tree_words (tree.Chain x os) ≡ tree_words x ++ joined (map operation_words os)
+of_chain : (x : Query) (os : List SetOperation) → tree_words (tree.Chain x os) ≡ tree_words x ++ joined (map operation_words os)
 of_chain x os = search (rules, the_lemmas)
 
-of_operation : (o : Operation) → operation_words o ≡ tree_words o.operand
+of_operation : (o : SetOperation) → operation_words o ≡ tree_words o.operand
 of_operation o = search (rules, the_lemmas)
 
 -- ---- the words of a tree are those of its formula
@@ -103,7 +103,7 @@ chained_words a (s ∷ ss) = chained_words (combined s.operator a s.formula) ss 
 abbrev all_words : List Query → List Words
 all_words xs = map tree_words xs
 
-as_arguments : (ks : List ArgumentKind) (xs ys : List Query) (ws : Words) → xs ≡ ys → ws ≡ picked ks (all_words ys) → ws ≡ picked ks (all_words xs)
+as_arguments : (ks : List QueryArgumentKind) (xs ys : List Query) (ws : Words) → xs ≡ ys → ws ≡ picked ks (all_words ys) → ws ≡ picked ks (all_words xs)
 as_arguments ks xs ys ws same e = e ∙ ap (λ (zs : List Query). picked ks (all_words zs)) (sym same)
 
 mutual
@@ -113,18 +113,18 @@ mutual
   formula_words (IsFormulaOf.parenthesized {inner = x} e h) = formula_words h ∙ sym (ap tree_words e ∙ of_parenthesized x)
   formula_words (IsFormulaOf.set_of {ws = ws} e f) = ap target_words f ∙ sym (ap tree_words e ∙ of_set ws)
   formula_words (IsFormulaOf.call {name = name} {xs = xs} {f = f} e known c) =
-      call_formula c ∙ sym (ap tree_words e ∙ (of_call name xs ∙ ap (λ (o : Option Function). call_words o (map tree_words xs)) known))
+      call_formula c ∙ sym (ap tree_words e ∙ (of_call name xs ∙ ap (λ (o : Option QueryFunction). call_words o (map tree_words xs)) known))
   formula_words (IsFormulaOf.binding {value = v} {body = b} {a = a} {b = c} {n = n} e h k f) =
       ap target_words f ∙ (both (target_words a) (tree_words v) (target_words c) (tree_words b) (formula_words h) (formula_words k) ∙ sym (ap tree_words e ∙ of_let n v b))
   formula_words (IsFormulaOf.chain {first = x} {a = a} {os = os} {steps = ss} e h s f) =
       ap target_words f ∙ (chained_words a ss ∙ (both (target_words a) (tree_words x) (step_words ss) (joined (map operation_words os)) (formula_words h) (steps_formula s) ∙ sym (ap tree_words e ∙ of_chain x os)))
 
-  steps_formula : {ns : List (List ℕ)} {os : List Operation} {ss : List Step} → AreStepsOf ns os ss → step_words ss ≡ joined (map operation_words os)
+  steps_formula : {ns : List (List ℕ)} {os : List SetOperation} {ss : List Step} → AreStepsOf ns os ss → step_words ss ≡ joined (map operation_words os)
   steps_formula AreStepsOf.no_more = refl
   steps_formula (AreStepsOf.one_more {o = o} {os = os} {s = s} {ss = ss} e h rest) =
       both (target_words s.formula) (operation_words o) (step_words ss) (joined (map operation_words os)) (formula_words h ∙ sym (of_operation o)) (steps_formula rest)
 
-  call_formula : {f : Function} {ns : List (List ℕ)} {xs : List Query} {y : Formula} → IsCallOf f ns xs y → target_words y ≡ picked (arguments_of f) (all_words xs)
+  call_formula : {f : QueryFunction} {ns : List (List ℕ)} {xs : List Query} {y : Formula} → IsCallOf f ns xs y → target_words y ≡ picked (arguments_of f) (all_words xs)
   call_formula (IsCallOf.deps {xs = xs} {x = x} {a = a} e h f) =
       ap target_words f ∙ as_arguments (kind.Query ∷ []) xs (x ∷ []) (target_words a) e (alone (target_words a) (tree_words x) (formula_words h))
   call_formula (IsCallOf.deps_within {xs = xs} {x = x} {n = n} {a = a} e h k f) =
@@ -183,22 +183,22 @@ in_words : {ts rest : List Lexeme} (xs ys : Words) → ys ≡ xs → WriteWords 
 in_words {ts} {rest} xs ys e h = subst (λ (ws : Words). WriteWords ts rest ws) (sym e) h
 
 module _ (depth : ℕ) (Inner : Phrase Query) (inner : (ts rest : List Lexeme) (x : Query) → Inner ts rest x → WriteWords ts rest (tree_words x)) where
-  one_argument : {ts mid rest : List Lexeme} (ks : List ArgumentKind) (x : Query) (xs : List Query) → WriteWords ts mid (tree_words x)
-      → ((js : List ArgumentKind) → WriteWords mid rest (picked js (all_words xs))) → WriteWords ts rest (picked ks (all_words (x ∷ xs)))
+  one_argument : {ts mid rest : List Lexeme} (ks : List QueryArgumentKind) (x : Query) (xs : List Query) → WriteWords ts mid (tree_words x)
+      → ((js : List QueryArgumentKind) → WriteWords mid rest (picked js (all_words xs))) → WriteWords ts rest (picked ks (all_words (x ∷ xs)))
   one_argument [] x xs h k = after (skipped h) (skipped (k []))
   one_argument (kind.Query ∷ ks) x xs h k = after h (k ks)
   one_argument (kind.Pattern ∷ ks) x xs h k = after (skipped h) (k ks)
   one_argument (kind.Attribute ∷ ks) x xs h k = after (skipped h) (k ks)
 
-  more_arguments : {ts rest : List Lexeme} {xs : List Query} → Repeat (CommaThen Inner) ts rest xs → (ks : List ArgumentKind) → WriteWords ts rest (picked ks (all_words xs))
+  more_arguments : {ts rest : List Lexeme} {xs : List Query} → Repeat (CommaThen Inner) ts rest xs → (ks : List QueryArgumentKind) → WriteWords ts rest (picked ks (all_words xs))
   more_arguments Repeat.over ks = WriteWords.no_more
   more_arguments (Repeat.again {x = x} {xs = xs} (CommaThen.comma_then c i) more) ks = one_argument ks x xs (WriteWords.other (inner _ _ _ i)) (more_arguments more)
 
-  arguments : {ts rest : List Lexeme} {xs : List Query} → AreArguments Inner ts rest xs → (ks : List ArgumentKind) → WriteWords ts rest (picked ks (all_words xs))
+  arguments : {ts rest : List Lexeme} {xs : List Query} → AreArguments Inner ts rest xs → (ks : List QueryArgumentKind) → WriteWords ts rest (picked ks (all_words xs))
   arguments (AreArguments.no_arguments c) ks = WriteWords.other WriteWords.no_more
   arguments (AreArguments.arguments {x = x} {xs = xs} i more c) ks = ended (one_argument ks x xs (inner _ _ _ i) (more_arguments more))
 
-  call_written : {ts rest : List Lexeme} {xs : List Query} → AreArguments Inner ts rest xs → (o : Option Function) → WriteWords ts rest (call_words o (all_words xs))
+  call_written : {ts rest : List Lexeme} {xs : List Query} → AreArguments Inner ts rest xs → (o : Option QueryFunction) → WriteWords ts rest (call_words o (all_words xs))
   call_written h None = skipped (arguments h [])
   call_written h (Some f) = arguments h (arguments_of f)
 
@@ -216,7 +216,7 @@ module _ (depth : ℕ) (Inner : Phrase Query) (inner : (ts rest : List Lexeme) (
       in_words (tree_words x ++ tree_words y) (tree_words z) (ap tree_words e ∙ of_let n.spelling x y)
       (WriteWords.other (WriteWords.other (WriteWords.other (after (ended (inner _ _ _ i)) (inner _ _ _ j)))))
 
-  operations : {ts rest : List Lexeme} {os : List Operation} → AreOperations depth Inner ts rest os → WriteWords ts rest (joined (map operation_words os))
+  operations : {ts rest : List Lexeme} {os : List SetOperation} → AreOperations depth Inner ts rest os → WriteWords ts rest (joined (map operation_words os))
   operations AreOperations.no_more = WriteWords.no_more
   operations (AreOperations.one_more {o = o} {x = x} {xs = xs} k h more) =
       WriteWords.other (after (in_words (tree_words x) (operation_words (operation o x)) (of_operation (operation o x)) (operand h)) (operations more))
@@ -224,7 +224,7 @@ module _ (depth : ℕ) (Inner : Phrase Query) (inner : (ts rest : List Lexeme) (
       in_words (operation_words (operation o x)) (operation_words (operation o x) ++ []) (append-nil (operation_words (operation o x)))
       (WriteWords.other (in_words (tree_words x) (operation_words (operation o x)) (of_operation (operation o x)) (let_written h)))
 
-  chain_words : (x : Query) (os : List Operation) → tree_words (chain_of x os) ≡ tree_words x ++ joined (map operation_words os)
+  chain_words : (x : Query) (os : List SetOperation) → tree_words (chain_of x os) ≡ tree_words x ++ joined (map operation_words os)
   chain_words x [] = sym (append-nil (tree_words x))
   chain_words x (o ∷ os) = of_chain x (o ∷ os)
 

@@ -1,7 +1,7 @@
 -- The target patterns of a query are words of its text, in its order.
 use Rattle.std.specs.Prelude.{ℕ, List, [], ◌∷◌, Some}
 use Rattle.bq_query.specs.Reading as tokens
-use Rattle.bq_query.specs.declared.token.Token.{Token}
+use Rattle.bq_query.specs.declared.token.QueryToken.{QueryToken}
 use Rattle.bq_query_tree.specs.Grammar.{IsWord}
 use Rattle.bq_query_tree.specs.Lexeme.{Lexeme, lexemes}
 use Rattle.bq_query_tree.specs.declared.tree.Query.{Query}
@@ -19,7 +19,7 @@ pub data WriteWords : List Lexeme → List Lexeme → List (List ℕ) → Type 0
 
 -- the text is cut into tokens that write the words
 pub record TextWrites (text : List ℕ) (words : List (List ℕ)) : Type 0 where
-  pub cut : List Token
+  pub cut : List QueryToken
   pub reads : tokens.Reads text 0 (Some cut)
   pub write : WriteWords (lexemes text cut) [] words
 

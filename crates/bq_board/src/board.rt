@@ -5,18 +5,18 @@ ghost use Rattle.bq_board.specs.Graph.{edges};
 
 use crate::parcel::Parcel;
 use crate::plan::Plan;
-use crate::rule::{Key, Rule};
+use crate::rule::{RuleContext, Rule};
 use crate::view::View;
 use atomic_table::Table;
 use std::alloc::Global;
 
-pub type Place<V, B> = atomic_table::Seat<Option<V>, View<B>>;
+pub type BoardSeat<V, B> = atomic_table::Seat<Option<V>, View<B>>;
 
 /// Hands the modules of a plan to seats. Seats use it through a `&`, each in a thread of its own; no call but `open` and `close` takes or gives back memory, and none waits.
 #[derive(Drop)]
 pub struct Board<V: Parcel> {
     pub(crate) plan: Plan,
-    pub(crate) table: Table<Option<V>, View<V::Base>, Key<V::Base>, Rule<V>, Global>,
+    pub(crate) table: Table<Option<V>, View<V::Base>, RuleContext<V::Base>, Rule<V>, Global>,
     ghost key: { table.shared.key.plan.value ≡ plan },
     ghost wide: { table.shared.table_id.words ≡ edge_word plan (edges plan) },
     ghost deep: { table.shared.table_id.slots ≡ edges plan },
@@ -25,7 +25,7 @@ pub struct Board<V: Parcel> {
 /// The right to use one board.
 #[derive(Drop)]
 pub struct Seat<V: Parcel> {
-    pub(crate) place: Place<V, V::Base>,
+    pub(crate) place: BoardSeat<V, V::Base>,
 }
 
 impl<V: Parcel> Board<V> {

@@ -19,7 +19,7 @@ impl Plan {
         ensures { IfOk result (λ p. IsCut graph.now p) }
     {
         let rows = cut_rows(alloc, graph, order)?;
-        let _ = graph.len(); // for the proof: the graph is valid
+        let _ = graph.len(); // PROOF: the graph is valid
         cut_is_plan();
         Plan::of(alloc, Graph::from_rows(rows))
     }

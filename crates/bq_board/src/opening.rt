@@ -4,10 +4,10 @@ ghost use Rattle.bq_board.specs.Board.{blank, blank_with, edge_word};
 ghost use Rattle.bq_board.specs.Graph.{edges};
 ghost use Rattle.bq_board.specs.Seats.{IsSeatOf, base_of, seats_of, view_of};
 
-use crate::board::{Board, Place, Seat};
+use crate::board::{Board, BoardSeat, Seat};
 use crate::parcel::Parcel;
 use crate::plan::Plan;
-use crate::rule::{Key, Rule};
+use crate::rule::{RuleContext, Rule};
 use crate::steps::Fresh;
 use crate::view::View;
 use atomic_table::Table;
@@ -15,8 +15,8 @@ use std::alloc::{AllocError, Global};
 use std::snapshot::Snapshot;
 
 type Opened<V> = (
-    Table<Option<V>, View<<V as Parcel>::Base>, Key<<V as Parcel>::Base>, Rule<V>, Global>,
-    Place<V, <V as Parcel>::Base>,
+    Table<Option<V>, View<<V as Parcel>::Base>, RuleContext<<V as Parcel>::Base>, Rule<V>, Global>,
+    BoardSeat<V, <V as Parcel>::Base>,
 );
 
 /// The most seats that a board may have.
@@ -95,7 +95,7 @@ fn free_table<V: Parcel>(
 {
     let words = free_words(alloc, plan)?;
     let edges = plan.edges();
-    let key = Key {
+    let key = RuleContext {
         plan: Snapshot::of(plan),
         base: Snapshot::of(base),
         seats: Snapshot::of(&seats),

@@ -11,7 +11,7 @@ use std::snapshot::Snapshot;
 
 /// What the rule reads and no step changes.
 #[derive(Drop)]
-pub struct Key<B> {
+pub struct RuleContext<B> {
     pub plan: Snapshot<Plan>,
     pub base: Snapshot<B>,
     pub seats: Snapshot<usize>,
@@ -21,7 +21,7 @@ pub struct Rule<V> {
     of: PhantomData<V>,
 }
 
-impl<V: Parcel> TableRule<Option<V>, View<V::Base>, Key<V::Base>> for Rule<V> {
+impl<V: Parcel> TableRule<Option<V>, View<V::Base>, RuleContext<V::Base>> for Rule<V> {
     ghost holds = { λ key. RuleHolds V.belongs key.base.value key.plan.value key.seats.value };
 
     ghost first = { λ key. blank_with key.base.value key.plan.value (key.seats.value - 1) };

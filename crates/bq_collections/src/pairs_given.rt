@@ -9,7 +9,7 @@ ghost use Rattle.bq_value.specs.declared.error.EvalErr.TheVariants.{Bad};
 ghost use Rattle.bq_machine.specs.Action.{Does};
 ghost use Rattle.bq_collections.specs.PairsGiven.{two, pair_in, take_element, take_elements, dict_of, read, first_value, pairs_given, make_key, make_keys, all_pairs};
 
-use bq_machine::{Args, Bound, Elements, Machine, Parameter, Signature, bind};
+use bq_machine::{Args, Bound, Elements, Machine, SingleParameter, Signature, bind};
 use bq_source::FaultKind;
 use bq_value::{Body, Dict, EvalErr, Key, Node, Store, Value};
 use std::alloc::{AllocError, Global};
@@ -17,7 +17,7 @@ use std::marker::Model;
 
 /// `(pairs = [], **keywords)`
 const PAIRS: Signature<'static> = Signature {
-    parameters: &[Parameter {
+    parameters: &[SingleParameter {
         name: None,
         is_required: false,
     }],

@@ -49,7 +49,7 @@ fn first_equal(
     Ok((None, left))
 }
 
-// For the proof: a call that names the 64 levels is a step of its own.
+// PROOF: a call that names the 64 levels is a step of its own.
 #[tactic(auto, unfolding(bq_machine::specs::Machine::looked_equal))]
 fn looked_equal(store: &Store, steps: u64, a: &Value, b: &Value) -> Result<(bool, u64), FaultKind>
     ensures { result ≡ looked_equal store.now steps a.now b.now }

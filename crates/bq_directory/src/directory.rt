@@ -1,7 +1,7 @@
 //! The workspace of a directory.
 
 use crate::directory_err::DirectoryErr;
-use crate::walk::Walk;
+use crate::walk::DirectoryWalk;
 use bq_label::Workspace;
 use std::alloc::Global;
 use std::fs;
@@ -11,7 +11,7 @@ use std::fs::Files;
 fn read_entries<R: Files + Alloc<A = Global> + Clone + Drop>(
     rt: &R,
     directory: &str,
-    walk: &mut Walk,
+    walk: &mut DirectoryWalk,
 ) -> Result<(), DirectoryErr> {
     for entry in fs::read_dir(rt, directory)? {
         walk.visit(rt, &entry?)?;
@@ -25,7 +25,7 @@ pub fn read_directory<R: Files + Alloc<A = Global> + Clone + Drop>(
     rt: &R,
     root: &str,
 ) -> Result<Workspace, DirectoryErr> {
-    let mut walk = Walk::new(rt, root)?;
+    let mut walk = DirectoryWalk::new(rt, root)?;
     for _ in 0..u64::MAX {
         match walk.next_directory()? {
             None => return Ok(Workspace::new(walk.into_files())?),

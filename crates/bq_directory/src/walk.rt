@@ -38,7 +38,7 @@ struct Pending {
 
 /// A walk through the directory at a root.
 #[derive(Drop)]
-pub struct Walk {
+pub struct DirectoryWalk {
     alloc: Global,
     /// How many bytes come before the path of a file in the workspace: those of the root, with a slash.
     root_len: usize,
@@ -86,12 +86,12 @@ fn is_output_link<R: Files>(rt: &R, path: Path<'_>, inner: &[u8]) -> Result<bool
     Ok(is_output_name(inner) && fs::symlink_metadata(rt, path)?.is_symlink())
 }
 
-impl Walk {
+impl DirectoryWalk {
     /// The walk before its first step.
-    pub fn new<R: Files + Alloc<A = Global>>(rt: &R, root: &str) -> Result<Walk, DirectoryErr> {
+    pub fn new<R: Files + Alloc<A = Global>>(rt: &R, root: &str) -> Result<DirectoryWalk, DirectoryErr> {
         let alloc = rt.alloc();
         let identity = Identity::of(&fs::metadata(rt, root)?);
-        let mut walk = Walk {
+        let mut walk = DirectoryWalk {
             alloc,
             root_len: root.len().saturating_add(usize::from(!root.ends_with('/'))),
             ignored: read_ignored(rt, root)?,

@@ -52,7 +52,7 @@ impl LoadGraph {
         ensures value { result.now ≡ self.now.labels }
         ensures valid { IsNumbered self.now }
     {
-        let _edges = &self.edges; // for the proof: the invariant
+        let _edges = &self.edges; // PROOF: the invariant
         self.labels.as_slice()
     }
 
@@ -61,7 +61,7 @@ impl LoadGraph {
         ensures value { result.now ≡ self.now.modules }
         ensures valid { IsNumbered self.now }
     {
-        let _edges = &self.edges; // for the proof: the invariant
+        let _edges = &self.edges; // PROOF: the invariant
         self.modules.as_slice()
     }
 
@@ -70,7 +70,7 @@ impl LoadGraph {
         ensures value { result.now ≡ self.now.edges }
         ensures valid { IsNumbered self.now }
     {
-        let _labels = &self.labels; // for the proof: the invariant
+        let _labels = &self.labels; // PROOF: the invariant
         &self.edges
     }
 

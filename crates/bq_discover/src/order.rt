@@ -25,7 +25,7 @@ pub(crate) fn labels(alloc: Global, modules: &[Module]) -> Result<Vec<Label>, Al
 {
     let mut labels = Vec::new(alloc);
     for each in modules {
-        let _name = each.label.name(); // for the proof: its label is valid
+        let _name = each.label.name(); // PROOF: its label is valid
         labels.push(each.label.share()?)?;
     }
     Ok(labels)

@@ -90,7 +90,7 @@ impl Exploration {
         if place != self.read.len() {
             return Ok(());
         }
-        self.put(next)?; // for the proof: what was added, where memory was there
+        self.put(next)?; // PROOF: what was added, where memory was there
         Ok(())
     }
 

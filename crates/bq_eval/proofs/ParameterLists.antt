@@ -3,11 +3,11 @@ use Rattle.std.proofs.Common.{◌≡◌, List, [], ◌∷◌, ◌++◌, map, ref
 use Rattle.std.proofs.lemmas.List.{map_push}
 use Rattle.bq_scope.specs.declared.code.CodeParameter.{CodeParameter}
 use Rattle.bq_scope.specs.declared.code.CodeParameter.TheVariants as parameter
-use Rattle.bq_machine.specs.declared.parameters.Parameter.{Parameter}
+use Rattle.bq_machine.specs.declared.parameters.SingleParameter.{SingleParameter}
 use Rattle.bq_machine.specs.Parameters.{parameter_of}
 use Rattle.bq_meaning.specs.Calls.{singles}
 
-pub one_more : (all : List Parameter) (p : Parameter) → map parameter_of (all ++ p ∷ []) ≡ map parameter_of all ++ parameter_of p ∷ []
+pub one_more : (all : List SingleParameter) (p : SingleParameter) → map parameter_of (all ++ p ∷ []) ≡ map parameter_of all ++ parameter_of p ∷ []
 one_more all p = map_push parameter_of all p
 
 pub singles_from : (p : CodeParameter) (ps : List CodeParameter) → singles (p ∷ ps) ≡ singles (p ∷ []) ++ singles ps

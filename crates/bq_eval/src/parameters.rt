@@ -9,7 +9,7 @@ ghost use Rattle.bq_meaning.specs.Calls as meaning;
 ghost use Rattle.bq_eval.specs.Acts.{Acts};
 
 use crate::runtime::Runtime;
-use bq_machine::{Args, Bound, Parameter, Signature, bind};
+use bq_machine::{Args, Bound, SingleParameter, Signature, bind};
 use bq_scope::CodeParameter;
 use bq_seed::Seed;
 use bq_value::{Content, Dict, EvalErr, Value};
@@ -18,20 +18,20 @@ use std::alloc::{AllocError, Global};
 /// Adds the parameter, if it takes one argument.
 #[tactic(auto, using(crate::proofs::ParameterLists::one_more))]
 fn add_single<'a>(
-    all: &mut Vec<Parameter<'a>>,
+    all: &mut Vec<SingleParameter<'a>>,
     parameter: &'a CodeParameter,
 ) -> Result<(), AllocError>
     ensures { OnOk result (map parameter_of all.new.items ≡ map parameter_of all.old.items ++ meaning.singles (parameter.now ∷ [])) }
 {
     match parameter {
         CodeParameter::Plain(name, _) => {
-            all.push(Parameter {
+            all.push(SingleParameter {
                 name: Some(name.as_slice()),
                 is_required: true,
             })?;
         }
         CodeParameter::Default(name, _) => {
-            all.push(Parameter {
+            all.push(SingleParameter {
                 name: Some(name.as_slice()),
                 is_required: false,
             })?;
@@ -48,7 +48,7 @@ fn add_single<'a>(
 fn singles<'a>(
     alloc: Global,
     parameters: &'a [CodeParameter],
-) -> Result<Vec<Parameter<'a>>, AllocError>
+) -> Result<Vec<SingleParameter<'a>>, AllocError>
     ensures { IfOk result (λ all. map parameter_of all.items ≡ meaning.singles parameters.now) }
 {
     let mut all = Vec::with_capacity(alloc, parameters.len())?;

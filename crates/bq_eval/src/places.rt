@@ -9,11 +9,11 @@ use std::marker::Model;
 
 /// Operands and indices, the next one last. Contracts see their list from the next one on.
 #[derive(Drop)]
-pub struct Places {
+pub struct IndexedOperands {
     left: Vec<(Value, Value)>,
 }
 
-impl Model for Places {
+impl Model for IndexedOperands {
     ghost use Rattle.std.specs.Prelude.{List, reverse};
     ghost use Rattle.std.specs.Coded.{coded_list, coded×};
     ghost use Rattle.bq_value.specs.Datum.{Datum};
@@ -26,23 +26,23 @@ impl Model for Places {
     ghost view = { λ p. reverse p.left.items };
 }
 
-impl Places {
+impl IndexedOperands {
     /// None.
-    pub fn new(alloc: Global) -> Places
+    pub fn new(alloc: Global) -> IndexedOperands
         ensures { result ≡ [] }
     {
-        Places {
+        IndexedOperands {
             left: Vec::new(alloc),
         }
     }
 
     /// These, in order.
     #[tactic(auto, using(crate::proofs::Reversed::reversed_twice))]
-    pub fn of(mut places: Vec<(Value, Value)>) -> Places
+    pub fn of(mut places: Vec<(Value, Value)>) -> IndexedOperands
         ensures { result ≡ places.items }
     {
         places.reverse();
-        Places { left: places }
+        IndexedOperands { left: places }
     }
 
     /// The next one.

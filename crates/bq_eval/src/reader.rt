@@ -11,7 +11,7 @@ ghost use Rattle.bq_eval.specs.Round.{evals, outside_functions};
 use crate::context::{Context, Globals};
 use crate::expressions::expr_to;
 use crate::frame::Frame;
-use crate::places::Places;
+use crate::places::IndexedOperands;
 use crate::runtime::Runtime;
 use crate::targets::{MAX_LAYERS, bind_to};
 use bq_grammar::Operator;
@@ -222,7 +222,7 @@ impl<R: Runtime, C: Copy + Fn(&Context<'_>, &mut R, &Value, Args) -> Result<Valu
     {
         let mut places = Vec::new(context.alloc);
         self.places_to(context, frame, runtime, &mut places, MAX_LAYERS, target)?;
-        let mut places = Places::of(places);
+        let mut places = IndexedOperands::of(places);
         bind_to(
             context.alloc,
             runtime,

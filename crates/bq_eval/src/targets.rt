@@ -7,7 +7,7 @@ ghost use Rattle.bq_eval.specs.Acts.{Acts};
 ghost use Rattle.bq_eval.specs.Slots.{slots_of};
 
 use crate::frame::Frame;
-use crate::places::Places;
+use crate::places::IndexedOperands;
 use crate::runtime::Runtime;
 use bq_machine::Elements;
 use bq_scope::CodeTarget;
@@ -23,7 +23,7 @@ pub const MAX_LAYERS: usize = 1024;
 fn bind_place<R: Runtime>(
     runtime: &mut R,
     frame: &Frame<'_>,
-    places: &mut Places,
+    places: &mut IndexedOperands,
     value: Value,
 ) -> Result<(), EvalErr>
     ensures { Acts R.means (λ _. (slots_of frame.now, places.new)) result (R.seen runtime.new) (meaning.bind_place R.means value (slots_of frame.now) places.old (R.seen runtime.old)) }
@@ -41,7 +41,7 @@ fn bind_each<R: Runtime>(
     alloc: Global,
     runtime: &mut R,
     frame: &mut Frame<'_>,
-    places: &mut Places,
+    places: &mut IndexedOperands,
     depth: usize,
     targets: &[CodeTarget],
     elements: &mut Elements,
@@ -65,7 +65,7 @@ fn unpack<R: Runtime>(
     alloc: Global,
     runtime: &mut R,
     frame: &mut Frame<'_>,
-    places: &mut Places,
+    places: &mut IndexedOperands,
     depth: usize,
     targets: &[CodeTarget],
     value: Value,
@@ -82,7 +82,7 @@ fn bind_target<R: Runtime>(
     alloc: Global,
     runtime: &mut R,
     frame: &mut Frame<'_>,
-    places: &mut Places,
+    places: &mut IndexedOperands,
     depth: usize,
     target: &CodeTarget,
     value: Value,
@@ -125,7 +125,7 @@ pub fn bind_to<R: Runtime>(
     alloc: Global,
     runtime: &mut R,
     frame: &mut Frame<'_>,
-    places: &mut Places,
+    places: &mut IndexedOperands,
     depth: usize,
     target: &CodeTarget,
     value: Value,
@@ -169,7 +169,7 @@ fn bind_parts<R: Runtime>(
 ) -> Result<(), EvalErr>
     ensures { Acts R.means (λ _. slots_of frame.new) result (R.seen runtime.new) (meaning.bind_variables R.means target.now value (slots_of frame.old) (R.seen runtime.old)) }
 {
-    let mut places = Places::new(alloc);
+    let mut places = IndexedOperands::new(alloc);
     bind_to(
         alloc,
         runtime,

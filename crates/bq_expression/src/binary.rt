@@ -10,7 +10,7 @@ ghost use Rattle.bq_grammar.specs.declared.tree.Choice.{roll-Choice};
 ghost use Rattle.bq_expression.specs.Nested.{ReadsNested};
 
 use crate::grammar::Grammar;
-use bq_grammar::{Choice, Comparison, Expr, Nested, Operation, Operator, Refusal, UnaryOperator};
+use bq_grammar::{Choice, Comparison, Expr, Nested, Operation, Operator, SyntaxErr, UnaryOperator};
 use bq_source::TokenKind;
 use bq_tokens::Tokens;
 use sqlite_items::{Boxed, Items};
@@ -20,7 +20,7 @@ use std::alloc::{AllocError, Global};
 fn binary_of(first: Boxed<Expr>, operations: Items<Operation>) -> Expr
     ensures { result ≡ grammar.binary_of first operations }
 {
-    // for the proof: it is called where an operator was seen, so at least one operation was read.
+    // PROOF: it is called where an operator was seen, so at least one operation was read.
     if operations.is_empty() {
         return first.into_inner();
     }
@@ -42,7 +42,7 @@ fn unary_of(
 
 /// { '+' | '-' | '~' }
 #[tactic(auto, using(crate::proofs::LoopTurns::turns_more, crate::proofs::LoopTurns::turns_over), unfolding(bq_grammar::specs::Turns::repeat))]
-fn signs(alloc: Global, tokens: &mut Tokens<'_>) -> Result<Items<UnaryOperator>, Refusal>
+fn signs(alloc: Global, tokens: &mut Tokens<'_>) -> Result<Items<UnaryOperator>, SyntaxErr>
     ensures { Reads (turns.repeat (spec.has operators.sign) (spec.looked_up operators.sign) [] tokens.old) result tokens.new }
 {
     let mut found = Items::new(alloc);
@@ -58,7 +58,7 @@ fn signs(alloc: Global, tokens: &mut Tokens<'_>) -> Result<Items<UnaryOperator>,
 
 /// { 'not' }
 #[tactic(auto, using(crate::proofs::LoopTurns::turns_more, crate::proofs::LoopTurns::turns_over), unfolding(bq_grammar::specs::Turns::repeat))]
-fn negations(alloc: Global, tokens: &mut Tokens<'_>) -> Result<Items<UnaryOperator>, Refusal>
+fn negations(alloc: Global, tokens: &mut Tokens<'_>) -> Result<Items<UnaryOperator>, SyntaxErr>
     ensures { Reads (turns.repeat (spec.has operators.negation) (spec.looked_up operators.negation) [] tokens.old) result tokens.new }
 {
     let mut found = Items::new(alloc);
@@ -76,7 +76,7 @@ fn negations(alloc: Global, tokens: &mut Tokens<'_>) -> Result<Items<UnaryOperat
 fn chosen_of(choices: Items<Choice>, value: Boxed<Expr>) -> Expr
     ensures { result ≡ spec.chosen_of (choices, value) }
 {
-    // for the proof: it is called where `if` was seen, so at least one choice was read.
+    // PROOF: it is called where `if` was seen, so at least one choice was read.
     if choices.is_empty() {
         return value.into_inner();
     }
@@ -92,10 +92,10 @@ fn choice_of(value: Boxed<Expr>, condition: Boxed<Expr>) -> Choice
     }
 }
 
-impl<F: Fn(Global, &mut Tokens<'_>, usize, Nested) -> Result<Expr, Refusal>> Grammar<F> {
+impl<F: Fn(Global, &mut Tokens<'_>, usize, Nested) -> Result<Expr, SyntaxErr>> Grammar<F> {
     /// Unary = { '+' | '-' | '~' } Primary
     #[tactic(auto, unfolding(bq_grammar::specs::Reading::prefixed))]
-    fn unary(&self, tokens: &mut Tokens<'_>) -> Result<Expr, Refusal>
+    fn unary(&self, tokens: &mut Tokens<'_>) -> Result<Expr, SyntaxErr>
         requires { ReadsNested self.now.depth (F.pre self.now.phrase) (F.post self.now.phrase) }
         ensures { Reads (spec.unary (spec.primary (spec.phrase self.now.depth) (spec.variables_to self.now.depth)) tokens.old) result tokens.new }
     {
@@ -107,7 +107,7 @@ impl<F: Fn(Global, &mut Tokens<'_>, usize, Nested) -> Result<Expr, Refusal>> Gra
     /// Bor = Xor { '|' Xor }, and so on down to Prod = Unary { ('*' | '//' | '%' | '/') Unary }: Prod is level 1, Bor level 6
     #[cycle(binary)]
     #[tactic(auto, using(crate::proofs::LoopTurns::level_above, crate::proofs::LoopTurns::none_follow), unfolding(bq_grammar::specs::Reading::chain))]
-    fn binary(&self, tokens: &mut Tokens<'_>, level: usize) -> Result<Expr, Refusal>
+    fn binary(&self, tokens: &mut Tokens<'_>, level: usize) -> Result<Expr, SyntaxErr>
         requires { ReadsNested self.now.depth (F.pre self.now.phrase) (F.post self.now.phrase) }
         ensures { Reads (spec.binary (spec.primary (spec.phrase self.now.depth) (spec.variables_to self.now.depth)) level tokens.old) result tokens.new }
     {
@@ -126,7 +126,7 @@ impl<F: Fn(Global, &mut Tokens<'_>, usize, Nested) -> Result<Expr, Refusal>> Gra
     /// { operator Operand }
     #[tactic(auto, using(crate::proofs::LoopTurns::turns_more, crate::proofs::LoopTurns::turns_over), unfolding(bq_grammar::specs::Turns::repeat))]
     #[cycle(binary)]
-    fn operations(&self, tokens: &mut Tokens<'_>, level: usize) -> Result<Items<Operation>, Refusal>
+    fn operations(&self, tokens: &mut Tokens<'_>, level: usize) -> Result<Items<Operation>, SyntaxErr>
         requires chained { 0 < level }
         requires nested { ReadsNested self.now.depth (F.pre self.now.phrase) (F.post self.now.phrase) }
         ensures { Reads (turns.repeat (spec.has (operators.operator_at level)) (spec.operation level (spec.binary (spec.primary (spec.phrase self.now.depth) (spec.variables_to self.now.depth)) (level - 1))) [] tokens.old) result tokens.new }
@@ -145,7 +145,7 @@ impl<F: Fn(Global, &mut Tokens<'_>, usize, Nested) -> Result<Expr, Refusal>> Gra
     /// operator Operand
     #[cycle(binary)]
     #[tactic(auto, unfolding(bq_grammar::specs::Reading::operation))]
-    fn operation(&self, tokens: &mut Tokens<'_>, level: usize) -> Result<Operation, Refusal>
+    fn operation(&self, tokens: &mut Tokens<'_>, level: usize) -> Result<Operation, SyntaxErr>
         requires chained { 0 < level }
         requires nested { ReadsNested self.now.depth (F.pre self.now.phrase) (F.post self.now.phrase) }
         ensures { Reads (spec.operation level (spec.binary (spec.primary (spec.phrase self.now.depth) (spec.variables_to self.now.depth)) (level - 1)) tokens.old) result tokens.new }
@@ -159,7 +159,7 @@ impl<F: Fn(Global, &mut Tokens<'_>, usize, Nested) -> Result<Expr, Refusal>> Gra
 
     /// CompOp = '==' | '!=' | '<' | '>' | '<=' | '>=' | 'in' | 'not' 'in'
     #[tactic(auto, unfolding(bq_grammar::specs::Reading::comp_op))]
-    fn comp_op(&self, tokens: &mut Tokens<'_>) -> Result<Comparison, Refusal>
+    fn comp_op(&self, tokens: &mut Tokens<'_>) -> Result<Comparison, SyntaxErr>
         ensures { Reads (spec.comp_op tokens.old) result tokens.new }
     {
         if tokens.eat(TokenKind::Not) {
@@ -171,7 +171,7 @@ impl<F: Fn(Global, &mut Tokens<'_>, usize, Nested) -> Result<Expr, Refusal>> Gra
 
     /// Comp = Bor [ CompOp Bor ]
     #[tactic(auto, unfolding(bq_grammar::specs::Reading::comp))]
-    fn comp(&self, tokens: &mut Tokens<'_>) -> Result<Expr, Refusal>
+    fn comp(&self, tokens: &mut Tokens<'_>) -> Result<Expr, SyntaxErr>
         requires { ReadsNested self.now.depth (F.pre self.now.phrase) (F.post self.now.phrase) }
         ensures { Reads (spec.comp (spec.primary (spec.phrase self.now.depth) (spec.variables_to self.now.depth)) tokens.old) result tokens.new }
     {
@@ -187,7 +187,7 @@ impl<F: Fn(Global, &mut Tokens<'_>, usize, Nested) -> Result<Expr, Refusal>> Gra
 
     /// Not = { 'not' } Comp
     #[tactic(auto, unfolding(bq_grammar::specs::Reading::prefixed))]
-    fn not_test(&self, tokens: &mut Tokens<'_>) -> Result<Expr, Refusal>
+    fn not_test(&self, tokens: &mut Tokens<'_>) -> Result<Expr, SyntaxErr>
         requires { ReadsNested self.now.depth (F.pre self.now.phrase) (F.post self.now.phrase) }
         ensures { Reads (spec.not_test (spec.primary (spec.phrase self.now.depth) (spec.variables_to self.now.depth)) tokens.old) result tokens.new }
     {
@@ -198,7 +198,7 @@ impl<F: Fn(Global, &mut Tokens<'_>, usize, Nested) -> Result<Expr, Refusal>> Gra
 
     /// 'and' not_test
     #[tactic(auto, unfolding(bq_grammar::specs::Reading::operation))]
-    fn and_operation(&self, tokens: &mut Tokens<'_>) -> Result<Operation, Refusal>
+    fn and_operation(&self, tokens: &mut Tokens<'_>) -> Result<Operation, SyntaxErr>
         requires { ReadsNested self.now.depth (F.pre self.now.phrase) (F.post self.now.phrase) }
         ensures { Reads (spec.operation 9 (spec.not_test (spec.primary (spec.phrase self.now.depth) (spec.variables_to self.now.depth))) tokens.old) result tokens.new }
     {
@@ -211,7 +211,7 @@ impl<F: Fn(Global, &mut Tokens<'_>, usize, Nested) -> Result<Expr, Refusal>> Gra
 
     /// The further operands of the chain.
     #[tactic(auto, using(crate::proofs::LoopTurns::turns_more, crate::proofs::LoopTurns::turns_over), unfolding(bq_grammar::specs::Turns::repeat))]
-    fn and_operations(&self, tokens: &mut Tokens<'_>) -> Result<Items<Operation>, Refusal>
+    fn and_operations(&self, tokens: &mut Tokens<'_>) -> Result<Items<Operation>, SyntaxErr>
         requires { ReadsNested self.now.depth (F.pre self.now.phrase) (F.post self.now.phrase) }
         ensures { Reads (turns.repeat (spec.has (operators.operator_at 9)) (spec.operation 9 (spec.not_test (spec.primary (spec.phrase self.now.depth) (spec.variables_to self.now.depth)))) [] tokens.old) result tokens.new }
     {
@@ -228,7 +228,7 @@ impl<F: Fn(Global, &mut Tokens<'_>, usize, Nested) -> Result<Expr, Refusal>> Gra
 
     /// And = not_test { 'and' not_test }
     #[tactic(auto, using(crate::proofs::LoopTurns::none_follow), unfolding(bq_grammar::specs::Reading::chain))]
-    fn and_test(&self, tokens: &mut Tokens<'_>) -> Result<Expr, Refusal>
+    fn and_test(&self, tokens: &mut Tokens<'_>) -> Result<Expr, SyntaxErr>
         requires { ReadsNested self.now.depth (F.pre self.now.phrase) (F.post self.now.phrase) }
         ensures { Reads (spec.and_test (spec.primary (spec.phrase self.now.depth) (spec.variables_to self.now.depth)) tokens.old) result tokens.new }
     {
@@ -243,7 +243,7 @@ impl<F: Fn(Global, &mut Tokens<'_>, usize, Nested) -> Result<Expr, Refusal>> Gra
 
     /// 'or' and_test
     #[tactic(auto, unfolding(bq_grammar::specs::Reading::operation))]
-    fn or_operation(&self, tokens: &mut Tokens<'_>) -> Result<Operation, Refusal>
+    fn or_operation(&self, tokens: &mut Tokens<'_>) -> Result<Operation, SyntaxErr>
         requires { ReadsNested self.now.depth (F.pre self.now.phrase) (F.post self.now.phrase) }
         ensures { Reads (spec.operation 10 (spec.and_test (spec.primary (spec.phrase self.now.depth) (spec.variables_to self.now.depth))) tokens.old) result tokens.new }
     {
@@ -256,7 +256,7 @@ impl<F: Fn(Global, &mut Tokens<'_>, usize, Nested) -> Result<Expr, Refusal>> Gra
 
     /// The further operands of the chain.
     #[tactic(auto, using(crate::proofs::LoopTurns::turns_more, crate::proofs::LoopTurns::turns_over), unfolding(bq_grammar::specs::Turns::repeat))]
-    fn or_operations(&self, tokens: &mut Tokens<'_>) -> Result<Items<Operation>, Refusal>
+    fn or_operations(&self, tokens: &mut Tokens<'_>) -> Result<Items<Operation>, SyntaxErr>
         requires { ReadsNested self.now.depth (F.pre self.now.phrase) (F.post self.now.phrase) }
         ensures { Reads (turns.repeat (spec.has (operators.operator_at 10)) (spec.operation 10 (spec.and_test (spec.primary (spec.phrase self.now.depth) (spec.variables_to self.now.depth)))) [] tokens.old) result tokens.new }
     {
@@ -273,7 +273,7 @@ impl<F: Fn(Global, &mut Tokens<'_>, usize, Nested) -> Result<Expr, Refusal>> Gra
 
     /// Or = and_test { 'or' and_test }
     #[tactic(auto, using(crate::proofs::LoopTurns::none_follow), unfolding(bq_grammar::specs::Reading::chain))]
-    fn or_test(&self, tokens: &mut Tokens<'_>) -> Result<Expr, Refusal>
+    fn or_test(&self, tokens: &mut Tokens<'_>) -> Result<Expr, SyntaxErr>
         requires { ReadsNested self.now.depth (F.pre self.now.phrase) (F.post self.now.phrase) }
         ensures { Reads (spec.or_test (spec.primary (spec.phrase self.now.depth) (spec.variables_to self.now.depth)) tokens.old) result tokens.new }
     {
@@ -288,7 +288,7 @@ impl<F: Fn(Global, &mut Tokens<'_>, usize, Nested) -> Result<Expr, Refusal>> Gra
 
     /// Choice = 'if' Or 'else' Or
     #[tactic(auto, unfolding(bq_grammar::specs::Reading::choice))]
-    fn choice(&self, tokens: &mut Tokens<'_>) -> Result<(Boxed<Expr>, Boxed<Expr>), Refusal>
+    fn choice(&self, tokens: &mut Tokens<'_>) -> Result<(Boxed<Expr>, Boxed<Expr>), SyntaxErr>
         requires { ReadsNested self.now.depth (F.pre self.now.phrase) (F.post self.now.phrase) }
         ensures { Reads (spec.choice (spec.primary (spec.phrase self.now.depth) (spec.variables_to self.now.depth)) tokens.old) result tokens.new }
     {
@@ -305,7 +305,7 @@ impl<F: Fn(Global, &mut Tokens<'_>, usize, Nested) -> Result<Expr, Refusal>> Gra
         &self,
         tokens: &mut Tokens<'_>,
         mut value: Boxed<Expr>,
-    ) -> Result<(Items<Choice>, Boxed<Expr>), Refusal>
+    ) -> Result<(Items<Choice>, Boxed<Expr>), SyntaxErr>
         requires { ReadsNested self.now.depth (F.pre self.now.phrase) (F.post self.now.phrase) }
         ensures { Reads (turns.turns (spec.choice_turn (spec.primary (spec.phrase self.now.depth) (spec.variables_to self.now.depth))) turns.whole (length tokens.old) ([], value) tokens.old) result tokens.new }
     {
@@ -324,7 +324,7 @@ impl<F: Fn(Global, &mut Tokens<'_>, usize, Nested) -> Result<Expr, Refusal>> Gra
 
     /// { Choice }, after a first value
     #[tactic(auto, using(crate::proofs::LoopTurns::no_choice), unfolding(bq_grammar::specs::Reading::conditional))]
-    fn conditional(&self, tokens: &mut Tokens<'_>, value: Expr) -> Result<Expr, Refusal>
+    fn conditional(&self, tokens: &mut Tokens<'_>, value: Expr) -> Result<Expr, SyntaxErr>
         requires { ReadsNested self.now.depth (F.pre self.now.phrase) (F.post self.now.phrase) }
         ensures { Reads (spec.conditional (spec.primary (spec.phrase self.now.depth) (spec.variables_to self.now.depth)) value tokens.old) result tokens.new }
     {
@@ -337,19 +337,19 @@ impl<F: Fn(Global, &mut Tokens<'_>, usize, Nested) -> Result<Expr, Refusal>> Gra
     }
 
     /// Test = Or { Choice } | 'lambda' ..
-    fn test(&self, tokens: &mut Tokens<'_>) -> Result<Expr, Refusal>
+    fn test(&self, tokens: &mut Tokens<'_>) -> Result<Expr, SyntaxErr>
         requires { ReadsNested self.now.depth (F.pre self.now.phrase) (F.post self.now.phrase) }
         ensures { Reads (spec.test (spec.primary (spec.phrase self.now.depth) (spec.variables_to self.now.depth)) tokens.old) result tokens.new }
     {
         if tokens.sees(TokenKind::Lambda) {
-            return Err(Refusal::Lambda);
+            return Err(SyntaxErr::Lambda);
         }
         let value = self.or_test(tokens)?;
         self.conditional(tokens, value)
     }
 
     /// What stands in brackets.
-    pub fn phrase_by(&self, tokens: &mut Tokens<'_>, which: Nested) -> Result<Expr, Refusal>
+    pub fn phrase_by(&self, tokens: &mut Tokens<'_>, which: Nested) -> Result<Expr, SyntaxErr>
         requires { ReadsNested self.now.depth (F.pre self.now.phrase) (F.post self.now.phrase) }
         ensures { Reads (spec.phrase_by (spec.primary (spec.phrase self.now.depth) (spec.variables_to self.now.depth)) which tokens.old) result tokens.new }
     {

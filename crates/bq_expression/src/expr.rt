@@ -5,7 +5,7 @@ ghost use Rattle.bq_grammar.specs.Reading as spec;
 ghost use Rattle.bq_grammar.specs.ReadingStatements as statements;
 
 use crate::grammar::Grammar;
-use bq_grammar::{Expr, Nested, Refusal};
+use bq_grammar::{Expr, Nested, SyntaxErr};
 use bq_tokens::Tokens;
 use std::alloc::Global;
 
@@ -15,11 +15,11 @@ pub fn phrase(
     tokens: &mut Tokens<'_>,
     depth: usize,
     which: Nested,
-) -> Result<Expr, Refusal>
+) -> Result<Expr, SyntaxErr>
     ensures { Reads (spec.phrase depth which tokens.old) result tokens.new }
 {
     if depth == 0 {
-        return Err(Refusal::Syntax);
+        return Err(SyntaxErr::Syntax);
     }
     Grammar {
         alloc,
@@ -31,7 +31,7 @@ pub fn phrase(
 
 /// Expr = Test { ',' Test }
 #[tactic(auto, unfolding(bq_grammar::specs::ReadingStatements::expr))]
-pub fn expr_list(alloc: Global, tokens: &mut Tokens<'_>, depth: usize) -> Result<Expr, Refusal>
+pub fn expr_list(alloc: Global, tokens: &mut Tokens<'_>, depth: usize) -> Result<Expr, SyntaxErr>
     ensures { Reads (statements.expr_to depth tokens.old) result tokens.new }
 {
     let grammar = Grammar {

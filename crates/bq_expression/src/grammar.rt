@@ -8,7 +8,7 @@ ghost use Rattle.bq_grammar.specs.declared.tree.Nested.TheVariants.{Test};
 ghost use Rattle.bq_expression.specs.Nested.{ReadsNested};
 
 use crate::steps::closed;
-use bq_grammar::{Expr, Nested, Refusal};
+use bq_grammar::{Expr, Nested, SyntaxErr};
 use bq_source::TokenKind;
 use bq_tokens::Tokens;
 use sqlite_items::Items;
@@ -22,8 +22,8 @@ pub struct Grammar<F> {
     pub phrase: F,
 }
 
-impl<F: Fn(Global, &mut Tokens<'_>, usize, Nested) -> Result<Expr, Refusal>> Grammar<F> {
-    pub fn nested(&self, tokens: &mut Tokens<'_>, which: Nested) -> Result<Expr, Refusal>
+impl<F: Fn(Global, &mut Tokens<'_>, usize, Nested) -> Result<Expr, SyntaxErr>> Grammar<F> {
+    pub fn nested(&self, tokens: &mut Tokens<'_>, which: Nested) -> Result<Expr, SyntaxErr>
         requires { ReadsNested self.now.depth (F.pre self.now.phrase) (F.post self.now.phrase) }
         ensures { Reads (spec.phrase self.now.depth which tokens.old) result tokens.new }
     {
@@ -37,7 +37,7 @@ impl<F: Fn(Global, &mut Tokens<'_>, usize, Nested) -> Result<Expr, Refusal>> Gra
         value: T,
         kind: TokenKind,
         which: Nested,
-    ) -> Result<(T, Expr), Refusal>
+    ) -> Result<(T, Expr), SyntaxErr>
         requires { ReadsNested self.now.depth (F.pre self.now.phrase) (F.post self.now.phrase) }
         ensures { Reads (and_then (turns.expect kind tokens.old) (λ _ us. and_then (spec.phrase self.now.depth which us) (λ x rest. Ok ((value, x), rest)))) result tokens.new }
     {
@@ -53,7 +53,7 @@ impl<F: Fn(Global, &mut Tokens<'_>, usize, Nested) -> Result<Expr, Refusal>> Gra
         tokens: &mut Tokens<'_>,
         close: TokenKind,
         mut found: Items<Expr>,
-    ) -> Result<Items<Expr>, Refusal>
+    ) -> Result<Items<Expr>, SyntaxErr>
         requires { ReadsNested self.now.depth (F.pre self.now.phrase) (F.post self.now.phrase) }
         ensures { Reads (turns.listed_from close (spec.phrase self.now.depth Test) found tokens.old) result tokens.new }
     {
@@ -67,6 +67,6 @@ impl<F: Fn(Global, &mut Tokens<'_>, usize, Nested) -> Result<Expr, Refusal>> Gra
                 return closed(tokens, close, found);
             }
         }
-        Err(Refusal::Syntax)
+        Err(SyntaxErr::Syntax)
     }
 }

@@ -11,7 +11,7 @@ ghost use Rattle.bq_expression.specs.Nested.{ReadsNested};
 use crate::grammar::Grammar;
 use crate::steps::{closed, only};
 use crate::variables::vars;
-use bq_grammar::{Clause, Expr, Nested, Pair, Refusal};
+use bq_grammar::{Clause, Expr, Nested, Pair, SyntaxErr};
 use bq_source::TokenKind;
 use bq_tokens::Tokens;
 use sqlite_items::{Boxed, Items};
@@ -24,10 +24,10 @@ fn sees_clause(tokens: &Tokens<'_>) -> bool
     tokens.sees(TokenKind::For) || tokens.sees(TokenKind::If)
 }
 
-impl<F: Fn(Global, &mut Tokens<'_>, usize, Nested) -> Result<Expr, Refusal>> Grammar<F> {
+impl<F: Fn(Global, &mut Tokens<'_>, usize, Nested) -> Result<Expr, SyntaxErr>> Grammar<F> {
     /// Pair = Test ':' Test
     #[tactic(auto, unfolding(bq_grammar::specs::Reading::pair))]
-    fn pair(&self, tokens: &mut Tokens<'_>) -> Result<Pair, Refusal>
+    fn pair(&self, tokens: &mut Tokens<'_>) -> Result<Pair, SyntaxErr>
         requires { ReadsNested self.now.depth (F.pre self.now.phrase) (F.post self.now.phrase) }
         ensures { Reads (spec.pair (spec.phrase self.now.depth) (spec.variables_to self.now.depth) tokens.old) result tokens.new }
     {
@@ -38,7 +38,7 @@ impl<F: Fn(Global, &mut Tokens<'_>, usize, Nested) -> Result<Expr, Refusal>> Gra
 
     /// ForClause = 'for' Vars 'in' Or
     #[tactic(auto, unfolding(bq_grammar::specs::Reading::for_clause))]
-    fn for_clause(&self, tokens: &mut Tokens<'_>) -> Result<Clause, Refusal>
+    fn for_clause(&self, tokens: &mut Tokens<'_>) -> Result<Clause, SyntaxErr>
         requires { ReadsNested self.now.depth (F.pre self.now.phrase) (F.post self.now.phrase) }
         ensures { Reads (spec.for_clause (spec.phrase self.now.depth) (spec.variables_to self.now.depth) tokens.old) result tokens.new }
     {
@@ -50,7 +50,7 @@ impl<F: Fn(Global, &mut Tokens<'_>, usize, Nested) -> Result<Expr, Refusal>> Gra
 
     /// Clause = ForClause | 'if' Or
     #[tactic(auto, unfolding(bq_grammar::specs::Reading::clause))]
-    fn clause(&self, tokens: &mut Tokens<'_>) -> Result<Clause, Refusal>
+    fn clause(&self, tokens: &mut Tokens<'_>) -> Result<Clause, SyntaxErr>
         requires { ReadsNested self.now.depth (F.pre self.now.phrase) (F.post self.now.phrase) }
         ensures { Reads (spec.clause (spec.phrase self.now.depth) (spec.variables_to self.now.depth) tokens.old) result tokens.new }
     {
@@ -62,7 +62,7 @@ impl<F: Fn(Global, &mut Tokens<'_>, usize, Nested) -> Result<Expr, Refusal>> Gra
     }
 
     /// ')' | ',' [ Test { ',' Test } [','] ] ')', after the first test
-    fn parens_after(&self, tokens: &mut Tokens<'_>, first: Expr) -> Result<Expr, Refusal>
+    fn parens_after(&self, tokens: &mut Tokens<'_>, first: Expr) -> Result<Expr, SyntaxErr>
         requires { ReadsNested self.now.depth (F.pre self.now.phrase) (F.post self.now.phrase) }
         ensures { Reads (spec.parens_after (spec.phrase self.now.depth) (spec.variables_to self.now.depth) first tokens.old) result tokens.new }
     {
@@ -77,7 +77,7 @@ impl<F: Fn(Global, &mut Tokens<'_>, usize, Nested) -> Result<Expr, Refusal>> Gra
 
     /// '(' ')' | '(' Test ')' | '(' Test ',' [ Test { ',' Test } [','] ] ')', after the first bracket
     #[tactic(auto, unfolding(bq_grammar::specs::Reading::in_parens))]
-    fn in_parens(&self, tokens: &mut Tokens<'_>) -> Result<Expr, Refusal>
+    fn in_parens(&self, tokens: &mut Tokens<'_>) -> Result<Expr, SyntaxErr>
         requires { ReadsNested self.now.depth (F.pre self.now.phrase) (F.post self.now.phrase) }
         ensures { Reads (spec.in_parens (spec.phrase self.now.depth) (spec.variables_to self.now.depth) tokens.old) result tokens.new }
     {
@@ -94,7 +94,7 @@ impl<F: Fn(Global, &mut Tokens<'_>, usize, Nested) -> Result<Expr, Refusal>> Gra
         &self,
         tokens: &mut Tokens<'_>,
         mut found: Items<Clause>,
-    ) -> Result<Items<Clause>, Refusal>
+    ) -> Result<Items<Clause>, SyntaxErr>
         requires { ReadsNested self.now.depth (F.pre self.now.phrase) (F.post self.now.phrase) }
         ensures { Reads (turns.repeat spec.begins_clause (spec.clause (spec.phrase self.now.depth) (spec.variables_to self.now.depth)) found tokens.old) result tokens.new }
     {
@@ -110,7 +110,7 @@ impl<F: Fn(Global, &mut Tokens<'_>, usize, Nested) -> Result<Expr, Refusal>> Gra
 
     /// Clauses = ForClause { Clause }
     #[tactic(auto, unfolding(bq_grammar::specs::Reading::clauses))]
-    fn clauses(&self, tokens: &mut Tokens<'_>) -> Result<Items<Clause>, Refusal>
+    fn clauses(&self, tokens: &mut Tokens<'_>) -> Result<Items<Clause>, SyntaxErr>
         requires { ReadsNested self.now.depth (F.pre self.now.phrase) (F.post self.now.phrase) }
         ensures { Reads (spec.clauses (spec.phrase self.now.depth) (spec.variables_to self.now.depth) tokens.old) result tokens.new }
     {
@@ -124,7 +124,7 @@ impl<F: Fn(Global, &mut Tokens<'_>, usize, Nested) -> Result<Expr, Refusal>> Gra
         &self,
         tokens: &mut Tokens<'_>,
         close: TokenKind,
-    ) -> Result<Items<Clause>, Refusal>
+    ) -> Result<Items<Clause>, SyntaxErr>
         requires { ReadsNested self.now.depth (F.pre self.now.phrase) (F.post self.now.phrase) }
         ensures { Reads (spec.comprehension (spec.phrase self.now.depth) (spec.variables_to self.now.depth) close tokens.old) result tokens.new }
     {
@@ -138,7 +138,7 @@ impl<F: Fn(Global, &mut Tokens<'_>, usize, Nested) -> Result<Expr, Refusal>> Gra
         tokens: &mut Tokens<'_>,
         close: TokenKind,
         first: Expr,
-    ) -> Result<Items<Expr>, Refusal>
+    ) -> Result<Items<Expr>, SyntaxErr>
         requires { ReadsNested self.now.depth (F.pre self.now.phrase) (F.post self.now.phrase) }
         ensures { Reads (spec.items_after close (spec.phrase self.now.depth Test) first tokens.old) result tokens.new }
     {
@@ -150,7 +150,7 @@ impl<F: Fn(Global, &mut Tokens<'_>, usize, Nested) -> Result<Expr, Refusal>> Gra
     }
 
     /// What stands in square brackets after the first test.
-    fn brackets_after(&self, tokens: &mut Tokens<'_>, first: Expr) -> Result<Expr, Refusal>
+    fn brackets_after(&self, tokens: &mut Tokens<'_>, first: Expr) -> Result<Expr, SyntaxErr>
         requires { ReadsNested self.now.depth (F.pre self.now.phrase) (F.post self.now.phrase) }
         ensures { Reads (spec.brackets_after (spec.phrase self.now.depth) (spec.variables_to self.now.depth) first tokens.old) result tokens.new }
     {
@@ -164,7 +164,7 @@ impl<F: Fn(Global, &mut Tokens<'_>, usize, Nested) -> Result<Expr, Refusal>> Gra
 
     /// '[' [ Test { ',' Test } [','] ] ']' | '[' Test Clauses ']', after the first bracket
     #[tactic(auto, unfolding(bq_grammar::specs::Reading::in_brackets))]
-    fn in_brackets(&self, tokens: &mut Tokens<'_>) -> Result<Expr, Refusal>
+    fn in_brackets(&self, tokens: &mut Tokens<'_>) -> Result<Expr, SyntaxErr>
         requires { ReadsNested self.now.depth (F.pre self.now.phrase) (F.post self.now.phrase) }
         ensures { Reads (spec.in_brackets (spec.phrase self.now.depth) (spec.variables_to self.now.depth) tokens.old) result tokens.new }
     {
@@ -181,7 +181,7 @@ impl<F: Fn(Global, &mut Tokens<'_>, usize, Nested) -> Result<Expr, Refusal>> Gra
         &self,
         tokens: &mut Tokens<'_>,
         mut found: Items<Pair>,
-    ) -> Result<Items<Pair>, Refusal>
+    ) -> Result<Items<Pair>, SyntaxErr>
         requires { ReadsNested self.now.depth (F.pre self.now.phrase) (F.post self.now.phrase) }
         ensures { Reads (turns.listed_from kind.RightBrace (spec.pair (spec.phrase self.now.depth) (spec.variables_to self.now.depth)) found tokens.old) result tokens.new }
     {
@@ -195,11 +195,11 @@ impl<F: Fn(Global, &mut Tokens<'_>, usize, Nested) -> Result<Expr, Refusal>> Gra
                 return closed(tokens, TokenKind::RightBrace, found);
             }
         }
-        Err(Refusal::Syntax)
+        Err(SyntaxErr::Syntax)
     }
 
     /// The pairs of a dict after the first.
-    fn pairs_after(&self, tokens: &mut Tokens<'_>, first: Pair) -> Result<Items<Pair>, Refusal>
+    fn pairs_after(&self, tokens: &mut Tokens<'_>, first: Pair) -> Result<Items<Pair>, SyntaxErr>
         requires { ReadsNested self.now.depth (F.pre self.now.phrase) (F.post self.now.phrase) }
         ensures { Reads (spec.items_after kind.RightBrace (spec.pair (spec.phrase self.now.depth) (spec.variables_to self.now.depth)) first tokens.old) result tokens.new }
     {
@@ -211,7 +211,7 @@ impl<F: Fn(Global, &mut Tokens<'_>, usize, Nested) -> Result<Expr, Refusal>> Gra
     }
 
     /// What stands in braces after the first pair.
-    fn braces_after(&self, tokens: &mut Tokens<'_>, first: Pair) -> Result<Expr, Refusal>
+    fn braces_after(&self, tokens: &mut Tokens<'_>, first: Pair) -> Result<Expr, SyntaxErr>
         requires { ReadsNested self.now.depth (F.pre self.now.phrase) (F.post self.now.phrase) }
         ensures { Reads (spec.braces_after (spec.phrase self.now.depth) (spec.variables_to self.now.depth) first tokens.old) result tokens.new }
     {
@@ -225,7 +225,7 @@ impl<F: Fn(Global, &mut Tokens<'_>, usize, Nested) -> Result<Expr, Refusal>> Gra
 
     /// '{' [ Pair { ',' Pair } [','] ] '}' | '{' Pair Clauses '}', after the first brace
     #[tactic(auto, unfolding(bq_grammar::specs::Reading::in_braces))]
-    fn in_braces(&self, tokens: &mut Tokens<'_>) -> Result<Expr, Refusal>
+    fn in_braces(&self, tokens: &mut Tokens<'_>) -> Result<Expr, SyntaxErr>
         requires { ReadsNested self.now.depth (F.pre self.now.phrase) (F.post self.now.phrase) }
         ensures { Reads (spec.in_braces (spec.phrase self.now.depth) (spec.variables_to self.now.depth) tokens.old) result tokens.new }
     {
@@ -238,7 +238,7 @@ impl<F: Fn(Global, &mut Tokens<'_>, usize, Nested) -> Result<Expr, Refusal>> Gra
 
     /// Operand = identifier | int | string | what stands in brackets
     #[tactic(auto, unfolding(bq_grammar::specs::Reading::operand))]
-    pub fn operand(&self, tokens: &mut Tokens<'_>) -> Result<Expr, Refusal>
+    pub fn operand(&self, tokens: &mut Tokens<'_>) -> Result<Expr, SyntaxErr>
         requires { ReadsNested self.now.depth (F.pre self.now.phrase) (F.post self.now.phrase) }
         ensures { Reads (spec.operand (spec.phrase self.now.depth) (spec.variables_to self.now.depth) tokens.old) result tokens.new }
     {
@@ -258,7 +258,7 @@ impl<F: Fn(Global, &mut Tokens<'_>, usize, Nested) -> Result<Expr, Refusal>> Gra
                 tokens.advance();
                 self.in_braces(tokens)
             }
-            _ => Err(Refusal::Syntax),
+            _ => Err(SyntaxErr::Syntax),
         }
     }
 }

@@ -4,7 +4,7 @@ ghost use Rattle.std.specs.Prelude.{◌≡◌, [], ◌∷◌, IfOk, Ok};
 ghost use Rattle.bq_grammar.specs.Turns.{Reads, ◌>>=◌ as and_then};
 ghost use Rattle.bq_grammar.specs.Turns as turns;
 
-use bq_grammar::Refusal;
+use bq_grammar::SyntaxErr;
 use bq_source::TokenKind;
 use bq_tokens::Tokens;
 use sqlite_items::Items;
@@ -20,7 +20,7 @@ pub fn only<T: Drop>(alloc: Global, item: T) -> Result<Items<T>, AllocError>
 }
 
 /// The value, where the token that closes it comes next.
-pub fn closed<T: Drop>(tokens: &mut Tokens<'_>, close: TokenKind, value: T) -> Result<T, Refusal>
+pub fn closed<T: Drop>(tokens: &mut Tokens<'_>, close: TokenKind, value: T) -> Result<T, SyntaxErr>
     ensures { Reads (and_then (turns.expect close tokens.old) (λ _ rest. Ok (value, rest))) result tokens.new }
 {
     tokens.expect(close)?;

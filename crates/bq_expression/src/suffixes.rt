@@ -13,7 +13,7 @@ ghost use Rattle.bq_expression.specs.Nested.{ReadsNested};
 
 use crate::grammar::Grammar;
 use crate::steps::{closed, only};
-use bq_grammar::{Allowed, Argument, ArgumentKind, Expr, Identifier, Nested, Refusal, Suffix};
+use bq_grammar::{Allowed, Argument, ArgumentKind, Expr, Identifier, Nested, SyntaxErr, Suffix};
 use bq_source::{Bytes, TokenKind};
 use bq_tokens::Tokens;
 use sqlite_items::{Boxed, Items};
@@ -65,16 +65,16 @@ fn sees_suffix(tokens: &Tokens<'_>) -> bool
 fn primary_of(operand: Boxed<Expr>, suffixes: Items<Suffix>) -> Expr
     ensures { result ≡ grammar.primary_of operand suffixes }
 {
-    // for the proof: it is called where a suffix was seen, so at least one was read.
+    // PROOF: it is called where a suffix was seen, so at least one was read.
     if suffixes.is_empty() {
         return operand.into_inner();
     }
     Expr::Primary(operand, suffixes)
 }
 
-impl<F: Fn(Global, &mut Tokens<'_>, usize, Nested) -> Result<Expr, Refusal>> Grammar<F> {
+impl<F: Fn(Global, &mut Tokens<'_>, usize, Nested) -> Result<Expr, SyntaxErr>> Grammar<F> {
     /// identifier '=' Test
-    fn named(&self, tokens: &mut Tokens<'_>) -> Result<Argument, Refusal>
+    fn named(&self, tokens: &mut Tokens<'_>) -> Result<Argument, SyntaxErr>
         requires { ReadsNested self.now.depth (F.pre self.now.phrase) (F.post self.now.phrase) }
         ensures { Reads (spec.argument_by (spec.phrase self.now.depth) (spec.variables_to self.now.depth) argument_kind.Named tokens.old) result tokens.new }
     {
@@ -85,7 +85,7 @@ impl<F: Fn(Global, &mut Tokens<'_>, usize, Nested) -> Result<Expr, Refusal>> Gra
     }
 
     /// Argument = Test | identifier '=' Test | '*' Test | '**' Test
-    fn argument_by(&self, tokens: &mut Tokens<'_>, kind: ArgumentKind) -> Result<Argument, Refusal>
+    fn argument_by(&self, tokens: &mut Tokens<'_>, kind: ArgumentKind) -> Result<Argument, SyntaxErr>
         requires { ReadsNested self.now.depth (F.pre self.now.phrase) (F.post self.now.phrase) }
         ensures { Reads (spec.argument_by (spec.phrase self.now.depth) (spec.variables_to self.now.depth) kind tokens.old) result tokens.new }
     {
@@ -112,20 +112,20 @@ impl<F: Fn(Global, &mut Tokens<'_>, usize, Nested) -> Result<Expr, Refusal>> Gra
         &self,
         tokens: &mut Tokens<'_>,
         allowed: Allowed,
-    ) -> Result<(Argument, Allowed), Refusal>
+    ) -> Result<(Argument, Allowed), SyntaxErr>
         requires { ReadsNested self.now.depth (F.pre self.now.phrase) (F.post self.now.phrase) }
         ensures { Reads (spec.argument (spec.phrase self.now.depth) (spec.variables_to self.now.depth) allowed tokens.old) result tokens.new }
     {
         let kind = argument_kind(tokens);
         match allowed_after(allowed, kind) {
             Some(after) => Ok((self.argument_by(tokens, kind)?, after)),
-            None => Err(Refusal::Syntax),
+            None => Err(SyntaxErr::Syntax),
         }
     }
 
     /// [ Argument { ',' Argument } [','] ] ')'
     #[tactic(auto, using(crate::proofs::LoopTurns::turns_more, crate::proofs::LoopTurns::turns_over), unfolding(bq_grammar::specs::Reading::arguments))]
-    fn arguments(&self, tokens: &mut Tokens<'_>) -> Result<Items<Argument>, Refusal>
+    fn arguments(&self, tokens: &mut Tokens<'_>) -> Result<Items<Argument>, SyntaxErr>
         requires { ReadsNested self.now.depth (F.pre self.now.phrase) (F.post self.now.phrase) }
         ensures { Reads (spec.arguments (spec.phrase self.now.depth) (spec.variables_to self.now.depth) tokens.old) result tokens.new }
     {
@@ -143,12 +143,12 @@ impl<F: Fn(Global, &mut Tokens<'_>, usize, Nested) -> Result<Expr, Refusal>> Gra
                 return closed(tokens, TokenKind::RightParen, found);
             }
         }
-        Err(Refusal::Syntax)
+        Err(SyntaxErr::Syntax)
     }
 
     /// [ Test ], where a colon or the closing bracket follows
     #[tactic(auto, unfolding(bq_grammar::specs::Reading::optional_test))]
-    fn optional_test(&self, tokens: &mut Tokens<'_>) -> Result<Option<Boxed<Expr>>, Refusal>
+    fn optional_test(&self, tokens: &mut Tokens<'_>) -> Result<Option<Boxed<Expr>>, SyntaxErr>
         requires { ReadsNested self.now.depth (F.pre self.now.phrase) (F.post self.now.phrase) }
         ensures { Reads (spec.optional_test (spec.phrase self.now.depth) (spec.variables_to self.now.depth) tokens.old) result tokens.new }
     {
@@ -165,7 +165,7 @@ impl<F: Fn(Global, &mut Tokens<'_>, usize, Nested) -> Result<Expr, Refusal>> Gra
         tokens: &mut Tokens<'_>,
         start: Option<Boxed<Expr>>,
         end: Option<Boxed<Expr>>,
-    ) -> Result<Suffix, Refusal>
+    ) -> Result<Suffix, SyntaxErr>
         requires { ReadsNested self.now.depth (F.pre self.now.phrase) (F.post self.now.phrase) }
         ensures { Reads (spec.slice_end (spec.phrase self.now.depth) (spec.variables_to self.now.depth) start end tokens.old) result tokens.new }
     {
@@ -184,7 +184,7 @@ impl<F: Fn(Global, &mut Tokens<'_>, usize, Nested) -> Result<Expr, Refusal>> Gra
         &self,
         tokens: &mut Tokens<'_>,
         start: Option<Boxed<Expr>>,
-    ) -> Result<Suffix, Refusal>
+    ) -> Result<Suffix, SyntaxErr>
         requires { ReadsNested self.now.depth (F.pre self.now.phrase) (F.post self.now.phrase) }
         ensures { Reads (spec.slice_after (spec.phrase self.now.depth) (spec.variables_to self.now.depth) start tokens.old) result tokens.new }
     {
@@ -193,7 +193,7 @@ impl<F: Fn(Global, &mut Tokens<'_>, usize, Nested) -> Result<Expr, Refusal>> Gra
     }
 
     /// ',' Test
-    fn after_comma(&self, tokens: &mut Tokens<'_>) -> Result<Expr, Refusal>
+    fn after_comma(&self, tokens: &mut Tokens<'_>) -> Result<Expr, SyntaxErr>
         requires { ReadsNested self.now.depth (F.pre self.now.phrase) (F.post self.now.phrase) }
         ensures { Reads (spec.after_comma (spec.phrase self.now.depth Test) tokens.old) result tokens.new }
     {
@@ -207,7 +207,7 @@ impl<F: Fn(Global, &mut Tokens<'_>, usize, Nested) -> Result<Expr, Refusal>> Gra
         &self,
         tokens: &mut Tokens<'_>,
         mut found: Items<Expr>,
-    ) -> Result<Items<Expr>, Refusal>
+    ) -> Result<Items<Expr>, SyntaxErr>
         requires { ReadsNested self.now.depth (F.pre self.now.phrase) (F.post self.now.phrase) }
         ensures { Reads (turns.repeat (turns.sees kind.Comma) (spec.after_comma (spec.phrase self.now.depth Test)) found tokens.old) result tokens.new }
     {
@@ -222,7 +222,7 @@ impl<F: Fn(Global, &mut Tokens<'_>, usize, Nested) -> Result<Expr, Refusal>> Gra
     }
 
     /// Expr = Test { ',' Test }, after the first test
-    pub fn expr_after(&self, tokens: &mut Tokens<'_>, first: Expr) -> Result<Expr, Refusal>
+    pub fn expr_after(&self, tokens: &mut Tokens<'_>, first: Expr) -> Result<Expr, SyntaxErr>
         requires { ReadsNested self.now.depth (F.pre self.now.phrase) (F.post self.now.phrase) }
         ensures { Reads (spec.chained e.Tuple (spec.phrase self.now.depth Test) first tokens.old) result tokens.new }
     {
@@ -236,7 +236,7 @@ impl<F: Fn(Global, &mut Tokens<'_>, usize, Nested) -> Result<Expr, Refusal>> Gra
 
     /// '[' Expr ']' | '[' [Test] ':' [Test] [ ':' [Test] ] ']', after the first bracket
     #[tactic(auto, unfolding(bq_grammar::specs::Reading::subscript))]
-    fn subscript(&self, tokens: &mut Tokens<'_>) -> Result<Suffix, Refusal>
+    fn subscript(&self, tokens: &mut Tokens<'_>) -> Result<Suffix, SyntaxErr>
         requires { ReadsNested self.now.depth (F.pre self.now.phrase) (F.post self.now.phrase) }
         ensures { Reads (spec.subscript (spec.phrase self.now.depth) (spec.variables_to self.now.depth) tokens.old) result tokens.new }
     {
@@ -254,7 +254,7 @@ impl<F: Fn(Global, &mut Tokens<'_>, usize, Nested) -> Result<Expr, Refusal>> Gra
 
     /// '.' identifier [ '(' Arguments ')' ], after the dot
     #[tactic(auto, unfolding(bq_grammar::specs::Reading::member))]
-    fn member(&self, tokens: &mut Tokens<'_>) -> Result<Suffix, Refusal>
+    fn member(&self, tokens: &mut Tokens<'_>) -> Result<Suffix, SyntaxErr>
         requires { ReadsNested self.now.depth (F.pre self.now.phrase) (F.post self.now.phrase) }
         ensures { Reads (spec.member (spec.phrase self.now.depth) (spec.variables_to self.now.depth) tokens.old) result tokens.new }
     {
@@ -268,7 +268,7 @@ impl<F: Fn(Global, &mut Tokens<'_>, usize, Nested) -> Result<Expr, Refusal>> Gra
 
     /// Suffix = '.' identifier [ '(' Arguments ')' ] | '(' Arguments ')' | '[' Expr ']' | '[' [Test] ':' [Test] [ ':' [Test] ] ']'
     #[tactic(auto, unfolding(bq_grammar::specs::Reading::suffix))]
-    fn suffix(&self, tokens: &mut Tokens<'_>) -> Result<Suffix, Refusal>
+    fn suffix(&self, tokens: &mut Tokens<'_>) -> Result<Suffix, SyntaxErr>
         requires { ReadsNested self.now.depth (F.pre self.now.phrase) (F.post self.now.phrase) }
         ensures { Reads (spec.suffix (spec.phrase self.now.depth) (spec.variables_to self.now.depth) tokens.old) result tokens.new }
     {
@@ -284,7 +284,7 @@ impl<F: Fn(Global, &mut Tokens<'_>, usize, Nested) -> Result<Expr, Refusal>> Gra
 
     /// { Suffix }
     #[tactic(auto, using(crate::proofs::LoopTurns::turns_more, crate::proofs::LoopTurns::turns_over), unfolding(bq_grammar::specs::Turns::repeat))]
-    fn suffixes(&self, tokens: &mut Tokens<'_>) -> Result<Items<Suffix>, Refusal>
+    fn suffixes(&self, tokens: &mut Tokens<'_>) -> Result<Items<Suffix>, SyntaxErr>
         requires { ReadsNested self.now.depth (F.pre self.now.phrase) (F.post self.now.phrase) }
         ensures { Reads (turns.repeat spec.begins_suffix (spec.suffix (spec.phrase self.now.depth) (spec.variables_to self.now.depth)) [] tokens.old) result tokens.new }
     {
@@ -301,7 +301,7 @@ impl<F: Fn(Global, &mut Tokens<'_>, usize, Nested) -> Result<Expr, Refusal>> Gra
 
     /// Primary = Operand { Suffix }
     #[tactic(auto, using(crate::proofs::LoopTurns::none_follow), unfolding(bq_grammar::specs::Reading::primary))]
-    pub fn primary(&self, tokens: &mut Tokens<'_>) -> Result<Expr, Refusal>
+    pub fn primary(&self, tokens: &mut Tokens<'_>) -> Result<Expr, SyntaxErr>
         requires { ReadsNested self.now.depth (F.pre self.now.phrase) (F.post self.now.phrase) }
         ensures { Reads (spec.primary (spec.phrase self.now.depth) (spec.variables_to self.now.depth) tokens.old) result tokens.new }
     {

@@ -3,12 +3,12 @@
 ghost use Rattle.bq_grammar.specs.Turns.{Reads};
 ghost use Rattle.bq_grammar.specs.Turns as turns;
 ghost use Rattle.bq_grammar.specs.Reading as spec;
-ghost use Rattle.bq_grammar.specs.declared.tree.Target.TheVariants as target;
+ghost use Rattle.bq_grammar.specs.declared.tree.AssignTarget.TheVariants as target;
 ghost use Rattle.bq_source.specs.declared.token.TokenKind.TheVariants as kind;
 ghost use Rattle.bq_expression.specs.Nested.{ReadsVar};
 
 use crate::steps::{closed, only};
-use bq_grammar::{Refusal, Target};
+use bq_grammar::{SyntaxErr, AssignTarget};
 use bq_source::TokenKind;
 use bq_tokens::Tokens;
 use sqlite_items::Items;
@@ -23,8 +23,8 @@ pub struct Variables<F> {
     pub var: F,
 }
 
-impl<F: Fn(Global, &mut Tokens<'_>, usize) -> Result<Target, Refusal>> Variables<F> {
-    fn nested(&self, tokens: &mut Tokens<'_>) -> Result<Target, Refusal>
+impl<F: Fn(Global, &mut Tokens<'_>, usize) -> Result<AssignTarget, SyntaxErr>> Variables<F> {
+    fn nested(&self, tokens: &mut Tokens<'_>) -> Result<AssignTarget, SyntaxErr>
         requires { ReadsVar self.now.depth (F.pre self.now.var) (F.post self.now.var) }
         ensures { Reads (spec.var_to self.now.depth tokens.old) result tokens.new }
     {
@@ -37,8 +37,8 @@ impl<F: Fn(Global, &mut Tokens<'_>, usize) -> Result<Target, Refusal>> Variables
         &self,
         tokens: &mut Tokens<'_>,
         close: TokenKind,
-        mut found: Items<Target>,
-    ) -> Result<Items<Target>, Refusal>
+        mut found: Items<AssignTarget>,
+    ) -> Result<Items<AssignTarget>, SyntaxErr>
         requires { ReadsVar self.now.depth (F.pre self.now.var) (F.post self.now.var) }
         ensures { Reads (turns.listed_from close (spec.var_to self.now.depth) found tokens.old) result tokens.new }
     {
@@ -52,12 +52,12 @@ impl<F: Fn(Global, &mut Tokens<'_>, usize) -> Result<Target, Refusal>> Variables
                 return closed(tokens, close, found);
             }
         }
-        Err(Refusal::Syntax)
+        Err(SyntaxErr::Syntax)
     }
 
     /// '(' Var ')' | '(' Var ',' [ Var { ',' Var } [','] ] ')', after the first bracket
     #[tactic(auto, unfolding(bq_grammar::specs::Reading::var_in_parens))]
-    fn in_parens(&self, tokens: &mut Tokens<'_>) -> Result<Target, Refusal>
+    fn in_parens(&self, tokens: &mut Tokens<'_>) -> Result<AssignTarget, SyntaxErr>
         requires { ReadsVar self.now.depth (F.pre self.now.var) (F.post self.now.var) }
         ensures { Reads (spec.var_in_parens (spec.var_to self.now.depth) tokens.old) result tokens.new }
     {
@@ -66,13 +66,13 @@ impl<F: Fn(Global, &mut Tokens<'_>, usize) -> Result<Target, Refusal>> Variables
             let found = only(self.alloc, first)?;
             return self
                 .listed(tokens, TokenKind::RightParen, found)
-                .map(Target::Tuple);
+                .map(AssignTarget::Tuple);
         }
         closed(tokens, TokenKind::RightParen, first)
     }
 
     /// The items of a list in brackets after the first.
-    fn list_after(&self, tokens: &mut Tokens<'_>, first: Target) -> Result<Items<Target>, Refusal>
+    fn list_after(&self, tokens: &mut Tokens<'_>, first: AssignTarget) -> Result<Items<AssignTarget>, SyntaxErr>
         requires { ReadsVar self.now.depth (F.pre self.now.var) (F.post self.now.var) }
         ensures { Reads (spec.items_after kind.RightBracket (spec.var_to self.now.depth) first tokens.old) result tokens.new }
     {
@@ -85,22 +85,22 @@ impl<F: Fn(Global, &mut Tokens<'_>, usize) -> Result<Target, Refusal>> Variables
 
     /// '[' Var { ',' Var } [','] ']', after the first bracket
     #[tactic(auto, unfolding(bq_grammar::specs::Reading::var_in_brackets))]
-    fn in_brackets(&self, tokens: &mut Tokens<'_>) -> Result<Target, Refusal>
+    fn in_brackets(&self, tokens: &mut Tokens<'_>) -> Result<AssignTarget, SyntaxErr>
         requires { ReadsVar self.now.depth (F.pre self.now.var) (F.post self.now.var) }
         ensures { Reads (spec.var_in_brackets (spec.var_to self.now.depth) tokens.old) result tokens.new }
     {
         let first = self.nested(tokens)?;
-        Ok(Target::List(self.list_after(tokens, first)?))
+        Ok(AssignTarget::List(self.list_after(tokens, first)?))
     }
 
     /// Var = identifier | '(' Vars [','] ')' | '[' Vars [','] ']'
     #[tactic(auto, unfolding(bq_grammar::specs::Reading::var))]
-    fn var(&self, tokens: &mut Tokens<'_>) -> Result<Target, Refusal>
+    fn var(&self, tokens: &mut Tokens<'_>) -> Result<AssignTarget, SyntaxErr>
         requires { ReadsVar self.now.depth (F.pre self.now.var) (F.post self.now.var) }
         ensures { Reads (spec.var (spec.var_to self.now.depth) tokens.old) result tokens.new }
     {
         match tokens.peek() {
-            Some(TokenKind::Identifier) => Ok(Target::Name(tokens.word(self.alloc)?)),
+            Some(TokenKind::Identifier) => Ok(AssignTarget::Name(tokens.word(self.alloc)?)),
             Some(TokenKind::LeftParen) => {
                 tokens.advance();
                 self.in_parens(tokens)
@@ -109,17 +109,17 @@ impl<F: Fn(Global, &mut Tokens<'_>, usize) -> Result<Target, Refusal>> Variables
                 tokens.advance();
                 self.in_brackets(tokens)
             }
-            _ => Err(Refusal::Syntax),
+            _ => Err(SyntaxErr::Syntax),
         }
     }
 }
 
 /// A variable in which so many brackets less one may be open.
-pub fn var(alloc: Global, tokens: &mut Tokens<'_>, depth: usize) -> Result<Target, Refusal>
+pub fn var(alloc: Global, tokens: &mut Tokens<'_>, depth: usize) -> Result<AssignTarget, SyntaxErr>
     ensures { Reads (spec.var_to depth tokens.old) result tokens.new }
 {
     if depth == 0 {
-        return Err(Refusal::Syntax);
+        return Err(SyntaxErr::Syntax);
     }
     Variables {
         alloc,
@@ -130,7 +130,7 @@ pub fn var(alloc: Global, tokens: &mut Tokens<'_>, depth: usize) -> Result<Targe
 }
 
 /// ',' Var
-fn var_after_comma(alloc: Global, tokens: &mut Tokens<'_>, depth: usize) -> Result<Target, Refusal>
+fn var_after_comma(alloc: Global, tokens: &mut Tokens<'_>, depth: usize) -> Result<AssignTarget, SyntaxErr>
     ensures { Reads (spec.after_comma (spec.var_to depth) tokens.old) result tokens.new }
 {
     tokens.expect(TokenKind::Comma)?;
@@ -143,8 +143,8 @@ fn further_vars(
     alloc: Global,
     tokens: &mut Tokens<'_>,
     depth: usize,
-    mut found: Items<Target>,
-) -> Result<Items<Target>, Refusal>
+    mut found: Items<AssignTarget>,
+) -> Result<Items<AssignTarget>, SyntaxErr>
     ensures { Reads (turns.repeat (turns.sees kind.Comma) (spec.after_comma (spec.var_to depth)) found tokens.old) result tokens.new }
 {
     // Each turn takes a token.
@@ -159,7 +159,7 @@ fn further_vars(
 
 /// Vars = Var { ',' Var }
 #[tactic(auto, unfolding(bq_grammar::specs::Reading::vars))]
-pub fn vars(alloc: Global, tokens: &mut Tokens<'_>, depth: usize) -> Result<Target, Refusal>
+pub fn vars(alloc: Global, tokens: &mut Tokens<'_>, depth: usize) -> Result<AssignTarget, SyntaxErr>
     ensures { Reads (spec.variables_to depth tokens.old) result tokens.new }
 {
     let first = var(alloc, tokens, depth)?;
@@ -168,5 +168,5 @@ pub fn vars(alloc: Global, tokens: &mut Tokens<'_>, depth: usize) -> Result<Targ
     }
     let mut found = only(alloc, first)?;
     found.push(var_after_comma(alloc, tokens, depth)?)?;
-    Ok(Target::Tuple(further_vars(alloc, tokens, depth, found)?))
+    Ok(AssignTarget::Tuple(further_vars(alloc, tokens, depth, found)?))
 }

@@ -14,7 +14,7 @@ use Rattle.bq_operators.specs.Integer.{fitted}
 use Rattle.bq_operators.specs.Length.{max_len}
 use Rattle.bq_functions.specs.Arguments.{and_then, without_names, by_place, one_argument, optional_argument, one_or_two, one_to_three, only_argument, only_argument_if_any, only_named, passed_once, one_and_named, integer, flag, text}
 use Rattle.bq_functions.specs.Choosing.{integers_of, strings_of, extreme, choices, chosen, in_order, sorted}
-use Rattle.bq_functions.specs.declared.choosing.Choice.{Choice}
+use Rattle.bq_functions.specs.declared.choosing.ExtremeKind.{ExtremeKind}
 use Rattle.bq_functions.specs.Elements.{room_for, listed, listed_if_any}
 use Rattle.bq_functions.specs.Integers.{as_int, is_numeral, read_integer, integer_from, int, content_length, length_in, len, step_or_one, range_by, range_from, range}
 use Rattle.bq_functions.specs.Sequences.{tuple, list, reversed, start_or_zero, numbers_fit, enumerate, elements_of_each, shortest, zip}
@@ -113,7 +113,7 @@ strings_of_fine : (vs : List Datum) → Fine (strings_of vs)
 strings_of_fine [] = tt
 strings_of_fine (v ∷ vs) = then_fine (text v) _ (text_fine v) (λ t. then_fine (strings_of vs) _ (strings_of_fine vs) (λ ts. tt))
 
-extreme_fine : (e : Choice) (vs : List Datum) → Fine (extreme e vs)
+extreme_fine : (e : ExtremeKind) (vs : List Datum) → Fine (extreme e vs)
 unfolding extreme
 extreme_fine e [] = refl
 extreme_fine e (datum.int i ∷ vs) = then_fine (integers_of vs) _ (integers_of_fine vs) (λ is. tt)
@@ -126,7 +126,7 @@ choices_fine s [] = tt
 choices_fine s (v ∷ []) = elements_fine s v
 choices_fine s (v ∷ w ∷ vs) = tt
 
-pub chosen_fine : (e : Choice) (s : StoreView) (p : Passed) → Fine (chosen e s p)
+pub chosen_fine : (e : ExtremeKind) (s : StoreView) (p : Passed) → Fine (chosen e s p)
 unfolding chosen
 chosen_fine e s p = then_fine (by_place p) _ (by_place_fine p) (λ vs. then_fine (choices s vs) _ (choices_fine s vs) (extreme_fine e))
 

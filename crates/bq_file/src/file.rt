@@ -22,11 +22,11 @@ use std::marker::Model;
 
 /// The trees of a file's top-level statements, in the order in which they are written.
 #[derive(Drop)]
-pub struct File {
+pub struct ParsedFile {
     statements: Items<TopLevel>,
 }
 
-impl Model for File {
+impl Model for ParsedFile {
     ghost use Rattle.std.specs.Prelude.{List};
     ghost use Rattle.bq_grammar.specs.declared.tree.TopLevel.{TopLevel};
     ghost use Rattle.bq_file.specs.Answers.{AreShallow};
@@ -43,7 +43,7 @@ impl Model for File {
     ghost invariant = { λ f. AreShallow f.statements };
 }
 
-impl File {
+impl ParsedFile {
     /// The statements. None is deeper than `max_depth` of `bq_tree_laws`, so that recursion over one takes bounded stack.
     pub fn statements(&self) -> &[TopLevel]
         ensures all { result.now ≡ self.now }
@@ -103,7 +103,7 @@ pub fn parse(
     tokens: &[Token],
     text: &[u8],
     kind: FileKind,
-) -> Result<File, SourceErr>
+) -> Result<ParsedFile, SourceErr>
     requires { Lexes text.now (Ok tokens.now) }
     // It is what the function of the definitions gives.
     ensures gives { Gives itself Bad result (statements_of kind (lexemes text.now tokens.now)) }
@@ -113,7 +113,7 @@ pub fn parse(
     ensures only { (r : _) → Parses kind (lexemes text.now tokens.now) r → Gives itself Bad result r }
 {
     match read(alloc, tokens, text, kind) {
-        Ok(statements) => Ok(File { statements }),
+        Ok(statements) => Ok(ParsedFile { statements }),
         Err(why) => Err(why),
     }
 }

@@ -16,7 +16,7 @@
 //! - `left_out`: what the language leaves out, and what a BUILD file may not have;
 //! - `nested`: functions in functions;
 //! - `verdict`: what a top-level statement reads as;
-//! - `file`: all statements, one after another. A [`File`] promises how deep its trees are.
+//! - `file`: all statements, one after another. A [`ParsedFile`] promises how deep its trees are.
 #![tactic(auto)]
 
 mod file;
@@ -26,4 +26,4 @@ mod nesting;
 mod pieces;
 mod verdict;
 
-pub use file::{File, parse};
+pub use file::{ParsedFile, parse};

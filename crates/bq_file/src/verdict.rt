@@ -10,7 +10,7 @@ ghost use Rattle.bq_source.specs.declared.fault.SourceErr.TheVariants.{Bad};
 use crate::left_out::{barred_in_build, leaves_out};
 use crate::nested::nested_def;
 use crate::nesting::{MAX_NESTING, nests};
-use bq_grammar::{FileKind, Refusal, TopLevel};
+use bq_grammar::{FileKind, SyntaxErr, TopLevel};
 use bq_parse::top_level;
 use bq_source::{Fault, FaultKind, SourceErr};
 use bq_tokens::Tokens;
@@ -64,8 +64,8 @@ pub fn verdict(alloc: Global, kind: FileKind, tokens: &Tokens<'_>) -> Result<Top
             let judged = allowed(kind, tokens, &statement);
             at_line(judged, statement, line)
         }
-        Err(Refusal::Memory) => Err(SourceErr::Memory),
-        Err(Refusal::Syntax) => Err(SourceErr::Bad(Fault::at(FaultKind::Syntax, line))),
-        Err(Refusal::Lambda) => Err(SourceErr::Bad(Fault::at(FaultKind::LeftOut, line))),
+        Err(SyntaxErr::Memory) => Err(SourceErr::Memory),
+        Err(SyntaxErr::Syntax) => Err(SourceErr::Bad(Fault::at(FaultKind::Syntax, line))),
+        Err(SyntaxErr::Lambda) => Err(SourceErr::Bad(Fault::at(FaultKind::LeftOut, line))),
     }
 }

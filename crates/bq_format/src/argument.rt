@@ -56,7 +56,7 @@ fn numbered_value<'v>(values: &'v [Value], digits: &[u8]) -> Option<&'v Value>
     requires { is_number digits.now ≡ true }
     ensures { option_copied result ≡ slice_get values.now (digits_value 10 digits.now) }
 {
-    // for the proof: a length is below 2^64
+    // PROOF: a length is below 2^64
     let _ = values.len();
     let mut number = 0;
     for digit in digits {

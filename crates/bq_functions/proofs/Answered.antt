@@ -28,8 +28,8 @@ use Rattle.bq_machine.proofs.Walking.{range_counted}
 use Rattle.bq_functions.specs.Arguments.{without_names, by_place}
 use Rattle.bq_functions.specs.Integers.{is_numeral, read_integer, length_in, content_length}
 use Rattle.bq_functions.specs.Choosing.{beats, extreme}
-use Rattle.bq_functions.specs.declared.choosing.Choice.{Choice}
-use Rattle.bq_functions.specs.declared.choosing.Choice.TheVariants.{Greatest, Least}
+use Rattle.bq_functions.specs.declared.choosing.ExtremeKind.{ExtremeKind}
+use Rattle.bq_functions.specs.declared.choosing.ExtremeKind.TheVariants.{Greatest, Least}
 use Rattle.bq_functions.specs.Sequences.{heads, rows, shortest, shortest_from, numbered, numbered_value}
 use Rattle.bq_functions.proofs.Numerals.{own}
 use Rattle.bq_functions.proofs.OfRanges.{extreme_of_ints}
@@ -172,7 +172,7 @@ down_at b (j ∷ is) (suc k) i e = down_at (cond (is_lt (int_cmp j b)) j b) is k
 the_int : (a b : ℤ) → ◌≡◌ {A = Result Datum FaultKind} (Ok (int a)) (Ok (int b)) → a ≡ b
 the_int a b h = cc
 
-no_extreme : (e : Choice) (m : Datum) → extreme e [] ≡ Ok m → ⊥
+no_extreme : (e : ExtremeKind) (m : Datum) → extreme e [] ≡ Ok m → ⊥
 unfolding extreme
 no_extreme e m h = absurd (cc)
 

@@ -26,8 +26,8 @@ use Rattle.bq_functions.specs.Elements.{room_for}
 use Rattle.bq_functions.specs.Truths.{all_true, any_true}
 use Rattle.bq_functions.specs.Order.{into_order, ascending}
 use Rattle.bq_functions.specs.Choosing.{integers_of, beats, last_is_chosen, extreme, in_order, reversed_if, is_long_range, sorted}
-use Rattle.bq_functions.specs.declared.choosing.Choice.{Choice}
-use Rattle.bq_functions.specs.declared.choosing.Choice.TheVariants.{Greatest, Least}
+use Rattle.bq_functions.specs.declared.choosing.ExtremeKind.{ExtremeKind}
+use Rattle.bq_functions.specs.declared.choosing.ExtremeKind.TheVariants.{Greatest, Least}
 use Rattle.bq_functions.proofs.Ranges.{isnt_zero, all_but_zero, any_of, some_not_zero, greatest_up, greatest_down, least_up, least_down}
 
 -- ---- `all`, `any`
@@ -87,7 +87,7 @@ unfolding integer
 integers_of_ints [] = refl
 integers_of_ints (i ∷ is) = ap (λ (r : Result (List ℤ) FaultKind). and_then r (λ js. Ok (i ∷ js))) (integers_of_ints is)
 
-pub extreme_of_ints : (e : Choice) (i : ℤ) (is : List ℤ) → extreme e (map int (i ∷ is)) ≡ Ok (int (best_of (beats e int_cmp) i is))
+pub extreme_of_ints : (e : ExtremeKind) (i : ℤ) (is : List ℤ) → extreme e (map int (i ∷ is)) ≡ Ok (int (best_of (beats e int_cmp) i is))
 unfolding extreme
 extreme_of_ints e i is = ap (λ (r : Result (List ℤ) FaultKind). and_then r (λ js. Ok (int (best_of (beats e int_cmp) i js)))) (integers_of_ints is)
 
@@ -97,20 +97,20 @@ by_lt a b h = grind (arith, ints)
 by_not_lt : (a b : ℤ) → int_lt a b ≡ false → b ≤ℤ a
 by_not_lt a b h = grind (arith, ints)
 
-best_is : (e : Choice) (start step : ℤ) (n : ℕ) (b : Bool) → last_is_chosen e step ≡ b → best_of (beats e int_cmp) start (integers (start +ℤ step) step n) ≡ cond b (range_element start step n) start
+best_is : (e : ExtremeKind) (start step : ℤ) (n : ℕ) (b : Bool) → last_is_chosen e step ≡ b → best_of (beats e int_cmp) start (integers (start +ℤ step) step n) ≡ cond b (range_element start step n) start
 best_is Greatest start step n true h = greatest_up n start step (by_lt (pos 0) step h)
 best_is Greatest start step n false h = greatest_down n start step (by_not_lt (pos 0) step h)
 best_is Least start step n true h = least_down n start step (by_lt step (pos 0) h)
 best_is Least start step n false h = least_up n start step (by_not_lt step (pos 0) h)
 
-pub extreme_of_none : (e : Choice) (start stop step : ℤ) → range_count start stop step ≡ 0 → extreme e (map int (range_integers start stop step)) ≡ Err BadValue
+pub extreme_of_none : (e : ExtremeKind) (start stop step : ℤ) → range_count start stop step ≡ 0 → extreme e (map int (range_integers start stop step)) ≡ Err BadValue
 unfolding extreme
 extreme_of_none e start stop step empty = ap (λ (n : ℕ). extreme e (map int (integers start step n))) empty
 
-extreme_by : (e : Choice) (start stop step : ℤ) (m : ℕ) (b : Bool) → last_is_chosen e step ≡ b → extreme e (map int (integers start step (suc m))) ≡ Ok (int (cond b (range_element start step m) start))
+extreme_by : (e : ExtremeKind) (start stop step : ℤ) (m : ℕ) (b : Bool) → last_is_chosen e step ≡ b → extreme e (map int (integers start step (suc m))) ≡ Ok (int (cond b (range_element start step m) start))
 extreme_by e start stop step m b h = extreme_of_ints e start (integers (start +ℤ step) step m) ∙ ap (λ (z : ℤ). Ok (int z)) (best_is e start step m b h)
 
-pub extreme_is : (e : Choice) (start stop step : ℤ) (n : ℕ) (b : Bool) → n ≡ range_count start stop step → 0 < n → last_is_chosen e step ≡ b → extreme e (map int (range_integers start stop step)) ≡ Ok (int (cond b (range_element start step (n - 1)) start))
+pub extreme_is : (e : ExtremeKind) (start stop step : ℤ) (n : ℕ) (b : Bool) → n ≡ range_count start stop step → 0 < n → last_is_chosen e step ≡ b → extreme e (map int (range_integers start stop step)) ≡ Ok (int (cond b (range_element start step (n - 1)) start))
 extreme_is e start stop step zero b is some h = absurd (omega (arith, some))
 extreme_is e start stop step (suc m) b is some h =
     let one_less : suc m - 1 ≡ m = omega arith in
@@ -121,11 +121,11 @@ some_of : (n : ℕ) → (n ≡ 0 → ⊥) → 0 < n
 some_of zero h = absurd (h refl)
 some_of (suc n) h = omega arith
 
-pub last_chosen : (e : Choice) (start stop step : ℤ) (n : ℕ) (z last : ℤ) → z ≡ last → last ≡ range_element start step (n - 1) → n ≡ range_count start stop step → (n ≡ 0 → ⊥) → last_is_chosen e step ≡ true
+pub last_chosen : (e : ExtremeKind) (start stop step : ℤ) (n : ℕ) (z last : ℤ) → z ≡ last → last ≡ range_element start step (n - 1) → n ≡ range_count start stop step → (n ≡ 0 → ⊥) → last_is_chosen e step ≡ true
     → Ok (int z) ≡ extreme e (map int (range_integers start stop step))
 last_chosen e start stop step n z last here is counted some h = ap (λ (i : ℤ). Ok (int i)) (here ∙ is) ∙ sym (extreme_is e start stop step n true counted (some_of n some) h)
 
-pub first_chosen : (e : Choice) (start stop step : ℤ) (n : ℕ) (z : ℤ) → z ≡ start → n ≡ range_count start stop step → (n ≡ 0 → ⊥) → last_is_chosen e step ≡ false
+pub first_chosen : (e : ExtremeKind) (start stop step : ℤ) (n : ℕ) (z : ℤ) → z ≡ start → n ≡ range_count start stop step → (n ≡ 0 → ⊥) → last_is_chosen e step ≡ false
     → Ok (int z) ≡ extreme e (map int (range_integers start stop step))
 first_chosen e start stop step n z here counted some h = ap (λ (i : ℤ). Ok (int i)) here ∙ sym (extreme_is e start stop step n false counted (some_of n some) h)
 

@@ -16,7 +16,7 @@ use Rattle.bq_functions.specs.Integers.{int, len, range}
 use Rattle.bq_functions.specs.Choosing.{chosen, sorted}
 use Rattle.bq_functions.specs.Sequences.{tuple, list, reversed, enumerate, zip}
 use Rattle.bq_functions.specs.Texts.{type_of, str, repr, print, fail}
-use Rattle.bq_functions.specs.declared.choosing.Choice.TheVariants.{Greatest, Least}
+use Rattle.bq_functions.specs.declared.choosing.ExtremeKind.TheVariants.{Greatest, Least}
 use Rattle.bq_functions.specs.declared.call.BuiltInFunction.{BuiltInFunction}
 use Rattle.bq_functions.specs.declared.call.BuiltInFunction.TheVariants as f
 use Rattle.bq_functions.specs.declared.call.ValueFunction.{ValueFunction}

@@ -6,7 +6,7 @@ ghost use Rattle.bq_value.specs.declared.error.EvalErr.TheVariants.{Bad};
 ghost use Rattle.bq_machine.specs.Action.{Does};
 ghost use Rattle.bq_functions.specs.Call.{built_in, value, list_values, given_by, call_function};
 
-use crate::choosing::{Choice, chosen, sorted};
+use crate::choosing::{ExtremeKind, chosen, sorted};
 use crate::integers::{int, len, range};
 use crate::sequences::{enumerate, list, reversed, tuple};
 use crate::texts::{fail, print, repr, str, type_of};
@@ -107,8 +107,8 @@ fn value(
         ValueFunction::Bool => bool(machine, args),
         ValueFunction::Int => int(args),
         ValueFunction::Len => len(machine, args),
-        ValueFunction::Max => chosen(alloc, machine, Choice::Greatest, args),
-        ValueFunction::Min => chosen(alloc, machine, Choice::Least, args),
+        ValueFunction::Max => chosen(alloc, machine, ExtremeKind::Greatest, args),
+        ValueFunction::Min => chosen(alloc, machine, ExtremeKind::Least, args),
         ValueFunction::Range => range(args),
         ValueFunction::Tuple => tuple(alloc, machine, args),
         ValueFunction::Type => type_of(alloc, machine, args),

@@ -13,7 +13,7 @@ ghost use Rattle.bq_functions.specs.Arguments.{by_place};
 ghost use Rattle.bq_functions.specs.Integers.{read_integer, length_in};
 ghost use Rattle.bq_functions.specs.Order.{ascending};
 ghost use Rattle.bq_functions.specs.Choosing.{text_cmp, in_order, extreme};
-ghost use Rattle.bq_functions.specs.declared.choosing.Choice.TheVariants.{Greatest, Least};
+ghost use Rattle.bq_functions.specs.declared.choosing.ExtremeKind.TheVariants.{Greatest, Least};
 ghost use Rattle.bq_functions.specs.Sequences.{heads, rows, shortest, numbered, numbered_value};
 
 /// What is sorted has the same elements, and none is less than the one before it.

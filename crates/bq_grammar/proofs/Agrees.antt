@@ -4,7 +4,7 @@ use Rattle.bq_source.specs.declared.token.TokenKind.{TokenKind}
 use Rattle.bq_source.specs.declared.token.TokenKind.TheVariants as k
 use Rattle.bq_source.specs.Token.{same_kind}
 use Rattle.bq_grammar.specs.Lexeme.{Lexeme}
-use Rattle.bq_grammar.specs.declared.refusal.Refusal.TheVariants.{Memory, Syntax, Lambda}
+use Rattle.bq_grammar.specs.declared.refusal.SyntaxErr.TheVariants.{Memory, Syntax, Lambda}
 use Rattle.bq_grammar.specs.Phrases.{Phrase, Repeat, over, again, Listed, none_listed, last_listed, more_listed}
 use Rattle.bq_grammar.specs.Turns.{Found, Parse, ◌>>=◌, sees, next, expect, ended, goes, failed, next_turn, turns, whole, cut_off, goes_with, repeat_turn, repeat_from, repeat, with_item, listed_turn, listed_to, listed_from}
 use Rattle.bq_grammar.proofs.NextToken.{is_kind, sees_it, sees_no, sees_other, opened, tok, tok_kind}

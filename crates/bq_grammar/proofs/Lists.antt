@@ -4,7 +4,7 @@ use Rattle.bq_source.specs.declared.token.TokenKind.{TokenKind}
 use Rattle.bq_source.specs.declared.token.TokenKind.TheVariants as k
 use Rattle.bq_source.specs.Token.{same_kind}
 use Rattle.bq_grammar.specs.Lexeme.{Lexeme}
-use Rattle.bq_grammar.specs.declared.refusal.Refusal.TheVariants.{Syntax}
+use Rattle.bq_grammar.specs.declared.refusal.SyntaxErr.TheVariants.{Syntax}
 use Rattle.bq_grammar.specs.Phrases.{Phrase, none, Repeat, over, again, Listed, last_listed, more_listed, CommaThen, comma_then}
 use Rattle.bq_grammar.specs.Turns.{Parse, ◌>>=◌, sees, expect, repeat, listed_from}
 use Rattle.bq_grammar.specs.Reading.{items_after, after_comma, chained}

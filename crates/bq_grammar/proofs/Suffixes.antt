@@ -3,7 +3,7 @@ use Rattle.std.proofs.Common.{◌≡◌, ℕ, zero, suc, ◌≤◌, Bool, true, 
 use Rattle.bq_source.specs.declared.token.TokenKind.TheVariants as k
 use Rattle.bq_source.specs.Token.{same_kind}
 use Rattle.bq_grammar.specs.Lexeme.{Lexeme}
-use Rattle.bq_grammar.specs.declared.refusal.Refusal.TheVariants.{Memory, Syntax, Lambda}
+use Rattle.bq_grammar.specs.declared.refusal.SyntaxErr.TheVariants.{Memory, Syntax, Lambda}
 use Rattle.bq_grammar.specs.declared.tree.Nested.{Nested}
 use Rattle.bq_grammar.specs.declared.tree.Nested.TheVariants.{Or, Test}
 use Rattle.bq_grammar.specs.declared.tree.Identifier.{Identifier}
@@ -17,7 +17,7 @@ use Rattle.bq_grammar.specs.declared.arguments.ArgumentKind.{ArgumentKind}
 use Rattle.bq_grammar.specs.declared.arguments.ArgumentKind.TheVariants as ak
 use Rattle.bq_grammar.specs.declared.tree.Argument.{Argument}
 use Rattle.bq_grammar.specs.declared.tree.Argument.TheVariants as a
-use Rattle.bq_grammar.specs.declared.tree.Target.{Target}
+use Rattle.bq_grammar.specs.declared.tree.AssignTarget.{AssignTarget}
 use Rattle.bq_grammar.specs.Literals.{identifier}
 use Rattle.bq_grammar.specs.Phrases as P
 use Rattle.bq_grammar.specs.Phrases.{Phrase, Repeat, over, again, CommaThen}
@@ -93,7 +93,7 @@ both_on false q h = absurd (cc)
 is_it : (p q r p' q' r' : Bool) → p ≡ p' → q ≡ q' → r ≡ r' → kind_by p q r ≡ kind_by p' q' r'
 is_it p q r p' q' r' e f g = ap (λ x. kind_by x q r) e ∙ ap (λ x. kind_by p' x r) f ∙ ap (λ x. kind_by p' q' x) g
 
-module _ (O T : Phrase Expr) (V : Phrase Target) (inner : Nested → Parse Expr) (variables : Parse Target)
+module _ (O T : Phrase Expr) (V : Phrase AssignTarget) (inner : Nested → Parse Expr) (variables : Parse AssignTarget)
     (ors : Agrees first_not (ends 10) O (inner Or)) (tests : Agrees first_test (ends 11) T (inner Test))
     (vars_agree : Agrees first_var ends_vars V variables) (vars_never : (ts : List Lexeme) → Never (variables ts)) (unnamed : Unnamed T) where
   -- ---- arguments

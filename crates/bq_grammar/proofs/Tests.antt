@@ -1,7 +1,7 @@
 -- The laws of tests.
 use Rattle.std.proofs.Common.{◌≡◌, ℕ, suc, ◌⊎◌, inl, inr, List, [], ◌∷◌, Ok, Err, refl, sym, ap, ◌∙◌, subst}
 use Rattle.bq_grammar.specs.Lexeme.{Lexeme}
-use Rattle.bq_grammar.specs.declared.refusal.Refusal.TheVariants.{Lambda}
+use Rattle.bq_grammar.specs.declared.refusal.SyntaxErr.TheVariants.{Lambda}
 use Rattle.bq_grammar.specs.declared.tree.Expr.{Expr}
 use Rattle.bq_grammar.specs.declared.tree.Nested.TheVariants.{Test}
 use Rattle.bq_grammar.specs.Grammar.{IsTestTo}

@@ -5,8 +5,8 @@ use Rattle.bq_source.specs.declared.fault.FaultKind.{FaultKind}
 use Rattle.bq_source.specs.declared.fault.FaultKind.TheVariants as f
 use Rattle.bq_source.specs.Fault.{fault_at}
 use Rattle.bq_grammar.specs.Lexeme.{Lexeme}
-use Rattle.bq_grammar.specs.declared.refusal.Refusal.{Refusal}
-use Rattle.bq_grammar.specs.declared.refusal.Refusal.TheVariants.{Memory, Syntax, Lambda}
+use Rattle.bq_grammar.specs.declared.refusal.SyntaxErr.{SyntaxErr}
+use Rattle.bq_grammar.specs.declared.refusal.SyntaxErr.TheVariants.{Memory, Syntax, Lambda}
 use Rattle.bq_grammar.specs.declared.tree.FileKind.{FileKind}
 use Rattle.bq_grammar.specs.declared.tree.FileKind.TheVariants as file
 use Rattle.bq_grammar.specs.declared.tree.TopLevel.{TopLevel}
@@ -46,7 +46,7 @@ allowed kind ts x =
     else (if is_build kind && barred_in_build ts then Err f.NotInBuild else Ok x)
 
 -- of a statement in which few enough brackets and indents are open; a reading never wants memory
-abbrev pub judged : FileKind → List Lexeme → Result TopLevel Refusal → Result TopLevel FaultKind
+abbrev pub judged : FileKind → List Lexeme → Result TopLevel SyntaxErr → Result TopLevel FaultKind
 judged kind ts (Ok x) = allowed kind ts x
 judged kind ts (Err Memory) = Err f.Syntax
 judged kind ts (Err Syntax) = Err f.Syntax

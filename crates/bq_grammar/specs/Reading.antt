@@ -5,7 +5,7 @@ use Rattle.bq_source.specs.declared.token.TokenKind.{TokenKind}
 use Rattle.bq_source.specs.declared.token.TokenKind.TheVariants as k
 use Rattle.bq_source.specs.Token.{same_kind}
 use Rattle.bq_grammar.specs.Lexeme.{Lexeme}
-use Rattle.bq_grammar.specs.declared.refusal.Refusal.TheVariants.{Syntax, Lambda}
+use Rattle.bq_grammar.specs.declared.refusal.SyntaxErr.TheVariants.{Syntax, Lambda}
 use Rattle.bq_grammar.specs.declared.tree.Nested.{Nested}
 use Rattle.bq_grammar.specs.declared.tree.Nested.TheVariants.{Or, Test}
 use Rattle.bq_grammar.specs.declared.tree.Identifier.{Identifier}
@@ -27,8 +27,8 @@ use Rattle.bq_grammar.specs.declared.tree.Argument.{Argument}
 use Rattle.bq_grammar.specs.declared.tree.Argument.TheVariants as a
 use Rattle.bq_grammar.specs.declared.tree.Clause.{Clause}
 use Rattle.bq_grammar.specs.declared.tree.Clause.TheVariants as cl
-use Rattle.bq_grammar.specs.declared.tree.Target.{Target}
-use Rattle.bq_grammar.specs.declared.tree.Target.TheVariants as target
+use Rattle.bq_grammar.specs.declared.tree.AssignTarget.{AssignTarget}
+use Rattle.bq_grammar.specs.declared.tree.AssignTarget.TheVariants as target
 use Rattle.bq_source.specs.Number.{int_value}
 use Rattle.bq_source.specs.StringLiteral.{string_value}
 use Rattle.bq_grammar.specs.Literals.{identifier}
@@ -80,39 +80,39 @@ chained many one x ts =
 
 -- ---- variables of a `for`
 
-abbrev pub vars_after : Parse Target → Target → Parse Target
+abbrev pub vars_after : Parse AssignTarget → AssignTarget → Parse AssignTarget
 vars_after inner x ts =
     if sees k.Comma ts then (listed_from k.RightParen inner (x ∷ []) (next ts) >>= λ xs rest. Ok (target.Tuple xs, rest))
     else (expect k.RightParen ts >>= λ _ rest. Ok (x, rest))
 
 -- after '('
-unfoldable pub var_in_parens : Parse Target → Parse Target
+unfoldable pub var_in_parens : Parse AssignTarget → Parse AssignTarget
 var_in_parens inner ts = inner ts >>= λ x mid. vars_after inner x mid
 
 -- after '['
-unfoldable pub var_in_brackets : Parse Target → Parse Target
+unfoldable pub var_in_brackets : Parse AssignTarget → Parse AssignTarget
 var_in_brackets inner ts = inner ts >>= λ x mid. items_after k.RightBracket inner x mid >>= λ xs rest. Ok (target.List xs, rest)
 
-abbrev pub var_by : Parse Target → TokenKind → Lexeme → Parse Target
+abbrev pub var_by : Parse AssignTarget → TokenKind → Lexeme → Parse AssignTarget
 var_by inner k.Identifier t ts = Ok (target.Name (identifier t), ts)
 var_by inner k.LeftParen t ts = var_in_parens inner ts
 var_by inner k.LeftBracket t ts = var_in_brackets inner ts
 var_by inner _ t ts = Err Syntax
 
-unfoldable pub var : Parse Target → Parse Target
+unfoldable pub var : Parse AssignTarget → Parse AssignTarget
 var inner [] = Err Syntax
 var inner (t ∷ ts) = var_by inner t.kind t ts
 
 -- a variable in which so many brackets less one may be open
-unfoldable pub var_to : ℕ → Parse Target
+unfoldable pub var_to : ℕ → Parse AssignTarget
 var_to zero ts = Err Syntax
 var_to (suc depth) ts = var (var_to depth) ts
 
-unfoldable pub vars : Parse Target → Parse Target
+unfoldable pub vars : Parse AssignTarget → Parse AssignTarget
 vars one ts = one ts >>= λ x mid. chained target.Tuple one x mid
 
 -- the variables of a `for` in which so many brackets less one may be open
-abbrev pub variables_to : ℕ → Parse Target
+abbrev pub variables_to : ℕ → Parse AssignTarget
 variables_to depth = vars (var_to depth)
 
 -- ---- what needs nothing of what stands in brackets
@@ -156,7 +156,7 @@ begins_suffix ts = sees k.Dot ts || (sees k.LeftParen ts || sees k.LeftBracket t
 
 -- ---- operands and what is done to them, over what stands in brackets
 
-module _ (inner : Nested → Parse Expr) (variables : Parse Target) where
+module _ (inner : Nested → Parse Expr) (variables : Parse AssignTarget) where
   unfoldable pub pair : Parse Pair
   pair ts = inner Test ts >>= λ x mid. expect k.Colon mid >>= λ _ us. inner Test us >>= λ y rest. Ok (roll-Pair (record { key = x; value = y }), rest)
 

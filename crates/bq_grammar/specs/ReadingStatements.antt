@@ -5,8 +5,8 @@ use Rattle.bq_source.specs.declared.token.TokenKind.{TokenKind}
 use Rattle.bq_source.specs.declared.token.TokenKind.TheVariants as k
 use Rattle.bq_source.specs.StringLiteral.{string_value}
 use Rattle.bq_grammar.specs.Lexeme.{Lexeme}
-use Rattle.bq_grammar.specs.declared.refusal.Refusal.{Refusal}
-use Rattle.bq_grammar.specs.declared.refusal.Refusal.TheVariants.{Syntax}
+use Rattle.bq_grammar.specs.declared.refusal.SyntaxErr.{SyntaxErr}
+use Rattle.bq_grammar.specs.declared.refusal.SyntaxErr.TheVariants.{Syntax}
 use Rattle.bq_grammar.specs.declared.tree.Nested.TheVariants.{Test}
 use Rattle.bq_grammar.specs.declared.tree.Expr.{Expr}
 use Rattle.bq_grammar.specs.declared.tree.Expr.TheVariants as e
@@ -39,7 +39,7 @@ abbrev pub expr_to : ℕ → Parse Expr
 expr_to depth = expr (phrase depth Test)
 
 -- what is made without reading a token
-abbrev pub made : {A : Type 0} → Result A Refusal → Parse A
+abbrev pub made : {A : Type 0} → Result A SyntaxErr → Parse A
 made (Err why) ts = Err why
 made (Ok x) ts = Ok (x, ts)
 
@@ -237,14 +237,14 @@ statement zero ts = Err Syntax
 statement (suc depth) ts = stmt (suc depth) (statement depth) ts
 
 -- nothing is left
-abbrev pub all_taken : List Lexeme → Stmt → List Lexeme → Result TopLevel Refusal
+abbrev pub all_taken : List Lexeme → Stmt → List Lexeme → Result TopLevel SyntaxErr
 all_taken ts x [] = Ok (record { line = line_of ts; statement = x })
 all_taken ts x (u ∷ us) = Err Syntax
 
-abbrev pub top_level_by : List Lexeme → Found Stmt → Result TopLevel Refusal
+abbrev pub top_level_by : List Lexeme → Found Stmt → Result TopLevel SyntaxErr
 top_level_by ts (Err why) = Err why
 top_level_by ts (Ok z) = all_taken ts z.0 z.1
 
 -- the top-level statement that all of these tokens are
-unfoldable pub top_level : ℕ → List Lexeme → Result TopLevel Refusal
+unfoldable pub top_level : ℕ → List Lexeme → Result TopLevel SyntaxErr
 top_level depth ts = top_level_by ts (statement depth ts)

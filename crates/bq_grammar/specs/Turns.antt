@@ -4,12 +4,12 @@ use Rattle.bq_source.specs.declared.token.TokenKind.{TokenKind}
 use Rattle.bq_source.specs.declared.token.TokenKind.TheVariants as k
 use Rattle.bq_source.specs.Token.{same_kind}
 use Rattle.bq_grammar.specs.Lexeme.{Lexeme}
-use Rattle.bq_grammar.specs.declared.refusal.Refusal.{Refusal}
-use Rattle.bq_grammar.specs.declared.refusal.Refusal.TheVariants.{Memory, Syntax}
+use Rattle.bq_grammar.specs.declared.refusal.SyntaxErr.{SyntaxErr}
+use Rattle.bq_grammar.specs.declared.refusal.SyntaxErr.TheVariants.{Memory, Syntax}
 
 -- what was read and the tokens after it, or why nothing was
 abbrev pub Found : Type 0 → Type 0
-Found A = Result (A × List Lexeme) Refusal
+Found A = Result (A × List Lexeme) SyntaxErr
 
 abbrev pub Parse : Type 0 → Type 0
 Parse A = List Lexeme → Found A
@@ -20,7 +20,7 @@ abbrev pub ◌>>=◌ : {A B : Type 0} → Found A → (A → Parse B) → Found 
 (Ok p) >>= f = f p.0 p.1
 
 -- what a function that reads ensures: what the definition reads, out of memory aside
-abbrev pub Reads : {A : Type 0} → Found A → Result A Refusal → List Lexeme → Type 0
+abbrev pub Reads : {A : Type 0} → Found A → Result A SyntaxErr → List Lexeme → Type 0
 Reads found (Ok x) rest = found ≡ Ok (x, rest)
 Reads found (Err e) rest = e ≢ Memory → found ≡ Err e
 
@@ -48,7 +48,7 @@ expect kind ts = if sees kind ts then Ok (tt, next ts) else Err Syntax
 pub data Turn (S : Type 0) : Type 0 where
   ended : S → List Lexeme → Turn S
   goes : S → List Lexeme → Turn S
-  failed : Refusal → Turn S
+  failed : SyntaxErr → Turn S
 
 abbrev pub next_turn : {S : Type 0} → (S → Parse S) → Turn S → Found S
 next_turn go (ended s rest) = Ok (s, rest)

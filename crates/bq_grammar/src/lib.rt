@@ -34,9 +34,9 @@ pub use arguments::{Allowed, ArgumentKind};
 pub use laws::{each_test_is_read, one_tree_of_a_test, what_is_read_is_a_test};
 pub use literals::is_identifier;
 pub use parameters::{AllowedParameters, ParameterKind};
-pub use refusal::Refusal;
+pub use refusal::SyntaxErr;
 pub use tree::{
     Argument, Branch, Choice, Clause, Comparison, Expr, FileKind, Identifier, Load, LoadClause,
-    Nested, Operation, Operator, Pair, Parameter, SmallKind, SmallStmt, Stmt, Suffix, Target,
+    Nested, Operation, Operator, Pair, Parameter, SmallKind, SmallStmt, Stmt, Suffix, AssignTarget,
     TopLevel, UnaryOperator,
 };

@@ -1,13 +1,13 @@
 //! Why there is no tree.
 
 ghost use Rattle.std.specs.Prelude.{◌≡◌};
-ghost use Rattle.bq_grammar.specs.declared.refusal.Refusal.TheVariants.{Memory};
+ghost use Rattle.bq_grammar.specs.declared.refusal.SyntaxErr.TheVariants.{Memory};
 
 use std::alloc::{AllocError, AllocFailed};
 
 /// Why a phrase wasn't read.
 #[derive(Debug, Drop)]
-pub enum Refusal {
+pub enum SyntaxErr {
     Memory,
     /// The tokens are no phrase of the grammar.
     Syntax,
@@ -15,18 +15,18 @@ pub enum Refusal {
     Lambda,
 }
 
-impl From<AllocError> for Refusal {
+impl From<AllocError> for SyntaxErr {
     ghost from_gives = { λ _ e. e ≡ Memory };
 
-    fn from(_e: AllocError) -> Refusal {
-        Refusal::Memory
+    fn from(_e: AllocError) -> SyntaxErr {
+        SyntaxErr::Memory
     }
 }
 
-impl<T: Drop> From<AllocFailed<T>> for Refusal {
+impl<T: Drop> From<AllocFailed<T>> for SyntaxErr {
     ghost from_gives = { λ _ e. e ≡ Memory };
 
-    fn from(_e: AllocFailed<T>) -> Refusal {
-        Refusal::Memory
+    fn from(_e: AllocFailed<T>) -> SyntaxErr {
+        SyntaxErr::Memory
     }
 }

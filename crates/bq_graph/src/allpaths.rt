@@ -3,14 +3,14 @@ ghost use Rattle.std.specs.Prelude.{◌≡◌, length, IfOk};
 ghost use Rattle.bq_graph.specs.Paths.{OnPaths};
 ghost use Rattle.bq_graph.specs.Marks.{IsSet, Marked};
 
-use crate::graph::Graph;
+use crate::graph::DependencyGraph;
 use crate::rdeps::rdeps;
 use std::alloc::{AllocError, Global};
 
 /// `allpaths(a, b)`: the targets on the paths from `a` to `b`. They are those that depend on `b` within what `a` depends on.
 pub fn allpaths(
     alloc: Global,
-    graph: &Graph,
+    graph: &DependencyGraph,
     a: &[bool],
     b: &[bool],
 ) -> Result<Vec<bool>, AllocError>

@@ -3,12 +3,12 @@ ghost use Rattle.std.specs.Prelude.{◌≡◌, true, length, replicate, IfOk};
 ghost use Rattle.bq_graph.specs.Paths.{Deps, DepsWithin};
 ghost use Rattle.bq_graph.specs.Marks.{IsSet, Marked};
 
-use crate::graph::Graph;
+use crate::graph::DependencyGraph;
 use crate::search::{closure, within};
 use std::alloc::{AllocError, Global};
 
 /// `deps(x)`: the ends of the paths that start in `x`.
-pub fn deps(alloc: Global, graph: &Graph, x: &[bool]) -> Result<Vec<bool>, AllocError>
+pub fn deps(alloc: Global, graph: &DependencyGraph, x: &[bool]) -> Result<Vec<bool>, AllocError>
     requires { length x.now ≡ length graph.now }
     ensures { IfOk result (λ r. IsSet (length graph.now) r.items (Deps graph.now (Marked x.now))) }
 {
@@ -19,7 +19,7 @@ pub fn deps(alloc: Global, graph: &Graph, x: &[bool]) -> Result<Vec<bool>, Alloc
 /// `deps(x, n)`: the ends of the paths of at most `limit` edges that start in `x`.
 pub fn deps_within(
     alloc: Global,
-    graph: &Graph,
+    graph: &DependencyGraph,
     x: &[bool],
     limit: usize,
 ) -> Result<Vec<bool>, AllocError>

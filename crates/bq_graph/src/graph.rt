@@ -11,12 +11,12 @@ use std::marker::Model;
 /// The targets below a count, with edges between them, which can be followed both ways.
 /// A contract sees it as the list that has, for each target, the targets that its edges lead to.
 #[derive(Drop)]
-pub struct Graph {
+pub struct DependencyGraph {
     forward: Rows,
     back: Rows,
 }
 
-impl Model for Graph {
+impl Model for DependencyGraph {
     ghost Value = { List (List ℕ) };
 
     ghost view = { λ g. g.forward };
@@ -24,15 +24,15 @@ impl Model for Graph {
     ghost invariant = { λ g. AreTurned g.forward g.back };
 }
 
-impl Graph {
+impl DependencyGraph {
     /// The graph of so many targets with the edges.
-    pub fn new(alloc: Global, count: usize, edges: &[Edge]) -> Result<Graph, AllocError>
+    pub fn new(alloc: Global, count: usize, edges: &[Edge]) -> Result<DependencyGraph, AllocError>
         requires { AreBetween count edges.now }
         ensures { IfOk result (λ g. HasPairsOf count edges.now g) }
     {
         let forward = Rows::of_edges(alloc, count, edges, Direction::Forward)?;
         let back = Rows::of_edges(alloc, count, edges, Direction::Back)?;
-        Ok(Graph { forward, back })
+        Ok(DependencyGraph { forward, back })
     }
 
     /// The number of targets.

@@ -25,5 +25,5 @@ mod search;
 mod sets;
 
 pub use edge::Edge;
-pub use graph::Graph;
+pub use graph::DependencyGraph;
 pub use sets::{difference, intersection, members, union};

@@ -4,13 +4,13 @@ ghost use Rattle.bq_graph.specs.Paths.{Rdeps, RdepsWithin};
 ghost use Rattle.bq_graph.specs.Marks.{IsSet, Marked};
 
 use crate::deps::deps;
-use crate::graph::Graph;
+use crate::graph::DependencyGraph;
 use crate::search::{closure, within};
 use std::alloc::{AllocError, Global};
 
 /// `rdeps(u, x)`: the starts of the paths that end in `x`, all of whose targets are in `deps(u)`. The targets of `x` that are not in `deps(u)` are
 /// left out.
-pub fn rdeps(alloc: Global, graph: &Graph, u: &[bool], x: &[bool]) -> Result<Vec<bool>, AllocError>
+pub fn rdeps(alloc: Global, graph: &DependencyGraph, u: &[bool], x: &[bool]) -> Result<Vec<bool>, AllocError>
     requires u { length u.now ≡ length graph.now }
     requires x { length x.now ≡ length graph.now }
     ensures { IfOk result (λ r. IsSet (length graph.now) r.items (Rdeps graph.now (Marked u.now) (Marked x.now))) }
@@ -22,7 +22,7 @@ pub fn rdeps(alloc: Global, graph: &Graph, u: &[bool], x: &[bool]) -> Result<Vec
 /// `rdeps(u, x, n)`: the same by paths of at most `limit` edges.
 pub fn rdeps_within(
     alloc: Global,
-    graph: &Graph,
+    graph: &DependencyGraph,
     u: &[bool],
     x: &[bool],
     limit: usize,

@@ -102,7 +102,7 @@ impl BuiltIns {
     pub fn function(&self, name: &Bytes) -> Result<Option<Predeclared>, AllocError>
         ensures { IfOk result (λ function. function ≡ function_named self.now name.now) }
     {
-        bq_predeclared::each_name_is_found(); // for the proof: so no other function has the name
+        bq_predeclared::each_name_is_found(); // PROOF: so no other function has the name
         match found(name.as_slice()) {
             Some(function) => Ok(Some(function)),
             None => self.looked_up(name),

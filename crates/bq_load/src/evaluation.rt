@@ -22,7 +22,7 @@ use bq_front::kind_of;
 use bq_grammar::FileKind;
 use bq_label::Label;
 use bq_label_set::LabelSet;
-use bq_module::{Evaluated, Outcome, ResolvedModule, eval_module};
+use bq_module::{EvaluatedFile, FileOutcome, ResolvedModule, eval_module};
 use bq_package::BuildHost;
 use bq_scope::Resolved;
 use bq_seed::Seed;
@@ -98,15 +98,15 @@ fn loaded_module(
 /// What an evaluation ends in.
 fn module_by(
     alloc: Global,
-    evaluated: Evaluated<BuildHost<'_>>,
+    evaluated: EvaluatedFile<BuildHost<'_>>,
 ) -> Result<Result<LoadedModule, FailedModule>, AllocError>
     ensures { IfOk result (λ r. told module_view failed_view r ≡ module_by (ended_of evaluated.entry.outcome) (package_in (held_by evaluated.entry.host))) }
 {
-    let Evaluated { outcome, host } = evaluated;
+    let EvaluatedFile { outcome, host } = evaluated;
     let kept = host.into_package();
     match outcome {
-        Outcome::Module(frozen, prints) => Ok(Ok(loaded_module(alloc, frozen, prints, kept)?)),
-        Outcome::Failed(fault, prints) => Ok(Err(FailedModule { fault, prints })),
+        FileOutcome::Module(frozen, prints) => Ok(Ok(loaded_module(alloc, frozen, prints, kept)?)),
+        FileOutcome::Failed(fault, prints) => Ok(Err(FailedModule { fault, prints })),
     }
 }
 
@@ -167,7 +167,7 @@ impl<'a> Loading<'a> {
             imports,
             code: self.code.as_slice(),
         };
-        // for the proof: the file is run as this module
+        // PROOF: the file is run as this module
         Ok(self.run(alloc, &source.label, &module)?)
     }
 

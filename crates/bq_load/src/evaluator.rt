@@ -46,7 +46,7 @@ impl<'a> Evaluate for Loading<'a> {
         match self.imports(alloc, source, file, imports) {
             Ok(values) => {
                 watch.begins(m);
-                // for the proof: these are the values
+                // PROOF: these are the values
                 Ok(self.evaluated(alloc, m, source, file, imports, &values)?)
             }
             Err(SourceErr::Bad(fault)) => Ok(not_evaluated(alloc, fault)),

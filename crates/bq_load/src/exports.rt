@@ -10,7 +10,7 @@ ghost use Rattle.bq_load.specs.Places.{HasPlaces};
 ghost use Rattle.bq_load.specs.Imports.{value_named, globals_by, names_by, global_of, global_by, is_private, exported, at_symbol, clause_values};
 
 use crate::outcome::LoadedModule;
-use crate::places::{Places, place_of};
+use crate::places::{NamePlaces, place_of};
 use bq_scope::{LoadedSymbol, Resolved};
 use bq_source::{Bytes, Fault, FaultKind, SourceErr};
 use bq_value::{EvalErr, Value};
@@ -45,7 +45,7 @@ fn value_at(place: Option<usize>, values: &[Value]) -> Option<&Value>
 
 /// The value in the place in which its name is, by the places of the names where they are known.
 fn value_by<'v>(
-    places: Option<&Places<'_>>,
+    places: Option<&NamePlaces<'_>>,
     name: &Bytes,
     names: &[Bytes],
     values: &'v [Value],
@@ -77,7 +77,7 @@ pub(crate) struct Exports<'t, 'a> {
     /// None: no such file is loaded.
     pub module: Option<&'a LoadedModule>,
     /// The places of its globals' names, where many clauses look for them.
-    pub places: Option<&'t Places<'a>>,
+    pub places: Option<&'t NamePlaces<'a>>,
     ghost placed: { ForSome places (λ p. HasPlaces 0 (names_by code.now (option_map module_view (option_copied «module»))) p.now) },
 }
 

@@ -11,7 +11,7 @@ ghost use Rattle.bq_load.specs.Imports.{loaded_of, module_named, names_in, names
 
 use crate::exports::{Exports, globals_of};
 use crate::outcome::LoadedModule;
-use crate::places::{Places, places_at, places_by_name};
+use crate::places::{NamePlaces, places_at, places_by_name};
 use bq_label::Label;
 use bq_label_set::LabelSet;
 use bq_scope::{LoadStmt, Resolved};
@@ -63,7 +63,7 @@ impl<'a> LoadedFiles<'a> {
         alloc: Global,
         module: &LoadedModule,
         clauses: usize,
-    ) -> Result<Option<Places<'a>>, AllocError>
+    ) -> Result<Option<NamePlaces<'a>>, AllocError>
         ensures { IfOk result (λ places. IfSome places (HasPlaces 0 (names_in self.now.code.now (module_view «module».now)))) }
     {
         let names = globals_of(self.code, module.frozen.module());
@@ -79,7 +79,7 @@ impl<'a> LoadedFiles<'a> {
         &self,
         alloc: Global,
         clauses: &[usize],
-    ) -> Result<Vec<Option<Places<'a>>>, AllocError>
+    ) -> Result<Vec<Option<NamePlaces<'a>>>, AllocError>
         ensures { IfOk result (λ all. AllPlaced (names_of self.now.code.now self.now.modules.now) all.items) }
     {
         let mut all = Vec::new(alloc);
@@ -104,7 +104,7 @@ impl<'a> LoadedFiles<'a> {
     }
 
     /// What the module in this place exports, if there is one.
-    fn exports_in<'t>(&self, places: &'t [Option<Places<'a>>], number: usize) -> Exports<'t, 'a>
+    fn exports_in<'t>(&self, places: &'t [Option<NamePlaces<'a>>], number: usize) -> Exports<'t, 'a>
         requires { AllPlaced (names_of self.now.code.now self.now.modules.now) places.now }
         ensures code { result.code.now ≡ self.now.code.now }
         ensures module_is { option_map module_view (option_copied result.module) ≡ slice_get (module_views self.now.modules.now) number }
@@ -120,7 +120,7 @@ impl<'a> LoadedFiles<'a> {
     #[tactic(auto, unfolding(crate::specs::Imports::module_named))]
     fn exports_of<'t>(
         &self,
-        places: &'t [Option<Places<'a>>],
+        places: &'t [Option<NamePlaces<'a>>],
         label: &Label,
     ) -> Result<Exports<'t, 'a>, AllocError>
         requires { AllPlaced (names_of self.now.code.now self.now.modules.now) places.now }
@@ -140,7 +140,7 @@ impl<'a> LoadedFiles<'a> {
     /// Adds the values of the clauses of a load, which names this file.
     fn add_load(
         &self,
-        places: &[Option<Places<'a>>],
+        places: &[Option<NamePlaces<'a>>],
         load: &LoadStmt,
         label: &Label,
         values: &mut Vec<Value>,
@@ -157,7 +157,7 @@ impl<'a> LoadedFiles<'a> {
     fn imports_by(
         &self,
         alloc: Global,
-        places: &[Option<Places<'a>>],
+        places: &[Option<NamePlaces<'a>>],
         loads: &[LoadStmt],
         labels: &[Label],
     ) -> Result<Vec<Value>, SourceErr>

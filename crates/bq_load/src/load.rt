@@ -50,7 +50,7 @@ fn loaded_one_thread(
 {
     let modules = modules_one_thread(alloc, &loading, &edges)?;
     let packages = loading.into_packages();
-    // for the proof: they give this
+    // PROOF: they give this
     Ok(Loaded::gathered(alloc, &packages, modules)?)
 }
 
@@ -68,7 +68,7 @@ fn loaded_by_workers<'a, R: Threads + Wait + Sync, G: Gate>(
 {
     let modules = pool.outcomes(rt, alloc, seats, gate)?;
     let packages = pool.into_packages();
-    // for the proof: they give this
+    // PROOF: they give this
     Ok(Loaded::gathered(alloc, &packages, modules)?)
 }
 
@@ -85,7 +85,7 @@ pub fn load_one_thread(
 ) -> Result<Loaded, LoadErr>
     ensures { LoadsWorkspace workspace.now schema.now limit result }
 {
-    // for the proof: the error is the same
+    // PROOF: the error is the same
     let graph = match discover(alloc, workspace, schema) {
         Ok(graph) => graph,
         Err(why) => return Err(why),
@@ -110,7 +110,7 @@ pub fn load_with<R: Threads + Wait + Sync, G: Gate>(
     requires { (0 < workers) × (workers ≤ MAX_WORKERS) }
     ensures { LoadsWorkspace workspace.now schema.now limit result }
 {
-    // for the proof: the error is the same
+    // PROOF: the error is the same
     let graph = match discover_by_workers(rt, alloc, workspace, schema, workers) {
         Ok(graph) => graph,
         Err(why) => return Err(why),

@@ -41,7 +41,7 @@ impl<'a> Pool<'a> {
         ensures fresh { IfOk result (λ r. All (λ s. IsSeatOf r.0.shared.board s.place × (view_of s.place ≡ blank (base_of r.0.shared.board) r.0.shared.board.plan)) r.1.items) }
     {
         let (loading, edges) = Loading::of(alloc, workspace, schema, limit, seed, graph)?;
-        let (shared, seats) = bq_workers::Pool::open(alloc, loading, edges, seats)?;
+        let (shared, seats) = bq_workers::WorkerPool::open(alloc, loading, edges, seats)?;
         let pool = Pool { shared };
         Ok((pool, seats))
     }

@@ -9,14 +9,14 @@ use std::alloc::{AllocError, Global};
 use std::collections::BTreeMap;
 
 /// The place of each name: of two that are equal the first's. Names that strangers choose take no longer in a tree.
-pub(crate) type Places<'a> = BTreeMap<&'a [u8], usize>;
+pub(crate) type NamePlaces<'a> = BTreeMap<&'a [u8], usize>;
 
 /// The places of names.
 #[tactic(auto, using(crate::proofs::ByName::none_after))]
 pub(crate) fn places_by_name<'a>(
     alloc: Global,
     names: &'a [Bytes],
-) -> Result<Places<'a>, AllocError>
+) -> Result<NamePlaces<'a>, AllocError>
     ensures { IfOk result (λ places. HasPlaces 0 names.now places) }
 {
     let mut places = BTreeMap::new(alloc);
@@ -27,7 +27,7 @@ pub(crate) fn places_by_name<'a>(
 }
 
 /// The place of a name.
-pub(crate) fn place_of(places: &Places<'_>, name: &Bytes) -> Option<usize>
+pub(crate) fn place_of(places: &NamePlaces<'_>, name: &Bytes) -> Option<usize>
     ensures { result ≡ place_in places.now name.now }
 {
     places.get(name.as_slice()).copied()
@@ -35,9 +35,9 @@ pub(crate) fn place_of(places: &Places<'_>, name: &Bytes) -> Option<usize>
 
 /// The map in this place, if there is one.
 pub(crate) fn places_at<'t, 'a>(
-    all: &'t [Option<Places<'a>>],
+    all: &'t [Option<NamePlaces<'a>>],
     number: usize,
-) -> Option<&'t Places<'a>>
+) -> Option<&'t NamePlaces<'a>>
     ensures { ForSome result (λ places. slice_get all.now number ≡ Some (Some places.now)) }
 {
     match all.get(number) {

@@ -9,12 +9,12 @@ use bq_target::Package;
 /// The modules of a load graph, to be evaluated by the threads that work in it, each at a seat of its own. Threads may share it.
 #[derive(Drop)]
 pub struct Pool<'a> {
-    pub(crate) shared: bq_workers::Pool<Loading<'a>>,
+    pub(crate) shared: bq_workers::WorkerPool<Loading<'a>>,
     ghost wide: { length shared.graph ≡ length shared.evaluator.sources.items },
 }
 
 /// The right to work in one pool. It may go to another thread.
-pub type PoolSeat<'a> = bq_workers::PoolSeat<Loading<'a>>;
+pub type PoolSeat<'a> = bq_workers::WorkerSeat<Loading<'a>>;
 
 /// A module that a thread brought to its end.
 #[derive(Drop)]

@@ -16,7 +16,7 @@ use crate::outcome::{FailedModule, LoadedModule, ModuleOutcome};
 use crate::source::{Source, share_fault};
 use bq_board::Graph;
 use bq_label::{Label, print_label};
-use bq_load_order::Shared;
+use bq_load_order::SharedOutcome;
 use bq_outcome::Outcome;
 use bq_scope::{LoadStmt, Resolved};
 use bq_source::{Bytes, Fault, FaultKind};
@@ -107,7 +107,7 @@ impl<'a> Loading<'a> {
         alloc: Global,
         m: u32,
         source: &Source,
-        outcome: &Shared<LoadedModule, FailedModule>,
+        outcome: &SharedOutcome<LoadedModule, FailedModule>,
     ) -> Result<Result<Arc<LoadedModule, Global>, FailedModule>, AllocError>
         ensures { IfOk result (λ r. result_view r ≡ result_of (loading_of self.now) m source.now (shown_outcome module_view failed_view outcome.now)) }
     {
@@ -135,7 +135,7 @@ impl<'a> Loading<'a> {
         alloc: Global,
         m: u32,
         source: &Source,
-        outcome: &Shared<LoadedModule, FailedModule>,
+        outcome: &SharedOutcome<LoadedModule, FailedModule>,
     ) -> Result<ModuleOutcome, AllocError>
         ensures { IfOk result (λ o. outcome_view o ≡ outcome_by (loading_of self.now) m source.now (shown_outcome module_view failed_view outcome.now)) }
     {
@@ -152,14 +152,14 @@ impl<'a> Loading<'a> {
         edges: &Graph,
         m: usize,
         source: &Source,
-        found: &[Shared<LoadedModule, FailedModule>],
+        found: &[SharedOutcome<LoadedModule, FailedModule>],
     ) -> Result<ModuleOutcome, AllocError>
         requires known { m < length edges.now }
         requires found { Tabulates (length edges.now) (outcome (means (loading_of self.now)) edges.now) (map (shown_outcome module_view failed_view) found.now) }
         ensures { IfOk result (λ o. outcome_view o ≡ outcome_of (loading_of self.now) edges.now m source.now) }
     {
-        let _modules = edges.len(); // for the proof: there are no more than a number counts
-        // for the proof: the outcome is by what was found
+        let _modules = edges.len(); // PROOF: there are no more than a number counts
+        // PROOF: the outcome is by what was found
         Ok(self.outcome_at(alloc, m as u32, source, &found[m])?)
     }
 
@@ -169,7 +169,7 @@ impl<'a> Loading<'a> {
         &self,
         alloc: Global,
         edges: &Graph,
-        found: &[Shared<LoadedModule, FailedModule>],
+        found: &[SharedOutcome<LoadedModule, FailedModule>],
     ) -> Result<Vec<ModuleOutcome>, AllocError>
         requires wide { length edges.now ≡ length self.now.sources.items }
         requires found { Tabulates (length edges.now) (outcome (means (loading_of self.now)) edges.now) (map (shown_outcome module_view failed_view) found.now) }

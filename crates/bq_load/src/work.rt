@@ -66,7 +66,7 @@ impl<'a> Pool<'a> {
     fn all_evaluated(
         &self,
         alloc: Global,
-        brought: &[bq_workers::Evaluated<LoadedModule, FailedModule>],
+        brought: &[bq_workers::FinishedModule<LoadedModule, FailedModule>],
     ) -> Result<Vec<Evaluated>, AllocError>
         requires { AreRight module_view failed_view (outcome (means (parts_of self.now)) (loads_of self.now)) (length (loads_of self.now)) brought.now }
         ensures numbers { IfOk result (λ es. map (λ e. e.module) es.items ≡ map (λ e. e.number) brought.now) }
@@ -83,7 +83,7 @@ impl<'a> Pool<'a> {
     fn evaluated(
         &self,
         alloc: Global,
-        brought: &bq_workers::Evaluated<LoadedModule, FailedModule>,
+        brought: &bq_workers::FinishedModule<LoadedModule, FailedModule>,
     ) -> Result<Evaluated, AllocError>
         requires known { brought.now.number < length (loads_of self.now) }
         requires right { shown module_view failed_view brought.now.outcome ≡ outcome (means (parts_of self.now)) (loads_of self.now) brought.now.number }

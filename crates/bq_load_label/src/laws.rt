@@ -10,6 +10,6 @@ use bq_label::laws::forms_of_a_label;
 pub fn loads_name_files()
     ensures { LoadsNameFiles }
 {
-    // for the proof: which texts read as which labels.
+    // PROOF: which texts read as which labels.
     forms_of_a_label();
 }

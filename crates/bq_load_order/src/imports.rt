@@ -6,14 +6,14 @@ ghost use Rattle.bq_load_order.specs.Shown.{seen, seen_value, slot, value_in};
 ghost use Rattle.bq_load_order.specs.Slots.{found_at, or_failed};
 
 use crate::evaluate::Evaluate;
-use crate::shared::{Shared, share_value};
+use crate::shared::{SharedOutcome, share_value};
 use std::alloc::{AllocError, Global};
 use std::sync::Arc;
 
 /// The values of loaded modules in the order of the loads, or the first load that has none.
 pub fn imported<E: Evaluate>(
     alloc: Global,
-    found: &[Option<Shared<E::Value, E::Fault>>],
+    found: &[Option<SharedOutcome<E::Value, E::Fault>>],
     loads: &[u32],
 ) -> Result<Result<Vec<Arc<E::Value, Global>>, u32>, AllocError>
     requires { (l : ℕ) → Has loads.now l → l < length found.now }
@@ -31,7 +31,7 @@ pub fn imported<E: Evaluate>(
 
 // A share of the value that was found, if there is one.
 fn value_found<E: Evaluate>(
-    found: &Option<Shared<E::Value, E::Fault>>,
+    found: &Option<SharedOutcome<E::Value, E::Fault>>,
 ) -> Result<Option<Arc<E::Value, Global>>, AllocError>
     ensures { IfOk result (λ v. seen_value E.see v ≡ value_in (or_failed (slot E.see E.see_fault found.now))) }
 {

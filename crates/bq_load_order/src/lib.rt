@@ -25,6 +25,6 @@ pub use evaluate::Evaluate;
 pub use laws::one_list;
 pub use module::outcome_by;
 pub use outcomes::{complete, outcomes_one_thread};
-pub use shared::{Shared, share, share_value};
+pub use shared::{SharedOutcome, share, share_value};
 pub use slots::{empty_slots, first_at_limit, first_cyclic};
 pub use watch::{Unwatched, Watch};

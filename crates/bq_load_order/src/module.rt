@@ -4,7 +4,7 @@ ghost use Rattle.bq_outcome.specs.Outcome.{evaluated, own};
 ghost use Rattle.bq_load_order.specs.Shown.{seen, shown};
 
 use crate::evaluate::Evaluate;
-use crate::shared::Shared;
+use crate::shared::SharedOutcome;
 use crate::watch::Watch;
 use bq_outcome::Outcome;
 use std::alloc::{AllocError, Global};
@@ -17,7 +17,7 @@ pub fn outcome_by<E: Evaluate, W: Watch>(
     m: u32,
     imports: Result<Vec<Arc<E::Value, Global>>, u32>,
     watch: &W,
-) -> Result<Shared<E::Value, E::Fault>, AllocError>
+) -> Result<SharedOutcome<E::Value, E::Fault>, AllocError>
     ensures { IfOk result (λ o. shown E.see E.see_fault o ≡ evaluated (E.means evaluator.now m) (seen E.see imports)) }
 {
     match imports {
@@ -33,7 +33,7 @@ fn evaluate<E: Evaluate, W: Watch>(
     m: u32,
     imports: &[Arc<E::Value, Global>],
     watch: &W,
-) -> Result<Shared<E::Value, E::Fault>, AllocError>
+) -> Result<SharedOutcome<E::Value, E::Fault>, AllocError>
     ensures { IfOk result (λ o. shown E.see E.see_fault o ≡ own (E.means evaluator.now m (map (λ a. E.see a.value) imports.now))) }
 {
     match evaluator.evaluate(alloc, m, imports, watch)? {

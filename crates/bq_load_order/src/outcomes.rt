@@ -9,7 +9,7 @@ ghost use Rattle.bq_load_order.specs.Slots.{Filling, IsLoadOrder, Puts, Ready, T
 use crate::evaluate::Evaluate;
 use crate::imports::imported;
 use crate::module::outcome_by;
-use crate::shared::Shared;
+use crate::shared::SharedOutcome;
 use crate::slots::{all_settled, empty_slots, first_at_limit};
 use crate::watch::Watch;
 use bq_board::{Graph, Order};
@@ -23,7 +23,7 @@ pub fn outcomes_one_thread<E: Evaluate, W: Watch>(
     evaluator: &E,
     graph: &Graph,
     watch: &W,
-) -> Result<Vec<Shared<E::Value, E::Fault>>, AllocError>
+) -> Result<Vec<SharedOutcome<E::Value, E::Fault>>, AllocError>
     ensures { IfOk result (λ v. Tabulates (length graph.now) (outcome (E.means evaluator.now) graph.now) (map (shown E.see E.see_fault) v.items)) }
 {
     let order = graph.topological_order(alloc)?;
@@ -37,9 +37,9 @@ pub fn complete<E: Evaluate, W: Watch>(
     evaluator: &E,
     graph: &Graph,
     order: &Order,
-    mut found: Vec<Option<Shared<E::Value, E::Fault>>>,
+    mut found: Vec<Option<SharedOutcome<E::Value, E::Fault>>>,
     watch: &W,
-) -> Result<Vec<Shared<E::Value, E::Fault>>, AllocError>
+) -> Result<Vec<SharedOutcome<E::Value, E::Fault>>, AllocError>
     requires order { IsLoadOrder graph.now order.now.modules.items }
     requires cyclic { MarksCycles graph.now order.now.pending.items }
     requires depths { HasDepths graph.now order.now.depths.items }
@@ -47,7 +47,7 @@ pub fn complete<E: Evaluate, W: Watch>(
     ensures { IfOk result (λ v. Tabulates (length graph.now) (outcome (E.means evaluator.now) graph.now) (map (shown E.see E.see_fault) v.items)) }
 {
     fill(alloc, evaluator, graph, order, &mut found, watch)?;
-    // for the proof: the outcomes are those of the settled
+    // PROOF: the outcomes are those of the settled
     Ok(all_settled::<E>(alloc, graph, order, found.as_slice())?)
 }
 
@@ -57,7 +57,7 @@ fn fill<E: Evaluate, W: Watch>(
     evaluator: &E,
     graph: &Graph,
     order: &Order,
-    found: &mut Vec<Option<Shared<E::Value, E::Fault>>>,
+    found: &mut Vec<Option<SharedOutcome<E::Value, E::Fault>>>,
     watch: &W,
 ) -> Result<(), AllocError>
     requires order { IsLoadOrder graph.now order.now.modules.items }
@@ -79,7 +79,7 @@ fn fill_one<E: Evaluate, W: Watch>(
     graph: &Graph,
     order: &Order,
     m: u32,
-    found: &mut Vec<Option<Shared<E::Value, E::Fault>>>,
+    found: &mut Vec<Option<SharedOutcome<E::Value, E::Fault>>>,
     watch: &W,
 ) -> Result<(), AllocError>
     requires cyclic { MarksCycles graph.now order.now.pending.items }
@@ -102,9 +102,9 @@ fn outcome_of<E: Evaluate, W: Watch>(
     graph: &Graph,
     order: &Order,
     m: u32,
-    found: &[Option<Shared<E::Value, E::Fault>>],
+    found: &[Option<SharedOutcome<E::Value, E::Fault>>],
     watch: &W,
-) -> Result<Shared<E::Value, E::Fault>, AllocError>
+) -> Result<SharedOutcome<E::Value, E::Fault>, AllocError>
     requires cyclic { MarksCycles graph.now order.now.pending.items }
     requires depths { HasDepths graph.now order.now.depths.items }
     requires ready { Ready (outcome (E.means evaluator.now) graph.now) graph.now (map (slot E.see E.see_fault) found.now) m }
@@ -115,6 +115,6 @@ fn outcome_of<E: Evaluate, W: Watch>(
         return Ok(Outcome::TooDeep(first_at_limit(order, graph, loads)));
     }
     let imports = imported::<E>(alloc, found, loads)?;
-    // for the proof: the outcome is by these imports
+    // PROOF: the outcome is by these imports
     Ok(outcome_by(alloc, evaluator, m, imports, watch)?)
 }

@@ -8,12 +8,12 @@ use std::alloc::{AllocError, Global};
 use std::sync::Arc;
 
 /// An outcome of which all that load the module have a share.
-pub type Shared<V, F> = Outcome<Arc<V, Global>, Arc<F, Global>>;
+pub type SharedOutcome<V, F> = Outcome<Arc<V, Global>, Arc<F, Global>>;
 
 /// One more share of an outcome.
 pub fn share<E: Evaluate>(
-    outcome: &Shared<E::Value, E::Fault>,
-) -> Result<Shared<E::Value, E::Fault>, AllocError>
+    outcome: &SharedOutcome<E::Value, E::Fault>,
+) -> Result<SharedOutcome<E::Value, E::Fault>, AllocError>
     ensures { IfOk result (λ o. shown E.see E.see_fault o ≡ shown E.see E.see_fault outcome.now) }
 {
     match outcome {
@@ -27,7 +27,7 @@ pub fn share<E: Evaluate>(
 
 /// A share of the value of an outcome, if it has one.
 pub fn share_value<E: Evaluate>(
-    outcome: &Shared<E::Value, E::Fault>,
+    outcome: &SharedOutcome<E::Value, E::Fault>,
 ) -> Result<Option<Arc<E::Value, Global>>, AllocError>
     ensures { IfOk result (λ v. seen_value E.see v ≡ value_in (shown E.see E.see_fault outcome.now)) }
 {

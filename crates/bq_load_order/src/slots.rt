@@ -9,7 +9,7 @@ ghost use Rattle.bq_load_order.specs.Shown.{shown, slot};
 ghost use Rattle.bq_load_order.specs.Slots.{Tabulates, or_cyclic};
 
 use crate::evaluate::Evaluate;
-use crate::shared::{Shared, share};
+use crate::shared::{SharedOutcome, share};
 use bq_board::{Graph, Order};
 use bq_outcome::Outcome;
 use std::alloc::{AllocError, Global};
@@ -18,7 +18,7 @@ use std::alloc::{AllocError, Global};
 pub fn empty_slots<V: Drop, F: Drop>(
     alloc: Global,
     modules: usize,
-) -> Result<Vec<Option<Shared<V, F>>>, AllocError>
+) -> Result<Vec<Option<SharedOutcome<V, F>>>, AllocError>
     ensures { IfOk result (λ v. (vec_len v ≡ modules) × ((m : ℕ) → get_or v.items m None ≡ None)) }
 {
     let mut slots = Vec::new(alloc);
@@ -61,9 +61,9 @@ pub fn first_at_limit(order: &Order, graph: &Graph, loads: &[u32]) -> u32
 fn settled<E: Evaluate>(
     graph: &Graph,
     order: &Order,
-    found: &[Option<Shared<E::Value, E::Fault>>],
+    found: &[Option<SharedOutcome<E::Value, E::Fault>>],
     m: usize,
-) -> Result<Shared<E::Value, E::Fault>, AllocError>
+) -> Result<SharedOutcome<E::Value, E::Fault>, AllocError>
     requires cyclic { MarksCycles graph.now order.now.pending.items }
     requires wide { length found.now ≡ length graph.now }
     requires known { m < length graph.now }
@@ -80,8 +80,8 @@ pub fn all_settled<E: Evaluate>(
     alloc: Global,
     graph: &Graph,
     order: &Order,
-    found: &[Option<Shared<E::Value, E::Fault>>],
-) -> Result<Vec<Shared<E::Value, E::Fault>>, AllocError>
+    found: &[Option<SharedOutcome<E::Value, E::Fault>>],
+) -> Result<Vec<SharedOutcome<E::Value, E::Fault>>, AllocError>
     requires cyclic { MarksCycles graph.now order.now.pending.items }
     requires wide { length found.now ≡ length graph.now }
     ensures { IfOk result (λ v. Tabulates (length graph.now) (or_cyclic graph.now (map (slot E.see E.see_fault) found.now)) (map (shown E.see E.see_fault) v.items)) }

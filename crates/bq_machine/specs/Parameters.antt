@@ -6,7 +6,7 @@ use Rattle.std.specs.Str.{bytes_eq}
 use Rattle.std.specs.Cmp.Lexicographic.{slice_cmp}
 use Rattle.std.specs.BTreeMap.{BTreeMap, get_by}
 use Rattle.std.specs.Borrow.{Bor}
-use Rattle.bq_machine.specs.declared.parameters.Parameter.{Parameter}
+use Rattle.bq_machine.specs.declared.parameters.SingleParameter.{SingleParameter}
 use Rattle.bq_machine.specs.declared.parameters.Signature.{Signature}
 
 -- a parameter that takes one argument: its name, where named arguments may go to it, and whether it has no default
@@ -26,7 +26,7 @@ abbrev pub name_of : Option (Bor (List ℕ)) → Option (List ℕ)
 name_of None = None
 name_of (Some name) = Some name.now
 
-abbrev pub parameter_of : Parameter → ParameterView
+abbrev pub parameter_of : SingleParameter → ParameterView
 parameter_of p = record { name = name_of p.name; is_required = p.is_required }
 
 abbrev pub signature_of : Signature → SignatureView

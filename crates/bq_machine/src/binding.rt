@@ -9,7 +9,7 @@ ghost use Rattle.bq_machine.specs.Binding.{placed_values, placed, has_value, fil
 
 use crate::args::Args;
 use crate::iteration::Elements;
-use crate::parameters::{Parameter, Signature, parameter_called, places_by_name};
+use crate::parameters::{SingleParameter, Signature, parameter_called, places_by_name};
 use bq_seed::Seed;
 use bq_source::{Bytes, FaultKind};
 use bq_value::{Dict, EvalErr, Key, Value};
@@ -107,7 +107,7 @@ fn rest_of(alloc: Global, values: &mut Elements) -> Result<Vec<Value>, AllocErro
     Ok(rest)
 }
 
-fn is_complete(parameters: &[Parameter<'_>], values: &[Option<Value>]) -> bool
+fn is_complete(parameters: &[SingleParameter<'_>], values: &[Option<Value>]) -> bool
     ensures { result ≡ is_complete (map parameter_of parameters.now) values.now }
 {
     for (i, parameter) in parameters.iter().enumerate() {

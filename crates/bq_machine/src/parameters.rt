@@ -9,7 +9,7 @@ use std::collections::BTreeMap;
 
 /// A parameter that takes one argument.
 #[derive(Clone, Copy)]
-pub struct Parameter<'a> {
+pub struct SingleParameter<'a> {
     /// None: it takes a positional argument alone.
     pub name: Option<&'a [u8]>,
     /// Whether it has no default.
@@ -19,7 +19,7 @@ pub struct Parameter<'a> {
 /// The parameters of a function.
 #[derive(Clone, Copy)]
 pub struct Signature<'a> {
-    pub parameters: &'a [Parameter<'a>],
+    pub parameters: &'a [SingleParameter<'a>],
     /// The first so many take positional arguments, the others named ones alone.
     pub placed: usize,
     /// Whether there is a `*`, which takes the positional arguments that are left.
@@ -29,7 +29,7 @@ pub struct Signature<'a> {
 }
 
 /// The first parameter of that name, by its place.
-pub(crate) fn parameter_called(parameters: &[Parameter<'_>], name: &[u8]) -> Option<usize>
+pub(crate) fn parameter_called(parameters: &[SingleParameter<'_>], name: &[u8]) -> Option<usize>
     ensures { result ≡ position_from (is_called name.now) 0 (map parameter_of parameters.now) }
 {
     for (i, parameter) in parameters.iter().enumerate() {
@@ -46,7 +46,7 @@ pub(crate) fn parameter_called(parameters: &[Parameter<'_>], name: &[u8]) -> Opt
 #[tactic(auto, using(crate::proofs::Places::none_after, crate::proofs::Places::unnamed_before, crate::proofs::Places::named_before))]
 pub(crate) fn places_by_name<'a>(
     alloc: Global,
-    parameters: &[Parameter<'a>],
+    parameters: &[SingleParameter<'a>],
 ) -> Result<BTreeMap<&'a [u8], usize>, AllocError>
     ensures { IfOk result (λ places. HasPlaces 0 (map parameter_of parameters.now) places) }
 {

@@ -62,7 +62,7 @@ impl Machine {
     }
 }
 
-// For the proof: a call that names the 64 levels is a step of its own.
+// PROOF: a call that names the 64 levels is a step of its own.
 #[tactic(auto, unfolding(crate::specs::Machine::looked_equal))]
 fn looked_equal(store: &Store, steps: u64, a: &Value, b: &Value) -> Result<(bool, u64), FaultKind>
     ensures { result ≡ looked_equal store.now steps a.now b.now }

@@ -13,10 +13,10 @@ use Rattle.bq_eval.specs.declared.context.Program.{Program}
 use Rattle.bq_runtime.specs.Calling.{HostCalls}
 use Rattle.bq_module.specs.Module.{Ended, evaluated, failed, module_run}
 use Rattle.bq_module.specs.declared.module.ResolvedModule.{ResolvedModule}
-use Rattle.bq_module.specs.declared.outcome.Outcome.{Outcome}
-use Rattle.bq_module.specs.declared.outcome.Outcome.TheVariants as o
+use Rattle.bq_module.specs.declared.outcome.FileOutcome.{FileOutcome}
+use Rattle.bq_module.specs.declared.outcome.FileOutcome.TheVariants as o
 
-abbrev pub ended_of : Outcome → Ended
+abbrev pub ended_of : FileOutcome → Ended
 ended_of (o.Module frozen prints) = evaluated frozen prints.items
 ended_of (o.Failed fault prints) = failed fault prints.items
 

@@ -9,7 +9,7 @@ ghost use Rattle.bq_module.specs.Module.{or_none, values_from, frozen_values, ev
 ghost use Rattle.bq_module.specs.Outcomes.{ended_of};
 
 use crate::module::ResolvedModule;
-use crate::outcome::Outcome;
+use crate::outcome::FileOutcome;
 use bq_eval::Frame;
 use bq_machine::Machine;
 use bq_source::{Bytes, Fault, FaultKind};
@@ -69,13 +69,13 @@ pub(crate) fn module_of(
     module: &ResolvedModule<'_>,
     globals: &Frame<'_>,
     machine: Machine,
-) -> Result<Outcome, AllocError>
+) -> Result<FileOutcome, AllocError>
     ensures { IfOk result (λ o. ended_of o ≡ evaluated (frozen machine.store «module».now.file.now.globals (frozen_values «module».now.file.now «module».now.imports.now (slots_of globals.now))) machine.prints) }
 {
     let (store, prints) = machine.into_parts();
     let values = frozen_values(alloc, module, globals)?;
     let frozen = freeze(alloc, store, module.file.globals.as_slice(), values)?;
-    Ok(Outcome::Module(frozen, prints))
+    Ok(FileOutcome::Module(frozen, prints))
 }
 
 /// The fault of a file that stopped.
@@ -102,12 +102,12 @@ pub(crate) fn failed(
     alloc: Global,
     kind: FaultKind,
     machine: Machine,
-) -> Result<Outcome, AllocError>
+) -> Result<FileOutcome, AllocError>
     ensures { IfOk result (λ o. ended_of o ≡ failed (fault_of (stop_at kind machine)) machine.prints) }
 {
     let fault = fault_of(alloc, kind, &machine);
     let prints = prints_of(machine);
-    Ok(Outcome::Failed(fault?, prints))
+    Ok(FileOutcome::Failed(fault?, prints))
 }
 
 /// The message of `fail` as `repr` shows it; the other faults of an evaluation tell nothing.

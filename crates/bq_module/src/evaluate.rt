@@ -14,7 +14,7 @@ ghost use Rattle.bq_module.specs.Outcomes.{ended_of, run_of};
 use crate::ending::{failed, module_of};
 use crate::loads::first_store;
 use crate::module::ResolvedModule;
-use crate::outcome::{Evaluated, Outcome};
+use crate::outcome::{EvaluatedFile, FileOutcome};
 use crate::run::run_module;
 use bq_eval::Frame;
 use bq_host::{BuiltIns, Host};
@@ -50,7 +50,7 @@ fn outcome_of<H: Host>(
     ran: Result<Frame<'static>, EvalErr>,
     machine: Machine,
     host: &H,
-) -> Result<Outcome, AllocError>
+) -> Result<FileOutcome, AllocError>
     ensures outcome { (run : Run (State × H.Kept) frames.Frame) → HostDoes slots_of ran.entry machine (H.seen host.now) run → IfOk result (λ o. ended_of o ≡ ended «module».now.file.now «module».now.imports.now run) }
     ensures host { (run : Run (State × H.Kept) frames.Frame) → HostDoes slots_of ran.entry machine (H.seen host.now) run → OnOk result (IfSome (kept_after run) (λ kept. H.seen host.now ≡ kept)) }
 {
@@ -71,7 +71,7 @@ fn evaluate<H: Host + Drop, K: RuleNames>(
     host: H,
     limit: u64,
     seed: Seed,
-) -> Result<Evaluated<H>, AllocError>
+) -> Result<EvaluatedFile<H>, AllocError>
     requires { built_ins.now ≡ K.rules }
     ensures outcome { IfOk result (λ e. ended_of e.outcome ≡ ended «module».now.file.now «module».now.imports.now (run_of K.rules H.means «module».now limit (H.seen host))) }
     ensures host { IfOk result (λ e. IfSome (kept_after (run_of K.rules H.means «module».now limit (H.seen host))) (λ kept. H.seen e.host ≡ kept)) }
@@ -80,7 +80,7 @@ fn evaluate<H: Host + Drop, K: RuleNames>(
     let machine = Machine::new(alloc, store, limit);
     let (ran, machine, host) = run_on::<H, K>(alloc, built_ins, module, machine, host);
     let outcome = outcome_of(alloc, module, ran, machine, &host)?;
-    Ok(Evaluated { outcome, host })
+    Ok(EvaluatedFile { outcome, host })
 }
 
 /// Evaluates a file: its statements run in order on a fresh machine, with so many steps. Its dicts find their keys by
@@ -92,7 +92,7 @@ pub fn eval_module<H: Host + Drop>(
     host: H,
     limit: u64,
     seed: Seed,
-) -> Result<Evaluated<H>, AllocError>
+) -> Result<EvaluatedFile<H>, AllocError>
     ensures outcome { IfOk result (λ e. ended_of e.outcome ≡ ended «module».now.file.now «module».now.imports.now (run_of built_ins.now H.means «module».now limit (H.seen host))) }
     ensures host { IfOk result (λ e. IfSome (kept_after (run_of built_ins.now H.means «module».now limit (H.seen host))) (λ kept. H.seen e.host ≡ kept)) }
 {

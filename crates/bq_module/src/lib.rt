@@ -23,4 +23,4 @@ mod run;
 
 pub use evaluate::eval_module;
 pub use module::ResolvedModule;
-pub use outcome::{Evaluated, Outcome};
+pub use outcome::{EvaluatedFile, FileOutcome};

@@ -5,14 +5,14 @@ use bq_value::Frozen;
 
 /// The outcome for a module, with what it printed, in order.
 #[derive(Drop)]
-pub enum Outcome {
+pub enum FileOutcome {
     Module(Frozen, Vec<Bytes>),
     Failed(Fault, Vec<Bytes>),
 }
 
 /// The outcome, and the host that the file called.
 #[derive(Drop)]
-pub struct Evaluated<H> {
-    pub outcome: Outcome,
+pub struct EvaluatedFile<H> {
+    pub outcome: FileOutcome,
     pub host: H,
 }

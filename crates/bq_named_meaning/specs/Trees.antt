@@ -10,13 +10,13 @@ use Rattle.bq_grammar.specs.declared.tree.Pair.{Pair}
 use Rattle.bq_grammar.specs.declared.tree.Stmt.{Stmt}
 use Rattle.bq_grammar.specs.declared.tree.Stmt.TheOpen.{Stmt-F}
 use Rattle.bq_grammar.specs.declared.tree.Suffix.{Suffix}
-use Rattle.bq_grammar.specs.declared.tree.Target.{Target}
+use Rattle.bq_grammar.specs.declared.tree.AssignTarget.{AssignTarget}
 use Rattle.bq_value.specs.Datum.{Datum}
 use Rattle.bq_machine.specs.Action.{Action}
 use Rattle.bq_named_meaning.specs.Names.{Env}
 
 abbrev pub ArgumentLayer : Type 0
-ArgumentLayer = Argument-F Argument Clause Expr Suffix Target Choice Operation Pair
+ArgumentLayer = Argument-F Argument Clause Expr Suffix AssignTarget Choice Operation Pair
 
 abbrev pub StmtLayer : Type 0
 StmtLayer = Stmt-F Stmt Branch

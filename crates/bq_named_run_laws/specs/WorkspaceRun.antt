@@ -15,7 +15,7 @@ use Rattle.bq_query.specs.declared.query_error.QueryErr.{QueryErr}
 use Rattle.bq_query_check.specs.Checked.{IsChecked, IsWrong}
 use Rattle.bq_query_check.specs.declared.checked.CheckedQuery.{CheckedQuery}
 use Rattle.bq_report.specs.Report.{Inside, ReportView, Reports}
-use Rattle.bq_report.specs.declared.ending.Refusal.TheVariants.{Query, Schema, TooManyModules}
+use Rattle.bq_report.specs.declared.ending.NoAnswer.TheVariants.{Query, Schema, TooManyModules}
 use Rattle.bq_run.specs.WorkspaceRun.{refused}
 use Rattle.bq_run.specs.declared.options.Options.{Options}
 use Rattle.bq_named_load_laws.specs.Parsed.{parsed_in}

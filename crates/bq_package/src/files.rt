@@ -11,7 +11,7 @@ ghost use Rattle.bq_package.specs.Files.{files_named};
 use crate::bound::texts_of;
 use crate::place::Place;
 use bq_label::Label;
-use bq_machine::{Args, Bound, Parameter, Signature, bind};
+use bq_machine::{Args, Bound, SingleParameter, Signature, bind};
 use bq_seed::Seed;
 use bq_typed::{TextKind, labels};
 use bq_value::{EvalErr, Store};
@@ -21,15 +21,15 @@ use std::alloc::Global;
 /// `(srcs, visibility = None, licenses = None)`
 const EXPORTS_FILES: Signature<'static> = Signature {
     parameters: &[
-        Parameter {
+        SingleParameter {
             name: Some(b"srcs"),
             is_required: true,
         },
-        Parameter {
+        SingleParameter {
             name: Some(b"visibility"),
             is_required: false,
         },
-        Parameter {
+        SingleParameter {
             name: Some(b"licenses"),
             is_required: false,
         },

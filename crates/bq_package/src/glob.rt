@@ -13,7 +13,7 @@ ghost use Rattle.bq_package.specs.Glob.{pattern, patterns, excludes_directories,
 use crate::bound::texts_of;
 use crate::place::Place;
 use bq_glob::{Pattern, glob, read_pattern};
-use bq_machine::{Args, Bound, Parameter, Signature, bind};
+use bq_machine::{Args, Bound, SingleParameter, Signature, bind};
 use bq_seed::Seed;
 use bq_source::{Bytes, FaultKind, SourceErr};
 use bq_typed::argument;
@@ -35,19 +35,19 @@ pub struct GlobRequest {
 /// `(include, exclude = [], exclude_directories = 1, allow_empty = True)`
 const GLOB: Signature<'static> = Signature {
     parameters: &[
-        Parameter {
+        SingleParameter {
             name: Some(b"include"),
             is_required: true,
         },
-        Parameter {
+        SingleParameter {
             name: Some(b"exclude"),
             is_required: false,
         },
-        Parameter {
+        SingleParameter {
             name: Some(b"exclude_directories"),
             is_required: false,
         },
-        Parameter {
+        SingleParameter {
             name: Some(b"allow_empty"),
             is_required: false,
         },

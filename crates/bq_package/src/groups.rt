@@ -12,7 +12,7 @@ ghost use Rattle.bq_package.specs.Groups.{is_name_first, names_first, group, gro
 use crate::bound::{text_of, texts_of};
 use crate::place::Place;
 use bq_label::Label;
-use bq_machine::{Args, Bound, Parameter, Signature, bind};
+use bq_machine::{Args, Bound, SingleParameter, Signature, bind};
 use bq_rule_class::AttributeValue;
 use bq_seed::Seed;
 use bq_source::Bytes;
@@ -25,15 +25,15 @@ use std::alloc::{AllocError, Global};
 /// `(name, packages = [], includes = [])`
 const PACKAGE_GROUP: Signature<'static> = Signature {
     parameters: &[
-        Parameter {
+        SingleParameter {
             name: Some(b"name"),
             is_required: true,
         },
-        Parameter {
+        SingleParameter {
             name: Some(b"packages"),
             is_required: false,
         },
-        Parameter {
+        SingleParameter {
             name: Some(b"includes"),
             is_required: false,
         },

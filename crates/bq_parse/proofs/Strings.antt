@@ -7,7 +7,7 @@ use Rattle.bq_source.specs.declared.token.TokenKind.TheVariants as k
 use Rattle.bq_source.specs.StringLiteral.{string_value}
 use Rattle.bq_source.specs.Token.{same_kind}
 use Rattle.bq_grammar.specs.Lexeme.{Lexeme}
-use Rattle.bq_grammar.specs.declared.refusal.Refusal.TheVariants.{Syntax}
+use Rattle.bq_grammar.specs.declared.refusal.SyntaxErr.TheVariants.{Syntax}
 use Rattle.bq_grammar.specs.Turns.{Found, sees, next}
 use Rattle.bq_grammar.specs.Reading.{spelling_of}
 use Rattle.bq_grammar.specs.ReadingStatements.{text, text_of}

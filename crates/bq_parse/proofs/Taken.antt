@@ -1,7 +1,7 @@
 -- Whether a statement took all of its tokens.
 use Rattle.std.proofs.Common.{◌≡◌, ◌<◌, List, [], ◌∷◌, length, Ok, Err, refl, arith}
 use Rattle.bq_grammar.specs.Lexeme.{Lexeme}
-use Rattle.bq_grammar.specs.declared.refusal.Refusal.TheVariants.{Syntax}
+use Rattle.bq_grammar.specs.declared.refusal.SyntaxErr.TheVariants.{Syntax}
 use Rattle.bq_grammar.specs.declared.tree.Stmt.{Stmt}
 use Rattle.bq_grammar.specs.Statements.{line_of}
 use Rattle.bq_grammar.specs.ReadingStatements.{all_taken}

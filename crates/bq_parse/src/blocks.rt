@@ -11,7 +11,7 @@ ghost use Rattle.bq_parse.specs.Inner.{ReadsStatement};
 use crate::parameter_list::parameters;
 use crate::small::simple;
 use bq_expression::{closed, expr_list, only, phrase, vars};
-use bq_grammar::{Branch, Expr, Identifier, Nested, Parameter, Refusal, Stmt};
+use bq_grammar::{Branch, Expr, Identifier, Nested, Parameter, SyntaxErr, Stmt};
 use bq_source::TokenKind;
 use bq_tokens::Tokens;
 use sqlite_items::Items;
@@ -19,7 +19,7 @@ use std::alloc::Global;
 
 /// The rules of blocks take the reader of the statements in them as a parameter, so that each rule is proved by itself.
 #[derive(Clone, Copy)]
-pub struct Blocks<F> {
+pub struct BlockRules<F> {
     pub alloc: Global,
     /// One more than how many brackets and indents may still be opened.
     pub depth: usize,
@@ -28,8 +28,8 @@ pub struct Blocks<F> {
     pub statement: F,
 }
 
-impl<F: Fn(Global, &mut Tokens<'_>, usize) -> Result<Stmt, Refusal>> Blocks<F> {
-    fn nested(&self, tokens: &mut Tokens<'_>) -> Result<Stmt, Refusal>
+impl<F: Fn(Global, &mut Tokens<'_>, usize) -> Result<Stmt, SyntaxErr>> BlockRules<F> {
+    fn nested(&self, tokens: &mut Tokens<'_>) -> Result<Stmt, SyntaxErr>
         requires { ReadsStatement self.now.inside (F.pre self.now.statement) (F.post self.now.statement) }
         ensures { Reads (spec.statement self.now.inside tokens.old) result tokens.new }
     {
@@ -42,7 +42,7 @@ impl<F: Fn(Global, &mut Tokens<'_>, usize) -> Result<Stmt, Refusal>> Blocks<F> {
         &self,
         tokens: &mut Tokens<'_>,
         mut found: Items<Stmt>,
-    ) -> Result<Items<Stmt>, Refusal>
+    ) -> Result<Items<Stmt>, SyntaxErr>
         requires { ReadsStatement self.now.inside (F.pre self.now.statement) (F.post self.now.statement) }
         ensures { Reads (turns.repeat spec.in_block (spec.statement self.now.inside) found tokens.old) result tokens.new }
     {
@@ -58,7 +58,7 @@ impl<F: Fn(Global, &mut Tokens<'_>, usize) -> Result<Stmt, Refusal>> Blocks<F> {
 
     /// newline indent Stmt { Stmt } outdent, after the newline
     #[tactic(auto, unfolding(bq_grammar::specs::ReadingStatements::block))]
-    fn block(&self, tokens: &mut Tokens<'_>) -> Result<Items<Stmt>, Refusal>
+    fn block(&self, tokens: &mut Tokens<'_>) -> Result<Items<Stmt>, SyntaxErr>
         requires { ReadsStatement self.now.inside (F.pre self.now.statement) (F.post self.now.statement) }
         ensures { Reads (spec.block self.now.depth (spec.statement self.now.inside) tokens.old) result tokens.new }
     {
@@ -70,7 +70,7 @@ impl<F: Fn(Global, &mut Tokens<'_>, usize) -> Result<Stmt, Refusal>> Blocks<F> {
 
     /// Suite = newline indent Stmt { Stmt } outdent | Simple
     #[tactic(auto, unfolding(bq_grammar::specs::ReadingStatements::suite))]
-    fn suite(&self, tokens: &mut Tokens<'_>) -> Result<Items<Stmt>, Refusal>
+    fn suite(&self, tokens: &mut Tokens<'_>) -> Result<Items<Stmt>, SyntaxErr>
         requires { ReadsStatement self.now.inside (F.pre self.now.statement) (F.post self.now.statement) }
         ensures { Reads (spec.suite self.now.depth (spec.statement self.now.inside) tokens.old) result tokens.new }
     {
@@ -86,7 +86,7 @@ impl<F: Fn(Global, &mut Tokens<'_>, usize) -> Result<Stmt, Refusal>> Blocks<F> {
         &self,
         tokens: &mut Tokens<'_>,
         value: T,
-    ) -> Result<(T, Items<Stmt>), Refusal>
+    ) -> Result<(T, Items<Stmt>), SyntaxErr>
         requires { ReadsStatement self.now.inside (F.pre self.now.statement) (F.post self.now.statement) }
         ensures { Reads (and_then (turns.expect kind.Colon tokens.old) (λ _ us. and_then (spec.suite self.now.depth (spec.statement self.now.inside) us) (λ xs rest. Ok ((value, xs), rest)))) result tokens.new }
     {
@@ -97,7 +97,7 @@ impl<F: Fn(Global, &mut Tokens<'_>, usize) -> Result<Stmt, Refusal>> Blocks<F> {
 
     /// Branch = Test ':' Suite
     #[tactic(auto, unfolding(bq_grammar::specs::ReadingStatements::branch))]
-    fn branch(&self, tokens: &mut Tokens<'_>) -> Result<Branch, Refusal>
+    fn branch(&self, tokens: &mut Tokens<'_>) -> Result<Branch, SyntaxErr>
         requires { ReadsStatement self.now.inside (F.pre self.now.statement) (F.post self.now.statement) }
         ensures { Reads (spec.branch self.now.depth (spec.statement self.now.inside) tokens.old) result tokens.new }
     {
@@ -108,7 +108,7 @@ impl<F: Fn(Global, &mut Tokens<'_>, usize) -> Result<Stmt, Refusal>> Blocks<F> {
 
     /// 'elif' Branch
     #[tactic(auto, unfolding(bq_grammar::specs::ReadingStatements::elif))]
-    fn elif(&self, tokens: &mut Tokens<'_>) -> Result<Branch, Refusal>
+    fn elif(&self, tokens: &mut Tokens<'_>) -> Result<Branch, SyntaxErr>
         requires { ReadsStatement self.now.inside (F.pre self.now.statement) (F.post self.now.statement) }
         ensures { Reads (spec.elif self.now.depth (spec.statement self.now.inside) tokens.old) result tokens.new }
     {
@@ -122,7 +122,7 @@ impl<F: Fn(Global, &mut Tokens<'_>, usize) -> Result<Stmt, Refusal>> Blocks<F> {
         &self,
         tokens: &mut Tokens<'_>,
         mut found: Items<Branch>,
-    ) -> Result<Items<Branch>, Refusal>
+    ) -> Result<Items<Branch>, SyntaxErr>
         requires { ReadsStatement self.now.inside (F.pre self.now.statement) (F.post self.now.statement) }
         ensures { Reads (turns.repeat (turns.sees kind.Elif) (spec.elif self.now.depth (spec.statement self.now.inside)) found tokens.old) result tokens.new }
     {
@@ -138,7 +138,7 @@ impl<F: Fn(Global, &mut Tokens<'_>, usize) -> Result<Stmt, Refusal>> Blocks<F> {
 
     /// [ 'else' ':' Suite ]
     #[tactic(auto, unfolding(bq_grammar::specs::ReadingStatements::else_suite))]
-    fn else_suite(&self, tokens: &mut Tokens<'_>) -> Result<Items<Stmt>, Refusal>
+    fn else_suite(&self, tokens: &mut Tokens<'_>) -> Result<Items<Stmt>, SyntaxErr>
         requires { ReadsStatement self.now.inside (F.pre self.now.statement) (F.post self.now.statement) }
         ensures { Reads (spec.else_suite self.now.depth (spec.statement self.now.inside) tokens.old) result tokens.new }
     {
@@ -151,7 +151,7 @@ impl<F: Fn(Global, &mut Tokens<'_>, usize) -> Result<Stmt, Refusal>> Blocks<F> {
 
     /// 'if' Branch { 'elif' Branch } [ 'else' ':' Suite ], after 'if'
     #[tactic(auto, unfolding(bq_grammar::specs::ReadingStatements::if_stmt))]
-    fn if_stmt(&self, tokens: &mut Tokens<'_>) -> Result<Stmt, Refusal>
+    fn if_stmt(&self, tokens: &mut Tokens<'_>) -> Result<Stmt, SyntaxErr>
         requires { ReadsStatement self.now.inside (F.pre self.now.statement) (F.post self.now.statement) }
         ensures { Reads (spec.if_stmt self.now.depth (spec.statement self.now.inside) tokens.old) result tokens.new }
     {
@@ -161,7 +161,7 @@ impl<F: Fn(Global, &mut Tokens<'_>, usize) -> Result<Stmt, Refusal>> Blocks<F> {
     }
 
     /// The value, and 'in' Expr
-    fn iterated<T: Drop>(&self, tokens: &mut Tokens<'_>, value: T) -> Result<(T, Expr), Refusal>
+    fn iterated<T: Drop>(&self, tokens: &mut Tokens<'_>, value: T) -> Result<(T, Expr), SyntaxErr>
         ensures { Reads (and_then (turns.expect kind.In tokens.old) (λ _ us. and_then (spec.expr_to self.now.depth us) (λ x rest. Ok ((value, x), rest)))) result tokens.new }
     {
         tokens.expect(TokenKind::In)?;
@@ -171,7 +171,7 @@ impl<F: Fn(Global, &mut Tokens<'_>, usize) -> Result<Stmt, Refusal>> Blocks<F> {
 
     /// 'for' Vars 'in' Expr ':' Suite, after 'for'
     #[tactic(auto, unfolding(bq_grammar::specs::ReadingStatements::for_stmt))]
-    fn for_stmt(&self, tokens: &mut Tokens<'_>) -> Result<Stmt, Refusal>
+    fn for_stmt(&self, tokens: &mut Tokens<'_>) -> Result<Stmt, SyntaxErr>
         requires { ReadsStatement self.now.inside (F.pre self.now.statement) (F.post self.now.statement) }
         ensures { Reads (spec.for_stmt self.now.depth (spec.statement self.now.inside) tokens.old) result tokens.new }
     {
@@ -182,7 +182,7 @@ impl<F: Fn(Global, &mut Tokens<'_>, usize) -> Result<Stmt, Refusal>> Blocks<F> {
     }
 
     /// identifier '(' Parameters
-    fn signature(&self, tokens: &mut Tokens<'_>) -> Result<(Identifier, Items<Parameter>), Refusal>
+    fn signature(&self, tokens: &mut Tokens<'_>) -> Result<(Identifier, Items<Parameter>), SyntaxErr>
         ensures { Reads (and_then (reading.word tokens.old) (λ n mid. and_then (turns.expect kind.LeftParen mid) (λ _ us. and_then (spec.parameters self.now.depth us) (λ ps rest. Ok ((n, ps), rest))))) result tokens.new }
     {
         let name = tokens.word(self.alloc)?;
@@ -193,7 +193,7 @@ impl<F: Fn(Global, &mut Tokens<'_>, usize) -> Result<Stmt, Refusal>> Blocks<F> {
 
     /// 'def' identifier '(' Parameters ':' Suite, after 'def'
     #[tactic(auto, unfolding(bq_grammar::specs::ReadingStatements::def_stmt))]
-    fn def_stmt(&self, tokens: &mut Tokens<'_>) -> Result<Stmt, Refusal>
+    fn def_stmt(&self, tokens: &mut Tokens<'_>) -> Result<Stmt, SyntaxErr>
         requires { ReadsStatement self.now.inside (F.pre self.now.statement) (F.post self.now.statement) }
         ensures { Reads (spec.def_stmt self.now.depth (spec.statement self.now.inside) tokens.old) result tokens.new }
     {
@@ -204,7 +204,7 @@ impl<F: Fn(Global, &mut Tokens<'_>, usize) -> Result<Stmt, Refusal>> Blocks<F> {
 
     /// Simple, as a statement
     #[tactic(auto, unfolding(bq_grammar::specs::ReadingStatements::simple_stmt))]
-    fn simple_stmt(&self, tokens: &mut Tokens<'_>) -> Result<Stmt, Refusal>
+    fn simple_stmt(&self, tokens: &mut Tokens<'_>) -> Result<Stmt, SyntaxErr>
         requires { ReadsStatement self.now.inside (F.pre self.now.statement) (F.post self.now.statement) }
         ensures { Reads (spec.simple_stmt self.now.depth (spec.statement self.now.inside) tokens.old) result tokens.new }
     {
@@ -213,7 +213,7 @@ impl<F: Fn(Global, &mut Tokens<'_>, usize) -> Result<Stmt, Refusal>> Blocks<F> {
 
     /// Stmt = If | For | Def | Simple
     #[tactic(auto, unfolding(bq_grammar::specs::ReadingStatements::stmt))]
-    pub fn stmt(&self, tokens: &mut Tokens<'_>) -> Result<Stmt, Refusal>
+    pub fn stmt(&self, tokens: &mut Tokens<'_>) -> Result<Stmt, SyntaxErr>
         requires { ReadsStatement self.now.inside (F.pre self.now.statement) (F.post self.now.statement) }
         ensures { Reads (spec.stmt self.now.depth (spec.statement self.now.inside) tokens.old) result tokens.new }
     {
@@ -231,7 +231,7 @@ impl<F: Fn(Global, &mut Tokens<'_>, usize) -> Result<Stmt, Refusal>> Blocks<F> {
                 self.def_stmt(tokens)
             }
             Some(_) => self.simple_stmt(tokens),
-            None => Err(Refusal::Syntax),
+            None => Err(SyntaxErr::Syntax),
         }
     }
 }

@@ -7,7 +7,7 @@ ghost use Rattle.bq_grammar.specs.ReadingStatements as spec;
 ghost use Rattle.bq_source.specs.declared.token.TokenKind.TheVariants as kind;
 
 use bq_expression::closed;
-use bq_grammar::{Identifier, Load, LoadClause, Refusal, SmallKind, is_identifier};
+use bq_grammar::{Identifier, Load, LoadClause, SyntaxErr, SmallKind, is_identifier};
 use bq_source::{Bytes, TokenKind};
 use bq_tokens::Tokens;
 use sqlite_items::Items;
@@ -15,31 +15,31 @@ use std::alloc::Global;
 
 /// A string, and what it stands for.
 #[tactic(auto, using(crate::proofs::Strings::string_seen, crate::proofs::Strings::text_seen, crate::proofs::Strings::text_unseen))]
-fn text(alloc: Global, tokens: &mut Tokens<'_>) -> Result<Bytes, Refusal>
+fn text(alloc: Global, tokens: &mut Tokens<'_>) -> Result<Bytes, SyntaxErr>
     ensures { Reads (spec.text tokens.old) result tokens.new }
 {
     if !tokens.sees(TokenKind::String) {
-        return Err(Refusal::Syntax);
+        return Err(SyntaxErr::Syntax);
     }
     tokens.text(alloc)
 }
 
 /// A string that is a name.
 #[tactic(auto, unfolding(bq_grammar::specs::ReadingStatements::symbol))]
-fn symbol(alloc: Global, tokens: &mut Tokens<'_>) -> Result<Bytes, Refusal>
+fn symbol(alloc: Global, tokens: &mut Tokens<'_>) -> Result<Bytes, SyntaxErr>
     ensures { Reads (spec.symbol tokens.old) result tokens.new }
 {
     let name = text(alloc, tokens)?;
     if is_identifier(name.as_slice()) {
         Ok(name)
     } else {
-        Err(Refusal::Syntax)
+        Err(SyntaxErr::Syntax)
     }
 }
 
 /// LoadClause = [ identifier '=' ] string
 #[tactic(auto, unfolding(bq_grammar::specs::ReadingStatements::load_clause))]
-fn load_clause(alloc: Global, tokens: &mut Tokens<'_>) -> Result<LoadClause, Refusal>
+fn load_clause(alloc: Global, tokens: &mut Tokens<'_>) -> Result<LoadClause, SyntaxErr>
     ensures { Reads (spec.load_clause tokens.old) result tokens.new }
 {
     if tokens.sees(TokenKind::String) {
@@ -59,7 +59,7 @@ fn load_clause(alloc: Global, tokens: &mut Tokens<'_>) -> Result<LoadClause, Ref
 
 /// [ LoadClause { ',' LoadClause } [','] ] ')'
 #[tactic(auto, using(crate::proofs::LoopTurns::turns_more, crate::proofs::LoopTurns::turns_over), unfolding(bq_grammar::specs::Turns::listed_from))]
-fn load_clauses(alloc: Global, tokens: &mut Tokens<'_>) -> Result<Items<LoadClause>, Refusal>
+fn load_clauses(alloc: Global, tokens: &mut Tokens<'_>) -> Result<Items<LoadClause>, SyntaxErr>
     ensures { Reads (turns.listed_from kind.RightParen spec.load_clause [] tokens.old) result tokens.new }
 {
     let mut found = Items::new(alloc);
@@ -73,12 +73,12 @@ fn load_clauses(alloc: Global, tokens: &mut Tokens<'_>) -> Result<Items<LoadClau
             return closed(tokens, TokenKind::RightParen, found);
         }
     }
-    Err(Refusal::Syntax)
+    Err(SyntaxErr::Syntax)
 }
 
 /// Load = 'load' '(' string { ',' LoadClause } [','] ')', after 'load'
 #[tactic(auto, unfolding(bq_grammar::specs::ReadingStatements::load))]
-pub fn load(alloc: Global, tokens: &mut Tokens<'_>) -> Result<SmallKind, Refusal>
+pub fn load(alloc: Global, tokens: &mut Tokens<'_>) -> Result<SmallKind, SyntaxErr>
     ensures { Reads (spec.load tokens.old) result tokens.new }
 {
     tokens.expect(TokenKind::LeftParen)?;

@@ -2,7 +2,7 @@
 
 ghost use Rattle.std.specs.Prelude.{◌≡◌, true, false, Ok, MatchResult};
 ghost use Rattle.bq_grammar.specs.declared.parameters.ParameterKind.TheVariants as parameter_kind;
-ghost use Rattle.bq_grammar.specs.declared.refusal.Refusal.TheVariants.{Syntax};
+ghost use Rattle.bq_grammar.specs.declared.refusal.SyntaxErr.TheVariants.{Syntax};
 ghost use Rattle.bq_grammar.specs.declared.tree.Nested.TheVariants.{Test};
 ghost use Rattle.bq_grammar.specs.Turns.{Reads, ◌>>=◌ as and_then};
 ghost use Rattle.bq_grammar.specs.Turns as turns;
@@ -12,7 +12,7 @@ ghost use Rattle.bq_grammar.specs.ReadingStatements as spec;
 ghost use Rattle.bq_source.specs.declared.token.TokenKind.TheVariants as kind;
 
 use bq_expression::{closed, phrase};
-use bq_grammar::{AllowedParameters, Expr, Nested, Parameter, ParameterKind, Refusal};
+use bq_grammar::{AllowedParameters, Expr, Nested, Parameter, ParameterKind, SyntaxErr};
 use bq_source::TokenKind;
 use bq_tokens::Tokens;
 use sqlite_items::Items;
@@ -92,7 +92,7 @@ fn with_default<T: Drop>(
     tokens: &mut Tokens<'_>,
     depth: usize,
     value: T,
-) -> Result<(T, Expr), Refusal>
+) -> Result<(T, Expr), SyntaxErr>
     ensures { Reads (and_then (turns.expect kind.Assign tokens.old) (λ _ us. and_then (reading.phrase depth Test us) (λ x rest. Ok ((value, x), rest)))) result tokens.new }
 {
     tokens.expect(TokenKind::Assign)?;
@@ -105,7 +105,7 @@ fn default_parameter(
     alloc: Global,
     tokens: &mut Tokens<'_>,
     depth: usize,
-) -> Result<Parameter, Refusal>
+) -> Result<Parameter, SyntaxErr>
     ensures { Reads (spec.parameter_by depth parameter_kind.Default tokens.old) result tokens.new }
 {
     let name = tokens.word(alloc)?;
@@ -119,7 +119,7 @@ fn parameter_by(
     tokens: &mut Tokens<'_>,
     depth: usize,
     kind: ParameterKind,
-) -> Result<Parameter, Refusal>
+) -> Result<Parameter, SyntaxErr>
     ensures { Reads (spec.parameter_by depth kind tokens.old) result tokens.new }
 {
     match kind {
@@ -147,24 +147,24 @@ fn parameter(
     tokens: &mut Tokens<'_>,
     depth: usize,
     allowed: AllowedParameters,
-) -> Result<(Parameter, AllowedParameters), Refusal>
+) -> Result<(Parameter, AllowedParameters), SyntaxErr>
     ensures { Reads (spec.parameter depth allowed tokens.old) result tokens.new }
 {
     let kind = parameter_kind(tokens);
     match parameters_after(allowed, kind) {
         Some(after) => Ok((parameter_by(alloc, tokens, depth, kind)?, after)),
-        None => Err(Refusal::Syntax),
+        None => Err(SyntaxErr::Syntax),
     }
 }
 
 /// The parameters, where they may end.
-fn ended(found: Items<Parameter>, allowed: AllowedParameters) -> Result<Items<Parameter>, Refusal>
+fn ended(found: Items<Parameter>, allowed: AllowedParameters) -> Result<Items<Parameter>, SyntaxErr>
     ensures { MatchResult result (λ all. (grammar.may_end allowed ≡ true) × (all ≡ found)) (λ why. (grammar.may_end allowed ≡ false) × (why ≡ Syntax)) }
 {
     if may_end(allowed) {
         Ok(found)
     } else {
-        Err(Refusal::Syntax)
+        Err(SyntaxErr::Syntax)
     }
 }
 
@@ -174,7 +174,7 @@ pub fn parameters(
     alloc: Global,
     tokens: &mut Tokens<'_>,
     depth: usize,
-) -> Result<Items<Parameter>, Refusal>
+) -> Result<Items<Parameter>, SyntaxErr>
     ensures { Reads (spec.parameters depth tokens.old) result tokens.new }
 {
     let mut found = Items::new(alloc);
@@ -192,5 +192,5 @@ pub fn parameters(
             return ended(found, allowed);
         }
     }
-    Err(Refusal::Syntax)
+    Err(SyntaxErr::Syntax)
 }

@@ -7,7 +7,7 @@ ghost use Rattle.bq_grammar.specs.ReadingStatements as spec;
 use crate::loads::load;
 use crate::targets::{augmented_target, refused, target};
 use bq_expression::{closed, expr_list};
-use bq_grammar::{Expr, Refusal, SmallKind, SmallStmt};
+use bq_grammar::{Expr, SyntaxErr, SmallKind, SmallStmt};
 use bq_source::TokenKind;
 use bq_tokens::Tokens;
 use sqlite_items::Items;
@@ -15,7 +15,7 @@ use std::alloc::Global;
 
 /// 'return' [Expr], after 'return'
 #[tactic(auto, unfolding(bq_grammar::specs::ReadingStatements::returned))]
-fn returned(alloc: Global, tokens: &mut Tokens<'_>, depth: usize) -> Result<SmallKind, Refusal>
+fn returned(alloc: Global, tokens: &mut Tokens<'_>, depth: usize) -> Result<SmallKind, SyntaxErr>
     ensures { Reads (spec.returned depth tokens.old) result tokens.new }
 {
     if tokens.sees(TokenKind::Newline) || tokens.sees(TokenKind::Semicolon) {
@@ -30,7 +30,7 @@ fn assigned(
     tokens: &mut Tokens<'_>,
     depth: usize,
     left: Expr,
-) -> Result<SmallKind, Refusal>
+) -> Result<SmallKind, SyntaxErr>
     ensures { Reads (spec.assigned depth left tokens.old) result tokens.new }
 {
     let target = target(alloc, depth, left)?;
@@ -43,7 +43,7 @@ fn augmented(
     tokens: &mut Tokens<'_>,
     depth: usize,
     left: Expr,
-) -> Result<SmallKind, Refusal>
+) -> Result<SmallKind, SyntaxErr>
     ensures { Reads (spec.augmented_as depth false left tokens.old) result tokens.new }
 {
     let target = augmented_target(alloc, left)?;
@@ -53,7 +53,7 @@ fn augmented(
 
 /// Target '=' Expr | ( identifier | Primary '[' Expr ']' ) Aug Expr | Expr
 #[tactic(auto, unfolding(bq_grammar::specs::ReadingStatements::expression))]
-fn expression(alloc: Global, tokens: &mut Tokens<'_>, depth: usize) -> Result<SmallKind, Refusal>
+fn expression(alloc: Global, tokens: &mut Tokens<'_>, depth: usize) -> Result<SmallKind, SyntaxErr>
     ensures { Reads (spec.expression depth tokens.old) result tokens.new }
 {
     let before = tokens.here();
@@ -73,7 +73,7 @@ fn expression(alloc: Global, tokens: &mut Tokens<'_>, depth: usize) -> Result<Sm
 
 /// SmallKind = 'return' [Expr] | 'break' | 'continue' | 'pass' | Load | Target '=' Expr | .. | Expr
 #[tactic(auto, unfolding(bq_grammar::specs::ReadingStatements::small_kind))]
-fn small_kind(alloc: Global, tokens: &mut Tokens<'_>, depth: usize) -> Result<SmallKind, Refusal>
+fn small_kind(alloc: Global, tokens: &mut Tokens<'_>, depth: usize) -> Result<SmallKind, SyntaxErr>
     ensures { Reads (spec.small_kind depth tokens.old) result tokens.new }
 {
     match tokens.peek() {
@@ -98,13 +98,13 @@ fn small_kind(alloc: Global, tokens: &mut Tokens<'_>, depth: usize) -> Result<Sm
             load(alloc, tokens)
         }
         Some(_) => expression(alloc, tokens, depth),
-        None => Err(Refusal::Syntax),
+        None => Err(SyntaxErr::Syntax),
     }
 }
 
 /// A small statement, with the line on which it begins.
 #[tactic(auto, unfolding(bq_grammar::specs::ReadingStatements::small_stmt))]
-fn small_stmt(alloc: Global, tokens: &mut Tokens<'_>, depth: usize) -> Result<SmallStmt, Refusal>
+fn small_stmt(alloc: Global, tokens: &mut Tokens<'_>, depth: usize) -> Result<SmallStmt, SyntaxErr>
     ensures { Reads (spec.small_stmt depth tokens.old) result tokens.new }
 {
     let line = tokens.line();
@@ -120,7 +120,7 @@ pub fn simple(
     alloc: Global,
     tokens: &mut Tokens<'_>,
     depth: usize,
-) -> Result<Items<SmallStmt>, Refusal>
+) -> Result<Items<SmallStmt>, SyntaxErr>
     ensures { Reads (spec.simple depth tokens.old) result tokens.new }
 {
     let mut found = Items::new(alloc);
@@ -134,5 +134,5 @@ pub fn simple(
             return Ok(found);
         }
     }
-    Err(Refusal::Syntax)
+    Err(SyntaxErr::Syntax)
 }

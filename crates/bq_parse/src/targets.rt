@@ -1,14 +1,14 @@
 //! What is assigned to: the target that an expression is.
 
 ghost use Rattle.std.specs.Prelude.{◌≡◌, ◌≢◌, suc, [], ◌∷◌, reverse, Err, IfOk, MatchResult};
-ghost use Rattle.bq_grammar.specs.declared.refusal.Refusal.TheVariants.{Syntax};
+ghost use Rattle.bq_grammar.specs.declared.refusal.SyntaxErr.TheVariants.{Syntax};
 ghost use Rattle.bq_grammar.specs.Grammar as grammar;
 ghost use Rattle.bq_grammar.specs.Targets as spec;
 ghost use Rattle.bq_grammar.specs.declared.tree.Expr.{out-Expr};
 ghost use Rattle.bq_grammar.specs.declared.tree.Suffix.{out-Suffix};
 ghost use Rattle.bq_parse.specs.Makes.{Makes, MakesTarget};
 
-use bq_grammar::{Expr, Refusal, Suffix, Target};
+use bq_grammar::{Expr, SyntaxErr, Suffix, AssignTarget};
 use sqlite_items::{Boxed, Items};
 use std::alloc::{AllocError, Global};
 
@@ -44,12 +44,12 @@ fn indexed_by(
     operand: Boxed<Expr>,
     suffixes: Items<Suffix>,
     last: Suffix,
-) -> Result<Target, Refusal>
+) -> Result<AssignTarget, SyntaxErr>
     ensures { Makes (spec.index_of (grammar.primary_of operand suffixes) (out-Suffix last)) result }
 {
     match last {
-        Suffix::Index(index) => Ok(Target::Index(primary_of(alloc, operand, suffixes)?, index)),
-        _ => Err(Refusal::Syntax),
+        Suffix::Index(index) => Ok(AssignTarget::Index(primary_of(alloc, operand, suffixes)?, index)),
+        _ => Err(SyntaxErr::Syntax),
     }
 }
 
@@ -59,29 +59,29 @@ fn indexed(
     alloc: Global,
     operand: Boxed<Expr>,
     mut suffixes: Items<Suffix>,
-) -> Result<Target, Refusal>
+) -> Result<AssignTarget, SyntaxErr>
     ensures { Makes (spec.indexed_from operand [] suffixes) result }
 {
     match suffixes.pop() {
-        // for the proof: each way out on its own.
+        // PROOF: each way out on its own.
         Some(last) => Ok(indexed_by(alloc, operand, suffixes, last)?),
-        None => Err(Refusal::Syntax),
+        None => Err(SyntaxErr::Syntax),
     }
 }
 
 /// Lets go of what can't be assigned to. It is a function over any value, since to let go of one is a single step for the proof.
-pub fn refused<T: Drop, A>(_value: T) -> Result<A, Refusal>
+pub fn refused<T: Drop, A>(_value: T) -> Result<A, SyntaxErr>
     ensures { result ≡ Err Syntax }
 {
-    Err(Refusal::Syntax)
+    Err(SyntaxErr::Syntax)
 }
 
 /// The items, at least one.
-fn some<T: Drop>(items: Items<T>) -> Result<Items<T>, Refusal>
+fn some<T: Drop>(items: Items<T>) -> Result<Items<T>, SyntaxErr>
     ensures { MatchResult result (λ xs. (items ≢ []) × (xs ≡ items)) (λ why. (items ≡ []) × (why ≡ Syntax)) }
 {
     if items.is_empty() {
-        return Err(Refusal::Syntax);
+        return Err(SyntaxErr::Syntax);
     }
     Ok(items)
 }
@@ -95,8 +95,8 @@ pub struct Targets<F> {
     target: F,
 }
 
-impl<F: Fn(Global, usize, Expr) -> Result<Target, Refusal>> Targets<F> {
-    fn nested(&self, expr: Expr) -> Result<Target, Refusal>
+impl<F: Fn(Global, usize, Expr) -> Result<AssignTarget, SyntaxErr>> Targets<F> {
+    fn nested(&self, expr: Expr) -> Result<AssignTarget, SyntaxErr>
         requires { MakesTarget self.now.depth (F.pre self.now.target) (F.post self.now.target) }
         ensures { Makes (spec.target_to self.now.depth expr) result }
     {
@@ -105,7 +105,7 @@ impl<F: Fn(Global, usize, Expr) -> Result<Target, Refusal>> Targets<F> {
 
     /// The targets that the expressions are.
     #[tactic(auto, using(crate::proofs::Reversed::reverse_last, crate::proofs::Reversed::reverse_reversed))]
-    fn all(&self, exprs: Items<Expr>) -> Result<Items<Target>, Refusal>
+    fn all(&self, exprs: Items<Expr>) -> Result<Items<AssignTarget>, SyntaxErr>
         requires { MakesTarget self.now.depth (F.pre self.now.target) (F.post self.now.target) }
         ensures { Makes (spec.targets_from (spec.target_to self.now.depth) [] exprs) result }
     {
@@ -117,22 +117,22 @@ impl<F: Fn(Global, usize, Expr) -> Result<Target, Refusal>> Targets<F> {
         Ok(found)
     }
 
-    fn target(&self, expr: Expr) -> Result<Target, Refusal>
+    fn target(&self, expr: Expr) -> Result<AssignTarget, SyntaxErr>
         requires { MakesTarget self.now.depth (F.pre self.now.target) (F.post self.now.target) }
         ensures { Makes (spec.target_by (spec.target_to self.now.depth) (out-Expr expr)) result }
     {
         match expr {
-            Expr::Name(name) => Ok(Target::Name(name)),
+            Expr::Name(name) => Ok(AssignTarget::Name(name)),
             Expr::Primary(operand, suffixes) => indexed(self.alloc, operand, suffixes),
-            Expr::Tuple(exprs) => some(self.all(exprs)?).map(Target::Tuple),
-            Expr::List(exprs) => some(self.all(exprs)?).map(Target::List),
+            Expr::Tuple(exprs) => some(self.all(exprs)?).map(AssignTarget::Tuple),
+            Expr::List(exprs) => some(self.all(exprs)?).map(AssignTarget::List),
             other => refused(other),
         }
     }
 }
 
 /// The target that an expression is, which holds so many lists and tuples in one another less one.
-fn target_to(alloc: Global, depth: usize, expr: Expr) -> Result<Target, Refusal>
+fn target_to(alloc: Global, depth: usize, expr: Expr) -> Result<AssignTarget, SyntaxErr>
     ensures { Makes (spec.target_to depth expr) result }
 {
     if depth == 0 {
@@ -148,7 +148,7 @@ fn target_to(alloc: Global, depth: usize, expr: Expr) -> Result<Target, Refusal>
 
 /// The target that an expression is, which holds so many lists and tuples in one another.
 #[tactic(auto, unfolding(bq_grammar::specs::Targets::target_to))]
-pub fn target(alloc: Global, depth: usize, expr: Expr) -> Result<Target, Refusal>
+pub fn target(alloc: Global, depth: usize, expr: Expr) -> Result<AssignTarget, SyntaxErr>
     ensures { Makes (spec.target_to (suc depth) expr) result }
 {
     Targets {
@@ -161,11 +161,11 @@ pub fn target(alloc: Global, depth: usize, expr: Expr) -> Result<Target, Refusal
 
 /// What an augmented assignment may assign to.
 #[tactic(auto, unfolding(bq_grammar::specs::Targets::augmented_target))]
-pub fn augmented_target(alloc: Global, expr: Expr) -> Result<Target, Refusal>
+pub fn augmented_target(alloc: Global, expr: Expr) -> Result<AssignTarget, SyntaxErr>
     ensures { Makes (spec.augmented_target expr) result }
 {
     match expr {
-        Expr::Name(name) => Ok(Target::Name(name)),
+        Expr::Name(name) => Ok(AssignTarget::Name(name)),
         Expr::Primary(operand, suffixes) => indexed(alloc, operand, suffixes),
         other => refused(other),
     }

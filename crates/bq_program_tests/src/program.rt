@@ -5,7 +5,7 @@ use bq_front::code_of;
 use bq_grammar::FileKind;
 use bq_host::{BuiltIns, Host};
 use bq_label::{PackageId, Packages};
-use bq_module::{Evaluated, Outcome, ResolvedModule, eval_module};
+use bq_module::{EvaluatedFile, FileOutcome, ResolvedModule, eval_module};
 use bq_package::BuildHost;
 use bq_scope::{LoadStmt, Resolved, Universe};
 use bq_seed::Seed;
@@ -57,11 +57,11 @@ fn add_prints(whole: &mut Vec<u8>, prints: &[Bytes]) -> Result<(), AllocError> {
 pub fn add_outcome(
     alloc: Global,
     whole: &mut Vec<u8>,
-    outcome: &Outcome,
+    outcome: &FileOutcome,
 ) -> Result<(), AllocError> {
     match outcome {
-        Outcome::Module(_, prints) => add_prints(whole, prints),
-        Outcome::Failed(fault, prints) => {
+        FileOutcome::Module(_, prints) => add_prints(whole, prints),
+        FileOutcome::Failed(fault, prints) => {
             add_prints(whole, prints)?;
             add_fault(alloc, whole, fault)
         }
@@ -89,7 +89,7 @@ fn alone<H: Host + Drop>(
     setting: Setting<'_>,
     file: &Resolved,
     host: H,
-) -> Result<Evaluated<H>, AllocError> {
+) -> Result<EvaluatedFile<H>, AllocError> {
     let module = ResolvedModule {
         number: 0,
         file,
@@ -159,7 +159,7 @@ fn above<H: Host + Drop>(
     loaded: (Resolved, Frozen),
     file: &Resolved,
     host: H,
-) -> Result<Evaluated<H>, AllocError> {
+) -> Result<EvaluatedFile<H>, AllocError> {
     let alloc = setting.alloc;
     let (below, frozen) = loaded;
     let imports = imports_of(alloc, &below, &frozen, file.loads.as_slice())?;
@@ -189,7 +189,7 @@ fn run_alone<H: Host + Drop>(
     file: &Resolved,
     host: H,
     whole: &mut Vec<u8>,
-) -> Result<Evaluated<H>, AllocError> {
+) -> Result<EvaluatedFile<H>, AllocError> {
     let evaluated = alone(setting, file, host)?;
     add_outcome(setting.alloc, whole, &evaluated.outcome)?;
     Ok(evaluated)
@@ -202,7 +202,7 @@ fn run_one<H: Host + Drop>(
     text: &[u8],
     host: H,
     whole: &mut Vec<u8>,
-) -> Result<Option<Evaluated<H>>, AllocError> {
+) -> Result<Option<EvaluatedFile<H>>, AllocError> {
     match file_of(setting, kind, text) {
         Ok(file) => Ok(Some(run_alone(setting, &file, host, whole)?)),
         Err(error) => {
@@ -219,7 +219,7 @@ fn run_over<H: Host + Drop>(
     file: &Resolved,
     host: H,
     whole: &mut Vec<u8>,
-) -> Result<Evaluated<H>, AllocError> {
+) -> Result<EvaluatedFile<H>, AllocError> {
     let evaluated = above(setting, loaded, file, host)?;
     add_outcome(setting.alloc, whole, &evaluated.outcome)?;
     Ok(evaluated)
@@ -232,7 +232,7 @@ fn run_above<H: Host + Drop>(
     text: &[u8],
     host: H,
     whole: &mut Vec<u8>,
-) -> Result<Option<Evaluated<H>>, AllocError> {
+) -> Result<Option<EvaluatedFile<H>>, AllocError> {
     match file_of(setting, FileKind::Build, text) {
         Ok(file) => Ok(Some(run_over(setting, loaded, &file, host, whole)?)),
         Err(error) => {
@@ -243,10 +243,10 @@ fn run_above<H: Host + Drop>(
 }
 
 /// A file and the module that it is, if it is one.
-fn with_file(file: Resolved, outcome: Outcome) -> Option<(Resolved, Frozen)> {
+fn with_file(file: Resolved, outcome: FileOutcome) -> Option<(Resolved, Frozen)> {
     match outcome {
-        Outcome::Module(frozen, _prints) => Some((file, frozen)),
-        Outcome::Failed(_fault, _prints) => None,
+        FileOutcome::Module(frozen, _prints) => Some((file, frozen)),
+        FileOutcome::Failed(_fault, _prints) => None,
     }
 }
 
@@ -255,10 +255,10 @@ fn outcome_of(
     setting: Setting<'_>,
     file: &Resolved,
     whole: &mut Vec<u8>,
-) -> Result<Outcome, AllocError> {
+) -> Result<FileOutcome, AllocError> {
     let host = BuildHost::outside(setting.alloc, setting.own, setting.packages)?;
     let evaluated = run_alone(setting, file, host, whole)?;
-    let Evaluated {
+    let EvaluatedFile {
         outcome,
         host: _host,
     } = evaluated;
@@ -290,7 +290,7 @@ fn run_two<H: Host + Drop>(
     build: &[u8],
     host: H,
     whole: &mut Vec<u8>,
-) -> Result<Option<Evaluated<H>>, AllocError> {
+) -> Result<Option<EvaluatedFile<H>>, AllocError> {
     match run_below(setting, bzl, whole)? {
         Some(loaded) => run_above(setting, loaded, build, host, whole),
         None => Ok(None),
@@ -317,7 +317,7 @@ pub fn run_chunk<H: Host + Drop>(
     chunk: &[u8],
     host: H,
     whole: &mut Vec<u8>,
-) -> Result<Option<Evaluated<H>>, AllocError> {
+) -> Result<Option<EvaluatedFile<H>>, AllocError> {
     match files_of(chunk) {
         (Some(bzl), build) => run_two(setting, bzl, build, host, whole),
         (None, text) => run_one(setting, kind, text, host, whole),

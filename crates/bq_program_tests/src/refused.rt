@@ -3,7 +3,7 @@ ghost use Rattle.std.specs.Prelude.{◌<◌, ◌≤◌, Ok};
 
 use bq_board::{Graph, PlanErr};
 use bq_load_order::{Evaluate, Unwatched, Watch};
-use bq_workers::{MAX_WORKERS, Pool, outcomes_by_workers};
+use bq_workers::{MAX_WORKERS, WorkerPool, outcomes_by_workers};
 use std::alloc::{AllocError, Global};
 use std::sync::atomic::{AtomicBool, Ordering};
 use std::sync::{Arc, Wait};
@@ -65,7 +65,7 @@ fn are_refused<R: Threads + Wait + Sync>(
         refused: AtomicBool::new(false),
     };
     let graph = Graph::new(no_loads(alloc, 60)?)?;
-    let (pool, seats) = Pool::open(alloc, refusing, graph, workers)?;
+    let (pool, seats) = WorkerPool::open(alloc, refusing, graph, workers)?;
     let found = outcomes_by_workers(rt, alloc, &pool, seats, &Unwatched);
     Ok(found.is_err())
 }

@@ -4,9 +4,9 @@ ghost use Rattle.bq_program_tests.specs.Mixing.{is_faulty, mixed};
 
 use crate::random::random_rows;
 use bq_board::{Graph, PlanErr};
-use bq_load_order::{Evaluate, Shared, Unwatched, Watch, outcomes_one_thread};
+use bq_load_order::{Evaluate, SharedOutcome, Unwatched, Watch, outcomes_one_thread};
 use bq_outcome::Outcome;
-use bq_workers::{MAX_WORKERS, Pool, outcomes_by_workers};
+use bq_workers::{MAX_WORKERS, WorkerPool, outcomes_by_workers};
 use std::alloc::{AllocError, Global};
 use std::sync::atomic::{AtomicU64, Ordering};
 use std::sync::{Arc, Wait};
@@ -65,7 +65,7 @@ fn mix(m: u32, imports: &[Arc<u64, Global>]) -> u64 {
     value
 }
 
-fn is_same(a: &Shared<u64, u64>, b: &Shared<u64, u64>) -> bool {
+fn is_same(a: &SharedOutcome<u64, u64>, b: &SharedOutcome<u64, u64>) -> bool {
     match (a, b) {
         (Outcome::Loaded(x), Outcome::Loaded(y)) => **x == **y,
         (Outcome::Faulty(x), Outcome::Faulty(y)) => **x == **y,
@@ -76,7 +76,7 @@ fn is_same(a: &Shared<u64, u64>, b: &Shared<u64, u64>) -> bool {
     }
 }
 
-fn are_same(a: &[Shared<u64, u64>], b: &[Shared<u64, u64>]) -> bool {
+fn are_same(a: &[SharedOutcome<u64, u64>], b: &[SharedOutcome<u64, u64>]) -> bool {
     if a.len() != b.len() {
         return false;
     }
@@ -100,7 +100,7 @@ fn gives_the_same<R: Threads + Wait + Sync>(
 {
     let one = new_mixing();
     let wanted = outcomes_one_thread(alloc, &one, &graph, &Unwatched)?;
-    let (pool, seats) = Pool::open(alloc, new_mixing(), graph, workers)?;
+    let (pool, seats) = WorkerPool::open(alloc, new_mixing(), graph, workers)?;
     let found = outcomes_by_workers(rt, alloc, &pool, seats, &Unwatched)?;
     let calls = pool.evaluator().calls.load(Ordering::SeqCst);
     Ok(are_same(&wanted, &found) && one.calls.load(Ordering::SeqCst) == calls)
@@ -172,7 +172,7 @@ fn workers_load_chains_and_cycles(rt: HostRuntime) -> Result<(), PlanErr> {
 #[test]
 fn one_seat_finishes_a_pool(rt: HostRuntime) -> Result<(), PlanErr> {
     let graph = random_graph(rt.alloc(), 3, 60)?;
-    let (pool, mut seats) = Pool::open(rt.alloc(), new_mixing(), graph, 2)?;
+    let (pool, mut seats) = WorkerPool::open(rt.alloc(), new_mixing(), graph, 2)?;
     let mut seat = seats.pop().unwrap();
     let worked = pool.work(&rt, rt.alloc(), &mut seat, &Unwatched)?;
     assert!(rt; worked.all && worked.modules.len() == 60);

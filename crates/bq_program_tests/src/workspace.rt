@@ -8,7 +8,7 @@ ghost use Rattle.bq_target_graph.specs.Order.{PackagesAscend, id_of};
 use crate::program::{Setting, run_chunk};
 use bq_grammar::FileKind;
 use bq_label::{BuildFile, File, Label, PackageId, Packages, Workspace};
-use bq_module::{Evaluated, Outcome};
+use bq_module::{EvaluatedFile, FileOutcome};
 use bq_package::BuildHost;
 use bq_schema::Schema;
 use bq_source::Bytes;
@@ -93,24 +93,24 @@ fn evaluated(
     };
     match run_chunk(setting, FileKind::Build, chunk, host, whole)? {
         Some(evaluated) => {
-            let Evaluated { outcome, host } = evaluated;
+            let EvaluatedFile { outcome, host } = evaluated;
             finished(tree.alloc, &outcome, host)
         }
         None => Ok(None),
     }
 }
 
-fn is_module(outcome: &Outcome) -> bool {
+fn is_module(outcome: &FileOutcome) -> bool {
     match outcome {
-        Outcome::Module(_, _) => true,
-        Outcome::Failed(_, _) => false,
+        FileOutcome::Module(_, _) => true,
+        FileOutcome::Failed(_, _) => false,
     }
 }
 
 /// The package that a host has, where its file ran to its end.
 fn finished(
     alloc: Global,
-    outcome: &Outcome,
+    outcome: &FileOutcome,
     host: BuildHost<'_>,
 ) -> Result<Option<Package>, AllocError> {
     if !is_module(outcome) {

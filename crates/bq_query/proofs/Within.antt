@@ -6,18 +6,18 @@ use Rattle.std.specs.Map.{lookup}
 use Rattle.std.proofs.lemmas.List.{take_more}
 use Rattle.std.proofs.lemmas.List.Sums.{prefix_len-le-length, passes_at_first}
 use Rattle.std.proofs.lemmas.Bool.{cond_both, and_parts, and_from, ltb-true, eqb-true}
-use Rattle.bq_query.specs.declared.token.TokenKind.{TokenKind}
-use Rattle.bq_query.specs.declared.lexis.Piece.{Piece}
-use Rattle.bq_query.specs.declared.lexis.Piece.TheVariants.{End, Blank, Found, Unknown}
+use Rattle.bq_query.specs.declared.token.QueryTokenKind.{QueryTokenKind}
+use Rattle.bq_query.specs.declared.lexis.QueryPiece.{QueryPiece}
+use Rattle.bq_query.specs.declared.lexis.QueryPiece.TheVariants.{End, Blank, Found, Unknown}
 use Rattle.bq_query.specs.Lexis.{is_blank, is_quote, is_word_byte, begins_word, punctuation, word_kind, word_of, word_piece, quoted_of, quoted_piece, other_piece, piece_by, piece_of}
 use Rattle.bq_query.specs.Reading.{IsWithin}
 use Rattle.bq_query.specs.Laws.{IsSpelled, mark, quoted, bare, first_begins}
 
 -- nothing, a blank and what follows, or a token and what follows
-pub data Front : Piece → List ℕ → Type 0 where
+pub data Front : QueryPiece → List ℕ → Type 0 where
   empty : Front End []
   a_blank : {b : ℕ} {bs : List ℕ} → is_blank b ≡ true → Front Blank (b ∷ bs)
-  a_token : {text : List ℕ} {kind : TokenKind} {n : ℕ} → 0 < n → n ≤ length text → IsSpelled kind (take n text) (drop n text) → Front (Found kind n) text
+  a_token : {text : List ℕ} {kind : QueryTokenKind} {n : ℕ} → 0 < n → n ≤ length text → IsSpelled kind (take n text) (drop n text) → Front (Found kind n) text
   nothing : {text : List ℕ} → Front Unknown text
 
 one_more : (m : ℕ) → 1 + m ≡ suc m
@@ -42,7 +42,7 @@ first_of_run : (b : ℕ) (bs : List ℕ) (n : ℕ) → 0 < n → begins_word b �
 first_of_run b bs zero l e = absurd (omega arith)
 first_of_run b bs (suc n) l e = e
 
-word_at : (o : Option TokenKind) (b : ℕ) (bs : List ℕ) (n : ℕ) → 0 < n → n ≡ prefix_len is_word_byte (b ∷ bs) → begins_word b ≡ true → word_kind (take n (b ∷ bs)) ≡ o → Front (word_of o n) (b ∷ bs)
+word_at : (o : Option QueryTokenKind) (b : ℕ) (bs : List ℕ) (n : ℕ) → 0 < n → n ≡ prefix_len is_word_byte (b ∷ bs) → begins_word b ≡ true → word_kind (take n (b ∷ bs)) ≡ o → Front (word_of o n) (b ∷ bs)
 word_at None b bs n l e f g = nothing
 word_at (Some kind) b bs n l e f g =
     a_token l (omega (arith, e, prefix_len-le-length is_word_byte (b ∷ bs)))
@@ -74,11 +74,11 @@ at_quote q bs e =
 
 at_other : (b : ℕ) (bs : List ℕ) → Front (other_piece b bs) (b ∷ bs)
 at_other b bs =
-    let P : Piece → Type 0 = λ p. Front p (b ∷ bs) in
+    let P : QueryPiece → Type 0 = λ p. Front p (b ∷ bs) in
     cond_both (is_quote b) (quoted_piece b bs) (cond (begins_word b) (word_piece (b ∷ bs)) Unknown) P (λ e. at_quote b bs e)
     (λ e. cond_both (begins_word b) (word_piece (b ∷ bs)) Unknown P (λ f. at_word b bs f) (λ f. nothing))
 
-at_mark : (o : Option TokenKind) (b : ℕ) (bs : List ℕ) → lookup (nat_eq b) punctuation ≡ o → Front (piece_by o b bs) (b ∷ bs)
+at_mark : (o : Option QueryTokenKind) (b : ℕ) (bs : List ℕ) → lookup (nat_eq b) punctuation ≡ o → Front (piece_by o b bs) (b ∷ bs)
 at_mark (Some kind) b bs e = a_token (omega arith) (omega arith) (mark e refl)
 at_mark None b bs e = at_other b bs
 
@@ -87,7 +87,7 @@ unfolding piece_of
 front [] = empty
 front (b ∷ bs) = cond_both (is_blank b) Blank (piece_by (lookup (nat_eq b) punctuation) b bs) (λ p. Front p (b ∷ bs)) (λ e. a_blank e) (λ e. at_mark (lookup (nat_eq b) punctuation) b bs refl)
 
-inside : (p : Piece) (text : List ℕ) → Front p text → IsWithin p (length text)
+inside : (p : QueryPiece) (text : List ℕ) → Front p text → IsWithin p (length text)
 inside End text f = tt
 inside Blank text (a_blank e) = omega arith
 inside (Found kind n) text (a_token l h s) = (l, h)

@@ -6,7 +6,7 @@ ghost use Rattle.bq_query.specs.Functions.{function_named, is_left_out, argument
 
 /// A function that can be answered.
 #[derive(Clone, Copy)]
-pub enum Function {
+pub enum QueryFunction {
     Allpaths,
     Attr,
     Deps,
@@ -18,7 +18,7 @@ pub enum Function {
 
 /// What an argument must be.
 #[derive(Clone, Copy)]
-pub enum ArgumentKind {
+pub enum QueryArgumentKind {
     /// Any query.
     Query,
     /// A word that is a regular expression.
@@ -27,14 +27,14 @@ pub enum ArgumentKind {
     Attribute,
 }
 
-const FUNCTIONS: [(&[u8], Function); 7] = [
-    (b"allpaths", Function::Allpaths),
-    (b"attr", Function::Attr),
-    (b"deps", Function::Deps),
-    (b"filter", Function::Filter),
-    (b"kind", Function::Kind),
-    (b"labels", Function::Labels),
-    (b"rdeps", Function::Rdeps),
+const FUNCTIONS: [(&[u8], QueryFunction); 7] = [
+    (b"allpaths", QueryFunction::Allpaths),
+    (b"attr", QueryFunction::Attr),
+    (b"deps", QueryFunction::Deps),
+    (b"filter", QueryFunction::Filter),
+    (b"kind", QueryFunction::Kind),
+    (b"labels", QueryFunction::Labels),
+    (b"rdeps", QueryFunction::Rdeps),
 ];
 
 /// Functions of Bazel's query language that are left out (Q3).
@@ -51,7 +51,7 @@ const LEFT_OUT: [&[u8]; 10] = [
     b"visible",
 ];
 
-fn find_function(mut table: &[(&[u8], Function)], name: &[u8]) -> Option<Function>
+fn find_function(mut table: &[(&[u8], QueryFunction)], name: &[u8]) -> Option<QueryFunction>
     ensures { result ≡ lookup (bytes_eq name.now) (map (λ e. (e.0.now, e.1)) table.entry.now) }
 {
     while let [entry, rest @ ..] = table {
@@ -76,7 +76,7 @@ fn is_among(mut table: &[&[u8]], name: &[u8]) -> bool
 }
 
 /// The function of this name; none for a name that is left out or unknown.
-pub fn function_named(name: &[u8]) -> Option<Function>
+pub fn function_named(name: &[u8]) -> Option<QueryFunction>
     ensures { result ≡ function_named name.now }
 {
     find_function(&FUNCTIONS, name)
@@ -89,25 +89,25 @@ pub fn is_left_out(name: &[u8]) -> bool
     is_among(&LEFT_OUT, name)
 }
 
-impl Function {
+impl QueryFunction {
     /// What its arguments must be, in order.
-    pub fn arguments(self) -> &'static [ArgumentKind]
+    pub fn arguments(self) -> &'static [QueryArgumentKind]
         ensures { result.now ≡ arguments_of self }
     {
         match self {
-            Function::Allpaths => &[ArgumentKind::Query, ArgumentKind::Query],
-            Function::Attr => {
+            QueryFunction::Allpaths => &[QueryArgumentKind::Query, QueryArgumentKind::Query],
+            QueryFunction::Attr => {
                 &[
-                    ArgumentKind::Attribute,
-                    ArgumentKind::Pattern,
-                    ArgumentKind::Query,
+                    QueryArgumentKind::Attribute,
+                    QueryArgumentKind::Pattern,
+                    QueryArgumentKind::Query,
                 ]
             }
-            Function::Deps => &[ArgumentKind::Query],
-            Function::Filter => &[ArgumentKind::Pattern, ArgumentKind::Query],
-            Function::Kind => &[ArgumentKind::Pattern, ArgumentKind::Query],
-            Function::Labels => &[ArgumentKind::Attribute, ArgumentKind::Query],
-            Function::Rdeps => &[ArgumentKind::Query, ArgumentKind::Query],
+            QueryFunction::Deps => &[QueryArgumentKind::Query],
+            QueryFunction::Filter => &[QueryArgumentKind::Pattern, QueryArgumentKind::Query],
+            QueryFunction::Kind => &[QueryArgumentKind::Pattern, QueryArgumentKind::Query],
+            QueryFunction::Labels => &[QueryArgumentKind::Attribute, QueryArgumentKind::Query],
+            QueryFunction::Rdeps => &[QueryArgumentKind::Query, QueryArgumentKind::Query],
         }
     }
 
@@ -116,13 +116,13 @@ impl Function {
         ensures { result ≡ takes_number self }
     {
         match self {
-            Function::Deps => true,
-            Function::Rdeps => true,
-            Function::Allpaths => false,
-            Function::Attr => false,
-            Function::Filter => false,
-            Function::Kind => false,
-            Function::Labels => false,
+            QueryFunction::Deps => true,
+            QueryFunction::Rdeps => true,
+            QueryFunction::Allpaths => false,
+            QueryFunction::Attr => false,
+            QueryFunction::Filter => false,
+            QueryFunction::Kind => false,
+            QueryFunction::Labels => false,
         }
     }
 }

@@ -1,6 +1,6 @@
 //! What the tokens of a text are, in words of the text.
 ghost use Rattle.std.specs.Prelude.{ℕ, List, Some, Option};
-ghost use Rattle.bq_query.specs.declared.token.Token.{Token};
+ghost use Rattle.bq_query.specs.declared.token.QueryToken.{QueryToken};
 ghost use Rattle.bq_query.specs.Laws.{OneReading, AreTokensOf};
 ghost use Rattle.bq_query.specs.Reading.{Reads};
 
@@ -11,10 +11,10 @@ pub fn one_reading()
 
 /// Every text is cut into tokens, or has a byte that begins none.
 pub fn every_text_has_its_reading()
-    ensures { (text : List ℕ) → (r : Option (List Token)) × Reads text 0 r }
+    ensures { (text : List ℕ) → (r : Option (List QueryToken)) × Reads text 0 r }
 {}
 
 /// The tokens spell the text, with blanks alone between them: marks, words in quotes, and words that are the longest.
 pub fn tokens_spell_the_text()
-    ensures { (text : List ℕ) (ts : List Token) → Reads text 0 (Some ts) → AreTokensOf text 0 ts }
+    ensures { (text : List ℕ) (ts : List QueryToken) → Reads text 0 (Some ts) → AreTokensOf text 0 ts }
 {}

@@ -4,17 +4,17 @@ ghost use Rattle.std.specs.List.{list_all, prefix_len};
 ghost use Rattle.std.specs.Map.{lookup};
 ghost use Rattle.bq_query.specs.Lexis.{is_blank, is_quote, is_letter_or_digit, is_word_byte, is_name_byte, begins_word, is_variable_name, punctuation, keywords, word_kind, plain_kind, word_piece, quoted_piece, other_piece, piece_of};
 
-use crate::token::TokenKind;
+use crate::token::QueryTokenKind;
 
 /// What is at the front of a text.
 #[derive(Clone, Copy)]
-pub enum Piece {
+pub enum QueryPiece {
     /// The text is empty.
     End,
     /// A byte that parts tokens.
     Blank,
     /// A token of so many bytes.
-    Found(TokenKind, usize),
+    Found(QueryTokenKind, usize),
     /// No token begins so.
     Unknown,
 }
@@ -65,31 +65,31 @@ pub fn is_variable_name(text: &[u8]) -> bool
     }
 }
 
-fn punctuation(b: u8) -> Option<TokenKind>
+fn punctuation(b: u8) -> Option<QueryTokenKind>
     ensures { result ≡ lookup (nat_eq b) punctuation }
 {
     match b {
-        b'(' => Some(TokenKind::Open),
-        b')' => Some(TokenKind::Close),
-        b',' => Some(TokenKind::Comma),
-        b'=' => Some(TokenKind::Equals),
-        b'+' => Some(TokenKind::Union),
-        b'^' => Some(TokenKind::Intersect),
-        b'-' => Some(TokenKind::Except),
+        b'(' => Some(QueryTokenKind::Open),
+        b')' => Some(QueryTokenKind::Close),
+        b',' => Some(QueryTokenKind::Comma),
+        b'=' => Some(QueryTokenKind::Equals),
+        b'+' => Some(QueryTokenKind::Union),
+        b'^' => Some(QueryTokenKind::Intersect),
+        b'-' => Some(QueryTokenKind::Except),
         _ => None,
     }
 }
 
-const KEYWORDS: [(&[u8], TokenKind); 6] = [
-    (b"except", TokenKind::Except),
-    (b"in", TokenKind::In),
-    (b"intersect", TokenKind::Intersect),
-    (b"let", TokenKind::Let),
-    (b"set", TokenKind::Set),
-    (b"union", TokenKind::Union),
+const KEYWORDS: [(&[u8], QueryTokenKind); 6] = [
+    (b"except", QueryTokenKind::Except),
+    (b"in", QueryTokenKind::In),
+    (b"intersect", QueryTokenKind::Intersect),
+    (b"let", QueryTokenKind::Let),
+    (b"set", QueryTokenKind::Set),
+    (b"union", QueryTokenKind::Union),
 ];
 
-fn find_keyword(mut table: &[(&[u8], TokenKind)], word: &[u8]) -> Option<TokenKind>
+fn find_keyword(mut table: &[(&[u8], QueryTokenKind)], word: &[u8]) -> Option<QueryTokenKind>
     ensures { result ≡ lookup (bytes_eq word.now) (map (λ e. (e.0.now, e.1)) table.entry.now) }
 {
     while let [entry, rest @ ..] = table {
@@ -101,31 +101,31 @@ fn find_keyword(mut table: &[(&[u8], TokenKind)], word: &[u8]) -> Option<TokenKi
     None
 }
 
-fn keyword(word: &[u8]) -> Option<TokenKind>
+fn keyword(word: &[u8]) -> Option<QueryTokenKind>
     ensures { result ≡ lookup (bytes_eq word.now) keywords }
 {
     find_keyword(&KEYWORDS, word)
 }
 
-fn plain_kind(word: &[u8]) -> Option<TokenKind>
+fn plain_kind(word: &[u8]) -> Option<QueryTokenKind>
     ensures { result ≡ plain_kind word.now }
 {
     match word {
         [] => None,
         [b'$', name @ ..] => {
             if is_variable_name(name) {
-                Some(TokenKind::Variable)
+                Some(QueryTokenKind::Variable)
             } else {
                 None
             }
         }
-        _ => Some(TokenKind::Word),
+        _ => Some(QueryTokenKind::Word),
     }
 }
 
 /// The kind of a word without quotes; none for one that begins with `$` and is no variable.
 #[tactic(auto, unfolding(crate::specs::Lexis::word_kind))]
-fn word_kind(word: &[u8]) -> Option<TokenKind>
+fn word_kind(word: &[u8]) -> Option<QueryTokenKind>
     ensures { result ≡ word_kind word.now }
 {
     match keyword(word) {
@@ -149,13 +149,13 @@ fn word_len(text: &[u8]) -> usize
 
 /// The longest run of the bytes of words.
 #[tactic(auto, unfolding(crate::specs::Lexis::word_piece))]
-fn word_piece(text: &[u8]) -> Piece
+fn word_piece(text: &[u8]) -> QueryPiece
     ensures { result ≡ word_piece text.now }
 {
     let n = word_len(text);
     match word_kind(&text[..n]) {
-        Some(kind) => Piece::Found(kind, n),
-        None => Piece::Unknown,
+        Some(kind) => QueryPiece::Found(kind, n),
+        None => QueryPiece::Unknown,
     }
 }
 
@@ -167,28 +167,28 @@ fn next_quote(quote: u8, rest: &[u8]) -> Option<usize>
 
 /// All bytes up to the next quote of the same kind.
 #[tactic(auto, unfolding(crate::specs::Lexis::quoted_piece))]
-fn quoted_piece(quote: u8, rest: &[u8]) -> Piece
+fn quoted_piece(quote: u8, rest: &[u8]) -> QueryPiece
     ensures { result ≡ quoted_piece quote rest.now }
 {
     match next_quote(quote, rest) {
-        Some(n) => Piece::Found(TokenKind::Quoted, n + 2),
-        None => Piece::Unknown,
+        Some(n) => QueryPiece::Found(QueryTokenKind::Quoted, n + 2),
+        None => QueryPiece::Unknown,
     }
 }
 
 /// What is at the front of the text.
 #[tactic(auto, unfolding(crate::specs::Lexis::piece_of))]
-pub fn piece_of(text: &[u8]) -> Piece
+pub fn piece_of(text: &[u8]) -> QueryPiece
     ensures { result ≡ piece_of text.now }
 {
     match text {
-        [] => Piece::End,
+        [] => QueryPiece::End,
         [b, rest @ ..] => {
             if is_blank(*b) {
-                return Piece::Blank;
+                return QueryPiece::Blank;
             }
             if let Some(kind) = punctuation(*b) {
-                return Piece::Found(kind, 1);
+                return QueryPiece::Found(kind, 1);
             }
             if is_quote(*b) {
                 return quoted_piece(*b, rest);
@@ -196,7 +196,7 @@ pub fn piece_of(text: &[u8]) -> Piece
             if begins_word(*b) {
                 return word_piece(text);
             }
-            Piece::Unknown
+            QueryPiece::Unknown
         }
     }
 }

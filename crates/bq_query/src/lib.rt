@@ -21,9 +21,9 @@ mod query_error;
 mod target_pattern;
 mod token;
 
-pub use function::{ArgumentKind, Function, function_named, is_left_out};
+pub use function::{QueryArgumentKind, QueryFunction, function_named, is_left_out};
 pub use lexer::lex_query;
 pub use lexis::is_variable_name;
 pub use query_error::QueryErr;
 pub use target_pattern::{PatternForm, WordForm, begins_pattern, word_form};
-pub use token::{Token, TokenKind};
+pub use token::{QueryToken, QueryTokenKind};

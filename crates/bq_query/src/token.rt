@@ -2,7 +2,7 @@
 
 /// What a token is.
 #[derive(Clone, Copy, PartialEq, Eq)]
-pub enum TokenKind {
+pub enum QueryTokenKind {
     /// A word without quotes that is no keyword and no variable.
     Word,
     /// A word in quotes, the quotes among it.
@@ -30,8 +30,8 @@ pub enum TokenKind {
 
 /// A token with its place: the bytes from `start` to `end`.
 #[derive(Clone, Copy)]
-pub struct Token {
-    pub kind: TokenKind,
+pub struct QueryToken {
+    pub kind: QueryTokenKind,
     pub start: usize,
     pub end: usize,
 }

@@ -4,7 +4,7 @@ use Rattle.std.specs.List.{AllByRecursion}
 use Rattle.bq_query.specs.declared.query_error.QueryErr.{QueryErr}
 use Rattle.bq_query.specs.declared.query_error.QueryErr.TheVariants as e
 use Rattle.bq_query.specs.Functions.{function_named}
-use Rattle.bq_query.specs.declared.function.Function.{Function}
+use Rattle.bq_query.specs.declared.function.QueryFunction.{QueryFunction}
 use Rattle.bq_query_tree.specs.declared.tree.Query.{Query}
 use Rattle.bq_query_verdict.specs.Verdict.{Need, part_of, call_of, call_by}
 use Rattle.bq_query_check.specs.declared.formula.SetExpr.{SetExpr}
@@ -16,7 +16,7 @@ use Rattle.bq_query_check.proofs.Needs.{all_hold, fails_before, fails_after, rea
 -- ---- a number of arguments that fits
 
 -- the arguments are these
-pub moved : {A : Type 0} (f : Function) (names : List (List ℕ)) (xs ys : List Query) (P : A → Type 0) (r : Result A QueryErr) → xs ≡ ys
+pub moved : {A : Type 0} (f : QueryFunction) (names : List (List ℕ)) (xs ys : List Query) (P : A → Type 0) (r : Result A QueryErr) → xs ≡ ys
     → Reads (call_of f (map part_of ys) names) P r → Reads (call_of f (map part_of xs) names) P r
 moved f names xs ys P r same h =
     read_as (call_of f (map part_of xs) names) (call_of f (map part_of ys) names) P P r (ap (λ (zs : List Query). call_of f (map part_of zs) names) same) (λ x p. p) h
@@ -31,7 +31,7 @@ last_part held part P Q (Ok x) h f k = (all_hold held (part ++ []) h (all_hold p
 last_part held part P Q (Err why) h f k = part_fails held part [] why h k
 
 -- the function of this name
-pub call_known : (name : List ℕ) (names : List (List ℕ)) (xs : List Query) (f : Function) (r : Result SetExpr QueryErr) → function_named name ≡ Some f
+pub call_known : (name : List ℕ) (names : List (List ℕ)) (xs : List Query) (f : QueryFunction) (r : Result SetExpr QueryErr) → function_named name ≡ Some f
     → Reads (call_of f (map part_of xs) names) (λ q. IsCallOf f names xs (formula_of q)) r → Reads (call_by (function_named name) name (map part_of xs) names) (λ q. IsCallNamed name names xs (formula_of q)) r
 call_known name names xs f r known h =
     read_as (call_by (function_named name) name (map part_of xs) names) (call_of f (map part_of xs) names) (λ q. IsCallNamed name names xs (formula_of q)) (λ q. IsCallOf f names xs (formula_of q)) r

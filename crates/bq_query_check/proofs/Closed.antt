@@ -4,8 +4,8 @@ use Rattle.std.specs.List.{list_any, AllByRecursion}
 use Rattle.std.proofs.lemmas.List.{length-append}
 use Rattle.std.proofs.lemmas.Bool.{cases_eq, false≢true}
 use Rattle.std.proofs.lemmas.Slice.Eq.{bytes_eq-Decides}
-use Rattle.bq_query.specs.declared.function.Function.{Function}
-use Rattle.bq_query_tree.specs.declared.tree.Operation.{Operation}
+use Rattle.bq_query.specs.declared.function.QueryFunction.{QueryFunction}
+use Rattle.bq_query_tree.specs.declared.tree.SetOperation.{SetOperation}
 use Rattle.bq_query_tree.specs.declared.tree.Query.{Query}
 use Rattle.bq_query_check.specs.declared.formula.Binary.TheVariants as binary
 use Rattle.bq_query_check.specs.declared.formula.Unary.TheVariants as unary
@@ -106,11 +106,11 @@ mutual
   formula_closed (IsFormulaOf.chain {ns = ns} {y = y} {a = a} {steps = ss} e h s f) =
       as_said (length ns) y (chained a ss) f (chained_closed (length ns) a ss (formula_closed h) (steps_closed s))
 
-  steps_closed : {ns : List (List ℕ)} {os : List Operation} {ss : List Step} → AreStepsOf ns os ss → AreClosed (length ns) ss
+  steps_closed : {ns : List (List ℕ)} {os : List SetOperation} {ss : List Step} → AreStepsOf ns os ss → AreClosed (length ns) ss
   steps_closed AreStepsOf.no_more = tt
   steps_closed (AreStepsOf.one_more e h rest) = (formula_closed h, steps_closed rest)
 
-  call_closed : {f : Function} {ns : List (List ℕ)} {xs : List Query} {y : Formula} → IsCallOf f ns xs y → IsClosed (length ns) y
+  call_closed : {f : QueryFunction} {ns : List (List ℕ)} {xs : List Query} {y : Formula} → IsCallOf f ns xs y → IsClosed (length ns) y
   call_closed (IsCallOf.deps {ns = ns} {y = y} {a = a} e h f) = as_said (length ns) y (one unary.Deps a) f (formula_closed h)
   call_closed (IsCallOf.deps_within {ns = ns} {y = y} {a = a} {k = n} e h k f) = as_said (length ns) y (one (unary.DepsWithin n) a) f (formula_closed h)
   call_closed (IsCallOf.rdeps {ns = ns} {y = y} {a = a} {b = b} e h k f) = as_said (length ns) y (two binary.Rdeps a b) f (formula_closed h, formula_closed k)

@@ -2,7 +2,7 @@
 -- right, and a regular expression is what it means.
 use Rattle.std.specs.Prelude.{ℕ, ◌+◌, ◌<◌, List, [], ◌∷◌}
 use Rattle.std.specs.Coded.{×_prop, Unit-prop, le_prop}
-use Rattle.bq_query_tree.specs.declared.tree.Operator.{Operator}
+use Rattle.bq_query_tree.specs.declared.tree.SetOperator.{SetOperator}
 use Rattle.bq_query_check.specs.declared.formula.Unary.{Unary}
 use Rattle.bq_query_check.specs.declared.formula.Binary.{Binary}
 use Rattle.bq_query_check.specs.declared.formula.SetExpr.{SetExpr, fold-SetExpr}
@@ -18,7 +18,7 @@ pub data Formula : Type 0 where
   -- `let name = x in y`
   let_in : Formula → Formula → Formula
   -- `x + y`, `x ^ y`, `x - y`
-  combined : Operator → Formula → Formula → Formula
+  combined : SetOperator → Formula → Formula → Formula
   -- a function of one set: `deps(x)`, `kind(pattern, x)`, ..
   one : Unary → Formula → Formula
   -- a function of two: `rdeps(u, x)`, `allpaths(x, y)`
@@ -26,7 +26,7 @@ pub data Formula : Type 0 where
 
 -- a further operand of a chain
 pub record Step : Type 0 where
-  pub operator : Operator
+  pub operator : SetOperator
   pub formula : Formula
 
 -- from left to right

@@ -1,12 +1,12 @@
 -- Which tree has which formula: a case for each form of query (Bazel query reference, "Expressions" and "Functions").
 use Rattle.std.specs.Prelude.{◌≡◌, ◌≢◌, ℕ, ◌+◌, ◌*◌, ◌-◌, ◌^◌, ◌<◌, min, List, [], ◌∷◌, ◌++◌, Some, slice_get}
 use Rattle.regex_hir.specs.Re.{Re}
-use Rattle.bq_query.specs.declared.function.Function.{Function}
-use Rattle.bq_query.specs.declared.function.Function.TheVariants as fn
+use Rattle.bq_query.specs.declared.function.QueryFunction.{QueryFunction}
+use Rattle.bq_query.specs.declared.function.QueryFunction.TheVariants as fn
 use Rattle.bq_query.specs.Functions.{function_named}
 use Rattle.bq_query_tree.specs.declared.tree.Query.{Query}
 use Rattle.bq_query_tree.specs.declared.tree.Query.TheVariants as tree
-use Rattle.bq_query_tree.specs.declared.tree.Operation.{Operation}
+use Rattle.bq_query_tree.specs.declared.tree.SetOperation.{SetOperation}
 use Rattle.bq_query_check.specs.declared.formula.Unary.{Unary}
 use Rattle.bq_query_check.specs.declared.formula.Unary.TheVariants as unary
 use Rattle.bq_query_check.specs.declared.formula.Binary.TheVariants as binary
@@ -59,23 +59,23 @@ mutual
     -- `set(word ..)`
     set_of : {ns : List (List ℕ)} {x : Query} {y : Formula} {ws : List (List ℕ)} → x ≡ tree.Set ws → y ≡ named ws → IsFormulaOf ns x y
     -- `function(argument, ..)`
-    call : {ns : List (List ℕ)} {x : Query} {y : Formula} {name : List ℕ} {xs : List Query} {f : Function} → x ≡ tree.Call name xs
+    call : {ns : List (List ℕ)} {x : Query} {y : Formula} {name : List ℕ} {xs : List Query} {f : QueryFunction} → x ≡ tree.Call name xs
         → function_named name ≡ Some f → IsCallOf f ns xs y → IsFormulaOf ns x y
     -- `let n = value in body`
     binding : {ns : List (List ℕ)} {x value body : Query} {y a b : Formula} {n : List ℕ} → x ≡ tree.Let n value body → IsFormulaOf ns value a
         → IsFormulaOf (ns ++ n ∷ []) body b → y ≡ let_in a b → IsFormulaOf ns x y
     -- `first + second ..`
-    chain : {ns : List (List ℕ)} {x first : Query} {y a : Formula} {os : List Operation} {steps : List Step} → x ≡ tree.Chain first os
+    chain : {ns : List (List ℕ)} {x first : Query} {y a : Formula} {os : List SetOperation} {steps : List Step} → x ≡ tree.Chain first os
         → IsFormulaOf ns first a → AreStepsOf ns os steps → y ≡ chained a steps → IsFormulaOf ns x y
 
   -- the further operands of a chain
-  pub data AreStepsOf : List (List ℕ) → List Operation → List Step → Type 0 where
+  pub data AreStepsOf : List (List ℕ) → List SetOperation → List Step → Type 0 where
     no_more : {ns : List (List ℕ)} → AreStepsOf ns [] []
-    one_more : {ns : List (List ℕ)} {o : Operation} {os : List Operation} {s : Step} {ss : List Step} → s.operator ≡ o.operator
+    one_more : {ns : List (List ℕ)} {o : SetOperation} {os : List SetOperation} {s : Step} {ss : List Step} → s.operator ≡ o.operator
         → IsFormulaOf ns o.operand s.formula → AreStepsOf ns os ss → AreStepsOf ns (o ∷ os) (s ∷ ss)
 
   -- a function with its arguments
-  pub data IsCallOf : Function → List (List ℕ) → List Query → Formula → Type 0 where
+  pub data IsCallOf : QueryFunction → List (List ℕ) → List Query → Formula → Type 0 where
     -- `deps(x)`
     deps : {ns : List (List ℕ)} {xs : List Query} {x : Query} {y a : Formula} → xs ≡ x ∷ [] → IsFormulaOf ns x a → y ≡ one unary.Deps a
         → IsCallOf fn.Deps ns xs y
@@ -106,7 +106,7 @@ mutual
 
 -- the function of this name with these arguments
 abbrev pub IsCallNamed : List ℕ → List (List ℕ) → List Query → Formula → Type 0
-IsCallNamed name ns xs y = (f : Function) × (function_named name ≡ Some f) × IsCallOf f ns xs y
+IsCallNamed name ns xs y = (f : QueryFunction) × (function_named name ≡ Some f) × IsCallOf f ns xs y
 
 -- a function of what this tree says
 abbrev pub IsOne : Unary → List (List ℕ) → Query → Formula → Type 0

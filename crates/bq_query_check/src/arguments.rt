@@ -1,7 +1,7 @@
 //! Arguments that are one word: patterns, names of attributes, and numbers of edges.
 
 ghost use Rattle.std.specs.Prelude.{Some, None};
-ghost use Rattle.bq_query.specs.declared.function.ArgumentKind.TheVariants as kind;
+ghost use Rattle.bq_query.specs.declared.function.QueryArgumentKind.TheVariants as kind;
 ghost use Rattle.bq_query_verdict.specs.Verdict.{argument, part_of};
 ghost use Rattle.bq_query_check.specs.Checked.{Reads};
 ghost use Rattle.bq_query_check.specs.FormulaOf.{IsName, IsNumber, IsPattern};

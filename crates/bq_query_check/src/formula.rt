@@ -1,7 +1,7 @@
 //! What a query that was checked says, with its variables and functions known, its numbers read and its patterns compiled.
 
 use crate::pattern::QueryPattern;
-use bq_query_tree::Operator;
+use bq_query_tree::SetOperator;
 use bq_source::Bytes;
 use sqlite_items::{Boxed, Items};
 
@@ -55,6 +55,6 @@ pub enum SetExpr {
 #[cycle(query)]
 #[derive(Drop)]
 pub struct ChainStep {
-    pub operator: Operator,
+    pub operator: SetOperator,
     pub operand: SetExpr,
 }

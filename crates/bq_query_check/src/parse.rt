@@ -6,7 +6,7 @@ use crate::checked::CheckedQuery;
 use crate::trees::check;
 use bq_query::QueryErr;
 use bq_query_parse::parse_tree;
-use bq_query_tree::Refusal;
+use bq_query_tree::QuerySyntaxErr;
 use std::alloc::Global;
 
 /// The query of the text. It takes time linear in the text, and what compiling its patterns takes.
@@ -17,7 +17,7 @@ pub fn parse_query(alloc: Global, text: &[u8]) -> Result<CheckedQuery, QueryErr>
         Ok(tree) => Ok(CheckedQuery {
             set: check(alloc, &tree)?,
         }),
-        Err(Refusal::Syntax) => Err(QueryErr::Syntax),
-        Err(Refusal::Memory) => Err(QueryErr::Memory),
+        Err(QuerySyntaxErr::Syntax) => Err(QueryErr::Syntax),
+        Err(QuerySyntaxErr::Memory) => Err(QueryErr::Memory),
     }
 }

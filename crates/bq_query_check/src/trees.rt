@@ -2,7 +2,7 @@
 
 ghost use Rattle.std.specs.Prelude.{◌≡◌, ◌++◌, [], ◌∷◌, map, IfOk};
 ghost use Rattle.bq_query.specs.Functions.{function_named};
-ghost use Rattle.bq_query.specs.declared.function.Function.TheVariants as f;
+ghost use Rattle.bq_query.specs.declared.function.QueryFunction.TheVariants as f;
 ghost use Rattle.bq_query_verdict.specs.Verdict as spec;
 ghost use Rattle.bq_query_verdict.specs.Verdict.{no_fault, part_of, operation_part, call_of, call_by, variable};
 ghost use Rattle.bq_query_check.specs.Checked.{Reads};
@@ -13,8 +13,8 @@ ghost use Rattle.bq_query_check.specs.FormulaOf.{IsFormulaOf, AreStepsOf, IsCall
 use crate::arguments::{attribute, limit, pattern};
 use crate::formula::{Binary, ChainStep, SetExpr, Unary};
 use crate::names::{innermost, shared, with_name};
-use bq_query::{Function, QueryErr, function_named};
-use bq_query_tree::{Operation, Query};
+use bq_query::{QueryFunction, QueryErr, function_named};
+use bq_query_tree::{SetOperation, Query};
 use bq_query_verdict::{unknown, words};
 use bq_source::Bytes;
 use sqlite_items::{Boxed, Items};
@@ -190,13 +190,13 @@ fn call(
     ensures { Reads (call_by (function_named name.now) name.now (map part_of arguments.now) names.now) (λ r. IsCallNamed name.now names.now arguments.now (formula_of r)) result }
 {
     match function_named(name.as_slice()) {
-        Some(Function::Allpaths) => allpaths(alloc, names, arguments),
-        Some(Function::Attr) => attr(alloc, names, arguments),
-        Some(Function::Deps) => deps(alloc, names, arguments),
-        Some(Function::Filter) => filter(alloc, names, arguments),
-        Some(Function::Kind) => kind(alloc, names, arguments),
-        Some(Function::Labels) => labels(alloc, names, arguments),
-        Some(Function::Rdeps) => rdeps(alloc, names, arguments),
+        Some(QueryFunction::Allpaths) => allpaths(alloc, names, arguments),
+        Some(QueryFunction::Attr) => attr(alloc, names, arguments),
+        Some(QueryFunction::Deps) => deps(alloc, names, arguments),
+        Some(QueryFunction::Filter) => filter(alloc, names, arguments),
+        Some(QueryFunction::Kind) => kind(alloc, names, arguments),
+        Some(QueryFunction::Labels) => labels(alloc, names, arguments),
+        Some(QueryFunction::Rdeps) => rdeps(alloc, names, arguments),
         None => Err(unknown(name)?),
     }
 }
@@ -206,7 +206,7 @@ fn call(
 fn steps(
     alloc: Global,
     names: &[Bytes],
-    operations: &[Operation],
+    operations: &[SetOperation],
 ) -> Result<Items<ChainStep>, QueryErr>
     ensures { Reads (spec.parts (map operation_part operations.now) names.now) (λ r. AreStepsOf names.now operations.now (map step_of r)) result }
 {

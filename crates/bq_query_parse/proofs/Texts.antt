@@ -2,13 +2,13 @@
 use Rattle.std.proofs.Common.{◌≡◌, ℕ, ◌+◌, ◌<◌, ◌≤◌, List, [], ◌∷◌, length, drop, sym, ap, ◌∙◌, subst, arith, length-drop, All}
 use Rattle.std.specs.Prelude.{Option, Some, None, Result, Ok, Err}
 use Rattle.std.proofs.lemmas.List.Elements.{All-nil, All-cons}
-use Rattle.bq_query.specs.declared.token.TokenKind.{TokenKind}
-use Rattle.bq_query.specs.declared.token.Token.{Token}
+use Rattle.bq_query.specs.declared.token.QueryTokenKind.{QueryTokenKind}
+use Rattle.bq_query.specs.declared.token.QueryToken.{QueryToken}
 use Rattle.bq_query.specs.Reading.{Reads, ended, blank, token, unknown, before, IsWithin}
 use Rattle.bq_query.proofs.Within.{within}
 use Rattle.bq_query.proofs.Unique.{unique}
 use Rattle.bq_query_tree.specs.Lexeme.{lexemes}
-use Rattle.bq_query_tree.specs.declared.refusal.Refusal.{Refusal}
+use Rattle.bq_query_tree.specs.declared.refusal.QuerySyntaxErr.{QuerySyntaxErr}
 use Rattle.bq_query_tree.specs.declared.tree.Query.{Query}
 use Rattle.bq_query_tree.specs.Turns as turns
 use Rattle.bq_query_tree.specs.Reading.{query_to}
@@ -18,15 +18,15 @@ use Rattle.bq_query_parse.specs.Parses.{IsQuery, Parses, Gives, whole, whole_que
 
 -- ---- tokens are parts of the text
 
-abbrev AreIn : List ℕ → Option (List Token) → Type 0
+abbrev AreIn : List ℕ → Option (List QueryToken) → Type 0
 AreIn text None = Unit {0}
 AreIn text (Some ts) = All (IsInText text) ts
 
-one_in : (text : List ℕ) (kind : TokenKind) (start n : ℕ) (more : Option (List Token)) → start + n ≤ length text → AreIn text more → AreIn text (before kind start n more)
+one_in : (text : List ℕ) (kind : QueryTokenKind) (start n : ℕ) (more : Option (List QueryToken)) → start + n ≤ length text → AreIn text more → AreIn text (before kind start n more)
 one_in text kind start n None l h = tt
 one_in text kind start n (Some ts) l h = All-cons (IsInText text) (record { kind = kind; start = start; end = start + n }) ts (omega arith, l) h
 
-pub are_in : (text piece : List ℕ) (start : ℕ) (r : Option (List Token)) → start + length piece ≡ length text → Reads piece start r → AreIn text r
+pub are_in : (text piece : List ℕ) (start : ℕ) (r : Option (List QueryToken)) → start + length piece ≡ length text → Reads piece start r → AreIn text r
 are_in text piece start r l (ended e) = All-nil (IsInText text)
 are_in text piece start r l (blank e h) =
     let w : 0 < length piece = subst (λ p. IsWithin p (length piece)) e (within piece) in
@@ -37,7 +37,7 @@ are_in text piece start r l (token {n = n} {kind = kind} {more = more} e h f) =
     subst (AreIn text) (sym f) (one_in text kind start n more (omega (arith, l, w.1)) further)
 are_in text piece start r l (unknown e) = tt
 
-pub in_text : (text : List ℕ) (ts : List Token) → Reads text 0 (Some ts) → All (IsInText text) ts
+pub in_text : (text : List ℕ) (ts : List QueryToken) → Reads text 0 (Some ts) → All (IsInText text) ts
 in_text text ts h = are_in text text 0 (Some ts) (omega arith) h
 
 -- ---- trees
@@ -52,29 +52,29 @@ whole_is (Some (y, [])) x e = ap again e
 whole_is (Some (y, t ∷ ts)) x e = absurd (cc)
 
 -- a tree that was read
-pub read : (text : List ℕ) (ts : List Token) (x : Query) → Reads text 0 (Some ts) → whole_query (lexemes text ts) ≡ Some x → IsQuery text x
+pub read : (text : List ℕ) (ts : List QueryToken) (x : Query) → Reads text 0 (Some ts) → whole_query (lexemes text ts) ≡ Some x → IsQuery text x
 read text ts x h e = record { cut = ts; reads = h; derives = sound 64 (lexemes text ts) [] x (whole_is (query_to 65 (lexemes text ts)) x e) }
 
-tokens_of : List Token → Option (List Token) → List Token
+tokens_of : List QueryToken → Option (List QueryToken) → List QueryToken
 tokens_of us None = us
 tokens_of us (Some ts) = ts
 
 -- a tree is read
-pub found : (text : List ℕ) (ts : List Token) (x : Query) → Reads text 0 (Some ts) → IsQuery text x → whole_query (lexemes text ts) ≡ Some x
+pub found : (text : List ℕ) (ts : List QueryToken) (x : Query) → Reads text 0 (Some ts) → IsQuery text x → whole_query (lexemes text ts) ≡ Some x
 unfolding tokens_of
 found text ts x h q =
     let same : q.cut ≡ ts = ap (tokens_of ts) (unique text 0 (Some q.cut) (Some ts) q.reads h) in
     ap (λ us. whole_query (lexemes text us)) (sym same) ∙ ap whole (complete 64 (lexemes text q.cut) [] x q.derives tt)
 
 -- where nothing is read there is no tree
-pub none_read : (text : List ℕ) (ts : List Token) → Reads text 0 (Some ts) → whole_query (lexemes text ts) ≡ None → (x : Query) → IsQuery text x → ⊥
+pub none_read : (text : List ℕ) (ts : List QueryToken) → Reads text 0 (Some ts) → whole_query (lexemes text ts) ≡ None → (x : Query) → IsQuery text x → ⊥
 none_read text ts h e x q = let f = found text ts x h q in cc
 
 pub none_cut : (text : List ℕ) → Reads text 0 None → (x : Query) → IsQuery text x → ⊥
 none_cut text h x q = let e = unique text 0 (Some q.cut) None q.reads h in cc
 
 -- what the tokens of a text are read as is what the text has
-pub parses : (text : List ℕ) (ts : List Token) (r : Result Query Refusal) → Reads text 0 (Some ts) → Gives (whole_query (lexemes text ts)) r → Parses text r
+pub parses : (text : List ℕ) (ts : List QueryToken) (r : Result Query QuerySyntaxErr) → Reads text 0 (Some ts) → Gives (whole_query (lexemes text ts)) r → Parses text r
 parses text ts (Ok x) h g = read text ts x h g
 parses text ts (Err e) h g = λ n. none_read text ts h (g n)
 

@@ -3,12 +3,12 @@ use Rattle.std.specs.Prelude.{ℕ, List, Result}
 use Rattle.std.specs.declared.alloc.Global.{Global}
 use denote.Ref.{MutBor}
 use Rattle.bq_query_tree.specs.Lexeme.{Lexeme}
-use Rattle.bq_query_tree.specs.declared.refusal.Refusal.{Refusal}
+use Rattle.bq_query_tree.specs.declared.refusal.QuerySyntaxErr.{QuerySyntaxErr}
 use Rattle.bq_query_tree.specs.declared.tree.Query.{Query}
 use Rattle.bq_query_tree.specs.Turns.{Reads}
 use Rattle.bq_query_tree.specs.Reading.{query_to}
 
 pub record ReadsQuery (depth : ℕ) (pre : Global → MutBor (List Lexeme) → ℕ → Type 0)
-    (post : Global → MutBor (List Lexeme) → ℕ → Result Query Refusal → MutBor (List Lexeme) → Type 0) : Type 0 where
+    (post : Global → MutBor (List Lexeme) → ℕ → Result Query QuerySyntaxErr → MutBor (List Lexeme) → Type 0) : Type 0 where
   pub callable : (alloc : Global) (old : MutBor (List Lexeme)) → pre alloc old depth
-  pub reads : (alloc : Global) (old new : MutBor (List Lexeme)) (r : Result Query Refusal) → post alloc old depth r new → Reads (query_to depth old.now) r new.now
+  pub reads : (alloc : Global) (old new : MutBor (List Lexeme)) (r : Result Query QuerySyntaxErr) → post alloc old depth r new → Reads (query_to depth old.now) r new.now

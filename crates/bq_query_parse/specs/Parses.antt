@@ -1,10 +1,10 @@
 -- Which tree a text has.
 use Rattle.std.specs.Prelude.{ℕ, List, [], ◌∷◌, Option, Some, None, Result, Ok, Err, ◌≡◌, ◌≢◌, ◌+◌}
-use Rattle.bq_query.specs.declared.token.Token.{Token}
+use Rattle.bq_query.specs.declared.token.QueryToken.{QueryToken}
 use Rattle.bq_query.specs.Reading as tokens
 use Rattle.bq_query_tree.specs.Lexeme.{Lexeme, lexemes}
-use Rattle.bq_query_tree.specs.declared.refusal.Refusal.{Refusal}
-use Rattle.bq_query_tree.specs.declared.refusal.Refusal.TheVariants.{Memory}
+use Rattle.bq_query_tree.specs.declared.refusal.QuerySyntaxErr.{QuerySyntaxErr}
+use Rattle.bq_query_tree.specs.declared.refusal.QuerySyntaxErr.TheVariants.{Memory}
 use Rattle.bq_query_tree.specs.declared.tree.Query.{Query}
 use Rattle.bq_query_tree.specs.Grammar.{IsQueryTo, max_open}
 use Rattle.bq_query_tree.specs.Turns.{Found}
@@ -12,12 +12,12 @@ use Rattle.bq_query_tree.specs.Reading.{query_to}
 
 -- the text is cut into tokens, and all of them are a query of this tree
 pub record IsQuery (text : List ℕ) (x : Query) : Type 0 where
-  pub cut : List Token
+  pub cut : List QueryToken
   pub reads : tokens.Reads text 0 (Some cut)
   pub derives : IsQueryTo max_open (lexemes text cut) [] x
 
 -- what a parser ensures: the tree, or that there is none
-abbrev pub Parses : List ℕ → Result Query Refusal → Type 0
+abbrev pub Parses : List ℕ → Result Query QuerySyntaxErr → Type 0
 Parses text (Ok x) = IsQuery text x
 Parses text (Err e) = e ≢ Memory → (x : Query) → IsQuery text x → ⊥
 
@@ -32,7 +32,7 @@ whole (Some (x, t ∷ ts)) = None
 abbrev pub whole_query : List Lexeme → Option Query
 whole_query ts = whole (query_to (max_open + 1) ts)
 
-abbrev pub Gives : Option Query → Result Query Refusal → Type 0
+abbrev pub Gives : Option Query → Result Query QuerySyntaxErr → Type 0
 Gives found (Ok x) = found ≡ Some x
 Gives found (Err e) = e ≢ Memory → found ≡ None
 

@@ -1,14 +1,14 @@
 -- What a place in the tokens of a query shows: the tokens from it on, with their spellings.
 use Rattle.std.specs.Prelude.{ℕ, ◌≤◌, List, [], ◌∷◌, length, Bool, Option, Some, None, All}
-use Rattle.bq_query.specs.declared.token.Token.{Token}
-use Rattle.bq_query.specs.declared.token.TokenKind.{TokenKind}
-use Rattle.bq_query.specs.declared.token.TokenKind.TheVariants as k
+use Rattle.bq_query.specs.declared.token.QueryToken.{QueryToken}
+use Rattle.bq_query.specs.declared.token.QueryTokenKind.{QueryTokenKind}
+use Rattle.bq_query.specs.declared.token.QueryTokenKind.TheVariants as k
 use Rattle.bq_query_tree.specs.Lexeme.{Lexeme, lexemes}
 use Rattle.bq_query_tree.specs.Turns.{sees, next}
-use Rattle.bq_query_parse.specs.declared.tokens.Tokens.TheInside.{Inside}
+use Rattle.bq_query_parse.specs.declared.tokens.QueryTokens.TheInside.{Inside}
 
 -- a token is a part of the text
-abbrev pub IsInText : List ℕ → Token → Type 0
+abbrev pub IsInText : List ℕ → QueryToken → Type 0
 IsInText text t = (t.start ≤ t.end) × (t.end ≤ length text)
 
 abbrev pub lexemes_ahead : Inside → List Lexeme
@@ -18,7 +18,7 @@ abbrev pub AreInText : Inside → Type 0
 AreInText t = All (IsInText t.text.now) t.rest.now
 
 -- the kind of the next token
-abbrev pub kind_ahead : List Lexeme → Option TokenKind
+abbrev pub kind_ahead : List Lexeme → Option QueryTokenKind
 kind_ahead [] = None
 kind_ahead (t ∷ ts) = Some t.kind
 

@@ -1,22 +1,22 @@
 //! The productions, over the reader of the queries inside one more parenthesis or let.
 
 ghost use Rattle.std.specs.Prelude.{◌≡◌, [], ◌∷◌, IfOk};
-ghost use Rattle.bq_query.specs.declared.token.TokenKind.TheVariants as kind;
+ghost use Rattle.bq_query.specs.declared.token.QueryTokenKind.TheVariants as kind;
 ghost use Rattle.bq_query_tree.specs.Turns.{Reads};
 ghost use Rattle.bq_query_tree.specs.Turns as turns;
 ghost use Rattle.bq_query_tree.specs.Grammar as grammar;
 ghost use Rattle.bq_query_tree.specs.Reading as spec;
 ghost use Rattle.bq_query_parse.specs.Nested.{ReadsQuery};
 
-use crate::tokens::Tokens;
-use bq_query::TokenKind;
-use bq_query_tree::{Operation, Query, Refusal};
+use crate::tokens::QueryTokens;
+use bq_query::QueryTokenKind;
+use bq_query_tree::{SetOperation, Query, QuerySyntaxErr};
 use bq_source::Bytes;
 use sqlite_items::{Boxed, Items};
 use std::alloc::{AllocError, Global};
 
 #[derive(Clone, Copy)]
-pub struct Grammar<F> {
+pub struct QueryGrammar<F> {
     pub alloc: Global,
     /// How many parentheses and lets may still be opened.
     pub depth: usize,
@@ -24,7 +24,7 @@ pub struct Grammar<F> {
 }
 
 /// A query and what is done to it; the query alone where nothing is.
-fn chain_of(first: Boxed<Query>, operations: Items<Operation>) -> Query
+fn chain_of(first: Boxed<Query>, operations: Items<SetOperation>) -> Query
     ensures { result ≡ grammar.chain_of first operations }
 {
     if operations.is_empty() {
@@ -44,7 +44,7 @@ fn alone(alloc: Global, query: Query) -> Result<Items<Query>, AllocError>
 
 /// { Word }
 #[tactic(auto, using(crate::proofs::LoopTurns::turns_more, crate::proofs::LoopTurns::turns_over), unfolding(bq_query_tree::specs::Turns::repeat))]
-fn words(alloc: Global, tokens: &mut Tokens<'_>) -> Result<Items<Bytes>, Refusal>
+fn words(alloc: Global, tokens: &mut QueryTokens<'_>) -> Result<Items<Bytes>, QuerySyntaxErr>
     ensures { Reads (turns.repeat spec.begins_word spec.a_word [] tokens.old) result tokens.new }
 {
     let mut found = Items::new(alloc);
@@ -58,8 +58,8 @@ fn words(alloc: Global, tokens: &mut Tokens<'_>) -> Result<Items<Bytes>, Refusal
     Ok(found)
 }
 
-impl<F: Fn(Global, &mut Tokens<'_>, usize) -> Result<Query, Refusal>> Grammar<F> {
-    fn nested(&self, tokens: &mut Tokens<'_>) -> Result<Query, Refusal>
+impl<F: Fn(Global, &mut QueryTokens<'_>, usize) -> Result<Query, QuerySyntaxErr>> QueryGrammar<F> {
+    fn nested(&self, tokens: &mut QueryTokens<'_>) -> Result<Query, QuerySyntaxErr>
         requires { ReadsQuery self.now.depth (F.pre self.now.query) (F.post self.now.query) }
         ensures { Reads (spec.query_to self.now.depth tokens.old) result tokens.new }
     {
@@ -67,7 +67,7 @@ impl<F: Fn(Global, &mut Tokens<'_>, usize) -> Result<Query, Refusal>> Grammar<F>
     }
 
     /// A query, in a box.
-    fn boxed(&self, tokens: &mut Tokens<'_>) -> Result<Boxed<Query>, Refusal>
+    fn boxed(&self, tokens: &mut QueryTokens<'_>) -> Result<Boxed<Query>, QuerySyntaxErr>
         requires { ReadsQuery self.now.depth (F.pre self.now.query) (F.post self.now.query) }
         ensures { Reads (spec.query_to self.now.depth tokens.old) result tokens.new }
     {
@@ -75,11 +75,11 @@ impl<F: Fn(Global, &mut Tokens<'_>, usize) -> Result<Query, Refusal>> Grammar<F>
     }
 
     /// ',' Query
-    fn after_comma(&self, tokens: &mut Tokens<'_>) -> Result<Query, Refusal>
+    fn after_comma(&self, tokens: &mut QueryTokens<'_>) -> Result<Query, QuerySyntaxErr>
         requires { ReadsQuery self.now.depth (F.pre self.now.query) (F.post self.now.query) }
         ensures { Reads (spec.after_comma (spec.query_to self.now.depth) tokens.old) result tokens.new }
     {
-        tokens.expect(TokenKind::Comma)?;
+        tokens.expect(QueryTokenKind::Comma)?;
         self.nested(tokens)
     }
 
@@ -87,15 +87,15 @@ impl<F: Fn(Global, &mut Tokens<'_>, usize) -> Result<Query, Refusal>> Grammar<F>
     #[tactic(auto, using(crate::proofs::LoopTurns::turns_more, crate::proofs::LoopTurns::turns_over), unfolding(bq_query_tree::specs::Turns::repeat))]
     fn further_arguments(
         &self,
-        tokens: &mut Tokens<'_>,
+        tokens: &mut QueryTokens<'_>,
         mut found: Items<Query>,
-    ) -> Result<Items<Query>, Refusal>
+    ) -> Result<Items<Query>, QuerySyntaxErr>
         requires { ReadsQuery self.now.depth (F.pre self.now.query) (F.post self.now.query) }
         ensures { Reads (turns.repeat (turns.sees kind.Comma) (spec.after_comma (spec.query_to self.now.depth)) found tokens.old) result tokens.new }
     {
         // Each turn takes a token.
         for _turn in 0..tokens.left() {
-            if !tokens.sees(TokenKind::Comma) {
+            if !tokens.sees(QueryTokenKind::Comma) {
                 return Ok(found);
             }
             found.push(self.after_comma(tokens)?)?;
@@ -105,22 +105,22 @@ impl<F: Fn(Global, &mut Tokens<'_>, usize) -> Result<Query, Refusal>> Grammar<F>
 
     /// Arguments = [ Query { ',' Query } ] ')'
     #[tactic(auto, unfolding(bq_query_tree::specs::Reading::arguments))]
-    fn arguments(&self, tokens: &mut Tokens<'_>) -> Result<Items<Query>, Refusal>
+    fn arguments(&self, tokens: &mut QueryTokens<'_>) -> Result<Items<Query>, QuerySyntaxErr>
         requires { ReadsQuery self.now.depth (F.pre self.now.query) (F.post self.now.query) }
         ensures { Reads (spec.arguments (spec.query_to self.now.depth) tokens.old) result tokens.new }
     {
-        if tokens.eat(TokenKind::Close) {
+        if tokens.eat(QueryTokenKind::Close) {
             return Ok(Items::new(self.alloc));
         }
         let first = self.nested(tokens)?;
         let found = self.further_arguments(tokens, alone(self.alloc, first)?)?;
-        tokens.expect(TokenKind::Close)?;
+        tokens.expect(QueryTokenKind::Close)?;
         Ok(found)
     }
 
     /// word '(' Arguments, after the word
     #[tactic(auto, unfolding(bq_query_tree::specs::Reading::call))]
-    fn call(&self, tokens: &mut Tokens<'_>, name: Bytes) -> Result<Query, Refusal>
+    fn call(&self, tokens: &mut QueryTokens<'_>, name: Bytes) -> Result<Query, QuerySyntaxErr>
         requires { ReadsQuery self.now.depth (F.pre self.now.query) (F.post self.now.query) }
         ensures { Reads (spec.call self.now.depth (spec.query_to self.now.depth) name tokens.old) result tokens.new }
     {
@@ -129,12 +129,12 @@ impl<F: Fn(Global, &mut Tokens<'_>, usize) -> Result<Query, Refusal>> Grammar<F>
     }
 
     /// A word without quotes, or the function that it names before `(`.
-    fn word_or_call(&self, tokens: &mut Tokens<'_>) -> Result<Query, Refusal>
+    fn word_or_call(&self, tokens: &mut QueryTokens<'_>) -> Result<Query, QuerySyntaxErr>
         requires { ReadsQuery self.now.depth (F.pre self.now.query) (F.post self.now.query) }
         ensures { Reads (spec.word_or_call self.now.depth (spec.query_to self.now.depth) (spec.spelling_of tokens.old) (turns.next tokens.old)) result tokens.new }
     {
         let word = tokens.bare(self.alloc)?;
-        if tokens.sees(TokenKind::Open) {
+        if tokens.sees(QueryTokenKind::Open) {
             return self.call(tokens, word);
         }
         Ok(Query::Word(word))
@@ -142,79 +142,79 @@ impl<F: Fn(Global, &mut Tokens<'_>, usize) -> Result<Query, Refusal>> Grammar<F>
 
     /// '(' Query ')'
     #[tactic(auto, unfolding(bq_query_tree::specs::Reading::parenthesized))]
-    fn parenthesized(&self, tokens: &mut Tokens<'_>) -> Result<Query, Refusal>
+    fn parenthesized(&self, tokens: &mut QueryTokens<'_>) -> Result<Query, QuerySyntaxErr>
         requires { ReadsQuery self.now.depth (F.pre self.now.query) (F.post self.now.query) }
         ensures { Reads (spec.parenthesized self.now.depth (spec.query_to self.now.depth) tokens.old) result tokens.new }
     {
         tokens.opening(self.depth)?;
         let query = self.boxed(tokens)?;
-        tokens.expect(TokenKind::Close)?;
+        tokens.expect(QueryTokenKind::Close)?;
         Ok(Query::Parenthesized(query))
     }
 
     /// 'set' '(' { Word } ')', after 'set'
     #[tactic(auto, unfolding(bq_query_tree::specs::Reading::set_of))]
-    fn set_of(&self, tokens: &mut Tokens<'_>) -> Result<Query, Refusal>
+    fn set_of(&self, tokens: &mut QueryTokens<'_>) -> Result<Query, QuerySyntaxErr>
         ensures { Reads (spec.set_of self.now.depth tokens.old) result tokens.new }
     {
         tokens.opening(self.depth)?;
         let words = words(self.alloc, tokens)?;
-        tokens.expect(TokenKind::Close)?;
+        tokens.expect(QueryTokenKind::Close)?;
         Ok(Query::Set(words))
     }
 
     /// Operand = Word | variable | '(' Query ')' | 'set' '(' { Word } ')' | word '(' Arguments
     #[tactic(auto, unfolding(bq_query_tree::specs::Reading::operand))]
-    fn operand(&self, tokens: &mut Tokens<'_>) -> Result<Query, Refusal>
+    fn operand(&self, tokens: &mut QueryTokens<'_>) -> Result<Query, QuerySyntaxErr>
         requires { ReadsQuery self.now.depth (F.pre self.now.query) (F.post self.now.query) }
         ensures { Reads (spec.operand self.now.depth (spec.query_to self.now.depth) tokens.old) result tokens.new }
     {
         match tokens.peek() {
-            Some(TokenKind::Word) => self.word_or_call(tokens),
-            Some(TokenKind::Quoted) => Ok(Query::Word(tokens.quoted(self.alloc)?)),
-            Some(TokenKind::Variable) => Ok(Query::Variable(tokens.variable(self.alloc)?)),
-            Some(TokenKind::Open) => self.parenthesized(tokens),
-            Some(TokenKind::Set) => {
+            Some(QueryTokenKind::Word) => self.word_or_call(tokens),
+            Some(QueryTokenKind::Quoted) => Ok(Query::Word(tokens.quoted(self.alloc)?)),
+            Some(QueryTokenKind::Variable) => Ok(Query::Variable(tokens.variable(self.alloc)?)),
+            Some(QueryTokenKind::Open) => self.parenthesized(tokens),
+            Some(QueryTokenKind::Set) => {
                 tokens.advance();
                 self.set_of(tokens)
             }
-            Some(_) => Err(Refusal::Syntax),
-            None => Err(Refusal::Syntax),
+            Some(_) => Err(QuerySyntaxErr::Syntax),
+            None => Err(QuerySyntaxErr::Syntax),
         }
     }
 
     /// Query 'in' Query
     #[tactic(auto, unfolding(bq_query_tree::specs::Reading::binding))]
-    fn binding(&self, tokens: &mut Tokens<'_>, name: Bytes) -> Result<Query, Refusal>
+    fn binding(&self, tokens: &mut QueryTokens<'_>, name: Bytes) -> Result<Query, QuerySyntaxErr>
         requires { ReadsQuery self.now.depth (F.pre self.now.query) (F.post self.now.query) }
         ensures { Reads (spec.binding (spec.query_to self.now.depth) name tokens.old) result tokens.new }
     {
         let value = self.boxed(tokens)?;
-        tokens.expect(TokenKind::In)?;
+        tokens.expect(QueryTokenKind::In)?;
         let body = self.boxed(tokens)?;
         Ok(Query::Let(name, value, body))
     }
 
     /// 'let' name '=' Query 'in' Query, after 'let'
     #[tactic(auto, unfolding(bq_query_tree::specs::Reading::let_in))]
-    fn let_in(&self, tokens: &mut Tokens<'_>) -> Result<Query, Refusal>
+    fn let_in(&self, tokens: &mut QueryTokens<'_>) -> Result<Query, QuerySyntaxErr>
         requires { ReadsQuery self.now.depth (F.pre self.now.query) (F.post self.now.query) }
         ensures { Reads (spec.let_in self.now.depth (spec.query_to self.now.depth) tokens.old) result tokens.new }
     {
         if self.depth == 0 {
-            return Err(Refusal::Syntax);
+            return Err(QuerySyntaxErr::Syntax);
         }
         let name = tokens.name(self.alloc)?;
-        tokens.expect(TokenKind::Equals)?;
+        tokens.expect(QueryTokenKind::Equals)?;
         self.binding(tokens, name)
     }
 
     /// Let | Operand
-    fn term(&self, tokens: &mut Tokens<'_>) -> Result<Query, Refusal>
+    fn term(&self, tokens: &mut QueryTokens<'_>) -> Result<Query, QuerySyntaxErr>
         requires { ReadsQuery self.now.depth (F.pre self.now.query) (F.post self.now.query) }
         ensures { Reads (spec.term self.now.depth (spec.query_to self.now.depth) tokens.old) result tokens.new }
     {
-        if tokens.eat(TokenKind::Let) {
+        if tokens.eat(QueryTokenKind::Let) {
             return self.let_in(tokens);
         }
         self.operand(tokens)
@@ -222,12 +222,12 @@ impl<F: Fn(Global, &mut Tokens<'_>, usize) -> Result<Query, Refusal>> Grammar<F>
 
     /// operator Operand | operator Let
     #[tactic(auto, unfolding(bq_query_tree::specs::Reading::an_operation))]
-    fn an_operation(&self, tokens: &mut Tokens<'_>) -> Result<Operation, Refusal>
+    fn an_operation(&self, tokens: &mut QueryTokens<'_>) -> Result<SetOperation, QuerySyntaxErr>
         requires { ReadsQuery self.now.depth (F.pre self.now.query) (F.post self.now.query) }
         ensures { Reads (spec.an_operation self.now.depth (spec.query_to self.now.depth) tokens.old) result tokens.new }
     {
         let operator = tokens.operator()?;
-        Ok(Operation {
+        Ok(SetOperation {
             operator,
             operand: self.term(tokens)?,
         })
@@ -235,7 +235,7 @@ impl<F: Fn(Global, &mut Tokens<'_>, usize) -> Result<Query, Refusal>> Grammar<F>
 
     /// Operations = { operator Operand } [ operator Let ]
     #[tactic(auto, using(crate::proofs::LoopTurns::turns_more, crate::proofs::LoopTurns::turns_over), unfolding(bq_query_tree::specs::Reading::operations))]
-    fn operations(&self, tokens: &mut Tokens<'_>) -> Result<Items<Operation>, Refusal>
+    fn operations(&self, tokens: &mut QueryTokens<'_>) -> Result<Items<SetOperation>, QuerySyntaxErr>
         requires { ReadsQuery self.now.depth (F.pre self.now.query) (F.post self.now.query) }
         ensures { Reads (spec.operations self.now.depth (spec.query_to self.now.depth) [] tokens.old) result tokens.new }
     {
@@ -256,11 +256,11 @@ impl<F: Fn(Global, &mut Tokens<'_>, usize) -> Result<Query, Refusal>> Grammar<F>
 
     /// Query = Let | Operand Operations
     #[tactic(auto, unfolding(bq_query_tree::specs::Reading::query_in))]
-    pub fn query_in(&self, tokens: &mut Tokens<'_>) -> Result<Query, Refusal>
+    pub fn query_in(&self, tokens: &mut QueryTokens<'_>) -> Result<Query, QuerySyntaxErr>
         requires { ReadsQuery self.now.depth (F.pre self.now.query) (F.post self.now.query) }
         ensures { Reads (spec.query_in self.now.depth (spec.query_to self.now.depth) tokens.old) result tokens.new }
     {
-        if tokens.eat(TokenKind::Let) {
+        if tokens.eat(QueryTokenKind::Let) {
             return self.let_in(tokens);
         }
         let first = Boxed::new(self.alloc, self.operand(tokens)?)?;

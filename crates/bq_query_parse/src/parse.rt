@@ -3,29 +3,29 @@
 ghost use Rattle.std.specs.Prelude.{◌≡◌, ◌≢◌, All};
 ghost use Rattle.bq_query.specs.declared.query_error.QueryErr.TheVariants.{Syntax};
 ghost use Rattle.bq_query_tree.specs.Lexeme.{lexemes};
-ghost use Rattle.bq_query_tree.specs.declared.refusal.Refusal.TheVariants.{Memory};
+ghost use Rattle.bq_query_tree.specs.declared.refusal.QuerySyntaxErr.TheVariants.{Memory};
 ghost use Rattle.bq_query_tree.specs.Turns.{Reads};
 ghost use Rattle.bq_query_tree.specs.Reading as spec;
 ghost use Rattle.bq_query_parse.specs.Tokens.{IsInText};
 ghost use Rattle.bq_query_parse.specs.Parses.{Parses, Gives, whole_query};
 
-use crate::grammar::Grammar;
-use crate::tokens::Tokens;
-use bq_query::{QueryErr, Token, lex_query};
-use bq_query_tree::{Query, Refusal};
+use crate::grammar::QueryGrammar;
+use crate::tokens::QueryTokens;
+use bq_query::{QueryErr, QueryToken, lex_query};
+use bq_query_tree::{Query, QuerySyntaxErr};
 use std::alloc::Global;
 
 /// How many parentheses and lets may be open.
 const MAX_OPEN: usize = 64;
 
 /// A query in which so many parentheses and lets less one may be open.
-fn query(alloc: Global, tokens: &mut Tokens<'_>, depth: usize) -> Result<Query, Refusal>
+fn query(alloc: Global, tokens: &mut QueryTokens<'_>, depth: usize) -> Result<Query, QuerySyntaxErr>
     ensures { Reads (spec.query_to depth tokens.old) result tokens.new }
 {
     if depth == 0 {
-        return Err(Refusal::Syntax);
+        return Err(QuerySyntaxErr::Syntax);
     }
-    Grammar {
+    QueryGrammar {
         alloc,
         depth: depth - 1,
         query,
@@ -34,30 +34,30 @@ fn query(alloc: Global, tokens: &mut Tokens<'_>, depth: usize) -> Result<Query, 
 }
 
 /// The tree of all these tokens.
-fn whole_query(alloc: Global, text: &[u8], tokens: &[Token]) -> Result<Query, Refusal>
+fn whole_query(alloc: Global, text: &[u8], tokens: &[QueryToken]) -> Result<Query, QuerySyntaxErr>
     requires { All (IsInText text.now) tokens.now }
     ensures { Gives (whole_query (lexemes text.now tokens.now)) result }
 {
-    let mut rest = Tokens::new(text, tokens);
+    let mut rest = QueryTokens::new(text, tokens);
     let tree = query(alloc, &mut rest, MAX_OPEN + 1)?;
     match rest.peek() {
-        Some(_) => Err(Refusal::Syntax),
+        Some(_) => Err(QuerySyntaxErr::Syntax),
         None => Ok(tree),
     }
 }
 
 /// Out of memory, but for a text that can't be cut: the lexer refuses for nothing else.
-fn refused(error: QueryErr) -> Refusal
+fn refused(error: QueryErr) -> QuerySyntaxErr
     ensures { result ≢ Memory → error ≡ Syntax }
 {
     match error {
-        QueryErr::Syntax => Refusal::Syntax,
-        _ => Refusal::Memory,
+        QueryErr::Syntax => QuerySyntaxErr::Syntax,
+        _ => QuerySyntaxErr::Memory,
     }
 }
 
 /// The tree of the text, or that it has none. It takes time linear in the text.
-pub fn parse_tree(alloc: Global, text: &[u8]) -> Result<Query, Refusal>
+pub fn parse_tree(alloc: Global, text: &[u8]) -> Result<Query, QuerySyntaxErr>
     ensures { Parses text.now result }
 {
     match lex_query(alloc, text) {

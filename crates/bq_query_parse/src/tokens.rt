@@ -8,35 +8,35 @@ ghost use Rattle.bq_query_tree.specs.Grammar as grammar;
 ghost use Rattle.bq_query_tree.specs.Reading as spec;
 ghost use Rattle.bq_query_parse.specs.Tokens as ahead;
 
-use bq_query::{Token, TokenKind, is_variable_name};
-use bq_query_tree::{Operator, Refusal};
+use bq_query::{QueryToken, QueryTokenKind, is_variable_name};
+use bq_query_tree::{SetOperator, QuerySyntaxErr};
 use bq_source::Bytes;
 use std::alloc::{AllocError, Global};
 use std::marker::Model;
 
-fn same_kind(kind: TokenKind, other: TokenKind) -> bool
+fn same_kind(kind: QueryTokenKind, other: QueryTokenKind) -> bool
     ensures { result ≡ lexeme.same_kind kind other }
 {
     kind == other
 }
 
-fn is_word(kind: TokenKind) -> bool
+fn is_word(kind: QueryTokenKind) -> bool
     ensures { result ≡ spec.is_word kind }
 {
     match kind {
-        TokenKind::Word => true,
-        TokenKind::Quoted => true,
+        QueryTokenKind::Word => true,
+        QueryTokenKind::Quoted => true,
         _ => false,
     }
 }
 
-fn operator(kind: TokenKind) -> Option<Operator>
+fn operator(kind: QueryTokenKind) -> Option<SetOperator>
     ensures { result ≡ grammar.operator kind }
 {
     match kind {
-        TokenKind::Union => Some(Operator::Union),
-        TokenKind::Intersect => Some(Operator::Intersect),
-        TokenKind::Except => Some(Operator::Except),
+        QueryTokenKind::Union => Some(SetOperator::Union),
+        QueryTokenKind::Intersect => Some(SetOperator::Intersect),
+        QueryTokenKind::Except => Some(SetOperator::Except),
         _ => None,
     }
 }
@@ -62,12 +62,12 @@ fn variable_name(spelling: &[u8]) -> &[u8]
 }
 
 #[derive(Drop)]
-pub struct Tokens<'a> {
+pub struct QueryTokens<'a> {
     text: &'a [u8],
-    rest: &'a [Token],
+    rest: &'a [QueryToken],
 }
 
-impl<'a> Model for Tokens<'a> {
+impl<'a> Model for QueryTokens<'a> {
     ghost use Rattle.std.specs.Prelude.{List};
     ghost use Rattle.bq_query_tree.specs.Lexeme.{Lexeme};
 
@@ -80,12 +80,12 @@ impl<'a> Model for Tokens<'a> {
     ghost invariant = { AreInText };
 }
 
-impl<'a> Tokens<'a> {
-    pub fn new(text: &'a [u8], rest: &'a [Token]) -> Tokens<'a>
+impl<'a> QueryTokens<'a> {
+    pub fn new(text: &'a [u8], rest: &'a [QueryToken]) -> QueryTokens<'a>
         requires { All (ahead.IsInText text.now) rest.now }
         ensures { result ≡ lexeme.lexemes text.now rest.now }
     {
-        Tokens { text, rest }
+        QueryTokens { text, rest }
     }
 
     /// How many tokens are left.
@@ -96,7 +96,7 @@ impl<'a> Tokens<'a> {
         self.rest.len()
     }
 
-    pub fn peek(&self) -> Option<TokenKind>
+    pub fn peek(&self) -> Option<QueryTokenKind>
         ensures { result ≡ ahead.kind_ahead self.now }
     {
         match self.rest.first() {
@@ -105,7 +105,7 @@ impl<'a> Tokens<'a> {
         }
     }
 
-    pub fn sees(&self, kind: TokenKind) -> bool
+    pub fn sees(&self, kind: QueryTokenKind) -> bool
         ensures { result ≡ turns.sees kind self.now }
     {
         match self.rest.first() {
@@ -137,16 +137,16 @@ impl<'a> Tokens<'a> {
     pub fn sees_let_next(&self) -> bool
         ensures { result ≡ ahead.let_is_next self.now }
     {
-        let mut next = Tokens {
+        let mut next = QueryTokens {
             text: self.text,
             rest: self.rest,
         };
         next.advance();
-        next.sees(TokenKind::Let)
+        next.sees(QueryTokenKind::Let)
     }
 
     /// Passes the next token if it is of this kind.
-    pub fn eat(&mut self, kind: TokenKind) -> bool
+    pub fn eat(&mut self, kind: QueryTokenKind) -> bool
         ensures found { result ≡ turns.sees kind self.old }
         ensures after { self.new ≡ turns.after kind self.old }
     {
@@ -158,25 +158,25 @@ impl<'a> Tokens<'a> {
     }
 
     /// Passes the next token, which must be of this kind.
-    pub fn expect(&mut self, kind: TokenKind) -> Result<(), Refusal>
+    pub fn expect(&mut self, kind: QueryTokenKind) -> Result<(), QuerySyntaxErr>
         ensures { Reads (turns.expect kind self.old) result self.new }
     {
         if self.sees(kind) {
             self.advance();
             Ok(())
         } else {
-            Err(Refusal::Syntax)
+            Err(QuerySyntaxErr::Syntax)
         }
     }
 
     /// `(`, where one more may be opened
-    pub fn opening(&mut self, depth: usize) -> Result<(), Refusal>
+    pub fn opening(&mut self, depth: usize) -> Result<(), QuerySyntaxErr>
         ensures { Reads (spec.opening depth self.old) result self.new }
     {
         if depth == 0 {
-            return Err(Refusal::Syntax);
+            return Err(QuerySyntaxErr::Syntax);
         }
-        self.expect(TokenKind::Open)
+        self.expect(QueryTokenKind::Open)
     }
 
     /// The next token, as it is written.
@@ -217,26 +217,26 @@ impl<'a> Tokens<'a> {
     }
 
     /// Word = word | quoted
-    pub fn word(&mut self, alloc: Global) -> Result<Bytes, Refusal>
+    pub fn word(&mut self, alloc: Global) -> Result<Bytes, QuerySyntaxErr>
         ensures { Reads (spec.a_word self.old) result self.new }
     {
         match self.peek() {
-            Some(TokenKind::Word) => Ok(self.bare(alloc)?),
-            Some(TokenKind::Quoted) => Ok(self.quoted(alloc)?),
-            Some(_) => Err(Refusal::Syntax),
-            None => Err(Refusal::Syntax),
+            Some(QueryTokenKind::Word) => Ok(self.bare(alloc)?),
+            Some(QueryTokenKind::Quoted) => Ok(self.quoted(alloc)?),
+            Some(_) => Err(QuerySyntaxErr::Syntax),
+            None => Err(QuerySyntaxErr::Syntax),
         }
     }
 
     /// The name of a variable, without quotes.
-    pub fn name(&mut self, alloc: Global) -> Result<Bytes, Refusal>
+    pub fn name(&mut self, alloc: Global) -> Result<Bytes, QuerySyntaxErr>
         ensures { Reads (spec.a_name self.old) result self.new }
     {
-        if !self.sees(TokenKind::Word) {
-            return Err(Refusal::Syntax);
+        if !self.sees(QueryTokenKind::Word) {
+            return Err(QuerySyntaxErr::Syntax);
         }
         if !is_variable_name(self.spelling()) {
-            return Err(Refusal::Syntax);
+            return Err(QuerySyntaxErr::Syntax);
         }
         Ok(self.bare(alloc)?)
     }
@@ -251,7 +251,7 @@ impl<'a> Tokens<'a> {
         }
     }
 
-    pub fn operator(&mut self) -> Result<Operator, Refusal>
+    pub fn operator(&mut self) -> Result<SetOperator, QuerySyntaxErr>
         ensures { Reads (spec.an_operator self.old) result self.new }
     {
         match self.rest.first() {
@@ -260,9 +260,9 @@ impl<'a> Tokens<'a> {
                     self.advance();
                     Ok(found)
                 }
-                None => Err(Refusal::Syntax),
+                None => Err(QuerySyntaxErr::Syntax),
             },
-            None => Err(Refusal::Syntax),
+            None => Err(QuerySyntaxErr::Syntax),
         }
     }
 }

@@ -1,18 +1,18 @@
 -- What it is that a reading function finds the phrases that the grammar relates to the tokens, and the repetition.
 use Rattle.std.proofs.Common.{◌≡◌, ℕ, zero, suc, ◌+◌, ◌≤◌, Bool, true, false, cond, List, [], ◌∷◌, ◌++◌, length, Some, None, refl, sym, ap, ◌∙◌, subst, append_assoc, append-nil, arith}
-use Rattle.bq_query.specs.declared.token.TokenKind.{TokenKind}
+use Rattle.bq_query.specs.declared.token.QueryTokenKind.{QueryTokenKind}
 use Rattle.bq_query_tree.specs.Lexeme.{Lexeme, same_kind}
 use Rattle.bq_query_tree.specs.Phrases.{Phrase, none, Repeat, over, again}
 use Rattle.bq_query_tree.specs.Turns.{Found, Parse, ◌>>=◌, sees, next, expect, ended, next_turn, turns, goes_with, repeat_turn, repeat}
 use Rattle.bq_query_tree.proofs.NextToken.{is_kind, sees_it, apart}
 
 -- the next token is one of these
-abbrev pub Begins : (TokenKind → Bool) → List Lexeme → Type 0
+abbrev pub Begins : (QueryTokenKind → Bool) → List Lexeme → Type 0
 Begins first [] = ⊥
 Begins first (t ∷ ts) = first t.kind ≡ true
 
 -- the next token is one of these, or none is left
-abbrev pub Stops : (TokenKind → Bool) → List Lexeme → Type 0
+abbrev pub Stops : (QueryTokenKind → Bool) → List Lexeme → Type 0
 Stops ends [] = Unit {0}
 Stops ends (t ∷ ts) = ends t.kind ≡ true
 
@@ -25,13 +25,13 @@ Owes A S None = Unit {0}
 pub data Met {A : Type 0} (n : ℕ) (ts : List Lexeme) (found : Found A) (x : A) (rest : List Lexeme) : Type 0 where
   met : found ≡ Some (x, rest) → n + length rest ≤ length ts → Met n ts found x rest
 
-pub record Agrees {A : Type 0} (first ends : TokenKind → Bool) (X : Phrase A) (r : Parse A) : Type 0 where
+pub record Agrees {A : Type 0} (first ends : QueryTokenKind → Bool) (X : Phrase A) (r : Parse A) : Type 0 where
   pub begins : (ts rest : List Lexeme) (x : A) → X ts rest x → Begins first ts
   pub sound : (ts : List Lexeme) → Owes A (X ts) (r ts)
   pub complete : (ts rest : List Lexeme) (x : A) → X ts rest x → Stops ends rest → Met 1 ts (r ts) x rest
 
 -- nothing is read where nothing is a phrase
-pub none_agrees : {A : Type 0} (first ends : TokenKind → Bool) → Agrees first ends (none {A = A}) (λ ts. None)
+pub none_agrees : {A : Type 0} (first ends : QueryTokenKind → Bool) → Agrees first ends (none {A = A}) (λ ts. None)
 none_agrees first ends = record { begins = λ ts rest x p. absurd p; sound = λ ts. tt; complete = λ ts rest x p s. absurd p }
 
 -- ---- steps of soundness
@@ -47,7 +47,7 @@ seq R S (Some z) f h g = g z.0 z.1 h
 seq R S None f h g = tt
 
 -- what holds of the tokens holds of the next and those after it
-pub expects : {B : Type 0} (P : List Lexeme → Type 0) (S : List Lexeme → B → Type 0) (q : TokenKind) (ts : List Lexeme) (f : Unit {0} → Parse B)
+pub expects : {B : Type 0} (P : List Lexeme → Type 0) (S : List Lexeme → B → Type 0) (q : QueryTokenKind) (ts : List Lexeme) (f : Unit {0} → Parse B)
     → P ts → ((t : Lexeme) (us : List Lexeme) → t.kind ≡ q → P (t ∷ us) → Owes B S (f tt us)) → Owes B S (expect q ts >>= f)
 expects P S q [] f p g = tt
 expects {B = B} P S q (t ∷ us) f p g = go (same_kind t.kind q) (is_kind t.kind q)
@@ -57,7 +57,7 @@ expects {B = B} P S q (t ∷ us) f p g = go (same_kind t.kind q) (is_kind t.kind
     go false h = tt
 
 -- the first token of a phrase
-pub opens : {B : Type 0} (S : List Lexeme → List Lexeme → B → Type 0) (q : TokenKind) (ts : List Lexeme) (f : Unit {0} → Parse B)
+pub opens : {B : Type 0} (S : List Lexeme → List Lexeme → B → Type 0) (q : QueryTokenKind) (ts : List Lexeme) (f : Unit {0} → Parse B)
     → ((t : Lexeme) (us : List Lexeme) → t.kind ≡ q → Owes B (S (t ∷ us)) (f tt us)) → Owes B (S ts) (expect q ts >>= f)
 opens S q [] f g = tt
 opens {B = B} S q (t ∷ us) f g = go (same_kind t.kind q) (is_kind t.kind q)
@@ -66,7 +66,7 @@ opens {B = B} S q (t ∷ us) f g = go (same_kind t.kind q) (is_kind t.kind q)
     go true h = g t us (h refl)
     go false h = tt
 
-pub opens_if : {B : Type 0} (S : List Lexeme → List Lexeme → B → Type 0) (q : TokenKind) (ts : List Lexeme) (f : Parse B) (r : Found B)
+pub opens_if : {B : Type 0} (S : List Lexeme → List Lexeme → B → Type 0) (q : QueryTokenKind) (ts : List Lexeme) (f : Parse B) (r : Found B)
     → ((t : Lexeme) (us : List Lexeme) → t.kind ≡ q → Owes B (S (t ∷ us)) (f us)) → (sees q ts ≡ false → Owes B (S ts) r)
     → Owes B (S ts) (cond (sees q ts) (f (next ts)) r)
 opens_if S q [] f r g h = h refl
@@ -102,7 +102,7 @@ pub met_then0 : {A B : Type 0} {ts mid rest : List Lexeme} {x : A} {y : B} (r : 
     → Met 0 ts r x mid → Met 0 mid (f x mid) y rest → Met 0 ts (r >>= f) y rest
 met_then0 r f (met a s) (met b u) = met (ap (λ q. q >>= f) a ∙ b) (omega arith)
 
-pub met_expect : {B : Type 0} {rest : List Lexeme} {y : B} (q : TokenKind) (t : Lexeme) (ts : List Lexeme) (f : Unit {0} → Parse B) → t.kind ≡ q
+pub met_expect : {B : Type 0} {rest : List Lexeme} {y : B} (q : QueryTokenKind) (t : Lexeme) (ts : List Lexeme) (f : Unit {0} → Parse B) → t.kind ≡ q
     → Met 0 ts (f tt ts) y rest → Met 1 (t ∷ ts) (expect q (t ∷ ts) >>= f) y rest
 met_expect q t ts f e m = met_over t ts (met_is _ _ (ap (λ b. cond b (Some (tt, ts)) None >>= f) (sees_it t ts q e)) m)
 
@@ -112,25 +112,25 @@ met_yes b f g e m = met_is _ _ (ap (λ b. cond b f g) e) m
 pub met_no : {A : Type 0} {n : ℕ} {ts rest : List Lexeme} {x : A} (b : Bool) (f g : Found A) → b ≡ false → Met n ts g x rest → Met n ts (cond b f g) x rest
 met_no b f g e m = met_is _ _ (ap (λ b. cond b f g) e) m
 
-pub begins_no : (first : TokenKind → Bool) (ts : List Lexeme) (q : TokenKind) → Begins first ts → first q ≡ false → sees q ts ≡ false
+pub begins_no : (first : QueryTokenKind → Bool) (ts : List Lexeme) (q : QueryTokenKind) → Begins first ts → first q ≡ false → sees q ts ≡ false
 begins_no first [] q b e = absurd b
 begins_no first (t ∷ ts) q b e = apart first t.kind q b e
 
-pub stops_no : (ends : TokenKind → Bool) (ts : List Lexeme) (q : TokenKind) → Stops ends ts → ends q ≡ false → sees q ts ≡ false
+pub stops_no : (ends : QueryTokenKind → Bool) (ts : List Lexeme) (q : QueryTokenKind) → Stops ends ts → ends q ≡ false → sees q ts ≡ false
 stops_no ends [] q b e = refl
 stops_no ends (t ∷ ts) q b e = apart ends t.kind q b e
 
-pub stops_wide : (ends wider : TokenKind → Bool) (ts : List Lexeme) → ((q : TokenKind) → ends q ≡ true → wider q ≡ true) → Stops ends ts → Stops wider ts
+pub stops_wide : (ends wider : QueryTokenKind → Bool) (ts : List Lexeme) → ((q : QueryTokenKind) → ends q ≡ true → wider q ≡ true) → Stops ends ts → Stops wider ts
 stops_wide ends wider [] f s = tt
 stops_wide ends wider (t ∷ ts) f s = f t.kind s
 
-pub begins_stops : (first ends : TokenKind → Bool) (ts : List Lexeme) → ((q : TokenKind) → first q ≡ true → ends q ≡ true) → Begins first ts → Stops ends ts
+pub begins_stops : (first ends : QueryTokenKind → Bool) (ts : List Lexeme) → ((q : QueryTokenKind) → first q ≡ true → ends q ≡ true) → Begins first ts → Stops ends ts
 begins_stops first ends [] f s = absurd s
 begins_stops first ends (t ∷ ts) f s = f t.kind s
 
 -- ---- { X }
 
-module _ {A : Type 0} {first ends : TokenKind → Bool} (X : Phrase A) (r : Parse A) (ag : Agrees first ends X r) (test : List Lexeme → Bool) where
+module _ {A : Type 0} {first ends : QueryTokenKind → Bool} (X : Phrase A) (r : Parse A) (ag : Agrees first ends X r) (test : List Lexeme → Bool) where
   abbrev Further : List A → List Lexeme → List Lexeme → List A → Type 0
   Further found ts rest ys = (xs : List A) × (ys ≡ found ++ xs) × Repeat X ts rest xs
 
@@ -154,7 +154,7 @@ module _ {A : Type 0} {first ends : TokenKind → Bool} (X : Phrase A) (r : Pars
   unfolding repeat
   repeat_sound found ts = repeat_owes (length ts) found ts
 
-  module _ (yes : (ts : List Lexeme) → Begins first ts → test ts ≡ true) (joins : (q : TokenKind) → first q ≡ true → ends q ≡ true) where
+  module _ (yes : (ts : List Lexeme) → Begins first ts → test ts ≡ true) (joins : (q : QueryTokenKind) → first q ≡ true → ends q ≡ true) where
     pub repeat_stops : (ts rest : List Lexeme) (xs : List A) → Repeat X ts rest xs → Stops ends rest → Stops ends ts
     repeat_stops ts rest xs over s = s
     repeat_stops ts rest xs (again {mid = mid} {x = x} p ps) s = begins_stops first ends ts joins (ag.begins ts mid x p)

@@ -1,11 +1,11 @@
 -- Chains of operators, and the layers of the grammar.
 use Rattle.std.proofs.Common.{◌≡◌, ℕ, zero, suc, ◌≤◌, Bool, true, false, cond, List, [], ◌∷◌, ◌++◌, length, Some, None, refl, sym, ap, ◌∙◌, subst, append_assoc, append-nil, arith}
-use Rattle.bq_query.specs.declared.token.TokenKind.{TokenKind}
-use Rattle.bq_query.specs.declared.token.TokenKind.TheVariants as k
+use Rattle.bq_query.specs.declared.token.QueryTokenKind.{QueryTokenKind}
+use Rattle.bq_query.specs.declared.token.QueryTokenKind.TheVariants as k
 use Rattle.bq_query_tree.specs.Lexeme.{Lexeme, same_kind}
-use Rattle.bq_query_tree.specs.declared.tree.Operator.{Operator}
+use Rattle.bq_query_tree.specs.declared.tree.SetOperator.{SetOperator}
 use Rattle.bq_query_tree.specs.declared.tree.Query.{Query}
-use Rattle.bq_query_tree.specs.declared.tree.Operation.{Operation}
+use Rattle.bq_query_tree.specs.declared.tree.SetOperation.{SetOperation}
 use Rattle.bq_query_tree.specs.Phrases.{Phrase, none}
 use Rattle.bq_query_tree.specs.Grammar as G
 use Rattle.bq_query_tree.specs.Grammar.{operator, operation, chain_of, IsOperand, IsLet, AreOperations, IsQueryOver, IsQueryTo}
@@ -21,8 +21,8 @@ module _ (depth : ℕ) (Inner : Phrase Query) (inner : Parse Query) (ag : Agrees
   -- ---- one operation
 
   -- an operation, and whether it is a let
-  abbrev OneOperation : Bool → List Lexeme → List Lexeme → Operation → Type 0
-  OneOperation last ts rest y = (t : Lexeme) × (us : List Lexeme) × (o : Operator) × (x : Query) × (ts ≡ t ∷ us) × (operator t.kind ≡ Some o) × (y ≡ operation o x)
+  abbrev OneOperation : Bool → List Lexeme → List Lexeme → SetOperation → Type 0
+  OneOperation last ts rest y = (t : Lexeme) × (us : List Lexeme) × (o : SetOperator) × (x : Query) × (ts ≡ t ∷ us) × (operator t.kind ≡ Some o) × (y ≡ operation o x)
       × cond last (IsLet depth Inner us rest x) (IsOperand depth Inner us rest x)
 
   term_owes : (ts : List Lexeme) → Owes Query (λ rest x. cond (sees k.Let ts) (IsLet depth Inner ts rest x) (IsOperand depth Inner ts rest x)) (term depth inner ts)
@@ -33,50 +33,50 @@ module _ (depth : ℕ) (Inner : Phrase Query) (inner : Parse Query) (ag : Agrees
       go true e = let_sound depth Inner inner ag t ts (e refl)
       go false e = (operand_agrees depth Inner inner ag).sound (t ∷ ts)
 
-  operation_owes : (ts : List Lexeme) → Owes Operation (OneOperation (sees k.Let (next ts)) ts) (an_operation depth inner ts)
+  operation_owes : (ts : List Lexeme) → Owes SetOperation (OneOperation (sees k.Let (next ts)) ts) (an_operation depth inner ts)
   unfolding an_operation
   operation_owes [] = tt
   operation_owes (t ∷ ts) = go (operator t.kind) refl
     where
-      go : (m : _) → operator t.kind ≡ m → Owes Operation (OneOperation (sees k.Let ts) (t ∷ ts)) (known m ts >>= λ o us. term depth inner us >>= λ x rest. Some (operation o x, rest))
+      go : (m : _) → operator t.kind ≡ m → Owes SetOperation (OneOperation (sees k.Let ts) (t ∷ ts)) (known m ts >>= λ o us. term depth inner us >>= λ x rest. Some (operation o x, rest))
       go None e = tt
       go (Some o) e = seq (λ rest x. cond (sees k.Let ts) (IsLet depth Inner ts rest x) (IsOperand depth Inner ts rest x)) (OneOperation (sees k.Let ts) (t ∷ ts)) (term depth inner ts) (λ x rest. Some (operation o x, rest)) (term_owes ts)
           (λ x rest p. (t, ts, o, x, refl, e, refl, p))
 
   -- ---- operations
 
-  abbrev Further : List Operation → List Lexeme → List Lexeme → List Operation → Type 0
-  Further found ts rest ys = (xs : List Operation) × (ys ≡ found ++ xs) × AreOperations depth Inner ts rest xs
+  abbrev Further : List SetOperation → List Lexeme → List Lexeme → List SetOperation → Type 0
+  Further found ts rest ys = (xs : List SetOperation) × (ys ≡ found ++ xs) × AreOperations depth Inner ts rest xs
 
-  one_last : (ts rest : List Lexeme) (y : Operation) → OneOperation true ts rest y → AreOperations depth Inner ts rest (y ∷ [])
+  one_last : (ts rest : List Lexeme) (y : SetOperation) → OneOperation true ts rest y → AreOperations depth Inner ts rest (y ∷ [])
   one_last ts rest y (t, us, o, x, e, f, g, p) = subst (λ z. AreOperations depth Inner ts rest (z ∷ [])) (sym g) (subst (λ m. AreOperations depth Inner m rest (operation o x ∷ [])) (sym e) (G.last_one f p))
 
-  one_first : (ts mid rest : List Lexeme) (y : Operation) (ys : List Operation) → OneOperation false ts mid y → AreOperations depth Inner mid rest ys → AreOperations depth Inner ts rest (y ∷ ys)
+  one_first : (ts mid rest : List Lexeme) (y : SetOperation) (ys : List SetOperation) → OneOperation false ts mid y → AreOperations depth Inner mid rest ys → AreOperations depth Inner ts rest (y ∷ ys)
   one_first ts mid rest y ys (t, us, o, x, e, f, g, p) ps = subst (λ z. AreOperations depth Inner ts rest (z ∷ ys)) (sym g) (subst (λ m. AreOperations depth Inner m rest (operation o x ∷ ys)) (sym e) (G.one_more f p ps))
 
-  operations_owe : (n : ℕ) (found : List Operation) (ts : List Lexeme) → Owes (List Operation) (Further found ts) (turns (operation_turn depth inner) n found ts)
+  operations_owe : (n : ℕ) (found : List SetOperation) (ts : List Lexeme) → Owes (List SetOperation) (Further found ts) (turns (operation_turn depth inner) n found ts)
   unfolding turns
   operations_owe zero found ts = ([], sym (append-nil found), G.no_more)
   operations_owe (suc n) found ts = go (operations_owe n) (begins_operation ts)
     where
-      one : ((found : List Operation) (ts : List Lexeme) → Owes (List Operation) (Further found ts) (turns (operation_turn depth inner) n found ts)) → (last : Bool) (z : Found Operation) → Owes Operation (OneOperation last ts) z
-          → Owes (List Operation) (Further found ts) (next_turn (turns (operation_turn depth inner) n) (joined found last z))
+      one : ((found : List SetOperation) (ts : List Lexeme) → Owes (List SetOperation) (Further found ts) (turns (operation_turn depth inner) n found ts)) → (last : Bool) (z : Found SetOperation) → Owes SetOperation (OneOperation last ts) z
+          → Owes (List SetOperation) (Further found ts) (next_turn (turns (operation_turn depth inner) n) (joined found last z))
       one more last None h = tt
       one more true (Some p) h = (p.0 ∷ [], refl, one_last ts p.1 p.0 h)
       one more false (Some p) h = owes_as (Further (found ++ p.0 ∷ []) p.1) (Further found ts) _ (more (found ++ p.0 ∷ []) p.1)
           (λ ys rest w. (p.0 ∷ w.0, w.1 ∙ append_assoc found (p.0 ∷ []) w.0, one_first ts p.1 rest p.0 w.0 h w.2))
 
-      go : ((found : List Operation) (ts : List Lexeme) → Owes (List Operation) (Further found ts) (turns (operation_turn depth inner) n found ts)) → (b : Bool)
-          → Owes (List Operation) (Further found ts) (next_turn (turns (operation_turn depth inner) n) (cond b (joined found (sees k.Let (next ts)) (an_operation depth inner ts)) (ended found ts)))
+      go : ((found : List SetOperation) (ts : List Lexeme) → Owes (List SetOperation) (Further found ts) (turns (operation_turn depth inner) n found ts)) → (b : Bool)
+          → Owes (List SetOperation) (Further found ts) (next_turn (turns (operation_turn depth inner) n) (cond b (joined found (sees k.Let (next ts)) (an_operation depth inner ts)) (ended found ts)))
       go more true = one more (sees k.Let (next ts)) (an_operation depth inner ts) (operation_owes ts)
       go more false = ([], sym (append-nil found), G.no_more)
 
-  operations_sound : (ts : List Lexeme) → Owes (List Operation) (AreOperations depth Inner ts) (operations depth inner [] ts)
+  operations_sound : (ts : List Lexeme) → Owes (List SetOperation) (AreOperations depth Inner ts) (operations depth inner [] ts)
   unfolding operations
   operations_sound ts = owes_as (Further [] ts) (AreOperations depth Inner ts) _ (operations_owe (length ts) [] ts) (λ ys rest w. subst (λ zs. AreOperations depth Inner ts rest zs) (sym w.1) w.2)
 
   -- what follows an operand
-  stops : (ts rest : List Lexeme) (xs : List Operation) → AreOperations depth Inner ts rest xs → Stops ends_query rest → Stops ends_operand ts
+  stops : (ts rest : List Lexeme) (xs : List SetOperation) → AreOperations depth Inner ts rest xs → Stops ends_query rest → Stops ends_operand ts
   stops ts rest xs G.no_more s = stops_wide ends_query ends_operand ts query_ends_operand s
   stops ts rest xs (G.one_more {t = t} e p ps) s = operator_ends t.kind (ap is_known e)
   stops ts rest xs (G.last_one {t = t} e p) s = operator_ends t.kind (ap is_known e)
@@ -89,7 +89,7 @@ module _ (depth : ℕ) (Inner : Phrase Query) (inner : Parse Query) (ag : Agrees
   operand_met ts rest x p s = let oa = operand_agrees depth Inner inner ag in (begins_no first_operand ts k.Let (oa.begins ts rest x p) refl, oa.complete ts rest x p s)
 
   -- an operator and a term that is read whole
-  operation_met : (t : Lexeme) (ts rest : List Lexeme) (o : Operator) (x : Query) (b : Bool) → operator t.kind ≡ Some o → sees k.Let ts ≡ b
+  operation_met : (t : Lexeme) (ts rest : List Lexeme) (o : SetOperator) (x : Query) (b : Bool) → operator t.kind ≡ Some o → sees k.Let ts ≡ b
       → Met 1 ts (cond b (let_in depth inner (next ts)) (operand depth inner ts)) x rest → Met 1 (t ∷ ts) (an_operation depth inner (t ∷ ts)) (operation o x) rest
   unfolding an_operation
   operation_met t ts rest o x b e f m =
@@ -98,14 +98,14 @@ module _ (depth : ℕ) (Inner : Phrase Query) (inner : Parse Query) (ag : Agrees
       (met_is _ _ (ap (λ b. cond b (let_in depth inner (next ts)) (operand depth inner ts)) f) m) (met_done (operation o x) rest))))
 
   -- one turn at an operator
-  turn_at : (n : ℕ) (found : List Operation) (t : Lexeme) (ts : List Lexeme) (o : Operator) (b : Bool) → operator t.kind ≡ Some o → sees k.Let ts ≡ b
+  turn_at : (n : ℕ) (found : List SetOperation) (t : Lexeme) (ts : List Lexeme) (o : SetOperator) (b : Bool) → operator t.kind ≡ Some o → sees k.Let ts ≡ b
       → turns (operation_turn depth inner) (suc n) found (t ∷ ts) ≡ next_turn (turns (operation_turn depth inner) n) (joined found b (an_operation depth inner (t ∷ ts)))
   unfolding turns
   turn_at n found t ts o b e f =
       ap (λ c. next_turn (turns (operation_turn depth inner) n) (cond c (joined found (sees k.Let ts) (an_operation depth inner (t ∷ ts))) (ended found (t ∷ ts)))) (ap is_known e)
       ∙ ap (λ c. next_turn (turns (operation_turn depth inner) n) (joined found c (an_operation depth inner (t ∷ ts)))) f
 
-  operations_met : (n : ℕ) (found : List Operation) (ts rest : List Lexeme) (xs : List Operation) → AreOperations depth Inner ts rest xs → Stops ends_query rest → length ts ≤ n
+  operations_met : (n : ℕ) (found : List SetOperation) (ts rest : List Lexeme) (xs : List SetOperation) → AreOperations depth Inner ts rest xs → Stops ends_query rest → length ts ≤ n
       → Met 0 ts (turns (operation_turn depth inner) n found ts) (found ++ xs) rest
   unfolding turns
   operations_met zero found ts rest xs G.no_more s le = met (ap (λ ys. Some (ys, ts)) (sym (append-nil found))) (omega arith)
@@ -119,7 +119,7 @@ module _ (depth : ℕ) (Inner : Phrase Query) (inner : Parse Query) (ag : Agrees
       met_is _ _ (turn_at n found t ts o false e w.0)
       (go (λ below. operations_met n (found ++ operation o x ∷ []) mid rest ys ps s below) (operation_met t ts mid o x false e w.0 w.1))
     where
-      longer : {zs : List Operation} {f : Found (List Operation)} → length mid ≤ suc (length ts) → Met 0 mid f zs rest → Met 0 (t ∷ ts) f zs rest
+      longer : {zs : List SetOperation} {f : Found (List SetOperation)} → length mid ≤ suc (length ts) → Met 0 mid f zs rest → Met 0 (t ∷ ts) f zs rest
       longer l (met b u) = met b (omega arith)
 
       go : (length mid ≤ n → Met 0 mid (turns (operation_turn depth inner) n (found ++ operation o x ∷ []) mid) ((found ++ operation o x ∷ []) ++ ys) rest) → Met 1 (t ∷ ts) (an_operation depth inner (t ∷ ts)) (operation o x) mid
@@ -134,7 +134,7 @@ module _ (depth : ℕ) (Inner : Phrase Query) (inner : Parse Query) (ag : Agrees
           → Met 0 (t ∷ ts) (next_turn (turns (operation_turn depth inner) n) (joined found true (an_operation depth inner (t ∷ ts)))) (found ++ operation o x ∷ []) rest
       go (met a l) = met (ap (λ z. next_turn (turns (operation_turn depth inner) n) (joined found true z)) a) (omega arith)
 
-  operations_complete : (ts rest : List Lexeme) (xs : List Operation) → AreOperations depth Inner ts rest xs → Stops ends_query rest → Met 0 ts (operations depth inner [] ts) xs rest
+  operations_complete : (ts rest : List Lexeme) (xs : List SetOperation) → AreOperations depth Inner ts rest xs → Stops ends_query rest → Met 0 ts (operations depth inner [] ts) xs rest
   unfolding operations
   operations_complete ts rest xs p s = operations_met (length ts) [] ts rest xs p s (omega arith)
 
@@ -172,7 +172,7 @@ module _ (depth : ℕ) (Inner : Phrase Query) (inner : Parse Query) (ag : Agrees
 
 -- ---- layers
 
-agree_as : {first ends : TokenKind → Bool} (X : Phrase Query) (r q : Parse Query) → ((ts : List Lexeme) → q ts ≡ r ts) → Agrees first ends X r → Agrees first ends X q
+agree_as : {first ends : QueryTokenKind → Bool} (X : Phrase Query) (r q : Parse Query) → ((ts : List Lexeme) → q ts ≡ r ts) → Agrees first ends X r → Agrees first ends X q
 agree_as X r q same ag = record {
   begins = ag.begins;
   sound = λ ts. subst (Owes Query (X ts)) (sym (same ts)) (ag.sound ts);

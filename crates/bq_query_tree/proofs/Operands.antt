@@ -3,8 +3,8 @@ use Rattle.std.proofs.Common.{◌≡◌, ℕ, zero, suc, ◌<◌, Bool, true, fa
 use Rattle.std.specs.Prelude.{◌==◌}
 use Rattle.std.proofs.lemmas.Bool.{eqb-true}
 use Rattle.bq_query.specs.Lexis.{is_variable_name}
-use Rattle.bq_query.specs.declared.token.TokenKind.{TokenKind}
-use Rattle.bq_query.specs.declared.token.TokenKind.TheVariants as k
+use Rattle.bq_query.specs.declared.token.QueryTokenKind.{QueryTokenKind}
+use Rattle.bq_query.specs.declared.token.QueryTokenKind.TheVariants as k
 use Rattle.bq_query_tree.specs.Lexeme.{Lexeme, same_kind}
 use Rattle.bq_query_tree.specs.declared.tree.Query.{Query}
 use Rattle.bq_query_tree.specs.declared.tree.Query.TheVariants as q
@@ -20,7 +20,7 @@ use Rattle.bq_query_tree.proofs.Agrees.{Begins, Stops, Owes, Met, met, Agrees, e
 
 -- ---- words
 
-word_at : (q : TokenKind) (t : Lexeme) (ts : List Lexeme) → t.kind ≡ q → Owes (List ℕ) (IsWord (t ∷ ts)) (word_by q t ts)
+word_at : (q : QueryTokenKind) (t : Lexeme) (ts : List Lexeme) → t.kind ≡ q → Owes (List ℕ) (IsWord (t ∷ ts)) (word_by q t ts)
 word_at k.Word t ts e = G.bare e refl
 word_at k.Quoted t ts e = G.quoted e refl
 word_at _ t ts e = tt
@@ -44,7 +44,7 @@ word_seen : (ts : List Lexeme) → Begins is_word ts → begins_word ts ≡ true
 word_seen [] b = absurd b
 word_seen (t ∷ ts) b = b
 
-joins_any : (q : TokenKind) → is_word q ≡ true → any q ≡ true
+joins_any : (q : QueryTokenKind) → is_word q ≡ true → any q ≡ true
 joins_any q e = refl
 
 -- ---- '(' where one more may be opened
@@ -88,7 +88,7 @@ module _ (depth : ℕ) (Inner : Phrase Query) (inner : Parse Query) (ag : Agrees
   comma_seen [] b = absurd b
   comma_seen (t ∷ ts) b = sees_it t ts k.Comma (is_it t.kind b)
     where
-      is_it : (q : TokenKind) → is_comma q ≡ true → q ≡ k.Comma
+      is_it : (q : QueryTokenKind) → is_comma q ≡ true → q ≡ k.Comma
       is_it k.Comma e = refl
       is_it q e = absurd (cc)
 
@@ -138,7 +138,7 @@ module _ (depth : ℕ) (Inner : Phrase Query) (inner : Parse Query) (ag : Agrees
       (λ l t us e. seq (AreArguments Inner us) (IsOperand depth Inner (f ∷ t ∷ us)) (arguments inner us) (λ xs rest. Some (q.Call f.spelling xs, rest)) (arguments_sound us)
       (λ xs rest p. G.call l is e p refl))
 
-  operand_at : (q : TokenKind) (t : Lexeme) (ts : List Lexeme) → t.kind ≡ q → Owes Query (IsOperand depth Inner (t ∷ ts)) (operand_by depth inner q t ts)
+  operand_at : (q : QueryTokenKind) (t : Lexeme) (ts : List Lexeme) → t.kind ≡ q → Owes Query (IsOperand depth Inner (t ∷ ts)) (operand_by depth inner q t ts)
   operand_at k.Word t ts e = either (Owes Query (IsOperand depth Inner (t ∷ ts))) (sees k.Open ts) (call depth inner t.spelling ts) (Some (q.Word t.spelling, ts))
       (λ y. call_sound t ts e) (λ n. G.word (G.bare e refl))
   operand_at k.Quoted t ts e = G.word (G.quoted e refl)
@@ -147,7 +147,7 @@ module _ (depth : ℕ) (Inner : Phrase Query) (inner : Parse Query) (ag : Agrees
   operand_at k.Set t ts e = set_sound t ts e
   operand_at _ t ts e = tt
 
-  abbrev OperandReading : Lexeme → List Lexeme → TokenKind → Found Query
+  abbrev OperandReading : Lexeme → List Lexeme → QueryTokenKind → Found Query
   OperandReading t ts q = operand_by depth inner q t ts
 
   pub operand_agrees : Agrees first_operand ends_operand (IsOperand depth Inner) (operand depth inner)

@@ -1,29 +1,29 @@
 -- The grammar of queries, by the Bazel query reference, "Expressions: syntax and semantics of the grammar": a case for each
 -- production, under its production. `Inner` is a query inside one more parenthesis or let, of which `depth` more may be opened.
 use Rattle.std.specs.Prelude.{ℕ, zero, suc, List, [], ◌∷◌, ◌≡◌, ◌<◌, true, Option, Some, None}
-use Rattle.bq_query.specs.declared.token.TokenKind.{TokenKind}
-use Rattle.bq_query.specs.declared.token.TokenKind.TheVariants as k
+use Rattle.bq_query.specs.declared.token.QueryTokenKind.{QueryTokenKind}
+use Rattle.bq_query.specs.declared.token.QueryTokenKind.TheVariants as k
 use Rattle.bq_query.specs.Lexis.{is_variable_name}
 use Rattle.bq_query_tree.specs.Lexeme.{Lexeme, unquoted, variable_name}
 use Rattle.bq_query_tree.specs.Phrases.{Phrase, none, Repeat, CommaThen}
-use Rattle.bq_query_tree.specs.declared.tree.Operator.{Operator}
-use Rattle.bq_query_tree.specs.declared.tree.Operator.TheVariants as o
+use Rattle.bq_query_tree.specs.declared.tree.SetOperator.{SetOperator}
+use Rattle.bq_query_tree.specs.declared.tree.SetOperator.TheVariants as o
 use Rattle.bq_query_tree.specs.declared.tree.Query.{Query}
 use Rattle.bq_query_tree.specs.declared.tree.Query.TheVariants as q
-use Rattle.bq_query_tree.specs.declared.tree.Operation.{Operation, roll-Operation}
+use Rattle.bq_query_tree.specs.declared.tree.SetOperation.{SetOperation, roll-SetOperation}
 
 -- the operators, all of one precedence
-abbrev pub operator : TokenKind → Option Operator
+abbrev pub operator : QueryTokenKind → Option SetOperator
 operator k.Union = Some o.Union
 operator k.Intersect = Some o.Intersect
 operator k.Except = Some o.Except
 operator _ = None
 
-abbrev pub operation : Operator → Query → Operation
-operation o x = roll-Operation (record { operator = o; operand = x })
+abbrev pub operation : SetOperator → Query → SetOperation
+operation o x = roll-SetOperation (record { operator = o; operand = x })
 
 -- a chain of one is its only part
-abbrev pub chain_of : Query → List Operation → Query
+abbrev pub chain_of : Query → List SetOperation → Query
 chain_of x [] = x
 chain_of x (y ∷ ys) = q.Chain x (y ∷ ys)
 
@@ -57,18 +57,18 @@ pub data IsLet (depth : ℕ) (Inner : Phrase Query) : List Lexeme → List Lexem
       → z ≡ q.Let n.spelling x y → IsLet depth Inner (l ∷ n ∷ e ∷ ts) rest z
 
 -- Operations = { operator Operand } [ operator Let ]
-pub data AreOperations (depth : ℕ) (Inner : Phrase Query) : List Lexeme → List Lexeme → List Operation → Type 0 where
+pub data AreOperations (depth : ℕ) (Inner : Phrase Query) : List Lexeme → List Lexeme → List SetOperation → Type 0 where
   no_more : {ts : List Lexeme} → AreOperations depth Inner ts ts []
-  one_more : {t : Lexeme} {ts mid rest : List Lexeme} {o : Operator} {x : Query} {xs : List Operation} → operator t.kind ≡ Some o
+  one_more : {t : Lexeme} {ts mid rest : List Lexeme} {o : SetOperator} {x : Query} {xs : List SetOperation} → operator t.kind ≡ Some o
       → IsOperand depth Inner ts mid x → AreOperations depth Inner mid rest xs → AreOperations depth Inner (t ∷ ts) rest (operation o x ∷ xs)
-  last_one : {t : Lexeme} {ts rest : List Lexeme} {o : Operator} {x : Query} → operator t.kind ≡ Some o
+  last_one : {t : Lexeme} {ts rest : List Lexeme} {o : SetOperator} {x : Query} → operator t.kind ≡ Some o
       → IsLet depth Inner ts rest x → AreOperations depth Inner (t ∷ ts) rest (operation o x ∷ [])
 
 -- Query = Let | Operand Operations
 -- What follows `in` reaches as far as it can, so a let stands alone or last.
 pub data IsQueryOver (depth : ℕ) (Inner : Phrase Query) : List Lexeme → List Lexeme → Query → Type 0 where
   bound : {ts rest : List Lexeme} {x : Query} → IsLet depth Inner ts rest x → IsQueryOver depth Inner ts rest x
-  chained : {ts mid rest : List Lexeme} {x y : Query} {os : List Operation}
+  chained : {ts mid rest : List Lexeme} {x y : Query} {os : List SetOperation}
       → IsOperand depth Inner ts mid x → AreOperations depth Inner mid rest os → y ≡ chain_of x os → IsQueryOver depth Inner ts rest y
 
 -- a query in which so many parentheses and lets may be open

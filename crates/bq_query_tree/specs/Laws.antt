@@ -1,7 +1,7 @@
 -- What the reader and the grammar have to do with each other.
 use Rattle.std.specs.Prelude.{ℕ, suc, List, [], ◌∷◌, Bool, true, false, ◌≡◌, Some}
-use Rattle.bq_query.specs.declared.token.TokenKind.{TokenKind}
-use Rattle.bq_query.specs.declared.token.TokenKind.TheVariants as k
+use Rattle.bq_query.specs.declared.token.QueryTokenKind.{QueryTokenKind}
+use Rattle.bq_query.specs.declared.token.QueryTokenKind.TheVariants as k
 use Rattle.bq_query_tree.specs.Lexeme.{Lexeme}
 use Rattle.bq_query_tree.specs.declared.tree.Query.{Query}
 use Rattle.bq_query_tree.specs.Grammar.{IsQueryTo}
@@ -11,7 +11,7 @@ abbrev pub Sound : ℕ → List Lexeme → List Lexeme → Type 0
 Sound depth ts rest = (x : Query) → query_to (suc depth) ts ≡ Some (x, rest) → IsQueryTo depth ts rest x
 
 -- a token that can't go on with a query
-abbrev pub ends_query : TokenKind → Bool
+abbrev pub ends_query : QueryTokenKind → Bool
 ends_query k.Open = false
 ends_query k.Union = false
 ends_query k.Intersect = false

@@ -2,22 +2,22 @@
 use Rattle.std.specs.Prelude.{ℕ, ◌-◌, Bool, List, [], ◌∷◌, length, take, slice_range}
 use denote.Enum.Bare.{sameb}
 use Rattle.bq_query.specs.contracts.token.TokenKind.{the_type}
-use Rattle.bq_query.specs.declared.token.Token.{Token}
-use Rattle.bq_query.specs.declared.token.TokenKind.{TokenKind}
+use Rattle.bq_query.specs.declared.token.QueryToken.{QueryToken}
+use Rattle.bq_query.specs.declared.token.QueryTokenKind.{QueryTokenKind}
 
 pub record Lexeme : Type 0 where
-  pub kind : TokenKind
+  pub kind : QueryTokenKind
   pub spelling : List ℕ
 
-abbrev pub lexeme : List ℕ → Token → Lexeme
+abbrev pub lexeme : List ℕ → QueryToken → Lexeme
 lexeme text t = record { kind = t.kind; spelling = slice_range text t.start t.end }
 
 -- the tokens of a text, with their spellings
-abbrev pub lexemes : List ℕ → List Token → List Lexeme
+abbrev pub lexemes : List ℕ → List QueryToken → List Lexeme
 lexemes text [] = []
 lexemes text (t ∷ ts) = lexeme text t ∷ lexemes text ts
 
-unfoldable pub same_kind : TokenKind → TokenKind → Bool
+unfoldable pub same_kind : QueryTokenKind → QueryTokenKind → Bool
 same_kind = sameb the_type
 
 -- what is between the quotes

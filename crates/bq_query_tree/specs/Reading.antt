@@ -1,15 +1,15 @@
 -- Reading by recursive descent: what each production of the grammar finds in the tokens.
 use Rattle.std.specs.Prelude.{ℕ, zero, suc, List, [], ◌∷◌, ◌++◌, length, Bool, true, false, ◌==◌, Option, Some, None, if◌then◌else◌}
-use Rattle.bq_query.specs.declared.token.TokenKind.{TokenKind}
-use Rattle.bq_query.specs.declared.token.TokenKind.TheVariants as k
+use Rattle.bq_query.specs.declared.token.QueryTokenKind.{QueryTokenKind}
+use Rattle.bq_query.specs.declared.token.QueryTokenKind.TheVariants as k
 use Rattle.bq_query.specs.Lexis.{is_variable_name}
 use Rattle.bq_query_tree.specs.Lexeme.{Lexeme, same_kind, unquoted, variable_name}
 use Rattle.bq_query_tree.specs.Turns.{Found, Parse, ◌>>=◌, sees, next, expect, Turn, ended, goes, failed, turns, repeat}
 use Rattle.bq_query_tree.specs.Grammar.{operator, operation, chain_of}
-use Rattle.bq_query_tree.specs.declared.tree.Operator.{Operator}
+use Rattle.bq_query_tree.specs.declared.tree.SetOperator.{SetOperator}
 use Rattle.bq_query_tree.specs.declared.tree.Query.{Query}
 use Rattle.bq_query_tree.specs.declared.tree.Query.TheVariants as q
-use Rattle.bq_query_tree.specs.declared.tree.Operation.{Operation}
+use Rattle.bq_query_tree.specs.declared.tree.SetOperation.{SetOperation}
 
 -- ---- tokens
 
@@ -17,7 +17,7 @@ abbrev pub spelling_of : List Lexeme → List ℕ
 spelling_of [] = []
 spelling_of (t ∷ ts) = t.spelling
 
-abbrev pub is_word : TokenKind → Bool
+abbrev pub is_word : QueryTokenKind → Bool
 is_word k.Word = true
 is_word k.Quoted = true
 is_word _ = false
@@ -26,7 +26,7 @@ abbrev pub begins_word : List Lexeme → Bool
 begins_word [] = false
 begins_word (t ∷ ts) = is_word t.kind
 
-abbrev pub word_by : TokenKind → Lexeme → Parse (List ℕ)
+abbrev pub word_by : QueryTokenKind → Lexeme → Parse (List ℕ)
 word_by k.Word t ts = Some (t.spelling, ts)
 word_by k.Quoted t ts = Some (unquoted t.spelling, ts)
 word_by _ t ts = None
@@ -52,7 +52,7 @@ abbrev pub begins_operation : List Lexeme → Bool
 begins_operation [] = false
 begins_operation (t ∷ ts) = is_known (operator t.kind)
 
-abbrev pub an_operator : Parse Operator
+abbrev pub an_operator : Parse SetOperator
 an_operator [] = None
 an_operator (t ∷ ts) = known (operator t.kind) ts
 
@@ -86,7 +86,7 @@ call depth inner name ts = opening depth ts >>= λ _ us. arguments inner us >>= 
 abbrev pub word_or_call : ℕ → Parse Query → List ℕ → Parse Query
 word_or_call depth inner w ts = if sees k.Open ts then call depth inner w ts else Some (q.Word w, ts)
 
-abbrev pub operand_by : ℕ → Parse Query → TokenKind → Lexeme → Parse Query
+abbrev pub operand_by : ℕ → Parse Query → QueryTokenKind → Lexeme → Parse Query
 operand_by depth inner k.Word t ts = word_or_call depth inner t.spelling ts
 operand_by depth inner k.Quoted t ts = Some (q.Word (unquoted t.spelling), ts)
 operand_by depth inner k.Variable t ts = Some (q.Variable (variable_name t.spelling), ts)
@@ -109,7 +109,7 @@ let_in depth inner ts = if depth == 0 then None else (a_name ts >>= λ name us. 
 abbrev pub term : ℕ → Parse Query → Parse Query
 term depth inner ts = if sees k.Let ts then let_in depth inner (next ts) else operand depth inner ts
 
-unfoldable pub an_operation : ℕ → Parse Query → Parse Operation
+unfoldable pub an_operation : ℕ → Parse Query → Parse SetOperation
 an_operation depth inner ts = an_operator ts >>= λ o us. term depth inner us >>= λ x rest. Some (operation o x, rest)
 
 abbrev pub joined : {A : Type 0} → List A → Bool → Found A → Turn (List A)
@@ -118,12 +118,12 @@ joined found true (Some p) = ended (found ++ p.0 ∷ []) p.1
 joined found false (Some p) = goes (found ++ p.0 ∷ []) p.1
 
 -- a let is the last operand
-abbrev pub operation_turn : ℕ → Parse Query → List Operation → List Lexeme → Turn (List Operation)
+abbrev pub operation_turn : ℕ → Parse Query → List SetOperation → List Lexeme → Turn (List SetOperation)
 operation_turn depth inner found ts =
     if begins_operation ts then joined found (sees k.Let (next ts)) (an_operation depth inner ts) else ended found ts
 
 -- the operations found, and all further ones
-unfoldable pub operations : ℕ → Parse Query → List Operation → Parse (List Operation)
+unfoldable pub operations : ℕ → Parse Query → List SetOperation → Parse (List SetOperation)
 operations depth inner found ts = turns (operation_turn depth inner) (length ts) found ts
 
 unfoldable pub query_in : ℕ → Parse Query → Parse Query

@@ -1,9 +1,9 @@
 -- The steps that every reading is made of.
 use Rattle.std.specs.Prelude.{ℕ, zero, suc, List, [], ◌∷◌, ◌++◌, length, Bool, false, Option, Some, None, Result, Ok, Err, if◌then◌else◌, ◌≡◌, ◌≢◌}
-use Rattle.bq_query.specs.declared.token.TokenKind.{TokenKind}
+use Rattle.bq_query.specs.declared.token.QueryTokenKind.{QueryTokenKind}
 use Rattle.bq_query_tree.specs.Lexeme.{Lexeme, same_kind}
-use Rattle.bq_query_tree.specs.declared.refusal.Refusal.{Refusal}
-use Rattle.bq_query_tree.specs.declared.refusal.Refusal.TheVariants.{Memory}
+use Rattle.bq_query_tree.specs.declared.refusal.QuerySyntaxErr.{QuerySyntaxErr}
+use Rattle.bq_query_tree.specs.declared.refusal.QuerySyntaxErr.TheVariants.{Memory}
 
 -- what was read and the tokens after it, or nothing
 abbrev pub Found : Type 0 → Type 0
@@ -18,14 +18,14 @@ None >>= f = None
 (Some p) >>= f = f p.0 p.1
 
 -- what a function that reads ensures: what the definition reads, out of memory aside
-abbrev pub Reads : {A : Type 0} → Found A → Result A Refusal → List Lexeme → Type 0
+abbrev pub Reads : {A : Type 0} → Found A → Result A QuerySyntaxErr → List Lexeme → Type 0
 Reads found (Ok x) rest = found ≡ Some (x, rest)
 Reads found (Err e) rest = e ≢ Memory → found ≡ None
 
 -- ---- the next token
 
 -- a token of this kind comes next
-abbrev pub sees : TokenKind → List Lexeme → Bool
+abbrev pub sees : QueryTokenKind → List Lexeme → Bool
 sees kind [] = false
 sees kind (t ∷ ts) = same_kind t.kind kind
 
@@ -34,11 +34,11 @@ next [] = []
 next (t ∷ ts) = ts
 
 -- after the next token, if it is of this kind
-abbrev pub after : TokenKind → List Lexeme → List Lexeme
+abbrev pub after : QueryTokenKind → List Lexeme → List Lexeme
 after kind ts = if sees kind ts then next ts else ts
 
 -- passes the next token, which must be of this kind
-abbrev pub expect : TokenKind → Parse (Unit {0})
+abbrev pub expect : QueryTokenKind → Parse (Unit {0})
 expect kind ts = if sees kind ts then Some (tt, next ts) else None
 
 -- ---- repetition: what is found so far, and what one turn makes of it

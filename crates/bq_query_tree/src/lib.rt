@@ -17,5 +17,5 @@ mod refusal;
 mod tree;
 
 pub use laws::{each_query_is_read, one_tree_of_a_query, what_is_read_is_a_query};
-pub use refusal::Refusal;
-pub use tree::{Operation, Operator, Query};
+pub use refusal::QuerySyntaxErr;
+pub use tree::{SetOperation, SetOperator, Query};

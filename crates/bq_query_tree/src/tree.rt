@@ -5,7 +5,7 @@ use sqlite_items::{Boxed, Items};
 
 /// An operator between two queries. All bind equally tightly.
 #[derive(Clone, Copy)]
-pub enum Operator {
+pub enum SetOperator {
     Union,
     Intersect,
     Except,
@@ -29,13 +29,13 @@ pub enum Query {
     /// `let name = value in body`
     Let(Bytes, Boxed<Query>, Boxed<Query>),
     /// A query and at least one operation on it, from left to right.
-    Chain(Boxed<Query>, Items<Operation>),
+    Chain(Boxed<Query>, Items<SetOperation>),
 }
 
 /// A further operand of a chain.
 #[cycle(query)]
 #[derive(Drop)]
-pub struct Operation {
-    pub operator: Operator,
+pub struct SetOperation {
+    pub operator: SetOperator,
     pub operand: Query,
 }

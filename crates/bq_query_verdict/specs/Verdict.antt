@@ -8,15 +8,15 @@ use Rattle.bq_source.specs.declared.fault.SourceErr.{SourceErr}
 use Rattle.bq_source.specs.declared.fault.SourceErr.TheVariants as source
 use Rattle.bq_query.specs.declared.query_error.QueryErr.{QueryErr}
 use Rattle.bq_query.specs.declared.query_error.QueryErr.TheVariants as e
-use Rattle.bq_query.specs.declared.function.Function.{Function}
-use Rattle.bq_query.specs.declared.function.ArgumentKind.{ArgumentKind}
-use Rattle.bq_query.specs.declared.function.ArgumentKind.TheVariants as kind
+use Rattle.bq_query.specs.declared.function.QueryFunction.{QueryFunction}
+use Rattle.bq_query.specs.declared.function.QueryArgumentKind.{QueryArgumentKind}
+use Rattle.bq_query.specs.declared.function.QueryArgumentKind.TheVariants as kind
 use Rattle.bq_query.specs.Functions.{function_named, is_left_out, arguments_of, takes_number}
 use Rattle.bq_query.specs.TargetPatterns.{begins_pattern}
 use Rattle.bq_query_tree.specs.declared.tree.Query.{Query, fold-Query}
-use Rattle.bq_query_tree.specs.declared.tree.Operation.{Operation, fold-Operation}
+use Rattle.bq_query_tree.specs.declared.tree.SetOperation.{SetOperation, fold-SetOperation}
 use Rattle.bq_query_tree.specs.declared.tree.Query.TheOpen as tree
-use Rattle.bq_query_tree.specs.declared.tree.Query.TheOpen.{Query-F, Operation-F}
+use Rattle.bq_query_tree.specs.declared.tree.Query.TheOpen.{Query-F, SetOperation-F}
 
 -- nothing, or a fault
 abbrev pub Fault : Type 0
@@ -54,10 +54,10 @@ variable names name = if list_any (bytes_eq name) names then None else Some (e.U
 abbrev pub unknown : List ℕ → QueryErr
 unknown name = if is_left_out name then e.LeftOut name else e.UnknownFunction name
 
-abbrev pub fits : Function → ℕ → Bool
+abbrev pub fits : QueryFunction → ℕ → Bool
 fits f n = (n == length (arguments_of f)) || (takes_number f && (n == length (arguments_of f) + 1))
 
-abbrev pub function_by : Option Function → List ℕ → ℕ → Fault
+abbrev pub function_by : Option QueryFunction → List ℕ → ℕ → Fault
 function_by None name n = Some (unknown name)
 function_by (Some f) name n = if fits f n then None else Some e.Arguments
 
@@ -103,21 +103,21 @@ number_by (Some w) x names = if is_number w then None else Some e.Arguments
 number_by None x names = no_word x names
 
 -- an argument of a kind; a number of edges has none
-abbrev pub argument : Option ArgumentKind → Part → List (List ℕ) → List Need
+abbrev pub argument : Option QueryArgumentKind → Part → List (List ℕ) → List Need
 argument (Some kind.Query) x names = x.all names
 argument (Some kind.Pattern) x names = pattern_by x.word x names ∷ []
 argument (Some kind.Attribute) x names = no_fault (attribute_by x.word x names) ∷ []
 argument None x names = no_fault (number_by x.word x names) ∷ []
 
-abbrev pub first_kind : List ArgumentKind → Option ArgumentKind
+abbrev pub first_kind : List QueryArgumentKind → Option QueryArgumentKind
 first_kind [] = None
 first_kind (k ∷ ks) = Some k
 
-abbrev pub other_kinds : List ArgumentKind → List ArgumentKind
+abbrev pub other_kinds : List QueryArgumentKind → List QueryArgumentKind
 other_kinds [] = []
 other_kinds (k ∷ ks) = ks
 
-abbrev pub arguments : List ArgumentKind → List Part → List (List ℕ) → List Need
+abbrev pub arguments : List QueryArgumentKind → List Part → List (List ℕ) → List Need
 arguments ks [] names = []
 arguments ks (x ∷ xs) names = argument (first_kind ks) x names ++ arguments (other_kinds ks) xs names
 
@@ -126,10 +126,10 @@ parts [] names = []
 parts (x ∷ xs) names = x.all names ++ parts xs names
 
 -- the function with these arguments
-abbrev pub call_of : Function → List Part → List (List ℕ) → List Need
+abbrev pub call_of : QueryFunction → List Part → List (List ℕ) → List Need
 call_of f xs names = no_fault (if fits f (length xs) then None else Some e.Arguments) ∷ arguments (arguments_of f) xs names
 
-abbrev pub call_by : Option Function → List ℕ → List Part → List (List ℕ) → List Need
+abbrev pub call_by : Option QueryFunction → List ℕ → List Part → List (List ℕ) → List Need
 call_by None name xs names = no_fault (Some (unknown name)) ∷ []
 call_by (Some f) name xs names = call_of f xs names
 
@@ -137,7 +137,7 @@ call_by (Some f) name xs names = call_of f xs names
 abbrev pub larger : (List (List ℕ) → List Need) → Part
 larger all = record { word = None; at_first = λ names. None; all = all }
 
-abbrev pub operation_step : Operation-F Part Part → Part
+abbrev pub operation_step : SetOperation-F Part Part → Part
 operation_step o = o.operand
 
 abbrev pub query_step : Query-F Part Part → Part
@@ -152,8 +152,8 @@ query_step (tree.Chain x os) = record { word = None; at_first = x.at_first; all 
 abbrev pub part_of : Query → Part
 part_of = fold-Query Part Part query_step operation_step
 
-abbrev pub operation_part : Operation → Part
-operation_part = fold-Operation Part Part query_step operation_step
+abbrev pub operation_part : SetOperation → Part
+operation_part = fold-SetOperation Part Part query_step operation_step
 
 -- a whole query: no name is bound
 abbrev pub needs : Query → List Need

@@ -8,7 +8,7 @@ ghost use Rattle.bq_query_verdict.specs.Verdict as spec;
 ghost use Rattle.bq_query_verdict.specs.Verdict.{Tells};
 
 use bq_label::{PackageId, read_label};
-use bq_query::{Function, QueryErr, begins_pattern, function_named, is_left_out};
+use bq_query::{QueryFunction, QueryErr, begins_pattern, function_named, is_left_out};
 use bq_source::{Bytes, SourceErr};
 use std::alloc::{AllocError, Global};
 
@@ -86,7 +86,7 @@ pub fn unknown(name: &Bytes) -> Result<QueryErr, AllocError>
     Ok(QueryErr::UnknownFunction(name.share()?))
 }
 
-fn fits(function: Function, count: usize) -> bool
+fn fits(function: QueryFunction, count: usize) -> bool
     ensures { result ≡ spec.fits function count }
 {
     let wanted = function.arguments().len();

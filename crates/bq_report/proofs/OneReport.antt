@@ -10,7 +10,7 @@ use Rattle.bq_target_graph.specs.Edges.{DependsOn, IsGraphOf}
 use Rattle.bq_answer.specs.Faults.{fault_in}
 use Rattle.bq_answer.specs.Printed.{printed}
 use Rattle.bq_answer.specs.declared.print.OutputForm.{OutputForm}
-use Rattle.bq_report.specs.declared.ending.Refusal.{Refusal}
+use Rattle.bq_report.specs.declared.ending.NoAnswer.{NoAnswer}
 use Rattle.bq_report.specs.declared.ending.Status.{Status}
 use Rattle.bq_report.specs.Ending.{status_by}
 use Rattle.bq_report.specs.Laws.{OneReport}
@@ -18,7 +18,7 @@ use Rattle.bq_report.specs.Report.{IsAnswer, Inside, ReplyView, Replies, Replies
 use Rattle.bq_report.proofs.OneList.{one_list}
 use Rattle.bq_report.proofs.SamePairs.{PairsIn, same_fault, same_set, graph}
 
-reply_at : List ℕ → Result Status Refusal → ReplyView
+reply_at : List ℕ → Result Status NoAnswer → ReplyView
 reply_at text end = record { text = text; end = end }
 
 report_at : List ℕ → ReplyView → ReportView

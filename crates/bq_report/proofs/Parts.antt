@@ -12,7 +12,7 @@ use Rattle.bq_query_check.specs.declared.checked.CheckedQuery.{CheckedQuery}
 use Rattle.bq_query_check.specs.Formula.{formula_of}
 use Rattle.bq_answer.specs.declared.print.OutputForm.{OutputForm}
 use Rattle.bq_report.specs.Ending.{status_by}
-use Rattle.bq_report.specs.declared.ending.Refusal.{Refusal}
+use Rattle.bq_report.specs.declared.ending.NoAnswer.{NoAnswer}
 use Rattle.bq_report.specs.declared.ending.Status.{Status}
 use Rattle.bq_report.specs.declared.reply.Reply.{Reply}
 use Rattle.bq_report.specs.Report.{Inside, Replies, RepliesOver, Reports, all_faults, reply_view}
@@ -22,7 +22,7 @@ pub over : (packages : List PackageTargets) (query : CheckedQuery) (form : Outpu
 over packages query form status g (Ok r) made h = record { graph = g; made = made; replies = h }
 over packages query form status g (Err e) made h = tt
 
-pub whole : (i : Inside) (query : CheckedQuery) (form : OutputForm) (lines : List FaultLine) (faults answer : List ℕ) (end : Result Status Refusal) → lines ≡ all_faults i
+pub whole : (i : Inside) (query : CheckedQuery) (form : OutputForm) (lines : List FaultLine) (faults answer : List ℕ) (end : Result Status NoAnswer) → lines ≡ all_faults i
     → faults ≡ i.prints ++ flat_map line_text lines → RepliesOver i.packages query form (status_by lines) (record { text = answer; end = end })
     → Reports i query form (record { faults = faults; answer = answer; end = end })
 whole i query form lines faults answer end same text r = record {

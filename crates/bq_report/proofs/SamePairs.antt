@@ -8,8 +8,8 @@ use Rattle.bq_query_check.specs.declared.formula.Unary.TheVariants as unary
 use Rattle.bq_query_check.specs.declared.formula.Binary.{Binary}
 use Rattle.bq_query_check.specs.declared.formula.Binary.TheVariants as binary
 use Rattle.bq_query_check.specs.Formula.{Formula, named, variable, let_in, combined, one, two}
-use Rattle.bq_query_tree.specs.declared.tree.Operator.{Operator}
-use Rattle.bq_query_tree.specs.declared.tree.Operator.TheVariants as op
+use Rattle.bq_query_tree.specs.declared.tree.SetOperator.{SetOperator}
+use Rattle.bq_query_tree.specs.declared.tree.SetOperator.TheVariants as op
 use Rattle.bq_target.specs.declared.target.Target.{Target}
 use Rattle.bq_answer.specs.Faults.{fault_in}
 use Rattle.bq_answer.specs.Functions.{OfOne, OfTwo, Combined}
@@ -56,7 +56,7 @@ module _ (g h : List (List ℕ)) (to : PairsIn g h) where
   paths_in : (A C B D : ℕ → Type 0) → Within A C → Within B D → Within (OnPaths g A B) (OnPaths h C D)
   paths_in A C B D f k y e = record { reached = deps_in A C f y e.reached; to = e.to; ends = k e.to e.ends; through = e.through; path = path_in y e.through e.to e.path }
 
-combined_in : (o : Operator) (A C B D : ℕ → Type 0) → Same A C → Same B D → Within (Combined o A B) (Combined o C D)
+combined_in : (o : SetOperator) (A C B D : ℕ → Type 0) → Same A C → Same B D → Within (Combined o A B) (Combined o C D)
 combined_in op.Union A C B D f k y e = elim e [ inl a ↦ inl (f.0 y a) | inr b ↦ inr (k.0 y b) ]
 combined_in op.Intersect A C B D f k y e = (f.0 y e.0, k.0 y e.1)
 combined_in op.Except A C B D f k y e = (f.0 y e.0, λ d. e.1 (k.1 y d))

@@ -3,8 +3,8 @@ use Rattle.std.specs.Prelude.{Bool, true, false, List, [], ◌∷◌}
 use Rattle.bq_fault_line.specs.declared.fault_line.FaultLine.{FaultLine}
 use Rattle.bq_query.specs.declared.query_error.QueryErr.{QueryErr}
 use Rattle.bq_query.specs.declared.query_error.QueryErr.TheVariants as e
-use Rattle.bq_report.specs.declared.ending.Refusal.{Refusal}
-use Rattle.bq_report.specs.declared.ending.Refusal.TheVariants.{Query, Schema, TooManyModules}
+use Rattle.bq_report.specs.declared.ending.NoAnswer.{NoAnswer}
+use Rattle.bq_report.specs.declared.ending.NoAnswer.TheVariants.{Query, Schema, TooManyModules}
 use Rattle.bq_report.specs.declared.ending.Status.{Status}
 use Rattle.bq_report.specs.declared.ending.Status.TheVariants.{Answered, WithFaults}
 
@@ -21,7 +21,7 @@ names_nothing e.Arguments = false
 names_nothing e.Memory = false
 
 -- the query is valid and names what is not there
-abbrev pub is_unanswered : Refusal → Bool
+abbrev pub is_unanswered : NoAnswer → Bool
 is_unanswered (Query error) = names_nothing error
 is_unanswered (Schema line) = false
 is_unanswered TooManyModules = false

@@ -20,8 +20,8 @@ use Rattle.bq_answer.specs.Printed.{printed}
 use Rattle.bq_answer.specs.declared.print.OutputForm.{OutputForm}
 use Rattle.bq_report.specs.Ending.{status_by}
 use Rattle.bq_report.specs.declared.contents.Contents.{Contents}
-use Rattle.bq_report.specs.declared.ending.Refusal.{Refusal}
-use Rattle.bq_report.specs.declared.ending.Refusal.TheVariants.{Query}
+use Rattle.bq_report.specs.declared.ending.NoAnswer.{NoAnswer}
+use Rattle.bq_report.specs.declared.ending.NoAnswer.TheVariants.{Query}
 use Rattle.bq_report.specs.declared.ending.Status.{Status}
 use Rattle.bq_report.specs.declared.reply.Reply.{Reply}
 use Rattle.bq_report.specs.declared.whole.Report.{Report}
@@ -56,7 +56,7 @@ pub record IsAnswer (w : GraphParts) (x : Formula) (v : List ℕ) : Type 0 where
 -- the answer's text, and how the run ends
 pub record ReplyView : Type 0 where
   pub text : List ℕ
-  pub end : Result Status Refusal
+  pub end : Result Status NoAnswer
 
 abbrev pub reply_view : Reply → ReplyView
 reply_view r = record { text = r.text.items; end = r.end }
@@ -81,7 +81,7 @@ pub record RepliesOver (packages : List PackageTargets) (query : CheckedQuery) (
 pub record ReportView : Type 0 where
   pub faults : List ℕ
   pub answer : List ℕ
-  pub end : Result Status Refusal
+  pub end : Result Status NoAnswer
 
 -- a `Report`, without where its texts lie in memory
 abbrev pub report_view : Report → ReportView

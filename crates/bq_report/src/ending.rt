@@ -3,7 +3,7 @@
 ghost use Rattle.std.specs.Prelude.{◌≡◌, ◌≢◌, IfOk};
 ghost use Rattle.bq_query.specs.declared.query_error.QueryErr.TheVariants.{Memory};
 ghost use Rattle.bq_report.specs.Ending.{is_memory, is_unanswered, names_nothing};
-ghost use Rattle.bq_report.specs.declared.ending.Refusal.TheVariants.{Query};
+ghost use Rattle.bq_report.specs.declared.ending.NoAnswer.TheVariants.{Query};
 
 use bq_query::QueryErr;
 use std::alloc::AllocError;
@@ -19,7 +19,7 @@ pub enum Status {
 
 /// Why a workspace and a query have no answer.
 #[derive(Debug, Drop)]
-pub enum Refusal {
+pub enum NoAnswer {
     Query(QueryErr),
     /// `rules.schema` is faulty at this line, from 1.
     Schema(u32),
@@ -38,15 +38,15 @@ fn names_nothing(error: &QueryErr) -> bool
     }
 }
 
-impl Refusal {
+impl NoAnswer {
     /// Whether the query is valid and names what is not there (Q5, Q6). The workspace was then loaded, and has its faults.
     pub fn is_unanswered(&self) -> bool
         ensures { result ≡ is_unanswered self.now }
     {
         match self {
-            Refusal::Query(error) => names_nothing(error),
-            Refusal::Schema(_) => false,
-            Refusal::TooManyModules => false,
+            NoAnswer::Query(error) => names_nothing(error),
+            NoAnswer::Schema(_) => false,
+            NoAnswer::TooManyModules => false,
         }
     }
 }
@@ -61,12 +61,12 @@ fn is_memory(error: &QueryErr) -> bool
 }
 
 /// What a run is refused for that has no query but this error. Q9 says nothing of the query.
-pub fn refusal_of(error: QueryErr) -> Result<Refusal, AllocError>
+pub fn refusal_of(error: QueryErr) -> Result<NoAnswer, AllocError>
     ensures known { IfOk result (λ _. error ≢ Memory) }
     ensures value { IfOk result (λ refusal. refusal ≡ Query error) }
 {
     if is_memory(&error) {
         return Err(AllocError);
     }
-    Ok(Refusal::Query(error))
+    Ok(NoAnswer::Query(error))
 }

@@ -20,7 +20,7 @@ mod reply;
 mod whole;
 
 pub use contents::Contents;
-pub use ending::{Refusal, Status, refusal_of};
+pub use ending::{NoAnswer, Status, refusal_of};
 pub use laws::one_report;
 pub use reply::Question;
 pub use whole::{Report, report_on};

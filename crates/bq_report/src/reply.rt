@@ -5,7 +5,7 @@ ghost use Rattle.bq_query_check.specs.Formula.{formula_of};
 ghost use Rattle.bq_report.specs.Report.{Replies, RepliesOver, reply_view};
 ghost use Rattle.bq_target_graph.specs.Order.{PackagesAscend};
 
-use crate::ending::{Refusal, Status, refusal_of};
+use crate::ending::{NoAnswer, Status, refusal_of};
 use bq_answer::{OutputForm, answer, print_answer};
 use bq_query_check::CheckedQuery;
 use bq_target::Package;
@@ -23,7 +23,7 @@ pub struct Question<'a> {
 #[derive(Drop)]
 pub struct Reply {
     pub text: Vec<u8>,
-    pub end: Result<Status, Refusal>,
+    pub end: Result<Status, NoAnswer>,
 }
 
 /// The reply to a query. With a status the run ends so.

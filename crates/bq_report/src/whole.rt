@@ -8,7 +8,7 @@ ghost use Rattle.bq_report.specs.Ending.{status_by};
 ghost use Rattle.bq_report.specs.Report.{Reports, inside, report_view};
 
 use crate::contents::Contents;
-use crate::ending::{Refusal, Status};
+use crate::ending::{NoAnswer, Status};
 use crate::reply::{Question, reply_over};
 use bq_fault_line::FaultLines;
 use bq_target_graph::add_dangling;
@@ -21,7 +21,7 @@ pub struct Report {
     pub faults: Vec<u8>,
     /// The lines for the writer.
     pub answer: Vec<u8>,
-    pub end: Result<Status, Refusal>,
+    pub end: Result<Status, NoAnswer>,
 }
 
 fn status_by(lines: &FaultLines) -> Status

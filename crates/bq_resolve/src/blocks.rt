@@ -9,7 +9,7 @@ ghost use Rattle.bq_resolve.specs.Inner.{WalksStatement};
 
 use crate::expressions::{expr, target};
 use crate::small::{line, misplaced};
-use bq_grammar::{Branch, Expr, Stmt, Target};
+use bq_grammar::{Branch, Expr, Stmt, AssignTarget};
 use bq_resolve_expression::Walk;
 use bq_scope::{Block, Code, CodeBranch, CodeStmt, CodeTarget, FileNames};
 use bq_source::SourceErr;
@@ -18,7 +18,7 @@ use std::alloc::Global;
 
 /// The rules of blocks take the resolver of the statements in them as a parameter, so that each rule is proved by itself.
 #[derive(Clone, Copy)]
-pub struct Blocks<F> {
+pub struct BlockResolver<F> {
     pub alloc: Global,
     /// How many layers of the statements inside are still looked at.
     pub layers: usize,
@@ -31,7 +31,7 @@ fn header(
     file: &FileNames,
     blocks: &[Block],
     walk: &mut Walk,
-    variables: &Target,
+    variables: &AssignTarget,
     iterable: &Expr,
 ) -> Result<(CodeTarget, Code), SourceErr>
     ensures { Walks (visit.following (spec.target file.now blocks.now variables.now walk.old) (λ t p. visit.following (spec.expr file.now blocks.now iterable.now p) (λ x. visit.pure (t, x)))) result walk.new }
@@ -52,7 +52,7 @@ impl<
         &mut Walk,
         &Stmt,
     ) -> Result<CodeStmt, SourceErr>,
-> Blocks<F> {
+> BlockResolver<F> {
     /// A statement inside; `looping` inside a `for` of the function.
     fn nested(
         &self,
@@ -177,7 +177,7 @@ impl<
         file: &FileNames,
         blocks: &[Block],
         walk: &mut Walk,
-        variables: &Target,
+        variables: &AssignTarget,
         iterable: &Expr,
         body: &[Stmt],
     ) -> Result<CodeStmt, SourceErr>

@@ -4,7 +4,7 @@ ghost use Rattle.bq_scope.specs.Expressions as expressions;
 ghost use Rattle.bq_scope.specs.Statements as spec;
 ghost use Rattle.bq_resolve_expression.specs.Walks.{Walks};
 
-use bq_grammar::{Expr, Target};
+use bq_grammar::{Expr, AssignTarget};
 use bq_resolve_expression::{Rules, Walk, expr_to};
 use bq_scope::{Block, Code, CodeTarget, FileNames, MAX_LAYERS};
 use bq_source::SourceErr;
@@ -43,7 +43,7 @@ pub fn target(
     file: &FileNames,
     blocks: &[Block],
     walk: &mut Walk,
-    target: &Target,
+    target: &AssignTarget,
 ) -> Result<CodeTarget, SourceErr>
     ensures { Walks (spec.target file.now blocks.now target.now walk.old) result walk.new }
 {

@@ -8,7 +8,7 @@ ghost use Rattle.bq_scope.specs.Visit.{each, nothing_passed};
 ghost use Rattle.bq_file.specs.Answers.{itself};
 
 use crate::outside::top_levels;
-use bq_file::File;
+use bq_file::ParsedFile;
 use bq_grammar::TopLevel;
 use bq_resolve_expression::Walk;
 use bq_scope::{CodeTopLevel, FileNames, LoadStmt, Resolved, Universe};
@@ -28,7 +28,7 @@ fn walked(
     match top_levels(alloc, file, &mut walk, statements) {
         Ok(statements) => Ok((statements, walk)),
         Err(why) => {
-            // for the proof: `drop` lets go of it in a single step.
+            // PROOF: `drop` lets go of it in a single step.
             drop(walk);
             Err(why)
         }
@@ -57,12 +57,12 @@ fn resolve_in(
 /// What the file resolves to, or the first fault of its names in the order of its text, F20 to F24. It takes time and memory in
 /// proportion to the file.
 #[tactic(auto, unfolding(bq_scope::specs::Files::resolved))]
-pub fn resolve(alloc: Global, file: &File, universe: &Universe) -> Result<Resolved, SourceErr>
+pub fn resolve(alloc: Global, file: &ParsedFile, universe: &Universe) -> Result<Resolved, SourceErr>
     ensures { Gives itself Bad result (resolved universe.now file.now) }
 {
     let names = FileNames::new(alloc, universe, file.statements())?;
     let resolved = resolve_in(alloc, &names, file.statements());
-    // for the proof: `drop` lets go of them in a single step.
+    // PROOF: `drop` lets go of them in a single step.
     drop(names);
     resolved
 }

@@ -4,7 +4,7 @@ ghost use Rattle.bq_scope.specs.Statements as spec;
 ghost use Rattle.bq_scope.specs.Files as files;
 ghost use Rattle.bq_resolve_expression.specs.Walks.{Walks};
 
-use crate::blocks::Blocks;
+use crate::blocks::BlockResolver;
 use crate::parameters::parameters;
 use crate::statements::stmt_to;
 use bq_grammar::{Identifier, Parameter, Stmt};
@@ -28,11 +28,11 @@ fn statements_in(
 ) -> Result<Items<CodeStmt>, SourceErr>
     ensures { Walks (spec.statements_in file.now names body.now walk.old) result walk.new }
 {
-    // For the proof: so many names there can be.
+    // PROOF: so many names there can be.
     let _fits = names.len();
     let block = Block::new(alloc, 0, names)?;
     let blocks = inside(alloc, block, &[])?;
-    let statements = Blocks {
+    let statements = BlockResolver {
         alloc,
         layers: MAX_LAYERS,
         inner: stmt_to,

@@ -10,7 +10,7 @@ ghost use Rattle.bq_resolve_expression.specs.Walks.{Walks};
 
 use crate::expressions::{expr, target};
 use crate::load::load;
-use bq_grammar::{Expr, Load, Operator, SmallKind, SmallStmt, Target};
+use bq_grammar::{Expr, Load, Operator, SmallKind, SmallStmt, AssignTarget};
 use bq_resolve_expression::Walk;
 use bq_scope::{Block, CodeSmall, FileNames};
 use bq_source::{Fault, FaultKind, SourceErr};
@@ -71,7 +71,7 @@ fn assign(
     file: &FileNames,
     blocks: &[Block],
     walk: &mut Walk,
-    left: &Target,
+    left: &AssignTarget,
     value: &Expr,
 ) -> Result<CodeSmall, SourceErr>
     ensures { Walks (spec.assign file.now blocks.now left.now value.now walk.old) result walk.new }
@@ -89,7 +89,7 @@ fn augment(
     file: &FileNames,
     blocks: &[Block],
     walk: &mut Walk,
-    left: &Target,
+    left: &AssignTarget,
     operator: Operator,
     value: &Expr,
 ) -> Result<CodeSmall, SourceErr>

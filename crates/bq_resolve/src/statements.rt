@@ -3,7 +3,7 @@
 ghost use Rattle.bq_scope.specs.Statements as spec;
 ghost use Rattle.bq_resolve_expression.specs.Walks.{Walks};
 
-use crate::blocks::Blocks;
+use crate::blocks::BlockResolver;
 use bq_grammar::Stmt;
 use bq_resolve_expression::Walk;
 use bq_scope::{Block, CodeStmt, FileNames};
@@ -25,7 +25,7 @@ pub fn stmt_to(
     if layers == 0 {
         return Err(SourceErr::Bad(Fault::at(FaultKind::Nesting, 0)));
     }
-    Blocks {
+    BlockResolver {
         alloc,
         layers: layers - 1,
         inner: stmt_to,

@@ -1,8 +1,8 @@
 //! Targets of assignments and loops.
 
 ghost use Rattle.std.specs.Prelude.{[]};
-ghost use Rattle.bq_grammar.specs.declared.tree.Argument.TheOpen.{Target-F};
-ghost use Rattle.bq_grammar.specs.declared.tree.Target.{Target};
+ghost use Rattle.bq_grammar.specs.declared.tree.Argument.TheOpen.{AssignTarget-F};
+ghost use Rattle.bq_grammar.specs.declared.tree.AssignTarget.{AssignTarget};
 ghost use Rattle.bq_scope.specs.declared.code.CodeTarget.{CodeTarget};
 ghost use Rattle.bq_scope.specs.Visit as visit;
 ghost use Rattle.bq_scope.specs.Expressions as spec;
@@ -12,7 +12,7 @@ use crate::identifier::name_target;
 use crate::room::with_room;
 use crate::rules::Rules;
 use crate::walk::Walk;
-use bq_grammar::{Expr, Target};
+use bq_grammar::{Expr, AssignTarget};
 use bq_scope::{Block, Code, CodeTarget, FileNames};
 use bq_source::{Fault, FaultKind, SourceErr};
 use sqlite_items::Items;
@@ -31,7 +31,7 @@ impl<F: Fn(Global, &FileNames, usize, &[Block], &mut Walk, &Expr) -> Result<Code
         index: &Expr,
     ) -> Result<CodeTarget, SourceErr>
         requires { WalksNested self.now.depth (F.pre self.now.visit) (F.post self.now.visit) }
-        ensures { (inner : Target → visit.Visit CodeTarget) → Walks (spec.target_by file.now (spec.expr_to self.now.depth file.now) inner blocks.now (Target-F.Target::Index operand.now index.now) walk.old) result walk.new }
+        ensures { (inner : AssignTarget → visit.Visit CodeTarget) → Walks (spec.target_by file.now (spec.expr_to self.now.depth file.now) inner blocks.now (AssignTarget-F.Target::Index operand.now index.now) walk.old) result walk.new }
     {
         let operand = self.boxed(file, blocks, walk, operand)?;
         let index = self.boxed(file, blocks, walk, index)?;
@@ -46,7 +46,7 @@ impl<F: Fn(Global, &FileNames, usize, &[Block], &mut Walk, &Expr) -> Result<Code
         layers: usize,
         blocks: &[Block],
         walk: &mut Walk,
-        targets: &[Target],
+        targets: &[AssignTarget],
     ) -> Result<Items<CodeTarget>, SourceErr>
         requires { WalksNested self.now.depth (F.pre self.now.visit) (F.post self.now.visit) }
         ensures { Walks (visit.each (spec.target_to file.now (spec.expr_to self.now.depth file.now) layers blocks.now) [] targets.now walk.old) result walk.new }
@@ -67,7 +67,7 @@ impl<F: Fn(Global, &FileNames, usize, &[Block], &mut Walk, &Expr) -> Result<Code
         layers: usize,
         blocks: &[Block],
         walk: &mut Walk,
-        target: &Target,
+        target: &AssignTarget,
     ) -> Result<CodeTarget, SourceErr>
         requires { WalksNested self.now.depth (F.pre self.now.visit) (F.post self.now.visit) }
         ensures { Walks (spec.target_to file.now (spec.expr_to self.now.depth file.now) layers blocks.now target.now walk.old) result walk.new }
@@ -76,15 +76,15 @@ impl<F: Fn(Global, &FileNames, usize, &[Block], &mut Walk, &Expr) -> Result<Code
             return Err(SourceErr::Bad(Fault::at(FaultKind::Nesting, 0)));
         }
         match target {
-            Target::Name(name) => name_target(file, blocks, walk, name),
-            Target::Index(operand, index) => {
+            AssignTarget::Name(name) => name_target(file, blocks, walk, name),
+            AssignTarget::Index(operand, index) => {
                 self.index_target(file, blocks, walk, operand.get(), index.get())
             }
-            Target::Tuple(targets) => {
+            AssignTarget::Tuple(targets) => {
                 self.targets_to(file, layers - 1, blocks, walk, targets.as_slice())
                     .map(CodeTarget::Tuple)
             }
-            Target::List(targets) => {
+            AssignTarget::List(targets) => {
                 self.targets_to(file, layers - 1, blocks, walk, targets.as_slice())
                     .map(CodeTarget::List)
             }

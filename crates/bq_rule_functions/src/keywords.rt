@@ -6,7 +6,7 @@ ghost use Rattle.bq_value.specs.declared.error.EvalErr.TheVariants.{Bad};
 ghost use Rattle.bq_machine.specs.Binding.{bind};
 ghost use Rattle.bq_rule_functions.specs.Keywords.{attribute_parameters, rule_parameters, documented};
 
-use bq_machine::{Args, Bound, Parameter, Signature, bind};
+use bq_machine::{Args, Bound, SingleParameter, Signature, bind};
 use bq_seed::Seed;
 use bq_source::FaultKind;
 use bq_value::{EvalErr, Node, Value};
@@ -15,43 +15,43 @@ use std::alloc::Global;
 /// `(*, default, mandatory = False, doc = "")`, and what is accepted and changes nothing.
 const ATTRIBUTE: Signature<'static> = Signature {
     parameters: &[
-        Parameter {
+        SingleParameter {
             name: Some(b"default"),
             is_required: false,
         },
-        Parameter {
+        SingleParameter {
             name: Some(b"mandatory"),
             is_required: false,
         },
-        Parameter {
+        SingleParameter {
             name: Some(b"doc"),
             is_required: false,
         },
-        Parameter {
+        SingleParameter {
             name: Some(b"allow_files"),
             is_required: false,
         },
-        Parameter {
+        SingleParameter {
             name: Some(b"allow_single_file"),
             is_required: false,
         },
-        Parameter {
+        SingleParameter {
             name: Some(b"providers"),
             is_required: false,
         },
-        Parameter {
+        SingleParameter {
             name: Some(b"cfg"),
             is_required: false,
         },
-        Parameter {
+        SingleParameter {
             name: Some(b"executable"),
             is_required: false,
         },
-        Parameter {
+        SingleParameter {
             name: Some(b"values"),
             is_required: false,
         },
-        Parameter {
+        SingleParameter {
             name: Some(b"allow_empty"),
             is_required: false,
         },
@@ -64,35 +64,35 @@ const ATTRIBUTE: Signature<'static> = Signature {
 /// `(implementation, attrs = {}, doc = "")`, and by keyword what is accepted and changes nothing.
 const RULE: Signature<'static> = Signature {
     parameters: &[
-        Parameter {
+        SingleParameter {
             name: Some(b"implementation"),
             is_required: true,
         },
-        Parameter {
+        SingleParameter {
             name: Some(b"attrs"),
             is_required: false,
         },
-        Parameter {
+        SingleParameter {
             name: Some(b"doc"),
             is_required: false,
         },
-        Parameter {
+        SingleParameter {
             name: Some(b"executable"),
             is_required: false,
         },
-        Parameter {
+        SingleParameter {
             name: Some(b"test"),
             is_required: false,
         },
-        Parameter {
+        SingleParameter {
             name: Some(b"provides"),
             is_required: false,
         },
-        Parameter {
+        SingleParameter {
             name: Some(b"toolchains"),
             is_required: false,
         },
-        Parameter {
+        SingleParameter {
             name: Some(b"fragments"),
             is_required: false,
         },

@@ -70,7 +70,7 @@ fn entries(alloc: Global, dict: &Dict) -> Result<RuleClass, EvalErr>
 fn entries_in(alloc: Global, store: &Store, cell: Cell) -> Result<RuleClass, EvalErr>
     ensures { Gives (λ c. c) Bad result (entries_in (content_at store.now cell.module cell.number)) }
 {
-    dicts_of_stores_have_distinct_keys(store, cell); // for the proof: so each attribute has a name of its own
+    dicts_of_stores_have_distinct_keys(store, cell); // PROOF: so each attribute has a name of its own
     let Some(content) = store.content(cell) else {
         return Err(EvalErr::Bad(FaultKind::WrongType));
     };

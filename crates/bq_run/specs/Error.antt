@@ -1,8 +1,8 @@
 -- The numbers and names of the errors of runs.
 use Rattle.std.specs.Prelude.{ℕ, List, codes}
 use Rattle.bq_query.specs.QueryError.{query_title}
-use Rattle.bq_report.specs.declared.ending.Refusal.{Refusal}
-use Rattle.bq_report.specs.declared.ending.Refusal.TheVariants as refusal
+use Rattle.bq_report.specs.declared.ending.NoAnswer.{NoAnswer}
+use Rattle.bq_report.specs.declared.ending.NoAnswer.TheVariants as refusal
 use Rattle.bq_run.specs.declared.error.RunErr.{RunErr}
 use Rattle.bq_run.specs.declared.error.RunErr.TheVariants.{Memory, Read, Write, Bundle, Query, Schema, TooManyModules}
 
@@ -16,7 +16,7 @@ run_title (Schema line) = codes "E6 Schema"
 run_title TooManyModules = codes "E7 TooManyModules"
 
 -- the error of a run that is refused so
-abbrev pub run_err : Refusal → RunErr
+abbrev pub run_err : NoAnswer → RunErr
 run_err (refusal.Query error) = Query error
 run_err (refusal.Schema line) = Schema line
 run_err refusal.TooManyModules = TooManyModules

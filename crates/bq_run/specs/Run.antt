@@ -4,7 +4,7 @@ use Rattle.std.specs.Io.KnownBytes.{Appends, Keeps}
 use Rattle.bq_label.specs.declared.workspace.File.{File}
 use Rattle.bq_report.specs.Ending.{is_unanswered, names_nothing}
 use Rattle.bq_report.specs.Report.{ReportView}
-use Rattle.bq_report.specs.declared.ending.Refusal.{Refusal}
+use Rattle.bq_report.specs.declared.ending.NoAnswer.{NoAnswer}
 use Rattle.bq_report.specs.declared.ending.Status.{Status}
 use Rattle.bq_workers.specs.Workers.{max_workers}
 use Rattle.bq_run.specs.Bundle.{bundle_of}
@@ -25,7 +25,7 @@ pub record Run : Type 0 where
 
 -- With a status both texts are written. Where the query names what isn't there, the faults are written and no answer. With
 -- every other error nothing is.
-abbrev pub run_by : List ℕ → List ℕ → Result Status Refusal → Run
+abbrev pub run_by : List ℕ → List ℕ → Result Status NoAnswer → Run
 run_by faults answer (Ok status) = record { faults = faults; answer = answer; end = Ok status }
 run_by faults answer (Err why) = record { faults = if is_unanswered why then faults else []; answer = []; end = Err (run_err why) }
 

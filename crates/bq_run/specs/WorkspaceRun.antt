@@ -15,12 +15,12 @@ use Rattle.bq_query.specs.declared.query_error.QueryErr.{QueryErr}
 use Rattle.bq_query_check.specs.Checked.{IsChecked, IsWrong}
 use Rattle.bq_query_check.specs.declared.checked.CheckedQuery.{CheckedQuery}
 use Rattle.bq_report.specs.Report.{Inside, ReportView, Reports}
-use Rattle.bq_report.specs.declared.ending.Refusal.{Refusal}
-use Rattle.bq_report.specs.declared.ending.Refusal.TheVariants.{Query, Schema, TooManyModules}
+use Rattle.bq_report.specs.declared.ending.NoAnswer.{NoAnswer}
+use Rattle.bq_report.specs.declared.ending.NoAnswer.TheVariants.{Query, Schema, TooManyModules}
 use Rattle.bq_run.specs.declared.options.Options.{Options}
 
 -- nothing is loaded
-abbrev pub refused : Refusal → ReportView
+abbrev pub refused : NoAnswer → ReportView
 refused why = record { faults = []; answer = []; end = Err why }
 
 -- what the outcomes of the modules along loads give

@@ -4,7 +4,7 @@ ghost use Rattle.std.specs.Prelude.{◌≡◌, ◌⊎◌, ◌+◌, ◌-◌, ◌^
 ghost use Rattle.std.specs.List.{list_all};
 ghost use Rattle.bq_run.specs.Bundle.{BeginsWith, max_bundle_bytes, bundle_of, cut, files_of, is_whole, lines};
 
-use crate::device::Source;
+use crate::device::ByteSource;
 use crate::error::RunErr;
 use crate::transfer::{ReadFault, read_all};
 use bq_label::{File, Workspace};
@@ -129,7 +129,7 @@ fn workspace_in(alloc: Global, text: Vec<u8>) -> Result<Workspace, RunErr>
 /// E2: a read failed; it is not tried again. E4: the bytes are no bundle, or are more than 1,073,741,824, which a
 /// reader that never ends meets. E1: a growth was refused.
 #[tactic(auto, unfolding(crate::specs::Bundle::bundle_of))]
-pub fn read_bundle<R: Source>(alloc: Global, reader: &mut R) -> Result<Workspace, RunErr>
+pub fn read_bundle<R: ByteSource>(alloc: Global, reader: &mut R) -> Result<Workspace, RunErr>
     requires { R.failed reader.old < 2 ^ 64 - 1 }
     ensures found { IfOk result (λ w. IfSome (R.remaining reader.old) (λ input. bundle_of input ≡ Some w)) }
     ensures none { IsErrOf result RunErr.Bundle → IfSome (R.remaining reader.old) (λ input. bundle_of input ≡ None) }

@@ -17,7 +17,7 @@ pub trait Counted {
 }
 
 /// A reader that counts each read that returns an error.
-pub trait Source: Counted {
+pub trait ByteSource: Counted {
     /// The bytes that reads will give from here on, where they are known.
     ghost remaining: { Self → Option (List ℕ) } = { λ _. None };
 
@@ -29,7 +29,7 @@ pub trait Source: Counted {
 }
 
 /// A writer that counts each write that returns an error, and each of some bytes that takes none.
-pub trait Sink: Counted {
+pub trait ByteSink: Counted {
     /// The bytes that the writer holds, where they are known.
     ghost contents: { Self → Option (List ℕ) } = { λ _. None };
 
@@ -68,7 +68,7 @@ impl<D> Counted for Metered<D> {
     }
 }
 
-impl<D: Read> Source for Metered<D> {
+impl<D: Read> ByteSource for Metered<D> {
     ghost remaining = { λ m. D.remaining m.device };
 
     fn read(&mut self, buf: &mut [u8]) -> io::Result<usize> {
@@ -80,7 +80,7 @@ impl<D: Read> Source for Metered<D> {
     }
 }
 
-impl<D: Write> Sink for Metered<D> {
+impl<D: Write> ByteSink for Metered<D> {
     ghost contents = { λ m. D.contents m.device };
 
     fn write(&mut self, buf: &[u8]) -> io::Result<usize> {

@@ -7,7 +7,7 @@ ghost use Rattle.bq_run.specs.declared.error.RunErr.TheVariants.{Memory, Write};
 
 use crate::transfer::WriteFault;
 use bq_query::QueryErr;
-use bq_report::Refusal;
+use bq_report::NoAnswer;
 use std::alloc::{AllocError, AllocFailed};
 use std::error::Error;
 use std::fmt;
@@ -83,14 +83,14 @@ impl From<WriteFault> for RunErr {
     }
 }
 
-impl From<Refusal> for RunErr {
+impl From<NoAnswer> for RunErr {
     ghost from_gives = { λ refusal e. e ≡ run_err refusal };
 
-    fn from(refusal: Refusal) -> Self {
+    fn from(refusal: NoAnswer) -> Self {
         match refusal {
-            Refusal::Query(error) => RunErr::Query(error),
-            Refusal::Schema(line) => RunErr::Schema(line),
-            Refusal::TooManyModules => RunErr::TooManyModules,
+            NoAnswer::Query(error) => RunErr::Query(error),
+            NoAnswer::Schema(line) => RunErr::Schema(line),
+            NoAnswer::TooManyModules => RunErr::TooManyModules,
         }
     }
 }

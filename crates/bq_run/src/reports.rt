@@ -12,7 +12,7 @@ use bq_discover::{LoadErr, schema_of};
 use bq_label::Workspace;
 use bq_load::{Loaded, OpenGate, load_with};
 use bq_query_check::{CheckedQuery, parse_query};
-use bq_report::{Contents, Question, Refusal, Report, refusal_of, report_on};
+use bq_report::{Contents, Question, NoAnswer, Report, refusal_of, report_on};
 use bq_schema::Schema;
 use bq_seed::Seed;
 use std::alloc::{AllocError, Global};
@@ -21,7 +21,7 @@ use std::sync::Wait;
 use std::thread::Threads;
 
 /// The report where nothing is loaded.
-fn refused(alloc: Global, why: Refusal) -> Report
+fn refused(alloc: Global, why: NoAnswer) -> Report
     ensures { report_view result ≡ refused why }
 {
     Report {
@@ -72,7 +72,7 @@ fn report_by<T: Threads + Wait + RandomSource + Sync>(
             };
             report_on(alloc, contents, question)
         }
-        Err(LoadErr::TooManyModules) => Ok(refused(alloc, Refusal::TooManyModules)),
+        Err(LoadErr::TooManyModules) => Ok(refused(alloc, NoAnswer::TooManyModules)),
         Err(_) => Err(AllocError),
     }
 }
@@ -97,7 +97,7 @@ fn report_query<T: Threads + Wait + RandomSource + Sync>(
             };
             report_by(rt, alloc, workspace, &schema, question, options)
         }
-        Err(LoadErr::Schema(line)) => Ok(refused(alloc, Refusal::Schema(line))),
+        Err(LoadErr::Schema(line)) => Ok(refused(alloc, NoAnswer::Schema(line))),
         Err(_) => Err(AllocError),
     }
 }
@@ -116,7 +116,7 @@ pub fn report_workspace<T: Threads + Wait + RandomSource + Sync>(
     match parse_query(alloc, &options.query) {
         Ok(query) => {
             let report = report_query(rt, alloc, workspace, &query, options);
-            drop(query); // for the proof: one call lets the query go
+            drop(query); // PROOF: one call lets the query go
             report
         }
         Err(why) => Ok(refused(alloc, refusal_of(why)?)),

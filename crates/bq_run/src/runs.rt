@@ -7,20 +7,20 @@ ghost use Rattle.bq_run.specs.Device.{Begins, OneFailed};
 ghost use Rattle.bq_run.specs.Run.{Does, DoesOne, IsInRange, IsRunOf, IsRunOver, IsSilent, run_by, run_report};
 
 use crate::bundle::read_bundle;
-use crate::device::{Sink, Source};
+use crate::device::{ByteSink, ByteSource};
 use crate::error::RunErr;
 use crate::options::Options;
 use crate::reports::report_workspace;
 use crate::transfer::{WriteFault, write_all};
 use bq_label::Workspace;
-use bq_report::{Refusal, Report, Status};
+use bq_report::{NoAnswer, Report, Status};
 use std::alloc::Global;
 use std::random::RandomSource;
 use std::sync::Wait;
 use std::thread::Threads;
 
 /// Writes the texts of a report, the faults first. A refusal has no answer, and where the workspace was not loaded no faults.
-fn write_texts<W: Sink, F: Sink>(
+fn write_texts<W: ByteSink, F: ByteSink>(
     report: &Report,
     writer: &mut W,
     faults_writer: &mut F,
@@ -48,7 +48,7 @@ fn write_texts<W: Sink, F: Sink>(
 }
 
 /// How a run ends whose texts are written, whatever they are.
-fn ended(end: Result<Status, Refusal>) -> Result<Status, RunErr>
+fn ended(end: Result<Status, NoAnswer>) -> Result<Status, RunErr>
     ensures { (faults answer : List ℕ) → result ≡ (run_by faults answer end).end }
 {
     match end {
@@ -58,7 +58,7 @@ fn ended(end: Result<Status, Refusal>) -> Result<Status, RunErr>
 }
 
 /// Writes a report, the faults first.
-fn send<W: Sink, F: Sink>(
+fn send<W: ByteSink, F: ByteSink>(
     report: Report,
     writer: &mut W,
     faults_writer: &mut F,
@@ -78,7 +78,7 @@ fn send<W: Sink, F: Sink>(
 }
 
 /// A run over a workspace in hand: [`run`] without its reader.
-pub fn run_files<T: Threads + Wait + RandomSource + Sync, W: Sink, F: Sink>(
+pub fn run_files<T: Threads + Wait + RandomSource + Sync, W: ByteSink, F: ByteSink>(
     rt: &T,
     alloc: Global,
     workspace: &Workspace,
@@ -106,7 +106,7 @@ pub fn run_files<T: Threads + Wait + RandomSource + Sync, W: Sink, F: Sink>(
 /// E4, E5 with Q1 to Q4, Q7 or Q8, E6 and E7 take precedence in this order, and nothing is written with them. With Q5 or Q6 only the
 /// faults are written. E1 comes before the first byte is written.
 #[tactic(auto, unfolding(crate::specs::Run::IsRunOf))]
-pub fn run<T: Threads + Wait + RandomSource + Sync, R: Source, W: Sink, F: Sink>(
+pub fn run<T: Threads + Wait + RandomSource + Sync, R: ByteSource, W: ByteSink, F: ByteSink>(
     rt: &T,
     alloc: Global,
     reader: &mut R,

@@ -6,7 +6,7 @@ ghost use Rattle.bq_fault_line.specs.LineText.{detail_text};
 ghost use Rattle.bq_run.specs.Device.{Begins};
 ghost use Rattle.bq_run.specs.Status.{error_detail, error_line, status_code, status_line};
 
-use crate::device::Sink;
+use crate::device::ByteSink;
 use crate::error::RunErr;
 use crate::transfer::{WriteFault, write_all};
 use bq_fault_line::push_detail;
@@ -83,7 +83,7 @@ pub fn status_of(alloc: Global, ended: &Result<Status, RunErr>) -> Result<(u8, V
 }
 
 /// Writes a space and the detail, where there is one.
-fn write_detail<W: Sink>(writer: &mut W, detail: &[u8]) -> Result<(), WriteFault>
+fn write_detail<W: ByteSink>(writer: &mut W, detail: &[u8]) -> Result<(), WriteFault>
     requires { W.failed writer.old < 2 ^ 64 - 1 }
     ensures whole { OnOk result (Appends (W.contents writer.old) (W.contents writer.new) (detail_text detail.now)) }
     ensures begins { Begins (W.contents writer.old) (W.contents writer.new) (detail_text detail.now) }
@@ -98,7 +98,7 @@ fn write_detail<W: Sink>(writer: &mut W, detail: &[u8]) -> Result<(), WriteFault
 }
 
 /// Writes the line that names an error.
-fn write_line<W: Sink>(writer: &mut W, error: &RunErr) -> Result<(), WriteFault>
+fn write_line<W: ByteSink>(writer: &mut W, error: &RunErr) -> Result<(), WriteFault>
     requires { W.failed writer.old < 2 ^ 64 - 1 }
     ensures whole { OnOk result (Appends (W.contents writer.old) (W.contents writer.new) (error_line error.now)) }
     ensures begins { Begins (W.contents writer.old) (W.contents writer.new) (error_line error.now) }
@@ -114,7 +114,7 @@ fn write_line<W: Sink>(writer: &mut W, error: &RunErr) -> Result<(), WriteFault>
 
 /// Writes the line for standard error, where there is one. It is written in pieces, so that it takes no memory: after a
 /// run that has written something, no lack of memory can hide how it ended.
-pub fn write_status_line<W: Sink>(
+pub fn write_status_line<W: ByteSink>(
     writer: &mut W,
     ended: &Result<Status, RunErr>,
 ) -> Result<(), WriteFault>
@@ -131,7 +131,7 @@ pub fn write_status_line<W: Sink>(
 
 /// Ends a run: writes its error line, where it has one, and returns its exit status. Where the writer fails the line is lost, and with
 /// it only that: the status is the same.
-pub fn end_run<W: Sink>(writer: &mut W, ended: &Result<Status, RunErr>) -> u8
+pub fn end_run<W: ByteSink>(writer: &mut W, ended: &Result<Status, RunErr>) -> u8
     requires { W.failed writer.old < 2 ^ 64 - 1 }
     ensures code { result ≡ status_code ended.now }
     ensures line { Appends (W.contents writer.old) (W.contents writer.new) (status_line ended.now) ⊎ (W.failed writer.new ≡ W.failed writer.old + 1) }

@@ -5,7 +5,7 @@ ghost use Rattle.std.specs.Io.KnownBytes.{Appends};
 ghost use Rattle.bq_run.specs.Device.{Begins};
 ghost use Rattle.bq_run.specs.declared.transfer.ReadFault.TheVariants.{Memory};
 
-use crate::device::{Sink, Source};
+use crate::device::{ByteSink, ByteSource};
 use std::alloc::{AllocError, Global};
 
 /// Why a reader was not read to its end.
@@ -29,7 +29,7 @@ impl From<AllocError> for ReadFault {
 const CHUNK: usize = 4096;
 
 /// All that the reader has left, at most `limit` bytes of it. The first failed read ends it: none is tried again.
-pub fn read_all<R: Source>(
+pub fn read_all<R: ByteSource>(
     alloc: Global,
     reader: &mut R,
     limit: usize,
@@ -59,7 +59,7 @@ pub struct WriteFault;
 
 /// Writes all of the text. A write of some bytes that takes none is a failure. The first failed write ends it: none is
 /// tried again.
-pub fn write_all<W: Sink>(writer: &mut W, text: &[u8]) -> Result<(), WriteFault>
+pub fn write_all<W: ByteSink>(writer: &mut W, text: &[u8]) -> Result<(), WriteFault>
     requires { W.failed writer.old < 2 ^ 64 - 1 }
     ensures whole { OnOk result (Appends (W.contents writer.old) (W.contents writer.new) text.now) }
     ensures begins { Begins (W.contents writer.old) (W.contents writer.new) text.now }

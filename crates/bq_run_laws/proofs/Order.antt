@@ -11,7 +11,7 @@ use Rattle.bq_query_parse.proofs.Texts.{one_tree}
 use Rattle.bq_query_tree.specs.declared.tree.Query.{Query}
 use Rattle.bq_query_verdict.specs.Verdict.{Need, no_fault, regex, needs}
 use Rattle.bq_report.specs.Report.{ReportView}
-use Rattle.bq_report.specs.declared.ending.Refusal.TheVariants as refusal
+use Rattle.bq_report.specs.declared.ending.NoAnswer.TheVariants as refusal
 use Rattle.bq_report.specs.declared.ending.Status.{Status}
 use Rattle.bq_run.specs.Run.{Run, run_report, IsRunOver}
 use Rattle.bq_schema.specs.Schema.{Rules}

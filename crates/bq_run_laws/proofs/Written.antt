@@ -6,8 +6,8 @@ use Rattle.bq_label.specs.declared.workspace.File.{File}
 use Rattle.bq_query.specs.declared.query_error.QueryErr.{QueryErr}
 use Rattle.bq_report.specs.Ending.{names_nothing}
 use Rattle.bq_report.specs.Report.{Inside, ReportView, all_faults, fault_text}
-use Rattle.bq_report.specs.declared.ending.Refusal.{Refusal}
-use Rattle.bq_report.specs.declared.ending.Refusal.TheVariants as refusal
+use Rattle.bq_report.specs.declared.ending.NoAnswer.{NoAnswer}
+use Rattle.bq_report.specs.declared.ending.NoAnswer.TheVariants as refusal
 use Rattle.bq_report.specs.declared.ending.Status.{Status}
 use Rattle.bq_run.specs.Bundle.{bundle_of}
 use Rattle.bq_run.specs.Run.{Run, run_by, IsRunOver, IsRunFrom, IsRunOf, IsSilent}
@@ -43,7 +43,7 @@ no_schema line why e = cc
 no_many : (why : QueryErr) → ended run.TooManyModules ≡ ended (run.Query why) → ⊥
 no_many why e = cc
 
-faults_written : (faults answer : List ℕ) (end : Result Status Refusal) (why : QueryErr) → (run_by faults answer end).end ≡ Err (run.Query why) → names_nothing why ≡ true → ((run_by faults answer end).faults ≡ faults) × ((run_by faults answer end).answer ≡ [])
+faults_written : (faults answer : List ℕ) (end : Result Status NoAnswer) (why : QueryErr) → (run_by faults answer end).end ≡ Err (run.Query why) → names_nothing why ≡ true → ((run_by faults answer end).faults ≡ faults) × ((run_by faults answer end).answer ≡ [])
 faults_written faults answer (Ok status) why e h = absurd (cc)
 faults_written faults answer (Err (refusal.Query error)) why e h = let t : names_nothing error ≡ true = ap names_nothing (end_query error why e) ∙ h in (rw t refl, refl)
 faults_written faults answer (Err (refusal.Schema line)) why e h = absurd (no_schema line why e)
@@ -57,7 +57,7 @@ unanswered o files what why over e h =
     let w = faults_written r.faults r.answer r.end why (ap (λ (x : Run). x.end) (sym is) ∙ e) h in
     (r, over.1, ap (λ (x : Run). x.faults) is ∙ w.0, ap (λ (x : Run). x.answer) is ∙ w.1)
 
-nothing_by : (faults answer : List ℕ) (end : Result Status Refusal) → IsSilent (run_by faults answer end).end → ((run_by faults answer end).faults ≡ []) × ((run_by faults answer end).answer ≡ [])
+nothing_by : (faults answer : List ℕ) (end : Result Status NoAnswer) → IsSilent (run_by faults answer end).end → ((run_by faults answer end).faults ≡ []) × ((run_by faults answer end).answer ≡ [])
 nothing_by faults answer (Ok status) h = absurd h
 nothing_by faults answer (Err (refusal.Query error)) h = let f : names_nothing error ≡ false = h in (rw f refl, refl)
 nothing_by faults answer (Err (refusal.Schema line)) h = (refl, refl)

@@ -9,11 +9,11 @@ use std::marker::Model;
 
 /// Names, none of them twice, in the order in which they came. Contracts see the list of them.
 #[derive(Drop)]
-pub struct Names {
+pub struct RuleNames {
     keys: IndexSet<Vec<u8>>,
 }
 
-impl Model for Names {
+impl Model for RuleNames {
     ghost use Rattle.std.specs.Prelude.{List, ℕ, map};
     ghost use Rattle.std.specs.Coded.{coded_ℕ, coded_list};
 
@@ -24,11 +24,11 @@ impl Model for Names {
     ghost view = { λ n. map (λ k. k.items) n.keys.keys };
 }
 
-impl Names {
-    pub fn new(alloc: Global) -> Names
+impl RuleNames {
+    pub fn new(alloc: Global) -> RuleNames
         ensures { result ≡ [] }
     {
-        Names {
+        RuleNames {
             keys: IndexSet::new(alloc),
         }
     }

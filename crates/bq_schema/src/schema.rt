@@ -4,7 +4,7 @@ ghost use Rattle.std.specs.Prelude.{◌≡◌, ℕ, List, Some, None, position, 
 ghost use Rattle.bq_schema.specs.Schema.{no_rules, with_rule, with_attribute_of_last, after};
 
 use crate::line::Line;
-use crate::names::Names;
+use crate::names::RuleNames;
 use bq_rule_class::{Attribute, RuleClass};
 use bq_source::Bytes;
 use sqlite_items::Items;
@@ -17,7 +17,7 @@ use std::marker::Model;
 pub struct Schema {
     names: Vec<Bytes>,
     /// The same names, where each is found.
-    places: Names,
+    places: RuleNames,
     classes: Items<RuleClass>,
 }
 
@@ -44,7 +44,7 @@ pub fn rule_names(schema: &Schema) -> &[Bytes]
 fn add_rule(
     alloc: Global,
     names: &mut Vec<Bytes>,
-    places: &mut Names,
+    places: &mut RuleNames,
     classes: &mut Items<RuleClass>,
     name: Bytes,
 ) -> Result<bool, AllocError>
@@ -89,7 +89,7 @@ impl Schema {
     {
         Schema {
             names: Vec::new(alloc),
-            places: Names::new(alloc),
+            places: RuleNames::new(alloc),
             classes: Items::new(alloc),
         }
     }

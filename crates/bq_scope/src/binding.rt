@@ -5,7 +5,7 @@ ghost use Rattle.bq_scope.specs.Names as spec;
 
 use crate::names::Names;
 use bq_grammar::{
-    Branch, Clause, LoadClause, Parameter, SmallKind, SmallStmt, Stmt, Target, TopLevel,
+    Branch, Clause, LoadClause, Parameter, SmallKind, SmallStmt, Stmt, AssignTarget, TopLevel,
 };
 use std::alloc::{AllocError, Global};
 
@@ -14,7 +14,7 @@ pub const MAX_LAYERS: usize = 1024;
 
 /// Adds the names of targets that are no deeper than so many layers.
 #[cycle(targets)]
-fn add_targets_to(names: &mut Names, depth: usize, targets: &[Target]) -> Result<(), AllocError>
+fn add_targets_to(names: &mut Names, depth: usize, targets: &[AssignTarget]) -> Result<(), AllocError>
     ensures { OnOk result (names.new ≡ spec.with_each (spec.with_target_to depth) names.old targets.now) }
 {
     for target in targets {
@@ -26,23 +26,23 @@ fn add_targets_to(names: &mut Names, depth: usize, targets: &[Target]) -> Result
 /// Adds the names of a target that is no deeper than so many layers.
 #[cycle(targets)]
 #[tactic(auto, using(crate::proofs::Layers::target_layer), unfolding(crate::specs::Names::with_target_to))]
-fn add_target_to(names: &mut Names, depth: usize, target: &Target) -> Result<(), AllocError>
+fn add_target_to(names: &mut Names, depth: usize, target: &AssignTarget) -> Result<(), AllocError>
     ensures { OnOk result (names.new ≡ spec.with_target_to depth names.old target.now) }
 {
     if depth == 0 {
         return Ok(());
     }
     match target {
-        Target::Name(name) => names.add(&name.name),
-        Target::Index(_, _) => Ok(()),
-        Target::Tuple(targets) => add_targets_to(names, depth - 1, targets.as_slice()),
-        Target::List(targets) => add_targets_to(names, depth - 1, targets.as_slice()),
+        AssignTarget::Name(name) => names.add(&name.name),
+        AssignTarget::Index(_, _) => Ok(()),
+        AssignTarget::Tuple(targets) => add_targets_to(names, depth - 1, targets.as_slice()),
+        AssignTarget::List(targets) => add_targets_to(names, depth - 1, targets.as_slice()),
     }
 }
 
 /// Adds the names of a target.
 #[tactic(auto, unfolding(crate::specs::Names::with_target, crate::specs::Names::max_layers))]
-fn add_target(names: &mut Names, target: &Target) -> Result<(), AllocError>
+fn add_target(names: &mut Names, target: &AssignTarget) -> Result<(), AllocError>
     ensures { OnOk result (names.new ≡ spec.with_target names.old target.now) }
 {
     add_target_to(names, MAX_LAYERS, target)

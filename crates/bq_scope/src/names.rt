@@ -15,11 +15,11 @@ use std::marker::Model;
 
 /// A name as a key. Contracts see its bytes.
 #[derive(Drop)]
-pub struct Key {
+pub struct NameKey {
     bytes: Bytes,
 }
 
-impl Model for Key {
+impl Model for NameKey {
     ghost use Rattle.std.specs.Prelude.{List, ℕ};
     ghost use Rattle.std.specs.Coded.{coded_ℕ, coded_list};
 
@@ -30,21 +30,21 @@ impl Model for Key {
     ghost view = { λ k. k.bytes };
 }
 
-impl PartialEq for Key {
+impl PartialEq for NameKey {
     ghost eq = { pointwise nat_eq };
 
     ghost laws = { partial_equiv_from_equiv nat_list_eq_equiv };
 
-    fn eq(&self, other: &Key) -> bool {
+    fn eq(&self, other: &NameKey) -> bool {
         self.bytes == other.bytes
     }
 }
 
-impl Eq for Key {
+impl Eq for NameKey {
     ghost laws = { nat_list_eq_equiv };
 }
 
-impl Hash for Key {
+impl Hash for NameKey {
     ghost hash_input = { feed };
 
     ghost respects_eq = { same_feed };
@@ -57,7 +57,7 @@ impl Hash for Key {
 /// Names in order of first binding. Contracts see the list of them.
 #[derive(Drop)]
 pub struct Names {
-    keys: IndexSet<Key>,
+    keys: IndexSet<NameKey>,
 }
 
 impl Model for Names {
@@ -92,7 +92,7 @@ impl Names {
     pub fn add(&mut self, name: &Bytes) -> Result<(), AllocError>
         ensures { OnOk result (self.new ≡ with_name self.old name.now) }
     {
-        let key = Key {
+        let key = NameKey {
             bytes: name.share()?,
         };
         self.keys.insert(key)?;
@@ -113,7 +113,7 @@ impl Names {
         ensures place { IfOk result (λ place. place ≡ place_among name.now self.now) }
         ensures within { IfOk result (λ place. IfSome place (λ i. i < length self.now)) }
     {
-        let key = Key {
+        let key = NameKey {
             bytes: name.share()?,
         };
         Ok(self.keys.get_index_of(&key))

@@ -9,7 +9,7 @@ use Rattle.std.proofs.lemmas.Bool.Decides.{Decides-eqb}
 use borrow.Author.Tests.{ltb-true, ltb-false}
 use Rattle.std.proofs.lemmas.List.Folds.{length-prefix_len}
 use Rattle.std.proofs.lemmas.Bool.{eqb-true, leb-true}
-use Rattle.bq_source.specs.declared.lexis.Class.TheVariants.{Word}
+use Rattle.bq_source.specs.declared.lexis.RunClass.TheVariants.{Word}
 use Rattle.bq_source.specs.declared.operators.Lexeme.{Lexeme}
 use Rattle.bq_source.specs.declared.operators.Lexeme.TheVariants.{Plain}
 use Rattle.bq_source.specs.declared.piece.Piece.{Piece}

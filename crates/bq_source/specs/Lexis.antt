@@ -4,8 +4,8 @@ use Rattle.std.specs.Prelude.{ℕ, ◌+◌, List, [], ◌∷◌, Bool, true, fal
 use Rattle.std.specs.Str.{bytes_eq}
 use Rattle.std.specs.List.{list_any}
 use Rattle.std.specs.Map.{lookup}
-use Rattle.bq_source.specs.declared.lexis.Class.{Class}
-use Rattle.bq_source.specs.declared.lexis.Class.TheVariants.{Space, Blank, Word}
+use Rattle.bq_source.specs.declared.lexis.RunClass.{RunClass}
+use Rattle.bq_source.specs.declared.lexis.RunClass.TheVariants.{Space, Blank, Word}
 use Rattle.bq_source.specs.declared.token.TokenKind.{TokenKind}
 use Rattle.bq_source.specs.declared.token.TokenKind.TheVariants as k
 
@@ -23,7 +23,7 @@ is_digit b = nat_le 48 b && nat_le b 57
 abbrev pub is_word : ℕ → Bool
 is_word b = is_letter b || is_digit b
 
-abbrev pub has : Class → ℕ → Bool
+abbrev pub has : RunClass → ℕ → Bool
 has Space b = b == 32
 has Blank b = is_blank b
 has Word b = is_word b

@@ -2,7 +2,7 @@
 -- Starlark specification, "Lexical elements". Which pieces make tokens is said in Reading.
 use Rattle.std.specs.Prelude.{ℕ, ◌+◌, ◌<◌, ◌≤◌, List, [], ◌∷◌, length, take, ◌==◌, Option, Some, None, is_some, if◌then◌else◌}
 use Rattle.std.specs.List.{prefix_len}
-use Rattle.bq_source.specs.declared.lexis.Class.TheVariants.{Blank, Word}
+use Rattle.bq_source.specs.declared.lexis.RunClass.TheVariants.{Blank, Word}
 use Rattle.bq_source.specs.declared.operators.Lexeme.{Lexeme}
 use Rattle.bq_source.specs.declared.operators.Lexeme.TheVariants.{Plain}
 use Rattle.bq_source.specs.declared.piece.Extent.{Extent}

@@ -5,7 +5,7 @@
 -- A rule names its paragraph of the Starlark specification, "Lexical elements"; "(ours)" marks where `bq` differs.
 use Rattle.std.specs.Prelude.{ℕ, ◌+◌, ◌<◌, ◌≤◌, List, [], ◌∷◌, ◌++◌, length, take, drop, ◌==◌, nat_lt, Option, Some, None, Result, Ok, Err, ◌≡◌, if◌then◌else◌}
 use Rattle.std.specs.List.{prefix_len}
-use Rattle.bq_source.specs.declared.lexis.Class.TheVariants.{Space}
+use Rattle.bq_source.specs.declared.lexis.RunClass.TheVariants.{Space}
 use Rattle.bq_source.specs.declared.token.TokenKind.{TokenKind}
 use Rattle.bq_source.specs.declared.token.TokenKind.TheVariants as k
 use Rattle.bq_source.specs.declared.token.Token.{Token}

@@ -9,7 +9,7 @@ ghost use Rattle.bq_source.specs.Lexing.{the_tokens};
 ghost use Rattle.bq_source.specs.Piece.{IsPart, Fits};
 
 use crate::fault::{Fault, FaultKind, SourceErr};
-use crate::lexis::{Class, newlines, run_len};
+use crate::lexis::{RunClass, newlines, run_len};
 use crate::operators::Lexeme;
 use crate::piece::{Extent, Piece, next_piece};
 use crate::place::{Lexer, MAX_FILE_BYTES, Margin, OpenBracket};
@@ -20,7 +20,7 @@ use std::alloc::{AllocError, Global};
 fn margin_of(text: &[u8], line: u32) -> Margin
     ensures { result ≡ spec.margin_of text.now line }
 {
-    let width = run_len(text, Class::Space);
+    let width = run_len(text, RunClass::Space);
     let tab = match &text[width..] {
         [b'\t', ..] => true,
         _ => false,

@@ -30,25 +30,25 @@ pub fn is_word(b: u8) -> bool
 
 /// What a run of bytes is made of.
 #[derive(Clone, Copy)]
-pub enum Class {
+pub enum RunClass {
     Space,
     /// A space or a tab.
     Blank,
     Word,
 }
 
-fn has(class: Class, b: u8) -> bool
+fn has(class: RunClass, b: u8) -> bool
     ensures { result ≡ has class b }
 {
     match class {
-        Class::Space => b == b' ',
-        Class::Blank => is_blank(b),
-        Class::Word => is_word(b),
+        RunClass::Space => b == b' ',
+        RunClass::Blank => is_blank(b),
+        RunClass::Word => is_word(b),
     }
 }
 
 /// How many bytes at the front are of the class.
-pub fn run_len(bytes: &[u8], class: Class) -> usize
+pub fn run_len(bytes: &[u8], class: RunClass) -> usize
     ensures run { result ≡ prefix_len (has class) bytes.now }
     ensures within { result ≤ length bytes.now }
 {

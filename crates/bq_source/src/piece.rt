@@ -8,7 +8,7 @@ ghost use Rattle.bq_source.specs.Piece as spec;
 
 use crate::fault::FaultKind;
 use crate::lexis::{
-    Class, comment_len, is_blank, is_letter, newline_len, newlines, run_len, word_kind,
+    RunClass, comment_len, is_blank, is_letter, newline_len, newlines, run_len, word_kind,
 };
 use crate::number::{begins_number, int_value, number_len};
 use crate::operators::{Lexeme, operator};
@@ -43,11 +43,11 @@ fn bytes(len: usize) -> Extent
 
 #[tactic(auto, unfolding(crate::specs::Piece::word))]
 fn word(text: &[u8]) -> Piece
-    requires { 0 < prefix_len (has Class.Word) text.now }
+    requires { 0 < prefix_len (has RunClass.Word) text.now }
     ensures piece { result ≡ spec.word text.now }
     ensures fits { spec.Fits text.now result }
 {
-    let n = run_len(text, Class::Word);
+    let n = run_len(text, RunClass::Word);
     Piece::Lexed(Lexeme::Plain(word_kind(&text[..n])), bytes(n))
 }
 
@@ -121,7 +121,7 @@ pub fn next_piece(text: &[u8]) -> Piece
         return Piece::Bad(FaultKind::BadByte, 0);
     };
     if is_blank(*first) {
-        return Piece::Gap(bytes(run_len(text, Class::Blank)));
+        return Piece::Gap(bytes(run_len(text, RunClass::Blank)));
     }
     if begins_string(text) {
         return string(text);

@@ -1,34 +1,34 @@
 -- Turning an expression into a target never stops at a `lambda`.
 use Rattle.std.proofs.Common.{◌≡◌, ℕ, zero, suc, List, [], ◌∷◌, ◌++◌, Result, Ok, Err, refl}
 use Rattle.bq_grammar.specs.Lexeme.{Lexeme}
-use Rattle.bq_grammar.specs.declared.refusal.Refusal.{Refusal}
-use Rattle.bq_grammar.specs.declared.refusal.Refusal.TheVariants.{Memory, Syntax, Lambda}
+use Rattle.bq_grammar.specs.declared.refusal.SyntaxErr.{SyntaxErr}
+use Rattle.bq_grammar.specs.declared.refusal.SyntaxErr.TheVariants.{Memory, Syntax, Lambda}
 use Rattle.bq_grammar.specs.declared.tree.Argument.TheOpen.{Expr-F, Suffix-F}
 use Rattle.bq_grammar.specs.declared.tree.Expr.{Expr, out-Expr}
 use Rattle.bq_grammar.specs.declared.tree.Suffix.{Suffix, out-Suffix}
-use Rattle.bq_grammar.specs.declared.tree.Target.{Target}
-use Rattle.bq_grammar.specs.declared.tree.Target.TheVariants as target
+use Rattle.bq_grammar.specs.declared.tree.AssignTarget.{AssignTarget}
+use Rattle.bq_grammar.specs.declared.tree.AssignTarget.TheVariants as target
 use Rattle.bq_grammar.specs.Grammar.{primary_of}
 use Rattle.bq_grammar.specs.Targets.{ExprLayer, SuffixLayer, with_target, targets_from, many_of, index_of, indexed_from, target_by, target_to, augmented_by, augmented_target}
 use Rattle.bq_grammar.specs.Turns.{Parse, ◌>>=◌}
 use Rattle.bq_grammar.specs.ReadingStatements.{made}
 use Rattle.bq_grammar.proofs.Agrees.{Owes}
 
-abbrev pub Calm : {A : Type 0} → Result A Refusal → Type 0
+abbrev pub Calm : {A : Type 0} → Result A SyntaxErr → Type 0
 Calm (Err Lambda) = ⊥
 Calm _ = Unit {0}
 
-with_calm : {B : Type 0} (r : Result Target Refusal) (f : Target → Result B Refusal) → Calm r → ((x : Target) → Calm (f x)) → Calm (with_target r f)
+with_calm : {B : Type 0} (r : Result AssignTarget SyntaxErr) (f : AssignTarget → Result B SyntaxErr) → Calm r → ((x : AssignTarget) → Calm (f x)) → Calm (with_target r f)
 with_calm (Ok x) f h g = g x
 with_calm (Err Memory) f h g = tt
 with_calm (Err Syntax) f h g = tt
 with_calm (Err Lambda) f h g = absurd h
 
-targets_calm : (one : Expr → Result Target Refusal) → ((x : Expr) → Calm (one x)) → (found : List Target) (xs : List Expr) → Calm (targets_from one found xs)
+targets_calm : (one : Expr → Result AssignTarget SyntaxErr) → ((x : Expr) → Calm (one x)) → (found : List AssignTarget) (xs : List Expr) → Calm (targets_from one found xs)
 targets_calm one each found [] = tt
 targets_calm one each found (x ∷ xs) = with_calm (one x) (λ y. targets_from one (found ++ y ∷ []) xs) (each x) (λ y. targets_calm one each (found ++ y ∷ []) xs)
 
-many_calm : (make : List Target → Target) (r : Result (List Target) Refusal) → Calm r → Calm (many_of make r)
+many_calm : (make : List AssignTarget → AssignTarget) (r : Result (List AssignTarget) SyntaxErr) → Calm r → Calm (many_of make r)
 many_calm make (Ok []) h = tt
 many_calm make (Ok (x ∷ xs)) h = tt
 many_calm make (Err Memory) h = tt
@@ -44,7 +44,7 @@ indexed_calm x done [] = tt
 indexed_calm x done (y ∷ []) = index_calm (primary_of x done) (out-Suffix y)
 indexed_calm x done (y ∷ z ∷ zs) = indexed_calm x (done ++ y ∷ []) (z ∷ zs)
 
-by_calm : (inner : Expr → Result Target Refusal) → ((x : Expr) → Calm (inner x)) → (l : ExprLayer) → Calm (target_by inner l)
+by_calm : (inner : Expr → Result AssignTarget SyntaxErr) → ((x : Expr) → Calm (inner x)) → (l : ExprLayer) → Calm (target_by inner l)
 by_calm inner each (Expr-F.Expr::Name n) = tt
 by_calm inner each (Expr-F.Primary x xs) = indexed_calm x [] xs
 by_calm inner each (Expr-F.Expr::Tuple xs) = many_calm target.Tuple (targets_from inner [] xs) (targets_calm inner each [] xs)
@@ -66,7 +66,7 @@ unfolding augmented_target
 augmented_calm x = augmented_by_calm (out-Expr x)
 
 -- what is made without reading a token, then a phrase
-pub made_then : {A B : Type 0} (S : List Lexeme → B → Type 0) (r : Result A Refusal) (f : A → Parse B) (ts : List Lexeme) → Calm r
+pub made_then : {A B : Type 0} (S : List Lexeme → B → Type 0) (r : Result A SyntaxErr) (f : A → Parse B) (ts : List Lexeme) → Calm r
     → ((x : A) → r ≡ Ok x → Owes B S (f x ts)) → Owes B S (made r ts >>= f)
 made_then S (Ok x) f ts h g = g x refl
 made_then S (Err Memory) f ts h g = tt

@@ -4,8 +4,8 @@ use Rattle.bq_source.specs.declared.token.TokenKind.{TokenKind}
 use Rattle.bq_source.specs.declared.token.TokenKind.TheVariants as k
 use Rattle.bq_source.specs.StringLiteral.{string_value}
 use Rattle.bq_grammar.specs.Lexeme.{Lexeme}
-use Rattle.bq_grammar.specs.declared.refusal.Refusal.{Refusal}
-use Rattle.bq_grammar.specs.declared.refusal.Refusal.TheVariants.{Memory, Syntax, Lambda}
+use Rattle.bq_grammar.specs.declared.refusal.SyntaxErr.{SyntaxErr}
+use Rattle.bq_grammar.specs.declared.refusal.SyntaxErr.TheVariants.{Memory, Syntax, Lambda}
 use Rattle.bq_grammar.specs.declared.tree.Expr.{Expr}
 use Rattle.bq_grammar.specs.declared.tree.Expr.TheVariants as e
 use Rattle.bq_grammar.specs.declared.tree.Nested.TheVariants.{Test}
@@ -66,7 +66,7 @@ unfolding expr
 expr_plain depth ts h = seq (phrase depth Test ts) (λ x mid. chained e.Tuple (phrase depth Test) x mid) (test_plain depth ts h)
     (λ x us g. chained_kept NoLambda ⊥ later_plain no_stop e.Tuple (phrase depth Test) (test_plain depth) x us g)
 
-made_plain : {A : Type 0} (r : Result A Refusal) → Calm r → Safe (made r)
+made_plain : {A : Type 0} (r : Result A SyntaxErr) → Calm r → Safe (made r)
 made_plain (Ok x) c ts h = h
 made_plain (Err Memory) c ts h = tt
 made_plain (Err Syntax) c ts h = tt

@@ -7,8 +7,8 @@ use Rattle.bq_source.specs.declared.fault.FaultKind.TheVariants as f
 use Rattle.bq_source.specs.declared.token.TokenKind.{TokenKind}
 use Rattle.bq_source.specs.declared.token.TokenKind.TheVariants as k
 use Rattle.bq_grammar.specs.Lexeme.{Lexeme}
-use Rattle.bq_grammar.specs.declared.refusal.Refusal.{Refusal}
-use Rattle.bq_grammar.specs.declared.refusal.Refusal.TheVariants.{Memory, Syntax, Lambda}
+use Rattle.bq_grammar.specs.declared.refusal.SyntaxErr.{SyntaxErr}
+use Rattle.bq_grammar.specs.declared.refusal.SyntaxErr.TheVariants.{Memory, Syntax, Lambda}
 use Rattle.bq_grammar.specs.declared.tree.FileKind.{FileKind}
 use Rattle.bq_grammar.specs.declared.tree.FileKind.TheVariants as file
 use Rattle.bq_grammar.specs.declared.tree.Stmt.{Stmt}
@@ -38,7 +38,7 @@ abbrev top_of : List Lexeme → Stmt → TopLevel
 top_of ts x = record { line = line_of ts; statement = x }
 
 -- what a reading of all tokens owes the grammar
-abbrev TopOwes : ℕ → List Lexeme → Result TopLevel Refusal → Type 0
+abbrev TopOwes : ℕ → List Lexeme → Result TopLevel SyntaxErr → Type 0
 TopOwes depth ts (Ok x) = IsTopLevel depth ts x
 TopOwes depth ts (Err Memory) = Unit {0}
 TopOwes depth ts (Err Syntax) = Unit {0}
@@ -66,7 +66,7 @@ top_met depth ts x (S.top_level y p e) = go ((statement_agrees depth).complete t
     go (met a l) = inl (ap (top_level_by ts) a ∙ ap Ok (sym e))
     go (cut a) = inr (ap (top_level_by ts) a)
 
-abbrev PlainTop : Result TopLevel Refusal → Type 0
+abbrev PlainTop : Result TopLevel SyntaxErr → Type 0
 PlainTop (Err Lambda) = ⊥
 PlainTop _ = Unit {0}
 
@@ -135,16 +135,16 @@ build_is file.Bzl h = absurd (cc)
 abbrev out : List Lexeme → TopLevel → Bool
 out ts x = leaves_out ts || nested_def max_nesting false x.statement
 
-abbrev refusal_of : Result TopLevel Refusal → Refusal
+abbrev refusal_of : Result TopLevel SyntaxErr → SyntaxErr
 refusal_of (Ok x) = Syntax
 refusal_of (Err why) = why
 
-abbrev stops_early : Refusal → Bool
+abbrev stops_early : SyntaxErr → Bool
 stops_early Memory = false
 stops_early Syntax = false
 stops_early Lambda = true
 
-no_tree_of : (ts : List Lexeme) (why : Refusal) → top_level (suc max_nesting) ts ≡ Err why → stops_early why ≡ false → (x : TopLevel) → IsTopLevel max_nesting ts x → ⊥
+no_tree_of : (ts : List Lexeme) (why : SyntaxErr) → top_level (suc max_nesting) ts ≡ Err why → stops_early why ≡ false → (x : TopLevel) → IsTopLevel max_nesting ts x → ⊥
 no_tree_of ts why e n x p = go (top_met max_nesting ts x p)
   where
     go : (top_level (suc max_nesting) ts ≡ Ok x) ⊎ (top_level (suc max_nesting) ts ≡ Err Lambda) → ⊥
@@ -166,7 +166,7 @@ verdict_reads kind ts = nested (nests 0 ts) refl
     kept x n p true h = V.left_out n p h
     kept x n p false h = barred x n p h (is_build kind) (barred_in_build ts) refl refl
 
-    by_tree : Nests 0 ts → (r : Result TopLevel Refusal) → top_level (suc max_nesting) ts ≡ r → TopOwes max_nesting ts r → ReadsAs kind ts (judged kind ts r)
+    by_tree : Nests 0 ts → (r : Result TopLevel SyntaxErr) → top_level (suc max_nesting) ts ≡ r → TopOwes max_nesting ts r → ReadsAs kind ts (judged kind ts r)
     by_tree n (Ok x) e p = kept x n p (out ts x) refl
     by_tree n (Err Memory) e p = V.no_tree n (no_tree_of ts Memory e refl)
     by_tree n (Err Syntax) e p = V.no_tree n (no_tree_of ts Syntax e refl)
@@ -187,7 +187,7 @@ verdict_only kind ts r p = sym (by r p)
     shallow : Nests 0 ts → cond (nests 0 ts) (judged kind ts (top_level (suc max_nesting) ts)) (Err f.Nesting) ≡ judged kind ts (top_level (suc max_nesting) ts)
     shallow n = ap (λ b. cond b (judged kind ts (top_level (suc max_nesting) ts)) (Err f.Nesting)) (is_nests 0 ts n)
 
-    none : (z : Result TopLevel Refusal) → top_level (suc max_nesting) ts ≡ z → TopOwes max_nesting ts z → ((x : TopLevel) → IsTopLevel max_nesting ts x → ⊥) → judged kind ts z ≡ Err f.Syntax
+    none : (z : Result TopLevel SyntaxErr) → top_level (suc max_nesting) ts ≡ z → TopOwes max_nesting ts z → ((x : TopLevel) → IsTopLevel max_nesting ts x → ⊥) → judged kind ts z ≡ Err f.Syntax
     none (Ok x) e h n = absurd (n x h)
     none (Err Memory) e h n = refl
     none (Err Syntax) e h n = refl

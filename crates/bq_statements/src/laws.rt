@@ -4,13 +4,13 @@ ghost use Rattle.std.specs.Prelude.{◌≡◌, ℕ, List, []};
 ghost use Rattle.bq_grammar.specs.Lexeme.{Lexeme};
 ghost use Rattle.bq_grammar.specs.Pieces.{pieces};
 ghost use Rattle.bq_grammar.specs.declared.tree.FileKind.{FileKind};
-ghost use Rattle.bq_grammar.specs.declared.tree.Target.{Target};
+ghost use Rattle.bq_grammar.specs.declared.tree.AssignTarget.{AssignTarget};
 ghost use Rattle.bq_statements.specs.Laws.{TargetsAreExpressions, Sound, Complete, OneStatement, OneVerdict, OneReading};
 ghost use Rattle.bq_statements.specs.Pieces.{joined, AreStatements};
 
 /// What stands before `=` is a target just where it is an expression that can be taken for one.
 pub fn assignments_have_targets()
-    ensures { (depth : ℕ) (ts rest : List Lexeme) (x : Target) → TargetsAreExpressions depth ts rest x }
+    ensures { (depth : ℕ) (ts rest : List Lexeme) (x : AssignTarget) → TargetsAreExpressions depth ts rest x }
 {}
 
 /// What is read is what the grammar has; where the reading stops at `lambda`, the grammar has a statement whatever follows.

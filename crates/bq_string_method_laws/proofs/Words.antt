@@ -4,7 +4,7 @@ use Rattle.std.specs.List.{AllByRecursion, prefix_len}
 use Rattle.bq_source.proofs.Choices.{by_bool}
 use Rattle.bq_string.specs.Trim.{is_among, spaces, lstrip}
 use Rattle.bq_words.specs.Class.{is_space, has}
-use Rattle.bq_words.specs.declared.class.Class.TheVariants.{NonSpace}
+use Rattle.bq_words.specs.declared.class.ByteClass.TheVariants.{NonSpace}
 use Rattle.bq_words.specs.Word.{first_word, last_part, words_from}
 use Rattle.bq_string_methods.specs.Cuts.{words_of}
 use Rattle.bq_string_methods.specs.declared.cuts.Side.TheVariants.{Left}

@@ -3,7 +3,7 @@
 use Rattle.std.specs.Prelude.{ℕ, Bool, List, map}
 use Rattle.std.specs.Char.{to_ascii_lowercase, to_ascii_uppercase}
 use Rattle.bq_words.specs.Case.{all_are, is_lower, is_upper}
-use Rattle.bq_words.specs.declared.class.Class.TheVariants.{Alphanumeric, Alphabetic, Digit, Space}
+use Rattle.bq_words.specs.declared.class.ByteClass.TheVariants.{Alphanumeric, Alphabetic, Digit, Space}
 use Rattle.bq_string_methods.specs.declared.classes.TestMethod.{TestMethod}
 use Rattle.bq_string_methods.specs.declared.classes.TestMethod.TheVariants.{Isalnum, Isalpha, Isdigit, Isspace, Islower, Isupper}
 use Rattle.bq_string_methods.specs.declared.classes.CaseMethod.{CaseMethod}

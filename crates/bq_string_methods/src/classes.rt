@@ -5,7 +5,7 @@ ghost use Rattle.std.specs.Prelude.{◌≡◌, IfOk};
 ghost use Rattle.bq_string_methods.specs.Classes.{test, in_case};
 
 use bq_source::Bytes;
-use bq_words::{Class, all_are, is_lower, is_upper, lower, upper};
+use bq_words::{ByteClass, all_are, is_lower, is_upper, lower, upper};
 use std::alloc::{AllocError, Global};
 
 #[derive(Clone, Copy)]
@@ -23,10 +23,10 @@ pub fn test(method: TestMethod, text: &[u8]) -> bool
     ensures { result ≡ test method text.now }
 {
     match method {
-        TestMethod::Isalnum => all_are(text, Class::Alphanumeric),
-        TestMethod::Isalpha => all_are(text, Class::Alphabetic),
-        TestMethod::Isdigit => all_are(text, Class::Digit),
-        TestMethod::Isspace => all_are(text, Class::Space),
+        TestMethod::Isalnum => all_are(text, ByteClass::Alphanumeric),
+        TestMethod::Isalpha => all_are(text, ByteClass::Alphabetic),
+        TestMethod::Isdigit => all_are(text, ByteClass::Digit),
+        TestMethod::Isspace => all_are(text, ByteClass::Space),
         TestMethod::Islower => is_lower(text),
         TestMethod::Isupper => is_upper(text),
     }

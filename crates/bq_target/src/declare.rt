@@ -5,7 +5,7 @@ ghost use Rattle.bq_target.specs.Value.{outputs_of, outputs_in};
 ghost use Rattle.bq_target.specs.Target.{names_of, generated, declares};
 ghost use Rattle.bq_target.specs.Names.{are_new};
 
-use crate::names::Names;
+use crate::names::TargetNames;
 use crate::state::{Declared, PackageState};
 use crate::target::Target;
 use bq_label::Label;
@@ -61,7 +61,7 @@ fn outputs(alloc: Global, rule: &Target) -> Result<Items<Target>, AllocError>
 }
 
 /// Takes the names of targets, up to the first that is taken. Says whether all were new.
-fn take_each(names: &mut Names, targets: &[Target]) -> Result<bool, AllocError>
+fn take_each(names: &mut TargetNames, targets: &[Target]) -> Result<bool, AllocError>
     ensures new { IfOk result (λ new. new ≡ are_new names.old (names_of targets.now)) }
     ensures all { IfOk result (λ new. new ≡ true → names.new ≡ names.old ++ names_of targets.now) }
     ensures front { OnOk result (take (length names.old) names.new ≡ names.old) }
@@ -75,7 +75,7 @@ fn take_each(names: &mut Names, targets: &[Target]) -> Result<bool, AllocError>
 }
 
 /// Takes the names of targets, where all are new. Else it takes none. Says which.
-fn take_names(names: &mut Names, targets: &[Target]) -> Result<bool, AllocError>
+fn take_names(names: &mut TargetNames, targets: &[Target]) -> Result<bool, AllocError>
     ensures new { IfOk result (λ new. new ≡ are_new names.old (names_of targets.now)) }
     ensures after { IfOk result (λ new. names.new ≡ (if new then names.old ++ names_of targets.now else names.old)) }
 {
@@ -103,7 +103,7 @@ fn declares(alloc: Global, target: Target) -> Result<Items<Target>, AllocError>
 fn add_target(
     alloc: Global,
     targets: &mut Items<Target>,
-    names: &mut Names,
+    names: &mut TargetNames,
     target: Target,
 ) -> Result<bool, AllocError>
     ensures new { IfOk result (λ new. new ≡ are_new names.old (names_of (declares target))) }

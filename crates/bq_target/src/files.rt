@@ -5,7 +5,7 @@ ghost use Rattle.std.specs.List.{flat_map};
 ghost use Rattle.bq_target.specs.Value.{labels_of, labels_in};
 ghost use Rattle.bq_target.specs.Target.{is_of};
 
-use crate::names::Names;
+use crate::names::TargetNames;
 use crate::target::Target;
 use crate::value::GivenAttribute;
 use bq_label::{Label, PackageId};
@@ -16,7 +16,7 @@ use std::alloc::{AllocError, Global};
 /// Files that are found one after another, and the names that are taken by them and by others.
 #[derive(Drop)]
 pub struct Files {
-    pub names: Names,
+    pub names: TargetNames,
     pub found: Items<Target>,
 }
 

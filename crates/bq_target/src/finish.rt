@@ -7,7 +7,7 @@ ghost use Rattle.bq_target.specs.Target.{is_of, names_of, source};
 ghost use Rattle.bq_target.specs.Package.{is_taken, new_files, own_labels};
 
 use crate::files::Files;
-use crate::names::Names;
+use crate::names::TargetNames;
 use crate::package::Package;
 use crate::state::{Declared, PackageState};
 use crate::target::Target;
@@ -17,7 +17,7 @@ use std::alloc::{AllocError, Global};
 
 /// Whether a rule, an output or a group has the label's name.
 #[tactic(auto, unfolding(crate::specs::Package::is_taken))]
-fn is_taken(targets: &[Target], names: &Names, label: &Label) -> Result<bool, AllocError>
+fn is_taken(targets: &[Target], names: &TargetNames, label: &Label) -> Result<bool, AllocError>
     requires { names.now ≡ names_of targets.now }
     ensures { IfOk result (λ taken. taken ≡ is_taken targets.now label.now) }
 {
@@ -31,7 +31,7 @@ fn is_taken(targets: &[Target], names: &Names, label: &Label) -> Result<bool, Al
 }
 
 /// Whether this is so of one of the labels.
-fn any_is_taken(targets: &[Target], names: &Names, labels: &[Label]) -> Result<bool, AllocError>
+fn any_is_taken(targets: &[Target], names: &TargetNames, labels: &[Label]) -> Result<bool, AllocError>
     requires { names.now ≡ names_of targets.now }
     ensures { IfOk result (λ taken. taken ≡ list_any (is_taken targets.now) labels.now) }
 {
@@ -47,10 +47,10 @@ fn any_is_taken(targets: &[Target], names: &Names, labels: &[Label]) -> Result<b
 fn add_files(
     alloc: Global,
     targets: &mut Items<Target>,
-    names: Names,
+    names: TargetNames,
     labels: &[Label],
     line: u32,
-) -> Result<Names, AllocError>
+) -> Result<TargetNames, AllocError>
     ensures targets { OnOk result (targets.new ≡ targets.old ++ map (λ l. source l line) (new_files names labels.now)) }
     ensures names { IfOk result (λ after. after ≡ names ++ map (λ l. l.name) (new_files names labels.now)) }
 {
@@ -68,7 +68,7 @@ fn add_files(
 fn add_rest(
     alloc: Global,
     targets: &mut Items<Target>,
-    names: Names,
+    names: TargetNames,
     build_file: &Label,
 ) -> Result<(), AllocError>
     ensures { OnOk result (targets.new ≡ targets.old ++ map (λ l. source l 0) (new_files names (build_file.now ∷ own_labels (package_of build_file.now) targets.old))) }

@@ -55,11 +55,11 @@ impl Hash for Name {
 
 /// Names, none of them twice, in the order in which they came. Contracts see the list of them.
 #[derive(Drop)]
-pub struct Names {
+pub struct TargetNames {
     keys: IndexSet<Name>,
 }
 
-impl Model for Names {
+impl Model for TargetNames {
     ghost use Rattle.std.specs.Prelude.{List, ℕ};
     ghost use Rattle.std.specs.Coded.{coded_ℕ, coded_list};
 
@@ -70,11 +70,11 @@ impl Model for Names {
     ghost view = { λ n. n.keys.keys };
 }
 
-impl Names {
-    pub fn new(alloc: Global) -> Names
+impl TargetNames {
+    pub fn new(alloc: Global) -> TargetNames
         ensures { result ≡ [] }
     {
-        Names {
+        TargetNames {
             keys: IndexSet::new(alloc),
         }
     }
@@ -86,7 +86,7 @@ impl Names {
     }
 
     /// Adds a name as the last, and answers whether it wasn't there.
-    #[tactic(auto, unfolding(crate::specs::Names::with_name))]
+    #[tactic(auto, unfolding(crate::specs::TargetNames::with_name))]
     pub fn add(&mut self, name: &Bytes) -> Result<bool, AllocError>
         ensures added { IfOk result (λ added. added ≡ not (has self.old name.now)) }
         ensures after { OnOk result (self.new ≡ with_name self.old name.now) }

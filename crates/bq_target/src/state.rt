@@ -2,7 +2,7 @@
 
 ghost use Rattle.std.specs.Prelude.{◌≡◌, if◌then◌else◌};
 
-use crate::names::Names;
+use crate::names::TargetNames;
 use crate::target::Target;
 use bq_label::Label;
 use sqlite_items::Items;
@@ -17,7 +17,7 @@ pub struct PackageState {
     pub(crate) build_file: Label,
     pub(crate) targets: Items<Target>,
     /// The names of the targets.
-    pub(crate) names: Names,
+    pub(crate) names: TargetNames,
 }
 
 impl Model for PackageState {
@@ -63,7 +63,7 @@ impl PackageState {
         PackageState {
             build_file,
             targets: Items::new(alloc),
-            names: Names::new(alloc),
+            names: TargetNames::new(alloc),
         }
     }
 }

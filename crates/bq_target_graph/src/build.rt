@@ -9,7 +9,7 @@ ghost use Rattle.bq_target_graph.specs.Edges.{edges_from, IsGraphOf};
 use crate::edges::{edges, labels};
 use crate::graph::TargetGraph;
 use crate::order::{Flat, flatten, sorted, valid};
-use bq_graph::Graph;
+use bq_graph::DependencyGraph;
 use bq_target::{Package, Target};
 use std::alloc::{AllocError, Global};
 
@@ -22,18 +22,18 @@ fn in_order(alloc: Global, packages: Vec<Package>) -> Result<Flat, AllocError>
 {
     let Flat { packages, targets } = flatten(alloc, packages)?;
     let targets = sorted(targets)?;
-    valid(&targets); // for the proof: labels are valid
+    valid(&targets); // PROOF: labels are valid
     Ok(Flat { packages, targets })
 }
 
 /// Which of the targets depend on which, by their numbers.
-fn graph_of(alloc: Global, targets: &[Target]) -> Result<Graph, AllocError>
+fn graph_of(alloc: Global, targets: &[Target]) -> Result<DependencyGraph, AllocError>
     requires { IsStrictlySortedBy target_cmp targets.now }
     ensures { IfOk result (λ g. HasPairsOf (length targets.now) (edges_from (labels_of targets.now) 0 targets.now) g) }
 {
     let labels = labels(alloc, targets)?;
     let edges = edges(alloc, &labels, targets)?;
-    Graph::new(alloc, targets.len(), &edges)
+    DependencyGraph::new(alloc, targets.len(), &edges)
 }
 
 impl TargetGraph {

@@ -2,7 +2,7 @@
 
 ghost use Rattle.std.specs.Prelude.{◌≡◌};
 
-use bq_graph::Graph;
+use bq_graph::DependencyGraph;
 use bq_label::PackageId;
 use bq_target::Target;
 use sqlite_items::Items;
@@ -14,7 +14,7 @@ use std::marker::Model;
 pub struct TargetGraph {
     targets: Vec<Target>,
     packages: Items<PackageId>,
-    graph: Graph,
+    graph: DependencyGraph,
 }
 
 impl Model for TargetGraph {
@@ -31,7 +31,7 @@ impl TargetGraph {
     ghost use Rattle.bq_target_graph.specs.Graph.{GraphParts, IsGraph};
 
     /// The graph of these parts.
-    pub(crate) fn of(targets: Vec<Target>, packages: Items<PackageId>, graph: Graph) -> TargetGraph
+    pub(crate) fn of(targets: Vec<Target>, packages: Items<PackageId>, graph: DependencyGraph) -> TargetGraph
         requires { IsGraph (record { targets = targets.items; packages = packages; edges = graph }) }
         ensures { result ≡ record { targets = targets.items; packages = packages; edges = graph } }
     {
@@ -47,7 +47,7 @@ impl TargetGraph {
         ensures value { result.now ≡ self.now.targets }
         ensures valid { IsGraph self.now }
     {
-        let _graph = &self.graph; // for the proof: the invariant
+        let _graph = &self.graph; // PROOF: the invariant
         self.targets.as_slice()
     }
 
@@ -56,16 +56,16 @@ impl TargetGraph {
         ensures value { result.now ≡ self.now.packages }
         ensures valid { IsGraph self.now }
     {
-        let _graph = &self.graph; // for the proof: the invariant
+        let _graph = &self.graph; // PROOF: the invariant
         self.packages.as_slice()
     }
 
     /// The dependencies by the targets' numbers.
-    pub fn graph(&self) -> &Graph
+    pub fn graph(&self) -> &DependencyGraph
         ensures value { result.now ≡ self.now.edges }
         ensures valid { IsGraph self.now }
     {
-        let _targets = &self.targets; // for the proof: the invariant
+        let _targets = &self.targets; // PROOF: the invariant
         &self.graph
     }
 }

@@ -206,7 +206,7 @@ fn last_two(board: &Board<Note>, seats: &mut Vec<Seat<Note>>) -> Option<(Seat<No
     requires { All (λ s. IsSeatOf board.now s) seats.old.items }
     ensures { IfSome result (λ p. IsSeatOf board.now p.0 × IsSeatOf board.now p.1) }
 {
-    // for the proof: it says whose seats they are.
+    // PROOF: it says whose seats they are.
     let _ = board;
     let last = seats.pop()?;
     Some((last, seats.pop()?))

@@ -8,7 +8,7 @@ use crate::rows::{Row, Subject, check_rows};
 use crate::source::{refusal, repeated};
 use crate::trees::{expr_text, target_text};
 use bq_expression::{expr_list, phrase, vars};
-use bq_grammar::{Expr, Nested, Refusal, Target};
+use bq_grammar::{Expr, Nested, SyntaxErr, AssignTarget};
 use bq_source::{Token, TokenKind, lex, tokens_lie_within};
 use bq_tokens::Tokens;
 use std::alloc::{AllocError, Global};
@@ -26,11 +26,11 @@ fn stopped(alloc: Global, why: &str, ahead: Option<&Token>) -> Result<Vec<u8>, A
     Ok(text.into_bytes())
 }
 
-fn refused(alloc: Global, why: &Refusal, ahead: Option<&Token>) -> Result<Vec<u8>, AllocError> {
+fn refused(alloc: Global, why: &SyntaxErr, ahead: Option<&Token>) -> Result<Vec<u8>, AllocError> {
     match why {
-        Refusal::Memory => Err(AllocError),
-        Refusal::Syntax => stopped(alloc, "syntax", ahead),
-        Refusal::Lambda => stopped(alloc, "lambda", ahead),
+        SyntaxErr::Memory => Err(AllocError),
+        SyntaxErr::Syntax => stopped(alloc, "syntax", ahead),
+        SyntaxErr::Lambda => stopped(alloc, "lambda", ahead),
     }
 }
 
@@ -44,7 +44,7 @@ fn ends_line(ahead: Option<&Token>) -> bool {
 /// The text of a tree that a whole line gives.
 fn shown_expr(
     alloc: Global,
-    found: &Result<Expr, Refusal>,
+    found: &Result<Expr, SyntaxErr>,
     ahead: Option<&Token>,
 ) -> Result<Vec<u8>, AllocError> {
     match found {
@@ -61,7 +61,7 @@ fn shown_expr(
 
 fn shown_target(
     alloc: Global,
-    found: &Result<Target, Refusal>,
+    found: &Result<AssignTarget, SyntaxErr>,
     ahead: Option<&Token>,
 ) -> Result<Vec<u8>, AllocError> {
     match found {
@@ -89,7 +89,7 @@ enum Asked {
     Variables,
 }
 
-fn read(alloc: Global, tokens: &mut Tokens<'_>, asked: Asked) -> Result<Expr, Refusal> {
+fn read(alloc: Global, tokens: &mut Tokens<'_>, asked: Asked) -> Result<Expr, SyntaxErr> {
     match asked {
         Asked::Test => phrase(alloc, tokens, DEPTH, Nested::Test),
         Asked::Or => phrase(alloc, tokens, DEPTH, Nested::Or),

@@ -8,7 +8,7 @@ use crate::rows::{Row, Subject, check_rows, number_of};
 use crate::source::{refusal, repeated};
 use crate::trees::{binary_sign, expr_text, target_text};
 use bq_file::parse;
-use bq_grammar::{Branch, Expr, FileKind, Load, Parameter, SmallKind, SmallStmt, Stmt, Target};
+use bq_grammar::{Branch, Expr, FileKind, Load, Parameter, SmallKind, SmallStmt, Stmt, AssignTarget};
 use bq_source::{Bytes, SourceErr, lex};
 use std::alloc::{AllocError, Global};
 use std::fmt::Write;
@@ -46,7 +46,7 @@ impl<'a> Printer<'a> {
         self.bytes(&text)
     }
 
-    fn target(&mut self, target: &Target) -> Result<(), AllocError> {
+    fn target(&mut self, target: &AssignTarget) -> Result<(), AllocError> {
         let text = target_text(self.alloc, target)?;
         self.bytes(&text)
     }
@@ -60,7 +60,7 @@ impl<'a> Printer<'a> {
         self.out.push_str(")")
     }
 
-    fn assign(&mut self, target: &Target, sign: &str, value: &Expr) -> Result<(), AllocError> {
+    fn assign(&mut self, target: &AssignTarget, sign: &str, value: &Expr) -> Result<(), AllocError> {
         write!(self.out, "({sign}=")?;
         self.target(target)?;
         self.expr(value)?;

@@ -6,7 +6,7 @@ use crate::rows::{Row, Subject, check_rows};
 use bq_graph::allpaths::allpaths;
 use bq_graph::deps::{deps, deps_within};
 use bq_graph::rdeps::{rdeps, rdeps_within};
-use bq_graph::{Edge, Graph, difference, intersection, members, union};
+use bq_graph::{Edge, DependencyGraph, difference, intersection, members, union};
 use std::alloc::{AllocError, Global};
 
 /// 0 leads to 3 by 1 and by 2, and 4 leads to 3, too; 0 leads to 7 by 8, and by 3 with an edge more; 5 and 6 lead to each other, and 4 to itself.
@@ -39,10 +39,10 @@ fn edges(alloc: Global) -> Result<Vec<Edge>, AllocError>
     Ok(edges)
 }
 
-fn drawn(alloc: Global) -> Result<Graph, AllocError>
+fn drawn(alloc: Global) -> Result<DependencyGraph, AllocError>
     ensures { IfOk result (λ g. length g ≡ 9) }
 {
-    Graph::new(alloc, 9, &edges(alloc)?)
+    DependencyGraph::new(alloc, 9, &edges(alloc)?)
 }
 
 /// A set of the targets below 9, by their digits.
@@ -63,7 +63,7 @@ fn marks(alloc: Global, digits: &[u8]) -> Result<Vec<bool>, AllocError>
 fn set_of(
     alloc: Global,
     operator: u8,
-    graph: &Graph,
+    graph: &DependencyGraph,
     a: &[bool],
     b: &[bool],
 ) -> Result<Vec<bool>, AllocError>
@@ -84,7 +84,7 @@ fn set_of(
 fn near_set(
     alloc: Global,
     operator: u8,
-    graph: &Graph,
+    graph: &DependencyGraph,
     a: &[bool],
     b: &[bool],
     limit: usize,
@@ -183,7 +183,7 @@ except | 03 | 38 | | 0
 
 /// How many targets there are in a graph without any, and in what they depend on.
 fn none_of_none(alloc: Global) -> Result<(usize, usize), AllocError> {
-    let graph = Graph::new(alloc, 0, &[])?;
+    let graph = DependencyGraph::new(alloc, 0, &[])?;
     let found = deps(alloc, &graph, &[])?;
     Ok((graph.len(), found.len()))
 }

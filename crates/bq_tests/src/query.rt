@@ -3,29 +3,29 @@
 use crate::rows::{Row, Subject, check_rows};
 use crate::source::repeated;
 use bq_pattern::{found_in, read_pattern};
-use bq_query::{QueryErr, Token, TokenKind, function_named, is_left_out, lex_query};
+use bq_query::{QueryErr, QueryToken, QueryTokenKind, function_named, is_left_out, lex_query};
 use regex::bytes::Regex;
 use std::alloc::{AllocError, Global};
 
-fn letter(kind: TokenKind) -> &'static str {
+fn letter(kind: QueryTokenKind) -> &'static str {
     match kind {
-        TokenKind::Word => "w",
-        TokenKind::Quoted => "q",
-        TokenKind::Variable => "v",
-        TokenKind::Open => "(",
-        TokenKind::Close => ")",
-        TokenKind::Comma => ",",
-        TokenKind::Equals => "=",
-        TokenKind::Union => "+",
-        TokenKind::Intersect => "^",
-        TokenKind::Except => "-",
-        TokenKind::In => "I",
-        TokenKind::Let => "L",
-        TokenKind::Set => "S",
+        QueryTokenKind::Word => "w",
+        QueryTokenKind::Quoted => "q",
+        QueryTokenKind::Variable => "v",
+        QueryTokenKind::Open => "(",
+        QueryTokenKind::Close => ")",
+        QueryTokenKind::Comma => ",",
+        QueryTokenKind::Equals => "=",
+        QueryTokenKind::Union => "+",
+        QueryTokenKind::Intersect => "^",
+        QueryTokenKind::Except => "-",
+        QueryTokenKind::In => "I",
+        QueryTokenKind::Let => "L",
+        QueryTokenKind::Set => "S",
     }
 }
 
-fn written(alloc: Global, tokens: &[Token]) -> Result<String, AllocError> {
+fn written(alloc: Global, tokens: &[QueryToken]) -> Result<String, AllocError> {
     let mut out = String::new(alloc);
     for token in tokens {
         write!(out, "{}{}-{}", letter(token.kind), token.start, token.end)?;
@@ -54,7 +54,7 @@ fn cuts_queries(rt: HostRuntime) -> Result<(), AllocError> {
     check_rows(&rt, rt.alloc(), QUERIES, &Cut)
 }
 
-fn count_of(alloc: Global, tokens: &[Token]) -> Result<Vec<u8>, AllocError> {
+fn count_of(alloc: Global, tokens: &[QueryToken]) -> Result<Vec<u8>, AllocError> {
     Ok(format!(in alloc; "{}", tokens.len())?.into_bytes())
 }
 

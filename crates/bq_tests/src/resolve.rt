@@ -13,7 +13,7 @@
 
 use crate::rows::{Row, Subject, check_rows};
 use crate::source::refusal;
-use bq_file::{File, parse};
+use bq_file::{ParsedFile, parse};
 use bq_grammar::FileKind;
 use bq_resolve::resolve;
 use bq_scope::{
@@ -409,12 +409,12 @@ fn universe_of(alloc: Global, scopes: Scopes) -> Result<Universe, AllocError> {
     Universe::new(alloc, scopes.kind, &[first, second])
 }
 
-fn file_of(alloc: Global, text: &[u8], kind: FileKind) -> Result<File, SourceErr> {
+fn file_of(alloc: Global, text: &[u8], kind: FileKind) -> Result<ParsedFile, SourceErr> {
     let tokens = lex(alloc, text)?;
     parse(alloc, &tokens, text, kind)
 }
 
-fn scopes_of(alloc: Global, file: &File, scopes: Scopes) -> Result<Resolved, SourceErr> {
+fn scopes_of(alloc: Global, file: &ParsedFile, scopes: Scopes) -> Result<Resolved, SourceErr> {
     let universe = universe_of(alloc, scopes)?;
     resolve(alloc, file, &universe)
 }

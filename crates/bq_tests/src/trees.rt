@@ -9,7 +9,7 @@
 //! A part is put in place of what it is made of until only words are left, so the printer needs no recursion.
 
 use bq_grammar::{
-    Argument, Choice, Clause, Comparison, Expr, Operation, Operator, Pair, Suffix, Target,
+    Argument, Choice, Clause, Comparison, Expr, Operation, Operator, Pair, Suffix, AssignTarget,
     UnaryOperator,
 };
 use bq_source::Bytes;
@@ -29,7 +29,7 @@ enum Part<'a> {
     String(&'a Bytes),
     Expr(&'a Expr),
     Optional(&'a Option<Boxed<Expr>>),
-    Target(&'a Target),
+    AssignTarget(&'a AssignTarget),
     Exprs(&'a [Expr]),
     Operators(&'a [UnaryOperator]),
     Operations(&'a [Operation]),
@@ -38,7 +38,7 @@ enum Part<'a> {
     Suffixes(&'a [Suffix]),
     Arguments(&'a [Argument]),
     Clauses(&'a [Clause]),
-    Targets(&'a [Target]),
+    Targets(&'a [AssignTarget]),
 }
 
 /// The parts that a part is made of, the last one first.
@@ -183,18 +183,18 @@ fn optional_parts(expr: &Option<Boxed<Expr>>) -> Parts<'_> {
     }
 }
 
-fn target_parts(target: &Target) -> Parts<'_> {
+fn target_parts(target: &AssignTarget) -> Parts<'_> {
     match target {
-        Target::Name(word) => one(Part::Name(&word.name)),
-        Target::Index(operand, index) => {
+        AssignTarget::Name(word) => one(Part::Name(&word.name)),
+        AssignTarget::Index(operand, index) => {
             node(
                 "element",
                 Part::Expr(operand.get()),
                 Part::Expr(index.get()),
             )
         }
-        Target::Tuple(items) => node("tuple", Part::Targets(items.as_slice()), Part::Nothing),
-        Target::List(items) => node("list", Part::Targets(items.as_slice()), Part::Nothing),
+        AssignTarget::Tuple(items) => node("tuple", Part::Targets(items.as_slice()), Part::Nothing),
+        AssignTarget::List(items) => node("list", Part::Targets(items.as_slice()), Part::Nothing),
     }
 }
 
@@ -348,6 +348,6 @@ pub fn expr_text(alloc: Global, expr: &Expr) -> Result<Vec<u8>, AllocError> {
 }
 
 /// The text of the variables of a `for`.
-pub fn target_text(alloc: Global, target: &Target) -> Result<Vec<u8>, AllocError> {
+pub fn target_text(alloc: Global, target: &AssignTarget) -> Result<Vec<u8>, AllocError> {
     text_of(alloc, Part::Target(target))
 }

@@ -15,7 +15,7 @@ ghost use Rattle.bq_source.specs.declared.token.TokenKind.TheVariants as kind;
 ghost use Rattle.bq_tokens.specs.Tokens as ahead;
 
 use crate::operators::{augmented, comparison, negation, operator_at, sign};
-use bq_grammar::{Comparison, Expr, Identifier, Operator, Refusal, UnaryOperator};
+use bq_grammar::{Comparison, Expr, Identifier, Operator, SyntaxErr, UnaryOperator};
 use bq_source::{Bytes, Token, TokenKind, int_value, string_value};
 use std::alloc::Global;
 use std::marker::Model;
@@ -161,19 +161,19 @@ impl<'a> Tokens<'a> {
     }
 
     /// Passes the next token, which must be of this kind.
-    pub fn expect(&mut self, kind: TokenKind) -> Result<(), Refusal>
+    pub fn expect(&mut self, kind: TokenKind) -> Result<(), SyntaxErr>
         ensures { Reads (spec.expect kind self.old) result self.new }
     {
         if self.sees(kind) {
             self.advance();
             Ok(())
         } else {
-            Err(Refusal::Syntax)
+            Err(SyntaxErr::Syntax)
         }
     }
 
     /// A word, and what it names.
-    pub fn word(&mut self, alloc: Global) -> Result<Identifier, Refusal>
+    pub fn word(&mut self, alloc: Global) -> Result<Identifier, SyntaxErr>
         ensures { Reads (reading.word self.old) result self.new }
     {
         match self.rest.first() {
@@ -183,12 +183,12 @@ impl<'a> Tokens<'a> {
                 self.advance();
                 Ok(Identifier { name, line })
             }
-            _ => Err(Refusal::Syntax),
+            _ => Err(SyntaxErr::Syntax),
         }
     }
 
     /// The number that the next token, an integer literal, stands for.
-    pub fn int(&mut self) -> Result<Expr, Refusal>
+    pub fn int(&mut self) -> Result<Expr, SyntaxErr>
         ensures { Reads (reading.int_of (numbers.int_value (reading.spelling_of self.old)) (spec.next self.old)) result self.new }
     {
         match int_value(self.spelling()) {
@@ -196,16 +196,16 @@ impl<'a> Tokens<'a> {
                 self.advance();
                 Ok(Expr::Int(n))
             }
-            None => Err(Refusal::Syntax),
+            None => Err(SyntaxErr::Syntax),
         }
     }
 
     /// The bytes that the next token, a string literal, stands for.
-    pub fn string(&mut self, alloc: Global) -> Result<Expr, Refusal>
+    pub fn string(&mut self, alloc: Global) -> Result<Expr, SyntaxErr>
         requires { ahead.kind_ahead self.old ≡ Some kind.String }
         ensures { Reads (reading.string_of (strings.string_value (reading.spelling_of self.old)) (spec.next self.old)) result self.new }
     {
-        // for the proof: it looks into the place.
+        // PROOF: it looks into the place.
         let _ = self.rest.len();
         let value = string_value(alloc, self.spelling())?;
         self.advance();
@@ -213,11 +213,11 @@ impl<'a> Tokens<'a> {
     }
 
     /// What the next token, a string literal, stands for.
-    pub fn text(&mut self, alloc: Global) -> Result<Bytes, Refusal>
+    pub fn text(&mut self, alloc: Global) -> Result<Bytes, SyntaxErr>
         requires { ahead.kind_ahead self.old ≡ Some kind.String }
         ensures { Reads (statements.text_of (strings.string_value (reading.spelling_of self.old)) (spec.next self.old)) result self.new }
     {
-        // for the proof: it looks into the place.
+        // PROOF: it looks into the place.
         let _ = self.rest.len();
         let value = string_value(alloc, self.spelling())?;
         self.advance();
@@ -234,7 +234,7 @@ impl<'a> Tokens<'a> {
         }
     }
 
-    pub fn sign(&mut self) -> Result<UnaryOperator, Refusal>
+    pub fn sign(&mut self) -> Result<UnaryOperator, SyntaxErr>
         ensures { Reads (reading.looked_up operators.sign self.old) result self.new }
     {
         match self.rest.first() {
@@ -243,9 +243,9 @@ impl<'a> Tokens<'a> {
                     self.advance();
                     Ok(found)
                 }
-                None => Err(Refusal::Syntax),
+                None => Err(SyntaxErr::Syntax),
             },
-            None => Err(Refusal::Syntax),
+            None => Err(SyntaxErr::Syntax),
         }
     }
 
@@ -259,7 +259,7 @@ impl<'a> Tokens<'a> {
         }
     }
 
-    pub fn negation(&mut self) -> Result<UnaryOperator, Refusal>
+    pub fn negation(&mut self) -> Result<UnaryOperator, SyntaxErr>
         ensures { Reads (reading.looked_up operators.negation self.old) result self.new }
     {
         match self.rest.first() {
@@ -268,9 +268,9 @@ impl<'a> Tokens<'a> {
                     self.advance();
                     Ok(found)
                 }
-                None => Err(Refusal::Syntax),
+                None => Err(SyntaxErr::Syntax),
             },
-            None => Err(Refusal::Syntax),
+            None => Err(SyntaxErr::Syntax),
         }
     }
 
@@ -284,7 +284,7 @@ impl<'a> Tokens<'a> {
         }
     }
 
-    pub fn comparison(&mut self) -> Result<Comparison, Refusal>
+    pub fn comparison(&mut self) -> Result<Comparison, SyntaxErr>
         ensures { Reads (reading.looked_up operators.comparison self.old) result self.new }
     {
         match self.rest.first() {
@@ -293,9 +293,9 @@ impl<'a> Tokens<'a> {
                     self.advance();
                     Ok(found)
                 }
-                None => Err(Refusal::Syntax),
+                None => Err(SyntaxErr::Syntax),
             },
-            None => Err(Refusal::Syntax),
+            None => Err(SyntaxErr::Syntax),
         }
     }
 
@@ -309,7 +309,7 @@ impl<'a> Tokens<'a> {
         }
     }
 
-    pub fn operator(&mut self, level: usize) -> Result<Operator, Refusal>
+    pub fn operator(&mut self, level: usize) -> Result<Operator, SyntaxErr>
         ensures { Reads (reading.looked_up (operators.operator_at level) self.old) result self.new }
     {
         match self.rest.first() {
@@ -318,9 +318,9 @@ impl<'a> Tokens<'a> {
                     self.advance();
                     Ok(found)
                 }
-                None => Err(Refusal::Syntax),
+                None => Err(SyntaxErr::Syntax),
             },
-            None => Err(Refusal::Syntax),
+            None => Err(SyntaxErr::Syntax),
         }
     }
 
@@ -334,7 +334,7 @@ impl<'a> Tokens<'a> {
         }
     }
 
-    pub fn augmented(&mut self) -> Result<Operator, Refusal>
+    pub fn augmented(&mut self) -> Result<Operator, SyntaxErr>
         ensures { Reads (reading.looked_up operators.augmented self.old) result self.new }
     {
         match self.rest.first() {
@@ -343,9 +343,9 @@ impl<'a> Tokens<'a> {
                     self.advance();
                     Ok(found)
                 }
-                None => Err(Refusal::Syntax),
+                None => Err(SyntaxErr::Syntax),
             },
-            None => Err(Refusal::Syntax),
+            None => Err(SyntaxErr::Syntax),
         }
     }
 }

@@ -57,7 +57,7 @@ impl Dict {
     pub(crate) fn has_no_key_twice(&self)
         ensures { HasNoKeyTwice self.now }
     {
-        let _len = self.entries.len(); // for the proof: the map says so
+        let _len = self.entries.len(); // PROOF: the map says so
     }
 
     /// How many pairs.
@@ -82,7 +82,7 @@ impl Dict {
         requires { index < length self.now }
         ensures { drop index self.now ≡ deref_pair result ∷ drop (index + 1) self.now }
     {
-        let _len = self.entries.len(); // for the proof: the sum fits
+        let _len = self.entries.len(); // PROOF: the sum fits
         self.entries.get_index(self.gone + index).unwrap()
     }
 

@@ -6,7 +6,7 @@ use bq_string::{
     count, find, lstrip, partition, remove_prefix, remove_suffix, replace, rfind, rpartition,
     rsplit, rstrip, split, strip,
 };
-use bq_words::{Class, all_are, is_lower, is_upper, lines, lower, rwords, upper, words};
+use bq_words::{ByteClass, all_are, is_lower, is_upper, lines, lower, rwords, upper, words};
 use std::alloc::{AllocError, Global};
 
 /// Writes a text between `<` and `>`.
@@ -125,11 +125,11 @@ fn places(alloc: Global, text: &[u8], row: Row) -> Result<Vec<u8>, AllocError> {
     Ok(format!(in alloc; "{first} {last} {}", count(text, &sub))?.into_bytes())
 }
 
-const TESTS: &[(u8, Class)] = &[
-    (b'n', Class::Alphanumeric),
-    (b'a', Class::Alphabetic),
-    (b'd', Class::Digit),
-    (b's', Class::Space),
+const TESTS: &[(u8, ByteClass)] = &[
+    (b'n', ByteClass::Alphanumeric),
+    (b'a', ByteClass::Alphabetic),
+    (b'd', ByteClass::Digit),
+    (b's', ByteClass::Space),
 ];
 
 fn classes(alloc: Global, text: &[u8]) -> Result<Vec<u8>, AllocError> {

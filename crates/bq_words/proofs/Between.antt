@@ -7,7 +7,7 @@ use Rattle.std.proofs.lemmas.List.Sums.{prefix_len_passes, prefix_len-le-length}
 use Rattle.std.specs.List.{prefix_len, All}
 use Rattle.bq_string.specs.Trim.{lstrip, spaces}
 use Rattle.bq_words.specs.Class.{has, is_space}
-use Rattle.bq_words.specs.declared.class.Class.TheVariants.{NonSpace}
+use Rattle.bq_words.specs.declared.class.ByteClass.TheVariants.{NonSpace}
 use Rattle.bq_words.specs.Word.{AreWords, none, more, IsSpace, IsWord, IsApart, first_word, words_from}
 
 passes : (p : ℕ → Bool) (text : List ℕ) → All (λ b. p b ≡ true) (take (prefix_len p text) text)

@@ -4,7 +4,7 @@ use Rattle.std.proofs.lemmas.List.{reverse-append}
 use Rattle.std.specs.List.{prefix_len, suffix_len}
 use Rattle.bq_string.specs.Trim.{lstrip, rstrip, spaces}
 use Rattle.bq_words.specs.Class.{has}
-use Rattle.bq_words.specs.declared.class.Class.TheVariants.{NonSpace}
+use Rattle.bq_words.specs.declared.class.ByteClass.TheVariants.{NonSpace}
 use Rattle.bq_words.specs.Word.{first_word, last_word, word_within, last_word_within, last_part, words_from, rwords_from}
 
 -- ---- one cut

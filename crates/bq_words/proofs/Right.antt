@@ -6,7 +6,7 @@ use Rattle.std.proofs.lemmas.List.{reverse-append, reverse-reverse, take-append-
 use Rattle.std.specs.List.{prefix_len, suffix_len, All}
 use Rattle.bq_string.specs.Trim.{lstrip, rstrip, spaces}
 use Rattle.bq_words.specs.Class.{has, is_space}
-use Rattle.bq_words.specs.declared.class.Class.TheVariants.{NonSpace}
+use Rattle.bq_words.specs.declared.class.ByteClass.TheVariants.{NonSpace}
 use Rattle.bq_words.specs.Word.{AreWords, none, more, IsSpace, IsWord, IsApart, first_word, last_word, words, rwords, words_from, rwords_from}
 
 -- ---- runs

@@ -3,11 +3,11 @@
 use Rattle.std.specs.Prelude.{ℕ, Bool, not, ◌&&◌, nat_lt, List, [], ◌∷◌, length, map}
 use Rattle.std.specs.List.{list_all, list_any}
 use Rattle.bq_words.specs.Class.{has}
-use Rattle.bq_words.specs.declared.class.Class.{Class}
-use Rattle.bq_words.specs.declared.class.Class.TheVariants.{Lowercase, Uppercase}
+use Rattle.bq_words.specs.declared.class.ByteClass.{ByteClass}
+use Rattle.bq_words.specs.declared.class.ByteClass.TheVariants.{Lowercase, Uppercase}
 
 -- not empty, and each byte is of the class
-abbrev pub all_are : Class → List ℕ → Bool
+abbrev pub all_are : ByteClass → List ℕ → Bool
 all_are class text = nat_lt 0 (length text) && list_all (has class) text
 
 -- some letter, and none of the other case

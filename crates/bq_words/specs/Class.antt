@@ -2,13 +2,13 @@
 use Rattle.std.specs.Prelude.{ℕ, Bool, not}
 use Rattle.std.specs.Char.{is_ascii_alphanumeric, is_ascii_alphabetic, is_ascii_digit, is_ascii_lowercase, is_ascii_uppercase}
 use Rattle.bq_string.specs.Trim.{is_among, spaces}
-use Rattle.bq_words.specs.declared.class.Class.{Class}
-use Rattle.bq_words.specs.declared.class.Class.TheVariants.{Alphanumeric, Alphabetic, Digit, Lowercase, Uppercase, Space, NonSpace}
+use Rattle.bq_words.specs.declared.class.ByteClass.{ByteClass}
+use Rattle.bq_words.specs.declared.class.ByteClass.TheVariants.{Alphanumeric, Alphabetic, Digit, Lowercase, Uppercase, Space, NonSpace}
 
 abbrev pub is_space : ℕ → Bool
 is_space b = is_among spaces b
 
-abbrev pub has : Class → ℕ → Bool
+abbrev pub has : ByteClass → ℕ → Bool
 has Alphanumeric b = is_ascii_alphanumeric b
 has Alphabetic b = is_ascii_alphabetic b
 has Digit b = is_ascii_digit b

@@ -3,7 +3,7 @@ use Rattle.std.specs.Prelude.{◌≡◌, ℕ, zero, suc, ◌-◌, true, false, L
 use Rattle.std.specs.List.{prefix_len, suffix_len, All}
 use Rattle.bq_string.specs.Trim.{lstrip, rstrip, spaces}
 use Rattle.bq_words.specs.Class.{has, is_space}
-use Rattle.bq_words.specs.declared.class.Class.TheVariants.{NonSpace}
+use Rattle.bq_words.specs.declared.class.ByteClass.TheVariants.{NonSpace}
 
 -- ---- in words
 

@@ -6,12 +6,12 @@ ghost use Rattle.std.specs.Char.{to_ascii_lowercase, to_ascii_uppercase};
 ghost use Rattle.bq_words.specs.Class.{has};
 ghost use Rattle.bq_words.specs.Case.{all_are, is_lower, is_upper, elems};
 
-use crate::class::Class;
+use crate::class::ByteClass;
 use bq_source::Bytes;
 use std::alloc::{AllocError, Global};
 
 /// Whether the text is not empty and each of its bytes is of the class.
-pub fn all_are(text: &[u8], class: Class) -> bool
+pub fn all_are(text: &[u8], class: ByteClass) -> bool
     ensures { result ≡ all_are class text.now }
 {
     for byte in text {
@@ -23,7 +23,7 @@ pub fn all_are(text: &[u8], class: Class) -> bool
 }
 
 /// Whether some byte of the text is of the class.
-fn any_is(text: &[u8], class: Class) -> bool
+fn any_is(text: &[u8], class: ByteClass) -> bool
     ensures { result ≡ list_any (has class) text.now }
 {
     for byte in text {
@@ -38,14 +38,14 @@ fn any_is(text: &[u8], class: Class) -> bool
 pub fn is_lower(text: &[u8]) -> bool
     ensures { result ≡ is_lower text.now }
 {
-    any_is(text, Class::Lowercase) && !any_is(text, Class::Uppercase)
+    any_is(text, ByteClass::Lowercase) && !any_is(text, ByteClass::Uppercase)
 }
 
 /// Whether the text has an upper-case letter and no lower-case one.
 pub fn is_upper(text: &[u8]) -> bool
     ensures { result ≡ is_upper text.now }
 {
-    any_is(text, Class::Uppercase) && !any_is(text, Class::Lowercase)
+    any_is(text, ByteClass::Uppercase) && !any_is(text, ByteClass::Lowercase)
 }
 
 /// The text with each letter in lower case.

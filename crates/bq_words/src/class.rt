@@ -6,7 +6,7 @@ ghost use Rattle.bq_words.specs.Class.{has, is_space};
 
 /// A class of bytes.
 #[derive(Clone, Copy)]
-pub enum Class {
+pub enum ByteClass {
     Alphanumeric,
     Alphabetic,
     Digit,
@@ -23,19 +23,19 @@ fn is_space(byte: u8) -> bool
     matches!(byte, b' ' | b'\t' | b'\n' | b'\r' | 11 | 12)
 }
 
-impl Class {
+impl ByteClass {
     /// Whether a byte is of this class.
     pub fn has(self, byte: u8) -> bool
         ensures { result ≡ has self byte }
     {
         match self {
-            Class::Alphanumeric => byte.is_ascii_alphanumeric(),
-            Class::Alphabetic => byte.is_ascii_alphabetic(),
-            Class::Digit => byte.is_ascii_digit(),
-            Class::Lowercase => byte.is_ascii_lowercase(),
-            Class::Uppercase => byte.is_ascii_uppercase(),
-            Class::Space => is_space(byte),
-            Class::NonSpace => !is_space(byte),
+            ByteClass::Alphanumeric => byte.is_ascii_alphanumeric(),
+            ByteClass::Alphabetic => byte.is_ascii_alphabetic(),
+            ByteClass::Digit => byte.is_ascii_digit(),
+            ByteClass::Lowercase => byte.is_ascii_lowercase(),
+            ByteClass::Uppercase => byte.is_ascii_uppercase(),
+            ByteClass::Space => is_space(byte),
+            ByteClass::NonSpace => !is_space(byte),
         }
     }
 

@@ -19,6 +19,6 @@ mod line;
 mod word;
 
 pub use case::{all_are, elems, is_lower, is_upper, lower, upper};
-pub use class::Class;
+pub use class::ByteClass;
 pub use line::lines;
 pub use word::{rwords, words};

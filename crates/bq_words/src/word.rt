@@ -4,7 +4,7 @@ ghost use Rattle.std.specs.Prelude.{◌≡◌, ◌<◌, ◌++◌, IfOk, OnOk, If
 ghost use Rattle.bq_string.specs.Trim.{lstrip, rstrip, spaces};
 ghost use Rattle.bq_words.specs.Word.{word_within, last_word_within, last_part, words, rwords};
 
-use crate::class::Class;
+use crate::class::ByteClass;
 use bq_source::Bytes;
 use std::alloc::{AllocError, Global};
 
@@ -13,7 +13,7 @@ use std::alloc::{AllocError, Global};
 fn after_space(text: &[u8]) -> &[u8]
     ensures { result.now ≡ lstrip spaces text.now }
 {
-    &text[Class::Space.run_len(text)..]
+    &text[ByteClass::Space.run_len(text)..]
 }
 
 /// The text without the space that it ends in.
@@ -21,7 +21,7 @@ fn after_space(text: &[u8]) -> &[u8]
 fn before_space(text: &[u8]) -> &[u8]
     ensures { result.now ≡ rstrip spaces text.now }
 {
-    &text[..Class::Space.len_without_run(text)]
+    &text[..ByteClass::Space.len_without_run(text)]
 }
 
 /// The word that the text begins with, and what is after it, where some cuts are left.
@@ -36,7 +36,7 @@ fn word_within(text: &[u8], left: usize) -> Option<(&[u8], &[u8])>
     if text.is_empty() {
         return None;
     }
-    Some(text.split_at(Class::NonSpace.run_len(text)))
+    Some(text.split_at(ByteClass::NonSpace.run_len(text)))
 }
 
 /// What is before the word that the text ends in, and the word, where some cuts are left.
@@ -51,7 +51,7 @@ fn last_word_within(text: &[u8], left: usize) -> Option<(&[u8], &[u8])>
     if text.is_empty() {
         return None;
     }
-    Some(text.split_at(Class::NonSpace.len_without_run(text)))
+    Some(text.split_at(ByteClass::NonSpace.len_without_run(text)))
 }
 
 /// Adds what is left as a part, if it has a byte.

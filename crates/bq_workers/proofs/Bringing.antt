@@ -13,7 +13,7 @@ use Rattle.bq_board.proofs.Lemmas.{times_same}
 use Rattle.bq_outcome.specs.declared.outcome.Outcome.{Outcome}
 use Rattle.bq_load_order.specs.Shown.{shown}
 use Rattle.bq_workers.specs.Brought.{AreRight, Brought}
-use Rattle.bq_workers.specs.declared.pool.Evaluated.{Evaluated}
+use Rattle.bq_workers.specs.declared.pool.FinishedModule.{FinishedModule}
 
 -- a claim finishes nothing
 pub finished_kept : {B : Type 0} (v w : View B) (m : ℕ) (r : Claim) → Answered v m r w → w.finished ≡ v.finished
@@ -25,15 +25,15 @@ module _ {M N V F : Type 0} (see : M → V) (see_fault : N → F) (out : ℕ →
   pub brought_none : (fs : List ℕ) → Brought see see_fault out n fs fs []
   brought_none fs = record { joined = sym (append-nil fs); right = λ k d h. absurd (omega arith) }
 
-  pub brought_more : (before fs gs : List ℕ) (es : List (Evaluated M N)) (e : Evaluated M N) → Brought see see_fault out n before fs es → gs ≡ fs ++ e.number ∷ [] → e.number < n → shown see see_fault e.outcome ≡ out e.number
+  pub brought_more : (before fs gs : List ℕ) (es : List (FinishedModule M N)) (e : FinishedModule M N) → Brought see see_fault out n before fs es → gs ≡ fs ++ e.number ∷ [] → e.number < n → shown see see_fault e.outcome ≡ out e.number
       → Brought see see_fault out n before gs (es ++ e ∷ [])
   brought_more before fs gs es e b more known is = record {
     joined = more ∙ ap (λ xs. xs ++ e.number ∷ []) b.joined ∙ append_assoc before (map (λ x. x.number) es) (e.number ∷ []) ∙ sym (ap (λ xs. before ++ xs) (map_push (λ x. x.number) es e));
     right = All-push (λ x. (x.number < n) × (shown see see_fault x.outcome ≡ out x.number)) es e b.right (known, is);
   }
 
-  pub right_item : (es : List (Evaluated M N)) (i : ℕ) → AreRight see see_fault out n es → i < length es → (e : Evaluated M N) → e ≡ get_or es i e → (e.number < n) × (shown see see_fault e.outcome ≡ out e.number)
-  right_item es i right h e read = let P : Evaluated M N → Type 0 = λ x. (x.number < n) × (shown see see_fault x.outcome ≡ out x.number) in subst P (sym read) (right i e h)
+  pub right_item : (es : List (FinishedModule M N)) (i : ℕ) → AreRight see see_fault out n es → i < length es → (e : FinishedModule M N) → e ≡ get_or es i e → (e.number < n) × (shown see see_fault e.outcome ≡ out e.number)
+  right_item es i right h e read = let P : FinishedModule M N → Type 0 = λ x. (x.number < n) × (shown see see_fault x.outcome ≡ out x.number) in subst P (sym read) (right i e h)
 
 pub if_some : {A : Type 0} (P : A → Type 0) (o : Option A) (x : A) → o ≡ Some x → IfSome o P → P x
 if_some {A} P o x k h = let F : Option A → Type 0 = λ t. IfSome t P in subst F k h

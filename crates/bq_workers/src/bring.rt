@@ -9,12 +9,12 @@ ghost use Rattle.bq_workers.specs.Brought.{Brought};
 ghost use Rattle.bq_workers.specs.Work.{IsImport};
 
 use crate::import::Import;
-use crate::pool::{Evaluated, Pool};
+use crate::pool::{FinishedModule, WorkerPool};
 use bq_board::{Claim, Seat};
-use bq_load_order::{Evaluate, Shared, Watch, share_value};
+use bq_load_order::{Evaluate, SharedOutcome, Watch, share_value};
 use std::alloc::{AllocError, Global};
 
-impl<E: Evaluate> Pool<E> {
+impl<E: Evaluate> WorkerPool<E> {
     // Claims a module, and where it is won, finds its outcome, posts it and finishes the module.
     pub(crate) fn bring<W: Watch>(
         &self,
@@ -22,14 +22,14 @@ impl<E: Evaluate> Pool<E> {
         seat: &mut Seat<Import<E>>,
         m: usize,
         watch: &W,
-        modules: &mut Vec<Evaluated<E::Value, E::Fault>>,
+        modules: &mut Vec<FinishedModule<E::Value, E::Fault>>,
     ) -> Result<(), AllocError>
         requires seat { IsSeatOf self.now.board seat.old }
         requires known { m < length self.now.board.plan }
         ensures seat { IsSeatOf self.now.board seat.new }
         ensures brought { (before : List ℕ) → Brought E.see E.see_fault (outcome (E.means self.now.evaluator) self.now.graph) (length self.now.graph) before (view_of seat.old).finished modules.old.items → OnOk result (Brought E.see E.see_fault (outcome (E.means self.now.evaluator) self.now.graph) (length self.now.graph) before (view_of seat.new).finished modules.new.items) }
     {
-        let _ = self.graph.len(); // for the proof: the graph is valid
+        let _ = self.graph.len(); // PROOF: the graph is valid
         if !self.wins(seat, m) {
             return Ok(());
         }
@@ -37,7 +37,7 @@ impl<E: Evaluate> Pool<E> {
         let out = self.board.plan().edges_out(m);
         let number = m as u32;
         let copies = copies::<E>(alloc, number, &outcome, out.len())?;
-        modules.push(Evaluated { number, outcome })?;
+        modules.push(FinishedModule { number, outcome })?;
         self.deliver(seat, m, out, copies);
         Ok(())
     }
@@ -80,7 +80,7 @@ impl<E: Evaluate> Pool<E> {
 fn copies<E: Evaluate>(
     alloc: Global,
     number: u32,
-    outcome: &Shared<E::Value, E::Fault>,
+    outcome: &SharedOutcome<E::Value, E::Fault>,
     count: usize,
 ) -> Result<Vec<Import<E>>, AllocError>
     ensures count { IfOk result (λ v. vec_len v ≡ count) }

@@ -1,7 +1,7 @@
 //! What a worker tries next. Nothing is promised of it: a candidate may be anything, and the board decides.
 ghost use Rattle.std.specs.Prelude.{◌<◌, length};
 
-use crate::pool::Pool;
+use crate::pool::WorkerPool;
 use bq_load_order::Evaluate;
 use crossbeam_deque::{Steal, Worker};
 use std::sync::atomic::Ordering;
@@ -15,7 +15,7 @@ pub(crate) enum Next {
     Nothing,
 }
 
-impl<E: Evaluate> Pool<E> {
+impl<E: Evaluate> WorkerPool<E> {
     // A module of the worker's own list, else one of another's.
     pub(crate) fn next(&self, list: &mut Worker<u32>) -> Next {
         match list.pop() {

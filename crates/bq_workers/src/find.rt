@@ -7,14 +7,14 @@ ghost use Rattle.bq_outcome.specs.Outcome.{outcome, values};
 ghost use Rattle.bq_load_order.specs.Shown.{seen, shown};
 
 use crate::import::Import;
-use crate::pool::Pool;
+use crate::pool::WorkerPool;
 use bq_board::{Seat, edges_are_loads};
-use bq_load_order::{Evaluate, Shared, Watch, first_at_limit, first_cyclic, outcome_by};
+use bq_load_order::{Evaluate, SharedOutcome, Watch, first_at_limit, first_cyclic, outcome_by};
 use bq_outcome::Outcome;
 use std::alloc::{AllocError, Global};
 use std::sync::Arc;
 
-impl<E: Evaluate> Pool<E> {
+impl<E: Evaluate> WorkerPool<E> {
     // The outcome of a module, by what it loads.
     pub(crate) fn find<W: Watch>(
         &self,
@@ -22,7 +22,7 @@ impl<E: Evaluate> Pool<E> {
         seat: &mut Seat<Import<E>>,
         m: usize,
         watch: &W,
-    ) -> Result<Shared<E::Value, E::Fault>, AllocError>
+    ) -> Result<SharedOutcome<E::Value, E::Fault>, AllocError>
         requires seat { IsSeatOf self.now.board seat.old }
         requires known { m < length self.now.board.plan }
         requires holds { Holds self.now.board.plan (view_of seat.old) m }
@@ -39,7 +39,7 @@ impl<E: Evaluate> Pool<E> {
             return Ok(Outcome::TooDeep(first_at_limit(&self.order, &self.graph, loads)));
         }
         let imports = self.imports(alloc, seat, m)?;
-        // for the proof: the outcome is by these imports
+        // PROOF: the outcome is by these imports
         Ok(outcome_by(alloc, &self.evaluator, m as u32, imports, watch)?)
     }
 
@@ -58,7 +58,7 @@ impl<E: Evaluate> Pool<E> {
         ensures finished { (view_of seat.new).finished ≡ (view_of seat.old).finished }
         ensures values { IfOk result (λ r. seen E.see r ≡ values (outcome (E.means self.now.evaluator) self.now.graph) (row self.now.board.plan m)) }
     {
-        edges_are_loads(); // for the proof: the edges into a module are its loads
+        edges_are_loads(); // PROOF: the edges into a module are its loads
         let mut imports = Vec::new(alloc);
         for e in self.board.plan().start(m)..self.board.plan().start(m + 1) {
             let import = self.board.fetch(seat, e);

@@ -6,9 +6,9 @@ ghost use Rattle.bq_load_order.specs.Shown.{shown, slot};
 ghost use Rattle.bq_load_order.specs.Slots.{Filling, Tabulates};
 ghost use Rattle.bq_workers.specs.Brought.{AreRight, IsAnswer};
 
-use crate::pool::{Evaluated, Pool, PoolSeat};
+use crate::pool::{FinishedModule, WorkerPool, WorkerSeat};
 use crate::threads::{Answer, brought, completed};
-use bq_load_order::{Evaluate, Shared, Watch, empty_slots, share};
+use bq_load_order::{Evaluate, SharedOutcome, Watch, empty_slots, share};
 use std::alloc::{AllocError, Global};
 use std::sync::Wait;
 use std::thread::Threads;
@@ -17,10 +17,10 @@ use std::thread::Threads;
 pub fn outcomes_by_workers<R: Threads + Wait + Sync, E: Evaluate, W: Watch>(
     rt: &R,
     alloc: Global,
-    pool: &Pool<E>,
-    seats: Vec<PoolSeat<E>>,
+    pool: &WorkerPool<E>,
+    seats: Vec<WorkerSeat<E>>,
     watch: &W,
-) -> Result<Vec<Shared<E::Value, E::Fault>>, AllocError>
+) -> Result<Vec<SharedOutcome<E::Value, E::Fault>>, AllocError>
     requires { All (λ s. IsSeatOf pool.now.board s.place) seats.items }
     ensures { IfOk result (λ v. Tabulates (length pool.now.graph) (outcome (E.means pool.now.evaluator) pool.now.graph) (map (shown E.see E.see_fault) v.items)) }
 {
@@ -32,9 +32,9 @@ pub fn outcomes_by_workers<R: Threads + Wait + Sync, E: Evaluate, W: Watch>(
 // A slot for each module, with what the workers brought, where none of them was refused memory.
 fn found_by<E: Evaluate>(
     alloc: Global,
-    pool: &Pool<E>,
+    pool: &WorkerPool<E>,
     answers: &[Answer<E::Value, E::Fault>],
-) -> Result<Vec<Option<Shared<E::Value, E::Fault>>>, AllocError>
+) -> Result<Vec<Option<SharedOutcome<E::Value, E::Fault>>>, AllocError>
     requires right { All (IsAnswer E.see E.see_fault (outcome (E.means pool.now.evaluator) pool.now.graph) (length pool.now.graph)) answers.now }
     ensures had { OnOk result (All IsOk answers.now) }
     ensures found { IfOk result (λ v. Filling (outcome (E.means pool.now.evaluator) pool.now.graph) (length pool.now.graph) (map (slot E.see E.see_fault) v.items) []) }
@@ -46,8 +46,8 @@ fn found_by<E: Evaluate>(
 
 // Puts what all workers brought into the slots. A worker that was refused memory makes the answer so.
 fn put_back<E: Evaluate>(
-    pool: &Pool<E>,
-    found: &mut Vec<Option<Shared<E::Value, E::Fault>>>,
+    pool: &WorkerPool<E>,
+    found: &mut Vec<Option<SharedOutcome<E::Value, E::Fault>>>,
     answers: &[Answer<E::Value, E::Fault>],
 ) -> Result<(), AllocError>
     requires right { All (IsAnswer E.see E.see_fault (outcome (E.means pool.now.evaluator) pool.now.graph) (length pool.now.graph)) answers.now }
@@ -66,9 +66,9 @@ fn put_back<E: Evaluate>(
 
 // Puts what one worker brought into the slots.
 fn put_all<E: Evaluate>(
-    pool: &Pool<E>,
-    found: &mut Vec<Option<Shared<E::Value, E::Fault>>>,
-    modules: &[Evaluated<E::Value, E::Fault>],
+    pool: &WorkerPool<E>,
+    found: &mut Vec<Option<SharedOutcome<E::Value, E::Fault>>>,
+    modules: &[FinishedModule<E::Value, E::Fault>],
 ) -> Result<(), AllocError>
     requires right { AreRight E.see E.see_fault (outcome (E.means pool.now.evaluator) pool.now.graph) (length pool.now.graph) modules.now }
     requires found { Filling (outcome (E.means pool.now.evaluator) pool.now.graph) (length pool.now.graph) (map (slot E.see E.see_fault) found.old.items) [] }

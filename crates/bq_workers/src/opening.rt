@@ -8,7 +8,7 @@ ghost use Rattle.bq_board.specs.Topological.{MarksCycles};
 
 use crate::idle::Idle;
 use crate::import::{Base, Import};
-use crate::pool::{Pool, PoolSeat};
+use crate::pool::{WorkerPool, WorkerSeat};
 use bq_board::{Board, Graph, MAX_SEATS, Order, Plan, Seat};
 use bq_load_order::Evaluate;
 use crossbeam_deque::{Stealer, Worker};
@@ -18,14 +18,14 @@ use std::sync::atomic::{AtomicBool, Ordering};
 /// The most workers that may be started.
 pub const MAX_WORKERS: usize = 256;
 
-impl<E: Evaluate + Drop> Pool<E> {
+impl<E: Evaluate + Drop> WorkerPool<E> {
     /// A pool of a graph's modules, none of them begun, and its seats, which have done nothing.
     pub fn open(
         alloc: Global,
         evaluator: E,
         graph: Graph,
         seats: usize,
-    ) -> Result<(Pool<E>, Vec<PoolSeat<E>>), AllocError>
+    ) -> Result<(WorkerPool<E>, Vec<WorkerSeat<E>>), AllocError>
         requires { (0 < seats) × (seats ≤ MAX_SEATS) }
         ensures of { IfOk result (λ r. (r.0.evaluator ≡ evaluator) × (r.0.graph ≡ graph)) }
         ensures count { IfOk result (λ r. vec_len r.1 ≡ seats) }
@@ -35,7 +35,7 @@ impl<E: Evaluate + Drop> Pool<E> {
         let (board, places) = board_of(alloc, &evaluator, &graph, &order, seats)?;
         let stop = AtomicBool::new(false);
         let (seats, stealers) = seats_and_stealers(alloc, &board, &stop, places)?;
-        let pool = Pool {
+        let pool = WorkerPool {
             evaluator,
             graph,
             order,
@@ -66,7 +66,7 @@ fn board_of<E: Evaluate>(
 {
     let plan = Plan::cut(alloc, graph, order)?;
     let base = Base::of(evaluator, graph);
-    // for the proof: the board is by this base and plan
+    // PROOF: the board is by this base and plan
     Ok(Board::open(alloc, plan, seats, &base)?)
 }
 
@@ -98,7 +98,7 @@ fn seated<E: Evaluate>(
     board: &Board<Import<E>>,
     stop: &AtomicBool,
     mut places: Vec<Seat<Import<E>>>,
-) -> Result<Vec<PoolSeat<E>>, AllocError>
+) -> Result<Vec<WorkerSeat<E>>, AllocError>
     requires { All (λ s. IsSeatOf board.now s × (view_of s ≡ blank (base_of board.now) board.now.plan)) places.items }
     ensures count { IfOk result (λ v. vec_len v ≡ vec_len places) }
     ensures fresh { IfOk result (λ v. All (λ s. IsSeatOf board.now s.place × (view_of s.place ≡ blank (base_of board.now) board.now.plan)) v.items) }
@@ -108,7 +108,7 @@ fn seated<E: Evaluate>(
     for i in 0..count {
         let place = places.pop().unwrap();
         let list = list_of(alloc, board.plan(), stop, i, count)?;
-        seats.push(PoolSeat { place, list })?;
+        seats.push(WorkerSeat { place, list })?;
     }
     Ok(seats)
 }
@@ -119,7 +119,7 @@ fn seats_and_stealers<E: Evaluate>(
     board: &Board<Import<E>>,
     stop: &AtomicBool,
     places: Vec<Seat<Import<E>>>,
-) -> Result<(Vec<PoolSeat<E>>, Vec<Stealer<u32>>), AllocError>
+) -> Result<(Vec<WorkerSeat<E>>, Vec<Stealer<u32>>), AllocError>
     requires { All (λ s. IsSeatOf board.now s × (view_of s ≡ blank (base_of board.now) board.now.plan)) places.items }
     ensures count { IfOk result (λ r. vec_len r.0 ≡ vec_len places) }
     ensures fresh { IfOk result (λ r. All (λ s. IsSeatOf board.now s.place × (view_of s.place ≡ blank (base_of board.now) board.now.plan)) r.0.items) }
@@ -131,7 +131,7 @@ fn seats_and_stealers<E: Evaluate>(
 
 fn stealers_of<E: Evaluate>(
     alloc: Global,
-    seats: &[PoolSeat<E>],
+    seats: &[WorkerSeat<E>],
 ) -> Result<Vec<Stealer<u32>>, AllocError> {
     let mut stealers = Vec::new(alloc);
     for seat in seats {

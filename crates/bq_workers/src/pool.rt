@@ -9,13 +9,13 @@ ghost use Rattle.bq_load_order.specs.Slots.{IsLoadOrder};
 use crate::idle::Idle;
 use crate::import::Import;
 use bq_board::{Board, Graph, Order, Seat};
-use bq_load_order::{Evaluate, Shared};
+use bq_load_order::{Evaluate, SharedOutcome};
 use crossbeam_deque::{Stealer, Worker};
 use std::sync::atomic::AtomicBool;
 
 /// The modules of a load graph, to be evaluated by several workers.
 #[derive(Drop)]
-pub struct Pool<E: Evaluate> {
+pub struct WorkerPool<E: Evaluate> {
     pub(crate) evaluator: E,
     pub(crate) graph: Graph,
     pub(crate) order: Order,
@@ -33,7 +33,7 @@ pub struct Pool<E: Evaluate> {
     ghost depths: { HasDepths graph order.depths.items },
 }
 
-impl<E: Evaluate> Pool<E> {
+impl<E: Evaluate> WorkerPool<E> {
     /// What evaluates the modules.
     pub fn evaluator(&self) -> &E
         ensures { result.now ≡ self.now.evaluator }
@@ -51,21 +51,21 @@ impl<E: Evaluate> Pool<E> {
 
 /// The right to work in one pool, and this worker's list of modules to try.
 #[derive(Drop)]
-pub struct PoolSeat<E: Evaluate> {
+pub struct WorkerSeat<E: Evaluate> {
     pub(crate) place: Seat<Import<E>>,
     pub(crate) list: Worker<u32>,
 }
 
 /// A module, and its outcome.
 #[derive(Drop)]
-pub struct Evaluated<V, F> {
+pub struct FinishedModule<V, F> {
     pub number: u32,
-    pub outcome: Shared<V, F>,
+    pub outcome: SharedOutcome<V, F>,
 }
 
 /// What a worker brought, and whether it found all modules finished.
 #[derive(Drop)]
-pub struct Worked<V, F> {
+pub struct WorkDone<V, F> {
     pub all: bool,
-    pub modules: Vec<Evaluated<V, F>>,
+    pub modules: Vec<FinishedModule<V, F>>,
 }

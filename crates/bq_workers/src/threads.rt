@@ -7,8 +7,8 @@ ghost use Rattle.bq_load_order.specs.Slots.{Filling, Tabulates};
 ghost use Rattle.bq_workers.specs.Brought.{IsAnswer};
 
 use crate::import::Base;
-use crate::pool::{Pool, PoolSeat, Worked};
-use bq_load_order::{Evaluate, Shared, Watch, complete};
+use crate::pool::{WorkerPool, WorkerSeat, WorkDone};
+use bq_load_order::{Evaluate, SharedOutcome, Watch, complete};
 use core::thread::Stack;
 use std::alloc::{AllocError, Global};
 use std::sync::Wait;
@@ -20,13 +20,13 @@ use std::thread::{Promise, PromisedHandle, Scope, Threads};
 pub const EVALUATION_STACK: usize = 64 << 20;
 
 /// What a worker brought, unless it was refused memory.
-pub type Answer<V, F> = Result<Worked<V, F>, AllocError>;
+pub type Answer<V, F> = Result<WorkDone<V, F>, AllocError>;
 
 impl<E: Evaluate> Promise<Answer<E::Value, E::Fault>> for Base<E> {
     ghost kept_by = { λ base r. IsAnswer E.see E.see_fault (outcome (E.means base.evaluator.value) base.graph.value) (length base.graph.value) r };
 }
 
-impl<E: Evaluate> Promise<Result<Vec<Shared<E::Value, E::Fault>>, AllocError>> for Base<E> {
+impl<E: Evaluate> Promise<Result<Vec<SharedOutcome<E::Value, E::Fault>>, AllocError>> for Base<E> {
     ghost kept_by = { λ base r. IfOk r (λ v. Tabulates (length base.graph.value) (outcome (E.means base.evaluator.value) base.graph.value) (map (shown E.see E.see_fault) v.items)) };
 }
 
@@ -34,8 +34,8 @@ impl<E: Evaluate> Promise<Result<Vec<Shared<E::Value, E::Fault>>, AllocError>> f
 pub(crate) fn brought<R: Threads + Wait + Sync, E: Evaluate, W: Watch>(
     rt: &R,
     alloc: Global,
-    pool: &Pool<E>,
-    seats: Vec<PoolSeat<E>>,
+    pool: &WorkerPool<E>,
+    seats: Vec<WorkerSeat<E>>,
     watch: &W,
 ) -> Result<Vec<Answer<E::Value, E::Fault>>, AllocError>
     requires seats { All (λ s. IsSeatOf pool.now.board s.place) seats.items }
@@ -59,8 +59,8 @@ fn started<'s, X, R: Threads + Wait + Sync, E: Evaluate, W: Watch>(
     scope: &Scope<'s, X>,
     rt: &'s R,
     alloc: Global,
-    pool: &'s Pool<E>,
-    seats: Vec<PoolSeat<E>>,
+    pool: &'s WorkerPool<E>,
+    seats: Vec<WorkerSeat<E>>,
     watch: &'s W,
 ) -> Result<Vec<PromisedHandle<Answer<E::Value, E::Fault>, Base<E>>>, AllocError>
     requires seats { All (λ s. IsSeatOf pool.now.board s.place) seats.items }
@@ -81,8 +81,8 @@ fn start<'s, X, R: Threads + Wait + Sync, E: Evaluate, W: Watch>(
     scope: &Scope<'s, X>,
     rt: &'s R,
     alloc: Global,
-    pool: &'s Pool<E>,
-    seat: PoolSeat<E>,
+    pool: &'s WorkerPool<E>,
+    seat: WorkerSeat<E>,
     watch: &'s W,
 ) -> Option<PromisedHandle<Answer<E::Value, E::Fault>, Base<E>>>
     requires seat { IsSeatOf pool.now.board seat.place }
@@ -106,8 +106,8 @@ fn start<'s, X, R: Threads + Wait + Sync, E: Evaluate, W: Watch>(
 fn worked<R: Wait, E: Evaluate, W: Watch>(
     rt: &R,
     alloc: Global,
-    pool: &Pool<E>,
-    mut seat: PoolSeat<E>,
+    pool: &WorkerPool<E>,
+    mut seat: WorkerSeat<E>,
     watch: &W,
 ) -> Answer<E::Value, E::Fault>
     requires seat { IsSeatOf pool.now.board seat.place }
@@ -120,7 +120,7 @@ fn worked<R: Wait, E: Evaluate, W: Watch>(
 fn joined<R: Threads, E: Evaluate>(
     rt: &R,
     alloc: Global,
-    pool: &Pool<E>,
+    pool: &WorkerPool<E>,
     workers: Vec<PromisedHandle<Answer<E::Value, E::Fault>, Base<E>>>,
 ) -> Result<Vec<Answer<E::Value, E::Fault>>, AllocError>
     requires promises { All (λ h. (h.promise.evaluator.value ≡ pool.now.evaluator) × (h.promise.graph.value ≡ pool.now.graph)) workers.items }
@@ -138,21 +138,21 @@ fn joined<R: Threads, E: Evaluate>(
 pub(crate) fn completed<R: Threads + Wait + Sync, E: Evaluate, W: Watch>(
     rt: &R,
     alloc: Global,
-    pool: &Pool<E>,
-    found: Vec<Option<Shared<E::Value, E::Fault>>>,
+    pool: &WorkerPool<E>,
+    found: Vec<Option<SharedOutcome<E::Value, E::Fault>>>,
     watch: &W,
-) -> Result<Vec<Shared<E::Value, E::Fault>>, AllocError>
+) -> Result<Vec<SharedOutcome<E::Value, E::Fault>>, AllocError>
     requires found { Filling (outcome (E.means pool.now.evaluator) pool.now.graph) (length pool.now.graph) (map (slot E.see E.see_fault) found.items) [] }
     ensures { IfOk result (λ v. Tabulates (length pool.now.graph) (outcome (E.means pool.now.evaluator) pool.now.graph) (map (shown E.see E.see_fault) v.items)) }
 {
     thread::scope(
         thread::scope_env(),
         rt,
-        |scope| -> Result<Vec<Shared<E::Value, E::Fault>>, AllocError>
+        |scope| -> Result<Vec<SharedOutcome<E::Value, E::Fault>>, AllocError>
             requires { Filling (outcome (E.means pool.now.evaluator) pool.now.graph) (length pool.now.graph) (map (slot E.see E.see_fault) found.items) [] }
             ensures { IfOk result (λ v. Tabulates (length pool.entry.now.graph) (outcome (E.means pool.entry.now.evaluator) pool.entry.now.graph) (map (shown E.see E.see_fault) v.items)) }
         {
-            let evaluate = move || -> Result<Vec<Shared<E::Value, E::Fault>>, AllocError>
+            let evaluate = move || -> Result<Vec<SharedOutcome<E::Value, E::Fault>>, AllocError>
                 requires { Filling (outcome (E.means pool.now.evaluator) pool.now.graph) (length pool.now.graph) (map (slot E.see E.see_fault) found.items) [] }
                 ensures { IfOk result (λ v. Tabulates (length pool.entry.now.graph) (outcome (E.means pool.entry.now.evaluator) pool.entry.now.graph) (map (shown E.see E.see_fault) v.items)) }
             { rest(alloc, pool, found, watch) };
@@ -171,10 +171,10 @@ pub(crate) fn completed<R: Threads + Wait + Sync, E: Evaluate, W: Watch>(
 // The outcome of each module, where some are known.
 fn rest<E: Evaluate, W: Watch>(
     alloc: Global,
-    pool: &Pool<E>,
-    found: Vec<Option<Shared<E::Value, E::Fault>>>,
+    pool: &WorkerPool<E>,
+    found: Vec<Option<SharedOutcome<E::Value, E::Fault>>>,
     watch: &W,
-) -> Result<Vec<Shared<E::Value, E::Fault>>, AllocError>
+) -> Result<Vec<SharedOutcome<E::Value, E::Fault>>, AllocError>
     requires found { Filling (outcome (E.means pool.now.evaluator) pool.now.graph) (length pool.now.graph) (map (slot E.see E.see_fault) found.items) [] }
     ensures { IfOk result (λ v. Tabulates (length pool.now.graph) (outcome (E.means pool.now.evaluator) pool.now.graph) (map (shown E.see E.see_fault) v.items)) }
 {

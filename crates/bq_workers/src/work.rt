@@ -6,22 +6,22 @@ ghost use Rattle.bq_outcome.specs.Outcome.{outcome};
 ghost use Rattle.bq_workers.specs.Brought.{Brought};
 
 use crate::candidates::Next;
-use crate::pool::{Evaluated, Pool, PoolSeat, Worked};
+use crate::pool::{FinishedModule, WorkerPool, WorkerSeat, WorkDone};
 use bq_load_order::{Evaluate, Watch};
 use std::alloc::{AllocError, Global};
 use std::sync::Wait;
 use std::sync::atomic::Ordering;
 
-impl<E: Evaluate> Pool<E> {
+impl<E: Evaluate> WorkerPool<E> {
     /// Evaluates modules that nobody else has, each after all that it loads, until all are finished, or a worker stopped all.
     /// The watch is told of each evaluation. It returns just the modules that this seat finished in this call, in that order, each with its outcome, and `all` only where this seat found all modules finished.
     pub fn work<R: Wait, W: Watch>(
         &self,
         rt: &R,
         alloc: Global,
-        seat: &mut PoolSeat<E>,
+        seat: &mut WorkerSeat<E>,
         watch: &W,
-    ) -> Result<Worked<E::Value, E::Fault>, AllocError>
+    ) -> Result<WorkDone<E::Value, E::Fault>, AllocError>
         requires seat { IsSeatOf self.now.board seat.old.place }
         ensures seat { IsSeatOf self.now.board seat.new.place }
         ensures brought { IfOk result (λ w. Brought E.see E.see_fault (outcome (E.means self.now.evaluator) self.now.graph) (length self.now.graph) (view_of seat.old.place).finished (view_of seat.new.place).finished w.modules.items) }
@@ -39,9 +39,9 @@ impl<E: Evaluate> Pool<E> {
         &self,
         rt: &R,
         alloc: Global,
-        seat: &mut PoolSeat<E>,
+        seat: &mut WorkerSeat<E>,
         watch: &W,
-    ) -> Result<Worked<E::Value, E::Fault>, AllocError>
+    ) -> Result<WorkDone<E::Value, E::Fault>, AllocError>
         requires seat { IsSeatOf self.now.board seat.old.place }
         ensures seat { IsSeatOf self.now.board seat.new.place }
         ensures brought { IfOk result (λ w. Brought E.see E.see_fault (outcome (E.means self.now.evaluator) self.now.graph) (length self.now.graph) (view_of seat.old.place).finished (view_of seat.new.place).finished w.modules.items) }
@@ -53,7 +53,7 @@ impl<E: Evaluate> Pool<E> {
         for _ in rt.forever() {
             let seen = self.idle.events();
             if self.stop.load(Ordering::SeqCst) {
-                return Ok(Worked {
+                return Ok(WorkDone {
                     all: false,
                     modules,
                 });
@@ -61,7 +61,7 @@ impl<E: Evaluate> Pool<E> {
             let done = self.board.done(&mut seat.place);
             if done == count {
                 self.idle.tell_all();
-                return Ok(Worked { all: true, modules });
+                return Ok(WorkDone { all: true, modules });
             }
             if self.turn(alloc, seat, watch, &mut modules)? {
                 turns = 0;
@@ -77,9 +77,9 @@ impl<E: Evaluate> Pool<E> {
     fn turn<W: Watch>(
         &self,
         alloc: Global,
-        seat: &mut PoolSeat<E>,
+        seat: &mut WorkerSeat<E>,
         watch: &W,
-        modules: &mut Vec<Evaluated<E::Value, E::Fault>>,
+        modules: &mut Vec<FinishedModule<E::Value, E::Fault>>,
     ) -> Result<bool, AllocError>
         requires seat { IsSeatOf self.now.board seat.old.place }
         ensures seat { IsSeatOf self.now.board seat.new.place }

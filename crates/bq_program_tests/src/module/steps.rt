@@ -5,7 +5,7 @@ use crate::program::{Setting, run_chunk};
 use crate::workspace::no_packages;
 use bq_grammar::FileKind;
 use bq_label::PackageId;
-use bq_module::Outcome;
+use bq_module::FileOutcome;
 use bq_package::BuildHost;
 use bq_source::FaultKind;
 use std::alloc::{AllocError, Global};
@@ -16,10 +16,10 @@ struct Steps {
     kind: FileKind,
 }
 
-fn is_limit(outcome: &Outcome) -> bool {
+fn is_limit(outcome: &FileOutcome) -> bool {
     match outcome {
-        Outcome::Failed(fault, _) => fault.kind == FaultKind::StepLimit,
-        Outcome::Module(_, _) => false,
+        FileOutcome::Failed(fault, _) => fault.kind == FaultKind::StepLimit,
+        FileOutcome::Module(_, _) => false,
     }
 }
 

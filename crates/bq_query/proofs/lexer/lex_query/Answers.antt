@@ -1,6 +1,6 @@
 use Rattle.std.proofs.Common.{sym, arith, rules}
 use Rattle.bq_query.proofs.Cuts.{cut_blank, cut_token, cut_all, cut_unknown, fits, at_rest}
-use Rattle.bq_query.specs.declared.lexis.Piece.TheVariants.{End, Blank, Found, Unknown}
+use Rattle.bq_query.specs.declared.lexis.QueryPiece.TheVariants.{End, Blank, Found, Unknown}
 use Rattle.bq_query.proofs.lexer.lex_query.Goals as goal
 
 pub returns-in-End-clause-tokens : goal.returns-in-End-clause-tokens

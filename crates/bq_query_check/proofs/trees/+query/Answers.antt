@@ -3,12 +3,12 @@ use Rattle.std.proofs.lemmas.List.{take_more, take_all, take-append-drop, drop_m
 use Rattle.std.specs.List.{AllByRecursion}
 use Rattle.std.proofs.lemmas.Result.{err_from_is_err_and}
 use Rattle.bq_query.specs.Functions.{function_named}
-use Rattle.bq_query.specs.declared.function.ArgumentKind.TheVariants as kind
-use Rattle.bq_query.specs.declared.function.Function.TheVariants as fn
+use Rattle.bq_query.specs.declared.function.QueryArgumentKind.TheVariants as kind
+use Rattle.bq_query.specs.declared.function.QueryFunction.TheVariants as fn
 use Rattle.bq_query_tree.specs.declared.tree.Query.{Query}
 use Rattle.bq_query_tree.specs.declared.tree.Query.TheVariants as tree
 use Rattle.bq_query_tree.specs.declared.tree.Query.TheFolds.{the_lemmas}
-use Rattle.bq_query_tree.specs.declared.tree.Operation.{Operation}
+use Rattle.bq_query_tree.specs.declared.tree.SetOperation.{SetOperation}
 use Rattle.bq_query_verdict.specs.Verdict as spec
 use Rattle.bq_query_verdict.specs.Verdict.{Need, no_fault, part_of, operation_part, argument, parts, word, words, call_by}
 use Rattle.bq_query_check.specs.declared.formula.SetExpr.{SetExpr}
@@ -371,9 +371,9 @@ steps-returns-in_err-operand t c =
     let item = c.operation-item.result in
     let ns = c.args.names.now in
     let split : take c.loop-operation.operation-index c.args.operations.now ++ c.operation-item.result ∷ drop (c.loop-operation.operation-index + 1) c.args.operations.now ≡ c.args.operations.now =
-    ap (λ (rest : List Operation). take i os ++ rest) (ap (λ z. z ∷ drop (i + 1) os) c.operation-item.is ∙ sym (drop_more os i item c.loop-operation-test.true)) ∙ take-append-drop i os in
+    ap (λ (rest : List SetOperation). take i os ++ rest) (ap (λ z. z ∷ drop (i + 1) os) c.operation-item.is ∙ sym (drop_more os i item c.loop-operation-test.true)) ∙ take-append-drop i os in
     let p = err_from_is_err_and c.from_residual.result c.from_residual.ensures.1 in
-    rw (p.1, p.2) (λ other. subst (λ (xs : List Operation). FirstFails (parts (map operation_part xs) ns) c.in_err-operand.field-0.0) split
+    rw (p.1, p.2) (λ other. subst (λ (xs : List SetOperation). FirstFails (parts (map operation_part xs) ns) c.in_err-operand.field-0.0) split
     (part_fails_there (take i os) item (drop (i + 1) os) ns c.in_err-operand.field-0.0 c.loop-operation.invariant.hold (c.in_err-operand.ensures other)))
 
 pub steps-loop-operation-preserved : goal.steps-loop-operation-preserved
@@ -385,8 +385,8 @@ steps-loop-operation-preserved t c =
     let more : take (c.loop-operation.operation-index + 1) c.args.operations.now ≡ take c.loop-operation.operation-index c.args.operations.now ++ c.operation-item.result ∷ [] =
     take_more os i item c.loop-operation-test.true ∙ ap (λ z. take i os ++ z ∷ []) (sym c.operation-item.is) in
     record {
-      hold = subst (λ (xs : List Operation). AllByRecursion Holds (parts (map operation_part xs) ns)) (sym more) (parts_more (take i os) item ns c.loop-operation.invariant.hold c.in_ok-operand.ensures.0);
-      read = subst (λ (xs : List Operation). AreStepsOf c.args.names.now xs (map step_of c.push.new.self)) (sym more)
+      hold = subst (λ (xs : List SetOperation). AllByRecursion Holds (parts (map operation_part xs) ns)) (sym more) (parts_more (take i os) item ns c.loop-operation.invariant.hold c.in_ok-operand.ensures.0);
+      read = subst (λ (xs : List SetOperation). AreStepsOf c.args.names.now xs (map step_of c.push.new.self)) (sym more)
           (steps_pushed c.args.names.now (take i os) c.loop-operation.steps c.push.new.self item _ c.loop-operation.invariant.read refl c.in_ok-operand.ensures.1 c.in_ok-push.ensures.ok);
     }
 
@@ -394,8 +394,8 @@ pub steps-returns : goal.steps-returns
 steps-returns t c =
     let os = c.args.operations.now in
     let all : take c.loop-operation.operation-index c.args.operations.now ≡ c.args.operations.now = take_all c.loop-operation.operation-index os (omega arith) in (
-      subst (λ (xs : List Operation). AllByRecursion Holds (parts (map operation_part xs) c.args.names.now)) all c.loop-operation.invariant.hold,
-      subst (λ (xs : List Operation). AreStepsOf c.args.names.now xs (map step_of c.loop-operation.steps)) all c.loop-operation.invariant.read,
+      subst (λ (xs : List SetOperation). AllByRecursion Holds (parts (map operation_part xs) c.args.names.now)) all c.loop-operation.invariant.hold,
+      subst (λ (xs : List SetOperation). AreStepsOf c.args.names.now xs (map step_of c.loop-operation.steps)) all c.loop-operation.invariant.read,
     )
 
 -- ---- trees
@@ -502,7 +502,7 @@ read-returns-in_ok-chain-in-Chain t c =
     let os = c.as_slice-in-Chain.result.now in
     let says : (part_of c.args.query.now).all c.args.names.now ≡ (part_of c.get-in-Chain.result.now).all c.args.names.now ++ parts (map operation_part c.as_slice-in-Chain.result.now) c.args.names.now = search (rules, the_lemmas) in
     let is : c.args.query.now ≡ tree.Chain c.get-in-Chain.result.now c.as_slice-in-Chain.result.now =
-    c.in-Chain.is ∙ (ap (λ (v : Query). tree.Chain v c.in-Chain.operations) (sym c.get-in-Chain.ensures) ∙ ap (λ (v : List Operation). tree.Chain first v) (sym c.as_slice-in-Chain.ensures)) in (
+    c.in-Chain.is ∙ (ap (λ (v : Query). tree.Chain v c.in-Chain.operations) (sym c.get-in-Chain.ensures) ∙ ap (λ (v : List SetOperation). tree.Chain first v) (sym c.as_slice-in-Chain.ensures)) in (
       subst (AllByRecursion Holds) (sym says) (all_hold ((part_of first).all ns) (parts (map operation_part os) ns) c.in_ok-first-in-Chain.ensures.0 c.in_ok-steps-in-Chain.ensures.0),
       IsFormulaOf.chain is c.in_ok-first-in-Chain.ensures.1 c.in_ok-steps-in-Chain.ensures.1 c.in_ok-chain-in-Chain.ensures,
     )

@@ -1,9 +1,0 @@
-use Rattle.std.proofs.Common.{◌≡◌, [], drop}
-use Rattle.bq_scope.specs.Visit.{each}
-use Rattle.bq_scope.specs.Statements.{stmt_to}
-use Rattle.bq_resolve.proofs.blocks.Blocks.block.Given as goal
-
-abbrev pub invariant-loop-statement : goal.invariant-loop-statement
-invariant-loop-statement g l =
-    each (stmt_to l.file l.self.layers l.blocks l.looping) l.done (drop l.statement-index l.statements) l.walk
-    ≡ each (stmt_to l.file l.self.layers l.blocks l.looping) [] l.statements l.fn.walk
