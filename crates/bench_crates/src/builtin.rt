@@ -3,10 +3,10 @@
 use crate::clock::CpuInstant;
 use crate::strings::{label_key, string};
 use anyhow::Result;
+use bq_base::Bytes;
 use bq_machine::{Args, Machine, copies};
 use bq_methods::call_method;
 use bq_seed::Seed;
-use bq_source::Bytes;
 use bq_value::{Content, Dict, EvalErr, Store, Value};
 use std::alloc::{AllocError, Global};
 

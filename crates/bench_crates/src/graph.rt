@@ -9,7 +9,7 @@ use anyhow::Result;
 use bq_graph::allpaths::allpaths;
 use bq_graph::deps::{deps, deps_within};
 use bq_graph::rdeps::rdeps;
-use bq_graph::{Edge, DependencyGraph, members};
+use bq_graph::{DependencyGraph, Edge, members};
 use std::alloc::{AllocError, Global};
 
 /// How far the five edges of a target lead.

@@ -4,11 +4,12 @@
 use crate::clock::CpuInstant;
 use crate::rounds::{Measured, measure_in_rounds};
 use anyhow::Result;
+use bq_base::SourceErr;
 use bq_file::{ParsedFile, parse};
 use bq_grammar::FileKind;
 use bq_resolve::resolve;
 use bq_scope::{Resolved, Universe};
-use bq_source::{SourceErr, lex};
+use bq_source::lex;
 use std::alloc::{AllocError, Global};
 use std::time::Duration;
 

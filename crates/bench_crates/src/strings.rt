@@ -1,6 +1,6 @@
 //! Strings as values, and as keys of dicts.
 
-use bq_source::Bytes;
+use bq_base::Bytes;
 use bq_value::{Key, Value};
 use std::alloc::{AllocError, Global};
 

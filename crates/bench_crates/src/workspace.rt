@@ -1,8 +1,8 @@
 //! Files, and the workspaces that they make.
 
 use anyhow::{Result, anyhow};
+use bq_base::Bytes;
 use bq_label::{File, Workspace};
-use bq_source::Bytes;
 use std::alloc::{AllocError, Global};
 
 pub fn file_of(alloc: Global, path: &[u8], content: &[u8]) -> Result<File, AllocError> {

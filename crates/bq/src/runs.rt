@@ -7,14 +7,19 @@ ghost use Rattle.bq_run.specs.Run.{DoesOne, IsInRange, IsRunOf, IsRunOver};
 use crate::streams::{Answers, Faults};
 use bq_directory::{DirectoryErr, read_directory};
 use bq_label::Workspace;
-use bq_run::{Options, RunErr, ByteSink, ByteSource, Status, run, run_files};
+use bq_run::{ByteSink, ByteSource, Options, RunErr, Status, run, run_files};
 use std::alloc::Global;
 use std::random::RandomSource;
 use std::sync::Wait;
 use std::thread::Threads;
 
 /// Runs over the bundle of a reader, with threads of that handle.
-pub fn run_on_bundle<T: Threads + Wait + RandomSource + Sync, R: ByteSource, W: ByteSink, F: ByteSink>(
+pub fn run_on_bundle<
+    T: Threads + Wait + RandomSource + Sync,
+    R: ByteSource,
+    W: ByteSink,
+    F: ByteSink,
+>(
     threads: &T,
     alloc: Global,
     reader: &mut R,

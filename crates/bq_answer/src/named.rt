@@ -4,8 +4,8 @@ ghost use Rattle.bq_query_check.specs.Formula as formula;
 ghost use Rattle.bq_answer.specs.Stands.{Bound};
 ghost use Rattle.bq_answer.specs.Faults.{Meets, Answers, first_missing};
 
+use bq_base::Bytes;
 use bq_query::QueryErr;
-use bq_source::Bytes;
 use bq_target_graph::TargetGraph;
 use bq_target_sets::missing::missing;
 use bq_target_sets::words;

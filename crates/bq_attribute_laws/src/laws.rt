@@ -1,7 +1,7 @@
 //! What holds of calls of rules. The functions do nothing: their contracts are the laws.
 
 ghost use Rattle.std.specs.Prelude.{◌≡◌, ℕ, List, None, Err, codes, bytes_eq, true, false};
-ghost use Rattle.bq_source.specs.declared.fault.FaultKind.TheVariants.{NoAttribute};
+ghost use Rattle.bq_base.specs.declared.fault.FaultKind.TheVariants.{NoAttribute};
 ghost use Rattle.bq_label.specs.declared.packages.BuildFile.{BuildFile};
 ghost use Rattle.bq_label.specs.Label.{PackageParts};
 ghost use Rattle.bq_rule_class.specs.Class.{Class};

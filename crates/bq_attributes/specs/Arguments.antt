@@ -1,8 +1,8 @@
 -- What the arguments of a call of a rule give (Bazel, Build Encyclopedia, "Common definitions"), in the order in which they are written.
 -- An argument that is `None` gives nothing.
 use Rattle.std.specs.Prelude.{ℕ, Bool, true, false, ◌++◌, List, [], ◌∷◌, Option, Some, None, Result, Ok, Err, codes, bytes_eq, if◌then◌else◌}
-use Rattle.bq_source.specs.declared.fault.FaultKind.{FaultKind}
-use Rattle.bq_source.specs.declared.fault.FaultKind.TheVariants as f
+use Rattle.bq_base.specs.declared.fault.FaultKind.{FaultKind}
+use Rattle.bq_base.specs.declared.fault.FaultKind.TheVariants as f
 use Rattle.bq_label.specs.declared.packages.BuildFile.{BuildFile}
 use Rattle.bq_label.specs.Label.{PackageParts, LabelParts}
 use Rattle.bq_rule_class.specs.declared.attribute_type.AttributeType.{AttributeType}

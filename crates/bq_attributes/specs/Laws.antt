@@ -1,7 +1,7 @@
 -- Words of the laws.
 use Rattle.std.specs.Prelude.{◌≡◌, ℕ, Bool, true, false, List, ◌∷◌, ◌++◌, map, Some, Ok, Err, bytes_eq}
 use Rattle.std.specs.List.{list_any, Contains}
-use Rattle.bq_source.specs.declared.fault.FaultKind.{FaultKind}
+use Rattle.bq_base.specs.declared.fault.FaultKind.{FaultKind}
 use Rattle.bq_label.specs.declared.packages.BuildFile.{BuildFile}
 use Rattle.bq_label.specs.Label.{PackageParts}
 use Rattle.bq_rule_class.specs.declared.attribute.Attribute.{Attribute}

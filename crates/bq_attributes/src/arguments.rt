@@ -1,13 +1,13 @@
 //! What the arguments of a call of a rule give.
 
 ghost use Rattle.std.specs.Prelude.{◌≡◌, IfOk, OnOk};
-ghost use Rattle.bq_source.specs.Gives.{Gives};
+ghost use Rattle.bq_base.specs.Gives.{Gives};
 ghost use Rattle.bq_value.specs.declared.error.EvalErr.TheVariants.{Bad};
 ghost use Rattle.bq_attributes.specs.Arguments.{nothing_given, is_none, keyword, with_value, with_label, with_name, with_attribute, with_argument, with_arguments};
 
+use bq_base::{Bytes, FaultKind};
 use bq_label::Label;
 use bq_rule_class::{AttributeValue, RuleClass};
-use bq_source::{Bytes, FaultKind};
 use bq_target::{GivenAttribute, attribute_type};
 use bq_typed::{Scope, TextKind, label, text_in, value_as};
 use bq_value::{Dict, EvalErr, Key, Node, Store, Value};

@@ -2,7 +2,7 @@
 
 ghost use Rattle.std.specs.Prelude.{◌≡◌, ◌++◌, map, option_copied, IfOk, OnOk};
 ghost use Rattle.std.specs.List.{list_all};
-ghost use Rattle.bq_source.specs.Gives.{Gives};
+ghost use Rattle.bq_base.specs.Gives.{Gives};
 ghost use Rattle.bq_value.specs.declared.error.EvalErr.TheVariants.{Bad};
 ghost use Rattle.bq_machine.specs.Binding.{bind};
 ghost use Rattle.std.specs.Prelude.{Ok};
@@ -11,10 +11,10 @@ ghost use Rattle.bq_attributes.specs.Arguments.{nothing_given, with_arguments};
 ghost use Rattle.bq_attributes.specs.Declarations.{keywords_alone, gives, is_met, gives_mandatory, default_of, default_for, defaults, if_whole, target, declaration};
 
 use crate::arguments::{Callee, Given, is_none};
+use bq_base::{Bytes, FaultKind};
 use bq_machine::{Args, Signature, bind};
 use bq_rule_class::{Attribute, AttributeValue, RuleClass};
 use bq_seed::Seed;
-use bq_source::{Bytes, FaultKind};
 use bq_target::{GivenAttribute, Target, TargetKind};
 use bq_value::{Dict, EvalErr, Key, Value};
 use sqlite_items::Items;

@@ -5,7 +5,7 @@ ghost use Rattle.bq_board.specs.Graph.{edges};
 
 use crate::parcel::Parcel;
 use crate::plan::Plan;
-use crate::rule::{RuleContext, Rule};
+use crate::rule::{Rule, RuleContext};
 use crate::view::View;
 use atomic_table::Table;
 use std::alloc::Global;

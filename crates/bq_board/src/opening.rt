@@ -7,7 +7,7 @@ ghost use Rattle.bq_board.specs.Seats.{IsSeatOf, base_of, seats_of, view_of};
 use crate::board::{Board, BoardSeat, Seat};
 use crate::parcel::Parcel;
 use crate::plan::Plan;
-use crate::rule::{RuleContext, Rule};
+use crate::rule::{Rule, RuleContext};
 use crate::steps::Fresh;
 use crate::view::View;
 use atomic_table::Table;

@@ -1,8 +1,8 @@
 -- The calls of build functions, and of rules of the schema and of .bzl files, have numbers of steps and outcomes of their own: what they declare hangs on the arguments, on
 -- the store and on the line, and not on the steps that are left.
 use Rattle.std.proofs.Common.{◌≡◌, ℕ, List, Result, Ok, Err, refl}
-use Rattle.bq_source.specs.declared.fault.FaultKind.{FaultKind}
-use Rattle.bq_source.specs.declared.fault.FaultKind.TheVariants.{NotInPackage}
+use Rattle.bq_base.specs.declared.fault.FaultKind.{FaultKind}
+use Rattle.bq_base.specs.declared.fault.FaultKind.TheVariants.{NotInPackage}
 use Rattle.bq_rule_class.specs.Class.{Class}
 use Rattle.bq_value.specs.Datum.{Datum}
 use Rattle.bq_machine.specs.Action.{Action, Run, stopped, given, on_machine}

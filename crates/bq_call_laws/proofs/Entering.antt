@@ -1,7 +1,7 @@
 -- In which order a function becomes active.
 use Rattle.std.proofs.Common.{◌≡◌, refl, ℕ, inl, inr, List, length, Option}
 use Rattle.std.specs.Prelude.{nat_lt}
-use Rattle.bq_source.proofs.Choices.{by_bool}
+use Rattle.bq_base.proofs.Choices.{by_bool}
 use Rattle.bq_scope.specs.declared.code.CodeFunction.{CodeFunction}
 use Rattle.bq_value.specs.Datum.{Datum}
 use Rattle.bq_machine.specs.Action.{done, stopped}

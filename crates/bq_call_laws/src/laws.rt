@@ -1,8 +1,8 @@
 //! What holds of calls. The functions do nothing: their contracts are the laws.
 
 ghost use Rattle.std.specs.Prelude.{◌≡◌, ℕ, List, Option, Err};
-ghost use Rattle.bq_source.specs.declared.fault.FaultKind.{FaultKind};
-ghost use Rattle.bq_source.specs.declared.fault.FaultKind.TheVariants.{Args};
+ghost use Rattle.bq_base.specs.declared.fault.FaultKind.{FaultKind};
+ghost use Rattle.bq_base.specs.declared.fault.FaultKind.TheVariants.{Args};
 ghost use Rattle.bq_scope.specs.declared.code.CodeFunction.{CodeFunction};
 ghost use Rattle.bq_value.specs.Datum.{Datum};
 ghost use Rattle.bq_machine.specs.Action.{done, stopped};

@@ -1,7 +1,7 @@
 -- A list or dict that is changed is refused for another module (F47), for a walk (F48), and then for what the change refuses.
 use Rattle.std.proofs.Common.{◌≡◌, refl, ℕ, inl, inr, [], ◌∷◌, Some, None, Result, Ok, Err, ◌==◌}
-use Rattle.bq_source.specs.declared.fault.FaultKind.{FaultKind}
-use Rattle.bq_source.proofs.Choices.{by_bool}
+use Rattle.bq_base.specs.declared.fault.FaultKind.{FaultKind}
+use Rattle.bq_base.proofs.Choices.{by_bool}
 use Rattle.bq_value.specs.Cells.{content_at}
 use Rattle.bq_value.specs.Contents.{Contents}
 use Rattle.bq_machine.specs.Action.{Action, given, pure, ◌>>=◌, ◌>>◌}

@@ -1,6 +1,6 @@
 -- The methods of dicts, and assignments to a key, are refused in their orders.
 use Rattle.std.proofs.Common.{◌≡◌, ◌∙◌, ap, refl, sym, subst, ℕ, List, [], ◌∷◌, Option, Some, None, Result, Ok, Err}
-use Rattle.bq_source.specs.declared.fault.FaultKind.{FaultKind}
+use Rattle.bq_base.specs.declared.fault.FaultKind.{FaultKind}
 use Rattle.bq_value.specs.Contents.{pairs}
 use Rattle.bq_value.specs.Datum.{Datum, none, cell}
 use Rattle.bq_walk.specs.KeyWalk.{walked_at, keyed}

@@ -1,6 +1,6 @@
 -- `popitem` takes the first of a dict's items, and `setdefault` leaves a value that is there.
 use Rattle.std.proofs.Common.{◌≡◌, ap, List, [], ◌∷◌, map, Option, Some, Result, Ok, Err}
-use Rattle.bq_source.specs.declared.fault.FaultKind.{FaultKind}
+use Rattle.bq_base.specs.declared.fault.FaultKind.{FaultKind}
 use Rattle.bq_value.specs.Datum.{Datum}
 use Rattle.bq_value.specs.Pairs.{found}
 use Rattle.bq_collections.specs.Dict.{first_out, pair_tuple, with_default_by, with_default}

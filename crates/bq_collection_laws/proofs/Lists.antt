@@ -1,8 +1,8 @@
 -- The methods of lists, and assignments to an index, are refused in their orders.
 use Rattle.std.proofs.Common.{◌≡◌, ◌∙◌, ap, refl, ℕ, ◌+◌, inl, inr, List, [], ◌∷◌, length, Some, None, Result, Ok, Err}
 use Rattle.std.specs.Prelude.{nat_le}
-use Rattle.bq_source.specs.declared.fault.FaultKind.{FaultKind}
-use Rattle.bq_source.proofs.Choices.{by_bool}
+use Rattle.bq_base.specs.declared.fault.FaultKind.{FaultKind}
+use Rattle.bq_base.proofs.Choices.{by_bool}
 use Rattle.bq_value.specs.Contents.{items}
 use Rattle.bq_value.specs.Datum.{Datum, int, cell}
 use Rattle.bq_machine.specs.Action.{Action, following, given, ◌>>=◌}

@@ -1,8 +1,8 @@
 -- `+=` keeps a list the same list.
 use Rattle.std.proofs.Common.{◌≡◌, ◌∙◌, sym, ap, refl, ℕ, Bool, true, false, cond, List, [], ◌++◌, length, Some, Result, Ok, Err}
 use Rattle.std.specs.Prelude.{nat_le}
-use Rattle.bq_source.specs.declared.fault.FaultKind.{FaultKind}
-use Rattle.bq_source.specs.declared.fault.FaultKind.TheVariants.{TooLong}
+use Rattle.bq_base.specs.declared.fault.FaultKind.{FaultKind}
+use Rattle.bq_base.specs.declared.fault.FaultKind.TheVariants.{TooLong}
 use Rattle.bq_grammar.specs.declared.tree.Operator.TheVariants as op
 use Rattle.bq_value.specs.Cells.{content_at}
 use Rattle.bq_value.specs.Contents.{Contents, items}

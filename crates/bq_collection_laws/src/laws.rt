@@ -1,8 +1,8 @@
 //! What holds of lists and dicts that are changed. The functions do nothing: their contracts are the laws.
 
 ghost use Rattle.std.specs.Prelude.{◌≡◌, ◌∷◌, [], ℕ, List, length, map, Option, None, Some, Ok, Err};
-ghost use Rattle.bq_source.specs.declared.fault.FaultKind.{FaultKind};
-ghost use Rattle.bq_source.specs.declared.fault.FaultKind.TheVariants.{WrongType};
+ghost use Rattle.bq_base.specs.declared.fault.FaultKind.{FaultKind};
+ghost use Rattle.bq_base.specs.declared.fault.FaultKind.TheVariants.{WrongType};
 ghost use Rattle.bq_grammar.specs.declared.tree.Operator.TheVariants as op;
 ghost use Rattle.bq_rule_class.specs.Class.{Class};
 ghost use Rattle.bq_value.specs.Datum.{Datum, cell};

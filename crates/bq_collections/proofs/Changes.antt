@@ -1,7 +1,7 @@
 -- A content that is changed as a definition says, in a machine in which it may be changed.
 use Rattle.std.proofs.Common.{◌≡◌, ◌∙◌, ap, ℕ, Some, Result, Ok, Err}
-use Rattle.bq_source.specs.Gives.{Gives}
-use Rattle.bq_source.specs.declared.fault.FaultKind.{FaultKind}
+use Rattle.bq_base.specs.Gives.{Gives}
+use Rattle.bq_base.specs.declared.fault.FaultKind.{FaultKind}
 use Rattle.bq_value.specs.declared.error.EvalErr.{EvalErr}
 use Rattle.bq_value.specs.declared.error.EvalErr.TheVariants.{Bad}
 use Rattle.bq_value.specs.Datum.{Datum}

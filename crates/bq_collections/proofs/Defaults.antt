@@ -1,6 +1,6 @@
 -- What a dict has after `setdefault` and `pop`.
 use Rattle.std.proofs.Common.{◌≡◌, ◌∙◌, sym, refl, ap, ℕ, ◌+◌, Bool, true, false, cond, [], ◌∷◌, length, Option, Some, None, Result, Ok, Err}
-use Rattle.bq_source.specs.declared.fault.FaultKind.{FaultKind}
+use Rattle.bq_base.specs.declared.fault.FaultKind.{FaultKind}
 use Rattle.bq_operators.specs.Length.{within}
 use Rattle.bq_value.specs.Datum.{Datum}
 use Rattle.bq_value.specs.Same.{same}

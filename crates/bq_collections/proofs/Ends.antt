@@ -1,7 +1,7 @@
 -- What a dict holds after `update` by another one.
 use Rattle.std.proofs.Common.{◌≡◌, ◌∙◌, sym, refl, ap, ℕ, zero, suc, ◌==◌, Bool, true, false, cond, List, [], ◌∷◌, ◌++◌, set, slice_get, Some, Result, Ok, Err}
-use Rattle.bq_source.specs.declared.fault.FaultKind.{FaultKind}
-use Rattle.bq_source.specs.declared.fault.FaultKind.TheVariants.{Frozen, Iterating}
+use Rattle.bq_base.specs.declared.fault.FaultKind.{FaultKind}
+use Rattle.bq_base.specs.declared.fault.FaultKind.TheVariants.{Frozen, Iterating}
 use Rattle.bq_value.specs.Datum.{Datum, none, string, cell}
 use Rattle.bq_value.specs.Contents.{Contents, pairs}
 use Rattle.bq_value.specs.Cells.{content_at, cell_of, module_at}

@@ -1,7 +1,7 @@
 -- What is put into a list is taken out by its place.
 use Rattle.std.proofs.Common.{◌≡◌, ◌≤◌, ◌∙◌, sym, refl, ap, arith, ℕ, zero, suc, ◌+◌, ◌-◌, ℤ, pos, negsuc, List, [], ◌∷◌, ◌++◌, length, insert, remove, slice_get, Option, Some, Result, Ok, Err}
 use Rattle.std.proofs.lemmas.Bool.Decides.{nat_tests}
-use Rattle.bq_source.specs.declared.fault.FaultKind.{FaultKind}
+use Rattle.bq_base.specs.declared.fault.FaultKind.{FaultKind}
 use Rattle.bq_operators.specs.Length.{within}
 use Rattle.bq_operators.specs.Place.{clamped, indexed}
 use Rattle.bq_value.specs.Datum.{Datum, none}

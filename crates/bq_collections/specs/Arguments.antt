@@ -1,7 +1,7 @@
 -- Arguments by place alone: another number of them is F52, and a value of the wrong type F40.
 use Rattle.std.specs.Prelude.{ℤ, negsuc, List, [], ◌∷◌, Option, Some, None, Result, Ok, Err}
-use Rattle.bq_source.specs.declared.fault.FaultKind.{FaultKind}
-use Rattle.bq_source.specs.declared.fault.FaultKind.TheVariants.{WrongType, Args}
+use Rattle.bq_base.specs.declared.fault.FaultKind.{FaultKind}
+use Rattle.bq_base.specs.declared.fault.FaultKind.TheVariants.{WrongType, Args}
 use Rattle.bq_value.specs.Datum.{Datum, none, int}
 
 unfoldable pub no_argument : List Datum → Result (Unit {0}) FaultKind

@@ -1,7 +1,7 @@
 -- The methods of dicts (Starlark, "Built-in methods": "dict·get" and so on), as equations on the list of their pairs.
 use Rattle.std.specs.Prelude.{ℕ, ◌+◌, List, [], ◌∷◌, map, length, Option, Some, None, Result, Ok, Err}
-use Rattle.bq_source.specs.declared.fault.FaultKind.{FaultKind}
-use Rattle.bq_source.specs.declared.fault.FaultKind.TheVariants.{WrongType, NoKey}
+use Rattle.bq_base.specs.declared.fault.FaultKind.{FaultKind}
+use Rattle.bq_base.specs.declared.fault.FaultKind.TheVariants.{WrongType, NoKey}
 use Rattle.bq_operators.specs.Length.{within}
 use Rattle.bq_value.specs.Datum.{Datum, none, tuple, end, datum}
 use Rattle.bq_value.specs.Contents.{Contents, items, pairs, rule}

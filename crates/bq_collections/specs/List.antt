@@ -1,7 +1,7 @@
 -- The methods of lists (Starlark, "Built-in methods": "list·append" and so on), as equations on the list of their values.
 use Rattle.std.specs.Prelude.{ℕ, ◌+◌, ℤ, pos, List, [], ◌∷◌, ◌++◌, length, slice_get, insert, remove, Option, Some, None, Result, Ok, Err}
-use Rattle.bq_source.specs.declared.fault.FaultKind.{FaultKind}
-use Rattle.bq_source.specs.declared.fault.FaultKind.TheVariants.{WrongType, Index, BadValue}
+use Rattle.bq_base.specs.declared.fault.FaultKind.{FaultKind}
+use Rattle.bq_base.specs.declared.fault.FaultKind.TheVariants.{WrongType, Index, BadValue}
 use Rattle.bq_operators.specs.Length.{within}
 use Rattle.bq_operators.specs.Place.{clamped, indexed}
 use Rattle.bq_value.specs.Datum.{Datum, none, int}

@@ -2,8 +2,8 @@
 -- elements, and named arguments.
 use Rattle.std.specs.Prelude.{Bool, true, false, cond, List, [], ◌∷◌, ◌++◌, Option, Some, None, Result, Ok, Err, refl}
 use Rattle.std.specs.Coded.{Coded, code_by, coded×, coded_bool}
-use Rattle.bq_source.specs.declared.fault.FaultKind.{FaultKind}
-use Rattle.bq_source.specs.declared.fault.FaultKind.TheVariants.{WrongType, BadValue}
+use Rattle.bq_base.specs.declared.fault.FaultKind.{FaultKind}
+use Rattle.bq_base.specs.declared.fault.FaultKind.TheVariants.{WrongType, BadValue}
 use Rattle.bq_value.specs.Datum.{Datum, tuple, cell, list_of}
 use Rattle.bq_value.specs.Contents.{Contents, items, pairs, coded_pairs}
 use Rattle.bq_value.specs.Cells.{StoreView, content_at}

@@ -1,11 +1,11 @@
 //! Arguments by place alone.
 
 ghost use Rattle.std.specs.Prelude.{option_copied};
-ghost use Rattle.bq_source.specs.Gives.{Gives};
+ghost use Rattle.bq_base.specs.Gives.{Gives};
 ghost use Rattle.bq_value.specs.declared.error.EvalErr.TheVariants.{Bad};
 ghost use Rattle.bq_collections.specs.Arguments.{no_argument, one_argument, two_arguments, optional_argument, one_or_two, one_to_three, integer, optional_integer, index_or_last};
 
-use bq_source::FaultKind;
+use bq_base::FaultKind;
 use bq_value::{EvalErr, Node, Value};
 
 /// No argument.

@@ -8,9 +8,9 @@ ghost use Rattle.bq_collections.specs.Dict.{pairs_in, pair_tuple, clear, get, di
 use crate::arguments::{no_argument, one_or_two};
 use crate::dict_edit::{DictEdit, change_dict, pair_tuple};
 use crate::pairs_given::PairsGiven;
+use bq_base::FaultKind;
 use bq_machine::{Args, Machine, keys_of};
 use bq_operate::{put_pairs, unite};
-use bq_source::FaultKind;
 use bq_value::{Body, Cell, Dict, EvalErr, Key, Value};
 use std::alloc::{AllocError, Global};
 

@@ -1,15 +1,15 @@
 //! What changes a dict.
 
 ghost use Rattle.std.specs.Prelude.{◌≡◌, IfOk};
-ghost use Rattle.bq_source.specs.Gives.{Gives};
+ghost use Rattle.bq_base.specs.Gives.{Gives};
 ghost use Rattle.bq_value.specs.declared.error.EvalErr.TheVariants.{Bad};
 ghost use Rattle.bq_machine.specs.Action.{Does};
 ghost use Rattle.bq_machine.specs.Cells.{changing};
 ghost use Rattle.bq_collections.specs.Dict.{on_pairs, pair_tuple, emptied, taken_out, first_out, with_default, edited};
 
+use bq_base::FaultKind;
 use bq_machine::Machine;
 use bq_operators::joined_len;
-use bq_source::FaultKind;
 use bq_value::{Body, Cell, Content, Dict, EvalErr, Key, Value};
 use std::alloc::{AllocError, Global};
 

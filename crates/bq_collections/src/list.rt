@@ -1,6 +1,6 @@
 //! The methods of lists (Starlark, "Built-in methods").
 
-ghost use Rattle.bq_source.specs.Gives.{Gives};
+ghost use Rattle.bq_base.specs.Gives.{Gives};
 ghost use Rattle.bq_value.specs.declared.error.EvalErr.TheVariants.{Bad};
 ghost use Rattle.bq_machine.specs.Action.{Does};
 ghost use Rattle.bq_collections.specs.List.{append, clear, extend, insert_at, pop, list_in, find, place_value, index, remove_value};
@@ -11,9 +11,9 @@ use crate::arguments::{
 };
 use crate::list_edit::{ListEdit, change_list};
 use crate::search::found_between;
+use bq_base::FaultKind;
 use bq_machine::Machine;
 use bq_operators::MAX_LEN;
-use bq_source::FaultKind;
 use bq_value::{Body, Cell, EvalErr, Value};
 use std::alloc::Global;
 

@@ -1,15 +1,15 @@
 //! What changes a list.
 
 ghost use Rattle.std.specs.Prelude.{◌≡◌, ◌++◌, OnOk};
-ghost use Rattle.bq_source.specs.Gives.{Gives};
+ghost use Rattle.bq_base.specs.Gives.{Gives};
 ghost use Rattle.bq_value.specs.declared.error.EvalErr.TheVariants.{Bad};
 ghost use Rattle.bq_machine.specs.Action.{Does};
 ghost use Rattle.bq_machine.specs.Cells.{changing};
 ghost use Rattle.bq_collections.specs.List.{on_items, appended, extended, inserted, popped, cleared, dropped, edited};
 
+use bq_base::FaultKind;
 use bq_machine::{Elements, Machine};
 use bq_operators::{clamp, index, joined_len};
-use bq_source::FaultKind;
 use bq_value::{Body, Cell, Content, EvalErr, Value};
 use std::alloc::AllocError;
 

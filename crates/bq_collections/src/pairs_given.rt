@@ -4,13 +4,13 @@
 //! order F52, F40, then F47 and F48 of the dict that is changed, then those of keys (F45, F53, F55), then F57, then F54.
 
 ghost use Rattle.std.specs.Prelude.{◌≡◌, ◌++◌, IfOk, OnOk, option_copied};
-ghost use Rattle.bq_source.specs.Gives.{Gives};
+ghost use Rattle.bq_base.specs.Gives.{Gives};
 ghost use Rattle.bq_value.specs.declared.error.EvalErr.TheVariants.{Bad};
 ghost use Rattle.bq_machine.specs.Action.{Does};
 ghost use Rattle.bq_collections.specs.PairsGiven.{two, pair_in, take_element, take_elements, dict_of, read, first_value, pairs_given, make_key, make_keys, all_pairs};
 
-use bq_machine::{Args, Bound, Elements, Machine, SingleParameter, Signature, bind};
-use bq_source::FaultKind;
+use bq_base::FaultKind;
+use bq_machine::{Args, Bound, Elements, Machine, Signature, SingleParameter, bind};
 use bq_value::{Body, Dict, EvalErr, Key, Node, Store, Value};
 use std::alloc::{AllocError, Global};
 use std::marker::Model;

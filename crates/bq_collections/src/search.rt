@@ -4,8 +4,8 @@ ghost use Rattle.std.specs.Prelude.{◌≡◌, ◌+◌, ◌<◌, ◌^◌, length
 ghost use Rattle.bq_machine.specs.Machine.{looked_equal};
 ghost use Rattle.bq_collections.specs.Search.{first_equal, found_between};
 
+use bq_base::FaultKind;
 use bq_operators::span;
-use bq_source::FaultKind;
 use bq_value::{Store, Value};
 
 /// The place of the first of these values between two indices that is equal to `value`, and the steps that are left of these.

@@ -1,7 +1,7 @@
 -- What the line of a label that names no target says (Bazel, "Dependencies"; ours: the line).
 use Rattle.std.specs.Prelude.{◌≡◌, List, false}
 use Rattle.std.specs.List.{Contains}
-use Rattle.bq_source.specs.declared.fault.FaultKind.TheVariants.{DanglingLabel}
+use Rattle.bq_base.specs.declared.fault.FaultKind.TheVariants.{DanglingLabel}
 use Rattle.bq_fault_line.specs.declared.fault_line.FaultLine.{FaultLine}
 use Rattle.bq_label.specs.Label.{LabelParts, full_form, package_of}
 use Rattle.bq_target.specs.declared.target.Target.{Target}

@@ -1,7 +1,7 @@
 -- Walks that give what fits, and leave functions that fit where those before them do.
 use Rattle.std.proofs.Common.{◌≤◌, ℕ, List, [], ◌∷◌, ◌++◌, map, Option, Some, None, Result, Ok, Err, arith}
 use Rattle.std.specs.List.{AllByRecursion}
-use Rattle.bq_source.specs.declared.fault.Fault.{Fault}
+use Rattle.bq_base.specs.declared.fault.Fault.{Fault}
 use Rattle.bq_tree_laws.specs.Depth.{deepest}
 use Rattle.bq_scope.specs.declared.code.Code.{Code}
 use Rattle.bq_scope.specs.Visit.{Passed, Visit, following, ◌>>=◌, pure, given, each, optional}

@@ -2,8 +2,8 @@
 use Rattle.std.proofs.Common.{◌≤◌, ℕ, zero, suc, ◌+◌, max, Bool, true, false, ◌&&◌, ◌||◌, List, [], ◌∷◌, map, length, Option, Some, None, Result, Ok, Err, arith}
 use Rattle.std.specs.Prelude.{if◌then◌else◌}
 use Rattle.std.specs.List.{AllByRecursion}
-use Rattle.bq_source.specs.declared.fault.Fault.{Fault}
-use Rattle.bq_source.specs.declared.fault.FaultKind.TheVariants as f
+use Rattle.bq_base.specs.declared.fault.Fault.{Fault}
+use Rattle.bq_base.specs.declared.fault.FaultKind.TheVariants as f
 use Rattle.bq_grammar.specs.declared.tree.FileKind.{FileKind}
 use Rattle.bq_grammar.specs.declared.tree.Argument.TheOpen.{Expr-F, Suffix-F, Argument-F, Clause-F, AssignTarget-F}
 use Rattle.bq_grammar.specs.declared.tree.Argument.{Argument, out-Argument}

@@ -1,6 +1,6 @@
 //! The directories that a workspace tells Bazel to leave out.
 
-use bq_source::Bytes;
+use bq_base::Bytes;
 use std::alloc::{AllocError, Global};
 
 /// The file at the root that names them, one a line.

@@ -3,8 +3,8 @@
 use crate::content::{has_content, is_git, is_output_name};
 use crate::directory_err::DirectoryErr;
 use crate::ignored::{IGNORE_FILE, Ignored};
+use bq_base::Bytes;
 use bq_label::{File, MAX_FILES, is_path};
-use bq_source::Bytes;
 use std::alloc::Global;
 use std::fs::{DirEntry, Files, Metadata};
 use std::os::unix::fs::MetadataExt;
@@ -88,7 +88,10 @@ fn is_output_link<R: Files>(rt: &R, path: Path<'_>, inner: &[u8]) -> Result<bool
 
 impl DirectoryWalk {
     /// The walk before its first step.
-    pub fn new<R: Files + Alloc<A = Global>>(rt: &R, root: &str) -> Result<DirectoryWalk, DirectoryErr> {
+    pub fn new<R: Files + Alloc<A = Global>>(
+        rt: &R,
+        root: &str,
+    ) -> Result<DirectoryWalk, DirectoryErr> {
         let alloc = rt.alloc();
         let identity = Identity::of(&fs::metadata(rt, root)?);
         let mut walk = DirectoryWalk {

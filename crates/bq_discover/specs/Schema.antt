@@ -1,6 +1,6 @@
 -- The schema of a workspace: that of the file `rules.schema` at the root, or the standard one (ours).
 use Rattle.std.specs.Prelude.{ℕ, List, Option, None, Some, Result, Ok, Err, codes}
-use Rattle.bq_source.specs.declared.fault.Fault.{Fault}
+use Rattle.bq_base.specs.declared.fault.Fault.{Fault}
 use Rattle.bq_label.specs.declared.workspace.File.{File}
 use Rattle.bq_label.specs.Workspace.{file_at}
 use Rattle.bq_schema.specs.Schema.{Rules}

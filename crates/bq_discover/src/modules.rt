@@ -4,9 +4,9 @@ ghost use Rattle.std.specs.Prelude.{◌≡◌, IfOk};
 ghost use Rattle.bq_front.specs.Front.{loads_by};
 ghost use Rattle.bq_discover.specs.Module.{module_of};
 
+use bq_base::{Fault, SourceErr};
 use bq_front::{Front, Inputs, front_of};
 use bq_label::Label;
-use bq_source::{Fault, SourceErr};
 use std::alloc::{AllocError, Global};
 
 /// A module of a workspace.

@@ -1,15 +1,15 @@
 //! The schema of a workspace.
 
-ghost use Rattle.bq_source.specs.Gives.{Gives};
-ghost use Rattle.bq_source.specs.declared.fault.SourceErr.TheVariants.{Bad};
+ghost use Rattle.bq_base.specs.Gives.{Gives};
+ghost use Rattle.bq_base.specs.declared.fault.SourceErr.TheVariants.{Bad};
 ghost use Rattle.bq_front.specs.Code.{itself};
 ghost use Rattle.bq_discover.specs.Schema.{declared_in, schema_in};
 ghost use Rattle.bq_discover.specs.declared.load_err.LoadErr.TheVariants.{Schema as BadSchema};
 
 use crate::load_err::LoadErr;
+use bq_base::SourceErr;
 use bq_label::Workspace;
 use bq_schema::{Schema, read_schema};
-use bq_source::SourceErr;
 use std::alloc::Global;
 
 /// The file at the root that has the schema.

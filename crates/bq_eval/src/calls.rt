@@ -15,9 +15,9 @@ use crate::parameters::{bind_args, has_star_star, keywords_of};
 use crate::runtime::Runtime;
 use crate::statements::run_block;
 use crate::units::{CodeUnit, unit_at};
+use bq_base::FaultKind;
 use bq_machine::{Args, Bound};
 use bq_scope::CodeFunction;
-use bq_source::FaultKind;
 use bq_value::{EvalErr, Node, Value};
 use std::alloc::Global;
 

@@ -14,10 +14,10 @@ use crate::evaluator::Evaluator;
 use crate::frame::Frame;
 use crate::operand::use_of;
 use crate::runtime::Runtime;
+use bq_base::{Bytes, FaultKind};
 use bq_machine::Args;
 use bq_predeclared::Predeclared;
 use bq_scope::{Binding, Code};
-use bq_source::{Bytes, FaultKind};
 use bq_value::{EvalErr, Value};
 use std::marker::PhantomData;
 

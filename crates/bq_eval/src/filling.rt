@@ -10,9 +10,9 @@ ghost use Rattle.bq_eval.specs.Slots.{slots_of};
 
 use crate::frame::Frame;
 use crate::runtime::Runtime;
+use bq_base::FaultKind;
 use bq_machine::copies;
 use bq_scope::CodeParameter;
-use bq_source::FaultKind;
 use bq_value::{EvalErr, Value};
 use std::alloc::Global;
 

@@ -11,7 +11,7 @@ ghost use Rattle.bq_eval.specs.Operands.{local_use};
 use crate::inner::Inner;
 use crate::runtime::Runtime;
 use crate::slot_list::{copied, put, slot_in};
-use bq_source::FaultKind;
+use bq_base::FaultKind;
 use bq_value::{EvalErr, Value};
 use std::alloc::{AllocError, Global};
 use std::marker::Model;

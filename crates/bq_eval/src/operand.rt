@@ -14,8 +14,8 @@ ghost use Rattle.bq_scope.specs.declared.code.Code.TheOpen.{Code-F};
 use crate::context::Context;
 use crate::frame::Frame;
 use crate::runtime::Runtime;
+use bq_base::FaultKind;
 use bq_scope::{Binding, Code};
-use bq_source::FaultKind;
 use bq_value::{EvalErr, Value};
 use std::alloc::AllocError;
 

@@ -1,7 +1,7 @@
 //! The frame that a function begins with.
 
 ghost use Rattle.std.specs.Prelude.{◌≡◌, ◌++◌, ◌∷◌, [], map, IfOk, OnOk};
-ghost use Rattle.bq_source.specs.Gives.{Gives};
+ghost use Rattle.bq_base.specs.Gives.{Gives};
 ghost use Rattle.bq_value.specs.declared.error.EvalErr.TheVariants.{Bad};
 ghost use Rattle.bq_machine.specs.Binding as binding;
 ghost use Rattle.bq_machine.specs.Parameters.{parameter_of};
@@ -9,7 +9,7 @@ ghost use Rattle.bq_meaning.specs.Calls as meaning;
 ghost use Rattle.bq_eval.specs.Acts.{Acts};
 
 use crate::runtime::Runtime;
-use bq_machine::{Args, Bound, SingleParameter, Signature, bind};
+use bq_machine::{Args, Bound, Signature, SingleParameter, bind};
 use bq_scope::CodeParameter;
 use bq_seed::Seed;
 use bq_value::{Content, Dict, EvalErr, Value};

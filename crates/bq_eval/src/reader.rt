@@ -14,10 +14,10 @@ use crate::frame::Frame;
 use crate::places::IndexedOperands;
 use crate::runtime::Runtime;
 use crate::targets::{MAX_LAYERS, bind_to};
+use bq_base::FaultKind;
 use bq_grammar::Operator;
 use bq_machine::Args;
 use bq_scope::{Code, CodeTarget};
-use bq_source::FaultKind;
 use bq_value::{EvalErr, Value};
 use std::marker::PhantomData;
 

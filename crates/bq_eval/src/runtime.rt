@@ -4,11 +4,11 @@ ghost use Rattle.std.specs.Prelude.{◌≡◌, IfOk};
 ghost use Rattle.bq_meaning.specs.Primitives.{Primitives};
 ghost use Rattle.bq_eval.specs.Acts.{Acts};
 
+use bq_base::Bytes;
 use bq_grammar::{Comparison, Operator, UnaryOperator};
 use bq_machine::{Args, Elements};
 use bq_predeclared::{Predeclared, RuleFunction};
 use bq_seed::Seed;
-use bq_source::Bytes;
 use bq_value::{Cell, Content, EvalErr, Value};
 use std::alloc::{AllocError, Global};
 

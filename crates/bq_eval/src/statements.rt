@@ -16,9 +16,9 @@ use crate::frame::Frame;
 use crate::reader::Reader;
 use crate::runtime::Runtime;
 use crate::targets::{MAX_LAYERS, begin_turn};
+use bq_base::FaultKind;
 use bq_machine::{Args, Elements};
 use bq_scope::{Code, CodeBranch, CodeStmt, CodeTarget};
-use bq_source::FaultKind;
 use bq_value::{EvalErr, Value};
 use std::marker::PhantomData;
 

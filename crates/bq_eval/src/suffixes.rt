@@ -11,9 +11,9 @@ use crate::context::Context;
 use crate::evaluator::Evaluator;
 use crate::frame::Frame;
 use crate::runtime::Runtime;
+use bq_base::{Bytes, FaultKind};
 use bq_machine::Args;
 use bq_scope::{Code, CodeArgument, CodeSuffix};
-use bq_source::{Bytes, FaultKind};
 use bq_value::{EvalErr, Value};
 use sqlite_items::Boxed;
 

@@ -9,9 +9,9 @@ ghost use Rattle.bq_eval.specs.Slots.{slots_of};
 use crate::frame::Frame;
 use crate::places::IndexedOperands;
 use crate::runtime::Runtime;
+use bq_base::FaultKind;
 use bq_machine::Elements;
 use bq_scope::CodeTarget;
-use bq_source::FaultKind;
 use bq_value::{EvalErr, Value};
 use std::alloc::Global;
 

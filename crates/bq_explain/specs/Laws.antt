@@ -1,8 +1,8 @@
--- The numbers that are explained are those that a run can print: of faults (bq_source) and of errors (bq_run, bq_query).
+-- The numbers that are explained are those that a run can print: of faults (bq_base) and of errors (bq_run, bq_query).
 use Rattle.std.specs.Prelude.{◌≡◌, ◌≢◌, ℕ, List, ◌∷◌, ◌++◌, Some, codes}
 use Rattle.std.specs.Fmt.{decimal}
-use Rattle.bq_source.specs.declared.fault.FaultKind.{FaultKind}
-use Rattle.bq_source.specs.Fault.{fault_number, fault_name}
+use Rattle.bq_base.specs.declared.fault.FaultKind.{FaultKind}
+use Rattle.bq_base.specs.Fault.{fault_number, fault_name}
 use Rattle.bq_query.specs.declared.query_error.QueryErr.TheVariants as query
 use Rattle.bq_run.specs.declared.error.RunErr.{RunErr}
 use Rattle.bq_run.specs.declared.error.RunErr.TheVariants as run

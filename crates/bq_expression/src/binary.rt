@@ -126,7 +126,11 @@ impl<F: Fn(Global, &mut Tokens<'_>, usize, Nested) -> Result<Expr, SyntaxErr>> G
     /// { operator Operand }
     #[tactic(auto, using(crate::proofs::LoopTurns::turns_more, crate::proofs::LoopTurns::turns_over), unfolding(bq_grammar::specs::Turns::repeat))]
     #[cycle(binary)]
-    fn operations(&self, tokens: &mut Tokens<'_>, level: usize) -> Result<Items<Operation>, SyntaxErr>
+    fn operations(
+        &self,
+        tokens: &mut Tokens<'_>,
+        level: usize,
+    ) -> Result<Items<Operation>, SyntaxErr>
         requires chained { 0 < level }
         requires nested { ReadsNested self.now.depth (F.pre self.now.phrase) (F.post self.now.phrase) }
         ensures { Reads (turns.repeat (spec.has (operators.operator_at level)) (spec.operation level (spec.binary (spec.primary (spec.phrase self.now.depth) (spec.variables_to self.now.depth)) (level - 1))) [] tokens.old) result tokens.new }

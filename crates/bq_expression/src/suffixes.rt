@@ -13,8 +13,9 @@ ghost use Rattle.bq_expression.specs.Nested.{ReadsNested};
 
 use crate::grammar::Grammar;
 use crate::steps::{closed, only};
-use bq_grammar::{Allowed, Argument, ArgumentKind, Expr, Identifier, Nested, SyntaxErr, Suffix};
-use bq_source::{Bytes, TokenKind};
+use bq_base::Bytes;
+use bq_grammar::{Allowed, Argument, ArgumentKind, Expr, Identifier, Nested, Suffix, SyntaxErr};
+use bq_source::TokenKind;
 use bq_tokens::Tokens;
 use sqlite_items::{Boxed, Items};
 use std::alloc::Global;
@@ -85,7 +86,11 @@ impl<F: Fn(Global, &mut Tokens<'_>, usize, Nested) -> Result<Expr, SyntaxErr>> G
     }
 
     /// Argument = Test | identifier '=' Test | '*' Test | '**' Test
-    fn argument_by(&self, tokens: &mut Tokens<'_>, kind: ArgumentKind) -> Result<Argument, SyntaxErr>
+    fn argument_by(
+        &self,
+        tokens: &mut Tokens<'_>,
+        kind: ArgumentKind,
+    ) -> Result<Argument, SyntaxErr>
         requires { ReadsNested self.now.depth (F.pre self.now.phrase) (F.post self.now.phrase) }
         ensures { Reads (spec.argument_by (spec.phrase self.now.depth) (spec.variables_to self.now.depth) kind tokens.old) result tokens.new }
     {

@@ -8,7 +8,7 @@ ghost use Rattle.bq_source.specs.declared.token.TokenKind.TheVariants as kind;
 ghost use Rattle.bq_expression.specs.Nested.{ReadsVar};
 
 use crate::steps::{closed, only};
-use bq_grammar::{SyntaxErr, AssignTarget};
+use bq_grammar::{AssignTarget, SyntaxErr};
 use bq_source::TokenKind;
 use bq_tokens::Tokens;
 use sqlite_items::Items;
@@ -72,7 +72,11 @@ impl<F: Fn(Global, &mut Tokens<'_>, usize) -> Result<AssignTarget, SyntaxErr>> V
     }
 
     /// The items of a list in brackets after the first.
-    fn list_after(&self, tokens: &mut Tokens<'_>, first: AssignTarget) -> Result<Items<AssignTarget>, SyntaxErr>
+    fn list_after(
+        &self,
+        tokens: &mut Tokens<'_>,
+        first: AssignTarget,
+    ) -> Result<Items<AssignTarget>, SyntaxErr>
         requires { ReadsVar self.now.depth (F.pre self.now.var) (F.post self.now.var) }
         ensures { Reads (spec.items_after kind.RightBracket (spec.var_to self.now.depth) first tokens.old) result tokens.new }
     {
@@ -130,7 +134,11 @@ pub fn var(alloc: Global, tokens: &mut Tokens<'_>, depth: usize) -> Result<Assig
 }
 
 /// ',' Var
-fn var_after_comma(alloc: Global, tokens: &mut Tokens<'_>, depth: usize) -> Result<AssignTarget, SyntaxErr>
+fn var_after_comma(
+    alloc: Global,
+    tokens: &mut Tokens<'_>,
+    depth: usize,
+) -> Result<AssignTarget, SyntaxErr>
     ensures { Reads (spec.after_comma (spec.var_to depth) tokens.old) result tokens.new }
 {
     tokens.expect(TokenKind::Comma)?;

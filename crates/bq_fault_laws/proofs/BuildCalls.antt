@@ -1,6 +1,6 @@
 -- The calls of build functions and of rules are refused for a fault that a file may fail with.
 use Rattle.std.proofs.Common.{ℕ, List, Result, Ok, Err, refl}
-use Rattle.bq_source.specs.declared.fault.FaultKind.{FaultKind}
+use Rattle.bq_base.specs.declared.fault.FaultKind.{FaultKind}
 use Rattle.bq_rule_class.specs.Class.{Class}
 use Rattle.bq_target.specs.Calls.{declared, exported}
 use Rattle.bq_target.specs.declared.state.Declared.{Declared}

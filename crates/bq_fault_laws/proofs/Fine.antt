@@ -1,7 +1,7 @@
 -- Answers whose fault, if they have one, is a fault of evaluation, and actions of a machine that stop for nothing else.
 use Rattle.std.proofs.Common.{◌≡◌, ℕ, zero, suc, Bool, true, false, cond, Option, Some, None, Result, Ok, Err, refl, sym, subst}
 use Rattle.std.specs.Prelude.{if◌then◌else◌}
-use Rattle.bq_source.specs.declared.fault.FaultKind.{FaultKind}
+use Rattle.bq_base.specs.declared.fault.FaultKind.{FaultKind}
 use Rattle.bq_walk.specs.Looked.{Looked, stepped}
 use Rattle.bq_operate.specs.Operand.{and_then}
 use Rattle.bq_operate.specs.Subscript.{or_fault}

@@ -1,6 +1,6 @@
 -- What the rules ask for stops for faults of evaluation alone, beside a host whose calls do.
 use Rattle.std.proofs.Common.{ℕ, List, Option, Some, None, refl}
-use Rattle.bq_source.specs.declared.fault.FaultKind.TheVariants.{WrongType}
+use Rattle.bq_base.specs.declared.fault.FaultKind.TheVariants.{WrongType}
 use Rattle.bq_predeclared.specs.declared.predeclared.Predeclared.{Predeclared}
 use Rattle.bq_predeclared.specs.declared.predeclared.Predeclared.TheVariants as p
 use Rattle.bq_scope.specs.Names.{Name}

@@ -1,7 +1,7 @@
 -- What stops, if it does, for a fault of evaluation: values, some faults, one action after another, and a choice of two.
 use Rattle.std.proofs.Common.{◌≡◌, ℕ, Bool, true, false, List}
 use Rattle.std.specs.Prelude.{if◌then◌else◌}
-use Rattle.bq_source.specs.declared.fault.FaultKind.{FaultKind}
+use Rattle.bq_base.specs.declared.fault.FaultKind.{FaultKind}
 use Rattle.bq_grammar.specs.declared.tree.Comparison.{Comparison}
 use Rattle.bq_grammar.specs.declared.tree.Operator.{Operator}
 use Rattle.bq_grammar.specs.declared.tree.UnaryOperator.{UnaryOperator}

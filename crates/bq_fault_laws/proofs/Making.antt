@@ -1,6 +1,6 @@
 -- Lists and dicts that are being made, and the arguments of calls, stop for faults of evaluation alone.
 use Rattle.std.proofs.Common.{ℕ, ◌+◌, ◌==◌, nat_le, List, [], ◌∷◌, ◌++◌, length, is_some, Result, Ok, Err, refl}
-use Rattle.bq_source.specs.declared.fault.FaultKind.{FaultKind}
+use Rattle.bq_base.specs.declared.fault.FaultKind.{FaultKind}
 use Rattle.bq_value.specs.Contents.{Contents, items, pairs, rule}
 use Rattle.bq_value.specs.Datum.{Datum, string}
 use Rattle.bq_machine.specs.Action.{given, look}

@@ -1,8 +1,8 @@
 -- Calls of the functions that declare rules, and of rules, stop for faults of evaluation alone, beside a host whose calls do.
 use Rattle.std.proofs.Common.{ℕ, ◌||◌, not, Bool, true, false, List, [], ◌∷◌, ◌++◌, Option, Some, None, Result, Ok, Err, refl}
 use Rattle.std.specs.Prelude.{if◌then◌else◌}
-use Rattle.bq_source.specs.declared.fault.FaultKind.{FaultKind}
-use Rattle.bq_source.specs.declared.fault.FaultKind.TheVariants as f
+use Rattle.bq_base.specs.declared.fault.FaultKind.{FaultKind}
+use Rattle.bq_base.specs.declared.fault.FaultKind.TheVariants as f
 use Rattle.bq_predeclared.specs.declared.rule_function.RuleFunction.{RuleFunction}
 use Rattle.bq_rule_class.specs.Class.{Class}
 use Rattle.bq_rule_class.specs.declared.attribute_type.AttributeType.{AttributeType}

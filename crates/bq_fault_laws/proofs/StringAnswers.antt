@@ -1,6 +1,6 @@
 -- What methods of strings answer is refused for faults of evaluation alone.
 use Rattle.std.proofs.Common.{ℕ, ◌+◌, ◌^◌, pos, negsuc, nat_lt, nat_le, ◌&&◌, List, [], ◌∷◌, length, slice_get, Option, Some, None, Result, Ok, Err, bytes_eq, refl}
-use Rattle.bq_source.specs.declared.fault.FaultKind.{FaultKind}
+use Rattle.bq_base.specs.declared.fault.FaultKind.{FaultKind}
 use Rattle.bq_value.specs.Datum.{Datum, none, boolean, int, string, tuple, list_of}
 use Rattle.bq_machine.specs.Args.{Passed}
 use Rattle.bq_operators.specs.Length.{max_len}

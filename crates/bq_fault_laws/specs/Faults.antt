@@ -2,7 +2,7 @@
 -- F78), or a name of the own package whose file lies in another one (F37). The table is that of a host's refusals.
 use Rattle.std.specs.Prelude.{◌≡◌, ℕ, List, Option, Some, Result, Ok, Err, true}
 use Rattle.std.specs.List.{AllByRecursion}
-use Rattle.bq_source.specs.declared.fault.FaultKind.{FaultKind}
+use Rattle.bq_base.specs.declared.fault.FaultKind.{FaultKind}
 use Rattle.bq_grammar.specs.Lexeme.{Lexeme}
 use Rattle.bq_grammar.specs.Parses.{Parses}
 use Rattle.bq_grammar.specs.declared.tree.FileKind.{FileKind}

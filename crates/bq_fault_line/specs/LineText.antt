@@ -1,7 +1,7 @@
 -- How the lines of faults are printed.
 use Rattle.std.specs.Prelude.{ℕ, ◌++◌, List, [], ◌∷◌, codes}
 use Rattle.std.specs.Fmt.{decimal}
-use Rattle.bq_source.specs.Fault.{fault_number, fault_name}
+use Rattle.bq_base.specs.Fault.{fault_number, fault_name}
 use Rattle.bq_fault_line.specs.declared.fault_line.FaultLine.{FaultLine}
 
 -- a space and the detail, or nothing where there is none

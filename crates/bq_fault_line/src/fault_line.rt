@@ -7,7 +7,7 @@ ghost use Rattle.std.specs.List.Sorted.{IsStrictlySortedBy};
 ghost use Rattle.std.specs.Ordering.{eq_by_cmp, as_partial_cmp};
 ghost use Rattle.bq_fault_line.specs.FaultLine.{line_cmp, line_cmp_total, sorted_lines};
 
-use bq_source::{Bytes, FaultKind};
+use bq_base::{Bytes, FaultKind};
 use std::cmp::Ordering;
 
 /// A fault of a file as it is printed.

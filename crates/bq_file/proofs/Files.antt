@@ -1,13 +1,13 @@
 -- A file, a statement at a time.
 use Rattle.std.proofs.Common.{◌≡◌, ℕ, zero, suc, ◌<◌, true, if◌then◌else◌, List, [], ◌∷◌, ◌++◌, length, take, drop, Result, Ok, Err, refl, sym, ap, ◌∙◌, subst, append_assoc, append-nil, arith}
-use Rattle.bq_source.specs.declared.fault.Fault.{Fault}
-use Rattle.bq_source.specs.declared.fault.FaultKind.{FaultKind}
-use Rattle.bq_source.specs.declared.fault.FaultKind.TheVariants as f
-use Rattle.bq_source.specs.declared.fault.SourceErr.{SourceErr}
-use Rattle.bq_source.specs.declared.fault.SourceErr.TheVariants.{Bad}
+use Rattle.bq_base.specs.declared.fault.Fault.{Fault}
+use Rattle.bq_base.specs.declared.fault.FaultKind.{FaultKind}
+use Rattle.bq_base.specs.declared.fault.FaultKind.TheVariants as f
+use Rattle.bq_base.specs.declared.fault.SourceErr.{SourceErr}
+use Rattle.bq_base.specs.declared.fault.SourceErr.TheVariants.{Bad}
 use Rattle.std.specs.Prelude.{IfOk, MatchResult}
-use Rattle.bq_source.specs.Fault.{fault_at}
-use Rattle.bq_source.specs.Gives.{Gives, GivesOneOf}
+use Rattle.bq_base.specs.Fault.{fault_at}
+use Rattle.bq_base.specs.Gives.{Gives, GivesOneOf}
 use Rattle.bq_source.specs.declared.token.Token.{Token}
 use Rattle.bq_grammar.specs.Lexeme.{Lexeme, lexeme, lexemes}
 use Rattle.bq_grammar.specs.Nesting.{nests}

@@ -3,16 +3,16 @@
 ghost use Rattle.std.specs.Prelude.{◌≡◌, Ok, Err, MatchResult};
 ghost use Rattle.bq_file.specs.Answers.{at_line, itself};
 ghost use Rattle.bq_grammar.specs.Parses as spec;
-ghost use Rattle.bq_source.specs.Fault.{fault_at};
-ghost use Rattle.bq_source.specs.Gives.{Gives};
-ghost use Rattle.bq_source.specs.declared.fault.SourceErr.TheVariants.{Bad};
+ghost use Rattle.bq_base.specs.Fault.{fault_at};
+ghost use Rattle.bq_base.specs.Gives.{Gives};
+ghost use Rattle.bq_base.specs.declared.fault.SourceErr.TheVariants.{Bad};
 
 use crate::left_out::{barred_in_build, leaves_out};
 use crate::nested::nested_def;
 use crate::nesting::{MAX_NESTING, nests};
+use bq_base::{Fault, FaultKind, SourceErr};
 use bq_grammar::{FileKind, SyntaxErr, TopLevel};
 use bq_parse::top_level;
-use bq_source::{Fault, FaultKind, SourceErr};
 use bq_tokens::Tokens;
 use std::alloc::Global;
 

@@ -3,8 +3,8 @@
 -- What is malformed is noted and the rest is still visited: F59 comes after F53 and F55, and F54 last.
 use Rattle.std.specs.Prelude.{ℕ, zero, suc, ◌==◌, ◌||◌, Bool, true, false, cond, List, [], ◌∷◌, length, drop, Option, Some, None, Result, Ok, Err, codes}
 use Rattle.std.specs.Fmt.{signed_decimal}
-use Rattle.bq_source.specs.declared.fault.FaultKind.{FaultKind}
-use Rattle.bq_source.specs.declared.fault.FaultKind.TheVariants.{Format}
+use Rattle.bq_base.specs.declared.fault.FaultKind.{FaultKind}
+use Rattle.bq_base.specs.declared.fault.FaultKind.TheVariants.{Format}
 use Rattle.bq_value.specs.Datum.{Datum, int, tuple, list_of}
 use Rattle.bq_value.specs.Cells.{StoreView}
 use Rattle.bq_walk.specs.Looked.{Looked}

@@ -6,7 +6,8 @@ ghost use Rattle.std.specs.Str.Parse.{digits_value};
 ghost use Rattle.bq_source.specs.Lexis.{is_digit};
 ghost use Rattle.bq_format.specs.Argument.{is_number, is_name, named_value, argument, next_after, no_fields, numbering_after, is_mixed};
 
-use bq_source::{Bytes, is_letter, is_word};
+use bq_base::Bytes;
+use bq_source::{is_letter, is_word};
 use bq_value::Value;
 
 /// Whether a format has had fields without text, and fields with a number.

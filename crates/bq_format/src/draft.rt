@@ -1,12 +1,12 @@
 //! What is written of a text that is formatted.
 
 ghost use Rattle.std.specs.Prelude.{◌≡◌, OnOk};
-ghost use Rattle.bq_source.specs.Gives.{Gives};
+ghost use Rattle.bq_base.specs.Gives.{Gives};
 ghost use Rattle.bq_value.specs.declared.error.EvalErr.TheVariants.{Bad};
 ghost use Rattle.bq_walk.specs.Looked.{Looked};
 ghost use Rattle.bq_format.specs.Percent.{blank, and_write, spoiled, finished_draft, decimal, shown};
 
-use bq_source::{Bytes, FaultKind};
+use bq_base::{Bytes, FaultKind};
 use bq_text::{Page, write_repr, write_text};
 use bq_value::{EvalErr, Node, Store, Value};
 use itoa::Buffer;

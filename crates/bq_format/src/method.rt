@@ -1,7 +1,7 @@
 //! The method `format` of strings (Starlark, "string·format").
 
 ghost use Rattle.std.specs.Prelude.{◌≡◌, option_copied, Ok};
-ghost use Rattle.bq_source.specs.Gives.{Gives};
+ghost use Rattle.bq_base.specs.Gives.{Gives};
 ghost use Rattle.bq_value.specs.declared.error.EvalErr.TheVariants.{Bad};
 ghost use Rattle.bq_format.specs.Method.{field_shown, formatted, unmixed};
 ghost use Rattle.bq_format.specs.Percent.{text_by};
@@ -9,7 +9,7 @@ ghost use Rattle.bq_format.specs.Percent.{text_by};
 use crate::argument::{Numbering, argument, next_after};
 use crate::draft::Draft;
 use crate::piece::{field_of, write_literal};
-use bq_source::Bytes;
+use bq_base::Bytes;
 use bq_value::{EvalErr, Store, Value};
 use std::alloc::Global;
 

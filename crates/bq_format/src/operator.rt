@@ -1,12 +1,12 @@
 //! The operator `%` with a string on its left (Starlark, "String interpolation").
 
 ghost use Rattle.std.specs.Prelude.{◌≡◌, length};
-ghost use Rattle.bq_source.specs.Gives.{Gives};
+ghost use Rattle.bq_base.specs.Gives.{Gives};
 ghost use Rattle.bq_value.specs.declared.error.EvalErr.TheVariants.{Bad};
 ghost use Rattle.bq_format.specs.Percent.{takes_value, next_shown, converted, values_after, ended, filled, text_filled, percent_of};
 
 use crate::draft::Draft;
-use bq_source::Bytes;
+use bq_base::Bytes;
 use bq_string::partition;
 use bq_value::{EvalErr, Node, Store, Value};
 use std::alloc::Global;

@@ -1,6 +1,6 @@
 -- What is malformed stays so.
 use Rattle.std.proofs.Common.{◌≡◌, refl, ℕ, Bool, true, false, List, Ok, Err}
-use Rattle.bq_source.specs.declared.fault.FaultKind.TheVariants.{Format}
+use Rattle.bq_base.specs.declared.fault.FaultKind.TheVariants.{Format}
 use Rattle.bq_walk.specs.Looked.{Looked}
 use Rattle.bq_text.specs.Page.{PageView}
 use Rattle.bq_format.specs.Percent.{DraftView, onto, and_then, finished_when, with_steps, text_by}

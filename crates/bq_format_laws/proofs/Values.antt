@@ -1,8 +1,8 @@
 -- A format takes as many values as it has conversions for them.
 use Rattle.std.proofs.Common.{◌≡◌, ◌∙◌, sym, ap, refl, ℕ, zero, suc, inl, inr, true, false, cond, List, [], ◌∷◌, ◌++◌, drop, length, Option, Some, None, Ok, Err, codes}
 use Rattle.std.specs.Prelude.{◌==◌}
-use Rattle.bq_source.specs.declared.fault.FaultKind.TheVariants.{Format}
-use Rattle.bq_source.proofs.Choices.{by_bool}
+use Rattle.bq_base.specs.declared.fault.FaultKind.TheVariants.{Format}
+use Rattle.bq_base.proofs.Choices.{by_bool}
 use Rattle.bq_string.specs.Parts.{partition}
 use Rattle.bq_text.specs.Shown.{text_shown, repr_shown}
 use Rattle.bq_value.specs.Cells.{StoreView}

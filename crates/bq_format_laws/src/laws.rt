@@ -2,7 +2,7 @@
 
 ghost use Rattle.std.specs.Prelude.{◌≡◌, ◌++◌, ◌∷◌, [], ℕ, List, Ok, Err, true};
 ghost use Rattle.std.specs.List.{Contains};
-ghost use Rattle.bq_source.specs.declared.fault.FaultKind.TheVariants.{Format};
+ghost use Rattle.bq_base.specs.declared.fault.FaultKind.TheVariants.{Format};
 ghost use Rattle.bq_value.specs.Cells.{StoreView};
 ghost use Rattle.bq_value.specs.Datum.{Datum};
 ghost use Rattle.bq_format.specs.Argument.{is_number};

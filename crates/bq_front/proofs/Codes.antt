@@ -1,6 +1,6 @@
 -- What a text resolves to is what its one reading does, and its fault is that of the first step that has one.
 use Rattle.std.proofs.Common.{◌≡◌, ◌∙◌, ℕ, List, Result, Ok, Err, sym, ap, subst}
-use Rattle.bq_source.specs.declared.fault.Fault.{Fault}
+use Rattle.bq_base.specs.declared.fault.Fault.{Fault}
 use Rattle.bq_source.specs.declared.token.Token.{Token}
 use Rattle.bq_source.specs.Reading.{Lexes}
 use Rattle.bq_source.specs.Tokens.{tokens_of}

@@ -3,14 +3,14 @@ use Rattle.std.proofs.Common.{ℕ, List, Result, Ok, Err, Vec}
 use Rattle.std.specs.Prelude.{IfOk}
 use Rattle.std.specs.Global.{Global}
 use Rattle.bq_source.specs.declared.token.Token.{Token}
-use Rattle.bq_source.specs.declared.fault.Fault.{Fault}
-use Rattle.bq_source.specs.declared.fault.SourceErr.{SourceErr}
+use Rattle.bq_base.specs.declared.fault.Fault.{Fault}
+use Rattle.bq_base.specs.declared.fault.SourceErr.{SourceErr}
 use Rattle.bq_source.specs.Reading.{Lexes}
 use Rattle.bq_source.specs.Lexing.{the_tokens}
 use Rattle.bq_source.specs.Tokens.{tokens_of}
 use Rattle.bq_source.proofs.Reached.{every_text}
-use Rattle.bq_source.specs.Gives.{Gives, GivesOneOf}
-use Rattle.bq_source.specs.declared.fault.SourceErr.TheVariants.{Bad}
+use Rattle.bq_base.specs.Gives.{Gives, GivesOneOf}
+use Rattle.bq_base.specs.declared.fault.SourceErr.TheVariants.{Bad}
 use Rattle.bq_front.specs.Code.{items}
 
 tokens_found : (r : Result (Vec Token Global) SourceErr) (q : Result (List Token) Fault) → Gives the_tokens Bad r q → Gives items Bad r q

@@ -1,7 +1,7 @@
 -- What the text of a file resolves to, or its first fault.
 use Rattle.std.specs.Prelude.{ℕ, List, Result, Ok, Err, Vec}
 use Rattle.std.specs.Global.{Global}
-use Rattle.bq_source.specs.declared.fault.Fault.{Fault}
+use Rattle.bq_base.specs.declared.fault.Fault.{Fault}
 use Rattle.bq_source.specs.Tokens.{tokens_of}
 use Rattle.bq_grammar.specs.Lexeme.{lexemes}
 use Rattle.bq_grammar.specs.Parses.{statements_of}

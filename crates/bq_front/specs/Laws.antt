@@ -1,7 +1,7 @@
 -- Words of the laws.
 use Rattle.std.specs.Prelude.{◌≡◌, ◌↔◌, ℕ, List, [], ◌∷◌, ◌++◌, map, Result, Ok, Err}
 use Rattle.std.specs.List.{Contains}
-use Rattle.bq_source.specs.declared.fault.Fault.{Fault}
+use Rattle.bq_base.specs.declared.fault.Fault.{Fault}
 use Rattle.bq_source.specs.declared.token.Token.{Token}
 use Rattle.bq_source.specs.Reading.{Lexes}
 use Rattle.bq_grammar.specs.declared.tree.TopLevel.{TopLevel}

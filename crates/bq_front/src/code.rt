@@ -1,16 +1,17 @@
 //! The text of a file to its resolved trees.
 
 ghost use Rattle.std.specs.Prelude.{Ok, IfOk};
-ghost use Rattle.bq_source.specs.Gives.{Gives};
+ghost use Rattle.bq_base.specs.Gives.{Gives};
 ghost use Rattle.bq_source.specs.Reading.{Lexes};
 ghost use Rattle.bq_source.specs.Tokens.{tokens_of};
-ghost use Rattle.bq_source.specs.declared.fault.SourceErr.TheVariants.{Bad};
+ghost use Rattle.bq_base.specs.declared.fault.SourceErr.TheVariants.{Bad};
 ghost use Rattle.bq_front.specs.Code.{code_of, items, itself};
 
+use bq_base::SourceErr;
 use bq_file::parse;
 use bq_resolve::resolve;
 use bq_scope::{Resolved, Universe};
-use bq_source::{SourceErr, Token, lex};
+use bq_source::{Token, lex};
 use std::alloc::Global;
 
 /// The tokens of a text, or its fault (F1 to F8).

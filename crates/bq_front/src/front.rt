@@ -1,18 +1,18 @@
 //! What the file of a module gives on its own.
 
 ghost use Rattle.std.specs.Prelude.{◌≡◌, []};
-ghost use Rattle.bq_source.specs.Gives.{Gives};
-ghost use Rattle.bq_source.specs.declared.fault.SourceErr.TheVariants.{Bad};
+ghost use Rattle.bq_base.specs.Gives.{Gives};
+ghost use Rattle.bq_base.specs.declared.fault.SourceErr.TheVariants.{Bad};
 ghost use Rattle.bq_front.specs.Code.{itself};
 ghost use Rattle.bq_front.specs.Front.{labels_of, kind_of, front_by, front_of};
 
 use crate::code::code_of;
 use crate::inputs::Inputs;
+use bq_base::{Fault, FaultKind, SourceErr};
 use bq_grammar::FileKind;
 use bq_label::{Label, PackageId, label_file};
 use bq_load_label::load_label;
 use bq_scope::{LoadStmt, Resolved};
-use bq_source::{Fault, FaultKind, SourceErr};
 use sqlite_items::Items;
 use std::alloc::Global;
 

@@ -4,10 +4,10 @@ ghost use Rattle.std.specs.Prelude.{◌≡◌, [], IfOk};
 ghost use Rattle.bq_scope.specs.Names.{with_each, with_name};
 ghost use Rattle.bq_front.specs.Inputs.{universe_of};
 
+use bq_base::Bytes;
 use bq_grammar::FileKind;
 use bq_label::{Packages, Workspace};
 use bq_scope::Universe;
-use bq_source::Bytes;
 use std::alloc::{AllocError, Global};
 use std::marker::Model;
 

@@ -13,8 +13,8 @@ use Rattle.std.proofs.lemmas.Fmt.{decimal_nonempty, digits_decimal, digits_value
 use Rattle.std.proofs.lemmas.Str.Parse.{digit_at}
 use Rattle.std.proofs.lemmas.List.{length-map}
 use Rattle.std.proofs.lemmas.Bool.Decides.{nat_tests}
-use Rattle.bq_source.specs.declared.fault.FaultKind.{FaultKind}
-use Rattle.bq_source.specs.declared.fault.FaultKind.TheVariants.{BadValue, Args}
+use Rattle.bq_base.specs.declared.fault.FaultKind.{FaultKind}
+use Rattle.bq_base.specs.declared.fault.FaultKind.TheVariants.{BadValue, Args}
 use Rattle.bq_operators.specs.Integer.{fitted}
 use Rattle.bq_operators.proofs.Fits.{fitted_some}
 use Rattle.bq_value.specs.Datum.{Datum, none, boolean, int, string, tuple, range, cell, function, built_in, rule_function, attribute, data_of, list_of}

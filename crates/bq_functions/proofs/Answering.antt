@@ -1,7 +1,7 @@
 -- What is given to a run is what the run says.
 use Rattle.std.proofs.Common.{◌≡◌, ◌∙◌, refl, sym, ap, Result, Ok, Err}
-use Rattle.bq_source.specs.Gives.{Gives}
-use Rattle.bq_source.specs.declared.fault.FaultKind.{FaultKind}
+use Rattle.bq_base.specs.Gives.{Gives}
+use Rattle.bq_base.specs.declared.fault.FaultKind.{FaultKind}
 use Rattle.bq_value.specs.declared.error.EvalErr.{EvalErr}
 use Rattle.bq_value.specs.declared.error.EvalErr.TheVariants.{Bad}
 use Rattle.bq_machine.specs.State.{State}

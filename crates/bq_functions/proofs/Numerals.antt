@@ -12,8 +12,8 @@ use Rattle.std.proofs.lemmas.Str.Parse.{tells_all_ascii_digits, numerals_by_valu
 use Rattle.std.specs.Int.{IsInRange}
 use Rattle.std.specs.Str.Parse.{digits_value}
 use Rattle.std.specs.Prelude.{ok_or}
-use Rattle.bq_source.specs.declared.fault.FaultKind.{FaultKind}
-use Rattle.bq_source.specs.declared.fault.FaultKind.TheVariants.{Overflow, BadValue}
+use Rattle.bq_base.specs.declared.fault.FaultKind.{FaultKind}
+use Rattle.bq_base.specs.declared.fault.FaultKind.TheVariants.{Overflow, BadValue}
 use Rattle.bq_operators.specs.Integer.{fitted, Fitted}
 use Rattle.bq_operators.proofs.Fits.{fitted_is}
 use Rattle.bq_functions.specs.Integers.{is_numeral, read_integer}

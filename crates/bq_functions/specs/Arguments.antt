@@ -1,8 +1,8 @@
 -- The arguments that a function takes (Starlark, "Function and method calls"): what it doesn't take is F52. All are passed by place
 -- but for one, which some functions take by its name.
 use Rattle.std.specs.Prelude.{ℕ, ℤ, Bool, false, cond, List, [], ◌∷◌, bytes_eq, Option, Some, None, Result, Ok, Err}
-use Rattle.bq_source.specs.declared.fault.FaultKind.{FaultKind}
-use Rattle.bq_source.specs.declared.fault.FaultKind.TheVariants.{WrongType, Args}
+use Rattle.bq_base.specs.declared.fault.FaultKind.{FaultKind}
+use Rattle.bq_base.specs.declared.fault.FaultKind.TheVariants.{WrongType, Args}
 use Rattle.bq_value.specs.Datum.{Datum, int, boolean, string}
 use Rattle.bq_machine.specs.Args.{Passed}
 

@@ -1,7 +1,7 @@
 -- The built-in functions (Starlark, "Built-in constants and functions"), and what a call gives.
 use Rattle.std.specs.Prelude.{List, Option, Some, None, Result}
-use Rattle.bq_source.specs.declared.fault.FaultKind.{FaultKind}
-use Rattle.bq_source.specs.declared.fault.FaultKind.TheVariants as fault
+use Rattle.bq_base.specs.declared.fault.FaultKind.{FaultKind}
+use Rattle.bq_base.specs.declared.fault.FaultKind.TheVariants as fault
 use Rattle.bq_predeclared.specs.declared.predeclared.Predeclared.{Predeclared}
 use Rattle.bq_predeclared.specs.declared.predeclared.Predeclared.TheVariants as p
 use Rattle.bq_value.specs.Datum.{Datum}

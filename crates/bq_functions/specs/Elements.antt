@@ -1,7 +1,7 @@
 -- The elements of arguments, which are read as they are now.
 use Rattle.std.specs.Prelude.{ℕ, nat_le, cond, List, [], length, Option, Some, None, Result, Ok, Err}
-use Rattle.bq_source.specs.declared.fault.FaultKind.{FaultKind}
-use Rattle.bq_source.specs.declared.fault.FaultKind.TheVariants.{TooLong}
+use Rattle.bq_base.specs.declared.fault.FaultKind.{FaultKind}
+use Rattle.bq_base.specs.declared.fault.FaultKind.TheVariants.{TooLong}
 use Rattle.bq_operators.specs.Length.{max_len}
 use Rattle.bq_value.specs.Datum.{Datum}
 use Rattle.bq_value.specs.Cells.{StoreView}

@@ -1,6 +1,6 @@
 -- The functions `list`, `tuple`, `reversed`, `enumerate` and `zip` (Starlark, "list", "tuple", "reversed", "enumerate", "zip").
 use Rattle.std.specs.Prelude.{ℕ, zero, suc, min, ℤ, pos, ◌+ℤ◌, List, [], ◌∷◌, ◌++◌, map, take, drop, length, reverse, codes, Option, Some, None, Result, Ok}
-use Rattle.bq_source.specs.declared.fault.FaultKind.{FaultKind}
+use Rattle.bq_base.specs.declared.fault.FaultKind.{FaultKind}
 use Rattle.bq_operators.specs.Integer.{fitted}
 use Rattle.bq_value.specs.Datum as datum
 use Rattle.bq_value.specs.Datum.{Datum, end, data_of}

@@ -1,7 +1,7 @@
 -- The functions `all`, `any` and `bool` (Starlark, "all", "any", "bool").
 use Rattle.std.specs.Prelude.{Bool, false, List, Option, Some, None, Result, Ok}
 use Rattle.std.specs.List.{list_all, list_any}
-use Rattle.bq_source.specs.declared.fault.FaultKind.{FaultKind}
+use Rattle.bq_base.specs.declared.fault.FaultKind.{FaultKind}
 use Rattle.bq_value.specs.Datum.{Datum, boolean}
 use Rattle.bq_value.specs.Cells.{StoreView}
 use Rattle.bq_walk.specs.Truth.{truth_of}

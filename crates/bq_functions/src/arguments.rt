@@ -1,13 +1,13 @@
 //! Which arguments a function takes (F52).
 
 ghost use Rattle.std.specs.Prelude.{option_copied};
-ghost use Rattle.bq_source.specs.Gives.{Gives};
+ghost use Rattle.bq_base.specs.Gives.{Gives};
 ghost use Rattle.bq_value.specs.declared.error.EvalErr.TheVariants.{Bad};
 ghost use Rattle.bq_functions.specs.Arguments.{one_argument, optional_argument, one_or_two, one_to_three, integer};
 ghost use Rattle.bq_functions.specs.Arguments.{by_place, only_argument, only_argument_if_any, only_named, passed_once, one_and_named, flag, text};
 
+use bq_base::{Bytes, FaultKind};
 use bq_machine::Args;
-use bq_source::{Bytes, FaultKind};
 use bq_value::{EvalErr, Node, Value};
 
 /// No argument by name.

@@ -1,7 +1,7 @@
 //! The call of a built-in function.
 
 ghost use Rattle.std.specs.Prelude.{◌≡◌};
-ghost use Rattle.bq_source.specs.Gives.{Gives};
+ghost use Rattle.bq_base.specs.Gives.{Gives};
 ghost use Rattle.bq_value.specs.declared.error.EvalErr.TheVariants.{Bad};
 ghost use Rattle.bq_machine.specs.Action.{Does};
 ghost use Rattle.bq_functions.specs.Call.{built_in, value, list_values, given_by, call_function};
@@ -12,10 +12,10 @@ use crate::sequences::{enumerate, list, reversed, tuple};
 use crate::texts::{fail, print, repr, str, type_of};
 use crate::truths::{all, any, bool};
 use crate::zip::zip;
+use bq_base::FaultKind;
 use bq_collections::dict::new_dict;
 use bq_machine::{Args, Machine};
 use bq_predeclared::Predeclared;
-use bq_source::FaultKind;
 use bq_value::{EvalErr, Value};
 use std::alloc::Global;
 

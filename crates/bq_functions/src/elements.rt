@@ -1,15 +1,15 @@
 //! The elements of arguments.
 
 ghost use Rattle.std.specs.Prelude.{◌≡◌, ◌≤◌, IfOk, OnOk, option_copied};
-ghost use Rattle.bq_source.specs.Gives.{Gives};
+ghost use Rattle.bq_base.specs.Gives.{Gives};
 ghost use Rattle.bq_operators.specs.Length.{max_len};
 ghost use Rattle.bq_value.specs.declared.error.EvalErr.TheVariants.{Bad};
 ghost use Rattle.bq_machine.specs.Iteration.{elements_in};
 ghost use Rattle.bq_functions.specs.Elements.{room_for, listed, listed_if_any};
 
+use bq_base::FaultKind;
 use bq_machine::{Elements, Machine};
 use bq_operators::MAX_LEN;
-use bq_source::FaultKind;
 use bq_value::{EvalErr, Value};
 use std::alloc::{AllocError, Global};
 

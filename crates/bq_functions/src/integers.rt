@@ -3,14 +3,14 @@
 ghost use Rattle.std.specs.Prelude.{◌≡◌, true, Some, Ok, pos, option_copied};
 ghost use Rattle.std.specs.Str.{all_ascii_digits};
 ghost use Rattle.std.specs.Str.Parse.{without_leading_sign, signed_digits_value};
-ghost use Rattle.bq_source.specs.Gives.{Gives};
+ghost use Rattle.bq_base.specs.Gives.{Gives};
 ghost use Rattle.bq_operators.specs.Integer.{fitted, Fitted};
 ghost use Rattle.bq_value.specs.declared.error.EvalErr.TheVariants.{Bad};
 ghost use Rattle.bq_functions.specs.Integers.{is_numeral, read_integer, integer_from, int, content_length, length_in, len, step_or_one, range_by, range_from, range};
 
 use crate::arguments::{by_place, integer, one_to_three, only_argument};
+use bq_base::FaultKind;
 use bq_machine::{Args, Machine};
-use bq_source::FaultKind;
 use bq_value::{Body, Content, EvalErr, Node, Range, Store, Value};
 use std::str;
 

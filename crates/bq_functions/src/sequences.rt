@@ -1,15 +1,15 @@
 //! `list`, `tuple`, `reversed` and `enumerate` (Starlark, "list", "tuple", "reversed", "enumerate").
 
 ghost use Rattle.std.specs.Prelude.{◌≡◌, ◌≤◌, ◌^◌, ◌+ℤ◌, ◌≤ℤ◌, pos, length, IfOk, OnOk, option_copied};
-ghost use Rattle.bq_source.specs.Gives.{Gives};
+ghost use Rattle.bq_base.specs.Gives.{Gives};
 ghost use Rattle.bq_operators.specs.Length.{max_len};
 ghost use Rattle.bq_value.specs.declared.error.EvalErr.TheVariants.{Bad};
 ghost use Rattle.bq_functions.specs.Sequences.{tuple, list, reversed, start_or_zero, numbers_fit, numbered_value, numbered, enumerate};
 
 use crate::arguments::{integer, one_and_named, only_argument, only_argument_if_any};
 use crate::elements::{elements_in, listed, listed_if_any, room_for, values_of};
+use bq_base::FaultKind;
 use bq_machine::{Args, Machine};
-use bq_source::FaultKind;
 use bq_value::{EvalErr, Value};
 use std::alloc::{AllocError, Global};
 

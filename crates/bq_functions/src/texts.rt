@@ -1,7 +1,7 @@
 //! `type`, `str`, `repr`, `print` and `fail` (Starlark, "type", "str", "repr", "print", "fail").
 
 ghost use Rattle.std.specs.Prelude.{◌≡◌, Some, option_copied};
-ghost use Rattle.bq_source.specs.Gives.{Gives};
+ghost use Rattle.bq_base.specs.Gives.{Gives};
 ghost use Rattle.bq_value.specs.declared.error.EvalErr.TheVariants.{Bad};
 ghost use Rattle.bq_machine.specs.Action.{Does};
 ghost use Rattle.bq_text.specs.Page.{written};
@@ -9,8 +9,8 @@ ghost use Rattle.bq_text.specs.Shown.{text_shown};
 ghost use Rattle.bq_functions.specs.Texts.{content_type, type_name, type_of, str, repr, others_shown, values_shown, joined_texts, space, separator_of, separator_in, print, fail};
 
 use crate::arguments::{by_place, only_argument, only_named, text};
+use bq_base::{Bytes, FaultKind};
 use bq_machine::{Args, Machine};
-use bq_source::{Bytes, FaultKind};
 use bq_text::{Page, write_text};
 use bq_value::{Body, Content, EvalErr, Node, Store, Value};
 use std::alloc::Global;

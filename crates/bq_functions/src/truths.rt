@@ -1,7 +1,7 @@
 //! `all`, `any` and `bool` (Starlark, "all", "any", "bool").
 
 ghost use Rattle.std.specs.Prelude.{◌≡◌, option_copied, map};
-ghost use Rattle.bq_source.specs.Gives.{Gives};
+ghost use Rattle.bq_base.specs.Gives.{Gives};
 ghost use Rattle.bq_value.specs.declared.error.EvalErr.TheVariants.{Bad};
 ghost use Rattle.bq_value.specs.Cells.{StoreView};
 ghost use Rattle.bq_value.specs.Datum.{int};

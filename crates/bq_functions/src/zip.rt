@@ -1,7 +1,7 @@
 //! `zip` (Starlark, "zip").
 
 ghost use Rattle.std.specs.Prelude.{◌≡◌, ◌++◌, map, take, drop, IfOk, OnOk};
-ghost use Rattle.bq_source.specs.Gives.{Gives};
+ghost use Rattle.bq_base.specs.Gives.{Gives};
 ghost use Rattle.bq_value.specs.declared.error.EvalErr.TheVariants.{Bad};
 ghost use Rattle.bq_value.specs.Datum.{tuple, data_of};
 ghost use Rattle.bq_functions.specs.Sequences.{heads, rows, shortest_from, shortest, elements_of_each, zip};

@@ -1,9 +1,9 @@
 -- Which texts are patterns of glob.
 use Rattle.std.specs.Prelude.{ℕ, ◌&&◌, ◌||◌, Bool, false, not, nat_eq, List, [], ◌∷◌, Result, Ok, Err, codes, if◌then◌else◌}
 use Rattle.std.specs.List.{list_all, slice_split, starts_with}
-use Rattle.bq_source.specs.Fault.{fault_at}
-use Rattle.bq_source.specs.declared.fault.Fault.{Fault}
-use Rattle.bq_source.specs.declared.fault.FaultKind.TheVariants.{GlobPattern}
+use Rattle.bq_base.specs.Fault.{fault_at}
+use Rattle.bq_base.specs.declared.fault.Fault.{Fault}
+use Rattle.bq_base.specs.declared.fault.FaultKind.TheVariants.{GlobPattern}
 use Rattle.bq_label.specs.Paths.{is_slash, is_segment}
 use Rattle.bq_glob.specs.Matching.{is_any_segments}
 

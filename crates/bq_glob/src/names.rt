@@ -7,8 +7,8 @@ ghost use Rattle.bq_glob.specs.Names.{directory, is_before, is_beneath, is_owned
 ghost use Rattle.bq_glob.specs.Matching.{matches};
 
 use crate::pattern::Pattern;
+use bq_base::Bytes;
 use bq_label::{File, PackageId, Packages, Workspace};
-use bq_source::Bytes;
 use std::alloc::{AllocError, Global};
 
 /// What precedes the names of a package's files: `external/NAME/` outside the main repository, then the package's path and a

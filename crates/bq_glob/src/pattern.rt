@@ -2,8 +2,8 @@
 
 ghost use Rattle.std.specs.Prelude.{◌≡◌, IfOk};
 ghost use Rattle.std.specs.List.{list_all, slice_split};
-ghost use Rattle.bq_source.specs.Gives.{Gives};
-ghost use Rattle.bq_source.specs.declared.fault.SourceErr.TheVariants.{Bad};
+ghost use Rattle.bq_base.specs.Gives.{Gives};
+ghost use Rattle.bq_base.specs.declared.fault.SourceErr.TheVariants.{Bad};
 ghost use Rattle.bq_label.specs.Paths.{is_slash, is_segment};
 ghost use Rattle.bq_glob.specs.Matching.{matches, is_any_segments, fits_segment, segments_from};
 ghost use Rattle.bq_glob.specs.Step.{StepIs};
@@ -11,8 +11,8 @@ ghost use Rattle.bq_glob.specs.Pattern.{has_two_stars, is_pattern, is_pattern_se
 
 use crate::segment::{fits_segment, segment_at};
 use crate::step::{Retry, Step};
+use bq_base::{Bytes, Fault, FaultKind, SourceErr};
 use bq_label::is_segment;
-use bq_source::{Bytes, Fault, FaultKind, SourceErr};
 use std::alloc::Global;
 use std::marker::Model;
 

@@ -1,6 +1,6 @@
 //! The trees of statements.
 
-use bq_source::Bytes;
+use bq_base::Bytes;
 use sqlite_items::{Boxed, Items};
 
 /// Which file the statements stand in.

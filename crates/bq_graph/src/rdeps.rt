@@ -10,7 +10,12 @@ use std::alloc::{AllocError, Global};
 
 /// `rdeps(u, x)`: the starts of the paths that end in `x`, all of whose targets are in `deps(u)`. The targets of `x` that are not in `deps(u)` are
 /// left out.
-pub fn rdeps(alloc: Global, graph: &DependencyGraph, u: &[bool], x: &[bool]) -> Result<Vec<bool>, AllocError>
+pub fn rdeps(
+    alloc: Global,
+    graph: &DependencyGraph,
+    u: &[bool],
+    x: &[bool],
+) -> Result<Vec<bool>, AllocError>
     requires u { length u.now ≡ length graph.now }
     requires x { length x.now ≡ length graph.now }
     ensures { IfOk result (λ r. IsSet (length graph.now) r.items (Rdeps graph.now (Marked u.now) (Marked x.now))) }

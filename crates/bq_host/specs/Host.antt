@@ -1,6 +1,6 @@
 -- What a host makes of calls: of those of its own functions, and of those of rules that .bzl files declare.
 use Rattle.std.specs.Prelude.{ℕ, List, Bool, Result}
-use Rattle.bq_source.specs.declared.fault.FaultKind.{FaultKind}
+use Rattle.bq_base.specs.declared.fault.FaultKind.{FaultKind}
 use Rattle.bq_rule_class.specs.Class.{Class}
 use Rattle.bq_rule_class.specs.declared.value.AttributeValue.{AttributeValue}
 use Rattle.bq_value.specs.Datum.{Datum}

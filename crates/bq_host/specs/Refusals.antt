@@ -1,9 +1,9 @@
 -- What a host may refuse a call for (Bazel, Build Encyclopedia, "Functions"): a fault of evaluation, one of the calls of build
 -- functions, or a name of the own package whose file lies in another one.
 use Rattle.std.specs.Prelude.{◌≡◌, Bool, true, ◌&&◌, ◌||◌, nat_le, Result, Ok, Err}
-use Rattle.bq_source.specs.Fault.{fault_number}
-use Rattle.bq_source.specs.declared.fault.FaultKind.{FaultKind}
-use Rattle.bq_source.specs.declared.fault.FaultKind.TheVariants as f
+use Rattle.bq_base.specs.Fault.{fault_number}
+use Rattle.bq_base.specs.declared.fault.FaultKind.{FaultKind}
+use Rattle.bq_base.specs.declared.fault.FaultKind.TheVariants as f
 use Rattle.bq_value.specs.declared.error.EvalErr.{EvalErr}
 use Rattle.bq_value.specs.declared.error.EvalErr.TheVariants.{Bad}
 

@@ -6,10 +6,10 @@ ghost use Rattle.bq_scope.specs.Names.{with_each, with_name};
 ghost use Rattle.bq_host.specs.BuiltIns.{host_name, function_of, predeclared_value, function_named};
 
 use crate::found::found;
+use bq_base::Bytes;
 use bq_grammar::FileKind;
 use bq_predeclared::Predeclared;
 use bq_scope::{Names, Universe};
-use bq_source::Bytes;
 use bq_value::Value;
 use sqlite_items::Items;
 use std::alloc::{AllocError, Global};

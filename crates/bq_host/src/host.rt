@@ -1,15 +1,15 @@
 //! What carries out build functions and rules.
 
 ghost use Rattle.std.specs.Prelude.{◌≡◌};
-ghost use Rattle.bq_source.specs.Gives.{Gives};
+ghost use Rattle.bq_base.specs.Gives.{Gives};
 ghost use Rattle.bq_value.specs.declared.error.EvalErr.TheVariants.{Bad};
 ghost use Rattle.bq_machine.specs.Action.{HostDoes};
 ghost use Rattle.bq_host.specs.Refusals.{Refuses, KeepsIfRefused};
 ghost use Rattle.bq_host.specs.Host.{HostCalls};
 
+use bq_base::Bytes;
 use bq_machine::{Args, Machine};
 use bq_rule_class::{AttributeValue, RuleClass};
-use bq_source::Bytes;
 use bq_typed::Written;
 use bq_value::{EvalErr, Value};
 use std::alloc::Global;

@@ -1,6 +1,6 @@
 -- What an answer in place of a label says: there was one, or none.
 use Rattle.std.proofs.Common.{◌≡◌, Option, Some, None, Ok, Err, refl, arith}
-use Rattle.bq_source.specs.declared.fault.Fault.{Fault}
+use Rattle.bq_base.specs.declared.fault.Fault.{Fault}
 use Rattle.bq_label.specs.Label.{LabelParts}
 use Rattle.bq_label.specs.Reading.{or_bad_label}
 

@@ -1,9 +1,9 @@
 -- How a label's text is read: a function that gives what the forms of `Label.antt` say (the law `forms_of_a_label`).
 use Rattle.std.specs.Prelude.{ℕ, ◌==◌, ◌&&◌, Bool, false, List, [], ◌∷◌, Option, Some, None, Result, Ok, Err, drop, if◌then◌else◌, option_and_then}
 use Rattle.std.specs.Option.{option_map}
-use Rattle.bq_source.specs.Fault.{fault_at}
-use Rattle.bq_source.specs.declared.fault.Fault.{Fault}
-use Rattle.bq_source.specs.declared.fault.FaultKind.TheVariants.{BadLabel}
+use Rattle.bq_base.specs.Fault.{fault_at}
+use Rattle.bq_base.specs.declared.fault.Fault.{Fault}
+use Rattle.bq_base.specs.declared.fault.FaultKind.TheVariants.{BadLabel}
 use Rattle.bq_label.specs.Paths.{is_path, is_package, is_repository}
 use Rattle.bq_label.specs.Label.{PackageParts, LabelParts, label_at, label_in, last_segment, at_sign}
 

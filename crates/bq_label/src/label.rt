@@ -3,7 +3,7 @@
 ghost use Rattle.std.specs.Prelude.{◌≡◌, IfOk, true};
 
 use crate::package_id::PackageId;
-use bq_source::Bytes;
+use bq_base::Bytes;
 use std::alloc::{AllocError, Global};
 use std::marker::Model;
 

@@ -16,7 +16,7 @@ use crate::path::is_path;
 use crate::repository::split_repository;
 use crate::split::{directory_of, last_segment};
 use crate::workspace::{File, Workspace};
-use bq_source::Bytes;
+use bq_base::Bytes;
 use std::alloc::{AllocError, Global};
 use std::cmp::Ordering;
 use std::marker::Model;

@@ -1,10 +1,10 @@
 //! How a label is read.
 
 ghost use Rattle.std.specs.Prelude.{◌≡◌, option_and_then};
-ghost use Rattle.bq_source.specs.Fault.{fault_at};
-ghost use Rattle.bq_source.specs.Gives.{Gives};
-ghost use Rattle.bq_source.specs.declared.fault.FaultKind.TheVariants.{BadLabel};
-ghost use Rattle.bq_source.specs.declared.fault.SourceErr.TheVariants.{Bad};
+ghost use Rattle.bq_base.specs.Fault.{fault_at};
+ghost use Rattle.bq_base.specs.Gives.{Gives};
+ghost use Rattle.bq_base.specs.declared.fault.FaultKind.TheVariants.{BadLabel};
+ghost use Rattle.bq_base.specs.declared.fault.SourceErr.TheVariants.{Bad};
 ghost use Rattle.bq_label.specs.Label.{label_at, label_in};
 ghost use Rattle.bq_label.specs.Reading.{or_bad_label, label_of, valid_label, absolute_label, external_label};
 
@@ -12,7 +12,7 @@ use crate::label::Label;
 use crate::package_id::PackageId;
 use crate::path::is_path;
 use crate::split::{last_segment, split_once};
-use bq_source::{Bytes, Fault, FaultKind, SourceErr};
+use bq_base::{Bytes, Fault, FaultKind, SourceErr};
 use std::alloc::Global;
 
 fn bad_label() -> SourceErr

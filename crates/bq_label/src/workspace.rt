@@ -9,7 +9,7 @@ ghost use Rattle.std.specs.Option.{option_copied};
 ghost use Rattle.std.specs.Bool.{OnTrue};
 
 use crate::path::is_path;
-use bq_source::Bytes;
+use bq_base::Bytes;
 use std::alloc::AllocError;
 use std::marker::Model;
 use thiserror::Error;

@@ -3,7 +3,7 @@ use Rattle.std.proofs.Common.{◌≡◌, ℕ, List, Result, Ok, refl, subst}
 use Rattle.std.specs.List.{AllByRecursion}
 use Rattle.bq_source.specs.declared.token.TokenKind.TheVariants as k
 use Rattle.bq_source.specs.declared.token.Token.{Token}
-use Rattle.bq_source.specs.declared.fault.Fault.{Fault}
+use Rattle.bq_base.specs.declared.fault.Fault.{Fault}
 use Rattle.bq_source.specs.Lexis.{word_kind}
 use Rattle.bq_source.specs.Operators.{operator}
 use Rattle.bq_source.specs.StringLiteral.{opening}

@@ -2,7 +2,7 @@
 -- describe one only.
 use Rattle.std.proofs.Common.{ℕ, ◌≤◌, inl, inr, List, length, Result, Ok, Err, subst, arith}
 use Rattle.bq_source.specs.declared.token.Token.{Token}
-use Rattle.bq_source.specs.declared.fault.Fault.{Fault}
+use Rattle.bq_base.specs.declared.fault.Fault.{Fault}
 use Rattle.bq_source.specs.Reading.{Lexes, too_long as past_limit, cut, max_file_bytes}
 use Rattle.bq_source.specs.Tokens.{tokens_of}
 use Rattle.bq_source.specs.Layout.{Reads, IsFaulty}

@@ -3,8 +3,8 @@ use Rattle.std.proofs.Common.{◌≡◌, ℕ, ◌+◌, List, [], ◌∷◌, ◌+
 use Rattle.std.specs.Prelude.{is_some}
 use Rattle.std.proofs.lemmas.List.{take_at, drop_at}
 use Rattle.bq_source.specs.declared.string_literal.Quoting.{Quoting}
-use Rattle.bq_source.specs.declared.fault.FaultKind.{FaultKind}
-use Rattle.bq_source.specs.declared.fault.FaultKind.TheVariants as f
+use Rattle.bq_base.specs.declared.fault.FaultKind.{FaultKind}
+use Rattle.bq_base.specs.declared.fault.FaultKind.TheVariants as f
 use Rattle.bq_source.specs.Lexis.{newlines}
 use Rattle.bq_source.specs.StringLiteral.{opening, opening_len, quotes_len, BodyItem, spelling, bad_escape, scan_string, prefix, prefix_by, quotes, quotes_by, IsLiteral, IsOpenLiteral, literal_of, AllStand}
 use Rattle.bq_source.specs.Spelling.{IsMisspelled, bad_byte, bad_int, open_string, bad_escape as escape_fault}

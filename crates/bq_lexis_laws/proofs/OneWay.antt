@@ -10,10 +10,10 @@ use Rattle.bq_source.specs.declared.operators.Lexeme.TheVariants.{Closes}
 use Rattle.bq_source.specs.declared.piece.Extent.{Extent}
 use Rattle.bq_source.specs.declared.piece.Piece.{Piece}
 use Rattle.bq_source.specs.declared.piece.Piece.TheVariants.{Gap, LineEnd, Lexed, Bad}
-use Rattle.bq_source.specs.declared.fault.Fault.{Fault}
-use Rattle.bq_source.specs.declared.fault.FaultKind.{FaultKind}
-use Rattle.bq_source.specs.declared.fault.FaultKind.TheVariants as f
-use Rattle.bq_source.specs.Fault.{fault_at}
+use Rattle.bq_base.specs.declared.fault.Fault.{Fault}
+use Rattle.bq_base.specs.declared.fault.FaultKind.{FaultKind}
+use Rattle.bq_base.specs.declared.fault.FaultKind.TheVariants as f
+use Rattle.bq_base.specs.Fault.{fault_at}
 use Rattle.bq_source.specs.Operators.{kind_of}
 use Rattle.bq_source.specs.Spelling.{IsSpelled, IsNoGap, spelled, misspelled}
 use Rattle.bq_source.specs.Layout as layout

@@ -15,15 +15,15 @@ use Rattle.bq_source.specs.declared.piece.Piece.{Piece}
 use Rattle.bq_source.specs.declared.piece.Piece.TheVariants.{Gap, LineEnd, Lexed, Bad}
 use Rattle.bq_source.specs.declared.string_literal.StringLiteral.{StringLiteral}
 use Rattle.bq_source.specs.declared.token.TokenKind.TheVariants as k
-use Rattle.bq_source.specs.declared.fault.FaultKind.{FaultKind}
-use Rattle.bq_source.specs.declared.fault.FaultKind.TheVariants as f
+use Rattle.bq_base.specs.declared.fault.FaultKind.{FaultKind}
+use Rattle.bq_base.specs.declared.fault.FaultKind.TheVariants as f
 use Rattle.bq_source.specs.Lexis.{has, is_blank, is_letter, is_word, is_digit, newlines, newline_len, comment_len, word_kind}
 use Rattle.bq_source.specs.Operators.{operators, first_spelled, operator as operator_at}
 use Rattle.bq_source.specs.Number.{begins_number, begins_decimal, number_len, is_number_byte, int_value}
 use Rattle.bq_source.specs.StringLiteral.{opening, is_quote, begins_string, scan_string}
 use Rattle.bq_source.specs.Piece.{word as word_piece, number as number_piece, string as string_piece, string_by, escapes_by, mark, mark_by, joined, piece_by, next_piece}
 use Rattle.bq_source.specs.Spelling.{BeginsNot, IsRun, IsLineEnd, lf, cr_lf, BeginsLineEnd, IsLineRest, at_end, at_line_end, further, IsGap, blank, comment, joint, IsWord, IsNumber, IsListed, NoneLonger, NoneBegins, IsOperator, IsSpelled, word, number, string, operator, BeginsNothing, IsMisspelled, bad_byte, bad_int, open_string, bad_escape}
-use Rattle.bq_source.proofs.Choices.{by_bool, left_of, right_of}
+use Rattle.bq_base.proofs.Choices.{by_bool, left_of, right_of}
 use Rattle.bq_source.proofs.Items.{not_opened}
 use Rattle.bq_source.proofs.Spelled.{EndMeans, end_means, no_newlines, comment_line, false_not_true, IsFirst, first_operator}
 

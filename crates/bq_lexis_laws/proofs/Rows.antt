@@ -5,7 +5,7 @@ use Rattle.std.specs.Map.{lookup}
 use Rattle.std.specs.Str.{bytes_eq}
 use Rattle.std.proofs.lemmas.Bool.{eqb-true}
 use Rattle.std.proofs.lemmas.Slice.Eq.{bytes_eq-Decides}
-use Rattle.bq_source.proofs.Choices.{by_bool}
+use Rattle.bq_base.proofs.Choices.{by_bool}
 use Rattle.bq_source.proofs.Spelled.{false_not_true}
 use Rattle.bq_lexis_laws.specs.Tables.{IsRow, IsIn}
 

@@ -6,7 +6,7 @@ use Rattle.std.proofs.lemmas.Bool.{eqb-true, leb-true}
 use borrow.Author.Tests.{ltb-true, ltb-false}
 use Rattle.bq_source.specs.Lexis.{is_letter, is_digit}
 use Rattle.bq_source.specs.Number.{begins_number, begins_decimal, is_number_byte}
-use Rattle.bq_source.proofs.Choices.{by_bool, left_of, right_of}
+use Rattle.bq_base.proofs.Choices.{by_bool, left_of, right_of}
 use Rattle.bq_lexis_laws.specs.Tables.{IsIn, letters, digits, BeginsNumber, digit, dot}
 use Rattle.bq_lexis_laws.proofs.Rows.{is_in, in_is, numbers_alike, number_same}
 

@@ -3,7 +3,7 @@
 ghost use Rattle.std.specs.Prelude.{◌≡◌, List, Ok, Err, ℕ, Result};
 ghost use Rattle.bq_source.specs.Reading.{Lexes};
 ghost use Rattle.bq_source.specs.Layout.{Reads, IsFaulty};
-ghost use Rattle.bq_source.specs.declared.fault.Fault.{Fault};
+ghost use Rattle.bq_base.specs.declared.fault.Fault.{Fault};
 ghost use Rattle.bq_source.specs.declared.token.Token.{Token};
 ghost use Rattle.bq_lexis_laws.specs.InWords.{InWords};
 

@@ -8,7 +8,7 @@ ghost use Rattle.bq_source.specs.Operators.{operators, kind_of};
 ghost use Rattle.bq_source.specs.Spelling.{IsListed};
 ghost use Rattle.bq_source.specs.Number.{begins_number, is_number_byte, max_int};
 ghost use Rattle.bq_source.specs.StringLiteral.{scan_string, string_value};
-ghost use Rattle.bq_source.specs.Fault.{fault_number, fault_name};
+ghost use Rattle.bq_base.specs.Fault.{fault_number, fault_name};
 ghost use Rattle.bq_source.specs.declared.operators.Lexeme.{Lexeme};
 ghost use Rattle.bq_source.specs.declared.token.TokenKind.{TokenKind};
 ghost use Rattle.bq_source.specs.declared.token.TokenKind.TheVariants as k;

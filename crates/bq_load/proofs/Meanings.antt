@@ -1,7 +1,7 @@
 -- What a module evaluates to, by its source, its code and what it gets of the modules that it loads.
 use Rattle.std.proofs.Common.{◌≡◌, ◌∙◌, ℕ, List, [], None, Some, Result, Ok, Err, ap}
 use Rattle.std.specs.Prelude.{slice_get}
-use Rattle.bq_source.specs.declared.fault.Fault.{Fault}
+use Rattle.bq_base.specs.declared.fault.Fault.{Fault}
 use Rattle.bq_scope.specs.declared.code.Resolved.{Resolved}
 use Rattle.bq_value.specs.Datum.{Datum}
 use Rattle.bq_load.specs.declared.source.Source.{Source}

@@ -9,8 +9,8 @@ ghost use Rattle.bq_load.specs.Evaluation.{or_no_file, file_means, by_code, mean
 use crate::loading::Loading;
 use crate::outcome::{FailedModule, LoadedModule};
 use crate::source::{Source, share_fault};
+use bq_base::{Fault, FaultKind, SourceErr};
 use bq_load_order::{Evaluate, Watch};
-use bq_source::{Fault, FaultKind, SourceErr};
 use std::alloc::{AllocError, Global};
 use std::sync::Arc;
 

@@ -2,8 +2,8 @@
 
 ghost use Rattle.std.specs.Prelude.{◌≡◌, option_and_then, option_map, slice_get};
 ghost use Rattle.std.specs.Option.{option_copied, ForSome};
-ghost use Rattle.bq_source.specs.Gives.{Gives};
-ghost use Rattle.bq_source.specs.declared.fault.SourceErr.TheVariants.{Bad};
+ghost use Rattle.bq_base.specs.Gives.{Gives};
+ghost use Rattle.bq_base.specs.declared.fault.SourceErr.TheVariants.{Bad};
 ghost use Rattle.bq_value.specs.declared.error.EvalErr.TheVariants.{Bad as BadKind};
 ghost use Rattle.bq_load.specs.Views.{module_view};
 ghost use Rattle.bq_load.specs.Places.{HasPlaces};
@@ -11,8 +11,8 @@ ghost use Rattle.bq_load.specs.Imports.{value_named, globals_by, names_by, globa
 
 use crate::outcome::LoadedModule;
 use crate::places::{NamePlaces, place_of};
+use bq_base::{Bytes, Fault, FaultKind, SourceErr};
 use bq_scope::{LoadedSymbol, Resolved};
-use bq_source::{Bytes, Fault, FaultKind, SourceErr};
 use bq_value::{EvalErr, Value};
 
 /// The value in the place in which its name is.

@@ -2,8 +2,8 @@
 
 ghost use Rattle.std.specs.Prelude.{◌≡◌, [], IfOk, IfSome, option_map, slice_get};
 ghost use Rattle.std.specs.Option.{option_copied};
-ghost use Rattle.bq_source.specs.Gives.{Gives};
-ghost use Rattle.bq_source.specs.declared.fault.SourceErr.TheVariants.{Bad};
+ghost use Rattle.bq_base.specs.Gives.{Gives};
+ghost use Rattle.bq_base.specs.declared.fault.SourceErr.TheVariants.{Bad};
 ghost use Rattle.bq_front.specs.Code.{items};
 ghost use Rattle.bq_load.specs.Views.{module_view, module_views};
 ghost use Rattle.bq_load.specs.Places.{HasPlaces, AllPlaced};
@@ -12,10 +12,10 @@ ghost use Rattle.bq_load.specs.Imports.{loaded_of, module_named, names_in, names
 use crate::exports::{Exports, globals_of};
 use crate::outcome::LoadedModule;
 use crate::places::{NamePlaces, places_at, places_by_name};
+use bq_base::SourceErr;
 use bq_label::Label;
 use bq_label_set::LabelSet;
 use bq_scope::{LoadStmt, Resolved};
-use bq_source::SourceErr;
 use bq_value::Value;
 use std::alloc::{AllocError, Global};
 use std::sync::Arc;

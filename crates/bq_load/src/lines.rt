@@ -8,9 +8,9 @@ ghost use Rattle.bq_load.specs.Loaded.{line_of, lines_of, fault_lines, print_lin
 
 use crate::outcome::{FailedModule, ModuleOutcome};
 use crate::results::shown;
+use bq_base::Bytes;
 use bq_fault_line::{FaultLine, FaultLines};
 use bq_label::Label;
-use bq_source::Bytes;
 use std::alloc::{AllocError, Global};
 
 /// The line of a module that failed.

@@ -1,7 +1,7 @@
 //! A module that was evaluated, and one that failed.
 
+use bq_base::{Bytes, Fault};
 use bq_label::Label;
-use bq_source::{Bytes, Fault};
 use bq_target::Package;
 use bq_value::Frozen;
 use std::alloc::Global;

@@ -14,12 +14,12 @@ ghost use Rattle.bq_load.specs.Results.{line_of_load, line_by, load_fault, resul
 use crate::loading::Loading;
 use crate::outcome::{FailedModule, LoadedModule, ModuleOutcome};
 use crate::source::{Source, share_fault};
+use bq_base::{Bytes, Fault, FaultKind};
 use bq_board::Graph;
 use bq_label::{Label, print_label};
 use bq_load_order::SharedOutcome;
 use bq_outcome::Outcome;
 use bq_scope::{LoadStmt, Resolved};
-use bq_source::{Bytes, Fault, FaultKind};
 use std::alloc::{AllocError, Global};
 use std::sync::Arc;
 

@@ -3,11 +3,11 @@
 ghost use Rattle.std.specs.Prelude.{◌≡◌, ◌++◌, ◌∷◌, [], map, IfOk, OnOk};
 ghost use Rattle.bq_load.specs.Sources.{source_by, code_by, source_of, code_of};
 
+use bq_base::Fault;
 use bq_discover::Module;
 use bq_front::Front;
 use bq_label::Label;
 use bq_scope::Resolved;
-use bq_source::Fault;
 use sqlite_items::Items;
 use std::alloc::{AllocError, Global};
 

@@ -1,6 +1,6 @@
 -- A file with a fault loads nothing.
 use Rattle.std.proofs.Common.{◌≡◌, ◌∙◌, ap, refl, ℕ, zero, suc, List, [], ◌∷◌, map, slice_get, Some, Err}
-use Rattle.bq_source.specs.declared.fault.Fault.{Fault}
+use Rattle.bq_base.specs.declared.fault.Fault.{Fault}
 use Rattle.bq_label.specs.Label.{LabelParts}
 use Rattle.bq_label_set.specs.Labels.{with_labels}
 use Rattle.bq_front.specs.Front.{front_of, loads_by, loads_of}

@@ -1,7 +1,7 @@
 -- In which order a load is refused for the file that it names (ours: the order).
 use Rattle.std.specs.Prelude.{ℕ, not, List, [], ◌∷◌, Option, Some, None, Result, Ok, Err, is_some}
-use Rattle.bq_source.specs.declared.fault.Fault.{Fault}
-use Rattle.bq_source.specs.declared.fault.FaultKind.TheVariants.{BadLoadLabel, NoSuchFile, NoPackage, CrossesPackage}
+use Rattle.bq_base.specs.declared.fault.Fault.{Fault}
+use Rattle.bq_base.specs.declared.fault.FaultKind.TheVariants.{BadLoadLabel, NoSuchFile, NoPackage, CrossesPackage}
 use Rattle.bq_label.specs.declared.workspace.File.{File}
 use Rattle.bq_label.specs.declared.packages.BuildFile.{BuildFile}
 use Rattle.bq_label.specs.Label.{LabelParts, PackageParts, package_of}

@@ -1,7 +1,7 @@
 //! What holds of loads. The functions do nothing: their contracts are the laws.
 
 ghost use Rattle.std.specs.Prelude.{◌≡◌, ℕ, List, [], Some, Err, slice_get};
-ghost use Rattle.bq_source.specs.declared.fault.Fault.{Fault};
+ghost use Rattle.bq_base.specs.declared.fault.Fault.{Fault};
 ghost use Rattle.bq_label.specs.declared.workspace.File.{File};
 ghost use Rattle.bq_label.specs.declared.packages.BuildFile.{BuildFile};
 ghost use Rattle.bq_label.specs.Label.{LabelParts, PackageParts};

@@ -2,14 +2,14 @@
 
 ghost use Rattle.std.specs.Prelude.{◌≡◌, IfOk, codes};
 ghost use Rattle.std.specs.List.{starts_with, ends_with};
-ghost use Rattle.bq_source.specs.Gives.{Gives};
+ghost use Rattle.bq_base.specs.Gives.{Gives};
 ghost use Rattle.bq_label.specs.Label.{full_form};
-ghost use Rattle.bq_source.specs.declared.fault.SourceErr.TheVariants.{Bad};
+ghost use Rattle.bq_base.specs.declared.fault.SourceErr.TheVariants.{Bad};
 ghost use Rattle.bq_load_label.specs.NamedFile.{bzl_label, has_load_form, fault_of_file, unless_fault, load_label};
 
 use crate::crossing::crosses;
+use bq_base::{Bytes, Fault, FaultKind, SourceErr};
 use bq_label::{Label, PackageId, Packages, Workspace, label_file, print_label, read_label};
-use bq_source::{Bytes, Fault, FaultKind, SourceErr};
 use std::alloc::{AllocError, Global};
 
 /// Whether the text may be the label of a load: it begins with `//`, `@` or `:`.

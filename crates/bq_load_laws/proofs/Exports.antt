@@ -4,9 +4,9 @@ use Rattle.std.specs.Prelude.{bytes_eq, slice_get}
 use Rattle.std.specs.List.{AllByRecursion}
 use Rattle.std.proofs.lemmas.Bool.{false≢true}
 use Rattle.std.proofs.lemmas.Slice.Eq.{bytes_eq-Decides}
-use Rattle.bq_source.specs.declared.fault.FaultKind.{FaultKind}
-use Rattle.bq_source.specs.declared.fault.FaultKind.TheVariants.{NoSymbol, PrivateSymbol}
-use Rattle.bq_source.proofs.Choices.{by_bool}
+use Rattle.bq_base.specs.declared.fault.FaultKind.{FaultKind}
+use Rattle.bq_base.specs.declared.fault.FaultKind.TheVariants.{NoSymbol, PrivateSymbol}
+use Rattle.bq_base.proofs.Choices.{by_bool}
 use Rattle.bq_scope.specs.Names.{Name}
 use Rattle.bq_scope.specs.declared.code.Resolved.{Resolved}
 use Rattle.bq_value.specs.Datum.{Datum}

@@ -1,6 +1,6 @@
 -- In which order a module fails (Bazel, "BUILD files" on load statements; ours: the order).
 use Rattle.std.specs.Prelude.{ℕ, not, List, [], ◌∷◌, Option, Some, None, Result, Ok, Err, is_some}
-use Rattle.bq_source.specs.declared.fault.FaultKind.TheVariants.{NoSymbol, PrivateSymbol, CycleReached, LoadDepth, LoadFailed}
+use Rattle.bq_base.specs.declared.fault.FaultKind.TheVariants.{NoSymbol, PrivateSymbol, CycleReached, LoadDepth, LoadFailed}
 use Rattle.bq_scope.specs.Names.{Name}
 use Rattle.bq_scope.specs.declared.code.Resolved.{Resolved}
 use Rattle.bq_board.specs.Graph.{Loads, row}

@@ -1,7 +1,7 @@
 //! What holds of modules that are loaded. The functions do nothing: their contracts are the laws.
 
 ghost use Rattle.std.specs.Prelude.{◌≡◌, ℕ, List, Option, Some, slice_get};
-ghost use Rattle.bq_source.specs.declared.fault.FaultKind.{FaultKind};
+ghost use Rattle.bq_base.specs.declared.fault.FaultKind.{FaultKind};
 ghost use Rattle.bq_board.specs.Graph.{Loads};
 ghost use Rattle.bq_label.specs.Label.{full_form};
 ghost use Rattle.bq_outcome.specs.Outcome.{outcome};

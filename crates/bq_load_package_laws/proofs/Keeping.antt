@@ -1,7 +1,7 @@
 -- What a host keeps has a property after all that a program does, if it has it before, and each call of the host leaves it.
 use Rattle.std.proofs.Common.{ℕ, Bool, true, false, List, Option, Some, None}
 use Rattle.std.specs.Prelude.{if◌then◌else◌}
-use Rattle.bq_source.specs.declared.fault.FaultKind.TheVariants.{WrongType, BadValue, NotInPackage}
+use Rattle.bq_base.specs.declared.fault.FaultKind.TheVariants.{WrongType, BadValue, NotInPackage}
 use Rattle.bq_predeclared.specs.declared.predeclared.Predeclared.{Predeclared}
 use Rattle.bq_predeclared.specs.declared.predeclared.Predeclared.TheVariants as p
 use Rattle.bq_predeclared.specs.declared.rule_function.RuleFunction.{RuleFunction}

@@ -1,8 +1,8 @@
 -- Lists, dicts and rules as a machine has them (Starlark, "Freezing a value", "Lists", "Dictionaries").
 use Rattle.std.specs.Prelude.{ℕ, Bool, cond, ◌&&◌, List, [], ◌∷◌, ◌++◌, length, Option, Some, None, Result, Ok, Err, ◌==◌}
 use Rattle.std.specs.List.{list_any}
-use Rattle.bq_source.specs.declared.fault.FaultKind.{FaultKind}
-use Rattle.bq_source.specs.declared.fault.FaultKind.TheVariants.{WrongType, Frozen, Iterating}
+use Rattle.bq_base.specs.declared.fault.FaultKind.{FaultKind}
+use Rattle.bq_base.specs.declared.fault.FaultKind.TheVariants.{WrongType, Frozen, Iterating}
 use Rattle.bq_value.specs.Datum.{Datum, cell}
 use Rattle.bq_value.specs.Contents.{Contents, items, pairs}
 use Rattle.bq_value.specs.Cells.{StoreView, content_at, with_cells}

@@ -1,7 +1,7 @@
 -- Walks over iterables (Starlark, "Iteration protocol"): a list, a tuple, a dict by its keys, a range.
 use Rattle.std.specs.Prelude.{◌≡◌, ℕ, zero, suc, ℤ, ◌+ℤ◌, List, [], ◌∷◌, ◌++◌, map, Option, Some, None, Result, Ok, Err}
-use Rattle.bq_source.specs.declared.fault.FaultKind.{FaultKind}
-use Rattle.bq_source.specs.declared.fault.FaultKind.TheVariants.{WrongType}
+use Rattle.bq_base.specs.declared.fault.FaultKind.{FaultKind}
+use Rattle.bq_base.specs.declared.fault.FaultKind.TheVariants.{WrongType}
 use Rattle.bq_value.specs.Datum.{Datum, int, tuple, range, cell, list_of}
 use Rattle.bq_value.specs.Range.{range_count}
 use Rattle.bq_value.specs.Contents.{Contents, items, pairs, rule}

@@ -1,7 +1,7 @@
 -- What the evaluation of a module changes as it goes, and what is left of it where it stops.
 use Rattle.std.specs.Prelude.{ℕ, List, [], refl}
 use Rattle.std.specs.Coded.{Coded, code_by, coded×, coded_ℕ, coded_list}
-use Rattle.bq_source.specs.declared.fault.FaultKind.{FaultKind}
+use Rattle.bq_base.specs.declared.fault.FaultKind.{FaultKind}
 use Rattle.bq_value.specs.Cells.{StoreView, coded_store}
 use Rattle.bq_value.specs.declared.value.Cell.{Cell}
 

@@ -3,7 +3,7 @@
 ghost use Rattle.std.specs.Prelude.{◌≡◌};
 ghost use Rattle.bq_machine.specs.Args.{nothing_passed};
 
-use bq_source::Bytes;
+use bq_base::Bytes;
 use bq_value::Value;
 use std::alloc::Global;
 use std::marker::Model;

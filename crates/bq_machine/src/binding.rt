@@ -2,16 +2,16 @@
 
 ghost use Rattle.std.specs.Prelude.{◌≡◌, ◌≤◌, not, ◌||◌, nat_le, drop, IfOk, OnOk, map};
 ghost use Rattle.std.specs.List.{position_from};
-ghost use Rattle.bq_source.specs.Gives.{Gives};
+ghost use Rattle.bq_base.specs.Gives.{Gives};
 ghost use Rattle.bq_value.specs.declared.error.EvalErr.TheVariants.{Bad};
 ghost use Rattle.bq_machine.specs.Parameters.{parameter_of, signature_of, places, is_called, HasPlaces};
 ghost use Rattle.bq_machine.specs.Binding.{placed_values, placed, has_value, fill, take_keyword, take_named, take_all_named, is_complete, bind};
 
 use crate::args::Args;
 use crate::iteration::Elements;
-use crate::parameters::{SingleParameter, Signature, parameter_called, places_by_name};
+use crate::parameters::{Signature, SingleParameter, parameter_called, places_by_name};
+use bq_base::{Bytes, FaultKind};
 use bq_seed::Seed;
-use bq_source::{Bytes, FaultKind};
 use bq_value::{Dict, EvalErr, Key, Value};
 use std::alloc::{AllocError, Global};
 use std::collections::BTreeMap;

@@ -5,7 +5,7 @@ ghost use Rattle.bq_machine.specs.Action.{Does};
 ghost use Rattle.bq_machine.specs.Calls.{is_active, enter, leave};
 
 use crate::machine::Machine;
-use bq_source::FaultKind;
+use bq_base::FaultKind;
 use bq_value::EvalErr;
 
 /// The most functions that are active (F51).

@@ -8,7 +8,7 @@ ghost use Rattle.bq_machine.specs.Cells.{new_content, new_list, new_dict, conten
 ghost use Rattle.bq_machine.specs.Lending.{LendsContent};
 
 use crate::machine::Machine;
-use bq_source::FaultKind;
+use bq_base::FaultKind;
 use bq_value::{Cell, Content, Dict, EvalErr, Value};
 
 impl Machine {

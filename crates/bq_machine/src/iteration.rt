@@ -1,7 +1,7 @@
 //! Walks over iterables (Starlark, "Iteration protocol").
 
 ghost use Rattle.std.specs.Prelude.{◌≡◌, length, IfOk, map};
-ghost use Rattle.bq_source.specs.Gives.{Gives};
+ghost use Rattle.bq_base.specs.Gives.{Gives};
 ghost use Rattle.bq_value.specs.Datum.{int};
 ghost use Rattle.bq_value.specs.declared.error.EvalErr.TheVariants.{Bad};
 ghost use Rattle.bq_value.specs.Pairs.{keys};
@@ -10,7 +10,7 @@ ghost use Rattle.bq_machine.specs.Iteration.{range_integers, content_elements, e
 
 use crate::machine::Machine;
 use crate::range_walk::RangeWalk;
-use bq_source::FaultKind;
+use bq_base::FaultKind;
 use bq_value::{Body, Content, Dict, EvalErr, Node, Range, Value};
 use std::alloc::{AllocError, Global};
 use std::marker::Model;

@@ -35,4 +35,4 @@ pub use binding::{Bound, bind};
 pub use calls::MAX_ACTIVE;
 pub use iteration::{Elements, copies, keys_of};
 pub use machine::Machine;
-pub use parameters::{SingleParameter, Signature};
+pub use parameters::{Signature, SingleParameter};

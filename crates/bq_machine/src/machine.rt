@@ -5,7 +5,7 @@ ghost use Rattle.bq_machine.specs.State.{started};
 ghost use Rattle.bq_machine.specs.Action.{Does};
 ghost use Rattle.bq_machine.specs.Machine.{with_steps, step, print, fail};
 
-use bq_source::{Bytes, FaultKind};
+use bq_base::{Bytes, FaultKind};
 use bq_value::{Cell, EvalErr, Store, Value};
 use std::alloc::Global;
 use std::marker::Model;

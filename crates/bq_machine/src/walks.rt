@@ -5,7 +5,7 @@ ghost use Rattle.bq_machine.specs.Action.{Does};
 ghost use Rattle.bq_machine.specs.Machine.{looked_equal, looked_order, equal, order, text, repr, key};
 
 use crate::machine::Machine;
-use bq_source::{Bytes, FaultKind};
+use bq_base::{Bytes, FaultKind};
 use bq_value::{EvalErr, Key, Store, Value};
 use std::alloc::Global;
 use std::cmp::Ordering;

@@ -1,7 +1,7 @@
 -- What the rules of the language ask for: steps, operators, lists and dicts, walks, built-in functions. The rules hold for any meaning
 -- of these, and any state `S`.
 use Rattle.std.specs.Prelude.{ℕ, List, Bool, Result, Ok, Err}
-use Rattle.bq_source.specs.declared.fault.FaultKind.{FaultKind}
+use Rattle.bq_base.specs.declared.fault.FaultKind.{FaultKind}
 use Rattle.bq_grammar.specs.declared.tree.Comparison.{Comparison}
 use Rattle.bq_grammar.specs.declared.tree.Operator.{Operator}
 use Rattle.bq_grammar.specs.declared.tree.UnaryOperator.{UnaryOperator}

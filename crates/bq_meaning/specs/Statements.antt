@@ -1,7 +1,7 @@
 -- What a statement does (Starlark specification, "Statements"). In a function the frame holds its names, outside functions the file's
 -- globals.
 use Rattle.std.specs.Prelude.{ℕ, zero, suc, List, [], ◌∷◌, Option, Some, None, if◌then◌else◌}
-use Rattle.bq_source.specs.declared.fault.FaultKind.TheVariants as f
+use Rattle.bq_base.specs.declared.fault.FaultKind.TheVariants as f
 use Rattle.bq_scope.specs.declared.code.Code.{Code}
 use Rattle.bq_scope.specs.declared.code.CodeBranch.{CodeBranch, out-CodeBranch}
 use Rattle.bq_scope.specs.declared.code.CodeSmall.{CodeSmall}

@@ -1,7 +1,7 @@
 -- A relation that respects the rules holds of statements.
 use Rattle.std.proofs.Common.{ℕ, zero, suc, List, [], ◌∷◌, Option, Some, None, ◌≤◌, not-suc-le-zero, le_of_suc-le-suc}
 use Rattle.std.specs.List.{AllByRecursion}
-use Rattle.bq_source.specs.declared.fault.FaultKind.TheVariants as f
+use Rattle.bq_base.specs.declared.fault.FaultKind.TheVariants as f
 use Rattle.bq_scope.specs.declared.code.Code.{Code}
 use Rattle.bq_scope.specs.declared.code.CodeBranch.{CodeBranch, out-CodeBranch}
 use Rattle.bq_scope.specs.declared.code.CodeSmall.{CodeSmall}

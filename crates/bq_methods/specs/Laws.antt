@@ -3,7 +3,7 @@ use Rattle.std.specs.Prelude.{◌≡◌, ℕ, Bool, true, false, List, slice_get
 use Rattle.std.specs.List.{IsDistinct}
 use Rattle.std.specs.Map.{lookup, keys_of}
 use Rattle.std.specs.Str.{bytes_eq}
-use Rattle.bq_source.specs.declared.fault.FaultKind.{FaultKind}
+use Rattle.bq_base.specs.declared.fault.FaultKind.{FaultKind}
 use Rattle.bq_value.specs.Datum.{Datum, string, cell}
 use Rattle.bq_machine.specs.State.{State, stop_at}
 use Rattle.bq_machine.specs.Action.{Run, stopped}

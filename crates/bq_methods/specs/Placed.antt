@@ -1,7 +1,7 @@
 -- Arguments by place alone.
 use Rattle.std.specs.Prelude.{ℕ, List, [], ◌∷◌, Result, Ok, Err}
-use Rattle.bq_source.specs.declared.fault.FaultKind.{FaultKind}
-use Rattle.bq_source.specs.declared.fault.FaultKind.TheVariants.{Args}
+use Rattle.bq_base.specs.declared.fault.FaultKind.{FaultKind}
+use Rattle.bq_base.specs.declared.fault.FaultKind.TheVariants.{Args}
 use Rattle.bq_value.specs.Datum.{Datum}
 use Rattle.bq_machine.specs.Args.{Passed}
 

@@ -6,8 +6,8 @@ ghost use Rattle.bq_methods.specs.Call.{call_of_string, call_of_list, call_of_di
 use crate::dict_method::{dict_call, dict_method};
 use crate::list_method::{list_call, list_method};
 use crate::table::placed;
+use bq_base::FaultKind;
 use bq_machine::{Args, Machine};
-use bq_source::FaultKind;
 use bq_string_methods::string_method;
 use bq_value::{Body, Cell, EvalErr, Node, Value};
 use std::alloc::Global;

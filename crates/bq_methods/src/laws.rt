@@ -1,7 +1,7 @@
 //! Laws of the definitions: each is the contract of a function that does nothing.
 
 ghost use Rattle.std.specs.Prelude.{◌≡◌, ◌∷◌, ℕ, List, Some, None, false};
-ghost use Rattle.bq_source.specs.declared.fault.FaultKind.TheVariants.{Args as ArgsFault, NoMethod};
+ghost use Rattle.bq_base.specs.declared.fault.FaultKind.TheVariants.{Args as ArgsFault, NoMethod};
 ghost use Rattle.bq_value.specs.Datum.{Datum, string, cell};
 ghost use Rattle.bq_value.specs.Contents.{items, pairs, rule};
 ghost use Rattle.bq_rule_class.specs.Class.{Class};

@@ -3,12 +3,12 @@
 ghost use Rattle.std.specs.Prelude.{◌≡◌, map};
 ghost use Rattle.std.specs.Map.{lookup};
 ghost use Rattle.std.specs.Str.{bytes_eq};
-ghost use Rattle.bq_source.specs.Gives.{Gives};
+ghost use Rattle.bq_base.specs.Gives.{Gives};
 ghost use Rattle.bq_value.specs.declared.error.EvalErr.TheVariants.{Bad};
 ghost use Rattle.bq_methods.specs.Placed.{placed};
 
+use bq_base::FaultKind;
 use bq_machine::Args;
-use bq_source::FaultKind;
 use bq_value::{EvalErr, Value};
 
 /// What a name stands for; none where the table lacks it.

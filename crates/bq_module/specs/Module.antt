@@ -1,10 +1,10 @@
 -- What the evaluation of a file ends in (Starlark specification, "Module execution", "Freezing a value").
 use Rattle.std.specs.Prelude.{ℕ, ◌+◌, ◌==◌, cond, List, [], ◌∷◌, ◌++◌, fold, Option, Some, None}
-use Rattle.bq_source.specs.Fault.{fault_number}
+use Rattle.bq_base.specs.Fault.{fault_number}
 use Rattle.bq_source.specs.StringLiteral.{quoted}
-use Rattle.bq_source.specs.declared.fault.Fault.{Fault}
-use Rattle.bq_source.specs.declared.fault.FaultKind.{FaultKind}
-use Rattle.bq_source.specs.declared.fault.FaultKind.TheVariants as f
+use Rattle.bq_base.specs.declared.fault.Fault.{Fault}
+use Rattle.bq_base.specs.declared.fault.FaultKind.{FaultKind}
+use Rattle.bq_base.specs.declared.fault.FaultKind.TheVariants as f
 use Rattle.bq_scope.specs.Names.{Name}
 use Rattle.bq_scope.specs.declared.code.Resolved.{Resolved}
 use Rattle.bq_value.specs.Cells.{StoreView, FrozenView, frozen, added, brought, with_loaded}

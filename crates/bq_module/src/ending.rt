@@ -10,9 +10,9 @@ ghost use Rattle.bq_module.specs.Outcomes.{ended_of};
 
 use crate::module::ResolvedModule;
 use crate::outcome::FileOutcome;
+use bq_base::{Bytes, Fault, FaultKind};
 use bq_eval::Frame;
 use bq_machine::Machine;
-use bq_source::{Bytes, Fault, FaultKind};
 use bq_value::{Value, freeze};
 use std::alloc::{AllocError, Global};
 

@@ -1,6 +1,6 @@
 //! How the evaluation of a file ends.
 
-use bq_source::{Bytes, Fault};
+use bq_base::{Bytes, Fault};
 use bq_value::Frozen;
 
 /// The outcome for a module, with what it printed, in order.

@@ -1,6 +1,6 @@
 -- The laws of files: their steps, the frozen modules, and the rules that are declared.
 use Rattle.std.specs.Prelude.{◌≡◌, ◌≢◌, ℕ, ◌<◌, ◌≤◌, List, Option, Some}
-use Rattle.bq_source.specs.declared.fault.FaultKind.TheVariants.{StepLimit}
+use Rattle.bq_base.specs.declared.fault.FaultKind.TheVariants.{StepLimit}
 use Rattle.bq_scope.specs.Names.{Name}
 use Rattle.bq_scope.specs.declared.code.Resolved.{Resolved}
 use Rattle.bq_rule_class.specs.Class.{Class}

@@ -1,6 +1,6 @@
 -- Targets and clauses of a comprehension resolve to what means the same.
 use Rattle.std.proofs.Common.{◌≡◌, ◌≤◌, ◌+◌, ℕ, zero, suc, true, List, [], ◌∷◌, length, Option, Some, None, is_some, refl, sym, ap, ◌∙◌, subst, arith}
-use Rattle.bq_source.specs.declared.fault.FaultKind.TheVariants as f
+use Rattle.bq_base.specs.declared.fault.FaultKind.TheVariants as f
 use Rattle.bq_grammar.specs.declared.tree.Argument.TheOpen.{Clause-F, AssignTarget-F}
 use Rattle.bq_grammar.specs.declared.tree.Clause.{Clause, out-Clause}
 use Rattle.bq_grammar.specs.declared.tree.Expr.{Expr}

@@ -1,6 +1,6 @@
 -- What stands in an expression resolves to what means the same: pairs, operations, choices, arguments and suffixes.
 use Rattle.std.proofs.Common.{◌≡◌, List, [], ◌∷◌, Option, Some, None, sym, subst}
-use Rattle.bq_source.specs.declared.fault.FaultKind.TheVariants as f
+use Rattle.bq_base.specs.declared.fault.FaultKind.TheVariants as f
 use Rattle.bq_grammar.specs.declared.tree.Argument.TheOpen.{Argument-F, Suffix-F}
 use Rattle.bq_grammar.specs.declared.tree.Argument.{Argument, out-Argument}
 use Rattle.bq_grammar.specs.declared.tree.Choice.{Choice, out-Choice}

@@ -1,9 +1,9 @@
 -- The recursion along loads gives the same outcomes by names and by slots.
 use Rattle.std.proofs.Common.{◌≡◌, ◌∙◌, ℕ, ◌+◌, List, [], ◌∷◌, map, Option, Some, None, Ok, Err, slice_get, refl, sym, ap, subst, bytes_eq}
 use Rattle.std.specs.Prelude.{if◌then◌else◌}
-use Rattle.bq_source.specs.declared.fault.Fault.{Fault}
-use Rattle.bq_source.specs.declared.fault.FaultKind.{FaultKind}
-use Rattle.bq_source.specs.declared.fault.FaultKind.TheVariants as f
+use Rattle.bq_base.specs.declared.fault.Fault.{Fault}
+use Rattle.bq_base.specs.declared.fault.FaultKind.{FaultKind}
+use Rattle.bq_base.specs.declared.fault.FaultKind.TheVariants as f
 use Rattle.bq_label.specs.Label.{LabelParts, full_form}
 use Rattle.bq_label.specs.Packages.{packages_of}
 use Rattle.bq_scope.specs.declared.code.LoadStmt.{LoadStmt}

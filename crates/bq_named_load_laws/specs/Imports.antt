@@ -1,9 +1,9 @@
 -- What a file gets of the modules that it loads, by names: what bq_load says, over files as they are parsed (Bazel, "BUILD files" on load
 -- statements): the global of the symbol's name that the other file itself binds, unless its name begins with `_`.
 use Rattle.std.specs.Prelude.{ℕ, List, [], ◌∷◌, ◌++◌, Option, Some, None, Result, Ok, Err, slice_get, option_and_then, if◌then◌else◌}
-use Rattle.bq_source.specs.declared.fault.Fault.{Fault}
-use Rattle.bq_source.specs.declared.fault.FaultKind.{FaultKind}
-use Rattle.bq_source.specs.declared.fault.FaultKind.TheVariants as f
+use Rattle.bq_base.specs.declared.fault.Fault.{Fault}
+use Rattle.bq_base.specs.declared.fault.FaultKind.{FaultKind}
+use Rattle.bq_base.specs.declared.fault.FaultKind.TheVariants as f
 use Rattle.bq_label.specs.Label.{LabelParts}
 use Rattle.bq_scope.specs.Names.{Name, global_names}
 use Rattle.bq_value.specs.Datum.{Datum}

@@ -1,7 +1,7 @@
 -- Environments: the values of names where a piece of a program stands (Starlark specification, "Name binding and variables").
 use Rattle.std.specs.Prelude.{List, Bool, true, false, ◌&&◌, Option, Some, None, bytes_eq, if◌then◌else◌}
 use Rattle.std.specs.Option.{option_map}
-use Rattle.bq_source.specs.declared.fault.FaultKind.TheVariants as f
+use Rattle.bq_base.specs.declared.fault.FaultKind.TheVariants as f
 use Rattle.bq_grammar.specs.declared.tree.Argument.TheOpen.{Expr-F}
 use Rattle.bq_grammar.specs.Targets.{ExprLayer}
 use Rattle.bq_scope.specs.Names.{Name, has}

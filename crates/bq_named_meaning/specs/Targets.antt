@@ -1,7 +1,7 @@
 -- What is assigned to (Starlark specification, "Assignments"): the operands and indices of a target are evaluated first, from left to
 -- right, and then its parts are bound from left to right.
 use Rattle.std.specs.Prelude.{ℕ, zero, suc, List, [], ◌∷◌, ◌++◌, length, Option, Some, None}
-use Rattle.bq_source.specs.declared.fault.FaultKind.TheVariants as f
+use Rattle.bq_base.specs.declared.fault.FaultKind.TheVariants as f
 use Rattle.bq_grammar.specs.declared.tree.Argument.TheOpen.{AssignTarget-F}
 use Rattle.bq_grammar.specs.declared.tree.Expr.{Expr}
 use Rattle.bq_grammar.specs.declared.tree.Operator.{Operator}

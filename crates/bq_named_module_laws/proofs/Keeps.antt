@@ -1,6 +1,6 @@
 -- What walks make that keep the functions so far; and what stands between.
 use Rattle.std.proofs.Common.{◌≡◌, List, [], ◌∷◌, ◌++◌, Result, Ok, Err, refl, ap, ◌∙◌, subst}
-use Rattle.bq_source.specs.declared.fault.Fault.{Fault}
+use Rattle.bq_base.specs.declared.fault.Fault.{Fault}
 use Rattle.bq_scope.specs.Visit.{Passed, Visit, following, ◌>>=◌, each}
 use Rattle.bq_scope_laws.specs.Resolution.{InOrder}
 use Rattle.bq_scope_laws.proofs.Makes.{Making, Makes}

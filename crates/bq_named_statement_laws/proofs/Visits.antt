@@ -1,7 +1,7 @@
 -- The expressions in a statement resolve to what means the same, and no slot is given back.
 use Rattle.std.proofs.Common.{◌≡◌, ◌+◌, List, Result, Ok, Err, refl, arith}
-use Rattle.bq_source.specs.declared.fault.Fault.{Fault}
-use Rattle.bq_source.specs.declared.fault.FaultKind.TheVariants as f
+use Rattle.bq_base.specs.declared.fault.Fault.{Fault}
+use Rattle.bq_base.specs.declared.fault.FaultKind.TheVariants as f
 use Rattle.bq_grammar.specs.declared.tree.Expr.{Expr}
 use Rattle.bq_scope.specs.declared.code.Code.{Code}
 use Rattle.bq_scope.specs.Names.{max_layers, place_among}

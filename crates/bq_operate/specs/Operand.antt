@@ -1,7 +1,7 @@
 -- Operands by their types (Starlark, "Data types"); one of another type is F40.
 use Rattle.std.specs.Prelude.{ℕ, ℤ, List, Option, Some, Result, Ok, Err}
-use Rattle.bq_source.specs.declared.fault.FaultKind.{FaultKind}
-use Rattle.bq_source.specs.declared.fault.FaultKind.TheVariants.{WrongType}
+use Rattle.bq_base.specs.declared.fault.FaultKind.{FaultKind}
+use Rattle.bq_base.specs.declared.fault.FaultKind.TheVariants.{WrongType}
 use Rattle.bq_value.specs.Datum.{Datum, int, string, tuple, cell, data_of}
 use Rattle.bq_value.specs.Contents.{Contents, items, pairs}
 use Rattle.bq_value.specs.Cells.{StoreView, content_at}

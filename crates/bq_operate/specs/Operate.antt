@@ -5,7 +5,7 @@ use Rattle.bq_grammar.specs.declared.tree.Operator.{Operator}
 use Rattle.bq_grammar.specs.declared.tree.Operator.TheVariants as op
 use Rattle.bq_grammar.specs.declared.tree.UnaryOperator.{UnaryOperator}
 use Rattle.bq_grammar.specs.declared.tree.Comparison.{Comparison}
-use Rattle.bq_source.specs.declared.fault.FaultKind.{FaultKind}
+use Rattle.bq_base.specs.declared.fault.FaultKind.{FaultKind}
 use Rattle.bq_value.specs.Datum.{Datum, boolean, string, tuple, list_of}
 use Rattle.bq_value.specs.Cells.{StoreView}
 use Rattle.bq_machine.specs.State.{State}

@@ -1,7 +1,7 @@
 -- `*` (Starlark, "Arithmetic", "String repetition").
 use Rattle.std.specs.Prelude.{ℤ, List, Result}
-use Rattle.bq_source.specs.declared.fault.FaultKind.{FaultKind}
-use Rattle.bq_source.specs.declared.fault.FaultKind.TheVariants.{WrongType}
+use Rattle.bq_base.specs.declared.fault.FaultKind.{FaultKind}
+use Rattle.bq_base.specs.declared.fault.FaultKind.TheVariants.{WrongType}
 use Rattle.bq_grammar.specs.declared.tree.Operator.TheVariants as op
 use Rattle.bq_value.specs.Datum.{Datum, int, string, tuple, cell, list_of}
 use Rattle.bq_value.specs.Cells.{StoreView}

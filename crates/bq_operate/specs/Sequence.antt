@@ -1,8 +1,8 @@
 -- Lists, tuples and strings that are joined, repeated and sliced (Starlark, "String concatenation", "String repetition", "Slice
 -- expressions").
 use Rattle.std.specs.Prelude.{ℕ, zero, suc, ◌<◌, nat_le, cond, ℤ, pos, ◌≤ℤ◌, ◌<ℤ◌, List, [], ◌++◌, length, Result, Ok, Err}
-use Rattle.bq_source.specs.declared.fault.FaultKind.{FaultKind}
-use Rattle.bq_source.specs.declared.fault.FaultKind.TheVariants.{TooLong}
+use Rattle.bq_base.specs.declared.fault.FaultKind.{FaultKind}
+use Rattle.bq_base.specs.declared.fault.FaultKind.TheVariants.{TooLong}
 use Rattle.bq_value.specs.Range.{range_count, range_element}
 use Rattle.bq_operators.specs.Length.{max_len, times_of}
 

@@ -1,8 +1,8 @@
 -- Slices of strings, tuples and lists (Starlark, "Slice expressions").
 use Rattle.std.specs.Prelude.{cond, ℤ, pos, List, Option, Some, None, Result, Ok, Err}
 use Rattle.std.specs.Ordering.{int_eq}
-use Rattle.bq_source.specs.declared.fault.FaultKind.{FaultKind}
-use Rattle.bq_source.specs.declared.fault.FaultKind.TheVariants.{WrongType, BadValue}
+use Rattle.bq_base.specs.declared.fault.FaultKind.{FaultKind}
+use Rattle.bq_base.specs.declared.fault.FaultKind.TheVariants.{WrongType, BadValue}
 use Rattle.bq_value.specs.Datum.{Datum, none, int}
 use Rattle.bq_operators.specs.Slice.{slice_of}
 use Rattle.bq_operate.specs.Operand.{and_then}

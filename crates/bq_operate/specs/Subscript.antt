@@ -1,7 +1,7 @@
 -- The item at an index or a key (Starlark, "Index expressions"), and the steps that are left.
 use Rattle.std.specs.Prelude.{ℕ, ℤ, List, [], ◌∷◌, length, slice_get, Option, Some, None, Result, Ok, Err}
-use Rattle.bq_source.specs.declared.fault.FaultKind.{FaultKind}
-use Rattle.bq_source.specs.declared.fault.FaultKind.TheVariants.{WrongType, Index, NoKey}
+use Rattle.bq_base.specs.declared.fault.FaultKind.{FaultKind}
+use Rattle.bq_base.specs.declared.fault.FaultKind.TheVariants.{WrongType, Index, NoKey}
 use Rattle.bq_value.specs.Datum.{Datum, string, tuple, range, cell, list_of}
 use Rattle.bq_value.specs.Contents.{Contents, items, pairs, rule}
 use Rattle.bq_value.specs.Pairs.{found}

@@ -1,6 +1,6 @@
 -- `|` (Starlark, "Arithmetic", "Dictionaries").
 use Rattle.std.specs.Prelude.{List, [], ◌∷◌, Option, Some, None, Result}
-use Rattle.bq_source.specs.declared.fault.FaultKind.{FaultKind}
+use Rattle.bq_base.specs.declared.fault.FaultKind.{FaultKind}
 use Rattle.bq_grammar.specs.declared.tree.Operator.TheVariants as op
 use Rattle.bq_value.specs.Datum.{Datum, cell}
 use Rattle.bq_value.specs.Contents.{pairs}

@@ -1,7 +1,7 @@
 //! Comparisons of two values (Starlark, "Comparisons", "Membership tests").
 
 ghost use Rattle.std.specs.Prelude.{◌≡◌};
-ghost use Rattle.bq_source.specs.Gives.{Gives};
+ghost use Rattle.bq_base.specs.Gives.{Gives};
 ghost use Rattle.bq_value.specs.declared.error.EvalErr.TheVariants.{Bad};
 ghost use Rattle.bq_operate.specs.Comparing.{compared};
 

@@ -1,7 +1,7 @@
 //! What changes a list or dict in place (Starlark, "Augmented assignments", "Assignments").
 
 ghost use Rattle.std.specs.Prelude.{◌≡◌, ◌++◌, IfOk, OnOk};
-ghost use Rattle.bq_source.specs.Gives.{Gives};
+ghost use Rattle.bq_base.specs.Gives.{Gives};
 ghost use Rattle.bq_value.specs.declared.error.EvalErr.TheVariants.{Bad};
 ghost use Rattle.bq_machine.specs.Action.{Does};
 ghost use Rattle.bq_machine.specs.Cells.{changing};
@@ -14,10 +14,10 @@ use crate::operand::{dict_in, int_of, list_in};
 use crate::operate::binary;
 use crate::sum::sum;
 use crate::union::union;
+use bq_base::FaultKind;
 use bq_grammar::Operator;
 use bq_machine::{Elements, Machine};
 use bq_operators::{MAX_LEN, index, joined_len};
-use bq_source::FaultKind;
 use bq_value::{Body, Cell, Content, Dict, EvalErr, Key, Node, Value};
 use std::alloc::{AllocError, Global};
 

@@ -4,12 +4,12 @@ ghost use Rattle.std.specs.Prelude.{◌≡◌};
 ghost use Rattle.bq_operate.specs.Integers.{arithmetic, integers, signed};
 
 use crate::operand::int_of;
+use bq_base::FaultKind;
 use bq_grammar::{Operator, UnaryOperator};
 use bq_operators::{
     add, bit_and, bit_not, bit_or, bit_xor, floor_divide, modulo, multiply, negate, shift_left,
     shift_right, subtract,
 };
-use bq_source::FaultKind;
 use bq_value::{Store, Value};
 use bq_walk::truth;
 

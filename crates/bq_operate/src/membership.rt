@@ -1,13 +1,13 @@
 //! Whether a value is in another (Starlark, "Membership tests").
 
 ghost use Rattle.std.specs.Prelude.{◌≡◌, Some};
-ghost use Rattle.bq_source.specs.Gives.{Gives};
+ghost use Rattle.bq_base.specs.Gives.{Gives};
 ghost use Rattle.bq_value.specs.declared.error.EvalErr.TheVariants.{Bad};
 ghost use Rattle.bq_operate.specs.Membership.{in_string, in_range, in_list, in_dict, in_content, contained};
 
 use crate::walks::equal;
+use bq_base::FaultKind;
 use bq_operators::range_has;
-use bq_source::FaultKind;
 use bq_string::find;
 use bq_value::{Body, Content, Dict, EvalErr, Node, Range, Store, Value};
 use bq_walk::key_of;

@@ -1,11 +1,11 @@
 //! Operands by their types (Starlark, "Data types"): F40 for one of another type.
 
 ghost use Rattle.std.specs.Prelude.{◌≡◌};
-ghost use Rattle.bq_source.specs.Gives.{Gives};
+ghost use Rattle.bq_base.specs.Gives.{Gives};
 ghost use Rattle.bq_value.specs.declared.error.EvalErr.TheVariants.{Bad};
 ghost use Rattle.bq_operate.specs.Operand.{int_of, list_in, dict_in};
 
-use bq_source::FaultKind;
+use bq_base::FaultKind;
 use bq_value::{Body, Dict, EvalErr, Node, Store, Value};
 
 /// An integer.

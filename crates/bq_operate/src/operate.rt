@@ -2,7 +2,7 @@
 //! expressions", "Slice expressions").
 
 ghost use Rattle.std.specs.Prelude.{◌≡◌};
-ghost use Rattle.bq_source.specs.Gives.{Gives};
+ghost use Rattle.bq_base.specs.Gives.{Gives};
 ghost use Rattle.bq_value.specs.declared.error.EvalErr.TheVariants.{Bad};
 ghost use Rattle.bq_value.specs.Datum.{int};
 ghost use Rattle.bq_machine.specs.Action.{Does};

@@ -1,7 +1,7 @@
 //! `*` (Starlark, "Arithmetic", "String repetition").
 
 ghost use Rattle.std.specs.Prelude.{◌≡◌};
-ghost use Rattle.bq_source.specs.Gives.{Gives};
+ghost use Rattle.bq_base.specs.Gives.{Gives};
 ghost use Rattle.bq_value.specs.declared.error.EvalErr.TheVariants.{Bad};
 ghost use Rattle.bq_machine.specs.Action.{Does};
 ghost use Rattle.bq_operate.specs.Product.{list_product, times, int_product, product};
@@ -9,9 +9,9 @@ ghost use Rattle.bq_operate.specs.Product.{list_product, times, int_product, pro
 use crate::integers::arithmetic;
 use crate::operand::{int_of, list_in};
 use crate::sequence::{repeat_bytes, repeat_values};
+use bq_base::FaultKind;
 use bq_grammar::Operator;
 use bq_machine::Machine;
-use bq_source::FaultKind;
 use bq_value::{Content, EvalErr, Node, Store, Value};
 use std::alloc::Global;
 

@@ -2,14 +2,14 @@
 //! expressions"). How long an answer is, is known before memory is asked for (F54).
 
 ghost use Rattle.std.specs.Prelude.{◌≡◌, ◌≢◌, ◌++◌, ◌∷◌, [], OnOk, IfOk, cond, ◌==◌, pos};
-ghost use Rattle.bq_source.specs.Gives.{Gives};
+ghost use Rattle.bq_base.specs.Gives.{Gives};
 ghost use Rattle.bq_value.specs.declared.error.EvalErr.TheVariants.{Bad};
 ghost use Rattle.bq_operators.specs.Slice.{taken_by, slice_of};
 ghost use Rattle.bq_operators.specs.Length.{times_of};
 ghost use Rattle.bq_operate.specs.Sequence.{joined, copies, repeated, AreWithin};
 
+use bq_base::Bytes;
 use bq_operators::{element, joined_len, repeated_len, slice_places};
-use bq_source::Bytes;
 use bq_value::{EvalErr, Range, Value};
 use std::alloc::{AllocError, Global};
 

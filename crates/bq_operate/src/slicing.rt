@@ -1,12 +1,12 @@
 //! Slices of strings, tuples and lists (Starlark, "Slice expressions").
 
 ghost use Rattle.std.specs.Prelude.{◌≡◌, ◌≢◌, IfOk, pos};
-ghost use Rattle.bq_source.specs.Gives.{Gives};
+ghost use Rattle.bq_base.specs.Gives.{Gives};
 ghost use Rattle.bq_value.specs.declared.error.EvalErr.TheVariants.{Bad};
 ghost use Rattle.bq_operate.specs.Slicing.{bound_of, bounds_of, sliced};
 
 use crate::sequence::{slice_bytes, slice_values};
-use bq_source::{Bytes, FaultKind};
+use bq_base::{Bytes, FaultKind};
 use bq_value::{EvalErr, Node, Value};
 use std::alloc::Global;
 

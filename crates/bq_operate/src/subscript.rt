@@ -1,13 +1,13 @@
 //! The item at an index or a key (Starlark, "Index expressions").
 
 ghost use Rattle.std.specs.Prelude.{◌≡◌, Some};
-ghost use Rattle.bq_source.specs.Gives.{Gives};
+ghost use Rattle.bq_base.specs.Gives.{Gives};
 ghost use Rattle.bq_value.specs.declared.error.EvalErr.TheVariants.{Bad};
 ghost use Rattle.bq_operate.specs.Subscript.{item_in, byte_in, integer_in, value_in, content_item, item_of};
 
 use crate::operand::int_of;
+use bq_base::{Bytes, FaultKind};
 use bq_operators::{index, range_item};
-use bq_source::{Bytes, FaultKind};
 use bq_value::{Body, Content, Dict, EvalErr, Node, Range, Store, Value};
 use bq_walk::key_of;
 use std::alloc::Global;

@@ -1,7 +1,7 @@
 //! `+` (Starlark, "Arithmetic", "String concatenation").
 
 ghost use Rattle.std.specs.Prelude.{◌≡◌};
-ghost use Rattle.bq_source.specs.Gives.{Gives};
+ghost use Rattle.bq_base.specs.Gives.{Gives};
 ghost use Rattle.bq_value.specs.declared.error.EvalErr.TheVariants.{Bad};
 ghost use Rattle.bq_machine.specs.Action.{Does};
 ghost use Rattle.bq_operate.specs.Sum.{string_sum, tuple_sum, list_sum, sum};
@@ -9,9 +9,9 @@ ghost use Rattle.bq_operate.specs.Sum.{string_sum, tuple_sum, list_sum, sum};
 use crate::integers::integers;
 use crate::operand::list_in;
 use crate::sequence::{join_bytes, join_values};
+use bq_base::FaultKind;
 use bq_grammar::Operator;
 use bq_machine::Machine;
-use bq_source::FaultKind;
 use bq_value::{Content, EvalErr, Node, Store, Value};
 use std::alloc::Global;
 

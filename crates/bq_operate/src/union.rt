@@ -1,18 +1,18 @@
 //! `|` (Starlark, "Arithmetic", "Dictionaries").
 
 ghost use Rattle.std.specs.Prelude.{◌≡◌, OnOk};
-ghost use Rattle.bq_source.specs.Gives.{Gives};
+ghost use Rattle.bq_base.specs.Gives.{Gives};
 ghost use Rattle.bq_value.specs.declared.error.EvalErr.TheVariants.{Bad};
 ghost use Rattle.bq_machine.specs.Action.{Does};
 ghost use Rattle.bq_operate.specs.Union.{put_all, united, dict_union, union};
 
 use crate::integers::integers;
 use crate::operand::dict_in;
+use bq_base::FaultKind;
 use bq_grammar::Operator;
 use bq_machine::Machine;
 use bq_operators::MAX_LEN;
 use bq_seed::Seed;
-use bq_source::FaultKind;
 use bq_value::{Content, Dict, EvalErr, Node, Store, Value};
 use std::alloc::{AllocError, Global};
 

@@ -3,7 +3,7 @@
 ghost use Rattle.std.specs.Prelude.{◌≡◌};
 ghost use Rattle.bq_machine.specs.Machine.{looked_equal, looked_order};
 
-use bq_source::FaultKind;
+use bq_base::FaultKind;
 use bq_value::{Store, Value};
 use std::cmp::Ordering;
 

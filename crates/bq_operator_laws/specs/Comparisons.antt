@@ -1,6 +1,6 @@
 -- Which comparisons are opposite (Starlark, "Comparisons", "Membership tests").
 use Rattle.std.specs.Prelude.{◌≡◌, ℕ, Bool, not, Ok, Err}
-use Rattle.bq_source.specs.declared.fault.FaultKind.{FaultKind}
+use Rattle.bq_base.specs.declared.fault.FaultKind.{FaultKind}
 use Rattle.bq_grammar.specs.declared.tree.Comparison.{Comparison}
 use Rattle.bq_grammar.specs.declared.tree.Comparison.TheVariants as comparison
 use Rattle.bq_value.specs.Cells.{StoreView}

@@ -1,7 +1,7 @@
 -- Division of integers of 64 bits that rounds down (Starlark, "Arithmetic").
 use Rattle.std.specs.Prelude.{◌≡◌, ◌<◌, zero, suc, ◌-◌, ◌/◌, ◌%◌, ℤ, pos, negsuc, neg_ℤ, Result, Ok, Err}
-use Rattle.bq_source.specs.declared.fault.FaultKind.{FaultKind}
-use Rattle.bq_source.specs.declared.fault.FaultKind.TheVariants.{DivZero}
+use Rattle.bq_base.specs.declared.fault.FaultKind.{FaultKind}
+use Rattle.bq_base.specs.declared.fault.FaultKind.TheVariants.{DivZero}
 use Rattle.bq_operators.specs.Integer.{fitted}
 
 -- the quotient, rounded down; `negsuc n` is -n - 1

@@ -1,8 +1,8 @@
 -- Arithmetic of integers of 64 bits (Starlark, "Arithmetic").
 use Rattle.std.specs.Prelude.{ℕ, ◌^◌, nat_lt, Bool, cond, ℤ, pos, negsuc, Option, Result, Ok, Err, SomeIff, FitsSigned, bit_and, bit_or, bit_xor}
 use Rattle.std.specs.Int.{w64, cast_signed, cast_unsigned}
-use Rattle.bq_source.specs.declared.fault.FaultKind.{FaultKind}
-use Rattle.bq_source.specs.declared.fault.FaultKind.TheVariants.{Overflow}
+use Rattle.bq_base.specs.declared.fault.FaultKind.{FaultKind}
+use Rattle.bq_base.specs.declared.fault.FaultKind.TheVariants.{Overflow}
 
 -- from -2^63 to below 2^63
 abbrev pub fits : ℤ → Bool

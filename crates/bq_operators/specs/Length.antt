@@ -1,7 +1,7 @@
 -- How long a joined or a repeated list or string is (Starlark, "String concatenation", "String repetition").
 use Rattle.std.specs.Prelude.{ℕ, nat_le, cond, ℤ, pos, negsuc, Result, Ok, Err}
-use Rattle.bq_source.specs.declared.fault.FaultKind.{FaultKind}
-use Rattle.bq_source.specs.declared.fault.FaultKind.TheVariants.{TooLong}
+use Rattle.bq_base.specs.declared.fault.FaultKind.{FaultKind}
+use Rattle.bq_base.specs.declared.fault.FaultKind.TheVariants.{TooLong}
 
 abbrev pub max_len : ℕ
 max_len = 1048576

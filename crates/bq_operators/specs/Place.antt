@@ -1,7 +1,7 @@
 -- Places in a list of so many elements (Starlark, "Index expressions", "Slice expressions").
 use Rattle.std.specs.Prelude.{ℕ, suc, ◌-◌, nat_lt, nat_le, min, cond, ℤ, pos, negsuc, Option, Some, None, Result, Ok, Err}
-use Rattle.bq_source.specs.declared.fault.FaultKind.{FaultKind}
-use Rattle.bq_source.specs.declared.fault.FaultKind.TheVariants.{Index}
+use Rattle.bq_base.specs.declared.fault.FaultKind.{FaultKind}
+use Rattle.bq_base.specs.declared.fault.FaultKind.TheVariants.{Index}
 
 -- from the end where it is negative, the nearest place where it is past one; `negsuc k` is -k - 1
 abbrev pub clamped : ℕ → ℤ → ℕ

@@ -1,7 +1,7 @@
 -- The items of ranges (Starlark, "range"): by index, and which integers there are.
 use Rattle.std.specs.Prelude.{◌≡◌, ℕ, ◌<◌, ◌%◌, Bool, cond, false, ◌&&◌, ℤ, pos, ◌-ℤ◌, int_lt, int_le, unsigned_abs, ◌==◌, Result, Ok, Err}
 use Rattle.std.specs.Ordering.{int_eq}
-use Rattle.bq_source.specs.declared.fault.FaultKind.{FaultKind}
+use Rattle.bq_base.specs.declared.fault.FaultKind.{FaultKind}
 use Rattle.bq_value.specs.Range.{range_count, range_element}
 use Rattle.bq_operators.specs.Place.{indexed}
 

@@ -1,7 +1,7 @@
 -- Shifts of integers of 64 bits (Starlark, "Arithmetic"): products by powers of two, and quotients by them that are rounded down.
 use Rattle.std.specs.Prelude.{ℕ, ◌^◌, nat_lt, cond, ℤ, pos, negsuc, ◌*ℤ◌, Result, Ok, Err}
-use Rattle.bq_source.specs.declared.fault.FaultKind.{FaultKind}
-use Rattle.bq_source.specs.declared.fault.FaultKind.TheVariants.{BadValue}
+use Rattle.bq_base.specs.declared.fault.FaultKind.{FaultKind}
+use Rattle.bq_base.specs.declared.fault.FaultKind.TheVariants.{BadValue}
 use Rattle.bq_operators.specs.Integer.{fitted}
 use Rattle.bq_operators.specs.Division.{floor_quotient}
 

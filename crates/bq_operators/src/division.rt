@@ -4,7 +4,7 @@ ghost use Rattle.std.specs.Prelude.{◌≡◌};
 ghost use Rattle.bq_operators.specs.Division.{divided, remainder};
 
 use crate::integer::fit;
-use bq_source::FaultKind;
+use bq_base::FaultKind;
 
 /// `x // y`, which rounds down; F42 where `y` is 0.
 pub fn floor_divide(x: i64, y: i64) -> Result<i64, FaultKind>

@@ -3,7 +3,7 @@
 ghost use Rattle.std.specs.Prelude.{◌≡◌, ◌+ℤ◌, ◌-ℤ◌, ◌*ℤ◌, neg_ℤ, pos, Option, ℤ};
 ghost use Rattle.bq_operators.specs.Integer.{Fitted, fitted, both, either, one_of};
 
-use bq_source::FaultKind;
+use bq_base::FaultKind;
 
 /// The greatest integer.
 const MAX: u64 = 9_223_372_036_854_775_807;

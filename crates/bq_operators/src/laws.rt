@@ -4,7 +4,7 @@
 ghost use Rattle.std.specs.Prelude.{◌≡◌, ◌≢◌, ◌<◌, ◌≤◌, ◌+◌, ℕ, ℤ, pos, negsuc, neg_ℤ, ◌+ℤ◌, ◌*ℤ◌, ◌≤ℤ◌, ◌<ℤ◌, ◌↔◌, true, List, ◌∷◌, ◌++◌, reverse, None, Some, Ok, Err, Option, length};
 ghost use Rattle.bq_value.specs.Range.{range_count, range_element};
 ghost use Rattle.bq_operators.specs.RangeItem.{range_has, IsElement};
-ghost use Rattle.bq_source.specs.declared.fault.FaultKind.TheVariants.{Index};
+ghost use Rattle.bq_base.specs.declared.fault.FaultKind.TheVariants.{Index};
 ghost use Rattle.bq_operators.specs.Place.{clamped, indexed};
 ghost use Rattle.bq_operators.specs.Slice.{slice_start, slice_stop, slice_of, AreElements};
 ghost use Rattle.bq_operators.specs.Division.{floor_quotient, floor_rest, IsRestOf};

@@ -4,7 +4,7 @@
 ghost use Rattle.std.specs.Prelude.{◌≡◌, ◌+◌, ◌*◌};
 ghost use Rattle.bq_operators.specs.Length.{within, times_of};
 
-use bq_source::FaultKind;
+use bq_base::FaultKind;
 
 /// The most elements of a list, and bytes of a string.
 pub const MAX_LEN: usize = 1_048_576;

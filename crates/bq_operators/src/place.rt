@@ -3,7 +3,7 @@
 ghost use Rattle.std.specs.Prelude.{◌≡◌, ◌≤◌, ◌<◌, IfOk};
 ghost use Rattle.bq_operators.specs.Place.{clamped, bound, indexed};
 
-use bq_source::FaultKind;
+use bq_base::FaultKind;
 
 /// An index of a list of so many elements, or a place at its end: from the end where it is negative, and the nearest place where
 /// it is past one.

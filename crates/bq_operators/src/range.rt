@@ -7,7 +7,7 @@ ghost use Rattle.bq_operators.specs.RangeItem.{range_item, is_between, range_has
 
 use crate::integer::from_count;
 use crate::place::index;
-use bq_source::FaultKind;
+use bq_base::FaultKind;
 use bq_value::Range;
 
 /// The element of a number, from 0.

@@ -4,7 +4,7 @@ ghost use Rattle.std.specs.Prelude.{◌≡◌, ◌<◌, IfOk};
 ghost use Rattle.bq_operators.specs.Shift.{shift_count, scaled, halved, shifted_left, shifted_right};
 
 use crate::integer::multiply;
-use bq_source::FaultKind;
+use bq_base::FaultKind;
 
 /// `x << count`: F57 where the count isn't one from 0 to 63, F41 where the answer doesn't fit.
 pub fn shift_left(x: i64, count: i64) -> Result<i64, FaultKind>

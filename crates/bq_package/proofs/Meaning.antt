@@ -1,8 +1,8 @@
 -- What calls mean, one function at a time, from what is read of their arguments.
 use Rattle.std.proofs.Common.{◌≡◌, ℕ, true, List, Result, Ok, Err, refl, subst}
-use Rattle.bq_source.specs.Gives.{Gives}
-use Rattle.bq_source.specs.declared.fault.FaultKind.{FaultKind}
-use Rattle.bq_source.specs.declared.fault.FaultKind.TheVariants as f
+use Rattle.bq_base.specs.Gives.{Gives}
+use Rattle.bq_base.specs.declared.fault.FaultKind.{FaultKind}
+use Rattle.bq_base.specs.declared.fault.FaultKind.TheVariants as f
 use Rattle.bq_label.specs.Label.{LabelParts}
 use Rattle.bq_rule_class.specs.Class.{Class}
 use Rattle.bq_value.specs.Datum.{Datum, none, string}

@@ -1,8 +1,8 @@
 -- What an answer in place of a pattern says.
 use Rattle.std.proofs.Common.{◌≡◌, ℕ, Bool, true, false, cond, List, Ok, Err, refl}
-use Rattle.bq_source.specs.Fault.{fault_at}
-use Rattle.bq_source.specs.declared.fault.Fault.{Fault}
-use Rattle.bq_source.specs.declared.fault.FaultKind.TheVariants.{GlobPattern}
+use Rattle.bq_base.specs.Fault.{fault_at}
+use Rattle.bq_base.specs.declared.fault.Fault.{Fault}
+use Rattle.bq_base.specs.declared.fault.FaultKind.TheVariants.{GlobPattern}
 use Rattle.bq_glob.specs.Pattern.{is_pattern, pattern_of}
 use Rattle.bq_package.specs.Glob.{pattern}
 

@@ -1,8 +1,8 @@
 -- What the calls of build functions and of rules mean (Bazel, Build Encyclopedia, "Functions"). While no BUILD file is evaluated each of
 -- them is F70, before any other fault. A rule that a .bzl file declares and a rule of the schema declare targets by one definition.
 use Rattle.std.specs.Prelude.{ℕ, List, map, Bool, true, false, Option, Some, None, Result, Ok, Err}
-use Rattle.bq_source.specs.declared.fault.FaultKind.{FaultKind}
-use Rattle.bq_source.specs.declared.fault.FaultKind.TheVariants.{NotInPackage, DoubleTarget}
+use Rattle.bq_base.specs.declared.fault.FaultKind.{FaultKind}
+use Rattle.bq_base.specs.declared.fault.FaultKind.TheVariants.{NotInPackage, DoubleTarget}
 use Rattle.bq_label.specs.declared.packages.BuildFile.{BuildFile}
 use Rattle.bq_label.specs.Label.{PackageParts}
 use Rattle.bq_rule_class.specs.Class.{Class}

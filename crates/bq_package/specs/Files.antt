@@ -1,6 +1,6 @@
 -- Calls of `exports_files` (Bazel, Build Encyclopedia, "Functions"): F52, F73, F75, F37.
 use Rattle.std.specs.Prelude.{List, Result}
-use Rattle.bq_source.specs.declared.fault.FaultKind.{FaultKind}
+use Rattle.bq_base.specs.declared.fault.FaultKind.{FaultKind}
 use Rattle.bq_label.specs.Label.{LabelParts}
 use Rattle.bq_value.specs.Cells.{StoreView}
 use Rattle.bq_machine.specs.Args.{Passed}

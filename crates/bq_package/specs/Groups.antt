@@ -2,7 +2,7 @@
 -- groups (F78, F37), in the order in which the two are written. What `packages` has isn't read (ours: there are no checks of
 -- visibility).
 use Rattle.std.specs.Prelude.{ℕ, Bool, true, false, ◌||◌, List, [], ◌∷◌, Option, Result, Ok, codes, bytes_eq, if◌then◌else◌}
-use Rattle.bq_source.specs.declared.fault.FaultKind.{FaultKind}
+use Rattle.bq_base.specs.declared.fault.FaultKind.{FaultKind}
 use Rattle.bq_label.specs.Label.{LabelParts}
 use Rattle.bq_value.specs.Datum.{Datum}
 use Rattle.bq_value.specs.Cells.{StoreView}

@@ -1,7 +1,7 @@
 -- Calls of rules: of the schema's, by their numbers, and of those that .bzl files declare.
 use Rattle.std.specs.Prelude.{ℕ, List, Option, Some, None, Result, Err, slice_get}
-use Rattle.bq_source.specs.declared.fault.FaultKind.{FaultKind}
-use Rattle.bq_source.specs.declared.fault.FaultKind.TheVariants.{NotInPackage}
+use Rattle.bq_base.specs.declared.fault.FaultKind.{FaultKind}
+use Rattle.bq_base.specs.declared.fault.FaultKind.TheVariants.{NotInPackage}
 use Rattle.bq_rule_class.specs.Class.{Class}
 use Rattle.bq_value.specs.Cells.{StoreView}
 use Rattle.bq_machine.specs.Args.{Passed}

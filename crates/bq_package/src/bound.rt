@@ -1,12 +1,12 @@
 //! What is read of the arguments that the parameters of a build function take.
 
 ghost use Rattle.std.specs.Prelude.{◌≡◌};
-ghost use Rattle.bq_source.specs.Gives.{Gives};
+ghost use Rattle.bq_base.specs.Gives.{Gives};
 ghost use Rattle.bq_value.specs.declared.error.EvalErr.TheVariants.{Bad};
 ghost use Rattle.bq_typed.specs.Parameters.{argument};
 ghost use Rattle.bq_package.specs.Bound.{text_of, texts_of};
 
-use bq_source::{Bytes, FaultKind};
+use bq_base::{Bytes, FaultKind};
 use bq_typed::{argument, text_in, texts_in};
 use bq_value::{EvalErr, Store, Value};
 use sqlite_items::Items;

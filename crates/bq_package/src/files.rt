@@ -1,7 +1,7 @@
 //! Calls of `exports_files`.
 
 ghost use Rattle.std.specs.Prelude.{◌≡◌};
-ghost use Rattle.bq_source.specs.Gives.{Gives};
+ghost use Rattle.bq_base.specs.Gives.{Gives};
 ghost use Rattle.bq_value.specs.declared.error.EvalErr.TheVariants.{Bad};
 ghost use Rattle.bq_machine.specs.Binding.{bind};
 ghost use Rattle.bq_package.specs.Place.{place_of};
@@ -11,7 +11,7 @@ ghost use Rattle.bq_package.specs.Files.{files_named};
 use crate::bound::texts_of;
 use crate::place::Place;
 use bq_label::Label;
-use bq_machine::{Args, Bound, SingleParameter, Signature, bind};
+use bq_machine::{Args, Bound, Signature, SingleParameter, bind};
 use bq_seed::Seed;
 use bq_typed::{TextKind, labels};
 use bq_value::{EvalErr, Store};

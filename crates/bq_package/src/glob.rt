@@ -2,7 +2,7 @@
 
 ghost use Rattle.std.specs.Prelude.{◌≡◌, option_copied, IfOk};
 ghost use Rattle.std.specs.List.{list_any};
-ghost use Rattle.bq_source.specs.Gives.{Gives};
+ghost use Rattle.bq_base.specs.Gives.{Gives};
 ghost use Rattle.bq_value.specs.declared.error.EvalErr.TheVariants.{Bad};
 ghost use Rattle.bq_machine.specs.Binding.{bind};
 ghost use Rattle.bq_package.specs.Place.{place_of};
@@ -12,10 +12,10 @@ ghost use Rattle.bq_package.specs.Glob.{pattern, patterns, excludes_directories,
 
 use crate::bound::texts_of;
 use crate::place::Place;
+use bq_base::{Bytes, FaultKind, SourceErr};
 use bq_glob::{Pattern, glob, read_pattern};
-use bq_machine::{Args, Bound, SingleParameter, Signature, bind};
+use bq_machine::{Args, Bound, Signature, SingleParameter, bind};
 use bq_seed::Seed;
-use bq_source::{Bytes, FaultKind, SourceErr};
 use bq_typed::argument;
 use bq_value::{EvalErr, Node, Store, Value};
 use bq_walk::truth;

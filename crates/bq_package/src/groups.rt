@@ -1,7 +1,7 @@
 //! Calls of `package_group`.
 
 ghost use Rattle.std.specs.Prelude.{◌≡◌, ◌||◌, Ok, IfOk};
-ghost use Rattle.bq_source.specs.Gives.{Gives};
+ghost use Rattle.bq_base.specs.Gives.{Gives};
 ghost use Rattle.bq_value.specs.declared.error.EvalErr.TheVariants.{Bad};
 ghost use Rattle.bq_machine.specs.Binding.{bind};
 ghost use Rattle.bq_typed.specs.Steps.{and_then};
@@ -11,11 +11,11 @@ ghost use Rattle.bq_package.specs.Groups.{is_name_first, names_first, group, gro
 
 use crate::bound::{text_of, texts_of};
 use crate::place::Place;
+use bq_base::Bytes;
 use bq_label::Label;
-use bq_machine::{Args, Bound, SingleParameter, Signature, bind};
+use bq_machine::{Args, Bound, Signature, SingleParameter, bind};
 use bq_rule_class::AttributeValue;
 use bq_seed::Seed;
-use bq_source::Bytes;
 use bq_target::{GivenAttribute, Target, TargetKind};
 use bq_typed::{TextKind, label, labels};
 use bq_value::{EvalErr, Store, Value};

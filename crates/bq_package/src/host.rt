@@ -1,7 +1,7 @@
 //! The host of a BUILD file's evaluation.
 
 ghost use Rattle.std.specs.Prelude.{◌≡◌, map, IfOk};
-ghost use Rattle.bq_source.specs.Gives.{Gives};
+ghost use Rattle.bq_base.specs.Gives.{Gives};
 ghost use Rattle.bq_value.specs.declared.error.EvalErr.TheVariants.{Bad};
 ghost use Rattle.bq_label.specs.Label.{package_of};
 ghost use Rattle.bq_machine.specs.State.{State};
@@ -17,13 +17,13 @@ ghost use Rattle.bq_package.specs.Keeping.{answer, package_after, Settles, IsSet
 use crate::building::{BuildHost, Building};
 use crate::function::{BuildFunction, function_of};
 use crate::place::Place;
+use bq_base::{Bytes, FaultKind};
 use bq_host::Host;
 use bq_label::{Label, PackageId, Packages, Workspace};
 use bq_machine::{Args, Machine, Signature, bind};
 use bq_rule_class::{AttributeValue, RuleClass};
 use bq_schema::Schema;
 use bq_seed::Seed;
-use bq_source::{Bytes, FaultKind};
 use bq_target::{Declared, PackageState, Target};
 use bq_typed::{Scope, Written, typed};
 use bq_value::{EvalErr, Value};

@@ -1,17 +1,17 @@
 //! Calls of rules.
 
 ghost use Rattle.std.specs.Prelude.{◌≡◌, IfOk};
-ghost use Rattle.bq_source.specs.Gives.{Gives};
+ghost use Rattle.bq_base.specs.Gives.{Gives};
 ghost use Rattle.bq_value.specs.declared.error.EvalErr.TheVariants.{Bad};
 ghost use Rattle.bq_package.specs.Place.{place_of};
 ghost use Rattle.bq_package.specs.Rules.{declared_target, rule_target};
 
 use crate::place::Place;
 use bq_attributes::{Callee, declaration};
+use bq_base::{Bytes, FaultKind};
 use bq_machine::Args;
 use bq_rule_class::RuleClass;
 use bq_schema::rule_names;
-use bq_source::{Bytes, FaultKind};
 use bq_target::Target;
 use bq_value::{EvalErr, Store};
 use std::alloc::Global;

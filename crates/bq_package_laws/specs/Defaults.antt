@@ -1,7 +1,7 @@
 -- Defaults beside the values of calls: what `attr.NAME(default = v)` keeps is what the call of a rule keeps of `v`.
 use Rattle.std.specs.Prelude.{◌≡◌, ◌↔◌, Result, Ok}
-use Rattle.bq_source.specs.declared.fault.FaultKind.{FaultKind}
-use Rattle.bq_source.specs.declared.fault.FaultKind.TheVariants.{WrongType}
+use Rattle.bq_base.specs.declared.fault.FaultKind.{FaultKind}
+use Rattle.bq_base.specs.declared.fault.FaultKind.TheVariants.{WrongType}
 use Rattle.bq_rule_class.specs.declared.attribute_type.AttributeType.{AttributeType}
 use Rattle.bq_rule_class.specs.declared.value.AttributeValue.{AttributeValue}
 use Rattle.bq_value.specs.Datum.{Datum}

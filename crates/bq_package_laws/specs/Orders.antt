@@ -1,6 +1,6 @@
 -- In which order the calls of build functions are refused (ours: the order).
 use Rattle.std.specs.Prelude.{not, List, [], ◌∷◌, Option, Some, None}
-use Rattle.bq_source.specs.declared.fault.FaultKind.TheVariants.{BadValue, DoubleTarget}
+use Rattle.bq_base.specs.declared.fault.FaultKind.TheVariants.{BadValue, DoubleTarget}
 use Rattle.bq_value.specs.Datum.{Datum}
 use Rattle.bq_value.specs.Cells.{StoreView}
 use Rattle.bq_machine.specs.Args.{Passed}

@@ -1,8 +1,8 @@
 //! What holds of calls of build functions. The functions do nothing: their contracts are the laws.
 
 ghost use Rattle.std.specs.Prelude.{◌≡◌, ◌∷◌, [], ℕ, List, Err, true, false};
-ghost use Rattle.bq_source.specs.declared.fault.FaultKind.{FaultKind};
-ghost use Rattle.bq_source.specs.declared.fault.FaultKind.TheVariants.{GlobEmpty};
+ghost use Rattle.bq_base.specs.declared.fault.FaultKind.{FaultKind};
+ghost use Rattle.bq_base.specs.declared.fault.FaultKind.TheVariants.{GlobEmpty};
 ghost use Rattle.bq_rule_class.specs.Class.{Class};
 ghost use Rattle.bq_value.specs.Cells.{StoreView};
 ghost use Rattle.bq_machine.specs.Args.{Passed};

@@ -11,7 +11,7 @@ ghost use Rattle.bq_parse.specs.Inner.{ReadsStatement};
 use crate::parameter_list::parameters;
 use crate::small::simple;
 use bq_expression::{closed, expr_list, only, phrase, vars};
-use bq_grammar::{Branch, Expr, Identifier, Nested, Parameter, SyntaxErr, Stmt};
+use bq_grammar::{Branch, Expr, Identifier, Nested, Parameter, Stmt, SyntaxErr};
 use bq_source::TokenKind;
 use bq_tokens::Tokens;
 use sqlite_items::Items;
@@ -182,7 +182,10 @@ impl<F: Fn(Global, &mut Tokens<'_>, usize) -> Result<Stmt, SyntaxErr>> BlockRule
     }
 
     /// identifier '(' Parameters
-    fn signature(&self, tokens: &mut Tokens<'_>) -> Result<(Identifier, Items<Parameter>), SyntaxErr>
+    fn signature(
+        &self,
+        tokens: &mut Tokens<'_>,
+    ) -> Result<(Identifier, Items<Parameter>), SyntaxErr>
         ensures { Reads (and_then (reading.word tokens.old) (λ n mid. and_then (turns.expect kind.LeftParen mid) (λ _ us. and_then (spec.parameters self.now.depth us) (λ ps rest. Ok ((n, ps), rest))))) result tokens.new }
     {
         let name = tokens.word(self.alloc)?;

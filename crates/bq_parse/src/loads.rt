@@ -6,9 +6,10 @@ ghost use Rattle.bq_grammar.specs.Turns as turns;
 ghost use Rattle.bq_grammar.specs.ReadingStatements as spec;
 ghost use Rattle.bq_source.specs.declared.token.TokenKind.TheVariants as kind;
 
+use bq_base::Bytes;
 use bq_expression::closed;
-use bq_grammar::{Identifier, Load, LoadClause, SyntaxErr, SmallKind, is_identifier};
-use bq_source::{Bytes, TokenKind};
+use bq_grammar::{Identifier, Load, LoadClause, SmallKind, SyntaxErr, is_identifier};
+use bq_source::TokenKind;
 use bq_tokens::Tokens;
 use sqlite_items::Items;
 use std::alloc::Global;

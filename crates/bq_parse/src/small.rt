@@ -7,7 +7,7 @@ ghost use Rattle.bq_grammar.specs.ReadingStatements as spec;
 use crate::loads::load;
 use crate::targets::{augmented_target, refused, target};
 use bq_expression::{closed, expr_list};
-use bq_grammar::{Expr, SyntaxErr, SmallKind, SmallStmt};
+use bq_grammar::{Expr, SmallKind, SmallStmt, SyntaxErr};
 use bq_source::TokenKind;
 use bq_tokens::Tokens;
 use sqlite_items::Items;

@@ -7,7 +7,7 @@ ghost use Rattle.bq_grammar.specs.ReadingStatements as spec;
 ghost use Rattle.bq_parse.specs.Makes.{Makes};
 
 use crate::blocks::BlockRules;
-use bq_grammar::{SyntaxErr, Stmt, TopLevel};
+use bq_grammar::{Stmt, SyntaxErr, TopLevel};
 use bq_tokens::Tokens;
 use std::alloc::Global;
 
@@ -40,7 +40,11 @@ fn whole<T: Drop>(tokens: &Tokens<'_>, value: T) -> Result<T, SyntaxErr>
 
 /// The top-level statement that all of these tokens are.
 #[tactic(auto, using(crate::proofs::Taken::none_left, crate::proofs::Taken::some_left), unfolding(bq_grammar::specs::ReadingStatements::top_level))]
-pub fn top_level(alloc: Global, tokens: &mut Tokens<'_>, depth: usize) -> Result<TopLevel, SyntaxErr>
+pub fn top_level(
+    alloc: Global,
+    tokens: &mut Tokens<'_>,
+    depth: usize,
+) -> Result<TopLevel, SyntaxErr>
     ensures { Makes (spec.top_level depth tokens.old) result }
 {
     let line = tokens.line();

@@ -8,7 +8,7 @@ ghost use Rattle.bq_grammar.specs.declared.tree.Expr.{out-Expr};
 ghost use Rattle.bq_grammar.specs.declared.tree.Suffix.{out-Suffix};
 ghost use Rattle.bq_parse.specs.Makes.{Makes, MakesTarget};
 
-use bq_grammar::{Expr, SyntaxErr, Suffix, AssignTarget};
+use bq_grammar::{AssignTarget, Expr, Suffix, SyntaxErr};
 use sqlite_items::{Boxed, Items};
 use std::alloc::{AllocError, Global};
 
@@ -48,7 +48,10 @@ fn indexed_by(
     ensures { Makes (spec.index_of (grammar.primary_of operand suffixes) (out-Suffix last)) result }
 {
     match last {
-        Suffix::Index(index) => Ok(AssignTarget::Index(primary_of(alloc, operand, suffixes)?, index)),
+        Suffix::Index(index) => Ok(AssignTarget::Index(
+            primary_of(alloc, operand, suffixes)?,
+            index,
+        )),
         _ => Err(SyntaxErr::Syntax),
     }
 }

@@ -1,7 +1,7 @@
 -- A host that notes which calls it accepts: those of its own functions by their ids, all but the one of id 3, which is F70, and those of
 -- declared rules as 99. A BUILD file is evaluated, and no default is read.
 use Rattle.std.specs.Prelude.{ℕ, List, [], ◌∷◌, ◌++◌, ◌==◌, true, Err, if◌then◌else◌}
-use Rattle.bq_source.specs.declared.fault.FaultKind.TheVariants.{NotInPackage, BadLabel}
+use Rattle.bq_base.specs.declared.fault.FaultKind.TheVariants.{NotInPackage, BadLabel}
 use Rattle.bq_rule_class.specs.Class.{Class}
 use Rattle.bq_value.specs.Datum.{Datum, none}
 use Rattle.bq_machine.specs.Args.{Passed}

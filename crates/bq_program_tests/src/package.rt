@@ -11,10 +11,10 @@ mod schemas;
 
 use crate::chunks::{Subject, add_line, check_chunks};
 use crate::workspace::{Tree, files, package_id, package_of};
+use bq_base::Bytes;
 use bq_label::{Label, Packages, Workspace};
 use bq_rule_class::AttributeValue;
 use bq_schema::{Schema, read_schema};
-use bq_source::Bytes;
 use bq_target::{GivenAttribute, Package, Target};
 use bq_target_sets::{write_kind, write_label};
 use std::alloc::{AllocError, Global};

@@ -1,6 +1,7 @@
 //! A program of one file, or of a .bzl file and a file that loads it: what it prints, its fault, and what its host keeps.
 
 use crate::chunks::add_line;
+use bq_base::{Bytes, Fault, SourceErr};
 use bq_front::code_of;
 use bq_grammar::FileKind;
 use bq_host::{BuiltIns, Host};
@@ -9,7 +10,6 @@ use bq_module::{EvaluatedFile, FileOutcome, ResolvedModule, eval_module};
 use bq_package::BuildHost;
 use bq_scope::{LoadStmt, Resolved, Universe};
 use bq_seed::Seed;
-use bq_source::{Bytes, Fault, SourceErr};
 use bq_value::{Frozen, Value};
 use std::alloc::{AllocError, Global};
 use std::fmt::Write;

@@ -6,12 +6,12 @@ ghost use Rattle.bq_label.specs.Packages.{id_cmp};
 ghost use Rattle.bq_target_graph.specs.Order.{PackagesAscend, id_of};
 
 use crate::program::{Setting, run_chunk};
+use bq_base::Bytes;
 use bq_grammar::FileKind;
 use bq_label::{BuildFile, File, Label, PackageId, Packages, Workspace};
 use bq_module::{EvaluatedFile, FileOutcome};
 use bq_package::BuildHost;
 use bq_schema::Schema;
-use bq_source::Bytes;
 use bq_target::Package;
 use std::alloc::{AllocError, Global};
 use std::cmp::Ordering;

@@ -3,7 +3,7 @@ ghost use Rattle.std.specs.Prelude.{◌≡◌, Some};
 ghost use Rattle.bq_query.specs.QueryError.{query_title, query_detail};
 ghost use Rattle.bq_query.specs.declared.query_error.QueryErr.TheVariants.{Memory};
 
-use bq_source::Bytes;
+use bq_base::Bytes;
 use std::alloc::{AllocError, AllocFailed};
 use std::error::Error;
 use std::fmt;

@@ -8,10 +8,10 @@ ghost use Rattle.bq_query_check.specs.FormulaOf.{IsName, IsNumber, IsPattern};
 
 use crate::number::number;
 use crate::pattern::QueryPattern;
+use bq_base::Bytes;
 use bq_query::QueryErr;
 use bq_query_tree::Query;
 use bq_query_verdict::{is_number, no_word};
-use bq_source::Bytes;
 use std::alloc::Global;
 
 /// A regular expression: Q4 where it is refused.

@@ -1,8 +1,8 @@
 //! What a query that was checked says, with its variables and functions known, its numbers read and its patterns compiled.
 
 use crate::pattern::QueryPattern;
+use bq_base::Bytes;
 use bq_query_tree::SetOperator;
-use bq_source::Bytes;
 use sqlite_items::{Boxed, Items};
 
 /// A function of one set, with its other arguments.

@@ -4,7 +4,7 @@ ghost use Rattle.std.specs.Prelude.{◌≡◌, ◌++◌, [], ◌∷◌, false, b
 ghost use Rattle.std.specs.List.{list_any};
 ghost use Rattle.bq_query_check.specs.FormulaOf.{IsInnermost};
 
-use bq_source::Bytes;
+use bq_base::Bytes;
 use sqlite_items::Items;
 use std::alloc::{AllocError, Global};
 

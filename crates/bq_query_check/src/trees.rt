@@ -13,10 +13,10 @@ ghost use Rattle.bq_query_check.specs.FormulaOf.{IsFormulaOf, AreStepsOf, IsCall
 use crate::arguments::{attribute, limit, pattern};
 use crate::formula::{Binary, ChainStep, SetExpr, Unary};
 use crate::names::{innermost, shared, with_name};
-use bq_query::{QueryFunction, QueryErr, function_named};
-use bq_query_tree::{SetOperation, Query};
+use bq_base::Bytes;
+use bq_query::{QueryErr, QueryFunction, function_named};
+use bq_query_tree::{Query, SetOperation};
 use bq_query_verdict::{unknown, words};
-use bq_source::Bytes;
 use sqlite_items::{Boxed, Items};
 use std::alloc::{AllocError, Global};
 use std::slice::from_ref;

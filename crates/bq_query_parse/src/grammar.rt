@@ -9,9 +9,9 @@ ghost use Rattle.bq_query_tree.specs.Reading as spec;
 ghost use Rattle.bq_query_parse.specs.Nested.{ReadsQuery};
 
 use crate::tokens::QueryTokens;
+use bq_base::Bytes;
 use bq_query::QueryTokenKind;
-use bq_query_tree::{SetOperation, Query, QuerySyntaxErr};
-use bq_source::Bytes;
+use bq_query_tree::{Query, QuerySyntaxErr, SetOperation};
 use sqlite_items::{Boxed, Items};
 use std::alloc::{AllocError, Global};
 
@@ -235,7 +235,10 @@ impl<F: Fn(Global, &mut QueryTokens<'_>, usize) -> Result<Query, QuerySyntaxErr>
 
     /// Operations = { operator Operand } [ operator Let ]
     #[tactic(auto, using(crate::proofs::LoopTurns::turns_more, crate::proofs::LoopTurns::turns_over), unfolding(bq_query_tree::specs::Reading::operations))]
-    fn operations(&self, tokens: &mut QueryTokens<'_>) -> Result<Items<SetOperation>, QuerySyntaxErr>
+    fn operations(
+        &self,
+        tokens: &mut QueryTokens<'_>,
+    ) -> Result<Items<SetOperation>, QuerySyntaxErr>
         requires { ReadsQuery self.now.depth (F.pre self.now.query) (F.post self.now.query) }
         ensures { Reads (spec.operations self.now.depth (spec.query_to self.now.depth) [] tokens.old) result tokens.new }
     {

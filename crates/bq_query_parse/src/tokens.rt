@@ -8,9 +8,9 @@ ghost use Rattle.bq_query_tree.specs.Grammar as grammar;
 ghost use Rattle.bq_query_tree.specs.Reading as spec;
 ghost use Rattle.bq_query_parse.specs.Tokens as ahead;
 
+use bq_base::Bytes;
 use bq_query::{QueryToken, QueryTokenKind, is_variable_name};
-use bq_query_tree::{SetOperator, QuerySyntaxErr};
-use bq_source::Bytes;
+use bq_query_tree::{QuerySyntaxErr, SetOperator};
 use std::alloc::{AllocError, Global};
 use std::marker::Model;
 

@@ -18,4 +18,4 @@ mod tree;
 
 pub use laws::{each_query_is_read, one_tree_of_a_query, what_is_read_is_a_query};
 pub use refusal::QuerySyntaxErr;
-pub use tree::{SetOperation, SetOperator, Query};
+pub use tree::{Query, SetOperation, SetOperator};

@@ -1,6 +1,6 @@
 //! The trees of queries.
 
-use bq_source::Bytes;
+use bq_base::Bytes;
 use sqlite_items::{Boxed, Items};
 
 /// An operator between two queries. All bind equally tightly.

@@ -2,9 +2,9 @@
 use Rattle.std.proofs.Common.{◌≡◌, Bool, Option, Some, None, Result, Ok, Err, refl}
 use Rattle.std.specs.Prelude.{IfOk, is_some}
 use Rattle.std.specs.declared.alloc.AllocError.{AllocError}
-use Rattle.bq_source.specs.Gives.{Gives}
-use Rattle.bq_source.specs.declared.fault.SourceErr.{SourceErr}
-use Rattle.bq_source.specs.declared.fault.SourceErr.TheVariants.{Bad, Memory}
+use Rattle.bq_base.specs.Gives.{Gives}
+use Rattle.bq_base.specs.declared.fault.SourceErr.{SourceErr}
+use Rattle.bq_base.specs.declared.fault.SourceErr.TheVariants.{Bad, Memory}
 use Rattle.bq_label.specs.Label.{LabelParts}
 use Rattle.bq_label.specs.Reading.{or_bad_label}
 use Rattle.bq_query_verdict.specs.Verdict.{IsRead}

@@ -4,8 +4,8 @@ use Rattle.std.specs.Prelude.{ℕ, ◌+◌, ◌==◌, ◌&&◌, ◌||◌, nat_le
 use Rattle.std.specs.List.{list_any, list_all}
 use Rattle.bq_label.specs.Label.{package_at}
 use Rattle.bq_label.specs.Reading.{label_of}
-use Rattle.bq_source.specs.declared.fault.SourceErr.{SourceErr}
-use Rattle.bq_source.specs.declared.fault.SourceErr.TheVariants as source
+use Rattle.bq_base.specs.declared.fault.SourceErr.{SourceErr}
+use Rattle.bq_base.specs.declared.fault.SourceErr.TheVariants as source
 use Rattle.bq_query.specs.declared.query_error.QueryErr.{QueryErr}
 use Rattle.bq_query.specs.declared.query_error.QueryErr.TheVariants as e
 use Rattle.bq_query.specs.declared.function.QueryFunction.{QueryFunction}

@@ -6,9 +6,9 @@ ghost use Rattle.bq_query_verdict.specs.Verdict as spec;
 ghost use Rattle.bq_query_verdict.specs.Verdict.{Tells, part_of};
 
 use crate::leaves::{function, variable, word};
+use bq_base::Bytes;
 use bq_query::QueryErr;
 use bq_query_tree::Query;
-use bq_source::Bytes;
 use std::alloc::Global;
 
 /// The faults at the first token.

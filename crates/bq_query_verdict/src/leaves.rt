@@ -7,9 +7,9 @@ ghost use Rattle.bq_label.specs.Reading.{label_of};
 ghost use Rattle.bq_query_verdict.specs.Verdict as spec;
 ghost use Rattle.bq_query_verdict.specs.Verdict.{Tells};
 
+use bq_base::{Bytes, SourceErr};
 use bq_label::{PackageId, read_label};
-use bq_query::{QueryFunction, QueryErr, begins_pattern, function_named, is_left_out};
-use bq_source::{Bytes, SourceErr};
+use bq_query::{QueryErr, QueryFunction, begins_pattern, function_named, is_left_out};
 use std::alloc::{AllocError, Global};
 
 /// Whether something was read.

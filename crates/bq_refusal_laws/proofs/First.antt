@@ -1,7 +1,7 @@
 -- The first of several checks that finds a fault.
 use Rattle.std.proofs.Common.{◌≡◌, List, [], ◌∷◌, ◌++◌, Some, None, refl}
 use Rattle.std.specs.List.{AllByRecursion}
-use Rattle.bq_source.specs.declared.fault.FaultKind.{FaultKind}
+use Rattle.bq_base.specs.declared.fault.FaultKind.{FaultKind}
 use Rattle.bq_refusal_laws.specs.Refusals.{Check, first_fault}
 
 pub found : (before after : List Check) (kind : FaultKind) → AllByRecursion (λ c. c ≡ None) before → first_fault (before ++ Some kind ∷ after) ≡ Some kind

@@ -2,7 +2,7 @@
 --
 -- An order is a list of checks. Each of them says what it finds wrong with the call, if anything, whatever the others find.
 use Rattle.std.specs.Prelude.{◌≡◌, Bool, cond, List, [], ◌∷◌, Option, Some, None, Result, Ok, Err}
-use Rattle.bq_source.specs.declared.fault.FaultKind.{FaultKind}
+use Rattle.bq_base.specs.declared.fault.FaultKind.{FaultKind}
 use Rattle.bq_machine.specs.Action.{Run, done, stopped}
 
 -- what one check finds wrong, if anything

@@ -2,7 +2,7 @@
 
 ghost use Rattle.std.specs.Prelude.{◌≡◌, ◌++◌, ◌∷◌, List, None, Some};
 ghost use Rattle.std.specs.List.{AllByRecursion};
-ghost use Rattle.bq_source.specs.declared.fault.FaultKind.{FaultKind};
+ghost use Rattle.bq_base.specs.declared.fault.FaultKind.{FaultKind};
 ghost use Rattle.bq_refusal_laws.specs.Refusals.{Check, first_fault};
 
 /// Checks find the fault of the first of them that finds one, whatever the later ones find, and none where none finds one.

@@ -1,10 +1,10 @@
 -- One layer of a statement, where more than none are looked at, and none.
 use Rattle.std.proofs.Common.{◌≡◌, ◌≢◌, ◌-◌, ◌∙◌, ℕ, zero, suc, List, Bool, Result, Err, refl, sym, ap, subst, arith}
-use Rattle.bq_source.specs.declared.fault.Fault.{Fault}
-use Rattle.bq_source.specs.declared.fault.FaultKind.TheVariants as f
-use Rattle.bq_source.specs.declared.fault.SourceErr.{SourceErr}
-use Rattle.bq_source.specs.declared.fault.SourceErr.TheVariants.{Bad}
-use Rattle.bq_source.specs.Fault.{fault_at}
+use Rattle.bq_base.specs.declared.fault.Fault.{Fault}
+use Rattle.bq_base.specs.declared.fault.FaultKind.TheVariants as f
+use Rattle.bq_base.specs.declared.fault.SourceErr.{SourceErr}
+use Rattle.bq_base.specs.declared.fault.SourceErr.TheVariants.{Bad}
+use Rattle.bq_base.specs.Fault.{fault_at}
 use Rattle.bq_grammar.specs.declared.tree.Stmt.{Stmt, out-Stmt}
 use Rattle.bq_scope.specs.declared.code.CodeStmt.{CodeStmt}
 use Rattle.bq_scope.specs.Scope.{BlockParts, FileParts}

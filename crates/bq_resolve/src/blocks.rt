@@ -9,10 +9,10 @@ ghost use Rattle.bq_resolve.specs.Inner.{WalksStatement};
 
 use crate::expressions::{expr, target};
 use crate::small::{line, misplaced};
-use bq_grammar::{Branch, Expr, Stmt, AssignTarget};
+use bq_base::SourceErr;
+use bq_grammar::{AssignTarget, Branch, Expr, Stmt};
 use bq_resolve_expression::Walk;
 use bq_scope::{Block, Code, CodeBranch, CodeStmt, CodeTarget, FileNames};
-use bq_source::SourceErr;
 use sqlite_items::{Boxed, Items};
 use std::alloc::Global;
 

@@ -4,10 +4,10 @@ ghost use Rattle.bq_scope.specs.Expressions as expressions;
 ghost use Rattle.bq_scope.specs.Statements as spec;
 ghost use Rattle.bq_resolve_expression.specs.Walks.{Walks};
 
-use bq_grammar::{Expr, AssignTarget};
+use bq_base::SourceErr;
+use bq_grammar::{AssignTarget, Expr};
 use bq_resolve_expression::{Rules, Walk, expr_to};
 use bq_scope::{Block, Code, CodeTarget, FileNames, MAX_LAYERS};
-use bq_source::SourceErr;
 use std::alloc::Global;
 
 /// An expression that is no deeper than so many layers: `expr_to`, which can be passed on from its own crate alone.

@@ -1,18 +1,18 @@
 //! Files.
 
 ghost use Rattle.std.specs.Prelude.{◌≡◌, []};
-ghost use Rattle.bq_source.specs.Gives.{Gives};
-ghost use Rattle.bq_source.specs.declared.fault.SourceErr.TheVariants.{Bad};
+ghost use Rattle.bq_base.specs.Gives.{Gives};
+ghost use Rattle.bq_base.specs.declared.fault.SourceErr.TheVariants.{Bad};
 ghost use Rattle.bq_scope.specs.Files.{resolved, resolved_in, top_level};
 ghost use Rattle.bq_scope.specs.Visit.{each, nothing_passed};
 ghost use Rattle.bq_file.specs.Answers.{itself};
 
 use crate::outside::top_levels;
+use bq_base::SourceErr;
 use bq_file::ParsedFile;
 use bq_grammar::TopLevel;
 use bq_resolve_expression::Walk;
 use bq_scope::{CodeTopLevel, FileNames, LoadStmt, Resolved, Universe};
-use bq_source::SourceErr;
 use sqlite_items::Items;
 use std::alloc::Global;
 

@@ -7,13 +7,13 @@ ghost use Rattle.bq_resolve_expression.specs.Walks.{Walks};
 use crate::blocks::BlockResolver;
 use crate::parameters::parameters;
 use crate::statements::stmt_to;
+use bq_base::{Bytes, SourceErr};
 use bq_grammar::{Identifier, Parameter, Stmt};
 use bq_resolve_expression::{Walk, name_target};
 use bq_scope::{
     Block, CodeDef, CodeFunction, CodeParameter, CodeStmt, FileNames, FileStmt, MAX_LAYERS, Names,
     function_names, inside,
 };
-use bq_source::{Bytes, SourceErr};
 use sqlite_items::{Boxed, Items};
 use std::alloc::Global;
 

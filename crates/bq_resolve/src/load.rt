@@ -6,10 +6,10 @@ ghost use Rattle.bq_scope.specs.Visit as visit;
 ghost use Rattle.bq_scope.specs.Statements as spec;
 ghost use Rattle.bq_resolve_expression.specs.Walks.{Walks};
 
+use bq_base::{FaultKind, SourceErr};
 use bq_grammar::{Load, LoadClause};
 use bq_resolve_expression::{Walk, fault_of};
 use bq_scope::{CodeSmall, FileNames, LoadStmt, LoadedSymbol};
-use bq_source::{FaultKind, SourceErr};
 use sqlite_items::Items;
 use std::alloc::{AllocError, Global};
 

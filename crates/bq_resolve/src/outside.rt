@@ -8,10 +8,10 @@ ghost use Rattle.bq_resolve_expression.specs.Walks.{Walks};
 
 use crate::functions::def_stmt;
 use crate::small::{line, misplaced};
+use bq_base::SourceErr;
 use bq_grammar::{Stmt, TopLevel};
 use bq_resolve_expression::Walk;
 use bq_scope::{CodeTopLevel, FileNames, FileStmt};
-use bq_source::SourceErr;
 use sqlite_items::Items;
 use std::alloc::Global;
 

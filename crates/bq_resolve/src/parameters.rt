@@ -1,18 +1,18 @@
 //! The parameters of a function, and their defaults.
 
 ghost use Rattle.std.specs.Prelude.{◌≡◌};
-ghost use Rattle.bq_source.specs.Gives.{Gives};
-ghost use Rattle.bq_source.specs.declared.fault.SourceErr.TheVariants.{Bad};
+ghost use Rattle.bq_base.specs.Gives.{Gives};
+ghost use Rattle.bq_base.specs.declared.fault.SourceErr.TheVariants.{Bad};
 ghost use Rattle.bq_scope.specs.Scope.{FileParts};
 ghost use Rattle.bq_scope.specs.Visit.{Passed};
 ghost use Rattle.bq_scope.specs.Statements as spec;
 ghost use Rattle.bq_resolve_expression.specs.Walks.{Walks};
 
 use crate::expressions::expr;
+use bq_base::{FaultKind, SourceErr};
 use bq_grammar::{Expr, Identifier, Parameter};
 use bq_resolve_expression::{Walk, fault_of};
 use bq_scope::{Code, CodeParameter, FileNames, Names};
-use bq_source::{FaultKind, SourceErr};
 use sqlite_items::Items;
 use std::alloc::Global;
 use std::marker::Model;

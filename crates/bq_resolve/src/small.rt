@@ -10,10 +10,10 @@ ghost use Rattle.bq_resolve_expression.specs.Walks.{Walks};
 
 use crate::expressions::{expr, target};
 use crate::load::load;
-use bq_grammar::{Expr, Load, Operator, SmallKind, SmallStmt, AssignTarget};
+use bq_base::{Fault, FaultKind, SourceErr};
+use bq_grammar::{AssignTarget, Expr, Load, Operator, SmallKind, SmallStmt};
 use bq_resolve_expression::Walk;
 use bq_scope::{Block, CodeSmall, FileNames};
-use bq_source::{Fault, FaultKind, SourceErr};
 use sqlite_items::{Boxed, Items};
 use std::alloc::Global;
 

@@ -1,6 +1,6 @@
 -- What a part of a tree resolves to by its form, also where the parts of the form are borrowed.
 use Rattle.std.proofs.Common.{◌≡◌, ◌∙◌, Result, sym, ap, subst}
-use Rattle.bq_source.specs.declared.fault.SourceErr.{SourceErr}
+use Rattle.bq_base.specs.declared.fault.SourceErr.{SourceErr}
 use Rattle.bq_scope.specs.Visit.{Passed, Visit}
 use Rattle.bq_resolve_expression.specs.Walks.{Walks}
 

@@ -1,7 +1,7 @@
 -- The frame that a comprehension is in.
 use Rattle.std.proofs.Common.{◌≡◌, true, false, List, [], ◌∷◌, length, Result, arith}
 use Rattle.std.specs.Bool.{◌==◌}
-use Rattle.bq_source.specs.declared.fault.SourceErr.{SourceErr}
+use Rattle.bq_base.specs.declared.fault.SourceErr.{SourceErr}
 use Rattle.bq_scope.specs.declared.code.Code.{Code}
 use Rattle.bq_scope.specs.Scope.{BlockParts}
 use Rattle.bq_scope.specs.Visit.{Passed, Visit}

@@ -1,7 +1,7 @@
 -- One layer of a tree, where more than none are looked at.
 use Rattle.std.proofs.Common.{◌≡◌, ◌-◌, ◌<◌, ℕ, zero, suc, List, Result, refl, sym, subst, arith}
-use Rattle.bq_source.specs.declared.fault.Fault.{Fault}
-use Rattle.bq_source.specs.declared.fault.SourceErr.{SourceErr}
+use Rattle.bq_base.specs.declared.fault.Fault.{Fault}
+use Rattle.bq_base.specs.declared.fault.SourceErr.{SourceErr}
 use Rattle.bq_grammar.specs.declared.tree.AssignTarget.{AssignTarget, out-AssignTarget}
 use Rattle.bq_grammar.specs.declared.tree.Expr.{Expr, out-Expr}
 use Rattle.bq_scope.specs.declared.code.Code.{Code}

@@ -1,8 +1,8 @@
 -- What is made of a value that a walk gave.
 use Rattle.std.proofs.Common.{◌≡◌, ◌∙◌, Result, Ok, Err, MatchResult, sym, ap, subst}
 use Rattle.std.specs.Result.{IsOkAnd}
-use Rattle.bq_source.specs.declared.fault.Fault.{Fault}
-use Rattle.bq_source.specs.declared.fault.SourceErr.{SourceErr}
+use Rattle.bq_base.specs.declared.fault.Fault.{Fault}
+use Rattle.bq_base.specs.declared.fault.SourceErr.{SourceErr}
 use Rattle.bq_scope.specs.Visit.{Passed, following, pure}
 use Rattle.bq_resolve_expression.specs.Walks.{Walks}
 

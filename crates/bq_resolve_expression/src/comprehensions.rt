@@ -9,9 +9,9 @@ ghost use Rattle.bq_resolve_expression.specs.Walks.{Walks, WalksNested};
 
 use crate::rules::Rules;
 use crate::walk::Walk;
+use bq_base::SourceErr;
 use bq_grammar::{Clause, Expr, Pair};
 use bq_scope::{Block, Code, CodeClause, FileNames, MAX_LAYERS, comprehension_names};
-use bq_source::SourceErr;
 use sqlite_items::{Boxed, Items};
 use std::alloc::Global;
 

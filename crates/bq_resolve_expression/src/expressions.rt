@@ -8,9 +8,9 @@ ghost use Rattle.bq_resolve_expression.specs.Walks.{Walks, WalksNested};
 use crate::identifier::use_at;
 use crate::rules::Rules;
 use crate::walk::Walk;
+use bq_base::{Fault, FaultKind, SourceErr};
 use bq_grammar::{Choice, Comparison, Expr, Operation, UnaryOperator};
 use bq_scope::{Block, Code, FileNames};
-use bq_source::{Fault, FaultKind, SourceErr};
 use sqlite_items::Items;
 use std::alloc::Global;
 

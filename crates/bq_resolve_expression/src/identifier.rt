@@ -1,16 +1,16 @@
 //! Uses of names, and names that are bound.
 
 ghost use Rattle.std.specs.Prelude.{◌≡◌, IfOk};
-ghost use Rattle.bq_source.specs.declared.fault.Fault.{Fault};
-ghost use Rattle.bq_source.specs.declared.fault.SourceErr.TheVariants.{Bad};
+ghost use Rattle.bq_base.specs.declared.fault.Fault.{Fault};
+ghost use Rattle.bq_base.specs.declared.fault.SourceErr.TheVariants.{Bad};
 ghost use Rattle.bq_scope.specs.Visit.{Passed, fault_of};
 ghost use Rattle.bq_scope.specs.Expressions as spec;
 ghost use Rattle.bq_resolve_expression.specs.Walks.{Walks};
 
 use crate::walk::Walk;
+use bq_base::{Fault, FaultKind, SourceErr};
 use bq_grammar::{FileKind, Identifier};
 use bq_scope::{Binding, Block, CodeTarget, FileNames};
-use bq_source::{Fault, FaultKind, SourceErr};
 use std::alloc::AllocError;
 
 /// A fault at a name.

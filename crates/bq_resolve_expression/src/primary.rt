@@ -10,9 +10,9 @@ use crate::identifier::fault_of;
 use crate::room::with_room;
 use crate::rules::Rules;
 use crate::walk::Walk;
+use bq_base::{FaultKind, SourceErr};
 use bq_grammar::{Argument, Expr, FileKind, Identifier, Suffix};
 use bq_scope::{Block, Code, CodeArgument, CodeSuffix, FileNames, Namespace};
-use bq_source::{FaultKind, SourceErr};
 use sqlite_items::{Boxed, Items};
 use std::alloc::{AllocError, Global};
 

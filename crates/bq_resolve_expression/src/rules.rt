@@ -7,9 +7,9 @@ ghost use Rattle.bq_resolve_expression.specs.Walks.{Walks, WalksNested};
 
 use crate::room::with_room;
 use crate::walk::Walk;
+use bq_base::SourceErr;
 use bq_grammar::{Choice, Expr, Operation, Pair};
 use bq_scope::{Block, Code, CodeChoice, CodeOperation, CodePair, FileNames};
-use bq_source::SourceErr;
 use sqlite_items::{Boxed, Items};
 use std::alloc::Global;
 

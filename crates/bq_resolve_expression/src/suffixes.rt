@@ -10,9 +10,9 @@ ghost use Rattle.bq_resolve_expression.specs.Walks.{Walks, WalksNested};
 use crate::room::with_room;
 use crate::rules::Rules;
 use crate::walk::Walk;
+use bq_base::{Bytes, SourceErr};
 use bq_grammar::{Argument, Expr, Identifier, Suffix};
 use bq_scope::{Block, Code, CodeArgument, CodeSuffix, FileNames};
-use bq_source::{Bytes, SourceErr};
 use sqlite_items::{Boxed, Items};
 use std::alloc::Global;
 

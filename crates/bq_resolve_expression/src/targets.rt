@@ -12,9 +12,9 @@ use crate::identifier::name_target;
 use crate::room::with_room;
 use crate::rules::Rules;
 use crate::walk::Walk;
-use bq_grammar::{Expr, AssignTarget};
+use bq_base::{Fault, FaultKind, SourceErr};
+use bq_grammar::{AssignTarget, Expr};
 use bq_scope::{Block, Code, CodeTarget, FileNames};
-use bq_source::{Fault, FaultKind, SourceErr};
 use sqlite_items::Items;
 use std::alloc::Global;
 

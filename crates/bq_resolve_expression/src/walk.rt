@@ -5,9 +5,9 @@ ghost use Rattle.bq_scope.specs.Names.{has, with_name};
 ghost use Rattle.bq_scope.specs.Visit.{nothing_passed};
 ghost use Rattle.bq_scope.specs.Expressions.{is_bzl};
 
+use bq_base::Bytes;
 use bq_grammar::FileKind;
 use bq_scope::{Block, CodeFunction, LoadStmt, Names, inside};
-use bq_source::Bytes;
 use sqlite_items::Items;
 use std::alloc::{AllocError, Global};
 use std::marker::Model;

@@ -1,8 +1,8 @@
 -- Files whose statements are not too deep never have the fault F11.
 use Rattle.std.proofs.Common.{◌≡◌, ◌≢◌, ◌≤◌, ℕ, false, List, [], ◌∷◌, ◌++◌, map, length, Result, Ok, Err, subst, arith}
 use Rattle.std.specs.List.{AllByRecursion}
-use Rattle.bq_source.specs.declared.fault.Fault.{Fault}
-use Rattle.bq_source.specs.declared.fault.FaultKind.TheVariants as f
+use Rattle.bq_base.specs.declared.fault.Fault.{Fault}
+use Rattle.bq_base.specs.declared.fault.FaultKind.TheVariants as f
 use Rattle.bq_grammar.specs.declared.tree.Branch.{Branch}
 use Rattle.bq_grammar.specs.declared.tree.Expr.{Expr}
 use Rattle.bq_grammar.specs.declared.tree.Identifier.{Identifier}

@@ -1,8 +1,8 @@
 -- Statements of functions that are not too deep never have the fault F11.
 use Rattle.std.proofs.Common.{◌≢◌, ◌≤◌, ℕ, zero, suc, ◌+◌, Bool, true, false, ◌&&◌, List, [], ◌∷◌, map, Option, Some, None, Ok, Err, arith}
 use Rattle.std.specs.Prelude.{if◌then◌else◌}
-use Rattle.bq_source.specs.declared.fault.Fault.{Fault}
-use Rattle.bq_source.specs.declared.fault.FaultKind.TheVariants as f
+use Rattle.bq_base.specs.declared.fault.Fault.{Fault}
+use Rattle.bq_base.specs.declared.fault.FaultKind.TheVariants as f
 use Rattle.bq_grammar.specs.declared.tree.Branch.{Branch, out-Branch}
 use Rattle.bq_grammar.specs.declared.tree.Expr.{Expr}
 use Rattle.bq_grammar.specs.declared.tree.Load.{Load}

@@ -6,8 +6,8 @@ ghost use Rattle.bq_rule_class.specs.declared.value.AttributeValue.TheVariants a
 
 use crate::attribute::Attribute;
 use crate::value::AttributeValue;
+use bq_base::Bytes;
 use bq_label::Label;
-use bq_source::Bytes;
 
 fn are_same_texts(a: &[Bytes], b: &[Bytes]) -> bool
     ensures { result ≡ same_texts a.now b.now }

@@ -4,8 +4,8 @@ ghost use Rattle.std.specs.Prelude.{◌≡◌, IfOk};
 ghost use Rattle.bq_rule_class.specs.Value.{type_of};
 
 use crate::attribute_type::AttributeType;
+use bq_base::Bytes;
 use bq_label::Label;
-use bq_source::Bytes;
 use sqlite_items::Items;
 use std::alloc::{AllocError, Global};
 

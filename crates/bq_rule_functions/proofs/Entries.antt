@@ -2,8 +2,8 @@
 use Rattle.std.proofs.Common.{◌≡◌, ◌∙◌, sym, ap, refl, ℕ, List, [], ◌∷◌, Result, Ok, Err}
 use Rattle.std.specs.Prelude.{◌++◌, map}
 use Rattle.std.proofs.lemmas.List.{map_push, append_assoc, append-nil}
-use Rattle.bq_source.specs.declared.fault.FaultKind.{FaultKind}
-use Rattle.bq_source.specs.declared.fault.FaultKind.TheVariants.{WrongType}
+use Rattle.bq_base.specs.declared.fault.FaultKind.{FaultKind}
+use Rattle.bq_base.specs.declared.fault.FaultKind.TheVariants.{WrongType}
 use Rattle.bq_rule_class.specs.Class.{Class}
 use Rattle.bq_rule_class.specs.declared.attribute.Attribute.{Attribute}
 use Rattle.bq_value.specs.Datum as datum

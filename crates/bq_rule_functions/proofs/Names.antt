@@ -2,7 +2,7 @@
 use Rattle.std.proofs.Common.{◌≡◌, ◌∙◌, sym, ap, refl, ℕ, Bool, true, false, List, [], ◌∷◌, Some, None, inl, inr}
 use Rattle.std.specs.Prelude.{cond, ◌++◌, bytes_eq}
 use Rattle.std.proofs.lemmas.Slice.Eq.{bytes_eq-Decides}
-use Rattle.bq_source.proofs.Choices.{by_bool}
+use Rattle.bq_base.proofs.Choices.{by_bool}
 use Rattle.bq_rule_class.specs.Class.{Class, has_attribute}
 use Rattle.bq_rule_class.specs.declared.attribute.Attribute.{Attribute}
 use Rattle.bq_value.specs.Datum.{Datum, string}

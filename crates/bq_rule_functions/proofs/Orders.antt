@@ -1,8 +1,8 @@
 -- What rules are refused for, in order.
 use Rattle.std.proofs.Common.{◌≡◌, refl, Bool, true, false, [], ◌∷◌, Result, Ok, Err}
 use Rattle.std.specs.Prelude.{◌||◌, not, if◌then◌else◌}
-use Rattle.bq_source.specs.declared.fault.FaultKind.{FaultKind}
-use Rattle.bq_source.specs.declared.fault.FaultKind.TheVariants.{BadValue}
+use Rattle.bq_base.specs.declared.fault.FaultKind.{FaultKind}
+use Rattle.bq_base.specs.declared.fault.FaultKind.TheVariants.{BadValue}
 use Rattle.bq_refusal_laws.specs.Refusals.{when, first_fault, fault_in, fault_then}
 use Rattle.bq_rule_class.specs.Class.{Class}
 use Rattle.bq_value.specs.Cells.{StoreView}

@@ -1,7 +1,7 @@
 -- The parameters of the functions that declare rules (Bazel, "attr", "rule"), and what is read of the arguments that they take.
 use Rattle.std.specs.Prelude.{false, [], ◌∷◌, Option, Some, None, Result, Ok, Err, codes}
-use Rattle.bq_source.specs.declared.fault.FaultKind.{FaultKind}
-use Rattle.bq_source.specs.declared.fault.FaultKind.TheVariants.{WrongType}
+use Rattle.bq_base.specs.declared.fault.FaultKind.{FaultKind}
+use Rattle.bq_base.specs.declared.fault.FaultKind.TheVariants.{WrongType}
 use Rattle.bq_value.specs.Datum.{Datum, none, string}
 use Rattle.bq_machine.specs.Parameters.{SignatureView}
 use Rattle.bq_typed.specs.Parameters.{required, optional}

@@ -2,8 +2,8 @@
 -- or `doc` neither a string nor `None`; F57 where an attribute may not have its name, and while a BUILD file is evaluated.
 use Rattle.std.specs.Prelude.{ℕ, Bool, not, ◌&&◌, ◌||◌, List, [], Option, Some, None, is_some, Result, Ok, Err, if◌then◌else◌}
 use Rattle.std.specs.List.{list_all}
-use Rattle.bq_source.specs.declared.fault.FaultKind.{FaultKind}
-use Rattle.bq_source.specs.declared.fault.FaultKind.TheVariants.{WrongType, BadValue}
+use Rattle.bq_base.specs.declared.fault.FaultKind.{FaultKind}
+use Rattle.bq_base.specs.declared.fault.FaultKind.TheVariants.{WrongType, BadValue}
 use Rattle.bq_grammar.specs.Literals.{is_identifier}
 use Rattle.bq_rule_class.specs.AttributeType.{common_attribute}
 use Rattle.bq_rule_class.specs.Class.{Class}

@@ -1,15 +1,15 @@
 //! `attr.NAME(..)` (Bazel, "attr").
 
 ghost use Rattle.std.specs.Prelude.{◌≡◌, option_copied};
-ghost use Rattle.bq_source.specs.Gives.{Gives};
+ghost use Rattle.bq_base.specs.Gives.{Gives};
 ghost use Rattle.bq_value.specs.declared.error.EvalErr.TheVariants.{Bad};
 ghost use Rattle.bq_rule_functions.specs.Attribute.{written_default, is_blank, kept, resolved_default, is_mandatory, attribute_of, attribute};
 
 use crate::keywords::{bind_attribute, documented};
+use bq_base::FaultKind;
 use bq_host::Host;
 use bq_machine::Args;
 use bq_rule_class::{Attribute, AttributeType, AttributeValue};
-use bq_source::FaultKind;
 use bq_typed::{Written, argument, written_as};
 use bq_value::{EvalErr, Node, Store, Value};
 use bq_walk::truth;

@@ -1,7 +1,7 @@
 //! Calls of the functions that declare rules, and of rules.
 
 ghost use Rattle.std.specs.Prelude.{◌≡◌, IfOk};
-ghost use Rattle.bq_source.specs.Gives.{Gives};
+ghost use Rattle.bq_base.specs.Gives.{Gives};
 ghost use Rattle.bq_value.specs.declared.error.EvalErr.TheVariants.{Bad};
 ghost use Rattle.bq_value.specs.Cells.{content_at, kind_of};
 ghost use Rattle.bq_machine.specs.Action.{Does, HostDoes};
@@ -9,11 +9,11 @@ ghost use Rattle.bq_rule_functions.specs.Call.{type_of, new_attribute, new_rule,
 
 use crate::attribute::attribute;
 use crate::rule::class;
+use bq_base::{Bytes, FaultKind};
 use bq_host::Host;
 use bq_machine::{Args, Machine};
 use bq_predeclared::RuleFunction;
 use bq_rule_class::{AttributeType, RuleClass};
-use bq_source::{Bytes, FaultKind};
 use bq_value::{Body, Cell, Content, EvalErr, Store, Value};
 use std::alloc::{AllocError, Global};
 

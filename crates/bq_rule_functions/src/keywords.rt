@@ -1,14 +1,14 @@
 //! The arguments of the functions that declare rules.
 
 ghost use Rattle.std.specs.Prelude.{◌≡◌, option_copied};
-ghost use Rattle.bq_source.specs.Gives.{Gives};
+ghost use Rattle.bq_base.specs.Gives.{Gives};
 ghost use Rattle.bq_value.specs.declared.error.EvalErr.TheVariants.{Bad};
 ghost use Rattle.bq_machine.specs.Binding.{bind};
 ghost use Rattle.bq_rule_functions.specs.Keywords.{attribute_parameters, rule_parameters, documented};
 
-use bq_machine::{Args, Bound, SingleParameter, Signature, bind};
+use bq_base::FaultKind;
+use bq_machine::{Args, Bound, Signature, SingleParameter, bind};
 use bq_seed::Seed;
-use bq_source::FaultKind;
 use bq_value::{EvalErr, Node, Value};
 use std::alloc::Global;
 

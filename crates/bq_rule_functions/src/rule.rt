@@ -1,17 +1,17 @@
 //! `rule(..)` (Bazel, "rule").
 
 ghost use Rattle.std.specs.Prelude.{◌≡◌, option_copied, Some};
-ghost use Rattle.bq_source.specs.Gives.{Gives};
+ghost use Rattle.bq_base.specs.Gives.{Gives};
 ghost use Rattle.bq_value.specs.declared.error.EvalErr.TheVariants.{Bad};
 ghost use Rattle.bq_value.specs.Cells.{content_at};
 ghost use Rattle.bq_value.specs.Pairs.{HasNoKeyTwice};
 ghost use Rattle.bq_rule_functions.specs.Rule.{implemented, attribute_in, entry, entries, entries_in, attributes_in, may_be_named, are_named, class_of, class};
 
 use crate::keywords::{bind_rule, documented};
+use bq_base::{Bytes, FaultKind};
 use bq_grammar::is_identifier;
 use bq_machine::Args;
 use bq_rule_class::{Attribute, RuleClass, common_attribute};
-use bq_source::{Bytes, FaultKind};
 use bq_typed::{argument, text_in};
 use bq_value::laws::dicts_of_stores_have_distinct_keys;
 use bq_value::{Body, Cell, Dict, EvalErr, Node, Store, Value};

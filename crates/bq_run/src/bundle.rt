@@ -7,8 +7,8 @@ ghost use Rattle.bq_run.specs.Bundle.{BeginsWith, max_bundle_bytes, bundle_of, c
 use crate::device::ByteSource;
 use crate::error::RunErr;
 use crate::transfer::{ReadFault, read_all};
+use bq_base::Bytes;
 use bq_label::{File, Workspace};
-use bq_source::Bytes;
 use memchr::memchr;
 use std::alloc::{AllocError, Global};
 

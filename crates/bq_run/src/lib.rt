@@ -30,7 +30,7 @@ pub use bq_answer::OutputForm;
 pub use bq_query::QueryErr;
 pub use bq_report::Status;
 pub use bundle::read_bundle;
-pub use device::{Counted, Metered, ByteSink, ByteSource};
+pub use device::{ByteSink, ByteSource, Counted, Metered};
 pub use error::RunErr;
 pub use options::{MAX_JOBS, Options};
 pub use runs::{run, run_files};

@@ -12,7 +12,7 @@ use bq_discover::{LoadErr, schema_of};
 use bq_label::Workspace;
 use bq_load::{Loaded, OpenGate, load_with};
 use bq_query_check::{CheckedQuery, parse_query};
-use bq_report::{Contents, Question, NoAnswer, Report, refusal_of, report_on};
+use bq_report::{Contents, NoAnswer, Question, Report, refusal_of, report_on};
 use bq_schema::Schema;
 use bq_seed::Seed;
 use std::alloc::{AllocError, Global};

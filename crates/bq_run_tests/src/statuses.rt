@@ -2,8 +2,8 @@
 
 use crate::devices::make_sip;
 use crate::rows::{Row, Subject, check_rows};
+use bq_base::Bytes;
 use bq_run::{QueryErr, RunErr, Status, status_code, status_of, write_status_line};
-use bq_source::Bytes;
 use std::alloc::{AllocError, Global};
 
 /// The error of a query, by the number that users see.

@@ -1,6 +1,6 @@
 -- What a built-in function does that is called by its name (Starlark specification, "Function and method calls").
 use Rattle.std.specs.Prelude.{List, Option, Some, None}
-use Rattle.bq_source.specs.declared.fault.FaultKind.TheVariants.{WrongType}
+use Rattle.bq_base.specs.declared.fault.FaultKind.TheVariants.{WrongType}
 use Rattle.bq_predeclared.specs.declared.predeclared.Predeclared.{Predeclared}
 use Rattle.bq_predeclared.specs.declared.predeclared.Predeclared.TheVariants as p
 use Rattle.bq_value.specs.Datum.{Datum}

@@ -1,7 +1,7 @@
 -- Lists and dicts that are being made (Starlark, "List comprehensions", "Dictionaries"): what they hold so far, and one more.
 use Rattle.std.specs.Prelude.{cond, List, [], ◌∷◌, ◌++◌, is_some, Result, Ok, Err}
-use Rattle.bq_source.specs.declared.fault.FaultKind.{FaultKind}
-use Rattle.bq_source.specs.declared.fault.FaultKind.TheVariants.{WrongType, DoubleKey}
+use Rattle.bq_base.specs.declared.fault.FaultKind.{FaultKind}
+use Rattle.bq_base.specs.declared.fault.FaultKind.TheVariants.{WrongType, DoubleKey}
 use Rattle.bq_value.specs.Contents.{Contents, items, pairs}
 use Rattle.bq_value.specs.Datum.{Datum}
 use Rattle.bq_value.specs.Pairs.{found, put}

@@ -1,7 +1,7 @@
 -- Unpacking (Starlark specification, "Assignments"): so many targets take an iterable of just as many elements (F57).
 use Rattle.std.specs.Prelude.{ℕ, List, length, ◌==◌, cond, Result, Ok, Err}
-use Rattle.bq_source.specs.declared.fault.FaultKind.{FaultKind}
-use Rattle.bq_source.specs.declared.fault.FaultKind.TheVariants.{BadValue}
+use Rattle.bq_base.specs.declared.fault.FaultKind.{FaultKind}
+use Rattle.bq_base.specs.declared.fault.FaultKind.TheVariants.{BadValue}
 use Rattle.bq_value.specs.Datum.{Datum}
 use Rattle.bq_machine.specs.State.{State}
 use Rattle.bq_machine.specs.Action.{Action, look}

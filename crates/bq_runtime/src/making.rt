@@ -1,12 +1,12 @@
 //! Lists and dicts that are being made.
 
 ghost use Rattle.std.specs.Prelude.{◌≡◌};
-ghost use Rattle.bq_source.specs.Gives.{Gives};
+ghost use Rattle.bq_base.specs.Gives.{Gives};
 ghost use Rattle.bq_value.specs.declared.error.EvalErr.TheVariants.{Bad};
 ghost use Rattle.bq_runtime.specs.Making.{with_element, with_pair, with_new_pair};
 
+use bq_base::FaultKind;
 use bq_operators::MAX_LEN;
-use bq_source::FaultKind;
 use bq_value::{Body, Content, EvalErr, Key, Value};
 
 /// One more element of a list (F54).

@@ -1,16 +1,16 @@
 //! The arguments of a call, one after another.
 
 ghost use Rattle.std.specs.Prelude.{◌≡◌, ◌+◌, ◌∷◌, ◌++◌, [], length, cond, nat_le, Ok, Err, OnOk};
-ghost use Rattle.bq_source.specs.Gives.{Gives};
-ghost use Rattle.bq_source.specs.declared.fault.FaultKind.TheVariants.{TooLong};
+ghost use Rattle.bq_base.specs.Gives.{Gives};
+ghost use Rattle.bq_base.specs.declared.fault.FaultKind.TheVariants.{TooLong};
 ghost use Rattle.bq_value.specs.declared.error.EvalErr.TheVariants.{Bad};
 ghost use Rattle.bq_operators.specs.Length.{max_len};
 ghost use Rattle.bq_operate.specs.Operand.{and_then, dict_in};
 ghost use Rattle.bq_runtime.specs.Passing.{if_few, with_positional, with_named, with_pairs, name_of};
 
+use bq_base::{Bytes, FaultKind};
 use bq_machine::{Args, Elements};
 use bq_operators::joined_len;
-use bq_source::{Bytes, FaultKind};
 use bq_value::{Body, Dict, EvalErr, Node, Store, Value};
 use std::alloc::AllocError;
 

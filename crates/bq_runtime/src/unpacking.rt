@@ -3,8 +3,8 @@
 ghost use Rattle.bq_machine.specs.Action.{Does};
 ghost use Rattle.bq_runtime.specs.Unpacking.{parts};
 
+use bq_base::FaultKind;
 use bq_machine::{Elements, Machine};
-use bq_source::FaultKind;
 use bq_value::{EvalErr, Value};
 use std::alloc::Global;
 

@@ -1,6 +1,6 @@
 -- Reading a schema line by line.
 use Rattle.std.proofs.Common.{◌≡◌, ◌≢◌, ◌∙◌, ◌+◌, ℕ, suc, List, [], ◌∷◌, ◌++◌, length, Option, Some, None, Result, Ok, Err, refl, sym, ap, arith}
-use Rattle.bq_source.specs.declared.fault.Fault.{Fault}
+use Rattle.bq_base.specs.declared.fault.Fault.{Fault}
 use Rattle.bq_schema.specs.declared.line.Line.TheVariants as line
 use Rattle.bq_schema.specs.Line.{line_of}
 use Rattle.bq_schema.specs.Schema.{Rules, after}

@@ -1,12 +1,12 @@
 -- The lines of the standard schema declare its rules.
 use Rattle.std.proofs.Common.{◌≡◌, Result, Ok, Err, refl}
 use Rattle.std.specs.Result.{IfOk, IfErr}
-use Rattle.bq_source.specs.Gives.{Gives}
+use Rattle.bq_base.specs.Gives.{Gives}
 use Rattle.bq_source.specs.Lexis.{word_kind}
 use Rattle.bq_source.specs.Token.{same_kind}
-use Rattle.bq_source.specs.declared.fault.Fault.{Fault}
-use Rattle.bq_source.specs.declared.fault.SourceErr.{SourceErr}
-use Rattle.bq_source.specs.declared.fault.SourceErr.TheVariants.{Bad, Memory}
+use Rattle.bq_base.specs.declared.fault.Fault.{Fault}
+use Rattle.bq_base.specs.declared.fault.SourceErr.{SourceErr}
+use Rattle.bq_base.specs.declared.fault.SourceErr.TheVariants.{Bad, Memory}
 use Rattle.bq_grammar.specs.Literals.{is_identifier}
 use Rattle.bq_predeclared.specs.Predeclared.{first_named, predeclared_named}
 use Rattle.bq_rule_class.specs.Class.{extended}

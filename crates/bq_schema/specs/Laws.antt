@@ -1,6 +1,6 @@
 -- Words of the laws.
 use Rattle.std.specs.Prelude.{◌≡◌, ◌≢◌, ℕ, List, [], ◌∷◌, ◌++◌, length, map, false, None, Ok, Err}
-use Rattle.bq_source.specs.declared.fault.Fault.{Fault}
+use Rattle.bq_base.specs.declared.fault.Fault.{Fault}
 use Rattle.bq_rule_class.specs.Class.{Class}
 use Rattle.bq_rule_class.specs.declared.attribute.Attribute.{Attribute}
 use Rattle.bq_schema.specs.declared.line.Line.TheVariants as line

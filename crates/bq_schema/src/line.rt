@@ -5,10 +5,10 @@ ghost use Rattle.std.specs.List.{list_all, slice_split};
 ghost use Rattle.bq_schema.specs.Line.{is_blank, is_skipped, is_predeclared, names_rule, names_attribute, words, rule_line, attribute_line, words_line, line_of};
 ghost use Rattle.bq_schema.specs.declared.line.Line.TheVariants as line;
 
+use bq_base::Bytes;
 use bq_grammar::is_identifier;
 use bq_predeclared::predeclared_named;
 use bq_rule_class::{Attribute, common_attribute, type_named};
-use bq_source::Bytes;
 use std::alloc::{AllocError, Global};
 
 /// What a line says.

@@ -2,15 +2,15 @@
 
 ghost use Rattle.std.specs.Prelude.{◌≡◌, ◌==◌, map, drop, IfOk, IfErr};
 ghost use Rattle.std.specs.List.{slice_split};
-ghost use Rattle.bq_source.specs.Gives.{Gives};
-ghost use Rattle.bq_source.specs.declared.fault.SourceErr.TheVariants.{Bad, Memory};
+ghost use Rattle.bq_base.specs.Gives.{Gives};
+ghost use Rattle.bq_base.specs.declared.fault.SourceErr.TheVariants.{Bad, Memory};
 ghost use Rattle.bq_schema.specs.Schema.{no_rules, after};
 ghost use Rattle.bq_schema.specs.Line.{line_of};
 ghost use Rattle.bq_schema.specs.Reading.{lines, line_number, declared_by, schema_of};
 
 use crate::line::line_of;
 use crate::schema::Schema;
-use bq_source::{Fault, FaultKind, SourceErr};
+use bq_base::{Fault, FaultKind, SourceErr};
 use std::alloc::{AllocError, Global};
 
 /// The lines of a text.

@@ -5,8 +5,8 @@ ghost use Rattle.bq_schema.specs.Schema.{no_rules, with_rule, with_attribute_of_
 
 use crate::line::Line;
 use crate::names::RuleNames;
+use bq_base::Bytes;
 use bq_rule_class::{Attribute, RuleClass};
-use bq_source::Bytes;
 use sqlite_items::Items;
 use std::alloc::{AllocError, Global};
 use std::marker::Model;

@@ -1,12 +1,12 @@
 //! The schema of a workspace without a file of its own.
 
 ghost use Rattle.std.specs.Prelude.{◌≡◌, IfOk, IfErr};
-ghost use Rattle.bq_source.specs.declared.fault.SourceErr.TheVariants.{Memory};
+ghost use Rattle.bq_base.specs.declared.fault.SourceErr.TheVariants.{Memory};
 ghost use Rattle.bq_schema.specs.Standard.{standard_rules};
 
 use crate::read::read_lines;
 use crate::schema::Schema;
-use bq_source::SourceErr;
+use bq_base::SourceErr;
 use std::alloc::Global;
 
 /// Its lines (ours: a part of Bazel's rules).

@@ -1,6 +1,6 @@
 -- What a file resolves to, or its first fault.
 use Rattle.std.specs.Prelude.{ℕ, List, [], false, Result, Ok, Err}
-use Rattle.bq_source.specs.declared.fault.Fault.{Fault}
+use Rattle.bq_base.specs.declared.fault.Fault.{Fault}
 use Rattle.bq_grammar.specs.declared.tree.Branch.{Branch}
 use Rattle.bq_grammar.specs.declared.tree.Identifier.{Identifier}
 use Rattle.bq_grammar.specs.declared.tree.Parameter.{Parameter}

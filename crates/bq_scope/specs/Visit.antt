@@ -1,7 +1,7 @@
 -- A walk along a tree in the order of its text, which ends at the first fault.
 use Rattle.std.specs.Prelude.{ℕ, List, [], ◌∷◌, ◌++◌, Option, Some, None, Result, Ok, Err}
-use Rattle.bq_source.specs.declared.fault.Fault.{Fault}
-use Rattle.bq_source.specs.declared.fault.FaultKind.{FaultKind}
+use Rattle.bq_base.specs.declared.fault.Fault.{Fault}
+use Rattle.bq_base.specs.declared.fault.FaultKind.{FaultKind}
 use Rattle.bq_grammar.specs.declared.tree.Identifier.{Identifier}
 use Rattle.bq_scope.specs.declared.code.CodeFunction.{CodeFunction}
 use Rattle.bq_scope.specs.declared.code.LoadStmt.{LoadStmt}

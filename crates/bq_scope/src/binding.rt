@@ -5,7 +5,7 @@ ghost use Rattle.bq_scope.specs.Names as spec;
 
 use crate::names::Names;
 use bq_grammar::{
-    Branch, Clause, LoadClause, Parameter, SmallKind, SmallStmt, Stmt, AssignTarget, TopLevel,
+    AssignTarget, Branch, Clause, LoadClause, Parameter, SmallKind, SmallStmt, Stmt, TopLevel,
 };
 use std::alloc::{AllocError, Global};
 
@@ -14,7 +14,11 @@ pub const MAX_LAYERS: usize = 1024;
 
 /// Adds the names of targets that are no deeper than so many layers.
 #[cycle(targets)]
-fn add_targets_to(names: &mut Names, depth: usize, targets: &[AssignTarget]) -> Result<(), AllocError>
+fn add_targets_to(
+    names: &mut Names,
+    depth: usize,
+    targets: &[AssignTarget],
+) -> Result<(), AllocError>
     ensures { OnOk result (names.new ≡ spec.with_each (spec.with_target_to depth) names.old targets.now) }
 {
     for target in targets {

@@ -1,8 +1,8 @@
 //! Resolved trees: in place of each name stands where its value is. They have the shape of the trees that they come from.
 
+use bq_base::Bytes;
 use bq_grammar::{Comparison, Operator, UnaryOperator};
 use bq_predeclared::Predeclared;
-use bq_source::Bytes;
 use sqlite_items::{Boxed, Items};
 
 /// Where the value of a name is.

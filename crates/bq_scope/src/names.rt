@@ -6,7 +6,7 @@ ghost use Rattle.std.specs.Cmp.{partial_equiv_from_equiv};
 ghost use Rattle.bq_scope.specs.Names.{has, place_among, with_name};
 ghost use Rattle.bq_scope.specs.Keys.{feed, same_feed};
 
-use bq_source::Bytes;
+use bq_base::Bytes;
 use indexmap::IndexSet;
 use sqlite_items::Items;
 use std::alloc::{AllocError, Global};

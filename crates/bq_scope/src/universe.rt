@@ -5,9 +5,9 @@ ghost use Rattle.bq_scope.specs.Names.{with_each, with_name};
 ghost use Rattle.bq_scope.specs.Universe.{rule_named, host_by, host_named, in_build, in_bzl, in_kind, member_named, namespace_named, universe_has};
 
 use crate::names::Names;
+use bq_base::Bytes;
 use bq_grammar::FileKind;
 use bq_predeclared::{Predeclared, RuleFunction, attr_named, predeclared_named};
-use bq_source::Bytes;
 use std::alloc::{AllocError, Global};
 use std::marker::Model;
 use std::sync::Arc;

@@ -1,8 +1,8 @@
 -- Expressions need no more slots than the frame has after them.
 use Rattle.std.proofs.Common.{◌≡◌, ◌≤◌, ℕ, zero, suc, ◌+◌, max, List, [], ◌∷◌, map, length, Option, Some, None, Result, Ok, Err, refl, ◌∙◌, arith}
-use Rattle.bq_source.specs.declared.fault.Fault.{Fault}
-use Rattle.bq_source.specs.declared.fault.FaultKind.TheVariants as f
-use Rattle.bq_source.specs.Fault.{fault_at}
+use Rattle.bq_base.specs.declared.fault.Fault.{Fault}
+use Rattle.bq_base.specs.declared.fault.FaultKind.TheVariants as f
+use Rattle.bq_base.specs.Fault.{fault_at}
 use Rattle.bq_grammar.specs.declared.tree.Argument.TheOpen.{Expr-F, Suffix-F, Argument-F, Clause-F, AssignTarget-F}
 use Rattle.bq_grammar.specs.declared.tree.Argument.{Argument, out-Argument}
 use Rattle.bq_grammar.specs.declared.tree.Choice.{Choice, out-Choice}

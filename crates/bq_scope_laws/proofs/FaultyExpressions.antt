@@ -1,7 +1,7 @@
 -- The fault of an expression is the first rule that it breaks.
 use Rattle.std.proofs.Common.{ℕ, zero, suc, ◌+◌, List, [], ◌∷◌, ◌++◌, length, Option, Some, None, is_some, Result, Ok, Err, inl, inr, refl, subst}
-use Rattle.bq_source.specs.declared.fault.Fault.{Fault}
-use Rattle.bq_source.specs.declared.fault.FaultKind.TheVariants as f
+use Rattle.bq_base.specs.declared.fault.Fault.{Fault}
+use Rattle.bq_base.specs.declared.fault.FaultKind.TheVariants as f
 use Rattle.bq_grammar.specs.declared.tree.Argument.TheOpen.{Expr-F, Suffix-F, Argument-F, Clause-F, AssignTarget-F}
 use Rattle.bq_grammar.specs.declared.tree.Argument.{Argument, out-Argument}
 use Rattle.bq_grammar.specs.declared.tree.Choice.{Choice, out-Choice}

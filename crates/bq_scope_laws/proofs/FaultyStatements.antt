@@ -1,8 +1,8 @@
 -- The fault of a statement of a function is the first rule that it breaks.
 use Rattle.std.proofs.Common.{ℕ, zero, suc, Bool, true, false, List, [], ◌∷◌, ◌++◌, Option, inl, inr, refl}
-use Rattle.bq_source.specs.declared.fault.Fault.{Fault}
-use Rattle.bq_source.specs.declared.fault.FaultKind.TheVariants as f
-use Rattle.bq_source.specs.Fault.{fault_at}
+use Rattle.bq_base.specs.declared.fault.Fault.{Fault}
+use Rattle.bq_base.specs.declared.fault.FaultKind.TheVariants as f
+use Rattle.bq_base.specs.Fault.{fault_at}
 use Rattle.bq_grammar.specs.declared.tree.Branch.{Branch, out-Branch}
 use Rattle.bq_grammar.specs.declared.tree.Expr.{Expr}
 use Rattle.bq_grammar.specs.declared.tree.Operator.{Operator}

@@ -1,6 +1,6 @@
 -- Walks whose fault is the first of given ones: where there is none they go on, with names bound and loaded as given.
 use Rattle.std.proofs.Common.{◌≡◌, true, List, [], ◌∷◌, ◌++◌, Option, Some, None, is_some, Result, Ok, Err, inl, inr, refl, sym, subst}
-use Rattle.bq_source.specs.declared.fault.Fault.{Fault}
+use Rattle.bq_base.specs.declared.fault.Fault.{Fault}
 use Rattle.bq_scope.specs.Names.{Name, has}
 use Rattle.bq_scope.specs.Visit.{Passed, Visit, following, ◌>>=◌, pure, given, each, optional}
 use Rattle.bq_scope_laws.specs.Binds.{AnyOf}

@@ -1,6 +1,6 @@
 -- What walks make, where they add no function and no load; and what those make that may.
 use Rattle.std.proofs.Common.{◌≡◌, ℕ, ◌+◌, List, [], ◌∷◌, ◌++◌, length, Option, Some, None, Result, Ok, Err, refl, sym, ap, ◌∙◌, subst, length-append}
-use Rattle.bq_source.specs.declared.fault.Fault.{Fault}
+use Rattle.bq_base.specs.declared.fault.Fault.{Fault}
 use Rattle.bq_scope.specs.declared.code.CodeFunction.{CodeFunction}
 use Rattle.bq_scope.specs.declared.code.LoadStmt.{LoadStmt}
 use Rattle.bq_scope.specs.Visit.{Passed, Visit, following, ◌>>=◌, pure, given, each, optional}

@@ -1,7 +1,7 @@
 -- Walks that list the slots of what they make beside the uses of what they walk over, inside a function.
 use Rattle.std.proofs.Common.{◌≡◌, ◌∙◌, ℕ, List, [], ◌∷◌, ◌++◌, length, map, Option, Some, None, Result, Ok, Err, refl, sym, ap, subst, append_assoc}
 use Rattle.std.proofs.lemmas.List.{append-nil}
-use Rattle.bq_source.specs.declared.fault.Fault.{Fault}
+use Rattle.bq_base.specs.declared.fault.Fault.{Fault}
 use Rattle.bq_scope.specs.Scope.{BlockParts}
 use Rattle.bq_scope.specs.Visit.{Passed, Visit, following, ◌>>=◌, pure, stop, given, each, optional}
 use Rattle.bq_scope_laws.specs.Resolution.{InOrder}

@@ -14,10 +14,10 @@ use Rattle.bq_source.specs.declared.operators.Lexeme.TheVariants.{Plain, Opens, 
 use Rattle.bq_source.specs.declared.piece.Extent.{Extent}
 use Rattle.bq_source.specs.declared.piece.Piece.{Piece}
 use Rattle.bq_source.specs.declared.piece.Piece.TheVariants.{Gap, LineEnd, Lexed, Bad}
-use Rattle.bq_source.specs.declared.fault.Fault.{Fault}
-use Rattle.bq_source.specs.declared.fault.FaultKind.{FaultKind}
-use Rattle.bq_source.specs.declared.fault.FaultKind.TheVariants as f
-use Rattle.bq_source.specs.Fault.{fault_at}
+use Rattle.bq_base.specs.declared.fault.Fault.{Fault}
+use Rattle.bq_base.specs.declared.fault.FaultKind.{FaultKind}
+use Rattle.bq_base.specs.declared.fault.FaultKind.TheVariants as f
+use Rattle.bq_base.specs.Fault.{fault_at}
 use Rattle.bq_source.specs.Token.{same_kind}
 use Rattle.bq_source.specs.Lexis.{newlines}
 use Rattle.bq_source.specs.Operators.{kind_of}
@@ -26,7 +26,7 @@ use Rattle.bq_source.specs.Reading.{State, start, margin_of, skip, token_at, pus
 use Rattle.bq_source.specs.Spelling.{IsLineEnd, IsSpelled, IsMisspelled, IsNoGap, spelled, misspelled}
 use Rattle.bq_source.specs.Indentation.{width_before, AreMarks, wider, open_}
 use Rattle.bq_source.specs.Layout.{closed_by, opened_by, Leaves, no_token, one_token, IsInLine, IsBetween, first, after, Before, beginning, past, line_from, token_of, with_tokens, width, has_tab, IsEmptyAt, IsIndented, Takes, gap, in_brackets, blank_line, line_end, token, first_token, Cut, here, on, none, newline, Finishes, Reads, inside, indented, FaultAfter, misspelled as unspelled, tab, uneven, closes_none, never_closed, IsFaulty}
-use Rattle.bq_source.proofs.Choices.{by_test}
+use Rattle.bq_base.proofs.Choices.{by_test}
 use Rattle.bq_source.proofs.Fitting.{fits}
 use Rattle.bq_source.proofs.Spelled.{Means, means, false_not_true}
 use Rattle.bq_source.proofs.LexemeKinds.{nested, nests, no_newline}

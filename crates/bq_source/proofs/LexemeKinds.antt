@@ -14,7 +14,7 @@ use Rattle.bq_source.specs.Operators.{operators, kind_of}
 use Rattle.bq_source.specs.StringLiteral.{scan_string}
 use Rattle.bq_source.specs.Spelling.{IsListed, IsSpelled, word, number, string, operator}
 use Rattle.bq_source.specs.Layout.{closed_by, opened_by}
-use Rattle.bq_source.proofs.Choices.{by_test, left_of, right_of}
+use Rattle.bq_base.proofs.Choices.{by_test, left_of, right_of}
 
 -- ---- which kinds they are not
 

@@ -8,7 +8,6 @@ pub mod LiteralLaws
 pub mod Quoted
 pub mod NumberLaws
 -- How far runs and pieces go, so that the pieces come to an end.
-pub mod Choices
 pub mod Runs
 pub mod Fitting
 pub mod Keeping

@@ -8,7 +8,7 @@ use Rattle.std.proofs.lemmas.Bool.{leb-true}
 use Rattle.std.proofs.lemmas.Slice.Eq.{bytes_eq-Decides}
 use Rattle.bq_source.specs.declared.token.TokenKind.TheVariants as k
 use Rattle.bq_source.specs.Lexis.{keywords, reserved_words, word_kind, word_kind_by, other_word}
-use Rattle.bq_source.proofs.Choices.{by_bool, left_of, right_of}
+use Rattle.bq_base.proofs.Choices.{by_bool, left_of, right_of}
 
 -- it is not one of so few bytes
 unlike : (w x : List ℕ) → 8 < length w → nat_le (length x) 8 ≡ true → bytes_eq w x ≡ false

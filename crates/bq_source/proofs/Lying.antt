@@ -13,7 +13,7 @@ use Rattle.bq_source.specs.declared.operators.Lexeme.TheVariants.{Plain, Opens, 
 use Rattle.bq_source.specs.declared.piece.Extent.{Extent}
 use Rattle.bq_source.specs.declared.piece.Piece.{Piece}
 use Rattle.bq_source.specs.declared.piece.Piece.TheVariants.{Gap, LineEnd, Lexed, Bad}
-use Rattle.bq_source.specs.declared.fault.Fault.{Fault}
+use Rattle.bq_base.specs.declared.fault.Fault.{Fault}
 use Rattle.bq_source.specs.declared.string_literal.StringLiteral.{StringLiteral}
 use Rattle.std.proofs.Math.Seq.{take-append_seam}
 use Rattle.bq_source.specs.Token.{same_kind}
@@ -22,7 +22,7 @@ use Rattle.bq_source.specs.StringLiteral.{string_value}
 use Rattle.bq_source.specs.Piece.{next_piece, IsPart, Fits}
 use Rattle.bq_source.specs.Reading.{State, skip, token_at, push_empty, push_token, end_line, end_line_by, close_above, width_of, set_width, indent, indent_by, close_by, nest, nest_by, take_token, refuse, and_then, advance, step, end_text, finish, finish_by, Runs, ends, stops, goes, Lexes, too_long, cut}
 use Rattle.bq_source.specs.Spelling.{IsSpelled, Lies}
-use Rattle.bq_source.proofs.Choices.{by_test}
+use Rattle.bq_base.proofs.Choices.{by_test}
 use Rattle.bq_source.proofs.Fitting.{fits}
 use Rattle.bq_source.proofs.Keeping.{indent_rest, nest_rest}
 use Rattle.bq_source.proofs.LexemeKinds.{StringOrNot, is_string, is_none, string_or_not}

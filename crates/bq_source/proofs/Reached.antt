@@ -1,9 +1,9 @@
 -- Every text has its reading: the pieces come to an end.
 use Rattle.std.proofs.Common.{◌≡◌, ℕ, zero, suc, ◌+◌, ◌<◌, List, [], ◌∷◌, length, take, Bool, true, false, cond, nat_lt, Result, Ok, Err, refl, arith}
 use borrow.Author.Tests.{ltb-true, ltb-false}
-use Rattle.bq_source.specs.declared.fault.Fault.{Fault}
-use Rattle.bq_source.specs.declared.fault.FaultKind.TheVariants as f
-use Rattle.bq_source.specs.Fault.{fault_at}
+use Rattle.bq_base.specs.declared.fault.Fault.{Fault}
+use Rattle.bq_base.specs.declared.fault.FaultKind.TheVariants as f
+use Rattle.bq_base.specs.Fault.{fault_at}
 use Rattle.bq_source.specs.Reading.{State, start, step, Runs, ends, stops, goes, Lexes, too_long, cut, max_file_bytes, line_behind}
 use Rattle.bq_source.specs.Tokens.{by_step, by_rest, pieces, tokens_of}
 use Rattle.bq_source.proofs.Keeping.{step_shortens}

@@ -2,12 +2,12 @@
 use Rattle.std.specs.Global.{Global}
 use Rattle.std.proofs.Common.{◌≡◌, ◌<◌, ◌≤◌, ℕ, List, [], ◌∷◌, length, take, Result, Ok, Err, refl, sym, ◌∙◌, subst, arith, Vec}
 use Rattle.bq_source.specs.declared.token.Token.{Token}
-use Rattle.bq_source.specs.declared.fault.Fault.{Fault}
-use Rattle.bq_source.specs.declared.fault.SourceErr.{SourceErr}
-use Rattle.bq_source.specs.declared.fault.SourceErr.TheVariants.{Bad}
-use Rattle.bq_source.specs.declared.fault.FaultKind.TheVariants as f
-use Rattle.bq_source.specs.Fault.{fault_at}
-use Rattle.bq_source.specs.Gives.{Gives, GivesOneOf}
+use Rattle.bq_base.specs.declared.fault.Fault.{Fault}
+use Rattle.bq_base.specs.declared.fault.SourceErr.{SourceErr}
+use Rattle.bq_base.specs.declared.fault.SourceErr.TheVariants.{Bad}
+use Rattle.bq_base.specs.declared.fault.FaultKind.TheVariants as f
+use Rattle.bq_base.specs.Fault.{fault_at}
+use Rattle.bq_base.specs.Gives.{Gives, GivesOneOf}
 use Rattle.bq_source.specs.Lexing.{the_tokens}
 use Rattle.bq_source.specs.Reading.{State, start, step, finish, Runs, ends, stops, goes, Lexes, too_long, cut, max_file_bytes, line_behind}
 

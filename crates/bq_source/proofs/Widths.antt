@@ -7,7 +7,7 @@ use borrow.Author.Tests.{ltb-true, ltb-false}
 use Rattle.bq_source.specs.declared.token.Token.{Token}
 use Rattle.bq_source.specs.declared.token.TokenKind.TheVariants as k
 use Rattle.bq_source.specs.Reading.{State, token_at, push_empty, close_above, width_of}
-use Rattle.bq_source.proofs.Choices.{by_bool}
+use Rattle.bq_base.proofs.Choices.{by_bool}
 use Rattle.bq_source.specs.Indentation.{IsOpen, width_before, IsAmong, IsDescending, AreOpenAbove}
 
 -- those that aren't wider than w, and those that are

@@ -9,10 +9,10 @@ use Rattle.bq_source.specs.declared.token.Token.{Token}
 use Rattle.bq_source.specs.declared.place.OpenBracket.{OpenBracket}
 use Rattle.bq_source.specs.declared.operators.Lexeme.{Lexeme}
 use Rattle.bq_source.specs.declared.operators.Lexeme.TheVariants.{Closes}
-use Rattle.bq_source.specs.declared.fault.Fault.{Fault}
-use Rattle.bq_source.specs.declared.fault.FaultKind.{FaultKind}
-use Rattle.bq_source.specs.declared.fault.FaultKind.TheVariants as f
-use Rattle.bq_source.specs.Fault.{fault_at}
+use Rattle.bq_base.specs.declared.fault.Fault.{Fault}
+use Rattle.bq_base.specs.declared.fault.FaultKind.{FaultKind}
+use Rattle.bq_base.specs.declared.fault.FaultKind.TheVariants as f
+use Rattle.bq_base.specs.Fault.{fault_at}
 use Rattle.bq_source.specs.Token.{same_kind}
 use Rattle.bq_source.specs.Lexis.{begins_with, newlines}
 use Rattle.bq_source.specs.Operators.{kind_of}

@@ -1,7 +1,3 @@
-pub mod Gives
-pub mod Bytes
-pub mod Fault
-pub mod Shown
 pub mod Token
 pub mod Lexis
 pub mod Operators

@@ -16,9 +16,9 @@ use Rattle.bq_source.specs.declared.piece.Piece.{Piece}
 use Rattle.bq_source.specs.declared.piece.Piece.TheVariants.{Gap, LineEnd, Lexed, Bad}
 use Rattle.bq_source.specs.declared.place.Margin.{Margin}
 use Rattle.bq_source.specs.declared.place.OpenBracket.{OpenBracket}
-use Rattle.bq_source.specs.declared.fault.Fault.{Fault}
-use Rattle.bq_source.specs.declared.fault.FaultKind.TheVariants as f
-use Rattle.bq_source.specs.Fault.{fault_at}
+use Rattle.bq_base.specs.declared.fault.Fault.{Fault}
+use Rattle.bq_base.specs.declared.fault.FaultKind.TheVariants as f
+use Rattle.bq_base.specs.Fault.{fault_at}
 use Rattle.bq_source.specs.Token.{same_kind}
 use Rattle.bq_source.specs.Lexis.{has, begins_with, newlines}
 use Rattle.bq_source.specs.Operators.{kind_of}

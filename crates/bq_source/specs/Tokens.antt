@@ -1,9 +1,9 @@
 -- The reading of a text as a function, for the definitions above: `every_text_has_its_reading` says that it is the only one.
 use Rattle.std.specs.Prelude.{ℕ, zero, suc, ◌+◌, List, [], ◌∷◌, length, take, nat_lt, Result, Ok, Err, if◌then◌else◌}
 use Rattle.bq_source.specs.declared.token.Token.{Token}
-use Rattle.bq_source.specs.declared.fault.Fault.{Fault}
-use Rattle.bq_source.specs.declared.fault.FaultKind.TheVariants as f
-use Rattle.bq_source.specs.Fault.{fault_at}
+use Rattle.bq_base.specs.declared.fault.Fault.{Fault}
+use Rattle.bq_base.specs.declared.fault.FaultKind.TheVariants as f
+use Rattle.bq_base.specs.Fault.{fault_at}
 use Rattle.bq_source.specs.Reading.{State, start, step, finish, max_file_bytes, line_behind}
 
 abbrev pub by_step : (State → Result (List Token) Fault) → Result State Fault → Result (List Token) Fault

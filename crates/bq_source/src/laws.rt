@@ -6,9 +6,9 @@ ghost use Rattle.bq_source.specs.Reading.{Lexes, line_behind, max_file_bytes};
 ghost use Rattle.bq_source.specs.Tokens.{tokens_of};
 ghost use Rattle.bq_source.specs.Spelling.{Lies};
 ghost use Rattle.bq_source.specs.Layout.{Reads, IsFaulty};
-ghost use Rattle.bq_source.specs.Fault.{fault_at};
-ghost use Rattle.bq_source.specs.declared.fault.FaultKind.TheVariants as f;
-ghost use Rattle.bq_source.specs.declared.fault.Fault.{Fault};
+ghost use Rattle.bq_base.specs.Fault.{fault_at};
+ghost use Rattle.bq_base.specs.declared.fault.FaultKind.TheVariants as f;
+ghost use Rattle.bq_base.specs.declared.fault.Fault.{Fault};
 ghost use Rattle.bq_source.specs.declared.token.Token.{Token};
 
 use crate::token::Token;

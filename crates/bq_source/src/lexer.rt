@@ -3,17 +3,17 @@
 ghost use Rattle.std.specs.Prelude.{◌≡◌, ◌≤◌, ◌<◌, ◌+◌, ◌-◌, ◌*◌, [], Some, length, take, IfOk};
 ghost use Rattle.bq_source.specs.Reading as spec;
 ghost use Rattle.bq_source.specs.Reading.{Lexes, max_file_bytes};
-ghost use Rattle.bq_source.specs.Fault.{fault_at};
-ghost use Rattle.bq_source.specs.Gives.{Gives, GivesOneOf};
+ghost use Rattle.bq_base.specs.Fault.{fault_at};
+ghost use Rattle.bq_base.specs.Gives.{Gives, GivesOneOf};
 ghost use Rattle.bq_source.specs.Lexing.{the_tokens};
 ghost use Rattle.bq_source.specs.Piece.{IsPart, Fits};
 
-use crate::fault::{Fault, FaultKind, SourceErr};
 use crate::lexis::{RunClass, newlines, run_len};
 use crate::operators::Lexeme;
 use crate::piece::{Extent, Piece, next_piece};
 use crate::place::{Lexer, MAX_FILE_BYTES, Margin, OpenBracket};
 use crate::token::{Token, TokenKind};
+use bq_base::{Fault, FaultKind, SourceErr};
 use std::alloc::{AllocError, Global};
 
 /// The start of a logical line that begins with this text.

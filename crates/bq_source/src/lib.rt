@@ -5,9 +5,6 @@
 //!
 //! In reading order:
 //!
-//! - `bytes`: the shared byte string of names, texts and details, here and in every crate above;
-//! - `fault`: the table of all faults that users see;
-//! - `shown`: how these two are shown to people;
 //! - `token`: what a token is;
 //! - `lexis`, `operators`: how blanks, words and operators are spelled;
 //! - `number`: integer literals, and what they stand for;
@@ -18,8 +15,6 @@
 //! - `laws`: what every reading of a text is, in words of the text and the tokens.
 #![tactic(auto)]
 
-mod bytes;
-mod fault;
 mod laws;
 mod lexer;
 mod lexis;
@@ -27,12 +22,9 @@ mod number;
 mod operators;
 mod piece;
 mod place;
-mod shown;
 mod string_literal;
 mod token;
 
-pub use bytes::Bytes;
-pub use fault::{Fault, FaultKind, SourceErr};
 pub use laws::{
     every_text_has_its_reading, faults_are_in_the_text, one_reading, tokens_cut_the_text,
     tokens_lie_within,

@@ -6,7 +6,6 @@ ghost use Rattle.bq_source.specs.Lexis.{has, is_letter};
 ghost use Rattle.bq_source.specs.Number.{number_len};
 ghost use Rattle.bq_source.specs.Piece as spec;
 
-use crate::fault::FaultKind;
 use crate::lexis::{
     RunClass, comment_len, is_blank, is_letter, newline_len, newlines, run_len, word_kind,
 };
@@ -14,6 +13,7 @@ use crate::number::{begins_number, int_value, number_len};
 use crate::operators::{Lexeme, operator};
 use crate::string_literal::{begins_string, scan_string};
 use crate::token::TokenKind;
+use bq_base::FaultKind;
 
 /// How far a piece reaches.
 #[derive(Clone, Copy)]

@@ -11,7 +11,7 @@ ghost use Rattle.bq_source.specs.StringLiteral.{BodyItem, values, FoundLiteral, 
 ghost use Rattle.bq_source.specs.declared.string_literal.Quoting.{Quoting};
 ghost use Rattle.bq_source.specs.declared.string_literal.StringLiteral.{StringLiteral};
 
-use crate::bytes::Bytes;
+use bq_base::Bytes;
 use std::alloc::{AllocError, Global};
 
 /// How a string literal is quoted.

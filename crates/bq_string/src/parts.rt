@@ -3,7 +3,7 @@
 ghost use Rattle.std.specs.Prelude.{◌≡◌, ◌<◌, ◌++◌, ◌∷◌, [], IfOk, IfSome, OnOk, Some, None, MatchOption, length, reverse};
 ghost use Rattle.bq_string.specs.Parts.{split, rsplit, partition, rpartition, cut_within, cut_last_within, cuts, count, join, replace, replace_cuts, interleave};
 
-use bq_source::Bytes;
+use bq_base::Bytes;
 use memchr::memmem::{Finder, FinderRev};
 use std::alloc::{AllocError, Global};
 

@@ -1,8 +1,8 @@
 -- The parts of a partition.
 use Rattle.std.proofs.Common.{◌≡◌, subst, refl, ℕ, ◌+◌, Bool, true, false, List, [], ◌∷◌, take, drop, length, Option, Some, None, Result, Ok, Err}
 use Rattle.std.specs.Prelude.{bytes_eq, if◌then◌else◌}
-use Rattle.bq_source.specs.declared.fault.FaultKind.{FaultKind}
-use Rattle.bq_source.specs.declared.fault.FaultKind.TheVariants.{BadValue}
+use Rattle.bq_base.specs.declared.fault.FaultKind.{FaultKind}
+use Rattle.bq_base.specs.declared.fault.FaultKind.TheVariants.{BadValue}
 use Rattle.bq_string.specs.Search.{IsLeastPlace, IsGreatestPlace, find, rfind}
 use Rattle.bq_string.specs.Parts as parts
 use Rattle.bq_string.specs.Parts.{around}

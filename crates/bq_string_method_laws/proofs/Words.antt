@@ -1,7 +1,7 @@
 -- The parts of a text that is split at space.
 use Rattle.std.proofs.Common.{◌≡◌, refl, ℕ, zero, suc, ◌+◌, inl, inr, false, List, [], ◌∷◌, take, drop, arith}
 use Rattle.std.specs.List.{AllByRecursion, prefix_len}
-use Rattle.bq_source.proofs.Choices.{by_bool}
+use Rattle.bq_base.proofs.Choices.{by_bool}
 use Rattle.bq_string.specs.Trim.{is_among, spaces, lstrip}
 use Rattle.bq_words.specs.Class.{is_space, has}
 use Rattle.bq_words.specs.declared.class.ByteClass.TheVariants.{NonSpace}

@@ -1,8 +1,8 @@
 -- The methods that look at the ends of a region of a string (Starlark, "string·startswith", "string·endswith").
 use Rattle.std.specs.Prelude.{ℕ, Bool, List, [], ◌∷◌, nat_eq, slice_get, Option, Some, None, Result, Ok, Err}
 use Rattle.std.specs.List.{starts_with, ends_with, list_any}
-use Rattle.bq_source.specs.declared.fault.FaultKind.{FaultKind}
-use Rattle.bq_source.specs.declared.fault.FaultKind.TheVariants.{Args, WrongType}
+use Rattle.bq_base.specs.declared.fault.FaultKind.{FaultKind}
+use Rattle.bq_base.specs.declared.fault.FaultKind.TheVariants.{Args, WrongType}
 use Rattle.bq_value.specs.Datum.{Datum, boolean, string, tuple, list_of}
 use Rattle.bq_string_methods.specs.Argument.{and_then, text_in, region}
 use Rattle.bq_string_methods.specs.declared.affixes.EndMethod.{EndMethod}

@@ -1,7 +1,7 @@
 -- What a method takes of an argument, and F40 where it is of another type. An argument that may be left out is none there.
 use Rattle.std.specs.Prelude.{◌≡◌, ℕ, ◌+◌, ◌-◌, ℤ, pos, negsuc, Bool, false, List, length, take, drop, Option, Some, None, Result, Ok, Err}
-use Rattle.bq_source.specs.declared.fault.FaultKind.{FaultKind}
-use Rattle.bq_source.specs.declared.fault.FaultKind.TheVariants.{Args, WrongType}
+use Rattle.bq_base.specs.declared.fault.FaultKind.{FaultKind}
+use Rattle.bq_base.specs.declared.fault.FaultKind.TheVariants.{Args, WrongType}
 use Rattle.bq_value.specs.Datum.{Datum, none, boolean, int, string}
 use Rattle.bq_string.specs.Trim.{spaces}
 use Rattle.bq_operators.specs.Place.{bound}

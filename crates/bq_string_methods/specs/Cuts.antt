@@ -1,8 +1,8 @@
 -- The methods that cut a string into parts (Starlark, "string·partition", "string·rpartition", "string·split", "string·rsplit",
 -- "string·splitlines", "string·elems").
 use Rattle.std.specs.Prelude.{ℕ, List, [], ◌∷◌, length, map, slice_get, bytes_eq, if◌then◌else◌, Option, Some, None, Result, Ok, Err}
-use Rattle.bq_source.specs.declared.fault.FaultKind.{FaultKind}
-use Rattle.bq_source.specs.declared.fault.FaultKind.TheVariants.{BadValue}
+use Rattle.bq_base.specs.declared.fault.FaultKind.{FaultKind}
+use Rattle.bq_base.specs.declared.fault.FaultKind.TheVariants.{BadValue}
 use Rattle.bq_value.specs.Datum.{Datum, string, tuple, data_of}
 use Rattle.bq_string.specs.Parts as parts
 use Rattle.bq_words.specs.Word as word

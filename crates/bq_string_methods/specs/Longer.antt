@@ -1,7 +1,7 @@
 -- The methods that make longer strings (Starlark, "string·replace", "string·join"): F54 where one would be too long.
 use Rattle.std.specs.Prelude.{ℕ, ◌+◌, ◌-◌, ◌*◌, nat_le, min, List, [], length, slice_get, bytes_eq, if◌then◌else◌, Result, Ok, Err}
-use Rattle.bq_source.specs.declared.fault.FaultKind.{FaultKind}
-use Rattle.bq_source.specs.declared.fault.FaultKind.TheVariants.{TooLong}
+use Rattle.bq_base.specs.declared.fault.FaultKind.{FaultKind}
+use Rattle.bq_base.specs.declared.fault.FaultKind.TheVariants.{TooLong}
 use Rattle.bq_value.specs.Datum.{Datum}
 use Rattle.bq_string.specs.Parts as parts
 use Rattle.bq_operators.specs.Length.{max_len}

@@ -1,8 +1,8 @@
 -- The methods that look for a text in a region of a string (Starlark, "string·count", "string·find", "string·rfind",
 -- "string·index", "string·rindex").
 use Rattle.std.specs.Prelude.{ℕ, ◌+◌, ◌^◌, nat_lt, if◌then◌else◌, pos, negsuc, List, slice_get, Option, Some, None, Result, Ok, Err}
-use Rattle.bq_source.specs.declared.fault.FaultKind.{FaultKind}
-use Rattle.bq_source.specs.declared.fault.FaultKind.TheVariants.{BadValue, Overflow}
+use Rattle.bq_base.specs.declared.fault.FaultKind.{FaultKind}
+use Rattle.bq_base.specs.declared.fault.FaultKind.TheVariants.{BadValue, Overflow}
 use Rattle.bq_value.specs.Datum.{Datum, int}
 use Rattle.bq_string.specs.Search.{find, rfind}
 use Rattle.bq_string.specs.Parts.{count}

@@ -1,7 +1,7 @@
 -- The methods that take something off the ends of a string (Starlark, "string·strip", "string·lstrip", "string·rstrip",
 -- "string·removeprefix", "string·removesuffix").
 use Rattle.std.specs.Prelude.{ℕ, List, slice_get, Result, Ok}
-use Rattle.bq_source.specs.declared.fault.FaultKind.{FaultKind}
+use Rattle.bq_base.specs.declared.fault.FaultKind.{FaultKind}
 use Rattle.bq_value.specs.Datum.{Datum}
 use Rattle.bq_string.specs.Trim as trim
 use Rattle.bq_string.specs.Trim.{remove_prefix, remove_suffix}

@@ -6,7 +6,7 @@ ghost use Rattle.bq_string_methods.specs.Argument.{and_then};
 ghost use Rattle.bq_string_methods.specs.Affixes.{has_end, texts_of, ends};
 
 use crate::argument::{argument, region};
-use bq_source::FaultKind;
+use bq_base::FaultKind;
 use bq_value::{Node, Value};
 
 #[derive(Clone, Copy)]

@@ -3,8 +3,8 @@
 ghost use Rattle.std.specs.Prelude.{◌≡◌, ◌≤◌, length, option_copied, slice_get};
 ghost use Rattle.bq_string_methods.specs.Argument.{Says, text_in, place_in, bytes_in, separator_in, most_in, truth_in, part_of, region};
 
+use bq_base::{Bytes, FaultKind};
 use bq_operators::span;
-use bq_source::{Bytes, FaultKind};
 use bq_string::SPACES;
 use bq_value::{Node, Value};
 

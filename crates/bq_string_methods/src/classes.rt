@@ -4,7 +4,7 @@
 ghost use Rattle.std.specs.Prelude.{◌≡◌, IfOk};
 ghost use Rattle.bq_string_methods.specs.Classes.{test, in_case};
 
-use bq_source::Bytes;
+use bq_base::Bytes;
 use bq_words::{ByteClass, all_are, is_lower, is_upper, lower, upper};
 use std::alloc::{AllocError, Global};
 

@@ -2,12 +2,12 @@
 //! "string·rsplit", "string·splitlines").
 
 ghost use Rattle.std.specs.Prelude.{◌≡◌, Some, None, MatchOption, IfOk};
-ghost use Rattle.bq_source.specs.Gives.{Gives};
+ghost use Rattle.bq_base.specs.Gives.{Gives};
 ghost use Rattle.bq_value.specs.declared.error.EvalErr.TheVariants.{Bad};
 ghost use Rattle.bq_string_methods.specs.Cuts.{three, three_parts, cut_once, partition, split_at, words_of, split_by, split, splitlines};
 
 use crate::argument::{most_in, separator_in, text_in, truth_in};
-use bq_source::{Bytes, FaultKind};
+use bq_base::{Bytes, FaultKind};
 use bq_value::{EvalErr, Value};
 use bq_words::{lines, rwords, words};
 use std::alloc::{AllocError, Global};

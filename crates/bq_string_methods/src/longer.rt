@@ -1,7 +1,7 @@
 //! The methods that make longer strings (Starlark, "string·replace", "string·join"): F54 before any memory is asked for.
 
 ghost use Rattle.std.specs.Prelude.{◌≡◌, ◌+◌, ◌*◌, ◌≤◌, length};
-ghost use Rattle.bq_source.specs.Gives.{Gives};
+ghost use Rattle.bq_base.specs.Gives.{Gives};
 ghost use Rattle.bq_value.specs.declared.error.EvalErr.TheVariants.{Bad};
 ghost use Rattle.bq_operators.specs.Length.{within};
 ghost use Rattle.bq_string.specs.Parts as parts;
@@ -9,8 +9,8 @@ ghost use Rattle.bq_string.specs.Parts.{joined_on};
 ghost use Rattle.bq_string_methods.specs.Longer.{fits, replace, join, times, fit_replaced};
 
 use crate::argument::{most_in, text_in};
+use bq_base::{Bytes, FaultKind};
 use bq_operators::joined_len;
-use bq_source::{Bytes, FaultKind};
 use bq_string::cuts;
 use bq_value::{EvalErr, Value};
 use std::alloc::Global;

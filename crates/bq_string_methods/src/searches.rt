@@ -5,7 +5,7 @@ ghost use Rattle.std.specs.Prelude.{◌≡◌, ◌+◌};
 ghost use Rattle.bq_string_methods.specs.Searches.{number, place_or_less, place_or_fault, said, search};
 
 use crate::argument::{region, text_in};
-use bq_source::FaultKind;
+use bq_base::FaultKind;
 use bq_string::{count, find, rfind};
 use bq_value::Value;
 

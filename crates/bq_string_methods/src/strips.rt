@@ -6,7 +6,7 @@ ghost use Rattle.bq_string_methods.specs.Argument.{Says};
 ghost use Rattle.bq_string_methods.specs.Strips.{end_in, without, strip};
 
 use crate::argument::{bytes_in, text_in};
-use bq_source::FaultKind;
+use bq_base::FaultKind;
 use bq_string::{lstrip, remove_prefix, remove_suffix, rstrip, strip as strip_both};
 use bq_value::Value;
 

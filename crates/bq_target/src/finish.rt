@@ -31,7 +31,11 @@ fn is_taken(targets: &[Target], names: &TargetNames, label: &Label) -> Result<bo
 }
 
 /// Whether this is so of one of the labels.
-fn any_is_taken(targets: &[Target], names: &TargetNames, labels: &[Label]) -> Result<bool, AllocError>
+fn any_is_taken(
+    targets: &[Target],
+    names: &TargetNames,
+    labels: &[Label],
+) -> Result<bool, AllocError>
     requires { names.now ≡ names_of targets.now }
     ensures { IfOk result (λ taken. taken ≡ list_any (is_taken targets.now) labels.now) }
 {

@@ -4,9 +4,9 @@ ghost use Rattle.std.specs.Prelude.{◌≡◌, IfOk};
 ghost use Rattle.bq_target.specs.Target.{is_source, source, generated};
 
 use crate::value::GivenAttribute;
+use bq_base::Bytes;
 use bq_label::Label;
 use bq_rule_class::RuleClass;
-use bq_source::Bytes;
 use sqlite_items::Items;
 use std::alloc::{AllocError, Global};
 

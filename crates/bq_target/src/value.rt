@@ -3,8 +3,8 @@
 ghost use Rattle.std.specs.Prelude.{◌≡◌};
 ghost use Rattle.bq_target.specs.Value.{own_type, attribute_type};
 
+use bq_base::Bytes;
 use bq_rule_class::{AttributeType, AttributeValue, RuleClass, common_attribute};
-use bq_source::Bytes;
 
 /// An attribute with the value that a call gives it, or that it has by default.
 #[derive(Drop)]

@@ -1,7 +1,7 @@
 -- Fault F79: a label of another package that names no target there (Bazel, "Dependencies"). The target that names it stays.
 use Rattle.std.specs.Prelude.{◌≡◌, ℕ, List, [], ◌∷◌, Bool, true, false, if◌then◌else◌}
 use Rattle.std.specs.List.{flat_map, Contains}
-use Rattle.bq_source.specs.declared.fault.FaultKind.TheVariants as f
+use Rattle.bq_base.specs.declared.fault.FaultKind.TheVariants as f
 use Rattle.bq_label.specs.Label.{LabelParts, package_of, full_form}
 use Rattle.bq_fault_line.specs.declared.fault_line.FaultLine.{FaultLine}
 use Rattle.bq_target.specs.declared.target.Target.{Target}

@@ -13,11 +13,11 @@ ghost use Rattle.bq_target_graph.specs.Order.{all_targets, labels_of};
 ghost use Rattle.bq_target_graph.specs.Dangling.{dangling, dangling_line, dangling_in, dangling_of, all_dangling, IsDangling};
 
 use crate::own::are_closed;
+use bq_base::{Bytes, FaultKind};
 use bq_fault_line::{FaultLine, FaultLines};
 use bq_label::{Label, print_label};
 use bq_label_set::LabelSet;
 use bq_rule_class::AttributeValue;
-use bq_source::{Bytes, FaultKind};
 use bq_target::{GivenAttribute, Package, Target, TargetKind, is_of};
 use std::alloc::{AllocError, Global};
 

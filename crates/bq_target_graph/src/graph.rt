@@ -31,7 +31,11 @@ impl TargetGraph {
     ghost use Rattle.bq_target_graph.specs.Graph.{GraphParts, IsGraph};
 
     /// The graph of these parts.
-    pub(crate) fn of(targets: Vec<Target>, packages: Items<PackageId>, graph: DependencyGraph) -> TargetGraph
+    pub(crate) fn of(
+        targets: Vec<Target>,
+        packages: Items<PackageId>,
+        graph: DependencyGraph,
+    ) -> TargetGraph
         requires { IsGraph (record { targets = targets.items; packages = packages; edges = graph }) }
         ensures { result ≡ record { targets = targets.items; packages = packages; edges = graph } }
     {

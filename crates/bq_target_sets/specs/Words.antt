@@ -2,8 +2,8 @@
 use Rattle.std.specs.Prelude.{◌≡◌, ℕ, ◌++◌, ◌&&◌, ◌||◌, not, nat_le, nat_lt, length, slice_index_or, Bool, true, false, List, [], ◌∷◌, map, Option, Some, None, Result, Ok, Err, codes, nat_eq, if◌then◌else◌}
 use Rattle.std.specs.List.{list_any, starts_with}
 use Rattle.std.specs.Option.{option_map}
-use Rattle.bq_source.specs.declared.fault.SourceErr.{SourceErr}
-use Rattle.bq_source.specs.declared.fault.SourceErr.TheVariants as source
+use Rattle.bq_base.specs.declared.fault.SourceErr.{SourceErr}
+use Rattle.bq_base.specs.declared.fault.SourceErr.TheVariants as source
 use Rattle.bq_label.specs.Label.{PackageParts, LabelParts, package_at, package_of, repository_prefix, full_form}
 use Rattle.bq_label.specs.Reading.{label_of}
 use Rattle.bq_graph.specs.Marks.{Marked}

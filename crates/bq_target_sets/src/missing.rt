@@ -10,9 +10,9 @@ ghost use Rattle.bq_target_sets.specs.Missing.{has_package, has_target, missing_
 
 use crate::order::target_of;
 use crate::word::{label_named, package_named, package_text};
+use bq_base::Bytes;
 use bq_label::{Label, PackageId, print_label};
 use bq_query::{PatternForm, QueryErr, WordForm, word_form};
-use bq_source::Bytes;
 use bq_target::Target;
 use std::alloc::{AllocError, Global};
 use std::cmp::Ordering;

@@ -6,7 +6,7 @@ ghost use Rattle.bq_target_sets.specs.Order.{AreInOrder};
 ghost use Rattle.bq_target_sets.specs.Words.{Those, one_names};
 
 use crate::word::add_word;
-use bq_source::Bytes;
+use bq_base::Bytes;
 use bq_target::Target;
 use std::alloc::{AllocError, Global};
 

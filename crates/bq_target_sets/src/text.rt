@@ -8,9 +8,9 @@ ghost use Rattle.bq_label.specs.Label.{full_form};
 ghost use Rattle.bq_target_sets.specs.Texts as spec;
 ghost use Rattle.bq_target_sets.specs.Texts.{further, kind_text, list_text, value_text, default_text, given, subject_text, attribute_text, text_by};
 
+use bq_base::Bytes;
 use bq_label::Label;
 use bq_rule_class::{AttributeType, AttributeValue, RuleClass};
-use bq_source::Bytes;
 use bq_target::{GivenAttribute, Target, TargetKind, attribute_type};
 use itoa::Buffer;
 use std::alloc::AllocError;

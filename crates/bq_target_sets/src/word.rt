@@ -6,9 +6,9 @@ ghost use Rattle.bq_target_sets.specs.Order.{texts_of, AreInOrder, IsPlaceOf};
 ghost use Rattle.bq_target_sets.specs.Words.{Adds, Range, WasRead, is_rule, is_wanted, begins, own, beneath, package_text, package_named, label_named, has_label, is_label_form, is_deep, are_rules, names, names_in, names_at};
 
 use crate::order::{place_of, target_of};
+use bq_base::SourceErr;
 use bq_label::{Label, PackageId, print_label, read_label};
 use bq_query::{PatternForm, word_form};
-use bq_source::SourceErr;
 use bq_target::{Target, TargetKind};
 use std::alloc::{AllocError, Global};
 

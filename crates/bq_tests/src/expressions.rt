@@ -8,7 +8,7 @@ use crate::rows::{Row, Subject, check_rows};
 use crate::source::{refusal, repeated};
 use crate::trees::{expr_text, target_text};
 use bq_expression::{expr_list, phrase, vars};
-use bq_grammar::{Expr, Nested, SyntaxErr, AssignTarget};
+use bq_grammar::{AssignTarget, Expr, Nested, SyntaxErr};
 use bq_source::{Token, TokenKind, lex, tokens_lie_within};
 use bq_tokens::Tokens;
 use std::alloc::{AllocError, Global};

@@ -7,9 +7,12 @@
 use crate::rows::{Row, Subject, check_rows, number_of};
 use crate::source::{refusal, repeated};
 use crate::trees::{binary_sign, expr_text, target_text};
+use bq_base::{Bytes, SourceErr};
 use bq_file::parse;
-use bq_grammar::{Branch, Expr, FileKind, Load, Parameter, SmallKind, SmallStmt, Stmt, AssignTarget};
-use bq_source::{Bytes, SourceErr, lex};
+use bq_grammar::{
+    AssignTarget, Branch, Expr, FileKind, Load, Parameter, SmallKind, SmallStmt, Stmt,
+};
+use bq_source::lex;
 use std::alloc::{AllocError, Global};
 use std::fmt::Write;
 use std::thread::{Builder, Threads};
@@ -60,7 +63,12 @@ impl<'a> Printer<'a> {
         self.out.push_str(")")
     }
 
-    fn assign(&mut self, target: &AssignTarget, sign: &str, value: &Expr) -> Result<(), AllocError> {
+    fn assign(
+        &mut self,
+        target: &AssignTarget,
+        sign: &str,
+        value: &Expr,
+    ) -> Result<(), AllocError> {
         write!(self.out, "({sign}=")?;
         self.target(target)?;
         self.expr(value)?;

@@ -4,9 +4,9 @@
 use crate::label::{files, package};
 use crate::rows::{Row, Subject, check_rows};
 use crate::source::{refusal, repeated};
+use bq_base::{Bytes, SourceErr};
 use bq_glob::{Pattern, glob, read_pattern};
 use bq_label::{PackageId, Packages, Workspace};
-use bq_source::{Bytes, SourceErr};
 use std::alloc::{AllocError, Global};
 
 /// `yes` or `no` where the text is a pattern; the fault otherwise.

@@ -6,7 +6,7 @@ use crate::rows::{Row, Subject, check_rows};
 use bq_graph::allpaths::allpaths;
 use bq_graph::deps::{deps, deps_within};
 use bq_graph::rdeps::{rdeps, rdeps_within};
-use bq_graph::{Edge, DependencyGraph, difference, intersection, members, union};
+use bq_graph::{DependencyGraph, Edge, difference, intersection, members, union};
 use std::alloc::{AllocError, Global};
 
 /// 0 leads to 3 by 1 and by 2, and 4 leads to 3, too; 0 leads to 7 by 8, and by 3 with an edge more; 5 and 6 lead to each other, and 4 to itself.

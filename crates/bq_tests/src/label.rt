@@ -2,11 +2,11 @@
 
 use crate::rows::{Row, Subject, check_rows};
 use crate::source::refusal;
+use bq_base::{Bytes, SourceErr};
 use bq_label::{
     BuildFile, File, Label, PackageId, Packages, Workspace, label_file, label_path, print_label,
     read_label,
 };
-use bq_source::{Bytes, SourceErr};
 use std::alloc::{AllocError, Global};
 use std::cmp::Ordering;
 

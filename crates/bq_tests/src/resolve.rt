@@ -13,6 +13,7 @@
 
 use crate::rows::{Row, Subject, check_rows};
 use crate::source::refusal;
+use bq_base::{Bytes, SourceErr};
 use bq_file::{ParsedFile, parse};
 use bq_grammar::FileKind;
 use bq_resolve::resolve;
@@ -21,7 +22,7 @@ use bq_scope::{
     CodeOperation, CodePair, CodeParameter, CodeSmall, CodeStmt, CodeSuffix, CodeTarget,
     CodeTopLevel, FileStmt, LoadStmt, LoadedSymbol, Resolved, Universe,
 };
-use bq_source::{Bytes, SourceErr, lex};
+use bq_source::lex;
 use sqlite_items::Boxed;
 use std::alloc::{AllocError, Global};
 use std::fmt::Write;

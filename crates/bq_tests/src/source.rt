@@ -1,7 +1,8 @@
 //! What no clause says: values from outside, printed text, and memory that is shared.
 
 use crate::rows::{Row, Subject, check_rows};
-use bq_source::{Bytes, Fault, FaultKind, SourceErr, Token, lex};
+use bq_base::{Bytes, Fault, FaultKind, SourceErr};
+use bq_source::{Token, lex};
 use std::alloc::{AllocError, Global};
 use std::fmt::Write;
 

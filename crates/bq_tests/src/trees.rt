@@ -8,11 +8,11 @@
 //!
 //! A part is put in place of what it is made of until only words are left, so the printer needs no recursion.
 
+use bq_base::Bytes;
 use bq_grammar::{
-    Argument, Choice, Clause, Comparison, Expr, Operation, Operator, Pair, Suffix, AssignTarget,
+    Argument, AssignTarget, Choice, Clause, Comparison, Expr, Operation, Operator, Pair, Suffix,
     UnaryOperator,
 };
-use bq_source::Bytes;
 use sqlite_items::Boxed;
 use std::alloc::{AllocError, Global};
 

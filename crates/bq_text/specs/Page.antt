@@ -1,7 +1,7 @@
 -- What is written of a text: its bytes, or none once they are more than a text may have.
 use Rattle.std.specs.Prelude.{ℕ, ◌+◌, nat_le, Bool, true, false, cond, List, ◌++◌, length, Option, Some, None, Result, Ok, Err}
-use Rattle.bq_source.specs.declared.fault.FaultKind.{FaultKind}
-use Rattle.bq_source.specs.declared.fault.FaultKind.TheVariants.{TooLong}
+use Rattle.bq_base.specs.declared.fault.FaultKind.{FaultKind}
+use Rattle.bq_base.specs.declared.fault.FaultKind.TheVariants.{TooLong}
 
 abbrev pub PageView : Type 0
 PageView = Option (List ℕ)

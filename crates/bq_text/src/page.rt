@@ -1,11 +1,11 @@
 //! What is written of a text.
 
 ghost use Rattle.std.specs.Prelude.{◌≡◌, [], Some, OnOk};
-ghost use Rattle.bq_source.specs.Gives.{Gives};
+ghost use Rattle.bq_base.specs.Gives.{Gives};
 ghost use Rattle.bq_value.specs.declared.error.EvalErr.TheVariants.{Bad};
 ghost use Rattle.bq_text.specs.Page.{written, finished};
 
-use bq_source::{Bytes, FaultKind};
+use bq_base::{Bytes, FaultKind};
 use bq_value::EvalErr;
 use std::alloc::{AllocError, Global};
 use std::marker::Model;

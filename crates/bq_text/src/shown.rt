@@ -1,14 +1,14 @@
 //! `str` and `repr` (Starlark, "str", "repr").
 
 ghost use Rattle.std.specs.Prelude.{◌≡◌, option_copied};
-ghost use Rattle.bq_source.specs.Gives.{Gives};
+ghost use Rattle.bq_base.specs.Gives.{Gives};
 ghost use Rattle.bq_value.specs.declared.error.EvalErr.TheVariants.{Bad};
 ghost use Rattle.bq_walk.specs.Looked.{max_levels};
 ghost use Rattle.bq_text.specs.Shown.{shown_at, repr_shown, text_shown, string_in, list_shown, dict_shown, contents_shown, tuple_end, repr_of, text_of};
 
 use crate::leaf::write_leaf;
 use crate::page::Page;
-use bq_source::{Bytes, FaultKind};
+use bq_base::{Bytes, FaultKind};
 use bq_value::{Body, Content, Dict, EvalErr, Node, Store, Value};
 use bq_walk::MAX_LEVELS;
 use std::alloc::Global;

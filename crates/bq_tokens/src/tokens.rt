@@ -15,8 +15,9 @@ ghost use Rattle.bq_source.specs.declared.token.TokenKind.TheVariants as kind;
 ghost use Rattle.bq_tokens.specs.Tokens as ahead;
 
 use crate::operators::{augmented, comparison, negation, operator_at, sign};
+use bq_base::Bytes;
 use bq_grammar::{Comparison, Expr, Identifier, Operator, SyntaxErr, UnaryOperator};
-use bq_source::{Bytes, Token, TokenKind, int_value, string_value};
+use bq_source::{Token, TokenKind, int_value, string_value};
 use std::alloc::Global;
 use std::marker::Model;
 

@@ -1,6 +1,6 @@
 -- A statement of a BUILD file is a line of small statements.
 use Rattle.std.proofs.Common.{◌≡◌, ℕ, zero, suc, Bool, true, false, ◌||◌, List, [], ◌∷◌, Result, Ok, refl, sym, ap, ◌∙◌, subst}
-use Rattle.bq_source.specs.declared.fault.FaultKind.{FaultKind}
+use Rattle.bq_base.specs.declared.fault.FaultKind.{FaultKind}
 use Rattle.bq_grammar.specs.Lexeme.{Lexeme}
 use Rattle.bq_grammar.specs.LeftOut.{kinds, is_compound, has_starred}
 use Rattle.bq_grammar.specs.Nesting.{max_nesting}

@@ -1,8 +1,8 @@
 -- The labels that the texts of a call stand for (Bazel, "Labels"): F78 where a text is no label, F75 where it is no name of a target, and
 -- F37 where it names a file of another package.
 use Rattle.std.specs.Prelude.{ℕ, ◌==◌, List, [], ◌∷◌, Option, Some, None, Result, Ok, Err, if◌then◌else◌}
-use Rattle.bq_source.specs.declared.fault.FaultKind.{FaultKind}
-use Rattle.bq_source.specs.declared.fault.FaultKind.TheVariants.{BadLabel, BadName}
+use Rattle.bq_base.specs.declared.fault.FaultKind.{FaultKind}
+use Rattle.bq_base.specs.declared.fault.FaultKind.TheVariants.{BadLabel, BadName}
 use Rattle.bq_label.specs.declared.packages.BuildFile.{BuildFile}
 use Rattle.bq_label.specs.Label.{PackageParts, LabelParts, label_in}
 use Rattle.bq_label.specs.Paths.{is_path}

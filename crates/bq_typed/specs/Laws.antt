@@ -1,6 +1,6 @@
 -- Words of the laws.
 use Rattle.std.specs.Prelude.{◌≡◌, ◌↔◌, List, Ok, Err}
-use Rattle.bq_source.specs.declared.fault.FaultKind.{FaultKind}
+use Rattle.bq_base.specs.declared.fault.FaultKind.{FaultKind}
 use Rattle.bq_label.specs.declared.packages.BuildFile.{BuildFile}
 use Rattle.bq_label.specs.Label.{PackageParts}
 use Rattle.bq_rule_class.specs.declared.attribute_type.AttributeType.{AttributeType}

@@ -1,8 +1,8 @@
 -- Labels that cross into another package (Bazel, "Labels": a label "must not cross a package boundary").
 use Rattle.std.specs.Prelude.{◌≡◌, ℕ, List, Bool, false, not, Option, None, Some, Result, Ok, Err, if◌then◌else◌}
 use Rattle.std.specs.List.{list_any}
-use Rattle.bq_source.specs.declared.fault.FaultKind.{FaultKind}
-use Rattle.bq_source.specs.declared.fault.FaultKind.TheVariants.{CrossesPackage}
+use Rattle.bq_base.specs.declared.fault.FaultKind.{FaultKind}
+use Rattle.bq_base.specs.declared.fault.FaultKind.TheVariants.{CrossesPackage}
 use Rattle.bq_label.specs.declared.packages.BuildFile.{BuildFile}
 use Rattle.bq_label.specs.Label.{PackageParts, LabelParts, label_in}
 use Rattle.bq_label.specs.Paths.{HasNoSlash}

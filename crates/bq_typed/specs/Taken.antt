@@ -2,8 +2,8 @@
 -- computes just this: the laws `each_type_takes_its_values` and `each_type_refuses_other_values`.
 use Rattle.std.specs.Prelude.{◌≡◌, ◌≢◌, ◌⊎◌, ℕ, ℤ, pos, Bool, true, false, List, ◌∷◌, Some, map, All, Any}
 use Rattle.std.specs.List.{AllZip}
-use Rattle.bq_source.specs.declared.fault.FaultKind.{FaultKind}
-use Rattle.bq_source.specs.declared.fault.FaultKind.TheVariants as f
+use Rattle.bq_base.specs.declared.fault.FaultKind.{FaultKind}
+use Rattle.bq_base.specs.declared.fault.FaultKind.TheVariants as f
 use Rattle.bq_label.specs.declared.packages.BuildFile.{BuildFile}
 use Rattle.bq_label.specs.Label.{PackageParts, LabelParts, package_of, label_in, ReadsAs}
 use Rattle.bq_label.specs.Paths.{is_path}

@@ -1,6 +1,6 @@
 -- Strings, and lists of strings. A value of another type is refused for the fault that the reader names: F40 or F73.
 use Rattle.std.specs.Prelude.{ℕ, List, [], Option, Some, Result, Ok, Err}
-use Rattle.bq_source.specs.declared.fault.FaultKind.{FaultKind}
+use Rattle.bq_base.specs.declared.fault.FaultKind.{FaultKind}
 use Rattle.bq_value.specs.Datum.{Datum, string, tuple, cell, list_of}
 use Rattle.bq_value.specs.Contents.{Contents, items}
 use Rattle.bq_value.specs.Cells.{StoreView, content_at}

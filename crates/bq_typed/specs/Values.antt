@@ -1,8 +1,8 @@
 -- The typed value that a value is in a package (Bazel, "attr"), with its labels read there: the faults of its labels come after those of
 -- its type.
 use Rattle.std.specs.Prelude.{List, Result, Ok}
-use Rattle.bq_source.specs.declared.fault.FaultKind.{FaultKind}
-use Rattle.bq_source.specs.declared.fault.FaultKind.TheVariants as f
+use Rattle.bq_base.specs.declared.fault.FaultKind.{FaultKind}
+use Rattle.bq_base.specs.declared.fault.FaultKind.TheVariants as f
 use Rattle.bq_label.specs.declared.packages.BuildFile.{BuildFile}
 use Rattle.bq_label.specs.Label.{PackageParts}
 use Rattle.bq_rule_class.specs.declared.attribute_type.AttributeType.{AttributeType}

@@ -1,7 +1,7 @@
 -- What a value is as a value of a type (Bazel, "attr"), before its labels are read. A value of another type is refused for the fault that
 -- the reader names: F40 for the default of an attribute, F73 in the call of a rule.
 use Rattle.std.specs.Prelude.{ℤ, pos, negsuc, Bool, true, false, ◌==◌, Result, Ok, Err, if◌then◌else◌}
-use Rattle.bq_source.specs.declared.fault.FaultKind.{FaultKind}
+use Rattle.bq_base.specs.declared.fault.FaultKind.{FaultKind}
 use Rattle.bq_rule_class.specs.declared.attribute_type.AttributeType.{AttributeType}
 use Rattle.bq_rule_class.specs.declared.attribute_type.AttributeType.TheVariants as t
 use Rattle.bq_rule_class.specs.declared.value.AttributeValue.TheVariants as a

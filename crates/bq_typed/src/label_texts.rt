@@ -1,14 +1,14 @@
 //! The labels that the texts of a call stand for.
 
 ghost use Rattle.std.specs.Prelude.{◌≡◌, IfOk};
-ghost use Rattle.bq_source.specs.Gives.{Gives};
+ghost use Rattle.bq_base.specs.Gives.{Gives};
 ghost use Rattle.bq_value.specs.declared.error.EvalErr.TheVariants.{Bad};
 ghost use Rattle.bq_label.specs.Reading.{label_of};
 ghost use Rattle.bq_typed.specs.LabelTexts.{label_found, named, without_colon, read, read_all, label, labels};
 
 use crate::scope::{Scope, in_package};
+use bq_base::{Bytes, FaultKind, SourceErr};
 use bq_label::{Label, PackageId, is_path, read_label};
-use bq_source::{Bytes, FaultKind, SourceErr};
 use bq_value::EvalErr;
 use sqlite_items::Items;
 use std::alloc::{AllocError, Global};

@@ -2,15 +2,15 @@
 
 ghost use Rattle.std.specs.Prelude.{◌≡◌, true, IfOk};
 ghost use Rattle.std.specs.List.{list_any};
-ghost use Rattle.bq_source.specs.Gives.{Gives};
+ghost use Rattle.bq_base.specs.Gives.{Gives};
 ghost use Rattle.bq_value.specs.declared.error.EvalErr.TheVariants.{Bad};
 ghost use Rattle.bq_label.specs.Label.{label_in};
 ghost use Rattle.bq_label.specs.Paths.{is_path, is_slash};
 ghost use Rattle.bq_typed.specs.Scope.{crosses, own_label_crosses, ShortNamesCross, inside, all_inside};
 
+use bq_base::{Bytes, FaultKind};
 use bq_label::laws::short_names_have_one_owner;
 use bq_label::{Label, PackageId, Packages, label_path};
-use bq_source::{Bytes, FaultKind};
 use bq_target::is_of;
 use bq_value::EvalErr;
 use sqlite_items::Items;

@@ -1,12 +1,12 @@
 //! Strings, and lists of strings, in values.
 
 ghost use Rattle.std.specs.Prelude.{◌≡◌, Some};
-ghost use Rattle.bq_source.specs.Gives.{Gives};
+ghost use Rattle.bq_base.specs.Gives.{Gives};
 ghost use Rattle.bq_value.specs.declared.error.EvalErr.TheVariants.{Bad};
 ghost use Rattle.bq_typed.specs.Steps.{and_then};
 ghost use Rattle.bq_typed.specs.Texts.{text_in, listed, all_texts, texts_in};
 
-use bq_source::{Bytes, FaultKind};
+use bq_base::{Bytes, FaultKind};
 use bq_value::{Body, Content, EvalErr, Node, Store, Value};
 use sqlite_items::Items;
 use std::alloc::Global;

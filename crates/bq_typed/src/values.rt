@@ -1,15 +1,15 @@
 //! The typed value that a value is in a package.
 
 ghost use Rattle.std.specs.Prelude.{◌≡◌};
-ghost use Rattle.bq_source.specs.Gives.{Gives};
+ghost use Rattle.bq_base.specs.Gives.{Gives};
 ghost use Rattle.bq_value.specs.declared.error.EvalErr.TheVariants.{Bad};
 ghost use Rattle.bq_typed.specs.Values.{typed, value_as};
 
 use crate::label_texts::{TextKind, label, labels};
 use crate::scope::Scope;
 use crate::written::{Written, written_as};
+use bq_base::FaultKind;
 use bq_rule_class::{AttributeType, AttributeValue};
-use bq_source::FaultKind;
 use bq_value::{EvalErr, Store, Value};
 use std::alloc::Global;
 

@@ -1,13 +1,13 @@
 //! What a value is as a value of a type, before its labels are read.
 
 ghost use Rattle.std.specs.Prelude.{◌≡◌};
-ghost use Rattle.bq_source.specs.Gives.{Gives};
+ghost use Rattle.bq_base.specs.Gives.{Gives};
 ghost use Rattle.bq_value.specs.declared.error.EvalErr.TheVariants.{Bad};
 ghost use Rattle.bq_typed.specs.Written.{int_in, bool_in, written_as};
 
 use crate::texts::{text_in, texts_in};
+use bq_base::{Bytes, FaultKind};
 use bq_rule_class::{AttributeType, AttributeValue};
-use bq_source::{Bytes, FaultKind};
 use bq_value::{EvalErr, Node, Store, Value};
 use sqlite_items::Items;
 use std::alloc::Global;

@@ -3,7 +3,7 @@
 ghost use Rattle.std.specs.Prelude.{◌≡◌};
 ghost use Rattle.bq_value.specs.declared.error.EvalErr.TheVariants.{Bad, Memory};
 
-use bq_source::FaultKind;
+use bq_base::FaultKind;
 use std::alloc::{AllocError, AllocFailed};
 
 /// Two plain words: the line and the detail of a fault are known where it leaves the evaluation.

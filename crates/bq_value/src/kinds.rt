@@ -5,7 +5,7 @@ ghost use Rattle.bq_value.specs.Kinds.{kind_at, is_rule, rule_number, with_kind,
 
 use crate::content::{Body, Content};
 use crate::value::{Node, Value};
-use bq_source::Bytes;
+use bq_base::Bytes;
 use indexmap::IndexMap;
 use std::alloc::{AllocError, Global};
 use std::marker::Model;

@@ -9,7 +9,7 @@ use crate::content::Content;
 use crate::shared::Shared;
 use crate::tree::Tree;
 use crate::value::{Cell, Value};
-use bq_source::Bytes;
+use bq_base::Bytes;
 use std::alloc::{AllocError, Global};
 use std::marker::Model;
 

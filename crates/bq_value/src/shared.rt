@@ -6,7 +6,7 @@ ghost use Rattle.bq_value.specs.Kinds.{kind_at};
 use crate::content::Content;
 use crate::kinds::Kinds;
 use crate::value::Value;
-use bq_source::Bytes;
+use bq_base::Bytes;
 use std::alloc::{AllocError, Global};
 use std::marker::Model;
 use std::sync::Arc;

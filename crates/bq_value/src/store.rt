@@ -11,8 +11,8 @@ use crate::error::EvalErr;
 use crate::frozen::Frozen;
 use crate::modules::Modules;
 use crate::value::Cell;
+use bq_base::{Bytes, FaultKind};
 use bq_seed::Seed;
-use bq_source::{Bytes, FaultKind};
 use std::alloc::{AllocError, Global};
 use std::marker::Model;
 

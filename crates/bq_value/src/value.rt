@@ -4,9 +4,9 @@ ghost use Rattle.std.specs.Prelude.{◌≡◌, ◌+◌, ◌<◌, ◌≤◌, IfOk
 ghost use Rattle.bq_value.specs.Datum.{Datum, none, boolean, int, string, tuple, range, cell, function, built_in, rule_function, attribute, data_of, weight, weights};
 
 use crate::range::Range;
+use bq_base::Bytes;
 use bq_predeclared::RuleFunction;
 use bq_rule_class::Attribute;
-use bq_source::Bytes;
 use std::alloc::{AllocError, Global};
 use std::marker::Model;
 use std::mem;

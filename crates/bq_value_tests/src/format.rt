@@ -3,9 +3,9 @@
 use crate::rows::{Row, Subject, check_rows, number_of};
 use crate::value::words::{push_values, top};
 use crate::value::{refusal, written};
+use bq_base::Bytes;
 use bq_format::{format, percent};
 use bq_seed::Seed;
-use bq_source::Bytes;
 use bq_value::{EvalErr, Store, Value};
 use std::alloc::{AllocError, Global};
 

@@ -3,11 +3,11 @@
 use crate::rows::{Row, Subject, check_rows, number_of};
 use crate::value::refusal;
 use crate::value::words::{push_values, top};
+use bq_base::{Bytes, FaultKind};
 use bq_functions::call_function;
 use bq_machine::{Args, Machine};
 use bq_predeclared::{Predeclared, predeclared_named};
 use bq_seed::Seed;
-use bq_source::{Bytes, FaultKind};
 use bq_text::repr;
 use bq_value::{EvalErr, Store, Value};
 use std::alloc::{AllocError, Global};

@@ -3,10 +3,10 @@
 use crate::rows::{Row, Subject, check_rows};
 use crate::value::refusal;
 use crate::value::words::{push_values, top};
+use bq_base::Bytes;
 use bq_machine::{Args, Machine};
 use bq_methods::call_method;
 use bq_seed::Seed;
-use bq_source::Bytes;
 use bq_value::{EvalErr, Node, Store, Value};
 use std::alloc::{AllocError, Global};
 

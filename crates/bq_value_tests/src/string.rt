@@ -1,7 +1,7 @@
 //! What no clause says of the methods of strings: that calls succeed, and values that CPython gives of `bytes`.
 
 use crate::rows::{Row, Subject, check_rows};
-use bq_source::Bytes;
+use bq_base::Bytes;
 use bq_string::{
     count, find, lstrip, partition, remove_prefix, remove_suffix, replace, rfind, rpartition,
     rsplit, rstrip, split, strip,

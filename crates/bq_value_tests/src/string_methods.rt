@@ -4,9 +4,9 @@
 use crate::rows::{Row, Subject, check_rows};
 use crate::value::refusal;
 use crate::value::words::push_values;
+use bq_base::FaultKind;
 use bq_machine::{Args, Machine};
 use bq_seed::Seed;
-use bq_source::FaultKind;
 use bq_string_methods::{StringMethod, call, string_method};
 use bq_text::repr;
 use bq_value::{EvalErr, Store, Value};

@@ -4,8 +4,8 @@
 pub mod words;
 
 use crate::rows::{Row, Subject, check_rows, number_of};
+use bq_base::{Bytes, FaultKind};
 use bq_seed::Seed;
-use bq_source::{Bytes, FaultKind};
 use bq_text::{repr, text};
 use bq_value::{EvalErr, Frozen, Key, Store, Value, freeze};
 use bq_walk::{equal, key_of, less, truth};

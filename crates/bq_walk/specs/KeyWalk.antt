@@ -1,7 +1,7 @@
 -- Which values make keys (Starlark, "Hashing"), one step for each value visited.
 use Rattle.std.specs.Prelude.{ℕ, zero, suc, List, [], ◌∷◌, Result, Ok, Err}
-use Rattle.bq_source.specs.declared.fault.FaultKind.{FaultKind}
-use Rattle.bq_source.specs.declared.fault.FaultKind.TheVariants.{StepLimit, TooDeep, Unhashable}
+use Rattle.bq_base.specs.declared.fault.FaultKind.{FaultKind}
+use Rattle.bq_base.specs.declared.fault.FaultKind.TheVariants.{StepLimit, TooDeep, Unhashable}
 use Rattle.bq_value.specs.Datum.{Datum, none, boolean, int, string, tuple, list_of}
 use Rattle.bq_walk.specs.Looked.{Looked}
 

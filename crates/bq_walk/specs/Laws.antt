@@ -2,8 +2,8 @@
 use Rattle.std.specs.Prelude.{◌≡◌, ℕ, zero, suc, ◌+◌, ◌<◌, ℤ, Bool, true, false, List, [], ◌∷◌, Option, Some, None, Result, Ok, Err}
 use Rattle.std.specs.declared.cmp.Ordering.{Ordering}
 use Rattle.std.specs.declared.cmp.Ordering.TheVariants.{Less, Equal, Greater}
-use Rattle.bq_source.specs.declared.fault.FaultKind.{FaultKind}
-use Rattle.bq_source.specs.declared.fault.FaultKind.TheVariants.{StepLimit}
+use Rattle.bq_base.specs.declared.fault.FaultKind.{FaultKind}
+use Rattle.bq_base.specs.declared.fault.FaultKind.TheVariants.{StepLimit}
 use Rattle.bq_value.specs.Datum.{Datum, none, boolean, int, string, tuple, range, cell, function, built_in, rule_function, attribute, end, datum}
 use Rattle.bq_value.specs.Range.{range_count, range_element}
 use Rattle.bq_value.specs.Contents.{Contents, items, pairs, rule, KeysDiffer}

@@ -1,7 +1,7 @@
 -- A walk over values: its answer with the steps that are left, or its fault. A step is taken before a value is looked at.
 use Rattle.std.specs.Prelude.{ℕ, zero, suc, Result, Err}
-use Rattle.bq_source.specs.declared.fault.FaultKind.{FaultKind}
-use Rattle.bq_source.specs.declared.fault.FaultKind.TheVariants.{StepLimit}
+use Rattle.bq_base.specs.declared.fault.FaultKind.{FaultKind}
+use Rattle.bq_base.specs.declared.fault.FaultKind.TheVariants.{StepLimit}
 
 abbrev pub Looked : Type 0 → Type 0
 Looked A = Result (A × ℕ) FaultKind

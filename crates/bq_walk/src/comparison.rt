@@ -7,7 +7,7 @@ ghost use Rattle.bq_walk.specs.Order.{ordered_at, lists_ordered, contents_ordere
 
 use crate::MAX_LEVELS;
 use crate::equality::values_equal;
-use bq_source::{Bytes, FaultKind};
+use bq_base::{Bytes, FaultKind};
 use bq_value::{Body, Content, Node, Store, Value};
 use std::cmp::Ordering;
 

@@ -5,7 +5,7 @@ ghost use Rattle.bq_walk.specs.Looked.{max_levels};
 ghost use Rattle.bq_walk.specs.Equality.{equal_at, range_equal, function_equal, tuple_equal, cell_equal, lists_equal, dicts_equal, contents_equal};
 
 use crate::MAX_LEVELS;
-use bq_source::FaultKind;
+use bq_base::FaultKind;
 use bq_value::{Body, Cell, Content, Dict, Function, Node, Range, Store, Value};
 
 /// Whether two values are equal, and the steps that are left of these.

@@ -2,12 +2,12 @@
 
 ghost use Rattle.std.specs.Prelude.{◌≡◌};
 ghost use Rattle.bq_walk.specs.Looked.{max_levels};
-ghost use Rattle.bq_source.specs.Gives.{Gives};
+ghost use Rattle.bq_base.specs.Gives.{Gives};
 ghost use Rattle.bq_value.specs.declared.error.EvalErr.TheVariants.{Bad};
 ghost use Rattle.bq_walk.specs.KeyWalk.{walked_at, all_walked, keyed};
 
 use crate::MAX_LEVELS;
-use bq_source::FaultKind;
+use bq_base::FaultKind;
 use bq_value::{EvalErr, Key, Node, Value};
 
 /// The key that a value makes, and the steps that are left of these. Other values than `None`, bools, integers, strings and

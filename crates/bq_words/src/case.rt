@@ -7,7 +7,7 @@ ghost use Rattle.bq_words.specs.Class.{has};
 ghost use Rattle.bq_words.specs.Case.{all_are, is_lower, is_upper, elems};
 
 use crate::class::ByteClass;
-use bq_source::Bytes;
+use bq_base::Bytes;
 use std::alloc::{AllocError, Global};
 
 /// Whether the text is not empty and each of its bytes is of the class.

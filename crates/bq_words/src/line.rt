@@ -3,7 +3,7 @@
 ghost use Rattle.std.specs.Prelude.{◌≡◌, ◌≤◌, ◌<◌, IfOk, length, map};
 ghost use Rattle.bq_words.specs.Line.{line_len, line_ends, bare, part, lines};
 
-use bq_source::Bytes;
+use bq_base::Bytes;
 use std::alloc::{AllocError, Global};
 
 /// Whether a line ends with the byte, before what is after it: at a newline, and at a carriage return that has no newline after

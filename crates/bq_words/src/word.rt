@@ -5,7 +5,7 @@ ghost use Rattle.bq_string.specs.Trim.{lstrip, rstrip, spaces};
 ghost use Rattle.bq_words.specs.Word.{word_within, last_word_within, last_part, words, rwords};
 
 use crate::class::ByteClass;
-use bq_source::Bytes;
+use bq_base::Bytes;
 use std::alloc::{AllocError, Global};
 
 /// The text without the space that it begins with.

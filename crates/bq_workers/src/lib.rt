@@ -28,5 +28,5 @@ mod work;
 pub use import::{Base, Import};
 pub use load::outcomes_by_workers;
 pub use opening::MAX_WORKERS;
-pub use pool::{FinishedModule, WorkerPool, WorkerSeat, WorkDone};
+pub use pool::{FinishedModule, WorkDone, WorkerPool, WorkerSeat};
 pub use threads::EVALUATION_STACK;

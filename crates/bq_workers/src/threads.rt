@@ -7,7 +7,7 @@ ghost use Rattle.bq_load_order.specs.Slots.{Filling, Tabulates};
 ghost use Rattle.bq_workers.specs.Brought.{IsAnswer};
 
 use crate::import::Base;
-use crate::pool::{WorkerPool, WorkerSeat, WorkDone};
+use crate::pool::{WorkDone, WorkerPool, WorkerSeat};
 use bq_load_order::{Evaluate, SharedOutcome, Watch, complete};
 use core::thread::Stack;
 use std::alloc::{AllocError, Global};

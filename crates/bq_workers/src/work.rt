@@ -6,7 +6,7 @@ ghost use Rattle.bq_outcome.specs.Outcome.{outcome};
 ghost use Rattle.bq_workers.specs.Brought.{Brought};
 
 use crate::candidates::Next;
-use crate::pool::{FinishedModule, WorkerPool, WorkerSeat, WorkDone};
+use crate::pool::{FinishedModule, WorkDone, WorkerPool, WorkerSeat};
 use bq_load_order::{Evaluate, Watch};
 use std::alloc::{AllocError, Global};
 use std::sync::Wait;

@@ -1,7 +1,7 @@
 -- Modules that were read may cross threads, and what they are read of may be shared by them.
 use denote.Param.Send.{IsSend, sendable}
 use Rattle.std.proofs.Crossing.{crosses}
-use Rattle.bq_source.proofs.fault.Fault.TheSendSync as Fault
+use Rattle.bq_base.proofs.fault.Fault.TheSendSync as Fault
 use Rattle.bq_front.specs.contracts.front.Front as Front
 use Rattle.bq_discover.specs.contracts.modules.Module as Module
 use Rattle.bq_discover.specs.contracts.waves.Reading as Reading

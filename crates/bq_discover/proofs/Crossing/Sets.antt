@@ -5,7 +5,7 @@ use Rattle.std.proofs.hash.BuildHasherDefault.TheSendSync as Builder
 use Rattle.std.proofs.hash.FoldHasher.TheSendSync as Hasher
 use Rattle.indexmap.proofs.map.IndexMap.TheSendSync as Map
 use Rattle.indexmap.proofs.set.IndexSet.TheSendSync as Set
-use Rattle.bq_source.proofs.bytes.Bytes.TheSendSync as Bytes
+use Rattle.bq_base.proofs.bytes.Bytes.TheSendSync as Bytes
 use Rattle.bq_label_set.specs.contracts.label_set.LabelSet as LabelSet
 use Rattle.bq_scope.specs.contracts.universe.Universe as Universe
 use Rattle.bq_discover.proofs.Crossing.Workspaces.{label_sync}

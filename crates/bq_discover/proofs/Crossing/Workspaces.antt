@@ -1,7 +1,7 @@
 -- Labels may cross threads, and the files of a workspace and its packages may be shared by them.
 use denote.Param.Send.{IsSend, IsSync, sendable}
 use Rattle.std.proofs.Crossing.{crosses}
-use Rattle.bq_source.proofs.bytes.Bytes.TheSendSync as Bytes
+use Rattle.bq_base.proofs.bytes.Bytes.TheSendSync as Bytes
 use Rattle.bq_label.specs.contracts.label.Label as Label
 use Rattle.bq_label.specs.contracts.workspace.File as File
 use Rattle.bq_label.specs.contracts.workspace.Workspace as Workspace

@@ -4,7 +4,7 @@ use Rattle.std.proofs.Crossing.{crosses}
 use Rattle.std.proofs.hash.BuildHasherDefault.TheSendSync as Builder
 use Rattle.std.proofs.hash.FoldHasher.TheSendSync as Hasher
 use Rattle.indexmap.proofs.map.IndexMap.TheSendSync as Map
-use Rattle.bq_source.proofs.bytes.Bytes.TheSendSync as Bytes
+use Rattle.bq_base.proofs.bytes.Bytes.TheSendSync as Bytes
 use Rattle.bq_label.specs.contracts.label.Label as Label
 use Rattle.bq_rule_class.specs.contracts.attribute_type.AttributeType as AttributeType
 use Rattle.bq_rule_class.specs.contracts.value.AttributeValue as AttributeValue

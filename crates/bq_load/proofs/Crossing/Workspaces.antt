@@ -4,7 +4,7 @@ use Rattle.std.proofs.Crossing.{crosses}
 use Rattle.std.proofs.hash.BuildHasherDefault.TheSendSync as Builder
 use Rattle.std.proofs.hash.FoldHasher.TheSendSync as Hasher
 use Rattle.indexmap.proofs.set.IndexSet.TheSendSync as Set
-use Rattle.bq_source.proofs.bytes.Bytes.TheSendSync as Bytes
+use Rattle.bq_base.proofs.bytes.Bytes.TheSendSync as Bytes
 use Rattle.bq_label.specs.contracts.workspace.File as File
 use Rattle.bq_label.specs.contracts.workspace.Workspace as Workspace
 use Rattle.bq_label.specs.contracts.packages.BuildFile as BuildFile

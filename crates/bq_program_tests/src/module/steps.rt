@@ -3,11 +3,11 @@
 use crate::chunks::{Subject, check_chunks};
 use crate::program::{Setting, run_chunk};
 use crate::workspace::no_packages;
+use bq_base::FaultKind;
 use bq_grammar::FileKind;
 use bq_label::PackageId;
 use bq_module::FileOutcome;
 use bq_package::BuildHost;
-use bq_source::FaultKind;
 use std::alloc::{AllocError, Global};
 
 /// The least limit under which the steps of a file suffice.

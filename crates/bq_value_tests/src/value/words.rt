@@ -10,10 +10,10 @@
 //!   it so many times; and `c` puts it there twice.
 
 use crate::rows::number_of;
+use bq_base::Bytes;
 use bq_predeclared::{RuleFunction, attr_named};
 use bq_rule_class::{Attribute, AttributeType, AttributeValue, RuleClass, type_named};
 use bq_seed::Seed;
-use bq_source::Bytes;
 use bq_value::{Body, Content, Dict, EvalErr, Function, Range, Store, Value};
 use bq_walk::key_of;
 use std::alloc::{AllocError, Global};

@@ -1,7 +1,7 @@
 use Rattle.std.proofs.Common.{◌≡◌, ◌∙◌, true, Result, Ok, sym, ap, subst}
-use Rattle.bq_source.specs.declared.fault.FaultKind.{FaultKind}
-use Rattle.bq_source.specs.declared.fault.SourceErr.TheVariants.{Bad}
-use Rattle.bq_source.specs.Gives.{Gives}
+use Rattle.bq_base.specs.declared.fault.FaultKind.{FaultKind}
+use Rattle.bq_base.specs.declared.fault.SourceErr.TheVariants.{Bad}
+use Rattle.bq_base.specs.Gives.{Gives}
 use Rattle.bq_grammar.specs.declared.tree.TopLevel.{TopLevel}
 use Rattle.bq_grammar.specs.Nesting.{nests}
 use Rattle.bq_grammar.specs.Parses.{allowed}

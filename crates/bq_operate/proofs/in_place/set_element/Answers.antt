@@ -1,6 +1,6 @@
 use Rattle.std.proofs.Common.{subst, ℤ, FitsSigned, w64}
 use Rattle.std.proofs.lemmas.Int.{to_z-of_z}
-use Rattle.bq_source.specs.Gives.{Gives}
+use Rattle.bq_base.specs.Gives.{Gives}
 use Rattle.bq_value.specs.declared.error.EvalErr.TheVariants.{Bad}
 use Rattle.bq_operate.specs.InPlace.{element_set}
 use Rattle.bq_operate.proofs.Changes.{content_changed}

@@ -1,6 +1,6 @@
 use Rattle.std.proofs.Common.{[], subst}
-use Rattle.bq_source.specs.Gives.{Gives}
-use Rattle.bq_source.specs.declared.fault.SourceErr.TheVariants.{Bad}
+use Rattle.bq_base.specs.Gives.{Gives}
+use Rattle.bq_base.specs.declared.fault.SourceErr.TheVariants.{Bad}
 use Rattle.bq_label.specs.Label.{LabelParts, PackageParts, package_at}
 use Rattle.bq_label.specs.Reading.{label_of, or_bad_label}
 use Rattle.bq_query_verdict.proofs.Labels.{label_known}

@@ -3,7 +3,7 @@ use Rattle.std.proofs.lemmas.Grind.{common_steps}
 use Rattle.std.proofs.lemmas.Result.{err_from_is_err_and}
 use Rattle.bq_source.specs.Reading.{goes}
 use Rattle.bq_source.proofs.Unique.{one_reading, finished, stopped, stopped_only, only, too_long_reads}
-use Rattle.bq_source.proofs.Choices.{no_bytes}
+use Rattle.bq_base.proofs.Choices.{no_bytes}
 use Rattle.bq_source.proofs.Keeping.{step_shortens}
 use Rattle.bq_source.proofs.lexer.lex.Goals as goal
 

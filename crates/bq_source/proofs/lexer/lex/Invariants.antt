@@ -1,6 +1,6 @@
 use Rattle.std.proofs.Common.{List, Result, length}
 use Rattle.bq_source.specs.declared.token.Token.{Token}
-use Rattle.bq_source.specs.declared.fault.Fault.{Fault}
+use Rattle.bq_base.specs.declared.fault.Fault.{Fault}
 use Rattle.bq_source.specs.Reading.{start, Runs}
 use Rattle.bq_source.proofs.lexer.lex.Given as goal
 

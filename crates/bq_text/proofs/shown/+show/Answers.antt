@@ -1,7 +1,7 @@
 use Rattle.std.proofs.Common.{◌≡◌, sym, subst, ◌-◌, arith}
 use Rattle.std.proofs.lemmas.Grind.{common_steps}
 use Rattle.std.specs.Prelude.{codes}
-use Rattle.bq_source.specs.Gives.{Gives}
+use Rattle.bq_base.specs.Gives.{Gives}
 use Rattle.bq_value.specs.declared.error.EvalErr.TheVariants.{Bad}
 use Rattle.bq_walk.specs.Looked.{Looked}
 use Rattle.bq_text.specs.Page.{PageView}

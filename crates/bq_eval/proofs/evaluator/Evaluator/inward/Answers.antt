@@ -1,5 +1,5 @@
 use Rattle.std.proofs.Common.{rules, ◌≡◌, ◌∙◌, sym, ap}
-use Rattle.bq_source.specs.declared.fault.FaultKind.{FaultKind}
+use Rattle.bq_base.specs.declared.fault.FaultKind.{FaultKind}
 use Rattle.bq_scope.specs.declared.code.Code.TheOpen.{CodeClause-F}
 use Rattle.bq_scope.specs.declared.code.CodeClause.{out-CodeClause}
 use Rattle.bq_scope.specs.declared.code.CodeClause.TheVariants.{outs-For, outs-If}

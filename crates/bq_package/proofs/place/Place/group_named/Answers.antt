@@ -1,6 +1,6 @@
 use Rattle.std.proofs.Common.{◌∙◌, List, Option, Bool, Result, ap, subst}
-use Rattle.bq_source.specs.Gives.{Gives}
-use Rattle.bq_source.specs.declared.fault.FaultKind.{FaultKind}
+use Rattle.bq_base.specs.Gives.{Gives}
+use Rattle.bq_base.specs.declared.fault.FaultKind.{FaultKind}
 use Rattle.bq_value.specs.Datum.{Datum}
 use Rattle.bq_value.specs.declared.error.EvalErr.TheVariants.{Bad}
 use Rattle.bq_machine.specs.Binding.{BoundView}

@@ -1,5 +1,5 @@
 use Rattle.std.proofs.Common.{List, ℕ, Ok, subst}
-use Rattle.bq_source.specs.Gives.{Gives}
+use Rattle.bq_base.specs.Gives.{Gives}
 use Rattle.bq_value.specs.declared.error.EvalErr.TheVariants.{Bad}
 use Rattle.bq_typed.specs.Steps.{and_then}
 use Rattle.bq_package.specs.Place.{place_of}

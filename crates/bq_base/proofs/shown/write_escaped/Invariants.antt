@@ -1,8 +1,8 @@
 use Rattle.std.proofs.Common.{◌≡◌, ◌≤◌, ℕ, List, ◌++◌, encode_utf8_all}
 use Rattle.std.specs.Fmt.{HasWritten, IsPlainFormatter}
 use Rattle.std.specs.Char.Iter.{escape_byte_rest, escape_byte_left, escape_byte_end}
-use Rattle.bq_source.specs.Shown.{shown_byte}
-use Rattle.bq_source.proofs.shown.write_escaped.Given as goal
+use Rattle.bq_base.specs.Shown.{shown_byte}
+use Rattle.bq_base.proofs.shown.write_escaped.Given as goal
 
 abbrev pub invariant-escape : goal.invariant-escape
 invariant-escape g l =

@@ -1,8 +1,8 @@
 -- The faults of files: their numbers and names.
 use Rattle.std.specs.Prelude.{ℕ, List, [], codes}
-use Rattle.bq_source.specs.declared.fault.FaultKind.{FaultKind}
-use Rattle.bq_source.specs.declared.fault.FaultKind.TheVariants as f
-use Rattle.bq_source.specs.declared.fault.Fault.{Fault}
+use Rattle.bq_base.specs.declared.fault.FaultKind.{FaultKind}
+use Rattle.bq_base.specs.declared.fault.FaultKind.TheVariants as f
+use Rattle.bq_base.specs.declared.fault.Fault.{Fault}
 
 -- behind the `F` of a fault line
 abbrev pub fault_number : FaultKind → ℕ

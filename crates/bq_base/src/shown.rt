@@ -2,7 +2,7 @@
 
 ghost use Rattle.std.specs.Prelude.{Some};
 ghost use Rattle.std.specs.Fmt.{WritesOnOk};
-ghost use Rattle.bq_source.specs.Shown.{shown_byte, shown_text, fault_shown};
+ghost use Rattle.bq_base.specs.Shown.{shown_byte, shown_text, fault_shown};
 
 use crate::bytes::Bytes;
 use crate::fault::Fault;

@@ -1,7 +1,7 @@
 use Rattle.std.proofs.Common.{take}
 use Rattle.std.specs.Fmt.{HasWritten, IsPlainFormatter}
-use Rattle.bq_source.specs.Shown.{shown_text}
-use Rattle.bq_source.proofs.shown.BytesDebug.fmt.Given as goal
+use Rattle.bq_base.specs.Shown.{shown_text}
+use Rattle.bq_base.proofs.shown.BytesDebug.fmt.Given as goal
 
 abbrev pub invariant-loop-byte : goal.invariant-loop-byte
 invariant-loop-byte g l =

@@ -1,6 +1,6 @@
 use Rattle.std.proofs.Common.{◌++◌, encode_utf8, encode_utf8_all, sym, ap, ◌∙◌, append_assoc, rules}
 use Rattle.std.proofs.Output.{has_written_append}
-use Rattle.bq_source.proofs.shown.write_escaped.Goals as goal
+use Rattle.bq_base.proofs.shown.write_escaped.Goals as goal
 
 pub escape-preserved : goal.escape-preserved
 escape-preserved g c = (

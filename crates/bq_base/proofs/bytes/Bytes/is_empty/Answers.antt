@@ -1,6 +1,6 @@
 use Rattle.std.proofs.Common.{arith}
 use Rattle.std.proofs.lemmas.Grind.{common_steps}
-use Rattle.bq_source.proofs.bytes.Bytes.is_empty.Goals as goal
+use Rattle.bq_base.proofs.bytes.Bytes.is_empty.Goals as goal
 
 pub returns : goal.returns
 returns c = grind (arith, common_steps)

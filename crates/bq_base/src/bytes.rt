@@ -44,7 +44,7 @@ impl Model for Bytes {
 
     ghost coded = { coded_list coded_ℕ };
 
-    ghost use Rattle.bq_source.specs.Bytes.{bytes_of};
+    ghost use Rattle.bq_base.specs.Bytes.{bytes_of};
 
     ghost view = { λ b. bytes_of b.repr };
 }

@@ -1,7 +1,7 @@
 -- What a byte string holds.
 use Rattle.std.specs.Prelude.{ℕ, List, take}
-use Rattle.bq_source.specs.declared.bytes.Repr.{Repr}
-use Rattle.bq_source.specs.declared.bytes.Repr.TheVariants as repr
+use Rattle.bq_base.specs.declared.bytes.Repr.{Repr}
+use Rattle.bq_base.specs.declared.bytes.Repr.TheVariants as repr
 
 abbrev pub bytes_of : Repr → List ℕ
 bytes_of (repr.Short short) = take short.len short.bytes

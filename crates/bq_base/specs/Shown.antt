@@ -2,8 +2,8 @@
 use Rattle.std.specs.Prelude.{ℕ, List, [], ◌∷◌, ◌++◌, codes, flat_map, encode_utf8_all}
 use Rattle.std.specs.Char.Escape.{escape_ascii}
 use Rattle.std.specs.Fmt.{decimal}
-use Rattle.bq_source.specs.declared.fault.Fault.{Fault}
-use Rattle.bq_source.specs.Fault.{fault_number, fault_name}
+use Rattle.bq_base.specs.declared.fault.Fault.{Fault}
+use Rattle.bq_base.specs.Fault.{fault_number, fault_name}
 
 -- how `{:?}` shows a byte: printable ASCII as itself, but quotes and the backslash behind a backslash, and others as `\n` or `\x7f`
 abbrev pub shown_byte : ℕ → List ℕ

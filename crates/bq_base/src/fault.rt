@@ -2,8 +2,8 @@
 //! the variant.
 
 ghost use Rattle.std.specs.Prelude.{◌≡◌};
-ghost use Rattle.bq_source.specs.Fault.{fault_number, fault_name, fault_at};
-ghost use Rattle.bq_source.specs.declared.fault.SourceErr.TheVariants.{Memory};
+ghost use Rattle.bq_base.specs.Fault.{fault_number, fault_name, fault_at};
+ghost use Rattle.bq_base.specs.declared.fault.SourceErr.TheVariants.{Memory};
 
 use crate::bytes::Bytes;
 use std::alloc::{AllocError, AllocFailed};

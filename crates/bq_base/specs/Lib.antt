@@ -1,0 +1,4 @@
+pub mod Gives
+pub mod Bytes
+pub mod Fault
+pub mod Shown
