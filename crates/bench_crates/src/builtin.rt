@@ -4,10 +4,10 @@ use crate::clock::CpuInstant;
 use crate::strings::{label_key, string};
 use anyhow::Result;
 use bq_base::Bytes;
-use bq_machine::{Args, Machine, copies};
-use bq_methods::call_method;
-use bq_seed::Seed;
+use bq_builtin_machine::{Args, Machine, copies};
+use bq_builtin_methods::call_method;
 use bq_value::{Content, Dict, EvalErr, Store, Value};
+use bq_value_seed::Seed;
 use std::alloc::{AllocError, Global};
 
 /// Calls of one method: its arguments, and how often it is called.

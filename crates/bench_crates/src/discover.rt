@@ -3,9 +3,9 @@
 
 use crate::workspace::{file_of, workspace_of};
 use anyhow::Result;
-use bq_discover::{LoadGraph, discover, discover_by_workers};
 use bq_label::{File, Workspace};
-use bq_schema::Schema;
+use bq_load_discover::{LoadGraph, discover, discover_by_workers};
+use bq_package_schema::Schema;
 use std::alloc::{AllocError, Global};
 use std::thread::Threads;
 use std::time::{Duration, Instant};

@@ -2,14 +2,14 @@
 //! come later. Standard output says how large the sets are.
 
 ghost use Rattle.std.specs.Prelude.{◌≡◌, ◌<◌, length, vec_len, IfOk};
-ghost use Rattle.bq_graph.specs.Edges.{AreBetween};
+ghost use Rattle.bq_query_graph.specs.Edges.{AreBetween};
 
 use crate::clock::CpuInstant;
 use anyhow::Result;
-use bq_graph::allpaths::allpaths;
-use bq_graph::deps::{deps, deps_within};
-use bq_graph::rdeps::rdeps;
-use bq_graph::{DependencyGraph, Edge, members};
+use bq_query_graph::allpaths::allpaths;
+use bq_query_graph::deps::{deps, deps_within};
+use bq_query_graph::rdeps::rdeps;
+use bq_query_graph::{DependencyGraph, Edge, members};
 use std::alloc::{AllocError, Global};
 
 /// How far the five edges of a target lead.

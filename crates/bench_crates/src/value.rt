@@ -3,9 +3,9 @@
 use crate::clock::CpuInstant;
 use crate::strings::{label_key, string};
 use anyhow::Result;
-use bq_seed::Seed;
 use bq_value::{Content, Dict, Key, Store, Value, freeze};
-use bq_walk::equal;
+use bq_value_compare::equal;
+use bq_value_seed::Seed;
 use std::alloc::{AllocError, Global};
 use std::time::Duration;
 

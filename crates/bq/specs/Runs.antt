@@ -1,10 +1,10 @@
 -- What a run over a directory is.
 use Rattle.std.specs.Prelude.{◌≡◌, ℕ, List, Option, Result, Err}
 use Rattle.std.specs.Io.KnownBytes.{Keeps}
-use Rattle.bq_directory.specs.declared.directory_err.DirectoryErr.{DirectoryErr}
-use Rattle.bq_directory.specs.declared.directory_err.DirectoryErr.TheVariants as directory
+use Rattle.bq_run_directory.specs.declared.directory_err.DirectoryErr.{DirectoryErr}
+use Rattle.bq_run_directory.specs.declared.directory_err.DirectoryErr.TheVariants as directory
 use Rattle.bq_label.specs.declared.workspace.File.{File}
-use Rattle.bq_report.specs.declared.ending.Status.{Status}
+use Rattle.bq_run_report.specs.declared.ending.Status.{Status}
 use Rattle.bq_run.specs.Run.{DoesOne, IsRunOver}
 use Rattle.bq_run.specs.declared.error.RunErr.{RunErr}
 use Rattle.bq_run.specs.declared.error.RunErr.TheVariants as run

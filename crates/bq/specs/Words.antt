@@ -3,10 +3,10 @@ use Rattle.std.specs.Prelude.{◌≡◌, ◌<◌, ◌≤◌, ℕ, List, [], Opti
 use Rattle.std.specs.Str.Parse.{IsNumeral, without_leading_plus, digits_value}
 use Rattle.clap.specs.Words.{first_value, found_of, one_text}
 use Rattle.clap.specs.declared.parser.matches.ArgMatches.{ArgMatches}
-use Rattle.bq_answer.specs.declared.print.OutputForm.{OutputForm}
-use Rattle.bq_answer.specs.declared.print.OutputForm.TheVariants as form
+use Rattle.bq_query.specs.declared.print.OutputForm.{OutputForm}
+use Rattle.bq_query.specs.declared.print.OutputForm.TheVariants as form
 use Rattle.bq_run.specs.declared.options.Options.{Options}
-use Rattle.bq_workers.specs.Workers.{max_workers}
+use Rattle.bq_load_workers.specs.Workers.{max_workers}
 use Rattle.bq.specs.declared.words.Words.{Words}
 
 -- the text of an option or of the query, its default too

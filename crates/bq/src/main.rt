@@ -1,6 +1,6 @@
 //! The program `bq`: words, and a bundle on standard input or a directory come in; the answer goes to standard output, and the
 //! faults and the error line to standard error. All that it promises is `bq_run::run`'s, and `bq_run::run_files`' of a directory; of
-//! `--explain`, `bq_explain::explain`'s.
+//! `--explain`, `bq_run_explain::explain`'s.
 //!
 //! - `words`: the command line;
 //! - `streams`: where the program writes;
@@ -19,8 +19,8 @@ ghost use Rattle.clap.specs.Words.{kind_of};
 ghost use Rattle.bq.specs.Shown.{printed_status};
 ghost use Rattle.bq_run.specs.Run.{IsInRange};
 
-use bq_explain::Explanation;
 use bq_run::{ANSWERED, DEVICE_FAILED, Metered, NO_MEMORY, REFUSED, RunErr, end_run};
+use bq_run_explain::Explanation;
 use clap::Error;
 use clap::error::ErrorKind;
 use runs::{run_on_bundle, run_on_directory};

@@ -5,9 +5,9 @@ ghost use Rattle.bq.specs.Runs.{DoesOnDirectory, run_err};
 ghost use Rattle.bq_run.specs.Run.{DoesOne, IsInRange, IsRunOf, IsRunOver};
 
 use crate::streams::{Answers, Faults};
-use bq_directory::{DirectoryErr, read_directory};
 use bq_label::Workspace;
 use bq_run::{ByteSink, ByteSource, Options, RunErr, Status, run, run_files};
+use bq_run_directory::{DirectoryErr, read_directory};
 use std::alloc::Global;
 use std::random::RandomSource;
 use std::sync::Wait;

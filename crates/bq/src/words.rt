@@ -2,13 +2,13 @@
 
 ghost use Rattle.std.specs.Prelude.{◌≡◌, ◌≤◌, [], IfOk, codes, option_map, string_bytes, unwrap_or};
 ghost use Rattle.bq_run.specs.Run.{IsInRange};
-ghost use Rattle.bq_workers.specs.Workers.{max_workers};
+ghost use Rattle.bq_load_workers.specs.Workers.{max_workers};
 ghost use Rattle.bq.specs.Words.{Asks, AsksWith, IsNumberOf, form_by, number_text, text_of};
 ghost use Rattle.bq.specs.declared.words.Words.{Words};
 ghost use Rattle.bq.specs.declared.words.Asked.TheVariants.{Answer};
 
-use bq_explain::{Explanation, explain};
 use bq_run::{MAX_JOBS, Options, OutputForm};
+use bq_run_explain::{Explanation, explain};
 use clap::error::ErrorKind;
 use clap::{Arg, ArgAction, ArgMatches, Command, Error, value_parser};
 use std::alloc::{AllocError, Global};

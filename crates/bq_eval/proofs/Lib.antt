@@ -1,13 +1,6 @@
-pub mod Depth
-pub mod SparsePairs
-pub mod SparseSearch
-pub mod Slots
-pub mod Layers
-pub mod Reversed
-pub mod Following
-pub mod Deciding
-pub mod Assigning
-pub mod Clauses
-pub mod Loops
-pub mod ParameterLists
-pub mod CallSteps
+-- what a file ends in
+pub mod Ends
+-- files as modules of programs
+pub mod Programs
+-- the first state of a run
+pub mod Starts

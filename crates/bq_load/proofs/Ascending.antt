@@ -11,9 +11,9 @@ use Rattle.bq_label.specs.Label.{PackageParts, LabelParts, package_of, label_in,
 use Rattle.bq_label.specs.Paths.{is_path}
 use Rattle.bq_label.specs.Packages.{id_cmp, package_cmp, build_label}
 use Rattle.bq_label_set.specs.Labels.{with_labels}
-use Rattle.bq_target.specs.Target.{is_of}
-use Rattle.bq_target.specs.Package.{PackageTargets, no_targets}
-use Rattle.bq_discover.specs.Edges.{number_in}
+use Rattle.bq_package_target.specs.Target.{is_of}
+use Rattle.bq_package_target.specs.Package.{PackageTargets, no_targets}
+use Rattle.bq_load_discover.specs.Edges.{number_in}
 use Rattle.bq_load.specs.Views.{ModuleView, FailedView, OutcomeView}
 use Rattle.bq_load.specs.Loaded.{labels_of, own_package, package_by, package_at, package_in, packages_in, PackagesAscend}
 

@@ -11,7 +11,7 @@ use Rattle.std.specs.Map.{lookup}
 use Rattle.std.proofs.lemmas.Cmp.{nat_list_eq_equiv}
 use Rattle.std.proofs.lemmas.List.{at_drop_more, at_drop_all, get_or_default}
 use Rattle.std.proofs.lemmas.Map.Text.{btree_map_updates_str}
-use Rattle.bq_scope.specs.Names.{Name}
+use Rattle.bq_resolve_scope.specs.Names.{Name}
 use Rattle.bq_value.specs.Datum.{Datum}
 use Rattle.bq_load.specs.Places.{Places, place_in, HasPlaces}
 use Rattle.bq_load.specs.Imports.{value_named}

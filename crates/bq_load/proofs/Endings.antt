@@ -1,11 +1,11 @@
 -- What an evaluation ends in, where its run is known.
 use Rattle.std.proofs.Common.{◌≡◌, ◌∙◌, List, IfSome, refl, ap}
-use Rattle.bq_scope.specs.declared.code.Resolved.{Resolved}
+use Rattle.bq_resolve_scope.specs.declared.code.Resolved.{Resolved}
 use Rattle.bq_value.specs.Datum.{Datum}
-use Rattle.bq_machine.specs.Action.{Run, done, stopped}
-use Rattle.bq_machine.specs.State.{State}
-use Rattle.bq_meaning.specs.Frame.{Frame}
-use Rattle.bq_module.specs.Module.{Ended, ended, kept_after}
+use Rattle.bq_builtin_machine.specs.Action.{Run, done, stopped}
+use Rattle.bq_builtin_machine.specs.State.{State}
+use Rattle.bq_eval_meaning_spec.specs.Frame.{Frame}
+use Rattle.bq_eval.specs.Module.{Ended, ended, kept_after}
 use Rattle.bq_package.specs.Calls.{HeldPackage, package_in}
 use Rattle.bq_load.specs.Evaluation.{module_by, module_after}
 

@@ -4,12 +4,12 @@ use Rattle.std.proofs.lemmas.List.{length-map}
 use Rattle.bq_label.specs.declared.workspace.File.{File}
 use Rattle.bq_label.specs.declared.packages.BuildFile.{BuildFile}
 use Rattle.bq_label.specs.Packages.{packages_of}
-use Rattle.bq_scope.specs.Names.{Name, with_each, with_name}
-use Rattle.bq_scope.specs.declared.code.Resolved.{Resolved}
-use Rattle.bq_schema.specs.Schema.{Rules}
+use Rattle.bq_resolve_scope.specs.Names.{Name, with_each, with_name}
+use Rattle.bq_resolve_scope.specs.declared.code.Resolved.{Resolved}
+use Rattle.bq_package_schema.specs.Schema.{Rules}
 use Rattle.bq_board.specs.Graph.{Loads}
-use Rattle.bq_discover.specs.declared.modules.Module.{Module}
-use Rattle.bq_discover.specs.LoadGraph.{GraphParts, IsNumbered, IsLoadGraph, inputs_of}
+use Rattle.bq_load_discover.specs.declared.modules.Module.{Module}
+use Rattle.bq_load_discover.specs.LoadGraph.{GraphParts, IsNumbered, IsLoadGraph, inputs_of}
 use Rattle.bq_load.specs.declared.source.Source.{Source}
 use Rattle.bq_load.specs.declared.loaded.Loaded.{Loaded}
 use Rattle.bq_load.specs.Sources.{LoadingParts, source_of, code_of, loading_in}

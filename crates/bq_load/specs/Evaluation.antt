@@ -4,20 +4,20 @@ use Rattle.std.specs.Prelude.{ℕ, List, [], map, Option, Some, None, Result, Ok
 use Rattle.bq_base.specs.declared.fault.Fault.{Fault}
 use Rattle.bq_base.specs.declared.fault.FaultKind.TheVariants as f
 use Rattle.bq_base.specs.Fault.{fault_at}
-use Rattle.bq_grammar.specs.declared.tree.FileKind.{FileKind}
-use Rattle.bq_grammar.specs.declared.tree.FileKind.TheVariants as kinds
+use Rattle.bq_parse_grammar.specs.declared.tree.FileKind.{FileKind}
+use Rattle.bq_parse_grammar.specs.declared.tree.FileKind.TheVariants as kinds
 use Rattle.bq_label.specs.Label.{LabelParts, package_of}
 use Rattle.bq_label_set.specs.Labels.{with_labels}
-use Rattle.bq_scope.specs.declared.code.Resolved.{Resolved}
+use Rattle.bq_resolve_scope.specs.declared.code.Resolved.{Resolved}
 use Rattle.bq_value.specs.Cells.{FrozenView, frozen}
 use Rattle.bq_value.specs.Datum.{Datum}
-use Rattle.bq_machine.specs.Action.{Run}
-use Rattle.bq_machine.specs.State.{State}
-use Rattle.bq_meaning.specs.Frame.{Frame}
-use Rattle.bq_module.specs.Module.{Ended, evaluated, failed, ended, kept_after, module_run}
-use Rattle.bq_target.specs.Package.{PackageTargets, no_targets, finished}
+use Rattle.bq_builtin_machine.specs.Action.{Run}
+use Rattle.bq_builtin_machine.specs.State.{State}
+use Rattle.bq_eval_meaning_spec.specs.Frame.{Frame}
+use Rattle.bq_eval.specs.Module.{Ended, evaluated, failed, ended, kept_after, module_run}
+use Rattle.bq_package_target.specs.Package.{PackageTargets, no_targets, finished}
 use Rattle.bq_package.specs.Calls.{HeldPackage, outside, declaring, package_in, meaning}
-use Rattle.bq_front.specs.Front.{kind_of}
+use Rattle.bq_load_front.specs.Front.{kind_of}
 use Rattle.bq_load.specs.declared.source.Source.{Source}
 use Rattle.bq_load.specs.Views.{ModuleView, FailedView, not_evaluated}
 use Rattle.bq_load.specs.Sources.{LoadingParts}

@@ -8,13 +8,13 @@ use Rattle.bq_base.specs.declared.fault.Fault.{Fault}
 use Rattle.bq_base.specs.declared.fault.FaultKind.{FaultKind}
 use Rattle.bq_base.specs.declared.fault.FaultKind.TheVariants as f
 use Rattle.bq_label.specs.Label.{LabelParts}
-use Rattle.bq_scope.specs.Names.{Name}
-use Rattle.bq_scope.specs.declared.code.LoadStmt.{LoadStmt}
-use Rattle.bq_scope.specs.declared.code.LoadedSymbol.{LoadedSymbol}
-use Rattle.bq_scope.specs.declared.code.Resolved.{Resolved}
+use Rattle.bq_resolve_scope.specs.Names.{Name}
+use Rattle.bq_resolve_scope.specs.declared.code.LoadStmt.{LoadStmt}
+use Rattle.bq_resolve_scope.specs.declared.code.LoadedSymbol.{LoadedSymbol}
+use Rattle.bq_resolve_scope.specs.declared.code.Resolved.{Resolved}
 use Rattle.bq_value.specs.Datum.{Datum}
-use Rattle.bq_front.specs.Code.{◌>>=◌}
-use Rattle.bq_discover.specs.Edges.{number_in}
+use Rattle.bq_load_front.specs.Code.{◌>>=◌}
+use Rattle.bq_load_discover.specs.Edges.{number_in}
 use Rattle.bq_load.specs.declared.imports.LoadedFiles.{LoadedFiles}
 use Rattle.bq_load.specs.declared.outcome.LoadedModule.{LoadedModule}
 use Rattle.bq_load.specs.Views.{ModuleView, module_view, module_views}

@@ -2,22 +2,22 @@
 use Rattle.std.specs.Prelude.{◌≡◌, ℕ, ◌++◌, List, [], ◌∷◌, map, Option, Some, None, Result, Ok, Err, slice_get, codes, option_map, option_and_then, if◌then◌else◌}
 use Rattle.std.specs.List.{flat_map, filter_map}
 use Rattle.std.specs.List.Sorted.{IsStrictlySortedBy}
-use Rattle.bq_fault_line.specs.declared.fault_line.FaultLine.{FaultLine}
-use Rattle.bq_fault_line.specs.FaultLine.{sorted_lines}
+use Rattle.bq_load_fault_line.specs.declared.fault_line.FaultLine.{FaultLine}
+use Rattle.bq_load_fault_line.specs.FaultLine.{sorted_lines}
 use Rattle.bq_label.specs.declared.workspace.File.{File}
 use Rattle.bq_label.specs.declared.packages.BuildFile.{BuildFile}
 use Rattle.bq_label.specs.Label.{LabelParts, package_of, full_form}
 use Rattle.bq_label.specs.Packages.{build_label, id_cmp}
 use Rattle.bq_label_set.specs.Labels.{with_labels}
-use Rattle.bq_schema.specs.Schema.{Rules}
-use Rattle.bq_target.specs.Target.{is_of}
-use Rattle.bq_target.specs.Package.{PackageTargets, no_targets}
+use Rattle.bq_package_schema.specs.Schema.{Rules}
+use Rattle.bq_package_target.specs.Target.{is_of}
+use Rattle.bq_package_target.specs.Package.{PackageTargets, no_targets}
 use Rattle.bq_board.specs.Graph.{Loads}
-use Rattle.bq_discover.specs.declared.load_err.LoadErr.{LoadErr}
-use Rattle.bq_discover.specs.declared.load_err.LoadErr.TheVariants as e
-use Rattle.bq_discover.specs.Edges.{number_in}
-use Rattle.bq_discover.specs.Modules.{AreTooMany}
-use Rattle.bq_discover.specs.LoadGraph.{GraphParts, IsLoadGraph, inputs_of}
+use Rattle.bq_load_discover.specs.declared.load_err.LoadErr.{LoadErr}
+use Rattle.bq_load_discover.specs.declared.load_err.LoadErr.TheVariants as e
+use Rattle.bq_load_discover.specs.Edges.{number_in}
+use Rattle.bq_load_discover.specs.Modules.{AreTooMany}
+use Rattle.bq_load_discover.specs.LoadGraph.{GraphParts, IsLoadGraph, inputs_of}
 use Rattle.bq_load.specs.declared.loaded.Loaded.{Loaded}
 use Rattle.bq_load.specs.Views.{ModuleView, FailedView, OutcomeView, outcome_view}
 use Rattle.bq_load.specs.Sources.{LoadingParts, loading_in}

@@ -6,7 +6,7 @@ use Rattle.std.specs.Str.{bytes_eq}
 use Rattle.std.specs.Cmp.Lexicographic.{slice_cmp}
 use Rattle.std.specs.BTreeMap.{BTreeMap, get_by}
 use Rattle.std.specs.Borrow.{Bor}
-use Rattle.bq_scope.specs.Names.{Name}
+use Rattle.bq_resolve_scope.specs.Names.{Name}
 
 abbrev pub Places : Type 0
 Places = BTreeMap (Bor (List ℕ)) ℕ

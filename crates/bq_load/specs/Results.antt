@@ -7,12 +7,12 @@ use Rattle.bq_base.specs.declared.fault.FaultKind.{FaultKind}
 use Rattle.bq_base.specs.declared.fault.FaultKind.TheVariants as f
 use Rattle.bq_base.specs.Fault.{fault_at}
 use Rattle.bq_label.specs.Label.{LabelParts, full_form}
-use Rattle.bq_scope.specs.declared.code.LoadStmt.{LoadStmt}
-use Rattle.bq_scope.specs.declared.code.Resolved.{Resolved}
+use Rattle.bq_resolve_scope.specs.declared.code.LoadStmt.{LoadStmt}
+use Rattle.bq_resolve_scope.specs.declared.code.Resolved.{Resolved}
 use Rattle.bq_board.specs.Graph.{Loads}
-use Rattle.bq_outcome.specs.Outcome.{outcome}
-use Rattle.bq_outcome.specs.declared.outcome.Outcome.{Outcome}
-use Rattle.bq_outcome.specs.declared.outcome.Outcome.TheVariants as o
+use Rattle.bq_load_outcome_spec.specs.Outcome.{outcome}
+use Rattle.bq_load_outcome_spec.specs.declared.outcome.Outcome.{Outcome}
+use Rattle.bq_load_outcome_spec.specs.declared.outcome.Outcome.TheVariants as o
 use Rattle.bq_load.specs.declared.source.Source.{Source}
 use Rattle.bq_load.specs.Views.{ModuleView, FailedView, OutcomeView, not_evaluated}
 use Rattle.bq_load.specs.Sources.{LoadingParts}

@@ -5,12 +5,12 @@ use Rattle.bq_label.specs.declared.workspace.File.{File}
 use Rattle.bq_label.specs.declared.packages.BuildFile.{BuildFile}
 use Rattle.bq_label.specs.Label.{LabelParts}
 use Rattle.bq_label.specs.Packages.{packages_of}
-use Rattle.bq_scope.specs.Names.{Name, with_each, with_name}
-use Rattle.bq_scope.specs.declared.code.Resolved.{Resolved}
-use Rattle.bq_schema.specs.Schema.{Rules}
-use Rattle.bq_front.specs.declared.front.Front.{Front}
-use Rattle.bq_discover.specs.declared.modules.Module.{Module}
-use Rattle.bq_discover.specs.LoadGraph.{GraphParts}
+use Rattle.bq_resolve_scope.specs.Names.{Name, with_each, with_name}
+use Rattle.bq_resolve_scope.specs.declared.code.Resolved.{Resolved}
+use Rattle.bq_package_schema.specs.Schema.{Rules}
+use Rattle.bq_load_front.specs.declared.front.Front.{Front}
+use Rattle.bq_load_discover.specs.declared.modules.Module.{Module}
+use Rattle.bq_load_discover.specs.LoadGraph.{GraphParts}
 use Rattle.bq_load.specs.declared.source.Source.{Source}
 use Rattle.bq_load.specs.declared.loading.Loading.{Loading}
 

@@ -5,7 +5,7 @@ use Rattle.std.specs.declared.sync.Arc.{Arc}
 use Rattle.bq_base.specs.declared.fault.Fault.{Fault}
 use Rattle.bq_label.specs.Label.{LabelParts}
 use Rattle.bq_value.specs.Cells.{FrozenView}
-use Rattle.bq_target.specs.Package.{PackageTargets}
+use Rattle.bq_package_target.specs.Package.{PackageTargets}
 use Rattle.bq_load.specs.declared.outcome.LoadedModule.{LoadedModule}
 use Rattle.bq_load.specs.declared.outcome.FailedModule.{FailedModule}
 use Rattle.bq_load.specs.declared.outcome.ModuleOutcome.{ModuleOutcome}

@@ -1,13 +1,13 @@
 //! What the statements of a file give.
 
 ghost use Rattle.std.specs.Prelude.{◌≡◌, [], map, option_map, IfOk};
-ghost use Rattle.bq_module.specs.Outcomes.{ended_of, run_of};
+ghost use Rattle.bq_eval.specs.Outcomes.{ended_of, run_of};
 ghost use Rattle.bq_package.specs.Calls.{held_by, package_in, meaning};
-ghost use Rattle.bq_target.specs.Package.{finished};
-ghost use Rattle.bq_eval.specs.Round.{views_of};
+ghost use Rattle.bq_package_target.specs.Package.{finished};
+ghost use Rattle.bq_eval_rules.specs.Round.{views_of};
 ghost use Rattle.bq_base.specs.Gives.{Gives};
 ghost use Rattle.bq_base.specs.declared.fault.SourceErr.TheVariants.{Bad};
-ghost use Rattle.bq_front.specs.Code.{items};
+ghost use Rattle.bq_load_front.specs.Code.{items};
 ghost use Rattle.bq_load_order.specs.Shown.{told};
 ghost use Rattle.bq_load.specs.Views.{module_view, failed_view, module_views};
 ghost use Rattle.bq_load.specs.Sources.{loading_of};
@@ -19,16 +19,16 @@ use crate::loading::Loading;
 use crate::outcome::{FailedModule, LoadedModule};
 use crate::source::Source;
 use bq_base::{Bytes, SourceErr};
-use bq_front::kind_of;
-use bq_grammar::FileKind;
+use bq_eval::{EvaluatedFile, FileOutcome, ResolvedModule, eval_module};
 use bq_label::Label;
 use bq_label_set::LabelSet;
-use bq_module::{EvaluatedFile, FileOutcome, ResolvedModule, eval_module};
+use bq_load_front::kind_of;
 use bq_package::BuildHost;
-use bq_scope::Resolved;
-use bq_seed::Seed;
-use bq_target::PackageState;
+use bq_package_target::PackageState;
+use bq_parse_grammar::FileKind;
+use bq_resolve_scope::Resolved;
 use bq_value::{Frozen, Store, Value, freeze};
+use bq_value_seed::Seed;
 use std::alloc::{AllocError, Global};
 use std::sync::Arc;
 

@@ -12,7 +12,7 @@ ghost use Rattle.bq_load.specs.Imports.{value_named, globals_by, names_by, globa
 use crate::outcome::LoadedModule;
 use crate::places::{NamePlaces, place_of};
 use bq_base::{Bytes, Fault, FaultKind, SourceErr};
-use bq_scope::{LoadedSymbol, Resolved};
+use bq_resolve_scope::{LoadedSymbol, Resolved};
 use bq_value::{EvalErr, Value};
 
 /// The value in the place in which its name is.

@@ -4,7 +4,7 @@ ghost use Rattle.std.specs.Prelude.{◌≡◌, [], IfOk, IfSome, option_map, sli
 ghost use Rattle.std.specs.Option.{option_copied};
 ghost use Rattle.bq_base.specs.Gives.{Gives};
 ghost use Rattle.bq_base.specs.declared.fault.SourceErr.TheVariants.{Bad};
-ghost use Rattle.bq_front.specs.Code.{items};
+ghost use Rattle.bq_load_front.specs.Code.{items};
 ghost use Rattle.bq_load.specs.Views.{module_view, module_views};
 ghost use Rattle.bq_load.specs.Places.{HasPlaces, AllPlaced};
 ghost use Rattle.bq_load.specs.Imports.{loaded_of, module_named, names_in, names_of, clause_values, imports};
@@ -15,7 +15,7 @@ use crate::places::{NamePlaces, places_at, places_by_name};
 use bq_base::SourceErr;
 use bq_label::Label;
 use bq_label_set::LabelSet;
-use bq_scope::{LoadStmt, Resolved};
+use bq_resolve_scope::{LoadStmt, Resolved};
 use bq_value::Value;
 use std::alloc::{AllocError, Global};
 use std::sync::Arc;

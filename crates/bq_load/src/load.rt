@@ -14,12 +14,12 @@ use crate::loading::Loading;
 use crate::outcome::ModuleOutcome;
 use crate::pool::{Pool, PoolSeat};
 use bq_board::Graph;
-use bq_discover::{LoadErr, discover, discover_by_workers};
 use bq_label::Workspace;
+use bq_load_discover::{LoadErr, discover, discover_by_workers};
 use bq_load_order::{Unwatched, outcomes_one_thread};
-use bq_schema::Schema;
-use bq_seed::Seed;
-use bq_workers::MAX_WORKERS;
+use bq_load_workers::MAX_WORKERS;
+use bq_package_schema::Schema;
+use bq_value_seed::Seed;
 use std::alloc::{AllocError, Global};
 use std::marker::Sync;
 use std::sync::Wait;
@@ -74,7 +74,7 @@ fn loaded_by_workers<'a, R: Threads + Wait + Sync, G: Gate>(
 
 /// Loads a workspace on one thread: each module is evaluated after all that it loads, with so many steps of its own. It is refused where
 /// there are too many modules or edges (L2), and where memory is refused (L1). It evaluates on the stack of its caller, which no call
-/// overflows where that is as large as `bq_workers::EVALUATION_STACK`.
+/// overflows where that is as large as `bq_load_workers::EVALUATION_STACK`.
 #[tactic(auto, using(crate::proofs::Joined::loaded_is))]
 pub fn load_one_thread(
     alloc: Global,

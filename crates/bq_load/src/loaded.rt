@@ -7,9 +7,9 @@ ghost use Rattle.bq_load.specs.Loaded.{IsGathered};
 use crate::lines::{fault_lines, print_lines};
 use crate::outcome::ModuleOutcome;
 use crate::packages::packages_in;
-use bq_fault_line::FaultLines;
 use bq_label::Packages;
-use bq_target::Package;
+use bq_load_fault_line::FaultLines;
+use bq_package_target::Package;
 use std::alloc::{AllocError, Global};
 
 /// A workspace that was loaded.

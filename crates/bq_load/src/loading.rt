@@ -7,12 +7,12 @@ ghost use Rattle.bq_load.specs.Sources.{loading_of, loading_in};
 
 use crate::source::{Source, Sources};
 use bq_board::Graph;
-use bq_discover::LoadGraph;
-use bq_host::BuiltIns;
+use bq_eval_host::BuiltIns;
 use bq_label::{Packages, Workspace};
-use bq_schema::{Schema, rule_names};
-use bq_scope::Resolved;
-use bq_seed::Seed;
+use bq_load_discover::LoadGraph;
+use bq_package_schema::{Schema, rule_names};
+use bq_resolve_scope::Resolved;
+use bq_value_seed::Seed;
 use std::alloc::{AllocError, Global};
 
 /// The modules of a workspace before their evaluation, by their numbers. Threads may share it.

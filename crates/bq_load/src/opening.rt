@@ -3,10 +3,10 @@
 ghost use Rattle.std.specs.Prelude.{◌≡◌, ◌<◌, ◌≤◌, length, All, IfOk, vec_len};
 ghost use Rattle.bq_board.specs.Board.{blank};
 ghost use Rattle.bq_board.specs.Seats.{IsSeatOf, base_of, view_of};
-ghost use Rattle.bq_discover.specs.LoadGraph.{IsLoadGraph, inputs_of};
-ghost use Rattle.bq_outcome.specs.Outcome.{outcome};
-ghost use Rattle.bq_workers.specs.Closing.{ClosesWith};
-ghost use Rattle.bq_workers.specs.Work.{IsImport};
+ghost use Rattle.bq_load_discover.specs.LoadGraph.{IsLoadGraph, inputs_of};
+ghost use Rattle.bq_load_outcome_spec.specs.Outcome.{outcome};
+ghost use Rattle.bq_load_workers.specs.Closing.{ClosesWith};
+ghost use Rattle.bq_load_workers.specs.Work.{IsImport};
 ghost use Rattle.bq_load.specs.Views.{module_view};
 ghost use Rattle.bq_load.specs.Sources.{loading_of, loading_in};
 ghost use Rattle.bq_load.specs.Evaluation.{means};
@@ -15,10 +15,10 @@ ghost use Rattle.bq_load.specs.Pool.{parts_of, loads_of};
 use crate::loading::Loading;
 use crate::pool::{Pool, PoolSeat};
 use bq_board::{Graph, MAX_SEATS};
-use bq_discover::LoadGraph;
 use bq_label::{Packages, Workspace};
-use bq_schema::Schema;
-use bq_seed::Seed;
+use bq_load_discover::LoadGraph;
+use bq_package_schema::Schema;
+use bq_value_seed::Seed;
 use std::alloc::{AllocError, Global};
 
 impl<'a> Pool<'a> {
@@ -41,7 +41,7 @@ impl<'a> Pool<'a> {
         ensures fresh { IfOk result (λ r. All (λ s. IsSeatOf r.0.shared.board s.place × (view_of s.place ≡ blank (base_of r.0.shared.board) r.0.shared.board.plan)) r.1.items) }
     {
         let (loading, edges) = Loading::of(alloc, workspace, schema, limit, seed, graph)?;
-        let (shared, seats) = bq_workers::WorkerPool::open(alloc, loading, edges, seats)?;
+        let (shared, seats) = bq_load_workers::WorkerPool::open(alloc, loading, edges, seats)?;
         let pool = Pool { shared };
         Ok((pool, seats))
     }

@@ -2,7 +2,7 @@
 
 use bq_base::{Bytes, Fault};
 use bq_label::Label;
-use bq_target::Package;
+use bq_package_target::Package;
 use bq_value::Frozen;
 use std::alloc::Global;
 use std::sync::Arc;

@@ -5,14 +5,14 @@ ghost use Rattle.bq_label.specs.Label.{package_of};
 ghost use Rattle.bq_label.specs.Packages.{package_cmp};
 ghost use Rattle.bq_label_set.specs.Labels.{with_labels};
 ghost use Rattle.std.specs.List.Sorted.{IsStrictlySortedBy};
-ghost use Rattle.bq_target.specs.Package.{no_targets};
+ghost use Rattle.bq_package_target.specs.Package.{no_targets};
 ghost use Rattle.bq_load.specs.Views.{result_view, outcome_view};
 ghost use Rattle.bq_load.specs.Loaded.{labels_of, own_package, package_by, package_at, package_in, packages_in, PackagesAscend};
 
 use crate::outcome::{FailedModule, LoadedModule, ModuleOutcome};
 use bq_label::{BuildFile, Label, Packages};
 use bq_label_set::LabelSet;
-use bq_target::{Package, is_of};
+use bq_package_target::{Package, is_of};
 use std::alloc::{AllocError, Global};
 use std::sync::Arc;
 

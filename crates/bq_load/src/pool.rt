@@ -4,17 +4,17 @@ ghost use Rattle.std.specs.Prelude.{◌≡◌, length};
 
 use crate::loading::Loading;
 use crate::outcome::ModuleOutcome;
-use bq_target::Package;
+use bq_package_target::Package;
 
 /// The modules of a load graph, to be evaluated by the threads that work in it, each at a seat of its own. Threads may share it.
 #[derive(Drop)]
 pub struct Pool<'a> {
-    pub(crate) shared: bq_workers::WorkerPool<Loading<'a>>,
+    pub(crate) shared: bq_load_workers::WorkerPool<Loading<'a>>,
     ghost wide: { length shared.graph ≡ length shared.evaluator.sources.items },
 }
 
 /// The right to work in one pool. It may go to another thread.
-pub type PoolSeat<'a> = bq_workers::WorkerSeat<Loading<'a>>;
+pub type PoolSeat<'a> = bq_load_workers::WorkerSeat<Loading<'a>>;
 
 /// A module that a thread brought to its end.
 #[derive(Drop)]

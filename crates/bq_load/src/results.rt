@@ -3,7 +3,7 @@
 ghost use Rattle.std.specs.Prelude.{◌≡◌, ◌<◌, length, map, IfOk};
 ghost use Rattle.std.specs.Option.{option_copied};
 ghost use Rattle.bq_label.specs.Label.{full_form};
-ghost use Rattle.bq_outcome.specs.Outcome.{outcome};
+ghost use Rattle.bq_load_outcome_spec.specs.Outcome.{outcome};
 ghost use Rattle.bq_load_order.specs.Shown.{shown as shown_outcome};
 ghost use Rattle.bq_load_order.specs.Slots.{Tabulates};
 ghost use Rattle.bq_load.specs.Views.{module_view, failed_view, result_view, outcome_view};
@@ -18,8 +18,8 @@ use bq_base::{Bytes, Fault, FaultKind};
 use bq_board::Graph;
 use bq_label::{Label, print_label};
 use bq_load_order::SharedOutcome;
-use bq_outcome::Outcome;
-use bq_scope::{LoadStmt, Resolved};
+use bq_load_outcome_spec::Outcome;
+use bq_resolve_scope::{LoadStmt, Resolved};
 use std::alloc::{AllocError, Global};
 use std::sync::Arc;
 

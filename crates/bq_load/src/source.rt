@@ -4,10 +4,10 @@ ghost use Rattle.std.specs.Prelude.{◌≡◌, ◌++◌, ◌∷◌, [], map, IfO
 ghost use Rattle.bq_load.specs.Sources.{source_by, code_by, source_of, code_of};
 
 use bq_base::Fault;
-use bq_discover::Module;
-use bq_front::Front;
 use bq_label::Label;
-use bq_scope::Resolved;
+use bq_load_discover::Module;
+use bq_load_front::Front;
+use bq_resolve_scope::Resolved;
 use sqlite_items::Items;
 use std::alloc::{AllocError, Global};
 

@@ -3,9 +3,9 @@
 ghost use Rattle.std.specs.Prelude.{◌≡◌, ◌<◌, length, map, All, IfOk, IsTrue};
 ghost use Rattle.bq_board.specs.Counts.{Has};
 ghost use Rattle.bq_board.specs.Seats.{IsSeatOf, view_of};
-ghost use Rattle.bq_outcome.specs.Outcome.{outcome};
+ghost use Rattle.bq_load_outcome_spec.specs.Outcome.{outcome};
 ghost use Rattle.bq_load_order.specs.Shown.{shown};
-ghost use Rattle.bq_workers.specs.Brought.{AreRight};
+ghost use Rattle.bq_load_workers.specs.Brought.{AreRight};
 ghost use Rattle.bq_load.specs.Views.{module_view, failed_view, outcome_view};
 ghost use Rattle.bq_load.specs.Evaluation.{means};
 ghost use Rattle.bq_load.specs.Results.{outcomes};
@@ -15,10 +15,10 @@ use crate::gate::{Gate, GateWatch};
 use crate::outcome::{FailedModule, LoadedModule, ModuleOutcome};
 use crate::packages::package_by;
 use crate::pool::{Evaluated, Pool, PoolSeat, Worked};
-use bq_front::kind_of;
-use bq_grammar::FileKind;
-use bq_target::Package;
-use bq_workers::outcomes_by_workers;
+use bq_load_front::kind_of;
+use bq_load_workers::outcomes_by_workers;
+use bq_package_target::Package;
+use bq_parse_grammar::FileKind;
 use std::alloc::{AllocError, Global};
 use std::marker::Sync;
 use std::sync::Wait;
@@ -66,7 +66,7 @@ impl<'a> Pool<'a> {
     fn all_evaluated(
         &self,
         alloc: Global,
-        brought: &[bq_workers::FinishedModule<LoadedModule, FailedModule>],
+        brought: &[bq_load_workers::FinishedModule<LoadedModule, FailedModule>],
     ) -> Result<Vec<Evaluated>, AllocError>
         requires { AreRight module_view failed_view (outcome (means (parts_of self.now)) (loads_of self.now)) (length (loads_of self.now)) brought.now }
         ensures numbers { IfOk result (λ es. map (λ e. e.module) es.items ≡ map (λ e. e.number) brought.now) }
@@ -83,7 +83,7 @@ impl<'a> Pool<'a> {
     fn evaluated(
         &self,
         alloc: Global,
-        brought: &bq_workers::FinishedModule<LoadedModule, FailedModule>,
+        brought: &bq_load_workers::FinishedModule<LoadedModule, FailedModule>,
     ) -> Result<Evaluated, AllocError>
         requires known { brought.now.number < length (loads_of self.now) }
         requires right { shown module_view failed_view brought.now.outcome ≡ outcome (means (parts_of self.now)) (loads_of self.now) brought.now.number }

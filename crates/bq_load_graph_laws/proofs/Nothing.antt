@@ -3,10 +3,10 @@ use Rattle.std.proofs.Common.{◌≡◌, ◌∙◌, ap, refl, ℕ, zero, suc, Li
 use Rattle.bq_base.specs.declared.fault.Fault.{Fault}
 use Rattle.bq_label.specs.Label.{LabelParts}
 use Rattle.bq_label_set.specs.Labels.{with_labels}
-use Rattle.bq_front.specs.Front.{front_of, loads_by, loads_of}
-use Rattle.bq_front.specs.Inputs.{InputParts}
-use Rattle.bq_discover.specs.LoadGraph.{GraphParts, IsLoadGraph}
-use Rattle.bq_discover.specs.Modules.{edges_from}
+use Rattle.bq_load_front.specs.Front.{front_of, loads_by, loads_of}
+use Rattle.bq_load_front.specs.Inputs.{InputParts}
+use Rattle.bq_load_discover.specs.LoadGraph.{GraphParts, IsLoadGraph}
+use Rattle.bq_load_discover.specs.Modules.{edges_from}
 
 no_loads : (inputs : InputParts) (l : LabelParts) (why : Fault) → front_of inputs l ≡ Err why → loads_of inputs l ≡ []
 unfolding loads_of

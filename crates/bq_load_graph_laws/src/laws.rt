@@ -5,11 +5,11 @@ ghost use Rattle.bq_base.specs.declared.fault.Fault.{Fault};
 ghost use Rattle.bq_label.specs.declared.workspace.File.{File};
 ghost use Rattle.bq_label.specs.declared.packages.BuildFile.{BuildFile};
 ghost use Rattle.bq_label.specs.Label.{LabelParts, PackageParts};
-ghost use Rattle.bq_front.specs.Front.{front_of};
-ghost use Rattle.bq_front.specs.Inputs.{InputParts};
-ghost use Rattle.bq_discover.specs.LoadGraph.{GraphParts, IsLoadGraph};
+ghost use Rattle.bq_load_front.specs.Front.{front_of};
+ghost use Rattle.bq_load_front.specs.Inputs.{InputParts};
+ghost use Rattle.bq_load_discover.specs.LoadGraph.{GraphParts, IsLoadGraph};
 ghost use Rattle.bq_load_label.specs.NamedFile.{load_label};
-ghost use Rattle.bq_refusal_laws.specs.Refusals.{first_fault};
+ghost use Rattle.bq_builtin_refusal_laws.specs.Refusals.{first_fault};
 ghost use Rattle.bq_load_graph_laws.specs.Orders.{fault_of_load, loading};
 
 /// A load is refused for the first of what is listed, and for nothing else: F30, F32, F37, F31.

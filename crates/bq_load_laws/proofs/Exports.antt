@@ -7,8 +7,8 @@ use Rattle.std.proofs.lemmas.Slice.Eq.{bytes_eq-Decides}
 use Rattle.bq_base.specs.declared.fault.FaultKind.{FaultKind}
 use Rattle.bq_base.specs.declared.fault.FaultKind.TheVariants.{NoSymbol, PrivateSymbol}
 use Rattle.bq_base.proofs.Choices.{by_bool}
-use Rattle.bq_scope.specs.Names.{Name}
-use Rattle.bq_scope.specs.declared.code.Resolved.{Resolved}
+use Rattle.bq_resolve_scope.specs.Names.{Name}
+use Rattle.bq_resolve_scope.specs.declared.code.Resolved.{Resolved}
 use Rattle.bq_value.specs.Datum.{Datum}
 use Rattle.bq_load.specs.Imports.{value_named, globals_by, is_private, or_no_symbol, exported}
 use Rattle.bq_load.specs.Views.{ModuleView}

@@ -7,11 +7,11 @@ use Rattle.bq_base.proofs.Choices.{by_bool}
 use Rattle.bq_board.specs.Graph.{Loads, row}
 use Rattle.bq_board.specs.Cycles.{is_cyclic}
 use Rattle.bq_board.specs.Depth.{is_too_deep}
-use Rattle.bq_outcome.specs.Outcome.{values, own, evaluated, by_loads, outcome}
-use Rattle.bq_outcome.specs.declared.outcome.Outcome.{Outcome}
-use Rattle.bq_outcome.proofs.Solution.{solved}
-use Rattle.bq_scope.specs.Names.{Name}
-use Rattle.bq_scope.specs.declared.code.Resolved.{Resolved}
+use Rattle.bq_load_outcome_spec.specs.Outcome.{values, own, evaluated, by_loads, outcome}
+use Rattle.bq_load_outcome_spec.specs.declared.outcome.Outcome.{Outcome}
+use Rattle.bq_load_outcome_spec.proofs.Solution.{solved}
+use Rattle.bq_resolve_scope.specs.Names.{Name}
+use Rattle.bq_resolve_scope.specs.declared.code.Resolved.{Resolved}
 use Rattle.bq_value.specs.Datum.{Datum}
 use Rattle.bq_load.specs.declared.source.Source.{Source}
 use Rattle.bq_load.specs.Evaluation.{means, code_in}
@@ -19,7 +19,7 @@ use Rattle.bq_load.specs.Imports.{is_private, global_by, or_no_symbol, exported}
 use Rattle.bq_load.specs.Results.{load_fault_by, load_fault, result_of}
 use Rattle.bq_load.specs.Sources.{LoadingParts}
 use Rattle.bq_load.specs.Views.{ModuleView, FailedView}
-use Rattle.bq_refusal_laws.specs.Refusals.{when, fault_in, first_fault, FailsForFirst}
+use Rattle.bq_builtin_refusal_laws.specs.Refusals.{when, fault_in, first_fault, FailsForFirst}
 use Rattle.bq_load_laws.specs.Orders.{exporting, failure, load_failed, own_failure, loading}
 
 -- ---- symbols

@@ -1,8 +1,8 @@
 -- What a module exports (Bazel, "BUILD files" on load statements): what its file itself binds, and nothing that the file loads.
 use Rattle.std.specs.Prelude.{◌≡◌, ◌≢◌, ℕ, false, List, ◌∷◌, ◌++◌, length, Option, Some, Ok, slice_get}
 use Rattle.std.specs.List.{AllByRecursion}
-use Rattle.bq_scope.specs.Names.{Name}
-use Rattle.bq_scope.specs.declared.code.Resolved.{Resolved}
+use Rattle.bq_resolve_scope.specs.Names.{Name}
+use Rattle.bq_resolve_scope.specs.declared.code.Resolved.{Resolved}
 use Rattle.bq_value.specs.Datum.{Datum}
 use Rattle.bq_load.specs.Imports.{is_private, exported}
 use Rattle.bq_load.specs.Views.{ModuleView}

@@ -2,7 +2,7 @@
 use Rattle.std.specs.Prelude.{◌≡◌, List, ◌∷◌, ◌++◌, length, bytes_eq, false}
 use Rattle.std.specs.List.{AllByRecursion}
 use Rattle.bq_label.specs.Label.{LabelParts, full_form}
-use Rattle.bq_scope.specs.declared.code.LoadStmt.{LoadStmt}
+use Rattle.bq_resolve_scope.specs.declared.code.LoadStmt.{LoadStmt}
 
 -- of these loads, which name these files, this is the first that names this file
 pub record IsFirstLoadOf (file : LabelParts) (load : LoadStmt) (loads : List LoadStmt) (files : List LabelParts) : Type 0 where

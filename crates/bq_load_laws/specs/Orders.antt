@@ -1,17 +1,17 @@
 -- In which order a module fails (Bazel, "BUILD files" on load statements; ours: the order).
 use Rattle.std.specs.Prelude.{ℕ, not, List, [], ◌∷◌, Option, Some, None, Result, Ok, Err, is_some}
 use Rattle.bq_base.specs.declared.fault.FaultKind.TheVariants.{NoSymbol, PrivateSymbol, CycleReached, LoadDepth, LoadFailed}
-use Rattle.bq_scope.specs.Names.{Name}
-use Rattle.bq_scope.specs.declared.code.Resolved.{Resolved}
+use Rattle.bq_resolve_scope.specs.Names.{Name}
+use Rattle.bq_resolve_scope.specs.declared.code.Resolved.{Resolved}
 use Rattle.bq_board.specs.Graph.{Loads, row}
 use Rattle.bq_board.specs.Cycles.{is_cyclic}
 use Rattle.bq_board.specs.Depth.{is_too_deep}
-use Rattle.bq_outcome.specs.Outcome.{outcome, values}
+use Rattle.bq_load_outcome_spec.specs.Outcome.{outcome, values}
 use Rattle.bq_load.specs.Evaluation.{means}
 use Rattle.bq_load.specs.Imports.{is_private, global_by}
 use Rattle.bq_load.specs.Sources.{LoadingParts}
 use Rattle.bq_load.specs.Views.{ModuleView, FailedView}
-use Rattle.bq_refusal_laws.specs.Refusals.{Check, when}
+use Rattle.bq_builtin_refusal_laws.specs.Refusals.{Check, when}
 
 -- a symbol that a load asks for: F34 for a private name, also where there is none, and then F33
 abbrev pub exporting : List (Option Resolved) → Option ModuleView → Name → List Check

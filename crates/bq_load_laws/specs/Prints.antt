@@ -2,11 +2,11 @@
 use Rattle.std.specs.Prelude.{◌≡◌, ℕ, List}
 use Rattle.std.specs.List.{flat_map}
 use Rattle.bq_label.specs.Label.{LabelParts, full_form}
-use Rattle.bq_machine.specs.Action.{Run, done, stopped}
-use Rattle.bq_machine.specs.State.{State}
-use Rattle.bq_meaning.specs.Frame.{Frame}
+use Rattle.bq_builtin_machine.specs.Action.{Run, done, stopped}
+use Rattle.bq_builtin_machine.specs.State.{State}
+use Rattle.bq_eval_meaning_spec.specs.Frame.{Frame}
 use Rattle.bq_package.specs.Calls.{HeldPackage}
-use Rattle.bq_scope.specs.declared.code.Resolved.{Resolved}
+use Rattle.bq_resolve_scope.specs.declared.code.Resolved.{Resolved}
 use Rattle.bq_value.specs.Datum.{Datum}
 use Rattle.bq_load.specs.Evaluation.{module_after}
 use Rattle.bq_load.specs.Loaded.{print_line, prints_of}

@@ -2,7 +2,7 @@
 ghost use Rattle.std.specs.Prelude.{◌≡◌, ℕ, [], length, map, IfOk, OnOk};
 ghost use Rattle.bq_board.specs.Depth.{HasDepths};
 ghost use Rattle.bq_board.specs.Topological.{MarksCycles};
-ghost use Rattle.bq_outcome.specs.Outcome.{outcome};
+ghost use Rattle.bq_load_outcome_spec.specs.Outcome.{outcome};
 ghost use Rattle.bq_load_order.specs.Shown.{shown, slot};
 ghost use Rattle.bq_load_order.specs.Slots.{Filling, IsLoadOrder, Puts, Ready, Tabulates};
 
@@ -13,7 +13,7 @@ use crate::shared::SharedOutcome;
 use crate::slots::{all_settled, empty_slots, first_at_limit};
 use crate::watch::Watch;
 use bq_board::{Graph, Order};
-use bq_outcome::Outcome;
+use bq_load_outcome_spec::Outcome;
 use std::alloc::{AllocError, Global};
 
 /// The outcome of each module of a load graph. It calls the evaluator once for each module whose loads all have values, and the evaluator

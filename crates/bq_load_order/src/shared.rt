@@ -3,7 +3,7 @@ ghost use Rattle.std.specs.Prelude.{◌≡◌, IfOk};
 ghost use Rattle.bq_load_order.specs.Shown.{seen_value, shown, value_in};
 
 use crate::evaluate::Evaluate;
-use bq_outcome::Outcome;
+use bq_load_outcome_spec::Outcome;
 use std::alloc::{AllocError, Global};
 use std::sync::Arc;
 

@@ -4,14 +4,14 @@ ghost use Rattle.bq_board.specs.Counts.{Has};
 ghost use Rattle.bq_board.specs.Cycles.{is_cyclic, starts_path};
 ghost use Rattle.bq_board.specs.Depth.{max_load_depth, HasDepths};
 ghost use Rattle.bq_board.specs.Topological.{MarksCycles};
-ghost use Rattle.bq_outcome.specs.Outcome.{first};
+ghost use Rattle.bq_load_outcome_spec.specs.Outcome.{first};
 ghost use Rattle.bq_load_order.specs.Shown.{shown, slot};
 ghost use Rattle.bq_load_order.specs.Slots.{Tabulates, or_cyclic};
 
 use crate::evaluate::Evaluate;
 use crate::shared::{SharedOutcome, share};
 use bq_board::{Graph, Order};
-use bq_outcome::Outcome;
+use bq_load_outcome_spec::Outcome;
 use std::alloc::{AllocError, Global};
 
 /// A slot for each of so many modules, without outcomes.

@@ -3,20 +3,20 @@ use Rattle.std.proofs.Common.{◌≡◌, ◌∙◌, ℕ, Bool, true, false, List
 use Rattle.std.specs.Prelude.{if◌then◌else◌}
 use Rattle.std.specs.List.{list_any}
 use Rattle.bq_base.specs.declared.fault.FaultKind.{FaultKind}
-use Rattle.bq_grammar.specs.declared.tree.FileKind.{FileKind}
-use Rattle.bq_grammar.specs.declared.tree.FileKind.TheVariants as kinds
+use Rattle.bq_parse_grammar.specs.declared.tree.FileKind.{FileKind}
+use Rattle.bq_parse_grammar.specs.declared.tree.FileKind.TheVariants as kinds
 use Rattle.bq_label.specs.Label.{LabelParts}
-use Rattle.bq_rule_class.specs.Class.{Class}
-use Rattle.bq_machine.specs.Action.{Run, given, ◌>>=◌}
-use Rattle.bq_machine.specs.Args.{Passed}
-use Rattle.bq_machine.specs.State.{State}
-use Rattle.bq_target.specs.declared.state.Declared.{Declared}
-use Rattle.bq_target.specs.declared.state.Declared.TheVariants.{Accepted, Refused}
-use Rattle.bq_target.specs.declared.target.Target.{Target}
-use Rattle.bq_target.specs.Target.{names_of, declares as declared_by}
-use Rattle.bq_target.specs.Names.{are_new}
-use Rattle.bq_target.specs.Package.{PackageTargets, is_taken}
-use Rattle.bq_target.specs.Calls.{declared, exported}
+use Rattle.bq_package_rule_class.specs.Class.{Class}
+use Rattle.bq_builtin_machine.specs.Action.{Run, given, ◌>>=◌}
+use Rattle.bq_builtin_machine.specs.Args.{Passed}
+use Rattle.bq_builtin_machine.specs.State.{State}
+use Rattle.bq_package_target.specs.declared.state.Declared.{Declared}
+use Rattle.bq_package_target.specs.declared.state.Declared.TheVariants.{Accepted, Refused}
+use Rattle.bq_package_target.specs.declared.target.Target.{Target}
+use Rattle.bq_package_target.specs.Target.{names_of, declares as declared_by}
+use Rattle.bq_package_target.specs.Names.{are_new}
+use Rattle.bq_package_target.specs.Package.{PackageTargets, is_taken}
+use Rattle.bq_package_target.specs.Calls.{declared, exported}
 use Rattle.bq_package.specs.declared.function.BuildFunction.{BuildFunction}
 use Rattle.bq_package.specs.declared.function.BuildFunction.TheVariants as b
 use Rattle.bq_package.specs.Glob.{globbed}

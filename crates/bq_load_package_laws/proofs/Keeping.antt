@@ -2,34 +2,34 @@
 use Rattle.std.proofs.Common.{ℕ, Bool, true, false, List, Option, Some, None}
 use Rattle.std.specs.Prelude.{if◌then◌else◌}
 use Rattle.bq_base.specs.declared.fault.FaultKind.TheVariants.{WrongType, BadValue, NotInPackage}
-use Rattle.bq_predeclared.specs.declared.predeclared.Predeclared.{Predeclared}
-use Rattle.bq_predeclared.specs.declared.predeclared.Predeclared.TheVariants as p
-use Rattle.bq_predeclared.specs.declared.rule_function.RuleFunction.{RuleFunction}
-use Rattle.bq_rule_class.specs.Class.{Class}
-use Rattle.bq_scope.specs.Names.{Name}
+use Rattle.bq_resolve_predeclared.specs.declared.predeclared.Predeclared.{Predeclared}
+use Rattle.bq_resolve_predeclared.specs.declared.predeclared.Predeclared.TheVariants as p
+use Rattle.bq_resolve_predeclared.specs.declared.rule_function.RuleFunction.{RuleFunction}
+use Rattle.bq_package_rule_class.specs.Class.{Class}
+use Rattle.bq_resolve_scope.specs.Names.{Name}
 use Rattle.bq_value.specs.Cells.{content_at, kind_of}
 use Rattle.bq_value.specs.Datum.{Datum}
-use Rattle.bq_walk.specs.Truth.{truth_of}
-use Rattle.bq_machine.specs.Action.{Action, Run, done, stopped, following, beside, look, on_machine}
-use Rattle.bq_machine.specs.Action as action
-use Rattle.bq_machine.specs.Args.{Passed}
-use Rattle.bq_machine.specs.State.{State}
-use Rattle.bq_machine.specs.Machine as machine
-use Rattle.bq_machine.specs.Cells as cells
-use Rattle.bq_machine.specs.Iteration as iteration
-use Rattle.bq_machine.specs.Calls as calls
-use Rattle.bq_operate.specs.Operate as operate
-use Rattle.bq_operate.specs.InPlace as in_place
-use Rattle.bq_methods.specs.Call as methods
-use Rattle.bq_host.specs.BuiltIns.{function_named}
-use Rattle.bq_functions.specs.Call.{call_function}
-use Rattle.bq_rule_functions.specs.Call.{class_in, declare, type_of, call_rule_function, call_kind, call_class, call_cell}
-use Rattle.bq_runtime.specs.Calling.{HostCalls, call_found, call_built_in}
-use Rattle.bq_runtime.specs.Making as making
-use Rattle.bq_runtime.specs.Passing as passing
-use Rattle.bq_runtime.specs.Unpacking as unpacking
-use Rattle.bq_runtime.specs.Runtime.{primitives}
-use Rattle.bq_meaning_laws.proofs.Respects.{Relation, Respects}
+use Rattle.bq_value_compare.specs.Truth.{truth_of}
+use Rattle.bq_builtin_machine.specs.Action.{Action, Run, done, stopped, following, beside, look, on_machine}
+use Rattle.bq_builtin_machine.specs.Action as action
+use Rattle.bq_builtin_machine.specs.Args.{Passed}
+use Rattle.bq_builtin_machine.specs.State.{State}
+use Rattle.bq_builtin_machine.specs.Machine as machine
+use Rattle.bq_builtin_machine.specs.Cells as cells
+use Rattle.bq_builtin_machine.specs.Iteration as iteration
+use Rattle.bq_builtin_machine.specs.Calls as calls
+use Rattle.bq_builtin_operators.specs.Operate as operate
+use Rattle.bq_builtin_operators.specs.InPlace as in_place
+use Rattle.bq_builtin_methods.specs.Call as methods
+use Rattle.bq_eval_host.specs.BuiltIns.{function_named}
+use Rattle.bq_builtin.specs.Call.{call_function}
+use Rattle.bq_eval_rule_functions.specs.Call.{class_in, declare, type_of, call_rule_function, call_kind, call_class, call_cell}
+use Rattle.bq_eval_operations.specs.Calling.{HostCalls, call_found, call_built_in}
+use Rattle.bq_eval_operations.specs.Making as making
+use Rattle.bq_eval_operations.specs.Passing as passing
+use Rattle.bq_eval_operations.specs.Unpacking as unpacking
+use Rattle.bq_eval_operations.specs.Runtime.{primitives}
+use Rattle.bq_eval_meaning_laws.proofs.Respects.{Relation, Respects}
 
 module _ {W : Type 0} (P : W → Type 0) where
   -- what is kept after it has the property

@@ -3,22 +3,22 @@ use Rattle.std.proofs.Common.{◌≡◌, ◌∙◌, ℕ, Bool, true, false, List
 use Rattle.std.specs.Prelude.{IfOk, bytes_eq, option_map, ◌&&◌, if◌then◌else◌}
 use Rattle.std.specs.Cmp.Lexicographic.{bytes_decides}
 use Rattle.bq_base.specs.declared.fault.Fault.{Fault}
-use Rattle.bq_grammar.specs.declared.tree.FileKind.{FileKind}
-use Rattle.bq_grammar.specs.declared.tree.FileKind.TheVariants as kinds
+use Rattle.bq_parse_grammar.specs.declared.tree.FileKind.{FileKind}
+use Rattle.bq_parse_grammar.specs.declared.tree.FileKind.TheVariants as kinds
 use Rattle.bq_label.specs.Label.{LabelParts, package_of}
-use Rattle.bq_scope.specs.declared.code.Resolved.{Resolved}
+use Rattle.bq_resolve_scope.specs.declared.code.Resolved.{Resolved}
 use Rattle.bq_value.specs.Datum.{Datum}
-use Rattle.bq_machine.specs.Action.{Run, done, stopped}
-use Rattle.bq_machine.specs.State.{State, started}
-use Rattle.bq_meaning.specs.Frame.{Frame}
-use Rattle.bq_meaning.specs.Module.{frozen_units}
-use Rattle.bq_runtime.specs.Runtime.{primitives}
-use Rattle.bq_module.specs.Module.{first_store, module_run}
-use Rattle.bq_meaning_laws.proofs.ModuleRules.{module_rule}
-use Rattle.bq_target.specs.Target.{is_of}
-use Rattle.bq_target.specs.Package.{PackageTargets, no_targets, finished}
+use Rattle.bq_builtin_machine.specs.Action.{Run, done, stopped}
+use Rattle.bq_builtin_machine.specs.State.{State, started}
+use Rattle.bq_eval_meaning_spec.specs.Frame.{Frame}
+use Rattle.bq_eval_meaning_spec.specs.Module.{frozen_units}
+use Rattle.bq_eval_operations.specs.Runtime.{primitives}
+use Rattle.bq_eval.specs.Module.{first_store, module_run}
+use Rattle.bq_eval_meaning_laws.proofs.ModuleRules.{module_rule}
+use Rattle.bq_package_target.specs.Target.{is_of}
+use Rattle.bq_package_target.specs.Package.{PackageTargets, no_targets, finished}
 use Rattle.bq_package.specs.Calls.{HeldPackage, outside, declaring, package_in, meaning}
-use Rattle.bq_front.specs.Front.{kind_of}
+use Rattle.bq_load_front.specs.Front.{kind_of}
 use Rattle.bq_load.specs.declared.source.Source.{Source}
 use Rattle.bq_load.specs.Views.{ModuleView, FailedView}
 use Rattle.bq_load.specs.Sources.{LoadingParts}

@@ -4,11 +4,11 @@ use Rattle.std.specs.Prelude.{IfOk}
 use Rattle.bq_board.specs.Graph.{Loads, row}
 use Rattle.bq_board.specs.Cycles.{is_cyclic, starts_path}
 use Rattle.bq_board.specs.Depth.{max_load_depth, is_too_deep}
-use Rattle.bq_outcome.specs.Outcome.{first, values, own, evaluated, by_loads, outcome}
-use Rattle.bq_outcome.specs.declared.outcome.Outcome.{Outcome}
-use Rattle.bq_outcome.specs.declared.outcome.Outcome.TheVariants as o
-use Rattle.bq_outcome.proofs.Solution.{outcome_is}
-use Rattle.bq_front.specs.Front.{kind_of}
+use Rattle.bq_load_outcome_spec.specs.Outcome.{first, values, own, evaluated, by_loads, outcome}
+use Rattle.bq_load_outcome_spec.specs.declared.outcome.Outcome.{Outcome}
+use Rattle.bq_load_outcome_spec.specs.declared.outcome.Outcome.TheVariants as o
+use Rattle.bq_load_outcome_spec.proofs.Solution.{outcome_is}
+use Rattle.bq_load_front.specs.Front.{kind_of}
 use Rattle.bq_load.specs.declared.source.Source.{Source}
 use Rattle.bq_load.specs.Views.{ModuleView, FailedView}
 use Rattle.bq_load.specs.Sources.{LoadingParts}

@@ -1,11 +1,11 @@
 -- Which package a module has that was evaluated (Bazel, "Repositories, workspaces, packages, and targets": a package is a BUILD file's).
 use Rattle.std.specs.Prelude.{◌≡◌, ℕ, List, Option, Some, None, Ok, slice_get, IfOk}
-use Rattle.bq_grammar.specs.declared.tree.FileKind.{FileKind}
-use Rattle.bq_grammar.specs.declared.tree.FileKind.TheVariants as kinds
+use Rattle.bq_parse_grammar.specs.declared.tree.FileKind.{FileKind}
+use Rattle.bq_parse_grammar.specs.declared.tree.FileKind.TheVariants as kinds
 use Rattle.bq_label.specs.Label.{LabelParts}
 use Rattle.bq_board.specs.Graph.{Loads}
-use Rattle.bq_target.specs.Package.{PackageTargets}
-use Rattle.bq_front.specs.Front.{kind_of}
+use Rattle.bq_package_target.specs.Package.{PackageTargets}
+use Rattle.bq_load_front.specs.Front.{kind_of}
 use Rattle.bq_load.specs.declared.source.Source.{Source}
 use Rattle.bq_load.specs.Views.{ModuleView}
 use Rattle.bq_load.specs.Sources.{LoadingParts}

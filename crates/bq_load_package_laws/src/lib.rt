@@ -4,8 +4,8 @@
 //! BUILD file, and then that of its own label, whatever was called. So what `bq_load` gathers are the packages that evaluation made, as they are.
 //!
 //! How the proofs go: no operator, method or built-in function changes what a host keeps, and each call of a build function or of a rule leaves the label of
-//! the package. So whatever a program means leaves it (`proofs/Keeping.antt`, by the rules of `bq_meaning_laws`), and so does a file (`Made`), and the
-//! recursion along loads (`Outcomes`).
+//! the package. So whatever a program means leaves it (`proofs/Keeping.antt`, by the rules of `bq_eval_meaning_laws`), and so does a file
+//! (`Made`), and the recursion along loads (`Outcomes`).
 #![tactic(auto)]
 
 mod laws;

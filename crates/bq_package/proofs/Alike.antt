@@ -2,20 +2,20 @@
 use Rattle.std.proofs.Common.{◌≡◌, ◌∙◌, ◌+◌, ◌-◌, inl, inr, ℕ, suc, List, [], Option, Some, Ok, refl, ap, subst, slice_get, arith}
 use Rattle.std.specs.List.{AllZip}
 use Rattle.bq_label.specs.Label.{PackageParts, LabelParts, ReadsAs}
-use Rattle.bq_rule_class.specs.Class.{Class}
-use Rattle.bq_rule_class.specs.declared.value.AttributeValue.TheVariants as a
-use Rattle.bq_machine.specs.Args.{Passed}
-use Rattle.bq_machine.specs.State.{State}
-use Rattle.bq_target.specs.Calls.{declared}
-use Rattle.bq_typed.specs.declared.label_texts.TextKind.TheVariants as k
-use Rattle.bq_typed.specs.declared.written.Written.TheVariants as w
-use Rattle.bq_typed.specs.Steps.{in_turn}
-use Rattle.bq_typed.specs.LabelTexts.{read, label, labels}
-use Rattle.bq_typed.specs.Values.{typed}
-use Rattle.bq_typed.proofs.Own.{label_read, labels_read}
-use Rattle.bq_typed.proofs.Standing.{stands}
-use Rattle.bq_typed.proofs.Steps.{both_ok}
-use Rattle.bq_typed.proofs.Turns.{turned, zip_weaker}
+use Rattle.bq_package_rule_class.specs.Class.{Class}
+use Rattle.bq_package_rule_class.specs.declared.value.AttributeValue.TheVariants as a
+use Rattle.bq_builtin_machine.specs.Args.{Passed}
+use Rattle.bq_builtin_machine.specs.State.{State}
+use Rattle.bq_package_target.specs.Calls.{declared}
+use Rattle.bq_package_typed_value.specs.declared.label_texts.TextKind.TheVariants as k
+use Rattle.bq_package_typed_value.specs.declared.written.Written.TheVariants as w
+use Rattle.bq_package_typed_value.specs.Steps.{in_turn}
+use Rattle.bq_package_typed_value.specs.LabelTexts.{read, label, labels}
+use Rattle.bq_package_typed_value.specs.Values.{typed}
+use Rattle.bq_package_typed_value.proofs.Own.{label_read, labels_read}
+use Rattle.bq_package_typed_value.proofs.Standing.{stands}
+use Rattle.bq_package_typed_value.proofs.Steps.{both_ok}
+use Rattle.bq_package_typed_value.proofs.Turns.{turned, zip_weaker}
 use Rattle.bq_package.specs.declared.function.BuildFunction.{BuildFunction}
 use Rattle.bq_package.specs.declared.function.BuildFunction.TheVariants as b
 use Rattle.bq_package.specs.Functions.{function_of}

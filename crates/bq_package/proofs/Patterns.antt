@@ -3,7 +3,7 @@ use Rattle.std.proofs.Common.{◌≡◌, ℕ, Bool, true, false, cond, List, Ok,
 use Rattle.bq_base.specs.Fault.{fault_at}
 use Rattle.bq_base.specs.declared.fault.Fault.{Fault}
 use Rattle.bq_base.specs.declared.fault.FaultKind.TheVariants.{GlobPattern}
-use Rattle.bq_glob.specs.Pattern.{is_pattern, pattern_of}
+use Rattle.bq_label_glob.specs.Pattern.{is_pattern, pattern_of}
 use Rattle.bq_package.specs.Glob.{pattern}
 
 pub pattern_ok : (text p : List ℕ) → pattern_of text ≡ Ok p → pattern text ≡ Ok p

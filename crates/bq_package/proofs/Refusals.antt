@@ -9,13 +9,13 @@ use Rattle.bq_label.specs.declared.packages.BuildFile.{BuildFile}
 use Rattle.bq_label.specs.Label.{PackageParts, LabelParts, label_in}
 use Rattle.bq_label.specs.Paths.{is_path}
 use Rattle.bq_label.specs.Reading.{label_of}
-use Rattle.bq_rule_class.specs.declared.attribute_type.AttributeType.{AttributeType}
-use Rattle.bq_rule_class.specs.declared.attribute_type.AttributeType.TheVariants as t
-use Rattle.bq_rule_class.specs.Class.{Class}
-use Rattle.bq_rule_class.specs.declared.value.AttributeValue.{AttributeValue}
-use Rattle.bq_rule_class.specs.declared.value.AttributeValue.TheVariants as a
-use Rattle.bq_target.specs.Value.{attribute_type}
-use Rattle.bq_target.specs.declared.value.GivenAttribute.{GivenAttribute}
+use Rattle.bq_package_rule_class.specs.declared.attribute_type.AttributeType.{AttributeType}
+use Rattle.bq_package_rule_class.specs.declared.attribute_type.AttributeType.TheVariants as t
+use Rattle.bq_package_rule_class.specs.Class.{Class}
+use Rattle.bq_package_rule_class.specs.declared.value.AttributeValue.{AttributeValue}
+use Rattle.bq_package_rule_class.specs.declared.value.AttributeValue.TheVariants as a
+use Rattle.bq_package_target.specs.Value.{attribute_type}
+use Rattle.bq_package_target.specs.declared.value.GivenAttribute.{GivenAttribute}
 use Rattle.bq_value.specs.declared.error.EvalErr.{EvalErr}
 use Rattle.bq_value.specs.declared.error.EvalErr.TheVariants.{Bad}
 use Rattle.bq_value.specs.Datum.{Datum, boolean, int, string, tuple, cell}
@@ -23,26 +23,26 @@ use Rattle.bq_value.specs.Contents as content
 use Rattle.bq_value.specs.Contents.{Contents, items, pairs}
 use Rattle.bq_value.specs.Cells.{StoreView, content_at}
 use Rattle.bq_value.specs.Pairs.{put, found as key_found}
-use Rattle.bq_machine.specs.Args.{Passed}
-use Rattle.bq_machine.specs.Parameters.{SignatureView, is_called}
-use Rattle.bq_machine.specs.Binding.{BoundView, Binding, fill, fill_by, take_keyword, take_named, take_named_by, take_all_named, and_bind, is_complete, if_complete, too_many, placed, bind}
-use Rattle.bq_glob.specs.Pattern.{is_pattern}
-use Rattle.bq_host.specs.Refusals.{is_refusal, Refuses}
-use Rattle.bq_attributes.specs.declared.arguments.Given.{Given}
-use Rattle.bq_typed.specs.declared.label_texts.TextKind.{TextKind}
-use Rattle.bq_typed.specs.declared.label_texts.TextKind.TheVariants as k
-use Rattle.bq_typed.specs.declared.written.Written.{Written}
-use Rattle.bq_typed.specs.declared.written.Written.TheVariants as w
-use Rattle.bq_typed.specs.Steps.{and_then, in_turn}
-use Rattle.bq_typed.specs.Scope.{own_label_crosses, inside, all_inside}
-use Rattle.bq_typed.specs.Texts.{text_in, listed, elements_in, all_texts, texts_in}
-use Rattle.bq_typed.specs.LabelTexts.{label_found, named, without_colon, read, read_all, label, labels}
-use Rattle.bq_typed.specs.Written.{int_in, bool_of, bool_in, written_as}
-use Rattle.bq_typed.specs.Values.{typed, value_as}
-use Rattle.bq_attributes.specs.Arguments.{nothing_given, is_none, keyword, with_value, with_label, with_name, with_attribute_by, with_attribute, with_argument, with_arguments}
-use Rattle.bq_attributes.specs.Declarations.{keywords_alone, gives_mandatory, defaults, if_whole, target_of, target, declaration}
+use Rattle.bq_builtin_machine.specs.Args.{Passed}
+use Rattle.bq_builtin_machine.specs.Parameters.{SignatureView, is_called}
+use Rattle.bq_builtin_machine.specs.Binding.{BoundView, Binding, fill, fill_by, take_keyword, take_named, take_named_by, take_all_named, and_bind, is_complete, if_complete, too_many, placed, bind}
+use Rattle.bq_label_glob.specs.Pattern.{is_pattern}
+use Rattle.bq_eval_host.specs.Refusals.{is_refusal, Refuses}
+use Rattle.bq_package_attributes.specs.declared.arguments.Given.{Given}
+use Rattle.bq_package_typed_value.specs.declared.label_texts.TextKind.{TextKind}
+use Rattle.bq_package_typed_value.specs.declared.label_texts.TextKind.TheVariants as k
+use Rattle.bq_package_typed_value.specs.declared.written.Written.{Written}
+use Rattle.bq_package_typed_value.specs.declared.written.Written.TheVariants as w
+use Rattle.bq_package_typed_value.specs.Steps.{and_then, in_turn}
+use Rattle.bq_package_typed_value.specs.Scope.{own_label_crosses, inside, all_inside}
+use Rattle.bq_package_typed_value.specs.Texts.{text_in, listed, elements_in, all_texts, texts_in}
+use Rattle.bq_package_typed_value.specs.LabelTexts.{label_found, named, without_colon, read, read_all, label, labels}
+use Rattle.bq_package_typed_value.specs.Written.{int_in, bool_of, bool_in, written_as}
+use Rattle.bq_package_typed_value.specs.Values.{typed, value_as}
+use Rattle.bq_package_attributes.specs.Arguments.{nothing_given, is_none, keyword, with_value, with_label, with_name, with_attribute_by, with_attribute, with_argument, with_arguments}
+use Rattle.bq_package_attributes.specs.Declarations.{keywords_alone, gives_mandatory, defaults, if_whole, target_of, target, declaration}
 use Rattle.bq_package.specs.Place.{PlaceView}
-use Rattle.bq_typed.specs.Parameters.{argument}
+use Rattle.bq_package_typed_value.specs.Parameters.{argument}
 use Rattle.bq_package.specs.Bound.{glob_parameters, exports_parameters, group_parameters, text_of, texts_of}
 use Rattle.bq_package.specs.declared.glob.GlobRequest.{GlobRequest}
 use Rattle.bq_package.specs.Glob.{pattern, patterns, excludes_directories, allows_empty, asked, request_by, request_of, found, is_idle, is_nothing, names_of, globbed}

@@ -8,16 +8,16 @@ use Rattle.bq_label.specs.Label.{PackageParts, LabelParts}
 use Rattle.bq_value.specs.Datum.{Datum, none}
 use Rattle.bq_value.specs.declared.error.EvalErr.{EvalErr}
 use Rattle.bq_value.specs.declared.error.EvalErr.TheVariants.{Bad, Memory}
-use Rattle.bq_machine.specs.State.{State, stop_at}
-use Rattle.bq_machine.specs.Action.{done, stopped, HostDoes}
-use Rattle.bq_host.specs.Refusals.{KeepsIfRefused}
-use Rattle.bq_target.specs.declared.target.Target.{Target}
-use Rattle.bq_target.specs.declared.state.Declared.{Declared}
-use Rattle.bq_target.specs.declared.state.Declared.TheVariants.{Accepted, Refused}
-use Rattle.bq_target.specs.Target.{names_of, declares as declares_targets}
-use Rattle.bq_target.specs.Names.{are_new}
-use Rattle.bq_target.specs.Package.{PackageTargets, is_taken, files}
-use Rattle.bq_target.specs.Calls.{declared, exported}
+use Rattle.bq_builtin_machine.specs.State.{State, stop_at}
+use Rattle.bq_builtin_machine.specs.Action.{done, stopped, HostDoes}
+use Rattle.bq_eval_host.specs.Refusals.{KeepsIfRefused}
+use Rattle.bq_package_target.specs.declared.target.Target.{Target}
+use Rattle.bq_package_target.specs.declared.state.Declared.{Declared}
+use Rattle.bq_package_target.specs.declared.state.Declared.TheVariants.{Accepted, Refused}
+use Rattle.bq_package_target.specs.Target.{names_of, declares as declares_targets}
+use Rattle.bq_package_target.specs.Names.{are_new}
+use Rattle.bq_package_target.specs.Package.{PackageTargets, is_taken, files}
+use Rattle.bq_package_target.specs.Calls.{declared, exported}
 use Rattle.bq_package.specs.Place.{PlaceView}
 use Rattle.bq_package.specs.Calls.{HeldPackage, outside, declaring, Declaring, settled}
 use Rattle.bq_package.specs.Keeping.{Settles, IsSettled}

@@ -3,19 +3,19 @@ use Rattle.std.proofs.Common.{◌≡◌, ◌∙◌, ℕ, Bool, true, false, cond
 use Rattle.std.specs.List.{list_any}
 use Rattle.bq_base.specs.declared.fault.FaultKind.{FaultKind}
 use Rattle.bq_label.specs.Label.{LabelParts}
-use Rattle.bq_rule_class.specs.Class.{Class}
+use Rattle.bq_package_rule_class.specs.Class.{Class}
 use Rattle.bq_value.specs.Datum.{Datum}
-use Rattle.bq_machine.specs.Args.{Passed}
-use Rattle.bq_machine.specs.State.{State}
-use Rattle.bq_machine.specs.Action.{Run, done, stopped, ◌>>=◌, given, on_machine}
-use Rattle.bq_machine.specs.Cells.{new_list, new_content}
-use Rattle.bq_target.specs.declared.target.Target.{Target}
-use Rattle.bq_target.specs.declared.state.Declared.{Declared}
-use Rattle.bq_target.specs.declared.state.Declared.TheVariants.{Accepted, Refused}
-use Rattle.bq_target.specs.Target.{names_of, declares as declares_targets}
-use Rattle.bq_target.specs.Names.{are_new}
-use Rattle.bq_target.specs.Package.{PackageTargets, is_taken, files}
-use Rattle.bq_target.specs.Calls.{declared, exported}
+use Rattle.bq_builtin_machine.specs.Args.{Passed}
+use Rattle.bq_builtin_machine.specs.State.{State}
+use Rattle.bq_builtin_machine.specs.Action.{Run, done, stopped, ◌>>=◌, given, on_machine}
+use Rattle.bq_builtin_machine.specs.Cells.{new_list, new_content}
+use Rattle.bq_package_target.specs.declared.target.Target.{Target}
+use Rattle.bq_package_target.specs.declared.state.Declared.{Declared}
+use Rattle.bq_package_target.specs.declared.state.Declared.TheVariants.{Accepted, Refused}
+use Rattle.bq_package_target.specs.Target.{names_of, declares as declares_targets}
+use Rattle.bq_package_target.specs.Names.{are_new}
+use Rattle.bq_package_target.specs.Package.{PackageTargets, is_taken, files}
+use Rattle.bq_package_target.specs.Calls.{declared, exported}
 use Rattle.bq_package.specs.declared.function.BuildFunction.{BuildFunction}
 use Rattle.bq_package.specs.declared.function.BuildFunction.TheVariants as b
 use Rattle.bq_package.specs.Glob.{globbed}

@@ -5,23 +5,23 @@ use Rattle.bq_base.specs.declared.fault.FaultKind.{FaultKind}
 use Rattle.bq_base.specs.declared.fault.FaultKind.TheVariants.{NotInPackage, DoubleTarget}
 use Rattle.bq_label.specs.declared.packages.BuildFile.{BuildFile}
 use Rattle.bq_label.specs.Label.{PackageParts}
-use Rattle.bq_rule_class.specs.Class.{Class}
-use Rattle.bq_rule_class.specs.declared.value.AttributeValue.{AttributeValue}
+use Rattle.bq_package_rule_class.specs.Class.{Class}
+use Rattle.bq_package_rule_class.specs.declared.value.AttributeValue.{AttributeValue}
 use Rattle.bq_value.specs.Datum.{Datum, none, string}
-use Rattle.bq_machine.specs.Args.{Passed}
-use Rattle.bq_machine.specs.State.{State, stop_at}
-use Rattle.bq_machine.specs.Action.{Run, Action, done, stopped, ◌>>=◌, given, on_machine}
-use Rattle.bq_machine.specs.Binding.{bind}
-use Rattle.bq_machine.specs.Cells.{new_list}
-use Rattle.bq_host.specs.Host.{HostCalls}
-use Rattle.bq_target.specs.declared.state.Declared.{Declared}
-use Rattle.bq_target.specs.declared.state.Declared.TheVariants.{Accepted, Refused}
-use Rattle.bq_target.specs.Package.{PackageTargets}
-use Rattle.bq_target.specs.Calls.{declared, exported}
-use Rattle.bq_typed.specs.declared.scope.Scope.{Scope}
-use Rattle.bq_typed.specs.declared.written.Written.{Written}
-use Rattle.bq_typed.specs.Steps.{and_then}
-use Rattle.bq_typed.specs.Values.{typed}
+use Rattle.bq_builtin_machine.specs.Args.{Passed}
+use Rattle.bq_builtin_machine.specs.State.{State, stop_at}
+use Rattle.bq_builtin_machine.specs.Action.{Run, Action, done, stopped, ◌>>=◌, given, on_machine}
+use Rattle.bq_builtin_machine.specs.Binding.{bind}
+use Rattle.bq_builtin_machine.specs.Cells.{new_list}
+use Rattle.bq_eval_host.specs.Host.{HostCalls}
+use Rattle.bq_package_target.specs.declared.state.Declared.{Declared}
+use Rattle.bq_package_target.specs.declared.state.Declared.TheVariants.{Accepted, Refused}
+use Rattle.bq_package_target.specs.Package.{PackageTargets}
+use Rattle.bq_package_target.specs.Calls.{declared, exported}
+use Rattle.bq_package_typed_value.specs.declared.scope.Scope.{Scope}
+use Rattle.bq_package_typed_value.specs.declared.written.Written.{Written}
+use Rattle.bq_package_typed_value.specs.Steps.{and_then}
+use Rattle.bq_package_typed_value.specs.Values.{typed}
 use Rattle.bq_package.specs.declared.building.BuildHost.{BuildHost}
 use Rattle.bq_package.specs.declared.building.Building.{Building}
 use Rattle.bq_package.specs.declared.function.BuildFunction.{BuildFunction}

@@ -6,15 +6,15 @@ use Rattle.bq_base.specs.declared.fault.FaultKind.{FaultKind}
 use Rattle.bq_base.specs.declared.fault.FaultKind.TheVariants.{BadValue, GlobPattern, GlobEmpty}
 use Rattle.bq_value.specs.Datum.{Datum, boolean, int}
 use Rattle.bq_value.specs.Cells.{StoreView}
-use Rattle.bq_walk.specs.Truth.{truth_of}
-use Rattle.bq_machine.specs.Args.{Passed}
-use Rattle.bq_machine.specs.Binding.{bind}
-use Rattle.bq_glob.specs.Pattern.{is_pattern}
-use Rattle.bq_glob.specs.Names.{glob}
-use Rattle.bq_typed.specs.Steps.{and_then, in_turn}
+use Rattle.bq_value_compare.specs.Truth.{truth_of}
+use Rattle.bq_builtin_machine.specs.Args.{Passed}
+use Rattle.bq_builtin_machine.specs.Binding.{bind}
+use Rattle.bq_label_glob.specs.Pattern.{is_pattern}
+use Rattle.bq_label_glob.specs.Names.{glob}
+use Rattle.bq_package_typed_value.specs.Steps.{and_then, in_turn}
 use Rattle.bq_package.specs.declared.glob.GlobRequest.{GlobRequest}
 use Rattle.bq_package.specs.Place.{PlaceView}
-use Rattle.bq_typed.specs.Parameters.{argument}
+use Rattle.bq_package_typed_value.specs.Parameters.{argument}
 use Rattle.bq_package.specs.Bound.{glob_parameters, texts_of}
 
 abbrev pub pattern : List ℕ → Result (List ℕ) FaultKind

@@ -6,14 +6,14 @@ use Rattle.bq_label.specs.Label.{LabelParts}
 use Rattle.bq_value.specs.Datum.{Datum, none}
 use Rattle.bq_value.specs.declared.error.EvalErr.{EvalErr}
 use Rattle.bq_value.specs.declared.error.EvalErr.TheVariants.{Bad}
-use Rattle.bq_machine.specs.State.{State}
-use Rattle.bq_machine.specs.Action.{HostDoes}
-use Rattle.bq_host.specs.Refusals.{KeepsIfRefused}
-use Rattle.bq_target.specs.declared.target.Target.{Target}
-use Rattle.bq_target.specs.declared.state.Declared.{Declared}
-use Rattle.bq_target.specs.declared.state.Declared.TheVariants.{Accepted, Refused}
-use Rattle.bq_target.specs.Target.{is_of}
-use Rattle.bq_target.specs.Package.{PackageTargets, IsOwnCall}
+use Rattle.bq_builtin_machine.specs.State.{State}
+use Rattle.bq_builtin_machine.specs.Action.{HostDoes}
+use Rattle.bq_eval_host.specs.Refusals.{KeepsIfRefused}
+use Rattle.bq_package_target.specs.declared.target.Target.{Target}
+use Rattle.bq_package_target.specs.declared.state.Declared.{Declared}
+use Rattle.bq_package_target.specs.declared.state.Declared.TheVariants.{Accepted, Refused}
+use Rattle.bq_package_target.specs.Target.{is_of}
+use Rattle.bq_package_target.specs.Package.{PackageTargets, IsOwnCall}
 use Rattle.bq_package.specs.Place.{PlaceView}
 use Rattle.bq_package.specs.Calls.{HeldPackage, outside, declaring, Declaring, settled}
 

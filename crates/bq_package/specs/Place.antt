@@ -3,7 +3,7 @@ use Rattle.std.specs.Prelude.{List}
 use Rattle.bq_label.specs.declared.packages.BuildFile.{BuildFile}
 use Rattle.bq_label.specs.declared.workspace.File.{File}
 use Rattle.bq_label.specs.Label.{PackageParts}
-use Rattle.bq_schema.specs.Schema.{Rules}
+use Rattle.bq_package_schema.specs.Schema.{Rules}
 use Rattle.bq_package.specs.declared.place.Place.{Place}
 
 -- the package, the files and the packages of the workspace, and the rules of its schema

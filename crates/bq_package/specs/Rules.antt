@@ -2,11 +2,11 @@
 use Rattle.std.specs.Prelude.{ℕ, List, Option, Some, None, Result, Err, slice_get}
 use Rattle.bq_base.specs.declared.fault.FaultKind.{FaultKind}
 use Rattle.bq_base.specs.declared.fault.FaultKind.TheVariants.{NotInPackage}
-use Rattle.bq_rule_class.specs.Class.{Class}
+use Rattle.bq_package_rule_class.specs.Class.{Class}
 use Rattle.bq_value.specs.Cells.{StoreView}
-use Rattle.bq_machine.specs.Args.{Passed}
-use Rattle.bq_target.specs.declared.target.Target.{Target}
-use Rattle.bq_attributes.specs.Declarations.{declaration}
+use Rattle.bq_builtin_machine.specs.Args.{Passed}
+use Rattle.bq_package_target.specs.declared.target.Target.{Target}
+use Rattle.bq_package_attributes.specs.Declarations.{declaration}
 use Rattle.bq_package.specs.Place.{PlaceView}
 
 -- the target that a call of a rule declares, by the rule's kind and its class

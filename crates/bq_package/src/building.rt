@@ -4,8 +4,8 @@ ghost use Rattle.std.specs.Prelude.{◌≡◌};
 ghost use Rattle.bq_label.specs.Label.{package_of};
 
 use crate::place::Place;
-use bq_target::PackageState;
-use bq_typed::Scope;
+use bq_package_target::PackageState;
+use bq_package_typed_value::Scope;
 
 /// Carries out the calls of build functions and of rules, in a BUILD file or outside of one. Contracts see what it keeps by `held_by`.
 #[derive(Drop)]

@@ -3,18 +3,18 @@
 ghost use Rattle.std.specs.Prelude.{◌≡◌};
 ghost use Rattle.bq_base.specs.Gives.{Gives};
 ghost use Rattle.bq_value.specs.declared.error.EvalErr.TheVariants.{Bad};
-ghost use Rattle.bq_machine.specs.Binding.{bind};
+ghost use Rattle.bq_builtin_machine.specs.Binding.{bind};
 ghost use Rattle.bq_package.specs.Place.{place_of};
 ghost use Rattle.bq_package.specs.Bound.{exports_parameters};
 ghost use Rattle.bq_package.specs.Files.{files_named};
 
 use crate::bound::texts_of;
 use crate::place::Place;
+use bq_builtin_machine::{Args, Bound, Signature, SingleParameter, bind};
 use bq_label::Label;
-use bq_machine::{Args, Bound, Signature, SingleParameter, bind};
-use bq_seed::Seed;
-use bq_typed::{TextKind, labels};
+use bq_package_typed_value::{TextKind, labels};
 use bq_value::{EvalErr, Store};
+use bq_value_seed::Seed;
 use sqlite_items::Items;
 use std::alloc::Global;
 

@@ -4,21 +4,21 @@ ghost use Rattle.std.specs.Prelude.{◌≡◌, option_copied, IfOk};
 ghost use Rattle.std.specs.List.{list_any};
 ghost use Rattle.bq_base.specs.Gives.{Gives};
 ghost use Rattle.bq_value.specs.declared.error.EvalErr.TheVariants.{Bad};
-ghost use Rattle.bq_machine.specs.Binding.{bind};
+ghost use Rattle.bq_builtin_machine.specs.Binding.{bind};
 ghost use Rattle.bq_package.specs.Place.{place_of};
-ghost use Rattle.bq_typed.specs.Parameters.{argument};
+ghost use Rattle.bq_package_typed_value.specs.Parameters.{argument};
 ghost use Rattle.bq_package.specs.Bound.{glob_parameters};
 ghost use Rattle.bq_package.specs.Glob.{pattern, patterns, excludes_directories, allows_empty, request_by, request_of, is_nothing, names_of, is_idle, found, globbed};
 
 use crate::bound::texts_of;
 use crate::place::Place;
 use bq_base::{Bytes, FaultKind, SourceErr};
-use bq_glob::{Pattern, glob, read_pattern};
-use bq_machine::{Args, Bound, Signature, SingleParameter, bind};
-use bq_seed::Seed;
-use bq_typed::argument;
+use bq_builtin_machine::{Args, Bound, Signature, SingleParameter, bind};
+use bq_label_glob::{Pattern, glob, read_pattern};
+use bq_package_typed_value::argument;
 use bq_value::{EvalErr, Node, Store, Value};
-use bq_walk::truth;
+use bq_value_compare::truth;
+use bq_value_seed::Seed;
 use sqlite_items::Items;
 use std::alloc::{AllocError, Global};
 use std::slice;
@@ -76,7 +76,7 @@ fn pattern(alloc: Global, text: &Bytes) -> Result<Pattern, EvalErr>
 }
 
 /// Texts as patterns, or F77.
-#[tactic(auto, unfolding(crate::specs::Glob::patterns, bq_typed::specs::Steps::in_turn))]
+#[tactic(auto, unfolding(crate::specs::Glob::patterns, bq_package_typed_value::specs::Steps::in_turn))]
 fn patterns(alloc: Global, texts: &[Bytes]) -> Result<Items<Pattern>, EvalErr>
     ensures { Gives (λ ps. ps) Bad result (patterns texts.now) }
 {

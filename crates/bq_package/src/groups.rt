@@ -3,8 +3,8 @@
 ghost use Rattle.std.specs.Prelude.{◌≡◌, ◌||◌, Ok, IfOk};
 ghost use Rattle.bq_base.specs.Gives.{Gives};
 ghost use Rattle.bq_value.specs.declared.error.EvalErr.TheVariants.{Bad};
-ghost use Rattle.bq_machine.specs.Binding.{bind};
-ghost use Rattle.bq_typed.specs.Steps.{and_then};
+ghost use Rattle.bq_builtin_machine.specs.Binding.{bind};
+ghost use Rattle.bq_package_typed_value.specs.Steps.{and_then};
 ghost use Rattle.bq_package.specs.Place.{place_of};
 ghost use Rattle.bq_package.specs.Bound.{group_parameters};
 ghost use Rattle.bq_package.specs.Groups.{is_name_first, names_first, group, group_labels, group_of, group_named};
@@ -12,13 +12,13 @@ ghost use Rattle.bq_package.specs.Groups.{is_name_first, names_first, group, gro
 use crate::bound::{text_of, texts_of};
 use crate::place::Place;
 use bq_base::Bytes;
+use bq_builtin_machine::{Args, Bound, Signature, SingleParameter, bind};
 use bq_label::Label;
-use bq_machine::{Args, Bound, Signature, SingleParameter, bind};
-use bq_rule_class::AttributeValue;
-use bq_seed::Seed;
-use bq_target::{GivenAttribute, Target, TargetKind};
-use bq_typed::{TextKind, label, labels};
+use bq_package_rule_class::AttributeValue;
+use bq_package_target::{GivenAttribute, Target, TargetKind};
+use bq_package_typed_value::{TextKind, label, labels};
 use bq_value::{EvalErr, Store, Value};
+use bq_value_seed::Seed;
 use sqlite_items::Items;
 use std::alloc::{AllocError, Global};
 

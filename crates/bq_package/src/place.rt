@@ -1,8 +1,8 @@
 //! A package in its workspace, with the rules that its BUILD file may call.
 
 use bq_label::Workspace;
-use bq_schema::Schema;
-use bq_typed::Scope;
+use bq_package_schema::Schema;
+use bq_package_typed_value::Scope;
 
 /// Where a BUILD file is evaluated.
 #[derive(Clone, Copy)]

@@ -7,12 +7,12 @@ ghost use Rattle.bq_package.specs.Place.{place_of};
 ghost use Rattle.bq_package.specs.Rules.{declared_target, rule_target};
 
 use crate::place::Place;
-use bq_attributes::{Callee, declaration};
 use bq_base::{Bytes, FaultKind};
-use bq_machine::Args;
-use bq_rule_class::RuleClass;
-use bq_schema::rule_names;
-use bq_target::Target;
+use bq_builtin_machine::Args;
+use bq_package_attributes::{Callee, declaration};
+use bq_package_rule_class::RuleClass;
+use bq_package_schema::rule_names;
+use bq_package_target::Target;
 use bq_value::{EvalErr, Store};
 use std::alloc::Global;
 

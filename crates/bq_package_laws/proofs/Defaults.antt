@@ -3,18 +3,18 @@ use Rattle.std.proofs.Common.{◌≡◌, ℤ, Bool, true, false, cond, List, [],
 use Rattle.std.specs.Prelude.{◌==◌, pos, negsuc}
 use Rattle.bq_base.specs.declared.fault.FaultKind.{FaultKind}
 use Rattle.bq_base.specs.declared.fault.FaultKind.TheVariants as f
-use Rattle.bq_rule_class.specs.declared.attribute_type.AttributeType.{AttributeType}
-use Rattle.bq_rule_class.specs.declared.attribute_type.AttributeType.TheVariants as t
-use Rattle.bq_rule_class.specs.declared.value.AttributeValue.TheVariants as a
+use Rattle.bq_package_rule_class.specs.declared.attribute_type.AttributeType.{AttributeType}
+use Rattle.bq_package_rule_class.specs.declared.attribute_type.AttributeType.TheVariants as t
+use Rattle.bq_package_rule_class.specs.declared.value.AttributeValue.TheVariants as a
 use Rattle.bq_value.specs.Datum.{Datum, boolean, int, string, tuple, cell}
 use Rattle.bq_value.specs.Contents.{Contents, items, pairs, rule}
 use Rattle.bq_value.specs.Cells.{StoreView, content_at}
-use Rattle.bq_typed.specs.declared.written.Written.{Written}
-use Rattle.bq_typed.specs.declared.written.Written.TheVariants as w
-use Rattle.bq_typed.specs.Steps.{and_then, in_turn}
-use Rattle.bq_typed.specs.Texts.{text_in, listed, elements_in, all_texts, texts_in}
-use Rattle.bq_typed.specs.Written.{int_in, bool_of, bool_in, written_as}
-use Rattle.bq_typed.specs.Values.{typed, value_as}
+use Rattle.bq_package_typed_value.specs.declared.written.Written.{Written}
+use Rattle.bq_package_typed_value.specs.declared.written.Written.TheVariants as w
+use Rattle.bq_package_typed_value.specs.Steps.{and_then, in_turn}
+use Rattle.bq_package_typed_value.specs.Texts.{text_in, listed, elements_in, all_texts, texts_in}
+use Rattle.bq_package_typed_value.specs.Written.{int_in, bool_of, bool_in, written_as}
+use Rattle.bq_package_typed_value.specs.Values.{typed, value_as}
 use Rattle.bq_package.specs.Calls.{own_of, packages_of, default_value}
 use Rattle.bq_package_laws.specs.Defaults.{DefaultsAreTakenAsValues}
 

@@ -3,21 +3,21 @@ use Rattle.std.proofs.Common.{◌≡◌, ◌∙◌, ap, refl, ℕ, Bool, true, f
 use Rattle.std.specs.Prelude.{not}
 use Rattle.bq_base.specs.declared.fault.FaultKind.{FaultKind}
 use Rattle.bq_base.specs.declared.fault.FaultKind.TheVariants.{BadValue}
-use Rattle.bq_rule_class.specs.Class.{Class}
+use Rattle.bq_package_rule_class.specs.Class.{Class}
 use Rattle.bq_value.specs.Cells.{StoreView}
 use Rattle.bq_value.specs.Datum.{Datum}
-use Rattle.bq_machine.specs.Args.{Passed}
-use Rattle.bq_machine.specs.Binding.{Binding, bind}
-use Rattle.bq_machine.specs.State.{State}
-use Rattle.bq_target.specs.declared.state.Declared.{Declared}
-use Rattle.bq_target.specs.declared.state.Declared.TheVariants.{Accepted, Refused}
-use Rattle.bq_target.specs.Calls.{declared, exported}
-use Rattle.bq_typed.specs.declared.label_texts.TextKind.TheVariants as k
-use Rattle.bq_typed.specs.LabelTexts.{labels}
-use Rattle.bq_typed.specs.Steps.{and_then}
+use Rattle.bq_builtin_machine.specs.Args.{Passed}
+use Rattle.bq_builtin_machine.specs.Binding.{Binding, bind}
+use Rattle.bq_builtin_machine.specs.State.{State}
+use Rattle.bq_package_target.specs.declared.state.Declared.{Declared}
+use Rattle.bq_package_target.specs.declared.state.Declared.TheVariants.{Accepted, Refused}
+use Rattle.bq_package_target.specs.Calls.{declared, exported}
+use Rattle.bq_package_typed_value.specs.declared.label_texts.TextKind.TheVariants as k
+use Rattle.bq_package_typed_value.specs.LabelTexts.{labels}
+use Rattle.bq_package_typed_value.specs.Steps.{and_then}
 use Rattle.bq_package.specs.declared.function.BuildFunction.TheVariants as f
 use Rattle.bq_package.specs.declared.glob.GlobRequest.{GlobRequest}
-use Rattle.bq_typed.specs.Parameters.{argument}
+use Rattle.bq_package_typed_value.specs.Parameters.{argument}
 use Rattle.bq_package.specs.Bound.{glob_parameters, exports_parameters, texts_of}
 use Rattle.bq_package.specs.Calls.{Declaring, declaring, settled, declares, call_in, rule_by}
 use Rattle.bq_package.specs.Files.{files_named}
@@ -25,7 +25,7 @@ use Rattle.bq_package.specs.Glob.{patterns, excludes_directories, allows_empty, 
 use Rattle.bq_package.specs.Groups.{group_named}
 use Rattle.bq_package.specs.Place.{PlaceView}
 use Rattle.bq_package.specs.Rules.{declared_target, rule_target}
-use Rattle.bq_refusal_laws.specs.Refusals.{Check, when, first_fault, fault_of, fault_in, fault_then, IsRefusedForFirst, FailsForFirst}
+use Rattle.bq_builtin_refusal_laws.specs.Refusals.{Check, when, first_fault, fault_of, fault_in, fault_then, IsRefusedForFirst, FailsForFirst}
 use Rattle.bq_package_laws.specs.Orders.{taken, requesting, globbing, naming_files}
 
 -- ---- `glob`

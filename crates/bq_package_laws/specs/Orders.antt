@@ -3,17 +3,17 @@ use Rattle.std.specs.Prelude.{not, List, [], ◌∷◌, Option, Some, None}
 use Rattle.bq_base.specs.declared.fault.FaultKind.TheVariants.{BadValue, DoubleTarget}
 use Rattle.bq_value.specs.Datum.{Datum}
 use Rattle.bq_value.specs.Cells.{StoreView}
-use Rattle.bq_machine.specs.Args.{Passed}
-use Rattle.bq_machine.specs.Binding.{bind}
-use Rattle.bq_target.specs.declared.state.Declared.{Declared}
-use Rattle.bq_target.specs.declared.state.Declared.TheVariants.{Accepted, Refused}
-use Rattle.bq_typed.specs.declared.label_texts.TextKind.TheVariants as k
-use Rattle.bq_typed.specs.LabelTexts.{labels}
-use Rattle.bq_typed.specs.Parameters.{argument}
+use Rattle.bq_builtin_machine.specs.Args.{Passed}
+use Rattle.bq_builtin_machine.specs.Binding.{bind}
+use Rattle.bq_package_target.specs.declared.state.Declared.{Declared}
+use Rattle.bq_package_target.specs.declared.state.Declared.TheVariants.{Accepted, Refused}
+use Rattle.bq_package_typed_value.specs.declared.label_texts.TextKind.TheVariants as k
+use Rattle.bq_package_typed_value.specs.LabelTexts.{labels}
+use Rattle.bq_package_typed_value.specs.Parameters.{argument}
 use Rattle.bq_package.specs.Bound.{glob_parameters, exports_parameters, texts_of}
 use Rattle.bq_package.specs.Glob.{patterns, excludes_directories, request_of, found}
 use Rattle.bq_package.specs.Place.{PlaceView}
-use Rattle.bq_refusal_laws.specs.Refusals.{Check, when, first_fault, fault_in, fault_then}
+use Rattle.bq_builtin_refusal_laws.specs.Refusals.{Check, when, first_fault, fault_in, fault_then}
 
 -- F74: the names are new
 abbrev pub taken : Declared → Check

@@ -1,4 +1,6 @@
-pub mod LoopTurns
-pub mod Reversed
-pub mod Strings
-pub mod Taken
+pub mod Ahead
+pub mod Cutting
+pub mod Open
+pub mod LeftOut
+pub mod Levels
+pub mod Files

@@ -1,2 +1,4 @@
-pub mod Makes
-pub mod Inner
+pub mod Pieces
+pub mod LeftOut
+pub mod Nested
+pub mod Answers

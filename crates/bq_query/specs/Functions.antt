@@ -1,44 +1,32 @@
--- The functions of queries (Bazel query reference, "Functions"), with what each of their arguments must be.
-use Rattle.std.specs.Prelude.{ℕ, List, [], ◌∷◌, Bool, true, false, Option, codes, bytes_eq}
-use Rattle.std.specs.List.{list_any}
-use Rattle.std.specs.Map.{lookup}
-use Rattle.bq_query.specs.declared.function.QueryFunction.{QueryFunction}
-use Rattle.bq_query.specs.declared.function.QueryFunction.TheVariants as f
-use Rattle.bq_query.specs.declared.function.QueryArgumentKind.{QueryArgumentKind}
-use Rattle.bq_query.specs.declared.function.QueryArgumentKind.TheVariants.{Query, Pattern, Attribute}
+-- What functions and operators make of sets (Bazel query reference, "Functions" and "Set operations").
+use Rattle.std.specs.Prelude.{◌⊎◌, ℕ}
+use Rattle.bq_query_graph.specs.Paths.{Deps, DepsWithin, Rdeps, RdepsWithin, OnPaths}
+use Rattle.bq_query_tree.specs.declared.tree.SetOperator.{SetOperator}
+use Rattle.bq_query_tree.specs.declared.tree.SetOperator.TheVariants as op
+use Rattle.bq_query_check.specs.declared.formula.Unary.{Unary}
+use Rattle.bq_query_check.specs.declared.formula.Unary.TheVariants as unary
+use Rattle.bq_query_check.specs.declared.formula.Binary.{Binary}
+use Rattle.bq_query_check.specs.declared.formula.Binary.TheVariants as binary
+use Rattle.bq_query_target_sets.specs.Words.{Those}
+use Rattle.bq_query_target_sets.specs.Labels.{Labels}
+use Rattle.bq_query_target_sets.specs.Matching.{has_kind, has_text, has_attribute}
+use Rattle.bq_query_target_graph.specs.Graph.{GraphParts}
+use Rattle.bq_query.specs.Graph.{edges_of, targets_of}
 
-abbrev pub functions : List (List ℕ × QueryFunction)
-functions =
-    (codes "allpaths", f.Allpaths) ∷ (codes "attr", f.Attr) ∷ (codes "deps", f.Deps) ∷ (codes "filter", f.Filter) ∷ (codes "kind", f.Kind)
-    ∷ (codes "labels", f.Labels) ∷ (codes "rdeps", f.Rdeps) ∷ []
+abbrev pub OfOne : GraphParts → Unary → (ℕ → Type 0) → ℕ → Type 0
+OfOne w unary.Deps X y = Deps (edges_of w) X y
+OfOne w (unary.DepsWithin n) X y = DepsWithin (edges_of w) X n y
+OfOne w (unary.Kind re) X y = X y × Those (has_kind re) (targets_of w) y
+OfOne w (unary.Filter re) X y = X y × Those (has_text re) (targets_of w) y
+OfOne w (unary.Attr name re) X y = X y × Those (has_attribute name re) (targets_of w) y
+OfOne w (unary.Labels name) X y = Labels name (targets_of w) X y
 
--- functions of Bazel that are left out
-abbrev pub left_out : List (List ℕ)
-left_out =
-    codes "allrdeps" ∷ codes "buildfiles" ∷ codes "executables" ∷ codes "loadfiles" ∷ codes "same_pkg_direct_rdeps" ∷ codes "siblings" ∷ codes "some"
-    ∷ codes "somepath" ∷ codes "tests" ∷ codes "visible" ∷ []
+abbrev pub OfTwo : GraphParts → Binary → (ℕ → Type 0) → (ℕ → Type 0) → ℕ → Type 0
+OfTwo w binary.Rdeps U X y = Rdeps (edges_of w) U X y
+OfTwo w (binary.RdepsWithin n) U X y = RdepsWithin (edges_of w) U X n y
+OfTwo w binary.Allpaths A B y = OnPaths (edges_of w) A B y
 
-abbrev pub function_named : List ℕ → Option QueryFunction
-function_named name = lookup (bytes_eq name) functions
-
-abbrev pub is_left_out : List ℕ → Bool
-is_left_out name = list_any (bytes_eq name) left_out
-
-abbrev pub arguments_of : QueryFunction → List QueryArgumentKind
-arguments_of f.Allpaths = Query ∷ Query ∷ []
-arguments_of f.Attr = Attribute ∷ Pattern ∷ Query ∷ []
-arguments_of f.Deps = Query ∷ []
-arguments_of f.Filter = Pattern ∷ Query ∷ []
-arguments_of f.Kind = Pattern ∷ Query ∷ []
-arguments_of f.Labels = Attribute ∷ Query ∷ []
-arguments_of f.Rdeps = Query ∷ Query ∷ []
-
--- a number of edges may follow
-abbrev pub takes_number : QueryFunction → Bool
-takes_number f.Deps = true
-takes_number f.Rdeps = true
-takes_number f.Allpaths = false
-takes_number f.Attr = false
-takes_number f.Filter = false
-takes_number f.Kind = false
-takes_number f.Labels = false
+abbrev pub Combined : SetOperator → (ℕ → Type 0) → (ℕ → Type 0) → ℕ → Type 0
+Combined op.Union X Y y = X y ⊎ Y y
+Combined op.Intersect X Y y = X y × Y y
+Combined op.Except X Y y = X y × (Y y → ⊥)

@@ -1,30 +1,43 @@
--- What the tokens of a text are, in words of the text.
-use Rattle.std.specs.Prelude.{ℕ, ◌+◌, ◌==◌, ◌≡◌, not, true, false, Bool, List, [], ◌∷◌, ◌++◌, length, Option, Some, nat_eq}
-use Rattle.std.specs.List.{list_all, prefix_len}
-use Rattle.std.specs.Map.{lookup}
-use Rattle.bq_query.specs.declared.token.QueryTokenKind.{QueryTokenKind}
-use Rattle.bq_query.specs.declared.token.QueryTokenKind.TheVariants as k
-use Rattle.bq_query.specs.declared.token.QueryToken.{QueryToken}
-use Rattle.bq_query.specs.Lexis.{is_blank, is_quote, is_word_byte, begins_word, punctuation, word_kind}
-use Rattle.bq_query.specs.Reading.{Reads}
+-- What the definitions of queries say together.
+use Rattle.std.specs.Prelude.{◌≡◌, ◌↔◌, ◌⊎◌, ℕ, ◌<◌, Bool, List, length, slice_index_or}
+use Rattle.std.specs.declared.cmp.Ordering.TheVariants.{Less}
+use Rattle.regex_hir.specs.Re.{Re}
+use Rattle.bq_query_graph.specs.Marks.{IsSet}
+use Rattle.bq_query_tree.specs.declared.tree.SetOperator.TheVariants as op
+use Rattle.bq_query_check.specs.declared.formula.Unary.TheVariants as unary
+use Rattle.bq_query_check.specs.declared.formula.Binary.TheVariants as binary
+use Rattle.bq_query_check.specs.Formula.{Formula, variable, let_in, combined, one, two}
+use Rattle.bq_package_target.specs.declared.target.Target.{Target}
+use Rattle.bq_query_target_sets.specs.Order.{by_text}
+use Rattle.bq_query_target_graph.specs.Graph.{GraphParts}
+use Rattle.bq_query.specs.Graph.{count_of}
+use Rattle.bq_query.specs.Stands.{Stands, Bound}
 
--- a text is cut in one way alone
-abbrev pub OneReading : List ℕ → Type 0
-OneReading text = (r s : Option (List QueryToken)) → Reads text 0 r → Reads text 0 s → r ≡ s
+-- union, intersection and difference are those of sets
+pub record AreOfSets (w : GraphParts) (a b : Formula) (bound : Bound) (y : ℕ) : Type 0 where
+  pub union : Stands w (combined op.Union a b) bound y ↔ (Stands w a bound y ⊎ Stands w b bound y)
+  pub intersection : Stands w (combined op.Intersect a b) bound y ↔ (Stands w a bound y × Stands w b bound y)
+  pub difference : Stands w (combined op.Except a b) bound y ↔ (Stands w a bound y × (Stands w b bound y → ⊥))
 
--- the first byte may begin a word
-abbrev pub first_begins : List ℕ → Bool
-first_begins [] = false
-first_begins (b ∷ bs) = begins_word b
+-- dependencies hold their argument, dependents and paths lie among dependencies, and by at most n edges there are no more
+pub record LieWithin (w : GraphParts) (a b : Formula) (n : ℕ) (bound : Bound) (y : ℕ) : Type 0 where
+  pub argument : Stands w a bound y → Stands w (one unary.Deps a) bound y
+  pub near : Stands w (one (unary.DepsWithin n) a) bound y → Stands w (one unary.Deps a) bound y
+  pub dependents : Stands w (two binary.Rdeps a b) bound y → Stands w (one unary.Deps a) bound y
+  pub near_dependents : Stands w (two (binary.RdepsWithin n) a b) bound y → Stands w (two binary.Rdeps a b) bound y
+  pub paths : Stands w (two binary.Allpaths a b) bound y → Stands w (one unary.Deps a) bound y
 
--- these bytes, which those follow, are a token of this kind: a mark; all bytes between two quotes; or a word that can't be longer
-pub data IsSpelled : QueryTokenKind → List ℕ → List ℕ → Type 0 where
-  mark : {kind : QueryTokenKind} {b : ℕ} {word after : List ℕ} → lookup (nat_eq b) punctuation ≡ Some kind → word ≡ b ∷ [] → IsSpelled kind word after
-  quoted : {q : ℕ} {word after : List ℕ} (body : List ℕ) → is_quote q ≡ true → list_all (λ b. not (b == q)) body ≡ true → word ≡ q ∷ (body ++ q ∷ []) → IsSpelled k.Quoted word after
-  bare : {kind : QueryTokenKind} {word after : List ℕ} → first_begins word ≡ true → list_all is_word_byte word ≡ true → prefix_len is_word_byte after ≡ 0 → word_kind word ≡ Some kind → IsSpelled kind word after
+-- `kind`, `filter` and `attr` keep members of their argument
+pub record Keep (w : GraphParts) (a : Formula) (name : List ℕ) (pattern : Re) (bound : Bound) (y : ℕ) : Type 0 where
+  pub kind : Stands w (one (unary.Kind pattern) a) bound y → Stands w a bound y
+  pub filter : Stands w (one (unary.Filter pattern) a) bound y → Stands w a bound y
+  pub attr : Stands w (one (unary.Attr name pattern) a) bound y → Stands w a bound y
 
--- the tokens of the text, which begins at the offset `start`, with blanks alone between them
-pub data AreTokensOf : List ℕ → ℕ → List QueryToken → Type 0 where
-  none : {text : List ℕ} {start : ℕ} → list_all is_blank text ≡ true → AreTokensOf text start []
-  next : {text word after : List ℕ} {start : ℕ} {t : QueryToken} {ts : List QueryToken} (front : List ℕ) → text ≡ front ++ (word ++ after) → list_all is_blank front ≡ true → IsSpelled t.kind word after
-      → t.start ≡ start + length front → t.end ≡ t.start + length word → AreTokensOf after t.end ts → AreTokensOf text start (t ∷ ts)
+-- `let name = a in $name` is a
+abbrev pub IsItself : GraphParts → Formula → Bound → Type 0
+IsItself w a bound = (marks : List Bool) → IsSet (count_of w) marks (Stands w a bound) → (y : ℕ) → Stands w (let_in a (variable (length bound))) bound y ↔ Stands w a bound y
+
+-- the label of each target of the answer comes before those of the targets after it, so none is there twice
+abbrev pub LabelsAscend : List Target → List ℕ → Type 0
+LabelsAscend targets answer =
+    (i j : ℕ) (d : Target) → i < j → j < length answer → by_text (slice_index_or targets (slice_index_or answer i 0) d) (slice_index_or targets (slice_index_or answer j 0) d) ≡ Less

@@ -1,6 +1,7 @@
-pub mod QueryError
-pub mod Lexis
-pub mod Reading
-pub mod Laws
+pub mod Graph
 pub mod Functions
-pub mod TargetPatterns
+pub mod Stands
+pub mod Faults
+pub mod Answer
+pub mod Printed
+pub mod Laws

@@ -1,20 +1,37 @@
-//! What the tokens of a text are, in words of the text.
-ghost use Rattle.std.specs.Prelude.{ℕ, List, Some, Option};
-ghost use Rattle.bq_query.specs.declared.token.QueryToken.{QueryToken};
-ghost use Rattle.bq_query.specs.Laws.{OneReading, AreTokensOf};
-ghost use Rattle.bq_query.specs.Reading.{Reads};
+//! What the definitions of queries say together. The functions do nothing: their contracts are the laws.
 
-/// A text is cut into tokens in one way alone, or not at all.
-pub fn one_reading()
-    ensures { (text : List ℕ) → OneReading text }
+ghost use Rattle.std.specs.Prelude.{ℕ, ◌<◌, List, length};
+ghost use Rattle.std.specs.List.{All};
+ghost use Rattle.std.specs.List.Sorted.{IsStrictlyIncreasing};
+ghost use Rattle.regex_hir.specs.Re.{Re};
+ghost use Rattle.bq_query_check.specs.Formula.{Formula};
+ghost use Rattle.bq_package_target.specs.declared.target.Target.{Target};
+ghost use Rattle.bq_query_target_sets.specs.Order.{AreInOrder};
+ghost use Rattle.bq_query_target_graph.specs.Graph.{GraphParts};
+ghost use Rattle.bq_query.specs.Stands.{Bound};
+ghost use Rattle.bq_query.specs.Laws.{AreOfSets, LieWithin, Keep, IsItself, LabelsAscend};
+
+/// Union, intersection and difference are those of sets.
+pub fn operators_are_of_sets()
+    ensures { (w : GraphParts) (a b : Formula) (bound : Bound) (y : ℕ) → AreOfSets w a b bound y }
 {}
 
-/// Every text is cut into tokens, or has a byte that begins none.
-pub fn every_text_has_its_reading()
-    ensures { (text : List ℕ) → (r : Option (List QueryToken)) × Reads text 0 r }
+/// `deps(x)` holds `x`; `rdeps(u, x)` and `allpaths(u, x)` lie within `deps(u)`; with a number of edges there are no more.
+pub fn dependents_lie_within_dependencies()
+    ensures { (w : GraphParts) (a b : Formula) (n : ℕ) (bound : Bound) (y : ℕ) → LieWithin w a b n bound y }
 {}
 
-/// The tokens spell the text, with blanks alone between them: marks, words in quotes, and words that are the longest.
-pub fn tokens_spell_the_text()
-    ensures { (text : List ℕ) (ts : List QueryToken) → Reads text 0 (Some ts) → AreTokensOf text 0 ts }
+/// `kind`, `filter` and `attr` keep members of their argument.
+pub fn patterns_keep_members()
+    ensures { (w : GraphParts) (a : Formula) (name : List ℕ) (pattern : Re) (bound : Bound) (y : ℕ) → Keep w a name pattern bound y }
+{}
+
+/// `let v = x in $v` is `x`.
+pub fn a_name_is_its_value()
+    ensures { (w : GraphParts) (a : Formula) (bound : Bound) → IsItself w a bound }
+{}
+
+/// The labels of an answer ascend, none of them twice.
+pub fn labels_ascend()
+    ensures { (targets : List Target) (answer : List ℕ) → AreInOrder targets → IsStrictlyIncreasing answer → All (λ at. at < length targets) answer → LabelsAscend targets answer }
 {}

@@ -1,29 +1,26 @@
-//! The bytes of a query come in; its tokens go out. Beside them stand the table of functions and the errors that users see.
+//! A query that was checked, and the targets of a workspace, come in; the targets that the query stands for go out, and their text.
 //!
-//! The promise: `lex_query` gives the tokens that the text is cut into, and Q1 exactly where it can't be cut (`specs/Reading.antt`).
+//! The promise: [`answer`] gives exactly the targets of the set that the definition of queries says (`specs/Stands.antt`), in the order
+//! of their labels, or the first fault of the words in the order of the text: Q5 or Q6 (`specs/Faults.antt`).
 //!
 //! In reading order:
 //!
-//! - `query_error`: the errors of queries, with the numbers and names that users see;
-//! - `token`: the kinds of tokens;
-//! - `lexis`: which bytes are a token at the front of a text;
-//! - `lexer`: the tokens of a whole text;
-//! - `function`: the functions, and what their arguments must be;
-//! - `target_pattern`: which form a word has as a target pattern;
-//! - `laws`: what the tokens of a text are, in words of the text.
+//! - `bindings`: the sets that lets bind;
+//! - `named`: the sets of words;
+//! - `functions`: what functions and operators make of sets;
+//! - `sets`: the sets of queries;
+//! - `whole`: whole queries;
+//! - `print`: the text of an answer;
+//! - `laws`: what the definitions say together.
 #![tactic(auto)]
 
-mod function;
+mod bindings;
+mod functions;
 pub mod laws;
-mod lexer;
-mod lexis;
-mod query_error;
-mod target_pattern;
-mod token;
+mod named;
+mod print;
+mod sets;
+mod whole;
 
-pub use function::{QueryArgumentKind, QueryFunction, function_named, is_left_out};
-pub use lexer::lex_query;
-pub use lexis::is_variable_name;
-pub use query_error::QueryErr;
-pub use target_pattern::{PatternForm, WordForm, begins_pattern, word_form};
-pub use token::{QueryToken, QueryTokenKind};
+pub use print::{OutputForm, print_answer};
+pub use whole::answer;

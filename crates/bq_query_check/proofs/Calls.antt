@@ -1,10 +1,10 @@
 -- What must hold of calls, by their arguments.
 use Rattle.std.proofs.Common.{◌≡◌, ◌≢◌, ℕ, List, [], ◌++◌, map, Some, Result, Ok, Err, ap}
 use Rattle.std.specs.List.{AllByRecursion}
-use Rattle.bq_query.specs.declared.query_error.QueryErr.{QueryErr}
-use Rattle.bq_query.specs.declared.query_error.QueryErr.TheVariants as e
-use Rattle.bq_query.specs.Functions.{function_named}
-use Rattle.bq_query.specs.declared.function.QueryFunction.{QueryFunction}
+use Rattle.bq_query_lex.specs.declared.query_error.QueryErr.{QueryErr}
+use Rattle.bq_query_lex.specs.declared.query_error.QueryErr.TheVariants as e
+use Rattle.bq_query_lex.specs.Functions.{function_named}
+use Rattle.bq_query_lex.specs.declared.function.QueryFunction.{QueryFunction}
 use Rattle.bq_query_tree.specs.declared.tree.Query.{Query}
 use Rattle.bq_query_verdict.specs.Verdict.{Need, part_of, call_of, call_by}
 use Rattle.bq_query_check.specs.declared.formula.SetExpr.{SetExpr}

@@ -4,13 +4,13 @@ use Rattle.std.specs.List.{list_any, AllByRecursion}
 use Rattle.std.proofs.lemmas.List.{length-append}
 use Rattle.std.proofs.lemmas.Bool.{cases_eq, false≢true}
 use Rattle.std.proofs.lemmas.Slice.Eq.{bytes_eq-Decides}
-use Rattle.bq_query.specs.declared.function.QueryFunction.{QueryFunction}
+use Rattle.bq_query_lex.specs.declared.function.QueryFunction.{QueryFunction}
 use Rattle.bq_query_tree.specs.declared.tree.SetOperation.{SetOperation}
 use Rattle.bq_query_tree.specs.declared.tree.Query.{Query}
 use Rattle.bq_query_check.specs.declared.formula.Binary.TheVariants as binary
 use Rattle.bq_query_check.specs.declared.formula.Unary.TheVariants as unary
 use Rattle.bq_query_check.specs.Formula.{Formula, Step, named, variable, let_in, combined, one, two, chained, step_of, formula_of, IsClosed, AreClosed}
-use Rattle.bq_query.specs.declared.query_error.QueryErr.TheVariants.{UnboundVariable}
+use Rattle.bq_query_lex.specs.declared.query_error.QueryErr.TheVariants.{UnboundVariable}
 use Rattle.bq_query_verdict.specs.Verdict as spec
 use Rattle.bq_query_verdict.specs.Verdict.{no_fault}
 use Rattle.bq_query_check.specs.Checked.{Holds, FirstFails}

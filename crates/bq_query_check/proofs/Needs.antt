@@ -1,7 +1,7 @@
 -- What must hold, one after another.
 use Rattle.std.proofs.Common.{◌≡◌, List, [], ◌∷◌, ◌++◌, ℕ, None, Some, Result, Ok, Err, inl, inr, refl, sym, subst}
 use Rattle.std.specs.List.{AllByRecursion}
-use Rattle.bq_query.specs.declared.query_error.QueryErr.{QueryErr}
+use Rattle.bq_query_lex.specs.declared.query_error.QueryErr.{QueryErr}
 use Rattle.bq_query_verdict.specs.Verdict.{Fault, Need, first_of, word, words}
 use Rattle.bq_query_check.specs.Checked.{Holds, FirstFails, Reads}
 

@@ -2,7 +2,7 @@
 use Rattle.std.proofs.Common.{◌≡◌, ℕ, List, [], ◌∷◌, ◌++◌, ◌∙◌, map, inr, sym, ap, subst, rules}
 use Rattle.std.proofs.lemmas.List.{map-append}
 use Rattle.std.specs.List.{AllByRecursion}
-use Rattle.bq_query.specs.declared.query_error.QueryErr.{QueryErr}
+use Rattle.bq_query_lex.specs.declared.query_error.QueryErr.{QueryErr}
 use Rattle.bq_query_tree.specs.declared.tree.SetOperation.{SetOperation}
 use Rattle.bq_query_tree.specs.declared.tree.Query.TheFolds.{the_lemmas}
 use Rattle.bq_query_verdict.specs.Verdict.{Need, parts, part_of, operation_part}

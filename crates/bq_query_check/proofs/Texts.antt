@@ -1,8 +1,8 @@
 -- What is read of a text is what is read of its tree.
 use Rattle.std.proofs.Common.{ℕ, List, [], refl}
 use Rattle.std.specs.List.{AllByRecursion}
-use Rattle.bq_query.specs.declared.query_error.QueryErr.{QueryErr}
-use Rattle.bq_query.specs.declared.query_error.QueryErr.TheVariants as e
+use Rattle.bq_query_lex.specs.declared.query_error.QueryErr.{QueryErr}
+use Rattle.bq_query_lex.specs.declared.query_error.QueryErr.TheVariants as e
 use Rattle.bq_query_tree.specs.declared.tree.Query.{Query}
 use Rattle.bq_query_parse.specs.Parses.{IsQuery}
 use Rattle.bq_query_verdict.specs.Verdict.{needs}

@@ -1,10 +1,10 @@
 -- What is wrong with the text of a query, before any target is known (Q1 to Q4, Q7, Q8), and what a query says with which nothing is.
 use Rattle.std.specs.Prelude.{◌≡◌, ◌≢◌, ◌⊎◌, ℕ, List, [], ◌∷◌, Some, None, Result, Ok, Err}
 use Rattle.std.specs.List.{AllByRecursion}
-use Rattle.bq_pattern.specs.Patterns.{IsRead, IsCause}
-use Rattle.bq_pattern.specs.declared.PatternErr.TheVariants as pattern_err
-use Rattle.bq_query.specs.declared.query_error.QueryErr.{QueryErr}
-use Rattle.bq_query.specs.declared.query_error.QueryErr.TheVariants as e
+use Rattle.bq_query_pattern.specs.Patterns.{IsRead, IsCause}
+use Rattle.bq_query_pattern.specs.declared.PatternErr.TheVariants as pattern_err
+use Rattle.bq_query_lex.specs.declared.query_error.QueryErr.{QueryErr}
+use Rattle.bq_query_lex.specs.declared.query_error.QueryErr.TheVariants as e
 use Rattle.bq_query_tree.specs.declared.tree.Query.{Query}
 use Rattle.bq_query_parse.specs.Parses.{IsQuery}
 use Rattle.bq_query_verdict.specs.Verdict.{Need, no_fault, regex, needs}

@@ -1,9 +1,9 @@
 -- Which tree has which formula: a case for each form of query (Bazel query reference, "Expressions" and "Functions").
 use Rattle.std.specs.Prelude.{◌≡◌, ◌≢◌, ℕ, ◌+◌, ◌*◌, ◌-◌, ◌^◌, ◌<◌, min, List, [], ◌∷◌, ◌++◌, Some, slice_get}
 use Rattle.regex_hir.specs.Re.{Re}
-use Rattle.bq_query.specs.declared.function.QueryFunction.{QueryFunction}
-use Rattle.bq_query.specs.declared.function.QueryFunction.TheVariants as fn
-use Rattle.bq_query.specs.Functions.{function_named}
+use Rattle.bq_query_lex.specs.declared.function.QueryFunction.{QueryFunction}
+use Rattle.bq_query_lex.specs.declared.function.QueryFunction.TheVariants as fn
+use Rattle.bq_query_lex.specs.Functions.{function_named}
 use Rattle.bq_query_tree.specs.declared.tree.Query.{Query}
 use Rattle.bq_query_tree.specs.declared.tree.Query.TheVariants as tree
 use Rattle.bq_query_tree.specs.declared.tree.SetOperation.{SetOperation}

@@ -5,10 +5,10 @@ use Rattle.regex_syntax.specs.Grammar.{Names}
 use Rattle.regex_hir.specs.declared.hir.Hir.{Hir}
 use Rattle.regex_hir.specs.Meaning.{meaning}
 use Rattle.regex_hir.specs.Re.{Re}
-use Rattle.bq_pattern.specs.Patterns.{options, IsCause}
-use Rattle.bq_pattern.specs.declared.PatternErr.TheVariants as pattern_err
-use Rattle.bq_query.specs.declared.query_error.QueryErr.{QueryErr}
-use Rattle.bq_query.specs.declared.query_error.QueryErr.TheVariants as e
+use Rattle.bq_query_pattern.specs.Patterns.{options, IsCause}
+use Rattle.bq_query_pattern.specs.declared.PatternErr.TheVariants as pattern_err
+use Rattle.bq_query_lex.specs.declared.query_error.QueryErr.{QueryErr}
+use Rattle.bq_query_lex.specs.declared.query_error.QueryErr.TheVariants as e
 
 -- the text is a pattern, which means this
 pub record IsPatternOf (text : List ℕ) (re : Re) : Type 0 where

@@ -1,7 +1,7 @@
 //! Arguments that are one word: patterns, names of attributes, and numbers of edges.
 
 ghost use Rattle.std.specs.Prelude.{Some, None};
-ghost use Rattle.bq_query.specs.declared.function.QueryArgumentKind.TheVariants as kind;
+ghost use Rattle.bq_query_lex.specs.declared.function.QueryArgumentKind.TheVariants as kind;
 ghost use Rattle.bq_query_verdict.specs.Verdict.{argument, part_of};
 ghost use Rattle.bq_query_check.specs.Checked.{Reads};
 ghost use Rattle.bq_query_check.specs.FormulaOf.{IsName, IsNumber, IsPattern};
@@ -9,7 +9,7 @@ ghost use Rattle.bq_query_check.specs.FormulaOf.{IsName, IsNumber, IsPattern};
 use crate::number::number;
 use crate::pattern::QueryPattern;
 use bq_base::Bytes;
-use bq_query::QueryErr;
+use bq_query_lex::QueryErr;
 use bq_query_tree::Query;
 use bq_query_verdict::{is_number, no_word};
 use std::alloc::Global;

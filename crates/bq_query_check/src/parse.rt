@@ -4,7 +4,7 @@ ghost use Rattle.bq_query_check.specs.Checked.{Checks};
 
 use crate::checked::CheckedQuery;
 use crate::trees::check;
-use bq_query::QueryErr;
+use bq_query_lex::QueryErr;
 use bq_query_parse::parse_tree;
 use bq_query_tree::QuerySyntaxErr;
 use std::alloc::Global;

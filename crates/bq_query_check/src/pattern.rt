@@ -4,8 +4,8 @@ ghost use Rattle.std.specs.Prelude.{◌≡◌, IfErr, IfOk};
 ghost use Rattle.regex.specs.Bytes.{regex_pattern};
 ghost use Rattle.bq_query_check.specs.Patterns.{IsPatternOf, IsRefused};
 
-use bq_pattern::{PatternErr, read_pattern};
-use bq_query::QueryErr;
+use bq_query_lex::QueryErr;
+use bq_query_pattern::{PatternErr, read_pattern};
 use regex::bytes::Regex;
 use std::alloc::Global;
 use std::marker::Model;

@@ -1,8 +1,8 @@
 //! Trees: what must hold of them is tested in the order of the text, and what they say is made on the way.
 
 ghost use Rattle.std.specs.Prelude.{◌≡◌, ◌++◌, [], ◌∷◌, map, IfOk};
-ghost use Rattle.bq_query.specs.Functions.{function_named};
-ghost use Rattle.bq_query.specs.declared.function.QueryFunction.TheVariants as f;
+ghost use Rattle.bq_query_lex.specs.Functions.{function_named};
+ghost use Rattle.bq_query_lex.specs.declared.function.QueryFunction.TheVariants as f;
 ghost use Rattle.bq_query_verdict.specs.Verdict as spec;
 ghost use Rattle.bq_query_verdict.specs.Verdict.{no_fault, part_of, operation_part, call_of, call_by, variable};
 ghost use Rattle.bq_query_check.specs.Checked.{Reads};
@@ -14,7 +14,7 @@ use crate::arguments::{attribute, limit, pattern};
 use crate::formula::{Binary, ChainStep, SetExpr, Unary};
 use crate::names::{innermost, shared, with_name};
 use bq_base::Bytes;
-use bq_query::{QueryErr, QueryFunction, function_named};
+use bq_query_lex::{QueryErr, QueryFunction, function_named};
 use bq_query_tree::{Query, SetOperation};
 use bq_query_verdict::{unknown, words};
 use sqlite_items::{Boxed, Items};

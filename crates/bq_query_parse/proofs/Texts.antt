@@ -2,11 +2,11 @@
 use Rattle.std.proofs.Common.{◌≡◌, ℕ, ◌+◌, ◌<◌, ◌≤◌, List, [], ◌∷◌, length, drop, sym, ap, ◌∙◌, subst, arith, length-drop, All}
 use Rattle.std.specs.Prelude.{Option, Some, None, Result, Ok, Err}
 use Rattle.std.proofs.lemmas.List.Elements.{All-nil, All-cons}
-use Rattle.bq_query.specs.declared.token.QueryTokenKind.{QueryTokenKind}
-use Rattle.bq_query.specs.declared.token.QueryToken.{QueryToken}
-use Rattle.bq_query.specs.Reading.{Reads, ended, blank, token, unknown, before, IsWithin}
-use Rattle.bq_query.proofs.Within.{within}
-use Rattle.bq_query.proofs.Unique.{unique}
+use Rattle.bq_query_lex.specs.declared.token.QueryTokenKind.{QueryTokenKind}
+use Rattle.bq_query_lex.specs.declared.token.QueryToken.{QueryToken}
+use Rattle.bq_query_lex.specs.Reading.{Reads, ended, blank, token, unknown, before, IsWithin}
+use Rattle.bq_query_lex.proofs.Within.{within}
+use Rattle.bq_query_lex.proofs.Unique.{unique}
 use Rattle.bq_query_tree.specs.Lexeme.{lexemes}
 use Rattle.bq_query_tree.specs.declared.refusal.QuerySyntaxErr.{QuerySyntaxErr}
 use Rattle.bq_query_tree.specs.declared.tree.Query.{Query}

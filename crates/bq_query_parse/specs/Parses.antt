@@ -1,7 +1,7 @@
 -- Which tree a text has.
 use Rattle.std.specs.Prelude.{ℕ, List, [], ◌∷◌, Option, Some, None, Result, Ok, Err, ◌≡◌, ◌≢◌, ◌+◌}
-use Rattle.bq_query.specs.declared.token.QueryToken.{QueryToken}
-use Rattle.bq_query.specs.Reading as tokens
+use Rattle.bq_query_lex.specs.declared.token.QueryToken.{QueryToken}
+use Rattle.bq_query_lex.specs.Reading as tokens
 use Rattle.bq_query_tree.specs.Lexeme.{Lexeme, lexemes}
 use Rattle.bq_query_tree.specs.declared.refusal.QuerySyntaxErr.{QuerySyntaxErr}
 use Rattle.bq_query_tree.specs.declared.refusal.QuerySyntaxErr.TheVariants.{Memory}

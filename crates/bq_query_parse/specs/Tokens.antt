@@ -1,8 +1,8 @@
 -- What a place in the tokens of a query shows: the tokens from it on, with their spellings.
 use Rattle.std.specs.Prelude.{ℕ, ◌≤◌, List, [], ◌∷◌, length, Bool, Option, Some, None, All}
-use Rattle.bq_query.specs.declared.token.QueryToken.{QueryToken}
-use Rattle.bq_query.specs.declared.token.QueryTokenKind.{QueryTokenKind}
-use Rattle.bq_query.specs.declared.token.QueryTokenKind.TheVariants as k
+use Rattle.bq_query_lex.specs.declared.token.QueryToken.{QueryToken}
+use Rattle.bq_query_lex.specs.declared.token.QueryTokenKind.{QueryTokenKind}
+use Rattle.bq_query_lex.specs.declared.token.QueryTokenKind.TheVariants as k
 use Rattle.bq_query_tree.specs.Lexeme.{Lexeme, lexemes}
 use Rattle.bq_query_tree.specs.Turns.{sees, next}
 use Rattle.bq_query_parse.specs.declared.tokens.QueryTokens.TheInside.{Inside}

@@ -1,7 +1,7 @@
 //! The productions, over the reader of the queries inside one more parenthesis or let.
 
 ghost use Rattle.std.specs.Prelude.{◌≡◌, [], ◌∷◌, IfOk};
-ghost use Rattle.bq_query.specs.declared.token.QueryTokenKind.TheVariants as kind;
+ghost use Rattle.bq_query_lex.specs.declared.token.QueryTokenKind.TheVariants as kind;
 ghost use Rattle.bq_query_tree.specs.Turns.{Reads};
 ghost use Rattle.bq_query_tree.specs.Turns as turns;
 ghost use Rattle.bq_query_tree.specs.Grammar as grammar;
@@ -10,7 +10,7 @@ ghost use Rattle.bq_query_parse.specs.Nested.{ReadsQuery};
 
 use crate::tokens::QueryTokens;
 use bq_base::Bytes;
-use bq_query::QueryTokenKind;
+use bq_query_lex::QueryTokenKind;
 use bq_query_tree::{Query, QuerySyntaxErr, SetOperation};
 use sqlite_items::{Boxed, Items};
 use std::alloc::{AllocError, Global};

@@ -1,7 +1,7 @@
 //! Whole texts.
 
 ghost use Rattle.std.specs.Prelude.{◌≡◌, ◌≢◌, All};
-ghost use Rattle.bq_query.specs.declared.query_error.QueryErr.TheVariants.{Syntax};
+ghost use Rattle.bq_query_lex.specs.declared.query_error.QueryErr.TheVariants.{Syntax};
 ghost use Rattle.bq_query_tree.specs.Lexeme.{lexemes};
 ghost use Rattle.bq_query_tree.specs.declared.refusal.QuerySyntaxErr.TheVariants.{Memory};
 ghost use Rattle.bq_query_tree.specs.Turns.{Reads};
@@ -11,7 +11,7 @@ ghost use Rattle.bq_query_parse.specs.Parses.{Parses, Gives, whole_query};
 
 use crate::grammar::QueryGrammar;
 use crate::tokens::QueryTokens;
-use bq_query::{QueryErr, QueryToken, lex_query};
+use bq_query_lex::{QueryErr, QueryToken, lex_query};
 use bq_query_tree::{Query, QuerySyntaxErr};
 use std::alloc::Global;
 

@@ -9,7 +9,7 @@ ghost use Rattle.bq_query_tree.specs.Reading as spec;
 ghost use Rattle.bq_query_parse.specs.Tokens as ahead;
 
 use bq_base::Bytes;
-use bq_query::{QueryToken, QueryTokenKind, is_variable_name};
+use bq_query_lex::{QueryToken, QueryTokenKind, is_variable_name};
 use bq_query_tree::{QuerySyntaxErr, SetOperator};
 use std::alloc::{AllocError, Global};
 use std::marker::Model;

@@ -1,6 +1,6 @@
 -- What it is that a reading function finds the phrases that the grammar relates to the tokens, and the repetition.
 use Rattle.std.proofs.Common.{◌≡◌, ℕ, zero, suc, ◌+◌, ◌≤◌, Bool, true, false, cond, List, [], ◌∷◌, ◌++◌, length, Some, None, refl, sym, ap, ◌∙◌, subst, append_assoc, append-nil, arith}
-use Rattle.bq_query.specs.declared.token.QueryTokenKind.{QueryTokenKind}
+use Rattle.bq_query_lex.specs.declared.token.QueryTokenKind.{QueryTokenKind}
 use Rattle.bq_query_tree.specs.Lexeme.{Lexeme, same_kind}
 use Rattle.bq_query_tree.specs.Phrases.{Phrase, none, Repeat, over, again}
 use Rattle.bq_query_tree.specs.Turns.{Found, Parse, ◌>>=◌, sees, next, expect, ended, next_turn, turns, goes_with, repeat_turn, repeat}

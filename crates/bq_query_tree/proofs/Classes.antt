@@ -1,7 +1,7 @@
 -- Classes of kinds of tokens: what begins a phrase, and what ends one.
 use Rattle.std.proofs.Common.{◌≡◌, Bool, true, false, refl}
-use Rattle.bq_query.specs.declared.token.QueryTokenKind.{QueryTokenKind}
-use Rattle.bq_query.specs.declared.token.QueryTokenKind.TheVariants as k
+use Rattle.bq_query_lex.specs.declared.token.QueryTokenKind.{QueryTokenKind}
+use Rattle.bq_query_lex.specs.declared.token.QueryTokenKind.TheVariants as k
 use Rattle.bq_query_tree.specs.Grammar.{operator}
 use Rattle.bq_query_tree.specs.Laws.{ends_query}
 use Rattle.bq_query_tree.specs.Reading.{is_known}

@@ -2,9 +2,9 @@
 use Rattle.std.proofs.Common.{◌≡◌, ℕ, zero, suc, ◌<◌, Bool, true, false, cond, List, [], ◌∷◌, ◌++◌, Some, None, refl, sym, ap, ◌∙◌, subst, arith}
 use Rattle.std.specs.Prelude.{◌==◌}
 use Rattle.std.proofs.lemmas.Bool.{eqb-true}
-use Rattle.bq_query.specs.Lexis.{is_variable_name}
-use Rattle.bq_query.specs.declared.token.QueryTokenKind.{QueryTokenKind}
-use Rattle.bq_query.specs.declared.token.QueryTokenKind.TheVariants as k
+use Rattle.bq_query_lex.specs.Lexis.{is_variable_name}
+use Rattle.bq_query_lex.specs.declared.token.QueryTokenKind.{QueryTokenKind}
+use Rattle.bq_query_lex.specs.declared.token.QueryTokenKind.TheVariants as k
 use Rattle.bq_query_tree.specs.Lexeme.{Lexeme, same_kind}
 use Rattle.bq_query_tree.specs.declared.tree.Query.{Query}
 use Rattle.bq_query_tree.specs.declared.tree.Query.TheVariants as q

@@ -1,9 +1,9 @@
 -- The grammar of queries, by the Bazel query reference, "Expressions: syntax and semantics of the grammar": a case for each
 -- production, under its production. `Inner` is a query inside one more parenthesis or let, of which `depth` more may be opened.
 use Rattle.std.specs.Prelude.{ℕ, zero, suc, List, [], ◌∷◌, ◌≡◌, ◌<◌, true, Option, Some, None}
-use Rattle.bq_query.specs.declared.token.QueryTokenKind.{QueryTokenKind}
-use Rattle.bq_query.specs.declared.token.QueryTokenKind.TheVariants as k
-use Rattle.bq_query.specs.Lexis.{is_variable_name}
+use Rattle.bq_query_lex.specs.declared.token.QueryTokenKind.{QueryTokenKind}
+use Rattle.bq_query_lex.specs.declared.token.QueryTokenKind.TheVariants as k
+use Rattle.bq_query_lex.specs.Lexis.{is_variable_name}
 use Rattle.bq_query_tree.specs.Lexeme.{Lexeme, unquoted, variable_name}
 use Rattle.bq_query_tree.specs.Phrases.{Phrase, none, Repeat, CommaThen}
 use Rattle.bq_query_tree.specs.declared.tree.SetOperator.{SetOperator}

@@ -1,7 +1,7 @@
 -- What the reader and the grammar have to do with each other.
 use Rattle.std.specs.Prelude.{ℕ, suc, List, [], ◌∷◌, Bool, true, false, ◌≡◌, Some}
-use Rattle.bq_query.specs.declared.token.QueryTokenKind.{QueryTokenKind}
-use Rattle.bq_query.specs.declared.token.QueryTokenKind.TheVariants as k
+use Rattle.bq_query_lex.specs.declared.token.QueryTokenKind.{QueryTokenKind}
+use Rattle.bq_query_lex.specs.declared.token.QueryTokenKind.TheVariants as k
 use Rattle.bq_query_tree.specs.Lexeme.{Lexeme}
 use Rattle.bq_query_tree.specs.declared.tree.Query.{Query}
 use Rattle.bq_query_tree.specs.Grammar.{IsQueryTo}

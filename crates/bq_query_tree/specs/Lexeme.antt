@@ -1,9 +1,9 @@
 -- A token with its spelling, which is what the grammar reads.
 use Rattle.std.specs.Prelude.{ℕ, ◌-◌, Bool, List, [], ◌∷◌, length, take, slice_range}
 use denote.Enum.Bare.{sameb}
-use Rattle.bq_query.specs.contracts.token.TokenKind.{the_type}
-use Rattle.bq_query.specs.declared.token.QueryToken.{QueryToken}
-use Rattle.bq_query.specs.declared.token.QueryTokenKind.{QueryTokenKind}
+use Rattle.bq_query_lex.specs.contracts.token.TokenKind.{the_type}
+use Rattle.bq_query_lex.specs.declared.token.QueryToken.{QueryToken}
+use Rattle.bq_query_lex.specs.declared.token.QueryTokenKind.{QueryTokenKind}
 
 pub record Lexeme : Type 0 where
   pub kind : QueryTokenKind

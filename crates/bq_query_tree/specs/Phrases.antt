@@ -1,6 +1,6 @@
 -- Phrases, and the repetition of the grammar. A phrase of the tokens `ts` takes those before `rest`, and stands for a value.
 use Rattle.std.specs.Prelude.{List, [], ◌∷◌, ◌≡◌}
-use Rattle.bq_query.specs.declared.token.QueryTokenKind.TheVariants as k
+use Rattle.bq_query_lex.specs.declared.token.QueryTokenKind.TheVariants as k
 use Rattle.bq_query_tree.specs.Lexeme.{Lexeme}
 
 abbrev pub Phrase : Type 0 → Type 1

@@ -1,8 +1,8 @@
 -- Reading by recursive descent: what each production of the grammar finds in the tokens.
 use Rattle.std.specs.Prelude.{ℕ, zero, suc, List, [], ◌∷◌, ◌++◌, length, Bool, true, false, ◌==◌, Option, Some, None, if◌then◌else◌}
-use Rattle.bq_query.specs.declared.token.QueryTokenKind.{QueryTokenKind}
-use Rattle.bq_query.specs.declared.token.QueryTokenKind.TheVariants as k
-use Rattle.bq_query.specs.Lexis.{is_variable_name}
+use Rattle.bq_query_lex.specs.declared.token.QueryTokenKind.{QueryTokenKind}
+use Rattle.bq_query_lex.specs.declared.token.QueryTokenKind.TheVariants as k
+use Rattle.bq_query_lex.specs.Lexis.{is_variable_name}
 use Rattle.bq_query_tree.specs.Lexeme.{Lexeme, same_kind, unquoted, variable_name}
 use Rattle.bq_query_tree.specs.Turns.{Found, Parse, ◌>>=◌, sees, next, expect, Turn, ended, goes, failed, turns, repeat}
 use Rattle.bq_query_tree.specs.Grammar.{operator, operation, chain_of}

@@ -6,13 +6,13 @@ use Rattle.bq_label.specs.Label.{package_at}
 use Rattle.bq_label.specs.Reading.{label_of}
 use Rattle.bq_base.specs.declared.fault.SourceErr.{SourceErr}
 use Rattle.bq_base.specs.declared.fault.SourceErr.TheVariants as source
-use Rattle.bq_query.specs.declared.query_error.QueryErr.{QueryErr}
-use Rattle.bq_query.specs.declared.query_error.QueryErr.TheVariants as e
-use Rattle.bq_query.specs.declared.function.QueryFunction.{QueryFunction}
-use Rattle.bq_query.specs.declared.function.QueryArgumentKind.{QueryArgumentKind}
-use Rattle.bq_query.specs.declared.function.QueryArgumentKind.TheVariants as kind
-use Rattle.bq_query.specs.Functions.{function_named, is_left_out, arguments_of, takes_number}
-use Rattle.bq_query.specs.TargetPatterns.{begins_pattern}
+use Rattle.bq_query_lex.specs.declared.query_error.QueryErr.{QueryErr}
+use Rattle.bq_query_lex.specs.declared.query_error.QueryErr.TheVariants as e
+use Rattle.bq_query_lex.specs.declared.function.QueryFunction.{QueryFunction}
+use Rattle.bq_query_lex.specs.declared.function.QueryArgumentKind.{QueryArgumentKind}
+use Rattle.bq_query_lex.specs.declared.function.QueryArgumentKind.TheVariants as kind
+use Rattle.bq_query_lex.specs.Functions.{function_named, is_left_out, arguments_of, takes_number}
+use Rattle.bq_query_lex.specs.TargetPatterns.{begins_pattern}
 use Rattle.bq_query_tree.specs.declared.tree.Query.{Query, fold-Query}
 use Rattle.bq_query_tree.specs.declared.tree.SetOperation.{SetOperation, fold-SetOperation}
 use Rattle.bq_query_tree.specs.declared.tree.Query.TheOpen as tree

@@ -1,13 +1,13 @@
 //! The faults at the first token of a part of a tree.
 
 ghost use Rattle.std.specs.Prelude.{◌≡◌, ◌≢◌, Some};
-ghost use Rattle.bq_query.specs.declared.query_error.QueryErr.TheVariants.{Memory};
+ghost use Rattle.bq_query_lex.specs.declared.query_error.QueryErr.TheVariants.{Memory};
 ghost use Rattle.bq_query_verdict.specs.Verdict as spec;
 ghost use Rattle.bq_query_verdict.specs.Verdict.{Tells, part_of};
 
 use crate::leaves::{function, variable, word};
 use bq_base::Bytes;
-use bq_query::QueryErr;
+use bq_query_lex::QueryErr;
 use bq_query_tree::Query;
 use std::alloc::Global;
 

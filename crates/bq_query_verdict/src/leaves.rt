@@ -9,7 +9,7 @@ ghost use Rattle.bq_query_verdict.specs.Verdict.{Tells};
 
 use bq_base::{Bytes, SourceErr};
 use bq_label::{PackageId, read_label};
-use bq_query::{QueryErr, QueryFunction, begins_pattern, function_named, is_left_out};
+use bq_query_lex::{QueryErr, QueryFunction, begins_pattern, function_named, is_left_out};
 use std::alloc::{AllocError, Global};
 
 /// Whether something was read.

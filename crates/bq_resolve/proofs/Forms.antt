@@ -3,7 +3,7 @@ use Rattle.std.proofs.Common.{◌≡◌, ◌∙◌, Result, Ok, Err, MatchResult
 use Rattle.std.specs.Result.{IsOkAnd}
 use Rattle.bq_base.specs.declared.fault.Fault.{Fault}
 use Rattle.bq_base.specs.declared.fault.SourceErr.{SourceErr}
-use Rattle.bq_scope.specs.Visit.{Passed, Visit, following, pure}
+use Rattle.bq_resolve_scope.specs.Visit.{Passed, Visit, following, pure}
 use Rattle.bq_resolve_expression.specs.Walks.{Walks}
 
 module _ {X L R : Type 0} (out : X → L) (by : L → Visit R) (x : X) (s new : Passed) (r : Result R SourceErr) where

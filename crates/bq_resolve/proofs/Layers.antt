@@ -5,11 +5,11 @@ use Rattle.bq_base.specs.declared.fault.FaultKind.TheVariants as f
 use Rattle.bq_base.specs.declared.fault.SourceErr.{SourceErr}
 use Rattle.bq_base.specs.declared.fault.SourceErr.TheVariants.{Bad}
 use Rattle.bq_base.specs.Fault.{fault_at}
-use Rattle.bq_grammar.specs.declared.tree.Stmt.{Stmt, out-Stmt}
-use Rattle.bq_scope.specs.declared.code.CodeStmt.{CodeStmt}
-use Rattle.bq_scope.specs.Scope.{BlockParts, FileParts}
-use Rattle.bq_scope.specs.Visit.{Passed}
-use Rattle.bq_scope.specs.Statements.{stmt_by, stmt_to}
+use Rattle.bq_parse_grammar.specs.declared.tree.Stmt.{Stmt, out-Stmt}
+use Rattle.bq_resolve_scope.specs.declared.code.CodeStmt.{CodeStmt}
+use Rattle.bq_resolve_scope.specs.Scope.{BlockParts, FileParts}
+use Rattle.bq_resolve_scope.specs.Visit.{Passed}
+use Rattle.bq_resolve_scope.specs.Statements.{stmt_by, stmt_to}
 use Rattle.bq_resolve_expression.specs.Walks.{Walks}
 
 stmt_layer : (file : FileParts) (layers : ℕ) (blocks : List BlockParts) (looping : Bool) (x : Stmt) (s : Passed) → layers ≢ 0

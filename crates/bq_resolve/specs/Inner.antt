@@ -3,11 +3,11 @@ use Rattle.std.specs.Prelude.{ℕ, List, Bool, Result}
 use Rattle.std.specs.declared.alloc.Global.{Global}
 use denote.Ref.{Bor, MutBor}
 use Rattle.bq_base.specs.declared.fault.SourceErr.{SourceErr}
-use Rattle.bq_grammar.specs.declared.tree.Stmt.{Stmt}
-use Rattle.bq_scope.specs.declared.code.CodeStmt.{CodeStmt}
-use Rattle.bq_scope.specs.Scope.{BlockParts, FileParts}
-use Rattle.bq_scope.specs.Visit.{Passed}
-use Rattle.bq_scope.specs.Statements.{stmt_to}
+use Rattle.bq_parse_grammar.specs.declared.tree.Stmt.{Stmt}
+use Rattle.bq_resolve_scope.specs.declared.code.CodeStmt.{CodeStmt}
+use Rattle.bq_resolve_scope.specs.Scope.{BlockParts, FileParts}
+use Rattle.bq_resolve_scope.specs.Visit.{Passed}
+use Rattle.bq_resolve_scope.specs.Statements.{stmt_to}
 use Rattle.bq_resolve_expression.specs.Walks.{Walks}
 
 -- statements that are no deeper than so many layers

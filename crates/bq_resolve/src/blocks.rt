@@ -1,18 +1,18 @@
 //! Statements with blocks, over the resolver of the statements in them.
 
 ghost use Rattle.std.specs.Prelude.{[], true};
-ghost use Rattle.bq_grammar.specs.declared.tree.Stmt.{out-Stmt};
-ghost use Rattle.bq_scope.specs.Visit as visit;
-ghost use Rattle.bq_scope.specs.Statements as spec;
+ghost use Rattle.bq_parse_grammar.specs.declared.tree.Stmt.{out-Stmt};
+ghost use Rattle.bq_resolve_scope.specs.Visit as visit;
+ghost use Rattle.bq_resolve_scope.specs.Statements as spec;
 ghost use Rattle.bq_resolve_expression.specs.Walks.{Walks};
 ghost use Rattle.bq_resolve.specs.Inner.{WalksStatement};
 
 use crate::expressions::{expr, target};
 use crate::small::{line, misplaced};
 use bq_base::SourceErr;
-use bq_grammar::{AssignTarget, Branch, Expr, Stmt};
+use bq_parse_grammar::{AssignTarget, Branch, Expr, Stmt};
 use bq_resolve_expression::Walk;
-use bq_scope::{Block, Code, CodeBranch, CodeStmt, CodeTarget, FileNames};
+use bq_resolve_scope::{Block, Code, CodeBranch, CodeStmt, CodeTarget, FileNames};
 use sqlite_items::{Boxed, Items};
 use std::alloc::Global;
 
@@ -77,7 +77,7 @@ impl<
     }
 
     /// The statements of a block.
-    #[tactic(auto, unfolding(bq_scope::specs::Visit::each))]
+    #[tactic(auto, unfolding(bq_resolve_scope::specs::Visit::each))]
     pub fn block(
         &self,
         file: &FileNames,
@@ -114,7 +114,7 @@ impl<
     }
 
     /// `if condition:`, or `elif`, and its block.
-    #[tactic(auto, unfolding(bq_scope::specs::Statements::branch))]
+    #[tactic(auto, unfolding(bq_resolve_scope::specs::Statements::branch))]
     fn branch(
         &self,
         file: &FileNames,
@@ -132,7 +132,7 @@ impl<
         Ok(CodeBranch { condition, block })
     }
 
-    #[tactic(auto, unfolding(bq_scope::specs::Visit::each))]
+    #[tactic(auto, unfolding(bq_resolve_scope::specs::Visit::each))]
     fn branches(
         &self,
         file: &FileNames,
@@ -152,7 +152,7 @@ impl<
     }
 
     /// The branches of an `if`, and the block of its `else`.
-    #[tactic(auto, unfolding(bq_scope::specs::Statements::if_stmt))]
+    #[tactic(auto, unfolding(bq_resolve_scope::specs::Statements::if_stmt))]
     fn if_stmt(
         &self,
         file: &FileNames,
@@ -171,7 +171,7 @@ impl<
     }
 
     /// A `for`.
-    #[tactic(auto, unfolding(bq_scope::specs::Statements::for_stmt))]
+    #[tactic(auto, unfolding(bq_resolve_scope::specs::Statements::for_stmt))]
     fn for_stmt(
         &self,
         file: &FileNames,

@@ -1,13 +1,13 @@
 //! The expressions and the targets of statements.
 
-ghost use Rattle.bq_scope.specs.Expressions as expressions;
-ghost use Rattle.bq_scope.specs.Statements as spec;
+ghost use Rattle.bq_resolve_scope.specs.Expressions as expressions;
+ghost use Rattle.bq_resolve_scope.specs.Statements as spec;
 ghost use Rattle.bq_resolve_expression.specs.Walks.{Walks};
 
 use bq_base::SourceErr;
-use bq_grammar::{AssignTarget, Expr};
+use bq_parse_grammar::{AssignTarget, Expr};
 use bq_resolve_expression::{Rules, Walk, expr_to};
-use bq_scope::{Block, Code, CodeTarget, FileNames, MAX_LAYERS};
+use bq_resolve_scope::{Block, Code, CodeTarget, FileNames, MAX_LAYERS};
 use std::alloc::Global;
 
 /// An expression that is no deeper than so many layers: `expr_to`, which can be passed on from its own crate alone.
@@ -24,7 +24,7 @@ fn nested(
     expr_to(alloc, file, depth, blocks, walk, expr)
 }
 
-#[tactic(auto, unfolding(bq_scope::specs::Statements::expr, bq_scope::specs::Names::max_layers))]
+#[tactic(auto, unfolding(bq_resolve_scope::specs::Statements::expr, bq_resolve_scope::specs::Names::max_layers))]
 pub fn expr(
     alloc: Global,
     file: &FileNames,
@@ -37,7 +37,7 @@ pub fn expr(
     expr_to(alloc, file, MAX_LAYERS, blocks, walk, expr)
 }
 
-#[tactic(auto, unfolding(bq_scope::specs::Statements::target, bq_scope::specs::Names::max_layers))]
+#[tactic(auto, unfolding(bq_resolve_scope::specs::Statements::target, bq_resolve_scope::specs::Names::max_layers))]
 pub fn target(
     alloc: Global,
     file: &FileNames,

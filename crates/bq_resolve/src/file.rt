@@ -3,16 +3,16 @@
 ghost use Rattle.std.specs.Prelude.{◌≡◌, []};
 ghost use Rattle.bq_base.specs.Gives.{Gives};
 ghost use Rattle.bq_base.specs.declared.fault.SourceErr.TheVariants.{Bad};
-ghost use Rattle.bq_scope.specs.Files.{resolved, resolved_in, top_level};
-ghost use Rattle.bq_scope.specs.Visit.{each, nothing_passed};
-ghost use Rattle.bq_file.specs.Answers.{itself};
+ghost use Rattle.bq_resolve_scope.specs.Files.{resolved, resolved_in, top_level};
+ghost use Rattle.bq_resolve_scope.specs.Visit.{each, nothing_passed};
+ghost use Rattle.bq_parse.specs.Answers.{itself};
 
 use crate::outside::top_levels;
 use bq_base::SourceErr;
-use bq_file::ParsedFile;
-use bq_grammar::TopLevel;
+use bq_parse::ParsedFile;
+use bq_parse_grammar::TopLevel;
 use bq_resolve_expression::Walk;
-use bq_scope::{CodeTopLevel, FileNames, LoadStmt, Resolved, Universe};
+use bq_resolve_scope::{CodeTopLevel, FileNames, LoadStmt, Resolved, Universe};
 use sqlite_items::Items;
 use std::alloc::Global;
 
@@ -56,7 +56,7 @@ fn resolve_in(
 
 /// What the file resolves to, or the first fault of its names in the order of its text, F20 to F24. It takes time and memory in
 /// proportion to the file.
-#[tactic(auto, unfolding(bq_scope::specs::Files::resolved))]
+#[tactic(auto, unfolding(bq_resolve_scope::specs::Files::resolved))]
 pub fn resolve(alloc: Global, file: &ParsedFile, universe: &Universe) -> Result<Resolved, SourceErr>
     ensures { Gives itself Bad result (resolved universe.now file.now) }
 {

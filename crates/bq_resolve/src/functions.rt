@@ -1,16 +1,16 @@
 //! Functions, and the `def`s that make them.
 
-ghost use Rattle.bq_scope.specs.Statements as spec;
-ghost use Rattle.bq_scope.specs.Files as files;
+ghost use Rattle.bq_resolve_scope.specs.Statements as spec;
+ghost use Rattle.bq_resolve_scope.specs.Files as files;
 ghost use Rattle.bq_resolve_expression.specs.Walks.{Walks};
 
 use crate::blocks::BlockResolver;
 use crate::parameters::parameters;
 use crate::statements::stmt_to;
 use bq_base::{Bytes, SourceErr};
-use bq_grammar::{Identifier, Parameter, Stmt};
+use bq_parse_grammar::{Identifier, Parameter, Stmt};
 use bq_resolve_expression::{Walk, name_target};
-use bq_scope::{
+use bq_resolve_scope::{
     Block, CodeDef, CodeFunction, CodeParameter, CodeStmt, FileNames, FileStmt, MAX_LAYERS, Names,
     function_names, inside,
 };
@@ -18,7 +18,7 @@ use sqlite_items::{Boxed, Items};
 use std::alloc::Global;
 
 /// A function's statements, among its own names.
-#[tactic(auto, unfolding(bq_scope::specs::Names::max_layers))]
+#[tactic(auto, unfolding(bq_resolve_scope::specs::Names::max_layers))]
 fn statements_in(
     alloc: Global,
     file: &FileNames,
@@ -41,7 +41,7 @@ fn statements_in(
 }
 
 /// A function of the file, which has a frame of its own: its number.
-#[tactic(auto, unfolding(bq_scope::specs::Statements::function))]
+#[tactic(auto, unfolding(bq_resolve_scope::specs::Statements::function))]
 fn function(
     alloc: Global,
     file: &FileNames,
@@ -67,7 +67,7 @@ fn function(
 }
 
 /// A `def`: its name is bound before its parameters are looked at.
-#[tactic(auto, unfolding(bq_scope::specs::Files::def_stmt))]
+#[tactic(auto, unfolding(bq_resolve_scope::specs::Files::def_stmt))]
 pub fn def_stmt(
     alloc: Global,
     file: &FileNames,

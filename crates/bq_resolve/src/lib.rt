@@ -1,8 +1,8 @@
 //! Files: the trees of a file's statements come in; trees in which each use of a name says where its value is go out, or the first
 //! fault of its names in the order of the text, F20 to F24.
 //!
-//! The promise: [`resolve`] answers just what `resolved` of `bq_scope` (`specs/Files.antt`) gives, out of memory aside. The head of
-//! `bq_scope` says what scopes are, and that of `bq_resolve_expression` what a contract sees of the walk along a file.
+//! The promise: [`resolve`] answers just what `resolved` of `bq_resolve_scope` (`specs/Files.antt`) gives, out of memory aside. The head of
+//! `bq_resolve_scope` says what scopes are, and that of `bq_resolve_expression` what a contract sees of the walk along a file.
 //!
 //! Each rule is a function of the name that its definition has. Those over the statements of a block are methods of `Blocks`, which
 //! holds the resolver of these, so that each is proved by itself; only `stmt_to` closes the circle.

@@ -1,15 +1,15 @@
 //! Loads: what a file takes from other files.
 
 ghost use Rattle.std.specs.Prelude.{◌≡◌, [], IfOk};
-ghost use Rattle.bq_scope.specs.Names.{place_among};
-ghost use Rattle.bq_scope.specs.Visit as visit;
-ghost use Rattle.bq_scope.specs.Statements as spec;
+ghost use Rattle.bq_resolve_scope.specs.Names.{place_among};
+ghost use Rattle.bq_resolve_scope.specs.Visit as visit;
+ghost use Rattle.bq_resolve_scope.specs.Statements as spec;
 ghost use Rattle.bq_resolve_expression.specs.Walks.{Walks};
 
 use bq_base::{FaultKind, SourceErr};
-use bq_grammar::{Load, LoadClause};
+use bq_parse_grammar::{Load, LoadClause};
 use bq_resolve_expression::{Walk, fault_of};
-use bq_scope::{CodeSmall, FileNames, LoadStmt, LoadedSymbol};
+use bq_resolve_scope::{CodeSmall, FileNames, LoadStmt, LoadedSymbol};
 use sqlite_items::Items;
 use std::alloc::{AllocError, Global};
 
@@ -27,7 +27,7 @@ fn symbol_of(file: &FileNames, clause: &LoadClause) -> Result<LoadedSymbol, Allo
 }
 
 /// A load clause: F22 where another clause before it has its name, F21 where a statement of a .bzl file bound it.
-#[tactic(auto, unfolding(bq_scope::specs::Statements::load_clause))]
+#[tactic(auto, unfolding(bq_resolve_scope::specs::Statements::load_clause))]
 fn load_clause(
     file: &FileNames,
     walk: &mut Walk,
@@ -46,7 +46,7 @@ fn load_clause(
     Ok(symbol_of(file, clause)?)
 }
 
-#[tactic(auto, unfolding(bq_scope::specs::Visit::each))]
+#[tactic(auto, unfolding(bq_resolve_scope::specs::Visit::each))]
 fn load_clauses(
     alloc: Global,
     file: &FileNames,
@@ -63,7 +63,7 @@ fn load_clauses(
 }
 
 /// A load, which is carried along.
-#[tactic(auto, unfolding(bq_scope::specs::Statements::load))]
+#[tactic(auto, unfolding(bq_resolve_scope::specs::Statements::load))]
 pub fn load(
     alloc: Global,
     file: &FileNames,

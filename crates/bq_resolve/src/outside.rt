@@ -1,17 +1,17 @@
 //! What stands outside functions.
 
 ghost use Rattle.std.specs.Prelude.{[]};
-ghost use Rattle.bq_grammar.specs.declared.tree.Stmt.{out-Stmt};
-ghost use Rattle.bq_scope.specs.Visit as visit;
-ghost use Rattle.bq_scope.specs.Files as files;
+ghost use Rattle.bq_parse_grammar.specs.declared.tree.Stmt.{out-Stmt};
+ghost use Rattle.bq_resolve_scope.specs.Visit as visit;
+ghost use Rattle.bq_resolve_scope.specs.Files as files;
 ghost use Rattle.bq_resolve_expression.specs.Walks.{Walks};
 
 use crate::functions::def_stmt;
 use crate::small::{line, misplaced};
 use bq_base::SourceErr;
-use bq_grammar::{Stmt, TopLevel};
+use bq_parse_grammar::{Stmt, TopLevel};
 use bq_resolve_expression::Walk;
-use bq_scope::{CodeTopLevel, FileNames, FileStmt};
+use bq_resolve_scope::{CodeTopLevel, FileNames, FileStmt};
 use sqlite_items::Items;
 use std::alloc::Global;
 
@@ -44,7 +44,7 @@ fn file_stmt(
     }
 }
 
-#[tactic(auto, unfolding(bq_scope::specs::Files::top_level))]
+#[tactic(auto, unfolding(bq_resolve_scope::specs::Files::top_level))]
 fn top_level(
     alloc: Global,
     file: &FileNames,
@@ -59,7 +59,7 @@ fn top_level(
 }
 
 /// The top-level statements of a file.
-#[tactic(auto, unfolding(bq_scope::specs::Visit::each))]
+#[tactic(auto, unfolding(bq_resolve_scope::specs::Visit::each))]
 pub fn top_levels(
     alloc: Global,
     file: &FileNames,

@@ -3,16 +3,16 @@
 ghost use Rattle.std.specs.Prelude.{◌≡◌};
 ghost use Rattle.bq_base.specs.Gives.{Gives};
 ghost use Rattle.bq_base.specs.declared.fault.SourceErr.TheVariants.{Bad};
-ghost use Rattle.bq_scope.specs.Scope.{FileParts};
-ghost use Rattle.bq_scope.specs.Visit.{Passed};
-ghost use Rattle.bq_scope.specs.Statements as spec;
+ghost use Rattle.bq_resolve_scope.specs.Scope.{FileParts};
+ghost use Rattle.bq_resolve_scope.specs.Visit.{Passed};
+ghost use Rattle.bq_resolve_scope.specs.Statements as spec;
 ghost use Rattle.bq_resolve_expression.specs.Walks.{Walks};
 
 use crate::expressions::expr;
 use bq_base::{FaultKind, SourceErr};
-use bq_grammar::{Expr, Identifier, Parameter};
+use bq_parse_grammar::{Expr, Identifier, Parameter};
 use bq_resolve_expression::{Walk, fault_of};
-use bq_scope::{Code, CodeParameter, FileNames, Names};
+use bq_resolve_scope::{Code, CodeParameter, FileNames, Names};
 use sqlite_items::Items;
 use std::alloc::Global;
 use std::marker::Model;
@@ -26,8 +26,8 @@ pub struct ParameterList {
 }
 
 impl Model for ParameterList {
-    ghost use Rattle.bq_scope.specs.Statements.{ParameterParts};
-    ghost use Rattle.bq_scope.specs.contracts.code.Code as code;
+    ghost use Rattle.bq_resolve_scope.specs.Statements.{ParameterParts};
+    ghost use Rattle.bq_resolve_scope.specs.contracts.code.Code as code;
     ghost use Rattle.std.specs.Coded.{codes};
 
     ghost Value = { ParameterParts };
@@ -62,7 +62,7 @@ impl ParameterList {
     }
 
     /// Adds a parameter of a name, which no other has: else F24.
-    #[tactic(auto, unfolding(bq_scope::specs::Statements::named_parameter, bq_scope::specs::Names::with_name))]
+    #[tactic(auto, unfolding(bq_resolve_scope::specs::Statements::named_parameter, bq_resolve_scope::specs::Names::with_name))]
     fn add_named(&mut self, name: &Identifier, parameter: CodeParameter) -> Result<(), SourceErr>
         ensures { (file : FileParts) (s : Passed) → Gives (λ _. (self.new, s)) Bad result (spec.named_parameter file self.old name.now parameter s) }
     {
@@ -75,7 +75,7 @@ impl ParameterList {
     }
 
     /// Adds a parameter that has a default, which lies outside the function.
-    #[tactic(auto, unfolding(bq_scope::specs::Statements::default_parameter))]
+    #[tactic(auto, unfolding(bq_resolve_scope::specs::Statements::default_parameter))]
     fn add_default(
         &mut self,
         alloc: Global,
@@ -94,7 +94,7 @@ impl ParameterList {
     }
 
     /// Adds a parameter.
-    #[tactic(auto, unfolding(bq_scope::specs::Statements::next_parameter))]
+    #[tactic(auto, unfolding(bq_resolve_scope::specs::Statements::next_parameter))]
     fn add(
         &mut self,
         alloc: Global,
@@ -121,7 +121,7 @@ impl ParameterList {
     }
 
     /// Adds all of these.
-    #[tactic(auto, unfolding(bq_scope::specs::Statements::parameters))]
+    #[tactic(auto, unfolding(bq_resolve_scope::specs::Statements::parameters))]
     fn add_all(
         &mut self,
         alloc: Global,

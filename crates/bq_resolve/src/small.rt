@@ -1,19 +1,19 @@
 //! Statements without a block.
 
 ghost use Rattle.std.specs.Prelude.{[]};
-ghost use Rattle.bq_scope.specs.declared.code.CodeSmall.TheVariants as code;
-ghost use Rattle.bq_scope.specs.Scope.{FileParts};
-ghost use Rattle.bq_scope.specs.Visit.{Passed};
-ghost use Rattle.bq_scope.specs.Visit as visit;
-ghost use Rattle.bq_scope.specs.Statements as spec;
+ghost use Rattle.bq_resolve_scope.specs.declared.code.CodeSmall.TheVariants as code;
+ghost use Rattle.bq_resolve_scope.specs.Scope.{FileParts};
+ghost use Rattle.bq_resolve_scope.specs.Visit.{Passed};
+ghost use Rattle.bq_resolve_scope.specs.Visit as visit;
+ghost use Rattle.bq_resolve_scope.specs.Statements as spec;
 ghost use Rattle.bq_resolve_expression.specs.Walks.{Walks};
 
 use crate::expressions::{expr, target};
 use crate::load::load;
 use bq_base::{Fault, FaultKind, SourceErr};
-use bq_grammar::{AssignTarget, Expr, Load, Operator, SmallKind, SmallStmt};
+use bq_parse_grammar::{AssignTarget, Expr, Load, Operator, SmallKind, SmallStmt};
 use bq_resolve_expression::Walk;
-use bq_scope::{Block, CodeSmall, FileNames};
+use bq_resolve_scope::{Block, CodeSmall, FileNames};
 use sqlite_items::{Boxed, Items};
 use std::alloc::Global;
 
@@ -25,7 +25,7 @@ pub fn misplaced<T>(line: u32) -> Result<T, SourceErr>
 }
 
 /// `break`, which is allowed in loops alone.
-#[tactic(auto, unfolding(bq_scope::specs::Statements::in_loop))]
+#[tactic(auto, unfolding(bq_resolve_scope::specs::Statements::in_loop))]
 fn break_stmt(looping: bool, line: u32) -> Result<CodeSmall, SourceErr>
     ensures { (file : FileParts) (s : Passed) → Walks (spec.in_loop file looping line code.Break s) result s }
 {
@@ -36,7 +36,7 @@ fn break_stmt(looping: bool, line: u32) -> Result<CodeSmall, SourceErr>
 }
 
 /// `continue`, which is allowed in loops alone.
-#[tactic(auto, unfolding(bq_scope::specs::Statements::in_loop))]
+#[tactic(auto, unfolding(bq_resolve_scope::specs::Statements::in_loop))]
 fn continue_stmt(looping: bool, line: u32) -> Result<CodeSmall, SourceErr>
     ensures { (file : FileParts) (s : Passed) → Walks (spec.in_loop file looping line code.Continue s) result s }
 {
@@ -47,7 +47,7 @@ fn continue_stmt(looping: bool, line: u32) -> Result<CodeSmall, SourceErr>
 }
 
 /// A `load`, which is allowed outside functions alone.
-#[tactic(auto, unfolding(bq_scope::specs::Statements::load_in))]
+#[tactic(auto, unfolding(bq_resolve_scope::specs::Statements::load_in))]
 fn load_in(
     alloc: Global,
     file: &FileNames,
@@ -65,7 +65,7 @@ fn load_in(
 }
 
 /// `target = value`: the target comes first.
-#[tactic(auto, unfolding(bq_scope::specs::Statements::assign))]
+#[tactic(auto, unfolding(bq_resolve_scope::specs::Statements::assign))]
 fn assign(
     alloc: Global,
     file: &FileNames,
@@ -83,7 +83,7 @@ fn assign(
 }
 
 /// `target += value`
-#[tactic(auto, unfolding(bq_scope::specs::Statements::augment))]
+#[tactic(auto, unfolding(bq_resolve_scope::specs::Statements::augment))]
 fn augment(
     alloc: Global,
     file: &FileNames,
@@ -102,7 +102,7 @@ fn augment(
 }
 
 /// `return`, which is allowed in functions alone.
-#[tactic(auto, unfolding(bq_scope::specs::Statements::returned))]
+#[tactic(auto, unfolding(bq_resolve_scope::specs::Statements::returned))]
 fn returned(
     alloc: Global,
     file: &FileNames,
@@ -123,7 +123,7 @@ fn returned(
 }
 
 /// A small statement; `looping` inside a `for` of the function.
-#[tactic(auto, unfolding(bq_scope::specs::Statements::small_stmt))]
+#[tactic(auto, unfolding(bq_resolve_scope::specs::Statements::small_stmt))]
 pub fn small_stmt(
     alloc: Global,
     file: &FileNames,
@@ -150,7 +150,7 @@ pub fn small_stmt(
 }
 
 /// The small statements of one logical line.
-#[tactic(auto, unfolding(bq_scope::specs::Visit::each))]
+#[tactic(auto, unfolding(bq_resolve_scope::specs::Visit::each))]
 pub fn line(
     alloc: Global,
     file: &FileNames,

@@ -1,13 +1,13 @@
 //! Statements of functions, with the resolver of those in blocks.
 
-ghost use Rattle.bq_scope.specs.Statements as spec;
+ghost use Rattle.bq_resolve_scope.specs.Statements as spec;
 ghost use Rattle.bq_resolve_expression.specs.Walks.{Walks};
 
 use crate::blocks::BlockResolver;
 use bq_base::{Fault, FaultKind, SourceErr};
-use bq_grammar::Stmt;
+use bq_parse_grammar::Stmt;
 use bq_resolve_expression::Walk;
-use bq_scope::{Block, CodeStmt, FileNames};
+use bq_resolve_scope::{Block, CodeStmt, FileNames};
 use std::alloc::Global;
 
 /// A statement of a function that is no deeper than so many layers; `looping` inside a `for` of the function.

@@ -1,7 +1,7 @@
 -- What a part of a tree resolves to by its form, also where the parts of the form are borrowed.
 use Rattle.std.proofs.Common.{◌≡◌, ◌∙◌, Result, sym, ap, subst}
 use Rattle.bq_base.specs.declared.fault.SourceErr.{SourceErr}
-use Rattle.bq_scope.specs.Visit.{Passed, Visit}
+use Rattle.bq_resolve_scope.specs.Visit.{Passed, Visit}
 use Rattle.bq_resolve_expression.specs.Walks.{Walks}
 
 module _ {X L R : Type 0} (out : X → L) (by : L → Visit R) (x : X) (s new : Passed) (r : Result R SourceErr) where

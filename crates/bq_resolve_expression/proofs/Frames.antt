@@ -2,10 +2,10 @@
 use Rattle.std.proofs.Common.{◌≡◌, true, false, List, [], ◌∷◌, length, Result, arith}
 use Rattle.std.specs.Bool.{◌==◌}
 use Rattle.bq_base.specs.declared.fault.SourceErr.{SourceErr}
-use Rattle.bq_scope.specs.declared.code.Code.{Code}
-use Rattle.bq_scope.specs.Scope.{BlockParts}
-use Rattle.bq_scope.specs.Visit.{Passed, Visit}
-use Rattle.bq_scope.specs.Expressions.{framed, in_frame}
+use Rattle.bq_resolve_scope.specs.declared.code.Code.{Code}
+use Rattle.bq_resolve_scope.specs.Scope.{BlockParts}
+use Rattle.bq_resolve_scope.specs.Visit.{Passed, Visit}
+use Rattle.bq_resolve_scope.specs.Expressions.{framed, in_frame}
 use Rattle.bq_resolve_expression.specs.Walks.{Walks}
 
 -- inside a block it is the frame that is open

@@ -2,13 +2,13 @@
 use Rattle.std.proofs.Common.{◌≡◌, ◌-◌, ◌<◌, ℕ, zero, suc, List, Result, refl, sym, subst, arith}
 use Rattle.bq_base.specs.declared.fault.Fault.{Fault}
 use Rattle.bq_base.specs.declared.fault.SourceErr.{SourceErr}
-use Rattle.bq_grammar.specs.declared.tree.AssignTarget.{AssignTarget, out-AssignTarget}
-use Rattle.bq_grammar.specs.declared.tree.Expr.{Expr, out-Expr}
-use Rattle.bq_scope.specs.declared.code.Code.{Code}
-use Rattle.bq_scope.specs.declared.code.CodeTarget.{CodeTarget}
-use Rattle.bq_scope.specs.Scope.{BlockParts, FileParts}
-use Rattle.bq_scope.specs.Visit.{Passed, Visit}
-use Rattle.bq_scope.specs.Expressions.{target_by, target_to, expr_by, expr_to}
+use Rattle.bq_parse_grammar.specs.declared.tree.AssignTarget.{AssignTarget, out-AssignTarget}
+use Rattle.bq_parse_grammar.specs.declared.tree.Expr.{Expr, out-Expr}
+use Rattle.bq_resolve_scope.specs.declared.code.Code.{Code}
+use Rattle.bq_resolve_scope.specs.declared.code.CodeTarget.{CodeTarget}
+use Rattle.bq_resolve_scope.specs.Scope.{BlockParts, FileParts}
+use Rattle.bq_resolve_scope.specs.Visit.{Passed, Visit}
+use Rattle.bq_resolve_scope.specs.Expressions.{target_by, target_to, expr_by, expr_to}
 use Rattle.bq_resolve_expression.specs.Walks.{Walks}
 
 pub code_target_layer : (file : FileParts) (visit : List BlockParts → Expr → Visit Code) (layers : ℕ) (blocks : List BlockParts) (t : AssignTarget) (s : Passed) → (layers ≡ 0 → ⊥)

@@ -3,7 +3,7 @@ use Rattle.std.proofs.Common.{◌≡◌, ◌∙◌, Result, Ok, Err, MatchResult
 use Rattle.std.specs.Result.{IsOkAnd}
 use Rattle.bq_base.specs.declared.fault.Fault.{Fault}
 use Rattle.bq_base.specs.declared.fault.SourceErr.{SourceErr}
-use Rattle.bq_scope.specs.Visit.{Passed, following, pure}
+use Rattle.bq_resolve_scope.specs.Visit.{Passed, following, pure}
 use Rattle.bq_resolve_expression.specs.Walks.{Walks}
 
 pub mapped : {A B : Type 0} (make : A → B) (found : Result (A × Passed) Fault) (new : Passed) (r : Result A SourceErr) (q : Result B SourceErr)

@@ -6,11 +6,11 @@ use Rattle.bq_base.specs.declared.fault.Fault.{Fault}
 use Rattle.bq_base.specs.declared.fault.SourceErr.{SourceErr}
 use Rattle.bq_base.specs.declared.fault.SourceErr.TheVariants.{Bad}
 use Rattle.bq_base.specs.Gives.{Gives}
-use Rattle.bq_grammar.specs.declared.tree.Expr.{Expr}
-use Rattle.bq_scope.specs.declared.code.Code.{Code}
-use Rattle.bq_scope.specs.Scope.{BlockParts, FileParts}
-use Rattle.bq_scope.specs.Visit.{Passed}
-use Rattle.bq_scope.specs.Expressions.{expr_to}
+use Rattle.bq_parse_grammar.specs.declared.tree.Expr.{Expr}
+use Rattle.bq_resolve_scope.specs.declared.code.Code.{Code}
+use Rattle.bq_resolve_scope.specs.Scope.{BlockParts, FileParts}
+use Rattle.bq_resolve_scope.specs.Visit.{Passed}
+use Rattle.bq_resolve_scope.specs.Expressions.{expr_to}
 
 -- what the definition gives, and what was passed then
 abbrev pub Walks : {A : Type 0} → Result (A × Passed) Fault → Result A SourceErr → Passed → Type 0

@@ -1,17 +1,17 @@
 //! Comprehensions.
 
 ghost use Rattle.std.specs.Prelude.{◌≡◌, Ok};
-ghost use Rattle.bq_grammar.specs.declared.tree.Clause.{out-Clause};
-ghost use Rattle.bq_scope.specs.declared.code.Code.TheVariants as code;
-ghost use Rattle.bq_scope.specs.Visit as visit;
-ghost use Rattle.bq_scope.specs.Expressions as spec;
+ghost use Rattle.bq_parse_grammar.specs.declared.tree.Clause.{out-Clause};
+ghost use Rattle.bq_resolve_scope.specs.declared.code.Code.TheVariants as code;
+ghost use Rattle.bq_resolve_scope.specs.Visit as visit;
+ghost use Rattle.bq_resolve_scope.specs.Expressions as spec;
 ghost use Rattle.bq_resolve_expression.specs.Walks.{Walks, WalksNested};
 
 use crate::rules::Rules;
 use crate::walk::Walk;
 use bq_base::SourceErr;
-use bq_grammar::{Clause, Expr, Pair};
-use bq_scope::{Block, Code, CodeClause, FileNames, MAX_LAYERS, comprehension_names};
+use bq_parse_grammar::{Clause, Expr, Pair};
+use bq_resolve_scope::{Block, Code, CodeClause, FileNames, MAX_LAYERS, comprehension_names};
 use sqlite_items::{Boxed, Items};
 use std::alloc::Global;
 
@@ -27,7 +27,7 @@ impl<F: Fn(Global, &FileNames, usize, &[Block], &mut Walk, &Expr) -> Result<Code
     F,
 > {
     /// A clause: its iterable is resolved among the blocks `round`, all else among `blocks`.
-    #[tactic(auto, unfolding(bq_scope::specs::Names::max_layers))]
+    #[tactic(auto, unfolding(bq_resolve_scope::specs::Names::max_layers))]
     fn clause(
         &self,
         file: &FileNames,
@@ -51,7 +51,7 @@ impl<F: Fn(Global, &FileNames, usize, &[Block], &mut Walk, &Expr) -> Result<Code
     }
 
     /// The clauses done, and all of these, which lie inside.
-    #[tactic(auto, unfolding(bq_scope::specs::Visit::each))]
+    #[tactic(auto, unfolding(bq_resolve_scope::specs::Visit::each))]
     fn further_clauses(
         &self,
         file: &FileNames,
@@ -70,7 +70,7 @@ impl<F: Fn(Global, &FileNames, usize, &[Block], &mut Walk, &Expr) -> Result<Code
     }
 
     /// The clauses of a comprehension: its first iterable lies outside it.
-    #[tactic(auto, unfolding(bq_scope::specs::Expressions::clauses))]
+    #[tactic(auto, unfolding(bq_resolve_scope::specs::Expressions::clauses))]
     fn clauses(
         &self,
         file: &FileNames,
@@ -91,7 +91,7 @@ impl<F: Fn(Global, &FileNames, usize, &[Block], &mut Walk, &Expr) -> Result<Code
     }
 
     /// `[element for .. in ..]`, in the frame that is open.
-    #[tactic(auto, unfolding(bq_scope::specs::Expressions::in_block))]
+    #[tactic(auto, unfolding(bq_resolve_scope::specs::Expressions::in_block))]
     fn list_in_block(
         &self,
         file: &FileNames,
@@ -111,7 +111,7 @@ impl<F: Fn(Global, &FileNames, usize, &[Block], &mut Walk, &Expr) -> Result<Code
     }
 
     /// `[element for .. in ..]`
-    #[tactic(auto, unfolding(bq_scope::specs::Expressions::comprehension))]
+    #[tactic(auto, unfolding(bq_resolve_scope::specs::Expressions::comprehension))]
     pub fn list_comprehension(
         &self,
         file: &FileNames,
@@ -132,7 +132,7 @@ impl<F: Fn(Global, &FileNames, usize, &[Block], &mut Walk, &Expr) -> Result<Code
     }
 
     /// `{key: value for .. in ..}`, in the frame that is open.
-    #[tactic(auto, unfolding(bq_scope::specs::Expressions::in_block))]
+    #[tactic(auto, unfolding(bq_resolve_scope::specs::Expressions::in_block))]
     fn dict_in_block(
         &self,
         file: &FileNames,
@@ -153,7 +153,7 @@ impl<F: Fn(Global, &FileNames, usize, &[Block], &mut Walk, &Expr) -> Result<Code
     }
 
     /// `{key: value for .. in ..}`
-    #[tactic(auto, unfolding(bq_scope::specs::Expressions::comprehension))]
+    #[tactic(auto, unfolding(bq_resolve_scope::specs::Expressions::comprehension))]
     pub fn dict_comprehension(
         &self,
         file: &FileNames,

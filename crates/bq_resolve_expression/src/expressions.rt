@@ -1,16 +1,16 @@
 //! All forms of expressions, with the resolver of those inside.
 
-ghost use Rattle.bq_grammar.specs.declared.tree.Argument.TheOpen.{Expr-F};
-ghost use Rattle.bq_grammar.specs.declared.tree.Expr.{out-Expr};
-ghost use Rattle.bq_scope.specs.Expressions as spec;
+ghost use Rattle.bq_parse_grammar.specs.declared.tree.Argument.TheOpen.{Expr-F};
+ghost use Rattle.bq_parse_grammar.specs.declared.tree.Expr.{out-Expr};
+ghost use Rattle.bq_resolve_scope.specs.Expressions as spec;
 ghost use Rattle.bq_resolve_expression.specs.Walks.{Walks, WalksNested};
 
 use crate::identifier::use_at;
 use crate::rules::Rules;
 use crate::walk::Walk;
 use bq_base::{Fault, FaultKind, SourceErr};
-use bq_grammar::{Choice, Comparison, Expr, Operation, UnaryOperator};
-use bq_scope::{Block, Code, FileNames};
+use bq_parse_grammar::{Choice, Comparison, Expr, Operation, UnaryOperator};
+use bq_resolve_scope::{Block, Code, FileNames};
 use sqlite_items::Items;
 use std::alloc::Global;
 
@@ -134,7 +134,7 @@ impl<F: Fn(Global, &FileNames, usize, &[Block], &mut Walk, &Expr) -> Result<Code
 }
 
 /// An expression that is no deeper than so many layers.
-#[tactic(auto, using(crate::proofs::Layers::expr_layer), unfolding(bq_scope::specs::Expressions::expr_to))]
+#[tactic(auto, using(crate::proofs::Layers::expr_layer), unfolding(bq_resolve_scope::specs::Expressions::expr_to))]
 pub fn expr_to(
     alloc: Global,
     file: &FileNames,

@@ -3,14 +3,14 @@
 ghost use Rattle.std.specs.Prelude.{◌≡◌, IfOk};
 ghost use Rattle.bq_base.specs.declared.fault.Fault.{Fault};
 ghost use Rattle.bq_base.specs.declared.fault.SourceErr.TheVariants.{Bad};
-ghost use Rattle.bq_scope.specs.Visit.{Passed, fault_of};
-ghost use Rattle.bq_scope.specs.Expressions as spec;
+ghost use Rattle.bq_resolve_scope.specs.Visit.{Passed, fault_of};
+ghost use Rattle.bq_resolve_scope.specs.Expressions as spec;
 ghost use Rattle.bq_resolve_expression.specs.Walks.{Walks};
 
 use crate::walk::Walk;
 use bq_base::{Fault, FaultKind, SourceErr};
-use bq_grammar::{FileKind, Identifier};
-use bq_scope::{Binding, Block, CodeTarget, FileNames};
+use bq_parse_grammar::{FileKind, Identifier};
+use bq_resolve_scope::{Binding, Block, CodeTarget, FileNames};
 use std::alloc::AllocError;
 
 /// A fault at a name.
@@ -25,7 +25,7 @@ pub fn fault_of(kind: FaultKind, name: &Identifier) -> Result<Fault, AllocError>
 }
 
 /// The use of a name: of the innermost block that holds it, else F20.
-#[tactic(auto, unfolding(bq_scope::specs::Expressions::use_at))]
+#[tactic(auto, unfolding(bq_resolve_scope::specs::Expressions::use_at))]
 pub fn use_at(file: &FileNames, blocks: &[Block], name: &Identifier) -> Result<Binding, SourceErr>
     ensures { (s : Passed) → Walks (spec.use_at file.now blocks.now name.now s) result s }
 {
@@ -47,7 +47,7 @@ fn place_of(binding: Option<Binding>) -> Option<CodeTarget>
 }
 
 /// Binds a name of the file, which in a .bzl file is not bound before.
-#[tactic(auto, unfolding(bq_scope::specs::Expressions::bind_global))]
+#[tactic(auto, unfolding(bq_resolve_scope::specs::Expressions::bind_global))]
 fn bind_global(kind: FileKind, walk: &mut Walk, name: &Identifier) -> Result<(), SourceErr>
     ensures { Walks (spec.bind_global kind name.now walk.old) result walk.new }
 {
@@ -74,7 +74,7 @@ fn bind_in(
 }
 
 /// A name that is bound: its block holds it.
-#[tactic(auto, unfolding(bq_scope::specs::Expressions::name_target))]
+#[tactic(auto, unfolding(bq_resolve_scope::specs::Expressions::name_target))]
 pub fn name_target(
     file: &FileNames,
     blocks: &[Block],

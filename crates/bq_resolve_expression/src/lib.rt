@@ -1,8 +1,8 @@
 //! The trees of expressions and targets come in; trees in which each use of a name says where its value is go out, or the first
 //! fault in the order of the text, F20 or F21.
 //!
-//! The promise: each rule answers just what the definition of its name in `bq_scope` (`specs/Expressions.antt`) gives, out of memory
-//! aside. The head of `bq_scope` says what scopes are.
+//! The promise: each rule answers just what the definition of its name in `bq_resolve_scope` (`specs/Expressions.antt`) gives, out of
+//! memory aside. The head of `bq_resolve_scope` says what scopes are.
 //!
 //! What a contract sees: a [`Walk`] is what was passed so far (`Passed`): the slots of the frame, the names that the file bound and
 //! loaded, its functions and its loads. So a rule says in one line what it makes of `walk.old`, and that `walk.new` is what was

@@ -1,9 +1,9 @@
 //! An operand with what is done to it, among them `native.NAME(..)` and `attr.NAME(..)`.
 
 ghost use Rattle.std.specs.Prelude.{◌≡◌, [], ◌∷◌, IfOk};
-ghost use Rattle.bq_grammar.specs.declared.tree.Expr.{out-Expr};
-ghost use Rattle.bq_scope.specs.declared.code.CodeSuffix.TheVariants as suffix;
-ghost use Rattle.bq_scope.specs.Expressions as spec;
+ghost use Rattle.bq_parse_grammar.specs.declared.tree.Expr.{out-Expr};
+ghost use Rattle.bq_resolve_scope.specs.declared.code.CodeSuffix.TheVariants as suffix;
+ghost use Rattle.bq_resolve_scope.specs.Expressions as spec;
 ghost use Rattle.bq_resolve_expression.specs.Walks.{Walks, WalksNested};
 
 use crate::identifier::fault_of;
@@ -11,8 +11,8 @@ use crate::room::with_room;
 use crate::rules::Rules;
 use crate::walk::Walk;
 use bq_base::{FaultKind, SourceErr};
-use bq_grammar::{Argument, Expr, FileKind, Identifier, Suffix};
-use bq_scope::{Block, Code, CodeArgument, CodeSuffix, FileNames, Namespace};
+use bq_parse_grammar::{Argument, Expr, FileKind, Identifier, Suffix};
+use bq_resolve_scope::{Block, Code, CodeArgument, CodeSuffix, FileNames, Namespace};
 use sqlite_items::{Boxed, Items};
 use std::alloc::{AllocError, Global};
 
@@ -55,7 +55,7 @@ impl<F: Fn(Global, &FileNames, usize, &[Block], &mut Walk, &Expr) -> Result<Code
     F,
 > {
     /// `native.name(arguments)` or `attr.name(arguments)`, and what is done to its result.
-    #[tactic(auto, unfolding(bq_scope::specs::Expressions::call_member))]
+    #[tactic(auto, unfolding(bq_resolve_scope::specs::Expressions::call_member))]
     fn call_member(
         &self,
         file: &FileNames,
@@ -79,7 +79,7 @@ impl<F: Fn(Global, &FileNames, usize, &[Block], &mut Walk, &Expr) -> Result<Code
     }
 
     /// An operand, and what is done to it.
-    #[tactic(auto, unfolding(bq_scope::specs::Expressions::operand))]
+    #[tactic(auto, unfolding(bq_resolve_scope::specs::Expressions::operand))]
     fn operand(
         &self,
         file: &FileNames,
@@ -98,7 +98,7 @@ impl<F: Fn(Global, &FileNames, usize, &[Block], &mut Walk, &Expr) -> Result<Code
 
     /// An operand, and what is done to it: `native.name(..)` is the build function or rule `name`, `attr.name(..)` the function that
     /// makes an attribute, else F20 at `name`.
-    #[tactic(auto, unfolding(bq_scope::specs::Expressions::primary))]
+    #[tactic(auto, unfolding(bq_resolve_scope::specs::Expressions::primary))]
     pub fn primary(
         &self,
         file: &FileNames,

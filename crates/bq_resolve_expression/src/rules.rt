@@ -1,15 +1,15 @@
 //! The rules of expressions take the resolver of those inside as a parameter, so that each rule is proved by itself.
 
 ghost use Rattle.std.specs.Prelude.{[]};
-ghost use Rattle.bq_scope.specs.Visit as visit;
-ghost use Rattle.bq_scope.specs.Expressions as spec;
+ghost use Rattle.bq_resolve_scope.specs.Visit as visit;
+ghost use Rattle.bq_resolve_scope.specs.Expressions as spec;
 ghost use Rattle.bq_resolve_expression.specs.Walks.{Walks, WalksNested};
 
 use crate::room::with_room;
 use crate::walk::Walk;
 use bq_base::SourceErr;
-use bq_grammar::{Choice, Expr, Operation, Pair};
-use bq_scope::{Block, Code, CodeChoice, CodeOperation, CodePair, FileNames};
+use bq_parse_grammar::{Choice, Expr, Operation, Pair};
+use bq_resolve_scope::{Block, Code, CodeChoice, CodeOperation, CodePair, FileNames};
 use sqlite_items::{Boxed, Items};
 use std::alloc::Global;
 
@@ -54,7 +54,7 @@ impl<F: Fn(Global, &FileNames, usize, &[Block], &mut Walk, &Expr) -> Result<Code
     }
 
     /// Expressions, one after another.
-    #[tactic(auto, unfolding(bq_scope::specs::Visit::each))]
+    #[tactic(auto, unfolding(bq_resolve_scope::specs::Visit::each))]
     pub fn exprs(
         &self,
         file: &FileNames,
@@ -73,7 +73,7 @@ impl<F: Fn(Global, &FileNames, usize, &[Block], &mut Walk, &Expr) -> Result<Code
     }
 
     /// `key: value`
-    #[tactic(auto, unfolding(bq_scope::specs::Expressions::pair))]
+    #[tactic(auto, unfolding(bq_resolve_scope::specs::Expressions::pair))]
     pub fn pair(
         &self,
         file: &FileNames,
@@ -93,7 +93,7 @@ impl<F: Fn(Global, &FileNames, usize, &[Block], &mut Walk, &Expr) -> Result<Code
     }
 
     /// A further operand of a chain.
-    #[tactic(auto, unfolding(bq_scope::specs::Expressions::operation))]
+    #[tactic(auto, unfolding(bq_resolve_scope::specs::Expressions::operation))]
     fn operation(
         &self,
         file: &FileNames,
@@ -111,7 +111,7 @@ impl<F: Fn(Global, &FileNames, usize, &[Block], &mut Walk, &Expr) -> Result<Code
         })
     }
 
-    #[tactic(auto, unfolding(bq_scope::specs::Visit::each))]
+    #[tactic(auto, unfolding(bq_resolve_scope::specs::Visit::each))]
     pub fn operations(
         &self,
         file: &FileNames,
@@ -129,7 +129,7 @@ impl<F: Fn(Global, &FileNames, usize, &[Block], &mut Walk, &Expr) -> Result<Code
         Ok(done)
     }
 
-    #[tactic(auto, unfolding(bq_scope::specs::Visit::each))]
+    #[tactic(auto, unfolding(bq_resolve_scope::specs::Visit::each))]
     pub fn pairs(
         &self,
         file: &FileNames,
@@ -148,7 +148,7 @@ impl<F: Fn(Global, &FileNames, usize, &[Block], &mut Walk, &Expr) -> Result<Code
     }
 
     /// `value if condition`: the value stands before the condition.
-    #[tactic(auto, unfolding(bq_scope::specs::Expressions::choice))]
+    #[tactic(auto, unfolding(bq_resolve_scope::specs::Expressions::choice))]
     fn choice(
         &self,
         file: &FileNames,
@@ -167,7 +167,7 @@ impl<F: Fn(Global, &FileNames, usize, &[Block], &mut Walk, &Expr) -> Result<Code
         })
     }
 
-    #[tactic(auto, unfolding(bq_scope::specs::Visit::each))]
+    #[tactic(auto, unfolding(bq_resolve_scope::specs::Visit::each))]
     pub fn choices(
         &self,
         file: &FileNames,

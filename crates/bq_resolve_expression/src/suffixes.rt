@@ -1,18 +1,18 @@
 //! Operands, and what is done to them.
 
-ghost use Rattle.bq_grammar.specs.declared.tree.Argument.{out-Argument};
-ghost use Rattle.bq_grammar.specs.declared.tree.Argument.TheOpen.{Argument-F, Suffix-F};
-ghost use Rattle.bq_grammar.specs.declared.tree.Suffix.{out-Suffix};
-ghost use Rattle.bq_scope.specs.Visit as visit;
-ghost use Rattle.bq_scope.specs.Expressions as spec;
+ghost use Rattle.bq_parse_grammar.specs.declared.tree.Argument.{out-Argument};
+ghost use Rattle.bq_parse_grammar.specs.declared.tree.Argument.TheOpen.{Argument-F, Suffix-F};
+ghost use Rattle.bq_parse_grammar.specs.declared.tree.Suffix.{out-Suffix};
+ghost use Rattle.bq_resolve_scope.specs.Visit as visit;
+ghost use Rattle.bq_resolve_scope.specs.Expressions as spec;
 ghost use Rattle.bq_resolve_expression.specs.Walks.{Walks, WalksNested};
 
 use crate::room::with_room;
 use crate::rules::Rules;
 use crate::walk::Walk;
 use bq_base::{Bytes, SourceErr};
-use bq_grammar::{Argument, Expr, Identifier, Suffix};
-use bq_scope::{Block, Code, CodeArgument, CodeSuffix, FileNames};
+use bq_parse_grammar::{Argument, Expr, Identifier, Suffix};
+use bq_resolve_scope::{Block, Code, CodeArgument, CodeSuffix, FileNames};
 use sqlite_items::{Boxed, Items};
 use std::alloc::Global;
 
@@ -59,7 +59,7 @@ impl<F: Fn(Global, &FileNames, usize, &[Block], &mut Walk, &Expr) -> Result<Code
         }
     }
 
-    #[tactic(auto, unfolding(bq_scope::specs::Expressions::arguments, bq_scope::specs::Visit::each))]
+    #[tactic(auto, unfolding(bq_resolve_scope::specs::Expressions::arguments, bq_resolve_scope::specs::Visit::each))]
     pub fn arguments(
         &self,
         file: &FileNames,
@@ -156,7 +156,7 @@ impl<F: Fn(Global, &FileNames, usize, &[Block], &mut Walk, &Expr) -> Result<Code
     }
 
     /// The suffixes done, and all of these.
-    #[tactic(auto, unfolding(bq_scope::specs::Expressions::suffixes, bq_scope::specs::Visit::each))]
+    #[tactic(auto, unfolding(bq_resolve_scope::specs::Expressions::suffixes, bq_resolve_scope::specs::Visit::each))]
     pub fn suffixes(
         &self,
         file: &FileNames,

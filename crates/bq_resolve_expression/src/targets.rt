@@ -1,11 +1,11 @@
 //! Targets of assignments and loops.
 
 ghost use Rattle.std.specs.Prelude.{[]};
-ghost use Rattle.bq_grammar.specs.declared.tree.Argument.TheOpen.{AssignTarget-F};
-ghost use Rattle.bq_grammar.specs.declared.tree.AssignTarget.{AssignTarget};
-ghost use Rattle.bq_scope.specs.declared.code.CodeTarget.{CodeTarget};
-ghost use Rattle.bq_scope.specs.Visit as visit;
-ghost use Rattle.bq_scope.specs.Expressions as spec;
+ghost use Rattle.bq_parse_grammar.specs.declared.tree.Argument.TheOpen.{AssignTarget-F};
+ghost use Rattle.bq_parse_grammar.specs.declared.tree.AssignTarget.{AssignTarget};
+ghost use Rattle.bq_resolve_scope.specs.declared.code.CodeTarget.{CodeTarget};
+ghost use Rattle.bq_resolve_scope.specs.Visit as visit;
+ghost use Rattle.bq_resolve_scope.specs.Expressions as spec;
 ghost use Rattle.bq_resolve_expression.specs.Walks.{Walks, WalksNested};
 
 use crate::identifier::name_target;
@@ -13,8 +13,8 @@ use crate::room::with_room;
 use crate::rules::Rules;
 use crate::walk::Walk;
 use bq_base::{Fault, FaultKind, SourceErr};
-use bq_grammar::{AssignTarget, Expr};
-use bq_scope::{Block, Code, CodeTarget, FileNames};
+use bq_parse_grammar::{AssignTarget, Expr};
+use bq_resolve_scope::{Block, Code, CodeTarget, FileNames};
 use sqlite_items::Items;
 use std::alloc::Global;
 
@@ -39,7 +39,7 @@ impl<F: Fn(Global, &FileNames, usize, &[Block], &mut Walk, &Expr) -> Result<Code
     }
 
     #[cycle(targets)]
-    #[tactic(auto, unfolding(bq_scope::specs::Visit::each))]
+    #[tactic(auto, unfolding(bq_resolve_scope::specs::Visit::each))]
     fn targets_to(
         &self,
         file: &FileNames,
@@ -60,7 +60,7 @@ impl<F: Fn(Global, &FileNames, usize, &[Block], &mut Walk, &Expr) -> Result<Code
 
     /// A target that is no deeper than so many layers.
     #[cycle(targets)]
-    #[tactic(auto, using(crate::proofs::Layers::code_target_layer), unfolding(bq_scope::specs::Expressions::target_to))]
+    #[tactic(auto, using(crate::proofs::Layers::code_target_layer), unfolding(bq_resolve_scope::specs::Expressions::target_to))]
     pub fn target_to(
         &self,
         file: &FileNames,

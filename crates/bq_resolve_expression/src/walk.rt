@@ -1,13 +1,13 @@
 //! What is carried along a file.
 
 ghost use Rattle.std.specs.Prelude.{◌≡◌, ◌+◌, ◌++◌, [], ◌∷◌, ◌&&◌, ◌||◌, length, IfOk, OnOk};
-ghost use Rattle.bq_scope.specs.Names.{has, with_name};
-ghost use Rattle.bq_scope.specs.Visit.{nothing_passed};
-ghost use Rattle.bq_scope.specs.Expressions.{is_bzl};
+ghost use Rattle.bq_resolve_scope.specs.Names.{has, with_name};
+ghost use Rattle.bq_resolve_scope.specs.Visit.{nothing_passed};
+ghost use Rattle.bq_resolve_scope.specs.Expressions.{is_bzl};
 
 use bq_base::Bytes;
-use bq_grammar::FileKind;
-use bq_scope::{Block, CodeFunction, LoadStmt, Names, inside};
+use bq_parse_grammar::FileKind;
+use bq_resolve_scope::{Block, CodeFunction, LoadStmt, Names, inside};
 use sqlite_items::Items;
 use std::alloc::{AllocError, Global};
 use std::marker::Model;
@@ -24,8 +24,8 @@ pub struct Walk {
 }
 
 impl Model for Walk {
-    ghost use Rattle.bq_scope.specs.Visit.{Passed};
-    ghost use Rattle.bq_scope.specs.contracts.code.CodeStmt as block;
+    ghost use Rattle.bq_resolve_scope.specs.Visit.{Passed};
+    ghost use Rattle.bq_resolve_scope.specs.contracts.code.CodeStmt as block;
     ghost use Rattle.std.specs.Coded.{codes};
 
     ghost Value = { Passed };

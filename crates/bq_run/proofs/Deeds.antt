@@ -3,7 +3,7 @@ use Rattle.std.proofs.Common.{◌≡◌, ◌⊎◌, ℕ, List, [], Option, None,
 use Rattle.std.specs.Prelude.{IfSome}
 use Rattle.std.specs.Io.KnownBytes.{Keeps}
 use Rattle.bq_label.specs.declared.workspace.File.{File}
-use Rattle.bq_report.specs.declared.ending.Status.{Status}
+use Rattle.bq_run_report.specs.declared.ending.Status.{Status}
 use Rattle.bq_run.specs.Bundle.{bundle_of}
 use Rattle.bq_run.specs.Run.{Run, DoesOne, IsRunFrom, IsRunOf, IsRunOver}
 use Rattle.bq_run.specs.declared.error.RunErr.{RunErr}

@@ -1,17 +1,17 @@
 -- A report on what was loaded is a report on the workspace.
 use Rattle.std.proofs.Common.{◌≡◌, ◌∙◌, ℕ, List, Ok, ap, subst}
-use Rattle.bq_fault_line.specs.declared.fault_line.FaultLine.{FaultLine}
+use Rattle.bq_load_fault_line.specs.declared.fault_line.FaultLine.{FaultLine}
 use Rattle.bq_label.specs.declared.workspace.File.{File}
-use Rattle.bq_schema.specs.Schema.{Rules}
-use Rattle.bq_target.specs.Package.{PackageTargets}
+use Rattle.bq_package_schema.specs.Schema.{Rules}
+use Rattle.bq_package_target.specs.Package.{PackageTargets}
 use Rattle.bq_board.specs.Graph.{Loads}
-use Rattle.bq_discover.specs.Schema.{schema_in}
+use Rattle.bq_load_discover.specs.Schema.{schema_in}
 use Rattle.bq_load.specs.declared.loaded.Loaded.{Loaded}
 use Rattle.bq_load.specs.Sources.{LoadingParts}
 use Rattle.bq_load.specs.Loaded.{IsLoaded, LoadsWorkspace}
 use Rattle.bq_query_check.specs.Checked.{IsChecked}
 use Rattle.bq_query_check.specs.declared.checked.CheckedQuery.{CheckedQuery}
-use Rattle.bq_report.specs.Report.{Inside, ReportView, Reports}
+use Rattle.bq_run_report.specs.Report.{Inside, ReportView, Reports}
 use Rattle.bq_run.specs.WorkspaceRun.{IsReportOn, inside_by}
 use Rattle.bq_run.specs.declared.options.Options.{Options}
 

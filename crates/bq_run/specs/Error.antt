@@ -1,8 +1,8 @@
 -- The numbers and names of the errors of runs.
 use Rattle.std.specs.Prelude.{ℕ, List, codes}
-use Rattle.bq_query.specs.QueryError.{query_title}
-use Rattle.bq_report.specs.declared.ending.NoAnswer.{NoAnswer}
-use Rattle.bq_report.specs.declared.ending.NoAnswer.TheVariants as refusal
+use Rattle.bq_query_lex.specs.QueryError.{query_title}
+use Rattle.bq_run_report.specs.declared.ending.NoAnswer.{NoAnswer}
+use Rattle.bq_run_report.specs.declared.ending.NoAnswer.TheVariants as refusal
 use Rattle.bq_run.specs.declared.error.RunErr.{RunErr}
 use Rattle.bq_run.specs.declared.error.RunErr.TheVariants.{Memory, Read, Write, Bundle, Query, Schema, TooManyModules}
 

@@ -2,11 +2,11 @@
 use Rattle.std.specs.Prelude.{◌≡◌, ◌⊎◌, ◌≤◌, ℕ, false, List, [], Option, None, Some, Result, Ok, Err, if◌then◌else◌}
 use Rattle.std.specs.Io.KnownBytes.{Appends, Keeps}
 use Rattle.bq_label.specs.declared.workspace.File.{File}
-use Rattle.bq_report.specs.Ending.{is_unanswered, names_nothing}
-use Rattle.bq_report.specs.Report.{ReportView}
-use Rattle.bq_report.specs.declared.ending.NoAnswer.{NoAnswer}
-use Rattle.bq_report.specs.declared.ending.Status.{Status}
-use Rattle.bq_workers.specs.Workers.{max_workers}
+use Rattle.bq_run_report.specs.Ending.{is_unanswered, names_nothing}
+use Rattle.bq_run_report.specs.Report.{ReportView}
+use Rattle.bq_run_report.specs.declared.ending.NoAnswer.{NoAnswer}
+use Rattle.bq_run_report.specs.declared.ending.Status.{Status}
+use Rattle.bq_load_workers.specs.Workers.{max_workers}
 use Rattle.bq_run.specs.Bundle.{bundle_of}
 use Rattle.bq_run.specs.Device.{Begins}
 use Rattle.bq_run.specs.Error.{run_err}

@@ -1,22 +1,22 @@
 -- The report on a workspace in hand: its texts, and how a run over it ends. The query is read first, then the schema, and then the modules
 -- are loaded.
 use Rattle.std.specs.Prelude.{◌≡◌, ℕ, List, [], Ok, Err}
-use Rattle.bq_fault_line.specs.FaultLine.{sorted_lines}
+use Rattle.bq_load_fault_line.specs.FaultLine.{sorted_lines}
 use Rattle.bq_label.specs.declared.workspace.File.{File}
-use Rattle.bq_schema.specs.Schema.{Rules}
+use Rattle.bq_package_schema.specs.Schema.{Rules}
 use Rattle.bq_board.specs.Graph.{Loads}
-use Rattle.bq_discover.specs.LoadGraph.{GraphParts, IsLoadGraph, inputs_of}
-use Rattle.bq_discover.specs.Modules.{AreTooMany}
-use Rattle.bq_discover.specs.Schema.{schema_in}
+use Rattle.bq_load_discover.specs.LoadGraph.{GraphParts, IsLoadGraph, inputs_of}
+use Rattle.bq_load_discover.specs.Modules.{AreTooMany}
+use Rattle.bq_load_discover.specs.Schema.{schema_in}
 use Rattle.bq_load.specs.Loaded.{fault_lines, packages_in, print_lines}
 use Rattle.bq_load.specs.Results.{outcomes}
 use Rattle.bq_load.specs.Sources.{LoadingParts, loading_in}
-use Rattle.bq_query.specs.declared.query_error.QueryErr.{QueryErr}
+use Rattle.bq_query_lex.specs.declared.query_error.QueryErr.{QueryErr}
 use Rattle.bq_query_check.specs.Checked.{IsChecked, IsWrong}
 use Rattle.bq_query_check.specs.declared.checked.CheckedQuery.{CheckedQuery}
-use Rattle.bq_report.specs.Report.{Inside, ReportView, Reports}
-use Rattle.bq_report.specs.declared.ending.NoAnswer.{NoAnswer}
-use Rattle.bq_report.specs.declared.ending.NoAnswer.TheVariants.{Query, Schema, TooManyModules}
+use Rattle.bq_run_report.specs.Report.{Inside, ReportView, Reports}
+use Rattle.bq_run_report.specs.declared.ending.NoAnswer.{NoAnswer}
+use Rattle.bq_run_report.specs.declared.ending.NoAnswer.TheVariants.{Query, Schema, TooManyModules}
 use Rattle.bq_run.specs.declared.options.Options.{Options}
 
 -- nothing is loaded

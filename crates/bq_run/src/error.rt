@@ -6,8 +6,8 @@ ghost use Rattle.bq_run.specs.Error.{run_title, run_err};
 ghost use Rattle.bq_run.specs.declared.error.RunErr.TheVariants.{Memory, Write};
 
 use crate::transfer::WriteFault;
-use bq_query::QueryErr;
-use bq_report::NoAnswer;
+use bq_query_lex::QueryErr;
+use bq_run_report::NoAnswer;
 use std::alloc::{AllocError, AllocFailed};
 use std::error::Error;
 use std::fmt;

@@ -26,9 +26,9 @@ mod runs;
 mod status;
 mod transfer;
 
-pub use bq_answer::OutputForm;
-pub use bq_query::QueryErr;
-pub use bq_report::Status;
+pub use bq_query::OutputForm;
+pub use bq_query_lex::QueryErr;
+pub use bq_run_report::Status;
 pub use bundle::read_bundle;
 pub use device::{ByteSink, ByteSource, Counted, Metered};
 pub use error::RunErr;

@@ -1,7 +1,7 @@
 //! What a run is asked.
 
-use bq_answer::OutputForm;
-use bq_workers::MAX_WORKERS;
+use bq_load_workers::MAX_WORKERS;
+use bq_query::OutputForm;
 
 /// The most jobs that a run may have.
 pub const MAX_JOBS: u32 = MAX_WORKERS as u32;

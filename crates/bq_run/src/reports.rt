@@ -1,20 +1,20 @@
 //! The report on a workspace in hand.
 
 ghost use Rattle.std.specs.Prelude.{◌≡◌, Ok, IfOk};
-ghost use Rattle.bq_discover.specs.Schema.{schema_in};
+ghost use Rattle.bq_load_discover.specs.Schema.{schema_in};
 ghost use Rattle.bq_query_check.specs.Checked.{IsChecked};
-ghost use Rattle.bq_report.specs.Report.{report_view};
+ghost use Rattle.bq_run_report.specs.Report.{report_view};
 ghost use Rattle.bq_run.specs.Run.{IsInRange};
 ghost use Rattle.bq_run.specs.WorkspaceRun.{IsReportOn, refused};
 
 use crate::options::Options;
-use bq_discover::{LoadErr, schema_of};
 use bq_label::Workspace;
 use bq_load::{Loaded, OpenGate, load_with};
+use bq_load_discover::{LoadErr, schema_of};
+use bq_package_schema::Schema;
 use bq_query_check::{CheckedQuery, parse_query};
-use bq_report::{Contents, NoAnswer, Question, Report, refusal_of, report_on};
-use bq_schema::Schema;
-use bq_seed::Seed;
+use bq_run_report::{Contents, NoAnswer, Question, Report, refusal_of, report_on};
+use bq_value_seed::Seed;
 use std::alloc::{AllocError, Global};
 use std::random::RandomSource;
 use std::sync::Wait;

@@ -2,7 +2,7 @@
 
 ghost use Rattle.std.specs.Prelude.{◌≡◌, ◌⊎◌, ◌+◌, ◌-◌, ◌^◌, ◌<◌, ℕ, List, IfSome, IsErrOf, OnOk, OnErr};
 ghost use Rattle.std.specs.Io.KnownBytes.{Appends, Keeps};
-ghost use Rattle.bq_report.specs.Report.{report_view};
+ghost use Rattle.bq_run_report.specs.Report.{report_view};
 ghost use Rattle.bq_run.specs.Device.{Begins, OneFailed};
 ghost use Rattle.bq_run.specs.Run.{Does, DoesOne, IsInRange, IsRunOf, IsRunOver, IsSilent, run_by, run_report};
 
@@ -13,7 +13,7 @@ use crate::options::Options;
 use crate::reports::report_workspace;
 use crate::transfer::{WriteFault, write_all};
 use bq_label::Workspace;
-use bq_report::{NoAnswer, Report, Status};
+use bq_run_report::{NoAnswer, Report, Status};
 use std::alloc::Global;
 use std::random::RandomSource;
 use std::sync::Wait;

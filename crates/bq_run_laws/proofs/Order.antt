@@ -1,20 +1,20 @@
 -- What comes first where several things are wrong.
 use Rattle.std.proofs.Common.{◌≡◌, ◌≢◌, ◌∙◌, ◌⊎◌, ℕ, List, [], ◌∷◌, Some, None, Result, Ok, Err, inl, inr, sym, ap, subst}
 use Rattle.std.specs.List.{AllByRecursion}
-use Rattle.bq_discover.specs.Schema.{schema_in}
+use Rattle.bq_load_discover.specs.Schema.{schema_in}
 use Rattle.bq_label.specs.declared.workspace.File.{File}
-use Rattle.bq_query.specs.declared.query_error.QueryErr.{QueryErr}
-use Rattle.bq_query.specs.declared.query_error.QueryErr.TheVariants.{BadRegex}
+use Rattle.bq_query_lex.specs.declared.query_error.QueryErr.{QueryErr}
+use Rattle.bq_query_lex.specs.declared.query_error.QueryErr.TheVariants.{BadRegex}
 use Rattle.bq_query_check.specs.Checked.{Holds, FirstFails, IsChecked, IsWrong}
 use Rattle.bq_query_check.specs.declared.checked.CheckedQuery.{CheckedQuery}
 use Rattle.bq_query_parse.proofs.Texts.{one_tree}
 use Rattle.bq_query_tree.specs.declared.tree.Query.{Query}
 use Rattle.bq_query_verdict.specs.Verdict.{Need, no_fault, regex, needs}
-use Rattle.bq_report.specs.Report.{ReportView}
-use Rattle.bq_report.specs.declared.ending.NoAnswer.TheVariants as refusal
-use Rattle.bq_report.specs.declared.ending.Status.{Status}
+use Rattle.bq_run_report.specs.Report.{ReportView}
+use Rattle.bq_run_report.specs.declared.ending.NoAnswer.TheVariants as refusal
+use Rattle.bq_run_report.specs.declared.ending.Status.{Status}
 use Rattle.bq_run.specs.Run.{Run, run_report, IsRunOver}
-use Rattle.bq_schema.specs.Schema.{Rules}
+use Rattle.bq_package_schema.specs.Schema.{Rules}
 use Rattle.bq_run.specs.WorkspaceRun.{IsReportOn, refused}
 use Rattle.bq_run.specs.declared.error.RunErr.{RunErr}
 use Rattle.bq_run.specs.declared.error.RunErr.TheVariants as run

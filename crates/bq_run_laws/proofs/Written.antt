@@ -1,14 +1,14 @@
 -- What a run writes, by how it ends.
 use Rattle.std.proofs.Common.{◌≡◌, ◌∙◌, sym, ap, subst, refl, ℕ, true, false, List, [], ◌++◌, None, Result, Ok, Err}
 use Rattle.std.specs.List.{flat_map}
-use Rattle.bq_fault_line.specs.LineText.{line_text}
+use Rattle.bq_load_fault_line.specs.LineText.{line_text}
 use Rattle.bq_label.specs.declared.workspace.File.{File}
-use Rattle.bq_query.specs.declared.query_error.QueryErr.{QueryErr}
-use Rattle.bq_report.specs.Ending.{names_nothing}
-use Rattle.bq_report.specs.Report.{Inside, ReportView, all_faults, fault_text}
-use Rattle.bq_report.specs.declared.ending.NoAnswer.{NoAnswer}
-use Rattle.bq_report.specs.declared.ending.NoAnswer.TheVariants as refusal
-use Rattle.bq_report.specs.declared.ending.Status.{Status}
+use Rattle.bq_query_lex.specs.declared.query_error.QueryErr.{QueryErr}
+use Rattle.bq_run_report.specs.Ending.{names_nothing}
+use Rattle.bq_run_report.specs.Report.{Inside, ReportView, all_faults, fault_text}
+use Rattle.bq_run_report.specs.declared.ending.NoAnswer.{NoAnswer}
+use Rattle.bq_run_report.specs.declared.ending.NoAnswer.TheVariants as refusal
+use Rattle.bq_run_report.specs.declared.ending.Status.{Status}
 use Rattle.bq_run.specs.Bundle.{bundle_of}
 use Rattle.bq_run.specs.Run.{Run, run_by, IsRunOver, IsRunFrom, IsRunOf, IsSilent}
 use Rattle.bq_run.specs.WorkspaceRun.{IsReportOn}

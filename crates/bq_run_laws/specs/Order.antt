@@ -1,6 +1,6 @@
 -- What comes first where several things are wrong.
 use Rattle.std.specs.Prelude.{◌≡◌, Err}
-use Rattle.bq_query.specs.declared.query_error.QueryErr.{QueryErr}
+use Rattle.bq_query_lex.specs.declared.query_error.QueryErr.{QueryErr}
 use Rattle.bq_query_check.specs.Checked.{IsWrong}
 use Rattle.bq_run.specs.Run.{Run}
 use Rattle.bq_run.specs.declared.error.RunErr.TheVariants as run

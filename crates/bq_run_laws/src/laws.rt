@@ -2,13 +2,13 @@
 
 ghost use Rattle.std.specs.Prelude.{◌≡◌, ◌≢◌, ◌⊎◌, ◌++◌, [], ℕ, List, None, Err, true};
 ghost use Rattle.bq_label.specs.declared.workspace.File.{File};
-ghost use Rattle.bq_discover.specs.Schema.{schema_in};
-ghost use Rattle.bq_query.specs.declared.query_error.QueryErr.{QueryErr};
-ghost use Rattle.bq_query.specs.declared.query_error.QueryErr.TheVariants.{BadRegex};
+ghost use Rattle.bq_load_discover.specs.Schema.{schema_in};
+ghost use Rattle.bq_query_lex.specs.declared.query_error.QueryErr.{QueryErr};
+ghost use Rattle.bq_query_lex.specs.declared.query_error.QueryErr.TheVariants.{BadRegex};
 ghost use Rattle.bq_query_check.specs.Checked.{IsChecked, IsWrong};
 ghost use Rattle.bq_query_check.specs.declared.checked.CheckedQuery.{CheckedQuery};
-ghost use Rattle.bq_report.specs.Ending.{names_nothing};
-ghost use Rattle.bq_report.specs.Report.{Inside, ReportView, fault_text};
+ghost use Rattle.bq_run_report.specs.Ending.{names_nothing};
+ghost use Rattle.bq_run_report.specs.Report.{Inside, ReportView, fault_text};
 ghost use Rattle.bq_run.specs.declared.options.Options.{Options};
 ghost use Rattle.bq_run.specs.declared.error.RunErr.TheVariants as run;
 ghost use Rattle.bq_run.specs.Bundle.{bundle_of};

@@ -1,4 +1,4 @@
-//! Laws of runs, by the definitions of `bq_report` and `bq_run`.
+//! Laws of runs, by the definitions of `bq_run_report` and `bq_run`.
 //!
 //! In: nothing; the functions do nothing, and their contracts are the laws. The promise: a bundle that is wrong ends a run before
 //! anything else is looked at, then a query that is wrong, and then a schema; what modules printed comes before the faults; and with Q5

@@ -3,9 +3,9 @@ use Rattle.std.specs.Prelude.{◌≡◌, ℕ, zero, suc, List, refl}
 use Rattle.std.proofs.Common.{sym, ◌∙◌, ap, arith}
 use Rattle.std.specs.Coded.{coded_ℕ, coded_ℤ, coded_bool, coded_list}
 use base.Stored.{Coded, Gv, gnil, gnum, gcons}
-use Rattle.bq_predeclared.specs.declared.rule_function.RuleFunction.{RuleFunction}
-use Rattle.bq_predeclared.specs.declared.rule_function.RuleFunction.TheVariants as f
-use Rattle.bq_rule_class.specs.Codes.{coded_attribute}
+use Rattle.bq_resolve_predeclared.specs.declared.rule_function.RuleFunction.{RuleFunction}
+use Rattle.bq_resolve_predeclared.specs.declared.rule_function.RuleFunction.TheVariants as f
+use Rattle.bq_package_rule_class.specs.Codes.{coded_attribute}
 use Rattle.bq_value.specs.Datum.{Datum, none, boolean, int, string, tuple, range, cell, function, built_in, rule_function, attribute, Data, end, datum}
 
 abbrev pub number_of : RuleFunction → ℕ

@@ -2,8 +2,8 @@
 use Rattle.std.specs.Prelude.{◌≡◌, List, Option, Some, refl}
 use Rattle.std.specs.Coded.{Coded, code_by, coded×, coded⊎, coded_list}
 use Rattle.std.proofs.Common.{◌⊎◌, inl, inr}
-use Rattle.bq_rule_class.specs.Class.{Class}
-use Rattle.bq_rule_class.specs.Codes.{coded_class}
+use Rattle.bq_package_rule_class.specs.Class.{Class}
+use Rattle.bq_package_rule_class.specs.Codes.{coded_class}
 use Rattle.bq_value.specs.Datum.{Datum}
 use Rattle.bq_value.specs.Codes.{coded_datum}
 use Rattle.bq_value.specs.Pairs.{HasNoKeyTwice}

@@ -1,8 +1,8 @@
 -- What a value is (Starlark, "Data types"), as plain data: nothing of how it is shared or laid out.
 use Rattle.std.specs.Prelude.{◌≡◌, ℕ, ◌+◌, ℤ, Bool, List, [], ◌∷◌, refl}
 use Rattle.std.proofs.Common.{ap}
-use Rattle.bq_predeclared.specs.declared.rule_function.RuleFunction.{RuleFunction}
-use Rattle.bq_rule_class.specs.declared.attribute.Attribute.{Attribute}
+use Rattle.bq_resolve_predeclared.specs.declared.rule_function.RuleFunction.{RuleFunction}
+use Rattle.bq_package_rule_class.specs.declared.attribute.Attribute.{Attribute}
 
 mutual
   -- a value; a list, a dict or a rule is a cell, the number of which stands with its module

@@ -5,7 +5,7 @@ ghost use Rattle.bq_value.specs.Contents.{items, pairs, rule, KeysDiffer};
 
 use crate::dict::Dict;
 use crate::value::Value;
-use bq_rule_class::RuleClass;
+use bq_package_rule_class::RuleClass;
 use std::marker::Model;
 
 /// A list, a dict or a rule. Contracts see its `Contents`.

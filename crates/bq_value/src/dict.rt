@@ -8,7 +8,7 @@ ghost use Rattle.bq_value.specs.Pairs.{found, put, without, HasNoKeyTwice};
 
 use crate::key::Key;
 use crate::value::Value;
-use bq_seed::Seed;
+use bq_value_seed::Seed;
 use indexmap::IndexMap;
 use std::alloc::{AllocError, Global};
 use std::marker::Model;

@@ -3,7 +3,7 @@
 
 ghost use Rattle.std.specs.Prelude.{◌≡◌, ◌≢◌, ◌↔◌, ◌<◌, ◌++◌, ◌∷◌, [], List, ℕ, ℤ, pos, Some, None, cond, fold, is_some, true, false, ◌==◌};
 ghost use Rattle.std.specs.Option.{option_or};
-ghost use Rattle.bq_rule_class.specs.Class.{Class};
+ghost use Rattle.bq_package_rule_class.specs.Class.{Class};
 ghost use Rattle.bq_value.specs.Datum.{Datum, cell};
 ghost use Rattle.bq_value.specs.Same.{same};
 ghost use Rattle.bq_value.specs.Range.{IsBefore, range_element, range_count};

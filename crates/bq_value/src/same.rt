@@ -7,8 +7,8 @@ ghost use Rattle.bq_value.specs.Same.{same, same_all, feed, feed_all};
 
 use crate::range::Range;
 use crate::value::{Cell, Function, Node, Value};
-use bq_predeclared::RuleFunction;
-use bq_rule_class::Attribute;
+use bq_package_rule_class::Attribute;
+use bq_resolve_predeclared::RuleFunction;
 use std::hash::{Hash, Hasher};
 
 impl Value {

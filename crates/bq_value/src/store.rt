@@ -12,7 +12,7 @@ use crate::frozen::Frozen;
 use crate::modules::Modules;
 use crate::value::Cell;
 use bq_base::{Bytes, FaultKind};
-use bq_seed::Seed;
+use bq_value_seed::Seed;
 use std::alloc::{AllocError, Global};
 use std::marker::Model;
 

@@ -5,8 +5,8 @@ ghost use Rattle.bq_value.specs.Datum.{Datum, none, boolean, int, string, tuple,
 
 use crate::range::Range;
 use bq_base::Bytes;
-use bq_predeclared::RuleFunction;
-use bq_rule_class::Attribute;
+use bq_package_rule_class::Attribute;
+use bq_resolve_predeclared::RuleFunction;
 use std::alloc::{AllocError, Global};
 use std::marker::Model;
 use std::mem;

@@ -2,8 +2,8 @@
 
 use crate::show;
 use crate::words::{Asked, Words, words_of};
-use bq_rows::{is_row, row_of, wanted_of};
 use bq_run::OutputForm;
+use bq_tests_rows::{is_row, row_of, wanted_of};
 use std::alloc::{AllocError, Global};
 use std::process::Abort;
 

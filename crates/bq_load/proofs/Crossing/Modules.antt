@@ -5,10 +5,10 @@ use denote.Param.Send.{IsSend, IsSync, sendable}
 use Rattle.std.proofs.Crossing.{crosses}
 use Rattle.std.proofs.hash.BuildHasherDefault.TheSendSync as Builder
 use Rattle.std.proofs.hash.FoldHasher.TheSendSync as Hasher
-use Rattle.bq_seed.proofs.seed.Seed.TheSendSync as Seed
-use Rattle.bq_seed.proofs.hasher.KeyHasher.TheSendSync as KeyHasher
+use Rattle.bq_value_seed.proofs.seed.Seed.TheSendSync as Seed
+use Rattle.bq_value_seed.proofs.hasher.KeyHasher.TheSendSync as KeyHasher
 use Rattle.bq_base.proofs.fault.Fault.TheSendSync as Fault
-use Rattle.bq_host.specs.contracts.built_ins.BuiltIns as BuiltIns
+use Rattle.bq_eval_host.specs.contracts.built_ins.BuiltIns as BuiltIns
 use Rattle.bq_load.specs.contracts.outcome.LoadedModule as LoadedModule
 use Rattle.bq_load.specs.contracts.source.Source as Source
 use Rattle.bq_load.specs.contracts.loading.Loading as Loading

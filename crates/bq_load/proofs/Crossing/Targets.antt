@@ -1,10 +1,10 @@
 -- Targets and packages may cross threads.
 use denote.Param.Send.{IsSend, IsSync, sendable}
 use Rattle.std.proofs.Crossing.{crosses}
-use Rattle.bq_target.specs.contracts.value.GivenAttribute as GivenAttribute
-use Rattle.bq_target.specs.contracts.target.TargetKind as TargetKind
-use Rattle.bq_target.specs.contracts.target.Target as Target
-use Rattle.bq_target.specs.contracts.package.Package as Package
+use Rattle.bq_package_target.specs.contracts.value.GivenAttribute as GivenAttribute
+use Rattle.bq_package_target.specs.contracts.target.TargetKind as TargetKind
+use Rattle.bq_package_target.specs.contracts.target.Target as Target
+use Rattle.bq_package_target.specs.contracts.package.Package as Package
 use Rattle.bq_load.proofs.Crossing.Classes.{label_send, label_sync, value_send, value_sync, class_send, class_sync}
 
 pub given_send : IsSend (GivenAttribute.the_field).row

@@ -1,21 +1,21 @@
 -- The trees of resolved files may cross threads.
 use denote.Param.Send.{IsSend, IsSync, sendable}
 use Rattle.std.proofs.Crossing.{crosses}
-use Rattle.bq_predeclared.specs.contracts.rule_function.RuleFunction as RuleFunction
-use Rattle.bq_predeclared.specs.contracts.predeclared.Predeclared as Predeclared
-use Rattle.bq_scope.proofs.code.Code.TheLaws.TheKnot as Codes
-use Rattle.bq_scope.proofs.code.CodeStmt.TheLaws.TheKnot as Blocks
-use Rattle.bq_scope.specs.contracts.code.Code as Code
-use Rattle.bq_scope.specs.contracts.code.CodeTarget as CodeTarget
-use Rattle.bq_scope.specs.contracts.code.CodeSmall as CodeSmall
-use Rattle.bq_scope.specs.contracts.code.CodeStmt as CodeStmt
-use Rattle.bq_scope.specs.contracts.code.CodeParameter as CodeParameter
-use Rattle.bq_scope.specs.contracts.code.CodeFunction as CodeFunction
-use Rattle.bq_scope.specs.contracts.code.CodeDef as CodeDef
-use Rattle.bq_scope.specs.contracts.code.FileStmt as FileStmt
-use Rattle.bq_scope.specs.contracts.code.CodeTopLevel as CodeTopLevel
-use Rattle.bq_scope.specs.contracts.code.LoadStmt as LoadStmt
-use Rattle.bq_scope.specs.contracts.code.Resolved as Resolved
+use Rattle.bq_resolve_predeclared.specs.contracts.rule_function.RuleFunction as RuleFunction
+use Rattle.bq_resolve_predeclared.specs.contracts.predeclared.Predeclared as Predeclared
+use Rattle.bq_resolve_scope.proofs.code.Code.TheLaws.TheKnot as Codes
+use Rattle.bq_resolve_scope.proofs.code.CodeStmt.TheLaws.TheKnot as Blocks
+use Rattle.bq_resolve_scope.specs.contracts.code.Code as Code
+use Rattle.bq_resolve_scope.specs.contracts.code.CodeTarget as CodeTarget
+use Rattle.bq_resolve_scope.specs.contracts.code.CodeSmall as CodeSmall
+use Rattle.bq_resolve_scope.specs.contracts.code.CodeStmt as CodeStmt
+use Rattle.bq_resolve_scope.specs.contracts.code.CodeParameter as CodeParameter
+use Rattle.bq_resolve_scope.specs.contracts.code.CodeFunction as CodeFunction
+use Rattle.bq_resolve_scope.specs.contracts.code.CodeDef as CodeDef
+use Rattle.bq_resolve_scope.specs.contracts.code.FileStmt as FileStmt
+use Rattle.bq_resolve_scope.specs.contracts.code.CodeTopLevel as CodeTopLevel
+use Rattle.bq_resolve_scope.specs.contracts.code.LoadStmt as LoadStmt
+use Rattle.bq_resolve_scope.specs.contracts.code.Resolved as Resolved
 
 pub rule_function_send : IsSend (RuleFunction.the_field).row
 rule_function_send = search (crosses, sendable) depth 60 fits 20000

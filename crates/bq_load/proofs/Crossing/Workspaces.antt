@@ -9,7 +9,7 @@ use Rattle.bq_label.specs.contracts.workspace.File as File
 use Rattle.bq_label.specs.contracts.workspace.Workspace as Workspace
 use Rattle.bq_label.specs.contracts.packages.BuildFile as BuildFile
 use Rattle.bq_label.specs.contracts.packages.Packages as Packages
-use Rattle.bq_schema.specs.contracts.schema.Schema as Schema
+use Rattle.bq_package_schema.specs.contracts.schema.Schema as Schema
 use Rattle.bq_load.proofs.Crossing.Classes.{label_sync, class_sync}
 
 pub file_sync : IsSync (File.the_field).row

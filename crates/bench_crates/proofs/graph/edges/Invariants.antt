@@ -1,4 +1,4 @@
-use Rattle.bq_graph.specs.Edges.{AreBetween}
+use Rattle.bq_query_graph.specs.Edges.{AreBetween}
 use Rattle.bench_crates.proofs.graph.edges.Given as goal
 
 abbrev pub invariant-loop-from : goal.invariant-loop-from

@@ -1,7 +1,7 @@
 use Rattle.std.proofs.Common.{◌∙◌, ap, sym, subst, arith, codes, ℕ}
 use Rattle.std.specs.Prelude.{min, max}
 use Rattle.std.specs.Str.Parse.{ParsesUnsigned, ExplainsUnsignedError, HasUnsignedDigitsIfOk}
-use Rattle.bq_workers.specs.Workers.{max_workers}
+use Rattle.bq_load_workers.specs.Workers.{max_workers}
 use Rattle.bq.specs.Words.{IsNumberOf, number_text}
 use Rattle.bq.proofs.Numbers.{number_of}
 use Rattle.bq.proofs.words.jobs_of.Goals as goal

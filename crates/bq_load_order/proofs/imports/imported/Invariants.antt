@@ -1,5 +1,5 @@
 use Rattle.std.proofs.Common.{◌≡◌, drop, map}
-use Rattle.bq_outcome.specs.Outcome.{values}
+use Rattle.bq_load_outcome_spec.specs.Outcome.{values}
 use Rattle.bq_load_order.specs.Shown.{slot}
 use Rattle.bq_load_order.specs.Slots.{found_at}
 use Rattle.bq_load_order.proofs.Values.{before}

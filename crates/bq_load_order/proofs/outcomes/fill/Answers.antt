@@ -1,5 +1,5 @@
 use Rattle.std.proofs.Common.{◌≡◌, ℕ, ◌<◌, List, length, map, get_or, sym, ap, subst}
-use Rattle.bq_outcome.specs.Outcome.{outcome}
+use Rattle.bq_load_outcome_spec.specs.Outcome.{outcome}
 use Rattle.bq_load_order.specs.Shown.{slot}
 use Rattle.bq_load_order.specs.Slots.{Puts, Ready}
 use Rattle.bq_load_order.proofs.Filled.{fill_ready, fill_next}

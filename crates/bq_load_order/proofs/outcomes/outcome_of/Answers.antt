@@ -1,7 +1,7 @@
 use Rattle.std.proofs.Common.{map, sym, ap, subst, ◌∙◌}
 use Rattle.bq_board.specs.Counts.{Has}
 use Rattle.bq_board.proofs.Lemmas.{loads_not_cyclic}
-use Rattle.bq_outcome.specs.Outcome.{values}
+use Rattle.bq_load_outcome_spec.specs.Outcome.{values}
 use Rattle.bq_load_order.specs.Shown.{seen, slot}
 use Rattle.bq_load_order.specs.Slots.{found_at}
 use Rattle.bq_load_order.proofs.Filled.{deep_outcome, found_outcome}

@@ -1,5 +1,5 @@
 use Rattle.std.proofs.Common.{ap, sym, ◌∙◌}
-use Rattle.bq_outcome.specs.declared.outcome.Outcome.TheVariants.{Loaded, Faulty}
+use Rattle.bq_load_outcome_spec.specs.declared.outcome.Outcome.TheVariants.{Loaded, Faulty}
 use Rattle.bq_load_order.specs.Shown.{shown}
 use Rattle.bq_load_order.proofs.shared.share.Goals as goal
 

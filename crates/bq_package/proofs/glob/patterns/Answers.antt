@@ -1,6 +1,6 @@
 use Rattle.std.proofs.Common.{arith}
 use Rattle.std.proofs.lemmas.Grind.{common_steps}
-use Rattle.bq_typed.specs.Steps.{in_turn}
+use Rattle.bq_package_typed_value.specs.Steps.{in_turn}
 use Rattle.bq_package.specs.Glob.{patterns}
 use Rattle.bq_package.proofs.glob.patterns.Goals as goal
 

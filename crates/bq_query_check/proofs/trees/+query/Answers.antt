@@ -2,9 +2,9 @@ use Rattle.std.proofs.Common.{◌≡◌, ◌∙◌, ◌++◌, ◌∷◌, [], ◌
 use Rattle.std.proofs.lemmas.List.{take_more, take_all, take-append-drop, drop_more}
 use Rattle.std.specs.List.{AllByRecursion}
 use Rattle.std.proofs.lemmas.Result.{err_from_is_err_and}
-use Rattle.bq_query.specs.Functions.{function_named}
-use Rattle.bq_query.specs.declared.function.QueryArgumentKind.TheVariants as kind
-use Rattle.bq_query.specs.declared.function.QueryFunction.TheVariants as fn
+use Rattle.bq_query_lex.specs.Functions.{function_named}
+use Rattle.bq_query_lex.specs.declared.function.QueryArgumentKind.TheVariants as kind
+use Rattle.bq_query_lex.specs.declared.function.QueryFunction.TheVariants as fn
 use Rattle.bq_query_tree.specs.declared.tree.Query.{Query}
 use Rattle.bq_query_tree.specs.declared.tree.Query.TheVariants as tree
 use Rattle.bq_query_tree.specs.declared.tree.Query.TheFolds.{the_lemmas}

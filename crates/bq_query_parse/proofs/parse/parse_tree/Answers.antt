@@ -1,6 +1,6 @@
 use Rattle.std.proofs.Common.{sym, subst, All}
 use Rattle.std.specs.Prelude.{Some}
-use Rattle.bq_query.specs.Reading.{Reads}
+use Rattle.bq_query_lex.specs.Reading.{Reads}
 use Rattle.bq_query_parse.specs.Tokens.{IsInText}
 use Rattle.bq_query_parse.proofs.Texts.{in_text, parses, none_cut}
 use Rattle.bq_query_parse.proofs.parse.parse_tree.Goals as goal

@@ -1,6 +1,6 @@
 use Rattle.std.proofs.Common.{◌≡◌, [], drop}
-use Rattle.bq_scope.specs.Visit.{each}
-use Rattle.bq_scope.specs.Statements.{load_clause}
+use Rattle.bq_resolve_scope.specs.Visit.{each}
+use Rattle.bq_resolve_scope.specs.Statements.{load_clause}
 use Rattle.bq_resolve.proofs.load.load_clauses.Given as goal
 
 abbrev pub invariant-loop-clause : goal.invariant-loop-clause

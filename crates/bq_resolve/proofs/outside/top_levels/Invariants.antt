@@ -1,6 +1,6 @@
 use Rattle.std.proofs.Common.{◌≡◌, [], drop}
-use Rattle.bq_scope.specs.Visit.{each}
-use Rattle.bq_scope.specs.Files.{top_level}
+use Rattle.bq_resolve_scope.specs.Visit.{each}
+use Rattle.bq_resolve_scope.specs.Files.{top_level}
 use Rattle.bq_resolve.proofs.outside.top_levels.Given as goal
 
 abbrev pub invariant-loop-statement : goal.invariant-loop-statement

@@ -1,5 +1,5 @@
 use Rattle.std.proofs.Common.{◌≡◌, Result, IfOk, subst}
-use Rattle.bq_module.specs.Outcomes.{ended_of, run_of}
+use Rattle.bq_eval.specs.Outcomes.{ended_of, run_of}
 use Rattle.bq_package.specs.Calls.{HeldPackage, held_by, meaning}
 use Rattle.bq_load_order.specs.Shown.{told}
 use Rattle.bq_load.specs.Views.{ModuleView, FailedView, module_view, failed_view}

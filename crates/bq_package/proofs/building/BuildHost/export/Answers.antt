@@ -1,5 +1,5 @@
 use Rattle.std.proofs.Common.{◌≡◌, Some, Option, ap, subst, rules}
-use Rattle.bq_target.specs.Calls.{exported}
+use Rattle.bq_package_target.specs.Calls.{exported}
 use Rattle.bq_package.specs.declared.building.Building.{Building}
 use Rattle.bq_package.specs.Place.{place_of}
 use Rattle.bq_package.specs.Calls.{HeldPackage, held_of, held_by}

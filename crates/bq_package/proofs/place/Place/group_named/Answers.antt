@@ -3,8 +3,8 @@ use Rattle.bq_base.specs.Gives.{Gives}
 use Rattle.bq_base.specs.declared.fault.FaultKind.{FaultKind}
 use Rattle.bq_value.specs.Datum.{Datum}
 use Rattle.bq_value.specs.declared.error.EvalErr.TheVariants.{Bad}
-use Rattle.bq_machine.specs.Binding.{BoundView}
-use Rattle.bq_target.specs.declared.target.Target.{Target}
+use Rattle.bq_builtin_machine.specs.Binding.{BoundView}
+use Rattle.bq_package_target.specs.declared.target.Target.{Target}
 use Rattle.bq_package.specs.Place.{place_of}
 use Rattle.bq_package.specs.Groups.{group_of, group_named}
 use Rattle.bq_package.proofs.place.Place.group_named.Goals as goal

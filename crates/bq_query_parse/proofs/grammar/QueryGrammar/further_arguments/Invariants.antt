@@ -1,5 +1,5 @@
 use Rattle.std.proofs.Common.{◌≡◌, ◌-◌}
-use Rattle.bq_query.specs.declared.token.QueryTokenKind.TheVariants as k
+use Rattle.bq_query_lex.specs.declared.token.QueryTokenKind.TheVariants as k
 use Rattle.bq_query_tree.specs.Turns.{sees, turns, repeat, repeat_turn}
 use Rattle.bq_query_tree.specs.Reading.{after_comma, query_to}
 use Rattle.bq_query_parse.proofs.grammar.QueryGrammar.further_arguments.Given as goal

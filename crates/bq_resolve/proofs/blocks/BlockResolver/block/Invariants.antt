@@ -1,6 +1,6 @@
 use Rattle.std.proofs.Common.{◌≡◌, [], drop}
-use Rattle.bq_scope.specs.Visit.{each}
-use Rattle.bq_scope.specs.Statements.{stmt_to}
+use Rattle.bq_resolve_scope.specs.Visit.{each}
+use Rattle.bq_resolve_scope.specs.Statements.{stmt_to}
 use Rattle.bq_resolve.proofs.blocks.BlockResolver.block.Given as goal
 
 abbrev pub invariant-loop-statement : goal.invariant-loop-statement

@@ -1,6 +1,6 @@
 use Rattle.std.proofs.Common.{arith}
 use Rattle.std.proofs.lemmas.Grind.{common_steps}
-use Rattle.bq_scope.specs.Statements.{branch}
+use Rattle.bq_resolve_scope.specs.Statements.{branch}
 use Rattle.bq_resolve.proofs.blocks.BlockResolver.branch.Goals as goal
 
 pub returns-in_err-condition : goal.returns-in_err-condition

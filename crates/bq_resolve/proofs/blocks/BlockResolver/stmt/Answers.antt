@@ -1,11 +1,11 @@
 use Rattle.std.proofs.Common.{◌∙◌, [], ap}
-use Rattle.bq_grammar.specs.declared.tree.Stmt.{out-Stmt}
-use Rattle.bq_grammar.specs.declared.tree.Stmt.TheOpen.{Stmt-F}
-use Rattle.bq_grammar.specs.declared.tree.Stmt.TheVariants as form
-use Rattle.bq_grammar.specs.declared.tree.Stmt.TheVariants.{outs-Simple, outs-If, outs-For, outs-Def}
-use Rattle.bq_scope.specs.declared.code.CodeStmt.TheVariants as code
-use Rattle.bq_scope.specs.Visit.{each}
-use Rattle.bq_scope.specs.Statements.{small_stmt, stmt_by, stmt_to}
+use Rattle.bq_parse_grammar.specs.declared.tree.Stmt.{out-Stmt}
+use Rattle.bq_parse_grammar.specs.declared.tree.Stmt.TheOpen.{Stmt-F}
+use Rattle.bq_parse_grammar.specs.declared.tree.Stmt.TheVariants as form
+use Rattle.bq_parse_grammar.specs.declared.tree.Stmt.TheVariants.{outs-Simple, outs-If, outs-For, outs-Def}
+use Rattle.bq_resolve_scope.specs.declared.code.CodeStmt.TheVariants as code
+use Rattle.bq_resolve_scope.specs.Visit.{each}
+use Rattle.bq_resolve_scope.specs.Statements.{small_stmt, stmt_by, stmt_to}
 use Rattle.bq_resolve.proofs.Forms.{of_form, of_one, of_two, of_three, mapped}
 use Rattle.bq_resolve.proofs.blocks.BlockResolver.stmt.Goals as goal
 

@@ -1,6 +1,6 @@
 use Rattle.std.proofs.Common.{arith}
 use Rattle.std.proofs.lemmas.Grind.{common_steps}
-use Rattle.bq_scope.specs.Statements.{parameters}
+use Rattle.bq_resolve_scope.specs.Statements.{parameters}
 use Rattle.bq_resolve.proofs.parameters.ParameterList.add_all.Goals as goal
 
 pub loop-parameter-init : goal.loop-parameter-init

@@ -1,5 +1,5 @@
 use Rattle.std.proofs.Common.{◌≡◌, drop}
-use Rattle.bq_scope.specs.Statements.{parameters}
+use Rattle.bq_resolve_scope.specs.Statements.{parameters}
 use Rattle.bq_resolve.proofs.parameters.ParameterList.add_all.Given as goal
 
 abbrev pub invariant-loop-parameter : goal.invariant-loop-parameter

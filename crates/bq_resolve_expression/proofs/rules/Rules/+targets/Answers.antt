@@ -1,12 +1,12 @@
 use Rattle.std.proofs.Common.{◌-◌, [], refl, arith}
 use Rattle.std.proofs.lemmas.Grind.{common_steps}
-use Rattle.bq_grammar.specs.declared.tree.Argument.TheOpen.{AssignTarget-F}
-use Rattle.bq_grammar.specs.declared.tree.AssignTarget.{out-AssignTarget}
-use Rattle.bq_grammar.specs.declared.tree.AssignTarget.TheVariants as form
-use Rattle.bq_grammar.specs.declared.tree.AssignTarget.TheVariants.{outs-Name, outs-Index, outs-Tuple, outs-List}
-use Rattle.bq_scope.specs.declared.code.CodeTarget.TheVariants as target
-use Rattle.bq_scope.specs.Visit.{each}
-use Rattle.bq_scope.specs.Expressions.{target_by, target_to, expr_to}
+use Rattle.bq_parse_grammar.specs.declared.tree.Argument.TheOpen.{AssignTarget-F}
+use Rattle.bq_parse_grammar.specs.declared.tree.AssignTarget.{out-AssignTarget}
+use Rattle.bq_parse_grammar.specs.declared.tree.AssignTarget.TheVariants as form
+use Rattle.bq_parse_grammar.specs.declared.tree.AssignTarget.TheVariants.{outs-Name, outs-Index, outs-Tuple, outs-List}
+use Rattle.bq_resolve_scope.specs.declared.code.CodeTarget.TheVariants as target
+use Rattle.bq_resolve_scope.specs.Visit.{each}
+use Rattle.bq_resolve_scope.specs.Expressions.{target_by, target_to, expr_to}
 use Rattle.bq_resolve_expression.proofs.Forms.{of_one, of_two}
 use Rattle.bq_resolve_expression.proofs.Layers.{target_form}
 use Rattle.bq_resolve_expression.proofs.Walked.{mapped}

@@ -1,6 +1,6 @@
 use Rattle.std.proofs.Common.{◌≡◌, ◌+◌, ◌*◌, [], drop}
-use Rattle.bq_scope.specs.Visit.{each}
-use Rattle.bq_scope.specs.Expressions.{target_to, expr_to}
+use Rattle.bq_resolve_scope.specs.Visit.{each}
+use Rattle.bq_resolve_scope.specs.Expressions.{target_to, expr_to}
 use Rattle.bq_resolve_expression.proofs.rules.Rules.+targets.Given as goal
 
 abbrev pub invariant-targets_to-loop-target : goal.invariant-targets_to-loop-target

@@ -1,10 +1,10 @@
 use Rattle.std.proofs.Common.{refl}
-use Rattle.bq_grammar.specs.declared.tree.Argument.{out-Argument}
-use Rattle.bq_grammar.specs.declared.tree.Argument.TheOpen.{Argument-F}
-use Rattle.bq_grammar.specs.declared.tree.Argument.TheVariants as form
-use Rattle.bq_grammar.specs.declared.tree.Argument.TheVariants.{outs-Positional, outs-Named, outs-Star, outs-StarStar}
-use Rattle.bq_scope.specs.declared.code.CodeArgument.TheVariants as argument
-use Rattle.bq_scope.specs.Expressions.{argument_by, expr_to}
+use Rattle.bq_parse_grammar.specs.declared.tree.Argument.{out-Argument}
+use Rattle.bq_parse_grammar.specs.declared.tree.Argument.TheOpen.{Argument-F}
+use Rattle.bq_parse_grammar.specs.declared.tree.Argument.TheVariants as form
+use Rattle.bq_parse_grammar.specs.declared.tree.Argument.TheVariants.{outs-Positional, outs-Named, outs-Star, outs-StarStar}
+use Rattle.bq_resolve_scope.specs.declared.code.CodeArgument.TheVariants as argument
+use Rattle.bq_resolve_scope.specs.Expressions.{argument_by, expr_to}
 use Rattle.bq_resolve_expression.proofs.Forms.{of_one, of_two}
 use Rattle.bq_resolve_expression.proofs.Walked.{mapped}
 use Rattle.bq_resolve_expression.proofs.rules.Rules.argument.Goals as goal

@@ -1,10 +1,10 @@
 use Rattle.std.proofs.Common.{◌≡◌, Ok, true, false, sym, ◌∙◌, length, rules, arith}
 use Rattle.std.proofs.lemmas.Grind.{common_steps}
 use Rattle.std.specs.Bool.{◌==◌}
-use Rattle.bq_scope.specs.declared.code.Code.{Code}
-use Rattle.bq_scope.specs.declared.code.Code.TheVariants as code
-use Rattle.bq_scope.specs.Visit.{Visit}
-use Rattle.bq_scope.specs.Expressions.{pair, in_block, comprehension, expr_to}
+use Rattle.bq_resolve_scope.specs.declared.code.Code.{Code}
+use Rattle.bq_resolve_scope.specs.declared.code.Code.TheVariants as code
+use Rattle.bq_resolve_scope.specs.Visit.{Visit}
+use Rattle.bq_resolve_scope.specs.Expressions.{pair, in_block, comprehension, expr_to}
 use Rattle.bq_resolve_expression.proofs.Frames.{inside_block, own_frame}
 use Rattle.bq_resolve_expression.proofs.rules.Rules.dict_comprehension.Goals as goal
 

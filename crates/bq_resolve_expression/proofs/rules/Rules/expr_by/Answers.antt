@@ -1,11 +1,11 @@
 use Rattle.std.proofs.Common.{[], refl}
-use Rattle.bq_grammar.specs.declared.tree.Argument.TheOpen.{Expr-F}
-use Rattle.bq_grammar.specs.declared.tree.Expr.{out-Expr}
-use Rattle.bq_grammar.specs.declared.tree.Expr.TheVariants as e
-use Rattle.bq_grammar.specs.declared.tree.Expr.TheVariants.{outs-Name, outs-List, outs-Tuple, outs-Dict, outs-ListComprehension, outs-DictComprehension, outs-Primary, outs-Unary, outs-Binary, outs-Compare, outs-Conditional}
-use Rattle.bq_scope.specs.declared.code.Code.TheVariants as code
-use Rattle.bq_scope.specs.Visit.{each}
-use Rattle.bq_scope.specs.Expressions.{use_at, pair, expr_by, expr_to}
+use Rattle.bq_parse_grammar.specs.declared.tree.Argument.TheOpen.{Expr-F}
+use Rattle.bq_parse_grammar.specs.declared.tree.Expr.{out-Expr}
+use Rattle.bq_parse_grammar.specs.declared.tree.Expr.TheVariants as e
+use Rattle.bq_parse_grammar.specs.declared.tree.Expr.TheVariants.{outs-Name, outs-List, outs-Tuple, outs-Dict, outs-ListComprehension, outs-DictComprehension, outs-Primary, outs-Unary, outs-Binary, outs-Compare, outs-Conditional}
+use Rattle.bq_resolve_scope.specs.declared.code.Code.TheVariants as code
+use Rattle.bq_resolve_scope.specs.Visit.{each}
+use Rattle.bq_resolve_scope.specs.Expressions.{use_at, pair, expr_by, expr_to}
 use Rattle.bq_resolve_expression.proofs.Forms.{of_one, of_two, of_three}
 use Rattle.bq_resolve_expression.proofs.Walked.{mapped}
 use Rattle.bq_resolve_expression.proofs.rules.Rules.expr_by.Goals as goal

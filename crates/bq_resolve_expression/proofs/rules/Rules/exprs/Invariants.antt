@@ -1,6 +1,6 @@
 use Rattle.std.proofs.Common.{◌≡◌, [], drop}
-use Rattle.bq_scope.specs.Visit.{each}
-use Rattle.bq_scope.specs.Expressions.{expr_to}
+use Rattle.bq_resolve_scope.specs.Visit.{each}
+use Rattle.bq_resolve_scope.specs.Expressions.{expr_to}
 use Rattle.bq_resolve_expression.proofs.rules.Rules.exprs.Given as goal
 
 abbrev pub invariant-loop-expr : goal.invariant-loop-expr

@@ -1,6 +1,6 @@
 use Rattle.std.proofs.Common.{arith}
 use Rattle.std.proofs.lemmas.Grind.{common_steps}
-use Rattle.bq_scope.specs.Visit.{each}
+use Rattle.bq_resolve_scope.specs.Visit.{each}
 use Rattle.bq_resolve_expression.proofs.rules.Rules.further_clauses.Goals as goal
 
 pub loop-clause-init : goal.loop-clause-init

@@ -1,7 +1,7 @@
 use Rattle.std.proofs.Common.{◌≡◌, drop}
-use Rattle.bq_grammar.specs.declared.tree.Clause.{out-Clause}
-use Rattle.bq_scope.specs.Visit.{each}
-use Rattle.bq_scope.specs.Expressions.{clause_by, expr_to}
+use Rattle.bq_parse_grammar.specs.declared.tree.Clause.{out-Clause}
+use Rattle.bq_resolve_scope.specs.Visit.{each}
+use Rattle.bq_resolve_scope.specs.Expressions.{clause_by, expr_to}
 use Rattle.bq_resolve_expression.proofs.rules.Rules.further_clauses.Given as goal
 
 abbrev pub invariant-loop-clause : goal.invariant-loop-clause

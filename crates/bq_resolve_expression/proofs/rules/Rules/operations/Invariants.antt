@@ -1,6 +1,6 @@
 use Rattle.std.proofs.Common.{◌≡◌, [], drop}
-use Rattle.bq_scope.specs.Visit.{each}
-use Rattle.bq_scope.specs.Expressions.{operation, expr_to}
+use Rattle.bq_resolve_scope.specs.Visit.{each}
+use Rattle.bq_resolve_scope.specs.Expressions.{operation, expr_to}
 use Rattle.bq_resolve_expression.proofs.rules.Rules.operations.Given as goal
 
 abbrev pub invariant-loop-operation : goal.invariant-loop-operation

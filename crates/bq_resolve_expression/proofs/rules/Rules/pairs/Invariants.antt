@@ -1,6 +1,6 @@
 use Rattle.std.proofs.Common.{◌≡◌, [], drop}
-use Rattle.bq_scope.specs.Visit.{each}
-use Rattle.bq_scope.specs.Expressions.{pair, expr_to}
+use Rattle.bq_resolve_scope.specs.Visit.{each}
+use Rattle.bq_resolve_scope.specs.Expressions.{pair, expr_to}
 use Rattle.bq_resolve_expression.proofs.rules.Rules.pairs.Given as goal
 
 abbrev pub invariant-loop-pair : goal.invariant-loop-pair

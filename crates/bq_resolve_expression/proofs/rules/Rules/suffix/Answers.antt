@@ -1,10 +1,10 @@
 use Rattle.std.proofs.Common.{refl}
-use Rattle.bq_grammar.specs.declared.tree.Argument.TheOpen.{Suffix-F}
-use Rattle.bq_grammar.specs.declared.tree.Suffix.{out-Suffix}
-use Rattle.bq_grammar.specs.declared.tree.Suffix.TheVariants as form
-use Rattle.bq_grammar.specs.declared.tree.Suffix.TheVariants.{outs-Call, outs-Method, outs-Index}
-use Rattle.bq_scope.specs.declared.code.CodeSuffix.TheVariants as suffix
-use Rattle.bq_scope.specs.Expressions.{arguments, suffix_by, expr_to}
+use Rattle.bq_parse_grammar.specs.declared.tree.Argument.TheOpen.{Suffix-F}
+use Rattle.bq_parse_grammar.specs.declared.tree.Suffix.{out-Suffix}
+use Rattle.bq_parse_grammar.specs.declared.tree.Suffix.TheVariants as form
+use Rattle.bq_parse_grammar.specs.declared.tree.Suffix.TheVariants.{outs-Call, outs-Method, outs-Index}
+use Rattle.bq_resolve_scope.specs.declared.code.CodeSuffix.TheVariants as suffix
+use Rattle.bq_resolve_scope.specs.Expressions.{arguments, suffix_by, expr_to}
 use Rattle.bq_resolve_expression.proofs.Forms.{of_one, of_two}
 use Rattle.bq_resolve_expression.proofs.Walked.{mapped}
 use Rattle.bq_resolve_expression.proofs.rules.Rules.suffix.Goals as goal

@@ -1,7 +1,7 @@
 use Rattle.std.proofs.Common.{arith}
 use Rattle.std.proofs.lemmas.Grind.{common_steps}
-use Rattle.bq_scope.specs.Visit.{each}
-use Rattle.bq_scope.specs.Expressions.{suffixes}
+use Rattle.bq_resolve_scope.specs.Visit.{each}
+use Rattle.bq_resolve_scope.specs.Expressions.{suffixes}
 use Rattle.bq_resolve_expression.proofs.rules.Rules.suffixes.Goals as goal
 
 pub loop-suffix-init : goal.loop-suffix-init

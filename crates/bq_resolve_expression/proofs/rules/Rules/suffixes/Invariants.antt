@@ -1,7 +1,7 @@
 use Rattle.std.proofs.Common.{◌≡◌, drop}
-use Rattle.bq_grammar.specs.declared.tree.Suffix.{out-Suffix}
-use Rattle.bq_scope.specs.Visit.{each}
-use Rattle.bq_scope.specs.Expressions.{suffix_by, expr_to}
+use Rattle.bq_parse_grammar.specs.declared.tree.Suffix.{out-Suffix}
+use Rattle.bq_resolve_scope.specs.Visit.{each}
+use Rattle.bq_resolve_scope.specs.Expressions.{suffix_by, expr_to}
 use Rattle.bq_resolve_expression.proofs.rules.Rules.suffixes.Given as goal
 
 abbrev pub invariant-loop-suffix : goal.invariant-loop-suffix

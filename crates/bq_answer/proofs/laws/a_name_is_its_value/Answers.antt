@@ -1,5 +1,0 @@
-use Rattle.bq_answer.proofs.Inclusions.{itself}
-use Rattle.bq_answer.proofs.laws.a_name_is_its_value.Goals as goal
-
-pub returns : goal.returns
-returns c = itself

@@ -1,5 +1,0 @@
-use Rattle.bq_answer.proofs.Inclusions.{lie_within}
-use Rattle.bq_answer.proofs.laws.dependents_lie_within_dependencies.Goals as goal
-
-pub returns : goal.returns
-returns c = lie_within

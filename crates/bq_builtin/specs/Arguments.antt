@@ -1,0 +1,81 @@
+-- The arguments that a function takes (Starlark, "Function and method calls"): what it doesn't take is F52. All are passed by place
+-- but for one, which some functions take by its name.
+use Rattle.std.specs.Prelude.{ℕ, ℤ, Bool, false, cond, List, [], ◌∷◌, bytes_eq, Option, Some, None, Result, Ok, Err}
+use Rattle.bq_base.specs.declared.fault.FaultKind.{FaultKind}
+use Rattle.bq_base.specs.declared.fault.FaultKind.TheVariants.{WrongType, Args}
+use Rattle.bq_value.specs.Datum.{Datum, int, boolean, string}
+use Rattle.bq_builtin_machine.specs.Args.{Passed}
+
+-- an answer, and then another, which knows what the first one was
+abbrev pub and_then : {A B : Type 0} → Result A FaultKind → (A → Result B FaultKind) → Result B FaultKind
+and_then (Ok a) next = next a
+and_then (Err kind) next = Err kind
+
+abbrev pub without_names : {A : Type 0} → List (List ℕ × Datum) → A → Result A FaultKind
+without_names [] a = Ok a
+without_names (n ∷ named) a = Err Args
+
+-- no argument by name
+unfoldable pub by_place : Passed → Result (List Datum) FaultKind
+by_place p = without_names p.named p.positional
+
+unfoldable pub one_argument : List Datum → Result Datum FaultKind
+one_argument (v ∷ []) = Ok v
+one_argument _ = Err Args
+
+unfoldable pub optional_argument : List Datum → Result (Option Datum) FaultKind
+optional_argument [] = Ok None
+optional_argument (v ∷ []) = Ok (Some v)
+optional_argument _ = Err Args
+
+-- the second may be left out
+unfoldable pub one_or_two : List Datum → Result (Datum × Option Datum) FaultKind
+one_or_two (v ∷ []) = Ok (v, None)
+one_or_two (v ∷ w ∷ []) = Ok (v, Some w)
+one_or_two _ = Err Args
+
+-- the second and the third may be left out
+unfoldable pub one_to_three : List Datum → Result (Datum × (Option Datum × Option Datum)) FaultKind
+one_to_three (v ∷ []) = Ok (v, (None, None))
+one_to_three (v ∷ w ∷ []) = Ok (v, (Some w, None))
+one_to_three (v ∷ w ∷ x ∷ []) = Ok (v, (Some w, Some x))
+one_to_three _ = Err Args
+
+unfoldable pub only_argument : Passed → Result Datum FaultKind
+only_argument p = and_then (by_place p) one_argument
+
+-- the one argument may be left out
+unfoldable pub only_argument_if_any : Passed → Result (Option Datum) FaultKind
+only_argument_if_any p = and_then (by_place p) optional_argument
+
+-- one argument at most by name: the one of that name
+unfoldable pub only_named : List ℕ → List (List ℕ × Datum) → Result (Option Datum) FaultKind
+only_named name [] = Ok None
+only_named name (a ∷ []) = cond (bytes_eq name a.0) (Ok (Some a.1)) (Err Args)
+only_named name _ = Err Args
+
+-- an argument is passed by place or by name, and not twice
+abbrev pub passed_once : Datum → Option Datum → Option Datum → Result (Datum × Option Datum) FaultKind
+passed_once v None o = Ok (v, o)
+passed_once v (Some w) None = Ok (v, Some w)
+passed_once v (Some w) (Some u) = Err Args
+
+-- one argument, and a second one that may be left out, by place or by that name
+unfoldable pub one_and_named : List ℕ → Passed → Result (Datum × Option Datum) FaultKind
+one_and_named name p = and_then (one_or_two p.positional) (λ r. and_then (only_named name p.named) (λ o. passed_once r.0 r.1 o))
+
+-- an integer (F40)
+unfoldable pub integer : Datum → Result ℤ FaultKind
+integer (int i) = Ok i
+integer v = Err WrongType
+
+-- a bool; left out, `False` (F40)
+unfoldable pub flag : Option Datum → Result Bool FaultKind
+flag None = Ok false
+flag (Some (boolean b)) = Ok b
+flag (Some v) = Err WrongType
+
+-- a string (F40)
+unfoldable pub text : Datum → Result (List ℕ) FaultKind
+text (string t) = Ok t
+text v = Err WrongType

@@ -1,0 +1,79 @@
+-- The functions `int`, `len` and `range` (Starlark, "int", "len", "range").
+use Rattle.std.specs.Prelude.{ℕ, ℤ, pos, nat_lt, ◌&&◌, true, false, Bool, cond, List, length, Option, Some, None, Result, Ok, Err}
+use Rattle.std.specs.Ordering.{int_eq}
+use Rattle.std.specs.Str.{all_ascii_digits}
+use Rattle.std.specs.Str.Parse.{without_leading_sign, signed_digits_value}
+use Rattle.bq_base.specs.declared.fault.FaultKind.{FaultKind}
+use Rattle.bq_base.specs.declared.fault.FaultKind.TheVariants.{WrongType, BadValue}
+use Rattle.bq_builtin_numbers.specs.Integer.{fitted}
+use Rattle.bq_value.specs.Datum as datum
+use Rattle.bq_value.specs.Datum.{Datum, boolean, string, tuple, cell, list_of}
+use Rattle.bq_value.specs.Range.{range_count}
+use Rattle.bq_value.specs.Contents.{Contents, items, pairs, rule}
+use Rattle.bq_value.specs.Cells.{StoreView, content_at}
+use Rattle.bq_builtin_machine.specs.Args.{Passed}
+use Rattle.bq_builtin.specs.Arguments.{and_then}
+use Rattle.bq_builtin.specs.Arguments.{one_to_three, integer}
+use Rattle.bq_builtin.specs.Arguments.{by_place, only_argument}
+
+abbrev pub as_int : Result ℤ FaultKind → Result Datum FaultKind
+as_int r = and_then r (λ i. Ok (datum.int i))
+
+-- ---- `int(x)`
+
+-- one decimal digit or more, and nothing else
+abbrev pub is_numeral : List ℕ → Bool
+is_numeral ds = nat_lt 0 (length ds) && all_ascii_digits ds
+
+-- the integer that a text is: decimal digits, with a sign or without; else F57. It has 64 bits (F41).
+unfoldable pub read_integer : List ℕ → Result ℤ FaultKind
+read_integer text = cond (is_numeral (without_leading_sign text)) (fitted (signed_digits_value 10 text)) (Err BadValue)
+
+-- an integer itself, a bool as 0 or 1, what a string says
+unfoldable pub integer_from : Datum → Result ℤ FaultKind
+integer_from (datum.int i) = Ok i
+integer_from (boolean false) = Ok (pos 0)
+integer_from (boolean true) = Ok (pos 1)
+integer_from (string text) = read_integer text
+integer_from v = Err WrongType
+
+unfoldable pub int : Passed → Result Datum FaultKind
+int p = and_then (only_argument p) (λ v. as_int (integer_from v))
+
+-- ---- `len(x)`
+
+abbrev pub content_length : Option Contents → Result ℕ FaultKind
+content_length (Some (items xs)) = Ok (length xs)
+content_length (Some (pairs ps)) = Ok (length ps)
+content_length (Some (rule c)) = Err WrongType
+content_length None = Err WrongType
+
+-- how many bytes or elements there are
+unfoldable pub length_in : StoreView → Datum → Result ℕ FaultKind
+length_in s (string bytes) = Ok (length bytes)
+length_in s (tuple xs) = Ok (length (list_of xs))
+length_in s (datum.range start stop step) = Ok (range_count start stop step)
+length_in s (cell home number) = content_length (content_at s home number)
+length_in s v = Err WrongType
+
+-- a range may have more elements than an integer says (F41)
+unfoldable pub len : StoreView → Passed → Result Datum FaultKind
+len s p = and_then (only_argument p) (λ v. and_then (length_in s v) (λ n. as_int (fitted (pos n))))
+
+-- ---- `range(stop)`, `range(start, stop, step)`
+
+abbrev pub step_or_one : Option Datum → Result ℤ FaultKind
+step_or_one None = Ok (pos 1)
+step_or_one (Some v) = integer v
+
+-- a step of 0 is F57
+unfoldable pub range_by : ℤ → ℤ → ℤ → Result Datum FaultKind
+range_by start stop step = cond (int_eq step (pos 0)) (Err BadValue) (Ok (datum.range start stop step))
+
+-- with one argument it is the end, and the start is 0
+unfoldable pub range_from : Datum × (Option Datum × Option Datum) → Result Datum FaultKind
+range_from (v, (None, o)) = and_then (integer v) (λ stop. range_by (pos 0) stop (pos 1))
+range_from (v, (Some w, o)) = and_then (integer v) (λ start. and_then (integer w) (λ stop. and_then (step_or_one o) (λ step. range_by start stop step)))
+
+unfoldable pub range : Passed → Result Datum FaultKind
+range p = and_then (by_place p) (λ vs. and_then (one_to_three vs) (λ r. range_from r))

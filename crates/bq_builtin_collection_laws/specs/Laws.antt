@@ -1,0 +1,24 @@
+-- Words of the laws.
+use Rattle.std.specs.Prelude.{◌≡◌, ℕ, List, ◌++◌, Some}
+use Rattle.bq_package_rule_class.specs.Class.{Class}
+use Rattle.bq_value.specs.Cells.{content_at}
+use Rattle.bq_value.specs.Contents.{items, pairs, rule}
+use Rattle.bq_value.specs.Datum.{Datum, cell}
+use Rattle.bq_builtin_machine.specs.State.{State}
+
+-- the cell of that number holds a list of these values
+abbrev pub IsList : State → ℕ → ℕ → List Datum → Type 0
+IsList s home number xs = content_at s.store home number ≡ Some (items xs)
+
+-- the cell of that number holds a dict of these pairs
+abbrev pub IsDict : State → ℕ → ℕ → List (Datum × Datum) → Type 0
+IsDict s home number ps = content_at s.store home number ≡ Some (pairs ps)
+
+-- the cell of that number holds a rule with these attributes
+abbrev pub IsRule : State → ℕ → ℕ → Class → Type 0
+IsRule s home number class = content_at s.store home number ≡ Some (rule class)
+
+-- the answer is the same list, which has these values more
+pub record StaysTheSameList (home number : ℕ) (xs more : List Datum) (answer : Datum) (s t : State) : Type 0 where
+  pub same : answer ≡ cell home number
+  pub values : IsList t home number (xs ++ more)

@@ -1,0 +1,85 @@
+//! What holds of lists and dicts that are changed. The functions do nothing: their contracts are the laws.
+
+ghost use Rattle.std.specs.Prelude.{◌≡◌, ◌∷◌, [], ℕ, List, length, map, Option, None, Some, Ok, Err};
+ghost use Rattle.bq_base.specs.declared.fault.FaultKind.{FaultKind};
+ghost use Rattle.bq_base.specs.declared.fault.FaultKind.TheVariants.{WrongType};
+ghost use Rattle.bq_parse_grammar.specs.declared.tree.Operator.TheVariants as op;
+ghost use Rattle.bq_package_rule_class.specs.Class.{Class};
+ghost use Rattle.bq_value.specs.Datum.{Datum, cell};
+ghost use Rattle.bq_value.specs.Pairs.{found};
+ghost use Rattle.bq_builtin_machine.specs.Action.{done, stopped};
+ghost use Rattle.bq_builtin_machine.specs.Args.{Passed};
+ghost use Rattle.bq_builtin_machine.specs.Iteration.{elements_in};
+ghost use Rattle.bq_builtin_machine.specs.State.{State, stop_at};
+ghost use Rattle.bq_builtin_operators.specs.InPlace.{augment, set_index};
+ghost use Rattle.bq_builtin_collections.specs.Arguments.{no_argument, one_argument, two_arguments, optional_argument, one_or_two, or_none};
+ghost use Rattle.bq_builtin_collections.specs.Dict as dict;
+ghost use Rattle.bq_builtin_collections.specs.Dict.{first_out, pair_tuple, with_default};
+ghost use Rattle.bq_builtin_collections.specs.List as list;
+ghost use Rattle.bq_builtin_refusal_laws.specs.Refusals.{IsRefusedForFirst};
+ghost use Rattle.bq_builtin_collection_laws.specs.Laws.{IsList, IsDict, IsRule, StaysTheSameList};
+ghost use Rattle.bq_builtin_collection_laws.specs.Orders.{appending, clearing, extending, inserting, popping, removing, setting_element, taking_out, taking_first, setting_default, updating, setting_pair};
+
+/// A wrong number of arguments (F52) comes before all that is wrong with the list or dict, or with the arguments.
+#[tactic(auto, using(crate::proofs::Lists::no_append, crate::proofs::Lists::no_extend, crate::proofs::Lists::no_insert, crate::proofs::Lists::no_remove, crate::proofs::Lists::no_pop, crate::proofs::Lists::no_clear, crate::proofs::Dicts::no_pop, crate::proofs::Dicts::no_popitem, crate::proofs::Dicts::no_setdefault, crate::proofs::Dicts::no_clear))]
+pub fn wrong_numbers_of_arguments_come_first()
+    ensures append { (home number : ℕ) (args : List Datum) (why : FaultKind) (s : State) → one_argument args ≡ Err why → IsRefusedForFirst (list.append home number args s) (Some why ∷ []) }
+    ensures extend { (home number : ℕ) (args : List Datum) (why : FaultKind) (s : State) → one_argument args ≡ Err why → IsRefusedForFirst (list.extend home number args s) (Some why ∷ []) }
+    ensures insert { (home number : ℕ) (args : List Datum) (why : FaultKind) (s : State) → two_arguments args ≡ Err why → IsRefusedForFirst (list.insert_at home number args s) (Some why ∷ []) }
+    ensures remove { (home number : ℕ) (args : List Datum) (why : FaultKind) (s : State) → one_argument args ≡ Err why → IsRefusedForFirst (list.remove_value home number args s) (Some why ∷ []) }
+    ensures pop { (home number : ℕ) (args : List Datum) (why : FaultKind) (s : State) → optional_argument args ≡ Err why → IsRefusedForFirst (list.pop home number args s) (Some why ∷ []) }
+    ensures clear { (home number : ℕ) (args : List Datum) (why : FaultKind) (s : State) → no_argument args ≡ Err why → IsRefusedForFirst (list.clear home number args s) (Some why ∷ []) }
+    ensures dict_pop { (home number : ℕ) (args : List Datum) (why : FaultKind) (s : State) → one_or_two args ≡ Err why → IsRefusedForFirst (dict.pop home number args s) (Some why ∷ []) }
+    ensures popitem { (home number : ℕ) (args : List Datum) (why : FaultKind) (s : State) → no_argument args ≡ Err why → IsRefusedForFirst (dict.popitem home number args s) (Some why ∷ []) }
+    ensures setdefault { (home number : ℕ) (args : List Datum) (why : FaultKind) (s : State) → one_or_two args ≡ Err why → IsRefusedForFirst (dict.setdefault home number args s) (Some why ∷ []) }
+    ensures dict_clear { (home number : ℕ) (args : List Datum) (why : FaultKind) (s : State) → no_argument args ≡ Err why → IsRefusedForFirst (dict.clear home number args s) (Some why ∷ []) }
+{}
+
+/// A list is refused to a method, or to an assignment, for the first of what is listed, and for nothing else.
+#[tactic(auto, using(crate::proofs::Lists::append_refused, crate::proofs::Lists::clear_refused, crate::proofs::Lists::extend_refused, crate::proofs::Lists::insert_refused, crate::proofs::Lists::pop_refused, crate::proofs::Lists::remove_refused, crate::proofs::Lists::set_refused))]
+pub fn lists_are_refused_in_order()
+    ensures append { (home number : ℕ) (xs : List Datum) (v : Datum) (s : State) → IsList s home number xs → IsRefusedForFirst (list.append home number (v ∷ []) s) (appending s home number xs) }
+    ensures clear { (home number : ℕ) (xs : List Datum) (s : State) → IsList s home number xs → IsRefusedForFirst (list.clear home number [] s) (clearing s home number) }
+    ensures extend { (home number : ℕ) (xs : List Datum) (x : Datum) (s : State) → IsList s home number xs → IsRefusedForFirst (list.extend home number (x ∷ []) s) (extending s home number xs x) }
+    ensures insert { (home number : ℕ) (xs : List Datum) (at v : Datum) (s : State) → IsList s home number xs → IsRefusedForFirst (list.insert_at home number (at ∷ v ∷ []) s) (inserting s home number xs at) }
+    ensures pop { (home number : ℕ) (xs : List Datum) (at : Datum) (s : State) → IsList s home number xs → IsRefusedForFirst (list.pop home number (at ∷ []) s) (popping s home number xs at) }
+    ensures remove { (home number : ℕ) (xs : List Datum) (v : Datum) (s : State) → IsList s home number xs → IsRefusedForFirst (list.remove_value home number (v ∷ []) s) (removing s home number v) }
+    ensures set { (home number : ℕ) (xs : List Datum) (at v : Datum) (s : State) → IsList s home number xs → IsRefusedForFirst (set_index (cell home number) at v s) (setting_element s home number xs at v) }
+{}
+
+/// A dict is refused to a method, or to an assignment, for the first of what is listed, and for nothing else.
+#[tactic(auto, using(crate::proofs::Dicts::clear_refused, crate::proofs::Dicts::pop_refused, crate::proofs::Dicts::pop_or_refused, crate::proofs::Dicts::popitem_refused, crate::proofs::Dicts::setdefault_refused, crate::proofs::Dicts::update_refused, crate::proofs::Dicts::set_refused))]
+pub fn dicts_are_refused_in_order()
+    ensures clear { (home number : ℕ) (ps : List (Datum × Datum)) (s : State) → IsDict s home number ps → IsRefusedForFirst (dict.clear home number [] s) (clearing s home number) }
+    ensures pop { (home number : ℕ) (ps : List (Datum × Datum)) (k : Datum) (s : State) → IsDict s home number ps → IsRefusedForFirst (dict.pop home number (k ∷ []) s) (taking_out s home number ps k None) }
+    ensures pop_or { (home number : ℕ) (ps : List (Datum × Datum)) (k d : Datum) (s : State) → IsDict s home number ps → IsRefusedForFirst (dict.pop home number (k ∷ d ∷ []) s) (taking_out s home number ps k (Some d)) }
+    ensures popitem { (home number : ℕ) (ps : List (Datum × Datum)) (s : State) → IsDict s home number ps → IsRefusedForFirst (dict.popitem home number [] s) (taking_first s home number ps) }
+    ensures setdefault { (home number : ℕ) (ps : List (Datum × Datum)) (k : Datum) (o : Option Datum) (args : List Datum) (s : State) → one_or_two args ≡ Ok (k, o) → IsDict s home number ps → IsRefusedForFirst (dict.setdefault home number args s) (setting_default s home number ps k (or_none o)) }
+    ensures update { (home number : ℕ) (args : Passed) (s : State) → IsRefusedForFirst (dict.update home number args s) (updating s home number args) }
+    ensures set { (home number : ℕ) (ps : List (Datum × Datum)) (k v : Datum) (s : State) → IsDict s home number ps → IsRefusedForFirst (set_index (cell home number) k v s) (setting_pair s home number ps k v) }
+{}
+
+/// A rule is neither a list nor a dict: an assignment to an index or key of it, `+=` and `|=` are refused for its type (F40), whether
+/// it is frozen or not.
+pub fn rules_are_no_lists_and_no_dicts()
+    ensures set { (home number : ℕ) (class : Class) (at v : Datum) (s : State) → IsRule s home number class → set_index (cell home number) at v s ≡ stopped (stop_at WrongType s) }
+    ensures sum { (home number : ℕ) (class : Class) (b : Datum) (s : State) → IsRule s home number class → augment op.Add (cell home number) b s ≡ stopped (stop_at WrongType s) }
+    ensures union { (home number : ℕ) (class : Class) (b : Datum) (s : State) → IsRule s home number class → augment op.BitOr (cell home number) b s ≡ stopped (stop_at WrongType s) }
+{}
+
+/// `a += b` keeps the list `a` the same list: it has the elements of `b` behind its own, and no new list is made.
+pub fn lists_stay_the_same_lists()
+    ensures { (home number : ℕ) (xs more : List Datum) (b answer : Datum) (s t : State) → IsList s home number xs → elements_in s.store b ≡ Ok more → augment op.Add (cell home number) b s ≡ done answer t → StaysTheSameList home number xs more answer s t }
+{}
+
+/// What `popitem` answers is the first of the dict's `items()`, and the others are left, in their order.
+#[tactic(auto, using(crate::proofs::Items::first_item))]
+pub fn the_first_item_is_popped()
+    ensures { (ps left : List (Datum × Datum)) (answer : Datum) → first_out ps ≡ Ok (answer, left) → map pair_tuple ps ≡ answer ∷ map pair_tuple left }
+{}
+
+/// `setdefault` of a key that is there changes nothing, and answers the key's value.
+#[tactic(auto, using(crate::proofs::Items::value_stays))]
+pub fn a_value_that_is_there_stays()
+    ensures { (k d v : Datum) (ps : List (Datum × Datum)) → found k ps ≡ Some v → with_default k d ps ≡ Ok (v, ps) }
+{}

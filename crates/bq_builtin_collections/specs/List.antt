@@ -1,0 +1,134 @@
+-- The methods of lists (Starlark, "Built-in methods": "list·append" and so on), as equations on the list of their values.
+use Rattle.std.specs.Prelude.{ℕ, ◌+◌, ℤ, pos, List, [], ◌∷◌, ◌++◌, length, slice_get, insert, remove, Option, Some, None, Result, Ok, Err}
+use Rattle.bq_base.specs.declared.fault.FaultKind.{FaultKind}
+use Rattle.bq_base.specs.declared.fault.FaultKind.TheVariants.{WrongType, Index, BadValue}
+use Rattle.bq_builtin_numbers.specs.Length.{within}
+use Rattle.bq_builtin_numbers.specs.Place.{clamped, indexed}
+use Rattle.bq_value.specs.Datum.{Datum, none, int}
+use Rattle.bq_value.specs.Contents.{Contents, items, pairs, rule}
+use Rattle.bq_builtin_machine.specs.State.{State}
+use Rattle.bq_builtin_machine.specs.Action.{Action, ◌>>=◌, ◌>>◌, stop, given}
+use Rattle.bq_builtin_machine.specs.Cells.{Change, changing, may_change, content}
+use Rattle.bq_builtin_machine.specs.Iteration.{elements}
+use Rattle.bq_builtin_machine.specs.Machine.{walk}
+use Rattle.bq_builtin_collections.specs.declared.list_edit.ListEdit.{ListEdit}
+use Rattle.bq_builtin_collections.specs.declared.list_edit.ListEdit.TheVariants as edit
+use Rattle.bq_builtin_collections.specs.Search.{found_between}
+use Rattle.bq_builtin_collections.specs.Arguments.{one_to_three, optional_integer, no_argument, one_argument, two_arguments, optional_argument, integer, index_or_last}
+
+-- a change of a list: an answer, and the list then
+abbrev pub ListChange : Type 0
+ListChange = List Datum → Result (Datum × List Datum) FaultKind
+
+abbrev pub as_items : Result (Datum × List Datum) FaultKind → Result (Datum × Contents) FaultKind
+as_items (Ok r) = Ok (r.0, items r.1)
+as_items (Err kind) = Err kind
+
+unfoldable pub on_items : ListChange → Change Datum
+on_items f (items xs) = as_items (f xs)
+on_items f (pairs ps) = Err WrongType
+on_items f (rule c) = Err WrongType
+
+abbrev pub and_then : {A B : Type 0} → Result A FaultKind → (A → Result B FaultKind) → Result B FaultKind
+and_then (Ok a) next = next a
+and_then (Err kind) next = Err kind
+
+-- `append(v)`: one element more, at the end (F54)
+unfoldable pub appended : Datum → ListChange
+appended v xs = and_then (within (length xs + 1)) (λ n. Ok (none, xs ++ v ∷ []))
+
+-- `extend(x)`: the elements of `x` at the end (F54)
+unfoldable pub extended : List Datum → ListChange
+extended ys xs = and_then (within (length xs + length ys)) (λ n. Ok (none, xs ++ ys))
+
+-- `insert(i, v)`: before the element of index `i`; past an end, at that end (F54)
+unfoldable pub inserted : ℤ → Datum → ListChange
+inserted i v xs = and_then (within (length xs + 1)) (λ n. Ok (none, insert xs (clamped (length xs) i) v))
+
+abbrev pub taken_by : Option Datum → ℕ → ListChange
+taken_by (Some v) at xs = Ok (v, remove xs at)
+taken_by None at xs = Err Index
+
+-- the element of that place is taken out, and is the answer
+abbrev pub taken : ℕ → ListChange
+taken at xs = taken_by (slice_get xs at) at xs
+
+-- `pop(i)`: the element of index `i` is taken out (F43)
+unfoldable pub popped : ℤ → ListChange
+popped i xs = and_then (indexed (length xs) i) (λ at. taken at xs)
+
+-- `clear()`
+unfoldable pub cleared : ListChange
+cleared xs = Ok (none, [])
+
+abbrev pub dropped_by : Option Datum → ℕ → ListChange
+dropped_by (Some v) at xs = Ok (none, remove xs at)
+dropped_by None at xs = Err Index
+
+-- the element of that place is taken out
+unfoldable pub dropped : ℕ → ListChange
+dropped at xs = dropped_by (slice_get xs at) at xs
+
+abbrev pub edited : ListEdit → ListChange
+edited (edit.Append v) = appended v
+edited (edit.Extend ys) = extended ys
+edited (edit.Insert i v) = inserted i v
+edited (edit.Pop i) = popped i
+edited edit.Clear = cleared
+edited (edit.Drop at) = dropped at
+
+-- ---- calls: the arguments are read first (F52, F40), then the list may be changed or not (F47, F48)
+
+unfoldable pub append : ℕ → ℕ → List Datum → Action State Datum
+append home number args = given (one_argument args) >>= λ v. changing home number (on_items (appended v))
+
+unfoldable pub clear : ℕ → ℕ → List Datum → Action State Datum
+clear home number args = given (no_argument args) >> changing home number (on_items cleared)
+
+-- the elements of `x` are read before the list is changed, so a list may be extended by itself
+unfoldable pub extend : ℕ → ℕ → List Datum → Action State Datum
+extend home number args = given (one_argument args) >>= λ x. elements x >>= λ ys. changing home number (on_items (extended ys))
+
+unfoldable pub insert_at : ℕ → ℕ → List Datum → Action State Datum
+insert_at home number args = given (two_arguments args) >>= λ r. given (integer r.0) >>= λ i. changing home number (on_items (inserted i r.1))
+
+unfoldable pub pop : ℕ → ℕ → List Datum → Action State Datum
+pop home number args = given (optional_argument args) >>= λ o. given (index_or_last o) >>= λ i. changing home number (on_items (popped i))
+
+-- ---- methods that look for an element
+
+abbrev pub list_of : Contents → Result (List Datum) FaultKind
+list_of (items xs) = Ok xs
+list_of (pairs ps) = Err WrongType
+list_of (rule c) = Err WrongType
+
+-- the values of a list
+unfoldable pub list_in : ℕ → ℕ → Action State (List Datum)
+list_in home number = content home number >>= λ c. given (list_of c)
+
+unfoldable pub find : ℕ → ℕ → Datum → Option ℤ → Option ℤ → Action State (Option ℕ)
+find home number v start end = list_in home number >>= λ xs. walk (λ store n. found_between store n xs v start end)
+
+abbrev pub place_by : Option ℕ → Result ℕ FaultKind
+place_by (Some at) = within at
+place_by None = Err BadValue
+
+-- the place that was found, as an integer (F57 where none was; F54 past the longest list, which none is)
+unfoldable pub place_value : Option ℕ → Result Datum FaultKind
+place_value at = and_then (place_by at) (λ n. Ok (int (pos n)))
+
+-- `index(v, start, end)`: the place of the first element that is equal to `v`
+unfoldable pub index : ℕ → ℕ → List Datum → Action State Datum
+index home number args =
+    given (one_to_three args) >>= λ r. given (optional_integer r.1.0) >>= λ start. given (optional_integer r.1.1) >>= λ end.
+    find home number r.0 start end >>= λ at. given (place_value at)
+
+abbrev pub drop_at : ℕ → ℕ → Option ℕ → Action State Datum
+drop_at home number (Some at) = changing home number (on_items (dropped at))
+drop_at home number None = stop BadValue
+
+-- `remove(v)`: the first element that is equal to `v` is taken out (F57). A list that may not be changed is a fault before any
+-- element is looked at.
+unfoldable pub remove_value : ℕ → ℕ → List Datum → Action State Datum
+remove_value home number args =
+    given (one_argument args) >>= λ v. list_in home number >>= λ xs. may_change home number >> (find home number v None None >>= λ at. drop_at home number at)

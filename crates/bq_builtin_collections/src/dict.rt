@@ -1,0 +1,226 @@
+//! The methods of dicts (Starlark, "Built-in methods").
+
+ghost use Rattle.std.specs.Prelude.{◌≡◌, map, IfOk, option_copied};
+ghost use Rattle.bq_builtin_machine.specs.Action.{Does};
+ghost use Rattle.bq_builtin_collections.specs.Arguments.{or_none};
+ghost use Rattle.bq_builtin_collections.specs.Dict.{pairs_in, pair_tuple, clear, get, dict_items, dict_keys, dict_values, key_to_change, pop, popitem, setdefault, update, dict_made};
+
+use crate::arguments::{no_argument, one_or_two};
+use crate::dict_edit::{DictEdit, change_dict, pair_tuple};
+use crate::pairs_given::PairsGiven;
+use bq_base::FaultKind;
+use bq_builtin_machine::{Args, Machine, keys_of};
+use bq_builtin_operators::{put_pairs, unite};
+use bq_value::{Body, Cell, Dict, EvalErr, Key, Value};
+use std::alloc::{AllocError, Global};
+
+/// The pairs of a dict.
+#[tactic(auto, unfolding(crate::specs::Dict::pairs_in))]
+fn pairs_in(machine: &Machine, dict: Cell) -> Result<&Dict, EvalErr>
+    ensures { Does (λ ps. ps.now) result machine.now (pairs_in dict.module dict.number machine.now) }
+{
+    let content = machine.content(dict)?;
+    match &content.body {
+        Body::Dict(pairs) => Ok(pairs),
+        Body::List(_) => Err(EvalErr::Bad(FaultKind::WrongType)),
+        Body::Rule(_) => Err(EvalErr::Bad(FaultKind::WrongType)),
+    }
+}
+
+/// A value that may be left out, which is `None` then.
+fn or_none(value: Option<&Value>) -> Result<Value, AllocError>
+    ensures { IfOk result (λ v. v ≡ or_none (option_copied value.entry)) }
+{
+    match value {
+        Some(value) => value.share(),
+        None => Ok(Value::none()),
+    }
+}
+
+fn shared(value: Option<&Value>) -> Result<Option<Value>, AllocError>
+    ensures { IfOk result (λ o. o ≡ option_copied value.entry) }
+{
+    match value {
+        Some(value) => Ok(Some(value.share()?)),
+        None => Ok(None),
+    }
+}
+
+/// `clear()`: no pair.
+#[tactic(auto, unfolding(crate::specs::Dict::clear))]
+pub fn clear(
+    alloc: Global,
+    machine: &mut Machine,
+    dict: Cell,
+    args: &[Value],
+) -> Result<Value, EvalErr>
+    ensures { Does (λ v. v) result machine.new (clear dict.module dict.number args.now machine.old) }
+{
+    no_argument(args)?;
+    change_dict(alloc, machine, dict, DictEdit::Clear)
+}
+
+/// `get(key, default)`: the key's value.
+#[tactic(auto, unfolding(crate::specs::Dict::get))]
+pub fn get(machine: &mut Machine, dict: Cell, args: &[Value]) -> Result<Value, EvalErr>
+    ensures { Does (λ v. v) result machine.new (get dict.module dict.number args.now machine.old) }
+{
+    let (key, default) = one_or_two(args)?;
+    let key = machine.key(key)?;
+    match pairs_in(machine, dict)?.get(&key) {
+        Some(value) => Ok(value.share()?),
+        None => Ok(or_none(default)?),
+    }
+}
+
+/// `items()`: a new list of the pairs, each a tuple.
+#[tactic(auto, unfolding(crate::specs::Dict::dict_items))]
+pub fn items(
+    alloc: Global,
+    machine: &mut Machine,
+    dict: Cell,
+    args: &[Value],
+) -> Result<Value, EvalErr>
+    ensures { Does (λ v. v) result machine.new (dict_items dict.module dict.number args.now machine.old) }
+{
+    no_argument(args)?;
+    let tuples = tuples_of(alloc, pairs_in(machine, dict)?)?;
+    machine.new_list(tuples)
+}
+
+/// `keys()`: a new list of the keys.
+#[tactic(auto, unfolding(crate::specs::Dict::dict_keys))]
+pub fn keys(
+    alloc: Global,
+    machine: &mut Machine,
+    dict: Cell,
+    args: &[Value],
+) -> Result<Value, EvalErr>
+    ensures { Does (λ v. v) result machine.new (dict_keys dict.module dict.number args.now machine.old) }
+{
+    no_argument(args)?;
+    let keys = keys_of(alloc, pairs_in(machine, dict)?)?;
+    machine.new_list(keys)
+}
+
+/// `values()`: a new list of the values.
+#[tactic(auto, unfolding(crate::specs::Dict::dict_values))]
+pub fn values(
+    alloc: Global,
+    machine: &mut Machine,
+    dict: Cell,
+    args: &[Value],
+) -> Result<Value, EvalErr>
+    ensures { Does (λ v. v) result machine.new (dict_values dict.module dict.number args.now machine.old) }
+{
+    no_argument(args)?;
+    let values = values_of(alloc, pairs_in(machine, dict)?)?;
+    machine.new_list(values)
+}
+
+fn values_of(alloc: Global, dict: &Dict) -> Result<Vec<Value>, AllocError>
+    ensures { IfOk result (λ xs. xs.items ≡ map (λ p. p.1) dict.now) }
+{
+    let mut values = Vec::with_capacity(alloc, dict.len())?;
+    for i in 0..dict.len() {
+        let (_, value) = dict.pair(i);
+        values.push(value.share()?)?;
+    }
+    Ok(values)
+}
+
+fn tuples_of(alloc: Global, dict: &Dict) -> Result<Vec<Value>, AllocError>
+    ensures { IfOk result (λ xs. xs.items ≡ map pair_tuple dict.now) }
+{
+    let mut tuples = Vec::with_capacity(alloc, dict.len())?;
+    for i in 0..dict.len() {
+        let (key, value) = dict.pair(i);
+        tuples.push(pair_tuple(alloc, key, value)?)?;
+    }
+    Ok(tuples)
+}
+
+/// A key by which the dict is changed.
+#[tactic(auto, unfolding(crate::specs::Dict::key_to_change))]
+fn key_to_change(machine: &mut Machine, dict: Cell, key: &Value) -> Result<Key, EvalErr>
+    ensures { Does (λ key. key) result machine.new (key_to_change dict.module dict.number key.now machine.old) }
+{
+    pairs_in(machine, dict)?;
+    machine.may_change(dict)?;
+    machine.key(key)
+}
+
+/// `pop(key, default)`: the key's pair is taken out.
+#[tactic(auto, unfolding(crate::specs::Dict::pop))]
+pub fn pop(
+    alloc: Global,
+    machine: &mut Machine,
+    dict: Cell,
+    args: &[Value],
+) -> Result<Value, EvalErr>
+    ensures { Does (λ v. v) result machine.new (pop dict.module dict.number args.now machine.old) }
+{
+    let (key, default) = one_or_two(args)?;
+    let default = shared(default)?;
+    let key = key_to_change(machine, dict, key)?;
+    change_dict(alloc, machine, dict, DictEdit::Pop(key, default))
+}
+
+/// `popitem()`: the first pair is taken out.
+#[tactic(auto, unfolding(crate::specs::Dict::popitem))]
+pub fn popitem(
+    alloc: Global,
+    machine: &mut Machine,
+    dict: Cell,
+    args: &[Value],
+) -> Result<Value, EvalErr>
+    ensures { Does (λ v. v) result machine.new (popitem dict.module dict.number args.now machine.old) }
+{
+    no_argument(args)?;
+    change_dict(alloc, machine, dict, DictEdit::PopItem)
+}
+
+/// `setdefault(key, default)`: the key's value, which is the default where there was none.
+#[tactic(auto, unfolding(crate::specs::Dict::setdefault))]
+pub fn setdefault(
+    alloc: Global,
+    machine: &mut Machine,
+    dict: Cell,
+    args: &[Value],
+) -> Result<Value, EvalErr>
+    ensures { Does (λ v. v) result machine.new (setdefault dict.module dict.number args.now machine.old) }
+{
+    let (key, default) = one_or_two(args)?;
+    let default = or_none(default)?;
+    let key = key_to_change(machine, dict, key)?;
+    change_dict(alloc, machine, dict, DictEdit::SetDefault(key, default))
+}
+
+/// `update(pairs = [], **keywords)`: each pair is put in turn; a key that is there keeps its place.
+#[tactic(auto, unfolding(crate::specs::Dict::update))]
+pub fn update(
+    alloc: Global,
+    machine: &mut Machine,
+    dict: Cell,
+    args: Args,
+) -> Result<Value, EvalErr>
+    ensures { Does (λ v. v) result machine.new (update dict.module dict.number args machine.old) }
+{
+    let given = PairsGiven::of(alloc, machine, args)?;
+    machine.may_change(dict)?;
+    let pairs = given.into_pairs(machine)?;
+    unite(machine, dict, &pairs)?;
+    Ok(Value::none())
+}
+
+/// The function `dict(pairs = [], **keywords)`: a new dict, into which each pair is put in turn.
+#[tactic(auto, unfolding(crate::specs::Dict::dict_made))]
+pub fn new_dict(alloc: Global, machine: &mut Machine, args: Args) -> Result<Value, EvalErr>
+    ensures { Does (λ v. v) result machine.new (dict_made args machine.old) }
+{
+    let given = PairsGiven::of(alloc, machine, args)?;
+    let pairs = given.into_pairs(machine)?;
+    let mut dict = Dict::new(alloc, machine.store().seed());
+    put_pairs(&mut dict, &pairs)?;
+    machine.new_dict(dict)
+}

@@ -1,0 +1,142 @@
+//! The methods of lists (Starlark, "Built-in methods").
+
+ghost use Rattle.bq_base.specs.Gives.{Gives};
+ghost use Rattle.bq_value.specs.declared.error.EvalErr.TheVariants.{Bad};
+ghost use Rattle.bq_builtin_machine.specs.Action.{Does};
+ghost use Rattle.bq_builtin_collections.specs.List.{append, clear, extend, insert_at, pop, list_in, find, place_value, index, remove_value};
+
+use crate::arguments::{
+    index_or_last, integer, no_argument, one_argument, one_to_three, optional_argument,
+    optional_integer, two_arguments,
+};
+use crate::list_edit::{ListEdit, change_list};
+use crate::search::found_between;
+use bq_base::FaultKind;
+use bq_builtin_machine::Machine;
+use bq_builtin_numbers::MAX_LEN;
+use bq_value::{Body, Cell, EvalErr, Value};
+use std::alloc::Global;
+
+/// `append(v)`: one element more, at the end.
+#[tactic(auto, unfolding(crate::specs::List::append))]
+pub fn append(machine: &mut Machine, list: Cell, args: &[Value]) -> Result<Value, EvalErr>
+    ensures { Does (λ v. v) result machine.new (append list.module list.number args.now machine.old) }
+{
+    let value = one_argument(args)?.share()?;
+    change_list(machine, list, ListEdit::Append(value))
+}
+
+/// `clear()`: no element.
+#[tactic(auto, unfolding(crate::specs::List::clear))]
+pub fn clear(machine: &mut Machine, list: Cell, args: &[Value]) -> Result<Value, EvalErr>
+    ensures { Does (λ v. v) result machine.new (clear list.module list.number args.now machine.old) }
+{
+    no_argument(args)?;
+    change_list(machine, list, ListEdit::Clear)
+}
+
+/// `extend(x)`: the elements of `x` at the end.
+#[tactic(auto, unfolding(crate::specs::List::extend))]
+pub fn extend(
+    alloc: Global,
+    machine: &mut Machine,
+    list: Cell,
+    args: &[Value],
+) -> Result<Value, EvalErr>
+    ensures { Does (λ v. v) result machine.new (extend list.module list.number args.now machine.old) }
+{
+    let elements = machine.elements(alloc, one_argument(args)?)?;
+    change_list(machine, list, ListEdit::Extend(elements))
+}
+
+/// `insert(i, v)`: before the element of index `i`; past an end, at that end.
+#[tactic(auto, unfolding(crate::specs::List::insert_at))]
+pub fn insert(machine: &mut Machine, list: Cell, args: &[Value]) -> Result<Value, EvalErr>
+    ensures { Does (λ v. v) result machine.new (insert_at list.module list.number args.now machine.old) }
+{
+    let (place, value) = two_arguments(args)?;
+    let place = integer(place)?;
+    let value = value.share()?;
+    change_list(machine, list, ListEdit::Insert(place, value))
+}
+
+/// `pop(i)`: the element of index `i` is taken out; without an index, the last one.
+#[tactic(auto, unfolding(crate::specs::List::pop))]
+pub fn pop(machine: &mut Machine, list: Cell, args: &[Value]) -> Result<Value, EvalErr>
+    ensures { Does (λ v. v) result machine.new (pop list.module list.number args.now machine.old) }
+{
+    let place = index_or_last(optional_argument(args)?)?;
+    change_list(machine, list, ListEdit::Pop(place))
+}
+
+/// The values of a list.
+#[tactic(auto, unfolding(crate::specs::List::list_in))]
+fn list_in(machine: &Machine, list: Cell) -> Result<&[Value], EvalErr>
+    ensures { Does (λ xs. xs.now) result machine.now (list_in list.module list.number machine.now) }
+{
+    let content = machine.content(list)?;
+    match &content.body {
+        Body::List(values) => Ok(values),
+        Body::Dict(_) => Err(EvalErr::Bad(FaultKind::WrongType)),
+        Body::Rule(_) => Err(EvalErr::Bad(FaultKind::WrongType)),
+    }
+}
+
+/// The place of the first element between two indices that is equal to `value`, if there is one.
+#[tactic(auto, unfolding(crate::specs::List::find))]
+fn find(
+    machine: &mut Machine,
+    list: Cell,
+    value: &Value,
+    start: Option<i64>,
+    end: Option<i64>,
+) -> Result<Option<usize>, EvalErr>
+    ensures { Does (λ at. at) result machine.new (find list.module list.number value.now start end machine.old) }
+{
+    let values = list_in(machine, list)?;
+    let (at, left) = found_between(machine.store(), machine.steps(), values, value, start, end)?;
+    machine.set_steps(left);
+    Ok(at)
+}
+
+/// The place that was found, as an integer.
+#[tactic(auto, using(std::proofs::lemmas::Bool::Decides::nat_tests), unfolding(crate::specs::List::place_value))]
+fn place_value(at: Option<usize>) -> Result<Value, EvalErr>
+    ensures { Gives (λ v. v) Bad result (place_value at) }
+{
+    match at {
+        None => Err(EvalErr::Bad(FaultKind::BadValue)),
+        Some(at) => {
+            if at > MAX_LEN {
+                return Err(EvalErr::Bad(FaultKind::TooLong));
+            }
+            Ok(Value::int(at as i64))
+        }
+    }
+}
+
+/// `index(v, start, end)`: the place of the first element that is equal to `v`.
+#[tactic(auto, unfolding(crate::specs::List::index))]
+pub fn index(machine: &mut Machine, list: Cell, args: &[Value]) -> Result<Value, EvalErr>
+    ensures { Does (λ v. v) result machine.new (index list.module list.number args.now machine.old) }
+{
+    let (value, start, end) = one_to_three(args)?;
+    let start = optional_integer(start)?;
+    let end = optional_integer(end)?;
+    let at = find(machine, list, value, start, end)?;
+    place_value(at)
+}
+
+/// `remove(v)`: the first element that is equal to `v` is taken out.
+#[tactic(auto, unfolding(crate::specs::List::remove_value))]
+pub fn remove(machine: &mut Machine, list: Cell, args: &[Value]) -> Result<Value, EvalErr>
+    ensures { Does (λ v. v) result machine.new (remove_value list.module list.number args.now machine.old) }
+{
+    let value = one_argument(args)?;
+    list_in(machine, list)?;
+    machine.may_change(list)?;
+    match find(machine, list, value, None, None)? {
+        Some(at) => change_list(machine, list, ListEdit::Drop(at)),
+        None => Err(EvalErr::Bad(FaultKind::BadValue)),
+    }
+}

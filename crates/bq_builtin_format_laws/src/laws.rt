@@ -1,0 +1,23 @@
+//! What holds of formats. The functions do nothing: their contracts are the laws.
+
+ghost use Rattle.std.specs.Prelude.{◌≡◌, ◌++◌, ◌∷◌, [], ℕ, List, Ok, Err, true};
+ghost use Rattle.std.specs.List.{Contains};
+ghost use Rattle.bq_base.specs.declared.fault.FaultKind.TheVariants.{Format};
+ghost use Rattle.bq_value.specs.Cells.{StoreView};
+ghost use Rattle.bq_value.specs.Datum.{Datum};
+ghost use Rattle.bq_builtin_format.specs.Argument.{is_number};
+ghost use Rattle.bq_builtin_format.specs.Method.{formatted};
+ghost use Rattle.bq_builtin_format.specs.Percent.{text_filled};
+ghost use Rattle.bq_builtin_format.specs.Piece.{field, pieces};
+
+/// A format that `%` fills with some values is F59 with more of them. So no other number of values fills it.
+#[tactic(auto, using(crate::proofs::Values::too_many))]
+pub fn values_are_just_enough()
+    ensures { (s : StoreView) (n : ℕ) (format : List ℕ) (values more : List Datum) (v : Datum) (text : List ℕ × ℕ) → text_filled s n format values ≡ Ok text → text_filled s n format (values ++ v ∷ more) ≡ Err Format }
+{}
+
+/// A format with a field without text and a field with a number is filled by no values.
+#[tactic(auto, using(crate::proofs::Mixed::not_mixed))]
+pub fn fields_are_not_mixed()
+    ensures { (s : StoreView) (n : ℕ) (format : List ℕ) (all : List Datum) (named : List (List ℕ × Datum)) (number : List ℕ) (text : List ℕ × ℕ) → Contains (pieces format) (field []) → Contains (pieces format) (field number) → is_number number ≡ true → ¬ (formatted s n format all named ≡ Ok text) }
+{}

@@ -1,0 +1,247 @@
+//! Which argument goes to which parameter (Starlark, "Function and method calls").
+
+ghost use Rattle.std.specs.Prelude.{◌≡◌, ◌≤◌, not, ◌||◌, nat_le, drop, IfOk, OnOk, map};
+ghost use Rattle.std.specs.List.{position_from};
+ghost use Rattle.bq_base.specs.Gives.{Gives};
+ghost use Rattle.bq_value.specs.declared.error.EvalErr.TheVariants.{Bad};
+ghost use Rattle.bq_builtin_machine.specs.Parameters.{parameter_of, signature_of, places, is_called, HasPlaces};
+ghost use Rattle.bq_builtin_machine.specs.Binding.{placed_values, placed, has_value, fill, take_keyword, take_named, take_all_named, is_complete, bind};
+
+use crate::args::Args;
+use crate::iteration::Elements;
+use crate::parameters::{Signature, SingleParameter, parameter_called, places_by_name};
+use bq_base::{Bytes, FaultKind};
+use bq_value::{Dict, EvalErr, Key, Value};
+use bq_value_seed::Seed;
+use std::alloc::{AllocError, Global};
+use std::collections::BTreeMap;
+use std::marker::Model;
+
+/// So many named arguments, or arguments to so many parameters, look through the parameters one by one. More have a map of them.
+const FEW: usize = 16;
+
+/// What the parameters of a function take. Contracts see `BoundView`.
+#[derive(Drop)]
+pub struct Bound {
+    /// The argument of each parameter, where it has one.
+    pub values: Vec<Option<Value>>,
+    /// What `*` takes.
+    pub rest: Vec<Value>,
+    /// What `**` takes.
+    pub keywords: Dict,
+}
+
+impl Model for Bound {
+    ghost use Rattle.bq_builtin_machine.specs.Binding.{BoundView, coded_bound};
+
+    ghost Value = { BoundView };
+
+    ghost coded = { coded_bound };
+
+    ghost use Rattle.bq_builtin_machine.specs.ArgsOf.{bound_of};
+
+    ghost view = { bound_of };
+}
+
+/// Binds arguments to parameters, or F52. What `**` takes is found by this seed.
+#[tactic(auto, unfolding(crate::specs::Binding::bind))]
+pub fn bind(
+    alloc: Global,
+    seed: Seed,
+    signature: &Signature<'_>,
+    args: Args,
+) -> Result<Bound, EvalErr>
+    ensures { Gives (λ b. b) Bad result (bind (signature_of signature.now) args) }
+{
+    let Args { positional, named } = args;
+    if is_too_many(signature, positional.len()) {
+        return Err(EvalErr::Bad(FaultKind::Args));
+    }
+    let mut bound = Bound::placed(alloc, seed, signature, positional)?;
+    bound.take_all_named(alloc, signature, named)?;
+    if !is_complete(signature.parameters, &bound.values) {
+        return Err(EvalErr::Bad(FaultKind::Args));
+    }
+    Ok(bound)
+}
+
+fn places(signature: &Signature<'_>) -> usize
+    ensures { result ≡ places (signature_of signature.now) }
+{
+    signature.placed.min(signature.parameters.len())
+}
+
+fn is_too_many(signature: &Signature<'_>, count: usize) -> bool
+    ensures { result ≡ not (signature.now.takes_rest || nat_le count (places (signature_of signature.now))) }
+{
+    !(signature.takes_rest || count <= places(signature))
+}
+
+/// The first so many of so many parameters take the next values, one each.
+fn placed_values(
+    alloc: Global,
+    placed: usize,
+    count: usize,
+    values: &mut Elements,
+) -> Result<Vec<Option<Value>>, AllocError>
+    requires { placed ≤ count }
+    ensures values { IfOk result (λ vs. vs.items ≡ placed_values placed count values.old) }
+    ensures left { OnOk result (values.new ≡ drop placed values.old) }
+{
+    let mut slots = Vec::with_capacity(alloc, count)?;
+    for i in 0..count {
+        let value = if i < placed { values.next() } else { None };
+        slots.push(value)?;
+    }
+    Ok(slots)
+}
+
+/// All that is left.
+fn rest_of(alloc: Global, values: &mut Elements) -> Result<Vec<Value>, AllocError>
+    ensures { IfOk result (λ xs. xs.items ≡ values.old) }
+{
+    let mut rest = Vec::new(alloc);
+    while let Some(value) = values.next() {
+        rest.push(value)?;
+    }
+    Ok(rest)
+}
+
+fn is_complete(parameters: &[SingleParameter<'_>], values: &[Option<Value>]) -> bool
+    ensures { result ≡ is_complete (map parameter_of parameters.now) values.now }
+{
+    for (i, parameter) in parameters.iter().enumerate() {
+        if parameter.is_required && !has_value(values, i) {
+            return false;
+        }
+    }
+    true
+}
+
+fn has_value(values: &[Option<Value>], i: usize) -> bool
+    ensures { result ≡ has_value values.now i }
+{
+    match values.get(i) {
+        Some(Some(_)) => true,
+        _ => false,
+    }
+}
+
+impl Bound {
+    /// The positional arguments go to the parameters in their order.
+    fn placed(
+        alloc: Global,
+        seed: Seed,
+        signature: &Signature<'_>,
+        positional: Vec<Value>,
+    ) -> Result<Bound, AllocError>
+        ensures { IfOk result (λ b. b ≡ placed (signature_of signature.now) positional.items) }
+    {
+        let mut left = Elements::of(positional);
+        let values = placed_values(
+            alloc,
+            places(signature),
+            signature.parameters.len(),
+            &mut left,
+        )?;
+        let rest = rest_of(alloc, &mut left)?;
+        Ok(Bound {
+            values,
+            rest,
+            keywords: Dict::new(alloc, seed),
+        })
+    }
+
+    /// Each named argument goes to the parameter of its name, and else to `**`.
+    fn take_all_named(
+        &mut self,
+        alloc: Global,
+        signature: &Signature<'_>,
+        named: Vec<(Bytes, Value)>,
+    ) -> Result<(), EvalErr>
+        ensures { Gives (λ _. self.new) Bad result (take_all_named (signature_of signature.now) named.items self.old) }
+    {
+        if named.len().min(signature.parameters.len()) <= FEW {
+            return self.take_few_named(signature, named);
+        }
+        let by_name = places_by_name(alloc, signature.parameters)?;
+        self.take_many_named(&by_name, signature, named)
+    }
+
+    /// The same, where each looks through the parameters.
+    #[tactic(auto, unfolding(crate::specs::Binding::take_all_named))]
+    fn take_few_named(
+        &mut self,
+        signature: &Signature<'_>,
+        named: Vec<(Bytes, Value)>,
+    ) -> Result<(), EvalErr>
+        ensures { Gives (λ _. self.new) Bad result (take_all_named (signature_of signature.now) named.items self.old) }
+    {
+        for (name, value) in named {
+            let place = parameter_called(signature.parameters, name.as_slice());
+            self.take_named(place, signature, name, value)?;
+        }
+        Ok(())
+    }
+
+    /// The same, by the places of all parameters.
+    #[tactic(auto, unfolding(crate::specs::Binding::take_all_named))]
+    fn take_many_named(
+        &mut self,
+        by_name: &BTreeMap<&[u8], usize>,
+        signature: &Signature<'_>,
+        named: Vec<(Bytes, Value)>,
+    ) -> Result<(), EvalErr>
+        requires { HasPlaces 0 (map parameter_of signature.now.parameters.now) by_name.now }
+        ensures { Gives (λ _. self.new) Bad result (take_all_named (signature_of signature.now) named.items self.old) }
+    {
+        for (name, value) in named {
+            let place = by_name.get(name.as_slice()).copied();
+            self.take_named(place, signature, name, value)?;
+        }
+        Ok(())
+    }
+
+    /// A named argument goes to the parameter at the place of its name, and else to `**`.
+    #[tactic(auto, unfolding(crate::specs::Binding::take_named))]
+    fn take_named(
+        &mut self,
+        place: Option<usize>,
+        signature: &Signature<'_>,
+        name: Bytes,
+        value: Value,
+    ) -> Result<(), EvalErr>
+        requires { place ≡ position_from (is_called name) 0 (map parameter_of signature.now.parameters.now) }
+        ensures { Gives (λ _. self.new) Bad result (take_named (signature_of signature.now) name value self.old) }
+    {
+        match place {
+            Some(i) => self.fill(i, value),
+            None => self.take_keyword(signature.takes_keywords, name, value),
+        }
+    }
+
+    #[tactic(auto, unfolding(crate::specs::Binding::fill))]
+    fn fill(&mut self, i: usize, value: Value) -> Result<(), EvalErr>
+        ensures { Gives (λ _. self.new) Bad result (fill i value self.old) }
+    {
+        if i >= self.values.len() || self.values[i].is_some() {
+            return Err(EvalErr::Bad(FaultKind::Args));
+        }
+        self.values[i] = Some(value);
+        Ok(())
+    }
+
+    #[tactic(auto, unfolding(crate::specs::Binding::take_keyword))]
+    fn take_keyword(&mut self, takes: bool, name: Bytes, value: Value) -> Result<(), EvalErr>
+        ensures { Gives (λ _. self.new) Bad result (take_keyword takes name value self.old) }
+    {
+        if !takes {
+            return Err(EvalErr::Bad(FaultKind::Args));
+        }
+        let before = self.keywords.insert(Key::new(Value::string(name)), value)?;
+        if before.is_some() {
+            return Err(EvalErr::Bad(FaultKind::Args));
+        }
+        Ok(())
+    }
+}

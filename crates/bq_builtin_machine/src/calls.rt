@@ -1,0 +1,48 @@
+//! Which functions are active.
+
+ghost use Rattle.std.specs.Prelude.{◌≡◌};
+ghost use Rattle.bq_builtin_machine.specs.Action.{Does};
+ghost use Rattle.bq_builtin_machine.specs.Calls.{is_active, enter, leave};
+
+use crate::machine::Machine;
+use bq_base::FaultKind;
+use bq_value::EvalErr;
+
+/// The most functions that are active (F51).
+pub const MAX_ACTIVE: usize = 100;
+
+impl Machine {
+    /// A function becomes active: the one of that module at that place.
+    #[tactic(auto, unfolding(crate::specs::Calls::enter))]
+    pub fn enter(&mut self, module: u32, place: u32) -> Result<(), EvalErr>
+        ensures { Does (λ _. tt) result self.new (enter «module» place self.old) }
+    {
+        if is_active(&self.active, module, place) {
+            return Err(EvalErr::Bad(FaultKind::Recursion));
+        }
+        if self.active.len() >= MAX_ACTIVE {
+            return Err(EvalErr::Bad(FaultKind::CallDepth));
+        }
+        self.active.push((module, place))?;
+        Ok(())
+    }
+
+    /// The function that became active last is left.
+    #[tactic(auto, unfolding(crate::specs::Calls::leave))]
+    pub fn leave(&mut self)
+        ensures { self.new ≡ leave self.old }
+    {
+        let _newest = self.active.pop();
+    }
+}
+
+fn is_active(active: &[(u32, u32)], module: u32, place: u32) -> bool
+    ensures { result ≡ is_active «module» place active.now }
+{
+    for function in active {
+        if function.0 == module && function.1 == place {
+            return true;
+        }
+    }
+    false
+}

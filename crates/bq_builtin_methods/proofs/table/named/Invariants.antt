@@ -1,0 +1,11 @@
+use Rattle.std.proofs.Common.{◌≡◌, length, map}
+use Rattle.std.specs.Map.{lookup}
+use Rattle.std.specs.Str.{bytes_eq}
+use Rattle.bq_builtin_methods.proofs.table.named.Given as goal
+
+-- what is left decides
+abbrev pub invariant-loop-table : goal.invariant-loop-table
+invariant-loop-table g l = lookup (bytes_eq l.name) (map (λ row. (row.0.now, row.1)) l.table) ≡ lookup (bytes_eq l.name) (map (λ row. (row.0.now, row.1)) l.initial.table)
+
+abbrev pub decreases-loop-table : goal.decreases-loop-table
+decreases-loop-table g l = length l.table

@@ -1,0 +1,24 @@
+-- The words of the laws of methods.
+use Rattle.std.specs.Prelude.{◌≡◌, ℕ, Bool, true, false, List, slice_get, Some}
+use Rattle.std.specs.List.{IsDistinct}
+use Rattle.std.specs.Map.{lookup, keys_of}
+use Rattle.std.specs.Str.{bytes_eq}
+use Rattle.bq_base.specs.declared.fault.FaultKind.{FaultKind}
+use Rattle.bq_value.specs.Datum.{Datum, string, cell}
+use Rattle.bq_builtin_machine.specs.State.{State, stop_at}
+use Rattle.bq_builtin_machine.specs.Action.{Run, stopped}
+
+-- A table has a name for each of its methods, and no name twice.
+pub record NamesItsMethods {M : Type 0} (table : List (List ℕ × M)) : Type 0 where
+  pub distinct : IsDistinct bytes_eq (keys_of table)
+  pub found : (i : ℕ) (name : List ℕ) (method : M) → slice_get table i ≡ Some (name, method) → lookup (bytes_eq name) table ≡ Some method
+
+-- strings, lists and dicts have methods, and no other values
+abbrev pub has_methods : Datum → Bool
+has_methods (string text) = true
+has_methods (cell home number) = true
+has_methods _ = false
+
+-- an action that is refused in this state
+abbrev pub Refused : FaultKind → State → Run State Datum → Type 0
+Refused kind s run = run ≡ stopped (stop_at kind s)

@@ -1,0 +1,14 @@
+-- Arguments by place alone.
+use Rattle.std.specs.Prelude.{ℕ, List, [], ◌∷◌, Result, Ok, Err}
+use Rattle.bq_base.specs.declared.fault.FaultKind.{FaultKind}
+use Rattle.bq_base.specs.declared.fault.FaultKind.TheVariants.{Args}
+use Rattle.bq_value.specs.Datum.{Datum}
+use Rattle.bq_builtin_machine.specs.Args.{Passed}
+
+abbrev pub placed_by : List (List ℕ × Datum) → List Datum → Result (List Datum) FaultKind
+placed_by [] values = Ok values
+placed_by (argument ∷ others) values = Err Args
+
+-- the arguments by place, where none is passed by name (F52)
+unfoldable pub placed : Passed → Result (List Datum) FaultKind
+placed args = placed_by args.named args.positional

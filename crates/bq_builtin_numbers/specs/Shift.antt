@@ -1,0 +1,35 @@
+-- Shifts of integers of 64 bits (Starlark, "Arithmetic"): products by powers of two, and quotients by them that are rounded down.
+use Rattle.std.specs.Prelude.{ℕ, ◌^◌, nat_lt, cond, ℤ, pos, negsuc, ◌*ℤ◌, Result, Ok, Err}
+use Rattle.bq_base.specs.declared.fault.FaultKind.{FaultKind}
+use Rattle.bq_base.specs.declared.fault.FaultKind.TheVariants.{BadValue}
+use Rattle.bq_builtin_numbers.specs.Integer.{fitted}
+use Rattle.bq_builtin_numbers.specs.Division.{floor_quotient}
+
+-- by how many bits: 0 to 63, else F57
+abbrev pub shift_count : ℤ → Result ℕ FaultKind
+shift_count (pos n) = cond (nat_lt n 64) (Ok n) (Err BadValue)
+shift_count (negsuc n) = Err BadValue
+
+-- the product by that power of two
+unfoldable pub scaled : ℤ → ℕ → Result ℤ FaultKind
+scaled x n = fitted (x *ℤ pos (2 ^ n))
+
+abbrev pub scaled_by : ℤ → Result ℕ FaultKind → Result ℤ FaultKind
+scaled_by x (Ok n) = scaled x n
+scaled_by x (Err e) = Err e
+
+-- the quotient by that power of two, rounded down, which always fits
+unfoldable pub halved : ℤ → ℕ → ℤ
+halved x n = floor_quotient x (pos (2 ^ n))
+
+abbrev pub halved_by : ℤ → Result ℕ FaultKind → Result ℤ FaultKind
+halved_by x (Ok n) = Ok (halved x n)
+halved_by x (Err e) = Err e
+
+-- `x << count`
+abbrev pub shifted_left : ℤ → ℤ → Result ℤ FaultKind
+shifted_left x count = scaled_by x (shift_count count)
+
+-- `x >> count`
+abbrev pub shifted_right : ℤ → ℤ → Result ℤ FaultKind
+shifted_right x count = halved_by x (shift_count count)

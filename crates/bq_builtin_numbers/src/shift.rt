@@ -1,0 +1,69 @@
+//! Shifts (Starlark, "Arithmetic").
+
+ghost use Rattle.std.specs.Prelude.{◌≡◌, ◌<◌, IfOk};
+ghost use Rattle.bq_builtin_numbers.specs.Shift.{shift_count, scaled, halved, shifted_left, shifted_right};
+
+use crate::integer::multiply;
+use bq_base::FaultKind;
+
+/// `x << count`: F57 where the count isn't one from 0 to 63, F41 where the answer doesn't fit.
+pub fn shift_left(x: i64, count: i64) -> Result<i64, FaultKind>
+    ensures { result ≡ shifted_left x count }
+{
+    let count = shift_count(count)?;
+    scaled(x, count)
+}
+
+/// `x >> count`, rounded down: F57 where the count isn't one from 0 to 63.
+pub fn shift_right(x: i64, count: i64) -> Result<i64, FaultKind>
+    ensures { result ≡ shifted_right x count }
+{
+    let count = shift_count(count)?;
+    Ok(halved(x, count))
+}
+
+/// By how many bits, or F57.
+fn shift_count(count: i64) -> Result<u32, FaultKind>
+    ensures count { result ≡ shift_count count }
+    ensures within { IfOk result (λ n. n < 64) }
+{
+    if count < 0 {
+        return Err(FaultKind::BadValue);
+    }
+    if count < 64 {
+        return Ok(count as u32);
+    }
+    Err(FaultKind::BadValue)
+}
+
+/// The product by a power of two.
+fn scaled(x: i64, count: u32) -> Result<i64, FaultKind>
+    requires { count < 64 }
+    ensures { result ≡ scaled x count }
+{
+    if count == 63 {
+        return scaled_most(x);
+    }
+    multiply(x, 1 << count)
+}
+
+/// The product by 2^63, which doesn't fit itself.
+fn scaled_most(x: i64) -> Result<i64, FaultKind>
+    ensures { result ≡ scaled x 63 }
+{
+    if x == 0 {
+        return Ok(0);
+    }
+    if x == -1 {
+        return Ok(i64::MIN);
+    }
+    Err(FaultKind::Overflow)
+}
+
+/// The quotient by a power of two.
+fn halved(x: i64, count: u32) -> i64
+    requires { count < 64 }
+    ensures { result ≡ halved x count }
+{
+    x >> count
+}

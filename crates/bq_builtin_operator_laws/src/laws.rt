@@ -1,0 +1,28 @@
+//! What holds of operators. The functions do nothing: their contracts are the laws.
+
+ghost use Rattle.std.specs.Prelude.{◌≡◌, List, pos};
+ghost use Rattle.bq_value.specs.Datum.{Datum, none, int};
+ghost use Rattle.bq_builtin_operators.specs.Slicing.{sliced};
+ghost use Rattle.bq_builtin_operator_laws.specs.Comparisons.{OppositesDiffer};
+ghost use Rattle.bq_builtin_operator_laws.specs.Members.{KeysHaveValues, MembersAreEqualToAnElement};
+
+/// Of `==` and `!=`, of `in` and `not in`, of `<` and `>=`, and of `<=` and `>` one is true where the other is false; they are refused for
+/// the same, and take the same steps.
+pub fn opposite_comparisons_differ()
+    ensures { OppositesDiffer }
+{}
+
+/// A value is in a list or tuple where it is equal to one of the elements, and is not where it is equal to none.
+pub fn members_are_equal_to_an_element()
+    ensures { MembersAreEqualToAnElement }
+{}
+
+/// A value is in a dict where the dict has a value for it; where it is not, an index of it is F44.
+pub fn keys_in_a_dict_have_values()
+    ensures { KeysHaveValues }
+{}
+
+/// A slice whose step is left out has the step 1: every element between its bounds, in their order.
+pub fn steps_that_are_left_out_are_one()
+    ensures { (xs : List Datum) (start stop : Datum) → sliced xs start stop none ≡ sliced xs start stop (int (pos 1)) }
+{}

@@ -1,0 +1,7 @@
+use Rattle.std.proofs.Common.{◌≡◌, ◌++◌, ◌-◌}
+use Rattle.bq_builtin_numbers.specs.Length.{times_of}
+use Rattle.bq_builtin_operators.specs.Sequence.{copies}
+use Rattle.bq_builtin_operators.proofs.sequence.push_copies.Given as goal
+
+abbrev pub invariant-loop-turn : goal.invariant-loop-turn
+invariant-loop-turn l = l.text.items ++ copies l.xs (l._turn-end - l._turn) ≡ l.fn.text.items ++ copies l.xs (times_of l.times)

@@ -1,0 +1,31 @@
+-- Slices of strings, tuples and lists (Starlark, "Slice expressions").
+use Rattle.std.specs.Prelude.{cond, ℤ, pos, List, Option, Some, None, Result, Ok, Err}
+use Rattle.std.specs.Ordering.{int_eq}
+use Rattle.bq_base.specs.declared.fault.FaultKind.{FaultKind}
+use Rattle.bq_base.specs.declared.fault.FaultKind.TheVariants.{WrongType, BadValue}
+use Rattle.bq_value.specs.Datum.{Datum, none, int}
+use Rattle.bq_builtin_numbers.specs.Slice.{slice_of}
+use Rattle.bq_builtin_operators.specs.Operand.{and_then}
+
+-- an integer, or `None` where the bound is left out
+abbrev pub bound_of : Datum → Result (Option ℤ) FaultKind
+bound_of none = Ok None
+bound_of (int n) = Ok (Some n)
+bound_of _ = Err WrongType
+
+-- 1 where the step is left out
+abbrev pub step_of : Option ℤ → ℤ
+step_of None = pos 1
+step_of (Some n) = n
+
+-- a step of 0 is F57
+abbrev pub with_step : Option ℤ → Option ℤ → ℤ → Result (Option ℤ × Option ℤ × ℤ) FaultKind
+with_step start stop step = cond (int_eq step (pos 0)) (Err BadValue) (Ok (start, stop, step))
+
+-- start, stop and step
+unfoldable pub bounds_of : Datum → Datum → Datum → Result (Option ℤ × Option ℤ × ℤ) FaultKind
+bounds_of start stop step = and_then (bound_of start) (λ a. and_then (bound_of stop) (λ b. and_then (bound_of step) (λ c. with_step a b (step_of c))))
+
+-- `xs[start:stop:step]`
+unfoldable pub sliced : {A : Type 0} → List A → Datum → Datum → Datum → Result (List A) FaultKind
+sliced xs start stop step = and_then (bounds_of start stop step) (λ b. Ok (slice_of xs b.0 b.1 b.2))

@@ -1,0 +1,130 @@
+//! What a method takes of an argument, and F40 where it is of another type.
+
+ghost use Rattle.std.specs.Prelude.{◌≡◌, ◌≤◌, length, option_copied, slice_get};
+ghost use Rattle.bq_builtin_string_methods.specs.Argument.{Says, text_in, place_in, bytes_in, separator_in, most_in, truth_in, part_of, region};
+
+use bq_base::{Bytes, FaultKind};
+use bq_builtin_numbers::span;
+use bq_builtin_string_parts::SPACES;
+use bq_value::{Node, Value};
+
+/// The argument at this place, if there is one.
+pub fn argument(values: &[Value], index: usize) -> Option<&Value>
+    ensures { option_copied result ≡ slice_get values.now index }
+{
+    values.get(index)
+}
+
+/// A string.
+pub fn text_in(values: &[Value], index: usize) -> Result<&Bytes, FaultKind>
+    ensures { Says (λ text. text.now) result (text_in (slice_get values.now index)) }
+{
+    match argument(values, index) {
+        None => Err(FaultKind::Args),
+        Some(value) => match &value.node {
+            Node::Text(text) => Ok(text),
+            _ => Err(FaultKind::WrongType),
+        },
+    }
+}
+
+/// An integer, none where the argument is left out or `None`.
+fn place_in(values: &[Value], index: usize) -> Result<Option<i64>, FaultKind>
+    ensures { result ≡ place_in (slice_get values.now index) }
+{
+    match argument(values, index) {
+        None => Ok(None),
+        Some(value) => match &value.node {
+            Node::NoneValue => Ok(None),
+            Node::Int(place) => Ok(Some(*place)),
+            _ => Err(FaultKind::WrongType),
+        },
+    }
+}
+
+/// Bytes; those that count as space where the argument is left out or `None`.
+pub fn bytes_in(values: &[Value], index: usize) -> Result<&[u8], FaultKind>
+    ensures { Says (λ text. text.now) result (bytes_in (slice_get values.now index)) }
+{
+    match argument(values, index) {
+        None => Ok(SPACES),
+        Some(value) => match &value.node {
+            Node::NoneValue => Ok(SPACES),
+            Node::Text(text) => Ok(text.as_slice()),
+            _ => Err(FaultKind::WrongType),
+        },
+    }
+}
+
+/// A separator, none where the argument is left out or `None`.
+pub fn separator_in(values: &[Value], index: usize) -> Result<Option<&Bytes>, FaultKind>
+    ensures { Says option_copied result (separator_in (slice_get values.now index)) }
+{
+    match argument(values, index) {
+        None => Ok(None),
+        Some(value) => match &value.node {
+            Node::NoneValue => Ok(None),
+            Node::Text(text) => Ok(Some(text)),
+            _ => Err(FaultKind::WrongType),
+        },
+    }
+}
+
+/// How often at most in a text of so many bytes: where the argument is left out or negative, once more than it has bytes.
+pub fn most_in(text: &[u8], values: &[Value], index: usize) -> Result<usize, FaultKind>
+    ensures { result ≡ most_in (length text.now) (slice_get values.now index) }
+{
+    match argument(values, index) {
+        None => Ok(text.len() + 1),
+        Some(value) => match &value.node {
+            Node::Int(most) => {
+                if *most < 0 {
+                    Ok(text.len() + 1)
+                } else {
+                    Ok(*most as usize)
+                }
+            }
+            _ => Err(FaultKind::WrongType),
+        },
+    }
+}
+
+/// A truth value, false where the argument is left out.
+pub fn truth_in(values: &[Value], index: usize) -> Result<bool, FaultKind>
+    ensures { result ≡ truth_in (slice_get values.now index) }
+{
+    match argument(values, index) {
+        None => Ok(false),
+        Some(value) => match &value.node {
+            Node::Bool(so) => Ok(*so),
+            _ => Err(FaultKind::WrongType),
+        },
+    }
+}
+
+/// The bytes from a place up to another, none where that comes before it.
+fn part_of(text: &[u8], from: usize, to: usize) -> &[u8]
+    requires from { from ≤ length text.now }
+    requires to { to ≤ length text.now }
+    ensures { result.now ≡ part_of text.now from to }
+{
+    if from >= to {
+        return &text[..0];
+    }
+    &text[from..to]
+}
+
+/// The region of a text between the places of two arguments, and where it starts.
+pub fn region<'t>(
+    text: &'t [u8],
+    values: &[Value],
+    start: usize,
+    end: usize,
+) -> Result<(usize, &'t [u8]), FaultKind>
+    ensures { Says (λ r. (r.0, r.1.now)) result (region text.now (slice_get values.now start) (slice_get values.now end)) }
+{
+    let first = place_in(values, start)?;
+    let last = place_in(values, end)?;
+    let (from, to) = span(text.len(), first, last);
+    Ok((from, part_of(text, from, to)))
+}

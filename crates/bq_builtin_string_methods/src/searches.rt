@@ -1,0 +1,84 @@
+//! The methods that look for a text in a region of a string (Starlark, "string·count", "string·find", "string·rfind",
+//! "string·index", "string·rindex").
+
+ghost use Rattle.std.specs.Prelude.{◌≡◌, ◌+◌};
+ghost use Rattle.bq_builtin_string_methods.specs.Searches.{number, place_or_less, place_or_fault, said, search};
+
+use crate::argument::{region, text_in};
+use bq_base::FaultKind;
+use bq_builtin_string_parts::{count, find, rfind};
+use bq_value::Value;
+
+#[derive(Clone, Copy)]
+pub enum SearchMethod {
+    Count,
+    Find,
+    Rfind,
+    Index,
+    Rindex,
+}
+
+/// A number; F41 where it doesn't fit 64 bits, which is out of reach of strings as long as they may be.
+#[tactic(auto, using(std::proofs::lemmas::Bool::Decides::nat_tests))]
+fn number(n: usize) -> Result<Value, FaultKind>
+    ensures { result ≡ number n }
+{
+    if n >= 1 << 63 {
+        return Err(FaultKind::Overflow);
+    }
+    Ok(Value::int(n as i64))
+}
+
+/// The number that is the sum.
+#[tactic(auto, using(std::proofs::lemmas::Bool::Decides::nat_tests))]
+fn sum(from: usize, at: usize) -> Result<Value, FaultKind>
+    ensures { result ≡ number (from + at) }
+{
+    match from.checked_add(at) {
+        Some(place) => number(place),
+        None => Err(FaultKind::Overflow),
+    }
+}
+
+/// The place in the string of what was found in a region that starts at `from`; -1 where it was not found.
+fn place_or_less(from: usize, found: Option<usize>) -> Result<Value, FaultKind>
+    ensures { result ≡ place_or_less from found }
+{
+    match found {
+        None => Ok(Value::int(-1)),
+        Some(at) => sum(from, at),
+    }
+}
+
+/// The same, with F57 where it was not found.
+fn place_or_fault(from: usize, found: Option<usize>) -> Result<Value, FaultKind>
+    ensures { result ≡ place_or_fault from found }
+{
+    match found {
+        None => Err(FaultKind::BadValue),
+        Some(at) => sum(from, at),
+    }
+}
+
+/// What a region says that starts at `from`.
+fn said(method: SearchMethod, sub: &[u8], from: usize, part: &[u8]) -> Result<Value, FaultKind>
+    ensures { result ≡ said method sub.now from part.now }
+{
+    match method {
+        SearchMethod::Count => number(count(part, sub)),
+        SearchMethod::Find => place_or_less(from, find(part, sub)),
+        SearchMethod::Rfind => place_or_less(from, rfind(part, sub)),
+        SearchMethod::Index => place_or_fault(from, find(part, sub)),
+        SearchMethod::Rindex => place_or_fault(from, rfind(part, sub)),
+    }
+}
+
+/// `s.method(sub, start, end)`.
+#[tactic(auto, unfolding(crate::specs::Searches::search))]
+pub fn search(method: SearchMethod, text: &[u8], values: &[Value]) -> Result<Value, FaultKind>
+    ensures { result ≡ search method text.now values.now }
+{
+    let sub = text_in(values, 0)?;
+    let (from, part) = region(text, values, 1, 2)?;
+    said(method, sub.as_slice(), from, part)
+}

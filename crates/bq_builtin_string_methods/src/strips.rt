@@ -1,0 +1,58 @@
+//! The methods that take something off the ends of a string (Starlark, "string·strip", "string·lstrip", "string·rstrip",
+//! "string·removeprefix", "string·removesuffix").
+
+ghost use Rattle.std.specs.Prelude.{◌≡◌};
+ghost use Rattle.bq_builtin_string_methods.specs.Argument.{Says};
+ghost use Rattle.bq_builtin_string_methods.specs.Strips.{end_in, without, strip};
+
+use crate::argument::{bytes_in, text_in};
+use bq_base::FaultKind;
+use bq_builtin_string_parts::{lstrip, remove_prefix, remove_suffix, rstrip, strip as strip_both};
+use bq_value::Value;
+
+#[derive(Clone, Copy)]
+pub enum StripMethod {
+    Strip,
+    Lstrip,
+    Rstrip,
+    Removeprefix,
+    Removesuffix,
+}
+
+/// What is taken off: bytes of a set, or a text.
+fn end_in(method: StripMethod, values: &[Value]) -> Result<&[u8], FaultKind>
+    ensures { Says (λ end. end.now) result (end_in method values.now) }
+{
+    match method {
+        StripMethod::Strip => bytes_in(values, 0),
+        StripMethod::Lstrip => bytes_in(values, 0),
+        StripMethod::Rstrip => bytes_in(values, 0),
+        StripMethod::Removeprefix => Ok(text_in(values, 0)?.as_slice()),
+        StripMethod::Removesuffix => Ok(text_in(values, 0)?.as_slice()),
+    }
+}
+
+fn without<'t>(method: StripMethod, end: &[u8], text: &'t [u8]) -> &'t [u8]
+    ensures { result.now ≡ without method end.now text.now }
+{
+    match method {
+        StripMethod::Strip => strip_both(text, end),
+        StripMethod::Lstrip => lstrip(text, end),
+        StripMethod::Rstrip => rstrip(text, end),
+        StripMethod::Removeprefix => remove_prefix(text, end),
+        StripMethod::Removesuffix => remove_suffix(text, end),
+    }
+}
+
+/// `s.method(end)`.
+#[tactic(auto, unfolding(crate::specs::Strips::strip))]
+pub fn strip<'t>(
+    method: StripMethod,
+    text: &'t [u8],
+    values: &[Value],
+) -> Result<&'t [u8], FaultKind>
+    ensures { Says (λ part. part.now) result (strip method text.now values.now) }
+{
+    let end = end_in(method, values)?;
+    Ok(without(method, end, text))
+}

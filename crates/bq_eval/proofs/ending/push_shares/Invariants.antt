@@ -1,0 +1,6 @@
+-- the values so far, and those that are left, are all
+use Rattle.std.proofs.Common.{◌≡◌, ◌++◌, drop}
+use Rattle.bq_eval.proofs.ending.push_shares.Given as goal
+
+abbrev pub invariant-loop-value : goal.invariant-loop-value
+invariant-loop-value l = l.values.items ++ drop l.value-index l.more ≡ l.fn.values.items ++ l.more

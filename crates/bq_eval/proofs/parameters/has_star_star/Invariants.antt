@@ -1,6 +1,0 @@
-use Rattle.std.proofs.Common.{◌≡◌, drop}
-use Rattle.bq_meaning.specs.Calls.{has_star_star}
-use Rattle.bq_eval.proofs.parameters.has_star_star.Given as goal
-
-abbrev pub invariant-loop-parameter : goal.invariant-loop-parameter
-invariant-loop-parameter l = has_star_star (drop l.parameter-index l.parameters) ≡ has_star_star l.parameters

@@ -1,6 +1,0 @@
-use Rattle.std.proofs.Common.{◌≡◌, ◌+◌, ◌≤◌, drop}
-use Rattle.bq_meaning.specs.Calls.{placed_of}
-use Rattle.bq_eval.proofs.parameters.placed_of.Given as goal
-
-abbrev pub invariant-loop-parameter : goal.invariant-loop-parameter
-invariant-loop-parameter l = (l.placed ≤ l.parameter-index) × (l.placed + placed_of (drop l.parameter-index l.parameters) ≡ placed_of l.parameters)

@@ -1,0 +1,69 @@
+-- What the evaluation of a file ends in (Starlark specification, "Module execution", "Freezing a value").
+use Rattle.std.specs.Prelude.{ℕ, ◌+◌, ◌==◌, cond, List, [], ◌∷◌, ◌++◌, fold, Option, Some, None}
+use Rattle.bq_base.specs.Fault.{fault_number}
+use Rattle.bq_source.specs.StringLiteral.{quoted}
+use Rattle.bq_base.specs.declared.fault.Fault.{Fault}
+use Rattle.bq_base.specs.declared.fault.FaultKind.{FaultKind}
+use Rattle.bq_base.specs.declared.fault.FaultKind.TheVariants as f
+use Rattle.bq_resolve_scope.specs.Names.{Name}
+use Rattle.bq_resolve_scope.specs.declared.code.Resolved.{Resolved}
+use Rattle.bq_value.specs.Cells.{StoreView, FrozenView, frozen, added, brought, with_loaded}
+use Rattle.bq_value.specs.Datum.{Datum, none}
+use Rattle.bq_builtin_machine.specs.Action.{Run, done, stopped}
+use Rattle.bq_builtin_machine.specs.State.{State, Stop, started}
+use Rattle.bq_eval_meaning_spec.specs.Frame.{Frame}
+use Rattle.bq_eval_meaning_spec.specs.Module.{module_meaning, frozen_units}
+use Rattle.bq_eval_operations.specs.Calling.{HostCalls}
+use Rattle.bq_eval_operations.specs.Runtime.{primitives}
+
+-- A file that was evaluated: its frozen module, and what it printed. Or one that failed: why, and what it had printed by then.
+pub data Ended : Type 0 where
+  evaluated : FrozenView → List (List ℕ) → Ended
+  failed : Fault → List (List ℕ) → Ended
+
+-- ---- before
+
+abbrev pub loading : StoreView → FrozenView → StoreView
+loading s f = with_loaded (fold added s.loaded (brought f)) s
+
+-- the store of a module that has made nothing yet, and loads these
+abbrev pub first_store : ℕ → List FrozenView → StoreView
+first_store number loaded = fold loading (record { own = number; cells = []; loaded = [] }) loaded
+
+-- ---- after
+
+-- a global that no statement has bound, which no file has that ran to its end, is `None`
+abbrev pub or_none : Option Datum → Datum
+or_none None = none
+or_none (Some v) = v
+
+-- of globals of these names, from the one of that slot on
+abbrev pub values_from : ℕ → List Name → Frame → List Datum
+values_from slot [] globals = []
+values_from slot (name ∷ names) globals = or_none (globals slot) ∷ values_from (slot + 1) names globals
+
+-- the values of a file's globals, and then of what its loads bind: its functions use both
+unfoldable pub frozen_values : Resolved → List Datum → Frame → List Datum
+frozen_values file imports globals = values_from 0 file.globals globals ++ imports
+
+-- `fail` tells its message
+abbrev pub detail_of : FaultKind → List ℕ → List ℕ
+detail_of kind message = cond (fault_number kind == fault_number f.Fail) (quoted message) []
+
+abbrev pub fault_of : Stop → Fault
+fault_of why = record { kind = why.kind; line = why.line; detail = detail_of why.kind why.message }
+
+abbrev pub ended : {W : Type 0} → Resolved → List Datum → Run (State × W) Frame → Ended
+ended file imports (done globals s) = evaluated (frozen s.0.store file.globals (frozen_values file imports globals)) s.0.prints
+ended file imports (stopped why) = failed (fault_of why) why.prints
+
+-- what a host keeps where a file ran to its end
+abbrev pub kept_after : {W : Type 0} → Run (State × W) Frame → Option W
+kept_after (done globals s) = Some s.1
+kept_after (stopped why) = None
+
+-- A file among those of the workspace runs as the module of that number, with the frozen modules that it loads and a value for each clause
+-- of its loads: its statements in order, on a fresh machine, with so many steps.
+unfoldable pub module_run : {W : Type 0} → List Name → HostCalls W → List (Option Resolved) → ℕ → Resolved → List FrozenView → List Datum → ℕ → W → Run (State × W) Frame
+module_run rules host code number file loaded imports limit kept =
+    module_meaning (primitives rules host) (frozen_units code loaded) number file imports (started (first_store number loaded) limit, kept)

@@ -1,0 +1,30 @@
+-- What the types of the code stand for.
+use Rattle.std.specs.Prelude.{ℕ, List}
+use Rattle.bq_resolve_scope.specs.Names.{Name}
+use Rattle.bq_resolve_scope.specs.declared.code.CodeTopLevel.{CodeTopLevel}
+use Rattle.bq_resolve_scope.specs.declared.code.LoadStmt.{LoadStmt}
+use Rattle.bq_builtin_machine.specs.Action.{Run, Action, ◌>>=◌, pure}
+use Rattle.bq_builtin_machine.specs.State.{State}
+use Rattle.bq_eval_meaning_spec.specs.Frame.{Frame, empty}
+use Rattle.bq_eval_meaning_spec.specs.Module.{eval_top, first_globals, frozen_units, top_levels}
+use Rattle.bq_eval_meaning_spec.specs.Primitives.{Primitives}
+use Rattle.bq_eval_rules.specs.Round.{views_of, own_of}
+use Rattle.bq_eval_rules.specs.declared.context.Program.{Program}
+use Rattle.bq_eval_operations.specs.Calling.{HostCalls}
+use Rattle.bq_eval.specs.Module.{Ended, evaluated, failed, module_run}
+use Rattle.bq_eval.specs.declared.module.ResolvedModule.{ResolvedModule}
+use Rattle.bq_eval.specs.declared.outcome.FileOutcome.{FileOutcome}
+use Rattle.bq_eval.specs.declared.outcome.FileOutcome.TheVariants as o
+
+abbrev pub ended_of : FileOutcome → Ended
+ended_of (o.Module frozen prints) = evaluated frozen prints.items
+ended_of (o.Failed fault prints) = failed fault prints.items
+
+-- where the rules have these names, and the host makes this of its calls: with so many steps, from what the host keeps
+abbrev pub run_of : {W : Type 0} → List Name → HostCalls W → ResolvedModule → ℕ → W → Run (State × W) Frame
+run_of rules host m limit kept = module_run rules host m.code.now m.number m.file.now (views_of m.loaded.now) m.imports.now limit kept
+
+-- these statements run as those of a module of a program; what it loads gives some globals their first values
+unfoldable pub program_run : {S : Type 0} → Primitives S → Program → List LoadStmt → List CodeTopLevel → Action S Frame
+program_run m p loads stmts =
+    top_levels m (own_of p) (eval_top m (frozen_units p.code.now (views_of p.frozen.now)) (own_of p)) stmts (first_globals loads p.loaded.now empty) >>= λ r. pure r.1

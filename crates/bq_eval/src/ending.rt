@@ -1,0 +1,148 @@
+//! The outcome of a file that ran to its end, and of one that stopped.
+
+ghost use Rattle.std.specs.Prelude.{◌≡◌, ◌++◌, IfOk, OnOk};
+ghost use Rattle.bq_source.specs.StringLiteral.{quoted, quoted_byte};
+ghost use Rattle.bq_value.specs.Cells.{frozen};
+ghost use Rattle.bq_builtin_machine.specs.State.{stop_at};
+ghost use Rattle.bq_eval_rules.specs.Slots.{slots_of};
+ghost use Rattle.bq_eval.specs.Module.{or_none, values_from, frozen_values, evaluated, failed, detail_of, fault_of};
+ghost use Rattle.bq_eval.specs.Outcomes.{ended_of};
+
+use crate::module::ResolvedModule;
+use crate::outcome::FileOutcome;
+use bq_base::{Bytes, Fault, FaultKind};
+use bq_builtin_machine::Machine;
+use bq_eval_rules::Frame;
+use bq_value::{Value, freeze};
+use std::alloc::{AllocError, Global};
+
+/// The value of a global.
+fn value_in(globals: &Frame<'_>, slot: usize) -> Result<Value, AllocError>
+    ensures { IfOk result (λ v. v ≡ or_none (slots_of globals.now slot)) }
+{
+    match globals.get(slot) {
+        None => Ok(Value::none()),
+        Some(value) => value.share(),
+    }
+}
+
+/// The values of a file's globals, and then of what its loads bind.
+#[tactic(auto, unfolding(crate::specs::Module::frozen_values))]
+fn frozen_values(
+    alloc: Global,
+    module: &ResolvedModule<'_>,
+    globals: &Frame<'_>,
+) -> Result<Vec<Value>, AllocError>
+    ensures { IfOk result (λ values. values.items ≡ frozen_values «module».now.file.now «module».now.imports.now (slots_of globals.now)) }
+{
+    let mut values = Vec::new(alloc);
+    push_globals(&mut values, module.file.globals.as_slice(), globals)?;
+    push_shares(&mut values, module.imports)?;
+    Ok(values)
+}
+
+fn push_globals(
+    values: &mut Vec<Value>,
+    names: &[Bytes],
+    globals: &Frame<'_>,
+) -> Result<(), AllocError>
+    ensures { OnOk result (values.new.items ≡ values.old.items ++ values_from 0 names.now (slots_of globals.now)) }
+{
+    for (slot, _name) in names.iter().enumerate() {
+        values.push(value_in(globals, slot)?)?;
+    }
+    Ok(())
+}
+
+fn push_shares(values: &mut Vec<Value>, more: &[Value]) -> Result<(), AllocError>
+    ensures { OnOk result (values.new.items ≡ values.old.items ++ more.now) }
+{
+    for value in more {
+        values.push(value.share()?)?;
+    }
+    Ok(())
+}
+
+/// A file that ran to its end.
+pub(crate) fn module_of(
+    alloc: Global,
+    module: &ResolvedModule<'_>,
+    globals: &Frame<'_>,
+    machine: Machine,
+) -> Result<FileOutcome, AllocError>
+    ensures { IfOk result (λ o. ended_of o ≡ evaluated (frozen machine.store «module».now.file.now.globals (frozen_values «module».now.file.now «module».now.imports.now (slots_of globals.now))) machine.prints) }
+{
+    let (store, prints) = machine.into_parts();
+    let values = frozen_values(alloc, module, globals)?;
+    let frozen = freeze(alloc, store, module.file.globals.as_slice(), values)?;
+    Ok(FileOutcome::Module(frozen, prints))
+}
+
+/// The fault of a file that stopped.
+fn fault_of(alloc: Global, kind: FaultKind, machine: &Machine) -> Result<Fault, AllocError>
+    ensures { IfOk result (λ fault. fault ≡ fault_of (stop_at kind machine.now)) }
+{
+    Ok(Fault {
+        kind,
+        line: machine.line(),
+        detail: detail_of(alloc, kind, machine.message())?,
+    })
+}
+
+/// What a machine printed.
+fn prints_of(machine: Machine) -> Vec<Bytes>
+    ensures { result.items ≡ machine.prints }
+{
+    let (_store, prints) = machine.into_parts();
+    prints
+}
+
+/// A file that stopped.
+pub(crate) fn failed(
+    alloc: Global,
+    kind: FaultKind,
+    machine: Machine,
+) -> Result<FileOutcome, AllocError>
+    ensures { IfOk result (λ o. ended_of o ≡ failed (fault_of (stop_at kind machine)) machine.prints) }
+{
+    let fault = fault_of(alloc, kind, &machine);
+    let prints = prints_of(machine);
+    Ok(FileOutcome::Failed(fault?, prints))
+}
+
+/// The message of `fail` as `repr` shows it; the other faults of an evaluation tell nothing.
+fn detail_of(alloc: Global, kind: FaultKind, message: &Bytes) -> Result<Bytes, AllocError>
+    ensures { IfOk result (λ detail. detail ≡ detail_of kind message.now) }
+{
+    if kind.number() == FaultKind::Fail.number() {
+        return Bytes::from_vec(alloc, quoted(alloc, message.as_slice())?);
+    }
+    Ok(Bytes::empty())
+}
+
+/// A string in double quotes, with escapes for a backslash, a double quote, LF, CR and tab.
+#[tactic(auto, unfolding(bq_source::specs::StringLiteral::quoted))]
+fn quoted(alloc: Global, bytes: &[u8]) -> Result<Vec<u8>, AllocError>
+    ensures { IfOk result (λ text. text.items ≡ quoted bytes.now) }
+{
+    let mut text = Vec::with_capacity(alloc, bytes.len())?;
+    text.push(b'"')?;
+    for byte in bytes {
+        push_quoted(&mut text, *byte)?;
+    }
+    text.push(b'"')?;
+    Ok(text)
+}
+
+fn push_quoted(text: &mut Vec<u8>, byte: u8) -> Result<(), AllocError>
+    ensures { OnOk result (text.new.items ≡ text.old.items ++ quoted_byte byte) }
+{
+    match byte {
+        b'\\' => text.extend_from_slice(b"\\\\"),
+        b'"' => text.extend_from_slice(b"\\\""),
+        b'\n' => text.extend_from_slice(b"\\n"),
+        b'\r' => text.extend_from_slice(b"\\r"),
+        b'\t' => text.extend_from_slice(b"\\t"),
+        other => Ok(text.push(other)?),
+    }
+}

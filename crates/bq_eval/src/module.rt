@@ -1,0 +1,18 @@
+//! A file that is to be evaluated.
+
+use bq_resolve_scope::Resolved;
+use bq_value::{Frozen, Value};
+use std::sync::Arc;
+
+/// A file that is to be evaluated as the module of a number, with what it loads.
+#[derive(Clone, Copy)]
+pub struct ResolvedModule<'a> {
+    pub number: u32,
+    pub file: &'a Resolved,
+    /// The frozen modules that it loads.
+    pub loaded: &'a [Arc<Frozen>],
+    /// A value for each clause of its loads, in the order in which they are written.
+    pub imports: &'a [Value],
+    /// The files of the modules that these reach, by number.
+    pub code: &'a [Option<Resolved>],
+}

@@ -1,0 +1,63 @@
+//! The statements of a file.
+
+ghost use Rattle.std.specs.Prelude.{◌≡◌};
+ghost use Rattle.bq_eval_rules.specs.Acts.{Acts};
+ghost use Rattle.bq_eval_rules.specs.Round.{views_of};
+ghost use Rattle.bq_eval_rules.specs.Slots.{slots_of};
+ghost use Rattle.bq_eval_meaning_spec.specs.Module.{module_meaning, frozen_units};
+ghost use Rattle.bq_eval.specs.Outcomes.{program_run};
+
+use crate::loads::first_globals;
+use crate::module::ResolvedModule;
+use bq_builtin_machine::MAX_ACTIVE;
+use bq_eval_rules::{Context, Frame, Globals, Program, Runtime, run_file};
+use bq_resolve_scope::{CodeTopLevel, LoadStmt};
+use bq_value::EvalErr;
+use std::alloc::Global;
+
+/// The globals that statements leave, as those of one of the modules of a program.
+#[tactic(auto, using(bq_eval_rules::proofs::Slots::none_filled), unfolding(crate::specs::Outcomes::program_run, bq_eval_meaning_spec::specs::Module::eval_top, bq_eval_meaning_spec::specs::Calls::max_active, bq_eval_rules::specs::Round::evals, bq_eval_rules::specs::Round::outside_functions, bq_eval_rules::specs::Round::units_at))]
+fn run_program<'f, R: Runtime>(
+    alloc: Global,
+    program: &Program<'_>,
+    loads: &[LoadStmt],
+    stmts: &[CodeTopLevel],
+    runtime: &mut R,
+) -> Result<Frame<'f>, EvalErr>
+    ensures { Acts R.means slots_of result (R.seen runtime.new) (program_run R.means program.now loads.now stmts.now (R.seen runtime.old)) }
+{
+    let mut globals = Frame::new(alloc);
+    first_globals(&mut globals, loads, program.loaded)?;
+    let context = Context {
+        alloc,
+        left: MAX_ACTIVE,
+        program,
+        own: Globals::Absent,
+        outside: true,
+        globals: Globals::Absent,
+        loaded: program.loaded,
+    };
+    let _flow = run_file(&context, &mut globals, runtime, stmts)?;
+    Ok(globals)
+}
+
+/// The globals that a file has in the end.
+#[tactic(auto, using(crate::proofs::Programs::module_of_program))]
+pub(crate) fn run_module<'f, R: Runtime>(
+    alloc: Global,
+    module: &ResolvedModule<'_>,
+    runtime: &mut R,
+) -> Result<Frame<'f>, EvalErr>
+    ensures { Acts R.means slots_of result (R.seen runtime.new) (module_meaning R.means (frozen_units «module».now.code.now (views_of «module».now.loaded.now)) «module».now.number «module».now.file.now «module».now.imports.now (R.seen runtime.old)) }
+{
+    let program = Program {
+        number: module.number,
+        functions: module.file.functions.as_slice(),
+        loaded: module.imports,
+        code: module.code,
+        frozen: module.loaded,
+    };
+    let loads = module.file.loads.as_slice();
+    let stmts = module.file.statements.as_slice();
+    run_program(alloc, &program, loads, stmts, runtime)
+}

@@ -1,0 +1,77 @@
+-- A use of a name reads what its slot holds.
+use Rattle.std.proofs.Common.{◌≡◌, ℕ, List, Option, Some, None, refl}
+use Rattle.std.specs.Option.{option_map}
+use Rattle.bq_resolve_predeclared.specs.declared.predeclared.Predeclared.{Predeclared}
+use Rattle.bq_parse_grammar.specs.declared.tree.Argument.TheOpen.{Expr-F}
+use Rattle.bq_parse_grammar.specs.Targets.{ExprLayer}
+use Rattle.bq_resolve_scope.specs.declared.code.Binding.{Binding}
+use Rattle.bq_resolve_scope.specs.declared.code.Binding.TheVariants as b
+use Rattle.bq_resolve_scope.specs.Names.{Name, place_among}
+use Rattle.bq_resolve_scope.specs.Scope.{BlockParts, FileParts, or_else, slot_of, file_has, use_of}
+use Rattle.bq_resolve_scope.specs.Universe.{universe_has}
+use Rattle.bq_resolve_scope.specs.Expressions as scope
+use Rattle.bq_value.specs.Datum.{Datum}
+use Rattle.bq_eval_meaning_spec.specs.Expressions as slots
+use Rattle.bq_eval_meaning_spec.specs.Frame.{Frame, Surroundings}
+use Rattle.bq_eval_meaning_spec.specs.Primitives.{Primitives}
+use Rattle.bq_eval_meaning_spec.specs.Targets.{bound}
+use Rattle.bq_eval_by_name_spec.specs.Names as names
+use Rattle.bq_eval_by_name_spec.specs.Names.{Env, Round, held}
+use Rattle.bq_eval_by_name_expression_laws.specs.Alike.{Alike, Same}
+use Rattle.bq_eval_by_name_expression_laws.specs.Shows.{through, Shows, Around}
+use Rattle.bq_eval_by_name_expression_laws.proofs.Runs.{itself, then_both}
+
+module _ {S : Type 0} (m : Primitives S) (round : Round) (surroundings : Surroundings) (frame : Frame) where
+  -- what a name is, by the places where it stands, and what it is by slots
+  abbrev named : Option ℕ → Option ℕ → Option ℕ → Option Predeclared → Option (Option Datum)
+  named o g l u = or_else (through frame o) (or_else (through surroundings.globals g) (or_else (through surroundings.loaded l) (option_map (λ p. Some (m.predeclared p)) u)))
+
+  abbrev binding : Option ℕ → Option ℕ → Option ℕ → Option Predeclared → Option Binding
+  binding o g l u = or_else (option_map b.Local o) (or_else (option_map b.Global g) (or_else (option_map b.Loaded l) (option_map b.Predeclared u)))
+
+  value_of : (o g l : Option ℕ) (u : Option Predeclared) (x : Binding) → binding o g l u ≡ Some x → (s : S) → names.value_by m round (named o g l u) s ≡ slots.use_by m surroundings x frame s
+  unfolding bound
+  value_of (Some n) g l u x e s = let f : x ≡ b.Local n = cc in rw f refl
+  value_of None (Some n) l u x e s = let f : x ≡ b.Global n = cc in rw f refl
+  value_of None None (Some n) u x e s = let f : x ≡ b.Loaded n = cc in rw f refl
+  value_of None None None (Some p) x e s = let f : x ≡ b.Predeclared p = cc in rw f refl
+  value_of None None None None x e s = absurd (let no : ⊥ = cc in no)
+
+  unknown_of : (o g l : Option ℕ) (u : Option Predeclared) → names.is_unknown m round (named o g l u) ≡ scope.is_unbound (binding o g l u)
+  unknown_of (Some n) g l u = refl
+  unknown_of None (Some n) l u = refl
+  unknown_of None None (Some n) u = refl
+  unknown_of None None None (Some p) = refl
+  unknown_of None None None None = refl
+
+  module _ (file : FileParts) (around : Around file round surroundings) (blocks : List BlockParts) (env : Env) (shows : Shows blocks env frame) where
+    -- by the places of a name
+    held_is : (n : Name) → held m round env n ≡ named (slot_of blocks n) (place_among n file.globals) (place_among n file.loaded) (universe_has file.universe n)
+    unfolding held
+    held_is n = rw (shows.reads n, around.globals n, around.loaded n, around.universe) refl
+
+    pub use_alike : (n : Name) (x : Binding) → use_of file blocks n ≡ Some x → (s : S) → Alike Same (names.use_of m round n env s) (slots.use_of m surroundings x frame s)
+    unfolding use_of file_has names.use_of slots.use_of
+    use_alike n x e s =
+        then_both Same (m.step 1 s) (λ _. names.value_by m round (held m round env n)) (λ _. slots.use_by m surroundings x frame)
+        (λ _ t. rw (held_is n, value_of (slot_of blocks n) (place_among n file.globals) (place_among n file.loaded) (universe_has file.universe n) x e t) (itself (slots.use_by m surroundings x frame t)))
+
+    unknown_is : (n : Name) → names.is_unknown m round (held m round env n) ≡ scope.is_unbound (use_of file blocks n)
+    unfolding use_of file_has
+    unknown_is n = rw (held_is n) (unknown_of (slot_of blocks n) (place_among n file.globals) (place_among n file.loaded) (universe_has file.universe n))
+
+    pub namespace_is : (o : ExprLayer) → names.namespace_at m round o env ≡ scope.namespace_at file blocks o
+    namespace_is (Expr-F.Expr::Name n) = rw (unknown_is n.name, around.universe) refl
+    namespace_is (Expr-F.Int i) = refl
+    namespace_is (Expr-F.String s) = refl
+    namespace_is (Expr-F.Expr::List xs) = refl
+    namespace_is (Expr-F.Expr::Tuple xs) = refl
+    namespace_is (Expr-F.Dict ps) = refl
+    namespace_is (Expr-F.ListComprehension x xs) = refl
+    namespace_is (Expr-F.DictComprehension p xs) = refl
+    namespace_is (Expr-F.Primary x ss) = refl
+    namespace_is (Expr-F.Unary os x) = refl
+    namespace_is (Expr-F.Binary x os) = refl
+    namespace_is (Expr-F.Compare x o z) = refl
+    namespace_is (Expr-F.Conditional xs z) = refl
+    namespace_is Expr-F.Lambda = refl

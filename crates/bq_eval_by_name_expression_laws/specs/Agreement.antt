@@ -1,0 +1,45 @@
+-- The law of names: what a tree means by names, the tree that it resolves to means by slots.
+use Rattle.std.specs.Prelude.{◌≡◌, ◌≤◌, ◌+◌, ℕ, List, [], Ok}
+use Rattle.bq_parse_grammar.specs.declared.tree.Expr.{Expr}
+use Rattle.bq_resolve_scope.specs.declared.code.Code.{Code}
+use Rattle.bq_resolve_scope.specs.Names.{max_layers}
+use Rattle.bq_resolve_scope.specs.Scope.{BlockParts, FileParts}
+use Rattle.bq_resolve_scope.specs.Expressions as scope
+use Rattle.bq_resolve_scope.specs.Visit.{Passed}
+use Rattle.bq_value.specs.Datum.{Datum}
+use Rattle.bq_builtin_machine.specs.Args as args
+use Rattle.bq_eval_meaning_spec.specs.Expressions as slots
+use Rattle.bq_eval_meaning_spec.specs.Frame.{Frame, Surroundings, empty}
+use Rattle.bq_eval_meaning_spec.specs.Primitives.{Primitives}
+use Rattle.bq_eval_meaning_spec.specs.Trees.{Calls}
+use Rattle.bq_eval_meaning_laws.specs.Layers.{IsWithin}
+use Rattle.bq_eval_by_name_spec.specs.Expressions as names
+use Rattle.bq_eval_by_name_spec.specs.Names.{Env, Round, outside}
+use Rattle.bq_eval_by_name_expression_laws.specs.Shows.{Below, Nested, Shows}
+
+-- calling a value with arguments means the same
+abbrev pub CallsAgree : {S : Type 0} → Calls S → Calls S → Type 0
+CallsAgree {S} call other = (v : Datum) (p : args.Passed) (s : S) → call v p s ≡ other v p s
+
+-- What is round an expression says the same by names and by slots.
+module _ {S : Type 0} (m : Primitives S) (file : FileParts) (round : Round) (surroundings : Surroundings) (call other : Calls S) where
+  -- An expression that resolves, among blocks whose slots are taken already, and where no name of a block has the slot of another. Both
+  -- meanings look at as many layers as there are: a resolved tree has at most twice those of its tree, since what stands outside functions
+  -- has a layer that gives it a frame.
+  abbrev pub LayersAgree : Type 0
+  LayersAgree =
+      (n k l : ℕ) (blocks : List BlockParts) (x : Expr) (c : Code) (p q : Passed) → n ≤ k → n + n ≤ l → Nested blocks → Below blocks p.slots → scope.expr_to n file blocks x p ≡ Ok (c, q)
+      → (env : Env) (frame : Frame) (s : S) → Shows blocks env frame → names.expr_to k m call round x env s ≡ slots.expr_to l m other surroundings c frame s
+
+  -- The same of both meanings as programs have them. The resolved tree is no deeper than the layers that its meaning looks at, as are all
+  -- trees of a file (bq_eval_depth_laws).
+  abbrev pub ExpressionsAgree : Type 0
+  ExpressionsAgree =
+      (blocks : List BlockParts) (x : Expr) (c : Code) (p q : Passed) → Nested blocks → Below blocks p.slots → scope.expr_to max_layers file blocks x p ≡ Ok (c, q) → IsWithin max_layers c
+      → (env : Env) (frame : Frame) (s : S) → Shows blocks env frame → names.eval_in m call round x env s ≡ slots.eval_in m other surroundings c frame s
+
+  -- outside all blocks
+  abbrev pub OutsideAgree : Type 0
+  OutsideAgree =
+      (x : Expr) (c : Code) (p q : Passed) → scope.expr_to max_layers file [] x p ≡ Ok (c, q) → IsWithin max_layers c
+      → (s : S) → names.eval_in m call round x outside s ≡ slots.eval_in m other surroundings c empty s

@@ -1,0 +1,37 @@
+-- The loads of a file as it is parsed: where each stands, and which symbols of the other file it names.
+use Rattle.std.specs.Prelude.{ℕ, List, [], ◌∷◌, ◌++◌, map}
+use Rattle.bq_parse_grammar.specs.declared.tree.Branch.{Branch}
+use Rattle.bq_parse_grammar.specs.declared.tree.SmallKind.{SmallKind}
+use Rattle.bq_parse_grammar.specs.declared.tree.SmallKind.TheVariants as small
+use Rattle.bq_parse_grammar.specs.declared.tree.SmallStmt.{SmallStmt}
+use Rattle.bq_parse_grammar.specs.declared.tree.Stmt.{Stmt, out-Stmt}
+use Rattle.bq_parse_grammar.specs.declared.tree.Stmt.TheOpen.{Stmt-F}
+use Rattle.bq_parse_grammar.specs.declared.tree.TopLevel.{TopLevel}
+use Rattle.bq_resolve_scope.specs.declared.code.LoadStmt.{LoadStmt}
+use Rattle.bq_resolve_scope.specs.Names.{Name}
+
+-- the line of a load, and the symbols that its clauses name
+pub record LoadLine : Type 0 where
+  pub line : ℕ
+  pub symbols : List Name
+
+abbrev pub loads_by : ℕ → SmallKind → List LoadLine
+loads_by line (small.Load l) = record { line = line; symbols = map (λ c. c.symbol) l.clauses } ∷ []
+loads_by line _ = []
+
+abbrev pub line_loads : List SmallStmt → List LoadLine
+line_loads [] = []
+line_loads (x ∷ xs) = loads_by x.line x.kind ++ line_loads xs
+
+abbrev pub stmt_loads : Stmt-F Stmt Branch → List LoadLine
+stmt_loads (Stmt-F.Simple xs) = line_loads xs
+stmt_loads _ = []
+
+-- the loads of a file, in the order in which they are written
+unfoldable pub file_loads : List TopLevel → List LoadLine
+file_loads [] = []
+file_loads (t ∷ ts) = stmt_loads (out-Stmt t.statement) ++ file_loads ts
+
+-- the same of a resolved load
+abbrev pub load_line : LoadStmt → LoadLine
+load_line l = record { line = l.line; symbols = map (λ c. c.symbol) l.clauses }

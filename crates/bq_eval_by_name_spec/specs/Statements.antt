@@ -1,0 +1,117 @@
+-- What a statement does (Starlark specification, "Statements"). In a function the environment holds its names, outside functions those
+-- of the file.
+use Rattle.std.specs.Prelude.{ℕ, zero, suc, List, [], ◌∷◌, Option, Some, None, if◌then◌else◌}
+use Rattle.bq_base.specs.declared.fault.FaultKind.TheVariants as f
+use Rattle.bq_parse_grammar.specs.declared.tree.Branch.{Branch, out-Branch}
+use Rattle.bq_parse_grammar.specs.declared.tree.Expr.{Expr}
+use Rattle.bq_parse_grammar.specs.declared.tree.SmallKind.{SmallKind}
+use Rattle.bq_parse_grammar.specs.declared.tree.SmallKind.TheVariants as small
+use Rattle.bq_parse_grammar.specs.declared.tree.SmallStmt.{SmallStmt}
+use Rattle.bq_parse_grammar.specs.declared.tree.Stmt.{Stmt, out-Stmt}
+use Rattle.bq_parse_grammar.specs.declared.tree.Stmt.TheOpen.{Stmt-F}
+use Rattle.bq_parse_grammar.specs.declared.tree.AssignTarget.{AssignTarget}
+use Rattle.bq_resolve_scope.specs.Names.{max_layers}
+use Rattle.bq_value.specs.Datum.{Datum, none}
+use Rattle.bq_builtin_machine.specs.Action.{Action, ◌>>=◌, pure}
+use Rattle.bq_eval_meaning_spec.specs.Primitives.{Primitives, stop, change}
+use Rattle.bq_eval_meaning_spec.specs.Statements.{Flow, next, leave, again, answer}
+use Rattle.bq_eval_by_name_spec.specs.Names.{Env}
+use Rattle.bq_eval_by_name_spec.specs.Targets.{bind_variables, assign, augment}
+use Rattle.bq_eval_by_name_spec.specs.Trees.{Eval, StmtLayer}
+
+abbrev pub Exec : Type 0 → Type 0
+Exec S = Env → Action S (Flow × Env)
+
+-- goes on where nothing ends
+abbrev pub go_on : {S : Type 0} → Exec S → Flow × Env → Action S (Flow × Env)
+go_on run (next, env) = run env
+go_on run (flow, env) = pure (flow, env)
+
+-- goes on to the next turn, but for `break` and `return`
+abbrev pub turn_on : {S : Type 0} → Exec S → Flow × Env → Action S (Flow × Env)
+turn_on run (next, env) = run env
+turn_on run (again, env) = run env
+turn_on run (leave, env) = pure (next, env)
+turn_on run (answer v, env) = pure (answer v, env)
+
+-- a load does nothing where it stands, and takes no step
+unfoldable pub steps_of : SmallKind → ℕ
+steps_of (small.Load l) = 0
+steps_of _ = 1
+
+module _ {S : Type 0} (m : Primitives S) (eval : Eval S) where
+  -- ---- small statements
+
+  unfoldable pub expr_stmt : Expr → Exec S
+  expr_stmt x env = eval x env >>= λ _. pure (next, env)
+
+  -- the right side first
+  unfoldable pub assign_stmt : AssignTarget → Expr → Exec S
+  assign_stmt t x env = eval x env >>= λ v. assign m eval t v env >>= λ new. pure (next, new)
+
+  -- without a value the answer is `None`
+  unfoldable pub return_stmt : Option Expr → Exec S
+  return_stmt None env = pure (answer none, env)
+  return_stmt (Some x) env = eval x env >>= λ v. pure (answer v, env)
+
+  abbrev pub small_by : SmallKind → Exec S
+  small_by (small.Expr x) env = expr_stmt x env
+  small_by (small.Assign t x) env = assign_stmt t x env
+  small_by (small.Augment t op x) env = augment m eval t op x env >>= λ new. pure (next, new)
+  small_by (small.Return x) env = return_stmt x env
+  small_by small.Break env = pure (leave, env)
+  small_by small.Continue env = pure (again, env)
+  small_by small.Pass env = pure (next, env)
+  small_by (small.Load l) env = pure (next, env)
+
+  unfoldable pub small_effect : SmallKind → Exec S
+  small_effect x env = small_by x env
+
+  unfoldable pub small_stmt : SmallStmt → Exec S
+  small_stmt x env = m.step (steps_of x.kind) >>= λ _. small_effect x.kind env
+
+  -- the statements of one line
+  unfoldable pub line : List SmallStmt → Exec S
+  line [] env = pure (next, env)
+  line (x ∷ xs) env = small_stmt x env >>= λ r. go_on (line xs) r
+
+  -- ---- statements: `run` does those inside
+  module _ (run : Stmt → Exec S) where
+    unfoldable pub block : List Stmt → Exec S
+    block [] env = pure (next, env)
+    block (x ∷ xs) env = run x env >>= λ r. go_on (block xs) r
+
+    -- the block of the first branch whose condition holds
+    unfoldable pub branches : List Branch → List Stmt → Exec S
+    branches [] otherwise env = block otherwise env
+    branches (b ∷ bs) otherwise env =
+        eval (out-Branch b).condition env >>= λ t. λ s. (if m.truth t s then block (out-Branch b).block env else branches bs otherwise env) s
+
+    unfoldable pub turn : AssignTarget → List Stmt → Datum → Exec S
+    turn t body v env = m.step 1 >>= λ _. bind_variables m t v env >>= λ new. block body new
+
+    unfoldable pub turns : AssignTarget → List Stmt → List Datum → Exec S
+    turns t body [] env = pure (next, env)
+    turns t body (v ∷ vs) env = turn t body v env >>= λ r. turn_on (turns t body vs) r
+
+    -- `for t in x`: over the elements that there are when it begins
+    unfoldable pub for_loop : AssignTarget → Expr → List Stmt → Exec S
+    for_loop t x body env = eval x env >>= λ v. m.begin_walk v >>= λ vs. turns t body vs env >>= λ r. change m (m.end_walk v) >>= λ _. pure r
+
+    -- a `def` in a function is left out
+    abbrev pub stmt_by : StmtLayer → Exec S
+    stmt_by (Stmt-F.Simple xs) env = line xs env
+    stmt_by (Stmt-F.If bs otherwise) env = m.step 1 >>= λ _. branches bs otherwise env
+    stmt_by (Stmt-F.For t x body) env = m.step 1 >>= λ _. for_loop t x body env
+    stmt_by (Stmt-F.Def n ps body) env = stop m f.LeftOut
+
+    unfoldable pub stmt : Stmt → Exec S
+    stmt x env = stmt_by (out-Stmt x) env
+
+-- of statements that are no deeper than so many layers; no tree that is parsed holds a deeper one
+unfoldable pub run_to : {S : Type 0} → ℕ → Primitives S → Eval S → Stmt → Exec S
+run_to zero m eval x env = stop m f.Nesting
+run_to (suc depth) m eval x env = stmt m eval (run_to depth m eval) x env
+
+abbrev pub run_in : {S : Type 0} → Primitives S → Eval S → Stmt → Exec S
+run_in m eval = run_to max_layers m eval

@@ -1,0 +1,10 @@
+-- In which order a call of a function is refused (Starlark, "Function and method calls"; ours: the order).
+use Rattle.std.specs.Prelude.{ℕ, not, nat_lt, List, [], ◌∷◌, length}
+use Rattle.bq_base.specs.declared.fault.FaultKind.TheVariants.{Recursion, CallDepth}
+use Rattle.bq_builtin_machine.specs.Calls.{is_active}
+use Rattle.bq_builtin_machine.specs.State.{State}
+use Rattle.bq_builtin_refusal_laws.specs.Refusals.{Check, when}
+
+-- a function becomes active unless it is active already (F50), and then unless 100 functions are active (F51)
+abbrev pub entering : State → ℕ → ℕ → List Check
+entering s home place = when (is_active home place s.active) Recursion ∷ when (not (nat_lt (length s.active) 100)) CallDepth ∷ []

@@ -1,0 +1,50 @@
+//! What holds of calls. The functions do nothing: their contracts are the laws.
+
+ghost use Rattle.std.specs.Prelude.{◌≡◌, ℕ, List, Option, Err};
+ghost use Rattle.bq_base.specs.declared.fault.FaultKind.{FaultKind};
+ghost use Rattle.bq_base.specs.declared.fault.FaultKind.TheVariants.{Args};
+ghost use Rattle.bq_resolve_scope.specs.declared.code.CodeFunction.{CodeFunction};
+ghost use Rattle.bq_value.specs.Datum.{Datum};
+ghost use Rattle.bq_builtin_machine.specs.Action.{done, stopped};
+ghost use Rattle.bq_builtin_machine.specs.Args.{Passed};
+ghost use Rattle.bq_builtin_machine.specs.Binding.{bind};
+ghost use Rattle.bq_builtin_machine.specs.Calls as machine;
+ghost use Rattle.bq_builtin_machine.specs.Calls.{enter};
+ghost use Rattle.bq_builtin_machine.specs.Parameters.{SignatureView};
+ghost use Rattle.bq_builtin_machine.specs.State.{State, Stop};
+ghost use Rattle.bq_eval_meaning_spec.specs.Calls as meaning;
+ghost use Rattle.bq_eval_meaning_spec.specs.Calls.{CodeUnit, entry, call_function};
+ghost use Rattle.bq_eval_meaning_spec.specs.Frame.{Frame};
+ghost use Rattle.bq_eval_meaning_spec.specs.Primitives.{Primitives};
+ghost use Rattle.bq_eval_meaning_spec.specs.Trees.{Calls};
+ghost use Rattle.bq_builtin_refusal_laws.specs.Refusals.{IsRefusedForFirst};
+ghost use Rattle.bq_eval_call_laws.specs.Misfits.{IsMisfit};
+ghost use Rattle.bq_eval_call_laws.specs.Orders.{entering};
+
+/// Arguments are refused, F52, exactly where they don't fit the parameters: one is left over without `*`, a name is no parameter's and
+/// there is no `**`, a parameter has two arguments, a name is passed twice, or a parameter lacks the argument that it must have.
+pub fn misfits_are_refused()
+    ensures refused { (s : SignatureView) (p : Passed) → IsMisfit s p → bind s p ≡ Err Args }
+    ensures only { (s : SignatureView) (p : Passed) (why : FaultKind) → bind s p ≡ Err why → IsMisfit s p }
+{}
+
+/// That a function is active (F50) comes before that too many are (F51).
+#[tactic(auto, using(crate::proofs::Entering::entered_in_order))]
+pub fn functions_are_entered_in_order()
+    ensures { (home place : ℕ) (s : State) → IsRefusedForFirst (enter home place s) (entering s home place) }
+{}
+
+/// A call that is refused for its arguments (F52) is refused for nothing else: whether the function is active or not, and however many
+/// are. A function that may not become active (F50, F51) runs no statement.
+#[tactic(auto, using(crate::proofs::Entering::arguments_first, crate::proofs::Entering::activity_second))]
+pub fn arguments_come_before_activity<S>()
+    ensures arguments { (m : Primitives S) (inner : Option (Calls S)) (home place : ℕ) (u : CodeUnit) (d : CodeFunction) (ds : List Datum) (p : Passed) (s : S) (why : Stop) → entry m d ds p s ≡ stopped why → call_function m inner home place u d ds p s ≡ stopped why }
+    ensures activity { (m : Primitives S) (inner : Option (Calls S)) (home place : ℕ) (u : CodeUnit) (d : CodeFunction) (ds : List Datum) (p : Passed) (s t : S) (env : Frame) (why : Stop) → entry m d ds p s ≡ done env t → m.enter home place t ≡ stopped why → call_function m inner home place u d ds p s ≡ stopped why }
+{}
+
+/// At most 100 functions are active, for the machine and for what programs mean.
+#[tactic(auto, using(crate::proofs::Entering::machine_hundred, crate::proofs::Entering::meaning_hundred))]
+pub fn a_hundred_functions_are_active()
+    ensures machine { machine.max_active ≡ 100 }
+    ensures meaning { meaning.max_active ≡ 100 }
+{}

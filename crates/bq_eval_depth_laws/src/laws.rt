@@ -1,0 +1,25 @@
+//! What holds of the depth of files. The functions do nothing: their contracts are the laws.
+
+ghost use Rattle.bq_eval_meaning_spec.specs.Primitives.{Primitives};
+ghost use Rattle.bq_eval_depth_laws.specs.Depth.{NoResolvedFileIsTooDeep, ExpressionsAreWithin, StatementsAreWithin, TargetsAreWithin, ExpressionsNeedNoMore, StatementsNeedNoMore, BindingsNeedNoMore, PlacesNeedNoMore};
+
+/// Where a file is parsed and resolved, each expression, target and statement in it, and in its functions, is no deeper than the
+/// layers that its meaning looks at.
+pub fn no_resolved_file_is_too_deep()
+    ensures { NoResolvedFileIsTooDeep }
+{}
+
+/// What fits in so many layers is no deeper, as the laws of the meaning say it.
+pub fn what_fits_is_within()
+    ensures expressions { ExpressionsAreWithin }
+    ensures statements { StatementsAreWithin }
+    ensures targets { TargetsAreWithin }
+{}
+
+/// What fits in the layers that are looked at means the same with more of them: an expression, a statement, and what is assigned to.
+pub fn what_fits_needs_no_more_layers<S>()
+    ensures expressions { (m : Primitives S) → ExpressionsNeedNoMore m }
+    ensures statements { (m : Primitives S) → StatementsNeedNoMore m }
+    ensures bindings { (m : Primitives S) → BindingsNeedNoMore m }
+    ensures places { (m : Primitives S) → PlacesNeedNoMore m }
+{}

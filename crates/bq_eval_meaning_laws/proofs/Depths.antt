@@ -1,0 +1,71 @@
+-- Actions that run alike: a relation that respects the rules.
+use Rattle.std.proofs.Common.{◌≡◌, ◌∙◌, Bool, true, false, refl, ap}
+use Rattle.std.specs.Prelude.{if◌then◌else◌}
+use Rattle.bq_builtin_machine.specs.Action.{Action, Run, done, stopped, following}
+use Rattle.bq_eval_meaning_spec.specs.Primitives.{Primitives}
+use Rattle.bq_eval_meaning_laws.specs.Depth.{ExpressionDepth, StatementDepth, BindingDepth, PlaceDepth}
+use Rattle.bq_eval_meaning_laws.proofs.Respects.{Relation, Respects}
+use Rattle.bq_eval_meaning_laws.proofs.TargetRules.{bind_depths, places_depths}
+use Rattle.bq_eval_meaning_laws.proofs.ExpressionRules.{expr_depths}
+use Rattle.bq_eval_meaning_laws.proofs.StatementRules.{run_depths}
+
+abbrev pub RunAlike : (S : Type 0) → Relation S
+RunAlike S A a b = (s : S) → a s ≡ b s
+
+alike_after : {S A B : Type 0} (r : Run S A) (f g : A → Action S B) → ((x : A) (s : S) → f x s ≡ g x s) → following r f ≡ following r g
+alike_after (done x s) f g h = h x s
+alike_after (stopped why) f g h = refl
+
+alike_both : {S A B : Type 0} (a b : Action S A) (f g : A → Action S B) → ((s : S) → a s ≡ b s) → ((x : A) (s : S) → f x s ≡ g x s) → (s : S) → following (a s) f ≡ following (b s) g
+alike_both a b f g h k s = alike_after (a s) f g k ∙ ap (λ r. following r g) (h s)
+
+alike_if : {S A : Type 0} (t : Bool) (a b c d : Action S A) (s : S) → a s ≡ b s → c s ≡ d s → (if t then a else c) s ≡ (if t then b else d) s
+alike_if true a b c d s h k = h
+alike_if false a b c d s h k = k
+
+pub alike : {S : Type 0} (m : Primitives S) → Respects m (RunAlike S)
+alike m = record {
+  of_value = λ A x s. refl;
+  of_stop = λ A kind s. refl;
+  of_both = λ A B a b f g h k s. alike_both a b f g h k s;
+  of_choice = λ A v a b c d h k s. alike_if (m.truth v s) a b c d s (h s) (k s);
+  of_step = λ n s. refl;
+  of_line = λ n s. refl;
+  of_unary = λ o v s. refl;
+  of_binary = λ o v w s. refl;
+  of_compare = λ o v w s. refl;
+  of_augment = λ o v w s. refl;
+  of_index = λ v i s. refl;
+  of_set_index = λ v i w s. refl;
+  of_slice = λ v i j k s. refl;
+  of_make = λ c s. refl;
+  of_add = λ c v s. refl;
+  of_add_pair = λ c k v s. refl;
+  of_put_pair = λ c k v s. refl;
+  of_parts = λ count v s. refl;
+  of_begin_walk = λ v s. refl;
+  of_end_walk = λ v s. refl;
+  of_pass = λ p v s. refl;
+  of_pass_named = λ p name v s. refl;
+  of_pass_all = λ p v s. refl;
+  of_pass_all_named = λ p v s. refl;
+  of_built_in = λ name p s. refl;
+  of_rule_function = λ function p s. refl;
+  of_cell = λ home number p s. refl;
+  of_method = λ name v p s. refl;
+  of_enter = λ home place s. refl;
+  of_leave = λ s. refl;
+}
+
+module _ {S : Type 0} (m : Primitives S) where
+  pub expression_depth : ExpressionDepth m
+  expression_depth call round n k x env s fits few = expr_depths m (RunAlike S) (alike m) call (λ v p t. refl) round n k few x fits env s
+
+  pub statement_depth : StatementDepth m
+  statement_depth eval n k x env s fits few = run_depths m (RunAlike S) (alike m) eval (λ y e t. refl) n k few x fits env s
+
+  pub binding_depth : BindingDepth m
+  binding_depth n k t v env ps s fits few = bind_depths m (RunAlike S) (alike m) n k few t fits v env ps s
+
+  pub place_depth : PlaceDepth m
+  place_depth eval n k t env ps s fits few = places_depths m (RunAlike S) (alike m) eval (λ y e t. refl) n k few t fits env ps s

@@ -1,0 +1,27 @@
+use Rattle.bq_eval_meaning_laws.proofs.InOrder.{conditions, right_sides, iterables}
+use Rattle.bq_eval_meaning_laws.proofs.Deciding.{left_sides, branch_conditions, filters, variables, clauses_first}
+use Rattle.bq_eval_meaning_laws.proofs.laws.what_decides_is_evaluated_first.Goals as goal
+
+pub returns-clause-sides : goal.returns-clause-sides
+returns-clause-sides c k m = left_sides m
+
+pub returns-clause-conditions : goal.returns-clause-conditions
+returns-clause-conditions c k m = conditions m
+
+pub returns-clause-branches : goal.returns-clause-branches
+returns-clause-branches c k m = branch_conditions m
+
+pub returns-clause-assignments : goal.returns-clause-assignments
+returns-clause-assignments c k m = right_sides m
+
+pub returns-clause-comprehensions : goal.returns-clause-comprehensions
+returns-clause-comprehensions c k m = iterables m
+
+pub returns-clause-clauses : goal.returns-clause-clauses
+returns-clause-clauses c k m = clauses_first m
+
+pub returns-clause-variables : goal.returns-clause-variables
+returns-clause-variables c k m = variables m
+
+pub returns-clause-filters : goal.returns-clause-filters
+returns-clause-filters c k m = filters m

@@ -1,0 +1,19 @@
+//! Laws of the meaning of programs, by the definition of `bq_eval_meaning_spec`.
+//!
+//! In: nothing; the functions do nothing, and their contracts are the laws. The promise: no number of layers is part of what a program
+//! means; a call leaves the frame of the caller as it was, and a function begins with one that holds its parameters alone; the parts of
+//! an expression, and the arguments of a call, are evaluated from left to right, and what decides is evaluated before what it chooses.
+//!
+//! `specs/Layers.antt` says how many layers a tree has. How the proofs go: `Respects` (`proofs/Respects.antt`) says of a relation
+//! between actions that it holds of what the rules ask for, and of actions made of others where it holds of these; such a relation
+//! holds of each rule, and so of expressions, statements, calls and files (`proofs/*Rules.antt`). A law is one such relation: the law of
+//! depth is that two actions run alike.
+#![tactic(auto)]
+
+mod laws;
+
+pub use laws::{
+    arguments_are_evaluated_from_left_to_right, depth_changes_nothing,
+    evaluation_is_from_left_to_right, expressions_bind_nothing, functions_begin_with_parameters,
+    targets_are_read_before_they_are_augmented, what_decides_is_evaluated_first,
+};

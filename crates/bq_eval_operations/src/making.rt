@@ -1,0 +1,60 @@
+//! Lists and dicts that are being made.
+
+ghost use Rattle.std.specs.Prelude.{◌≡◌};
+ghost use Rattle.bq_base.specs.Gives.{Gives};
+ghost use Rattle.bq_value.specs.declared.error.EvalErr.TheVariants.{Bad};
+ghost use Rattle.bq_eval_operations.specs.Making.{with_element, with_pair, with_new_pair};
+
+use bq_base::FaultKind;
+use bq_builtin_numbers::MAX_LEN;
+use bq_value::{Body, Content, EvalErr, Key, Value};
+
+/// One more element of a list (F54).
+#[tactic(auto, unfolding(crate::specs::Making::with_element))]
+pub(crate) fn with_element(content: &mut Content, value: Value) -> Result<(), EvalErr>
+    ensures { Gives (λ _. content.new) Bad result (with_element content.old value) }
+{
+    match &mut content.body {
+        Body::List(values) => {
+            if values.len() >= MAX_LEN {
+                return Err(EvalErr::Bad(FaultKind::TooLong));
+            }
+            values.push(value)?;
+            Ok(())
+        }
+        _ => Err(EvalErr::Bad(FaultKind::WrongType)),
+    }
+}
+
+/// The key has this value (F54).
+#[tactic(auto, unfolding(crate::specs::Making::with_pair))]
+pub(crate) fn with_pair(content: &mut Content, key: Key, value: Value) -> Result<(), EvalErr>
+    ensures { Gives (λ _. content.new) Bad result (with_pair content.old key value) }
+{
+    match &mut content.body {
+        Body::Dict(dict) => {
+            let _before = dict.insert(key, value)?;
+            if dict.len() > MAX_LEN {
+                return Err(EvalErr::Bad(FaultKind::TooLong));
+            }
+            Ok(())
+        }
+        _ => Err(EvalErr::Bad(FaultKind::WrongType)),
+    }
+}
+
+/// A key that isn't there yet has this value (F46, F54).
+#[tactic(auto, unfolding(crate::specs::Making::with_new_pair))]
+pub(crate) fn with_new_pair(content: &mut Content, key: Key, value: Value) -> Result<(), EvalErr>
+    ensures { Gives (λ _. content.new) Bad result (with_new_pair content.old key value) }
+{
+    match &content.body {
+        Body::Dict(dict) => {
+            if dict.get(&key).is_some() {
+                return Err(EvalErr::Bad(FaultKind::DoubleKey));
+            }
+        }
+        _ => return Err(EvalErr::Bad(FaultKind::WrongType)),
+    }
+    with_pair(content, key, value)
+}

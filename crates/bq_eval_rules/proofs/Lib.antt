@@ -1,0 +1,13 @@
+pub mod Depth
+pub mod SparsePairs
+pub mod SparseSearch
+pub mod Slots
+pub mod Layers
+pub mod Reversed
+pub mod Following
+pub mod Deciding
+pub mod Assigning
+pub mod Clauses
+pub mod Loops
+pub mod ParameterLists
+pub mod CallSteps

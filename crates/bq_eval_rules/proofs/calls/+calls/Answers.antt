@@ -1,0 +1,93 @@
+use Rattle.std.proofs.Common.{◌∙◌, ap, sym, subst, arith}
+use Rattle.std.proofs.lemmas.Grind.{common_steps}
+use Rattle.bq_value.specs.Datum.{Datum, list_of_data_of}
+use Rattle.bq_builtin_machine.specs.Action.{Run, done}
+use Rattle.bq_eval_rules.specs.Acts.{Acts}
+use Rattle.bq_eval_rules.specs.Round.{evals, in_function, inside, round_of, units_at, globals_of}
+use Rattle.bq_eval_rules.specs.CodeUnits.{unit_of}
+use Rattle.bq_eval_rules.specs.Flows.{flow_of}
+use Rattle.bq_eval_rules.specs.Slots.{slots_of}
+use Rattle.bq_eval_rules.proofs.CallSteps.{calls_step, known_function, no_body, no_function, no_unit, ran_body}
+use Rattle.bq_eval_meaning_spec.specs.Calls.{apply, call_function, inner_calls}
+use Rattle.bq_eval_rules.proofs.calls.+calls.Goals as goal
+
+pub run_body-returns-then-context-eq0 : goal.run_body-returns-then-context-eq0
+run_body-returns-then-context-eq0 g t c =
+    let h = g.R.Runtime in
+    let x = c.args.context.now in
+    no_body x.left h.means (units_at x.program.now (globals_of x.own)) (unit_of c.args.unit.now) c.args.function.now (slots_of c.args.frame.now) (h.seen c.args.runtime.now) c.if-context-eq0.true
+
+pub run_body-returns : goal.run_body-returns
+unfolding evals in_function inside round_of
+run_body-returns g t c =
+    let h = g.R.Runtime in
+    let x = c.args.context.now in
+    let ran = ran_body x.left h.means (units_at x.program.now (globals_of x.own)) (unit_of c.args.unit.now) c.args.function.now (slots_of c.args.frame.now) (h.seen c.args.runtime.now) (flow_of c.in_ok-flow.flow) (slots_of c.run_block.new.frame) (h.seen c.run_block.new.runtime) c.as_slice.result.now (omega (arith, c.if-context-eq0.false)) c.as_slice.ensures c.in_ok-flow.ensures in
+    ran ∙ ap (λ v. done v (h.seen c.run_block.new.runtime)) (sym c.answered.ensures)
+
+pub call_function-returns-in_err-frame : goal.call_function-returns-in_err-frame
+unfolding call_function
+call_function-returns-in_err-frame g t c = grind (arith, common_steps)
+
+pub call_function-returns-in_err-enter : goal.call_function-returns-in_err-enter
+unfolding call_function
+call_function-returns-in_err-enter g t c = grind (arith, common_steps)
+
+pub call_function-returns-in_err-value : goal.call_function-returns-in_err-value
+unfolding call_function
+call_function-returns-in_err-value g t c = grind (arith, common_steps)
+
+pub call_function-returns : goal.call_function-returns
+unfolding call_function
+call_function-returns g t c = grind (arith, common_steps)
+
+pub apply-returns-in-Function : goal.apply-returns-in-Function
+unfolding apply
+apply-returns-in-Function g t c = grind (arith, common_steps, list_of_data_of)
+
+pub apply-returns-in-BuiltIn : goal.apply-returns-in-BuiltIn
+unfolding apply
+apply-returns-in-BuiltIn g t c = grind (arith, common_steps)
+
+pub apply-returns-in-RuleFunction : goal.apply-returns-in-RuleFunction
+unfolding apply
+apply-returns-in-RuleFunction g t c = grind (arith, common_steps)
+
+pub apply-returns-in-Cell : goal.apply-returns-in-Cell
+unfolding apply
+apply-returns-in-Cell g t c = grind (arith, common_steps)
+
+pub call-returns : goal.call-returns
+unfolding inside
+call-returns g t c =
+    let h = g.R.Runtime in
+    let x = c.args.context.now in
+    rw (calls_step x.left h.means (units_at x.program.now (globals_of x.own)) c.args.value.now c.args.args (h.seen c.args.runtime.now)) c.apply.ensures
+
+pub call_at-returns-in-None : goal.call_at-returns-in-None
+call_at-returns-in-None g t c =
+    let h = g.R.Runtime in
+    let x = c.args.context.now in
+    let units = units_at x.program.now (globals_of x.own) in
+    no_unit h.means units (inner_calls x.left h.means units) c.args.home c.args.place c.args.defaults.now c.args.args (h.seen c.args.runtime.now) c.in-None.ensures
+
+pub call_at-returns-in-None-get : goal.call_at-returns-in-None-get
+call_at-returns-in-None-get g t c =
+    let h = g.R.Runtime in
+    let x = c.args.context.now in
+    let units = units_at x.program.now (globals_of x.own) in
+    no_function h.means units (inner_calls x.left h.means units) c.args.home c.args.place c.args.defaults.now c.args.args (h.seen c.args.runtime.now) (unit_of c.in-Some.unit) c.in-Some.ensures c.in-None-get.ensures.lookup.3
+
+pub call_at-returns-in-Some-get : goal.call_at-returns-in-Some-get
+call_at-returns-in-Some-get g t c =
+    let h = g.R.Runtime in
+    let x = c.args.context.now in
+    let units = units_at x.program.now (globals_of x.own) in
+    let d = c.in-Some-get.function.now in
+    let at = known_function h.means units (inner_calls x.left h.means units) c.args.home c.args.place c.args.defaults.now c.args.args (h.seen c.args.runtime.now) (unit_of c.in-Some.unit) d c.in-Some.ensures c.in-Some-get.ensures.lookup.3.0 (c.in-Some-get.ensures.lookup.3.1 d) in
+    let P : Run h.State Datum → Type 0 = λ run. Acts h.means (λ v. v) c.call_function.result (h.seen c.call_function.new.runtime) run in
+    subst P (sym at) c.call_function.ensures
+
+pub apply-returns-in_default : goal.apply-returns-in_default
+unfolding apply
+apply-returns-in_default g t c = grind (arith, common_steps)

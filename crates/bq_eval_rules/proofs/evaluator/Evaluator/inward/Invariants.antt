@@ -1,0 +1,19 @@
+use Rattle.std.proofs.Common.{◌≡◌, length}
+use Rattle.bq_eval_meaning_spec.specs.Comprehensions.{clauses, body}
+use Rattle.bq_eval_rules.specs.Nests.{nested}
+use Rattle.bq_eval_rules.specs.OpenLoops.{clauses_count}
+use Rattle.bq_eval_rules.specs.Slots.{slots_of}
+use Rattle.bq_eval_rules.proofs.evaluator.Evaluator.inward.Given as goal
+
+abbrev pub invariant-loop-rest : goal.invariant-loop-rest
+invariant-loop-rest g l =
+    let h = g.R.Runtime in
+    let e = nested h.means l.self.depth l.context in
+    let b = body h.means e l.comprehension in
+    record {
+      left : clauses h.means e l.rest b (slots_of l.frame) l.content (h.seen l.runtime) ≡ clauses h.means e l.clauses b (slots_of l.frame) l.fn.content (h.seen l.fn.runtime);
+      count : clauses_count h.means e b l.rest (slots_of l.frame) l.content (h.seen l.runtime) ≡ clauses_count h.means e b l.clauses (slots_of l.frame) l.fn.content (h.seen l.fn.runtime);
+    }
+
+abbrev pub decreases-loop-rest : goal.decreases-loop-rest
+decreases-loop-rest g l = length l.rest

@@ -1,0 +1,11 @@
+use Rattle.std.proofs.Common.{◌≡◌, drop}
+use Rattle.bq_eval_meaning_spec.specs.Expressions.{operations}
+use Rattle.bq_eval_rules.specs.Slots.{slots_of}
+use Rattle.bq_eval_rules.specs.Nests.{nested}
+use Rattle.bq_eval_rules.proofs.evaluator.Evaluator.operations.Given as goal
+
+abbrev pub invariant-loop-operation : goal.invariant-loop-operation
+invariant-loop-operation g l =
+    let h = g.R.Runtime in
+    let e = nested h.means l.self.depth l.context in
+    operations h.means e (drop l.operation-index l.operations) (slots_of l.frame) l.value (h.seen l.runtime) ≡ operations h.means e l.operations (slots_of l.frame) l.fn.first (h.seen l.fn.runtime)

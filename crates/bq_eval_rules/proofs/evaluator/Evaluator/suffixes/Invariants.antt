@@ -1,0 +1,13 @@
+use Rattle.std.proofs.Common.{◌≡◌, drop}
+use Rattle.bq_eval_meaning_spec.specs.Expressions.{suffixes}
+use Rattle.bq_eval_rules.specs.Slots.{slots_of}
+use Rattle.bq_eval_rules.specs.Round.{inside}
+use Rattle.bq_eval_rules.specs.Nests.{nested}
+use Rattle.bq_eval_rules.proofs.evaluator.Evaluator.suffixes.Given as goal
+
+abbrev pub invariant-loop-suffix : goal.invariant-loop-suffix
+invariant-loop-suffix g l =
+    let h = g.R.Runtime in
+    let e = nested h.means l.self.depth l.context in
+    let k = inside h.means l.context in
+    suffixes h.means e k (drop l.suffix-index l.suffixes) (slots_of l.frame) l.value (h.seen l.runtime) ≡ suffixes h.means e k l.suffixes (slots_of l.frame) l.fn.first (h.seen l.fn.runtime)

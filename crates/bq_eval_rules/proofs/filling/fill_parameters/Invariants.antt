@@ -1,0 +1,10 @@
+use Rattle.std.proofs.Common.{◌≡◌, drop}
+use Rattle.bq_eval_meaning_spec.specs.Calls.{fill_parameters}
+use Rattle.bq_eval_rules.specs.Slots.{slots_of}
+use Rattle.bq_eval_rules.specs.Fillings.{filling_of}
+use Rattle.bq_eval_rules.proofs.filling.fill_parameters.Given as goal
+
+abbrev pub invariant-loop-parameter : goal.invariant-loop-parameter
+invariant-loop-parameter g l =
+    let h = g.R.Runtime in
+    fill_parameters h.means (drop l.parameter-index l.parameters) (filling_of l.left (slots_of l.frame)) (h.seen l.runtime) ≡ fill_parameters h.means l.parameters (filling_of l.fn.filling (slots_of l.fn.frame)) (h.seen l.runtime)

@@ -1,0 +1,11 @@
+pub mod Acts
+pub mod Sparse
+pub mod Slots
+pub mod Round
+pub mod Operands
+pub mod Nests
+pub mod OpenLoops
+pub mod Flows
+pub mod Runs
+pub mod Fillings
+pub mod CodeUnits

@@ -1,0 +1,34 @@
+-- Function values that call, and function values that evaluate what is inside.
+use Rattle.std.specs.Prelude.{ℕ, ◌≤◌, Result}
+use denote.Ref.{Bor, MutBor}
+use Rattle.bq_resolve_scope.specs.declared.code.Code.{Code}
+use Rattle.bq_value.specs.declared.error.EvalErr.{EvalErr}
+use Rattle.bq_value.specs.Datum.{Datum}
+use Rattle.bq_builtin_machine.specs.Args.{Passed}
+use Rattle.bq_eval_meaning_spec.specs.Primitives.{Primitives}
+use Rattle.bq_eval_meaning_spec.specs.Trees.{Eval}
+use Rattle.bq_eval_meaning_spec.specs.Expressions.{expr_to}
+use Rattle.bq_eval_rules.specs.declared.context.Context.{Context}
+use Rattle.bq_eval_rules.specs.Acts.{Acts}
+use Rattle.bq_eval_rules.specs.Slots.{Slots, slots_of}
+use Rattle.bq_eval_rules.specs.Round.{round_of, inside}
+
+-- what an expression inside means, to a depth
+abbrev pub nested : {S : Type 0} → Primitives S → ℕ → Context → Eval S
+nested m depth c = expr_to depth m (inside m c) (round_of c)
+
+-- `seen` is what contracts see of the runtime. It may be called where at most `bound` functions may still become active.
+pub record Nests {R S C : Type 0} (m : Primitives S) (seen : R → S) (bound depth : ℕ) (call : C)
+    (pre : Bor Context → ℕ → C → Bor Slots → MutBor R → Bor Code → Type 0)
+    (post : Bor Context → ℕ → C → Bor Slots → MutBor R → Bor Code → Result Datum EvalErr → MutBor R → Type 0) : Type 0 where
+  pub callable : (c : Bor Context) (f : Bor Slots) (r : MutBor R) (x : Bor Code) → c.now.left ≤ bound → pre c depth call f r x
+  pub says : (c : Bor Context) (f : Bor Slots) (old new : MutBor R) (x : Bor Code) (result : Result Datum EvalErr) → post c depth call f old x result new
+      → Acts m (λ v. v) result (seen new.now) (nested m depth c.now x.now (slots_of f.now) (seen old.now))
+
+-- A function value that calls. It may be called where at most `bound` functions may still become active.
+pub record Answers {R S : Type 0} (m : Primitives S) (seen : R → S) (bound : ℕ)
+    (pre : Bor Context → MutBor R → Bor Datum → Passed → Type 0)
+    (post : Bor Context → MutBor R → Bor Datum → Passed → Result Datum EvalErr → MutBor R → Type 0) : Type 0 where
+  pub callable : (c : Bor Context) (r : MutBor R) (v : Bor Datum) (p : Passed) → c.now.left ≤ bound → pre c r v p
+  pub says : (c : Bor Context) (old new : MutBor R) (v : Bor Datum) (p : Passed) (result : Result Datum EvalErr) → post c old v p result new
+      → Acts m (λ x. x) result (seen new.now) (inside m c.now v.now p (seen old.now))

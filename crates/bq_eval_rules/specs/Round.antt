@@ -1,0 +1,55 @@
+-- What a context says of what is round an expression or a statement.
+use Rattle.std.specs.Prelude.{List, map, slice_get, if◌then◌else◌}
+use Rattle.std.specs.declared.alloc.Global.{Global}
+use Rattle.std.specs.declared.sync.Arc.{Arc}
+use Rattle.bq_resolve_scope.specs.Names.{max_layers}
+use Rattle.bq_value.specs.Cells.{FrozenView}
+use Rattle.bq_eval_meaning_spec.specs.Frame.{Frame, Surroundings, empty}
+use Rattle.bq_eval_meaning_spec.specs.Primitives.{Primitives}
+use Rattle.bq_eval_meaning_spec.specs.Trees.{Eval, Calls}
+use Rattle.bq_eval_meaning_spec.specs.Expressions.{expr_to}
+use Rattle.bq_eval_meaning_spec.specs.Calls.{Units, calls}
+use Rattle.bq_eval_meaning_spec.specs.Module.{Own, own_round, with_own, frozen_units}
+use Rattle.bq_eval_rules.specs.declared.context.Globals.{Globals}
+use Rattle.bq_eval_rules.specs.declared.context.Globals.TheVariants as g
+use Rattle.bq_eval_rules.specs.declared.context.Program.{Program}
+use Rattle.bq_eval_rules.specs.declared.context.Context.{Context}
+use Rattle.bq_eval_rules.specs.Slots.{slots_of}
+
+unfoldable pub globals_of : Globals → Frame
+globals_of g.Absent = empty
+globals_of (g.Running frame) = slots_of frame.now
+globals_of (g.Frozen vs) = λ k. slice_get vs.now k
+
+unfoldable pub round_of : Context → Surroundings
+round_of c = record { globals = globals_of c.globals; loaded = λ k. slice_get c.loaded.now k }
+
+-- ---- the modules of a program
+
+abbrev pub own_of : Program → Own
+own_of p = record { number = p.number; functions = p.functions.now; loaded = p.loaded.now }
+
+-- the frozen modules that a program loads
+abbrev pub views_of : List (Arc FrozenView Global) → List FrozenView
+views_of fs = map (λ f. f.value) fs
+
+-- where the own module's globals are these
+unfoldable pub units_at : Program → Frame → Units
+units_at p globals = with_own (frozen_units p.code.now (views_of p.frozen.now)) (own_of p) globals
+
+-- what calls mean
+unfoldable pub inside : {S : Type 0} → Primitives S → Context → Calls S
+inside m c = calls c.left m (units_at c.program.now (globals_of c.own))
+
+-- ---- statements
+
+-- what an expression means that stands outside functions, where the frame is the globals
+unfoldable pub outside_functions : {S : Type 0} → Primitives S → Context → Eval S
+outside_functions m c = λ x env. expr_to max_layers m (calls c.left m (units_at c.program.now env)) (own_round (own_of c.program.now) env) x empty
+
+unfoldable pub in_function : {S : Type 0} → Primitives S → Context → Eval S
+in_function m c = expr_to max_layers m (inside m c) (round_of c)
+
+-- what an expression of a statement means
+unfoldable pub evals : {S : Type 0} → Primitives S → Context → Eval S
+evals m c = if c.outside then outside_functions m c else in_function m c

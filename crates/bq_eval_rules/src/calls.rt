@@ -1,0 +1,167 @@
+//! Calls.
+
+ghost use Rattle.std.specs.Prelude.{◌≡◌};
+ghost use Rattle.bq_eval_meaning_spec.specs.Calls as meaning;
+ghost use Rattle.bq_eval_rules.specs.Acts.{Acts};
+ghost use Rattle.bq_eval_rules.specs.CodeUnits.{unit_of};
+ghost use Rattle.bq_eval_rules.specs.Slots.{slots_of};
+ghost use Rattle.bq_eval_rules.specs.Round.{inside, units_at, globals_of};
+
+use crate::context::Context;
+use crate::filling::{Filling, filled_frame};
+use crate::flow::answered;
+use crate::frame::Frame;
+use crate::parameters::{bind_args, has_star_star, keywords_of};
+use crate::runtime::Runtime;
+use crate::statements::run_block;
+use crate::units::{CodeUnit, unit_at};
+use bq_base::FaultKind;
+use bq_builtin_machine::{Args, Bound};
+use bq_resolve_scope::CodeFunction;
+use bq_value::{EvalErr, Node, Value};
+use std::alloc::Global;
+
+/// The frame that a function begins with.
+#[tactic(auto, using(crate::proofs::CallSteps::given_acts), unfolding(bq_eval_meaning_spec::specs::Calls::entry))]
+pub fn entry<'f, R: Runtime>(
+    alloc: Global,
+    runtime: &mut R,
+    function: &CodeFunction,
+    defaults: &[Value],
+    args: Args,
+) -> Result<Frame<'f>, EvalErr>
+    ensures { Acts R.means slots_of result (R.seen runtime.new) (meaning.entry R.means function.now defaults.now args (R.seen runtime.old)) }
+{
+    let parameters = function.parameters.as_slice();
+    let bound = bind_args(alloc, runtime.seed(), parameters, args)?;
+    let Bound {
+        values,
+        rest,
+        keywords,
+    } = bound;
+    let keywords = keywords_of(runtime, has_star_star(parameters), keywords)?;
+    let filling = Filling {
+        values: values.as_slice(),
+        defaults,
+        rest: rest.as_slice(),
+        keywords: &keywords,
+    };
+    filled_frame(alloc, &*runtime, function.slots, filling, parameters)
+}
+
+/// Runs the body of a function.
+#[cycle(calls)]
+#[tactic(auto, using(crate::proofs::CallSteps::inner_left), unfolding(bq_eval_meaning_spec::specs::Calls::run_body, bq_eval_meaning_spec::specs::Calls::body_of, crate::specs::Round::evals, crate::specs::Round::in_function, crate::specs::Round::inside, crate::specs::Round::round_of))]
+pub fn run_body<R: Runtime>(
+    context: &Context<'_>,
+    runtime: &mut R,
+    unit: &CodeUnit<'_>,
+    function: &CodeFunction,
+    frame: &mut Frame<'_>,
+) -> Result<Value, EvalErr>
+    ensures { Acts R.means (λ v. v) result (R.seen runtime.new) (meaning.run_body R.means (meaning.inner_calls context.now.left R.means (units_at context.now.program.now (globals_of context.now.own))) (unit_of unit.now) function.now (slots_of frame.old) (R.seen runtime.old)) }
+{
+    if context.left == 0 {
+        return Err(EvalErr::Bad(FaultKind::CallDepth));
+    }
+    let inner = Context {
+        alloc: context.alloc,
+        left: context.left - 1,
+        program: context.program,
+        own: context.own,
+        outside: false,
+        globals: unit.globals,
+        loaded: unit.loaded,
+    };
+    let flow = run_block(&inner, call::<R>, frame, runtime, function.body.as_slice())?;
+    Ok(answered(flow))
+}
+
+/// Calls a function of the program.
+#[cycle(calls)]
+#[tactic(auto, unfolding(bq_eval_meaning_spec::specs::Calls::call_function))]
+pub fn call_function<R: Runtime>(
+    context: &Context<'_>,
+    runtime: &mut R,
+    home: u32,
+    place: u32,
+    unit: &CodeUnit<'_>,
+    function: &CodeFunction,
+    defaults: &[Value],
+    args: Args,
+) -> Result<Value, EvalErr>
+    ensures { Acts R.means (λ v. v) result (R.seen runtime.new) (meaning.call_function R.means (meaning.inner_calls context.now.left R.means (units_at context.now.program.now (globals_of context.now.own))) home place (unit_of unit.now) function.now defaults.now args (R.seen runtime.old)) }
+{
+    let mut frame = entry(context.alloc, runtime, function, defaults, args)?;
+    runtime.enter(home, place)?;
+    let value = run_body(context, runtime, unit, function, &mut frame)?;
+    runtime.leave();
+    Ok(value)
+}
+
+/// Calls the function of a module at that place.
+#[cycle(calls)]
+#[tactic(auto, unfolding(bq_eval_meaning_spec::specs::Calls::call_at))]
+pub fn call_at<R: Runtime>(
+    context: &Context<'_>,
+    runtime: &mut R,
+    home: u32,
+    place: u32,
+    defaults: &[Value],
+    args: Args,
+) -> Result<Value, EvalErr>
+    ensures { Acts R.means (λ v. v) result (R.seen runtime.new) (meaning.call_at R.means (units_at context.now.program.now (globals_of context.now.own)) (meaning.inner_calls context.now.left R.means (units_at context.now.program.now (globals_of context.now.own))) home place defaults.now args (R.seen runtime.old)) }
+{
+    match unit_at(context.program, context.own, home) {
+        None => Err(EvalErr::Bad(FaultKind::WrongType)),
+        Some(unit) => match unit.functions.get(place as usize) {
+            None => Err(EvalErr::Bad(FaultKind::WrongType)),
+            Some(function) => {
+                call_function(
+                    context, runtime, home, place, &unit, function, defaults, args,
+                )
+            }
+        },
+    }
+}
+
+/// Calls a value.
+#[cycle(calls)]
+#[tactic(auto, using(bq_value::specs::Datum::list_of_data_of), unfolding(bq_eval_meaning_spec::specs::Calls::apply))]
+pub fn apply<R: Runtime>(
+    context: &Context<'_>,
+    runtime: &mut R,
+    value: &Value,
+    args: Args,
+) -> Result<Value, EvalErr>
+    ensures { Acts R.means (λ v. v) result (R.seen runtime.new) (meaning.apply R.means (units_at context.now.program.now (globals_of context.now.own)) (meaning.inner_calls context.now.left R.means (units_at context.now.program.now (globals_of context.now.own))) value.now args (R.seen runtime.old)) }
+{
+    match &value.node {
+        Node::Function(function) => call_at(
+            context,
+            runtime,
+            function.module,
+            function.place,
+            function.defaults.as_slice(),
+            args,
+        ),
+        Node::BuiltIn(name) => runtime.call_built_in(context.alloc, name, args),
+        Node::RuleFunction(function) => runtime.call_rule_function(context.alloc, *function, args),
+        Node::Cell(cell) => runtime.call_cell(context.alloc, *cell, args),
+        _ => Err(EvalErr::Bad(FaultKind::WrongType)),
+    }
+}
+
+/// What a call answers.
+#[cycle(calls)]
+#[tactic(auto, using(crate::proofs::CallSteps::calls_step), unfolding(crate::specs::Round::inside))]
+pub fn call<R: Runtime>(
+    context: &Context<'_>,
+    runtime: &mut R,
+    value: &Value,
+    args: Args,
+) -> Result<Value, EvalErr>
+    ensures { Acts R.means (λ v. v) result (R.seen runtime.new) (inside R.means context.now value.now args (R.seen runtime.old)) }
+{
+    apply(context, runtime, value, args)
+}

@@ -1,0 +1,65 @@
+//! What is round an expression.
+
+ghost use Rattle.std.specs.Prelude.{◌≡◌, option_copied};
+ghost use Rattle.bq_eval_rules.specs.Round.{globals_of};
+
+use crate::frame::Frame;
+use bq_resolve_scope::{CodeFunction, Resolved};
+use bq_value::{Frozen, Value};
+use std::alloc::Global;
+use std::sync::Arc;
+
+/// The globals of a file.
+#[derive(Clone, Copy)]
+pub enum Globals<'a> {
+    /// None is bound.
+    Absent,
+    /// Those of the file that is evaluated, of which some are not bound yet.
+    Running(&'a Frame<'a>),
+    /// Those of a frozen module.
+    Frozen(&'a [Value]),
+}
+
+impl<'a> Globals<'a> {
+    #[tactic(auto, unfolding(crate::specs::Round::globals_of, bq_eval_meaning_spec::specs::Frame::empty))]
+    #[inline(always)]
+    pub fn get(self, k: usize) -> Option<&'a Value>
+        ensures { option_copied result ≡ globals_of self.entry k }
+    {
+        match self {
+            Globals::Absent => None,
+            Globals::Running(frame) => frame.get(k),
+            Globals::Frozen(values) => values.get(k),
+        }
+    }
+}
+
+/// The module that is evaluated, and the frozen ones that it reaches.
+#[derive(Clone, Copy)]
+pub struct Program<'a> {
+    pub number: u32,
+    pub functions: &'a [CodeFunction],
+    /// What its loads bind.
+    pub loaded: &'a [Value],
+    /// The resolved files, by the numbers of their modules.
+    pub code: &'a [Option<Resolved>],
+    /// The modules that it loads.
+    pub frozen: &'a [Arc<Frozen>],
+}
+
+/// What is round an expression or a statement.
+#[derive(Clone, Copy)]
+pub struct Context<'a> {
+    pub alloc: Global,
+    /// How many functions may still become active.
+    pub left: usize,
+    pub program: &'a Program<'a>,
+    /// The globals of the module that is evaluated.
+    pub own: Globals<'a>,
+    /// A statement stands outside functions: its frame is the globals of the module that is evaluated.
+    pub outside: bool,
+    /// The globals of the file that the code stands in.
+    pub globals: Globals<'a>,
+    /// What the loads of the file that the code stands in bind.
+    pub loaded: &'a [Value],
+}

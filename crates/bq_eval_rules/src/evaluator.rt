@@ -1,0 +1,105 @@
+//! The rules to a depth. Each rule takes what evaluates the expressions inside, so that it is proved by itself.
+
+ghost use Rattle.std.specs.Prelude.{◌≡◌};
+ghost use Rattle.bq_value.specs.Datum.{int};
+ghost use Rattle.bq_builtin_machine.specs.Action.{following, done};
+ghost use Rattle.bq_eval_meaning_spec.specs.Expressions as meaning;
+ghost use Rattle.bq_eval_rules.specs.Acts.{Acts};
+ghost use Rattle.bq_eval_rules.specs.Slots.{slots_of};
+ghost use Rattle.bq_eval_rules.specs.Operands.{read_of};
+ghost use Rattle.bq_eval_rules.specs.Nests.{Nests, nested};
+
+use crate::context::Context;
+use crate::frame::Frame;
+use crate::operand::{Operand, use_of};
+use crate::runtime::Runtime;
+use bq_resolve_scope::Code;
+use bq_value::{EvalErr, Value};
+use std::marker::PhantomData;
+
+#[derive(Clone, Copy)]
+pub struct Evaluator<R, C, F> {
+    /// How many layers inside are still looked at.
+    pub depth: usize,
+    pub call: C,
+    pub eval: F,
+    pub of: PhantomData<R>,
+}
+
+impl<
+    R: Runtime,
+    C: Copy,
+    F: Fn(&Context<'_>, usize, C, &Frame<'_>, &mut R, &Code) -> Result<Value, EvalErr>,
+> Evaluator<R, C, F> {
+    /// The value of an expression inside.
+    #[inline(always)]
+    pub fn value(
+        &self,
+        context: &Context<'_>,
+        frame: &Frame<'_>,
+        runtime: &mut R,
+        code: &Code,
+    ) -> Result<Value, EvalErr>
+        requires { Nests R.means R.seen context.now.left self.now.depth self.now.call (F.pre self.now.eval) (F.post self.now.eval) }
+        ensures { Acts R.means (λ v. v) result (R.seen runtime.new) (nested R.means self.now.depth context.now code.now (slots_of frame.now) (R.seen runtime.old)) }
+    {
+        (self.eval)(context, self.depth, self.call, frame, runtime, code)
+    }
+
+    /// A literal.
+    #[tactic(auto, unfolding(bq_eval_meaning_spec::specs::Expressions::literal))]
+    #[inline(always)]
+    pub fn literal(&self, runtime: &mut R, value: Value) -> Result<Value, EvalErr>
+        ensures { Acts R.means (λ v. v) result (R.seen runtime.new) (meaning.literal R.means value (R.seen runtime.old)) }
+    {
+        runtime.step(1)?;
+        Ok(value)
+    }
+
+    /// An integer that stands in the code, as an operand.
+    #[inline(always)]
+    fn int_operand<'f>(&self, runtime: &mut R, n: i64) -> Result<Operand<'f>, EvalErr>
+        ensures { Acts R.means read_of result (R.seen runtime.new) (meaning.literal R.means (int n) (R.seen runtime.old)) }
+    {
+        Ok(Operand::Own(self.literal(runtime, Value::int(n))?))
+    }
+
+    /// The value of an expression inside that is only read: a frame lends it. An integer is at hand, too.
+    #[inline(always)]
+    pub fn operand<'f>(
+        &self,
+        context: &'f Context<'_>,
+        frame: &'f Frame<'_>,
+        runtime: &mut R,
+        code: &Code,
+    ) -> Result<Operand<'f>, EvalErr>
+        requires { Nests R.means R.seen context.now.left self.now.depth self.now.call (F.pre self.now.eval) (F.post self.now.eval) }
+        ensures { Acts R.means read_of result (R.seen runtime.new) (nested R.means self.now.depth context.now code.now (slots_of frame.now) (R.seen runtime.old)) }
+    {
+        if self.depth > 0 {
+            if let Code::Use(binding) = code {
+                return use_of(context, frame, runtime, *binding);
+            }
+            if let Code::Int(n) = code {
+                return self.int_operand(runtime, *n);
+            }
+        }
+        Ok(Operand::Own(self.value(context, frame, runtime, code)?))
+    }
+
+    /// Whether a condition holds.
+    #[inline(always)]
+    pub fn holds(
+        &self,
+        context: &Context<'_>,
+        frame: &Frame<'_>,
+        runtime: &mut R,
+        condition: &Code,
+    ) -> Result<bool, EvalErr>
+        requires { Nests R.means R.seen context.now.left self.now.depth self.now.call (F.pre self.now.eval) (F.post self.now.eval) }
+        ensures { Acts R.means (λ b. b) result (R.seen runtime.new) (following (nested R.means self.now.depth context.now condition.now (slots_of frame.now) (R.seen runtime.old)) (λ v s. done (R.means.truth v s) s)) }
+    {
+        let condition = self.operand(context, frame, runtime, condition)?;
+        Ok(runtime.truth(condition.get()))
+    }
+}

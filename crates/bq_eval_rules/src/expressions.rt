@@ -1,0 +1,145 @@
+//! Expressions.
+
+ghost use Rattle.std.specs.Prelude.{◌≡◌};
+ghost use Rattle.bq_value.specs.Datum.{string};
+ghost use Rattle.bq_builtin_machine.specs.Action.{done};
+ghost use Rattle.bq_eval_meaning_spec.specs.Expressions as meaning;
+ghost use Rattle.bq_eval_rules.specs.Acts.{Acts};
+ghost use Rattle.bq_eval_rules.specs.Slots.{slots_of};
+ghost use Rattle.bq_eval_rules.specs.Nests.{Nests, Answers, nested};
+ghost use Rattle.bq_eval_rules.specs.Round.{inside, round_of};
+
+use crate::context::Context;
+use crate::evaluator::Evaluator;
+use crate::frame::Frame;
+use crate::operand::use_of;
+use crate::runtime::Runtime;
+use bq_base::{Bytes, FaultKind};
+use bq_builtin_machine::Args;
+use bq_resolve_predeclared::Predeclared;
+use bq_resolve_scope::{Binding, Code};
+use bq_value::{EvalErr, Value};
+use std::marker::PhantomData;
+
+/// The value of an expression that is no deeper than so many layers.
+#[tactic(auto, unfolding(bq_eval_meaning_spec::specs::Expressions::expr_to))]
+pub fn expr_to<
+    R: Runtime,
+    C: Copy + Fn(&Context<'_>, &mut R, &Value, Args) -> Result<Value, EvalErr>,
+>(
+    context: &Context<'_>,
+    depth: usize,
+    call: C,
+    frame: &Frame<'_>,
+    runtime: &mut R,
+    code: &Code,
+) -> Result<Value, EvalErr>
+    requires { Answers R.means R.seen context.now.left (C.pre call) (C.post call) }
+    ensures { Acts R.means (λ v. v) result (R.seen runtime.new) (nested R.means depth context.now code.now (slots_of frame.now) (R.seen runtime.old)) }
+{
+    if depth == 0 {
+        return Err(EvalErr::Bad(FaultKind::Nesting));
+    }
+    Evaluator {
+        depth: depth - 1,
+        call,
+        eval: expr_to::<R, C>,
+        of: PhantomData,
+    }
+    .expr(context, frame, runtime, code)
+}
+
+impl<
+    R: Runtime,
+    C: Copy + Fn(&Context<'_>, &mut R, &Value, Args) -> Result<Value, EvalErr>,
+    F: Fn(&Context<'_>, usize, C, &Frame<'_>, &mut R, &Code) -> Result<Value, EvalErr>,
+> Evaluator<R, C, F> {
+    /// The use of a name.
+    #[inline(always)]
+    fn use_of(
+        &self,
+        context: &Context<'_>,
+        frame: &Frame<'_>,
+        runtime: &mut R,
+        binding: Binding,
+    ) -> Result<Value, EvalErr>
+        ensures { Acts R.means (λ v. v) result (R.seen runtime.new) (meaning.use_of R.means (round_of context.now) binding (slots_of frame.now) (R.seen runtime.old)) }
+    {
+        Ok(use_of(context, frame, runtime, binding)?.own()?)
+    }
+
+    /// A function of `native` or `attr`, by its name there.
+    #[inline(always)]
+    fn member(&self, runtime: &mut R, function: Predeclared) -> Result<Value, EvalErr>
+        ensures { Acts R.means (λ v. v) result (R.seen runtime.new) (done (R.means.predeclared function) (R.seen runtime.old)) }
+    {
+        Ok(runtime.predeclared(function)?)
+    }
+
+    /// A string. No byte is copied.
+    #[inline(always)]
+    fn string(&self, runtime: &mut R, text: &Bytes) -> Result<Value, EvalErr>
+        ensures { Acts R.means (λ v. v) result (R.seen runtime.new) (meaning.literal R.means (string text.now) (R.seen runtime.old)) }
+    {
+        let text = text.share()?;
+        self.literal(runtime, Value::string(text))
+    }
+
+    /// An expression.
+    #[tactic(auto, unfolding(bq_eval_meaning_spec::specs::Expressions::expr))]
+    pub fn expr(
+        &self,
+        context: &Context<'_>,
+        frame: &Frame<'_>,
+        runtime: &mut R,
+        code: &Code,
+    ) -> Result<Value, EvalErr>
+        requires nests { Nests R.means R.seen context.now.left self.now.depth self.now.call (F.pre self.now.eval) (F.post self.now.eval) }
+        requires answers { Answers R.means R.seen context.now.left (C.pre self.now.call) (C.post self.now.call) }
+        ensures { Acts R.means (λ v. v) result (R.seen runtime.new) (meaning.expr R.means (nested R.means self.now.depth context.now) (inside R.means context.now) (round_of context.now) code.now (slots_of frame.now) (R.seen runtime.old)) }
+    {
+        match code {
+            Code::Use(binding) => self.use_of(context, frame, runtime, *binding),
+            Code::Member(function) => self.member(runtime, *function),
+            Code::Int(n) => self.literal(runtime, Value::int(*n)),
+            Code::String(text) => self.string(runtime, text),
+            Code::List(codes) => self.list_display(context, frame, runtime, codes.as_slice()),
+            Code::Tuple(codes) => self.tuple_display(context, frame, runtime, codes.as_slice()),
+            Code::Dict(pairs) => self.dict_display(context, frame, runtime, pairs.as_slice()),
+            Code::ListComprehension(_, clauses) => {
+                self.list_comprehension(context, frame, runtime, code, clauses.as_slice())
+            }
+            Code::DictComprehension(_, clauses) => {
+                self.dict_comprehension(context, frame, runtime, code, clauses.as_slice())
+            }
+            Code::Framed(_, code) => self.framed(context, runtime, code.get()),
+            Code::Primary(code, suffixes) => {
+                self.primary(context, frame, runtime, code.get(), suffixes.as_slice())
+            }
+            Code::Unary(operators, code) => {
+                self.unary(context, frame, runtime, operators.as_slice(), code.get())
+            }
+            Code::Binary(code, operations) => {
+                self.binary(context, frame, runtime, code.get(), operations.as_slice())
+            }
+            Code::Compare(left, operator, right) => {
+                self.compare(context, frame, runtime, left.get(), *operator, right.get())
+            }
+            Code::Conditional(choices, otherwise) => {
+                self.conditional(context, frame, runtime, choices.as_slice(), otherwise.get())
+            }
+            Code::Lambda => Err(EvalErr::Bad(FaultKind::LeftOut)),
+        }
+    }
+
+    /// A comprehension outside functions, in a frame of its own.
+    #[inline(never)]
+    #[tactic(auto, unfolding(bq_eval_meaning_spec::specs::Expressions::framed), using(crate::proofs::Slots::none_filled))]
+    fn framed(&self, context: &Context<'_>, runtime: &mut R, code: &Code) -> Result<Value, EvalErr>
+        requires { Nests R.means R.seen context.now.left self.now.depth self.now.call (F.pre self.now.eval) (F.post self.now.eval) }
+        ensures { Acts R.means (λ v. v) result (R.seen runtime.new) (meaning.framed R.means (nested R.means self.now.depth context.now) code.now (R.seen runtime.old)) }
+    {
+        let frame = Frame::new(context.alloc);
+        self.value(context, &frame, runtime, code)
+    }
+}

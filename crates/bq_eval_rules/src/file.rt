@@ -1,0 +1,160 @@
+//! The statements of a file.
+
+ghost use Rattle.std.specs.Prelude.{◌≡◌, [], IfOk, slice_get};
+ghost use Rattle.bq_eval_meaning_spec.specs.Expressions as expressions;
+ghost use Rattle.bq_eval_meaning_spec.specs.Module as meaning;
+ghost use Rattle.bq_eval_rules.specs.Acts.{Acts};
+ghost use Rattle.bq_eval_rules.specs.Flows.{flow_of};
+ghost use Rattle.bq_eval_rules.specs.Slots.{slots_of};
+ghost use Rattle.bq_eval_rules.specs.Nests.{Answers};
+ghost use Rattle.bq_eval_rules.specs.Round.{evals, own_of};
+
+use crate::calls::call;
+use crate::context::Context;
+use crate::flow::Flow;
+use crate::frame::Frame;
+use crate::reader::Reader;
+use crate::runtime::Runtime;
+use bq_base::Bytes;
+use bq_builtin_machine::Args;
+use bq_resolve_scope::{Code, CodeDef, CodeFunction, CodeTopLevel, FileStmt};
+use bq_value::{EvalErr, Function, Value};
+use std::alloc::AllocError;
+use std::marker::PhantomData;
+
+/// The name of a function of the file.
+fn name_of(functions: &[CodeFunction], place: usize) -> Result<Bytes, AllocError>
+    ensures { IfOk result (λ b. b ≡ meaning.name_of (slice_get functions.now place)) }
+{
+    match functions.get(place) {
+        None => Ok(Bytes::empty()),
+        Some(function) => function.name.share(),
+    }
+}
+
+impl<R: Runtime, C: Copy + Fn(&Context<'_>, &mut R, &Value, Args) -> Result<Value, EvalErr>> Reader<
+    R,
+    C,
+> {
+    /// The values of expressions, one after another.
+    #[tactic(auto, unfolding(bq_eval_meaning_spec::specs::Expressions::values))]
+    fn values(
+        &self,
+        context: &Context<'_>,
+        frame: &Frame<'_>,
+        runtime: &mut R,
+        codes: &[Code],
+    ) -> Result<Vec<Value>, EvalErr>
+        requires { Answers R.means R.seen context.now.left (C.pre self.now.call) (C.post self.now.call) }
+        ensures { Acts R.means (λ vs. vs.items) result (R.seen runtime.new) (expressions.values R.means (evals R.means context.now) codes.now (slots_of frame.now) [] (R.seen runtime.old)) }
+    {
+        let mut all = Vec::with_capacity(context.alloc, codes.len())?;
+        for code in codes {
+            all.push(self.value(context, frame, runtime, code)?)?;
+        }
+        Ok(all)
+    }
+
+    /// A `def`.
+    #[tactic(auto, unfolding(bq_eval_meaning_spec::specs::Module::def_stmt))]
+    fn def_stmt(
+        &self,
+        context: &Context<'_>,
+        frame: &mut Frame<'_>,
+        runtime: &mut R,
+        def: &CodeDef,
+    ) -> Result<Flow, EvalErr>
+        requires { Answers R.means R.seen context.now.left (C.pre self.now.call) (C.post self.now.call) }
+        ensures { Acts R.means (λ f. (flow_of f, slots_of frame.new)) result (R.seen runtime.new) (meaning.def_stmt R.means (own_of context.now.program.now) (evals R.means context.now) def.now (slots_of frame.old) (R.seen runtime.old)) }
+    {
+        runtime.step(1)?;
+        let defaults = self.values(context, frame, runtime, def.defaults.as_slice())?;
+        // No file has so many functions: they would not fit into memory.
+        if def.function > u32::MAX as usize {
+            return Err(EvalErr::Memory);
+        }
+        let place = def.function as u32;
+        let name = name_of(context.program.functions, def.function)?;
+        let function = Function {
+            module: context.program.number,
+            place,
+            name,
+            defaults,
+        };
+        let value = Value::function(context.alloc, function)?;
+        self.assign(context, frame, runtime, &def.target, value)?;
+        Ok(Flow::Next)
+    }
+
+    #[tactic(auto, unfolding(bq_eval_meaning_spec::specs::Module::file_stmt))]
+    fn file_stmt(
+        &self,
+        context: &Context<'_>,
+        frame: &mut Frame<'_>,
+        runtime: &mut R,
+        stmt: &FileStmt,
+    ) -> Result<Flow, EvalErr>
+        requires { Answers R.means R.seen context.now.left (C.pre self.now.call) (C.post self.now.call) }
+        ensures { Acts R.means (λ f. (flow_of f, slots_of frame.new)) result (R.seen runtime.new) (meaning.file_stmt R.means (own_of context.now.program.now) (evals R.means context.now) stmt.now (slots_of frame.old) (R.seen runtime.old)) }
+    {
+        match stmt {
+            FileStmt::Simple(stmts) => self.line(context, frame, runtime, stmts.as_slice()),
+            FileStmt::Def(def) => self.def_stmt(context, frame, runtime, def),
+        }
+    }
+
+    /// A top-level statement: a fault names its line.
+    #[tactic(auto, unfolding(bq_eval_meaning_spec::specs::Module::top_level))]
+    fn top_level(
+        &self,
+        context: &Context<'_>,
+        frame: &mut Frame<'_>,
+        runtime: &mut R,
+        stmt: &CodeTopLevel,
+    ) -> Result<Flow, EvalErr>
+        requires { Answers R.means R.seen context.now.left (C.pre self.now.call) (C.post self.now.call) }
+        ensures { Acts R.means (λ f. (flow_of f, slots_of frame.new)) result (R.seen runtime.new) (meaning.top_level R.means (own_of context.now.program.now) (evals R.means context.now) stmt.now (slots_of frame.old) (R.seen runtime.old)) }
+    {
+        runtime.at_line(stmt.line);
+        self.file_stmt(context, frame, runtime, &stmt.statement)
+    }
+
+    /// The statements of a file.
+    #[tactic(auto, unfolding(bq_eval_meaning_spec::specs::Module::top_levels))]
+    pub fn top_levels(
+        &self,
+        context: &Context<'_>,
+        frame: &mut Frame<'_>,
+        runtime: &mut R,
+        stmts: &[CodeTopLevel],
+    ) -> Result<Flow, EvalErr>
+        requires { Answers R.means R.seen context.now.left (C.pre self.now.call) (C.post self.now.call) }
+        ensures { Acts R.means (λ f. (flow_of f, slots_of frame.new)) result (R.seen runtime.new) (meaning.top_levels R.means (own_of context.now.program.now) (evals R.means context.now) stmts.now (slots_of frame.old) (R.seen runtime.old)) }
+    {
+        for stmt in stmts {
+            match self.top_level(context, frame, runtime, stmt)? {
+                Flow::Next => {}
+                Flow::Leave => return Ok(Flow::Leave),
+                Flow::Again => return Ok(Flow::Again),
+                Flow::Answer(value) => return Ok(Flow::Answer(value)),
+            }
+        }
+        Ok(Flow::Next)
+    }
+}
+
+/// Runs the statements of a file. Its frame holds the globals.
+pub fn run_file<R: Runtime>(
+    context: &Context<'_>,
+    frame: &mut Frame<'_>,
+    runtime: &mut R,
+    stmts: &[CodeTopLevel],
+) -> Result<Flow, EvalErr>
+    ensures { Acts R.means (λ f. (flow_of f, slots_of frame.new)) result (R.seen runtime.new) (meaning.top_levels R.means (own_of context.now.program.now) (evals R.means context.now) stmts.now (slots_of frame.old) (R.seen runtime.old)) }
+{
+    let reader = Reader {
+        call: call::<R>,
+        of: PhantomData,
+    };
+    reader.top_levels(context, frame, runtime, stmts)
+}

@@ -1,0 +1,142 @@
+//! Putting what parameters hold into the frame of a function.
+
+ghost use Rattle.std.specs.Prelude.{◌≡◌};
+ghost use Rattle.bq_builtin_machine.specs.Action.{following, pure};
+ghost use Rattle.bq_eval_meaning_spec.specs.Calls as meaning;
+ghost use Rattle.bq_eval_meaning_spec.specs.Frame.{empty};
+ghost use Rattle.bq_eval_rules.specs.Acts.{Acts};
+ghost use Rattle.bq_eval_rules.specs.Fillings.{filling_of};
+ghost use Rattle.bq_eval_rules.specs.Slots.{slots_of};
+
+use crate::frame::Frame;
+use crate::runtime::Runtime;
+use bq_base::FaultKind;
+use bq_builtin_machine::copies;
+use bq_resolve_scope::CodeParameter;
+use bq_value::{EvalErr, Value};
+use std::alloc::Global;
+
+/// What is still to go into a frame, from the next parameter on.
+#[derive(Clone, Copy)]
+pub struct Filling<'a> {
+    pub values: &'a [Option<Value>],
+    pub defaults: &'a [Value],
+    /// The elements of what `*` holds.
+    pub rest: &'a [Value],
+    /// What `**` holds.
+    pub keywords: &'a Value,
+}
+
+/// A parameter without default.
+fn fill_plain<'a, R: Runtime>(
+    runtime: &R,
+    filling: Filling<'a>,
+    frame: &mut Frame<'_>,
+    slot: usize,
+) -> Result<Filling<'a>, EvalErr>
+    ensures { Acts R.means (λ x. filling_of x (slots_of frame.new)) result (R.seen runtime.now) (meaning.with_value R.means slot filling.entry.values.now (filling_of filling.entry (slots_of frame.old)) (R.seen runtime.now)) }
+{
+    let _ = runtime;
+    match filling.values.split_first() {
+        Some((Some(value), values)) => {
+            frame.fill(slot, value.share()?)?;
+            Ok(Filling {
+                values,
+                defaults: filling.defaults,
+                rest: filling.rest,
+                keywords: filling.keywords,
+            })
+        }
+        Some((None, _)) => Err(EvalErr::Bad(FaultKind::Args)),
+        None => Err(EvalErr::Bad(FaultKind::Args)),
+    }
+}
+
+/// A parameter with a default, which is its value where it has no argument.
+fn fill_default<'a, R: Runtime>(
+    runtime: &R,
+    filling: Filling<'a>,
+    frame: &mut Frame<'_>,
+    slot: usize,
+) -> Result<Filling<'a>, EvalErr>
+    ensures { Acts R.means (λ x. filling_of x (slots_of frame.new)) result (R.seen runtime.now) (meaning.with_default R.means slot filling.entry.values.now filling.entry.defaults.now (filling_of filling.entry (slots_of frame.old)) (R.seen runtime.now)) }
+{
+    let _ = runtime;
+    let Some((argument, values)) = filling.values.split_first() else {
+        return Err(EvalErr::Bad(FaultKind::Args));
+    };
+    let Some((default, defaults)) = filling.defaults.split_first() else {
+        return Err(EvalErr::Bad(FaultKind::Args));
+    };
+    match argument {
+        Some(value) => frame.fill(slot, value.share()?)?,
+        None => frame.fill(slot, default.share()?)?,
+    }
+    Ok(Filling {
+        values,
+        defaults,
+        rest: filling.rest,
+        keywords: filling.keywords,
+    })
+}
+
+/// Puts one parameter into the frame.
+#[tactic(auto, unfolding(bq_eval_meaning_spec::specs::Calls::fill_parameter))]
+fn fill_parameter<'a, R: Runtime>(
+    alloc: Global,
+    runtime: &R,
+    filling: Filling<'a>,
+    frame: &mut Frame<'_>,
+    parameter: &CodeParameter,
+) -> Result<Filling<'a>, EvalErr>
+    ensures { Acts R.means (λ x. filling_of x (slots_of frame.new)) result (R.seen runtime.now) (meaning.fill_parameter R.means parameter.now (filling_of filling.entry (slots_of frame.old)) (R.seen runtime.now)) }
+{
+    match parameter {
+        CodeParameter::Plain(_, slot) => fill_plain(runtime, filling, frame, *slot),
+        CodeParameter::Default(_, slot) => fill_default(runtime, filling, frame, *slot),
+        CodeParameter::BareStar => Ok(filling),
+        CodeParameter::Star(slot) => {
+            let rest = copies(alloc, filling.rest)?;
+            frame.fill(*slot, Value::tuple(alloc, rest)?)?;
+            Ok(filling)
+        }
+        CodeParameter::StarStar(slot) => {
+            frame.fill(*slot, filling.keywords.share()?)?;
+            Ok(filling)
+        }
+    }
+}
+
+/// Puts these parameters into the frame.
+#[tactic(auto, unfolding(bq_eval_meaning_spec::specs::Calls::fill_parameters))]
+fn fill_parameters<'a, R: Runtime>(
+    alloc: Global,
+    runtime: &R,
+    filling: Filling<'a>,
+    frame: &mut Frame<'_>,
+    parameters: &[CodeParameter],
+) -> Result<Filling<'a>, EvalErr>
+    ensures { Acts R.means (λ x. filling_of x (slots_of frame.new)) result (R.seen runtime.now) (meaning.fill_parameters R.means parameters.now (filling_of filling.entry (slots_of frame.old)) (R.seen runtime.now)) }
+{
+    let mut left = filling;
+    for parameter in parameters {
+        left = fill_parameter(alloc, runtime, left, frame, parameter)?;
+    }
+    Ok(left)
+}
+
+/// A frame with room for so many slots, in which these parameters are.
+#[tactic(auto, using(crate::proofs::Slots::none_filled))]
+pub fn filled_frame<'f, R: Runtime>(
+    alloc: Global,
+    runtime: &R,
+    slots: usize,
+    filling: Filling<'_>,
+    parameters: &[CodeParameter],
+) -> Result<Frame<'f>, EvalErr>
+    ensures { Acts R.means slots_of result (R.seen runtime.now) (following (meaning.fill_parameters R.means parameters.now (filling_of filling.entry empty) (R.seen runtime.now)) (λ x. pure x.frame)) }
+{
+    let mut frame = Frame::with_room(alloc, slots)?;
+    let _filled = fill_parameters(alloc, runtime, filling, &mut frame, parameters)?;
+    Ok(frame)
+}

@@ -1,0 +1,103 @@
+//! Values that are only read.
+
+ghost use Rattle.std.specs.Prelude.{◌≡◌, IfOk, IfSome, option_copied};
+ghost use Rattle.bq_eval_meaning_spec.specs.Targets.{bound};
+ghost use Rattle.bq_eval_meaning_spec.specs.Expressions as meaning;
+ghost use Rattle.bq_eval_rules.specs.Acts.{Acts};
+ghost use Rattle.bq_eval_rules.specs.Slots.{slots_of};
+ghost use Rattle.bq_eval_rules.specs.Round.{round_of};
+ghost use Rattle.bq_eval_rules.specs.Operands.{read_of};
+ghost use Rattle.bq_resolve_scope.specs.declared.code.Binding.TheVariants as bindings;
+ghost use Rattle.bq_resolve_scope.specs.declared.code.Code.{out-Code};
+ghost use Rattle.bq_resolve_scope.specs.declared.code.Code.TheOpen.{Code-F};
+
+use crate::context::Context;
+use crate::frame::Frame;
+use crate::runtime::Runtime;
+use bq_base::FaultKind;
+use bq_resolve_scope::{Binding, Code};
+use bq_value::{EvalErr, Value};
+use std::alloc::AllocError;
+
+/// A value that a frame lends, or one of its own.
+#[derive(Drop)]
+pub enum Operand<'f> {
+    Lent(&'f Value),
+    Own(Value),
+}
+
+impl<'f> Operand<'f> {
+    #[inline(always)]
+    pub fn get(&self) -> &Value
+        ensures { result.now ≡ read_of self.now }
+    {
+        match self {
+            Operand::Lent(value) => value,
+            Operand::Own(value) => value,
+        }
+    }
+
+    /// The value itself.
+    pub fn own(self) -> Result<Value, AllocError>
+        ensures { IfOk result (λ v. v ≡ read_of self.entry) }
+    {
+        match self {
+            Operand::Lent(value) => value.share(),
+            Operand::Own(value) => Ok(value),
+        }
+    }
+}
+
+/// The value of a name, or F49.
+#[tactic(auto, unfolding(bq_eval_meaning_spec::specs::Targets::bound))]
+#[inline(always)]
+fn lent<'f, R: Runtime>(runtime: &R, value: Option<&'f Value>) -> Result<Operand<'f>, EvalErr>
+    ensures { Acts R.means read_of result (R.seen runtime.now) (bound R.means (option_copied value.entry) (R.seen runtime.now)) }
+{
+    match value {
+        None => Err(EvalErr::Bad(FaultKind::Unbound)),
+        Some(value) => Ok(Operand::Lent(value)),
+    }
+}
+
+/// The use of a name.
+#[tactic(auto, unfolding(bq_eval_meaning_spec::specs::Expressions::use_of, crate::specs::Round::round_of))]
+#[inline(always)]
+pub fn use_of<'f, R: Runtime>(
+    context: &'f Context<'_>,
+    frame: &'f Frame<'_>,
+    runtime: &mut R,
+    binding: Binding,
+) -> Result<Operand<'f>, EvalErr>
+    ensures { Acts R.means read_of result (R.seen runtime.new) (meaning.use_of R.means (round_of context.now) binding (slots_of frame.now) (R.seen runtime.old)) }
+{
+    runtime.step(1)?;
+    match binding {
+        Binding::Local(slot) => lent(&*runtime, frame.get(slot)),
+        Binding::Global(k) => lent(&*runtime, context.globals.get(k)),
+        Binding::Loaded(k) => lent(&*runtime, context.loaded.get(k)),
+        Binding::Predeclared(name) => Ok(Operand::Own(runtime.predeclared(name)?)),
+    }
+}
+
+/// The slot of the local name that this is.
+#[inline(always)]
+pub fn local_in(code: &Code) -> Option<usize>
+    ensures { IfSome result (λ slot. out-Code code.now ≡ Code-F.Use (bindings.Local slot)) }
+{
+    match code {
+        Code::Use(Binding::Local(slot)) => Some(*slot),
+        _ => None,
+    }
+}
+
+/// The integer that this is.
+#[inline(always)]
+pub fn int_in(code: &Code) -> Option<i64>
+    ensures { IfSome result (λ n. out-Code code.now ≡ Code-F.Int n) }
+{
+    match code {
+        Code::Int(n) => Some(*n),
+        _ => None,
+    }
+}

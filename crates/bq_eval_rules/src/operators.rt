@@ -1,0 +1,329 @@
+//! Operators, comparisons and conditionals.
+
+ghost use Rattle.std.specs.Prelude.{◌≡◌, reverse};
+ghost use Rattle.bq_value.specs.Datum.{int};
+ghost use Rattle.bq_builtin_machine.specs.Action.{following};
+ghost use Rattle.bq_eval_meaning_spec.specs.Expressions as meaning;
+ghost use Rattle.bq_eval_rules.specs.Acts.{Acts};
+ghost use Rattle.bq_eval_rules.specs.Slots.{slots_of};
+ghost use Rattle.bq_eval_rules.specs.Nests.{Nests, nested};
+ghost use Rattle.bq_eval_rules.specs.Operands.{local_use};
+
+use crate::context::Context;
+use crate::evaluator::Evaluator;
+use crate::frame::Frame;
+use crate::operand::{int_in, local_in};
+use crate::runtime::Runtime;
+use bq_parse_grammar::{Comparison, Operator, UnaryOperator};
+use bq_resolve_scope::{Code, CodeChoice, CodeOperation};
+use bq_value::{EvalErr, Value};
+
+/// What these operators make of a value, the last one first.
+#[tactic(auto, unfolding(bq_eval_meaning_spec::specs::Expressions::unary_each))]
+fn unary_each<R: Runtime>(
+    runtime: &mut R,
+    operators: &[UnaryOperator],
+    value: Value,
+) -> Result<Value, EvalErr>
+    ensures { Acts R.means (λ v. v) result (R.seen runtime.new) (meaning.unary_each R.means (reverse operators.now) value (R.seen runtime.old)) }
+{
+    let mut value = value;
+    let mut rest = operators;
+    while let [before @ .., operator] = rest {
+        value = runtime.unary(*operator, &value)?;
+        rest = before;
+    }
+    Ok(value)
+}
+
+impl<
+    R: Runtime,
+    C: Copy,
+    F: Fn(&Context<'_>, usize, C, &Frame<'_>, &mut R, &Code) -> Result<Value, EvalErr>,
+> Evaluator<R, C, F> {
+    /// Operators before an operand.
+    #[inline(never)]
+    #[tactic(auto, unfolding(bq_eval_meaning_spec::specs::Expressions::unary))]
+    pub fn unary(
+        &self,
+        context: &Context<'_>,
+        frame: &Frame<'_>,
+        runtime: &mut R,
+        operators: &[UnaryOperator],
+        code: &Code,
+    ) -> Result<Value, EvalErr>
+        requires { Nests R.means R.seen context.now.left self.now.depth self.now.call (F.pre self.now.eval) (F.post self.now.eval) }
+        ensures { Acts R.means (λ v. v) result (R.seen runtime.new) (meaning.unary R.means (nested R.means self.now.depth context.now) operators.now code.now (slots_of frame.now) (R.seen runtime.old)) }
+    {
+        runtime.step(operators.len() as u64)?;
+        let value = self.value(context, frame, runtime, code)?;
+        unary_each(runtime, operators, value)
+    }
+
+    /// One operation on the value so far.
+    #[inline(always)]
+    #[tactic(auto, unfolding(bq_eval_meaning_spec::specs::Expressions::operation))]
+    fn operation(
+        &self,
+        context: &Context<'_>,
+        frame: &Frame<'_>,
+        runtime: &mut R,
+        operation: &CodeOperation,
+        left: &Value,
+    ) -> Result<Value, EvalErr>
+        requires { Nests R.means R.seen context.now.left self.now.depth self.now.call (F.pre self.now.eval) (F.post self.now.eval) }
+        ensures { Acts R.means (λ v. v) result (R.seen runtime.new) (meaning.operation R.means (nested R.means self.now.depth context.now) operation.now (slots_of frame.now) left.now (R.seen runtime.old)) }
+    {
+        match operation.operator {
+            Operator::And => {
+                if runtime.truth(left) {
+                    return self.value(context, frame, runtime, &operation.operand);
+                }
+                Ok(left.share()?)
+            }
+            Operator::Or => {
+                if runtime.truth(left) {
+                    return Ok(left.share()?);
+                }
+                self.value(context, frame, runtime, &operation.operand)
+            }
+            operator => self.apply(context, frame, runtime, operator, left, &operation.operand),
+        }
+    }
+
+    /// `left op name`, for a local name.
+    #[inline(always)]
+    fn apply_local(
+        &self,
+        frame: &Frame<'_>,
+        runtime: &mut R,
+        operator: Operator,
+        left: &Value,
+        slot: usize,
+    ) -> Result<Value, EvalErr>
+        ensures { Acts R.means (λ v. v) result (R.seen runtime.new) (following (local_use R.means (slots_of frame.now) slot (R.seen runtime.old)) (R.means.binary operator left.now)) }
+    {
+        let right = frame.local(runtime, slot)?;
+        runtime.binary(operator, left, right)
+    }
+
+    /// `left op n`, for an integer.
+    #[inline(always)]
+    fn apply_int(
+        &self,
+        runtime: &mut R,
+        operator: Operator,
+        left: &Value,
+        n: i64,
+    ) -> Result<Value, EvalErr>
+        ensures { Acts R.means (λ v. v) result (R.seen runtime.new) (following (meaning.literal R.means (int n) (R.seen runtime.old)) (R.means.binary operator left.now)) }
+    {
+        let right = self.literal(runtime, Value::int(n))?;
+        runtime.binary(operator, left, &right)
+    }
+
+    /// `left op operand`, but for `and` and `or`. Most operands are local names or integers.
+    #[inline(always)]
+    fn apply(
+        &self,
+        context: &Context<'_>,
+        frame: &Frame<'_>,
+        runtime: &mut R,
+        operator: Operator,
+        left: &Value,
+        operand: &Code,
+    ) -> Result<Value, EvalErr>
+        requires { Nests R.means R.seen context.now.left self.now.depth self.now.call (F.pre self.now.eval) (F.post self.now.eval) }
+        ensures { Acts R.means (λ v. v) result (R.seen runtime.new) (following (nested R.means self.now.depth context.now operand.now (slots_of frame.now) (R.seen runtime.old)) (R.means.binary operator left.now)) }
+    {
+        if self.depth > 0 {
+            if let Some(slot) = local_in(operand) {
+                return self.apply_local(frame, runtime, operator, left, slot);
+            }
+            if let Some(n) = int_in(operand) {
+                return self.apply_int(runtime, operator, left, n);
+            }
+        }
+        let right = self.value(context, frame, runtime, operand)?;
+        runtime.binary(operator, left, &right)
+    }
+
+    #[tactic(auto, unfolding(bq_eval_meaning_spec::specs::Expressions::operations))]
+    fn operations(
+        &self,
+        context: &Context<'_>,
+        frame: &Frame<'_>,
+        runtime: &mut R,
+        operations: &[CodeOperation],
+        first: Value,
+    ) -> Result<Value, EvalErr>
+        requires { Nests R.means R.seen context.now.left self.now.depth self.now.call (F.pre self.now.eval) (F.post self.now.eval) }
+        ensures { Acts R.means (λ v. v) result (R.seen runtime.new) (meaning.operations R.means (nested R.means self.now.depth context.now) operations.now (slots_of frame.now) first (R.seen runtime.old)) }
+    {
+        let mut value = first;
+        for operation in operations {
+            value = self.operation(context, frame, runtime, operation, &value)?;
+        }
+        Ok(value)
+    }
+
+    /// The operations of a chain on its first operand, most often one.
+    #[tactic(auto, unfolding(bq_eval_meaning_spec::specs::Expressions::operations))]
+    #[inline(always)]
+    fn chain(
+        &self,
+        context: &Context<'_>,
+        frame: &Frame<'_>,
+        runtime: &mut R,
+        operations: &[CodeOperation],
+        first: &Value,
+    ) -> Result<Value, EvalErr>
+        requires { Nests R.means R.seen context.now.left self.now.depth self.now.call (F.pre self.now.eval) (F.post self.now.eval) }
+        ensures { Acts R.means (λ v. v) result (R.seen runtime.new) (meaning.operations R.means (nested R.means self.now.depth context.now) operations.now (slots_of frame.now) first.now (R.seen runtime.old)) }
+    {
+        match operations {
+            [operation] => self.operation(context, frame, runtime, operation, first),
+            _ => self.long_chain(context, frame, runtime, operations, first),
+        }
+    }
+
+    /// Any number of operations.
+    #[tactic(auto, unfolding(bq_eval_meaning_spec::specs::Expressions::operations))]
+    #[inline(never)]
+    fn long_chain(
+        &self,
+        context: &Context<'_>,
+        frame: &Frame<'_>,
+        runtime: &mut R,
+        operations: &[CodeOperation],
+        first: &Value,
+    ) -> Result<Value, EvalErr>
+        requires { Nests R.means R.seen context.now.left self.now.depth self.now.call (F.pre self.now.eval) (F.post self.now.eval) }
+        ensures { Acts R.means (λ v. v) result (R.seen runtime.new) (meaning.operations R.means (nested R.means self.now.depth context.now) operations.now (slots_of frame.now) first.now (R.seen runtime.old)) }
+    {
+        match operations {
+            [] => Ok(first.share()?),
+            [operation, rest @ ..] => {
+                let value = self.operation(context, frame, runtime, operation, first)?;
+                self.operations(context, frame, runtime, rest, value)
+            }
+        }
+    }
+
+    /// A chain whose first operand is a local name.
+    #[inline(always)]
+    fn chain_of_local(
+        &self,
+        context: &Context<'_>,
+        frame: &Frame<'_>,
+        runtime: &mut R,
+        operations: &[CodeOperation],
+        slot: usize,
+    ) -> Result<Value, EvalErr>
+        requires { Nests R.means R.seen context.now.left self.now.depth self.now.call (F.pre self.now.eval) (F.post self.now.eval) }
+        ensures { Acts R.means (λ v. v) result (R.seen runtime.new) (following (local_use R.means (slots_of frame.now) slot (R.seen runtime.old)) (meaning.operations R.means (nested R.means self.now.depth context.now) operations.now (slots_of frame.now))) }
+    {
+        let first = frame.local(runtime, slot)?;
+        self.chain(context, frame, runtime, operations, first)
+    }
+
+    /// A first operand, which is only read, and the operations on it.
+    #[inline(always)]
+    fn chain_of(
+        &self,
+        context: &Context<'_>,
+        frame: &Frame<'_>,
+        runtime: &mut R,
+        code: &Code,
+        operations: &[CodeOperation],
+    ) -> Result<Value, EvalErr>
+        requires { Nests R.means R.seen context.now.left self.now.depth self.now.call (F.pre self.now.eval) (F.post self.now.eval) }
+        ensures { Acts R.means (λ v. v) result (R.seen runtime.new) (following (nested R.means self.now.depth context.now code.now (slots_of frame.now) (R.seen runtime.old)) (meaning.operations R.means (nested R.means self.now.depth context.now) operations.now (slots_of frame.now))) }
+    {
+        if self.depth > 0 {
+            if let Some(slot) = local_in(code) {
+                return self.chain_of_local(context, frame, runtime, operations, slot);
+            }
+        }
+        let first = self.value(context, frame, runtime, code)?;
+        self.chain(context, frame, runtime, operations, &first)
+    }
+
+    /// A chain of operators.
+    #[tactic(auto, unfolding(bq_eval_meaning_spec::specs::Expressions::binary))]
+    pub fn binary(
+        &self,
+        context: &Context<'_>,
+        frame: &Frame<'_>,
+        runtime: &mut R,
+        code: &Code,
+        operations: &[CodeOperation],
+    ) -> Result<Value, EvalErr>
+        requires { Nests R.means R.seen context.now.left self.now.depth self.now.call (F.pre self.now.eval) (F.post self.now.eval) }
+        ensures { Acts R.means (λ v. v) result (R.seen runtime.new) (meaning.binary R.means (nested R.means self.now.depth context.now) code.now operations.now (slots_of frame.now) (R.seen runtime.old)) }
+    {
+        runtime.step(operations.len() as u64)?;
+        self.chain_of(context, frame, runtime, code, operations)
+    }
+
+    #[tactic(auto, unfolding(bq_eval_meaning_spec::specs::Expressions::compare))]
+    pub fn compare(
+        &self,
+        context: &Context<'_>,
+        frame: &Frame<'_>,
+        runtime: &mut R,
+        left: &Code,
+        operator: Comparison,
+        right: &Code,
+    ) -> Result<Value, EvalErr>
+        requires { Nests R.means R.seen context.now.left self.now.depth self.now.call (F.pre self.now.eval) (F.post self.now.eval) }
+        ensures { Acts R.means (λ v. v) result (R.seen runtime.new) (meaning.compare R.means (nested R.means self.now.depth context.now) left.now operator right.now (slots_of frame.now) (R.seen runtime.old)) }
+    {
+        runtime.step(1)?;
+        let left = self.operand(context, frame, runtime, left)?;
+        let right = self.operand(context, frame, runtime, right)?;
+        runtime.compare(operator, left.get(), right.get())
+    }
+
+    /// The value of a choice, if its condition holds.
+    #[tactic(auto, unfolding(bq_eval_meaning_spec::specs::Expressions::choice))]
+    fn choice(
+        &self,
+        context: &Context<'_>,
+        frame: &Frame<'_>,
+        runtime: &mut R,
+        choice: &CodeChoice,
+    ) -> Result<Option<Value>, EvalErr>
+        requires { Nests R.means R.seen context.now.left self.now.depth self.now.call (F.pre self.now.eval) (F.post self.now.eval) }
+        ensures { Acts R.means (λ o. o) result (R.seen runtime.new) (meaning.choice R.means (nested R.means self.now.depth context.now) choice.now (slots_of frame.now) (R.seen runtime.old)) }
+    {
+        runtime.step(1)?;
+        if self.holds(context, frame, runtime, &choice.condition)? {
+            let value = self.value(context, frame, runtime, &choice.value)?;
+            return Ok(Some(value));
+        }
+        Ok(None)
+    }
+
+    /// `x if y else ..`
+    #[inline(never)]
+    #[tactic(auto, unfolding(bq_eval_meaning_spec::specs::Expressions::conditional))]
+    pub fn conditional(
+        &self,
+        context: &Context<'_>,
+        frame: &Frame<'_>,
+        runtime: &mut R,
+        choices: &[CodeChoice],
+        otherwise: &Code,
+    ) -> Result<Value, EvalErr>
+        requires { Nests R.means R.seen context.now.left self.now.depth self.now.call (F.pre self.now.eval) (F.post self.now.eval) }
+        ensures { Acts R.means (λ v. v) result (R.seen runtime.new) (meaning.conditional R.means (nested R.means self.now.depth context.now) choices.now otherwise.now (slots_of frame.now) (R.seen runtime.old)) }
+    {
+        for choice in choices {
+            if let Some(value) = self.choice(context, frame, runtime, choice)? {
+                return Ok(value);
+            }
+        }
+        self.value(context, frame, runtime, otherwise)
+    }
+}

@@ -1,0 +1,135 @@
+//! The frame that a function begins with.
+
+ghost use Rattle.std.specs.Prelude.{◌≡◌, ◌++◌, ◌∷◌, [], map, IfOk, OnOk};
+ghost use Rattle.bq_base.specs.Gives.{Gives};
+ghost use Rattle.bq_value.specs.declared.error.EvalErr.TheVariants.{Bad};
+ghost use Rattle.bq_builtin_machine.specs.Binding as binding;
+ghost use Rattle.bq_builtin_machine.specs.Parameters.{parameter_of};
+ghost use Rattle.bq_eval_meaning_spec.specs.Calls as meaning;
+ghost use Rattle.bq_eval_rules.specs.Acts.{Acts};
+
+use crate::runtime::Runtime;
+use bq_builtin_machine::{Args, Bound, Signature, SingleParameter, bind};
+use bq_resolve_scope::CodeParameter;
+use bq_value::{Content, Dict, EvalErr, Value};
+use bq_value_seed::Seed;
+use std::alloc::{AllocError, Global};
+
+/// Adds the parameter, if it takes one argument.
+#[tactic(auto, using(crate::proofs::ParameterLists::one_more))]
+fn add_single<'a>(
+    all: &mut Vec<SingleParameter<'a>>,
+    parameter: &'a CodeParameter,
+) -> Result<(), AllocError>
+    ensures { OnOk result (map parameter_of all.new.items ≡ map parameter_of all.old.items ++ meaning.singles (parameter.now ∷ [])) }
+{
+    match parameter {
+        CodeParameter::Plain(name, _) => {
+            all.push(SingleParameter {
+                name: Some(name.as_slice()),
+                is_required: true,
+            })?;
+        }
+        CodeParameter::Default(name, _) => {
+            all.push(SingleParameter {
+                name: Some(name.as_slice()),
+                is_required: false,
+            })?;
+        }
+        CodeParameter::BareStar => {}
+        CodeParameter::Star(_) => {}
+        CodeParameter::StarStar(_) => {}
+    }
+    Ok(())
+}
+
+/// Those that take one argument.
+#[tactic(auto, using(crate::proofs::ParameterLists::singles_from))]
+fn singles<'a>(
+    alloc: Global,
+    parameters: &'a [CodeParameter],
+) -> Result<Vec<SingleParameter<'a>>, AllocError>
+    ensures { IfOk result (λ all. map parameter_of all.items ≡ meaning.singles parameters.now) }
+{
+    let mut all = Vec::with_capacity(alloc, parameters.len())?;
+    for parameter in parameters {
+        add_single(&mut all, parameter)?;
+    }
+    Ok(all)
+}
+
+/// How many of them stand before a `*`.
+fn placed_of(parameters: &[CodeParameter]) -> usize
+    ensures { result ≡ meaning.placed_of parameters.now }
+{
+    let mut placed = 0;
+    for parameter in parameters {
+        match parameter {
+            CodeParameter::Plain(_, _) => placed += 1,
+            CodeParameter::Default(_, _) => placed += 1,
+            CodeParameter::BareStar => return placed,
+            CodeParameter::Star(_) => return placed,
+            CodeParameter::StarStar(_) => {}
+        }
+    }
+    placed
+}
+
+/// Whether there is a `*` that takes arguments.
+fn has_star(parameters: &[CodeParameter]) -> bool
+    ensures { result ≡ meaning.has_star parameters.now }
+{
+    for parameter in parameters {
+        if let CodeParameter::Star(_) = parameter {
+            return true;
+        }
+    }
+    false
+}
+
+/// Whether there is a `**`.
+pub fn has_star_star(parameters: &[CodeParameter]) -> bool
+    ensures { result ≡ meaning.has_star_star parameters.now }
+{
+    for parameter in parameters {
+        if let CodeParameter::StarStar(_) = parameter {
+            return true;
+        }
+    }
+    false
+}
+
+/// Binds the arguments of a call, or F52.
+#[tactic(auto, unfolding(bq_eval_meaning_spec::specs::Calls::signature))]
+pub fn bind_args(
+    alloc: Global,
+    seed: Seed,
+    parameters: &[CodeParameter],
+    args: Args,
+) -> Result<Bound, EvalErr>
+    ensures { Gives (λ b. b) Bad result (binding.bind (meaning.signature parameters.now) args) }
+{
+    let singles = singles(alloc, parameters)?;
+    let signature = Signature {
+        parameters: singles.as_slice(),
+        placed: placed_of(parameters),
+        takes_rest: has_star(parameters),
+        takes_keywords: has_star_star(parameters),
+    };
+    bind(alloc, seed, &signature, args)
+}
+
+/// What `**` holds.
+#[tactic(auto, unfolding(bq_eval_meaning_spec::specs::Calls::keywords_of))]
+pub fn keywords_of<R: Runtime>(
+    runtime: &mut R,
+    takes: bool,
+    keywords: Dict,
+) -> Result<Value, EvalErr>
+    ensures { Acts R.means (λ v. v) result (R.seen runtime.new) (meaning.keywords_of R.means takes keywords (R.seen runtime.old)) }
+{
+    if takes {
+        return runtime.make(Content::dict(keywords));
+    }
+    Ok(Value::none())
+}

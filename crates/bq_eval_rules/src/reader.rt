@@ -1,0 +1,351 @@
+//! The expressions of statements, and assignments.
+
+ghost use Rattle.std.specs.Prelude.{◌≡◌};
+ghost use Rattle.bq_builtin_machine.specs.Action.{following, done};
+ghost use Rattle.bq_eval_meaning_spec.specs.Targets as meaning;
+ghost use Rattle.bq_eval_rules.specs.Acts.{Acts};
+ghost use Rattle.bq_eval_rules.specs.Slots.{slots_of};
+ghost use Rattle.bq_eval_rules.specs.Nests.{Answers};
+ghost use Rattle.bq_eval_rules.specs.Round.{evals, outside_functions};
+
+use crate::context::{Context, Globals};
+use crate::expressions::expr_to;
+use crate::frame::Frame;
+use crate::places::IndexedOperands;
+use crate::runtime::Runtime;
+use crate::targets::{MAX_LAYERS, bind_to};
+use bq_base::FaultKind;
+use bq_builtin_machine::Args;
+use bq_parse_grammar::Operator;
+use bq_resolve_scope::{Code, CodeTarget};
+use bq_value::{EvalErr, Value};
+use std::marker::PhantomData;
+
+/// Reads the expressions of statements.
+#[derive(Clone, Copy)]
+pub struct Reader<R, C> {
+    pub call: C,
+    pub of: PhantomData<R>,
+}
+
+impl<R: Runtime, C: Copy + Fn(&Context<'_>, &mut R, &Value, Args) -> Result<Value, EvalErr>> Reader<
+    R,
+    C,
+> {
+    /// The value of an expression. Outside functions its globals are the frame.
+    #[tactic(auto, unfolding(crate::specs::Round::evals, crate::specs::Round::in_function, bq_resolve_scope::specs::Names::max_layers))]
+    pub fn value(
+        &self,
+        context: &Context<'_>,
+        frame: &Frame<'_>,
+        runtime: &mut R,
+        code: &Code,
+    ) -> Result<Value, EvalErr>
+        requires { Answers R.means R.seen context.now.left (C.pre self.now.call) (C.post self.now.call) }
+        ensures { Acts R.means (λ v. v) result (R.seen runtime.new) (evals R.means context.now code.now (slots_of frame.now) (R.seen runtime.old)) }
+    {
+        if context.outside {
+            return self.outside(context, frame, runtime, code);
+        }
+        expr_to(context, MAX_LAYERS, self.call, frame, runtime, code)
+    }
+
+    /// The value of an expression that stands outside functions.
+    #[inline(never)]
+    #[tactic(auto, using(crate::proofs::Slots::none_filled), unfolding(crate::specs::Round::outside_functions, crate::specs::Round::inside, crate::specs::Round::round_of, crate::specs::Round::globals_of, bq_resolve_scope::specs::Names::max_layers))]
+    fn outside(
+        &self,
+        context: &Context<'_>,
+        frame: &Frame<'_>,
+        runtime: &mut R,
+        code: &Code,
+    ) -> Result<Value, EvalErr>
+        requires { Answers R.means R.seen context.now.left (C.pre self.now.call) (C.post self.now.call) }
+        ensures { Acts R.means (λ v. v) result (R.seen runtime.new) (outside_functions R.means context.now code.now (slots_of frame.now) (R.seen runtime.old)) }
+    {
+        let inner = Context {
+            alloc: context.alloc,
+            left: context.left,
+            program: context.program,
+            own: Globals::Running(&*frame),
+            outside: false,
+            globals: Globals::Running(&*frame),
+            loaded: context.program.loaded,
+        };
+        let empty = Frame::new(context.alloc);
+        expr_to(&inner, MAX_LAYERS, self.call, &empty, runtime, code)
+    }
+
+    /// Whether a condition holds.
+    #[inline(always)]
+    pub fn holds(
+        &self,
+        context: &Context<'_>,
+        frame: &Frame<'_>,
+        runtime: &mut R,
+        condition: &Code,
+    ) -> Result<bool, EvalErr>
+        requires { Answers R.means R.seen context.now.left (C.pre self.now.call) (C.post self.now.call) }
+        ensures { Acts R.means (λ b. b) result (R.seen runtime.new) (following (evals R.means context.now condition.now (slots_of frame.now) (R.seen runtime.old)) (λ v s. done (R.means.truth v s) s)) }
+    {
+        let condition = self.value(context, frame, runtime, condition)?;
+        Ok(runtime.truth(&condition))
+    }
+
+    // ---- the places of a target
+
+    /// `x[i]`
+    #[tactic(auto, unfolding(bq_eval_meaning_spec::specs::Targets::place))]
+    fn place(
+        &self,
+        context: &Context<'_>,
+        frame: &Frame<'_>,
+        runtime: &mut R,
+        places: &mut Vec<(Value, Value)>,
+        operand: &Code,
+        index: &Code,
+    ) -> Result<(), EvalErr>
+        requires { Answers R.means R.seen context.now.left (C.pre self.now.call) (C.post self.now.call) }
+        ensures { Acts R.means (λ _. places.new.items) result (R.seen runtime.new) (meaning.place R.means (evals R.means context.now) operand.now index.now (slots_of frame.now) places.old.items (R.seen runtime.old)) }
+    {
+        let operand = self.value(context, frame, runtime, operand)?;
+        let index = self.value(context, frame, runtime, index)?;
+        places.push((operand, index))?;
+        Ok(())
+    }
+
+    #[cycle(places)]
+    #[tactic(auto, unfolding(bq_eval_meaning_spec::specs::Targets::places_each))]
+    fn places_each(
+        &self,
+        context: &Context<'_>,
+        frame: &Frame<'_>,
+        runtime: &mut R,
+        places: &mut Vec<(Value, Value)>,
+        depth: usize,
+        targets: &[CodeTarget],
+    ) -> Result<(), EvalErr>
+        requires { Answers R.means R.seen context.now.left (C.pre self.now.call) (C.post self.now.call) }
+        ensures { Acts R.means (λ _. places.new.items) result (R.seen runtime.new) (meaning.places_each R.means (evals R.means context.now) (meaning.places_to R.means (evals R.means context.now) depth) targets.now (slots_of frame.now) places.old.items (R.seen runtime.old)) }
+    {
+        for target in targets {
+            self.places_to(context, frame, runtime, places, depth, target)?;
+        }
+        Ok(())
+    }
+
+    #[cycle(places)]
+    #[tactic(auto, unfolding(bq_eval_meaning_spec::specs::Targets::places_of))]
+    fn places_of(
+        &self,
+        context: &Context<'_>,
+        frame: &Frame<'_>,
+        runtime: &mut R,
+        places: &mut Vec<(Value, Value)>,
+        depth: usize,
+        target: &CodeTarget,
+    ) -> Result<(), EvalErr>
+        requires { Answers R.means R.seen context.now.left (C.pre self.now.call) (C.post self.now.call) }
+        ensures { Acts R.means (λ _. places.new.items) result (R.seen runtime.new) (meaning.places_of R.means (evals R.means context.now) (meaning.places_to R.means (evals R.means context.now) depth) target.now (slots_of frame.now) places.old.items (R.seen runtime.old)) }
+    {
+        match target {
+            CodeTarget::Local(_) => Ok(()),
+            CodeTarget::Global(_) => Ok(()),
+            CodeTarget::Index(operand, index) => {
+                self.place(context, frame, runtime, places, operand.get(), index.get())
+            }
+            CodeTarget::Tuple(targets) => {
+                self.places_each(context, frame, runtime, places, depth, targets.as_slice())
+            }
+            CodeTarget::List(targets) => {
+                self.places_each(context, frame, runtime, places, depth, targets.as_slice())
+            }
+        }
+    }
+
+    /// The places so far, and those of a target that is no deeper than so many layers.
+    #[cycle(places)]
+    #[tactic(auto, unfolding(bq_eval_meaning_spec::specs::Targets::places_to))]
+    fn places_to(
+        &self,
+        context: &Context<'_>,
+        frame: &Frame<'_>,
+        runtime: &mut R,
+        places: &mut Vec<(Value, Value)>,
+        depth: usize,
+        target: &CodeTarget,
+    ) -> Result<(), EvalErr>
+        requires { Answers R.means R.seen context.now.left (C.pre self.now.call) (C.post self.now.call) }
+        ensures { Acts R.means (λ _. places.new.items) result (R.seen runtime.new) (meaning.places_to R.means (evals R.means context.now) depth target.now (slots_of frame.now) places.old.items (R.seen runtime.old)) }
+    {
+        if depth == 0 {
+            return Err(EvalErr::Bad(FaultKind::Nesting));
+        }
+        self.places_of(context, frame, runtime, places, depth - 1, target)
+    }
+
+    // ---- assignments
+
+    /// `target = value`. A name has no operands, and is bound at once.
+    #[inline(always)]
+    pub fn assign(
+        &self,
+        context: &Context<'_>,
+        frame: &mut Frame<'_>,
+        runtime: &mut R,
+        target: &CodeTarget,
+        value: Value,
+    ) -> Result<(), EvalErr>
+        requires { Answers R.means R.seen context.now.left (C.pre self.now.call) (C.post self.now.call) }
+        ensures { Acts R.means (λ _. slots_of frame.new) result (R.seen runtime.new) (meaning.assign R.means (evals R.means context.now) target.now value (slots_of frame.old) (R.seen runtime.old)) }
+    {
+        match target {
+            CodeTarget::Local(slot) => Ok(frame.fill(*slot, value)?),
+            CodeTarget::Global(slot) => Ok(frame.fill(*slot, value)?),
+            _ => self.assign_parts(context, frame, runtime, target, value),
+        }
+    }
+
+    /// The same of any target: its operands and indices first.
+    #[inline(never)]
+    #[tactic(auto, unfolding(bq_eval_meaning_spec::specs::Targets::assign, bq_resolve_scope::specs::Names::max_layers))]
+    fn assign_parts(
+        &self,
+        context: &Context<'_>,
+        frame: &mut Frame<'_>,
+        runtime: &mut R,
+        target: &CodeTarget,
+        value: Value,
+    ) -> Result<(), EvalErr>
+        requires { Answers R.means R.seen context.now.left (C.pre self.now.call) (C.post self.now.call) }
+        ensures { Acts R.means (λ _. slots_of frame.new) result (R.seen runtime.new) (meaning.assign R.means (evals R.means context.now) target.now value (slots_of frame.old) (R.seen runtime.old)) }
+    {
+        let mut places = Vec::new(context.alloc);
+        self.places_to(context, frame, runtime, &mut places, MAX_LAYERS, target)?;
+        let mut places = IndexedOperands::of(places);
+        bind_to(
+            context.alloc,
+            runtime,
+            frame,
+            &mut places,
+            MAX_LAYERS,
+            target,
+            value,
+        )
+    }
+
+    /// What `op= x` makes of an old value.
+    #[inline(always)]
+    fn augmented(
+        &self,
+        context: &Context<'_>,
+        frame: &Frame<'_>,
+        runtime: &mut R,
+        old: &Value,
+        operator: Operator,
+        code: &Code,
+    ) -> Result<Value, EvalErr>
+        requires { Answers R.means R.seen context.now.left (C.pre self.now.call) (C.post self.now.call) }
+        ensures { Acts R.means (λ v. v) result (R.seen runtime.new) (following (evals R.means context.now code.now (slots_of frame.now) (R.seen runtime.old)) (R.means.augment operator old.now)) }
+    {
+        let value = self.value(context, frame, runtime, code)?;
+        runtime.augment(operator, old, &value)
+    }
+
+    /// `name op= x`
+    #[tactic(auto, unfolding(bq_eval_meaning_spec::specs::Targets::augment_name))]
+    fn augment_name(
+        &self,
+        context: &Context<'_>,
+        frame: &mut Frame<'_>,
+        runtime: &mut R,
+        slot: usize,
+        operator: Operator,
+        code: &Code,
+    ) -> Result<(), EvalErr>
+        requires { Answers R.means R.seen context.now.left (C.pre self.now.call) (C.post self.now.call) }
+        ensures { Acts R.means (λ _. slots_of frame.new) result (R.seen runtime.new) (meaning.augment_name R.means (evals R.means context.now) slot operator code.now (slots_of frame.old) (R.seen runtime.old)) }
+    {
+        let old = frame.read(&*runtime, slot)?;
+        let new = self.augmented(context, frame, runtime, old, operator, code)?;
+        frame.fill(slot, new)?;
+        Ok(())
+    }
+
+    /// `y[i] op= x`, where `y` and `i` have these values.
+    fn augment_at(
+        &self,
+        context: &Context<'_>,
+        frame: &Frame<'_>,
+        runtime: &mut R,
+        operand: &Value,
+        index: &Value,
+        operator: Operator,
+        code: &Code,
+    ) -> Result<(), EvalErr>
+        requires { Answers R.means R.seen context.now.left (C.pre self.now.call) (C.post self.now.call) }
+        ensures { Acts R.means (λ _. tt) result (R.seen runtime.new) (following (R.means.index operand.now index.now (R.seen runtime.old)) (λ old s. following (following (evals R.means context.now code.now (slots_of frame.now) s) (R.means.augment operator old)) (R.means.set_index operand.now index.now))) }
+    {
+        let old = runtime.index(operand, index)?;
+        let new = self.augmented(context, frame, runtime, &old, operator, code)?;
+        runtime.set_index(operand, index, new)
+    }
+
+    /// `y[i] op= x`
+    #[inline(never)]
+    #[tactic(auto, unfolding(bq_eval_meaning_spec::specs::Targets::augment_index))]
+    fn augment_index(
+        &self,
+        context: &Context<'_>,
+        frame: &mut Frame<'_>,
+        runtime: &mut R,
+        operand: &Code,
+        index: &Code,
+        operator: Operator,
+        code: &Code,
+    ) -> Result<(), EvalErr>
+        requires { Answers R.means R.seen context.now.left (C.pre self.now.call) (C.post self.now.call) }
+        ensures { Acts R.means (λ _. slots_of frame.new) result (R.seen runtime.new) (meaning.augment_index R.means (evals R.means context.now) operand.now index.now operator code.now (slots_of frame.old) (R.seen runtime.old)) }
+    {
+        let operand = self.value(context, frame, runtime, operand)?;
+        let index = self.value(context, frame, runtime, index)?;
+        self.augment_at(context, frame, runtime, &operand, &index, operator, code)
+    }
+
+    /// `target op= x`
+    #[tactic(auto, unfolding(bq_eval_meaning_spec::specs::Targets::augment))]
+    pub fn augment(
+        &self,
+        context: &Context<'_>,
+        frame: &mut Frame<'_>,
+        runtime: &mut R,
+        target: &CodeTarget,
+        operator: Operator,
+        code: &Code,
+    ) -> Result<(), EvalErr>
+        requires { Answers R.means R.seen context.now.left (C.pre self.now.call) (C.post self.now.call) }
+        ensures { Acts R.means (λ _. slots_of frame.new) result (R.seen runtime.new) (meaning.augment R.means (evals R.means context.now) target.now operator code.now (slots_of frame.old) (R.seen runtime.old)) }
+    {
+        match target {
+            CodeTarget::Local(slot) => {
+                self.augment_name(context, frame, runtime, *slot, operator, code)
+            }
+            CodeTarget::Global(slot) => {
+                self.augment_name(context, frame, runtime, *slot, operator, code)
+            }
+            CodeTarget::Index(operand, index) => {
+                self.augment_index(
+                    context,
+                    frame,
+                    runtime,
+                    operand.get(),
+                    index.get(),
+                    operator,
+                    code,
+                )
+            }
+            CodeTarget::Tuple(_) => Err(EvalErr::Bad(FaultKind::Syntax)),
+            CodeTarget::List(_) => Err(EvalErr::Bad(FaultKind::Syntax)),
+        }
+    }
+}

@@ -1,0 +1,292 @@
+//! What is done to an operand.
+
+ghost use Rattle.std.specs.Prelude.{◌≡◌};
+ghost use Rattle.bq_eval_meaning_spec.specs.Expressions as meaning;
+ghost use Rattle.bq_eval_rules.specs.Acts.{Acts};
+ghost use Rattle.bq_eval_rules.specs.Slots.{slots_of};
+ghost use Rattle.bq_eval_rules.specs.Nests.{Nests, Answers, nested};
+ghost use Rattle.bq_eval_rules.specs.Round.{inside};
+
+use crate::context::Context;
+use crate::evaluator::Evaluator;
+use crate::frame::Frame;
+use crate::runtime::Runtime;
+use bq_base::{Bytes, FaultKind};
+use bq_builtin_machine::Args;
+use bq_resolve_scope::{Code, CodeArgument, CodeSuffix};
+use bq_value::{EvalErr, Value};
+use sqlite_items::Boxed;
+
+impl<
+    R: Runtime,
+    C: Copy,
+    F: Fn(&Context<'_>, usize, C, &Frame<'_>, &mut R, &Code) -> Result<Value, EvalErr>,
+> Evaluator<R, C, F> {
+    /// `value[index]`
+    #[tactic(auto, unfolding(bq_eval_meaning_spec::specs::Expressions::index))]
+    pub fn index(
+        &self,
+        context: &Context<'_>,
+        frame: &Frame<'_>,
+        runtime: &mut R,
+        index: &Code,
+        value: &Value,
+    ) -> Result<Value, EvalErr>
+        requires { Nests R.means R.seen context.now.left self.now.depth self.now.call (F.pre self.now.eval) (F.post self.now.eval) }
+        ensures { Acts R.means (λ v. v) result (R.seen runtime.new) (meaning.index R.means (nested R.means self.now.depth context.now) index.now (slots_of frame.now) value.now (R.seen runtime.old)) }
+    {
+        let index = self.operand(context, frame, runtime, index)?;
+        runtime.index(value, index.get())
+    }
+
+    /// A part of a slice.
+    #[tactic(auto, unfolding(bq_eval_meaning_spec::specs::Expressions::part))]
+    fn part(
+        &self,
+        context: &Context<'_>,
+        frame: &Frame<'_>,
+        runtime: &mut R,
+        part: &Option<Boxed<Code>>,
+    ) -> Result<Value, EvalErr>
+        requires { Nests R.means R.seen context.now.left self.now.depth self.now.call (F.pre self.now.eval) (F.post self.now.eval) }
+        ensures { Acts R.means (λ v. v) result (R.seen runtime.new) (meaning.part R.means (nested R.means self.now.depth context.now) part.now (slots_of frame.now) (R.seen runtime.old)) }
+    {
+        match part {
+            None => Ok(Value::none()),
+            Some(code) => self.value(context, frame, runtime, code.get()),
+        }
+    }
+
+    /// `value[start:stop:step]`
+    #[inline(never)]
+    #[tactic(auto, unfolding(bq_eval_meaning_spec::specs::Expressions::slice))]
+    pub fn slice(
+        &self,
+        context: &Context<'_>,
+        frame: &Frame<'_>,
+        runtime: &mut R,
+        start: &Option<Boxed<Code>>,
+        stop: &Option<Boxed<Code>>,
+        step: &Option<Boxed<Code>>,
+        value: &Value,
+    ) -> Result<Value, EvalErr>
+        requires { Nests R.means R.seen context.now.left self.now.depth self.now.call (F.pre self.now.eval) (F.post self.now.eval) }
+        ensures { Acts R.means (λ v. v) result (R.seen runtime.new) (meaning.slice R.means (nested R.means self.now.depth context.now) start.now stop.now step.now (slots_of frame.now) value.now (R.seen runtime.old)) }
+    {
+        let start = self.part(context, frame, runtime, start)?;
+        let stop = self.part(context, frame, runtime, stop)?;
+        let step = self.part(context, frame, runtime, step)?;
+        runtime.slice(value, &start, &stop, &step)
+    }
+
+    /// One more argument.
+    #[tactic(auto, unfolding(bq_eval_meaning_spec::specs::Expressions::argument))]
+    fn argument(
+        &self,
+        context: &Context<'_>,
+        frame: &Frame<'_>,
+        runtime: &mut R,
+        args: &mut Args,
+        argument: &CodeArgument,
+    ) -> Result<(), EvalErr>
+        requires { Nests R.means R.seen context.now.left self.now.depth self.now.call (F.pre self.now.eval) (F.post self.now.eval) }
+        ensures { Acts R.means (λ _. args.new) result (R.seen runtime.new) (meaning.argument R.means (nested R.means self.now.depth context.now) argument.now (slots_of frame.now) args.old (R.seen runtime.old)) }
+    {
+        match argument {
+            CodeArgument::Positional(code) => {
+                let value = self.value(context, frame, runtime, code)?;
+                runtime.pass(args, value)
+            }
+            CodeArgument::Named(name, code) => {
+                let value = self.value(context, frame, runtime, code)?;
+                runtime.pass_named(args, name, value)
+            }
+            CodeArgument::Star(code) => {
+                let value = self.value(context, frame, runtime, code)?;
+                runtime.pass_all(args, &value)
+            }
+            CodeArgument::StarStar(code) => {
+                let value = self.value(context, frame, runtime, code)?;
+                runtime.pass_all_named(args, &value)
+            }
+        }
+    }
+
+    /// The arguments so far, and all of these.
+    #[tactic(auto, unfolding(bq_eval_meaning_spec::specs::Expressions::arguments))]
+    fn arguments(
+        &self,
+        context: &Context<'_>,
+        frame: &Frame<'_>,
+        runtime: &mut R,
+        args: &mut Args,
+        arguments: &[CodeArgument],
+    ) -> Result<(), EvalErr>
+        requires { Nests R.means R.seen context.now.left self.now.depth self.now.call (F.pre self.now.eval) (F.post self.now.eval) }
+        ensures { Acts R.means (λ _. args.new) result (R.seen runtime.new) (meaning.arguments R.means (nested R.means self.now.depth context.now) arguments.now (slots_of frame.now) args.old (R.seen runtime.old)) }
+    {
+        for argument in arguments {
+            self.argument(context, frame, runtime, args, argument)?;
+        }
+        Ok(())
+    }
+
+    /// `value.name(..)`
+    #[inline(never)]
+    #[tactic(auto, unfolding(bq_eval_meaning_spec::specs::Expressions::method))]
+    fn method(
+        &self,
+        context: &Context<'_>,
+        frame: &Frame<'_>,
+        runtime: &mut R,
+        name: &Bytes,
+        arguments: &[CodeArgument],
+        value: &Value,
+    ) -> Result<Value, EvalErr>
+        requires { Nests R.means R.seen context.now.left self.now.depth self.now.call (F.pre self.now.eval) (F.post self.now.eval) }
+        ensures { Acts R.means (λ v. v) result (R.seen runtime.new) (meaning.method R.means (nested R.means self.now.depth context.now) name.now arguments.now (slots_of frame.now) value.now (R.seen runtime.old)) }
+    {
+        let mut args = Args::new(context.alloc);
+        self.arguments(context, frame, runtime, &mut args, arguments)?;
+        runtime.call_method(context.alloc, name, value, args)
+    }
+}
+
+impl<
+    R: Runtime,
+    C: Copy + Fn(&Context<'_>, &mut R, &Value, Args) -> Result<Value, EvalErr>,
+    F: Fn(&Context<'_>, usize, C, &Frame<'_>, &mut R, &Code) -> Result<Value, EvalErr>,
+> Evaluator<R, C, F> {
+    /// `value(..)`
+    #[inline(never)]
+    #[tactic(auto, unfolding(bq_eval_meaning_spec::specs::Expressions::call_of))]
+    fn call_of(
+        &self,
+        context: &Context<'_>,
+        frame: &Frame<'_>,
+        runtime: &mut R,
+        arguments: &[CodeArgument],
+        value: &Value,
+    ) -> Result<Value, EvalErr>
+        requires nests { Nests R.means R.seen context.now.left self.now.depth self.now.call (F.pre self.now.eval) (F.post self.now.eval) }
+        requires answers { Answers R.means R.seen context.now.left (C.pre self.now.call) (C.post self.now.call) }
+        ensures { Acts R.means (λ v. v) result (R.seen runtime.new) (meaning.call_of R.means (nested R.means self.now.depth context.now) (inside R.means context.now) arguments.now (slots_of frame.now) value.now (R.seen runtime.old)) }
+    {
+        let mut args = Args::new(context.alloc);
+        self.arguments(context, frame, runtime, &mut args, arguments)?;
+        (self.call)(context, runtime, value, args)
+    }
+
+    /// What is done to a value.
+    #[tactic(auto, unfolding(bq_eval_meaning_spec::specs::Expressions::suffix))]
+    fn suffix(
+        &self,
+        context: &Context<'_>,
+        frame: &Frame<'_>,
+        runtime: &mut R,
+        suffix: &CodeSuffix,
+        value: &Value,
+    ) -> Result<Value, EvalErr>
+        requires nests { Nests R.means R.seen context.now.left self.now.depth self.now.call (F.pre self.now.eval) (F.post self.now.eval) }
+        requires answers { Answers R.means R.seen context.now.left (C.pre self.now.call) (C.post self.now.call) }
+        ensures { Acts R.means (λ v. v) result (R.seen runtime.new) (meaning.suffix R.means (nested R.means self.now.depth context.now) (inside R.means context.now) suffix.now (slots_of frame.now) value.now (R.seen runtime.old)) }
+    {
+        match suffix {
+            CodeSuffix::Call(arguments) => {
+                self.call_of(context, frame, runtime, arguments.as_slice(), value)
+            }
+            CodeSuffix::Method(name, arguments) => {
+                self.method(context, frame, runtime, name, arguments.as_slice(), value)
+            }
+            CodeSuffix::Attribute(_) => Err(EvalErr::Bad(FaultKind::LeftOut)),
+            CodeSuffix::Index(index) => self.index(context, frame, runtime, index.get(), value),
+            CodeSuffix::Slice(start, stop, step) => {
+                self.slice(context, frame, runtime, start, stop, step, value)
+            }
+        }
+    }
+
+    #[tactic(auto, unfolding(bq_eval_meaning_spec::specs::Expressions::suffixes))]
+    fn suffixes(
+        &self,
+        context: &Context<'_>,
+        frame: &Frame<'_>,
+        runtime: &mut R,
+        suffixes: &[CodeSuffix],
+        first: Value,
+    ) -> Result<Value, EvalErr>
+        requires nests { Nests R.means R.seen context.now.left self.now.depth self.now.call (F.pre self.now.eval) (F.post self.now.eval) }
+        requires answers { Answers R.means R.seen context.now.left (C.pre self.now.call) (C.post self.now.call) }
+        ensures { Acts R.means (λ v. v) result (R.seen runtime.new) (meaning.suffixes R.means (nested R.means self.now.depth context.now) (inside R.means context.now) suffixes.now (slots_of frame.now) first (R.seen runtime.old)) }
+    {
+        let mut value = first;
+        for suffix in suffixes {
+            value = self.suffix(context, frame, runtime, suffix, &value)?;
+        }
+        Ok(value)
+    }
+
+    /// What is done to an operand.
+    #[inline(never)]
+    #[tactic(auto, unfolding(bq_eval_meaning_spec::specs::Expressions::suffixes))]
+    fn long_suffixed(
+        &self,
+        context: &Context<'_>,
+        frame: &Frame<'_>,
+        runtime: &mut R,
+        suffixes: &[CodeSuffix],
+        operand: &Value,
+    ) -> Result<Value, EvalErr>
+        requires nests { Nests R.means R.seen context.now.left self.now.depth self.now.call (F.pre self.now.eval) (F.post self.now.eval) }
+        requires answers { Answers R.means R.seen context.now.left (C.pre self.now.call) (C.post self.now.call) }
+        ensures { Acts R.means (λ v. v) result (R.seen runtime.new) (meaning.suffixes R.means (nested R.means self.now.depth context.now) (inside R.means context.now) suffixes.now (slots_of frame.now) operand.now (R.seen runtime.old)) }
+    {
+        match suffixes {
+            [] => Ok(operand.share()?),
+            [suffix, rest @ ..] => {
+                let value = self.suffix(context, frame, runtime, suffix, operand)?;
+                self.suffixes(context, frame, runtime, rest, value)
+            }
+        }
+    }
+
+    /// What is done to an operand, most often one thing.
+    #[inline(always)]
+    #[tactic(auto, unfolding(bq_eval_meaning_spec::specs::Expressions::suffixes))]
+    fn suffixed(
+        &self,
+        context: &Context<'_>,
+        frame: &Frame<'_>,
+        runtime: &mut R,
+        suffixes: &[CodeSuffix],
+        operand: &Value,
+    ) -> Result<Value, EvalErr>
+        requires nests { Nests R.means R.seen context.now.left self.now.depth self.now.call (F.pre self.now.eval) (F.post self.now.eval) }
+        requires answers { Answers R.means R.seen context.now.left (C.pre self.now.call) (C.post self.now.call) }
+        ensures { Acts R.means (λ v. v) result (R.seen runtime.new) (meaning.suffixes R.means (nested R.means self.now.depth context.now) (inside R.means context.now) suffixes.now (slots_of frame.now) operand.now (R.seen runtime.old)) }
+    {
+        match suffixes {
+            [suffix] => self.suffix(context, frame, runtime, suffix, operand),
+            _ => self.long_suffixed(context, frame, runtime, suffixes, operand),
+        }
+    }
+
+    /// An operand, which is only read, and what is done to it.
+    #[tactic(auto, unfolding(bq_eval_meaning_spec::specs::Expressions::primary))]
+    pub fn primary(
+        &self,
+        context: &Context<'_>,
+        frame: &Frame<'_>,
+        runtime: &mut R,
+        code: &Code,
+        suffixes: &[CodeSuffix],
+    ) -> Result<Value, EvalErr>
+        requires nests { Nests R.means R.seen context.now.left self.now.depth self.now.call (F.pre self.now.eval) (F.post self.now.eval) }
+        requires answers { Answers R.means R.seen context.now.left (C.pre self.now.call) (C.post self.now.call) }
+        ensures { Acts R.means (λ v. v) result (R.seen runtime.new) (meaning.primary R.means (nested R.means self.now.depth context.now) (inside R.means context.now) code.now suffixes.now (slots_of frame.now) (R.seen runtime.old)) }
+    {
+        runtime.step(suffixes.len() as u64)?;
+        let operand = self.operand(context, frame, runtime, code)?;
+        self.suffixed(context, frame, runtime, suffixes, operand.get())
+    }
+}

@@ -1,0 +1,197 @@
+//! Binding the parts of targets.
+
+ghost use Rattle.std.specs.Prelude.{◌≡◌, []};
+ghost use Rattle.bq_builtin_machine.specs.Action.{following};
+ghost use Rattle.bq_eval_meaning_spec.specs.Targets as meaning;
+ghost use Rattle.bq_eval_rules.specs.Acts.{Acts};
+ghost use Rattle.bq_eval_rules.specs.Slots.{slots_of};
+
+use crate::frame::Frame;
+use crate::places::IndexedOperands;
+use crate::runtime::Runtime;
+use bq_base::FaultKind;
+use bq_builtin_machine::Elements;
+use bq_resolve_scope::CodeTarget;
+use bq_value::{EvalErr, Value};
+use std::alloc::Global;
+
+/// How many layers of a tree are looked at.
+pub const MAX_LAYERS: usize = 1024;
+
+/// `x[i] = value`
+#[tactic(auto, unfolding(bq_eval_meaning_spec::specs::Targets::bind_place))]
+fn bind_place<R: Runtime>(
+    runtime: &mut R,
+    frame: &Frame<'_>,
+    places: &mut IndexedOperands,
+    value: Value,
+) -> Result<(), EvalErr>
+    ensures { Acts R.means (λ _. (slots_of frame.now, places.new)) result (R.seen runtime.new) (meaning.bind_place R.means value (slots_of frame.now) places.old (R.seen runtime.old)) }
+{
+    match places.next() {
+        None => Err(EvalErr::Bad(FaultKind::Syntax)),
+        Some((operand, index)) => runtime.set_index(&operand, &index, value),
+    }
+}
+
+/// Each of these targets gets one of the elements.
+#[cycle(targets)]
+#[tactic(auto, unfolding(bq_eval_meaning_spec::specs::Targets::bind_each))]
+fn bind_each<R: Runtime>(
+    alloc: Global,
+    runtime: &mut R,
+    frame: &mut Frame<'_>,
+    places: &mut IndexedOperands,
+    depth: usize,
+    targets: &[CodeTarget],
+    elements: &mut Elements,
+) -> Result<(), EvalErr>
+    ensures { Acts R.means (λ _. (slots_of frame.new, places.new)) result (R.seen runtime.new) (meaning.bind_each R.means (meaning.bind_to R.means depth) targets.now elements.old (slots_of frame.old) places.old (R.seen runtime.old)) }
+{
+    for target in targets {
+        match elements.next() {
+            None => return Ok(()),
+            Some(value) => bind_to(alloc, runtime, frame, places, depth, target, value)?,
+        }
+    }
+    Ok(())
+}
+
+/// Unpacking.
+#[cycle(targets)]
+#[inline(never)]
+#[tactic(auto, unfolding(bq_eval_meaning_spec::specs::Targets::unpack))]
+fn unpack<R: Runtime>(
+    alloc: Global,
+    runtime: &mut R,
+    frame: &mut Frame<'_>,
+    places: &mut IndexedOperands,
+    depth: usize,
+    targets: &[CodeTarget],
+    value: Value,
+) -> Result<(), EvalErr>
+    ensures { Acts R.means (λ _. (slots_of frame.new, places.new)) result (R.seen runtime.new) (meaning.unpack R.means (meaning.bind_to R.means depth) targets.now value (slots_of frame.old) places.old (R.seen runtime.old)) }
+{
+    let mut elements = runtime.parts(alloc, targets.len(), &value)?;
+    bind_each(alloc, runtime, frame, places, depth, targets, &mut elements)
+}
+
+#[cycle(targets)]
+#[tactic(auto, unfolding(bq_eval_meaning_spec::specs::Targets::bind_target))]
+fn bind_target<R: Runtime>(
+    alloc: Global,
+    runtime: &mut R,
+    frame: &mut Frame<'_>,
+    places: &mut IndexedOperands,
+    depth: usize,
+    target: &CodeTarget,
+    value: Value,
+) -> Result<(), EvalErr>
+    ensures { Acts R.means (λ _. (slots_of frame.new, places.new)) result (R.seen runtime.new) (meaning.bind_target R.means (meaning.bind_to R.means depth) target.now value (slots_of frame.old) places.old (R.seen runtime.old)) }
+{
+    match target {
+        CodeTarget::Local(slot) => Ok(frame.fill(*slot, value)?),
+        CodeTarget::Global(slot) => Ok(frame.fill(*slot, value)?),
+        CodeTarget::Index(_, _) => bind_place(runtime, frame, places, value),
+        CodeTarget::Tuple(targets) => {
+            unpack(
+                alloc,
+                runtime,
+                frame,
+                places,
+                depth,
+                targets.as_slice(),
+                value,
+            )
+        }
+        CodeTarget::List(targets) => {
+            unpack(
+                alloc,
+                runtime,
+                frame,
+                places,
+                depth,
+                targets.as_slice(),
+                value,
+            )
+        }
+    }
+}
+
+/// Binds the parts of a target that is no deeper than so many layers.
+#[cycle(targets)]
+#[tactic(auto, unfolding(bq_eval_meaning_spec::specs::Targets::bind_to))]
+pub fn bind_to<R: Runtime>(
+    alloc: Global,
+    runtime: &mut R,
+    frame: &mut Frame<'_>,
+    places: &mut IndexedOperands,
+    depth: usize,
+    target: &CodeTarget,
+    value: Value,
+) -> Result<(), EvalErr>
+    ensures { Acts R.means (λ _. (slots_of frame.new, places.new)) result (R.seen runtime.new) (meaning.bind_to R.means depth target.now value (slots_of frame.old) places.old (R.seen runtime.old)) }
+{
+    if depth == 0 {
+        return Err(EvalErr::Bad(FaultKind::Nesting));
+    }
+    bind_target(alloc, runtime, frame, places, depth - 1, target, value)
+}
+
+/// Binds the variables of a `for`, most often one name.
+#[inline(always)]
+#[tactic(auto, unfolding(bq_eval_meaning_spec::specs::Targets::bind_variables, bq_eval_meaning_spec::specs::Targets::bind_to, bq_eval_meaning_spec::specs::Targets::bind_target, bq_resolve_scope::specs::Names::max_layers))]
+pub fn bind_variables<R: Runtime>(
+    alloc: Global,
+    runtime: &mut R,
+    frame: &mut Frame<'_>,
+    target: &CodeTarget,
+    value: Value,
+) -> Result<(), EvalErr>
+    ensures { Acts R.means (λ _. slots_of frame.new) result (R.seen runtime.new) (meaning.bind_variables R.means target.now value (slots_of frame.old) (R.seen runtime.old)) }
+{
+    match target {
+        CodeTarget::Local(slot) => Ok(frame.fill(*slot, value)?),
+        CodeTarget::Global(slot) => Ok(frame.fill(*slot, value)?),
+        _ => bind_parts(alloc, runtime, frame, target, value),
+    }
+}
+
+/// The same of any target.
+#[inline(never)]
+#[tactic(auto, unfolding(bq_eval_meaning_spec::specs::Targets::bind_variables, bq_resolve_scope::specs::Names::max_layers))]
+fn bind_parts<R: Runtime>(
+    alloc: Global,
+    runtime: &mut R,
+    frame: &mut Frame<'_>,
+    target: &CodeTarget,
+    value: Value,
+) -> Result<(), EvalErr>
+    ensures { Acts R.means (λ _. slots_of frame.new) result (R.seen runtime.new) (meaning.bind_variables R.means target.now value (slots_of frame.old) (R.seen runtime.old)) }
+{
+    let mut places = IndexedOperands::new(alloc);
+    bind_to(
+        alloc,
+        runtime,
+        frame,
+        &mut places,
+        MAX_LAYERS,
+        target,
+        value,
+    )
+}
+
+/// A turn of a `for` begins: its step, and the variables get the next element.
+#[inline(always)]
+pub fn begin_turn<R: Runtime>(
+    alloc: Global,
+    runtime: &mut R,
+    frame: &mut Frame<'_>,
+    target: &CodeTarget,
+    value: Value,
+) -> Result<(), EvalErr>
+    ensures { Acts R.means (λ _. slots_of frame.new) result (R.seen runtime.new) (following (R.means.step 1 (R.seen runtime.old)) (λ _. meaning.bind_variables R.means target.now value (slots_of frame.old))) }
+{
+    runtime.step(1)?;
+    bind_variables(alloc, runtime, frame, target, value)
+}

@@ -1,0 +1,81 @@
+//! The modules of a program.
+
+ghost use Rattle.std.specs.Prelude.{◌≡◌, None, Some, MatchOption, take, drop};
+ghost use Rattle.bq_eval_meaning_spec.specs.Module.{frozen_unit, globals_among};
+ghost use Rattle.bq_eval_rules.specs.CodeUnits.{unit_of};
+ghost use Rattle.bq_eval_rules.specs.Round.{units_at, globals_of, views_of};
+
+use crate::context::{Globals, Program};
+use bq_resolve_scope::{CodeFunction, Resolved};
+use bq_value::{Frozen, Value};
+use std::sync::Arc;
+
+/// A module: its functions in the order of their `def`s, its globals, and what its loads bound.
+#[derive(Clone, Copy)]
+pub struct CodeUnit<'a> {
+    pub functions: &'a [CodeFunction],
+    pub globals: Globals<'a>,
+    pub loaded: &'a [Value],
+}
+
+/// The module of that number, where the globals of the one that is evaluated are these.
+#[tactic(auto, unfolding(crate::specs::Round::units_at, bq_eval_meaning_spec::specs::Module::frozen_units, crate::specs::Round::globals_of))]
+pub fn unit_at<'a>(program: &'a Program<'a>, own: Globals<'a>, home: u32) -> Option<CodeUnit<'a>>
+    ensures { MatchOption result (units_at program.now (globals_of own.entry) home ≡ None) (λ u. units_at program.now (globals_of own.entry) home ≡ Some (unit_of u)) }
+{
+    if home == program.number {
+        return Some(CodeUnit {
+            functions: program.functions,
+            globals: own,
+            loaded: program.loaded,
+        });
+    }
+    match globals_among(program.frozen, home) {
+        None => None,
+        Some(values) => match program.code.get(home as usize) {
+            None => None,
+            Some(None) => None,
+            Some(Some(file)) => Some(frozen_unit(file, values)),
+        },
+    }
+}
+
+/// The values of the globals of a module, and of what its loads bind: of one of these frozen modules, or of one that they reach.
+#[tactic(auto, unfolding(bq_eval_meaning_spec::specs::Module::globals_among))]
+fn globals_among<'a>(mut frozen: &'a [Arc<Frozen>], home: u32) -> Option<&'a [Value]>
+    ensures { MatchOption result (globals_among home (views_of frozen.entry.now) ≡ None) (λ values. globals_among home (views_of frozen.entry.now) ≡ Some values.now) }
+{
+    while let [first, rest @ ..] = frozen {
+        if let Some(values) = first.globals_of(home) {
+            return Some(values);
+        }
+        frozen = rest;
+    }
+    None
+}
+
+/// A frozen module, from its file, and the values of its globals and of what its loads bind.
+fn frozen_unit<'a>(file: &'a Resolved, values: &'a [Value]) -> CodeUnit<'a>
+    ensures { Some (unit_of result) ≡ frozen_unit (Some (Some file.now)) (Some values.now) }
+{
+    let count = file.globals.len();
+    CodeUnit {
+        functions: file.functions.as_slice(),
+        globals: Globals::Frozen(first_values(values, count)),
+        loaded: later_values(values, count),
+    }
+}
+
+#[tactic(auto, using(std::proofs::lemmas::List::take_min))]
+fn first_values(values: &[Value], count: usize) -> &[Value]
+    ensures { result.now ≡ take count values.now }
+{
+    &values[..count.min(values.len())]
+}
+
+#[tactic(auto, using(std::proofs::lemmas::List::drop_min))]
+fn later_values(values: &[Value], count: usize) -> &[Value]
+    ensures { result.now ≡ drop count values.now }
+{
+    &values[count.min(values.len())..]
+}

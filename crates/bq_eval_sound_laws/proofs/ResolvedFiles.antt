@@ -1,0 +1,152 @@
+-- What files of at most such a weight resolve to is sound.
+use Rattle.std.proofs.Common.{◌≡◌, ◌≤◌, ℕ, zero, suc, Bool, true, false, List, [], ◌∷◌, ◌++◌, map, length, Result, Ok, Err, subst, arith}
+use Rattle.std.specs.Prelude.{if◌then◌else◌}
+use Rattle.std.specs.List.{AllByRecursion}
+use Rattle.bq_base.specs.declared.fault.Fault.{Fault}
+use Rattle.bq_base.specs.declared.fault.FaultKind.TheVariants as f
+use Rattle.bq_parse_grammar.specs.declared.tree.Branch.{Branch}
+use Rattle.bq_parse_grammar.specs.declared.tree.Expr.{Expr}
+use Rattle.bq_parse_grammar.specs.declared.tree.Identifier.{Identifier}
+use Rattle.bq_parse_grammar.specs.declared.tree.Parameter.{Parameter}
+use Rattle.bq_parse_grammar.specs.declared.tree.Parameter.TheVariants as parameter
+use Rattle.bq_parse_grammar.specs.declared.tree.Stmt.{Stmt, out-Stmt}
+use Rattle.bq_parse_grammar.specs.declared.tree.Stmt.TheOpen.{Stmt-F}
+use Rattle.bq_parse_grammar.specs.declared.tree.TopLevel.{TopLevel}
+use Rattle.bq_resolve_scope.specs.declared.code.CodeParameter.{CodeParameter}
+use Rattle.bq_resolve_scope.specs.declared.code.CodeParameter.TheVariants as slot
+use Rattle.bq_resolve_scope.specs.declared.code.CodeStmt.{CodeStmt}
+use Rattle.bq_resolve_scope.specs.declared.code.CodeTopLevel.{CodeTopLevel}
+use Rattle.bq_resolve_scope.specs.declared.code.FileStmt.TheVariants as s
+use Rattle.bq_resolve_scope.specs.declared.code.Resolved.{Resolved}
+use Rattle.bq_resolve_scope.specs.Names.{Name, max_layers, has, function_names}
+use Rattle.bq_resolve_scope.specs.Scope.{BlockParts, FileParts}
+use Rattle.bq_resolve_scope.specs.Universe.{UniverseParts}
+use Rattle.bq_resolve_scope.specs.Visit.{Passed, Visit, ◌>>=◌, pure, stop, fault_of, each, nothing_passed}
+use Rattle.bq_resolve_scope.specs.Expressions.{name_target}
+use Rattle.bq_resolve_scope.specs.Statements.{ParameterParts, no_parameters, expr, small_stmt, stmt_to, named_parameter, default_parameter, next_parameter, parameters, statements_in, with_function, function}
+use Rattle.bq_resolve_scope.specs.Files.{file_names, def_stmt, file_stmt, top_level, resolved_by, resolved}
+use Rattle.bq_parse_tree_laws.specs.Depth.{deepest}
+use Rattle.bq_eval_sound_laws.proofs.Weights.{most_weight, expr_weight, parameter_weight, small_weight, stmt_weight}
+use Rattle.bq_eval_depth_laws.specs.Fits.{TargetFits}
+use Rattle.bq_eval_sound_laws.specs.Sound.{ExprIsSound, PlaceIsSound, SmallIsSound, StmtIsSound, FunctionIsSound, FileStmtIsSound, TopLevelIsSound, FileIsSound}
+use Rattle.bq_eval_sound_laws.proofs.Opened.{stmt_layer, opened_stmt}
+use Rattle.bq_eval_sound_laws.proofs.Gives.{FunctionsAreSound, Giving, Gives, gives_bind, gives_map, gives_each, and_last}
+use Rattle.bq_eval_sound_laws.proofs.ResolvedExpressions.{name_gives}
+use Rattle.bq_eval_sound_laws.proofs.ResolvedStatements.{an_expr_gives, small_gives, stmt_gives}
+
+-- there are enough layers
+enough : most_weight ≤ max_layers
+unfolding max_layers
+enough = omega arith
+
+-- the target of a `def`, which is a name
+a_name_gives : (n : ℕ) → 1 ≤ n → (file : FileParts) (m : Identifier) → Gives (λ z. TargetFits ExprIsSound n z) (name_target file [] m)
+a_name_gives zero some file m = absurd (omega arith)
+a_name_gives (suc n) some file m = name_gives ExprIsSound n file [] m
+
+module _ (file : FileParts) where
+  -- ---- parameters: the defaults so far
+
+  abbrev DefaultsAreSound : ParameterParts → Type 0
+  DefaultsAreSound l = AllByRecursion (λ z. ExprIsSound z) l.defaults
+
+  named_by : (t : Bool) (why : Fault) (l : ParameterParts) (u : Passed) → DefaultsAreSound l → FunctionsAreSound u
+      → Giving {A = ParameterParts} DefaultsAreSound (let go : Visit ParameterParts = if t then stop why else pure l in go u)
+  named_by true why l u h fit = tt
+  named_by false why l u h fit = (h, fit)
+
+  named_gives : (l : ParameterParts) (n : Identifier) (x : CodeParameter) → DefaultsAreSound l → Gives {A = ParameterParts} DefaultsAreSound (named_parameter file l n x)
+  unfolding named_parameter
+  named_gives l n x h u fit =
+      named_by (has l.names n.name) (fault_of f.DoubleParameter n) (record l { names = l.names ++ n.name ∷ []; parameters = l.parameters ++ x ∷ [] }) u h fit
+
+  default_gives : (l : ParameterParts) (n : Identifier) (x : Expr) → expr_weight x ≤ max_layers → DefaultsAreSound l → Gives {A = ParameterParts} DefaultsAreSound (default_parameter file l n x)
+  unfolding default_parameter
+  default_gives l n x h k =
+      gives_bind DefaultsAreSound DefaultsAreSound (named_parameter file l n (slot.Default n.name (length l.names))) (λ m. expr file [] x >>= λ y. pure (record m { defaults = m.defaults ++ y ∷ [] }))
+      (named_gives l n (slot.Default n.name (length l.names)) k)
+      (λ m j. gives_map (λ z. ExprIsSound z) DefaultsAreSound (expr file [] x) (λ y. record m { defaults = m.defaults ++ y ∷ [] }) (an_expr_gives file [] x h) (λ y i. and_last (λ z. ExprIsSound z) m.defaults y j i))
+
+  next_gives : (l : ParameterParts) (q : Parameter) → parameter_weight q ≤ max_layers → DefaultsAreSound l → Gives {A = ParameterParts} DefaultsAreSound (next_parameter file l q)
+  unfolding next_parameter
+  next_gives l (parameter.Plain n) h k = named_gives l n (slot.Plain n.name (length l.names)) k
+  next_gives l (parameter.Default n x) h k = default_gives l n x h k
+  next_gives l parameter.BareStar h k = λ u fit. (k, fit)
+  next_gives l (parameter.Star n) h k = named_gives l n (slot.Star (length l.names)) k
+  next_gives l (parameter.StarStar n) h k = named_gives l n (slot.StarStar (length l.names)) k
+
+  parameters_give : (ps : List Parameter) (l : ParameterParts) → deepest (map parameter_weight ps) ≤ max_layers → DefaultsAreSound l → Gives {A = ParameterParts} DefaultsAreSound (parameters file l ps)
+  unfolding parameters
+  parameters_give [] l h k = λ u fit. (k, fit)
+  parameters_give (q ∷ ps) l h k =
+      let a : parameter_weight q ≤ max_layers = omega arith in
+      let b : deepest (map parameter_weight ps) ≤ max_layers = omega arith in
+      gives_bind DefaultsAreSound DefaultsAreSound (next_parameter file l q) (λ m. parameters file m ps) (next_gives l q a k) (λ m j. parameters_give ps m b j)
+
+  -- ---- functions
+
+  with_gives : (name : Name) (ps : List CodeParameter) (k : ℕ) (r : Result (List CodeStmt × Passed) Fault) → Giving {A = List CodeStmt} (λ ys. AllByRecursion (StmtIsSound max_layers) ys) r
+      → Giving {A = ℕ} (λ _. Unit {0}) (with_function file name ps k r)
+  unfolding FunctionIsSound
+  with_gives name ps k (Err why) h = tt
+  with_gives name ps k (Ok p) h = (tt, and_last (λ d. FunctionIsSound d) p.1.functions (record { name = name; parameters = ps; slots = p.1.slots; body = p.0 }) h.1 h.0)
+
+  function_gives : (name : Name) (ps : List CodeParameter) (names : List Name) (body : List Stmt) → deepest (map stmt_weight body) ≤ max_layers
+      → Gives {A = ℕ} (λ _. Unit {0}) (function file name ps names body)
+  unfolding function
+  function_gives name ps names body h u fit =
+      let block : BlockParts = record { base = 0; names = names } in
+      with_gives name ps u.slots (statements_in file names body (record u { slots = length names }))
+      (gives_each (StmtIsSound max_layers) stmt_weight max_layers (stmt_to file max_layers (block ∷ []) false) (stmt_gives file max_layers max_layers (omega arith) (block ∷ []) false) [] body tt h
+      (record u { slots = length names }) fit)
+
+  -- ---- what stands outside functions
+
+  def_gives : (n : Identifier) (ps : List Parameter) (body : List Stmt) → deepest (map parameter_weight ps) ≤ max_layers → deepest (map stmt_weight body) ≤ max_layers
+      → Gives (λ z. FileStmtIsSound z) (def_stmt file n ps body)
+  unfolding def_stmt
+  def_gives n ps body h k =
+      let names : List Name = function_names ps body in
+      gives_bind (λ z. PlaceIsSound z) (λ z. FileStmtIsSound z) (name_target file [] n)
+      (λ t. parameters file no_parameters ps >>= λ l. function file n.name l.parameters names body >>= λ k. pure (s.Def (record { target = t; function = k; defaults = l.defaults })))
+      (a_name_gives max_layers (omega (arith, enough)) file n)
+      (λ t i. gives_bind DefaultsAreSound (λ z. FileStmtIsSound z) (parameters file no_parameters ps)
+      (λ l. function file n.name l.parameters names body >>= λ k. pure (s.Def (record { target = t; function = k; defaults = l.defaults }))) (parameters_give ps no_parameters h tt)
+      (λ l j. gives_map (λ _. Unit {0}) (λ z. FileStmtIsSound z) (function file n.name l.parameters names body) (λ k. s.Def (record { target = t; function = k; defaults = l.defaults }))
+      (function_gives n.name l.parameters names body k) (λ k _. (i, j))))
+
+  file_stmt_gives : (line : ℕ) (o : Stmt-F Stmt Branch) → stmt_layer o ≤ max_layers → Gives (λ z. FileStmtIsSound z) (file_stmt file line o)
+  file_stmt_gives line (Stmt-F.Simple xs) h =
+      gives_map (λ ys. AllByRecursion SmallIsSound ys) (λ z. FileStmtIsSound z) (each (small_stmt file [] false) [] xs) (λ ys. s.Simple ys)
+      (gives_each (λ z. SmallIsSound z) small_weight max_layers (small_stmt file [] false) (small_gives file [] false) [] xs tt (omega arith)) (λ ys p. p)
+  file_stmt_gives line (Stmt-F.If bs zs) h = λ u fit. tt
+  file_stmt_gives line (Stmt-F.For t x body) h = λ u fit. tt
+  file_stmt_gives line (Stmt-F.Def n ps body) h = def_gives n ps body (omega arith) (omega arith)
+
+  top_level_gives : (t : TopLevel) → stmt_weight t.statement ≤ max_layers → Gives (λ z. TopLevelIsSound z) (top_level file t)
+  unfolding top_level
+  top_level_gives t h =
+      gives_map (λ z. FileStmtIsSound z) (λ z. TopLevelIsSound z) (file_stmt file t.line (out-Stmt t.statement)) (λ x. record { line = t.line; statement = x })
+      (file_stmt_gives t.line (out-Stmt t.statement) (omega (arith, opened_stmt t.statement))) (λ x p. p)
+
+  all_give : (ts : List TopLevel) (done : List CodeTopLevel) → AllByRecursion (λ z. TopLevelIsSound z) done → AllByRecursion (λ t. stmt_weight t.statement ≤ most_weight) ts
+      → Gives (λ zs. AllByRecursion (λ z. TopLevelIsSound z) zs) (each (top_level file) done ts)
+  unfolding each
+  all_give [] done so_far all = λ u fit. (so_far, fit)
+  all_give (t ∷ ts) done so_far all =
+      let a : stmt_weight t.statement ≤ most_weight = all.0 in
+      gives_bind (λ z. TopLevelIsSound z) (λ zs. AllByRecursion (λ z. TopLevelIsSound z) zs) (top_level file t) (λ y. each (top_level file) (done ++ y ∷ []) ts) (top_level_gives t (omega (arith, enough)))
+      (λ y k. all_give ts (done ++ y ∷ []) (and_last (λ z. TopLevelIsSound z) done y so_far k) all.1)
+
+file_by : (file : FileParts) (r : Result (List CodeTopLevel × Passed) Fault) (z : Resolved) → Giving {A = List CodeTopLevel} (λ zs. AllByRecursion (λ z. TopLevelIsSound z) zs) r → resolved_by file r ≡ Ok z → FileIsSound z
+file_by file (Err why) z h e = absurd (let no : ⊥ = cc in no)
+file_by file (Ok p) z h e =
+    let made : Resolved = record { statements = p.0; functions = p.1.functions; globals = file.globals; loads = p.1.loads } in
+    let same : made ≡ z = cc in
+    subst (λ w. FileIsSound w) same h
+
+pub file_is_sound : (universe : UniverseParts) (ts : List TopLevel) (z : Resolved) → AllByRecursion (λ t. stmt_weight t.statement ≤ most_weight) ts → resolved universe ts ≡ Ok z → FileIsSound z
+unfolding resolved
+file_is_sound universe ts z all e =
+    let file : FileParts = file_names universe ts in
+    file_by file (each (top_level file) [] ts nothing_passed) z (all_give file ts [] tt all nothing_passed tt) e

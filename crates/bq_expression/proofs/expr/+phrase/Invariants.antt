@@ -1,4 +1,0 @@
-use Rattle.bq_expression.proofs.expr.+phrase.Given as goal
-
-abbrev pub decreases-phrase : goal.decreases-phrase
-decreases-phrase l = l.depth

@@ -1,8 +1,0 @@
-use Rattle.std.proofs.Common.{◌≡◌, ◌-◌, []}
-use Rattle.bq_grammar.specs.Turns.{repeat, repeat_from}
-use Rattle.bq_grammar.specs.Reading.{has, operation, and_test, primary, phrase, variables_to}
-use Rattle.bq_grammar.specs.Operators as operators
-use Rattle.bq_expression.proofs.grammar.Grammar.or_operations.Given as goal
-
-abbrev pub invariant-loop-turn : goal.invariant-loop-turn
-invariant-loop-turn g l = repeat (has (operators.operator_at 10)) (operation 10 (and_test (primary (phrase l.self.depth) (variables_to l.self.depth)))) [] l.fn.tokens ≡ repeat_from (has (operators.operator_at 10)) (operation 10 (and_test (primary (phrase l.self.depth) (variables_to l.self.depth)))) (l._turn-end - l._turn) l.found l.tokens

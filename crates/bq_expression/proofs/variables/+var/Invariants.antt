@@ -1,4 +1,0 @@
-use Rattle.bq_expression.proofs.variables.+var.Given as goal
-
-abbrev pub decreases-var : goal.decreases-var
-decreases-var l = l.depth

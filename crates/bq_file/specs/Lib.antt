@@ -1,4 +1,0 @@
-pub mod Pieces
-pub mod LeftOut
-pub mod Nested
-pub mod Answers

@@ -1,6 +1,0 @@
-use Rattle.std.proofs.Common.{◌≡◌, drop}
-use Rattle.std.specs.Str.{all_ascii_digits}
-use Rattle.bq_functions.proofs.integers.is_numeral.Given as goal
-
-abbrev pub invariant-loop-digit : goal.invariant-loop-digit
-invariant-loop-digit l = all_ascii_digits l.digits ≡ all_ascii_digits (drop l.digit-index l.digits)

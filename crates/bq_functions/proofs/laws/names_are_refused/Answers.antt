@@ -1,5 +1,0 @@
-use Rattle.bq_functions.proofs.Answered.{names_refused}
-use Rattle.bq_functions.proofs.laws.names_are_refused.Goals as goal
-
-pub returns : goal.returns
-returns c = names_refused

@@ -1,5 +1,0 @@
-use Rattle.bq_functions.proofs.Answered.{rows_counted, none_shorter, row_at}
-use Rattle.bq_functions.proofs.laws.zip_goes_by_places.Goals as goal
-
-pub returns : goal.returns
-returns c = record { count = rows_counted; shortest = none_shorter; tuples = row_at }

@@ -1,8 +1,0 @@
--- what is left gives, after the columns so far, what all give
-use Rattle.std.proofs.Common.{◌≡◌, ◌++◌, drop, Ok}
-use Rattle.bq_functions.specs.Arguments.{and_then}
-use Rattle.bq_functions.specs.Sequences.{elements_of_each}
-use Rattle.bq_functions.proofs.zip.elements_of_each.Given as goal
-
-abbrev pub invariant-loop-value : goal.invariant-loop-value
-invariant-loop-value l = elements_of_each l.machine.store l.values ≡ and_then (elements_of_each l.machine.store (drop l.value-index l.values)) (λ xss. Ok (l.columns.items ++ xss))

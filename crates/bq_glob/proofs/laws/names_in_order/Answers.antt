@@ -1,5 +1,0 @@
-use Rattle.bq_glob.proofs.GivenNames.{names_ascend}
-use Rattle.bq_glob.proofs.laws.names_in_order.Goals as goal
-
-pub returns : goal.returns
-returns c = names_ascend

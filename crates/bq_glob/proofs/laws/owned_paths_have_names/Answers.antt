@@ -1,5 +1,0 @@
-use Rattle.bq_glob.proofs.GivenNames.{owned_has_name}
-use Rattle.bq_glob.proofs.laws.owned_paths_have_names.Goals as goal
-
-pub returns : goal.returns
-returns c = owned_has_name

@@ -1,5 +1,0 @@
-use Rattle.bq_glob.proofs.GivenNames.{given_is}
-use Rattle.bq_glob.proofs.laws.what_glob_gives.Goals as goal
-
-pub returns : goal.returns
-returns c = given_is

@@ -1,5 +1,0 @@
-use Rattle.bq_grammar.proofs.Tests.{one_test}
-use Rattle.bq_grammar.proofs.laws.one_tree_of_a_test.Goals as goal
-
-pub returns : goal.returns
-returns c depth ts rest = one_test depth ts rest

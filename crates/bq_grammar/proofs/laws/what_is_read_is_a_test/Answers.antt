@@ -1,5 +1,0 @@
-use Rattle.bq_grammar.proofs.Tests.{sound}
-use Rattle.bq_grammar.proofs.laws.what_is_read_is_a_test.Goals as goal
-
-pub returns : goal.returns
-returns c depth ts = sound depth ts

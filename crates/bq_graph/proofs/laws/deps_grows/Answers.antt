@@ -1,5 +1,0 @@
-use Rattle.bq_graph.proofs.Meets.{grown}
-use Rattle.bq_graph.proofs.laws.deps_grows.Goals as goal
-
-pub returns : goal.returns
-returns c = grown

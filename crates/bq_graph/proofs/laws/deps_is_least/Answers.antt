@@ -1,5 +1,0 @@
-use Rattle.bq_graph.proofs.Meets.{least}
-use Rattle.bq_graph.proofs.laws.deps_is_least.Goals as goal
-
-pub returns : goal.returns
-returns c = least

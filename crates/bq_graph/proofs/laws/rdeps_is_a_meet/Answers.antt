@@ -1,5 +1,0 @@
-use Rattle.bq_graph.proofs.Meets.{meet}
-use Rattle.bq_graph.proofs.laws.rdeps_is_a_meet.Goals as goal
-
-pub returns : goal.returns
-returns c = meet

@@ -1,0 +1,7 @@
+use Rattle.std.proofs.Common.{◌≡◌, ◌++◌, drop}
+use Rattle.bq_label_glob.specs.Names.{glob}
+use Rattle.bq_label_glob.proofs.names.glob.Given as goal
+
+-- what the files that are left give, after what is given, is what all give
+abbrev pub invariant-loop-file : goal.invariant-loop-file
+invariant-loop-file l = l.names.items ++ glob (drop l.file-index l.files) l.packages l.id l.include l.exclude ≡ glob l.workspace l.packages l.id l.include l.exclude

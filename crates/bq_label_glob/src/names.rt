@@ -1,0 +1,130 @@
+//! The files of a package that some pattern matches and no excluded one.
+
+ghost use Rattle.std.specs.Prelude.{◌≡◌, ◌≤◌, ◌++◌, [], ◌∷◌, true, false, length, None, Some, IfOk, OnOk, MatchOption};
+ghost use Rattle.std.specs.List.{filter, list_any};
+ghost use Rattle.std.specs.List.Sorted.{IsPartitionPoint};
+ghost use Rattle.bq_label_glob.specs.Names.{directory, is_before, is_beneath, is_owned, name_in, is_wanted, glob};
+ghost use Rattle.bq_label_glob.specs.Matching.{matches};
+
+use crate::pattern::Pattern;
+use bq_base::Bytes;
+use bq_label::{File, PackageId, Packages, Workspace};
+use std::alloc::{AllocError, Global};
+
+/// What precedes the names of a package's files: `external/NAME/` outside the main repository, then the package's path and a
+/// slash.
+#[tactic(auto, unfolding(crate::specs::Names::directory, bq_label::specs::Packages::label_path))]
+fn directory(alloc: Global, id: &PackageId) -> Result<Vec<u8>, AllocError>
+    ensures { IfOk result (λ d. d.items ≡ directory id.now) }
+{
+    let mut above = Vec::new(alloc);
+    if !id.repo().is_empty() {
+        above.extend_from_slice(b"external/")?;
+        above.extend_from_slice(id.repo().as_slice())?;
+        above.push(b'/')?;
+    }
+    if !id.package().is_empty() {
+        above.extend_from_slice(id.package().as_slice())?;
+        above.push(b'/')?;
+    }
+    Ok(above)
+}
+
+/// How many files are before the text.
+fn files_before(workspace: &Workspace, text: &[u8]) -> usize
+    ensures bound { result ≤ length workspace.now }
+    ensures before { IsPartitionPoint (λ f. is_before text.now f ≡ true) (λ f. is_before text.now f ≡ false) workspace.now result }
+{
+    workspace
+        .files()
+        .partition_point(|file| file.path.as_slice().cmp(text).is_lt())
+}
+
+/// The files whose paths go on after the directory. They follow one another, so it takes time logarithmic in the number of
+/// files.
+fn files_beneath<'a>(workspace: &'a Workspace, above: &[u8]) -> &'a [File]
+    ensures { result.now ≡ filter (λ f. is_beneath above.now f.path) workspace.now }
+{
+    let rest = &workspace.files()[files_before(workspace, above)..];
+    let len = rest.partition_point(|file| file.path.as_slice().starts_with(above));
+    &rest[..len]
+}
+
+/// Whether the package owns the path.
+#[tactic(auto, unfolding(crate::specs::Names::is_owned))]
+fn is_owned(packages: &Packages, id: &PackageId, path: &[u8]) -> bool
+    ensures { result ≡ is_owned packages.now id.now path.now }
+{
+    match packages.owner_of(path) {
+        Some(owner) => {
+            owner.id.repo().as_slice() == id.repo().as_slice()
+                && owner.id.package().as_slice() == id.package().as_slice()
+        }
+        None => false,
+    }
+}
+
+/// The name of a path in the package that owns it.
+#[tactic(auto, unfolding(crate::specs::Names::name_in))]
+fn name_in<'a>(
+    packages: &Packages,
+    id: &PackageId,
+    above: &[u8],
+    path: &'a [u8],
+) -> Option<&'a [u8]>
+    requires { above.now ≡ directory id.now }
+    ensures { MatchOption result (name_in packages.now id.now path.now ≡ None) (λ name. name_in packages.now id.now path.now ≡ Some name.now) }
+{
+    if !path.starts_with(above) || !is_owned(packages, id, path) {
+        return None;
+    }
+    Some(&path[above.len()..])
+}
+
+fn matches_some(patterns: &[Pattern], name: &[u8]) -> bool
+    ensures { result ≡ list_any (λ p. matches p name.now) patterns.now }
+{
+    patterns.iter().any(|pattern| pattern.matches(name))
+}
+
+/// Whether some pattern matches the name, and no excluded one.
+#[tactic(auto, unfolding(crate::specs::Names::is_wanted))]
+fn is_wanted(include: &[Pattern], exclude: &[Pattern], name: &[u8]) -> bool
+    ensures { result ≡ is_wanted include.now exclude.now name.now }
+{
+    matches_some(include, name) && !matches_some(exclude, name)
+}
+
+fn push_name(alloc: Global, names: &mut Vec<Bytes>, name: &[u8]) -> Result<(), AllocError>
+    ensures { OnOk result (names.new.items ≡ names.old.items ++ name.now ∷ []) }
+{
+    names.push(Bytes::from_slice(alloc, name)?)?;
+    Ok(())
+}
+
+/// The names in the package of its files that some pattern matches and no excluded one, ascending by their bytes. Files of
+/// the packages beneath it are theirs. The time is that of matching each file beneath the package against each pattern.
+pub fn glob(
+    alloc: Global,
+    workspace: &Workspace,
+    packages: &Packages,
+    id: &PackageId,
+    include: &[Pattern],
+    exclude: &[Pattern],
+) -> Result<Vec<Bytes>, AllocError>
+    ensures { IfOk result (λ names. names.items ≡ glob workspace.now packages.now id.now include.now exclude.now) }
+{
+    let above = directory(alloc, id)?;
+    let mut names = Vec::new(alloc);
+    let files = files_beneath(workspace, &above);
+    for file in files {
+        let Some(name) = name_in(packages, id, &above, file.path.as_slice()) else {
+            continue;
+        };
+        if !is_wanted(include, exclude, name) {
+            continue;
+        }
+        push_name(alloc, &mut names, name)?;
+    }
+    Ok(names)
+}

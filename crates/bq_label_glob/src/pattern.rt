@@ -1,0 +1,162 @@
+//! Patterns of glob.
+
+ghost use Rattle.std.specs.Prelude.{◌≡◌, IfOk};
+ghost use Rattle.std.specs.List.{list_all, slice_split};
+ghost use Rattle.bq_base.specs.Gives.{Gives};
+ghost use Rattle.bq_base.specs.declared.fault.SourceErr.TheVariants.{Bad};
+ghost use Rattle.bq_label.specs.Paths.{is_slash, is_segment};
+ghost use Rattle.bq_label_glob.specs.Matching.{matches, is_any_segments, fits_segment, segments_from};
+ghost use Rattle.bq_label_glob.specs.Step.{StepIs};
+ghost use Rattle.bq_label_glob.specs.Pattern.{has_two_stars, is_pattern, is_pattern_segment, pattern_of};
+
+use crate::segment::{fits_segment, segment_at};
+use crate::step::{Retry, Step};
+use bq_base::{Bytes, Fault, FaultKind, SourceErr};
+use bq_label::is_segment;
+use std::alloc::Global;
+use std::marker::Model;
+
+/// A pattern of glob: segments joined by `/`. Contracts see its bytes.
+#[derive(Drop, Debug)]
+pub struct Pattern {
+    text: Bytes,
+}
+
+impl Model for Pattern {
+    ghost use Rattle.std.specs.Prelude.{ℕ, List, true, ◌≡◌};
+    ghost use Rattle.bq_label_glob.specs.Pattern.{is_pattern};
+
+    ghost Value = { List ℕ };
+
+    ghost view = { λ p. p.text };
+
+    ghost invariant = { λ p. is_pattern p.text ≡ true };
+}
+
+/// Whether two stars are next to each other.
+#[tactic(auto, unfolding(crate::specs::Pattern::has_two_stars))]
+fn has_two_stars(segment: &[u8]) -> bool
+    ensures { result ≡ has_two_stars segment.now }
+{
+    let mut rest = segment;
+    while let [_, more @ ..] = rest {
+        if rest.starts_with(b"**") {
+            return true;
+        }
+        rest = more;
+    }
+    false
+}
+
+/// Whether this segment takes any number of segments.
+fn is_any_segments(segment: &[u8]) -> bool
+    ensures { result ≡ is_any_segments segment.now }
+{
+    segment == b"**".as_slice()
+}
+
+#[tactic(auto, unfolding(crate::specs::Pattern::is_pattern_segment))]
+fn is_pattern_segment(segment: &[u8]) -> bool
+    ensures { result ≡ is_pattern_segment segment.now }
+{
+    is_segment(segment) && (is_any_segments(segment) || !has_two_stars(segment))
+}
+
+#[tactic(auto, unfolding(crate::specs::Pattern::is_pattern))]
+fn is_pattern(text: &[u8]) -> bool
+    ensures { result ≡ is_pattern text.now }
+{
+    text.split(|byte| *byte == b'/').all(is_pattern_segment)
+}
+
+/// The pattern that a text is. A text that is none is fault F77, at line 0: it or a segment of it is empty, a segment is `.`
+/// or `..`, or `**` is a part of a longer segment.
+#[tactic(auto, unfolding(crate::specs::Pattern::pattern_of))]
+pub fn read_pattern(alloc: Global, text: &[u8]) -> Result<Pattern, SourceErr>
+    ensures { Gives (λ p. p) Bad result (pattern_of text.now) }
+{
+    if !is_pattern(text) {
+        return Err(SourceErr::Bad(Fault::at(FaultKind::GlobPattern, 0)));
+    }
+    let text = Bytes::from_slice(alloc, text)?;
+    Ok(Pattern { text })
+}
+
+/// What the segments at two places say: `**` takes any segments, every other segment one that fits it.
+fn segment_step(pattern: &[u8], p: usize, path: &[u8], t: usize) -> Step
+    ensures { StepIs is_any_segments fits_segment (segments_from pattern.now) (segments_from path.now) p t result }
+{
+    let Some(wanted) = segment_at(pattern, p) else {
+        return match segment_at(path, t) {
+            None => Step::End,
+            Some(_) => Step::Fail,
+        };
+    };
+    if is_any_segments(wanted) {
+        return Step::Many(p + wanted.len() + 1);
+    }
+    let Some(segment) = segment_at(path, t) else {
+        return Step::Fail;
+    };
+    if !fits_segment(wanted, segment) {
+        return Step::Fail;
+    }
+    Step::One(p + wanted.len() + 1, t + segment.len() + 1)
+}
+
+/// Whether a path matches a pattern. Of several `**` only the last is tried anew: what an earlier one would take more, the last
+/// can take.
+fn matches(pattern: &[u8], path: &[u8]) -> bool
+    ensures { result ≡ matches pattern.now path.now }
+{
+    let mut p = 0;
+    let mut t = 0;
+    let mut retry: Option<Retry> = None;
+    'segments: loop {
+        match segment_step(pattern, p, path, t) {
+            Step::Many(next) => {
+                p = next;
+                retry = Some(Retry {
+                    pattern: p,
+                    text: t,
+                });
+                continue;
+            }
+            Step::One(next, after) => {
+                p = next;
+                t = after;
+                continue;
+            }
+            Step::End => return true,
+            Step::Fail => {}
+        }
+        let Some(last) = retry else {
+            return false;
+        };
+        let Some(skipped) = segment_at(path, last.text) else {
+            return false;
+        };
+        p = last.pattern;
+        t = last.text + skipped.len() + 1;
+        retry = Some(Retry {
+            pattern: p,
+            text: t,
+        });
+    }
+}
+
+impl Pattern {
+    /// Whether the pattern matches a path. The time is at most the product of the two lengths.
+    pub fn matches(&self, path: &[u8]) -> bool
+        ensures { result ≡ matches self.now path.now }
+    {
+        matches(self.text.as_slice(), path)
+    }
+
+    /// The pattern's text.
+    pub fn text(&self) -> &[u8]
+        ensures { result.now ≡ self.now }
+    {
+        self.text.as_slice()
+    }
+}

@@ -1,0 +1,77 @@
+//! The segments of patterns and paths.
+
+ghost use Rattle.std.specs.Prelude.{◌≡◌, ◌+◌, ◌≤◌, [], ◌∷◌, length, false, MatchOption, IfSome};
+ghost use Rattle.std.specs.List.{list_any};
+ghost use Rattle.bq_label_glob.specs.Matching.{any_tail, fits_segment, segments_from, is_star};
+ghost use Rattle.bq_label_glob.specs.Segment.{IsCutAtStar, IsAfterFirst, IsNowhere};
+
+use memchr::{memchr, memmem};
+
+/// What a pattern has before its first star, and what it has after it; none where it has no star.
+fn cut_at_star(pattern: &[u8]) -> Option<(&[u8], &[u8])>
+    ensures { MatchOption result (list_any is_star pattern.now ≡ false) (λ p. IsCutAtStar pattern.now p.0.now p.1.now) }
+{
+    match memchr(b'*', pattern) {
+        Some(at) => Some((&pattern[..at], &pattern[at + 1..])),
+        None => None,
+    }
+}
+
+/// What a text has after the first place of a piece; none where it doesn't have the piece.
+fn after_first<'t>(piece: &[u8], text: &'t [u8]) -> Option<&'t [u8]>
+    ensures { MatchOption result (IsNowhere piece.now text.now) (λ rest. IsAfterFirst piece.now text.now rest.now) }
+{
+    match memmem::find(text, piece) {
+        Some(at) => Some(&text[at + piece.len()..]),
+        None => None,
+    }
+}
+
+/// Whether some end of a text fits what a pattern has after a star.
+///
+/// Each piece between two stars is taken where the text has it first: what it leaves ends as every text does that it leaves
+/// at a later place. So the time is linear in the two lengths.
+fn fits_some_end(pattern: &[u8], text: &[u8]) -> bool
+    ensures { result ≡ any_tail (fits_segment pattern.now) text.now }
+{
+    let mut pieces = pattern;
+    let mut rest = text;
+    'pieces: while let Some((piece, more)) = cut_at_star(pieces) {
+        let Some(after) = after_first(piece, rest) else {
+            return false;
+        };
+        pieces = more;
+        rest = after;
+    }
+    rest.ends_with(pieces)
+}
+
+/// Whether a segment of a path fits a segment of a pattern: `*` takes any bytes, every other byte itself. The time is linear
+/// in the two lengths.
+pub(crate) fn fits_segment(pattern: &[u8], text: &[u8]) -> bool
+    ensures { result ≡ fits_segment pattern.now text.now }
+{
+    let Some((first, pieces)) = cut_at_star(pattern) else {
+        return pattern == text;
+    };
+    if !text.starts_with(first) {
+        return false;
+    }
+    fits_some_end(pieces, &text[first.len()..])
+}
+
+/// The segment that begins at a place of a path; none past the path's end.
+pub(crate) fn segment_at(path: &[u8], at: usize) -> Option<&[u8]>
+    ensures cut { MatchOption result (segments_from path.now at ≡ []) (λ s. segments_from path.now at ≡ s.now ∷ segments_from path.now (at + length s.now + 1)) }
+    ensures room { IfSome result (λ s. at + length s.now ≤ length path.now) }
+{
+    if at > path.len() {
+        return None;
+    }
+    let rest = &path[at..];
+    let mut len = 0;
+    while len < rest.len() && rest[len] != b'/' {
+        len += 1;
+    }
+    Some(&rest[..len])
+}

@@ -1,0 +1,43 @@
+-- Each module has a file of its label.
+use Rattle.std.proofs.Common.{◌≡◌, ◌∙◌, List, Some, None, inl, inr, refl, sym, subst}
+use Rattle.std.proofs.lemmas.Bool.{cases_Bool}
+use Rattle.bq_label.specs.declared.workspace.File.{File}
+use Rattle.bq_label.specs.declared.packages.BuildFile.{BuildFile}
+use Rattle.bq_label.specs.Paths.{is_path}
+use Rattle.bq_label.specs.Label.{LabelParts, label_in, last_segment, package_of}
+use Rattle.bq_label.specs.Packages.{build_label, packages_of, joined, IsPackageOf, IsFileOf}
+use Rattle.bq_label.proofs.BuildFiles.{package_words}
+use Rattle.bq_label.proofs.LabelFiles.{path_in_words}
+use Rattle.bq_load_label.proofs.Loads.{named}
+use Rattle.bq_load_label.proofs.Tests.{file_is_there}
+use Rattle.bq_load_front.specs.Inputs.{InputParts}
+use Rattle.bq_load_front.proofs.Loads.{loaded_files}
+use Rattle.bq_load_discover.specs.Modules.{IsModule}
+use Rattle.bq_load_discover.specs.LoadGraph.{inputs_of}
+use Rattle.bq_load_discover.specs.Laws.{ModulesHaveFiles}
+
+same_label : (a b : LabelParts) → Some a ≡ Some b → a ≡ b
+same_label a b e = cc
+
+label_is : (b : BuildFile) (l : LabelParts) → build_label b ≡ Some l → label_in b.id (last_segment b.file.path) ≡ l
+unfolding build_label
+label_is b l e = elim (cases_Bool (is_path (last_segment b.file.path))) [
+  | inl valid ↦ same_label (label_in b.id (last_segment b.file.path)) l (sym (rw valid refl) ∙ e)
+  | inr none ↦ let no : None ≡ Some l = sym (rw none refl) ∙ e in absurd (cc)
+]
+
+of_build_file : (files : List File) (b : BuildFile) (l : LabelParts) → IsPackageOf files b → build_label b ≡ Some l → (f : File) × IsFileOf files l f
+of_build_file files b l p e =
+    let own : IsFileOf files (label_in b.id (last_segment b.file.path)) b.file = record {
+      known = p.known;
+      path = path_in_words b.file.path b.id.repo (joined b.id.package (last_segment b.file.path)) p.repository;
+    } in
+    (b.file, subst (λ (m : LabelParts). IsFileOf files m b.file) (label_is b l e) own)
+
+pub modules_have_files : ModulesHaveFiles
+modules_have_files files rules l w (IsModule.build b c e) = of_build_file files b l (package_words files b w c) e
+modules_have_files files rules l w (IsModule.loaded m i c) =
+    let inputs : InputParts = inputs_of files rules in
+    let n = loaded_files inputs m l c in
+    let r = named files (packages_of files) (package_of m) n.load.line n.load.label l n.names in
+    file_is_there files l r.1.file

@@ -1,0 +1,93 @@
+-- The modules that were found, in order, and their rows are the load graph, unless there are too many edges.
+use Rattle.std.proofs.Common.{◌≡◌, ◌∙◌, ◌≤◌, ◌<◌, List, [], Some, length, map, slice_get, refl, sym, ap, subst, arith}
+use Rattle.std.specs.List.{Contains, IsDistinct, flat_map}
+use Rattle.std.specs.List.Sorted.{IsPermutation, IsSorted, IsStrictlySortedBy}
+use Rattle.std.proofs.Math.Nat.{lt_of_not-le}
+use Rattle.std.proofs.lemmas.List.{length-map}
+use Rattle.std.proofs.lemmas.List.Sorted.{length_permutation}
+use Rattle.bq_label.specs.Label.{LabelParts}
+use Rattle.bq_label_set.specs.Labels.{same_label, with_labels}
+use Rattle.bq_label_set.proofs.Added.{those_that_differ}
+use Rattle.bq_board.specs.Graph.{Loads, edges, max_modules, max_edges, Fits, IsGraph}
+use Rattle.bq_load_front.specs.Inputs.{InputParts}
+use Rattle.bq_load_front.specs.Front.{loads_by, loads_of}
+use Rattle.bq_load_discover.specs.declared.modules.Module.{Module}
+use Rattle.bq_load_discover.specs.Module.{labels_of, AreValid, label_cmp, module_cmp}
+use Rattle.bq_load_discover.specs.Modules.{IsModule, AreTooMany, edges_from}
+use Rattle.bq_load_discover.specs.Exploring.{AreFound}
+use Rattle.bq_load_discover.specs.Edges.{row_of, rows_of}
+use Rattle.bq_load_discover.specs.LoadGraph.{GraphParts, IsNumbered, IsLoadGraph}
+use Rattle.bq_load_discover.proofs.Ordered.{differ, modules_ascend, are_modules, still_read}
+use Rattle.bq_load_discover.proofs.Rows.{all_rows, edges_count}
+
+module _ (found : List Module) (d : IsDistinct same_label (labels_of found)) (small : length found ≤ max_modules) (ms : List Module) (p : IsPermutation found ms) (s : IsSorted module_cmp ms) (v : AreValid ms) where
+  pub few : length (labels_of ms) ≤ max_modules
+  few =
+      let a : length (labels_of ms) ≡ length ms = length-map ms (λ (m : Module). m.label) in
+      omega (arith, a, length_permutation found ms p, small)
+
+  ascend : IsStrictlySortedBy label_cmp (labels_of ms)
+  ascend = modules_ascend found d ms p s v
+
+  pub numbered : with_labels [] (labels_of ms) ≡ labels_of ms
+  numbered = those_that_differ (labels_of ms) (differ (labels_of ms) ascend)
+
+  pub is_numbered : IsGraph (rows_of (labels_of ms) ms) → IsNumbered (record { labels = labels_of ms; modules = ms; edges = rows_of (labels_of ms) ms })
+  is_numbered g = record {
+    ascending = ascend;
+    named = refl;
+    long = length-map ms (λ (m : Module). row_of (labels_of ms) (loads_by m.front)) ∙ sym (length-map ms (λ (m : Module). m.label));
+    valid = g;
+  }
+
+module _ (inputs : InputParts) (found : List Module) (f : AreFound inputs found) (ms : List Module) (p : IsPermutation found ms) (s : IsSorted module_cmp ms) (v : AreValid ms) where
+  all_loaded : (m l : LabelParts) → Contains (labels_of ms) m → Contains (loads_of inputs m) l → Contains (labels_of ms) l
+  all_loaded m l c d =
+      let a = are_modules inputs found f ms p s v in
+      a.all l (IsModule.loaded m (a.only m c) d)
+
+  rows : map (map (slice_get (labels_of ms))) (rows_of (labels_of ms) ms) ≡ map (λ m. map (λ l. Some l) (edges_from inputs m)) (labels_of ms)
+  rows = all_rows inputs (labels_of ms) (differ (labels_of ms) (modules_ascend found f.distinct ms p s v)) ms (still_read inputs found f ms p s v) all_loaded
+
+  pub is_load_graph : IsGraph (rows_of (labels_of ms) ms) → IsLoadGraph inputs (record { labels = labels_of ms; modules = ms; edges = rows_of (labels_of ms) ms })
+  is_load_graph g = record { modules = are_modules inputs found f ms p s v; read = still_read inputs found f ms p s v; edges = rows; valid = g }
+
+  pub too_many_edges : ¬ Fits (rows_of (labels_of ms) ms) → AreTooMany inputs
+  too_many_edges n =
+      let counted : edges (rows_of (labels_of ms) ms) ≡ length (flat_map (edges_from inputs) (labels_of ms)) = edges_count (slice_get (labels_of ms)) (edges_from inputs) (rows_of (labels_of ms) ms) (labels_of ms) rows in
+      let long : length (rows_of (labels_of ms) ms) ≡ length ms = length-map ms (λ (m : Module). row_of (labels_of ms) (loads_by m.front)) in
+      let lists : length (rows_of (labels_of ms) ms) ≤ max_modules = omega (arith, long, length_permutation found ms p, f.few) in
+      let many : max_edges < edges (rows_of (labels_of ms) ms) = lt_of_not-le (λ h. n (lists, h)) in
+      AreTooMany.edges (labels_of ms) (are_modules inputs found f ms p s v) (omega (arith, many, counted))
+
+-- ---- as the code holds these parts
+
+abbrev parts : List LabelParts → List Module → Loads → GraphParts
+parts ls ms p = record { labels = ls; modules = ms; edges = p }
+
+module _ (found : List Module) (d : IsDistinct same_label (labels_of found)) (small : length found ≤ max_modules) (ms : List Module) (p : IsPermutation found ms) (s : IsSorted module_cmp ms)
+    (held again : List Module) (h : held ≡ ms) (a : again ≡ ms) (v : AreValid held) (ls seen : List LabelParts) (n : ls ≡ labels_of held) (k : seen ≡ ls) (es : Loads) (e : es ≡ rows_of seen again) where
+  valid : AreValid ms
+  valid = subst (λ (z : List Module). AreValid z) h v
+
+  labels : ls ≡ labels_of ms
+  labels = n ∙ ap labels_of h
+
+  same : rows_of seen again ≡ rows_of (labels_of ms) ms
+  same = ap (λ (z : List LabelParts). rows_of z again) (k ∙ labels) ∙ ap (λ (z : List Module). rows_of (labels_of ms) z) a
+
+  whole : parts (labels_of ms) ms (rows_of (labels_of ms) ms) ≡ parts ls ms es
+  whole = ap (λ (z : List LabelParts). parts z ms (rows_of (labels_of ms) ms)) (sym labels) ∙ ap (λ (z : Loads). parts ls ms z) (sym (e ∙ same))
+
+  pub held_numbered : IsGraph (rows_of seen again) → IsNumbered (record { labels = ls; modules = ms; edges = es })
+  held_numbered g = subst (λ (z : GraphParts). IsNumbered z) whole (is_numbered found d small ms p s valid (subst (λ (z : Loads). IsGraph z) same g))
+
+  pub held_graph : IsGraph (rows_of seen again) → (inputs : InputParts) → AreFound inputs found → IsLoadGraph inputs (record { labels = ls; modules = ms; edges = es })
+  held_graph g inputs f = subst (λ (z : GraphParts). IsLoadGraph inputs z) whole (is_load_graph inputs found f ms p s valid (subst (λ (z : Loads). IsGraph z) same g))
+
+module _ (found ms : List Module) (p : IsPermutation found ms) (s : IsSorted module_cmp ms) (held again : List Module) (h : held ≡ ms) (a : again ≡ ms) (v : AreValid held) (ls seen : List LabelParts) (n : ls ≡ labels_of held) (k : seen ≡ ls) where
+  pub held_too_many : ¬ Fits (rows_of seen again) → (inputs : InputParts) → AreFound inputs found → AreTooMany inputs
+  held_too_many none inputs f =
+      let valid : AreValid ms = subst (λ (z : List Module). AreValid z) h v in
+      let same : rows_of seen again ≡ rows_of (labels_of ms) ms = ap (λ (z : List LabelParts). rows_of z again) (k ∙ (n ∙ ap labels_of h)) ∙ ap (λ (z : List Module). rows_of (labels_of ms) z) a in
+      too_many_edges inputs found f ms p s valid (subst (λ (z : Loads). ¬ Fits z) same none)

@@ -1,0 +1,110 @@
+-- The numbers in a row are those of the labels that are loaded.
+use Rattle.std.proofs.Common.{◌≡◌, ◌∙◌, ◌<◌, ◌+◌, ℕ, Bool, true, false, not, List, [], ◌∷◌, ◌++◌, Option, None, Some, length, map, take, get_or, slice_get, refl, sym, ap, inl, inr, length-append}
+use Rattle.std.specs.List.{Contains, IsDistinct, filter_map, flat_map, cons_option}
+use Rattle.std.specs.Prelude.{option_to_list}
+use Rattle.std.proofs.lemmas.Bool.{cases_Bool}
+use Rattle.std.proofs.lemmas.List.{length-map}
+use Rattle.std.proofs.lemmas.List.Elements.{filter_map-append}
+use Rattle.bq_label.specs.Label.{LabelParts}
+use Rattle.bq_label.proofs.Orders.{at_head, in_tail}
+use Rattle.bq_label_set.specs.Labels.{same_label, has_label, with_label, with_labels}
+use Rattle.bq_label_set.proofs.Added.{known_label, new_label, with_labels-append, the_labels_added}
+use Rattle.bq_label_set.proofs.Numbers.{the_number}
+use Rattle.bq_board.specs.Graph.{Loads, sources, edges}
+use Rattle.bq_load_front.specs.Inputs.{InputParts}
+use Rattle.bq_load_front.specs.Front.{loads_by, loads_of}
+use Rattle.bq_load_discover.specs.declared.modules.Module.{Module}
+use Rattle.bq_load_discover.specs.Module.{module_of}
+use Rattle.bq_load_discover.specs.Modules.{edges_from}
+use Rattle.bq_load_discover.specs.Edges.{number_in, row_of, rows_of}
+use Rattle.bq_load_discover.proofs.Lists.{none_in, next_taken, place_of}
+
+-- ---- one step along the loads of a module
+
+add_one : (ls known : List LabelParts) (row : List ℕ) (l : LabelParts) → row ≡ filter_map (number_in ls) known → row ++ option_to_list (number_in ls l) ≡ filter_map (number_in ls) (known ++ l ∷ [])
+add_one ls known row l e = ap (λ (z : List ℕ). z ++ option_to_list (number_in ls l)) e ∙ (ap (λ (z : List ℕ). filter_map (number_in ls) known ++ z) (one (number_in ls l)) ∙ sym (filter_map-append (number_in ls) known (l ∷ [])))
+  where
+    one : (o : Option ℕ) → option_to_list o ≡ cons_option o []
+    one None = refl
+    one (Some n) = refl
+
+-- the labels that are loaded so far
+pub loaded_next : (loads : List LabelParts) (i : ℕ) (l : LabelParts) (known now : List LabelParts) → i < length loads → l ≡ get_or loads i l → known ≡ with_labels [] (take i loads) → now ≡ with_label known l
+    → now ≡ with_labels [] (take (i + 1) loads)
+unfolding with_labels
+loaded_next loads i l known now h is k n =
+    n ∙ (ap (λ (z : List LabelParts). with_label z l) k ∙ (sym (with_labels-append [] (take i loads) (l ∷ [])) ∙ ap (with_labels []) (sym (next_taken loads i l h is))))
+
+module _ (ls known : List LabelParts) (l : LabelParts) (added : Bool) (is : added ≡ not (has_label known l)) (after : List LabelParts) (n : after ≡ with_label known l) (row : List ℕ) (e : row ≡ filter_map (number_in ls) known) where
+  pub row_stays : added ≡ false → row ≡ filter_map (number_in ls) after
+  row_stays old = elim (cases_Bool (has_label known l)) [
+    | inl there ↦ e ∙ ap (filter_map (number_in ls)) (sym (n ∙ known_label known l there))
+    | inr lacks ↦ let no : true ≡ false = sym (rw lacks refl) ∙ (sym is ∙ old) in absurd (cc)
+  ]
+
+  pub row_grows : (now : List ℕ) → added ≡ true → now ≡ row ++ option_to_list (number_in ls l) → now ≡ filter_map (number_in ls) after
+  row_grows now new m = elim (cases_Bool (has_label known l)) [
+    | inl there ↦ let no : false ≡ true = sym (rw there refl) ∙ (sym is ∙ new) in absurd (cc)
+    | inr lacks ↦ m ∙ (add_one ls known row l e ∙ ap (filter_map (number_in ls)) (sym (n ∙ new_label known l lacks)))
+  ]
+
+-- ---- the numbers of a row
+
+numbered : (ls : List LabelParts) (l : LabelParts) → IsDistinct same_label ls → Contains ls l → (n : ℕ) × (number_in ls l ≡ Some n) × (slice_get ls n ≡ Some l)
+numbered ls l d c = let p = place_of ls l c in (p.0, the_number ls l p.0 d p.1, p.1)
+
+named : (ls ms : List LabelParts) → IsDistinct same_label ls → ((m : LabelParts) → Contains ms m → Contains ls m) → map (slice_get ls) (filter_map (number_in ls) ms) ≡ map (λ m. Some m) ms
+named ls [] d f = refl
+named ls (m ∷ ms) d f =
+    let n = numbered ls m d (f m (at_head m ms)) in
+    rw n.1 (ap (λ (z : Option LabelParts). z ∷ map (slice_get ls) (filter_map (number_in ls) ms)) n.2 ∙ ap (λ (z : List (Option LabelParts)). Some m ∷ z) (named ls ms d (λ k c. f k (in_tail m ms k c))))
+
+pub row_is : (ls loads : List LabelParts) → IsDistinct same_label ls → ((l : LabelParts) → Contains loads l → Contains ls l) → map (slice_get ls) (row_of ls loads) ≡ map (λ l. Some l) (with_labels [] loads)
+row_is ls loads d f = named ls (with_labels [] loads) d (λ l c. elim ((the_labels_added [] loads l).0 c) [ inl none ↦ absurd (none_in l none) | inr here ↦ f l here ])
+
+-- ---- the rows of modules
+
+loads_are : (inputs : InputParts) (l : LabelParts) → loads_by ((module_of inputs l).front) ≡ loads_of inputs l
+unfolding loads_of
+loads_are inputs l = refl
+
+module _ (inputs : InputParts) (ls : List LabelParts) (d : IsDistinct same_label ls) where
+  AreKnown : List LabelParts → Type 0
+  AreKnown ms = (m l : LabelParts) → Contains ms m → Contains (loads_of inputs m) l → Contains ls l
+
+  one_row : (m : LabelParts) → ((l : LabelParts) → Contains (loads_of inputs m) l → Contains ls l) → map (slice_get ls) (row_of ls (loads_by ((module_of inputs m).front))) ≡ map (λ l. Some l) (edges_from inputs m)
+  one_row m f = ap (λ (z : List LabelParts). map (slice_get ls) (row_of ls z)) (loads_are inputs m) ∙ row_is ls (loads_of inputs m) d f
+
+  rows_are : (ms : List LabelParts) → AreKnown ms → map (map (slice_get ls)) (rows_of ls (map (module_of inputs) ms)) ≡ map (λ m. map (λ l. Some l) (edges_from inputs m)) ms
+  unfolding AreKnown
+  rows_are [] k = refl
+  rows_are (m ∷ ms) k =
+      ap (λ (z : List (Option LabelParts)). z ∷ map (map (slice_get ls)) (rows_of ls (map (module_of inputs) ms))) (one_row m (λ l c. k m l (at_head m ms) c))
+      ∙ ap (λ (z : List (List (Option LabelParts))). map (λ l. Some l) (edges_from inputs m) ∷ z) (rows_are ms (λ n l c e. k n l (in_tail m ms n c) e))
+
+  pub all_rows : (ms : List Module) → ms ≡ map (module_of inputs) ls → ((m l : LabelParts) → Contains ls m → Contains (loads_of inputs m) l → Contains ls l)
+      → map (map (slice_get ls)) (rows_of ls ms) ≡ map (λ m. map (λ l. Some l) (edges_from inputs m)) ls
+  unfolding AreKnown
+  all_rows ms e k = ap (λ (z : List Module). map (map (slice_get ls)) (rows_of ls z)) e ∙ rows_are ls k
+
+-- ---- how many edges there are
+
+row_long : {X Y : Type 0} (f : ℕ → X) (g : Y → X) (xs : List ℕ) (ys : List Y) → map f xs ≡ map g ys → length xs ≡ length ys
+row_long f g xs ys e = sym (length-map xs f) ∙ (ap length e ∙ length-map ys g)
+
+pub edges_count : (f : ℕ → Option LabelParts) (to : LabelParts → List LabelParts) (p : Loads) (ms : List LabelParts) → map (map f) p ≡ map (λ m. map (λ l. Some l) (to m)) ms → edges p ≡ length (flat_map to ms)
+edges_count f to [] [] e = refl
+edges_count f to [] (m ∷ ms) e = absurd (cc)
+edges_count f to (r ∷ p) [] e = absurd (cc)
+edges_count f to (r ∷ p) (m ∷ ms) e =
+    let one : map f r ≡ map (λ l. Some l) (to m) = heads (map f r) (map (λ l. Some l) (to m)) (map (map f) p) (map (λ m. map (λ l. Some l) (to m)) ms) e in
+    let rest : map (map f) p ≡ map (λ m. map (λ l. Some l) (to m)) ms = tails (map f r) (map (λ l. Some l) (to m)) (map (map f) p) (map (λ m. map (λ l. Some l) (to m)) ms) e in
+    let a : length r ≡ length (to m) = row_long f (λ l. Some l) r (to m) one in
+    let b : length (sources p) ≡ length (flat_map to ms) = edges_count f to p ms rest in
+    length-append r (sources p) ∙ (ap (λ (z : ℕ). z + length (sources p)) a ∙ (ap (λ (z : ℕ). length (to m) + z) b ∙ sym (length-append (to m) (flat_map to ms))))
+  where
+    heads : {X : Type 0} (x y : X) (xs ys : List X) → x ∷ xs ≡ y ∷ ys → x ≡ y
+    heads x y xs ys e = cc
+
+    tails : {X : Type 0} (x y : X) (xs ys : List X) → x ∷ xs ≡ y ∷ ys → xs ≡ ys
+    tails x y xs ys e = cc

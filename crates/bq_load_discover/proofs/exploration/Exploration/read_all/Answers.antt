@@ -1,0 +1,19 @@
+use Rattle.std.proofs.Common.{Bool, false, length, subst, arith}
+use Rattle.bq_load_discover.specs.Exploring.{AfterReading}
+use Rattle.bq_load_discover.proofs.Exploring.{ends, too_many}
+use Rattle.bq_load_discover.proofs.exploration.Exploration.read_all.Goals as goal
+
+pub returns-then-len-gt-MAX_MODULES : goal.returns-then-len-gt-MAX_MODULES
+returns-then-len-gt-MAX_MODULES c =
+    too_many c.args.inputs.now c.loop.self.found c.loop.self.read.items c.loop.invariant.explores (omega (arith, c.len.ensures, c.loop.self.read.ok, c.if-len-gt-MAX_MODULES.true))
+
+pub returns-then-not-branch : goal.returns-then-not-branch
+returns-then-not-branch c =
+    let ls = c.read_next.new.self.found in
+    let ms = c.read_next.new.self.read.items in
+    let n = length c.loop.self.read.items in
+    let a : AfterReading false n ls ms = subst (λ (b : Bool). AfterReading b n ls ms) c.if-not-branch.true c.in_ok-read_next.ensures.more in
+    ends c.args.inputs.now ls ms c.in_ok-read_next.ensures.explores (omega (arith, a.0, a.1)) (omega (arith, a.0, c.len.ensures, c.loop.self.read.ok, c.if-len-gt-MAX_MODULES.false))
+
+pub returns : goal.returns
+returns c = too_many c.args.inputs.now c.loop.self.found c.loop.self.read.items c.loop.invariant.explores (omega (arith, c.loop.invariant.read, c.loop-test.false))

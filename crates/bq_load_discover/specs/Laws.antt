@@ -1,0 +1,22 @@
+-- Words of the laws.
+use Rattle.std.specs.Prelude.{◌≡◌, List}
+use Rattle.bq_label.specs.declared.workspace.File.{File}
+use Rattle.bq_label.specs.Label.{LabelParts}
+use Rattle.bq_label.specs.Packages.{IsFileOf}
+use Rattle.bq_label.specs.Workspace.{IsWorkspace}
+use Rattle.bq_package_schema.specs.Schema.{Rules}
+use Rattle.bq_load_front.specs.Inputs.{InputParts}
+use Rattle.bq_load_discover.specs.Modules.{IsModule, AreTooMany}
+use Rattle.bq_load_discover.specs.LoadGraph.{GraphParts, IsLoadGraph, inputs_of}
+
+-- two load graphs of one workspace are one
+abbrev pub OneLoadGraph : Type 0
+OneLoadGraph = (inputs : InputParts) (g h : GraphParts) → IsLoadGraph inputs g → IsLoadGraph inputs h → g ≡ h
+
+-- where there are too many modules or edges there is no load graph
+abbrev pub TooManyForALoadGraph : Type 0
+TooManyForALoadGraph = (inputs : InputParts) (g : GraphParts) → AreTooMany inputs → ¬ IsLoadGraph inputs g
+
+-- each module has a file, the one that its label names in its repository
+abbrev pub ModulesHaveFiles : Type 0
+ModulesHaveFiles = (files : List File) (rules : Rules) (l : LabelParts) → IsWorkspace files → IsModule (inputs_of files rules) l → (f : File) × IsFileOf files l f

@@ -1,0 +1,45 @@
+-- The load graph of a workspace.
+use Rattle.std.specs.Prelude.{◌≡◌, ℕ, List, [], length, map, Some, Result, Ok, Err, slice_get}
+use Rattle.std.specs.List.Sorted.{IsStrictlySortedBy}
+use Rattle.bq_label.specs.declared.workspace.File.{File}
+use Rattle.bq_label.specs.Label.{LabelParts}
+use Rattle.bq_label.specs.Packages.{packages_of}
+use Rattle.bq_resolve_scope.specs.Names.{with_each, with_name}
+use Rattle.bq_package_schema.specs.Schema.{Rules}
+use Rattle.bq_board.specs.Graph.{Loads, IsGraph}
+use Rattle.bq_load_front.specs.Inputs.{InputParts}
+use Rattle.bq_load_discover.specs.declared.modules.Module.{Module}
+use Rattle.bq_load_discover.specs.declared.load_err.LoadErr.{LoadErr}
+use Rattle.bq_load_discover.specs.declared.load_err.LoadErr.TheVariants as e
+use Rattle.bq_load_discover.specs.Module.{module_of, labels_of, label_cmp}
+use Rattle.bq_load_discover.specs.Modules.{AreModules, AreTooMany, edges_from}
+
+-- the labels of the modules, the modules, and for each the numbers of those that it loads
+pub record GraphParts : Type 0 where
+  pub labels : List LabelParts
+  pub modules : List Module
+  pub edges : Loads
+
+-- a module's number is its place in the order of the labels
+pub record IsNumbered (g : GraphParts) : Type 0 where
+  pub ascending : IsStrictlySortedBy label_cmp g.labels
+  pub named : labels_of g.modules ≡ g.labels
+  pub long : length g.edges ≡ length g.labels
+  pub valid : IsGraph g.edges
+
+-- what is read of the files of a workspace, by a schema
+abbrev pub inputs_of : List File → Rules → InputParts
+inputs_of files rules = record { files = files; packages = packages_of files; rules = with_each with_name [] rules.names }
+
+-- the load graph of a workspace: its modules in order, each with what its file gives, and with the numbers of the modules that it
+-- loads, each once, in the order in which it first loads them
+pub record IsLoadGraph (inputs : InputParts) (g : GraphParts) : Type 0 where
+  pub modules : AreModules inputs g.labels
+  pub read : g.modules ≡ map (module_of inputs) g.labels
+  pub edges : map (map (slice_get g.labels)) g.edges ≡ map (λ l. map Some (edges_from inputs l)) g.labels
+  pub valid : IsGraph g.edges
+
+-- the load graph, or there are too many modules or edges; memory aside
+abbrev pub Discovers : InputParts → Result GraphParts LoadErr → Type 0
+Discovers inputs (Ok g) = IsLoadGraph inputs g
+Discovers inputs (Err why) = (why ≡ e.TooManyModules → AreTooMany inputs) × ((line : ℕ) → ¬ (why ≡ e.Schema line))

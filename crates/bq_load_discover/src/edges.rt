@@ -1,0 +1,104 @@
+//! Which module loads which, by their numbers.
+
+ghost use Rattle.std.specs.Prelude.{◌≡◌, ◌≤◌, [], ◌++◌, length, map, option_to_list, IfOk, IfErr, OnOk};
+ghost use Rattle.bq_board.specs.Graph.{lists, IsGraph};
+ghost use Rattle.std.specs.List.{filter_map};
+ghost use Rattle.bq_label_set.specs.Labels.{with_label, with_labels};
+ghost use Rattle.bq_load_discover.specs.Edges.{number_in, row_of, rows_of, RefusesEdges};
+
+use crate::load_err::LoadErr;
+use crate::modules::Module;
+use bq_board::{Graph, MAX_MODULES, PlanErr};
+use bq_label::Label;
+use bq_label_set::LabelSet;
+use std::alloc::{AllocError, Global};
+
+/// Adds the number of a label.
+fn add_number(numbers: &LabelSet, label: &Label, row: &mut Vec<u32>) -> Result<(), AllocError>
+    requires { length numbers.now ≤ MAX_MODULES }
+    ensures { OnOk result (row.new.items ≡ row.old.items ++ option_to_list (number_in numbers.now label.now)) }
+{
+    match numbers.number(label)? {
+        None => Ok(()),
+        Some(number) => {
+            row.push(number as u32)?;
+            Ok(())
+        }
+    }
+}
+
+/// Adds the number of the file that a load names, unless one before it names that file.
+fn add_load(
+    numbers: &LabelSet,
+    load: &Label,
+    loaded: &mut LabelSet,
+    row: &mut Vec<u32>,
+) -> Result<(), AllocError>
+    requires { length numbers.now ≤ MAX_MODULES }
+    ensures loaded { OnOk result (loaded.new ≡ with_label loaded.old load.now) }
+    ensures row { row.old.items ≡ filter_map (number_in numbers.now) loaded.old → OnOk result (row.new.items ≡ filter_map (number_in numbers.now) loaded.new) }
+{
+    if !loaded.add(load)? {
+        return Ok(());
+    }
+    add_number(numbers, load, row)
+}
+
+/// The numbers of the files that loads name, each once, in the order in which they are first named.
+fn row(alloc: Global, numbers: &LabelSet, loads: &[Label]) -> Result<Vec<u32>, AllocError>
+    requires { length numbers.now ≤ MAX_MODULES }
+    ensures { IfOk result (λ row. row.items ≡ row_of numbers.now loads.now) }
+{
+    let mut loaded = LabelSet::new(alloc);
+    let mut row = Vec::new(alloc);
+    for load in loads {
+        add_load(numbers, load, &mut loaded, &mut row)?;
+    }
+    Ok(row)
+}
+
+/// The rows of modules.
+fn rows(alloc: Global, numbers: &LabelSet, modules: &[Module]) -> Result<Vec<Vec<u32>>, AllocError>
+    requires { length numbers.now ≤ MAX_MODULES }
+    ensures { IfOk result (λ rows. lists rows.items ≡ rows_of numbers.now modules.now) }
+{
+    let mut rows = Vec::new(alloc);
+    for loader in modules {
+        rows.push(row(alloc, numbers, loader.loads())?)?;
+    }
+    Ok(rows)
+}
+
+/// The labels, each with its place as its number.
+fn numbers(alloc: Global, labels: &[Label]) -> Result<LabelSet, AllocError>
+    ensures { IfOk result (λ numbers. numbers ≡ with_labels [] labels.now) }
+{
+    let mut numbers = LabelSet::new(alloc);
+    numbers.add_all(labels)?;
+    Ok(numbers)
+}
+
+/// The rows of modules of these labels.
+fn rows_by(alloc: Global, labels: &[Label], modules: &[Module]) -> Result<Vec<Vec<u32>>, AllocError>
+    requires few { length labels.now ≤ MAX_MODULES }
+    requires numbered { with_labels [] labels.now ≡ labels.now }
+    ensures { IfOk result (λ rows. lists rows.items ≡ rows_of labels.now modules.now) }
+{
+    let numbers = numbers(alloc, labels)?;
+    rows(alloc, &numbers, modules)
+}
+
+/// The edges between modules of these labels.
+pub(crate) fn edges(alloc: Global, labels: &[Label], modules: &[Module]) -> Result<Graph, LoadErr>
+    requires few { length labels.now ≤ MAX_MODULES }
+    requires numbered { with_labels [] labels.now ≡ labels.now }
+    ensures edges { IfOk result (λ graph. graph ≡ rows_of labels.now modules.now) }
+    ensures valid { OnOk result (IsGraph (rows_of labels.now modules.now)) }
+    ensures refused { IfErr result (RefusesEdges (rows_of labels.now modules.now)) }
+{
+    match Graph::new(rows_by(alloc, labels, modules)?) {
+        Ok(graph) => Ok(graph),
+        Err(PlanErr::TooMany) => Err(LoadErr::TooManyModules),
+        Err(_) => Err(LoadErr::Memory), // never: each number is that of a row
+    }
+}

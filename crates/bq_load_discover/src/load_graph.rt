@@ -1,0 +1,90 @@
+//! Load graphs.
+
+ghost use Rattle.std.specs.Prelude.{◌≡◌};
+
+use crate::modules::Module;
+use bq_board::Graph;
+use bq_label::Label;
+use std::marker::Model;
+
+/// The modules of a workspace, and which loads which. Contracts see the labels in order, the modules in the same order, and for each
+/// module the numbers of those that it loads.
+#[derive(Drop)]
+pub struct LoadGraph {
+    labels: Vec<Label>,
+    modules: Vec<Module>,
+    edges: Graph,
+}
+
+impl Model for LoadGraph {
+    ghost use Rattle.bq_load_discover.specs.LoadGraph.{GraphParts, IsNumbered};
+    ghost use Rattle.bq_resolve_scope.specs.contracts.code.Code as code;
+    ghost use Rattle.bq_resolve_scope.specs.contracts.code.CodeStmt as block;
+    ghost use Rattle.bq_resolve_scope.specs.contracts.code.CodeTarget as target;
+    ghost use Rattle.std.specs.Coded.{codes};
+
+    ghost Value = { GraphParts };
+
+    ghost coded = { Prim.hlevel (codes, code.the_row.coded, block.the_row.coded, target.the_row.coded) };
+
+    ghost view = { λ g. record { labels = g.labels.items; modules = g.modules.items; edges = g.edges } };
+
+    ghost invariant = { λ g. IsNumbered (record { labels = g.labels.items; modules = g.modules.items; edges = g.edges }) };
+}
+
+impl LoadGraph {
+    ghost use Rattle.bq_load_discover.specs.LoadGraph.{GraphParts, IsNumbered};
+
+    /// The load graph of these parts.
+    pub(crate) fn of(labels: Vec<Label>, modules: Vec<Module>, edges: Graph) -> LoadGraph
+        requires { IsNumbered (record { labels = labels.items; modules = modules.items; edges = edges }) }
+        ensures { result ≡ record { labels = labels.items; modules = modules.items; edges = edges } }
+    {
+        LoadGraph {
+            labels,
+            modules,
+            edges,
+        }
+    }
+
+    /// The labels of the modules, each once, in the order of the bytes of their full forms. A module's number is its place here.
+    pub fn labels(&self) -> &[Label]
+        ensures value { result.now ≡ self.now.labels }
+        ensures valid { IsNumbered self.now }
+    {
+        let _edges = &self.edges; // PROOF: the invariant
+        self.labels.as_slice()
+    }
+
+    /// The modules by their numbers.
+    pub fn modules(&self) -> &[Module]
+        ensures value { result.now ≡ self.now.modules }
+        ensures valid { IsNumbered self.now }
+    {
+        let _edges = &self.edges; // PROOF: the invariant
+        self.modules.as_slice()
+    }
+
+    /// For each module the numbers of those that it loads, each once, in the order in which it first loads them.
+    pub fn edges(&self) -> &Graph
+        ensures value { result.now ≡ self.now.edges }
+        ensures valid { IsNumbered self.now }
+    {
+        let _labels = &self.labels; // PROOF: the invariant
+        &self.edges
+    }
+
+    /// The modules by their numbers, and the edges.
+    pub fn into_parts(self) -> (Vec<Module>, Graph)
+        ensures modules { result.0.items ≡ self.modules }
+        ensures edges { result.1 ≡ self.edges }
+        ensures valid { IsNumbered self }
+    {
+        let LoadGraph {
+            labels: _,
+            modules,
+            edges,
+        } = self;
+        (modules, edges)
+    }
+}

@@ -1,0 +1,52 @@
+//! A module, and what its file gives.
+
+ghost use Rattle.std.specs.Prelude.{◌≡◌, IfOk};
+ghost use Rattle.bq_load_front.specs.Front.{loads_by};
+ghost use Rattle.bq_load_discover.specs.Module.{module_of};
+
+use bq_base::{Fault, SourceErr};
+use bq_label::Label;
+use bq_load_front::{Front, Inputs, front_of};
+use std::alloc::{AllocError, Global};
+
+/// A module of a workspace.
+#[derive(Drop)]
+pub struct Module {
+    pub label: Label,
+    /// What its file gives, or the fault that the file has on its own.
+    pub front: Result<Front, Fault>,
+}
+
+impl Module {
+    /// The module of this label.
+    pub(crate) fn of(
+        alloc: Global,
+        inputs: &Inputs<'_>,
+        label: &Label,
+    ) -> Result<Module, AllocError>
+        ensures { IfOk result (λ m. m ≡ module_of inputs.now label.now) }
+    {
+        let shared = label.share()?;
+        match front_of(alloc, inputs, label) {
+            Ok(front) => Ok(Module {
+                label: shared,
+                front: Ok(front),
+            }),
+            Err(SourceErr::Bad(fault)) => Ok(Module {
+                label: shared,
+                front: Err(fault),
+            }),
+            Err(SourceErr::Memory) => Err(AllocError),
+        }
+    }
+
+    /// The labels of the files that it loads, one for each load; none where its file has a fault.
+    pub fn loads(&self) -> &[Label]
+        ensures { result.now ≡ loads_by self.now.front }
+    {
+        match &self.front {
+            Ok(front) => front.loads.as_slice(),
+            Err(_) => &[],
+        }
+    }
+}

@@ -1,0 +1,32 @@
+//! The modules in the order of their labels.
+
+ghost use Rattle.std.specs.Prelude.{◌≡◌, IfOk, OnOk};
+ghost use Rattle.std.specs.List.Sorted.{IsPermutation, IsSorted};
+ghost use Rattle.bq_load_discover.specs.Module.{module_cmp, labels_of, AreValid};
+
+use crate::modules::Module;
+use bq_label::Label;
+use std::alloc::{AllocError, Global};
+
+/// The modules in the order of the bytes of their labels' full forms.
+pub(crate) fn sorted(modules: Vec<Module>) -> Vec<Module>
+    ensures moved { IsPermutation modules.items result.items }
+    ensures ascending { IsSorted module_cmp result.items }
+{
+    let mut modules = modules;
+    modules.sort_unstable_by(|a, b| a.label.cmp(&b.label));
+    modules
+}
+
+/// The labels of modules.
+pub(crate) fn labels(alloc: Global, modules: &[Module]) -> Result<Vec<Label>, AllocError>
+    ensures labels { IfOk result (λ ls. ls.items ≡ labels_of modules.now) }
+    ensures valid { OnOk result (AreValid modules.now) }
+{
+    let mut labels = Vec::new(alloc);
+    for each in modules {
+        let _name = each.label.name(); // PROOF: its label is valid
+        labels.push(each.label.share()?)?;
+    }
+    Ok(labels)
+}

@@ -1,0 +1,176 @@
+//! The modules of a workspace, found along loads by several threads.
+
+ghost use Rattle.std.specs.Prelude.{◌<◌, All, IfOk, IfSome, OnOk};
+ghost use Rattle.bq_load_front.specs.Inputs.{InputParts};
+ghost use Rattle.bq_load_discover.specs.Exploring.{Explores, IsModuleAt, Finds};
+ghost use Rattle.bq_load_discover.specs.Waves.{IsReading, Grows};
+
+use crate::exploration::{Exploration, read_rest};
+use crate::modules::Module;
+use bq_board::MAX_MODULES;
+use bq_label_set::LabelSet;
+use bq_load_front::Inputs;
+use std::alloc::{AllocError, Global};
+use std::thread;
+use std::thread::Threads;
+
+/// A thread is worth its start where it reads so many modules.
+const MODULES_OF_A_THREAD: usize = 8;
+
+/// The place of a label, and the module of that label once it is read.
+#[derive(Drop)]
+pub(crate) struct Reading {
+    place: usize,
+    read: Result<Option<Module>, AllocError>,
+}
+
+/// Readings of all labels from that place on, as far as so many may be read; the last of them first.
+fn unread(alloc: Global, labels: &LabelSet, from: usize) -> Result<Vec<Reading>, AllocError> {
+    let mut readings = Vec::new(alloc);
+    for place in from..MAX_MODULES + 1 {
+        if labels.get(place).is_none() {
+            break;
+        }
+        readings.push(Reading {
+            place,
+            read: Ok(None),
+        })?;
+    }
+    readings.reverse();
+    Ok(readings)
+}
+
+/// The module of the label at that place, if there is one.
+fn module_at(
+    alloc: Global,
+    inputs: &Inputs<'_>,
+    labels: &LabelSet,
+    place: usize,
+) -> Result<Option<Module>, AllocError>
+    ensures { IfOk result (λ read. IfSome read (IsModuleAt inputs.now labels.now place)) }
+{
+    match labels.get(place) {
+        None => Ok(None),
+        Some(label) => Ok(Some(Module::of(alloc, inputs, label)?)),
+    }
+}
+
+/// Reads the module of the label at its place.
+fn read_one(alloc: Global, inputs: &Inputs<'_>, labels: &LabelSet, reading: &mut Reading)
+    ensures { IsReading inputs.now labels.now reading.new }
+{
+    reading.read = module_at(alloc, inputs, labels, reading.place);
+}
+
+/// Reads the modules of labels, in at most so many threads.
+fn read_all<R: Threads + Sync>(
+    rt: &R,
+    alloc: Global,
+    inputs: &Inputs<'_>,
+    labels: &LabelSet,
+    readings: &mut [Reading],
+    threads: usize,
+)
+    requires { 0 < threads }
+    ensures { All (IsReading inputs.now labels.now) readings.new }
+{
+    let each = |_: usize, reading: &mut Reading|
+        ensures { IsReading inputs.entry.now labels.entry.now reading.exit.now }
+    { read_one(alloc, inputs, labels, reading) };
+    thread::for_each_mut(rt, readings, threads, &each);
+}
+
+impl Exploration {
+    /// Puts the module of the label at this place, if it is the next.
+    #[tactic(auto, using(crate::proofs::Readings::grows, crate::proofs::Readings::grows_none, crate::proofs::Readings::at_next))]
+    fn put_at(&mut self, place: usize, next: Module) -> Result<(), AllocError>
+        ensures explores { (inputs : InputParts) → Explores inputs self.old.found self.old.read.items → IsModuleAt inputs self.old.found place next → OnOk result (Explores inputs self.new.found self.new.read.items) }
+        ensures grows { OnOk result (Grows self.old.found self.new.found) }
+    {
+        if place != self.read.len() {
+            return Ok(());
+        }
+        self.put(next)?; // PROOF: what was added, where memory was there
+        Ok(())
+    }
+
+    /// Puts what was read, if it is the next. Memory that was refused to its thread is refused here.
+    #[tactic(auto, using(crate::proofs::Readings::grows_none))]
+    fn take(&mut self, reading: Option<Reading>) -> Result<(), AllocError>
+        ensures explores { (inputs : InputParts) → Explores inputs self.old.found self.old.read.items → IfSome reading (IsReading inputs self.old.found) → OnOk result (Explores inputs self.new.found self.new.read.items) }
+        ensures grows { OnOk result (Grows self.old.found self.new.found) }
+    {
+        match reading {
+            None => Ok(()),
+            Some(Reading { place, read }) => match read {
+                Err(_) => Err(AllocError),
+                Ok(None) => Ok(()),
+                Ok(Some(next)) => self.put_at(place, next),
+            },
+        }
+    }
+
+    /// Puts the modules that were read.
+    fn take_all(
+        &mut self,
+        inputs: &Inputs<'_>,
+        mut readings: Vec<Reading>,
+    ) -> Result<(), AllocError>
+        requires explores { Explores inputs.now self.old.found self.old.read.items }
+        requires readings { All (IsReading inputs.now self.old.found) readings.items }
+        ensures { OnOk result (Explores inputs.now self.new.found self.new.read.items) }
+    {
+        let _ = inputs; // contracts alone speak of what is read
+        for _ in 0..readings.len() {
+            self.take(readings.pop())?;
+        }
+        Ok(())
+    }
+
+    /// Reads all that is found and not read yet.
+    fn read_wave<R: Threads + Sync>(
+        &mut self,
+        rt: &R,
+        alloc: Global,
+        inputs: &Inputs<'_>,
+        workers: usize,
+    ) -> Result<(), AllocError>
+        requires workers { 0 < workers }
+        requires explores { Explores inputs.now self.old.found self.old.read.items }
+        ensures { OnOk result (Explores inputs.now self.new.found self.new.read.items) }
+    {
+        let mut readings = unread(alloc, &self.found, self.read.len())?;
+        let threads = workers.min(readings.len() / MODULES_OF_A_THREAD + 1);
+        read_all(
+            rt,
+            alloc,
+            inputs,
+            &self.found,
+            readings.as_mut_slice(),
+            threads,
+        );
+        self.take_all(inputs, readings)
+    }
+}
+
+/// The modules of a workspace in the order in which they are found; none where there are too many. What is found and not read yet
+/// is read in at most `workers` threads, again and again. What they leave is read here.
+pub(crate) fn explore_by_workers<R: Threads + Sync>(
+    rt: &R,
+    alloc: Global,
+    inputs: &Inputs<'_>,
+    workers: usize,
+) -> Result<Option<Vec<Module>>, AllocError>
+    requires { 0 < workers }
+    ensures { IfOk result (Finds inputs.now) }
+{
+    let mut exploration = Exploration::new(alloc, inputs)?;
+    for _ in 0..MAX_MODULES {
+        let read = exploration.read.len();
+        if read > MAX_MODULES || exploration.found.get(read).is_none() {
+            break;
+        }
+        exploration.read_wave(rt, alloc, inputs, workers)?;
+    }
+    read_rest(alloc, inputs, exploration)
+}

@@ -1,0 +1,74 @@
+//! The lines of faults of a run, in order.
+
+ghost use Rattle.std.specs.Prelude.{◌≡◌, ◌↔◌, ◌++◌, [], IsTrue, IfOk, OnOk};
+ghost use Rattle.std.specs.BTreeSet.{insert_key};
+ghost use Rattle.std.specs.List.{flat_map};
+ghost use Rattle.bq_load_fault_line.specs.FaultLine.{line_cmp};
+ghost use Rattle.bq_load_fault_line.specs.LineText.{line_text};
+
+use crate::fault_line::FaultLine;
+use crate::line_text::push_line;
+use std::alloc::{AllocError, Global};
+use std::collections::BTreeSet;
+use std::marker::Model;
+
+/// Lines of faults in their order, each once. Contracts see the list of them.
+#[derive(Drop)]
+pub struct FaultLines {
+    lines: BTreeSet<FaultLine>,
+}
+
+impl Model for FaultLines {
+    ghost use Rattle.std.specs.Prelude.{List};
+    ghost use Rattle.bq_load_fault_line.specs.declared.fault_line.FaultLine.{FaultLine};
+
+    ghost Value = { List FaultLine };
+
+    ghost view = { λ s. s.lines.keys };
+}
+
+impl FaultLines {
+    pub fn new(alloc: Global) -> FaultLines
+        ensures { result ≡ [] }
+    {
+        FaultLines {
+            lines: BTreeSet::new(alloc),
+        }
+    }
+
+    pub fn is_empty(&self) -> bool
+        ensures { IsTrue result ↔ (self.now ≡ []) }
+    {
+        self.lines.is_empty()
+    }
+
+    /// Puts a line at its place, unless it is there.
+    pub fn add(&mut self, line: FaultLine) -> Result<(), AllocError>
+        ensures { OnOk result (self.new ≡ insert_key line_cmp self.old line) }
+    {
+        self.lines.insert(line)?;
+        Ok(())
+    }
+
+    /// What is printed of the lines.
+    pub fn text(&self, alloc: Global) -> Result<Vec<u8>, AllocError>
+        ensures { IfOk result (λ text. text.items ≡ flat_map line_text self.now) }
+    {
+        let mut text = Vec::new(alloc);
+        for line in &self.lines {
+            push_line(alloc, &mut text, line)?;
+        }
+        Ok(text)
+    }
+
+    /// Appends what is printed of the lines. Each line is given up once it is appended, so that no more than one detail is
+    /// held twice.
+    pub fn append_to(self, alloc: Global, text: &mut Vec<u8>) -> Result<(), AllocError>
+        ensures { OnOk result (text.new.items ≡ text.old.items ++ flat_map line_text self) }
+    {
+        for line in self.lines {
+            push_line(alloc, text, &line)?;
+        }
+        Ok(())
+    }
+}

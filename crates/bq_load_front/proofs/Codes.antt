@@ -1,0 +1,83 @@
+-- What a text resolves to is what its one reading does, and its fault is that of the first step that has one.
+use Rattle.std.proofs.Common.{◌≡◌, ◌∙◌, ℕ, List, Result, Ok, Err, sym, ap, subst}
+use Rattle.bq_base.specs.declared.fault.Fault.{Fault}
+use Rattle.bq_source.specs.declared.token.Token.{Token}
+use Rattle.bq_source.specs.Reading.{Lexes}
+use Rattle.bq_source.specs.Tokens.{tokens_of}
+use Rattle.bq_source.proofs.Reached.{every_text}
+use Rattle.bq_source.proofs.Unique.{one_reading}
+use Rattle.bq_parse_grammar.specs.declared.tree.TopLevel.{TopLevel}
+use Rattle.bq_parse_grammar.specs.Lexeme.{lexemes}
+use Rattle.bq_parse_grammar.specs.Parses.{Parses, statements_of}
+use Rattle.bq_resolve_scope.specs.declared.code.Resolved.{Resolved}
+use Rattle.bq_resolve_scope.specs.Universe.{UniverseParts}
+use Rattle.bq_resolve_scope.specs.Files.{resolved}
+use Rattle.bq_parse_statement_laws.proofs.Verdicts.{file_reads, file_only}
+use Rattle.bq_load_front.specs.Code.{code_of, ◌>>=◌}
+use Rattle.bq_load_front.specs.Laws.{HasCode, HasFault, CodesOfFiles, FaultsOfFiles}
+
+no_code : (why : Fault) (code : Resolved) → Err why ≡ Ok code → ⊥
+no_code why code e = cc
+
+abbrev no_file : Fault → Result Resolved Fault
+no_file why = Err why
+
+same_fault : (a b : Fault) → no_file a ≡ no_file b → a ≡ b
+same_fault a b e = cc
+
+module _ (universe : UniverseParts) (text : List ℕ) where
+  abbrev of_trees : Result (List TopLevel) Fault → Result Resolved Fault
+  of_trees r = r >>= λ trees. resolved universe trees
+
+  abbrev of_tokens : Result (List Token) Fault → Result Resolved Fault
+  of_tokens r = r >>= λ ts. of_trees (statements_of universe.kind (lexemes text ts))
+
+  tokens_are : (r : Result (List Token) Fault) → Lexes text r → tokens_of text ≡ r
+  tokens_are r l = one_reading text (tokens_of text) r (every_text text) l
+
+  trees_are : (tokens : List Token) (r : Result (List TopLevel) Fault) → Parses universe.kind (lexemes text tokens) r → statements_of universe.kind (lexemes text tokens) ≡ r
+  trees_are tokens r p = sym (file_only universe.kind (lexemes text tokens) r p)
+
+  -- ---- the code
+
+  code_by_trees : (tokens : List Token) → Lexes text (Ok tokens) → (r : Result (List TopLevel) Fault) → Parses universe.kind (lexemes text tokens) r
+      → (code : Resolved) → of_trees r ≡ Ok code → HasCode universe text code
+  code_by_trees tokens l (Ok trees) p code e = record { tokens = tokens; reads = l; trees = trees; parses = p; names = e }
+  code_by_trees tokens l (Err why) p code e = absurd (no_code why code e)
+
+  code_by_tokens : (r : Result (List Token) Fault) → Lexes text r → (code : Resolved) → of_tokens r ≡ Ok code → HasCode universe text code
+  code_by_tokens (Ok tokens) l code e = code_by_trees tokens l (statements_of universe.kind (lexemes text tokens)) (file_reads universe.kind (lexemes text tokens)) code e
+  code_by_tokens (Err why) l code e = absurd (no_code why code e)
+
+  along : (tokens : List Token) → Lexes text (Ok tokens) → (r : Result (List TopLevel) Fault) → Parses universe.kind (lexemes text tokens) r → of_tokens (tokens_of text) ≡ of_trees r
+  along tokens l r p = ap of_tokens (tokens_are (Ok tokens) l) ∙ ap of_trees (trees_are tokens r p)
+
+  -- ---- the fault
+
+  fault_by_trees : (tokens : List Token) → Lexes text (Ok tokens) → (r : Result (List TopLevel) Fault) → Parses universe.kind (lexemes text tokens) r
+      → (why : Fault) → of_trees r ≡ Err why → HasFault universe text why
+  fault_by_trees tokens l (Ok trees) p why e = HasFault.of_names tokens trees l p e
+  fault_by_trees tokens l (Err at) p why e = HasFault.of_statements tokens l (subst (λ (z : Fault). Parses universe.kind (lexemes text tokens) (Err z)) (same_fault at why e) p)
+
+  fault_by_tokens : (r : Result (List Token) Fault) → Lexes text r → (why : Fault) → of_tokens r ≡ Err why → HasFault universe text why
+  fault_by_tokens (Ok tokens) l why e = fault_by_trees tokens l (statements_of universe.kind (lexemes text tokens)) (file_reads universe.kind (lexemes text tokens)) why e
+  fault_by_tokens (Err at) l why e = HasFault.of_tokens (subst (λ (z : Fault). Lexes text (Err z)) (same_fault at why e) l)
+
+  fault_back : (why : Fault) → HasFault universe text why → of_tokens (tokens_of text) ≡ Err why
+  fault_back why (HasFault.of_tokens l) = ap of_tokens (tokens_are (Err why) l)
+  fault_back why (HasFault.of_statements tokens l p) = along tokens l (Err why) p
+  fault_back why (HasFault.of_names tokens trees l p e) = along tokens l (Ok trees) p ∙ e
+
+pub codes_of_files : CodesOfFiles
+unfolding code_of
+codes_of_files universe text code = (
+  λ e. code_by_tokens universe text (tokens_of text) (every_text text) code e,
+  λ h. along universe text h.tokens h.reads (Ok h.trees) h.parses ∙ h.names,
+)
+
+pub faults_of_files : FaultsOfFiles
+unfolding code_of
+faults_of_files universe text why = (
+  λ e. fault_by_tokens universe text (tokens_of text) (every_text text) why e,
+  λ h. fault_back universe text why h,
+)

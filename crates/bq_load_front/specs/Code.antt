@@ -1,0 +1,27 @@
+-- What the text of a file resolves to, or its first fault.
+use Rattle.std.specs.Prelude.{ℕ, List, Result, Ok, Err, Vec}
+use Rattle.std.specs.Global.{Global}
+use Rattle.bq_base.specs.declared.fault.Fault.{Fault}
+use Rattle.bq_source.specs.Tokens.{tokens_of}
+use Rattle.bq_parse_grammar.specs.Lexeme.{lexemes}
+use Rattle.bq_parse_grammar.specs.Parses.{statements_of}
+use Rattle.bq_resolve_scope.specs.declared.code.Resolved.{Resolved}
+use Rattle.bq_resolve_scope.specs.Universe.{UniverseParts}
+use Rattle.bq_resolve_scope.specs.Files.{resolved}
+
+-- one step after another
+infixl 10 ◌>>=◌
+abbrev pub ◌>>=◌ : {A B : Type 0} → Result A Fault → (A → Result B Fault) → Result B Fault
+(Err why) >>= go = Err why
+(Ok x) >>= go = go x
+
+-- its tokens, the trees of its statements, and what their names stand for
+unfoldable pub code_of : UniverseParts → List ℕ → Result Resolved Fault
+code_of universe text = tokens_of text >>= λ ts. statements_of universe.kind (lexemes text ts) >>= λ trees. resolved universe trees
+
+-- the views of what functions return, under which `Gives` relates it to a definition
+abbrev pub itself : {A : Type 0} → A → A
+itself x = x
+
+abbrev pub items : {A : Type 0} → Vec A Global → List A
+items v = v.items

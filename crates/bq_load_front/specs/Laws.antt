@@ -1,0 +1,69 @@
+-- Words of the laws.
+use Rattle.std.specs.Prelude.{◌≡◌, ◌↔◌, ℕ, List, [], ◌∷◌, ◌++◌, map, Result, Ok, Err}
+use Rattle.std.specs.List.{Contains}
+use Rattle.bq_base.specs.declared.fault.Fault.{Fault}
+use Rattle.bq_source.specs.declared.token.Token.{Token}
+use Rattle.bq_source.specs.Reading.{Lexes}
+use Rattle.bq_parse_grammar.specs.declared.tree.TopLevel.{TopLevel}
+use Rattle.bq_parse_grammar.specs.Lexeme.{lexemes}
+use Rattle.bq_parse_grammar.specs.Parses.{Parses}
+use Rattle.bq_label.specs.Label.{PackageParts, LabelParts, package_of}
+use Rattle.bq_resolve_scope.specs.declared.code.LoadStmt.{LoadStmt}
+use Rattle.bq_resolve_scope.specs.declared.code.Resolved.{Resolved}
+use Rattle.bq_resolve_scope.specs.Universe.{UniverseParts}
+use Rattle.bq_resolve_scope.specs.Files.{resolved}
+use Rattle.bq_load_front.specs.Code.{code_of}
+use Rattle.bq_load_front.specs.Inputs.{InputParts}
+use Rattle.bq_load_front.specs.Front.{load_of, labels_of, loads_of}
+
+-- the text reads as tokens, these as statements, and the names of these stand for what the code says
+pub record HasCode (universe : UniverseParts) (text : List ℕ) (code : Resolved) : Type 0 where
+  pub tokens : List Token
+  pub reads : Lexes text (Ok tokens)
+  pub trees : List TopLevel
+  pub parses : Parses universe.kind (lexemes text tokens) (Ok trees)
+  pub names : resolved universe trees ≡ Ok code
+
+-- the text has this fault
+pub data HasFault (universe : UniverseParts) (text : List ℕ) (why : Fault) : Type 0 where
+  of_tokens : Lexes text (Err why) → HasFault universe text why
+  of_statements : (tokens : List Token) → Lexes text (Ok tokens) → Parses universe.kind (lexemes text tokens) (Err why) → HasFault universe text why
+  of_names : (tokens : List Token) (trees : List TopLevel) → Lexes text (Ok tokens) → Parses universe.kind (lexemes text tokens) (Ok trees) → resolved universe trees ≡ Err why → HasFault universe text why
+
+abbrev pub CodesOfFiles : Type 0
+CodesOfFiles = (universe : UniverseParts) (text : List ℕ) (code : Resolved) → (code_of universe text ≡ Ok code) ↔ HasCode universe text code
+
+abbrev pub FaultsOfFiles : Type 0
+FaultsOfFiles = (universe : UniverseParts) (text : List ℕ) (why : Fault) → (code_of universe text ≡ Err why) ↔ HasFault universe text why
+
+abbrev pub named : LabelParts → Result LabelParts Fault
+named l = Ok l
+
+-- each of these loads names the file of the label in its place
+abbrev pub NameFiles : InputParts → PackageParts → List LoadStmt → List LabelParts → Type 0
+NameFiles inputs own loads ls = map (load_of inputs own) loads ≡ map named ls
+
+-- the first load that names no file has this fault
+pub record IsFirstBadLoad (inputs : InputParts) (own : PackageParts) (loads : List LoadStmt) (why : Fault) : Type 0 where
+  pub before : List LoadStmt
+  pub load : LoadStmt
+  pub after : List LoadStmt
+  pub split : loads ≡ before ++ load ∷ after
+  pub labels : List LabelParts
+  pub earlier : NameFiles inputs own before labels
+  pub bad : load_of inputs own load ≡ Err why
+
+-- a load in this package names the file of this label
+pub record IsNamed (inputs : InputParts) (own : PackageParts) (l : LabelParts) : Type 0 where
+  pub load : LoadStmt
+  pub names : load_of inputs own load ≡ Ok l
+
+-- what a module loads is named by a load in its package
+abbrev pub LoadedFiles : Type 0
+LoadedFiles = (inputs : InputParts) (m l : LabelParts) → Contains (loads_of inputs m) l → IsNamed inputs (package_of m) l
+
+abbrev pub LoadsOfFiles : Type 0
+LoadsOfFiles =
+    (inputs : InputParts) (own : PackageParts) (loads : List LoadStmt)
+    → ((ls : List LabelParts) → (labels_of inputs own [] loads ≡ Ok ls) ↔ NameFiles inputs own loads ls)
+    × ((why : Fault) → (labels_of inputs own [] loads ≡ Err why) ↔ IsFirstBadLoad inputs own loads why)

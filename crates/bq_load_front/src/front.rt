@@ -1,0 +1,87 @@
+//! What the file of a module gives on its own.
+
+ghost use Rattle.std.specs.Prelude.{◌≡◌, []};
+ghost use Rattle.bq_base.specs.Gives.{Gives};
+ghost use Rattle.bq_base.specs.declared.fault.SourceErr.TheVariants.{Bad};
+ghost use Rattle.bq_load_front.specs.Code.{itself};
+ghost use Rattle.bq_load_front.specs.Front.{labels_of, kind_of, front_by, front_of};
+
+use crate::code::code_of;
+use crate::inputs::Inputs;
+use bq_base::{Fault, FaultKind, SourceErr};
+use bq_label::{Label, PackageId, label_file};
+use bq_load_label::load_label;
+use bq_parse_grammar::FileKind;
+use bq_resolve_scope::{LoadStmt, Resolved};
+use sqlite_items::Items;
+use std::alloc::Global;
+
+/// The code of a file, and the labels of the files that it loads: one for each load statement, in the order in which they are
+/// written.
+#[derive(Drop)]
+pub struct Front {
+    pub code: Resolved,
+    pub loads: Items<Label>,
+}
+
+/// The labels of the files that loads in this package name, or the fault of the first bad load (F30, F31, F32, F37).
+#[tactic(auto, unfolding(crate::specs::Front::labels_of))]
+fn labels_of(
+    alloc: Global,
+    inputs: &Inputs<'_>,
+    own: &PackageId,
+    loads: &[LoadStmt],
+) -> Result<Items<Label>, SourceErr>
+    ensures { Gives itself Bad result (labels_of inputs.now own.now [] loads.now) }
+{
+    let mut labels = Items::new(alloc);
+    for load in loads {
+        labels.push(load_label(
+            alloc,
+            inputs.workspace(),
+            inputs.packages(),
+            own,
+            load.line,
+            load.label.as_slice(),
+        )?)?;
+    }
+    Ok(labels)
+}
+
+/// The kind of the file of this label: a .bzl file where its name ends so, a BUILD file otherwise.
+#[tactic(auto, unfolding(crate::specs::Front::kind_of))]
+pub fn kind_of(label: &Label) -> FileKind
+    ensures { result ≡ kind_of label.now }
+{
+    if label.name().as_slice().ends_with(b".bzl") {
+        FileKind::Bzl
+    } else {
+        FileKind::Build
+    }
+}
+
+/// What a text gives as the file of this label.
+fn front_by(
+    alloc: Global,
+    inputs: &Inputs<'_>,
+    label: &Label,
+    text: &[u8],
+) -> Result<Front, SourceErr>
+    ensures { Gives itself Bad result (front_by inputs.now label.now text.now) }
+{
+    let code = code_of(alloc, inputs.universe(kind_of(label)), text)?;
+    let loads = labels_of(alloc, inputs, label.package_id(), code.loads.as_slice())?;
+    Ok(Front { code, loads })
+}
+
+/// What the file of this label gives on its own, or its first fault: of its text (F1 to F24), then of its first bad load. A label
+/// that names no file is F31; no module has such a label.
+#[tactic(auto, unfolding(crate::specs::Front::front_of))]
+pub fn front_of(alloc: Global, inputs: &Inputs<'_>, label: &Label) -> Result<Front, SourceErr>
+    ensures { Gives itself Bad result (front_of inputs.now label.now) }
+{
+    match label_file(alloc, inputs.workspace(), label)? {
+        None => Err(SourceErr::Bad(Fault::at(FaultKind::NoSuchFile, 0))),
+        Some(file) => front_by(alloc, inputs, label, file.content.as_slice()),
+    }
+}

@@ -1,0 +1,56 @@
+//! The recursion along loads in plain words. Each function does nothing; its contract is the law.
+ghost use Rattle.std.specs.Prelude.{ℕ, List, Result};
+ghost use Rattle.bq_board.specs.Graph.{Loads};
+ghost use Rattle.bq_load_outcome_spec.specs.Outcome.{HasOneSolution};
+ghost use Rattle.bq_load_outcome_spec.specs.Laws.{CyclicOutcome, TooDeepOutcome, FailedLoadOutcome, LoadedOutcome, OutcomeByPlan, OutcomeOfReached};
+
+use bq_board::{
+    cyclic_is_a_path, cyclic_loads_a_cyclic, cyclic_reaches_a_cycle, loads_of_too_deep,
+    too_deep_loads_a_deep,
+};
+
+/// The recursion along loads has exactly one solution, for every graph and whatever modules evaluate to: the outcomes.
+pub fn one_solution<V, F>()
+    ensures { (means : ℕ → List V → Result V F) (p : Loads) → HasOneSolution means p }
+{}
+
+/// A module from which loads lead round a cycle is `Cyclic`, with its first load that is cyclic.
+pub fn cyclic_outcome<V, F>()
+    ensures { (means : ℕ → List V → Result V F) (p : Loads) → CyclicOutcome means p }
+{
+    cyclic_loads_a_cyclic();
+}
+
+/// A module that is too deep is `TooDeep`, with the first of its loads at which a path of as many edges starts as there may be.
+pub fn too_deep_outcome<V, F>()
+    ensures { (means : ℕ → List V → Result V F) (p : Loads) → TooDeepOutcome means p }
+{
+    cyclic_is_a_path();
+    too_deep_loads_a_deep();
+}
+
+/// Any other module with a load that has no value is `LoadFailed`, with the first such load. That load is neither cyclic nor too deep.
+pub fn failed_load_outcome<V, F>()
+    ensures { (means : ℕ → List V → Result V F) (p : Loads) → FailedLoadOutcome means p }
+{
+    cyclic_loads_a_cyclic();
+    loads_of_too_deep();
+}
+
+/// Any other module is what it evaluates to by the values of its loads, in their order: a value or its own fault.
+pub fn loaded_outcome<V, F>()
+    ensures { (means : ℕ → List V → Result V F) (p : Loads) → LoadedOutcome means p }
+{}
+
+/// The outcome of a module that is neither cyclic nor too deep is decided by the loads that a plan without those of such modules gives it: what workers
+/// over that plan make of it.
+pub fn outcome_by_the_plan<V, F>()
+    ensures { (means : ℕ → List V → Result V F) (p q : Loads) → OutcomeByPlan means p q }
+{}
+
+/// An outcome is a matter of the module and of what it reaches by loads: other modules change nothing.
+pub fn outcome_of_what_it_reaches<V, F>()
+    ensures { (means others : ℕ → List V → Result V F) (p q : Loads) → OutcomeOfReached means others p q }
+{
+    cyclic_reaches_a_cycle();
+}

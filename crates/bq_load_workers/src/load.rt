@@ -1,0 +1,82 @@
+//! The outcome of each module, by several workers.
+ghost use Rattle.std.specs.Prelude.{[], map, length, All, IfOk, IsOk, OnOk};
+ghost use Rattle.bq_board.specs.Seats.{IsSeatOf};
+ghost use Rattle.bq_load_outcome_spec.specs.Outcome.{outcome};
+ghost use Rattle.bq_load_order.specs.Shown.{shown, slot};
+ghost use Rattle.bq_load_order.specs.Slots.{Filling, Tabulates};
+ghost use Rattle.bq_load_workers.specs.Brought.{AreRight, IsAnswer};
+
+use crate::pool::{FinishedModule, WorkerPool, WorkerSeat};
+use crate::threads::{Answer, brought, completed};
+use bq_load_order::{Evaluate, SharedOutcome, Watch, empty_slots, share};
+use std::alloc::{AllocError, Global};
+use std::sync::Wait;
+use std::thread::Threads;
+
+/// The outcome of each module of a pool, by its seats, each in a thread of its own. The watch is told of each evaluation.
+pub fn outcomes_by_workers<R: Threads + Wait + Sync, E: Evaluate, W: Watch>(
+    rt: &R,
+    alloc: Global,
+    pool: &WorkerPool<E>,
+    seats: Vec<WorkerSeat<E>>,
+    watch: &W,
+) -> Result<Vec<SharedOutcome<E::Value, E::Fault>>, AllocError>
+    requires { All (λ s. IsSeatOf pool.now.board s.place) seats.items }
+    ensures { IfOk result (λ v. Tabulates (length pool.now.graph) (outcome (E.means pool.now.evaluator) pool.now.graph) (map (shown E.see E.see_fault) v.items)) }
+{
+    let answers = brought(rt, alloc, pool, seats, watch)?;
+    let found = found_by(alloc, pool, answers.as_slice())?;
+    completed(rt, alloc, pool, found, watch)
+}
+
+// A slot for each module, with what the workers brought, where none of them was refused memory.
+fn found_by<E: Evaluate>(
+    alloc: Global,
+    pool: &WorkerPool<E>,
+    answers: &[Answer<E::Value, E::Fault>],
+) -> Result<Vec<Option<SharedOutcome<E::Value, E::Fault>>>, AllocError>
+    requires right { All (IsAnswer E.see E.see_fault (outcome (E.means pool.now.evaluator) pool.now.graph) (length pool.now.graph)) answers.now }
+    ensures had { OnOk result (All IsOk answers.now) }
+    ensures found { IfOk result (λ v. Filling (outcome (E.means pool.now.evaluator) pool.now.graph) (length pool.now.graph) (map (slot E.see E.see_fault) v.items) []) }
+{
+    let mut found = empty_slots(alloc, pool.graph.len())?;
+    put_back(pool, &mut found, answers)?;
+    Ok(found)
+}
+
+// Puts what all workers brought into the slots. A worker that was refused memory makes the answer so.
+fn put_back<E: Evaluate>(
+    pool: &WorkerPool<E>,
+    found: &mut Vec<Option<SharedOutcome<E::Value, E::Fault>>>,
+    answers: &[Answer<E::Value, E::Fault>],
+) -> Result<(), AllocError>
+    requires right { All (IsAnswer E.see E.see_fault (outcome (E.means pool.now.evaluator) pool.now.graph) (length pool.now.graph)) answers.now }
+    requires found { Filling (outcome (E.means pool.now.evaluator) pool.now.graph) (length pool.now.graph) (map (slot E.see E.see_fault) found.old.items) [] }
+    ensures had { OnOk result (All IsOk answers.now) }
+    ensures found { OnOk result (Filling (outcome (E.means pool.now.evaluator) pool.now.graph) (length pool.now.graph) (map (slot E.see E.see_fault) found.new.items) []) }
+{
+    for answer in answers {
+        match answer {
+            Ok(worked) => put_all(pool, found, worked.modules.as_slice())?,
+            Err(_) => return Err(AllocError),
+        }
+    }
+    Ok(())
+}
+
+// Puts what one worker brought into the slots.
+fn put_all<E: Evaluate>(
+    pool: &WorkerPool<E>,
+    found: &mut Vec<Option<SharedOutcome<E::Value, E::Fault>>>,
+    modules: &[FinishedModule<E::Value, E::Fault>],
+) -> Result<(), AllocError>
+    requires right { AreRight E.see E.see_fault (outcome (E.means pool.now.evaluator) pool.now.graph) (length pool.now.graph) modules.now }
+    requires found { Filling (outcome (E.means pool.now.evaluator) pool.now.graph) (length pool.now.graph) (map (slot E.see E.see_fault) found.old.items) [] }
+    ensures { OnOk result (Filling (outcome (E.means pool.now.evaluator) pool.now.graph) (length pool.now.graph) (map (slot E.see E.see_fault) found.new.items) []) }
+{
+    for brought in modules {
+        let copy = share::<E>(&brought.outcome)?;
+        found[brought.number as usize] = Some(copy);
+    }
+    Ok(())
+}

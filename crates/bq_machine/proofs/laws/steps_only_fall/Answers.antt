@@ -1,5 +1,0 @@
-use Rattle.bq_machine.proofs.Walking.{steps_fall}
-use Rattle.bq_machine.proofs.laws.steps_only_fall.Goals as goal
-
-pub returns : goal.returns
-returns c = steps_fall

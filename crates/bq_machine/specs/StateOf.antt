@@ -1,6 +1,0 @@
--- What the fields of a machine stand for.
-use Rattle.bq_machine.specs.State.{State}
-use Rattle.bq_machine.specs.declared.machine.Machine.TheInside.{Inside}
-
-abbrev pub state_of : Inside → State
-state_of m = record { store = m.store; steps = m.steps; prints = m.prints.items; active = m.active.items; walks = m.walks.items; line = m.line; message = m.message }

@@ -1,2 +1,0 @@
-pub mod Module
-pub mod Outcomes

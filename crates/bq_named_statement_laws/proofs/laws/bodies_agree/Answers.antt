@@ -1,5 +1,0 @@
-use Rattle.bq_named_statement_laws.proofs.Agreement.{bodies_agree}
-use Rattle.bq_named_statement_laws.proofs.laws.bodies_agree.Goals as goal
-
-pub returns : goal.returns
-returns c w m file round surroundings call other around called = bodies_agree m file round surroundings call other around called

@@ -1,5 +1,0 @@
-use Rattle.bq_operate.proofs.Unions.{found_union}
-use Rattle.bq_operate.proofs.laws.values_of_a_union.Goals as goal
-
-pub returns : goal.returns
-returns c = found_union

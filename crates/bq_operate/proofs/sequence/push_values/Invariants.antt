@@ -1,7 +1,0 @@
-use Rattle.std.proofs.Common.{◌≡◌, ◌++◌, ◌-◌}
-use Rattle.bq_operators.specs.Length.{times_of}
-use Rattle.bq_operate.specs.Sequence.{copies}
-use Rattle.bq_operate.proofs.sequence.push_values.Given as goal
-
-abbrev pub invariant-loop-turn : goal.invariant-loop-turn
-invariant-loop-turn l = l.values.items ++ copies l.xs (l._turn-end - l._turn) ≡ l.fn.values.items ++ copies l.xs (times_of l.times)

@@ -1,0 +1,153 @@
+//! What the arguments of a call of a rule give.
+
+ghost use Rattle.std.specs.Prelude.{◌≡◌, IfOk, OnOk};
+ghost use Rattle.bq_base.specs.Gives.{Gives};
+ghost use Rattle.bq_value.specs.declared.error.EvalErr.TheVariants.{Bad};
+ghost use Rattle.bq_package_attributes.specs.Arguments.{nothing_given, is_none, keyword, with_value, with_label, with_name, with_attribute, with_argument, with_arguments};
+
+use bq_base::{Bytes, FaultKind};
+use bq_label::Label;
+use bq_package_rule_class::{AttributeValue, RuleClass};
+use bq_package_target::{GivenAttribute, attribute_type};
+use bq_package_typed_value::{Scope, TextKind, label, text_in, value_as};
+use bq_value::{Dict, EvalErr, Key, Node, Store, Value};
+use sqlite_items::Items;
+use std::alloc::{AllocError, Global};
+
+/// What the arguments give so far.
+#[derive(Drop)]
+pub struct Given {
+    /// The target's label, once its name is read.
+    pub name: Option<Label>,
+    /// The attributes, in the order in which they are written.
+    pub attributes: Items<GivenAttribute>,
+}
+
+/// The rule that is called, from where, and what its values are read in.
+#[derive(Clone, Copy)]
+pub struct Callee<'a> {
+    pub scope: Scope<'a>,
+    pub store: &'a Store,
+    /// The attributes that the rule has of its own.
+    pub class: &'a RuleClass,
+    /// The name of the rule's kind.
+    pub kind: &'a Bytes,
+}
+
+/// The name of a keyword argument.
+fn keyword(key: &Key) -> Result<Bytes, AllocError>
+    ensures { IfOk result (λ name. name ≡ keyword key.now) }
+{
+    match &key.value().node {
+        Node::Text(name) => name.share(),
+        _ => Ok(Bytes::empty()),
+    }
+}
+
+/// Whether the value is `None`, which gives nothing.
+pub(crate) fn is_none(value: &Value) -> bool
+    ensures { result ≡ is_none value.now }
+{
+    matches!(&value.node, Node::NoneValue)
+}
+
+impl Given {
+    /// Nothing yet, with room for so many attributes.
+    pub fn nothing(alloc: Global, room: usize) -> Result<Given, AllocError>
+        ensures { IfOk result (λ given. given ≡ nothing_given) }
+    {
+        let attributes = Vec::with_capacity(alloc, room)?;
+        Ok(Given {
+            name: None,
+            attributes: Items::from_vec(attributes),
+        })
+    }
+
+    /// One attribute more.
+    fn push(&mut self, name: Bytes, value: AttributeValue) -> Result<(), AllocError>
+        ensures { OnOk result (self.new ≡ with_value name value self.old) }
+    {
+        self.attributes.push(GivenAttribute { name, value })?;
+        Ok(())
+    }
+
+    /// The name of the target, which is an attribute too.
+    fn set_name(&mut self, alloc: Global, label: Label, text: Bytes) -> Result<(), AllocError>
+        ensures { OnOk result (self.new ≡ with_label text label self.old) }
+    {
+        self.name = Some(label);
+        let name = Bytes::from_slice(alloc, b"name")?;
+        self.push(name, AttributeValue::String(text))
+    }
+
+    /// Takes the argument `name`: F73, F75, F37.
+    #[tactic(auto, unfolding(crate::specs::Arguments::with_name))]
+    fn take_name(&mut self, alloc: Global, scope: Scope<'_>, value: &Value) -> Result<(), EvalErr>
+        ensures { Gives (λ _. self.new) Bad result (with_name scope.entry.own.now scope.entry.packages.now value.now self.old) }
+    {
+        if is_none(value) {
+            return Ok(());
+        }
+        let text = text_in(value, FaultKind::AttributeType)?;
+        let label = label(alloc, scope, TextKind::Name, &text)?;
+        self.set_name(alloc, label, text)?;
+        Ok(())
+    }
+
+    /// Takes any other argument: F71, then the faults of its value.
+    #[tactic(auto, unfolding(crate::specs::Arguments::with_attribute))]
+    fn take_attribute(
+        &mut self,
+        alloc: Global,
+        callee: Callee<'_>,
+        name: &Bytes,
+        value: &Value,
+    ) -> Result<(), EvalErr>
+        ensures { Gives (λ _. self.new) Bad result (with_attribute callee.entry.scope.own.now callee.entry.scope.packages.now callee.entry.store.now callee.entry.class.now name.now value.now self.old) }
+    {
+        let Some(kind) = attribute_type(callee.class, name.as_slice()) else {
+            return Err(EvalErr::Bad(FaultKind::NoAttribute));
+        };
+        if is_none(value) {
+            return Ok(());
+        }
+        let name = name.share()?;
+        let given = value_as(alloc, callee.scope, callee.store, kind, value)?;
+        self.push(name, given)?;
+        Ok(())
+    }
+
+    #[tactic(auto, unfolding(crate::specs::Arguments::with_argument))]
+    fn take_argument(
+        &mut self,
+        alloc: Global,
+        callee: Callee<'_>,
+        key: &Key,
+        value: &Value,
+    ) -> Result<(), EvalErr>
+        ensures { Gives (λ _. self.new) Bad result (with_argument callee.entry.scope.own.now callee.entry.scope.packages.now callee.entry.store.now callee.entry.class.now self.old (key.now, value.now)) }
+    {
+        let name = keyword(key)?;
+        if name.as_slice() == b"name".as_slice() {
+            return self.take_name(alloc, callee.scope, value);
+        }
+        self.take_attribute(alloc, callee, &name, value)
+    }
+
+    /// Takes the arguments in the order in which they are written.
+    #[tactic(auto, unfolding(crate::specs::Arguments::with_arguments))]
+    pub fn take_arguments(
+        &mut self,
+        alloc: Global,
+        callee: Callee<'_>,
+        keywords: &Dict,
+    ) -> Result<(), EvalErr>
+        ensures { Gives (λ _. self.new) Bad result (with_arguments callee.entry.scope.own.now callee.entry.scope.packages.now callee.entry.store.now callee.entry.class.now self.old keywords.now) }
+    {
+        for i in 0..keywords.len() {
+            let (key, value) = keywords.pair(i);
+            self.take_argument(alloc, callee, key, value)?;
+        }
+        Ok(())
+    }
+}

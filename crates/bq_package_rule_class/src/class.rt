@@ -1,0 +1,100 @@
+//! The attributes of a rule.
+
+ghost use Rattle.std.specs.Prelude.{◌≡◌, [], length, bytes_eq, option_copied, option_map, slice_get, IfOk};
+ghost use Rattle.std.specs.Map.{lookup};
+ghost use Rattle.bq_package_rule_class.specs.Class.{extended};
+
+use crate::attribute::Attribute;
+use crate::attributes::Attributes;
+use std::alloc::{AllocError, Global};
+use std::marker::Model;
+use std::sync::Arc;
+
+/// The attributes that a rule has of its own, in order, with many owners. Contracts see the list of them, each with its name.
+#[derive(Drop)]
+pub struct RuleClass {
+    attributes: Arc<Attributes>,
+}
+
+impl Model for RuleClass {
+    ghost use Rattle.bq_package_rule_class.specs.Class.{Class};
+    ghost use Rattle.bq_package_rule_class.specs.Codes.{coded_class};
+
+    ghost Value = { Class };
+
+    ghost coded = { coded_class };
+
+    ghost view = { λ c. c.attributes.value };
+}
+
+impl RuleClass {
+    /// Of a rule that has none of its own.
+    pub fn empty(alloc: Global) -> Result<RuleClass, AllocError>
+        ensures { IfOk result (λ c. c ≡ []) }
+    {
+        Ok(RuleClass {
+            attributes: Arc::new(alloc, Attributes::new(alloc))?,
+        })
+    }
+
+    /// The same class. Nothing is copied.
+    pub fn share(&self) -> Result<RuleClass, AllocError>
+        ensures { IfOk result (λ c. c ≡ self.now) }
+    {
+        Ok(RuleClass {
+            attributes: self.attributes.clone()?,
+        })
+    }
+
+    /// How many attributes.
+    pub fn len(&self) -> usize
+        ensures { result ≡ length self.now }
+    {
+        self.attributes.len()
+    }
+
+    /// The attribute of this name.
+    pub fn get(&self, name: &[u8]) -> Option<&Attribute>
+        ensures { option_copied result ≡ lookup (bytes_eq name.now) self.now }
+    {
+        self.attributes.get(name)
+    }
+
+    /// The attribute at a place, with its name.
+    pub fn entry(&self, place: usize) -> Option<(&[u8], &Attribute)>
+        ensures { option_map (λ e. (e.0.now, e.1.now)) result ≡ slice_get self.now place }
+    {
+        self.attributes.entry(place)
+    }
+
+    /// The attributes themselves where this is their only owner, else the same ones once more.
+    fn into_attributes(self, alloc: Global) -> Result<Attributes, AllocError>
+        ensures { IfOk result (λ a. a ≡ self) }
+    {
+        let RuleClass { attributes } = self;
+        match Arc::try_unwrap(attributes) {
+            Ok(attributes) => Ok(attributes),
+            Err(shared) => shared.copy(alloc),
+        }
+    }
+
+    /// With one attribute more, as the last; none where one has the name. The attributes are moved where nothing else owns them,
+    /// else copied.
+    #[tactic(auto, unfolding(crate::specs::Class::extended, crate::specs::Class::with_attribute))]
+    pub fn with(
+        self,
+        alloc: Global,
+        name: &[u8],
+        attribute: Attribute,
+    ) -> Result<Option<RuleClass>, AllocError>
+        ensures { IfOk result (λ c. c ≡ extended self name.now attribute) }
+    {
+        let mut attributes = self.into_attributes(alloc)?;
+        if !attributes.add(alloc, name, attribute)? {
+            return Ok(None);
+        }
+        Ok(Some(RuleClass {
+            attributes: Arc::new(alloc, attributes)?,
+        }))
+    }
+}

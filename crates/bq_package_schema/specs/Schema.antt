@@ -1,0 +1,54 @@
+-- The rules that the lines of a schema have declared so far, and what a further line makes of them (ours).
+use Rattle.std.specs.Prelude.{ℕ, List, [], ◌∷◌, ◌++◌, Bool, Option, Some, None, bytes_eq, if◌then◌else◌}
+use Rattle.std.specs.List.{list_any}
+use Rattle.bq_package_rule_class.specs.Class.{Class, extended}
+use Rattle.bq_package_rule_class.specs.declared.attribute.Attribute.{Attribute}
+use Rattle.bq_package_schema.specs.declared.line.Line.{Line}
+use Rattle.bq_package_schema.specs.declared.line.Line.TheVariants as line
+
+-- The names of the rules in the order in which they are declared, and the attributes of each in the same order.
+pub record Rules : Type 0 where
+  pub names : List (List ℕ)
+  pub classes : List Class
+
+abbrev pub no_rules : Rules
+no_rules = record { names = []; classes = [] }
+
+abbrev pub has : List (List ℕ) → List ℕ → Bool
+has names name = list_any (bytes_eq name) names
+
+-- the name as the last, where it isn't there
+unfoldable pub with_name : List (List ℕ) → List ℕ → List (List ℕ)
+with_name names name = if has names name then names else names ++ name ∷ []
+
+-- one more rule, without attributes of its own; none where one has the name
+unfoldable pub with_rule : Rules → List ℕ → Option Rules
+with_rule rules name = if has rules.names name then None else Some (record { names = rules.names ++ name ∷ []; classes = rules.classes ++ [] ∷ [] })
+
+abbrev pub last_by : {A : Type 0} → A → Option (List A × A) → List A × A
+last_by x None = ([], x)
+last_by x (Some p) = (x ∷ p.0, p.1)
+
+-- the last of a list, after those before it
+unfoldable pub last_of : {A : Type 0} → List A → Option (List A × A)
+last_of [] = None
+last_of (x ∷ xs) = Some (last_by x (last_of xs))
+
+abbrev pub with_last : Rules → List Class → Option Class → Option Rules
+with_last rules before None = None
+with_last rules before (Some class) = Some (record { names = rules.names; classes = before ++ class ∷ [] })
+
+abbrev pub onto : Rules → List ℕ → Attribute → Option (List Class × Class) → Option Rules
+onto rules name attribute None = None
+onto rules name attribute (Some p) = with_last rules p.0 (extended p.1 name attribute)
+
+-- one more attribute of the last rule; none where there is no rule, or it has one of the name
+unfoldable pub with_attribute_of_last : Rules → List ℕ → Attribute → Option Rules
+with_attribute_of_last rules name attribute = onto rules name attribute (last_of rules.classes)
+
+-- what a line makes of the rules before it; none where it is a bad one
+unfoldable pub after : Rules → Line → Option Rules
+after rules line.Skipped = Some rules
+after rules (line.Rule name) = with_rule rules name
+after rules (line.Attribute name attribute) = with_attribute_of_last rules name attribute
+after rules line.Other = None

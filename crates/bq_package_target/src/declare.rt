@@ -1,0 +1,136 @@
+//! The calls of rules and of `package_group`.
+
+ghost use Rattle.std.specs.Prelude.{◌≡◌, ◌++◌, true, length, take, map, if◌then◌else◌, IfOk, OnOk};
+ghost use Rattle.bq_package_target.specs.Value.{outputs_of, outputs_in};
+ghost use Rattle.bq_package_target.specs.Target.{names_of, generated, declares};
+ghost use Rattle.bq_package_target.specs.Names.{are_new};
+
+use crate::names::TargetNames;
+use crate::state::{Declared, PackageState};
+use crate::target::Target;
+use bq_label::Label;
+use bq_package_rule_class::AttributeValue;
+use sqlite_items::Items;
+use std::alloc::{AllocError, Global};
+
+/// Adds files that the rule makes.
+fn add_generated(
+    alloc: Global,
+    rule: &Target,
+    labels: &[Label],
+    made: &mut Items<Target>,
+) -> Result<(), AllocError>
+    ensures { OnOk result (made.new ≡ made.old ++ map (generated rule.now) labels.now) }
+{
+    for label in labels {
+        made.push(Target::generated(alloc, rule, label)?)?;
+    }
+    Ok(())
+}
+
+/// Adds the outputs that the value of an attribute names.
+fn add_outputs(
+    alloc: Global,
+    rule: &Target,
+    value: &AttributeValue,
+    made: &mut Items<Target>,
+) -> Result<(), AllocError>
+    ensures { OnOk result (made.new ≡ made.old ++ map (generated rule.now) (outputs_of value.now)) }
+{
+    match value {
+        AttributeValue::Output(label) => {
+            made.push(Target::generated(alloc, rule, label)?)?;
+            Ok(())
+        }
+        AttributeValue::OutputList(labels) => {
+            add_generated(alloc, rule, labels.as_slice(), made)
+        }
+        _ => Ok(()),
+    }
+}
+
+/// The files that the rule makes.
+fn outputs(alloc: Global, rule: &Target) -> Result<Items<Target>, AllocError>
+    ensures { IfOk result (λ ts. ts ≡ map (generated rule.now) (outputs_in rule.now.attributes)) }
+{
+    let mut made = Items::new(alloc);
+    for given in rule.attributes.as_slice() {
+        add_outputs(alloc, rule, &given.value, &mut made)?;
+    }
+    Ok(made)
+}
+
+/// Takes the names of targets, up to the first that is taken. Says whether all were new.
+fn take_each(names: &mut TargetNames, targets: &[Target]) -> Result<bool, AllocError>
+    ensures new { IfOk result (λ new. new ≡ are_new names.old (names_of targets.now)) }
+    ensures all { IfOk result (λ new. new ≡ true → names.new ≡ names.old ++ names_of targets.now) }
+    ensures front { OnOk result (take (length names.old) names.new ≡ names.old) }
+{
+    for target in targets {
+        if !names.add(target.label.name())? {
+            return Ok(false);
+        }
+    }
+    Ok(true)
+}
+
+/// Takes the names of targets, where all are new. Else it takes none. Says which.
+fn take_names(names: &mut TargetNames, targets: &[Target]) -> Result<bool, AllocError>
+    ensures new { IfOk result (λ new. new ≡ are_new names.old (names_of targets.now)) }
+    ensures after { IfOk result (λ new. names.new ≡ (if new then names.old ++ names_of targets.now else names.old)) }
+{
+    let before = names.len();
+    if take_each(names, targets)? {
+        return Ok(true);
+    }
+    names.truncate(before);
+    Ok(false)
+}
+
+/// The targets that a call declares: its own, and the files that the rule makes.
+#[tactic(auto, unfolding(crate::specs::Target::declares))]
+fn declares(alloc: Global, target: Target) -> Result<Items<Target>, AllocError>
+    ensures { IfOk result (λ ts. ts ≡ declares target) }
+{
+    let made = outputs(alloc, &target);
+    let mut declared = Items::new(alloc);
+    declared.push(target)?;
+    declared.append(made?)?;
+    Ok(declared)
+}
+
+/// Adds the targets that a call declares, where all their names are new. Says whether they are.
+fn add_target(
+    alloc: Global,
+    targets: &mut Items<Target>,
+    names: &mut TargetNames,
+    target: Target,
+) -> Result<bool, AllocError>
+    ensures new { IfOk result (λ new. new ≡ are_new names.old (names_of (declares target))) }
+    ensures targets { IfOk result (λ new. targets.new ≡ (if new then targets.old ++ declares target else targets.old)) }
+    ensures names { IfOk result (λ new. names.new ≡ (if new then names.old ++ names_of (declares target) else names.old)) }
+{
+    let declared = declares(alloc, target)?;
+    if !take_names(names, declared.as_slice())? {
+        return Ok(false);
+    }
+    targets.append(declared)?;
+    Ok(true)
+}
+
+impl PackageState {
+    ghost use Rattle.bq_label.specs.Label.{package_of};
+    ghost use Rattle.bq_package_target.specs.Package.{IsOwnCall};
+    ghost use Rattle.bq_package_target.specs.Calls.{declared};
+
+    /// Declares the target of a call of a rule or of `package_group`, and the files that the rule makes. The call is refused, F74, where
+    /// a target has one of the names, or two of them are equal.
+    pub fn declare(self, alloc: Global, target: Target) -> Result<Declared, AllocError>
+        requires { IsOwnCall (package_of self.build_file) target }
+        ensures { IfOk result (λ d. d ≡ declared self target) }
+    {
+        let mut package = self;
+        let is_new = add_target(alloc, &mut package.targets, &mut package.names, target)?;
+        Ok(Declared::of(is_new, package))
+    }
+}

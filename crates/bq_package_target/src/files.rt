@@ -1,0 +1,125 @@
+//! The files that labels name and nothing declares.
+
+ghost use Rattle.std.specs.Prelude.{◌≡◌, [], ◌∷◌, OnOk};
+ghost use Rattle.std.specs.List.{flat_map};
+ghost use Rattle.bq_package_target.specs.Value.{labels_of, labels_in};
+ghost use Rattle.bq_package_target.specs.Target.{is_of};
+
+use crate::names::TargetNames;
+use crate::target::Target;
+use crate::value::GivenAttribute;
+use bq_label::{Label, PackageId};
+use bq_package_rule_class::AttributeValue;
+use sqlite_items::Items;
+use std::alloc::{AllocError, Global};
+
+/// Files that are found one after another, and the names that are taken by them and by others.
+#[derive(Drop)]
+pub struct Files {
+    pub names: TargetNames,
+    pub found: Items<Target>,
+}
+
+/// Whether the label is of the package.
+#[tactic(auto, unfolding(crate::specs::Target::is_of))]
+pub fn is_of(own: &PackageId, label: &Label) -> bool
+    ensures { result ≡ is_of own.now label.now }
+{
+    label.repo() == own.repo() && label.package() == own.package()
+}
+
+impl Files {
+    ghost use Rattle.bq_package_target.specs.Files.{Finds, FindsOwn};
+
+    /// Adds the file of a label, where its name is not taken.
+    pub fn add(&mut self, alloc: Global, label: &Label, line: u32) -> Result<(), AllocError>
+        ensures { OnOk result (Finds line (label.now ∷ []) self.old self.new) }
+    {
+        if !self.names.add(label.name())? {
+            return Ok(());
+        }
+        self.found.push(Target::source(alloc, label, line)?)?;
+        Ok(())
+    }
+
+    /// Adds the files of labels.
+    pub fn add_all(&mut self, alloc: Global, labels: &[Label], line: u32) -> Result<(), AllocError>
+        ensures { OnOk result (Finds line labels.now self.old self.new) }
+    {
+        for label in labels {
+            self.add(alloc, label, line)?;
+        }
+        Ok(())
+    }
+
+    /// Adds the file of a label, where it is of the package.
+    fn add_own(&mut self, alloc: Global, own: &PackageId, label: &Label) -> Result<(), AllocError>
+        ensures { OnOk result (FindsOwn own.now (label.now ∷ []) self.old self.new) }
+    {
+        if !is_of(own, label) {
+            return Ok(());
+        }
+        self.add(alloc, label, 0)
+    }
+
+    fn add_own_labels(
+        &mut self,
+        alloc: Global,
+        own: &PackageId,
+        labels: &[Label],
+    ) -> Result<(), AllocError>
+        ensures { OnOk result (FindsOwn own.now labels.now self.old self.new) }
+    {
+        for label in labels {
+            self.add_own(alloc, own, label)?;
+        }
+        Ok(())
+    }
+
+    /// Adds the files that a value names as dependencies.
+    fn add_value(
+        &mut self,
+        alloc: Global,
+        own: &PackageId,
+        value: &AttributeValue,
+    ) -> Result<(), AllocError>
+        ensures { OnOk result (FindsOwn own.now (labels_of value.now) self.old self.new) }
+    {
+        match value {
+            AttributeValue::Label(label) => self.add_own(alloc, own, label),
+            AttributeValue::LabelList(labels) => {
+                self.add_own_labels(alloc, own, labels.as_slice())
+            }
+            _ => Ok(()),
+        }
+    }
+
+    fn add_attributes(
+        &mut self,
+        alloc: Global,
+        own: &PackageId,
+        attributes: &[GivenAttribute],
+    ) -> Result<(), AllocError>
+        ensures { OnOk result (FindsOwn own.now (labels_in attributes.now) self.old self.new) }
+    {
+        for given in attributes {
+            self.add_value(alloc, own, &given.value)?;
+        }
+        Ok(())
+    }
+
+    /// Adds the files of the package that targets name.
+    pub fn add_named(
+        &mut self,
+        alloc: Global,
+        own: &PackageId,
+        targets: &[Target],
+    ) -> Result<(), AllocError>
+        ensures { OnOk result (FindsOwn own.now (flat_map (λ t. labels_in t.attributes) targets.now) self.old self.new) }
+    {
+        for target in targets {
+            self.add_attributes(alloc, own, target.attributes.as_slice())?;
+        }
+        Ok(())
+    }
+}

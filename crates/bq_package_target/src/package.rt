@@ -1,0 +1,102 @@
+//! A package and its targets.
+
+ghost use Rattle.std.specs.Prelude.{◌≡◌, IfOk};
+
+use crate::share;
+use crate::target::Target;
+use bq_label::{Label, PackageId};
+use sqlite_items::Items;
+use std::alloc::{AllocError, Global};
+use std::marker::Model;
+use std::sync::Arc;
+
+/// The package of a BUILD file. Contracts see the file's label and the targets in the order in which they are declared.
+#[derive(Drop)]
+pub struct Package {
+    build_file: Label,
+    targets: Arc<Items<Target>>,
+}
+
+impl Model for Package {
+    ghost use Rattle.bq_label.specs.Label.{package_of};
+    ghost use Rattle.bq_package_target.specs.Package.{PackageTargets, AreTargetsOf};
+
+    ghost Value = { PackageTargets };
+
+    ghost view = { λ p. record { build_file = p.build_file; targets = p.targets.value } };
+
+    ghost invariant = { λ p. AreTargetsOf (package_of p.build_file) p.targets.value };
+}
+
+impl Package {
+    ghost use Rattle.bq_label.specs.Label.{package_of};
+    ghost use Rattle.bq_package_target.specs.Package.{AreTargetsOf, no_targets};
+
+    /// The package of a BUILD file that has a fault. It has no targets.
+    pub fn failed(alloc: Global, build_file: Label) -> Result<Package, AllocError>
+        ensures { IfOk result (λ p. p ≡ no_targets build_file) }
+    {
+        Package::of(alloc, build_file, Items::new(alloc))
+    }
+
+    /// The package of a BUILD file with these targets.
+    pub(crate) fn of(
+        alloc: Global,
+        build_file: Label,
+        targets: Items<Target>,
+    ) -> Result<Package, AllocError>
+        requires { AreTargetsOf (package_of build_file) targets }
+        ensures { IfOk result (λ p. p ≡ record { build_file = build_file; targets = targets }) }
+    {
+        Ok(Package {
+            build_file,
+            targets: Arc::new(alloc, targets)?,
+        })
+    }
+
+    /// The same package. No target is copied.
+    pub fn share(&self) -> Result<Package, AllocError>
+        ensures { IfOk result (λ p. p ≡ self.now) }
+    {
+        Ok(Package {
+            build_file: self.build_file.share()?,
+            targets: self.targets.clone()?,
+        })
+    }
+
+    /// The label of the BUILD file.
+    pub fn build_file(&self) -> &Label
+        ensures { result.now ≡ self.now.build_file }
+    {
+        &self.build_file
+    }
+
+    pub fn id(&self) -> &PackageId
+        ensures { result.now ≡ package_of self.now.build_file }
+    {
+        self.build_file.package_id()
+    }
+
+    /// The targets themselves where this is their only owner, else the same ones once more, in time linear in what they name.
+    pub fn into_targets(self, alloc: Global) -> Result<Items<Target>, AllocError>
+        ensures value { IfOk result (λ ts. ts ≡ self.targets) }
+        ensures valid { AreTargetsOf (package_of self.build_file) self.targets }
+    {
+        let Package {
+            build_file: _,
+            targets,
+        } = self;
+        match Arc::try_unwrap(targets) {
+            Ok(targets) => Ok(targets),
+            Err(shared) => share::targets(alloc, shared.as_slice()),
+        }
+    }
+
+    /// The targets. No two of them have one name.
+    pub fn targets(&self) -> &[Target]
+        ensures value { result.now ≡ self.now.targets }
+        ensures valid { AreTargetsOf (package_of self.now.build_file) self.now.targets }
+    {
+        self.targets.as_slice()
+    }
+}

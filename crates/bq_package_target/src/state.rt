@@ -1,0 +1,69 @@
+//! The package of a BUILD file that is being evaluated: what its accepted calls declare.
+
+ghost use Rattle.std.specs.Prelude.{◌≡◌, if◌then◌else◌};
+
+use crate::names::TargetNames;
+use crate::target::Target;
+use bq_label::Label;
+use sqlite_items::Items;
+use std::alloc::Global;
+use std::marker::Model;
+
+/// What the accepted calls of a BUILD file declare. Contracts see it as a package.
+///
+/// A call takes the state and gives it back. Where memory is refused the state is given up.
+#[derive(Drop)]
+pub struct PackageState {
+    pub(crate) build_file: Label,
+    pub(crate) targets: Items<Target>,
+    /// The names of the targets.
+    pub(crate) names: TargetNames,
+}
+
+impl Model for PackageState {
+    ghost use Rattle.std.specs.Prelude.{◌≡◌};
+    ghost use Rattle.bq_label.specs.Label.{package_of};
+    ghost use Rattle.bq_package_target.specs.Package.{PackageTargets, IsState};
+
+    ghost Value = { PackageTargets };
+
+    ghost view = { λ s. record { build_file = s.build_file; targets = s.targets } };
+
+    ghost invariant = { λ s. IsState (package_of s.build_file) s.targets s.names };
+}
+
+/// What a call gives: the package with what it declares, or as it was where the call is refused (F74).
+#[derive(Drop)]
+pub enum Declared {
+    Accepted(PackageState),
+    Refused(PackageState),
+}
+
+impl Declared {
+    ghost use Rattle.bq_package_target.specs.declared.state.Declared.TheVariants.{Accepted, Refused};
+
+    pub(crate) fn of(is_accepted: bool, package: PackageState) -> Declared
+        ensures { result ≡ (if is_accepted then Accepted «package» else Refused «package») }
+    {
+        if is_accepted {
+            Declared::Accepted(package)
+        } else {
+            Declared::Refused(package)
+        }
+    }
+}
+
+impl PackageState {
+    ghost use Rattle.bq_package_target.specs.Package.{no_targets};
+
+    /// The package of a BUILD file that has declared nothing yet.
+    pub fn new(alloc: Global, build_file: Label) -> PackageState
+        ensures { result ≡ no_targets build_file }
+    {
+        PackageState {
+            build_file,
+            targets: Items::new(alloc),
+            names: TargetNames::new(alloc),
+        }
+    }
+}

@@ -1,0 +1,77 @@
+//! Targets (Bazel, "Repositories, packages, and targets"): rules, files and groups of packages.
+
+ghost use Rattle.std.specs.Prelude.{◌≡◌, IfOk};
+ghost use Rattle.bq_package_target.specs.Target.{is_source, source, generated};
+
+use crate::value::GivenAttribute;
+use bq_base::Bytes;
+use bq_label::Label;
+use bq_package_rule_class::RuleClass;
+use sqlite_items::Items;
+use std::alloc::{AllocError, Global};
+
+/// What a target is.
+#[derive(Drop)]
+pub enum TargetKind {
+    /// A rule, with the name of its kind, as `genrule`, and the attributes that it has of its own.
+    Rule(Bytes, RuleClass),
+    /// A file of the workspace.
+    Source,
+    /// A file that this rule makes.
+    Generated(Label),
+    /// A group of packages. Its attribute `includes` has the groups that it includes.
+    Group,
+}
+
+/// A target of a package.
+#[derive(Drop)]
+pub struct Target {
+    pub label: Label,
+    pub kind: TargetKind,
+    /// What its call gives, and the defaults of what it doesn't give; of a file nothing.
+    pub attributes: Items<GivenAttribute>,
+    /// The line of the call that declares it; 0 where none does.
+    pub line: u32,
+}
+
+impl TargetKind {
+    pub fn is_source(&self) -> bool
+        ensures { result ≡ is_source self.now }
+    {
+        match self {
+            TargetKind::Source => true,
+            _ => false,
+        }
+    }
+}
+
+impl Target {
+    /// A source file.
+    pub(crate) fn source(alloc: Global, label: &Label, line: u32) -> Result<Target, AllocError>
+        ensures { IfOk result (λ t. t ≡ source label.now line) }
+    {
+        Ok(Target {
+            label: label.share()?,
+            kind: TargetKind::Source,
+            attributes: Items::new(alloc),
+            line,
+        })
+    }
+
+    /// A file that a rule makes.
+    pub(crate) fn generated(
+        alloc: Global,
+        rule: &Target,
+        label: &Label,
+    ) -> Result<Target, AllocError>
+        ensures { IfOk result (λ t. t ≡ generated rule.now label.now) }
+    {
+        let label = label.share()?;
+        Ok(Target {
+            label,
+            kind: TargetKind::Generated(rule.label.share()?),
+            attributes: Items::new(alloc),
+            line: rule.line,
+        })
+    }
+}

@@ -1,0 +1,36 @@
+//! Attributes with the values that calls give them, and the types of the attributes of a rule.
+
+ghost use Rattle.std.specs.Prelude.{◌≡◌};
+ghost use Rattle.bq_package_target.specs.Value.{own_type, attribute_type};
+
+use bq_base::Bytes;
+use bq_package_rule_class::{AttributeType, AttributeValue, RuleClass, common_attribute};
+
+/// An attribute with the value that a call gives it, or that it has by default.
+#[derive(Drop)]
+pub struct GivenAttribute {
+    pub name: Bytes,
+    pub value: AttributeValue,
+}
+
+/// The type of an attribute that a rule has of its own.
+fn own_type(class: &RuleClass, name: &[u8]) -> Option<AttributeType>
+    ensures { result ≡ own_type class.now name.now }
+{
+    match class.get(name) {
+        None => None,
+        Some(attribute) => Some(attribute.kind),
+    }
+}
+
+/// The type of an attribute of a rule: one that all rules have, or one of its own. There is none where the rule has no such
+/// attribute.
+#[tactic(auto, unfolding(crate::specs::Value::attribute_type))]
+pub fn attribute_type(class: &RuleClass, name: &[u8]) -> Option<AttributeType>
+    ensures { result ≡ attribute_type class.now name.now }
+{
+    match common_attribute(name) {
+        Some(kind) => Some(kind),
+        None => own_type(class, name),
+    }
+}

@@ -1,0 +1,123 @@
+-- The labels that are read in a package are of it, and so are the files that a rule makes.
+use Rattle.std.proofs.Common.{◌≡◌, ◌∙◌, ℕ, Bool, true, false, List, [], Result, Ok, Err, refl, ap, subst}
+use Rattle.std.specs.List.{list_all, list_any}
+use Rattle.std.proofs.lemmas.Slice.Eq.{bytes_eq-Decides}
+use Rattle.bq_base.specs.declared.fault.FaultKind.TheVariants as f
+use Rattle.bq_label.specs.declared.packages.BuildFile.{BuildFile}
+use Rattle.bq_label.specs.Label.{PackageParts, LabelParts, label_in}
+use Rattle.bq_label.specs.Paths.{is_path}
+use Rattle.bq_package_rule_class.specs.declared.attribute_type.AttributeType.{AttributeType}
+use Rattle.bq_package_rule_class.specs.declared.attribute_type.AttributeType.TheVariants as t
+use Rattle.bq_package_rule_class.specs.declared.value.AttributeValue.{AttributeValue}
+use Rattle.bq_package_rule_class.specs.declared.value.AttributeValue.TheVariants as a
+use Rattle.bq_value.specs.Datum.{Datum}
+use Rattle.bq_value.specs.Cells.{StoreView}
+use Rattle.bq_package_target.specs.Value.{outputs_of}
+use Rattle.bq_package_target.specs.Target.{is_of}
+use Rattle.bq_package_typed_value.specs.declared.label_texts.TextKind.{TextKind}
+use Rattle.bq_package_typed_value.specs.declared.label_texts.TextKind.TheVariants as k
+use Rattle.bq_package_typed_value.specs.declared.written.Written.{Written}
+use Rattle.bq_package_typed_value.specs.declared.written.Written.TheVariants as w
+use Rattle.bq_package_typed_value.specs.Steps.{and_then, in_turn}
+use Rattle.bq_package_typed_value.specs.Scope.{own_label_crosses, inside, all_inside}
+use Rattle.bq_package_typed_value.specs.Texts.{text_in, texts_in}
+use Rattle.bq_package_typed_value.specs.LabelTexts.{named, without_colon, read, read_all, label, labels}
+use Rattle.bq_package_typed_value.specs.Written.{int_in, bool_in, written_as}
+use Rattle.bq_package_typed_value.specs.Values.{typed, value_as}
+use Rattle.bq_package_typed_value.proofs.Steps.{both_ok, nested_ok, then_ok, else_ok, each_passes}
+
+-- ---- labels
+
+in_own : (own : PackageParts) (n : List ℕ) → is_of own (label_in own n) ≡ true
+unfolding is_of
+in_own own n = rw ((bytes_eq-Decides own.repo own.repo).1 refl, (bytes_eq-Decides own.package own.package).1 refl) refl
+
+named_own : (own : PackageParts) (n : List ℕ) (l : LabelParts) → named own n ≡ Ok l → is_of own l ≡ true
+named_own own n l h = subst (λ (m : LabelParts). is_of own m ≡ true) (then_ok (is_path n) (label_in own n) l f.BadName h) (in_own own n)
+
+-- a text that stands for a target of the package
+name_own : (own : PackageParts) (text : List ℕ) (l : LabelParts) → read own k.Name text ≡ Ok l → is_of own l ≡ true
+unfolding read
+name_own own text l h = named_own own text l h
+
+output_own : (own : PackageParts) (text : List ℕ) (l : LabelParts) → read own k.Output text ≡ Ok l → is_of own l ≡ true
+unfolding read
+output_own own text l h = named_own own (without_colon text) l h
+
+-- what is read is what stays inside
+inside_is : (own : PackageParts) (packages : List BuildFile) (l m : LabelParts) → inside own packages l ≡ Ok m → l ≡ m
+unfolding inside
+inside_is own packages l m h = else_ok (own_label_crosses own packages l) l m f.CrossesPackage h
+
+all_inside_is : (own : PackageParts) (packages : List BuildFile) (ls ms : List LabelParts) → all_inside own packages ls ≡ Ok ms → ls ≡ ms
+unfolding all_inside
+all_inside_is own packages ls ms h = else_ok (list_any (own_label_crosses own packages) ls) ls ms f.CrossesPackage h
+
+pub label_read : (own : PackageParts) (packages : List BuildFile) (kind : TextKind) (text : List ℕ) (l : LabelParts) → label own packages kind text ≡ Ok l → read own kind text ≡ Ok l
+unfolding label
+label_read own packages kind text l h = let r = both_ok (read own kind text) (inside own packages) l h in r.1 ∙ ap Ok (inside_is own packages r.0 l r.2)
+
+pub name_label_own : (own : PackageParts) (packages : List BuildFile) (text : List ℕ) (l : LabelParts) → label own packages k.Name text ≡ Ok l → is_of own l ≡ true
+name_label_own own packages text l h = name_own own text l (label_read own packages k.Name text l h)
+
+pub labels_read : (own : PackageParts) (packages : List BuildFile) (kind : TextKind) (texts : List (List ℕ)) (ls : List LabelParts) → labels own packages kind texts ≡ Ok ls
+    → in_turn (read own kind) [] texts ≡ Ok ls
+unfolding labels read_all
+labels_read own packages kind texts ls h = let r = both_ok (read_all own kind texts) (all_inside own packages) ls h in r.1 ∙ ap Ok (all_inside_is own packages r.0 ls r.2)
+
+pub name_labels_own : (own : PackageParts) (packages : List BuildFile) (texts : List (List ℕ)) (ls : List LabelParts) → labels own packages k.Name texts ≡ Ok ls → list_all (is_of own) ls ≡ true
+name_labels_own own packages texts ls h = each_passes (read own k.Name) (is_of own) (name_own own) [] texts ls (labels_read own packages k.Name texts ls h) refl
+
+output_labels_own : (own : PackageParts) (packages : List BuildFile) (texts : List (List ℕ)) (ls : List LabelParts) → labels own packages k.Output texts ≡ Ok ls → list_all (is_of own) ls ≡ true
+output_labels_own own packages texts ls h = each_passes (read own k.Output) (is_of own) (output_own own) [] texts ls (labels_read own packages k.Output texts ls h) refl
+
+-- ---- values
+
+-- the files that a value has the rule make are of the package
+abbrev pub HasOwnOutputs : PackageParts → AttributeValue → Type 0
+HasOwnOutputs own v = list_all (is_of own) (outputs_of v) ≡ true
+
+module _ (own : PackageParts) (packages : List BuildFile) where
+  -- labels that a value has, of which none is a file that the rule makes
+  label_typed : (text : List ℕ) (v : AttributeValue) → typed own packages (w.Label text) ≡ Ok v → HasOwnOutputs own v
+  unfolding typed
+  label_typed text v h = let r = both_ok (label own packages k.Label text) (λ l. Ok (a.Label l)) v h in let e : a.Label r.0 ≡ v = cc in subst (HasOwnOutputs own) e refl
+
+  labels_typed : (texts : List (List ℕ)) (v : AttributeValue) → typed own packages (w.LabelList texts) ≡ Ok v → HasOwnOutputs own v
+  unfolding typed
+  labels_typed texts v h = let r = both_ok (labels own packages k.Label texts) (λ ls. Ok (a.LabelList ls)) v h in let e : a.LabelList r.0 ≡ v = cc in subst (HasOwnOutputs own) e refl
+
+  output_typed : (text : List ℕ) (v : AttributeValue) → typed own packages (w.Output text) ≡ Ok v → HasOwnOutputs own v
+  unfolding typed
+  output_typed text v h =
+      let r = both_ok (label own packages k.Output text) (λ l. Ok (a.Output l)) v h in
+      let e : a.Output r.0 ≡ v = cc in
+      let mine : is_of own r.0 ≡ true = output_own own text r.0 (label_read own packages k.Output text r.0 r.1) in
+      subst (HasOwnOutputs own) e (rw mine refl)
+
+  outputs_typed : (texts : List (List ℕ)) (v : AttributeValue) → typed own packages (w.OutputList texts) ≡ Ok v → HasOwnOutputs own v
+  unfolding typed
+  outputs_typed texts v h =
+      let r = both_ok (labels own packages k.Output texts) (λ ls. Ok (a.OutputList ls)) v h in
+      let e : a.OutputList r.0 ≡ v = cc in
+      subst (HasOwnOutputs own) e (output_labels_own own packages texts r.0 r.1)
+
+  plain_typed : (x v : AttributeValue) → HasOwnOutputs own x → typed own packages (w.Value x) ≡ Ok v → HasOwnOutputs own v
+  unfolding typed
+  plain_typed x v mine h = let e : x ≡ v = cc in subst (HasOwnOutputs own) e mine
+
+  -- what a value is as an attribute of a type
+  pub value_own : (store : StoreView) (kind : AttributeType) (v : Datum) (x : AttributeValue) → value_as own packages store kind v ≡ Ok x → HasOwnOutputs own x
+  unfolding value_as written_as
+  value_own store t.String v x h =
+      let r = nested_ok (text_in f.AttributeType v) (λ text. Ok (w.Value (a.String text))) (typed own packages) x h in plain_typed (a.String r.0) x refl r.2
+  value_own store t.Int v x h =
+      let r = nested_ok (int_in f.AttributeType v) (λ n. Ok (w.Value (a.Int n))) (typed own packages) x h in plain_typed (a.Int r.0) x refl r.2
+  value_own store t.Bool v x h =
+      let r = nested_ok (bool_in f.AttributeType v) (λ b. Ok (w.Value (a.Bool b))) (typed own packages) x h in plain_typed (a.Bool r.0) x refl r.2
+  value_own store t.StringList v x h =
+      let r = nested_ok (texts_in f.AttributeType store v) (λ texts. Ok (w.Value (a.StringList texts))) (typed own packages) x h in plain_typed (a.StringList r.0) x refl r.2
+  value_own store t.Label v x h = let r = nested_ok (text_in f.AttributeType v) (λ text. Ok (w.Label text)) (typed own packages) x h in label_typed r.0 x r.2
+  value_own store t.LabelList v x h = let r = nested_ok (texts_in f.AttributeType store v) (λ texts. Ok (w.LabelList texts)) (typed own packages) x h in labels_typed r.0 x r.2
+  value_own store t.Output v x h = let r = nested_ok (text_in f.AttributeType v) (λ text. Ok (w.Output text)) (typed own packages) x h in output_typed r.0 x r.2
+  value_own store t.OutputList v x h = let r = nested_ok (texts_in f.AttributeType store v) (λ texts. Ok (w.OutputList texts)) (typed own packages) x h in outputs_typed r.0 x r.2

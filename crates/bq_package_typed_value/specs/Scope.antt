@@ -1,0 +1,34 @@
+-- Labels that cross into another package (Bazel, "Labels": a label "must not cross a package boundary").
+use Rattle.std.specs.Prelude.{◌≡◌, ℕ, List, Bool, false, not, Option, None, Some, Result, Ok, Err, if◌then◌else◌}
+use Rattle.std.specs.List.{list_any}
+use Rattle.bq_base.specs.declared.fault.FaultKind.{FaultKind}
+use Rattle.bq_base.specs.declared.fault.FaultKind.TheVariants.{CrossesPackage}
+use Rattle.bq_label.specs.declared.packages.BuildFile.{BuildFile}
+use Rattle.bq_label.specs.Label.{PackageParts, LabelParts, label_in}
+use Rattle.bq_label.specs.Paths.{HasNoSlash}
+use Rattle.bq_label.specs.Packages.{label_path, owner_of}
+use Rattle.bq_package_target.specs.Target.{is_of}
+
+abbrev pub is_owned_by_other : LabelParts → Option BuildFile → Bool
+is_owned_by_other l None = false
+is_owned_by_other l (Some b) = not (is_of b.id l)
+
+-- another package owns the path that the label names
+unfoldable pub crosses : List BuildFile → LabelParts → Bool
+crosses packages l = is_owned_by_other l (owner_of packages (label_path l))
+
+-- the label is of this package, and crosses into another
+unfoldable pub own_label_crosses : PackageParts → List BuildFile → LabelParts → Bool
+own_label_crosses own packages l = if is_of own l then crosses packages l else false
+
+-- whether the package's names without a slash cross into another package: all do, or none does
+abbrev pub ShortNamesCross : PackageParts → List BuildFile → Bool → Type 0
+ShortNamesCross own packages b = (n : List ℕ) → HasNoSlash n → crosses packages (label_in own n) ≡ b
+
+-- the label, or F37 where it is of this package and crosses into another
+unfoldable pub inside : PackageParts → List BuildFile → LabelParts → Result LabelParts FaultKind
+inside own packages l = if own_label_crosses own packages l then Err CrossesPackage else Ok l
+
+-- the labels, or F37 where one of them is of this package and crosses into another
+unfoldable pub all_inside : PackageParts → List BuildFile → List LabelParts → Result (List LabelParts) FaultKind
+all_inside own packages ls = if list_any (own_label_crosses own packages) ls then Err CrossesPackage else Ok ls

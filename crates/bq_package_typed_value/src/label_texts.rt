@@ -1,0 +1,114 @@
+//! The labels that the texts of a call stand for.
+
+ghost use Rattle.std.specs.Prelude.{◌≡◌, IfOk};
+ghost use Rattle.bq_base.specs.Gives.{Gives};
+ghost use Rattle.bq_value.specs.declared.error.EvalErr.TheVariants.{Bad};
+ghost use Rattle.bq_label.specs.Reading.{label_of};
+ghost use Rattle.bq_package_typed_value.specs.LabelTexts.{label_found, named, without_colon, read, read_all, label, labels};
+
+use crate::scope::{Scope, in_package};
+use bq_base::{Bytes, FaultKind, SourceErr};
+use bq_label::{Label, PackageId, is_path, read_label};
+use bq_value::EvalErr;
+use sqlite_items::Items;
+use std::alloc::{AllocError, Global};
+
+/// What a text of a call stands for.
+#[derive(Clone, Copy)]
+pub enum TextKind {
+    /// Any target, by its label.
+    Label,
+    /// A target of the package that the call declares, by its name.
+    Name,
+    /// A file of the package that the rule makes, by its name, which a colon may precede.
+    Output,
+}
+
+/// The label that a text reads as, or F78.
+#[tactic(auto, using(bq_label::proofs::BadLabels::or_bad_label_ok, bq_label::proofs::BadLabels::or_bad_label_err))]
+fn label_found(alloc: Global, own: &PackageId, text: &Bytes) -> Result<Label, EvalErr>
+    ensures { Gives (λ l. l) Bad result (label_found (label_of own.now text.now)) }
+{
+    match read_label(alloc, text.as_slice(), own) {
+        Ok(label) => Ok(label),
+        Err(SourceErr::Memory) => Err(EvalErr::Memory),
+        Err(SourceErr::Bad(_)) => Err(EvalErr::Bad(FaultKind::BadLabel)),
+    }
+}
+
+/// A target of the package by its name, or F75.
+fn named(own: &PackageId, name: &Bytes) -> Result<Label, EvalErr>
+    ensures { Gives (λ l. l) Bad result (named own.now name.now) }
+{
+    if !is_path(name.as_slice()) {
+        return Err(EvalErr::Bad(FaultKind::BadName));
+    }
+    Ok(in_package(own, name)?)
+}
+
+#[tactic(auto, unfolding(crate::specs::LabelTexts::without_colon))]
+fn without_colon(alloc: Global, text: &Bytes) -> Result<Bytes, AllocError>
+    ensures { IfOk result (λ name. name ≡ without_colon text.now) }
+{
+    match text.as_slice() {
+        [b':', name @ ..] => Bytes::from_slice(alloc, name),
+        _ => text.share(),
+    }
+}
+
+/// The label that a text stands for in a package.
+#[tactic(auto, unfolding(crate::specs::LabelTexts::read))]
+fn read(alloc: Global, own: &PackageId, kind: TextKind, text: &Bytes) -> Result<Label, EvalErr>
+    ensures { Gives (λ l. l) Bad result (read own.now kind text.now) }
+{
+    match kind {
+        TextKind::Label => label_found(alloc, own, text),
+        TextKind::Name => named(own, text),
+        TextKind::Output => named(own, &without_colon(alloc, text)?),
+    }
+}
+
+/// The labels that texts stand for.
+#[tactic(auto, unfolding(crate::specs::LabelTexts::read_all, crate::specs::Steps::in_turn))]
+fn read_all(
+    alloc: Global,
+    own: &PackageId,
+    kind: TextKind,
+    texts: &[Bytes],
+) -> Result<Items<Label>, EvalErr>
+    ensures { Gives (λ ls. ls) Bad result (read_all own.now kind texts.now) }
+{
+    let mut labels = Vec::with_capacity(alloc, texts.len())?;
+    for text in texts {
+        labels.push(read(alloc, own, kind, text)?)?;
+    }
+    Ok(Items::from_vec(labels))
+}
+
+/// The label that a text stands for: F78 or F75, and F37 where it crosses into another package.
+#[tactic(auto, unfolding(crate::specs::LabelTexts::label))]
+pub fn label(
+    alloc: Global,
+    scope: Scope<'_>,
+    kind: TextKind,
+    text: &Bytes,
+) -> Result<Label, EvalErr>
+    ensures { Gives (λ l. l) Bad result (label scope.entry.own.now scope.entry.packages.now kind text.now) }
+{
+    let label = read(alloc, scope.own, kind, text)?;
+    scope.inside(alloc, label)
+}
+
+/// The labels that texts stand for. Each is read, and then it is seen whether one crosses into another package.
+#[tactic(auto, unfolding(crate::specs::LabelTexts::labels))]
+pub fn labels(
+    alloc: Global,
+    scope: Scope<'_>,
+    kind: TextKind,
+    texts: &[Bytes],
+) -> Result<Items<Label>, EvalErr>
+    ensures { Gives (λ ls. ls) Bad result (labels scope.entry.own.now scope.entry.packages.now kind texts.now) }
+{
+    let labels = read_all(alloc, scope.own, kind, texts)?;
+    scope.all_inside(alloc, labels)
+}

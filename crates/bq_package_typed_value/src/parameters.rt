@@ -1,0 +1,16 @@
+//! The arguments that parameters take.
+
+ghost use Rattle.std.specs.Prelude.{◌≡◌, option_copied};
+ghost use Rattle.bq_package_typed_value.specs.Parameters.{argument};
+
+use bq_value::Value;
+
+/// The argument of the parameter at this place, where it has one.
+pub fn argument(values: &[Option<Value>], index: usize) -> Option<&Value>
+    ensures { option_copied result ≡ argument values.now index }
+{
+    match values.get(index) {
+        Some(Some(value)) => Some(value),
+        _ => None,
+    }
+}

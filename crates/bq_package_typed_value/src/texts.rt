@@ -1,0 +1,65 @@
+//! Strings, and lists of strings, in values.
+
+ghost use Rattle.std.specs.Prelude.{◌≡◌, Some};
+ghost use Rattle.bq_base.specs.Gives.{Gives};
+ghost use Rattle.bq_value.specs.declared.error.EvalErr.TheVariants.{Bad};
+ghost use Rattle.bq_package_typed_value.specs.Steps.{and_then};
+ghost use Rattle.bq_package_typed_value.specs.Texts.{text_in, listed, all_texts, texts_in};
+
+use bq_base::{Bytes, FaultKind};
+use bq_value::{Body, Content, EvalErr, Node, Store, Value};
+use sqlite_items::Items;
+use std::alloc::Global;
+
+/// A string; `why` names the fault of another value.
+#[tactic(auto, unfolding(crate::specs::Texts::text_in))]
+pub fn text_in(value: &Value, why: FaultKind) -> Result<Bytes, EvalErr>
+    ensures { Gives (λ text. text) Bad result (text_in why value.now) }
+{
+    match &value.node {
+        Node::Text(text) => Ok(text.share()?),
+        _ => Err(EvalErr::Bad(why)),
+    }
+}
+
+/// The strings that all of the values are.
+#[tactic(auto, unfolding(crate::specs::Texts::all_texts, crate::specs::Steps::in_turn))]
+fn all_texts(alloc: Global, values: &[Value], why: FaultKind) -> Result<Items<Bytes>, EvalErr>
+    ensures { Gives (λ texts. texts) Bad result (all_texts why values.now) }
+{
+    let mut texts = Vec::with_capacity(alloc, values.len())?;
+    for value in values {
+        texts.push(text_in(value, why)?)?;
+    }
+    Ok(Items::from_vec(texts))
+}
+
+fn content_texts(alloc: Global, content: &Content, why: FaultKind) -> Result<Items<Bytes>, EvalErr>
+    ensures { Gives (λ texts. texts) Bad result (and_then (listed why (Some content.now)) (all_texts why)) }
+{
+    match &content.body {
+        Body::List(values) => all_texts(alloc, values, why),
+        Body::Dict(_) => Err(EvalErr::Bad(why)),
+        Body::Rule(_) => Err(EvalErr::Bad(why)),
+    }
+}
+
+/// A list or a tuple of strings; `why` names the fault of another value.
+#[tactic(auto, using(bq_value::specs::Datum::list_of_data_of), unfolding(crate::specs::Texts::texts_in))]
+pub fn texts_in(
+    alloc: Global,
+    store: &Store,
+    value: &Value,
+    why: FaultKind,
+) -> Result<Items<Bytes>, EvalErr>
+    ensures { Gives (λ texts. texts) Bad result (texts_in why store.now value.now) }
+{
+    match &value.node {
+        Node::Tuple(values) => all_texts(alloc, values, why),
+        Node::Cell(cell) => match store.content(*cell) {
+            Some(content) => content_texts(alloc, content, why),
+            None => Err(EvalErr::Bad(why)),
+        },
+        _ => Err(EvalErr::Bad(why)),
+    }
+}

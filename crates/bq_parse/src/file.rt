@@ -1,0 +1,120 @@
+//! Files: all top-level statements, one after another.
+
+ghost use Rattle.std.specs.Prelude.{◌≡◌, Ok, All, IfOk};
+ghost use Rattle.bq_parse.specs.Answers.{itself, AreShallow};
+ghost use Rattle.bq_parse_grammar.specs.Lexeme.{lexemes};
+ghost use Rattle.bq_parse_grammar.specs.Parses.{Parses, statements_of};
+ghost use Rattle.bq_base.specs.Gives.{Gives, GivesOneOf};
+ghost use Rattle.bq_source.specs.Reading.{Lexes};
+ghost use Rattle.bq_source.specs.Spelling.{Lies};
+ghost use Rattle.bq_base.specs.declared.fault.SourceErr.TheVariants.{Bad};
+
+use crate::pieces::piece_len;
+use crate::verdict::verdict;
+use bq_base::SourceErr;
+use bq_parse_cursor::Tokens;
+use bq_parse_grammar::{FileKind, TopLevel};
+use bq_parse_statement_laws::each_file_has_one_reading;
+use bq_parse_tree_laws::no_tree_is_deeper;
+use bq_source::{Token, tokens_lie_within};
+use sqlite_items::Items;
+use std::alloc::Global;
+use std::marker::Model;
+
+/// The trees of a file's top-level statements, in the order in which they are written.
+#[derive(Drop)]
+pub struct ParsedFile {
+    statements: Items<TopLevel>,
+}
+
+impl Model for ParsedFile {
+    ghost use Rattle.std.specs.Prelude.{List};
+    ghost use Rattle.bq_parse_grammar.specs.declared.tree.TopLevel.{TopLevel};
+    ghost use Rattle.bq_parse.specs.Answers.{AreShallow};
+    ghost use Rattle.std.specs.Coded.{codes};
+    ghost use Rattle.bq_parse_grammar.specs.contracts.tree.Stmt as stmt;
+
+    ghost Value = { List TopLevel };
+
+    ghost coded = { Prim.hlevel (codes, stmt.the_row.coded) };
+
+    ghost view = { λ f. f.statements };
+
+    // Only brackets and indents nest, and no more than 64 are open.
+    ghost invariant = { λ f. AreShallow f.statements };
+}
+
+impl ParsedFile {
+    /// The statements. None is deeper than `max_depth` of `bq_parse_tree_laws`, so that recursion over one takes bounded stack.
+    pub fn statements(&self) -> &[TopLevel]
+        ensures all { result.now ≡ self.now }
+        ensures shallow { AreShallow self.now }
+    {
+        self.statements.as_slice()
+    }
+}
+
+/// The statements, one after another.
+fn statements(
+    alloc: Global,
+    tokens: &[Token],
+    text: &[u8],
+    kind: FileKind,
+) -> Result<Items<TopLevel>, SourceErr>
+    requires { All (Lies text.now) tokens.now }
+    ensures { Gives itself Bad result (statements_of kind (lexemes text.now tokens.now)) }
+{
+    let mut statements = Items::new(alloc);
+    let mut rest = tokens;
+    'pieces: while !rest.is_empty() {
+        let here = Tokens::new(text, rest);
+        let (piece, further) = rest.split_at(piece_len(&here));
+        let first = Tokens::new(text, piece);
+        statements.push(verdict(alloc, kind, &first)?)?;
+        rest = further;
+    }
+    Ok(statements)
+}
+
+/// The statements, or the fault of the first that is faulty.
+fn read(
+    alloc: Global,
+    tokens: &[Token],
+    text: &[u8],
+    kind: FileKind,
+) -> Result<Items<TopLevel>, SourceErr>
+    requires { Lexes text.now (Ok tokens.now) }
+    ensures gives { Gives itself Bad result (statements_of kind (lexemes text.now tokens.now)) }
+    ensures reads { GivesOneOf itself Bad result (Parses kind (lexemes text.now tokens.now)) }
+    ensures only { (r : _) → Parses kind (lexemes text.now tokens.now) r → Gives itself Bad result r }
+    ensures shallow { IfOk result AreShallow }
+{
+    tokens_lie_within(text, tokens);
+    each_file_has_one_reading();
+    no_tree_is_deeper();
+    statements(alloc, tokens, text, kind)
+}
+
+/// The trees of a file's top-level statements, or the fault of the first that is faulty, at its first line. The tokens are those
+/// that `lex` answers for the text. It takes time and memory in proportion to the tokens.
+///
+/// The grammar is that of the Starlark specification, "Grammar reference", as docs/LANGUAGE.md says.
+pub fn parse(
+    alloc: Global,
+    tokens: &[Token],
+    text: &[u8],
+    kind: FileKind,
+) -> Result<ParsedFile, SourceErr>
+    requires { Lexes text.now (Ok tokens.now) }
+    // It is what the function of the definitions gives.
+    ensures gives { Gives itself Bad result (statements_of kind (lexemes text.now tokens.now)) }
+    // What is answered is what the tokens read as.
+    ensures reads { GivesOneOf itself Bad result (Parses kind (lexemes text.now tokens.now)) }
+    // All that the tokens read as is the answer.
+    ensures only { (r : _) → Parses kind (lexemes text.now tokens.now) r → Gives itself Bad result r }
+{
+    match read(alloc, tokens, text, kind) {
+        Ok(statements) => Ok(ParsedFile { statements }),
+        Err(why) => Err(why),
+    }
+}

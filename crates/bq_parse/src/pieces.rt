@@ -1,0 +1,78 @@
+//! Where each top-level statement of a file begins.
+
+ghost use Rattle.std.specs.Prelude.{◌≡◌, ◌<◌, ◌≤◌, ◌+◌, ◌^◌, ◌&&◌, length};
+ghost use Rattle.bq_parse.specs.Pieces as spec;
+ghost use Rattle.bq_parse_grammar.specs.Pieces as pieces;
+
+use bq_parse_cursor::Tokens;
+use bq_source::TokenKind;
+
+/// A line may begin after this token.
+fn ends_line(kind: TokenKind) -> bool
+    ensures { result ≡ pieces.ends_line kind }
+{
+    match kind {
+        TokenKind::Newline => true,
+        TokenKind::Outdent => true,
+        _ => false,
+    }
+}
+
+/// A line that begins with this token begins a statement.
+fn begins_statement(kind: TokenKind) -> bool
+    ensures { result ≡ pieces.begins_statement kind }
+{
+    match kind {
+        TokenKind::Indent => false,
+        TokenKind::Elif => false,
+        TokenKind::Else => false,
+        _ => true,
+    }
+}
+
+/// A statement begins with this token; whether a line may begin here, and how many indents are open.
+#[tactic(auto, using(crate::proofs::Cutting::none_open, crate::proofs::Cutting::some_open))]
+fn begins(line: bool, indents: usize, kind: TokenKind) -> bool
+    ensures { result ≡ line && (pieces.is_zero indents && pieces.begins_statement kind) }
+{
+    line && indents == 0 && begins_statement(kind)
+}
+
+/// How many indents are open after a token.
+fn indents_after(kind: TokenKind, indents: usize) -> usize
+    requires { indents + 1 < 2 ^ 64 }
+    ensures is { result ≡ pieces.indents_after kind indents }
+    ensures within { result ≤ indents + 1 }
+{
+    match kind {
+        TokenKind::Indent => indents + 1,
+        TokenKind::Outdent => indents.saturating_sub(1),
+        _ => indents,
+    }
+}
+
+/// How many tokens the first top-level statement has.
+#[tactic(auto, using(crate::proofs::Cutting::rest_len_ahead, crate::proofs::Cutting::rest_len_over, crate::proofs::Ahead::one_less))]
+pub fn piece_len(tokens: &Tokens<'_>) -> usize
+    ensures len { result ≡ spec.piece_len tokens.now }
+    ensures within { result ≤ length tokens.now }
+{
+    let mut rest = tokens.here();
+    let mut line = false;
+    let mut indents = 0;
+    // No more indents are open than tokens were passed.
+    for len in 0..tokens.left() {
+        match rest.peek() {
+            Some(kind) => {
+                if begins(line, indents, kind) {
+                    return len;
+                }
+                line = ends_line(kind);
+                indents = indents_after(kind, indents);
+                rest.advance();
+            }
+            None => return len,
+        }
+    }
+    tokens.left()
+}

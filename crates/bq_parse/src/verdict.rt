@@ -1,0 +1,71 @@
+//! What a top-level statement reads as.
+
+ghost use Rattle.std.specs.Prelude.{◌≡◌, Ok, Err, MatchResult};
+ghost use Rattle.bq_parse.specs.Answers.{at_line, itself};
+ghost use Rattle.bq_parse_grammar.specs.Parses as spec;
+ghost use Rattle.bq_base.specs.Fault.{fault_at};
+ghost use Rattle.bq_base.specs.Gives.{Gives};
+ghost use Rattle.bq_base.specs.declared.fault.SourceErr.TheVariants.{Bad};
+
+use crate::left_out::{barred_in_build, leaves_out};
+use crate::nested::nested_def;
+use crate::nesting::{MAX_NESTING, nests};
+use bq_base::{Fault, FaultKind, SourceErr};
+use bq_parse_cursor::Tokens;
+use bq_parse_grammar::{FileKind, SyntaxErr, TopLevel};
+use bq_parse_statement::top_level;
+use std::alloc::Global;
+
+fn is_build(kind: FileKind) -> bool
+    ensures { result ≡ spec.is_build kind }
+{
+    match kind {
+        FileKind::Build => true,
+        FileKind::Bzl => false,
+    }
+}
+
+/// Of a statement that has a tree: F12 where the language leaves it out, else F13 where it may not stand in a BUILD file.
+fn allowed(kind: FileKind, tokens: &Tokens<'_>, statement: &TopLevel) -> Result<(), FaultKind>
+    ensures { Gives (λ _. statement.now) itself result (spec.allowed kind tokens.now statement.now) }
+{
+    if leaves_out(tokens) || nested_def(MAX_NESTING, false, &statement.statement) {
+        return Err(FaultKind::LeftOut);
+    }
+    if is_build(kind) && barred_in_build(tokens) {
+        return Err(FaultKind::NotInBuild);
+    }
+    Ok(())
+}
+
+/// A statement, or its fault at its first line. It is a function over any value, since to let go of one is a single step for the proof.
+fn at_line<T: Drop>(judged: Result<(), FaultKind>, statement: T, line: u32) -> Result<T, SourceErr>
+    ensures { MatchResult judged (λ _. result ≡ Ok statement) (λ why. result ≡ Err (Bad (fault_at why line))) }
+{
+    match judged {
+        Ok(()) => Ok(statement),
+        Err(why) => Err(SourceErr::Bad(Fault::at(why, line))),
+    }
+}
+
+/// The top-level statement that these tokens are. At its first line: F11 where too many brackets and indents are open, else F10
+/// where it has no tree, else F12, else F13.
+#[tactic(auto, unfolding(bq_parse_grammar::specs::Parses::verdict))]
+pub fn verdict(alloc: Global, kind: FileKind, tokens: &Tokens<'_>) -> Result<TopLevel, SourceErr>
+    ensures { Gives itself Bad result (at_line tokens.now (spec.verdict kind tokens.now)) }
+{
+    let line = tokens.line();
+    if !nests(tokens) {
+        return Err(SourceErr::Bad(Fault::at(FaultKind::Nesting, line)));
+    }
+    let mut rest = tokens.here();
+    match top_level(alloc, &mut rest, MAX_NESTING + 1) {
+        Ok(statement) => {
+            let judged = allowed(kind, tokens, &statement);
+            at_line(judged, statement, line)
+        }
+        Err(SyntaxErr::Memory) => Err(SourceErr::Memory),
+        Err(SyntaxErr::Syntax) => Err(SourceErr::Bad(Fault::at(FaultKind::Syntax, line))),
+        Err(SyntaxErr::Lambda) => Err(SourceErr::Bad(Fault::at(FaultKind::LeftOut, line))),
+    }
+}

@@ -1,0 +1,46 @@
+-- What a place in the tokens shows.
+use Rattle.std.proofs.Common.{◌≡◌, ◌∙◌, ℕ, zero, suc, ◌-◌, Bool, true, false, ◌&&◌, List, [], ◌∷◌, length, drop, Some, refl, ap, sym, All}
+use Rattle.std.proofs.lemmas.List.Elements.{All-head}
+use Rattle.std.specs.Prelude.{IsSome}
+use Rattle.bq_source.specs.declared.token.TokenKind.{TokenKind}
+use Rattle.bq_source.specs.declared.token.TokenKind.TheVariants as k
+use Rattle.bq_source.specs.declared.token.Token.{Token}
+use Rattle.bq_source.specs.Spelling.{Lies}
+use Rattle.bq_source.specs.StringLiteral.{string_value}
+use Rattle.bq_source.specs.Token.{same_kind}
+use Rattle.bq_parse_grammar.specs.Lexeme.{Lexeme, lexemes}
+use Rattle.bq_parse_grammar.specs.Turns.{sees, next}
+use Rattle.bq_parse_grammar.specs.Reading.{spelling_of, is_named}
+use Rattle.bq_parse_cursor.specs.Tokens.{kind_ahead}
+
+pub as_many : (text : List ℕ) (ts : List Token) → length (lexemes text ts) ≡ length ts
+as_many text [] = refl
+as_many text (t ∷ ts) = ap suc (as_many text ts)
+
+-- the tokens after so many of a text
+pub later : (text : List ℕ) (n : ℕ) (ts : List Token) → drop n (lexemes text ts) ≡ lexemes text (drop n ts)
+later text zero ts = refl
+later text (suc n) [] = refl
+later text (suc n) (t ∷ ts) = later text n ts
+
+-- what the last of so many tokens is, found by the tokens or by their spellings
+pub ended : (text : List ℕ) (q : TokenKind) (ts : List Token) (left n : ℕ) → n ≡ length ts - left - 1
+    → sees q (lexemes text (drop n ts)) ≡ sees q (drop (length (lexemes text ts) - left - 1) (lexemes text ts))
+ended text q ts left n e =
+    ap (λ m. sees q (lexemes text (drop m ts))) e ∙ (sym (ap (sees q) (later text (length ts - left - 1) ts)) ∙ ap (λ m. sees q (drop (m - left - 1) (lexemes text ts))) (sym (as_many text ts)))
+
+-- a string literal that comes next has a value
+pub string_ahead : (text : List ℕ) (ts : List Token) → All (Lies text) ts → kind_ahead (lexemes text ts) ≡ Some k.String
+    → IsSome (string_value (spelling_of (lexemes text ts)))
+string_ahead text [] lie next_is = absurd (cc)
+string_ahead text (t ∷ ts) lie next_is = let is : t.kind ≡ k.String = cc in (All-head (Lies text) t ts lie).quoted is
+
+and_false : (b : Bool) → (b && false) ≡ false
+and_false true = refl
+and_false false = refl
+
+-- a named argument, by its first two tokens
+pub named_ahead : (ts : List Lexeme) → is_named ts ≡ (sees k.Identifier ts && sees k.Assign (next ts))
+named_ahead [] = refl
+named_ahead (t ∷ []) = sym (and_false (same_kind t.kind k.Identifier))
+named_ahead (t ∷ u ∷ us) = refl

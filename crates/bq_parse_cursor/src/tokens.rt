@@ -1,0 +1,352 @@
+//! A place in the tokens of a text, and the steps that every production is made of.
+
+ghost use Rattle.std.specs.Prelude.{◌≡◌, All, length, Some};
+ghost use Rattle.bq_source.specs.Spelling.{Lies};
+ghost use Rattle.bq_parse_grammar.specs.Lexeme.{lexemes};
+ghost use Rattle.bq_parse_grammar.specs.Turns.{Reads};
+ghost use Rattle.bq_parse_grammar.specs.Turns as spec;
+ghost use Rattle.bq_parse_grammar.specs.Reading as reading;
+ghost use Rattle.bq_parse_grammar.specs.ReadingStatements as statements;
+ghost use Rattle.bq_parse_grammar.specs.Statements as grammar;
+ghost use Rattle.bq_parse_grammar.specs.Operators as operators;
+ghost use Rattle.bq_source.specs.Number as numbers;
+ghost use Rattle.bq_source.specs.StringLiteral as strings;
+ghost use Rattle.bq_source.specs.declared.token.TokenKind.TheVariants as kind;
+ghost use Rattle.bq_parse_cursor.specs.Tokens as ahead;
+
+use crate::operators::{augmented, comparison, negation, operator_at, sign};
+use bq_base::Bytes;
+use bq_parse_grammar::{Comparison, Expr, Identifier, Operator, SyntaxErr, UnaryOperator};
+use bq_source::{Token, TokenKind, int_value, string_value};
+use std::alloc::Global;
+use std::marker::Model;
+
+#[derive(Drop)]
+pub struct Tokens<'a> {
+    text: &'a [u8],
+    rest: &'a [Token],
+}
+
+impl<'a> Model for Tokens<'a> {
+    ghost use Rattle.std.specs.Prelude.{List};
+    ghost use Rattle.bq_parse_grammar.specs.Lexeme.{Lexeme};
+
+    ghost Value = { List Lexeme };
+
+    ghost use Rattle.bq_parse_cursor.specs.Tokens.{lexemes_ahead, IsInText};
+
+    ghost view = { lexemes_ahead };
+
+    ghost invariant = { IsInText };
+}
+
+impl<'a> Tokens<'a> {
+    pub fn new(text: &'a [u8], rest: &'a [Token]) -> Tokens<'a>
+        requires { All (Lies text.now) rest.now }
+        ensures { result ≡ lexemes text.now rest.now }
+    {
+        Tokens { text, rest }
+    }
+
+    /// How many tokens are left.
+    pub fn left(&self) -> usize
+        ensures { result ≡ length self.now }
+    {
+        self.rest.len()
+    }
+
+    pub fn peek(&self) -> Option<TokenKind>
+        ensures { result ≡ ahead.kind_ahead self.now }
+    {
+        match self.rest.first() {
+            Some(token) => Some(token.kind),
+            None => None,
+        }
+    }
+
+    pub fn sees(&self, kind: TokenKind) -> bool
+        ensures { result ≡ spec.sees kind self.now }
+    {
+        match self.rest.first() {
+            Some(token) => token.kind.is(kind),
+            None => false,
+        }
+    }
+
+    /// The line of the next token; 0 where there is none.
+    pub fn line(&self) -> u32
+        ensures { result ≡ grammar.line_of self.now }
+    {
+        match self.rest.first() {
+            Some(token) => token.line,
+            None => 0,
+        }
+    }
+
+    /// The same place.
+    pub fn here(&self) -> Tokens<'a>
+        ensures { result ≡ self.now }
+    {
+        Tokens {
+            text: self.text,
+            rest: self.rest,
+        }
+    }
+
+    /// The last of the tokens from here to `rest` is of this kind.
+    #[tactic(auto, using(crate::proofs::Ahead::ended))]
+    pub fn ended_by(&self, kind: TokenKind, rest: &Tokens<'_>) -> bool
+        ensures { result ≡ statements.ended_by kind self.now rest.now }
+    {
+        let at = self
+            .rest
+            .len()
+            .saturating_sub(rest.left())
+            .saturating_sub(1);
+        let last = Tokens {
+            text: self.text,
+            rest: &self.rest[at..],
+        };
+        last.sees(kind)
+    }
+
+    /// The place after the next token.
+    pub fn following(&self) -> Tokens<'a>
+        ensures { result ≡ spec.next self.now }
+    {
+        let mut following = Tokens {
+            text: self.text,
+            rest: self.rest,
+        };
+        following.advance();
+        following
+    }
+
+    /// A named argument comes next.
+    #[tactic(auto, using(crate::proofs::Ahead::named_ahead))]
+    pub fn sees_named(&self) -> bool
+        ensures { result ≡ reading.is_named self.now }
+    {
+        self.sees(TokenKind::Identifier) && self.following().sees(TokenKind::Assign)
+    }
+
+    /// The bytes of the next token.
+    pub fn spelling(&self) -> &'a [u8]
+        ensures { result.now ≡ reading.spelling_of self.now }
+    {
+        match self.rest.first() {
+            Some(token) => &self.text[token.start as usize..token.end as usize],
+            None => &[],
+        }
+    }
+
+    /// Passes the next token.
+    pub fn advance(&mut self)
+        ensures { self.new ≡ spec.next self.old }
+    {
+        if !self.rest.is_empty() {
+            self.rest = &self.rest[1..];
+        }
+    }
+
+    /// Passes the next token if it is of this kind.
+    pub fn eat(&mut self, kind: TokenKind) -> bool
+        ensures found { result ≡ spec.sees kind self.old }
+        ensures after { self.new ≡ spec.after kind self.old }
+    {
+        let found = self.sees(kind);
+        if found {
+            self.advance();
+        }
+        found
+    }
+
+    /// Passes the next token, which must be of this kind.
+    pub fn expect(&mut self, kind: TokenKind) -> Result<(), SyntaxErr>
+        ensures { Reads (spec.expect kind self.old) result self.new }
+    {
+        if self.sees(kind) {
+            self.advance();
+            Ok(())
+        } else {
+            Err(SyntaxErr::Syntax)
+        }
+    }
+
+    /// A word, and what it names.
+    pub fn word(&mut self, alloc: Global) -> Result<Identifier, SyntaxErr>
+        ensures { Reads (reading.word self.old) result self.new }
+    {
+        match self.rest.first() {
+            Some(token) if token.kind.is(TokenKind::Identifier) => {
+                let line = token.line;
+                let name = Bytes::from_slice(alloc, self.spelling())?;
+                self.advance();
+                Ok(Identifier { name, line })
+            }
+            _ => Err(SyntaxErr::Syntax),
+        }
+    }
+
+    /// The number that the next token, an integer literal, stands for.
+    pub fn int(&mut self) -> Result<Expr, SyntaxErr>
+        ensures { Reads (reading.int_of (numbers.int_value (reading.spelling_of self.old)) (spec.next self.old)) result self.new }
+    {
+        match int_value(self.spelling()) {
+            Some(n) => {
+                self.advance();
+                Ok(Expr::Int(n))
+            }
+            None => Err(SyntaxErr::Syntax),
+        }
+    }
+
+    /// The bytes that the next token, a string literal, stands for.
+    pub fn string(&mut self, alloc: Global) -> Result<Expr, SyntaxErr>
+        requires { ahead.kind_ahead self.old ≡ Some kind.String }
+        ensures { Reads (reading.string_of (strings.string_value (reading.spelling_of self.old)) (spec.next self.old)) result self.new }
+    {
+        // PROOF: it looks into the place.
+        let _ = self.rest.len();
+        let value = string_value(alloc, self.spelling())?;
+        self.advance();
+        Ok(Expr::String(value))
+    }
+
+    /// What the next token, a string literal, stands for.
+    pub fn text(&mut self, alloc: Global) -> Result<Bytes, SyntaxErr>
+        requires { ahead.kind_ahead self.old ≡ Some kind.String }
+        ensures { Reads (statements.text_of (strings.string_value (reading.spelling_of self.old)) (spec.next self.old)) result self.new }
+    {
+        // PROOF: it looks into the place.
+        let _ = self.rest.len();
+        let value = string_value(alloc, self.spelling())?;
+        self.advance();
+        Ok(value)
+    }
+
+    /// A sign comes next.
+    pub fn sees_sign(&self) -> bool
+        ensures { result ≡ reading.has operators.sign self.now }
+    {
+        match self.rest.first() {
+            Some(token) => sign(token.kind).is_some(),
+            None => false,
+        }
+    }
+
+    pub fn sign(&mut self) -> Result<UnaryOperator, SyntaxErr>
+        ensures { Reads (reading.looked_up operators.sign self.old) result self.new }
+    {
+        match self.rest.first() {
+            Some(token) => match sign(token.kind) {
+                Some(found) => {
+                    self.advance();
+                    Ok(found)
+                }
+                None => Err(SyntaxErr::Syntax),
+            },
+            None => Err(SyntaxErr::Syntax),
+        }
+    }
+
+    /// `not` comes next.
+    pub fn sees_negation(&self) -> bool
+        ensures { result ≡ reading.has operators.negation self.now }
+    {
+        match self.rest.first() {
+            Some(token) => negation(token.kind).is_some(),
+            None => false,
+        }
+    }
+
+    pub fn negation(&mut self) -> Result<UnaryOperator, SyntaxErr>
+        ensures { Reads (reading.looked_up operators.negation self.old) result self.new }
+    {
+        match self.rest.first() {
+            Some(token) => match negation(token.kind) {
+                Some(found) => {
+                    self.advance();
+                    Ok(found)
+                }
+                None => Err(SyntaxErr::Syntax),
+            },
+            None => Err(SyntaxErr::Syntax),
+        }
+    }
+
+    /// A comparison of one token comes next.
+    pub fn sees_comparison(&self) -> bool
+        ensures { result ≡ reading.has operators.comparison self.now }
+    {
+        match self.rest.first() {
+            Some(token) => comparison(token.kind).is_some(),
+            None => false,
+        }
+    }
+
+    pub fn comparison(&mut self) -> Result<Comparison, SyntaxErr>
+        ensures { Reads (reading.looked_up operators.comparison self.old) result self.new }
+    {
+        match self.rest.first() {
+            Some(token) => match comparison(token.kind) {
+                Some(found) => {
+                    self.advance();
+                    Ok(found)
+                }
+                None => Err(SyntaxErr::Syntax),
+            },
+            None => Err(SyntaxErr::Syntax),
+        }
+    }
+
+    /// An operator of this level comes next.
+    pub fn sees_operator(&self, level: usize) -> bool
+        ensures { result ≡ reading.has (operators.operator_at level) self.now }
+    {
+        match self.rest.first() {
+            Some(token) => operator_at(level, token.kind).is_some(),
+            None => false,
+        }
+    }
+
+    pub fn operator(&mut self, level: usize) -> Result<Operator, SyntaxErr>
+        ensures { Reads (reading.looked_up (operators.operator_at level) self.old) result self.new }
+    {
+        match self.rest.first() {
+            Some(token) => match operator_at(level, token.kind) {
+                Some(found) => {
+                    self.advance();
+                    Ok(found)
+                }
+                None => Err(SyntaxErr::Syntax),
+            },
+            None => Err(SyntaxErr::Syntax),
+        }
+    }
+
+    /// The operator of an augmented assignment comes next.
+    pub fn sees_augmented(&self) -> bool
+        ensures { result ≡ reading.has operators.augmented self.now }
+    {
+        match self.rest.first() {
+            Some(token) => augmented(token.kind).is_some(),
+            None => false,
+        }
+    }
+
+    pub fn augmented(&mut self) -> Result<Operator, SyntaxErr>
+        ensures { Reads (reading.looked_up operators.augmented self.old) result self.new }
+    {
+        match self.rest.first() {
+            Some(token) => match augmented(token.kind) {
+                Some(found) => {
+                    self.advance();
+                    Ok(found)
+                }
+                None => Err(SyntaxErr::Syntax),
+            },
+            None => Err(SyntaxErr::Syntax),
+        }
+    }
+}

@@ -1,0 +1,43 @@
+-- A word that comes next: a variable or an operand is its name.
+use Rattle.std.proofs.Common.{◌≡◌, ◌∙◌, Bool, true, if◌then◌else◌, List, [], ◌∷◌, Some, Ok, Err, ap, sym}
+use denote.Enum.Bare.{true_same}
+use Rattle.bq_source.specs.contracts.token.TokenKind.{the_type}
+use Rattle.bq_source.specs.declared.token.TokenKind.{TokenKind}
+use Rattle.bq_source.specs.declared.token.TokenKind.TheVariants as k
+use Rattle.bq_source.specs.Token.{same_kind}
+use Rattle.bq_parse_grammar.specs.Lexeme.{Lexeme}
+use Rattle.bq_parse_grammar.specs.Literals.{identifier}
+use Rattle.bq_parse_grammar.specs.declared.refusal.SyntaxErr.TheVariants.{Syntax}
+use Rattle.bq_parse_grammar.specs.declared.tree.Identifier.{Identifier}
+use Rattle.bq_parse_grammar.specs.declared.tree.Expr.{Expr}
+use Rattle.bq_parse_grammar.specs.declared.tree.Expr.TheVariants as e
+use Rattle.bq_parse_grammar.specs.declared.tree.Nested.{Nested}
+use Rattle.bq_parse_grammar.specs.declared.tree.AssignTarget.{AssignTarget}
+use Rattle.bq_parse_grammar.specs.declared.tree.AssignTarget.TheVariants as target
+use Rattle.bq_parse_grammar.specs.Turns.{Found, Parse, ◌>>=◌}
+use Rattle.bq_parse_grammar.specs.Reading.{word, var, var_by, operand, operand_by}
+use Rattle.bq_parse_cursor.specs.Tokens.{kind_ahead}
+
+kind_is : (a b : TokenKind) → a ≡ b → same_kind a b ≡ true
+unfolding same_kind
+kind_is a b e = true_same the_type a b e
+
+abbrev name_if : {A : Type 0} → (Identifier → A) → Lexeme → List Lexeme → Bool → Found A
+name_if f t ts b = (if b then Ok (identifier t, ts) else Err Syntax) >>= λ n rest. Ok (f n, rest)
+
+-- where a word comes next, a variable or an operand is its name
+pub word_is_var : (inner : Parse AssignTarget) (ts : List Lexeme) → kind_ahead ts ≡ Some k.Identifier
+    → var inner ts ≡ (word ts >>= λ n rest. Ok (target.Name n, rest))
+unfolding var
+word_is_var inner [] next_is = absurd (cc)
+word_is_var inner (t ∷ ts) next_is =
+    let is : t.kind ≡ k.Identifier = cc in
+    ap (λ q. var_by inner q t ts) is ∙ sym (ap (name_if target.Name t ts) (kind_is t.kind k.Identifier is))
+
+pub word_is_operand : (inner : Nested → Parse Expr) (variables : Parse AssignTarget) (ts : List Lexeme) → kind_ahead ts ≡ Some k.Identifier
+    → operand inner variables ts ≡ (word ts >>= λ n rest. Ok (e.Name n, rest))
+unfolding operand
+word_is_operand inner variables [] next_is = absurd (cc)
+word_is_operand inner variables (t ∷ ts) next_is =
+    let is : t.kind ≡ k.Identifier = cc in
+    ap (λ q. operand_by inner variables q t ts) is ∙ sym (ap (name_if e.Name t ts) (kind_is t.kind k.Identifier is))

@@ -1,0 +1,21 @@
+use Rattle.std.proofs.Common.{arith}
+use Rattle.std.proofs.lemmas.Grind.{common_steps}
+use Rattle.bq_parse_grammar.specs.Turns.{repeat}
+use Rattle.bq_parse_expression.proofs.LoopTurns.{turns_more, turns_over}
+use Rattle.bq_parse_expression.proofs.grammar.Grammar.and_operations.Goals as goal
+
+pub loop-turn-preserved : goal.loop-turn-preserved
+unfolding repeat
+loop-turn-preserved g c = grind (arith, common_steps, turns_more, turns_over)
+
+pub returns-then-not-sees_operator : goal.returns-then-not-sees_operator
+unfolding repeat
+returns-then-not-sees_operator g c = grind (arith, common_steps, turns_more, turns_over)
+
+pub returns : goal.returns
+unfolding repeat
+returns g c = grind (arith, common_steps, turns_more, turns_over)
+
+pub returns-in_err-and_operation : goal.returns-in_err-and_operation
+unfolding repeat
+returns-in_err-and_operation g c = grind (arith, common_steps, turns_more, turns_over)

@@ -1,0 +1,23 @@
+-- Function values that read what stands in brackets, with so many brackets still to open.
+use Rattle.std.specs.Prelude.{ℕ, List, Result}
+use Rattle.std.specs.declared.alloc.Global.{Global}
+use denote.Ref.{MutBor}
+use Rattle.bq_parse_grammar.specs.Lexeme.{Lexeme}
+use Rattle.bq_parse_grammar.specs.declared.refusal.SyntaxErr.{SyntaxErr}
+use Rattle.bq_parse_grammar.specs.declared.tree.Expr.{Expr}
+use Rattle.bq_parse_grammar.specs.declared.tree.Nested.{Nested}
+use Rattle.bq_parse_grammar.specs.declared.tree.AssignTarget.{AssignTarget}
+use Rattle.bq_parse_grammar.specs.Turns.{Reads}
+use Rattle.bq_parse_grammar.specs.Reading.{phrase, var_to}
+
+pub record ReadsNested (depth : ℕ) (pre : Global → MutBor (List Lexeme) → ℕ → Nested → Type 0)
+    (post : Global → MutBor (List Lexeme) → ℕ → Nested → Result Expr SyntaxErr → MutBor (List Lexeme) → Type 0) : Type 0 where
+  pub callable : (alloc : Global) (old : MutBor (List Lexeme)) (which : Nested) → pre alloc old depth which
+  pub reads : (alloc : Global) (old new : MutBor (List Lexeme)) (which : Nested) (r : Result Expr SyntaxErr) → post alloc old depth which r new
+      → Reads (phrase depth which old.now) r new.now
+
+pub record ReadsVar (depth : ℕ) (pre : Global → MutBor (List Lexeme) → ℕ → Type 0)
+    (post : Global → MutBor (List Lexeme) → ℕ → Result AssignTarget SyntaxErr → MutBor (List Lexeme) → Type 0) : Type 0 where
+  pub callable : (alloc : Global) (old : MutBor (List Lexeme)) → pre alloc old depth
+  pub reads : (alloc : Global) (old new : MutBor (List Lexeme)) (r : Result AssignTarget SyntaxErr) → post alloc old depth r new
+      → Reads (var_to depth old.now) r new.now

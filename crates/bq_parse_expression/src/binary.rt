@@ -1,0 +1,367 @@
+//! Operators, from the tightest to conditionals.
+
+ghost use Rattle.std.specs.Prelude.{◌≡◌, ◌-◌, ◌<◌, [], length, IfOk};
+ghost use Rattle.bq_parse_grammar.specs.Turns.{Reads};
+ghost use Rattle.bq_parse_grammar.specs.Turns as turns;
+ghost use Rattle.bq_parse_grammar.specs.Operators as operators;
+ghost use Rattle.bq_parse_grammar.specs.Grammar as grammar;
+ghost use Rattle.bq_parse_grammar.specs.Reading as spec;
+ghost use Rattle.bq_parse_grammar.specs.declared.tree.Choice.{roll-Choice};
+ghost use Rattle.bq_parse_expression.specs.Nested.{ReadsNested};
+
+use crate::grammar::Grammar;
+use bq_parse_cursor::Tokens;
+use bq_parse_grammar::{
+    Choice, Comparison, Expr, Nested, Operation, Operator, SyntaxErr, UnaryOperator,
+};
+use bq_source::TokenKind;
+use sqlite_items::{Boxed, Items};
+use std::alloc::{AllocError, Global};
+
+/// An operand and what is done to it; the operand alone where nothing is.
+fn binary_of(first: Boxed<Expr>, operations: Items<Operation>) -> Expr
+    ensures { result ≡ grammar.binary_of first operations }
+{
+    // PROOF: it is called where an operator was seen, so at least one operation was read.
+    if operations.is_empty() {
+        return first.into_inner();
+    }
+    Expr::Binary(first, operations)
+}
+
+fn unary_of(
+    alloc: Global,
+    operators: Items<UnaryOperator>,
+    operand: Expr,
+) -> Result<Expr, AllocError>
+    ensures { IfOk result (λ x. x ≡ grammar.unary_of operators operand) }
+{
+    if operators.is_empty() {
+        return Ok(operand);
+    }
+    Ok(Expr::Unary(operators, Boxed::new(alloc, operand)?))
+}
+
+/// { '+' | '-' | '~' }
+#[tactic(auto, using(crate::proofs::LoopTurns::turns_more, crate::proofs::LoopTurns::turns_over), unfolding(bq_parse_grammar::specs::Turns::repeat))]
+fn signs(alloc: Global, tokens: &mut Tokens<'_>) -> Result<Items<UnaryOperator>, SyntaxErr>
+    ensures { Reads (turns.repeat (spec.has operators.sign) (spec.looked_up operators.sign) [] tokens.old) result tokens.new }
+{
+    let mut found = Items::new(alloc);
+    // Each turn takes a token.
+    for _turn in 0..tokens.left() {
+        if !tokens.sees_sign() {
+            return Ok(found);
+        }
+        found.push(tokens.sign()?)?;
+    }
+    Ok(found)
+}
+
+/// { 'not' }
+#[tactic(auto, using(crate::proofs::LoopTurns::turns_more, crate::proofs::LoopTurns::turns_over), unfolding(bq_parse_grammar::specs::Turns::repeat))]
+fn negations(alloc: Global, tokens: &mut Tokens<'_>) -> Result<Items<UnaryOperator>, SyntaxErr>
+    ensures { Reads (turns.repeat (spec.has operators.negation) (spec.looked_up operators.negation) [] tokens.old) result tokens.new }
+{
+    let mut found = Items::new(alloc);
+    // Each turn takes a token.
+    for _turn in 0..tokens.left() {
+        if !tokens.sees_negation() {
+            return Ok(found);
+        }
+        found.push(tokens.negation()?)?;
+    }
+    Ok(found)
+}
+
+/// The choices and the last value; the value alone where there is no choice.
+fn chosen_of(choices: Items<Choice>, value: Boxed<Expr>) -> Expr
+    ensures { result ≡ spec.chosen_of (choices, value) }
+{
+    // PROOF: it is called where `if` was seen, so at least one choice was read.
+    if choices.is_empty() {
+        return value.into_inner();
+    }
+    Expr::Conditional(choices, value)
+}
+
+fn choice_of(value: Boxed<Expr>, condition: Boxed<Expr>) -> Choice
+    ensures { result ≡ roll-Choice (record { value = value; condition = condition }) }
+{
+    Choice {
+        value: value.into_inner(),
+        condition: condition.into_inner(),
+    }
+}
+
+impl<F: Fn(Global, &mut Tokens<'_>, usize, Nested) -> Result<Expr, SyntaxErr>> Grammar<F> {
+    /// Unary = { '+' | '-' | '~' } Primary
+    #[tactic(auto, unfolding(bq_parse_grammar::specs::Reading::prefixed))]
+    fn unary(&self, tokens: &mut Tokens<'_>) -> Result<Expr, SyntaxErr>
+        requires { ReadsNested self.now.depth (F.pre self.now.phrase) (F.post self.now.phrase) }
+        ensures { Reads (spec.unary (spec.primary (spec.phrase self.now.depth) (spec.variables_to self.now.depth)) tokens.old) result tokens.new }
+    {
+        let signs = signs(self.alloc, tokens)?;
+        let operand = self.primary(tokens)?;
+        Ok(unary_of(self.alloc, signs, operand)?)
+    }
+
+    /// Bor = Xor { '|' Xor }, and so on down to Prod = Unary { ('*' | '//' | '%' | '/') Unary }: Prod is level 1, Bor level 6
+    #[cycle(binary)]
+    #[tactic(auto, using(crate::proofs::LoopTurns::level_above, crate::proofs::LoopTurns::none_follow), unfolding(bq_parse_grammar::specs::Reading::chain))]
+    fn binary(&self, tokens: &mut Tokens<'_>, level: usize) -> Result<Expr, SyntaxErr>
+        requires { ReadsNested self.now.depth (F.pre self.now.phrase) (F.post self.now.phrase) }
+        ensures { Reads (spec.binary (spec.primary (spec.phrase self.now.depth) (spec.variables_to self.now.depth)) level tokens.old) result tokens.new }
+    {
+        if level == 0 {
+            return self.unary(tokens);
+        }
+        let first = self.binary(tokens, level - 1)?;
+        if !tokens.sees_operator(level) {
+            return Ok(first);
+        }
+        let first = Boxed::new(self.alloc, first)?;
+        let operations = self.operations(tokens, level)?;
+        Ok(binary_of(first, operations))
+    }
+
+    /// { operator Operand }
+    #[tactic(auto, using(crate::proofs::LoopTurns::turns_more, crate::proofs::LoopTurns::turns_over), unfolding(bq_parse_grammar::specs::Turns::repeat))]
+    #[cycle(binary)]
+    fn operations(
+        &self,
+        tokens: &mut Tokens<'_>,
+        level: usize,
+    ) -> Result<Items<Operation>, SyntaxErr>
+        requires chained { 0 < level }
+        requires nested { ReadsNested self.now.depth (F.pre self.now.phrase) (F.post self.now.phrase) }
+        ensures { Reads (turns.repeat (spec.has (operators.operator_at level)) (spec.operation level (spec.binary (spec.primary (spec.phrase self.now.depth) (spec.variables_to self.now.depth)) (level - 1))) [] tokens.old) result tokens.new }
+    {
+        let mut found = Items::new(self.alloc);
+        // Each turn takes a token.
+        for _turn in 0..tokens.left() {
+            if !tokens.sees_operator(level) {
+                return Ok(found);
+            }
+            found.push(self.operation(tokens, level)?)?;
+        }
+        Ok(found)
+    }
+
+    /// operator Operand
+    #[cycle(binary)]
+    #[tactic(auto, unfolding(bq_parse_grammar::specs::Reading::operation))]
+    fn operation(&self, tokens: &mut Tokens<'_>, level: usize) -> Result<Operation, SyntaxErr>
+        requires chained { 0 < level }
+        requires nested { ReadsNested self.now.depth (F.pre self.now.phrase) (F.post self.now.phrase) }
+        ensures { Reads (spec.operation level (spec.binary (spec.primary (spec.phrase self.now.depth) (spec.variables_to self.now.depth)) (level - 1)) tokens.old) result tokens.new }
+    {
+        let operator = tokens.operator(level)?;
+        Ok(Operation {
+            operator,
+            operand: self.binary(tokens, level - 1)?,
+        })
+    }
+
+    /// CompOp = '==' | '!=' | '<' | '>' | '<=' | '>=' | 'in' | 'not' 'in'
+    #[tactic(auto, unfolding(bq_parse_grammar::specs::Reading::comp_op))]
+    fn comp_op(&self, tokens: &mut Tokens<'_>) -> Result<Comparison, SyntaxErr>
+        ensures { Reads (spec.comp_op tokens.old) result tokens.new }
+    {
+        if tokens.eat(TokenKind::Not) {
+            tokens.expect(TokenKind::In)?;
+            return Ok(Comparison::NotIn);
+        }
+        tokens.comparison()
+    }
+
+    /// Comp = Bor [ CompOp Bor ]
+    #[tactic(auto, unfolding(bq_parse_grammar::specs::Reading::comp))]
+    fn comp(&self, tokens: &mut Tokens<'_>) -> Result<Expr, SyntaxErr>
+        requires { ReadsNested self.now.depth (F.pre self.now.phrase) (F.post self.now.phrase) }
+        ensures { Reads (spec.comp (spec.primary (spec.phrase self.now.depth) (spec.variables_to self.now.depth)) tokens.old) result tokens.new }
+    {
+        let left = self.binary(tokens, 6)?;
+        if !(tokens.sees_comparison() || tokens.sees(TokenKind::Not)) {
+            return Ok(left);
+        }
+        let left = Boxed::new(self.alloc, left)?;
+        let comparison = self.comp_op(tokens)?;
+        let right = self.binary(tokens, 6)?;
+        Ok(Expr::Compare(left, comparison, Boxed::new(self.alloc, right)?))
+    }
+
+    /// Not = { 'not' } Comp
+    #[tactic(auto, unfolding(bq_parse_grammar::specs::Reading::prefixed))]
+    fn not_test(&self, tokens: &mut Tokens<'_>) -> Result<Expr, SyntaxErr>
+        requires { ReadsNested self.now.depth (F.pre self.now.phrase) (F.post self.now.phrase) }
+        ensures { Reads (spec.not_test (spec.primary (spec.phrase self.now.depth) (spec.variables_to self.now.depth)) tokens.old) result tokens.new }
+    {
+        let operators = negations(self.alloc, tokens)?;
+        let operand = self.comp(tokens)?;
+        Ok(unary_of(self.alloc, operators, operand)?)
+    }
+
+    /// 'and' not_test
+    #[tactic(auto, unfolding(bq_parse_grammar::specs::Reading::operation))]
+    fn and_operation(&self, tokens: &mut Tokens<'_>) -> Result<Operation, SyntaxErr>
+        requires { ReadsNested self.now.depth (F.pre self.now.phrase) (F.post self.now.phrase) }
+        ensures { Reads (spec.operation 9 (spec.not_test (spec.primary (spec.phrase self.now.depth) (spec.variables_to self.now.depth))) tokens.old) result tokens.new }
+    {
+        let operator = tokens.operator(9)?;
+        Ok(Operation {
+            operator,
+            operand: self.not_test(tokens)?,
+        })
+    }
+
+    /// The further operands of the chain.
+    #[tactic(auto, using(crate::proofs::LoopTurns::turns_more, crate::proofs::LoopTurns::turns_over), unfolding(bq_parse_grammar::specs::Turns::repeat))]
+    fn and_operations(&self, tokens: &mut Tokens<'_>) -> Result<Items<Operation>, SyntaxErr>
+        requires { ReadsNested self.now.depth (F.pre self.now.phrase) (F.post self.now.phrase) }
+        ensures { Reads (turns.repeat (spec.has (operators.operator_at 9)) (spec.operation 9 (spec.not_test (spec.primary (spec.phrase self.now.depth) (spec.variables_to self.now.depth)))) [] tokens.old) result tokens.new }
+    {
+        let mut found = Items::new(self.alloc);
+        // Each turn takes a token.
+        for _turn in 0..tokens.left() {
+            if !tokens.sees_operator(9) {
+                return Ok(found);
+            }
+            found.push(self.and_operation(tokens)?)?;
+        }
+        Ok(found)
+    }
+
+    /// And = not_test { 'and' not_test }
+    #[tactic(auto, using(crate::proofs::LoopTurns::none_follow), unfolding(bq_parse_grammar::specs::Reading::chain))]
+    fn and_test(&self, tokens: &mut Tokens<'_>) -> Result<Expr, SyntaxErr>
+        requires { ReadsNested self.now.depth (F.pre self.now.phrase) (F.post self.now.phrase) }
+        ensures { Reads (spec.and_test (spec.primary (spec.phrase self.now.depth) (spec.variables_to self.now.depth)) tokens.old) result tokens.new }
+    {
+        let first = self.not_test(tokens)?;
+        if !tokens.sees_operator(9) {
+            return Ok(first);
+        }
+        let first = Boxed::new(self.alloc, first)?;
+        let operations = self.and_operations(tokens)?;
+        Ok(binary_of(first, operations))
+    }
+
+    /// 'or' and_test
+    #[tactic(auto, unfolding(bq_parse_grammar::specs::Reading::operation))]
+    fn or_operation(&self, tokens: &mut Tokens<'_>) -> Result<Operation, SyntaxErr>
+        requires { ReadsNested self.now.depth (F.pre self.now.phrase) (F.post self.now.phrase) }
+        ensures { Reads (spec.operation 10 (spec.and_test (spec.primary (spec.phrase self.now.depth) (spec.variables_to self.now.depth))) tokens.old) result tokens.new }
+    {
+        let operator = tokens.operator(10)?;
+        Ok(Operation {
+            operator,
+            operand: self.and_test(tokens)?,
+        })
+    }
+
+    /// The further operands of the chain.
+    #[tactic(auto, using(crate::proofs::LoopTurns::turns_more, crate::proofs::LoopTurns::turns_over), unfolding(bq_parse_grammar::specs::Turns::repeat))]
+    fn or_operations(&self, tokens: &mut Tokens<'_>) -> Result<Items<Operation>, SyntaxErr>
+        requires { ReadsNested self.now.depth (F.pre self.now.phrase) (F.post self.now.phrase) }
+        ensures { Reads (turns.repeat (spec.has (operators.operator_at 10)) (spec.operation 10 (spec.and_test (spec.primary (spec.phrase self.now.depth) (spec.variables_to self.now.depth)))) [] tokens.old) result tokens.new }
+    {
+        let mut found = Items::new(self.alloc);
+        // Each turn takes a token.
+        for _turn in 0..tokens.left() {
+            if !tokens.sees_operator(10) {
+                return Ok(found);
+            }
+            found.push(self.or_operation(tokens)?)?;
+        }
+        Ok(found)
+    }
+
+    /// Or = and_test { 'or' and_test }
+    #[tactic(auto, using(crate::proofs::LoopTurns::none_follow), unfolding(bq_parse_grammar::specs::Reading::chain))]
+    fn or_test(&self, tokens: &mut Tokens<'_>) -> Result<Expr, SyntaxErr>
+        requires { ReadsNested self.now.depth (F.pre self.now.phrase) (F.post self.now.phrase) }
+        ensures { Reads (spec.or_test (spec.primary (spec.phrase self.now.depth) (spec.variables_to self.now.depth)) tokens.old) result tokens.new }
+    {
+        let first = self.and_test(tokens)?;
+        if !tokens.sees_operator(10) {
+            return Ok(first);
+        }
+        let first = Boxed::new(self.alloc, first)?;
+        let operations = self.or_operations(tokens)?;
+        Ok(binary_of(first, operations))
+    }
+
+    /// Choice = 'if' Or 'else' Or
+    #[tactic(auto, unfolding(bq_parse_grammar::specs::Reading::choice))]
+    fn choice(&self, tokens: &mut Tokens<'_>) -> Result<(Boxed<Expr>, Boxed<Expr>), SyntaxErr>
+        requires { ReadsNested self.now.depth (F.pre self.now.phrase) (F.post self.now.phrase) }
+        ensures { Reads (spec.choice (spec.primary (spec.phrase self.now.depth) (spec.variables_to self.now.depth)) tokens.old) result tokens.new }
+    {
+        tokens.expect(TokenKind::If)?;
+        let condition = Boxed::new(self.alloc, self.or_test(tokens)?)?;
+        tokens.expect(TokenKind::Else)?;
+        let value = self.or_test(tokens)?;
+        Ok((condition, Boxed::new(self.alloc, value)?))
+    }
+
+    /// { Choice }, after a first value: the choices, and the last value
+    #[tactic(auto, using(crate::proofs::LoopTurns::turns_more, crate::proofs::LoopTurns::turns_over), unfolding(bq_parse_grammar::specs::Turns::repeat))]
+    fn choices(
+        &self,
+        tokens: &mut Tokens<'_>,
+        mut value: Boxed<Expr>,
+    ) -> Result<(Items<Choice>, Boxed<Expr>), SyntaxErr>
+        requires { ReadsNested self.now.depth (F.pre self.now.phrase) (F.post self.now.phrase) }
+        ensures { Reads (turns.turns (spec.choice_turn (spec.primary (spec.phrase self.now.depth) (spec.variables_to self.now.depth))) turns.whole (length tokens.old) ([], value) tokens.old) result tokens.new }
+    {
+        let mut choices = Items::new(self.alloc);
+        // Each turn takes a token.
+        for _turn in 0..tokens.left() {
+            if !tokens.sees(TokenKind::If) {
+                return Ok((choices, value));
+            }
+            let (condition, other) = self.choice(tokens)?;
+            choices.push(choice_of(value, condition))?;
+            value = other;
+        }
+        Ok((choices, value))
+    }
+
+    /// { Choice }, after a first value
+    #[tactic(auto, using(crate::proofs::LoopTurns::no_choice), unfolding(bq_parse_grammar::specs::Reading::conditional))]
+    fn conditional(&self, tokens: &mut Tokens<'_>, value: Expr) -> Result<Expr, SyntaxErr>
+        requires { ReadsNested self.now.depth (F.pre self.now.phrase) (F.post self.now.phrase) }
+        ensures { Reads (spec.conditional (spec.primary (spec.phrase self.now.depth) (spec.variables_to self.now.depth)) value tokens.old) result tokens.new }
+    {
+        if !tokens.sees(TokenKind::If) {
+            return Ok(value);
+        }
+        let value = Boxed::new(self.alloc, value)?;
+        let (choices, last) = self.choices(tokens, value)?;
+        Ok(chosen_of(choices, last))
+    }
+
+    /// Test = Or { Choice } | 'lambda' ..
+    fn test(&self, tokens: &mut Tokens<'_>) -> Result<Expr, SyntaxErr>
+        requires { ReadsNested self.now.depth (F.pre self.now.phrase) (F.post self.now.phrase) }
+        ensures { Reads (spec.test (spec.primary (spec.phrase self.now.depth) (spec.variables_to self.now.depth)) tokens.old) result tokens.new }
+    {
+        if tokens.sees(TokenKind::Lambda) {
+            return Err(SyntaxErr::Lambda);
+        }
+        let value = self.or_test(tokens)?;
+        self.conditional(tokens, value)
+    }
+
+    /// What stands in brackets.
+    pub fn phrase_by(&self, tokens: &mut Tokens<'_>, which: Nested) -> Result<Expr, SyntaxErr>
+        requires { ReadsNested self.now.depth (F.pre self.now.phrase) (F.post self.now.phrase) }
+        ensures { Reads (spec.phrase_by (spec.primary (spec.phrase self.now.depth) (spec.variables_to self.now.depth)) which tokens.old) result tokens.new }
+    {
+        match which {
+            Nested::Or => self.or_test(tokens),
+            Nested::Test => self.test(tokens),
+        }
+    }
+}

@@ -1,0 +1,28 @@
+//! Steps that several productions end with or begin with, over any value, so that each is proved once.
+
+ghost use Rattle.std.specs.Prelude.{◌≡◌, [], ◌∷◌, IfOk, Ok};
+ghost use Rattle.bq_parse_grammar.specs.Turns.{Reads, ◌>>=◌ as and_then};
+ghost use Rattle.bq_parse_grammar.specs.Turns as turns;
+
+use bq_parse_cursor::Tokens;
+use bq_parse_grammar::SyntaxErr;
+use bq_source::TokenKind;
+use sqlite_items::Items;
+use std::alloc::{AllocError, Global};
+
+/// The list of one item.
+pub fn only<T: Drop>(alloc: Global, item: T) -> Result<Items<T>, AllocError>
+    ensures { IfOk result (λ items. items ≡ item ∷ []) }
+{
+    let mut found = Items::new(alloc);
+    found.push(item)?;
+    Ok(found)
+}
+
+/// The value, where the token that closes it comes next.
+pub fn closed<T: Drop>(tokens: &mut Tokens<'_>, close: TokenKind, value: T) -> Result<T, SyntaxErr>
+    ensures { Reads (and_then (turns.expect close tokens.old) (λ _ rest. Ok (value, rest))) result tokens.new }
+{
+    tokens.expect(close)?;
+    Ok(value)
+}

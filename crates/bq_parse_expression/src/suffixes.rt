@@ -1,0 +1,323 @@
+//! Primaries: an operand, and what is done to it.
+
+ghost use Rattle.std.specs.Prelude.{◌≡◌, [], ◌∷◌, Some, None};
+ghost use Rattle.bq_parse_grammar.specs.Turns.{Reads};
+ghost use Rattle.bq_parse_grammar.specs.Turns as turns;
+ghost use Rattle.bq_parse_grammar.specs.Grammar as grammar;
+ghost use Rattle.bq_parse_grammar.specs.Reading as spec;
+ghost use Rattle.bq_parse_grammar.specs.declared.arguments.ArgumentKind.TheVariants as argument_kind;
+ghost use Rattle.bq_parse_grammar.specs.declared.tree.Expr.TheVariants as e;
+ghost use Rattle.bq_parse_grammar.specs.declared.tree.Nested.TheVariants.{Test};
+ghost use Rattle.bq_source.specs.declared.token.TokenKind.TheVariants as kind;
+ghost use Rattle.bq_parse_expression.specs.Nested.{ReadsNested};
+
+use crate::grammar::Grammar;
+use crate::steps::{closed, only};
+use bq_base::Bytes;
+use bq_parse_cursor::Tokens;
+use bq_parse_grammar::{
+    Allowed, Argument, ArgumentKind, Expr, Identifier, Nested, Suffix, SyntaxErr,
+};
+use bq_source::TokenKind;
+use sqlite_items::{Boxed, Items};
+use std::alloc::Global;
+
+/// What may come after an argument of this kind; none where it may not stand.
+fn allowed_after(allowed: Allowed, kind: ArgumentKind) -> Option<Allowed>
+    ensures { result ≡ grammar.allowed_after allowed kind }
+{
+    match (allowed, kind) {
+        (Allowed::All, ArgumentKind::Positional) => Some(Allowed::All),
+        (Allowed::All, ArgumentKind::Named) => Some(Allowed::AfterNamed),
+        (Allowed::All, ArgumentKind::Star) => Some(Allowed::AfterStar),
+        (Allowed::All, ArgumentKind::StarStar) => Some(Allowed::AfterStarStar),
+        (Allowed::AfterNamed, ArgumentKind::Named) => Some(Allowed::AfterNamed),
+        (Allowed::AfterNamed, ArgumentKind::Star) => Some(Allowed::AfterStar),
+        (Allowed::AfterNamed, ArgumentKind::StarStar) => Some(Allowed::AfterStarStar),
+        (Allowed::AfterStar, ArgumentKind::Named) => Some(Allowed::AfterStar),
+        (Allowed::AfterStar, ArgumentKind::StarStar) => Some(Allowed::AfterStarStar),
+        _ => None,
+    }
+}
+
+/// Which argument comes next, by its first tokens.
+fn argument_kind(tokens: &Tokens<'_>) -> ArgumentKind
+    ensures { result ≡ spec.argument_kind tokens.now }
+{
+    if tokens.sees(TokenKind::Star) {
+        ArgumentKind::Star
+    } else if tokens.sees(TokenKind::StarStar) {
+        ArgumentKind::StarStar
+    } else if tokens.sees_named() {
+        ArgumentKind::Named
+    } else {
+        ArgumentKind::Positional
+    }
+}
+
+/// A suffix comes next.
+fn sees_suffix(tokens: &Tokens<'_>) -> bool
+    ensures { result ≡ spec.begins_suffix tokens.now }
+{
+    tokens.sees(TokenKind::Dot)
+        || tokens.sees(TokenKind::LeftParen)
+        || tokens.sees(TokenKind::LeftBracket)
+}
+
+/// An operand and what is done to it; the operand alone where nothing is.
+fn primary_of(operand: Boxed<Expr>, suffixes: Items<Suffix>) -> Expr
+    ensures { result ≡ grammar.primary_of operand suffixes }
+{
+    // PROOF: it is called where a suffix was seen, so at least one was read.
+    if suffixes.is_empty() {
+        return operand.into_inner();
+    }
+    Expr::Primary(operand, suffixes)
+}
+
+impl<F: Fn(Global, &mut Tokens<'_>, usize, Nested) -> Result<Expr, SyntaxErr>> Grammar<F> {
+    /// identifier '=' Test
+    fn named(&self, tokens: &mut Tokens<'_>) -> Result<Argument, SyntaxErr>
+        requires { ReadsNested self.now.depth (F.pre self.now.phrase) (F.post self.now.phrase) }
+        ensures { Reads (spec.argument_by (spec.phrase self.now.depth) (spec.variables_to self.now.depth) argument_kind.Named tokens.old) result tokens.new }
+    {
+        let name = Bytes::from_slice(self.alloc, tokens.spelling())?;
+        tokens.advance();
+        tokens.advance();
+        Ok(Argument::Named(name, self.nested(tokens, Nested::Test)?))
+    }
+
+    /// Argument = Test | identifier '=' Test | '*' Test | '**' Test
+    fn argument_by(
+        &self,
+        tokens: &mut Tokens<'_>,
+        kind: ArgumentKind,
+    ) -> Result<Argument, SyntaxErr>
+        requires { ReadsNested self.now.depth (F.pre self.now.phrase) (F.post self.now.phrase) }
+        ensures { Reads (spec.argument_by (spec.phrase self.now.depth) (spec.variables_to self.now.depth) kind tokens.old) result tokens.new }
+    {
+        match kind {
+            ArgumentKind::Positional => Ok(Argument::Positional(self.nested(
+                tokens,
+                Nested::Test,
+            )?)),
+            ArgumentKind::Named => self.named(tokens),
+            ArgumentKind::Star => {
+                tokens.advance();
+                Ok(Argument::Star(self.nested(tokens, Nested::Test)?))
+            }
+            ArgumentKind::StarStar => {
+                tokens.advance();
+                Ok(Argument::StarStar(self.nested(tokens, Nested::Test)?))
+            }
+        }
+    }
+
+    /// An argument, where it may stand, and what may still come after it.
+    #[tactic(auto, unfolding(bq_parse_grammar::specs::Reading::argument))]
+    fn argument(
+        &self,
+        tokens: &mut Tokens<'_>,
+        allowed: Allowed,
+    ) -> Result<(Argument, Allowed), SyntaxErr>
+        requires { ReadsNested self.now.depth (F.pre self.now.phrase) (F.post self.now.phrase) }
+        ensures { Reads (spec.argument (spec.phrase self.now.depth) (spec.variables_to self.now.depth) allowed tokens.old) result tokens.new }
+    {
+        let kind = argument_kind(tokens);
+        match allowed_after(allowed, kind) {
+            Some(after) => Ok((self.argument_by(tokens, kind)?, after)),
+            None => Err(SyntaxErr::Syntax),
+        }
+    }
+
+    /// [ Argument { ',' Argument } [','] ] ')'
+    #[tactic(auto, using(crate::proofs::LoopTurns::turns_more, crate::proofs::LoopTurns::turns_over), unfolding(bq_parse_grammar::specs::Reading::arguments))]
+    fn arguments(&self, tokens: &mut Tokens<'_>) -> Result<Items<Argument>, SyntaxErr>
+        requires { ReadsNested self.now.depth (F.pre self.now.phrase) (F.post self.now.phrase) }
+        ensures { Reads (spec.arguments (spec.phrase self.now.depth) (spec.variables_to self.now.depth) tokens.old) result tokens.new }
+    {
+        let mut found = Items::new(self.alloc);
+        let mut allowed = Allowed::All;
+        // Each turn takes a token.
+        for _turn in 0..tokens.left() {
+            if tokens.eat(TokenKind::RightParen) {
+                return Ok(found);
+            }
+            let (argument, after) = self.argument(tokens, allowed)?;
+            found.push(argument)?;
+            allowed = after;
+            if !tokens.eat(TokenKind::Comma) {
+                return closed(tokens, TokenKind::RightParen, found);
+            }
+        }
+        Err(SyntaxErr::Syntax)
+    }
+
+    /// [ Test ], where a colon or the closing bracket follows
+    #[tactic(auto, unfolding(bq_parse_grammar::specs::Reading::optional_test))]
+    fn optional_test(&self, tokens: &mut Tokens<'_>) -> Result<Option<Boxed<Expr>>, SyntaxErr>
+        requires { ReadsNested self.now.depth (F.pre self.now.phrase) (F.post self.now.phrase) }
+        ensures { Reads (spec.optional_test (spec.phrase self.now.depth) (spec.variables_to self.now.depth) tokens.old) result tokens.new }
+    {
+        if tokens.sees(TokenKind::Colon) || tokens.sees(TokenKind::RightBracket) {
+            return Ok(None);
+        }
+        Ok(Some(Boxed::new(self.alloc, self.nested(tokens, Nested::Test)?)?))
+    }
+
+    /// After the second part of a slice.
+    #[tactic(auto, unfolding(bq_parse_grammar::specs::Reading::slice_end))]
+    fn slice_end(
+        &self,
+        tokens: &mut Tokens<'_>,
+        start: Option<Boxed<Expr>>,
+        end: Option<Boxed<Expr>>,
+    ) -> Result<Suffix, SyntaxErr>
+        requires { ReadsNested self.now.depth (F.pre self.now.phrase) (F.post self.now.phrase) }
+        ensures { Reads (spec.slice_end (spec.phrase self.now.depth) (spec.variables_to self.now.depth) start end tokens.old) result tokens.new }
+    {
+        if tokens.eat(TokenKind::Colon) {
+            let step = self.optional_test(tokens)?;
+            let slice = Suffix::Slice(start, end, step);
+            return closed(tokens, TokenKind::RightBracket, slice);
+        }
+        let slice = Suffix::Slice(start, end, None);
+        closed(tokens, TokenKind::RightBracket, slice)
+    }
+
+    /// After the first colon of a slice.
+    #[tactic(auto, unfolding(bq_parse_grammar::specs::Reading::slice_after))]
+    fn slice_after(
+        &self,
+        tokens: &mut Tokens<'_>,
+        start: Option<Boxed<Expr>>,
+    ) -> Result<Suffix, SyntaxErr>
+        requires { ReadsNested self.now.depth (F.pre self.now.phrase) (F.post self.now.phrase) }
+        ensures { Reads (spec.slice_after (spec.phrase self.now.depth) (spec.variables_to self.now.depth) start tokens.old) result tokens.new }
+    {
+        let end = self.optional_test(tokens)?;
+        self.slice_end(tokens, start, end)
+    }
+
+    /// ',' Test
+    fn after_comma(&self, tokens: &mut Tokens<'_>) -> Result<Expr, SyntaxErr>
+        requires { ReadsNested self.now.depth (F.pre self.now.phrase) (F.post self.now.phrase) }
+        ensures { Reads (spec.after_comma (spec.phrase self.now.depth Test) tokens.old) result tokens.new }
+    {
+        tokens.expect(TokenKind::Comma)?;
+        self.nested(tokens, Nested::Test)
+    }
+
+    /// The tests found, and all further ones after commas.
+    #[tactic(auto, using(crate::proofs::LoopTurns::turns_more, crate::proofs::LoopTurns::turns_over), unfolding(bq_parse_grammar::specs::Turns::repeat))]
+    fn further_tests(
+        &self,
+        tokens: &mut Tokens<'_>,
+        mut found: Items<Expr>,
+    ) -> Result<Items<Expr>, SyntaxErr>
+        requires { ReadsNested self.now.depth (F.pre self.now.phrase) (F.post self.now.phrase) }
+        ensures { Reads (turns.repeat (turns.sees kind.Comma) (spec.after_comma (spec.phrase self.now.depth Test)) found tokens.old) result tokens.new }
+    {
+        // Each turn takes a token.
+        for _turn in 0..tokens.left() {
+            if !tokens.sees(TokenKind::Comma) {
+                return Ok(found);
+            }
+            found.push(self.after_comma(tokens)?)?;
+        }
+        Ok(found)
+    }
+
+    /// Expr = Test { ',' Test }, after the first test
+    pub fn expr_after(&self, tokens: &mut Tokens<'_>, first: Expr) -> Result<Expr, SyntaxErr>
+        requires { ReadsNested self.now.depth (F.pre self.now.phrase) (F.post self.now.phrase) }
+        ensures { Reads (spec.chained e.Tuple (spec.phrase self.now.depth Test) first tokens.old) result tokens.new }
+    {
+        if !tokens.sees(TokenKind::Comma) {
+            return Ok(first);
+        }
+        let mut found = only(self.alloc, first)?;
+        found.push(self.after_comma(tokens)?)?;
+        Ok(Expr::Tuple(self.further_tests(tokens, found)?))
+    }
+
+    /// '[' Expr ']' | '[' [Test] ':' [Test] [ ':' [Test] ] ']', after the first bracket
+    #[tactic(auto, unfolding(bq_parse_grammar::specs::Reading::subscript))]
+    fn subscript(&self, tokens: &mut Tokens<'_>) -> Result<Suffix, SyntaxErr>
+        requires { ReadsNested self.now.depth (F.pre self.now.phrase) (F.post self.now.phrase) }
+        ensures { Reads (spec.subscript (spec.phrase self.now.depth) (spec.variables_to self.now.depth) tokens.old) result tokens.new }
+    {
+        if tokens.eat(TokenKind::Colon) {
+            return self.slice_after(tokens, None);
+        }
+        let first = self.nested(tokens, Nested::Test)?;
+        if tokens.eat(TokenKind::Colon) {
+            let start = Boxed::new(self.alloc, first)?;
+            return self.slice_after(tokens, Some(start));
+        }
+        let index = Boxed::new(self.alloc, self.expr_after(tokens, first)?)?;
+        closed(tokens, TokenKind::RightBracket, Suffix::Index(index))
+    }
+
+    /// '.' identifier [ '(' Arguments ')' ], after the dot
+    #[tactic(auto, unfolding(bq_parse_grammar::specs::Reading::member))]
+    fn member(&self, tokens: &mut Tokens<'_>) -> Result<Suffix, SyntaxErr>
+        requires { ReadsNested self.now.depth (F.pre self.now.phrase) (F.post self.now.phrase) }
+        ensures { Reads (spec.member (spec.phrase self.now.depth) (spec.variables_to self.now.depth) tokens.old) result tokens.new }
+    {
+        let name = tokens.word(self.alloc)?;
+        if tokens.eat(TokenKind::LeftParen) {
+            Ok(Suffix::Method(name, self.arguments(tokens)?))
+        } else {
+            Ok(Suffix::Attribute(name))
+        }
+    }
+
+    /// Suffix = '.' identifier [ '(' Arguments ')' ] | '(' Arguments ')' | '[' Expr ']' | '[' [Test] ':' [Test] [ ':' [Test] ] ']'
+    #[tactic(auto, unfolding(bq_parse_grammar::specs::Reading::suffix))]
+    fn suffix(&self, tokens: &mut Tokens<'_>) -> Result<Suffix, SyntaxErr>
+        requires { ReadsNested self.now.depth (F.pre self.now.phrase) (F.post self.now.phrase) }
+        ensures { Reads (spec.suffix (spec.phrase self.now.depth) (spec.variables_to self.now.depth) tokens.old) result tokens.new }
+    {
+        if tokens.eat(TokenKind::Dot) {
+            return self.member(tokens);
+        }
+        if tokens.eat(TokenKind::LeftParen) {
+            return Ok(Suffix::Call(self.arguments(tokens)?));
+        }
+        tokens.expect(TokenKind::LeftBracket)?;
+        self.subscript(tokens)
+    }
+
+    /// { Suffix }
+    #[tactic(auto, using(crate::proofs::LoopTurns::turns_more, crate::proofs::LoopTurns::turns_over), unfolding(bq_parse_grammar::specs::Turns::repeat))]
+    fn suffixes(&self, tokens: &mut Tokens<'_>) -> Result<Items<Suffix>, SyntaxErr>
+        requires { ReadsNested self.now.depth (F.pre self.now.phrase) (F.post self.now.phrase) }
+        ensures { Reads (turns.repeat spec.begins_suffix (spec.suffix (spec.phrase self.now.depth) (spec.variables_to self.now.depth)) [] tokens.old) result tokens.new }
+    {
+        let mut found = Items::new(self.alloc);
+        // Each turn takes a token.
+        for _turn in 0..tokens.left() {
+            if !sees_suffix(tokens) {
+                return Ok(found);
+            }
+            found.push(self.suffix(tokens)?)?;
+        }
+        Ok(found)
+    }
+
+    /// Primary = Operand { Suffix }
+    #[tactic(auto, using(crate::proofs::LoopTurns::none_follow), unfolding(bq_parse_grammar::specs::Reading::primary))]
+    pub fn primary(&self, tokens: &mut Tokens<'_>) -> Result<Expr, SyntaxErr>
+        requires { ReadsNested self.now.depth (F.pre self.now.phrase) (F.post self.now.phrase) }
+        ensures { Reads (spec.primary (spec.phrase self.now.depth) (spec.variables_to self.now.depth) tokens.old) result tokens.new }
+    {
+        let operand = self.operand(tokens)?;
+        if !sees_suffix(tokens) {
+            return Ok(operand);
+        }
+        let operand = Boxed::new(self.alloc, operand)?;
+        let suffixes = self.suffixes(tokens)?;
+        Ok(primary_of(operand, suffixes))
+    }
+}

@@ -1,0 +1,81 @@
+-- What the language leaves out, and what a BUILD file may not have. Of a statement that has a tree, all but one are about its tokens.
+use Rattle.std.specs.Prelude.{ℕ, zero, suc, List, [], ◌∷◌, Bool, true, false, ◌||◌, ◌&&◌, not}
+use Rattle.std.specs.Str.{bytes_eq}
+use Rattle.bq_source.specs.declared.token.TokenKind.{TokenKind}
+use Rattle.bq_source.specs.declared.token.TokenKind.TheVariants as k
+use Rattle.bq_parse_grammar.specs.Lexeme.{Lexeme}
+use Rattle.bq_parse_grammar.specs.declared.tree.Branch.{Branch, out-Branch}
+use Rattle.bq_parse_grammar.specs.declared.tree.Stmt.{Stmt, out-Stmt}
+use Rattle.bq_parse_grammar.specs.declared.tree.Stmt.TheOpen.{Stmt-F}
+
+-- ---- left out of the language
+
+-- the bytes of `native`
+abbrev pub native : List ℕ
+native = 110 ∷ 97 ∷ 116 ∷ 105 ∷ 118 ∷ 101 ∷ []
+
+-- `identifier (` comes next
+abbrev pub calls_name : List TokenKind → Bool
+calls_name (k.Identifier ∷ k.LeftParen ∷ ts) = true
+calls_name ts = false
+
+-- `. identifier (` comes next
+abbrev pub calls_method : List TokenKind → Bool
+calls_method (k.Dot ∷ k.Identifier ∷ k.LeftParen ∷ ts) = true
+calls_method ts = false
+
+abbrev pub kinds : List Lexeme → List TokenKind
+kinds [] = []
+kinds (t ∷ ts) = t.kind ∷ kinds ts
+
+-- `lambda`, `/` and `/=`; `.name` without a call; the name `native`, but before `.name(`
+abbrev pub leaves_out_by : TokenKind → Lexeme → List Lexeme → Bool
+leaves_out_by k.Lambda t ts = true
+leaves_out_by k.Slash t ts = true
+leaves_out_by k.SlashAssign t ts = true
+leaves_out_by k.Dot t ts = not (calls_name (kinds ts))
+leaves_out_by k.Identifier t ts = bytes_eq t.spelling native && not (calls_method (kinds ts))
+leaves_out_by _ t ts = false
+
+abbrev pub leaves_out : List Lexeme → Bool
+leaves_out [] = false
+leaves_out (t ∷ ts) = leaves_out_by t.kind t ts || leaves_out ts
+
+abbrev pub any : {A : Type 0} → (A → Bool) → List A → Bool
+any f [] = false
+any f (x ∷ xs) = f x || any f xs
+
+abbrev pub nested_in : (Bool → Stmt → Bool) → Bool → Stmt-F Stmt Branch → Bool
+nested_in inner inside (Stmt-F.Simple xs) = false
+nested_in inner inside (Stmt-F.If bs zs) = any (λ b. any (inner inside) (out-Branch b).block) bs || any (inner inside) zs
+nested_in inner inside (Stmt-F.For v x xs) = any (inner inside) xs
+nested_in inner inside (Stmt-F.Def n ps xs) = inside || any (inner true) xs
+
+-- a `def` stands in a `def`: of statements that are no deeper than so many indents
+abbrev pub nested_def : ℕ → Bool → Stmt → Bool
+nested_def zero inside x = nested_in (λ i y. false) inside (out-Stmt x)
+nested_def (suc depth) inside x = nested_in (nested_def depth) inside (out-Stmt x)
+
+-- ---- not in a BUILD file
+
+-- `def`, `if` and `for` statements
+abbrev pub is_compound : List TokenKind → Bool
+is_compound (k.Def ∷ ts) = true
+is_compound (k.If ∷ ts) = true
+is_compound (k.For ∷ ts) = true
+is_compound ts = false
+
+-- a star after `(` or `,` begins an argument
+abbrev pub is_starred : List TokenKind → Bool
+is_starred (k.LeftParen ∷ k.Star ∷ ts) = true
+is_starred (k.LeftParen ∷ k.StarStar ∷ ts) = true
+is_starred (k.Comma ∷ k.Star ∷ ts) = true
+is_starred (k.Comma ∷ k.StarStar ∷ ts) = true
+is_starred ts = false
+
+abbrev pub has_starred : List TokenKind → Bool
+has_starred [] = false
+has_starred (t ∷ ts) = is_starred (t ∷ ts) || has_starred ts
+
+abbrev pub barred_in_build : List Lexeme → Bool
+barred_in_build ts = is_compound (kinds ts) || has_starred (kinds ts)

@@ -1,0 +1,4 @@
+pub mod LoopTurns
+pub mod Reversed
+pub mod Strings
+pub mod Taken

@@ -1,0 +1,240 @@
+//! Statements with blocks, over the reader of the statements in them.
+
+ghost use Rattle.std.specs.Prelude.{Ok};
+ghost use Rattle.bq_parse_grammar.specs.Turns.{Reads, ◌>>=◌ as and_then};
+ghost use Rattle.bq_parse_grammar.specs.Turns as turns;
+ghost use Rattle.bq_parse_grammar.specs.Reading as reading;
+ghost use Rattle.bq_parse_grammar.specs.ReadingStatements as spec;
+ghost use Rattle.bq_source.specs.declared.token.TokenKind.TheVariants as kind;
+ghost use Rattle.bq_parse_statement.specs.Inner.{ReadsStatement};
+
+use crate::parameter_list::parameters;
+use crate::small::simple;
+use bq_parse_cursor::Tokens;
+use bq_parse_expression::{closed, expr_list, only, phrase, vars};
+use bq_parse_grammar::{Branch, Expr, Identifier, Nested, Parameter, Stmt, SyntaxErr};
+use bq_source::TokenKind;
+use sqlite_items::Items;
+use std::alloc::Global;
+
+/// The rules of blocks take the reader of the statements in them as a parameter, so that each rule is proved by itself.
+#[derive(Clone, Copy)]
+pub struct BlockRules<F> {
+    pub alloc: Global,
+    /// One more than how many brackets and indents may still be opened.
+    pub depth: usize,
+    /// The same, in a block.
+    pub inside: usize,
+    pub statement: F,
+}
+
+impl<F: Fn(Global, &mut Tokens<'_>, usize) -> Result<Stmt, SyntaxErr>> BlockRules<F> {
+    fn nested(&self, tokens: &mut Tokens<'_>) -> Result<Stmt, SyntaxErr>
+        requires { ReadsStatement self.now.inside (F.pre self.now.statement) (F.post self.now.statement) }
+        ensures { Reads (spec.statement self.now.inside tokens.old) result tokens.new }
+    {
+        (self.statement)(self.alloc, tokens, self.inside)
+    }
+
+    /// The statements found, and all further ones of the block.
+    #[tactic(auto, using(crate::proofs::LoopTurns::turns_more, crate::proofs::LoopTurns::turns_over), unfolding(bq_parse_grammar::specs::Turns::repeat))]
+    fn further(
+        &self,
+        tokens: &mut Tokens<'_>,
+        mut found: Items<Stmt>,
+    ) -> Result<Items<Stmt>, SyntaxErr>
+        requires { ReadsStatement self.now.inside (F.pre self.now.statement) (F.post self.now.statement) }
+        ensures { Reads (turns.repeat spec.in_block (spec.statement self.now.inside) found tokens.old) result tokens.new }
+    {
+        // Each turn takes a token.
+        for _turn in 0..tokens.left() {
+            if tokens.sees(TokenKind::Outdent) {
+                return Ok(found);
+            }
+            found.push(self.nested(tokens)?)?;
+        }
+        Ok(found)
+    }
+
+    /// newline indent Stmt { Stmt } outdent, after the newline
+    #[tactic(auto, unfolding(bq_parse_grammar::specs::ReadingStatements::block))]
+    fn block(&self, tokens: &mut Tokens<'_>) -> Result<Items<Stmt>, SyntaxErr>
+        requires { ReadsStatement self.now.inside (F.pre self.now.statement) (F.post self.now.statement) }
+        ensures { Reads (spec.block self.now.depth (spec.statement self.now.inside) tokens.old) result tokens.new }
+    {
+        tokens.expect(TokenKind::Indent)?;
+        let first = self.nested(tokens)?;
+        let statements = self.further(tokens, only(self.alloc, first)?)?;
+        closed(tokens, TokenKind::Outdent, statements)
+    }
+
+    /// Suite = newline indent Stmt { Stmt } outdent | Simple
+    #[tactic(auto, unfolding(bq_parse_grammar::specs::ReadingStatements::suite))]
+    fn suite(&self, tokens: &mut Tokens<'_>) -> Result<Items<Stmt>, SyntaxErr>
+        requires { ReadsStatement self.now.inside (F.pre self.now.statement) (F.post self.now.statement) }
+        ensures { Reads (spec.suite self.now.depth (spec.statement self.now.inside) tokens.old) result tokens.new }
+    {
+        if tokens.eat(TokenKind::Newline) {
+            return self.block(tokens);
+        }
+        let line = simple(self.alloc, tokens, self.depth)?;
+        Ok(only(self.alloc, Stmt::Simple(line))?)
+    }
+
+    /// The value, and ':' Suite
+    fn beside<T: Drop>(
+        &self,
+        tokens: &mut Tokens<'_>,
+        value: T,
+    ) -> Result<(T, Items<Stmt>), SyntaxErr>
+        requires { ReadsStatement self.now.inside (F.pre self.now.statement) (F.post self.now.statement) }
+        ensures { Reads (and_then (turns.expect kind.Colon tokens.old) (λ _ us. and_then (spec.suite self.now.depth (spec.statement self.now.inside) us) (λ xs rest. Ok ((value, xs), rest)))) result tokens.new }
+    {
+        tokens.expect(TokenKind::Colon)?;
+        let block = self.suite(tokens)?;
+        Ok((value, block))
+    }
+
+    /// Branch = Test ':' Suite
+    #[tactic(auto, unfolding(bq_parse_grammar::specs::ReadingStatements::branch))]
+    fn branch(&self, tokens: &mut Tokens<'_>) -> Result<Branch, SyntaxErr>
+        requires { ReadsStatement self.now.inside (F.pre self.now.statement) (F.post self.now.statement) }
+        ensures { Reads (spec.branch self.now.depth (spec.statement self.now.inside) tokens.old) result tokens.new }
+    {
+        let condition = phrase(self.alloc, tokens, self.depth, Nested::Test)?;
+        let (condition, block) = self.beside(tokens, condition)?;
+        Ok(Branch { condition, block })
+    }
+
+    /// 'elif' Branch
+    #[tactic(auto, unfolding(bq_parse_grammar::specs::ReadingStatements::elif))]
+    fn elif(&self, tokens: &mut Tokens<'_>) -> Result<Branch, SyntaxErr>
+        requires { ReadsStatement self.now.inside (F.pre self.now.statement) (F.post self.now.statement) }
+        ensures { Reads (spec.elif self.now.depth (spec.statement self.now.inside) tokens.old) result tokens.new }
+    {
+        tokens.expect(TokenKind::Elif)?;
+        self.branch(tokens)
+    }
+
+    /// The branches found, and all further ones.
+    #[tactic(auto, using(crate::proofs::LoopTurns::turns_more, crate::proofs::LoopTurns::turns_over), unfolding(bq_parse_grammar::specs::Turns::repeat))]
+    fn elifs(
+        &self,
+        tokens: &mut Tokens<'_>,
+        mut found: Items<Branch>,
+    ) -> Result<Items<Branch>, SyntaxErr>
+        requires { ReadsStatement self.now.inside (F.pre self.now.statement) (F.post self.now.statement) }
+        ensures { Reads (turns.repeat (turns.sees kind.Elif) (spec.elif self.now.depth (spec.statement self.now.inside)) found tokens.old) result tokens.new }
+    {
+        // Each turn takes a token.
+        for _turn in 0..tokens.left() {
+            if !tokens.sees(TokenKind::Elif) {
+                return Ok(found);
+            }
+            found.push(self.elif(tokens)?)?;
+        }
+        Ok(found)
+    }
+
+    /// [ 'else' ':' Suite ]
+    #[tactic(auto, unfolding(bq_parse_grammar::specs::ReadingStatements::else_suite))]
+    fn else_suite(&self, tokens: &mut Tokens<'_>) -> Result<Items<Stmt>, SyntaxErr>
+        requires { ReadsStatement self.now.inside (F.pre self.now.statement) (F.post self.now.statement) }
+        ensures { Reads (spec.else_suite self.now.depth (spec.statement self.now.inside) tokens.old) result tokens.new }
+    {
+        if !tokens.eat(TokenKind::Else) {
+            return Ok(Items::new(self.alloc));
+        }
+        tokens.expect(TokenKind::Colon)?;
+        self.suite(tokens)
+    }
+
+    /// 'if' Branch { 'elif' Branch } [ 'else' ':' Suite ], after 'if'
+    #[tactic(auto, unfolding(bq_parse_grammar::specs::ReadingStatements::if_stmt))]
+    fn if_stmt(&self, tokens: &mut Tokens<'_>) -> Result<Stmt, SyntaxErr>
+        requires { ReadsStatement self.now.inside (F.pre self.now.statement) (F.post self.now.statement) }
+        ensures { Reads (spec.if_stmt self.now.depth (spec.statement self.now.inside) tokens.old) result tokens.new }
+    {
+        let first = self.branch(tokens)?;
+        let branches = self.elifs(tokens, only(self.alloc, first)?)?;
+        Ok(Stmt::If(branches, self.else_suite(tokens)?))
+    }
+
+    /// The value, and 'in' Expr
+    fn iterated<T: Drop>(&self, tokens: &mut Tokens<'_>, value: T) -> Result<(T, Expr), SyntaxErr>
+        ensures { Reads (and_then (turns.expect kind.In tokens.old) (λ _ us. and_then (spec.expr_to self.now.depth us) (λ x rest. Ok ((value, x), rest)))) result tokens.new }
+    {
+        tokens.expect(TokenKind::In)?;
+        let iterable = expr_list(self.alloc, tokens, self.depth)?;
+        Ok((value, iterable))
+    }
+
+    /// 'for' Vars 'in' Expr ':' Suite, after 'for'
+    #[tactic(auto, unfolding(bq_parse_grammar::specs::ReadingStatements::for_stmt))]
+    fn for_stmt(&self, tokens: &mut Tokens<'_>) -> Result<Stmt, SyntaxErr>
+        requires { ReadsStatement self.now.inside (F.pre self.now.statement) (F.post self.now.statement) }
+        ensures { Reads (spec.for_stmt self.now.depth (spec.statement self.now.inside) tokens.old) result tokens.new }
+    {
+        let variables = vars(self.alloc, tokens, self.depth)?;
+        let header = self.iterated(tokens, variables)?;
+        let ((variables, iterable), block) = self.beside(tokens, header)?;
+        Ok(Stmt::For(variables, iterable, block))
+    }
+
+    /// identifier '(' Parameters
+    fn signature(
+        &self,
+        tokens: &mut Tokens<'_>,
+    ) -> Result<(Identifier, Items<Parameter>), SyntaxErr>
+        ensures { Reads (and_then (reading.word tokens.old) (λ n mid. and_then (turns.expect kind.LeftParen mid) (λ _ us. and_then (spec.parameters self.now.depth us) (λ ps rest. Ok ((n, ps), rest))))) result tokens.new }
+    {
+        let name = tokens.word(self.alloc)?;
+        tokens.expect(TokenKind::LeftParen)?;
+        let parameters = parameters(self.alloc, tokens, self.depth)?;
+        Ok((name, parameters))
+    }
+
+    /// 'def' identifier '(' Parameters ':' Suite, after 'def'
+    #[tactic(auto, unfolding(bq_parse_grammar::specs::ReadingStatements::def_stmt))]
+    fn def_stmt(&self, tokens: &mut Tokens<'_>) -> Result<Stmt, SyntaxErr>
+        requires { ReadsStatement self.now.inside (F.pre self.now.statement) (F.post self.now.statement) }
+        ensures { Reads (spec.def_stmt self.now.depth (spec.statement self.now.inside) tokens.old) result tokens.new }
+    {
+        let signature = self.signature(tokens)?;
+        let ((name, parameters), block) = self.beside(tokens, signature)?;
+        Ok(Stmt::Def(name, parameters, block))
+    }
+
+    /// Simple, as a statement
+    #[tactic(auto, unfolding(bq_parse_grammar::specs::ReadingStatements::simple_stmt))]
+    fn simple_stmt(&self, tokens: &mut Tokens<'_>) -> Result<Stmt, SyntaxErr>
+        requires { ReadsStatement self.now.inside (F.pre self.now.statement) (F.post self.now.statement) }
+        ensures { Reads (spec.simple_stmt self.now.depth (spec.statement self.now.inside) tokens.old) result tokens.new }
+    {
+        Ok(Stmt::Simple(simple(self.alloc, tokens, self.depth)?))
+    }
+
+    /// Stmt = If | For | Def | Simple
+    #[tactic(auto, unfolding(bq_parse_grammar::specs::ReadingStatements::stmt))]
+    pub fn stmt(&self, tokens: &mut Tokens<'_>) -> Result<Stmt, SyntaxErr>
+        requires { ReadsStatement self.now.inside (F.pre self.now.statement) (F.post self.now.statement) }
+        ensures { Reads (spec.stmt self.now.depth (spec.statement self.now.inside) tokens.old) result tokens.new }
+    {
+        match tokens.peek() {
+            Some(TokenKind::If) => {
+                tokens.advance();
+                self.if_stmt(tokens)
+            }
+            Some(TokenKind::For) => {
+                tokens.advance();
+                self.for_stmt(tokens)
+            }
+            Some(TokenKind::Def) => {
+                tokens.advance();
+                self.def_stmt(tokens)
+            }
+            Some(_) => self.simple_stmt(tokens),
+            None => Err(SyntaxErr::Syntax),
+        }
+    }
+}

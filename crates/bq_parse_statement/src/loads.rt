@@ -1,0 +1,94 @@
+//! Loads: what a file takes from another one.
+
+ghost use Rattle.std.specs.Prelude.{[]};
+ghost use Rattle.bq_parse_grammar.specs.Turns.{Reads};
+ghost use Rattle.bq_parse_grammar.specs.Turns as turns;
+ghost use Rattle.bq_parse_grammar.specs.ReadingStatements as spec;
+ghost use Rattle.bq_source.specs.declared.token.TokenKind.TheVariants as kind;
+
+use bq_base::Bytes;
+use bq_parse_cursor::Tokens;
+use bq_parse_expression::closed;
+use bq_parse_grammar::{Identifier, Load, LoadClause, SmallKind, SyntaxErr, is_identifier};
+use bq_source::TokenKind;
+use sqlite_items::Items;
+use std::alloc::Global;
+
+/// A string, and what it stands for.
+#[tactic(auto, using(crate::proofs::Strings::string_seen, crate::proofs::Strings::text_seen, crate::proofs::Strings::text_unseen))]
+fn text(alloc: Global, tokens: &mut Tokens<'_>) -> Result<Bytes, SyntaxErr>
+    ensures { Reads (spec.text tokens.old) result tokens.new }
+{
+    if !tokens.sees(TokenKind::String) {
+        return Err(SyntaxErr::Syntax);
+    }
+    tokens.text(alloc)
+}
+
+/// A string that is a name.
+#[tactic(auto, unfolding(bq_parse_grammar::specs::ReadingStatements::symbol))]
+fn symbol(alloc: Global, tokens: &mut Tokens<'_>) -> Result<Bytes, SyntaxErr>
+    ensures { Reads (spec.symbol tokens.old) result tokens.new }
+{
+    let name = text(alloc, tokens)?;
+    if is_identifier(name.as_slice()) {
+        Ok(name)
+    } else {
+        Err(SyntaxErr::Syntax)
+    }
+}
+
+/// LoadClause = [ identifier '=' ] string
+#[tactic(auto, unfolding(bq_parse_grammar::specs::ReadingStatements::load_clause))]
+fn load_clause(alloc: Global, tokens: &mut Tokens<'_>) -> Result<LoadClause, SyntaxErr>
+    ensures { Reads (spec.load_clause tokens.old) result tokens.new }
+{
+    if tokens.sees(TokenKind::String) {
+        let line = tokens.line();
+        let symbol = symbol(alloc, tokens)?;
+        let name = symbol.share()?;
+        let local = Identifier { name, line };
+        return Ok(LoadClause { local, symbol });
+    }
+    let local = tokens.word(alloc)?;
+    tokens.expect(TokenKind::Assign)?;
+    Ok(LoadClause {
+        local,
+        symbol: symbol(alloc, tokens)?,
+    })
+}
+
+/// [ LoadClause { ',' LoadClause } [','] ] ')'
+#[tactic(auto, using(crate::proofs::LoopTurns::turns_more, crate::proofs::LoopTurns::turns_over), unfolding(bq_parse_grammar::specs::Turns::listed_from))]
+fn load_clauses(alloc: Global, tokens: &mut Tokens<'_>) -> Result<Items<LoadClause>, SyntaxErr>
+    ensures { Reads (turns.listed_from kind.RightParen spec.load_clause [] tokens.old) result tokens.new }
+{
+    let mut found = Items::new(alloc);
+    // Each turn takes a token.
+    for _turn in 0..tokens.left() {
+        if tokens.eat(TokenKind::RightParen) {
+            return Ok(found);
+        }
+        found.push(load_clause(alloc, tokens)?)?;
+        if !tokens.eat(TokenKind::Comma) {
+            return closed(tokens, TokenKind::RightParen, found);
+        }
+    }
+    Err(SyntaxErr::Syntax)
+}
+
+/// Load = 'load' '(' string { ',' LoadClause } [','] ')', after 'load'
+#[tactic(auto, unfolding(bq_parse_grammar::specs::ReadingStatements::load))]
+pub fn load(alloc: Global, tokens: &mut Tokens<'_>) -> Result<SmallKind, SyntaxErr>
+    ensures { Reads (spec.load tokens.old) result tokens.new }
+{
+    tokens.expect(TokenKind::LeftParen)?;
+    let label = text(alloc, tokens)?;
+    if tokens.eat(TokenKind::Comma) {
+        let clauses = load_clauses(alloc, tokens)?;
+        return Ok(SmallKind::Load(Load { label, clauses }));
+    }
+    let clauses = Items::new(alloc);
+    let load = SmallKind::Load(Load { label, clauses });
+    closed(tokens, TokenKind::RightParen, load)
+}

@@ -1,0 +1,53 @@
+//! Statements, with the reader of those in blocks.
+
+ghost use Rattle.std.specs.Prelude.{◌≡◌, ◌<◌, length, MatchResult};
+ghost use Rattle.bq_parse_grammar.specs.declared.refusal.SyntaxErr.TheVariants.{Syntax};
+ghost use Rattle.bq_parse_grammar.specs.Turns.{Reads};
+ghost use Rattle.bq_parse_grammar.specs.ReadingStatements as spec;
+ghost use Rattle.bq_parse_statement.specs.Makes.{Makes};
+
+use crate::blocks::BlockRules;
+use bq_parse_cursor::Tokens;
+use bq_parse_grammar::{Stmt, SyntaxErr, TopLevel};
+use std::alloc::Global;
+
+/// A statement in which so many brackets and indents less one may be open.
+pub fn statement(alloc: Global, tokens: &mut Tokens<'_>, depth: usize) -> Result<Stmt, SyntaxErr>
+    ensures { Reads (spec.statement depth tokens.old) result tokens.new }
+{
+    if depth == 0 {
+        return Err(SyntaxErr::Syntax);
+    }
+    BlockRules {
+        alloc,
+        depth,
+        inside: depth - 1,
+        statement,
+    }
+    .stmt(tokens)
+}
+
+/// The value, where no token is left.
+fn whole<T: Drop>(tokens: &Tokens<'_>, value: T) -> Result<T, SyntaxErr>
+    ensures { MatchResult result (λ x. (length tokens.now ≡ 0) × (x ≡ value)) (λ why. (0 < length tokens.now) × (why ≡ Syntax)) }
+{
+    if tokens.left() == 0 {
+        Ok(value)
+    } else {
+        Err(SyntaxErr::Syntax)
+    }
+}
+
+/// The top-level statement that all of these tokens are.
+#[tactic(auto, using(crate::proofs::Taken::none_left, crate::proofs::Taken::some_left), unfolding(bq_parse_grammar::specs::ReadingStatements::top_level))]
+pub fn top_level(
+    alloc: Global,
+    tokens: &mut Tokens<'_>,
+    depth: usize,
+) -> Result<TopLevel, SyntaxErr>
+    ensures { Makes (spec.top_level depth tokens.old) result }
+{
+    let line = tokens.line();
+    let statement = statement(alloc, tokens, depth)?;
+    whole(tokens, TopLevel { line, statement })
+}

@@ -1,0 +1,141 @@
+-- How deep a tree is: the most expressions, targets and statements in one another.
+use Rattle.std.specs.Prelude.{ℕ, ◌+◌, max, List, [], ◌∷◌, map, Option, Some, None}
+use Rattle.bq_parse_grammar.specs.declared.tree.Argument.TheFolds.{fold-Argument, fold-Choice, fold-Clause, fold-Expr, fold-Operation, fold-Pair, fold-Suffix, fold-AssignTarget}
+use Rattle.bq_parse_grammar.specs.declared.tree.Argument.TheOpen.{Argument-F, Choice-F, Clause-F, Expr-F, Operation-F, Pair-F, Suffix-F, AssignTarget-F}
+use Rattle.bq_parse_grammar.specs.declared.tree.Argument.{Argument}
+use Rattle.bq_parse_grammar.specs.declared.tree.Choice.{Choice}
+use Rattle.bq_parse_grammar.specs.declared.tree.Clause.{Clause}
+use Rattle.bq_parse_grammar.specs.declared.tree.Expr.{Expr}
+use Rattle.bq_parse_grammar.specs.declared.tree.Operation.{Operation}
+use Rattle.bq_parse_grammar.specs.declared.tree.Pair.{Pair}
+use Rattle.bq_parse_grammar.specs.declared.tree.Suffix.{Suffix}
+use Rattle.bq_parse_grammar.specs.declared.tree.AssignTarget.{AssignTarget}
+use Rattle.bq_parse_grammar.specs.declared.tree.Branch.{Branch}
+use Rattle.bq_parse_grammar.specs.declared.tree.Parameter.{Parameter}
+use Rattle.bq_parse_grammar.specs.declared.tree.Parameter.TheVariants as p
+use Rattle.bq_parse_grammar.specs.declared.tree.SmallKind.{SmallKind}
+use Rattle.bq_parse_grammar.specs.declared.tree.SmallKind.TheVariants as small
+use Rattle.bq_parse_grammar.specs.declared.tree.SmallStmt.{SmallStmt}
+use Rattle.bq_parse_grammar.specs.declared.tree.Stmt.{Stmt}
+use Rattle.bq_parse_grammar.specs.declared.tree.Stmt.TheFolds.{fold-Branch, fold-Stmt}
+use Rattle.bq_parse_grammar.specs.declared.tree.Stmt.TheOpen.{Branch-F, Stmt-F}
+
+-- of the deepest
+abbrev pub deepest : List ℕ → ℕ
+deepest [] = 0
+deepest (n ∷ ns) = max n (deepest ns)
+
+abbrev pub optional_depth : Option ℕ → ℕ
+optional_depth None = 0
+optional_depth (Some n) = n
+
+-- ---- one node, with the depth of each child in its place
+
+abbrev pub argument_step : Argument-F ℕ ℕ ℕ ℕ ℕ ℕ ℕ ℕ → ℕ
+argument_step (Argument-F.Positional n) = n
+argument_step (Argument-F.Named b n) = n
+argument_step (Argument-F.Star n) = n
+argument_step (Argument-F.StarStar n) = n
+
+abbrev pub clause_step : Clause-F ℕ ℕ ℕ ℕ ℕ ℕ ℕ ℕ → ℕ
+clause_step (Clause-F.For m n) = max m n
+clause_step (Clause-F.If n) = n
+
+abbrev pub choice_step : Choice-F ℕ ℕ ℕ ℕ ℕ ℕ ℕ ℕ → ℕ
+choice_step x = max x.value x.condition
+
+abbrev pub operation_step : Operation-F ℕ ℕ ℕ ℕ ℕ ℕ ℕ ℕ → ℕ
+operation_step x = x.operand
+
+abbrev pub pair_step : Pair-F ℕ ℕ ℕ ℕ ℕ ℕ ℕ ℕ → ℕ
+pair_step x = max x.key x.value
+
+abbrev pub suffix_step : Suffix-F ℕ ℕ ℕ ℕ ℕ ℕ ℕ ℕ → ℕ
+suffix_step (Suffix-F.Call ns) = deepest ns
+suffix_step (Suffix-F.Method b ns) = deepest ns
+suffix_step (Suffix-F.Attribute b) = 0
+suffix_step (Suffix-F.Suffix::Index n) = n
+suffix_step (Suffix-F.Slice l m n) = max (optional_depth l) (max (optional_depth m) (optional_depth n))
+
+abbrev pub target_step : AssignTarget-F ℕ ℕ ℕ ℕ ℕ ℕ ℕ ℕ → ℕ
+target_step (AssignTarget-F.Target::Name b) = 1
+target_step (AssignTarget-F.Target::Index m n) = max m n + 1
+target_step (AssignTarget-F.Target::Tuple ns) = deepest ns + 1
+target_step (AssignTarget-F.Target::List ns) = deepest ns + 1
+
+abbrev pub expr_step : Expr-F ℕ ℕ ℕ ℕ ℕ ℕ ℕ ℕ → ℕ
+expr_step (Expr-F.Expr::Name b) = 1
+expr_step (Expr-F.Int b) = 1
+expr_step (Expr-F.String b) = 1
+expr_step (Expr-F.Expr::List ns) = deepest ns + 1
+expr_step (Expr-F.Expr::Tuple ns) = deepest ns + 1
+expr_step (Expr-F.Dict ns) = deepest ns + 1
+expr_step (Expr-F.ListComprehension m ns) = max m (deepest ns) + 1
+expr_step (Expr-F.DictComprehension m ns) = max m (deepest ns) + 1
+expr_step (Expr-F.Primary m ns) = max m (deepest ns) + 1
+expr_step (Expr-F.Unary os n) = n + 1
+expr_step (Expr-F.Binary m ns) = max m (deepest ns) + 1
+expr_step (Expr-F.Compare m o n) = max m n + 1
+expr_step (Expr-F.Conditional ms n) = max (deepest ms) n + 1
+expr_step Expr-F.Lambda = 1
+
+abbrev pub expr_depth : Expr → ℕ
+expr_depth = fold-Expr ℕ ℕ ℕ ℕ ℕ ℕ ℕ ℕ argument_step clause_step expr_step suffix_step target_step choice_step operation_step pair_step
+
+abbrev pub target_depth : AssignTarget → ℕ
+target_depth = fold-AssignTarget ℕ ℕ ℕ ℕ ℕ ℕ ℕ ℕ argument_step clause_step expr_step suffix_step target_step choice_step operation_step pair_step
+
+-- of what is no expression itself: the depth of the deepest in it
+
+abbrev pub argument_depth : Argument → ℕ
+argument_depth = fold-Argument ℕ ℕ ℕ ℕ ℕ ℕ ℕ ℕ argument_step clause_step expr_step suffix_step target_step choice_step operation_step pair_step
+
+abbrev pub clause_depth : Clause → ℕ
+clause_depth = fold-Clause ℕ ℕ ℕ ℕ ℕ ℕ ℕ ℕ argument_step clause_step expr_step suffix_step target_step choice_step operation_step pair_step
+
+abbrev pub suffix_depth : Suffix → ℕ
+suffix_depth = fold-Suffix ℕ ℕ ℕ ℕ ℕ ℕ ℕ ℕ argument_step clause_step expr_step suffix_step target_step choice_step operation_step pair_step
+
+abbrev pub choice_depth : Choice → ℕ
+choice_depth = fold-Choice ℕ ℕ ℕ ℕ ℕ ℕ ℕ ℕ argument_step clause_step expr_step suffix_step target_step choice_step operation_step pair_step
+
+abbrev pub operation_depth : Operation → ℕ
+operation_depth = fold-Operation ℕ ℕ ℕ ℕ ℕ ℕ ℕ ℕ argument_step clause_step expr_step suffix_step target_step choice_step operation_step pair_step
+
+abbrev pub pair_depth : Pair → ℕ
+pair_depth = fold-Pair ℕ ℕ ℕ ℕ ℕ ℕ ℕ ℕ argument_step clause_step expr_step suffix_step target_step choice_step operation_step pair_step
+
+-- ---- statements
+
+abbrev pub parameter_depth : Parameter → ℕ
+parameter_depth (p.Default n x) = expr_depth x
+parameter_depth _ = 0
+
+abbrev pub kind_depth : SmallKind → ℕ
+kind_depth (small.Expr x) = expr_depth x
+kind_depth (small.Assign t x) = max (target_depth t) (expr_depth x)
+kind_depth (small.Augment t o x) = max (target_depth t) (expr_depth x)
+kind_depth (small.Return (Some x)) = expr_depth x
+kind_depth _ = 0
+
+abbrev pub small_depth : SmallStmt → ℕ
+small_depth x = kind_depth x.kind
+
+abbrev pub branch_step : Branch-F ℕ ℕ → ℕ
+branch_step x = max (expr_depth x.condition) (deepest x.block)
+
+abbrev pub stmt_step : Stmt-F ℕ ℕ → ℕ
+stmt_step (Stmt-F.Simple xs) = deepest (map small_depth xs) + 1
+stmt_step (Stmt-F.If ms ns) = max (deepest ms) (deepest ns) + 1
+stmt_step (Stmt-F.For v x ns) = max (target_depth v) (max (expr_depth x) (deepest ns)) + 1
+stmt_step (Stmt-F.Def n ps ns) = max (deepest (map parameter_depth ps)) (deepest ns) + 1
+
+abbrev pub stmt_depth : Stmt → ℕ
+stmt_depth = fold-Stmt ℕ ℕ stmt_step branch_step
+
+abbrev pub branch_depth : Branch → ℕ
+branch_depth = fold-Branch ℕ ℕ stmt_step branch_step
+
+-- 64 brackets and indents in one another, 14 levels of expressions in each, and what stands round them
+abbrev pub max_depth : ℕ
+max_depth = 913

@@ -1,0 +1,182 @@
+-- How many nodes of a tree the language leaves out: `lambda`, `/` and `/=`, and `.name` without a call; in a BUILD file also arguments
+-- with a star.
+use Rattle.std.specs.Prelude.{ℕ, ◌+◌, Bool, true, false, ◌||◌, ◌&&◌, not, List, [], ◌∷◌, map, Option, Some, None}
+use Rattle.std.specs.Str.{bytes_eq}
+use Rattle.bq_source.specs.declared.token.TokenKind.{TokenKind}
+use Rattle.bq_source.specs.declared.token.TokenKind.TheVariants as k
+use Rattle.bq_parse_grammar.specs.Lexeme.{Lexeme}
+use Rattle.bq_parse_grammar.specs.LeftOut.{native, calls_method, kinds, any}
+use Rattle.bq_parse_grammar.specs.declared.tree.Operator.{Operator}
+use Rattle.bq_parse_grammar.specs.declared.tree.Operator.TheVariants as o
+use Rattle.bq_parse_grammar.specs.declared.tree.Argument.TheFolds.{fold-Argument, fold-Choice, fold-Clause, fold-Expr, fold-Operation, fold-Pair, fold-Suffix, fold-AssignTarget}
+use Rattle.bq_parse_grammar.specs.declared.tree.Argument.TheOpen.{Argument-F, Choice-F, Clause-F, Expr-F, Operation-F, Pair-F, Suffix-F, AssignTarget-F}
+use Rattle.bq_parse_grammar.specs.declared.tree.Argument.{Argument}
+use Rattle.bq_parse_grammar.specs.declared.tree.Choice.{Choice}
+use Rattle.bq_parse_grammar.specs.declared.tree.Clause.{Clause}
+use Rattle.bq_parse_grammar.specs.declared.tree.Expr.{Expr}
+use Rattle.bq_parse_grammar.specs.declared.tree.Operation.{Operation}
+use Rattle.bq_parse_grammar.specs.declared.tree.Pair.{Pair}
+use Rattle.bq_parse_grammar.specs.declared.tree.Suffix.{Suffix}
+use Rattle.bq_parse_grammar.specs.declared.tree.AssignTarget.{AssignTarget}
+use Rattle.bq_parse_grammar.specs.declared.tree.Branch.{Branch}
+use Rattle.bq_parse_grammar.specs.declared.tree.Parameter.{Parameter}
+use Rattle.bq_parse_grammar.specs.declared.tree.Parameter.TheVariants as p
+use Rattle.bq_parse_grammar.specs.declared.tree.SmallKind.{SmallKind}
+use Rattle.bq_parse_grammar.specs.declared.tree.SmallKind.TheVariants as small
+use Rattle.bq_parse_grammar.specs.declared.tree.SmallStmt.{SmallStmt}
+use Rattle.bq_parse_grammar.specs.declared.tree.Stmt.{Stmt}
+use Rattle.bq_parse_grammar.specs.declared.tree.Stmt.TheFolds.{fold-Branch, fold-Stmt}
+use Rattle.bq_parse_grammar.specs.declared.tree.Stmt.TheOpen.{Branch-F, Stmt-F}
+
+abbrev pub sum_of : List ℕ → ℕ
+sum_of [] = 0
+sum_of (n ∷ ns) = n + sum_of ns
+
+abbrev pub optional_count : Option ℕ → ℕ
+optional_count None = 0
+optional_count (Some n) = n
+
+abbrev pub division : Operator → ℕ
+division o.Divide = 1
+division _ = 0
+
+-- an argument with a star, in a BUILD file or not
+abbrev pub star : Bool → ℕ
+star true = 1
+star false = 0
+
+-- ---- one node, with the number of each child in its place
+
+abbrev pub argument_left : Bool → Argument-F ℕ ℕ ℕ ℕ ℕ ℕ ℕ ℕ → ℕ
+argument_left build (Argument-F.Positional n) = n
+argument_left build (Argument-F.Named b n) = n
+argument_left build (Argument-F.Star n) = star build + n
+argument_left build (Argument-F.StarStar n) = star build + n
+
+abbrev pub clause_left : Clause-F ℕ ℕ ℕ ℕ ℕ ℕ ℕ ℕ → ℕ
+clause_left (Clause-F.For m n) = m + n
+clause_left (Clause-F.If n) = n
+
+abbrev pub choice_left : Choice-F ℕ ℕ ℕ ℕ ℕ ℕ ℕ ℕ → ℕ
+choice_left x = x.value + x.condition
+
+abbrev pub operation_left : Operation-F ℕ ℕ ℕ ℕ ℕ ℕ ℕ ℕ → ℕ
+operation_left x = division x.operator + x.operand
+
+abbrev pub pair_left : Pair-F ℕ ℕ ℕ ℕ ℕ ℕ ℕ ℕ → ℕ
+pair_left x = x.key + x.value
+
+abbrev pub suffix_left : Suffix-F ℕ ℕ ℕ ℕ ℕ ℕ ℕ ℕ → ℕ
+suffix_left (Suffix-F.Call ns) = sum_of ns
+suffix_left (Suffix-F.Method b ns) = sum_of ns
+suffix_left (Suffix-F.Attribute b) = 1
+suffix_left (Suffix-F.Suffix::Index n) = n
+suffix_left (Suffix-F.Slice l m n) = optional_count l + (optional_count m + optional_count n)
+
+abbrev pub target_left : AssignTarget-F ℕ ℕ ℕ ℕ ℕ ℕ ℕ ℕ → ℕ
+target_left (AssignTarget-F.Target::Name b) = 0
+target_left (AssignTarget-F.Target::Index m n) = m + n
+target_left (AssignTarget-F.Target::Tuple ns) = sum_of ns
+target_left (AssignTarget-F.Target::List ns) = sum_of ns
+
+abbrev pub expr_left : Expr-F ℕ ℕ ℕ ℕ ℕ ℕ ℕ ℕ → ℕ
+expr_left (Expr-F.Expr::Name b) = 0
+expr_left (Expr-F.Int b) = 0
+expr_left (Expr-F.String b) = 0
+expr_left (Expr-F.Expr::List ns) = sum_of ns
+expr_left (Expr-F.Expr::Tuple ns) = sum_of ns
+expr_left (Expr-F.Dict ns) = sum_of ns
+expr_left (Expr-F.ListComprehension m ns) = m + sum_of ns
+expr_left (Expr-F.DictComprehension m ns) = m + sum_of ns
+expr_left (Expr-F.Primary m ns) = m + sum_of ns
+expr_left (Expr-F.Unary os n) = n
+expr_left (Expr-F.Binary m ns) = m + sum_of ns
+expr_left (Expr-F.Compare m o n) = m + n
+expr_left (Expr-F.Conditional ms n) = sum_of ms + n
+expr_left Expr-F.Lambda = 1
+
+abbrev pub expr_count : Bool → Expr → ℕ
+expr_count build = fold-Expr ℕ ℕ ℕ ℕ ℕ ℕ ℕ ℕ (argument_left build) clause_left expr_left suffix_left target_left choice_left operation_left pair_left
+
+abbrev pub target_count : Bool → AssignTarget → ℕ
+target_count build = fold-AssignTarget ℕ ℕ ℕ ℕ ℕ ℕ ℕ ℕ (argument_left build) clause_left expr_left suffix_left target_left choice_left operation_left pair_left
+
+abbrev pub argument_count : Bool → Argument → ℕ
+argument_count build = fold-Argument ℕ ℕ ℕ ℕ ℕ ℕ ℕ ℕ (argument_left build) clause_left expr_left suffix_left target_left choice_left operation_left pair_left
+
+abbrev pub clause_count : Bool → Clause → ℕ
+clause_count build = fold-Clause ℕ ℕ ℕ ℕ ℕ ℕ ℕ ℕ (argument_left build) clause_left expr_left suffix_left target_left choice_left operation_left pair_left
+
+abbrev pub suffix_count : Bool → Suffix → ℕ
+suffix_count build = fold-Suffix ℕ ℕ ℕ ℕ ℕ ℕ ℕ ℕ (argument_left build) clause_left expr_left suffix_left target_left choice_left operation_left pair_left
+
+abbrev pub choice_count : Bool → Choice → ℕ
+choice_count build = fold-Choice ℕ ℕ ℕ ℕ ℕ ℕ ℕ ℕ (argument_left build) clause_left expr_left suffix_left target_left choice_left operation_left pair_left
+
+abbrev pub operation_count : Bool → Operation → ℕ
+operation_count build = fold-Operation ℕ ℕ ℕ ℕ ℕ ℕ ℕ ℕ (argument_left build) clause_left expr_left suffix_left target_left choice_left operation_left pair_left
+
+abbrev pub pair_count : Bool → Pair → ℕ
+pair_count build = fold-Pair ℕ ℕ ℕ ℕ ℕ ℕ ℕ ℕ (argument_left build) clause_left expr_left suffix_left target_left choice_left operation_left pair_left
+
+-- ---- statements
+
+abbrev pub parameter_count : Bool → Parameter → ℕ
+parameter_count build (p.Default n x) = expr_count build x
+parameter_count build _ = 0
+
+abbrev pub kind_count : Bool → SmallKind → ℕ
+kind_count build (small.Expr x) = expr_count build x
+kind_count build (small.Assign t x) = target_count build t + expr_count build x
+kind_count build (small.Augment t o x) = target_count build t + (division o + expr_count build x)
+kind_count build (small.Return (Some x)) = expr_count build x
+kind_count build _ = 0
+
+abbrev pub small_count : Bool → SmallStmt → ℕ
+small_count build x = kind_count build x.kind
+
+abbrev pub branch_left : Bool → Branch-F ℕ ℕ → ℕ
+branch_left build x = expr_count build x.condition + sum_of x.block
+
+abbrev pub stmt_left : Bool → Stmt-F ℕ ℕ → ℕ
+stmt_left build (Stmt-F.Simple xs) = sum_of (map (small_count build) xs)
+stmt_left build (Stmt-F.If ms ns) = sum_of ms + sum_of ns
+stmt_left build (Stmt-F.For v x ns) = target_count build v + (expr_count build x + sum_of ns)
+stmt_left build (Stmt-F.Def n ps ns) = sum_of (map (parameter_count build) ps) + sum_of ns
+
+-- the nodes of a statement that the language leaves out, and in a BUILD file the arguments with a star
+abbrev pub stmt_count : Bool → Stmt → ℕ
+stmt_count build = fold-Stmt ℕ ℕ (stmt_left build) (branch_left build)
+
+abbrev pub branch_count : Bool → Branch → ℕ
+branch_count build = fold-Branch ℕ ℕ (stmt_left build) (branch_left build)
+
+-- ---- a `def` in a `def`
+
+-- what each block gives, where it stands in a `def` and where it doesn't
+abbrev pub branch_nested : Branch-F (Bool → Bool) (Bool → Bool) → Bool → Bool
+branch_nested x inside = any (λ f. f inside) x.block
+
+abbrev pub stmt_nested : Stmt-F (Bool → Bool) (Bool → Bool) → Bool → Bool
+stmt_nested (Stmt-F.Simple xs) inside = false
+stmt_nested (Stmt-F.If fs gs) inside = any (λ f. f inside) fs || any (λ f. f inside) gs
+stmt_nested (Stmt-F.For v x fs) inside = any (λ f. f inside) fs
+stmt_nested (Stmt-F.Def n ps fs) inside = inside || any (λ f. f true) fs
+
+-- the statement, inside a `def` or not, makes a `def` stand in a `def`
+abbrev pub has_nested : Stmt → Bool → Bool
+has_nested = fold-Stmt (Bool → Bool) (Bool → Bool) stmt_nested branch_nested
+
+abbrev pub branch_has_nested : Branch → Bool → Bool
+branch_has_nested = fold-Branch (Bool → Bool) (Bool → Bool) stmt_nested branch_nested
+
+-- ---- what the tokens alone tell
+
+-- the name `native`, but before `.name(`
+abbrev pub lone_native_by : TokenKind → Lexeme → List Lexeme → Bool
+lone_native_by k.Identifier t ts = bytes_eq t.spelling native && not (calls_method (kinds ts))
+lone_native_by _ t ts = false
+
+abbrev pub lone_native : List Lexeme → Bool
+lone_native [] = false
+lone_native (t ∷ ts) = lone_native_by t.kind t ts || lone_native ts

@@ -1,5 +1,0 @@
-use Rattle.bq_query.proofs.Readings.{every}
-use Rattle.bq_query.proofs.laws.every_text_has_its_reading.Goals as goal
-
-pub returns : goal.returns
-returns c = every

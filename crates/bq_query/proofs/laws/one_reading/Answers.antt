@@ -1,5 +1,0 @@
-use Rattle.bq_query.proofs.Unique.{unique}
-use Rattle.bq_query.proofs.laws.one_reading.Goals as goal
-
-pub returns : goal.returns
-returns c text r s g h = unique text 0 r s g h

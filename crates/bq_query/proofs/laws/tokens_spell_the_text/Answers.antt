@@ -1,6 +1,0 @@
-use Rattle.std.specs.Prelude.{Some}
-use Rattle.bq_query.proofs.Spelled.{spelled}
-use Rattle.bq_query.proofs.laws.tokens_spell_the_text.Goals as goal
-
-pub returns : goal.returns
-returns c text ts h = spelled text 0 (Some ts) h

@@ -1,7 +1,0 @@
-use Rattle.std.proofs.Common.{◌≡◌, ◌+◌, drop}
-use Rattle.std.specs.List.{prefix_len}
-use Rattle.bq_query.specs.Lexis.{is_word_byte}
-use Rattle.bq_query.proofs.lexis.word_len.Given as goal
-
-abbrev pub invariant-loop-n : goal.invariant-loop-n
-invariant-loop-n l = prefix_len is_word_byte l.text ≡ l.n + prefix_len is_word_byte (drop l.n l.text)

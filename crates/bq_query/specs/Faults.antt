@@ -1,0 +1,44 @@
+-- What the words of a formula name that is not there: the first in the order of the text (Q5, Q6).
+use Rattle.std.specs.Prelude.{◌≡◌, ◌≢◌, ℕ, Bool, List, [], ◌∷◌, length, Some, None, Result, Ok, Err}
+use Rattle.bq_query_lex.specs.declared.query_error.QueryErr.{QueryErr}
+use Rattle.bq_query_lex.specs.declared.query_error.QueryErr.TheVariants as e
+use Rattle.bq_query_verdict.specs.Verdict.{Fault, first_of}
+use Rattle.bq_query_check.specs.Formula.{Formula, named, variable, let_in, combined, one, two, IsClosed}
+use Rattle.bq_query_target_sets.specs.Missing.{missing}
+use Rattle.bq_query_graph.specs.Marks.{IsSet}
+use Rattle.bq_query.specs.Stands.{Stands, Bound, AreSets}
+use Rattle.bq_query_target_graph.specs.Graph.{GraphParts}
+use Rattle.bq_query.specs.Graph.{targets_of, packages_of, count_of}
+
+abbrev pub first_missing : GraphParts → List (List ℕ) → Fault
+first_missing w [] = None
+first_missing w (word ∷ words) = first_of (missing (packages_of w) (targets_of w) word) (first_missing w words)
+
+abbrev pub fault_in : GraphParts → Formula → Fault
+fault_in w (named words) = first_missing w words
+fault_in w (variable k) = None
+fault_in w (let_in a b) = first_of (fault_in w a) (fault_in w b)
+fault_in w (combined o a b) = first_of (fault_in w a) (fault_in w b)
+fault_in w (one f a) = fault_in w a
+fault_in w (two f a b) = first_of (fault_in w a) (fault_in w b)
+
+-- what a call ensures, out of memory aside: no fault where it succeeds, else this one
+abbrev pub Meets : {A : Type 0} → Fault → Result A QueryErr → Type 0
+Meets fault (Ok x) = fault ≡ None
+Meets fault (Err why) = why ≢ e.Memory → fault ≡ Some why
+
+-- nothing that the formula names is missing, and these are the marks of its set
+pub record Has (w : GraphParts) (bound : Bound) (x : Formula) (marks : List Bool) : Type 0 where
+  pub none : fault_in w x ≡ None
+  pub stands : IsSet (count_of w) marks (Stands w x bound)
+
+-- the variables of a formula have sets
+pub record AreBound (w : GraphParts) (x : Formula) (bound : Bound) : Type 0 where
+  pub closed : IsClosed (length bound) x
+  pub sets : AreSets w bound
+
+-- what answering a formula ensures, out of memory aside: the marks of its set where nothing is missing, and the bound sets as they were;
+-- else the first fault of its text
+abbrev pub Answers : {A : Type 0} → (A → List Bool) → GraphParts → Formula → Bound → Bound → Result A QueryErr → Bound → Type 0
+Answers marks w x bound before (Ok r) after = Has w bound x (marks r) × (after ≡ before)
+Answers marks w x bound before (Err why) after = why ≢ e.Memory → fault_in w x ≡ Some why

@@ -1,0 +1,59 @@
+//! Graphs of numbered targets.
+ghost use Rattle.std.specs.Prelude.{◌≡◌, ℕ, ◌+◌, ◌<◌, ◌↔◌, List, length, IfOk};
+ghost use Rattle.bq_query_graph.specs.Paths.{Pair, AreBelow, AreTurned};
+ghost use Rattle.bq_query_graph.specs.Edges.{AreBetween, HasPairsOf};
+
+use crate::edge::{Direction, Edge};
+use crate::rows::Rows;
+use std::alloc::{AllocError, Global};
+use std::marker::Model;
+
+/// The targets below a count, with edges between them, which can be followed both ways.
+/// A contract sees it as the list that has, for each target, the targets that its edges lead to.
+#[derive(Drop)]
+pub struct DependencyGraph {
+    forward: Rows,
+    back: Rows,
+}
+
+impl Model for DependencyGraph {
+    ghost Value = { List (List ℕ) };
+
+    ghost view = { λ g. g.forward };
+
+    ghost invariant = { λ g. AreTurned g.forward g.back };
+}
+
+impl DependencyGraph {
+    /// The graph of so many targets with the edges.
+    pub fn new(alloc: Global, count: usize, edges: &[Edge]) -> Result<DependencyGraph, AllocError>
+        requires { AreBetween count edges.now }
+        ensures { IfOk result (λ g. HasPairsOf count edges.now g) }
+    {
+        let forward = Rows::of_edges(alloc, count, edges, Direction::Forward)?;
+        let back = Rows::of_edges(alloc, count, edges, Direction::Back)?;
+        Ok(DependencyGraph { forward, back })
+    }
+
+    /// The number of targets.
+    pub fn len(&self) -> usize
+        ensures count { result ≡ length self.now }
+        ensures below { AreBelow self.now }
+    {
+        self.forward.len()
+    }
+
+    /// For each target those that its edges lead to.
+    pub(crate) fn forward(&self) -> &Rows
+        ensures { result.now ≡ self.now }
+    {
+        &self.forward
+    }
+
+    /// For each target those whose edges lead to it.
+    pub(crate) fn back(&self) -> &Rows
+        ensures { AreTurned self.now result.now }
+    {
+        &self.back
+    }
+}

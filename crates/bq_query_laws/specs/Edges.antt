@@ -1,0 +1,54 @@
+-- What the functions over edges stand for, in words of targets and the labels that they write (Bazel query reference, "deps", "rdeps",
+-- "allpaths").
+use Rattle.std.specs.Prelude.{◌≡◌, ◌↔◌, ℕ, zero, suc, ◌≤◌, List, Some, slice_get}
+use Rattle.bq_query_check.specs.declared.formula.Unary.TheVariants as unary
+use Rattle.bq_query_check.specs.declared.formula.Binary.TheVariants as binary
+use Rattle.bq_query_check.specs.Formula.{Formula, one, two}
+use Rattle.bq_package_target.specs.declared.target.Target.{Target}
+use Rattle.bq_package_target.specs.Package.{PackageTargets}
+use Rattle.bq_query_target_graph.specs.Edges.{IsGraphOf}
+use Rattle.bq_package_target_laws.specs.Names.{Depends}
+use Rattle.bq_query.specs.Stands.{Stands, Bound}
+use Rattle.bq_query_target_graph.specs.Graph.{GraphParts}
+use Rattle.bq_query.specs.Graph.{targets_of}
+
+-- an edge: the first target writes the label of the second
+pub record IsEdge (ts : List Target) (a b : ℕ) : Type 0 where
+  pub source : Target
+  pub from : slice_get ts a ≡ Some source
+  pub target : Target
+  pub to : slice_get ts b ≡ Some target
+  pub depends : Depends source target.label
+
+-- so many edges, one after another, lead from one target to another
+abbrev pub EdgesLead : List Target → ℕ → ℕ → ℕ → Type 0
+EdgesLead ts zero a c = a ≡ c
+EdgesLead ts (suc n) a c = (b : ℕ) × IsEdge ts a b × EdgesLead ts n b c
+
+-- so many edges lead from a target of the set to this one
+pub record IsReached (ts : List Target) (n : ℕ) (X : ℕ → Type 0) (y : ℕ) : Type 0 where
+  pub from : ℕ
+  pub starts : X from
+  pub lead : EdgesLead ts n from y
+
+-- so many edges lead from this target to one of the set
+pub record LeadsInto (ts : List Target) (n : ℕ) (X : ℕ → Type 0) (y : ℕ) : Type 0 where
+  pub to : ℕ
+  pub ends : X to
+  pub lead : EdgesLead ts n y to
+
+-- over the graph of packages, what each of them stands for by the edges
+pub record AreByEdges (w : GraphParts) (a b : Formula) (n : ℕ) (bound : Bound) (y : ℕ) : Type 0 where
+  -- deps(a)
+  pub deps : Stands w (one unary.Deps a) bound y ↔ ((k : ℕ) × IsReached (targets_of w) k (Stands w a bound) y)
+  -- deps(a, n)
+  pub deps_within : Stands w (one (unary.DepsWithin n) a) bound y ↔ ((k : ℕ) × (k ≤ n) × IsReached (targets_of w) k (Stands w a bound) y)
+  -- rdeps(a, b)
+  pub rdeps : Stands w (two binary.Rdeps a b) bound y ↔ (Stands w (one unary.Deps a) bound y × ((k : ℕ) × LeadsInto (targets_of w) k (Stands w b bound) y))
+  -- rdeps(a, b, n)
+  pub rdeps_within : Stands w (two (binary.RdepsWithin n) a b) bound y ↔ (Stands w (one unary.Deps a) bound y × ((k : ℕ) × (k ≤ n) × LeadsInto (targets_of w) k (Stands w b bound) y))
+  -- allpaths(a, b)
+  pub allpaths : Stands w (two binary.Allpaths a b) bound y ↔ (Stands w (one unary.Deps a) bound y × ((k : ℕ) × LeadsInto (targets_of w) k (Stands w b bound) y))
+
+abbrev pub FunctionsByEdges : Type 0
+FunctionsByEdges = (ps : List PackageTargets) (w : GraphParts) (a b : Formula) (n : ℕ) (bound : Bound) (y : ℕ) → IsGraphOf ps w → AreByEdges w a b n bound y

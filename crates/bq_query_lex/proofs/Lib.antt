@@ -1,0 +1,5 @@
+pub mod Within
+pub mod Cuts
+pub mod Readings
+pub mod Unique
+pub mod Spelled

@@ -1,0 +1,86 @@
+-- Which bytes are a token at the front of a text (Bazel query reference, "Tokens"; what is ours is marked).
+--
+-- Bytes by number: 9 the tab, 10 the newline, 13 the carriage return, 32 the space, 34 `"`, 36 `$`, 39 `'`, 40 `(`, 41 `)`, 42 `*`, 43 `+`, 44 `,`, 45 `-`, 61 `=`, 94 `^`, 95 `_`.
+use Rattle.std.specs.Prelude.{ℕ, ◌+◌, ◌==◌, ◌&&◌, ◌||◌, Bool, not, nat_le, nat_eq, bytes_eq, List, [], ◌∷◌, take, Option, Some, None, codes, position, false, if◌then◌else◌}
+use Rattle.std.specs.List.{list_all, list_any, prefix_len}
+use Rattle.std.specs.Map.{lookup}
+use Rattle.bq_query_lex.specs.declared.token.QueryTokenKind.{QueryTokenKind}
+use Rattle.bq_query_lex.specs.declared.token.QueryTokenKind.TheVariants as k
+use Rattle.bq_query_lex.specs.declared.lexis.QueryPiece.{QueryPiece}
+use Rattle.bq_query_lex.specs.declared.lexis.QueryPiece.TheVariants.{End, Blank, Found, Unknown}
+
+-- what parts tokens (ours): space, tab, newline, carriage return
+abbrev pub is_blank : ℕ → Bool
+is_blank b = list_any (nat_eq b) (32 ∷ 9 ∷ 10 ∷ 13 ∷ [])
+
+abbrev pub is_quote : ℕ → Bool
+is_quote b = b == 34 || b == 39
+
+abbrev pub is_letter_or_digit : ℕ → Bool
+is_letter_or_digit b = (nat_le 97 b && nat_le b 122) || (nat_le 65 b && nat_le b 90) || (nat_le 48 b && nat_le b 57)
+
+-- "Words": a word without quotes is made of letters, digits and `*/@.-_:$~[]`
+abbrev pub is_word_byte : ℕ → Bool
+is_word_byte b = is_letter_or_digit b || list_any (nat_eq b) (codes "*/@.-_:$~[]")
+
+-- and begins with neither `-` nor `*`
+abbrev pub begins_word : ℕ → Bool
+begins_word b = is_word_byte b && not (b == 45 || b == 42)
+
+abbrev pub punctuation : List (ℕ × QueryTokenKind)
+punctuation =
+    (40, k.Open) ∷ (41, k.Close) ∷ (44, k.Comma) ∷ (61, k.Equals) ∷ (43, k.Union) ∷ (94, k.Intersect) ∷ (45, k.Except) ∷ []
+
+abbrev pub keywords : List (List ℕ × QueryTokenKind)
+keywords =
+    (codes "except", k.Except) ∷ (codes "in", k.In) ∷ (codes "intersect", k.Intersect) ∷ (codes "let", k.Let) ∷ (codes "set", k.Set) ∷ (codes "union", k.Union) ∷ []
+
+-- what a variable's name is made of
+abbrev pub is_name_byte : ℕ → Bool
+is_name_byte b = is_letter_or_digit b || b == 95
+
+-- letters, digits and underscores, at least one
+abbrev pub is_variable_name : List ℕ → Bool
+is_variable_name [] = false
+is_variable_name (b ∷ bs) = list_all is_name_byte (b ∷ bs)
+
+-- a word that begins with `$` is a variable or none (ours)
+abbrev pub plain_kind : List ℕ → Option QueryTokenKind
+plain_kind [] = None
+plain_kind (b ∷ bs) = if b == 36 then (if is_variable_name bs then Some k.Variable else None) else Some k.Word
+
+abbrev pub keyword_or_plain : Option QueryTokenKind → List ℕ → Option QueryTokenKind
+keyword_or_plain (Some kind) word = Some kind
+keyword_or_plain None word = plain_kind word
+
+-- the kind of a word without quotes
+unfoldable pub word_kind : List ℕ → Option QueryTokenKind
+word_kind word = keyword_or_plain (lookup (bytes_eq word) keywords) word
+
+abbrev pub word_of : Option QueryTokenKind → ℕ → QueryPiece
+word_of (Some kind) n = Found kind n
+word_of None n = Unknown
+
+-- the longest run of the bytes of words
+unfoldable pub word_piece : List ℕ → QueryPiece
+word_piece text = let n = prefix_len is_word_byte text in word_of (word_kind (take n text)) n
+
+abbrev pub quoted_of : Option ℕ → QueryPiece
+quoted_of (Some n) = Found k.Quoted (n + 2)
+quoted_of None = Unknown
+
+-- "Quoting": all bytes up to the next quote of the same kind
+unfoldable pub quoted_piece : ℕ → List ℕ → QueryPiece
+quoted_piece quote rest = quoted_of (position (λ b. b == quote) rest)
+
+abbrev pub other_piece : ℕ → List ℕ → QueryPiece
+other_piece b bs = if is_quote b then quoted_piece b bs else (if begins_word b then word_piece (b ∷ bs) else Unknown)
+
+abbrev pub piece_by : Option QueryTokenKind → ℕ → List ℕ → QueryPiece
+piece_by (Some kind) b bs = Found kind 1
+piece_by None b bs = other_piece b bs
+
+-- what is at the front of a text
+unfoldable pub piece_of : List ℕ → QueryPiece
+piece_of [] = End
+piece_of (b ∷ bs) = if is_blank b then Blank else piece_by (lookup (nat_eq b) punctuation) b bs

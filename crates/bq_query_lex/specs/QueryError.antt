@@ -1,0 +1,26 @@
+-- The numbers and names of the errors of queries, and what is printed after them.
+use Rattle.std.specs.Prelude.{ℕ, List, [], codes}
+use Rattle.bq_query_lex.specs.declared.query_error.QueryErr.{QueryErr}
+use Rattle.bq_query_lex.specs.declared.query_error.QueryErr.TheVariants.{Syntax, UnknownFunction, LeftOut, BadRegex, NoSuchTarget, NoSuchPackage, UnboundVariable, Arguments, Memory}
+
+abbrev pub query_title : QueryErr → List ℕ
+query_title Syntax = codes "Q1 Syntax"
+query_title (UnknownFunction name) = codes "Q2 UnknownFunction"
+query_title (LeftOut word) = codes "Q3 LeftOut"
+query_title BadRegex = codes "Q4 BadRegex"
+query_title (NoSuchTarget label) = codes "Q5 NoSuchTarget"
+query_title (NoSuchPackage pattern) = codes "Q6 NoSuchPackage"
+query_title (UnboundVariable name) = codes "Q7 UnboundVariable"
+query_title Arguments = codes "Q8 Arguments"
+query_title Memory = codes "Q9 Memory"
+
+abbrev pub query_detail : QueryErr → List ℕ
+query_detail (UnknownFunction name) = name
+query_detail (LeftOut word) = word
+query_detail (NoSuchTarget label) = label
+query_detail (NoSuchPackage pattern) = pattern
+query_detail (UnboundVariable name) = name
+query_detail Syntax = []
+query_detail BadRegex = []
+query_detail Arguments = []
+query_detail Memory = []

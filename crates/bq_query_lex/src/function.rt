@@ -1,0 +1,128 @@
+//! The functions of queries, by name, with what each of their arguments must be.
+ghost use Rattle.std.specs.Prelude.{◌≡◌, map, bytes_eq};
+ghost use Rattle.std.specs.List.{list_any};
+ghost use Rattle.std.specs.Map.{lookup};
+ghost use Rattle.bq_query_lex.specs.Functions.{function_named, is_left_out, arguments_of, takes_number};
+
+/// A function that can be answered.
+#[derive(Clone, Copy)]
+pub enum QueryFunction {
+    Allpaths,
+    Attr,
+    Deps,
+    Filter,
+    Kind,
+    Labels,
+    Rdeps,
+}
+
+/// What an argument must be.
+#[derive(Clone, Copy)]
+pub enum QueryArgumentKind {
+    /// Any query.
+    Query,
+    /// A word that is a regular expression.
+    Pattern,
+    /// A word that is the name of an attribute.
+    Attribute,
+}
+
+const FUNCTIONS: [(&[u8], QueryFunction); 7] = [
+    (b"allpaths", QueryFunction::Allpaths),
+    (b"attr", QueryFunction::Attr),
+    (b"deps", QueryFunction::Deps),
+    (b"filter", QueryFunction::Filter),
+    (b"kind", QueryFunction::Kind),
+    (b"labels", QueryFunction::Labels),
+    (b"rdeps", QueryFunction::Rdeps),
+];
+
+/// Functions of Bazel's query language that are left out (Q3).
+const LEFT_OUT: [&[u8]; 10] = [
+    b"allrdeps",
+    b"buildfiles",
+    b"executables",
+    b"loadfiles",
+    b"same_pkg_direct_rdeps",
+    b"siblings",
+    b"some",
+    b"somepath",
+    b"tests",
+    b"visible",
+];
+
+fn find_function(mut table: &[(&[u8], QueryFunction)], name: &[u8]) -> Option<QueryFunction>
+    ensures { result ≡ lookup (bytes_eq name.now) (map (λ e. (e.0.now, e.1)) table.entry.now) }
+{
+    while let [entry, rest @ ..] = table {
+        if name == entry.0 {
+            return Some(entry.1);
+        }
+        table = rest;
+    }
+    None
+}
+
+fn is_among(mut table: &[&[u8]], name: &[u8]) -> bool
+    ensures { result ≡ list_any (bytes_eq name.now) (map (λ k. k.now) table.entry.now) }
+{
+    while let [entry, rest @ ..] = table {
+        if name == *entry {
+            return true;
+        }
+        table = rest;
+    }
+    false
+}
+
+/// The function of this name; none for a name that is left out or unknown.
+pub fn function_named(name: &[u8]) -> Option<QueryFunction>
+    ensures { result ≡ function_named name.now }
+{
+    find_function(&FUNCTIONS, name)
+}
+
+/// Whether Bazel has a function of this name that is left out here (Q3); any other unknown name is Q2.
+pub fn is_left_out(name: &[u8]) -> bool
+    ensures { result ≡ is_left_out name.now }
+{
+    is_among(&LEFT_OUT, name)
+}
+
+impl QueryFunction {
+    /// What its arguments must be, in order.
+    pub fn arguments(self) -> &'static [QueryArgumentKind]
+        ensures { result.now ≡ arguments_of self }
+    {
+        match self {
+            QueryFunction::Allpaths => &[QueryArgumentKind::Query, QueryArgumentKind::Query],
+            QueryFunction::Attr => {
+                &[
+                    QueryArgumentKind::Attribute,
+                    QueryArgumentKind::Pattern,
+                    QueryArgumentKind::Query,
+                ]
+            }
+            QueryFunction::Deps => &[QueryArgumentKind::Query],
+            QueryFunction::Filter => &[QueryArgumentKind::Pattern, QueryArgumentKind::Query],
+            QueryFunction::Kind => &[QueryArgumentKind::Pattern, QueryArgumentKind::Query],
+            QueryFunction::Labels => &[QueryArgumentKind::Attribute, QueryArgumentKind::Query],
+            QueryFunction::Rdeps => &[QueryArgumentKind::Query, QueryArgumentKind::Query],
+        }
+    }
+
+    /// Whether a number of edges may follow.
+    pub fn takes_number(self) -> bool
+        ensures { result ≡ takes_number self }
+    {
+        match self {
+            QueryFunction::Deps => true,
+            QueryFunction::Rdeps => true,
+            QueryFunction::Allpaths => false,
+            QueryFunction::Attr => false,
+            QueryFunction::Filter => false,
+            QueryFunction::Kind => false,
+            QueryFunction::Labels => false,
+        }
+    }
+}

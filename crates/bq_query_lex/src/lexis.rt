@@ -1,0 +1,202 @@
+//! Which bytes are a token at the front of a text (Bazel query reference, "Tokens").
+ghost use Rattle.std.specs.Prelude.{◌≡◌, ◌≤◌, ◌==◌, nat_eq, bytes_eq, map, length, position};
+ghost use Rattle.std.specs.List.{list_all, prefix_len};
+ghost use Rattle.std.specs.Map.{lookup};
+ghost use Rattle.bq_query_lex.specs.Lexis.{is_blank, is_quote, is_letter_or_digit, is_word_byte, is_name_byte, begins_word, is_variable_name, punctuation, keywords, word_kind, plain_kind, word_piece, quoted_piece, other_piece, piece_of};
+
+use crate::token::QueryTokenKind;
+
+/// What is at the front of a text.
+#[derive(Clone, Copy)]
+pub enum QueryPiece {
+    /// The text is empty.
+    End,
+    /// A byte that parts tokens.
+    Blank,
+    /// A token of so many bytes.
+    Found(QueryTokenKind, usize),
+    /// No token begins so.
+    Unknown,
+}
+
+fn is_blank(b: u8) -> bool
+    ensures { result ≡ is_blank b }
+{
+    b == b' ' || b == b'\t' || b == b'\n' || b == b'\r'
+}
+
+fn is_quote(b: u8) -> bool
+    ensures { result ≡ is_quote b }
+{
+    b == b'"' || b == b'\''
+}
+
+fn is_word_byte(b: u8) -> bool
+    ensures { result ≡ is_word_byte b }
+{
+    b.is_ascii_alphanumeric() || b"*/@.-_:$~[]".contains(&b)
+}
+
+fn begins_word(b: u8) -> bool
+    ensures { result ≡ begins_word b }
+{
+    is_word_byte(b) && !(b == b'-' || b == b'*')
+}
+
+fn is_name_byte(b: u8) -> bool
+    ensures { result ≡ is_name_byte b }
+{
+    b.is_ascii_alphanumeric() || b == b'_'
+}
+
+fn are_name_bytes(text: &[u8]) -> bool
+    ensures { result ≡ list_all is_name_byte text.now }
+{
+    text.iter().all(|b| is_name_byte(*b))
+}
+
+/// Letters, digits and underscores, at least one.
+pub fn is_variable_name(text: &[u8]) -> bool
+    ensures { result ≡ is_variable_name text.now }
+{
+    match text {
+        [] => false,
+        [first, rest @ ..] => is_name_byte(*first) && are_name_bytes(rest),
+    }
+}
+
+fn punctuation(b: u8) -> Option<QueryTokenKind>
+    ensures { result ≡ lookup (nat_eq b) punctuation }
+{
+    match b {
+        b'(' => Some(QueryTokenKind::Open),
+        b')' => Some(QueryTokenKind::Close),
+        b',' => Some(QueryTokenKind::Comma),
+        b'=' => Some(QueryTokenKind::Equals),
+        b'+' => Some(QueryTokenKind::Union),
+        b'^' => Some(QueryTokenKind::Intersect),
+        b'-' => Some(QueryTokenKind::Except),
+        _ => None,
+    }
+}
+
+const KEYWORDS: [(&[u8], QueryTokenKind); 6] = [
+    (b"except", QueryTokenKind::Except),
+    (b"in", QueryTokenKind::In),
+    (b"intersect", QueryTokenKind::Intersect),
+    (b"let", QueryTokenKind::Let),
+    (b"set", QueryTokenKind::Set),
+    (b"union", QueryTokenKind::Union),
+];
+
+fn find_keyword(mut table: &[(&[u8], QueryTokenKind)], word: &[u8]) -> Option<QueryTokenKind>
+    ensures { result ≡ lookup (bytes_eq word.now) (map (λ e. (e.0.now, e.1)) table.entry.now) }
+{
+    while let [entry, rest @ ..] = table {
+        if word == entry.0 {
+            return Some(entry.1);
+        }
+        table = rest;
+    }
+    None
+}
+
+fn keyword(word: &[u8]) -> Option<QueryTokenKind>
+    ensures { result ≡ lookup (bytes_eq word.now) keywords }
+{
+    find_keyword(&KEYWORDS, word)
+}
+
+fn plain_kind(word: &[u8]) -> Option<QueryTokenKind>
+    ensures { result ≡ plain_kind word.now }
+{
+    match word {
+        [] => None,
+        [b'$', name @ ..] => {
+            if is_variable_name(name) {
+                Some(QueryTokenKind::Variable)
+            } else {
+                None
+            }
+        }
+        _ => Some(QueryTokenKind::Word),
+    }
+}
+
+/// The kind of a word without quotes; none for one that begins with `$` and is no variable.
+#[tactic(auto, unfolding(crate::specs::Lexis::word_kind))]
+fn word_kind(word: &[u8]) -> Option<QueryTokenKind>
+    ensures { result ≡ word_kind word.now }
+{
+    match keyword(word) {
+        Some(kind) => Some(kind),
+        None => plain_kind(word),
+    }
+}
+
+/// How many bytes at the front are those of a word.
+fn word_len(text: &[u8]) -> usize
+    ensures len { result ≡ prefix_len is_word_byte text.now }
+    ensures within { result ≤ length text.now }
+{
+    for (n, b) in text.iter().enumerate() {
+        if !is_word_byte(*b) {
+            return n;
+        }
+    }
+    text.len()
+}
+
+/// The longest run of the bytes of words.
+#[tactic(auto, unfolding(crate::specs::Lexis::word_piece))]
+fn word_piece(text: &[u8]) -> QueryPiece
+    ensures { result ≡ word_piece text.now }
+{
+    let n = word_len(text);
+    match word_kind(&text[..n]) {
+        Some(kind) => QueryPiece::Found(kind, n),
+        None => QueryPiece::Unknown,
+    }
+}
+
+fn next_quote(quote: u8, rest: &[u8]) -> Option<usize>
+    ensures { result ≡ position (λ b. b == quote) rest.now }
+{
+    rest.iter().position(|b| *b == quote)
+}
+
+/// All bytes up to the next quote of the same kind.
+#[tactic(auto, unfolding(crate::specs::Lexis::quoted_piece))]
+fn quoted_piece(quote: u8, rest: &[u8]) -> QueryPiece
+    ensures { result ≡ quoted_piece quote rest.now }
+{
+    match next_quote(quote, rest) {
+        Some(n) => QueryPiece::Found(QueryTokenKind::Quoted, n + 2),
+        None => QueryPiece::Unknown,
+    }
+}
+
+/// What is at the front of the text.
+#[tactic(auto, unfolding(crate::specs::Lexis::piece_of))]
+pub fn piece_of(text: &[u8]) -> QueryPiece
+    ensures { result ≡ piece_of text.now }
+{
+    match text {
+        [] => QueryPiece::End,
+        [b, rest @ ..] => {
+            if is_blank(*b) {
+                return QueryPiece::Blank;
+            }
+            if let Some(kind) = punctuation(*b) {
+                return QueryPiece::Found(kind, 1);
+            }
+            if is_quote(*b) {
+                return quoted_piece(*b, rest);
+            }
+            if begins_word(*b) {
+                return word_piece(text);
+            }
+            QueryPiece::Unknown
+        }
+    }
+}

@@ -1,0 +1,29 @@
+//! The bytes of a query come in; its tokens go out. Beside them stand the table of functions and the errors that users see.
+//!
+//! The promise: `lex_query` gives the tokens that the text is cut into, and Q1 exactly where it can't be cut (`specs/Reading.antt`).
+//!
+//! In reading order:
+//!
+//! - `query_error`: the errors of queries, with the numbers and names that users see;
+//! - `token`: the kinds of tokens;
+//! - `lexis`: which bytes are a token at the front of a text;
+//! - `lexer`: the tokens of a whole text;
+//! - `function`: the functions, and what their arguments must be;
+//! - `target_pattern`: which form a word has as a target pattern;
+//! - `laws`: what the tokens of a text are, in words of the text.
+#![tactic(auto)]
+
+mod function;
+pub mod laws;
+mod lexer;
+mod lexis;
+mod query_error;
+mod target_pattern;
+mod token;
+
+pub use function::{QueryArgumentKind, QueryFunction, function_named, is_left_out};
+pub use lexer::lex_query;
+pub use lexis::is_variable_name;
+pub use query_error::QueryErr;
+pub use target_pattern::{PatternForm, WordForm, begins_pattern, word_form};
+pub use token::{QueryToken, QueryTokenKind};

@@ -1,0 +1,103 @@
+//! Target patterns: which form a word has (Bazel, "Target patterns").
+ghost use Rattle.std.specs.Prelude.{◌≡◌, None, Some, MatchOption, map};
+ghost use Rattle.std.specs.List.{list_any};
+ghost use Rattle.bq_query_lex.specs.TargetPatterns.{begins_pattern, ending, form_by, is_colon, part_before, word_form};
+
+/// Which targets a word means.
+#[derive(Clone, Copy)]
+pub enum PatternForm {
+    /// `//p:n`: one target.
+    Target,
+    /// `//p:all`: the rules of a package.
+    Rules,
+    /// `//p:*`, `//p:all-targets`: all targets of a package.
+    All,
+    /// `//p/...`, `//p/...:all`: the rules of a package and of those beneath it.
+    RulesBeneath,
+    /// `//p/...:*`, `//p/...:all-targets`: all targets of a package and of those beneath it.
+    AllBeneath,
+}
+
+/// A word's form, and the part of it that names the target or the package: `//p` of `//p/...`, `//` of `//...`.
+#[derive(Clone, Copy)]
+pub struct WordForm<'a> {
+    pub form: PatternForm,
+    pub named: &'a [u8],
+}
+
+/// How the words of a form end, and how many bytes of the end are left out of the part that names. The first that fits counts,
+/// where that part names a package.
+const ENDINGS: [(&[u8], usize, PatternForm); 11] = [
+    (b"//...", 3, PatternForm::RulesBeneath),
+    (b"/...", 4, PatternForm::RulesBeneath),
+    (b"//...:all", 7, PatternForm::RulesBeneath),
+    (b"/...:all", 8, PatternForm::RulesBeneath),
+    (b"//...:*", 5, PatternForm::AllBeneath),
+    (b"/...:*", 6, PatternForm::AllBeneath),
+    (b"//...:all-targets", 15, PatternForm::AllBeneath),
+    (b"/...:all-targets", 16, PatternForm::AllBeneath),
+    (b":all", 4, PatternForm::Rules),
+    (b":*", 2, PatternForm::All),
+    (b":all-targets", 12, PatternForm::All),
+];
+
+fn has_colon(text: &[u8]) -> bool
+    ensures { result ≡ list_any is_colon text.now }
+{
+    text.iter().any(|byte| *byte == b':')
+}
+
+/// The part of a word before an ending, where the word ends so and the part names a package: it holds no `:`.
+#[tactic(auto, unfolding(crate::specs::TargetPatterns::part_before))]
+fn part_before<'a>(word: &'a [u8], end: &[u8], dropped: usize) -> Option<&'a [u8]>
+    ensures { MatchOption result (part_before end.now dropped word.now ≡ None) (λ part. part_before end.now dropped word.now ≡ Some part.now) }
+{
+    if !word.ends_with(end) {
+        return None;
+    }
+    let part = &word[..word.len().saturating_sub(dropped)];
+    if has_colon(part) {
+        return None;
+    }
+    Some(part)
+}
+
+fn find_form<'a>(mut table: &[(&[u8], usize, PatternForm)], word: &'a [u8]) -> WordForm<'a>
+    ensures form { result.form ≡ (form_by (map (λ e. ending e.0.now e.1 e.2) table.entry.now) word.now).0 }
+    ensures named { result.named.now ≡ (form_by (map (λ e. ending e.0.now e.1 e.2) table.entry.now) word.now).1 }
+{
+    while let [entry, rest @ ..] = table {
+        match part_before(word, entry.0, entry.1) {
+            Some(named) => return WordForm {
+                form: entry.2,
+                named,
+            },
+            None => table = rest,
+        }
+    }
+    WordForm {
+        form: PatternForm::Target,
+        named: word,
+    }
+}
+
+/// The form of a word, read from the word as it is written: those with `...` first, `//p:n` last. So `//p:all` never means a target named
+/// `all`; and `//a:b/...` is `//p:n`, since no package is named `a:b`.
+pub fn word_form(word: &[u8]) -> WordForm<'_>
+    ensures form { result.form ≡ (word_form word.now).0 }
+    ensures named { result.named.now ≡ (word_form word.now).1 }
+{
+    find_form(&ENDINGS, word)
+}
+
+/// Whether a word begins as the target patterns do that can be answered: with `//`, or with `@` but not `@@`. Any other is left out (Q3).
+pub fn begins_pattern(word: &[u8]) -> bool
+    ensures { result ≡ begins_pattern word.now }
+{
+    match word {
+        [b'/', b'/', ..] => true,
+        [b'@', b'@', ..] => false,
+        [b'@', ..] => true,
+        _ => false,
+    }
+}

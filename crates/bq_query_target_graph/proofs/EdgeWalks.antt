@@ -1,0 +1,86 @@
+-- The list of edges has just the dependencies of targets.
+use Rattle.std.proofs.Common.{◌≡◌, ◌<◌, ◌≤◌, ◌+◌, ◌∙◌, ℕ, false, List, [], ◌∷◌, ◌++◌, Option, length, take, drop, position, get_or, refl, sym, ap, subst, append_assoc, append-nil}
+use Rattle.std.specs.List.{flat_map, IsDistinct}
+use Rattle.std.proofs.lemmas.List.{drop_more, drop_all, take-append-drop, map-append}
+use Rattle.std.proofs.lemmas.List.Concat.{flat_map-append}
+use Rattle.bq_label.specs.Label.{LabelParts}
+use Rattle.bq_query_graph.specs.declared.edge.Edge.{Edge}
+use Rattle.bq_package_rule_class.specs.declared.value.AttributeValue.{AttributeValue}
+use Rattle.bq_package_rule_class.specs.declared.value.AttributeValue.TheVariants as v
+use Rattle.bq_package_target.specs.declared.target.Target.{Target}
+use Rattle.bq_package_target.specs.declared.target.TargetKind.{TargetKind}
+use Rattle.bq_package_target.specs.declared.target.TargetKind.TheVariants as k
+use Rattle.bq_package_target.specs.Value.{labels_in}
+use Rattle.bq_package_target.specs.Value.{labels_of as value_labels}
+use Rattle.bq_package_target.specs.Target.{dependencies, dependencies_by}
+use Rattle.bq_label_set.specs.Labels.{same_label, has_label, with_label}
+use Rattle.bq_label_set.proofs.Added.{new_label, free_before}
+use Rattle.bq_query_target_graph.specs.Order.{labels_of}
+use Rattle.bq_query_target_graph.specs.Edges.{edge_by, edges_to, edges_from}
+use Rattle.bq_query_target_graph.proofs.Lists.{next_taken}
+
+-- ---- the labels of targets, numbered
+
+pub label_next : (ts : List Target) (i : ℕ) (t : Target) (ls now : List LabelParts) → i < length ts → t ≡ get_or ts i t → IsDistinct same_label (labels_of ts) → ls ≡ labels_of (take i ts) → now ≡ with_label ls t.label → now ≡ labels_of (take (i + 1) ts)
+label_next ts i t ls now h e d f n =
+    let rest : drop i ts ≡ t ∷ drop (i + 1) ts = drop_more ts i t h ∙ ap (λ (z : Target). z ∷ drop (i + 1) ts) (sym e) in
+    let split : labels_of ts ≡ labels_of (take i ts) ++ (t.label ∷ labels_of (drop (i + 1) ts)) =
+    ap labels_of (sym (take-append-drop i ts)) ∙ (map-append (λ (z : Target). z.label) (take i ts) (drop i ts) ∙ ap (λ (z : List Target). labels_of (take i ts) ++ labels_of z) rest) in
+    let free : has_label ls t.label ≡ false =
+    ap (λ (z : List LabelParts). has_label z t.label) f ∙ free_before (labels_of (take i ts)) (labels_of (drop (i + 1) ts)) t.label (subst (λ (z : List LabelParts). IsDistinct same_label z) split d) in
+    let added : with_label ls t.label ≡ ls ++ t.label ∷ [] = new_label ls t.label free in
+    n ∙ (added ∙ (ap (λ (z : List LabelParts). z ++ t.label ∷ []) f ∙ (sym (map-append (λ (z : Target). z.label) (take i ts) (t ∷ [])) ∙ ap labels_of (sym (next_taken ts i t h e)))))
+
+-- ---- the steps of the walk
+
+pub edges_more : (ls : List LabelParts) (a : ℕ) (xs ys : List LabelParts) (es fs gs : List Edge) → fs ≡ es ++ edges_to ls a xs → gs ≡ fs ++ edges_to ls a ys → gs ≡ es ++ edges_to ls a (xs ++ ys)
+edges_more ls a xs ys es fs gs f g =
+    g ∙ (ap (λ (z : List Edge). z ++ edges_to ls a ys) f ∙ (append_assoc es (edges_to ls a xs) (edges_to ls a ys) ∙ ap (λ (z : List Edge). es ++ z) (sym (flat_map-append (λ (l : LabelParts). edge_by a (position (same_label l) ls)) xs ys))))
+
+pub edges_each : {X : Type 0} (named : X → List LabelParts) (ls : List LabelParts) (a : ℕ) (xs : List X) (i : ℕ) (x : X) (es fs gs : List Edge) → i < length xs → x ≡ get_or xs i x
+    → fs ≡ es ++ edges_to ls a (flat_map named (take i xs)) → gs ≡ fs ++ edges_to ls a (named x) → gs ≡ es ++ edges_to ls a (flat_map named (take (i + 1) xs))
+edges_each {X} named ls a xs i x es fs gs h e f g =
+    let last : flat_map named (take (i + 1) xs) ≡ flat_map named (take i xs) ++ named x =
+    ap (flat_map named) (next_taken xs i x h e) ∙ (flat_map-append named (take i xs) (x ∷ []) ∙ ap (λ (z : List LabelParts). flat_map named (take i xs) ++ z) (append-nil (named x))) in
+    edges_more ls a (flat_map named (take i xs)) (named x) es fs gs f g ∙ ap (λ (z : List LabelParts). es ++ edges_to ls a z) (sym last)
+
+pub edges_next : (ls : List LabelParts) (a : ℕ) (xs : List LabelParts) (i : ℕ) (x : LabelParts) (es fs gs : List Edge) → i < length xs → x ≡ get_or xs i x
+    → fs ≡ es ++ edges_to ls a (take i xs) → gs ≡ fs ++ edges_to ls a (x ∷ []) → gs ≡ es ++ edges_to ls a (take (i + 1) xs)
+edges_next ls a xs i x es fs gs h e f g = edges_more ls a (take i xs) (x ∷ []) es fs gs f g ∙ ap (λ (z : List LabelParts). es ++ edges_to ls a z) (sym (next_taken xs i x h e))
+
+-- what is left from here and what is there is all
+pub walk_next : (ls : List LabelParts) (ts : List Target) (a i : ℕ) (t : Target) (es fs all : List Edge) → i < length ts → t ≡ get_or ts i t → es ++ edges_from ls a (drop i ts) ≡ all → fs ≡ es ++ edges_to ls a (dependencies t)
+    → fs ++ edges_from ls (a + 1) (drop (i + 1) ts) ≡ all
+unfolding edges_from
+walk_next ls ts a i t es fs all h e f g =
+    let rest : drop i ts ≡ t ∷ drop (i + 1) ts = drop_more ts i t h ∙ ap (λ (z : Target). z ∷ drop (i + 1) ts) (sym e) in
+    let more : List Edge = edges_from ls (a + 1) (drop (i + 1) ts) in
+    ap (λ (z : List Edge). z ++ more) g ∙ (append_assoc es (edges_to ls a (dependencies t)) more ∙ (ap (λ (z : List Target). es ++ edges_from ls a z) (sym rest) ∙ f))
+
+pub walk_end : (ls : List LabelParts) (ts : List Target) (a i : ℕ) (es all : List Edge) → length ts ≤ i → es ++ edges_from ls a (drop i ts) ≡ all → es ≡ all
+unfolding edges_from
+walk_end ls ts a i es all h f = sym (append-nil es) ∙ (ap (λ (z : List Target). es ++ edges_from ls a z) (sym (drop_all i ts h)) ∙ f)
+
+-- the edge to the target of one label
+pub one_edge : (ls : List LabelParts) (a : ℕ) (l : LabelParts) (o : Option ℕ) → position (same_label l) ls ≡ o → edges_to ls a (l ∷ []) ≡ edge_by a o
+one_edge ls a l o h = append-nil (edge_by a (position (same_label l) ls)) ∙ ap (edge_by a) h
+
+by_kind : (kind : TargetKind) (named : List LabelParts) → ((rule : LabelParts) → kind ≡ k.Generated rule → ⊥) → dependencies_by kind named ≡ named
+by_kind (k.Generated rule) named f = absurd (f rule refl)
+by_kind (k.Rule name class) named f = refl
+by_kind k.Source named f = refl
+by_kind k.Group named f = refl
+
+pub other_kind : (t : Target) → ((rule : LabelParts) → t.kind ≡ k.Generated rule → ⊥) → dependencies t ≡ labels_in t.attributes
+unfolding dependencies
+other_kind t f = by_kind t.kind (labels_in t.attributes) f
+
+pub other_value : (value : AttributeValue) → ((l : LabelParts) → value ≡ v.Label l → ⊥) → ((ls : List LabelParts) → value ≡ v.LabelList ls → ⊥) → value_labels value ≡ []
+other_value (v.Label l) f g = absurd (f l refl)
+other_value (v.LabelList ls) f g = absurd (g ls refl)
+other_value (v.String s) f g = refl
+other_value (v.Int n) f g = refl
+other_value (v.Bool b) f g = refl
+other_value (v.StringList ss) f g = refl
+other_value (v.Output l) f g = refl
+other_value (v.OutputList ls) f g = refl

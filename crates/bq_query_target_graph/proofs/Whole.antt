@@ -1,0 +1,65 @@
+-- The graph of packages is made of their targets in order, and of the edges between them.
+use Rattle.std.proofs.Common.{◌≡◌, ◌∙◌, ℕ, List, [], ◌∷◌, length, map, sym, ap, subst}
+use Rattle.std.specs.List.{All, AllByRecursion}
+use Rattle.std.specs.declared.cmp.Ordering.TheVariants.{Less}
+use Rattle.std.specs.List.Sorted.{IsPermutation, IsSorted, IsStrictlySortedBy}
+use Rattle.std.proofs.lemmas.List.Sorted.{IsPermutation-trans, IsPermutation-sym, All-permutation}
+use Rattle.bq_label.specs.Label.{PackageParts, LabelParts, IsLabel}
+use Rattle.bq_label.specs.Packages.{id_cmp}
+use Rattle.bq_query_graph.specs.declared.edge.Edge.{Edge}
+use Rattle.bq_query_graph.specs.Edges.{AreBetween, HasPairsOf}
+use Rattle.bq_package_target.specs.declared.target.Target.{Target}
+use Rattle.bq_package_target.specs.Package.{PackageTargets, AreTargetsOf}
+use Rattle.bq_query_target_graph.specs.Order.{target_cmp, id_of, PackagesAscend, all_targets, targets_of, labels_of, AreValid}
+use Rattle.bq_query_target_graph.specs.Graph.{IsGraph}
+use Rattle.bq_query_target_graph.specs.Edges.{IsGraphOf, edges_from}
+use Rattle.bq_query_target_graph.proofs.Ascends.{ascends, are_targets, distinct_from_order}
+use Rattle.bq_query_target_graph.proofs.Depends.{edges_are, are_between}
+
+-- what a sort makes of the targets that were moved out of packages
+module _ (ps : List PackageTargets) (o : PackagesAscend ps) (v : All (λ p. AreTargetsOf (id_of p) p.targets) ps) (moved : List Target) (f : IsPermutation (all_targets ps) moved)
+    (ts : List Target) (m : IsPermutation moved ts) (s : IsSorted target_cmp ts) (valid : AreValid ts) where
+  all_moved : IsPermutation (all_targets ps) ts
+  all_moved = IsPermutation-trans (all_targets ps) moved ts f m
+
+  all_valid : AreValid (all_targets ps)
+  all_valid = All-permutation (λ (t : Target). IsLabel t.label) ts (all_targets ps) (IsPermutation-sym (all_targets ps) ts all_moved) valid
+
+  pub whole_ascends : IsStrictlySortedBy target_cmp ts
+  whole_ascends = ascends ps o v all_valid ts all_moved s
+
+  pub whole_targets : ts ≡ targets_of ps
+  whole_targets = are_targets ps o v all_valid ts all_moved s
+
+ids_ascend : (ps : List PackageTargets) → PackagesAscend ps → IsStrictlySortedBy id_cmp (map id_of ps)
+unfolding IsStrictlySortedBy
+ids_ascend [] o = tt
+ids_ascend (p ∷ ps) o = (each p ps o.0, ids_ascend ps o.1)
+  where
+    each : (p : PackageTargets) (ps : List PackageTargets) → AllByRecursion (λ q. id_cmp (id_of p) (id_of q) ≡ Less) ps → AllByRecursion (λ q. id_cmp (id_of p) q ≡ Less) (map id_of ps)
+    each p [] a = tt
+    each p (q ∷ qs) a = (a.0, each p qs a.1)
+
+-- the graph of these parts
+module _ (ps : List PackageTargets) (o : PackagesAscend ps) (ts : List Target) (e : ts ≡ targets_of ps) (s : IsStrictlySortedBy target_cmp ts) (ids : List PackageParts) (k : ids ≡ map id_of ps)
+    (g : List (List ℕ)) (h : HasPairsOf (length ts) (edges_from (labels_of ts) 0 ts) g) where
+  pub whole_graph : IsGraph (record { targets = ts; packages = ids; edges = g })
+  whole_graph = record {
+    ascending = s;
+    packages_ascend = subst (λ (z : List PackageParts). IsStrictlySortedBy id_cmp z) (sym k) (ids_ascend ps o);
+    long = h.long;
+  }
+
+  pub whole_is : IsGraphOf ps (record { targets = ts; packages = ids; edges = g })
+  whole_is = record {
+    targets = e;
+    packages = k;
+    pairs = λ a b.
+        let edges = edges_are ts (distinct_from_order ts s) a b in
+        let pairs = h.pairs a b in
+        (λ p. edges.0 (pairs.0 p), λ d. pairs.1 (edges.1 d));
+  }
+
+pub edges_between : (ts : List Target) → IsStrictlySortedBy target_cmp ts → (ls : List LabelParts) → ls ≡ labels_of ts → (es : List Edge) → es ≡ edges_from ls 0 ts → AreBetween (length ts) es
+edges_between ts s ls l es n =
+    subst (λ (z : List Edge). AreBetween (length ts) z) (sym (n ∙ ap (λ (z : List LabelParts). edges_from z 0 ts) l)) (are_between ts (distinct_from_order ts s))

@@ -1,0 +1,47 @@
+-- Fault F79: a label of another package that names no target there (Bazel, "Dependencies"). The target that names it stays.
+use Rattle.std.specs.Prelude.{◌≡◌, ℕ, List, [], ◌∷◌, Bool, true, false, if◌then◌else◌}
+use Rattle.std.specs.List.{flat_map, Contains}
+use Rattle.bq_base.specs.declared.fault.FaultKind.TheVariants as f
+use Rattle.bq_label.specs.Label.{LabelParts, package_of, full_form}
+use Rattle.bq_load_fault_line.specs.declared.fault_line.FaultLine.{FaultLine}
+use Rattle.bq_package_target.specs.declared.target.Target.{Target}
+use Rattle.bq_package_target.specs.Target.{is_of, dependencies}
+use Rattle.bq_package_target.specs.Package.{PackageTargets}
+use Rattle.bq_label_set.specs.Labels.{has_label}
+use Rattle.bq_query_target_graph.specs.Order.{all_targets, labels_of}
+
+-- the fault's line: the BUILD file, the line of the call that declares the target, and the label
+abbrev pub dangling_line : LabelParts → ℕ → LabelParts → FaultLine
+dangling_line b line l = record { label = full_form b; line = line; kind = f.DanglingLabel; detail = full_form l }
+
+abbrev pub line_by : Bool → FaultLine → List FaultLine
+line_by true x = []
+line_by false x = x ∷ []
+
+-- the line of a label, where it is of another package than the BUILD file's and none of the known ones
+unfoldable pub dangling : (LabelParts → Bool) → LabelParts → ℕ → LabelParts → List FaultLine
+dangling known b line l = line_by (if is_of (package_of b) l then true else known l) (dangling_line b line l)
+
+-- the lines of the labels that a target depends on
+abbrev pub dangling_in : (LabelParts → Bool) → LabelParts → Target → List FaultLine
+dangling_in known b t = flat_map (dangling known b t.line) (dependencies t)
+
+-- the lines of a package's targets
+abbrev pub dangling_of : (LabelParts → Bool) → PackageTargets → List FaultLine
+dangling_of known p = flat_map (dangling_in known p.build_file) p.targets
+
+-- the lines of all packages
+unfoldable pub all_dangling : List PackageTargets → List FaultLine
+all_dangling ps = flat_map (dangling_of (has_label (labels_of (all_targets ps)))) ps
+
+-- the same in words: a target of a package depends on a label of another package that no target has
+pub record IsDangling (ps : List PackageTargets) (x : FaultLine) : Type 0 where
+  pub owner : PackageTargets
+  pub known : Contains ps owner
+  pub target : Target
+  pub declared : Contains owner.targets target
+  pub label : LabelParts
+  pub named : Contains (dependencies target) label
+  pub elsewhere : is_of (package_of owner.build_file) label ≡ false
+  pub missing : has_label (labels_of (all_targets ps)) label ≡ false
+  pub line : x ≡ dangling_line owner.build_file target.line label

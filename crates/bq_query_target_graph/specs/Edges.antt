@@ -1,0 +1,41 @@
+-- Which targets depend on which, by their numbers.
+use Rattle.std.specs.Prelude.{◌≡◌, ℕ, ◌+◌, ◌↔◌, List, [], ◌∷◌, ◌++◌, Option, Some, None, map, position, slice_get}
+use Rattle.std.specs.List.{flat_map, Contains}
+use Rattle.bq_label.specs.Label.{LabelParts}
+use Rattle.bq_query_graph.specs.declared.edge.Edge.{Edge}
+use Rattle.bq_query_graph.specs.Paths.{Pair}
+use Rattle.bq_package_target.specs.declared.target.Target.{Target}
+use Rattle.bq_package_target.specs.Target.{dependencies}
+use Rattle.bq_package_target.specs.Package.{PackageTargets}
+use Rattle.bq_label_set.specs.Labels.{same_label}
+use Rattle.bq_query_target_graph.specs.Order.{id_of, targets_of}
+use Rattle.bq_query_target_graph.specs.Graph.{GraphParts}
+
+-- of the targets with these numbers, the first depends on the second
+pub record DependsOn (ts : List Target) (a b : ℕ) : Type 0 where
+  pub source : Target
+  pub from : slice_get ts a ≡ Some source
+  pub target : Target
+  pub to : slice_get ts b ≡ Some target
+  pub named : Contains (dependencies source) target.label
+
+-- the graph of the targets of packages: these targets in order, and an edge exactly where one depends on another
+pub record IsGraphOf (ps : List PackageTargets) (g : GraphParts) : Type 0 where
+  pub targets : g.targets ≡ targets_of ps
+  pub packages : g.packages ≡ map id_of ps
+  pub pairs : (a b : ℕ) → Pair g.edges a b ↔ DependsOn g.targets a b
+
+-- ---- the list of edges
+
+abbrev pub edge_by : ℕ → Option ℕ → List Edge
+edge_by a None = []
+edge_by a (Some b) = record { from = a; to = b } ∷ []
+
+-- the edges from the target of number `a` to the targets that these labels name, by the labels of all targets
+abbrev pub edges_to : List LabelParts → ℕ → List LabelParts → List Edge
+edges_to ls a named = flat_map (λ l. edge_by a (position (same_label l) ls)) named
+
+-- the edges from targets, the first of which has the number `a`
+unfoldable pub edges_from : List LabelParts → ℕ → List Target → List Edge
+edges_from ls a [] = []
+edges_from ls a (t ∷ ts) = edges_to ls a (dependencies t) ++ edges_from ls (a + 1) ts

@@ -1,0 +1,75 @@
+//! The graph of the targets of a workspace.
+
+ghost use Rattle.std.specs.Prelude.{◌≡◌};
+
+use bq_label::PackageId;
+use bq_package_target::Target;
+use bq_query_graph::DependencyGraph;
+use sqlite_items::Items;
+use std::marker::Model;
+
+/// The targets of a workspace with their dependencies. Contracts see the targets in the order of their labels, the packages in theirs,
+/// and for each target the numbers of those that it depends on.
+#[derive(Drop)]
+pub struct TargetGraph {
+    targets: Vec<Target>,
+    packages: Items<PackageId>,
+    graph: DependencyGraph,
+}
+
+impl Model for TargetGraph {
+    ghost use Rattle.bq_query_target_graph.specs.Graph.{GraphParts, IsGraph};
+
+    ghost Value = { GraphParts };
+
+    ghost view = { λ g. record { targets = g.targets.items; packages = g.packages; edges = g.graph } };
+
+    ghost invariant = { λ g. IsGraph (record { targets = g.targets.items; packages = g.packages; edges = g.graph }) };
+}
+
+impl TargetGraph {
+    ghost use Rattle.bq_query_target_graph.specs.Graph.{GraphParts, IsGraph};
+
+    /// The graph of these parts.
+    pub(crate) fn of(
+        targets: Vec<Target>,
+        packages: Items<PackageId>,
+        graph: DependencyGraph,
+    ) -> TargetGraph
+        requires { IsGraph (record { targets = targets.items; packages = packages; edges = graph }) }
+        ensures { result ≡ record { targets = targets.items; packages = packages; edges = graph } }
+    {
+        TargetGraph {
+            targets,
+            packages,
+            graph,
+        }
+    }
+
+    /// The targets in the order of the bytes of their labels' full forms. A target's number is its place here.
+    pub fn targets(&self) -> &[Target]
+        ensures value { result.now ≡ self.now.targets }
+        ensures valid { IsGraph self.now }
+    {
+        let _graph = &self.graph; // PROOF: the invariant
+        self.targets.as_slice()
+    }
+
+    /// The packages in the order of their repositories and paths, also those whose BUILD file has a fault.
+    pub fn packages(&self) -> &[PackageId]
+        ensures value { result.now ≡ self.now.packages }
+        ensures valid { IsGraph self.now }
+    {
+        let _graph = &self.graph; // PROOF: the invariant
+        self.packages.as_slice()
+    }
+
+    /// The dependencies by the targets' numbers.
+    pub fn graph(&self) -> &DependencyGraph
+        ensures value { result.now ≡ self.now.edges }
+        ensures valid { IsGraph self.now }
+    {
+        let _targets = &self.targets; // PROOF: the invariant
+        &self.graph
+    }
+}

@@ -1,0 +1,245 @@
+-- Labels that begin as those of a package do have that package, or one beneath it.
+use Rattle.std.proofs.Common.{◌≡◌, ◌≢◌, ◌↔◌, ◌⊎◌, ◌∙◌, ℕ, ◌++◌, ◌==◌, Bool, true, false, List, [], ◌∷◌, Option, Some, None, length, drop, refl, sym, ap, subst, append_assoc, arith, inl, inr}
+use Rattle.std.specs.Prelude.{◌&&◌, ◌||◌}
+use Rattle.std.specs.Option.{option_map}
+use Rattle.std.specs.List.{list_any}
+use Rattle.std.proofs.lemmas.Bool.{cases_Bool, false≢true}
+use Rattle.std.proofs.lemmas.Bool.Decides.{Decides-eqb, nat_tests}
+use Rattle.std.proofs.lemmas.List.Folds.{list_any-append}
+use Rattle.std.proofs.lemmas.Slice.Eq.{starts_is}
+use Rattle.bq_label.specs.Paths.{is_repository}
+use Rattle.bq_label.specs.Label.{PackageParts, LabelParts, IsPackage, IsLabel, package_at, package_of, repository_prefix, full_form}
+use Rattle.bq_label.specs.Reading.{split_once}
+use Rattle.bq_label.proofs.Above.{equal_bytes, same_bytes}
+use Rattle.bq_label.proofs.Cuts.{cut_joined}
+use Rattle.bq_label.proofs.Readings.{first_of_two, no_colon, no_slash, one_full_form, reading_from_label, second_of_two}
+use Rattle.bq_label.proofs.Repositories.{some_parts}
+use Rattle.bq_label.proofs.Segments.{two_true}
+use Rattle.bq_query_lex.specs.declared.target_pattern.PatternForm.{PatternForm}
+use Rattle.bq_query_lex.specs.declared.target_pattern.PatternForm.TheVariants as form
+use Rattle.bq_query_lex.specs.TargetPatterns.{word_form}
+use Rattle.bq_package_target.specs.declared.target.Target.{Target}
+use Rattle.bq_query_target_sets.specs.Order.{text_of, is_text}
+use Rattle.bq_query_target_sets.specs.Packages.{IsWithin, NamesBy, TargetsBeneathAPackage, TargetsOfAPackage, WordsNameLabelsAndPackages}
+use Rattle.bq_query_target_sets.specs.Words.{Beginning, begins, beneath, beneath_by, has_label, is_rule, is_wanted, label_named, names, names_at, names_by, names_in, own, package_named, package_text}
+
+-- ---- texts
+
+pub heads : (x y : ℕ) (xs ys : List ℕ) → x ∷ xs ≡ y ∷ ys → x ≡ y
+heads x y xs ys e = cc
+
+-- two cuts of one text at its first such byte
+pub same_cut : (c : ℕ) (xs ys us vs : List ℕ) → list_any (λ b. b == c) xs ≡ false → list_any (λ b. b == c) us ≡ false → xs ++ c ∷ ys ≡ us ++ c ∷ vs → (xs ≡ us) × (ys ≡ vs)
+same_cut c xs ys us vs n m e =
+    let both : (xs, ys) ≡ (us, vs) = some_parts (sym (cut_joined c xs ys n) ∙ (ap (split_once c) e ∙ cut_joined c us vs m)) in
+    (ap (λ (q : List ℕ × List ℕ). q.0) both, ap (λ (q : List ℕ × List ℕ). q.1) both)
+
+-- a repository and what follows its two slashes are known of the text
+fronts : (r q x y : List ℕ) → is_repository r ≡ true → is_repository q ≡ true → repository_prefix r ++ 47 ∷ 47 ∷ x ≡ repository_prefix q ++ 47 ∷ 47 ∷ y → (r ≡ q) × (x ≡ y)
+fronts [] [] x y hr hq e = (refl, ap (drop 2) e)
+fronts [] (d ∷ ds) x y hr hq e = let no : 47 ≡ 64 = heads _ _ _ _ e in absurd (omega (arith, no))
+fronts (b ∷ bs) [] x y hr hq e = let no : 64 ≡ 47 = heads _ _ _ _ e in absurd (omega (arith, no))
+fronts (b ∷ bs) (d ∷ ds) x y hr hq e =
+    let cut = same_cut 47 (b ∷ bs) (47 ∷ x) (d ∷ ds) (47 ∷ y) (no_slash (b ∷ bs) hr) (no_slash (d ∷ ds) hq) (ap (drop 1) e) in
+    (cut.0, ap (drop 1) cut.1)
+
+-- the first colon comes after bytes that are none
+front_in : (xs n ys rest : List ℕ) → list_any (λ b. b == 58) ys ≡ false → xs ++ 58 ∷ n ≡ ys ++ rest → (more : List ℕ) × (xs ≡ ys ++ more)
+front_in xs n [] rest none e = (xs, refl)
+front_in [] n (y ∷ ys) rest none e =
+    let is : 58 ≡ y = heads _ _ _ _ e in
+    let colon : (y == 58) ≡ true = grind (arith, nat_tests) in
+    absurd (false≢true (sym none ∙ rw colon refl))
+front_in (x ∷ xs) n (y ∷ ys) rest none e = elim (cases_Bool (y == 58)) [
+  | inl colon ↦ absurd (false≢true (sym none ∙ rw colon refl))
+  | inr other ↦
+      let more = front_in xs n ys rest (sym (rw other refl) ∙ none) (ap (drop 1) e) in
+      let is : x ≡ y = heads _ _ _ _ e in
+      (more.0, ap (λ z. z ∷ xs) is ∙ ap (λ zs. y ∷ zs) more.1)
+]
+
+joined : (a x : List ℕ) (c : ℕ) (rest : List ℕ) → ((a ++ 47 ∷ 47 ∷ x) ++ c ∷ []) ++ rest ≡ a ++ 47 ∷ 47 ∷ (x ++ c ∷ rest)
+joined a x c rest = append_assoc (a ++ 47 ∷ 47 ∷ x) (c ∷ []) rest ∙ append_assoc a (47 ∷ 47 ∷ x) (c ∷ rest)
+
+root_joined : (a rest : List ℕ) → ((a ++ 47 ∷ []) ++ 47 ∷ []) ++ rest ≡ a ++ 47 ∷ 47 ∷ rest
+root_joined a rest = append_assoc (a ++ 47 ∷ []) (47 ∷ []) rest ∙ append_assoc a (47 ∷ []) (47 ∷ rest)
+
+form_is : (l : LabelParts) → full_form l ≡ repository_prefix l.repo ++ 47 ∷ 47 ∷ (l.package ++ 58 ∷ l.name)
+unfolding full_form
+form_is l = refl
+
+-- ---- labels that begin alike
+
+abbrev Begun : Beginning → LabelParts → Type 0
+Begun b l = (rest : List ℕ) × (full_form l ≡ (b.0 ++ b.1 ∷ []) ++ rest)
+
+begun : (b : Beginning) (t : Target) → begins b t ≡ true → Begun b t.label
+unfolding begins
+begun b t h = (drop (length (b.0 ++ b.1 ∷ [])) (text_of t), (starts_is Decides-eqb (text_of t) (b.0 ++ b.1 ∷ []) (begins b t) refl).0 h)
+
+begins_if : (b : Beginning) (t : Target) → Begun b t.label → begins b t ≡ true
+unfolding begins
+begins_if b t h = (starts_is Decides-eqb (text_of t) (b.0 ++ b.1 ∷ []) (begins b t) refl).1 h.0 h.1
+
+module _ (p : PackageParts) (l : LabelParts) (hp : IsPackage p) (hl : IsLabel l) where
+  of_package : Begun (own p) l → package_of l ≡ p
+  of_package h =
+      let f = fronts l.repo p.repo (l.package ++ 58 ∷ l.name) (p.package ++ 58 ∷ h.0) hl.valid_repo hp.valid_repo (sym (form_is l) ∙ (h.1 ∙ joined (repository_prefix p.repo) p.package 58 h.0)) in
+      let g = same_cut 58 l.package l.name p.package h.0 (no_colon l.package hl.valid_package) (no_colon p.package hp.valid_package) f.1 in
+      λ i. package_at (f.0 i) (g.0 i)
+
+  begins_own : package_of l ≡ p → Begun (own p) l
+  begins_own is = subst (λ (q : PackageParts). Begun (own q) l) is (l.name, form_is l ∙ sym (joined (repository_prefix l.repo) l.package 58 l.name))
+
+  beneath_from : (path : List ℕ) → p.package ≡ path → Begun (beneath_by path p) l → IsWithin p (package_of l)
+  beneath_from [] root h =
+      let f = fronts l.repo p.repo (l.package ++ 58 ∷ l.name) h.0 hl.valid_repo hp.valid_repo (sym (form_is l) ∙ (h.1 ∙ root_joined (repository_prefix p.repo) h.0)) in
+      IsWithin.below_root root f.0
+  beneath_from (b ∷ bs) some h =
+      let f = fronts l.repo p.repo (l.package ++ 58 ∷ l.name) (p.package ++ 47 ∷ h.0) hl.valid_repo hp.valid_repo (sym (form_is l) ∙ (h.1 ∙ joined (repository_prefix p.repo) p.package 47 h.0)) in
+      let plain : list_any (λ b. b == 58) (p.package ++ 47 ∷ []) ≡ false = list_any-append (λ b. b == 58) p.package (47 ∷ []) ∙ rw (no_colon p.package hp.valid_package) refl in
+      let g = front_in l.package l.name (p.package ++ 47 ∷ []) h.0 plain (f.1 ∙ sym (append_assoc p.package (47 ∷ []) h.0)) in
+      IsWithin.under g.0 f.0 (g.1 ∙ append_assoc p.package (47 ∷ []) g.0)
+
+  begins_root : (path : List ℕ) → path ≡ [] → l.repo ≡ p.repo → Begun (beneath_by path p) l
+  begins_root [] root repo =
+      (l.package ++ 58 ∷ l.name, form_is l ∙ (ap (λ (r : List ℕ). repository_prefix r ++ 47 ∷ 47 ∷ (l.package ++ 58 ∷ l.name)) repo ∙ sym (root_joined (repository_prefix p.repo) (l.package ++ 58 ∷ l.name))))
+  begins_root (b ∷ bs) root repo = absurd (cc root)
+
+  -- the label's package is of the repository, and beneath the path
+  begins_below : (path rest : List ℕ) → p.package ≡ path → l.repo ≡ p.repo → l.package ≡ p.package ++ 47 ∷ rest → Begun (beneath_by path p) l
+  begins_below [] rest root repo is = begins_root [] refl repo
+  begins_below (b ∷ bs) rest some repo is =
+      let whole : l.package ++ 58 ∷ l.name ≡ p.package ++ 47 ∷ (rest ++ 58 ∷ l.name) = ap (λ (x : List ℕ). x ++ 58 ∷ l.name) is ∙ append_assoc p.package (47 ∷ rest) (58 ∷ l.name) in (
+        rest ++ 58 ∷ l.name,
+        form_is l ∙ (ap (λ (r : List ℕ). repository_prefix r ++ 47 ∷ 47 ∷ (l.package ++ 58 ∷ l.name)) repo
+            ∙ (ap (λ (x : List ℕ). repository_prefix p.repo ++ 47 ∷ 47 ∷ x) whole ∙ sym (joined (repository_prefix p.repo) p.package 47 (rest ++ 58 ∷ l.name)))),
+      )
+
+-- ---- the targets of a package, and those beneath it
+
+or_from : (a b : Bool) → (a || b) ≡ true → (a ≡ true) ⊎ (b ≡ true)
+or_from true b h = inl refl
+or_from false b h = inr h
+
+or_first : (a b : Bool) → a ≡ true → (a || b) ≡ true
+or_first a b h = rw h refl
+
+or_second : (a b : Bool) → b ≡ true → (a || b) ≡ true
+or_second true b h = refl
+or_second false b h = h
+
+or_no : (a : Bool) → (a || false) ≡ true → a ≡ true
+or_no true h = refl
+or_no false h = h
+
+module _ (p : PackageParts) (t : Target) (rules : Bool) (hp : IsPackage p) (hl : IsLabel t.label) where
+  abbrev is_own : Bool
+  is_own = begins (own p) t
+
+  abbrev is_beneath : Bool
+  is_beneath = begins (beneath p) t
+
+  of_it : names_in false rules p t ≡ true → (package_of t.label ≡ p) × (is_wanted rules t ≡ true)
+  of_it h = (of_package p t.label hp hl (begun (own p) t (or_no is_own (first_of_two _ _ h))), second_of_two _ _ h)
+
+  is_of_it : (package_of t.label ≡ p) × (is_wanted rules t ≡ true) → names_in false rules p t ≡ true
+  is_of_it h = two_true _ _ (or_first is_own false (begins_if (own p) t (begins_own p t.label hp hl h.0))) h.1
+
+  within_by : (is_own ≡ true) ⊎ (is_beneath ≡ true) → IsWithin p (package_of t.label)
+  within_by (inl h) = IsWithin.itself (of_package p t.label hp hl (begun (own p) t h))
+  within_by (inr h) = beneath_from p t.label hp hl p.package refl (begun (beneath p) t h)
+
+  beneath_it : names_in true rules p t ≡ true → IsWithin p (package_of t.label) × (is_wanted rules t ≡ true)
+  beneath_it h = (within_by (or_from is_own is_beneath (first_of_two _ _ h)), second_of_two _ _ h)
+
+  begins_within : IsWithin p (package_of t.label) → (is_own || is_beneath) ≡ true
+  begins_within (IsWithin.itself is) = or_first is_own is_beneath (begins_if (own p) t (begins_own p t.label hp hl is))
+  begins_within (IsWithin.below_root root repo) = or_second is_own is_beneath (begins_if (beneath p) t (begins_root p t.label hp hl p.package root repo))
+  begins_within (IsWithin.under rest repo is) = or_second is_own is_beneath (begins_if (beneath p) t (begins_below p t.label hp hl p.package rest refl repo is))
+
+  is_beneath_it : IsWithin p (package_of t.label) × (is_wanted rules t ≡ true) → names_in true rules p t ≡ true
+  is_beneath_it h = two_true _ _ (begins_within h.0) h.1
+
+pub targets_of_a_package : TargetsOfAPackage
+targets_of_a_package p t rules hp hl = (of_it p t rules hp hl, is_of_it p t rules hp hl)
+
+pub targets_beneath_a_package : TargetsBeneathAPackage
+targets_beneath_a_package p t rules hp hl = (beneath_it p t rules hp hl, is_beneath_it p t rules hp hl)
+
+-- ---- words
+
+some_is : {A : Type 0} {x y : A} → Some x ≡ Some y → x ≡ y
+some_is e = cc
+
+label_valid : (word : List ℕ) (l : LabelParts) → label_named word ≡ Some l → IsLabel l
+label_valid word l h = (reading_from_label (package_at [] []) word l h).valid
+
+mapped_by : (o : Option LabelParts) (p : PackageParts) → option_map package_of o ≡ Some p → (l : LabelParts) × (o ≡ Some l) × (package_of l ≡ p)
+mapped_by None p h = absurd (cc h)
+mapped_by (Some l) p h = (l, refl, some_is h)
+
+-- the label that the part of a word names with `:x`
+pub label_of_part : (part : List ℕ) (p : PackageParts) → package_named part ≡ Some p → (l : LabelParts) × (label_named (part ++ 58 ∷ 120 ∷ []) ≡ Some l) × (package_of l ≡ p)
+unfolding package_named
+label_of_part part p h = mapped_by (label_named (part ++ 58 ∷ 120 ∷ [])) p h
+
+package_valid : (part : List ℕ) (p : PackageParts) → package_named part ≡ Some p → IsPackage p
+package_valid part p h =
+    let l = label_of_part part p h in
+    let valid = label_valid (part ++ 58 ∷ 120 ∷ []) l.0 l.1 in
+    subst IsPackage l.2 (record { valid_repo = valid.valid_repo; valid_package = valid.valid_package })
+
+module _ (part : List ℕ) (t : Target) (hl : IsLabel t.label) where
+  has_by : (o : Option LabelParts) → label_named part ≡ o → (has_label o t ≡ true) ↔ (o ≡ Some t.label)
+  has_by None e = (λ h. absurd (false≢true h), λ h. absurd (cc h))
+  has_by (Some l) e = (
+    λ h. ap Some (sym (one_full_form t.label l hl (label_valid part l e) (same_bytes (full_form t.label) (full_form l) h))),
+    λ h. equal_bytes (full_form t.label) (full_form l) (ap full_form (sym (some_is h))),
+  )
+
+  abbrev NamesIn : Bool → Bool → Type 0
+  NamesIn deep rules = (p : PackageParts) × (package_named part ≡ Some p) × (names_in deep rules p t ≡ true)
+
+  in_by : (deep rules : Bool) (o : Option PackageParts) → package_named part ≡ o → (names_at deep rules o t ≡ true) ↔ NamesIn deep rules
+  in_by deep rules None e = (λ h. absurd (false≢true h), λ h. let no : None ≡ Some h.0 = sym e ∙ h.1 in absurd (cc no))
+  in_by deep rules (Some p) e = (
+    λ h. (p, e, h),
+    λ h. let is : p ≡ h.0 = some_is (sym e ∙ h.1) in subst (λ (q : PackageParts). names_in deep rules q t ≡ true) (sym is) h.2,
+  )
+
+  wanted_rule : is_wanted true t ≡ true → is_rule t ≡ true
+  wanted_rule h = or_no (is_rule t) h
+
+  in_it : (rules : Bool) (h : NamesIn false rules) → (package_of t.label ≡ h.0) × (is_wanted rules t ≡ true)
+  in_it rules h = of_it h.0 t rules (package_valid part h.0 h.1) hl h.2
+
+  below_it : (rules : Bool) (h : NamesIn true rules) → IsWithin h.0 (package_of t.label) × (is_wanted rules t ≡ true)
+  below_it rules h = beneath_it h.0 t rules (package_valid part h.0 h.1) hl h.2
+
+  names_is : (f : PatternForm) → (names_by f part t ≡ true) ↔ NamesBy f part t
+  names_is form.Target = has_by (label_named part) refl
+  names_is form.Rules =
+      let is = in_by false true (package_named part) refl in (
+        λ h. let i = is.0 h in let g = in_it true i in (i.0, i.1, g.0, wanted_rule g.1),
+        λ h. is.1 (h.0, h.1, is_of_it h.0 t true (package_valid part h.0 h.1) hl (h.2, or_first (is_rule t) false h.3)),
+      )
+  names_is form.All =
+      let is = in_by false false (package_named part) refl in (
+        λ h. let i = is.0 h in (i.0, i.1, (in_it false i).0),
+        λ h. is.1 (h.0, h.1, is_of_it h.0 t false (package_valid part h.0 h.1) hl (h.2, or_second (is_rule t) true refl)),
+      )
+  names_is form.RulesBeneath =
+      let is = in_by true true (package_named part) refl in (
+        λ h. let i = is.0 h in let g = below_it true i in (i.0, i.1, g.0, wanted_rule g.1),
+        λ h. is.1 (h.0, h.1, is_beneath_it h.0 t true (package_valid part h.0 h.1) hl (h.2, or_first (is_rule t) false h.3)),
+      )
+  names_is form.AllBeneath =
+      let is = in_by true false (package_named part) refl in (
+        λ h. let i = is.0 h in (i.0, i.1, (below_it false i).0),
+        λ h. is.1 (h.0, h.1, is_beneath_it h.0 t false (package_valid part h.0 h.1) hl (h.2, or_second (is_rule t) true refl)),
+      )
+
+pub words_name_labels_and_packages : WordsNameLabelsAndPackages
+unfolding names
+words_name_labels_and_packages word t hl = names_is (word_form word).1 t hl (word_form word).0

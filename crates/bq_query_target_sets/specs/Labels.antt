@@ -1,0 +1,46 @@
+-- The targets that an attribute of a rule names (Bazel query reference, `labels`).
+use Rattle.std.specs.Prelude.{ℕ, Bool, List, [], ◌∷◌, Option, Some, None, slice_get, IsSomeAnd}
+use Rattle.std.specs.List.{list_any}
+use Rattle.bq_label.specs.Label.{LabelParts, full_form}
+use Rattle.bq_package_rule_class.specs.declared.value.AttributeValue.{AttributeValue}
+use Rattle.bq_package_rule_class.specs.declared.value.AttributeValue.TheVariants as v
+use Rattle.bq_package_target.specs.declared.target.TargetKind.{TargetKind}
+use Rattle.bq_package_target.specs.declared.target.TargetKind.TheVariants as kind
+use Rattle.bq_package_target.specs.declared.target.Target.{Target}
+use Rattle.bq_package_target.specs.declared.value.GivenAttribute.{GivenAttribute}
+use Rattle.bq_query_target_sets.specs.Order.{is_text}
+use Rattle.bq_query_target_sets.specs.Words.{Those}
+use Rattle.bq_query_target_sets.specs.Texts.{given}
+
+-- the labels in a value of type label, label_list, output or output_list
+abbrev pub labels_in : AttributeValue → List LabelParts
+labels_in (v.Label l) = l ∷ []
+labels_in (v.LabelList ls) = ls
+labels_in (v.Output l) = l ∷ []
+labels_in (v.OutputList ls) = ls
+labels_in (v.String s) = []
+labels_in (v.Int n) = []
+labels_in (v.Bool b) = []
+labels_in (v.StringList ss) = []
+
+abbrev pub labels_by : Option GivenAttribute → List LabelParts
+labels_by None = []
+labels_by (Some a) = labels_in a.value
+
+abbrev pub named_by : TargetKind → List ℕ → Target → List LabelParts
+named_by (kind.Rule rule class) name t = labels_by (given name t)
+named_by kind.Source name t = []
+named_by (kind.Generated rule) name t = []
+named_by kind.Group name t = []
+
+-- the labels in an attribute of a rule
+unfoldable pub labels_named : List ℕ → Target → List LabelParts
+labels_named name t = named_by t.kind name t
+
+-- one of the labels is the target's
+abbrev pub is_among : List LabelParts → Target → Bool
+is_among ls t = list_any (λ l. is_text (full_form l) t) ls
+
+-- `labels(name, x)`: the targets whose labels are in the attribute of a target of the set
+abbrev pub Labels : List ℕ → List Target → (ℕ → Type 0) → ℕ → Type 0
+Labels name targets X y = (k : ℕ) × X k × IsSomeAnd (slice_get targets k) (λ t. Those (is_among (labels_named name t)) targets y)

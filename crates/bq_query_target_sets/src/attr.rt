@@ -1,0 +1,27 @@
+//! `attr(name, pattern, x)`: the rules of `x` that have the attribute, whose text has a match of the pattern. An attribute that isn't
+//! given has its default's text, by the class of the target's own rule. Lists are written `[v1, v2]`, so `[\[ ]v[,\]]` finds the item `v`.
+
+ghost use Rattle.std.specs.Prelude.{◌≡◌, length, IfOk};
+ghost use Rattle.regex.specs.Bytes.{regex_pattern};
+ghost use Rattle.bq_query_graph.specs.Marks.{IsSet, Marked};
+ghost use Rattle.bq_query_target_sets.specs.Words.{Those};
+ghost use Rattle.bq_query_target_sets.specs.Matching.{has_attribute};
+
+use crate::matching::matching;
+use crate::text::Subject;
+use bq_package_target::Target;
+use regex::bytes::Regex;
+use std::alloc::{AllocError, Global};
+
+pub fn attr(
+    alloc: Global,
+    targets: &[Target],
+    name: &[u8],
+    pattern: &Regex,
+    x: &[bool],
+) -> Result<Vec<bool>, AllocError>
+    requires { length x.now ≡ length targets.now }
+    ensures { IfOk result (λ r. IsSet (length targets.now) r.items (λ y. Marked x.now y × Those (has_attribute name.now (regex_pattern pattern.now)) targets.now y)) }
+{
+    matching(alloc, targets, Subject::Attribute(name), pattern, x)
+}

@@ -1,0 +1,92 @@
+//! `labels(name, x)`: the targets that the attribute of rules of `x` names, where it is of type label, label_list, output or output_list.
+
+ghost use Rattle.std.specs.Prelude.{◌≡◌, length, IfOk, OnOk};
+ghost use Rattle.bq_query_graph.specs.Marks.{IsSet, Marked};
+ghost use Rattle.bq_query_target_sets.specs.Order.{AreInOrder};
+ghost use Rattle.bq_query_target_sets.specs.Words.{Adds};
+ghost use Rattle.bq_query_target_sets.specs.Labels.{Labels, labels_in, labels_named, is_among};
+
+use crate::set::no_target;
+use crate::text::given;
+use crate::word::add_label;
+use bq_label::Label;
+use bq_package_rule_class::AttributeValue;
+use bq_package_target::{Target, TargetKind};
+use std::alloc::{AllocError, Global};
+
+fn add_labels(
+    alloc: Global,
+    targets: &[Target],
+    labels: &[Label],
+    marks: &mut Vec<bool>,
+) -> Result<(), AllocError>
+    requires order { AreInOrder targets.now }
+    requires long { length marks.old.items ≡ length targets.now }
+    ensures { OnOk result (Adds (is_among labels.now) targets.now marks.old.items marks.new.items) }
+{
+    for label in labels {
+        add_label(alloc, targets, label, marks)?;
+    }
+    Ok(())
+}
+
+fn add_value(
+    alloc: Global,
+    targets: &[Target],
+    value: &AttributeValue,
+    marks: &mut Vec<bool>,
+) -> Result<(), AllocError>
+    requires order { AreInOrder targets.now }
+    requires long { length marks.old.items ≡ length targets.now }
+    ensures { OnOk result (Adds (is_among (labels_in value.now)) targets.now marks.old.items marks.new.items) }
+{
+    match value {
+        AttributeValue::Label(label) => add_label(alloc, targets, label, marks),
+        AttributeValue::Output(label) => add_label(alloc, targets, label, marks),
+        AttributeValue::LabelList(labels) => add_labels(alloc, targets, labels.as_slice(), marks),
+        AttributeValue::OutputList(labels) => add_labels(alloc, targets, labels.as_slice(), marks),
+        _ => Ok(()),
+    }
+}
+
+/// Adds the targets that the attribute of a rule names.
+#[tactic(auto, unfolding(crate::specs::Labels::labels_named))]
+fn add_named(
+    alloc: Global,
+    targets: &[Target],
+    name: &[u8],
+    target: &Target,
+    marks: &mut Vec<bool>,
+) -> Result<(), AllocError>
+    requires order { AreInOrder targets.now }
+    requires long { length marks.old.items ≡ length targets.now }
+    ensures { OnOk result (Adds (is_among (labels_named name.now target.now)) targets.now marks.old.items marks.new.items) }
+{
+    match &target.kind {
+        TargetKind::Rule(_, _) => match given(name, target) {
+            Some(attribute) => add_value(alloc, targets, &attribute.value, marks),
+            None => Ok(()),
+        },
+        _ => Ok(()),
+    }
+}
+
+pub fn labels(
+    alloc: Global,
+    targets: &[Target],
+    name: &[u8],
+    x: &[bool],
+) -> Result<Vec<bool>, AllocError>
+    requires order { AreInOrder targets.now }
+    requires long { length x.now ≡ length targets.now }
+    ensures { IfOk result (λ r. IsSet (length targets.now) r.items (Labels name.now targets.now (Marked x.now))) }
+{
+    let mut marks = no_target(alloc, targets.len())?;
+    for at in 0..targets.len() {
+        if !x[at] {
+            continue;
+        }
+        add_named(alloc, targets, name, &targets[at], &mut marks)?;
+    }
+    Ok(marks)
+}

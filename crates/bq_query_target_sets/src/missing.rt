@@ -1,0 +1,135 @@
+//! What a word names that is not there (Q5, Q6).
+
+ghost use Rattle.std.specs.Prelude.{◌≡◌, Some, IfOk};
+ghost use Rattle.std.specs.List.Sorted.{IsStrictlySortedBy};
+ghost use Rattle.bq_label.specs.Packages.{id_cmp};
+ghost use Rattle.bq_query_lex.specs.declared.query_error.QueryErr.TheVariants.{NoSuchPackage};
+ghost use Rattle.bq_query_target_sets.specs.Order.{AreInOrder};
+ghost use Rattle.bq_query_target_sets.specs.Words.{package_named, label_named};
+ghost use Rattle.bq_query_target_sets.specs.Missing.{has_package, has_target, missing_label, missing_package, missing};
+
+use crate::order::target_of;
+use crate::word::{label_named, package_named, package_text};
+use bq_base::Bytes;
+use bq_label::{Label, PackageId, print_label};
+use bq_package_target::Target;
+use bq_query_lex::{PatternForm, QueryErr, WordForm, word_form};
+use std::alloc::{AllocError, Global};
+use std::cmp::Ordering;
+
+/// By the bytes of the repository, and then of the path.
+fn compare(a: &PackageId, b: &PackageId) -> Ordering
+    ensures { result ≡ id_cmp a.now b.now }
+{
+    let by_repo = a.repo().as_slice().cmp(b.repo().as_slice());
+    by_repo.then(a.package().as_slice().cmp(b.package().as_slice()))
+}
+
+/// Whether there is such a package, by binary search.
+fn has_package(packages: &[PackageId], id: &PackageId) -> bool
+    requires { IsStrictlySortedBy id_cmp packages.now }
+    ensures { result ≡ has_package packages.now id.now }
+{
+    match packages.binary_search_by(|package| compare(package, id)) {
+        Ok(_) => true,
+        Err(_) => false,
+    }
+}
+
+fn no_package(alloc: Global, text: Vec<u8>) -> Result<Option<QueryErr>, AllocError>
+    ensures { IfOk result (λ r. r ≡ Some (NoSuchPackage text.items)) }
+{
+    Ok(Some(QueryErr::NoSuchPackage(Bytes::from_vec(alloc, text)?)))
+}
+
+/// Of a label: its package (Q6), or the target in it (Q5).
+fn missing_label(
+    alloc: Global,
+    packages: &[PackageId],
+    targets: &[Target],
+    label: &Label,
+) -> Result<Option<QueryErr>, AllocError>
+    requires packages { IsStrictlySortedBy id_cmp packages.now }
+    requires targets { AreInOrder targets.now }
+    ensures { IfOk result (λ r. r ≡ missing_label packages.now targets.now (Some label.now)) }
+{
+    let text = print_label(alloc, label)?;
+    if !has_package(packages, label.package_id()) {
+        return no_package(alloc, text);
+    }
+    if target_of(targets, &text).is_some() {
+        return Ok(None);
+    }
+    Ok(Some(QueryErr::NoSuchTarget(Bytes::from_vec(alloc, text)?)))
+}
+
+/// Of the targets of a package: the package (Q6).
+fn missing_package(
+    alloc: Global,
+    packages: &[PackageId],
+    ending: &[u8],
+    id: &PackageId,
+) -> Result<Option<QueryErr>, AllocError>
+    requires { IsStrictlySortedBy id_cmp packages.now }
+    ensures { IfOk result (λ r. r ≡ missing_package packages.now ending.now (Some id.now)) }
+{
+    if has_package(packages, id) {
+        return Ok(None);
+    }
+    let mut text = package_text(alloc, id)?;
+    text.extend_from_slice(ending)?;
+    no_package(alloc, text)
+}
+
+fn missing_target(
+    alloc: Global,
+    packages: &[PackageId],
+    targets: &[Target],
+    word: &[u8],
+) -> Result<Option<QueryErr>, AllocError>
+    requires packages { IsStrictlySortedBy id_cmp packages.now }
+    requires targets { AreInOrder targets.now }
+    ensures { IfOk result (λ r. r ≡ missing_label packages.now targets.now (label_named word.now)) }
+{
+    match label_named(alloc, word)? {
+        Some(label) => missing_label(alloc, packages, targets, &label),
+        None => Ok(None),
+    }
+}
+
+fn missing_named(
+    alloc: Global,
+    packages: &[PackageId],
+    ending: &[u8],
+    part: &[u8],
+) -> Result<Option<QueryErr>, AllocError>
+    requires { IsStrictlySortedBy id_cmp packages.now }
+    ensures { IfOk result (λ r. r ≡ missing_package packages.now ending.now (package_named part.now)) }
+{
+    match package_named(alloc, part)? {
+        Some(id) => missing_package(alloc, packages, ending, &id),
+        None => Ok(None),
+    }
+}
+
+/// What is missing of a word. A word that ends with `/...` is never wrong.
+#[tactic(auto, unfolding(crate::specs::Missing::missing))]
+pub fn missing(
+    alloc: Global,
+    packages: &[PackageId],
+    targets: &[Target],
+    word: &[u8],
+) -> Result<Option<QueryErr>, AllocError>
+    requires packages { IsStrictlySortedBy id_cmp packages.now }
+    requires targets { AreInOrder targets.now }
+    ensures { IfOk result (λ r. r ≡ missing packages.now targets.now word.now) }
+{
+    let WordForm { form, named } = word_form(word);
+    match form {
+        PatternForm::Target => missing_target(alloc, packages, targets, named),
+        PatternForm::Rules => missing_named(alloc, packages, b":all", named),
+        PatternForm::All => missing_named(alloc, packages, b":*", named),
+        PatternForm::RulesBeneath => Ok(None),
+        PatternForm::AllBeneath => Ok(None),
+    }
+}

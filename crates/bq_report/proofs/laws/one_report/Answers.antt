@@ -1,5 +1,0 @@
-use Rattle.bq_report.proofs.OneReport.{one_report}
-use Rattle.bq_report.proofs.laws.one_report.Goals as goal
-
-pub returns : goal.returns
-returns c = one_report

@@ -1,0 +1,8 @@
+//! What holds of resolved files. The functions do nothing: their contracts are the laws.
+
+ghost use Rattle.bq_resolve_depth_laws.specs.Nesting.{NoFileIsTooDeep};
+
+/// A file whose statements are no deeper than those that are parsed has no fault F11 when it is resolved.
+pub fn no_file_is_too_deep()
+    ensures { NoFileIsTooDeep }
+{}

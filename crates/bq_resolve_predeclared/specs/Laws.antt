@@ -1,0 +1,23 @@
+-- Words of the laws.
+use Rattle.std.specs.Prelude.{◌≡◌, ◌≢◌, ℕ, List, Some}
+use Rattle.bq_resolve_predeclared.specs.declared.predeclared.Predeclared.{Predeclared}
+use Rattle.bq_resolve_predeclared.specs.declared.rule_function.RuleFunction.{RuleFunction}
+use Rattle.bq_resolve_predeclared.specs.declared.rule_function.RuleFunction.TheVariants as f
+use Rattle.bq_resolve_predeclared.specs.Predeclared.{name_of, predeclared_named}
+use Rattle.bq_resolve_predeclared.specs.RuleFunctions.{attr_named, rule_function_name}
+
+-- a name stands for what has that name
+abbrev pub EachNameIsFound : Type 0
+EachNameIsFound = (x : Predeclared) (name : List ℕ) → name_of x ≡ Some name → predeclared_named name ≡ Some x
+
+-- and for nothing else
+abbrev pub NothingElseIsFound : Type 0
+NothingElseIsFound = (x : Predeclared) (name : List ℕ) → predeclared_named name ≡ Some x → name_of x ≡ Some name
+
+-- each function that declares rules, but for `rule`, is found by its name as `attr.NAME`
+abbrev pub EachAttrFunctionIsFound : Type 0
+EachAttrFunctionIsFound = (x : RuleFunction) → x ≢ f.Rule → attr_named (rule_function_name x) ≡ Some x
+
+-- and nothing else
+abbrev pub NoOtherAttrFunctionIsFound : Type 0
+NoOtherAttrFunctionIsFound = (x : RuleFunction) (name : List ℕ) → attr_named name ≡ Some x → (rule_function_name x ≡ name) × (x ≢ f.Rule)

@@ -1,0 +1,211 @@
+//! The predeclared names (Starlark specification, "Built-in constants and functions"; Bazel, Build Encyclopedia, "Functions").
+
+ghost use Rattle.std.specs.Prelude.{◌≡◌, ◌==◌, ◌&&◌, option_copied};
+ghost use Rattle.std.specs.List.{list_any};
+ghost use Rattle.bq_resolve_predeclared.specs.Predeclared.{predeclared_named, first_named, is_named, name_of, has_head};
+
+use crate::rule_function::RuleFunction;
+
+/// What a predeclared name stands for.
+#[derive(Clone, Copy, Debug, PartialEq, Eq)]
+pub enum Predeclared {
+    // Constants.
+    None,
+    True,
+    False,
+    // Functions of the language.
+    All,
+    Any,
+    Bool,
+    Dict,
+    Enumerate,
+    Fail,
+    Int,
+    Len,
+    List,
+    Max,
+    Min,
+    Print,
+    Range,
+    Repr,
+    Reversed,
+    Select,
+    Sorted,
+    Str,
+    Tuple,
+    Type,
+    Zip,
+    /// A function that the host carries out, by its id: 0 to 5 are the build functions, and 6 + r is rule r of the schema.
+    Host(u32),
+    /// A function that declares rules. It is in no table of names: a .bzl file has `rule` and `attr.NAME`, for the resolver to find.
+    RuleFunction(RuleFunction),
+}
+
+/// The build functions, in the order of their ids.
+const BUILD_FUNCTIONS: [&[u8]; 6] = [
+    b"glob",
+    b"package_name",
+    b"package",
+    b"licenses",
+    b"exports_files",
+    b"package_group",
+];
+
+/// All but the rules and the functions that declare rules.
+const PREDECLARED: [Predeclared; 30] = [
+    Predeclared::None,
+    Predeclared::True,
+    Predeclared::False,
+    Predeclared::All,
+    Predeclared::Any,
+    Predeclared::Bool,
+    Predeclared::Dict,
+    Predeclared::Enumerate,
+    Predeclared::Fail,
+    Predeclared::Int,
+    Predeclared::Len,
+    Predeclared::List,
+    Predeclared::Max,
+    Predeclared::Min,
+    Predeclared::Print,
+    Predeclared::Range,
+    Predeclared::Repr,
+    Predeclared::Reversed,
+    Predeclared::Select,
+    Predeclared::Sorted,
+    Predeclared::Str,
+    Predeclared::Tuple,
+    Predeclared::Type,
+    Predeclared::Zip,
+    Predeclared::Host(0),
+    Predeclared::Host(1),
+    Predeclared::Host(2),
+    Predeclared::Host(3),
+    Predeclared::Host(4),
+    Predeclared::Host(5),
+];
+
+impl Predeclared {
+    /// The name that it is looked up by. None for a rule, whose name is the schema's, and for a function that declares rules: `int` is
+    /// not `attr.int`, and a schema may name a rule `rule`.
+    pub fn name(self) -> Option<&'static [u8]>
+        ensures { option_copied result ≡ name_of self }
+    {
+        match self {
+            Predeclared::None => Some(b"None"),
+            Predeclared::True => Some(b"True"),
+            Predeclared::False => Some(b"False"),
+            Predeclared::All => Some(b"all"),
+            Predeclared::Any => Some(b"any"),
+            Predeclared::Bool => Some(b"bool"),
+            Predeclared::Dict => Some(b"dict"),
+            Predeclared::Enumerate => Some(b"enumerate"),
+            Predeclared::Fail => Some(b"fail"),
+            Predeclared::Int => Some(b"int"),
+            Predeclared::Len => Some(b"len"),
+            Predeclared::List => Some(b"list"),
+            Predeclared::Max => Some(b"max"),
+            Predeclared::Min => Some(b"min"),
+            Predeclared::Print => Some(b"print"),
+            Predeclared::Range => Some(b"range"),
+            Predeclared::Repr => Some(b"repr"),
+            Predeclared::Reversed => Some(b"reversed"),
+            Predeclared::Select => Some(b"select"),
+            Predeclared::Sorted => Some(b"sorted"),
+            Predeclared::Str => Some(b"str"),
+            Predeclared::Tuple => Some(b"tuple"),
+            Predeclared::Type => Some(b"type"),
+            Predeclared::Zip => Some(b"zip"),
+            Predeclared::Host(id) => BUILD_FUNCTIONS.get(id as usize).copied(),
+            Predeclared::RuleFunction(_) => None,
+        }
+    }
+}
+
+/// Whether it has this name.
+fn is_named(predeclared: Predeclared, name: &[u8]) -> bool
+    ensures { result ≡ is_named name.now predeclared }
+{
+    match predeclared.name() {
+        Some(own) => name == own,
+        None => false,
+    }
+}
+
+/// The first byte and the length of each name, each pair once.
+const HEADS: [(u8, usize); 27] = [
+    (b'N', 4),
+    (b'T', 4),
+    (b'F', 5),
+    (b'a', 3),
+    (b'b', 4),
+    (b'd', 4),
+    (b'e', 9),
+    (b'f', 4),
+    (b'i', 3),
+    (b'l', 3),
+    (b'l', 4),
+    (b'm', 3),
+    (b'p', 5),
+    (b'r', 5),
+    (b'r', 4),
+    (b'r', 8),
+    (b's', 6),
+    (b's', 3),
+    (b't', 5),
+    (b't', 4),
+    (b'z', 3),
+    (b'g', 4),
+    (b'p', 12),
+    (b'p', 7),
+    (b'l', 8),
+    (b'e', 13),
+    (b'p', 13),
+];
+
+/// One of these is of that first byte and length.
+fn is_head(mut table: &[(u8, usize)], first: u8, len: usize) -> bool
+    ensures { result ≡ list_any (λ h. h.0 == first && h.1 == len) table.entry.now }
+{
+    while let [entry, rest @ ..] = table {
+        if entry.0 == first && entry.1 == len {
+            return true;
+        }
+        table = rest;
+    }
+    false
+}
+
+/// A predeclared name has this first byte and this length. Most names have neither, and need no walk along all.
+fn has_head(name: &[u8]) -> bool
+    ensures { result ≡ has_head name.now }
+{
+    match name {
+        [first, ..] => is_head(&HEADS, *first, name.len()),
+        [] => false,
+    }
+}
+
+#[tactic(auto, unfolding(crate::specs::Predeclared::first_named))]
+fn first_named(mut table: &[Predeclared], name: &[u8]) -> Option<Predeclared>
+    ensures { result ≡ first_named name.now table.entry.now }
+{
+    while let [entry, rest @ ..] = table {
+        if is_named(*entry, name) {
+            return Some(*entry);
+        }
+        table = rest;
+    }
+    None
+}
+
+/// What the name stands for; none for the name of a rule, and for one that nothing has.
+#[tactic(auto, using(crate::proofs::Heads::headless), unfolding(crate::specs::Predeclared::predeclared_named))]
+pub fn predeclared_named(name: &[u8]) -> Option<Predeclared>
+    ensures { result ≡ predeclared_named name.now }
+{
+    if !has_head(name) {
+        return None;
+    }
+    first_named(&PREDECLARED, name)
+}

@@ -1,0 +1,238 @@
+-- What some files resolve to, by hand from the Starlark specification, "Name binding and variables", and Bazel's rules on .bzl files.
+use Rattle.std.specs.Prelude.{◌≡◌, ℕ, pos, List, [], ◌∷◌, Some, None, Result, Ok, Err, codes}
+use Rattle.bq_base.specs.declared.fault.Fault.{Fault}
+use Rattle.bq_base.specs.declared.fault.FaultKind.{FaultKind}
+use Rattle.bq_base.specs.declared.fault.FaultKind.TheVariants as f
+use Rattle.bq_parse_grammar.specs.declared.tree.Clause.TheVariants as clause
+use Rattle.bq_parse_grammar.specs.declared.tree.Expr.{Expr}
+use Rattle.bq_parse_grammar.specs.declared.tree.Expr.TheVariants as e
+use Rattle.bq_parse_grammar.specs.declared.tree.FileKind.TheVariants as kinds
+use Rattle.bq_parse_grammar.specs.declared.tree.Identifier.{Identifier}
+use Rattle.bq_parse_grammar.specs.declared.tree.Operator.TheVariants as operator
+use Rattle.bq_parse_grammar.specs.declared.tree.Parameter.TheVariants as parameter
+use Rattle.bq_parse_grammar.specs.declared.tree.SmallKind.{SmallKind}
+use Rattle.bq_parse_grammar.specs.declared.tree.SmallKind.TheVariants as small
+use Rattle.bq_parse_grammar.specs.declared.tree.Stmt.{Stmt}
+use Rattle.bq_parse_grammar.specs.declared.tree.Stmt.TheVariants as stmt
+use Rattle.bq_parse_grammar.specs.declared.tree.Suffix.TheVariants as suffix
+use Rattle.bq_parse_grammar.specs.declared.tree.AssignTarget.TheVariants as target
+use Rattle.bq_parse_grammar.specs.declared.tree.TopLevel.{TopLevel}
+use Rattle.bq_resolve_predeclared.specs.declared.predeclared.Predeclared.TheVariants as p
+use Rattle.bq_resolve_predeclared.specs.declared.rule_function.RuleFunction.TheVariants as function
+use Rattle.bq_resolve_scope.specs.declared.code.Binding.TheVariants as binding
+use Rattle.bq_resolve_scope.specs.declared.code.Code.{Code}
+use Rattle.bq_resolve_scope.specs.declared.code.Code.TheVariants as code
+use Rattle.bq_resolve_scope.specs.declared.code.CodeClause.TheVariants as code_clause
+use Rattle.bq_resolve_scope.specs.declared.code.CodeParameter.TheVariants as code_parameter
+use Rattle.bq_resolve_scope.specs.declared.code.CodeSmall.{CodeSmall}
+use Rattle.bq_resolve_scope.specs.declared.code.CodeSmall.TheVariants as code_small
+use Rattle.bq_resolve_scope.specs.declared.code.CodeSuffix.TheVariants as code_suffix
+use Rattle.bq_resolve_scope.specs.declared.code.CodeTarget.TheVariants as code_target
+use Rattle.bq_resolve_scope.specs.declared.code.CodeTopLevel.{CodeTopLevel}
+use Rattle.bq_resolve_scope.specs.declared.code.FileStmt.TheVariants as file_stmt
+use Rattle.bq_resolve_scope.specs.declared.code.Resolved.{Resolved}
+use Rattle.bq_resolve_scope.specs.Universe.{UniverseParts}
+use Rattle.bq_resolve_scope.specs.Names.{max_layers}
+use Rattle.bq_resolve_scope.specs.Scope.{FileParts}
+use Rattle.bq_resolve_scope.specs.Visit.{nothing_passed}
+use Rattle.bq_resolve_scope.specs.Expressions.{expr_to}
+use Rattle.bq_resolve_scope.specs.Statements.{no_parameters, parameters}
+use Rattle.bq_resolve_scope.specs.Files.{resolved}
+
+-- ---- trees
+
+abbrev pub bzl : UniverseParts
+bzl = record { kind = kinds.Bzl; rules = codes "filegroup" ∷ [] }
+
+abbrev pub build : UniverseParts
+build = record { kind = kinds.Build; rules = codes "filegroup" ∷ [] }
+
+-- of a schema whose only rule is called `rule`, and of one whose only rule is called `attr`
+abbrev pub bzl_beside : List ℕ → UniverseParts
+bzl_beside name = record { kind = kinds.Bzl; rules = name ∷ [] }
+
+abbrev pub build_beside : List ℕ → UniverseParts
+build_beside name = record { kind = kinds.Build; rules = name ∷ [] }
+
+abbrev pub word : ℕ → List ℕ → Identifier
+word line name = record { name = name; line = line }
+
+abbrev pub named : ℕ → List ℕ → Expr
+named line name = e.Name (word line name)
+
+abbrev pub simple : ℕ → SmallKind → Stmt
+simple line kind = stmt.Simple (record { line = line; kind = kind } ∷ [])
+
+abbrev pub top : ℕ → Stmt → TopLevel
+top line s = record { line = line; statement = s }
+
+abbrev pub assign : ℕ → List ℕ → Expr → SmallKind
+assign line name x = small.Assign (target.Name (word line name)) x
+
+abbrev pub load : List ℕ → ℕ → List ℕ → SmallKind
+load label line name = small.Load (record { label = label; clauses = record { local = word line name; symbol = name } ∷ [] })
+
+-- `name()`
+abbrev pub call : ℕ → List ℕ → Expr
+call line name = e.Primary (named line name) (suffix.Call [] ∷ [])
+
+-- `space.name()`
+abbrev pub member_call : ℕ → List ℕ → List ℕ → Expr
+member_call line space name = e.Primary (named line space) (suffix.Method (word line name) [] ∷ [])
+
+abbrev pub native_call : ℕ → List ℕ → Expr
+native_call line name = member_call line (codes "native") name
+
+abbrev pub attr_call : ℕ → List ℕ → Expr
+attr_call line name = member_call line (codes "attr") name
+
+-- `[name for name in x]`
+abbrev pub each_of : ℕ → List ℕ → Expr → Expr
+each_of line name x = e.ListComprehension (named line name) (clause.For (target.Name (word line name)) x ∷ [])
+
+-- ---- what comes of them
+
+abbrev pub fault : FaultKind → ℕ → List ℕ → Result Resolved Fault
+fault kind line name = Err (record { kind = kind; line = line; detail = name })
+
+abbrev pub line_of : ℕ → CodeSmall → CodeTopLevel
+line_of line x = record { line = line; statement = file_stmt.Simple (x ∷ []) }
+
+abbrev pub of_lines : List CodeTopLevel → List (List ℕ) → Result Resolved Fault
+of_lines ls globals = Ok (record { statements = ls; functions = []; globals = globals; loads = [] })
+
+-- the call of a code without arguments
+abbrev pub called : Code → CodeSmall
+called x = code_small.Expr (code.Primary x (code_suffix.Call [] ∷ []))
+
+-- the call of a value's method `int`
+abbrev pub int_method : Code → CodeSmall
+int_method x = code_small.Expr (code.Primary x (code_suffix.Method (codes "int") [] ∷ []))
+
+abbrev pub local_each : ℕ → Code → Code
+local_each slot x = code.ListComprehension (code.Use (binding.Local slot)) (code_clause.For (code_target.Local slot) x ∷ [])
+
+-- ---- scopes
+
+-- `y = [y for y in y]`: the element is the comprehension's, the iterable the file's
+abbrev pub FirstIterable : Type 0
+FirstIterable =
+    let y = codes "y" in
+    resolved build (top 1 (simple 1 (assign 1 y (each_of 1 y (named 1 y)))) ∷ [])
+    ≡ of_lines (line_of 1 (code_small.Assign (code_target.Global 0) (code.Framed 1 (local_each 0 (code.Use (binding.Global 0))))) ∷ []) (y ∷ [])
+
+-- `[x for x in [x for x in x]]` in a function of the parameter `x`: one name of three blocks has three slots
+abbrev pub OneNameThrice : Type 0
+OneNameThrice =
+    let x = codes "x" in (file : FileParts)
+    → expr_to max_layers file (record { base = 0; names = x ∷ [] } ∷ []) (each_of 1 x (each_of 1 x (named 1 x))) (record nothing_passed { slots = 1 })
+    ≡ Ok (local_each 1 (local_each 2 (code.Use (binding.Local 0))), record nothing_passed { slots = 3 })
+
+-- the parameter of `def g(a = b)`, where the file binds `b`: a default lies outside the function
+abbrev pub Default : Type 0
+Default =
+    let a = codes "a" in let b = codes "b" in
+    parameters (record { universe = bzl; globals = b ∷ []; loaded = [] }) no_parameters (parameter.Default (word 1 a) (named 1 b) ∷ []) nothing_passed
+    ≡ Ok (record { names = a ∷ []; parameters = code_parameter.Default a 0 ∷ []; defaults = code.Use (binding.Global 0) ∷ [] }, nothing_passed)
+
+-- `load(":m", "a")`, then `a = 1`: in a BUILD file one global, whose first value is the loaded one
+abbrev pub LoadedAndBound : Type 0
+LoadedAndBound =
+    let a = codes "a" in
+    resolved build (top 1 (simple 1 (load (codes ":m") 1 a)) ∷ top 2 (simple 2 (assign 2 a (e.Int (pos 1)))) ∷ [])
+    ≡ Ok (record {
+      statements = line_of 1 code_small.Load ∷ line_of 2 (code_small.Assign (code_target.Global 0) (code.Int (pos 1))) ∷ [];
+      functions = [];
+      globals = a ∷ [];
+      loads = record { label = codes ":m"; line = 1; clauses = record { local = a; symbol = a; global = Some 0 } ∷ [] } ∷ [];
+    })
+
+-- ---- names that every file has
+
+-- `filegroup()` is the schema's first rule in a BUILD file, and unknown in a .bzl file, where it is `native.filegroup()`
+abbrev pub Rules : Type 0
+Rules =
+    let n = codes "filegroup" in
+    (resolved build (top 1 (simple 1 (small.Expr (call 1 n))) ∷ [])
+    ≡ of_lines (line_of 1 (called (code.Use (binding.Predeclared (p.Host 6)))) ∷ []) [])
+    × (resolved bzl (top 1 (simple 1 (small.Expr (call 1 n))) ∷ []) ≡ fault f.UnknownName 1 n)
+    × (resolved bzl (top 1 (simple 1 (small.Expr (native_call 1 n))) ∷ []) ≡ of_lines (line_of 1 (called (code.Member (p.Host 6))) ∷ []) [])
+
+-- `native.nope()` is F20 at `nope`, and in a BUILD file `native.glob()` at `native`
+abbrev pub Native : Type 0
+Native =
+    (resolved bzl (top 1 (simple 1 (small.Expr (native_call 1 (codes "nope")))) ∷ []) ≡ fault f.UnknownName 1 (codes "nope"))
+    × (resolved build (top 1 (simple 1 (small.Expr (native_call 1 (codes "glob")))) ∷ []) ≡ fault f.UnknownName 1 (codes "native"))
+
+-- `attr.int()` makes an attribute in a .bzl file; `attr.nope()` is F20 at `nope`; `attr` alone, and `attr.int()` in a BUILD file, at `attr`
+abbrev pub Attr : Type 0
+Attr =
+    (resolved bzl (top 1 (simple 1 (small.Expr (attr_call 1 (codes "int")))) ∷ []) ≡ of_lines (line_of 1 (called (code.Member (p.RuleFunction function.AttrInt))) ∷ []) [])
+    × (resolved bzl (top 1 (simple 1 (small.Expr (attr_call 1 (codes "nope")))) ∷ []) ≡ fault f.UnknownName 1 (codes "nope"))
+    × (resolved bzl (top 1 (simple 1 (small.Expr (named 1 (codes "attr")))) ∷ []) ≡ fault f.UnknownName 1 (codes "attr"))
+    × (resolved build (top 1 (simple 1 (small.Expr (attr_call 1 (codes "int")))) ∷ []) ≡ fault f.UnknownName 1 (codes "attr"))
+
+-- `attr = []`, then `attr.int()`: a file's own `attr` is a value like another; so is one that it loads
+abbrev pub OwnAttr : Type 0
+OwnAttr =
+    let attr = codes "attr" in
+    (resolved bzl (top 1 (simple 1 (assign 1 attr (e.List []))) ∷ top 2 (simple 2 (small.Expr (attr_call 2 (codes "int")))) ∷ [])
+    ≡ of_lines (line_of 1 (code_small.Assign (code_target.Global 0) (code.List [])) ∷ line_of 2 (int_method (code.Use (binding.Global 0))) ∷ []) (attr ∷ []))
+    × (resolved bzl (top 1 (simple 1 (load (codes ":m") 1 attr)) ∷ top 2 (simple 2 (small.Expr (attr_call 2 (codes "int")))) ∷ [])
+    ≡ Ok (record {
+      statements = line_of 1 code_small.Load ∷ line_of 2 (int_method (code.Use (binding.Loaded 0))) ∷ [];
+      functions = [];
+      globals = [];
+      loads = record { label = codes ":m"; line = 1; clauses = record { local = attr; symbol = attr; global = None } ∷ [] } ∷ [];
+    }))
+
+-- `rule()` declares a rule in a .bzl file, and is F20 in a BUILD file; a schema's rule of that name, or of the name `attr`, counts in
+-- BUILD files, and in .bzl files as `native.rule()`
+abbrev pub OfRule : Type 0
+OfRule =
+    let n = codes "rule" in let attr = codes "attr" in
+    (resolved bzl (top 1 (simple 1 (small.Expr (call 1 n))) ∷ []) ≡ of_lines (line_of 1 (called (code.Use (binding.Predeclared (p.RuleFunction function.Rule)))) ∷ []) [])
+    × (resolved build (top 1 (simple 1 (small.Expr (call 1 n))) ∷ []) ≡ fault f.UnknownName 1 n)
+    × (resolved (build_beside n) (top 1 (simple 1 (small.Expr (call 1 n))) ∷ []) ≡ of_lines (line_of 1 (called (code.Use (binding.Predeclared (p.Host 6)))) ∷ []) [])
+    × (resolved (build_beside attr) (top 1 (simple 1 (small.Expr (call 1 attr))) ∷ []) ≡ of_lines (line_of 1 (called (code.Use (binding.Predeclared (p.Host 6)))) ∷ []) [])
+    × (resolved (bzl_beside n) (top 1 (simple 1 (small.Expr (call 1 n))) ∷ []) ≡ of_lines (line_of 1 (called (code.Use (binding.Predeclared (p.RuleFunction function.Rule)))) ∷ []) [])
+    × (resolved (bzl_beside n) (top 1 (simple 1 (small.Expr (native_call 1 n))) ∷ []) ≡ of_lines (line_of 1 (called (code.Member (p.Host 6))) ∷ []) [])
+
+-- ---- faults
+
+-- `x = 1`, then `x = 2` or `x += 2`: F21 in a .bzl file, and allowed in a BUILD file
+abbrev pub Rebound : Type 0
+Rebound =
+    let x = codes "x" in
+    (resolved bzl (top 1 (simple 1 (assign 1 x (e.Int (pos 1)))) ∷ top 2 (simple 2 (assign 2 x (e.Int (pos 2)))) ∷ []) ≡ fault f.Rebound 2 x)
+    × (resolved bzl (top 1 (simple 1 (assign 1 x (e.Int (pos 1)))) ∷ top 2 (simple 2 (small.Augment (target.Name (word 2 x)) operator.Add (e.Int (pos 2)))) ∷ []) ≡ fault f.Rebound 2 x)
+    × (resolved build (top 1 (simple 1 (assign 1 x (e.Int (pos 1)))) ∷ top 2 (simple 2 (assign 2 x (e.Int (pos 2)))) ∷ [])
+    ≡ of_lines (line_of 1 (code_small.Assign (code_target.Global 0) (code.Int (pos 1))) ∷ line_of 2 (code_small.Assign (code_target.Global 0) (code.Int (pos 2))) ∷ []) (x ∷ []))
+
+-- a name of two loads: F22 in both kinds; a loaded name that is bound: F21 in a .bzl file
+abbrev pub LoadedTwice : Type 0
+LoadedTwice =
+    let a = codes "a" in
+    (resolved bzl (top 1 (simple 1 (load (codes ":m") 1 a)) ∷ top 2 (simple 2 (load (codes ":n") 2 a)) ∷ []) ≡ fault f.BoundTwice 2 a)
+    × (resolved build (top 1 (simple 1 (load (codes ":m") 1 a)) ∷ top 2 (simple 2 (load (codes ":n") 2 a)) ∷ []) ≡ fault f.BoundTwice 2 a)
+    × (resolved bzl (top 1 (simple 1 (load (codes ":m") 1 a)) ∷ top 2 (simple 2 (assign 2 a (e.Int (pos 1)))) ∷ []) ≡ fault f.Rebound 2 a)
+
+-- `return 1` and `for x in []: pass` outside functions
+abbrev pub Flow : Type 0
+Flow =
+    let x = codes "x" in
+    (resolved bzl (top 1 (simple 1 (small.Return (Some (e.Int (pos 1))))) ∷ []) ≡ fault f.BadFlow 1 [])
+    × (resolved bzl (top 2 (stmt.For (target.Name (word 2 x)) (e.List []) (simple 2 small.Pass ∷ [])) ∷ []) ≡ fault f.BadFlow 2 [])
+
+-- `def f(a, a): pass`
+abbrev pub Parameters : Type 0
+Parameters =
+    let a = codes "a" in
+    resolved bzl (top 1 (stmt.Def (word 1 (codes "f")) (parameter.Plain (word 1 a) ∷ parameter.Plain (word 1 a) ∷ []) (simple 1 small.Pass ∷ [])) ∷ []) ≡ fault f.DoubleParameter 1 a
+
+-- two unknown names on two lines: the first
+abbrev pub FirstFault : Type 0
+FirstFault = resolved bzl (top 1 (simple 1 (small.Expr (named 1 (codes "b")))) ∷ top 2 (simple 2 (small.Expr (named 2 (codes "a")))) ∷ []) ≡ fault f.UnknownName 1 (codes "b")
+
+abbrev pub Examples : Type 0
+Examples = FirstIterable × OneNameThrice × Default × LoadedAndBound × Rules × Native × Attr × OwnAttr × OfRule × Rebound × LoadedTwice × Flow × Parameters × FirstFault

@@ -1,0 +1,74 @@
+-- The names that a file has without binding them (Bazel, Build Encyclopedia, "Functions": a BUILD file has the build functions and
+-- rules by name, a .bzl file as `native.NAME`; "Rules", "attr": a .bzl file has `rule` and `attr.NAME`, which declare rules).
+use Rattle.std.specs.Prelude.{ℕ, ◌+◌, List, Option, Some, None, codes, bytes_eq, nat_lt, if◌then◌else◌}
+use Rattle.std.specs.Option.{option_map}
+use Rattle.bq_parse_grammar.specs.declared.tree.FileKind.{FileKind}
+use Rattle.bq_parse_grammar.specs.declared.tree.FileKind.TheVariants as file
+use Rattle.bq_resolve_predeclared.specs.declared.predeclared.Predeclared.{Predeclared}
+use Rattle.bq_resolve_predeclared.specs.declared.predeclared.Predeclared.TheVariants as p
+use Rattle.bq_resolve_predeclared.specs.declared.rule_function.RuleFunction.TheVariants as f
+use Rattle.bq_resolve_predeclared.specs.Predeclared.{predeclared_named}
+use Rattle.bq_resolve_predeclared.specs.RuleFunctions.{attr_named}
+use Rattle.bq_resolve_scope.specs.declared.universe.Namespace.{Namespace}
+use Rattle.bq_resolve_scope.specs.declared.universe.Namespace.TheVariants as space
+use Rattle.bq_resolve_scope.specs.Names.{place_among}
+
+-- the namespaces: their names are no values, only what they hold is called, as `NAME.function(..)`
+abbrev pub native : List ℕ
+native = codes "native"
+
+abbrev pub attr : List ℕ
+attr = codes "attr"
+
+abbrev pub namespace_named : List ℕ → Option Namespace
+namespace_named name = if bytes_eq name native then Some space.Native else if bytes_eq name attr then Some space.Attr else None
+
+-- the function that makes a rule
+abbrev pub rule : List ℕ
+rule = codes "rule"
+
+-- a file's kind, and the names of the schema's rules, none of them twice
+pub record UniverseParts : Type 0 where
+  pub kind : FileKind
+  pub rules : List (List ℕ)
+
+-- an id is below 2 ^ 32: rules past that have none, and no workspace has them
+abbrev pub max_rules : ℕ
+max_rules = 4294967290
+
+abbrev pub rule_at : Option ℕ → Option ℕ
+rule_at None = None
+rule_at (Some r) = if nat_lt r max_rules then Some (6 + r) else None
+
+abbrev pub rule_named : List (List ℕ) → List ℕ → Option ℕ
+rule_named rules name = rule_at (place_among name rules)
+
+abbrev pub host_by : List (List ℕ) → List ℕ → Option Predeclared → Option ℕ
+host_by rules name None = rule_named rules name
+host_by rules name (Some (p.Host id)) = Some id
+host_by rules name (Some _) = None
+
+unfoldable pub host_named : List (List ℕ) → List ℕ → Option ℕ
+host_named rules name = host_by rules name (predeclared_named name)
+
+-- what a namespace holds by this name: `native` a build function or rule, `attr` a function that makes attributes
+unfoldable pub member_named : Namespace → List (List ℕ) → List ℕ → Option Predeclared
+member_named space.Native rules name = option_map p.Host (host_named rules name)
+member_named space.Attr rules name = option_map p.RuleFunction (attr_named name)
+
+abbrev pub in_build : List (List ℕ) → List ℕ → Option Predeclared → Option Predeclared
+in_build rules name None = option_map p.Host (rule_named rules name)
+in_build rules name (Some x) = Some x
+
+abbrev pub in_bzl : List ℕ → Option Predeclared → Option Predeclared
+in_bzl name None = if bytes_eq name rule then Some (p.RuleFunction f.Rule) else None
+in_bzl name (Some (p.Host id)) = None
+in_bzl name (Some x) = Some x
+
+abbrev pub in_kind : FileKind → List (List ℕ) → List ℕ → Option Predeclared → Option Predeclared
+in_kind file.Build rules name x = in_build rules name x
+in_kind file.Bzl rules name x = in_bzl name x
+
+-- what the name stands for in a file that doesn't bind it
+unfoldable pub universe_has : UniverseParts → List ℕ → Option Predeclared
+universe_has universe name = in_kind universe.kind universe.rules name (predeclared_named name)

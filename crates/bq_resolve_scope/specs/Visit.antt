@@ -1,0 +1,56 @@
+-- A walk along a tree in the order of its text, which ends at the first fault.
+use Rattle.std.specs.Prelude.{ℕ, List, [], ◌∷◌, ◌++◌, Option, Some, None, Result, Ok, Err}
+use Rattle.bq_base.specs.declared.fault.Fault.{Fault}
+use Rattle.bq_base.specs.declared.fault.FaultKind.{FaultKind}
+use Rattle.bq_parse_grammar.specs.declared.tree.Identifier.{Identifier}
+use Rattle.bq_resolve_scope.specs.declared.code.CodeFunction.{CodeFunction}
+use Rattle.bq_resolve_scope.specs.declared.code.LoadStmt.{LoadStmt}
+use Rattle.bq_resolve_scope.specs.Names.{Name}
+
+-- what was passed so far
+pub record Passed : Type 0 where
+  -- how many slots the frame has
+  pub slots : ℕ
+  -- the names that the file bound
+  pub bound : List Name
+  -- the names of its load clauses
+  pub loaded : List Name
+  pub functions : List CodeFunction
+  pub loads : List LoadStmt
+
+abbrev pub nothing_passed : Passed
+nothing_passed = record { slots = 0; bound = []; loaded = []; functions = []; loads = [] }
+
+abbrev pub Visit : Type 0 → Type 0
+Visit A = Passed → Result (A × Passed) Fault
+
+abbrev pub following : {A B : Type 0} → Result (A × Passed) Fault → (A → Visit B) → Result (B × Passed) Fault
+following (Err f) go = Err f
+following (Ok r) go = go r.0 r.1
+
+infixl 10 ◌>>=◌
+abbrev pub ◌>>=◌ : {A B : Type 0} → Visit A → (A → Visit B) → Visit B
+v >>= go = λ s. following (v s) go
+
+abbrev pub pure : {A : Type 0} → A → Visit A
+pure x = λ s. Ok (x, s)
+
+-- a fault about a name
+abbrev pub fault_of : FaultKind → Identifier → Fault
+fault_of kind n = record { kind = kind; line = n.line; detail = n.name }
+
+abbrev pub stop : {A : Type 0} → Fault → Visit A
+stop f = λ s. Err f
+
+abbrev pub given : {A : Type 0} → Fault → Option A → Visit A
+given f None = stop f
+given f (Some x) = pure x
+
+-- the results so far, and those of all of these
+unfoldable pub each : {A B : Type 0} → (A → Visit B) → List B → List A → Visit (List B)
+each one done [] = pure done
+each one done (x ∷ xs) = one x >>= λ y. each one (done ++ y ∷ []) xs
+
+abbrev pub optional : {A B : Type 0} → (A → Visit B) → Option A → Visit (Option B)
+optional one None = pure None
+optional one (Some x) = one x >>= λ y. pure (Some y)

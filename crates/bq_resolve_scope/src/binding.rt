@@ -1,0 +1,256 @@
+//! What targets, clauses, statements, functions and files bind.
+
+ghost use Rattle.std.specs.Prelude.{◌≡◌, [], IfOk, OnOk};
+ghost use Rattle.bq_resolve_scope.specs.Names as spec;
+
+use crate::names::Names;
+use bq_parse_grammar::{
+    AssignTarget, Branch, Clause, LoadClause, Parameter, SmallKind, SmallStmt, Stmt, TopLevel,
+};
+use std::alloc::{AllocError, Global};
+
+/// How many layers of a tree are looked at; a tree that is parsed has fewer.
+pub const MAX_LAYERS: usize = 1024;
+
+/// Adds the names of targets that are no deeper than so many layers.
+#[cycle(targets)]
+fn add_targets_to(
+    names: &mut Names,
+    depth: usize,
+    targets: &[AssignTarget],
+) -> Result<(), AllocError>
+    ensures { OnOk result (names.new ≡ spec.with_each (spec.with_target_to depth) names.old targets.now) }
+{
+    for target in targets {
+        add_target_to(names, depth, target)?;
+    }
+    Ok(())
+}
+
+/// Adds the names of a target that is no deeper than so many layers.
+#[cycle(targets)]
+#[tactic(auto, using(crate::proofs::Layers::target_layer), unfolding(crate::specs::Names::with_target_to))]
+fn add_target_to(names: &mut Names, depth: usize, target: &AssignTarget) -> Result<(), AllocError>
+    ensures { OnOk result (names.new ≡ spec.with_target_to depth names.old target.now) }
+{
+    if depth == 0 {
+        return Ok(());
+    }
+    match target {
+        AssignTarget::Name(name) => names.add(&name.name),
+        AssignTarget::Index(_, _) => Ok(()),
+        AssignTarget::Tuple(targets) => add_targets_to(names, depth - 1, targets.as_slice()),
+        AssignTarget::List(targets) => add_targets_to(names, depth - 1, targets.as_slice()),
+    }
+}
+
+/// Adds the names of a target.
+#[tactic(auto, unfolding(crate::specs::Names::with_target, crate::specs::Names::max_layers))]
+fn add_target(names: &mut Names, target: &AssignTarget) -> Result<(), AllocError>
+    ensures { OnOk result (names.new ≡ spec.with_target names.old target.now) }
+{
+    add_target_to(names, MAX_LAYERS, target)
+}
+
+/// Adds the variables of a clause.
+#[tactic(auto, unfolding(crate::specs::Names::with_clause))]
+fn add_clause(names: &mut Names, clause: &Clause) -> Result<(), AllocError>
+    ensures { OnOk result (names.new ≡ spec.with_clause names.old clause.now) }
+{
+    match clause {
+        Clause::For(target, _) => add_target(names, target),
+        Clause::If(_) => Ok(()),
+    }
+}
+
+/// What a comprehension with these clauses binds.
+#[tactic(auto, unfolding(crate::specs::Names::comprehension_names))]
+pub fn comprehension_names(alloc: Global, clauses: &[Clause]) -> Result<Names, AllocError>
+    ensures { IfOk result (λ names. names ≡ spec.comprehension_names clauses.now) }
+{
+    let mut names = Names::new(alloc);
+    for clause in clauses {
+        add_clause(&mut names, clause)?;
+    }
+    Ok(names)
+}
+
+/// Adds what a small statement binds.
+#[tactic(auto, unfolding(crate::specs::Names::with_small))]
+fn add_small(names: &mut Names, statement: &SmallStmt) -> Result<(), AllocError>
+    ensures { OnOk result (names.new ≡ spec.with_small names.old statement.now) }
+{
+    match &statement.kind {
+        SmallKind::Assign(target, _) => add_target(names, target),
+        SmallKind::Augment(target, _, _) => add_target(names, target),
+        _ => Ok(()),
+    }
+}
+
+fn add_line(names: &mut Names, statements: &[SmallStmt]) -> Result<(), AllocError>
+    ensures { OnOk result (names.new ≡ spec.with_each spec.with_small names.old statements.now) }
+{
+    for statement in statements {
+        add_small(names, statement)?;
+    }
+    Ok(())
+}
+
+#[cycle(statements)]
+fn add_block_to(names: &mut Names, depth: usize, block: &[Stmt]) -> Result<(), AllocError>
+    ensures { OnOk result (names.new ≡ spec.with_each (spec.with_stmt_to depth) names.old block.now) }
+{
+    for statement in block {
+        add_stmt_to(names, depth, statement)?;
+    }
+    Ok(())
+}
+
+#[cycle(statements)]
+fn add_branches_to(names: &mut Names, depth: usize, branches: &[Branch]) -> Result<(), AllocError>
+    ensures { OnOk result (names.new ≡ spec.with_each (spec.with_branch (spec.with_stmt_to depth)) names.old branches.now) }
+{
+    for branch in branches {
+        add_block_to(names, depth, branch.block.as_slice())?;
+    }
+    Ok(())
+}
+
+/// Adds what the branches of an `if` and its `else` bind.
+#[cycle(statements)]
+fn add_if_to(
+    names: &mut Names,
+    depth: usize,
+    branches: &[Branch],
+    otherwise: &[Stmt],
+) -> Result<(), AllocError>
+    ensures { OnOk result (names.new ≡ spec.with_each (spec.with_stmt_to depth) (spec.with_each (spec.with_branch (spec.with_stmt_to depth)) names.old branches.now) otherwise.now) }
+{
+    add_branches_to(names, depth, branches)?;
+    add_block_to(names, depth, otherwise)
+}
+
+/// Adds what a statement that is no deeper than so many layers binds in its block.
+#[cycle(statements)]
+#[tactic(auto, using(crate::proofs::Layers::stmt_layer), unfolding(crate::specs::Names::with_stmt_to))]
+fn add_stmt_to(names: &mut Names, depth: usize, statement: &Stmt) -> Result<(), AllocError>
+    ensures { OnOk result (names.new ≡ spec.with_stmt_to depth names.old statement.now) }
+{
+    if depth == 0 {
+        return Ok(());
+    }
+    match statement {
+        Stmt::Simple(line) => add_line(names, line.as_slice()),
+        Stmt::If(branches, otherwise) => {
+            add_if_to(names, depth - 1, branches.as_slice(), otherwise.as_slice())
+        }
+        Stmt::For(target, _, block) => {
+            add_target(names, target)?;
+            add_block_to(names, depth - 1, block.as_slice())
+        }
+        Stmt::Def(name, _, _) => names.add(&name.name),
+    }
+}
+
+/// Adds what a statement binds in its block.
+#[tactic(auto, unfolding(crate::specs::Names::with_stmt, crate::specs::Names::max_layers))]
+fn add_stmt(names: &mut Names, statement: &Stmt) -> Result<(), AllocError>
+    ensures { OnOk result (names.new ≡ spec.with_stmt names.old statement.now) }
+{
+    add_stmt_to(names, MAX_LAYERS, statement)
+}
+
+fn add_parameter(names: &mut Names, parameter: &Parameter) -> Result<(), AllocError>
+    ensures { OnOk result (names.new ≡ spec.with_parameter names.old parameter.now) }
+{
+    match parameter {
+        Parameter::Plain(name) => names.add(&name.name),
+        Parameter::Default(name, _) => names.add(&name.name),
+        Parameter::BareStar => Ok(()),
+        Parameter::Star(name) => names.add(&name.name),
+        Parameter::StarStar(name) => names.add(&name.name),
+    }
+}
+
+/// What a function with these parameters and statements binds.
+#[tactic(auto, unfolding(crate::specs::Names::function_names))]
+pub fn function_names(
+    alloc: Global,
+    parameters: &[Parameter],
+    body: &[Stmt],
+) -> Result<Names, AllocError>
+    ensures { IfOk result (λ names. names ≡ spec.function_names parameters.now body.now) }
+{
+    let mut names = Names::new(alloc);
+    for parameter in parameters {
+        add_parameter(&mut names, parameter)?;
+    }
+    for statement in body {
+        add_stmt(&mut names, statement)?;
+    }
+    Ok(names)
+}
+
+/// What a file binds, but for its loads.
+#[tactic(auto, unfolding(crate::specs::Names::global_names))]
+pub fn global_names(alloc: Global, file: &[TopLevel]) -> Result<Names, AllocError>
+    ensures { IfOk result (λ names. names ≡ spec.global_names file.now) }
+{
+    let mut names = Names::new(alloc);
+    for statement in file {
+        add_stmt(&mut names, &statement.statement)?;
+    }
+    Ok(names)
+}
+
+fn add_load_clauses(names: &mut Names, clauses: &[LoadClause]) -> Result<(), AllocError>
+    ensures { OnOk result (names.new ≡ spec.with_each spec.with_load_clause names.old clauses.now) }
+{
+    for clause in clauses {
+        names.add(&clause.local.name)?;
+    }
+    Ok(())
+}
+
+/// Adds what a small statement loads.
+#[tactic(auto, unfolding(crate::specs::Names::with_load))]
+fn add_load(names: &mut Names, statement: &SmallStmt) -> Result<(), AllocError>
+    ensures { OnOk result (names.new ≡ spec.with_load names.old statement.now) }
+{
+    match &statement.kind {
+        SmallKind::Load(load) => add_load_clauses(names, load.clauses.as_slice()),
+        _ => Ok(()),
+    }
+}
+
+fn add_line_loads(names: &mut Names, statements: &[SmallStmt]) -> Result<(), AllocError>
+    ensures { OnOk result (names.new ≡ spec.with_each spec.with_load names.old statements.now) }
+{
+    for statement in statements {
+        add_load(names, statement)?;
+    }
+    Ok(())
+}
+
+/// Adds what a top-level statement loads.
+#[tactic(auto, unfolding(crate::specs::Names::with_loads))]
+fn add_loads(names: &mut Names, top_level: &TopLevel) -> Result<(), AllocError>
+    ensures { OnOk result (names.new ≡ spec.with_loads names.old top_level.now) }
+{
+    match &top_level.statement {
+        Stmt::Simple(line) => add_line_loads(names, line.as_slice()),
+        _ => Ok(()),
+    }
+}
+
+/// What a file's loads bind.
+#[tactic(auto, unfolding(crate::specs::Names::loaded_names))]
+pub fn loaded_names(alloc: Global, file: &[TopLevel]) -> Result<Names, AllocError>
+    ensures { IfOk result (λ names. names ≡ spec.loaded_names file.now) }
+{
+    let mut names = Names::new(alloc);
+    for top_level in file {
+        add_loads(&mut names, top_level)?;
+    }
+    Ok(names)
+}

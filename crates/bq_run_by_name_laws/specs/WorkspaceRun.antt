@@ -1,0 +1,41 @@
+-- The report on a workspace in hand, where files are evaluated by names: as bq_run says it, over the outcomes by names. The query is read
+-- first, then the schema, and then the modules are loaded.
+use Rattle.std.specs.Prelude.{◌≡◌, ℕ, List, Ok, Err}
+use Rattle.bq_load_fault_line.specs.FaultLine.{sorted_lines}
+use Rattle.bq_label.specs.declared.packages.BuildFile.{BuildFile}
+use Rattle.bq_label.specs.declared.workspace.File.{File}
+use Rattle.bq_label.specs.Packages.{packages_of}
+use Rattle.bq_package_schema.specs.Schema.{Rules}
+use Rattle.bq_load_discover.specs.LoadGraph.{GraphParts, IsLoadGraph, inputs_of}
+use Rattle.bq_load_discover.specs.Modules.{AreTooMany}
+use Rattle.bq_load_discover.specs.Schema.{schema_in}
+use Rattle.bq_load.specs.Loaded.{fault_lines, packages_in, print_lines}
+use Rattle.bq_load.specs.Views.{OutcomeView}
+use Rattle.bq_query_lex.specs.declared.query_error.QueryErr.{QueryErr}
+use Rattle.bq_query_check.specs.Checked.{IsChecked, IsWrong}
+use Rattle.bq_query_check.specs.declared.checked.CheckedQuery.{CheckedQuery}
+use Rattle.bq_run_report.specs.Report.{Inside, ReportView, Reports}
+use Rattle.bq_run_report.specs.declared.ending.NoAnswer.TheVariants.{Query, Schema, TooManyModules}
+use Rattle.bq_run.specs.WorkspaceRun.{refused}
+use Rattle.bq_run.specs.declared.options.Options.{Options}
+use Rattle.bq_load_by_name_laws.specs.Parsed.{parsed_in}
+use Rattle.bq_load_by_name_laws.specs.Results.{outcomes}
+
+-- what the outcomes of modules give, in a workspace with these packages
+abbrev pub inside_by : List BuildFile → List OutcomeView → Inside
+inside_by bs os = record { prints = print_lines os; faults = sorted_lines (fault_lines os); packages = packages_in bs os }
+
+-- what is in the workspace once the modules of its load graph are evaluated by names, each with so many steps
+abbrev pub loaded_by_names : List File → Rules → ℕ → GraphParts → Inside
+loaded_by_names files rules limit g = inside_by (packages_of files) (outcomes (parsed_in files rules limit g) g.edges)
+
+pub data IsReportByNames (o : Options) (files : List File) (r : ReportView) : Type 0 where
+  -- Q1 to Q4, Q7, Q8
+  wrong_query : (why : QueryErr) → IsWrong o.query.items why → r ≡ refused (Query why) → IsReportByNames o files r
+  -- E6
+  wrong_schema : (query : CheckedQuery) (line : ℕ) → IsChecked o.query.items query → schema_in files ≡ Err line → r ≡ refused (Schema line) → IsReportByNames o files r
+  -- E7
+  too_many : (query : CheckedQuery) (rules : Rules) → IsChecked o.query.items query → schema_in files ≡ Ok rules → AreTooMany (inputs_of files rules)
+      → r ≡ refused TooManyModules → IsReportByNames o files r
+  loaded : (query : CheckedQuery) (rules : Rules) (g : GraphParts) → IsChecked o.query.items query → schema_in files ≡ Ok rules
+      → IsLoadGraph (inputs_of files rules) g → Reports (loaded_by_names files rules o.max_steps g) query o.output r → IsReportByNames o files r

@@ -1,0 +1,23 @@
+//! A number that a run prints, as `F47`, comes in; what it means, an example and what to do come out.
+//!
+//! The promise: [`explain`] has an entry, with the right name, for each fault of a file, each error of a query and each error of a run
+//! that can be printed, and for nothing else (`specs/Laws.antt`).
+//!
+//! The texts are this crate's tables, from which tools/faults makes docs/FAULTS.md; bench/faults runs their examples.
+//!
+//! - `explanation`: an entry, and the look-up in a table;
+//! - `faults`, `queries`, `runs`: the tables;
+//! - `look_up`: the look-up by number;
+//! - `laws`: that the tables have the numbers and names of bq_base, bq_query_lex and bq_run.
+#![tactic(auto)]
+
+mod explanation;
+mod faults;
+mod laws;
+mod look_up;
+mod queries;
+mod runs;
+
+pub use explanation::Explanation;
+pub use laws::{each_error_is_explained, each_fault_is_explained, nothing_else_is_explained};
+pub use look_up::explain;

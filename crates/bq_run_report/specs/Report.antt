@@ -1,0 +1,95 @@
+-- What a run over a workspace that is loaded writes, and how it ends.
+use Rattle.std.specs.Prelude.{◌≡◌, ℕ, ◌++◌, List, [], None, Some, Result, Ok, Err}
+use Rattle.std.specs.List.{flat_map}
+use Rattle.std.specs.List.Sorted.{IsStrictlyIncreasing}
+use Rattle.bq_load_fault_line.specs.declared.fault_line.FaultLine.{FaultLine}
+use Rattle.bq_load_fault_line.specs.FaultLine.{put_lines}
+use Rattle.bq_load_fault_line.specs.LineText.{line_text}
+use Rattle.bq_package_target.specs.Package.{PackageTargets}
+use Rattle.bq_query_target_graph.specs.Graph.{GraphParts}
+use Rattle.bq_query_target_graph.specs.Edges.{IsGraphOf}
+use Rattle.bq_query_target_graph.specs.Dangling.{all_dangling}
+use Rattle.bq_query_verdict.specs.Verdict.{Fault}
+use Rattle.bq_query_check.specs.declared.checked.CheckedQuery.{CheckedQuery}
+use Rattle.bq_query_check.specs.Formula.{Formula, formula_of}
+use Rattle.bq_query.specs.Graph.{targets_of}
+use Rattle.bq_query.specs.Stands.{Stands}
+use Rattle.bq_query.specs.Faults.{fault_in}
+use Rattle.bq_query.specs.Answer.{AreThose}
+use Rattle.bq_query.specs.Printed.{printed}
+use Rattle.bq_query.specs.declared.print.OutputForm.{OutputForm}
+use Rattle.bq_run_report.specs.Ending.{status_by}
+use Rattle.bq_run_report.specs.declared.contents.Contents.{Contents}
+use Rattle.bq_run_report.specs.declared.ending.NoAnswer.{NoAnswer}
+use Rattle.bq_run_report.specs.declared.ending.NoAnswer.TheVariants.{Query}
+use Rattle.bq_run_report.specs.declared.ending.Status.{Status}
+use Rattle.bq_run_report.specs.declared.reply.Reply.{Reply}
+use Rattle.bq_run_report.specs.declared.whole.Report.{Report}
+
+-- ---- what is in a workspace that is loaded
+
+pub record Inside : Type 0 where
+  -- the lines of what its modules printed
+  pub prints : List ℕ
+  -- the lines of its modules' faults, in order
+  pub faults : List FaultLine
+  -- its packages in order
+  pub packages : List PackageTargets
+
+abbrev pub inside : Contents → Inside
+inside c = record { prints = c.prints.items; faults = c.faults; packages = c.packages.items }
+
+-- the lines of all its faults: a label that names no target is one more
+abbrev pub all_faults : Inside → List FaultLine
+all_faults i = put_lines i.faults (all_dangling i.packages)
+
+abbrev pub fault_text : Inside → List ℕ
+fault_text i = i.prints ++ flat_map line_text (all_faults i)
+
+-- ---- the answer
+
+-- the targets that a query stands for, by number, in the order of their labels
+pub record IsAnswer (w : GraphParts) (x : Formula) (v : List ℕ) : Type 0 where
+  pub ascending : IsStrictlyIncreasing v
+  pub members : AreThose (Stands w x []) v
+
+-- the answer's text, and how the run ends
+pub record ReplyView : Type 0 where
+  pub text : List ℕ
+  pub end : Result Status NoAnswer
+
+abbrev pub reply_view : Reply → ReplyView
+reply_view r = record { text = r.text.items; end = r.end }
+
+-- the lines of the answer, where no word of the query names what is not there
+abbrev pub RepliesBy : Fault → GraphParts → Formula → OutputForm → Status → ReplyView → Type 0
+RepliesBy None w x form status reply = (v : List ℕ) × IsAnswer w x v × (reply ≡ record { text = printed form (targets_of w) v; end = Ok status })
+RepliesBy (Some why) w x form status reply = reply ≡ record { text = []; end = Err (Query why) }
+
+abbrev pub Replies : GraphParts → Formula → OutputForm → Status → ReplyView → Type 0
+Replies w x form status reply = RepliesBy (fault_in w x) w x form status reply
+
+-- the reply over the graph of the targets of these packages
+pub record RepliesOver (packages : List PackageTargets) (query : CheckedQuery) (form : OutputForm) (status : Status) (reply : ReplyView) : Type 0 where
+  pub graph : GraphParts
+  pub made : IsGraphOf packages graph
+  pub replies : Replies graph (formula_of query.set) form status reply
+
+-- ---- the report
+
+-- both texts, and how the run ends once they are written
+pub record ReportView : Type 0 where
+  pub faults : List ℕ
+  pub answer : List ℕ
+  pub end : Result Status NoAnswer
+
+-- a `Report`, without where its texts lie in memory
+abbrev pub report_view : Report → ReportView
+report_view r = record { faults = r.faults.items; answer = r.answer.items; end = r.end }
+
+-- the report on a workspace and on this query
+pub record Reports (i : Inside) (query : CheckedQuery) (form : OutputForm) (r : ReportView) : Type 0 where
+  pub graph : GraphParts
+  pub made : IsGraphOf i.packages graph
+  pub faults : r.faults ≡ fault_text i
+  pub reply : Replies graph (formula_of query.set) form (status_by (all_faults i)) (record { text = r.answer; end = r.end })

@@ -1,0 +1,62 @@
+//! The answer to the query, over the graph of the targets.
+
+ghost use Rattle.std.specs.Prelude.{IfOk};
+ghost use Rattle.bq_query_check.specs.Formula.{formula_of};
+ghost use Rattle.bq_run_report.specs.Report.{Replies, RepliesOver, reply_view};
+ghost use Rattle.bq_query_target_graph.specs.Order.{PackagesAscend};
+
+use crate::ending::{NoAnswer, Status, refusal_of};
+use bq_package_target::Package;
+use bq_query::{OutputForm, answer, print_answer};
+use bq_query_check::CheckedQuery;
+use bq_query_target_graph::TargetGraph;
+use std::alloc::{AllocError, Global};
+
+/// What is asked of a workspace.
+#[derive(Clone, Copy)]
+pub struct Question<'a> {
+    pub query: &'a CheckedQuery,
+    pub form: OutputForm,
+}
+
+/// The answer's text, and how the run ends.
+#[derive(Drop)]
+pub struct Reply {
+    pub text: Vec<u8>,
+    pub end: Result<Status, NoAnswer>,
+}
+
+/// The reply to a query. With a status the run ends so.
+fn reply_to(
+    alloc: Global,
+    graph: &TargetGraph,
+    question: Question<'_>,
+    status: Status,
+) -> Result<Reply, AllocError>
+    ensures { IfOk result (λ r. Replies graph.now (formula_of question.entry.query.now.set) question.entry.form status (reply_view r)) }
+{
+    match answer(alloc, graph, question.query) {
+        Ok(numbers) => Ok(Reply {
+            text: print_answer(alloc, question.form, graph.targets(), &numbers)?,
+            end: Ok(status),
+        }),
+        Err(why) => Ok(Reply {
+            text: Vec::new(alloc),
+            end: Err(refusal_of(why)?),
+        }),
+    }
+}
+
+/// The reply to a query, over the graph of the targets of packages.
+pub fn reply_over(
+    alloc: Global,
+    packages: Vec<Package>,
+    question: Question<'_>,
+    status: Status,
+) -> Result<Reply, AllocError>
+    requires { PackagesAscend packages.items }
+    ensures { IfOk result (λ r. RepliesOver packages.items question.entry.query.now question.entry.form status (reply_view r)) }
+{
+    let graph = TargetGraph::new(alloc, packages)?;
+    reply_to(alloc, &graph, question, status)
+}

@@ -1,0 +1,69 @@
+//! The report on a workspace that is loaded.
+
+ghost use Rattle.std.specs.Prelude.{◌≡◌, ◌++◌, IfOk};
+ghost use Rattle.std.specs.List.{flat_map};
+ghost use Rattle.bq_load_fault_line.specs.LineText.{line_text};
+ghost use Rattle.bq_query_target_graph.specs.Order.{PackagesAscend};
+ghost use Rattle.bq_run_report.specs.Ending.{status_by};
+ghost use Rattle.bq_run_report.specs.Report.{Reports, inside, report_view};
+
+use crate::contents::Contents;
+use crate::ending::{NoAnswer, Status};
+use crate::reply::{Question, reply_over};
+use bq_load_fault_line::FaultLines;
+use bq_query_target_graph::add_dangling;
+use std::alloc::{AllocError, Global};
+
+/// The texts of a run, and how it ends once they are written.
+#[derive(Drop)]
+pub struct Report {
+    /// The lines for the faults writer.
+    pub faults: Vec<u8>,
+    /// The lines for the writer.
+    pub answer: Vec<u8>,
+    pub end: Result<Status, NoAnswer>,
+}
+
+fn status_by(lines: &FaultLines) -> Status
+    ensures { result ≡ status_by lines.now }
+{
+    if lines.is_empty() {
+        Status::Answered
+    } else {
+        Status::WithFaults
+    }
+}
+
+/// What the modules printed, and then the lines of all faults, which are given up as they are appended.
+fn fault_text(alloc: Global, mut prints: Vec<u8>, lines: FaultLines) -> Result<Vec<u8>, AllocError>
+    ensures { IfOk result (λ text. text.items ≡ prints.items ++ flat_map line_text lines) }
+{
+    lines.append_to(alloc, &mut prints)?;
+    Ok(prints)
+}
+
+/// The report on what is in a workspace. A label that names no target is one more fault, F79. Only a lack of memory is an error; Q5 and
+/// Q6 are in the ending.
+pub fn report_on(
+    alloc: Global,
+    contents: Contents,
+    question: Question<'_>,
+) -> Result<Report, AllocError>
+    requires { PackagesAscend contents.packages.items }
+    ensures { IfOk result (λ r. Reports (inside contents) question.entry.query.now question.entry.form (report_view r)) }
+{
+    let Contents {
+        prints,
+        mut faults,
+        packages,
+    } = contents;
+    add_dangling(alloc, &packages, &mut faults)?;
+    let status = status_by(&faults);
+    let text = fault_text(alloc, prints, faults)?;
+    let reply = reply_over(alloc, packages, question, status)?;
+    Ok(Report {
+        faults: text,
+        answer: reply.text,
+        end: reply.end,
+    })
+}

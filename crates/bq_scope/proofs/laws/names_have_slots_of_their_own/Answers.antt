@@ -1,5 +1,0 @@
-use Rattle.bq_scope.proofs.Uses.{names_apart}
-use Rattle.bq_scope.proofs.laws.names_have_slots_of_their_own.Goals as goal
-
-pub returns : goal.returns
-returns c = names_apart

@@ -1,5 +1,0 @@
-use Rattle.std.proofs.Common.{◌≡◌, ◌∷◌, take}
-use Rattle.bq_scope.proofs.scope.inside.Given as goal
-
-abbrev pub invariant-loop-outer : goal.invariant-loop-outer
-invariant-loop-outer l = l.all.items ≡ l.fn.block ∷ take l.outer-index l.blocks

@@ -1,7 +1,0 @@
-use Rattle.std.proofs.Common.{drop}
-use Rattle.bq_target.specs.Target.{names_of}
-use Rattle.bq_target.proofs.Taking.{Takes}
-use Rattle.bq_target.proofs.declare.take_each.Given as goal
-
-abbrev pub invariant-loop-target : goal.invariant-loop-target
-invariant-loop-target l = Takes l.fn.names (names_of l.targets) l.names (names_of (drop l.target-index l.targets))

@@ -1,5 +1,0 @@
-use Rattle.bq_target.proofs.Accepted.{come_first}
-use Rattle.bq_target.proofs.laws.calls_come_first.Goals as goal
-
-pub returns : goal.returns
-returns c = come_first

@@ -1,5 +1,0 @@
-use Rattle.bq_target.proofs.Accepted.{keeps_order}
-use Rattle.bq_target.proofs.laws.calls_keep_their_order.Goals as goal
-
-pub returns : goal.returns
-returns c = keeps_order

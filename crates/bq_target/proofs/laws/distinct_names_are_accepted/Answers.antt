@@ -1,5 +1,0 @@
-use Rattle.bq_target.proofs.Accepted.{accepts_distinct}
-use Rattle.bq_target.proofs.laws.distinct_names_are_accepted.Goals as goal
-
-pub returns : goal.returns
-returns c = accepts_distinct

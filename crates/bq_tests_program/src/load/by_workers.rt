@@ -1,0 +1,183 @@
+//! The same workspaces by several workers, against one thread.
+ghost use Rattle.std.specs.Prelude.{◌<◌, ◌≤◌};
+
+use super::counts::Counts;
+use super::meeting::Meeting;
+use super::{files_of, large};
+use bq_label::{File, Workspace};
+use bq_load::{Gate, Loaded, OpenGate, load_one_thread, load_with};
+use bq_load_discover::LoadErr;
+use bq_load_workers::MAX_WORKERS;
+use bq_package_schema::Schema;
+use bq_value_seed::Seed;
+use std::alloc::{AllocError, Global};
+use std::process::Abort;
+use std::sync::Wait;
+use std::thread::Threads;
+
+/// The most steps of a module.
+const LIMIT: u64 = 1_000_000;
+
+/// What is loaded.
+#[derive(Clone, Copy)]
+struct Tree<'a> {
+    alloc: Global,
+    workspace: &'a Workspace,
+    schema: &'a Schema,
+}
+
+fn by_one_thread(tree: Tree<'_>) -> Result<Loaded, LoadErr> {
+    load_one_thread(
+        tree.alloc,
+        tree.workspace,
+        tree.schema,
+        LIMIT,
+        Seed::fixed(),
+    )
+}
+
+fn by_workers<R: Threads + Wait + Sync, G: Gate>(
+    rt: &R,
+    tree: Tree<'_>,
+    workers: usize,
+    gate: &G,
+) -> Result<Loaded, LoadErr>
+    requires { (0 < workers) × (workers ≤ MAX_WORKERS) }
+{
+    load_with(
+        rt,
+        tree.alloc,
+        tree.workspace,
+        tree.schema,
+        LIMIT,
+        Seed::fixed(),
+        workers,
+        gate,
+    )
+}
+
+/// How many targets the packages have.
+fn targets(loaded: &Loaded) -> usize {
+    let mut count = 0usize;
+    for package in &loaded.packages {
+        count = count.wrapping_add(package.targets().len());
+    }
+    count
+}
+
+/// Whether both have the same lines, and as many modules and targets.
+fn are_same(alloc: Global, a: &Loaded, b: &Loaded) -> Result<bool, AllocError> {
+    if a.prints != b.prints {
+        return Ok(false);
+    }
+    if a.faults.text(alloc)? != b.faults.text(alloc)? {
+        return Ok(false);
+    }
+    Ok(a.modules.len() == b.modules.len() && targets(a) == targets(b))
+}
+
+/// Whether so many workers give what one thread gives, each module that is evaluated enters once, and no other does.
+fn gives_the_same<R: Threads + Wait + Sync>(
+    rt: &R,
+    tree: Tree<'_>,
+    wanted: &Loaded,
+    workers: usize,
+) -> Result<bool, LoadErr>
+    requires { (0 < workers) × (workers ≤ MAX_WORKERS) }
+{
+    let gate = Counts::new(tree.alloc)?;
+    let found = by_workers(rt, tree, workers, &gate)?;
+    Ok(gate.are_right(&found) && are_same(tree.alloc, wanted, &found)?)
+}
+
+fn all_give_the_same<R: Threads + Wait + Sync>(
+    rt: &R,
+    tree: Tree<'_>,
+    wanted: &Loaded,
+) -> Result<bool, LoadErr> {
+    let one = gives_the_same(rt, tree, wanted, 1)?;
+    let two = gives_the_same(rt, tree, wanted, 2)?;
+    let eight = gives_the_same(rt, tree, wanted, 8)?;
+    let many = gives_the_same(rt, tree, wanted, 64)?;
+    Ok(one && two && eight && many)
+}
+
+/// Whether a workspace is loaded alike by any number of workers.
+fn is_loaded_alike<R: Threads + Wait + Sync>(rt: &R, tree: Tree<'_>) -> Result<bool, LoadErr> {
+    let wanted = by_one_thread(tree)?;
+    if wanted.modules.len() != 401 || wanted.faults.is_empty() {
+        return Ok(false);
+    }
+    all_give_the_same(rt, tree, &wanted)
+}
+
+/// The same of the workspace of these files.
+fn loads_alike<R: Threads + Wait + Sync>(
+    rt: &R,
+    alloc: Global,
+    files: Vec<File>,
+) -> Result<bool, LoadErr> {
+    let workspace = Workspace::new(files);
+    let schema = Schema::standard(alloc);
+    let (Ok(workspace), Ok(schema)) = (&workspace, &schema) else {
+        return Ok(false);
+    };
+    let tree = Tree {
+        alloc,
+        workspace,
+        schema,
+    };
+    is_loaded_alike(rt, tree)
+}
+
+#[test]
+fn workers_load_as_one_thread(rt: HostRuntime) -> Result<(), LoadErr> {
+    for seed in [1u64, 2] {
+        let files = large::files(rt.alloc(), seed)?;
+        assert!(rt; loads_alike(&rt, rt.alloc(), files)?, "seed {seed}");
+    }
+    Ok(())
+}
+
+const TWO: &str = r#"
+~x.bzl
+a = 1
+~y.bzl
+b = 2
+~BUILD
+load(":x.bzl", "a")
+load(":y.bzl", "b")
+print(a + b)
+"#;
+
+/// Whether the two files are in evaluation at once, and each module enters once.
+fn meet<R: Threads + Wait + Sync>(rt: &R, tree: Tree<'_>) -> Result<bool, LoadErr> {
+    let gate = Meeting::new();
+    let loaded = by_workers(rt, tree, 2, &gate)?;
+    let is_whole = loaded.prints.as_slice() == b"//:BUILD: 3\n".as_slice();
+    Ok(gate.both_met() && gate.entered_once() && is_whole)
+}
+
+fn check_meeting<R: Abort + Threads + Wait + Sync>(rt: &R, tree: Tree<'_>) -> Result<(), LoadErr> {
+    assert!(rt; meet(rt, tree)?);
+    let loaded = by_workers(rt, tree, 64, &OpenGate)?;
+    assert!(rt; loaded.prints.as_slice() == b"//:BUILD: 3\n".as_slice());
+    Ok(())
+}
+
+/// Two workers evaluate two files at once.
+#[test]
+fn two_workers_meet(rt: HostRuntime) -> Result<(), LoadErr> {
+    let alloc = rt.alloc();
+    let workspace = Workspace::new(files_of(alloc, TWO.as_bytes())?);
+    let schema = Schema::standard(alloc);
+    let (Ok(workspace), Ok(schema)) = (&workspace, &schema) else {
+        return Err(LoadErr::Memory);
+    };
+    let tree = Tree {
+        alloc,
+        workspace,
+        schema,
+    };
+    check_meeting(&rt, tree)
+}

@@ -1,5 +1,0 @@
-use Rattle.bq_text.proofs.Apart.{keys_apart}
-use Rattle.bq_text.proofs.laws.keys_have_texts_of_their_own.Goals as goal
-
-pub returns : goal.returns
-returns c = keys_apart

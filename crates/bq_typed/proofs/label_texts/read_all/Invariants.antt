@@ -1,7 +1,0 @@
-use Rattle.std.proofs.Common.{◌≡◌, drop}
-use Rattle.bq_typed.specs.Steps.{in_turn}
-use Rattle.bq_typed.specs.LabelTexts.{read, read_all}
-use Rattle.bq_typed.proofs.label_texts.read_all.Given as goal
-
-abbrev pub invariant-loop-text : goal.invariant-loop-text
-invariant-loop-text l = read_all l.own l.kind l.texts ≡ in_turn (read l.own l.kind) l.labels.items (drop l.text-index l.texts)

@@ -1,0 +1,57 @@
+//! The keys that values make (Starlark, "Hashing").
+
+ghost use Rattle.std.specs.Prelude.{◌≡◌};
+ghost use Rattle.bq_value_compare.specs.Looked.{max_levels};
+ghost use Rattle.bq_base.specs.Gives.{Gives};
+ghost use Rattle.bq_value.specs.declared.error.EvalErr.TheVariants.{Bad};
+ghost use Rattle.bq_value_compare.specs.KeyWalk.{walked_at, all_walked, keyed};
+
+use crate::MAX_LEVELS;
+use bq_base::FaultKind;
+use bq_value::{EvalErr, Key, Node, Value};
+
+/// The key that a value makes, and the steps that are left of these. Other values than `None`, bools, integers, strings and
+/// tuples of these make none (F45).
+pub fn key_of(steps: u64, value: &Value) -> Result<(Key, u64), EvalErr>
+    ensures { Gives (λ key. key) Bad result (keyed value.now (walked_at max_levels steps value.now)) }
+{
+    let left = walk(MAX_LEVELS, steps, value)?;
+    let value = value.share()?;
+    Ok((Key::new(value), left))
+}
+
+/// Visits a value with so many levels to go.
+#[cycle(walk)]
+#[tactic(auto, using(bq_value::specs::Datum::list_of_data_of))]
+fn walk(levels: u32, steps: u64, value: &Value) -> Result<u64, FaultKind>
+    ensures { result ≡ walked_at levels steps value.now }
+{
+    if steps == 0 {
+        return Err(FaultKind::StepLimit);
+    }
+    let steps = steps - 1;
+    if levels == 0 {
+        return Err(FaultKind::TooDeep);
+    }
+    match &value.node {
+        Node::NoneValue | Node::Bool(_) | Node::Int(_) | Node::Text(_) => Ok(steps),
+        Node::Tuple(items) => walk_all(levels - 1, steps, items),
+        Node::Range(_)
+        | Node::Cell(_)
+        | Node::Function(_)
+        | Node::BuiltIn(_)
+        | Node::RuleFunction(_)
+        | Node::Attribute(_) => Err(FaultKind::Unhashable),
+    }
+}
+
+#[cycle(walk)]
+fn walk_all(levels: u32, steps: u64, values: &[Value]) -> Result<u64, FaultKind>
+    ensures { result ≡ all_walked (walked_at levels) steps values.now }
+{
+    let mut left = steps;
+    for value in values {
+        left = walk(levels, left, value)?;
+    }
+    Ok(left)
+}

@@ -1,0 +1,189 @@
+//! `str` and `repr` (Starlark, "str", "repr").
+
+ghost use Rattle.std.specs.Prelude.{◌≡◌, option_copied};
+ghost use Rattle.bq_base.specs.Gives.{Gives};
+ghost use Rattle.bq_value.specs.declared.error.EvalErr.TheVariants.{Bad};
+ghost use Rattle.bq_value_compare.specs.Looked.{max_levels};
+ghost use Rattle.bq_value_text.specs.Shown.{shown_at, repr_shown, text_shown, string_in, list_shown, dict_shown, contents_shown, tuple_end, repr_of, text_of};
+
+use crate::leaf::write_leaf;
+use crate::page::Page;
+use bq_base::{Bytes, FaultKind};
+use bq_value::{Body, Content, Dict, EvalErr, Node, Store, Value};
+use bq_value_compare::MAX_LEVELS;
+use std::alloc::Global;
+
+/// The `repr` of a value, and the steps that are left of these.
+pub fn repr(
+    alloc: Global,
+    store: &Store,
+    steps: u64,
+    value: &Value,
+) -> Result<(Bytes, u64), EvalErr>
+    ensures { Gives (λ answer. answer) Bad result (repr_of store.now steps value.now) }
+{
+    let mut page = Page::new(alloc);
+    let left = write_repr(store, steps, value, &mut page)?;
+    Ok((page.finish(alloc)?, left))
+}
+
+/// The `str` of a value, and the steps that are left of these.
+pub fn text(
+    alloc: Global,
+    store: &Store,
+    steps: u64,
+    value: &Value,
+) -> Result<(Bytes, u64), EvalErr>
+    ensures { Gives (λ answer. answer) Bad result (text_of store.now steps value.now) }
+{
+    let mut page = Page::new(alloc);
+    let left = write_text(store, steps, value, &mut page)?;
+    Ok((page.finish(alloc)?, left))
+}
+
+/// Writes the `repr` of a value, and gives the steps that are left of these.
+#[tactic(auto, unfolding(crate::specs::Shown::repr_shown))]
+pub fn write_repr(store: &Store, steps: u64, value: &Value, page: &mut Page) -> Result<u64, EvalErr>
+    ensures { Gives (λ left. (page.new, left)) Bad result (repr_shown store.now page.old steps value.now) }
+{
+    show(store, MAX_LEVELS, steps, value, page)
+}
+
+/// Writes the `str` of a value, and gives the steps that are left of these. A string is itself.
+pub fn write_text(store: &Store, steps: u64, value: &Value, page: &mut Page) -> Result<u64, EvalErr>
+    ensures { Gives (λ left. (page.new, left)) Bad result (text_shown store.now page.old steps value.now) }
+{
+    match string_in(value) {
+        None => write_repr(store, steps, value, page),
+        Some(bytes) => {
+            if steps == 0 {
+                return Err(EvalErr::Bad(FaultKind::StepLimit));
+            }
+            page.write(bytes.as_slice())?;
+            Ok(steps - 1)
+        }
+    }
+}
+
+/// The bytes of a string.
+fn string_in(value: &Value) -> Option<&Bytes>
+    ensures { option_copied result ≡ string_in value.now }
+{
+    match &value.node {
+        Node::Text(bytes) => Some(bytes),
+        Node::NoneValue | Node::Bool(_) | Node::Int(_) | Node::Tuple(_) | Node::Range(_) => None,
+        Node::Cell(_) | Node::Function(_) | Node::BuiltIn(_) => None,
+        Node::RuleFunction(_) | Node::Attribute(_) => None,
+    }
+}
+
+/// Visits a value with so many levels to go.
+#[cycle(show)]
+#[tactic(auto, using(bq_value::specs::Datum::list_of_data_of))]
+fn show(
+    store: &Store,
+    levels: u32,
+    steps: u64,
+    value: &Value,
+    page: &mut Page,
+) -> Result<u64, EvalErr>
+    ensures { Gives (λ left. (page.new, left)) Bad result (shown_at levels store.now page.old steps value.now) }
+{
+    if steps == 0 {
+        return Err(EvalErr::Bad(FaultKind::StepLimit));
+    }
+    let steps = steps - 1;
+    if levels == 0 {
+        return Err(EvalErr::Bad(FaultKind::TooDeep));
+    }
+    let below = levels - 1;
+    match &value.node {
+        Node::Tuple(items) => {
+            show_items(store, below, steps, b"(", items, tuple_end(items), page)
+        }
+        Node::Cell(cell) => match store.content(*cell) {
+            None => Ok(steps),
+            Some(content) => show_content(store, below, steps, content, page),
+        },
+        _ => {
+            write_leaf(value, page)?;
+            Ok(steps)
+        }
+    }
+}
+
+#[cycle(show)]
+fn show_content(
+    store: &Store,
+    levels: u32,
+    steps: u64,
+    content: &Content,
+    page: &mut Page,
+) -> Result<u64, EvalErr>
+    ensures { Gives (λ left. (page.new, left)) Bad result (contents_shown (shown_at levels store.now) page.old steps content.now) }
+{
+    match &content.body {
+        Body::List(items) => show_items(store, levels, steps, b"[", items, b"]", page),
+        Body::Dict(pairs) => show_pairs(store, levels, steps, pairs, page),
+        Body::Rule(_) => {
+            page.write(b"<rule>")?;
+            Ok(steps)
+        }
+    }
+}
+
+#[cycle(show)]
+fn show_items(
+    store: &Store,
+    levels: u32,
+    steps: u64,
+    begin: &[u8],
+    items: &[Value],
+    end: &[u8],
+    page: &mut Page,
+) -> Result<u64, EvalErr>
+    ensures { Gives (λ left. (page.new, left)) Bad result (list_shown (shown_at levels store.now) begin.now end.now page.old steps items.now) }
+{
+    page.write(begin)?;
+    let mut left = steps;
+    let mut separator: &[u8] = b"";
+    for item in items {
+        page.write(separator)?;
+        left = show(store, levels, left, item, page)?;
+        separator = b", ";
+    }
+    page.write(end)?;
+    Ok(left)
+}
+
+#[cycle(show)]
+fn show_pairs(
+    store: &Store,
+    levels: u32,
+    steps: u64,
+    pairs: &Dict,
+    page: &mut Page,
+) -> Result<u64, EvalErr>
+    ensures { Gives (λ left. (page.new, left)) Bad result (dict_shown (shown_at levels store.now) page.old steps pairs.now) }
+{
+    page.write(b"{")?;
+    let mut left = steps;
+    let mut separator: &[u8] = b"";
+    for i in 0..pairs.len() {
+        let (key, value) = pairs.pair(i);
+        page.write(separator)?;
+        left = show(store, levels, left, key.value(), page)?;
+        page.write(b": ")?;
+        left = show(store, levels, left, value, page)?;
+        separator = b", ";
+    }
+    page.write(b"}")?;
+    Ok(left)
+}
+
+/// A tuple of one has a comma.
+fn tuple_end(items: &[Value]) -> &'static [u8]
+    ensures { result.now ≡ tuple_end items.now }
+{
+    if items.len() == 1 { b",)" } else { b")" }
+}
