@@ -3,7 +3,7 @@ use Rattle.std.proofs.Common.{◌≡◌, ℕ, List, [], ◌∷◌}
 use Rattle.bq_parse_grammar.specs.declared.tree.Argument.TheOpen.{Clause-F}
 use Rattle.bq_parse_grammar.specs.declared.tree.Clause.{Clause}
 use Rattle.bq_parse_grammar.specs.declared.tree.Expr.{Expr}
-use Rattle.bq_parse_grammar.specs.declared.tree.AssignTarget.{AssignTarget}
+use Rattle.bq_parse_grammar.specs.declared.tree.TargetExpr.{TargetExpr}
 use Rattle.bq_resolve_scope.specs.declared.code.Code.{Code}
 use Rattle.bq_resolve_scope.specs.declared.code.Code.TheOpen.{CodeClause-F}
 use Rattle.bq_resolve_scope.specs.declared.code.CodeClause.{CodeClause, roll-CodeClause}
@@ -28,7 +28,7 @@ use Rattle.bq_eval_by_name_expression_laws.proofs.Turns.{TargetAgree, Turned, Tu
 
 module _ {S : Type 0} (m : Primitives S) (E : Eval S) (F : trees.Eval S) where
   module _ (blocks : List BlockParts) (nested : Nested blocks) where
-    pub for_agrees : (round : List BlockParts) (t : AssignTarget) (u : CodeTarget) (x : Expr) (y : Code) (d : CodeClause) → roll-CodeClause (CodeClause-F.For u y) ≡ d
+    pub for_agrees : (round : List BlockParts) (t : TargetExpr) (u : CodeTarget) (x : Expr) (y : Code) (d : CodeClause) → roll-CodeClause (CodeClause-F.For u y) ≡ d
         → TargetAgree m blocks nested max_layers t u → Agree m E F round x y → ClauseLayerAgree m blocks nested E F round (Clause-F.For t x) d
     for_agrees round t u x y d e h k = made_clause m blocks nested E F round (Clause-F.For t x) d (CodeClause-F.For u y) e (for_alike m blocks nested E F round t u x y h k)
 

@@ -2,22 +2,22 @@
 use Rattle.std.proofs.Common.{◌≡◌, ℕ, zero, suc, Bool, true, false, ◌||◌, List, [], ◌∷◌, ◌++◌, bytes_eq, refl}
 use Rattle.std.specs.Prelude.{if◌then◌else◌}
 use Rattle.std.proofs.lemmas.Slice.Eq.{bytes_eq-Decides}
-use Rattle.bq_parse_grammar.specs.declared.tree.Argument.TheOpen.{Clause-F, AssignTarget-F}
+use Rattle.bq_parse_grammar.specs.declared.tree.Argument.TheOpen.{Clause-F, TargetExpr-F}
 use Rattle.bq_parse_grammar.specs.declared.tree.Clause.{Clause, out-Clause}
-use Rattle.bq_parse_grammar.specs.declared.tree.AssignTarget.{AssignTarget, out-AssignTarget}
+use Rattle.bq_parse_grammar.specs.declared.tree.TargetExpr.{TargetExpr, out-TargetExpr}
 use Rattle.bq_resolve_scope.specs.Names.{Name, TargetLayer, ClauseLayer, max_layers, has, with_name, with_each, with_target_by, with_target_to, with_target, with_clause_by, with_clause, comprehension_names}
 use Rattle.bq_eval_by_name_expression_laws.proofs.Walks.{Every}
 
 -- the names of a target are among these
-abbrev pub names_in_by : (AssignTarget → Type 0) → List Name → TargetLayer → Type 0
-names_in_by inner names (AssignTarget-F.Target::Name n) = has names n.name ≡ true
-names_in_by inner names (AssignTarget-F.Target::Index x i) = Unit {0}
-names_in_by inner names (AssignTarget-F.Target::Tuple ts) = Every inner ts
-names_in_by inner names (AssignTarget-F.Target::List ts) = Every inner ts
+abbrev pub names_in_by : (TargetExpr → Type 0) → List Name → TargetLayer → Type 0
+names_in_by inner names (TargetExpr-F.Target::Name n) = has names n.name ≡ true
+names_in_by inner names (TargetExpr-F.Target::Index x i) = Unit {0}
+names_in_by inner names (TargetExpr-F.Target::Tuple ts) = Every inner ts
+names_in_by inner names (TargetExpr-F.Target::List ts) = Every inner ts
 
-unfoldable pub NamesIn : List Name → ℕ → AssignTarget → Type 0
+unfoldable pub NamesIn : List Name → ℕ → TargetExpr → Type 0
 NamesIn names zero t = Unit {0}
-NamesIn names (suc n) t = names_in_by (NamesIn names n) names (out-AssignTarget t)
+NamesIn names (suc n) t = names_in_by (NamesIn names n) names (out-TargetExpr t)
 
 abbrev pub variables_in : List Name → ClauseLayer → Type 0
 variables_in names (Clause-F.For t x) = NamesIn names max_layers t
@@ -73,50 +73,50 @@ each_grows add one names (x ∷ xs) name h = each_grows add one (add names x) xs
 
 -- ---- targets
 
-target_by_grows : (inner : List Name → AssignTarget → List Name) → ((names : List Name) (t : AssignTarget) → Grows names (inner names t)) → (names : List Name) (o : TargetLayer) → Grows names (with_target_by inner names o)
-target_by_grows inner one names (AssignTarget-F.Target::Name n) = name_grows names n.name
-target_by_grows inner one names (AssignTarget-F.Target::Index x i) = λ name h. h
-target_by_grows inner one names (AssignTarget-F.Target::Tuple ts) = each_grows inner one names ts
-target_by_grows inner one names (AssignTarget-F.Target::List ts) = each_grows inner one names ts
+target_by_grows : (inner : List Name → TargetExpr → List Name) → ((names : List Name) (t : TargetExpr) → Grows names (inner names t)) → (names : List Name) (o : TargetLayer) → Grows names (with_target_by inner names o)
+target_by_grows inner one names (TargetExpr-F.Target::Name n) = name_grows names n.name
+target_by_grows inner one names (TargetExpr-F.Target::Index x i) = λ name h. h
+target_by_grows inner one names (TargetExpr-F.Target::Tuple ts) = each_grows inner one names ts
+target_by_grows inner one names (TargetExpr-F.Target::List ts) = each_grows inner one names ts
 
-target_grows : (n : ℕ) (names : List Name) (t : AssignTarget) → Grows names (with_target_to n names t)
+target_grows : (n : ℕ) (names : List Name) (t : TargetExpr) → Grows names (with_target_to n names t)
 unfolding with_target_to
 target_grows zero names t = λ name h. h
-target_grows (suc n) names t = target_by_grows (with_target_to n) (target_grows n) names (out-AssignTarget t)
+target_grows (suc n) names t = target_by_grows (with_target_to n) (target_grows n) names (out-TargetExpr t)
 
 every_more : {A : Type 0} (P Q : A → Type 0) → ((x : A) → P x → Q x) → (xs : List A) → Every P xs → Every Q xs
 every_more P Q weaker [] h = tt
 every_more P Q weaker (x ∷ xs) h = (weaker x h.0, every_more P Q weaker xs h.1)
 
-in_more_by : (names more : List Name) → Grows names more → (P Q : AssignTarget → Type 0) → ((t : AssignTarget) → P t → Q t) → (o : TargetLayer) → names_in_by P names o → names_in_by Q more o
-in_more_by names more g P Q weaker (AssignTarget-F.Target::Name n) h = g n.name h
-in_more_by names more g P Q weaker (AssignTarget-F.Target::Index x i) h = tt
-in_more_by names more g P Q weaker (AssignTarget-F.Target::Tuple ts) h = every_more P Q weaker ts h
-in_more_by names more g P Q weaker (AssignTarget-F.Target::List ts) h = every_more P Q weaker ts h
+in_more_by : (names more : List Name) → Grows names more → (P Q : TargetExpr → Type 0) → ((t : TargetExpr) → P t → Q t) → (o : TargetLayer) → names_in_by P names o → names_in_by Q more o
+in_more_by names more g P Q weaker (TargetExpr-F.Target::Name n) h = g n.name h
+in_more_by names more g P Q weaker (TargetExpr-F.Target::Index x i) h = tt
+in_more_by names more g P Q weaker (TargetExpr-F.Target::Tuple ts) h = every_more P Q weaker ts h
+in_more_by names more g P Q weaker (TargetExpr-F.Target::List ts) h = every_more P Q weaker ts h
 
-in_more : (names more : List Name) → Grows names more → (n : ℕ) (t : AssignTarget) → NamesIn names n t → NamesIn more n t
+in_more : (names more : List Name) → Grows names more → (n : ℕ) (t : TargetExpr) → NamesIn names n t → NamesIn more n t
 unfolding NamesIn
 in_more names more g zero t h = tt
-in_more names more g (suc n) t h = in_more_by names more g (NamesIn names n) (NamesIn more n) (in_more names more g n) (out-AssignTarget t) h
+in_more names more g (suc n) t h = in_more_by names more g (NamesIn names n) (NamesIn more n) (in_more names more g n) (out-TargetExpr t) h
 
-each_in : (n : ℕ) → ((names : List Name) (t : AssignTarget) → NamesIn (with_target_to n names t) n t) → (names : List Name) (ts : List AssignTarget) → Every (NamesIn (with_each (with_target_to n) names ts) n) ts
+each_in : (n : ℕ) → ((names : List Name) (t : TargetExpr) → NamesIn (with_target_to n names t) n t) → (names : List Name) (ts : List TargetExpr) → Every (NamesIn (with_each (with_target_to n) names ts) n) ts
 each_in n one names [] = tt
 each_in n one names (t ∷ ts) = (
   in_more (with_target_to n names t) (with_each (with_target_to n) (with_target_to n names t) ts) (each_grows (with_target_to n) (target_grows n) (with_target_to n names t) ts) n t (one names t),
   each_in n one (with_target_to n names t) ts,
 )
 
-in_by : (n : ℕ) → ((names : List Name) (t : AssignTarget) → NamesIn (with_target_to n names t) n t) → (names : List Name) (o : TargetLayer)
+in_by : (n : ℕ) → ((names : List Name) (t : TargetExpr) → NamesIn (with_target_to n names t) n t) → (names : List Name) (o : TargetLayer)
     → names_in_by (NamesIn (with_target_by (with_target_to n) names o) n) (with_target_by (with_target_to n) names o) o
-in_by n one names (AssignTarget-F.Target::Name m) = name_has names m.name
-in_by n one names (AssignTarget-F.Target::Index x i) = tt
-in_by n one names (AssignTarget-F.Target::Tuple ts) = each_in n one names ts
-in_by n one names (AssignTarget-F.Target::List ts) = each_in n one names ts
+in_by n one names (TargetExpr-F.Target::Name m) = name_has names m.name
+in_by n one names (TargetExpr-F.Target::Index x i) = tt
+in_by n one names (TargetExpr-F.Target::Tuple ts) = each_in n one names ts
+in_by n one names (TargetExpr-F.Target::List ts) = each_in n one names ts
 
-target_in : (n : ℕ) (names : List Name) (t : AssignTarget) → NamesIn (with_target_to n names t) n t
+target_in : (n : ℕ) (names : List Name) (t : TargetExpr) → NamesIn (with_target_to n names t) n t
 unfolding NamesIn with_target_to
 target_in zero names t = tt
-target_in (suc n) names t = in_by n (target_in n) names (out-AssignTarget t)
+target_in (suc n) names t = in_by n (target_in n) names (out-TargetExpr t)
 
 -- ---- clauses
 

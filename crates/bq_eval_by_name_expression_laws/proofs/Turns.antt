@@ -1,11 +1,11 @@
 -- What binds names, and the clauses of comprehensions: they mean the same by names and by slots, where the expressions in them do.
 use Rattle.std.proofs.Common.{◌≡◌, ℕ, suc, List, [], ◌∷◌, Some, refl, sym, ap, ◌∙◌, subst}
-use Rattle.bq_parse_grammar.specs.declared.tree.Argument.TheOpen.{AssignTarget-F}
+use Rattle.bq_parse_grammar.specs.declared.tree.Argument.TheOpen.{TargetExpr-F}
 use Rattle.bq_parse_grammar.specs.declared.tree.Clause.{Clause, out-Clause}
 use Rattle.bq_parse_grammar.specs.declared.tree.Expr.{Expr}
 use Rattle.bq_parse_grammar.specs.declared.tree.Identifier.{Identifier}
 use Rattle.bq_parse_grammar.specs.declared.tree.Pair.{Pair}
-use Rattle.bq_parse_grammar.specs.declared.tree.AssignTarget.{AssignTarget, out-AssignTarget}
+use Rattle.bq_parse_grammar.specs.declared.tree.TargetExpr.{TargetExpr, out-TargetExpr}
 use Rattle.bq_resolve_scope.specs.declared.code.Code.{Code, out-Code, roll-Code, out-roll-Code}
 use Rattle.bq_resolve_scope.specs.declared.code.Code.TheOpen.{CodeTarget-F}
 use Rattle.bq_resolve_scope.specs.declared.code.CodeClause.{CodeClause, out-CodeClause, roll-CodeClause, out-roll-CodeClause}
@@ -38,7 +38,7 @@ module _ {S : Type 0} (m : Primitives S) (blocks : List BlockParts) (nested : Ne
   abbrev pub Bound : Env × Places → Frame × Places → Type 0
   Bound r q = Shows blocks r.0 q.0 × (r.1 ≡ q.1)
 
-  abbrev pub TargetAgree : ℕ → AssignTarget → CodeTarget → Type 0
+  abbrev pub TargetAgree : ℕ → TargetExpr → CodeTarget → Type 0
   TargetAgree n t u = (v : Datum) (env : Env) (frame : Frame) (ps : Places) → Shows blocks env frame → (s : S) → Alike Bound (targets.bind_to m n t v env ps s) (places.bind_to m n u v frame ps s)
 
   -- a target's outermost layer
@@ -47,7 +47,7 @@ module _ {S : Type 0} (m : Primitives S) (blocks : List BlockParts) (nested : Ne
       (v : Datum) (env : Env) (frame : Frame) (ps : Places) → Shows blocks env frame → (s : S)
       → Alike Bound (targets.bind_by m (targets.bind_to m n) o v env ps s) (places.bind_target m (places.bind_to m n) u v frame ps s)
 
-  pub layer_agrees : (n : ℕ) (t : AssignTarget) (u : CodeTarget) → LayerAgree n (out-AssignTarget t) u → TargetAgree (suc n) t u
+  pub layer_agrees : (n : ℕ) (t : TargetExpr) (u : CodeTarget) → LayerAgree n (out-TargetExpr t) u → TargetAgree (suc n) t u
   unfolding targets.bind_to places.bind_to targets.bind_target
   layer_agrees n t u h = h
 
@@ -59,19 +59,19 @@ module _ {S : Type 0} (m : Primitives S) (blocks : List BlockParts) (nested : Ne
       subst (λ z. Alike Bound (targets.bind_by m (targets.bind_to m n) o v env ps s) (places.bind_by m (places.bind_to m n) z v frame ps s)) (sym (out-roll-CodeTarget p) ∙ ap out-CodeTarget e)
       (h v env frame ps shows s)
 
-  pub name_agrees : (n : ℕ) (i : Identifier) (slot : ℕ) (u : CodeTarget) → slot_of blocks i.name ≡ Some slot → roll-CodeTarget (CodeTarget-F.Local slot) ≡ u → LayerAgree n (AssignTarget-F.Target::Name i) u
+  pub name_agrees : (n : ℕ) (i : Identifier) (slot : ℕ) (u : CodeTarget) → slot_of blocks i.name ≡ Some slot → roll-CodeTarget (CodeTarget-F.Local slot) ≡ u → LayerAgree n (TargetExpr-F.Target::Name i) u
   name_agrees n i slot u at e =
-      made_target n (AssignTarget-F.Target::Name i) u (CodeTarget-F.Local slot) e (λ v env frame ps shows s. (refl, (shows_bind blocks nested env frame i.name slot v at shows, refl)))
+      made_target n (TargetExpr-F.Target::Name i) u (CodeTarget-F.Local slot) e (λ v env frame ps shows s. (refl, (shows_bind blocks nested env frame i.name slot v at shows, refl)))
 
   place_alike : (v : Datum) (env : Env) (frame : Frame) (ps : Places) → Shows blocks env frame → (s : S) → Alike Bound (targets.bind_place m v env ps s) (places.bind_place m v frame ps s)
   unfolding targets.bind_place places.bind_place
   place_alike v env frame [] shows s = refl
   place_alike v env frame (p ∷ ps) shows s = then_pure Bound (m.set_index p.0 p.1 v s) (λ _. (env, ps)) (λ _. (frame, ps)) (λ _. (shows, refl))
 
-  pub index_agrees : (n : ℕ) (x i : Expr) (y j : Code) (u : CodeTarget) → roll-CodeTarget (CodeTarget-F.CodeTarget::Index y j) ≡ u → LayerAgree n (AssignTarget-F.Target::Index x i) u
-  index_agrees n x i y j u e = made_target n (AssignTarget-F.Target::Index x i) u (CodeTarget-F.CodeTarget::Index y j) e place_alike
+  pub index_agrees : (n : ℕ) (x i : Expr) (y j : Code) (u : CodeTarget) → roll-CodeTarget (CodeTarget-F.CodeTarget::Index y j) ≡ u → LayerAgree n (TargetExpr-F.Target::Index x i) u
+  index_agrees n x i y j u e = made_target n (TargetExpr-F.Target::Index x i) u (CodeTarget-F.CodeTarget::Index y j) e place_alike
 
-  each_alike : (n : ℕ) (ts : List AssignTarget) (us : List CodeTarget) → Pairwise (TargetAgree n) ts us → (vs : List Datum) (env : Env) (frame : Frame) (ps : Places) → Shows blocks env frame → (s : S)
+  each_alike : (n : ℕ) (ts : List TargetExpr) (us : List CodeTarget) → Pairwise (TargetAgree n) ts us → (vs : List Datum) (env : Env) (frame : Frame) (ps : Places) → Shows blocks env frame → (s : S)
       → Alike Bound (targets.bind_each m (targets.bind_to m n) ts vs env ps s) (places.bind_each m (places.bind_to m n) us vs frame ps s)
   unfolding targets.bind_each places.bind_each
   each_alike n [] [] h vs env frame ps shows s = (refl, (shows, refl))
@@ -82,22 +82,22 @@ module _ {S : Type 0} (m : Primitives S) (blocks : List BlockParts) (nested : Ne
   each_alike n [] (u ∷ us) h vs env frame ps shows s = absurd h
   each_alike n (t ∷ ts) [] h vs env frame ps shows s = absurd h
 
-  unpack_alike : (n : ℕ) (ts : List AssignTarget) (us : List CodeTarget) → Pairwise (TargetAgree n) ts us → (v : Datum) (env : Env) (frame : Frame) (ps : Places) → Shows blocks env frame → (s : S)
+  unpack_alike : (n : ℕ) (ts : List TargetExpr) (us : List CodeTarget) → Pairwise (TargetAgree n) ts us → (v : Datum) (env : Env) (frame : Frame) (ps : Places) → Shows blocks env frame → (s : S)
       → Alike Bound (targets.unpack m (targets.bind_to m n) ts v env ps s) (places.unpack m (places.bind_to m n) us v frame ps s)
   unfolding targets.unpack places.unpack
   unpack_alike n ts us h v env frame ps shows s =
       rw (same_length (TargetAgree n) ts us h) (then_both Bound _ _ _ (λ vs t. each_alike n ts us h vs env frame ps shows t))
 
-  pub tuple_agrees : (n : ℕ) (ts : List AssignTarget) (us : List CodeTarget) (u : CodeTarget) → roll-CodeTarget (CodeTarget-F.CodeTarget::Tuple us) ≡ u → Pairwise (TargetAgree n) ts us
-      → LayerAgree n (AssignTarget-F.Target::Tuple ts) u
-  tuple_agrees n ts us u e h = made_target n (AssignTarget-F.Target::Tuple ts) u (CodeTarget-F.CodeTarget::Tuple us) e (unpack_alike n ts us h)
+  pub tuple_agrees : (n : ℕ) (ts : List TargetExpr) (us : List CodeTarget) (u : CodeTarget) → roll-CodeTarget (CodeTarget-F.CodeTarget::Tuple us) ≡ u → Pairwise (TargetAgree n) ts us
+      → LayerAgree n (TargetExpr-F.Target::Tuple ts) u
+  tuple_agrees n ts us u e h = made_target n (TargetExpr-F.Target::Tuple ts) u (CodeTarget-F.CodeTarget::Tuple us) e (unpack_alike n ts us h)
 
-  pub list_agrees : (n : ℕ) (ts : List AssignTarget) (us : List CodeTarget) (u : CodeTarget) → roll-CodeTarget (CodeTarget-F.CodeTarget::List us) ≡ u → Pairwise (TargetAgree n) ts us
-      → LayerAgree n (AssignTarget-F.Target::List ts) u
-  list_agrees n ts us u e h = made_target n (AssignTarget-F.Target::List ts) u (CodeTarget-F.CodeTarget::List us) e (unpack_alike n ts us h)
+  pub list_agrees : (n : ℕ) (ts : List TargetExpr) (us : List CodeTarget) (u : CodeTarget) → roll-CodeTarget (CodeTarget-F.CodeTarget::List us) ≡ u → Pairwise (TargetAgree n) ts us
+      → LayerAgree n (TargetExpr-F.Target::List ts) u
+  list_agrees n ts us u e h = made_target n (TargetExpr-F.Target::List ts) u (CodeTarget-F.CodeTarget::List us) e (unpack_alike n ts us h)
 
   -- the variables of a `for`
-  variables_alike : (t : AssignTarget) (u : CodeTarget) → TargetAgree max_layers t u → (v : Datum) (env : Env) (frame : Frame) → Shows blocks env frame → (s : S)
+  variables_alike : (t : TargetExpr) (u : CodeTarget) → TargetAgree max_layers t u → (v : Datum) (env : Env) (frame : Frame) → Shows blocks env frame → (s : S)
       → Alike (Shows blocks) (targets.bind_variables m t v env s) (places.bind_variables m u v frame s)
   unfolding targets.bind_variables places.bind_variables
   variables_alike t u h v env frame shows s = then_alike Bound (Shows blocks) _ _ _ _ (h v env frame [] shows s) (λ a b w k. (refl, k.0))
@@ -127,13 +127,13 @@ module _ {S : Type 0} (m : Primitives S) (blocks : List BlockParts) (nested : Ne
     body_alike f c o e h env frame made shows s =
         subst (λ z. Alike Turned (f env made s) (slots.body_by m F z frame made s)) (sym (out-roll-Code o) ∙ ap out-Code e) (h env frame made shows s)
 
-    turn_alike : (t : AssignTarget) (u : CodeTarget) → TargetAgree max_layers t u → (inner : names.Turn S) (within : slots.Turn S) → TurnAlike inner within → (v : Datum)
+    turn_alike : (t : TargetExpr) (u : CodeTarget) → TargetAgree max_layers t u → (inner : names.Turn S) (within : slots.Turn S) → TurnAlike inner within → (v : Datum)
         → TurnAlike (names.turn m E t inner v) (slots.turn m F u within v)
     unfolding names.turn slots.turn
     turn_alike t u h inner within k v env frame c shows s =
         then_both Turned _ _ _ (λ _ r. then_alike (Shows blocks) Turned _ _ _ _ (variables_alike t u h v env frame shows r) (λ a b w bound. k a b c bound w))
 
-    turns_alike : (t : AssignTarget) (u : CodeTarget) → TargetAgree max_layers t u → (inner : names.Turn S) (within : slots.Turn S) → TurnAlike inner within → (vs : List Datum)
+    turns_alike : (t : TargetExpr) (u : CodeTarget) → TargetAgree max_layers t u → (inner : names.Turn S) (within : slots.Turn S) → TurnAlike inner within → (vs : List Datum)
         → TurnAlike (names.turns m E t inner vs) (slots.turns m F u within vs)
     unfolding names.turns slots.turns
     turns_alike t u h inner within k [] env frame c shows s = (refl, (refl, shows))
@@ -162,7 +162,7 @@ module _ {S : Type 0} (m : Primitives S) (blocks : List BlockParts) (nested : Ne
         subst (λ z. Alike Turned (names.clause_by m E o there inner env made s) (slots.clause_by m F z within frame made s)) (sym (out-roll-CodeClause p) ∙ ap out-CodeClause e)
         (h inner within k there env frame made shown shows s)
 
-    pub for_alike : (round : List BlockParts) (t : AssignTarget) (u : CodeTarget) (x : Expr) (y : Code) → TargetAgree max_layers t u → Agree m E F round x y
+    pub for_alike : (round : List BlockParts) (t : TargetExpr) (u : CodeTarget) (x : Expr) (y : Code) → TargetAgree max_layers t u → Agree m E F round x y
         → (inner : names.Turn S) (within : slots.Turn S) → TurnAlike inner within → (there env : Env) (frame : Frame) (made : Contents) → Shows round there frame → Shows blocks env frame → (s : S)
         → Alike Turned (names.for_clause m E t x there inner env made s) (slots.for_clause m F u y within frame made s)
     unfolding names.for_clause slots.for_clause

@@ -1,13 +1,13 @@
 -- A file binds each of its globals once, so each stands in its own place.
 use Rattle.std.proofs.Common.{◌≡◌, ◌⊎◌, inl, inr, ℕ, zero, suc, Bool, true, false, List, [], ◌∷◌, ◌++◌, length, Some, slice_get, refl, sym, ap, subst}
 use Rattle.std.specs.Prelude.{if◌then◌else◌}
-use Rattle.bq_parse_grammar.specs.declared.tree.Argument.TheOpen.{AssignTarget-F}
+use Rattle.bq_parse_grammar.specs.declared.tree.Argument.TheOpen.{TargetExpr-F}
 use Rattle.bq_parse_grammar.specs.declared.tree.Branch.{Branch, out-Branch}
 use Rattle.bq_parse_grammar.specs.declared.tree.SmallKind.{SmallKind}
 use Rattle.bq_parse_grammar.specs.declared.tree.SmallKind.TheVariants as small
 use Rattle.bq_parse_grammar.specs.declared.tree.Stmt.{Stmt, out-Stmt}
 use Rattle.bq_parse_grammar.specs.declared.tree.Stmt.TheOpen.{Stmt-F}
-use Rattle.bq_parse_grammar.specs.declared.tree.AssignTarget.{AssignTarget, out-AssignTarget}
+use Rattle.bq_parse_grammar.specs.declared.tree.TargetExpr.{TargetExpr, out-TargetExpr}
 use Rattle.bq_parse_grammar.specs.declared.tree.TopLevel.{TopLevel}
 use Rattle.bq_resolve_scope.specs.Names.{Name, TargetLayer, max_layers, has, place_among, with_name, with_each, with_target_by, with_target_to, with_target, with_small_by, with_small, with_branch, with_stmt_by, with_stmt_to, with_stmt, global_names}
 use Rattle.bq_eval_by_name_module_laws.proofs.Places.{Stays, new_place, name_stays}
@@ -56,16 +56,16 @@ each_once : {A : Type 0} (add : List Name → A → List Name) → Keeps add →
 each_once add keeps names [] once = once
 each_once add keeps names (x ∷ xs) once = each_once add keeps (add names x) xs (keeps names x once)
 
-target_by_once : (inner : List Name → AssignTarget → List Name) → Keeps inner → (names : List Name) (o : TargetLayer) → Once names → Once (with_target_by inner names o)
-target_by_once inner keeps names (AssignTarget-F.Target::Name n) once = name_once names n.name once
-target_by_once inner keeps names (AssignTarget-F.Target::Index x i) once = once
-target_by_once inner keeps names (AssignTarget-F.Target::Tuple ts) once = each_once inner keeps names ts once
-target_by_once inner keeps names (AssignTarget-F.Target::List ts) once = each_once inner keeps names ts once
+target_by_once : (inner : List Name → TargetExpr → List Name) → Keeps inner → (names : List Name) (o : TargetLayer) → Once names → Once (with_target_by inner names o)
+target_by_once inner keeps names (TargetExpr-F.Target::Name n) once = name_once names n.name once
+target_by_once inner keeps names (TargetExpr-F.Target::Index x i) once = once
+target_by_once inner keeps names (TargetExpr-F.Target::Tuple ts) once = each_once inner keeps names ts once
+target_by_once inner keeps names (TargetExpr-F.Target::List ts) once = each_once inner keeps names ts once
 
 target_to_once : (depth : ℕ) → Keeps (with_target_to depth)
 unfolding with_target_to
 target_to_once zero names t once = once
-target_to_once (suc depth) names t once = target_by_once (with_target_to depth) (target_to_once depth) names (out-AssignTarget t) once
+target_to_once (suc depth) names t once = target_by_once (with_target_to depth) (target_to_once depth) names (out-TargetExpr t) once
 
 target_once : Keeps with_target
 unfolding with_target

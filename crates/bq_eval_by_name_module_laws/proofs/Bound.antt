@@ -1,7 +1,7 @@
 -- Each statement of a file binds its names, and what is bound stays bound.
 use Rattle.std.proofs.Common.{◌≡◌, ℕ, zero, suc, ◌+◌, Bool, true, false, ◌||◌, List, [], ◌∷◌, ◌++◌, length, Some, bytes_eq, refl, sym, subst, arith}
 use Rattle.std.specs.Prelude.{if◌then◌else◌}
-use Rattle.bq_parse_grammar.specs.declared.tree.Argument.TheOpen.{AssignTarget-F}
+use Rattle.bq_parse_grammar.specs.declared.tree.Argument.TheOpen.{TargetExpr-F}
 use Rattle.bq_parse_grammar.specs.declared.tree.Branch.{Branch}
 use Rattle.bq_parse_grammar.specs.declared.tree.Expr.{Expr}
 use Rattle.bq_parse_grammar.specs.declared.tree.Operator.{Operator}
@@ -10,7 +10,7 @@ use Rattle.bq_parse_grammar.specs.declared.tree.SmallKind.TheVariants as small
 use Rattle.bq_parse_grammar.specs.declared.tree.SmallStmt.{SmallStmt}
 use Rattle.bq_parse_grammar.specs.declared.tree.Stmt.{Stmt, out-Stmt}
 use Rattle.bq_parse_grammar.specs.declared.tree.Stmt.TheOpen.{Stmt-F}
-use Rattle.bq_parse_grammar.specs.declared.tree.AssignTarget.{AssignTarget, out-AssignTarget}
+use Rattle.bq_parse_grammar.specs.declared.tree.TargetExpr.{TargetExpr, out-TargetExpr}
 use Rattle.bq_parse_grammar.specs.declared.tree.TopLevel.{TopLevel}
 use Rattle.bq_resolve_scope.specs.Files.{file_names}
 use Rattle.bq_resolve_scope.specs.Names.{Name, TargetLayer, max_layers, has, with_name, with_each, with_target_by, with_target_to, with_target, with_small_by, with_small, with_stmt_by, with_stmt_to, with_stmt, global_names}
@@ -68,15 +68,15 @@ bound_bind ns env n v all name h = go (bytes_eq name n) refl
 module _ {S : Type 0} (m : Primitives S) (counted : PartsAreCounted m) where
   -- ---- targets
 
-  abbrev Binds : (List Name → AssignTarget → List Name) → (AssignTarget → Datum → Env → Places → Action S (Env × Places)) → Type 0
-  Binds add inner = (t : AssignTarget) (ns : List Name) (v : Datum) (env : Env) (ps : Places) (s : S) → AllBound ns env → Gives (λ r. AllBound (add ns t) r.0) (inner t v env ps s)
+  abbrev Binds : (List Name → TargetExpr → List Name) → (TargetExpr → Datum → Env → Places → Action S (Env × Places)) → Type 0
+  Binds add inner = (t : TargetExpr) (ns : List Name) (v : Datum) (env : Env) (ps : Places) (s : S) → AllBound ns env → Gives (λ r. AllBound (add ns t) r.0) (inner t v env ps s)
 
   place_bound : (ns : List Name) (v : Datum) (env : Env) (ps : Places) (s : S) → AllBound ns env → Gives (λ r. AllBound ns r.0) (bind_place m v env ps s)
   unfolding bind_place
   place_bound ns v env [] s h = tt
   place_bound ns v env (p ∷ ps) s h = gives_after (λ r. AllBound ns r.0) (m.set_index p.0 p.1 v s) _ (λ _ w. h)
 
-  each_bound : (add : List Name → AssignTarget → List Name) (inner : AssignTarget → Datum → Env → Places → Action S (Env × Places)) → Binds add inner → (ts : List AssignTarget) (vs : List Datum) → length vs ≡ length ts
+  each_bound : (add : List Name → TargetExpr → List Name) (inner : TargetExpr → Datum → Env → Places → Action S (Env × Places)) → Binds add inner → (ts : List TargetExpr) (vs : List Datum) → length vs ≡ length ts
       → (ns : List Name) (env : Env) (ps : Places) (s : S) → AllBound ns env → Gives (λ r. AllBound (with_each add ns ts) r.0) (bind_each m inner ts vs env ps s)
   unfolding bind_each
   each_bound add inner one [] [] e ns env ps s h = h
@@ -86,45 +86,45 @@ module _ {S : Type 0} (m : Primitives S) (counted : PartsAreCounted m) where
       gives_then (λ r. AllBound (add ns t) r.0) (λ r. AllBound (with_each add (add ns t) ts) r.0) (inner t v env ps s) _ (one t ns v env ps s h)
       (λ r w k. each_bound add inner one ts vs (omega arith) (add ns t) r.0 r.1 w k)
 
-  unpack_bound : (add : List Name → AssignTarget → List Name) (inner : AssignTarget → Datum → Env → Places → Action S (Env × Places)) → Binds add inner → (ts : List AssignTarget) (ns : List Name) (v : Datum) (env : Env) (ps : Places) (s : S)
+  unpack_bound : (add : List Name → TargetExpr → List Name) (inner : TargetExpr → Datum → Env → Places → Action S (Env × Places)) → Binds add inner → (ts : List TargetExpr) (ns : List Name) (v : Datum) (env : Env) (ps : Places) (s : S)
       → AllBound ns env → Gives (λ r. AllBound (with_each add ns ts) r.0) (unpack m inner ts v env ps s)
   unfolding unpack
   unpack_bound add inner one ts ns v env ps s h =
       gives_then (λ vs. length vs ≡ length ts) (λ r. AllBound (with_each add ns ts) r.0) (m.parts (length ts) v s) _ (counted (length ts) v s) (λ vs w k. each_bound add inner one ts vs k ns env ps w h)
 
-  layer_bound : (add : List Name → AssignTarget → List Name) (inner : AssignTarget → Datum → Env → Places → Action S (Env × Places)) → Binds add inner → (o : TargetLayer) (ns : List Name) (v : Datum) (env : Env) (ps : Places) (s : S)
+  layer_bound : (add : List Name → TargetExpr → List Name) (inner : TargetExpr → Datum → Env → Places → Action S (Env × Places)) → Binds add inner → (o : TargetLayer) (ns : List Name) (v : Datum) (env : Env) (ps : Places) (s : S)
       → AllBound ns env → Gives (λ r. AllBound (with_target_by add ns o) r.0) (bind_by m inner o v env ps s)
-  layer_bound add inner one (AssignTarget-F.Target::Name n) ns v env ps s h = bound_bind ns env n.name v h
-  layer_bound add inner one (AssignTarget-F.Target::Index x i) ns v env ps s h = place_bound ns v env ps s h
-  layer_bound add inner one (AssignTarget-F.Target::Tuple ts) ns v env ps s h = unpack_bound add inner one ts ns v env ps s h
-  layer_bound add inner one (AssignTarget-F.Target::List ts) ns v env ps s h = unpack_bound add inner one ts ns v env ps s h
+  layer_bound add inner one (TargetExpr-F.Target::Name n) ns v env ps s h = bound_bind ns env n.name v h
+  layer_bound add inner one (TargetExpr-F.Target::Index x i) ns v env ps s h = place_bound ns v env ps s h
+  layer_bound add inner one (TargetExpr-F.Target::Tuple ts) ns v env ps s h = unpack_bound add inner one ts ns v env ps s h
+  layer_bound add inner one (TargetExpr-F.Target::List ts) ns v env ps s h = unpack_bound add inner one ts ns v env ps s h
 
   target_bound : (n : ℕ) → Binds (with_target_to n) (bind_to m n)
   unfolding with_target_to bind_to bind_target
   target_bound zero t ns v env ps s h = tt
-  target_bound (suc n) t ns v env ps s h = layer_bound (with_target_to n) (bind_to m n) (target_bound n) (out-AssignTarget t) ns v env ps s h
+  target_bound (suc n) t ns v env ps s h = layer_bound (with_target_to n) (bind_to m n) (target_bound n) (out-TargetExpr t) ns v env ps s h
 
   module _ (E : Eval S) where
-    assign_bound : (t : AssignTarget) (v : Datum) (ns : List Name) (env : Env) (s : S) → AllBound ns env → Gives (AllBound (with_target ns t)) (assign m E t v env s)
+    assign_bound : (t : TargetExpr) (v : Datum) (ns : List Name) (env : Env) (s : S) → AllBound ns env → Gives (AllBound (with_target ns t)) (assign m E t v env s)
     unfolding assign with_target
     assign_bound t v ns env s h =
         gives_after (AllBound (with_target_to max_layers ns t)) (places_to m E max_layers t env [] s) _
         (λ ps w. gives_then (λ r. AllBound (with_target_to max_layers ns t) r.0) (AllBound (with_target_to max_layers ns t)) (bind_to m max_layers t v env ps w) _ (target_bound max_layers t ns v env ps w h) (λ r z k. k))
 
-    augment_by_bound : (add : List Name → AssignTarget → List Name) (o : TargetLayer) (op : Operator) (x : Expr) (ns : List Name) (env : Env) (s : S) → AllBound ns env
+    augment_by_bound : (add : List Name → TargetExpr → List Name) (o : TargetLayer) (op : Operator) (x : Expr) (ns : List Name) (env : Env) (s : S) → AllBound ns env
         → Gives (AllBound (with_target_by add ns o)) (augment_by m E o op x env s)
     unfolding augment_name augment_index
-    augment_by_bound add (AssignTarget-F.Target::Name n) op x ns env s h =
+    augment_by_bound add (TargetExpr-F.Target::Name n) op x ns env s h =
         gives_after _ (assigned m (env n.name) s) _ (λ old a. gives_after _ (E x env a) _ (λ v b. gives_after _ (m.augment op old v b) _ (λ new d. bound_bind ns env n.name new h)))
-    augment_by_bound add (AssignTarget-F.Target::Index y i) op x ns env s h =
+    augment_by_bound add (TargetExpr-F.Target::Index y i) op x ns env s h =
         gives_after _ (E y env s) _ (λ u a. gives_after _ (E i env a) _ (λ w b. gives_after _ (m.index u w b) _
         (λ old d. gives_after _ (E x env d) _ (λ v e. gives_after _ (m.augment op old v e) _ (λ new f. gives_after _ (m.set_index u w new f) _ (λ _ g. h))))))
-    augment_by_bound add (AssignTarget-F.Target::Tuple ts) op x ns env s h = tt
-    augment_by_bound add (AssignTarget-F.Target::List ts) op x ns env s h = tt
+    augment_by_bound add (TargetExpr-F.Target::Tuple ts) op x ns env s h = tt
+    augment_by_bound add (TargetExpr-F.Target::List ts) op x ns env s h = tt
 
-    augment_bound : (t : AssignTarget) (op : Operator) (x : Expr) (ns : List Name) (env : Env) (s : S) → AllBound ns env → Gives (AllBound (with_target ns t)) (augment m E t op x env s)
+    augment_bound : (t : TargetExpr) (op : Operator) (x : Expr) (ns : List Name) (env : Env) (s : S) → AllBound ns env → Gives (AllBound (with_target ns t)) (augment m E t op x env s)
     unfolding augment with_target with_target_to max_layers
-    augment_bound t op x ns env s h = augment_by_bound (with_target_to 1023) (out-AssignTarget t) op x ns env s h
+    augment_bound t op x ns env s h = augment_by_bound (with_target_to 1023) (out-TargetExpr t) op x ns env s h
 
     -- ---- statements outside functions: they go on
 

@@ -3,7 +3,7 @@ use Rattle.std.proofs.Common.{◌≡◌, ℕ, zero, suc, Bool, true, false, cond
 use Rattle.std.specs.Prelude.{if◌then◌else◌}
 use Rattle.std.specs.Option.{option_map}
 use Rattle.std.proofs.lemmas.Slice.Eq.{bytes_eq-Decides}
-use Rattle.bq_parse_grammar.specs.declared.tree.Argument.TheOpen.{AssignTarget-F}
+use Rattle.bq_parse_grammar.specs.declared.tree.Argument.TheOpen.{TargetExpr-F}
 use Rattle.bq_parse_grammar.specs.declared.tree.Branch.{Branch, out-Branch}
 use Rattle.bq_parse_grammar.specs.declared.tree.Parameter.{Parameter}
 use Rattle.bq_parse_grammar.specs.declared.tree.Parameter.TheVariants as parameter
@@ -11,7 +11,7 @@ use Rattle.bq_parse_grammar.specs.declared.tree.SmallKind.{SmallKind}
 use Rattle.bq_parse_grammar.specs.declared.tree.SmallKind.TheVariants as small
 use Rattle.bq_parse_grammar.specs.declared.tree.Stmt.{Stmt, out-Stmt}
 use Rattle.bq_parse_grammar.specs.declared.tree.Stmt.TheOpen.{Stmt-F}
-use Rattle.bq_parse_grammar.specs.declared.tree.AssignTarget.{AssignTarget, out-AssignTarget}
+use Rattle.bq_parse_grammar.specs.declared.tree.TargetExpr.{TargetExpr, out-TargetExpr}
 use Rattle.bq_resolve_scope.specs.Names.{Name, TargetLayer, max_layers, has, place_among, with_name, with_each, with_target_by, with_target_to, with_target, with_small_by, with_small, with_branch, with_stmt_by, with_stmt_to, with_stmt, with_parameter, function_names}
 
 abbrev pub Stays : List Name → List Name → Type 0
@@ -59,16 +59,16 @@ each_stays add one names (x ∷ xs) name i e = each_stays add one (add names x) 
 
 -- ---- targets and statements
 
-target_by_stays : (inner : List Name → AssignTarget → List Name) → Adds inner → (names : List Name) (o : TargetLayer) → Stays names (with_target_by inner names o)
-target_by_stays inner one names (AssignTarget-F.Target::Name n) = name_stays names n.name
-target_by_stays inner one names (AssignTarget-F.Target::Index x i) = λ name k e. e
-target_by_stays inner one names (AssignTarget-F.Target::Tuple ts) = each_stays inner one names ts
-target_by_stays inner one names (AssignTarget-F.Target::List ts) = each_stays inner one names ts
+target_by_stays : (inner : List Name → TargetExpr → List Name) → Adds inner → (names : List Name) (o : TargetLayer) → Stays names (with_target_by inner names o)
+target_by_stays inner one names (TargetExpr-F.Target::Name n) = name_stays names n.name
+target_by_stays inner one names (TargetExpr-F.Target::Index x i) = λ name k e. e
+target_by_stays inner one names (TargetExpr-F.Target::Tuple ts) = each_stays inner one names ts
+target_by_stays inner one names (TargetExpr-F.Target::List ts) = each_stays inner one names ts
 
 target_to_stays : (depth : ℕ) → Adds (with_target_to depth)
 unfolding with_target_to
 target_to_stays zero names t = λ name k e. e
-target_to_stays (suc depth) names t = target_by_stays (with_target_to depth) (target_to_stays depth) names (out-AssignTarget t)
+target_to_stays (suc depth) names t = target_by_stays (with_target_to depth) (target_to_stays depth) names (out-TargetExpr t)
 
 target_stays : Adds with_target
 unfolding with_target

@@ -5,7 +5,7 @@ use Rattle.bq_parse_grammar.specs.declared.tree.Argument.TheOpen.{Clause-F}
 use Rattle.bq_parse_grammar.specs.declared.tree.Clause.{Clause, out-Clause}
 use Rattle.bq_parse_grammar.specs.declared.tree.Expr.{Expr}
 use Rattle.bq_parse_grammar.specs.declared.tree.Pair.{Pair, out-Pair}
-use Rattle.bq_parse_grammar.specs.declared.tree.AssignTarget.{AssignTarget}
+use Rattle.bq_parse_grammar.specs.declared.tree.TargetExpr.{TargetExpr}
 use Rattle.bq_resolve_scope.specs.Names.{ClauseLayer, comprehension_names}
 use Rattle.bq_value.specs.Contents.{Contents}
 use Rattle.bq_value.specs.Datum.{Datum}
@@ -30,15 +30,15 @@ module _ {S : Type 0} (m : Primitives S) (eval : Eval S) where
 
   -- ---- clauses: `inner` is what the clauses after this one do, and at last the element or pair
 
-  unfoldable pub turn : AssignTarget → Turn S → Datum → Turn S
+  unfoldable pub turn : TargetExpr → Turn S → Datum → Turn S
   turn t inner v env c = m.step 1 >>= λ _. bind_variables m t v env >>= λ new. inner new c
 
-  unfoldable pub turns : AssignTarget → Turn S → List Datum → Turn S
+  unfoldable pub turns : TargetExpr → Turn S → List Datum → Turn S
   turns t inner [] env c = pure (c, env)
   turns t inner (v ∷ vs) env c = turn t inner v env c >>= λ r. turns t inner vs r.1 r.0
 
   -- `for t in x`, where `x` is evaluated in the environment `there`
-  unfoldable pub for_clause : AssignTarget → Expr → Env → Turn S → Turn S
+  unfoldable pub for_clause : TargetExpr → Expr → Env → Turn S → Turn S
   for_clause t x there inner env c = eval x there >>= λ v. m.begin_walk v >>= λ vs. turns t inner vs env c >>= λ r. change m (m.end_walk v) >>= λ _. pure r
 
   -- `if x`

@@ -9,7 +9,7 @@ use Rattle.bq_parse_grammar.specs.declared.tree.SmallKind.TheVariants as small
 use Rattle.bq_parse_grammar.specs.declared.tree.SmallStmt.{SmallStmt}
 use Rattle.bq_parse_grammar.specs.declared.tree.Stmt.{Stmt, out-Stmt}
 use Rattle.bq_parse_grammar.specs.declared.tree.Stmt.TheOpen.{Stmt-F}
-use Rattle.bq_parse_grammar.specs.declared.tree.AssignTarget.{AssignTarget}
+use Rattle.bq_parse_grammar.specs.declared.tree.TargetExpr.{TargetExpr}
 use Rattle.bq_resolve_scope.specs.Names.{max_layers}
 use Rattle.bq_value.specs.Datum.{Datum, none}
 use Rattle.bq_builtin_machine.specs.Action.{Action, ◌>>=◌, pure}
@@ -46,7 +46,7 @@ module _ {S : Type 0} (m : Primitives S) (eval : Eval S) where
   expr_stmt x env = eval x env >>= λ _. pure (next, env)
 
   -- the right side first
-  unfoldable pub assign_stmt : AssignTarget → Expr → Exec S
+  unfoldable pub assign_stmt : TargetExpr → Expr → Exec S
   assign_stmt t x env = eval x env >>= λ v. assign m eval t v env >>= λ new. pure (next, new)
 
   -- without a value the answer is `None`
@@ -87,15 +87,15 @@ module _ {S : Type 0} (m : Primitives S) (eval : Eval S) where
     branches (b ∷ bs) otherwise env =
         eval (out-Branch b).condition env >>= λ t. λ s. (if m.truth t s then block (out-Branch b).block env else branches bs otherwise env) s
 
-    unfoldable pub turn : AssignTarget → List Stmt → Datum → Exec S
+    unfoldable pub turn : TargetExpr → List Stmt → Datum → Exec S
     turn t body v env = m.step 1 >>= λ _. bind_variables m t v env >>= λ new. block body new
 
-    unfoldable pub turns : AssignTarget → List Stmt → List Datum → Exec S
+    unfoldable pub turns : TargetExpr → List Stmt → List Datum → Exec S
     turns t body [] env = pure (next, env)
     turns t body (v ∷ vs) env = turn t body v env >>= λ r. turn_on (turns t body vs) r
 
     -- `for t in x`: over the elements that there are when it begins
-    unfoldable pub for_loop : AssignTarget → Expr → List Stmt → Exec S
+    unfoldable pub for_loop : TargetExpr → Expr → List Stmt → Exec S
     for_loop t x body env = eval x env >>= λ v. m.begin_walk v >>= λ vs. turns t body vs env >>= λ r. change m (m.end_walk v) >>= λ _. pure r
 
     -- a `def` in a function is left out

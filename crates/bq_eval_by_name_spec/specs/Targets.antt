@@ -2,10 +2,10 @@
 -- right, and then its parts are bound from left to right.
 use Rattle.std.specs.Prelude.{ℕ, zero, suc, List, [], ◌∷◌, ◌++◌, length, Option, Some, None}
 use Rattle.bq_base.specs.declared.fault.FaultKind.TheVariants as f
-use Rattle.bq_parse_grammar.specs.declared.tree.Argument.TheOpen.{AssignTarget-F}
+use Rattle.bq_parse_grammar.specs.declared.tree.Argument.TheOpen.{TargetExpr-F}
 use Rattle.bq_parse_grammar.specs.declared.tree.Expr.{Expr}
 use Rattle.bq_parse_grammar.specs.declared.tree.Operator.{Operator}
-use Rattle.bq_parse_grammar.specs.declared.tree.AssignTarget.{AssignTarget, out-AssignTarget}
+use Rattle.bq_parse_grammar.specs.declared.tree.TargetExpr.{TargetExpr, out-TargetExpr}
 use Rattle.bq_resolve_scope.specs.Names.{Name, TargetLayer, max_layers}
 use Rattle.bq_value.specs.Datum.{Datum}
 use Rattle.bq_builtin_machine.specs.Action.{Action, ◌>>=◌, pure}
@@ -27,30 +27,30 @@ module _ {S : Type 0} (m : Primitives S) where
   bind_place v env (p ∷ ps) = m.set_index p.0 p.1 v >>= λ _. pure (env, ps)
 
   -- each of these gets one of the elements
-  unfoldable pub bind_each : (AssignTarget → Binds) → List AssignTarget → List Datum → Env → Places → Action S (Env × Places)
+  unfoldable pub bind_each : (TargetExpr → Binds) → List TargetExpr → List Datum → Env → Places → Action S (Env × Places)
   bind_each inner (t ∷ ts) (v ∷ vs) env ps = inner t v env ps >>= λ r. bind_each inner ts vs r.0 r.1
   bind_each inner _ _ env ps = pure (env, ps)
 
   -- Unpacking: an iterable of just as many elements (F57).
-  unfoldable pub unpack : (AssignTarget → Binds) → List AssignTarget → Binds
+  unfoldable pub unpack : (TargetExpr → Binds) → List TargetExpr → Binds
   unpack inner ts v env ps = m.parts (length ts) v >>= λ vs. bind_each inner ts vs env ps
 
-  abbrev pub bind_by : (AssignTarget → Binds) → TargetLayer → Binds
-  bind_by inner (AssignTarget-F.Target::Name n) v env ps = pure (bind env n.name v, ps)
-  bind_by inner (AssignTarget-F.Target::Index x i) v env ps = bind_place v env ps
-  bind_by inner (AssignTarget-F.Target::Tuple ts) v env ps = unpack inner ts v env ps
-  bind_by inner (AssignTarget-F.Target::List ts) v env ps = unpack inner ts v env ps
+  abbrev pub bind_by : (TargetExpr → Binds) → TargetLayer → Binds
+  bind_by inner (TargetExpr-F.Target::Name n) v env ps = pure (bind env n.name v, ps)
+  bind_by inner (TargetExpr-F.Target::Index x i) v env ps = bind_place v env ps
+  bind_by inner (TargetExpr-F.Target::Tuple ts) v env ps = unpack inner ts v env ps
+  bind_by inner (TargetExpr-F.Target::List ts) v env ps = unpack inner ts v env ps
 
-  unfoldable pub bind_target : (AssignTarget → Binds) → AssignTarget → Binds
-  bind_target inner t v env ps = bind_by inner (out-AssignTarget t) v env ps
+  unfoldable pub bind_target : (TargetExpr → Binds) → TargetExpr → Binds
+  bind_target inner t v env ps = bind_by inner (out-TargetExpr t) v env ps
 
   -- of targets that are no deeper than so many layers; no tree that is parsed holds a deeper one
-  unfoldable pub bind_to : ℕ → AssignTarget → Binds
+  unfoldable pub bind_to : ℕ → TargetExpr → Binds
   bind_to zero t v env ps = stop m f.Nesting
   bind_to (suc depth) t v env ps = bind_target (bind_to depth) t v env ps
 
   -- a `for` binds its variables
-  unfoldable pub bind_variables : AssignTarget → Datum → Env → Action S Env
+  unfoldable pub bind_variables : TargetExpr → Datum → Env → Action S Env
   bind_variables t v env = bind_to max_layers t v env [] >>= λ r. pure r.0
 
   -- What a name that is assigned holds. Its own block holds the name, so nothing round that block is read: unbound there, it is F49.
@@ -64,27 +64,27 @@ module _ {S : Type 0} (m : Primitives S) where
     unfoldable pub place : Expr → Expr → Env → Places → Action S Places
     place x i env ps = eval x env >>= λ v. eval i env >>= λ w. pure (ps ++ (v, w) ∷ [])
 
-    unfoldable pub places_each : (AssignTarget → Env → Places → Action S Places) → List AssignTarget → Env → Places → Action S Places
+    unfoldable pub places_each : (TargetExpr → Env → Places → Action S Places) → List TargetExpr → Env → Places → Action S Places
     places_each inner [] env ps = pure ps
     places_each inner (t ∷ ts) env ps = inner t env ps >>= λ qs. places_each inner ts env qs
 
-    abbrev pub places_by : (AssignTarget → Env → Places → Action S Places) → TargetLayer → Env → Places → Action S Places
-    places_by inner (AssignTarget-F.Target::Name n) env ps = pure ps
-    places_by inner (AssignTarget-F.Target::Index x i) env ps = place x i env ps
-    places_by inner (AssignTarget-F.Target::Tuple ts) env ps = places_each inner ts env ps
-    places_by inner (AssignTarget-F.Target::List ts) env ps = places_each inner ts env ps
+    abbrev pub places_by : (TargetExpr → Env → Places → Action S Places) → TargetLayer → Env → Places → Action S Places
+    places_by inner (TargetExpr-F.Target::Name n) env ps = pure ps
+    places_by inner (TargetExpr-F.Target::Index x i) env ps = place x i env ps
+    places_by inner (TargetExpr-F.Target::Tuple ts) env ps = places_each inner ts env ps
+    places_by inner (TargetExpr-F.Target::List ts) env ps = places_each inner ts env ps
 
-    unfoldable pub places_of : (AssignTarget → Env → Places → Action S Places) → AssignTarget → Env → Places → Action S Places
-    places_of inner t env ps = places_by inner (out-AssignTarget t) env ps
+    unfoldable pub places_of : (TargetExpr → Env → Places → Action S Places) → TargetExpr → Env → Places → Action S Places
+    places_of inner t env ps = places_by inner (out-TargetExpr t) env ps
 
     -- the places so far, and those of a target
-    unfoldable pub places_to : ℕ → AssignTarget → Env → Places → Action S Places
+    unfoldable pub places_to : ℕ → TargetExpr → Env → Places → Action S Places
     places_to zero t env ps = stop m f.Nesting
     places_to (suc depth) t env ps = places_of (places_to depth) t env ps
 
     -- ---- assignments
 
-    unfoldable pub assign : AssignTarget → Datum → Env → Action S Env
+    unfoldable pub assign : TargetExpr → Datum → Env → Action S Env
     assign t v env = places_to max_layers t env [] >>= λ ps. bind_to max_layers t v env ps >>= λ r. pure r.0
 
     -- `name op= x`
@@ -98,9 +98,9 @@ module _ {S : Type 0} (m : Primitives S) where
 
     -- the grammar has no augmented assignment to a tuple or list
     abbrev pub augment_by : TargetLayer → Operator → Expr → Env → Action S Env
-    augment_by (AssignTarget-F.Target::Name n) op x env = augment_name n.name op x env
-    augment_by (AssignTarget-F.Target::Index y i) op x env = augment_index y i op x env
+    augment_by (TargetExpr-F.Target::Name n) op x env = augment_name n.name op x env
+    augment_by (TargetExpr-F.Target::Index y i) op x env = augment_index y i op x env
     augment_by _ op x env = stop m f.Syntax
 
-    unfoldable pub augment : AssignTarget → Operator → Expr → Env → Action S Env
-    augment t op x env = augment_by (out-AssignTarget t) op x env
+    unfoldable pub augment : TargetExpr → Operator → Expr → Env → Action S Env
+    augment t op x env = augment_by (out-TargetExpr t) op x env

@@ -10,13 +10,13 @@ use Rattle.bq_parse_grammar.specs.declared.tree.Pair.{Pair}
 use Rattle.bq_parse_grammar.specs.declared.tree.Stmt.{Stmt}
 use Rattle.bq_parse_grammar.specs.declared.tree.Stmt.TheOpen.{Stmt-F}
 use Rattle.bq_parse_grammar.specs.declared.tree.Suffix.{Suffix}
-use Rattle.bq_parse_grammar.specs.declared.tree.AssignTarget.{AssignTarget}
+use Rattle.bq_parse_grammar.specs.declared.tree.TargetExpr.{TargetExpr}
 use Rattle.bq_value.specs.Datum.{Datum}
 use Rattle.bq_builtin_machine.specs.Action.{Action}
 use Rattle.bq_eval_by_name_spec.specs.Names.{Env}
 
 abbrev pub ArgumentLayer : Type 0
-ArgumentLayer = Argument-F Argument Clause Expr Suffix AssignTarget Choice Operation Pair
+ArgumentLayer = Argument-F Argument Clause Expr Suffix TargetExpr Choice Operation Pair
 
 abbrev pub StmtLayer : Type 0
 StmtLayer = Stmt-F Stmt Branch

@@ -13,7 +13,7 @@ use Rattle.bq_parse_grammar.specs.declared.tree.SmallKind.TheVariants as small
 use Rattle.bq_parse_grammar.specs.declared.tree.SmallStmt.{SmallStmt}
 use Rattle.bq_parse_grammar.specs.declared.tree.Stmt.{Stmt, out-Stmt}
 use Rattle.bq_parse_grammar.specs.declared.tree.Stmt.TheOpen.{Stmt-F}
-use Rattle.bq_parse_grammar.specs.declared.tree.AssignTarget.{AssignTarget}
+use Rattle.bq_parse_grammar.specs.declared.tree.TargetExpr.{TargetExpr}
 use Rattle.bq_resolve_scope.specs.declared.code.Code.{Code}
 use Rattle.bq_resolve_scope.specs.declared.code.CodeBranch.{CodeBranch, roll-CodeBranch, out-roll-CodeBranch}
 use Rattle.bq_resolve_scope.specs.declared.code.CodeSmall.{CodeSmall}
@@ -102,7 +102,7 @@ module _ {S : Type 0} (m : Primitives S) (file : FileParts) (R : Env → Frame �
     abbrev Kept : Name → Type 0
     Kept name = IsKept file blocks R name
 
-    place_walks : (t : AssignTarget) → ((name : Name) → TargetBinds name t → Kept name) → Walks {A = CodeTarget} blocks (λ u. PlaceFits u → TargetAgree m R E F max_layers t u) (scope.target file blocks t)
+    place_walks : (t : TargetExpr) → ((name : Name) → TargetBinds name t → Kept name) → Walks {A = CodeTarget} blocks (λ u. PlaceFits u → TargetAgree m R E F max_layers t u) (scope.target file blocks t)
     unfolding scope.target scope.expr TargetBinds
     place_walks t kept = target_walks m file blocks R E F (expr_to max_layers file) visits max_layers t kept
 

@@ -9,7 +9,7 @@ use Rattle.bq_parse_grammar.specs.declared.tree.SmallKind.TheVariants as small
 use Rattle.bq_parse_grammar.specs.declared.tree.SmallStmt.{SmallStmt}
 use Rattle.bq_parse_grammar.specs.declared.tree.Stmt.{Stmt}
 use Rattle.bq_parse_grammar.specs.declared.tree.Stmt.TheOpen.{Stmt-F}
-use Rattle.bq_parse_grammar.specs.declared.tree.AssignTarget.{AssignTarget}
+use Rattle.bq_parse_grammar.specs.declared.tree.TargetExpr.{TargetExpr}
 use Rattle.bq_resolve_scope.specs.declared.code.Code.{Code}
 use Rattle.bq_resolve_scope.specs.declared.code.CodeBranch.{CodeBranch, out-CodeBranch}
 use Rattle.bq_resolve_scope.specs.declared.code.CodeSmall.{CodeSmall}
@@ -80,14 +80,14 @@ module _ {S : Type 0} (m : Primitives S) (R : Env → Frame → Type 0) where
     unfolding names.steps_of slots.steps_of names.expr_stmt slots.expr_stmt
     expr_agrees x y h = (refl, λ env frame r s. then_same (Ended R) _ _ _ _ (h env frame r s) (λ v t. (refl, (refl, r))))
 
-    pub assign_agrees : (t : AssignTarget) (u : CodeTarget) (x : Expr) (y : Code) → TargetAgree m R E F max_layers t u → ExprAgree R E F x y → KindAgree (small.Assign t x) (c.Assign u y)
+    pub assign_agrees : (t : TargetExpr) (u : CodeTarget) (x : Expr) (y : Code) → TargetAgree m R E F max_layers t u → ExprAgree R E F x y → KindAgree (small.Assign t x) (c.Assign u y)
     unfolding names.steps_of slots.steps_of names.assign_stmt slots.assign_stmt
     assign_agrees t u x y h k = (
       refl,
       λ env frame r s. then_same (Ended R) _ _ _ _ (k env frame r s) (λ v w. then_alike R (Ended R) _ _ _ _ (assign_alike m R E F t u h v env frame r w) (λ a b q z. (refl, (refl, z)))),
     )
 
-    pub augment_agrees : (t : AssignTarget) (u : CodeTarget) (o : Operator) (x : Expr) (y : Code) → TargetAgree m R E F max_layers t u → ExprAgree R E F x y → KindAgree (small.Augment t o x) (c.Augment u o y)
+    pub augment_agrees : (t : TargetExpr) (u : CodeTarget) (o : Operator) (x : Expr) (y : Code) → TargetAgree m R E F max_layers t u → ExprAgree R E F x y → KindAgree (small.Augment t o x) (c.Augment u o y)
     unfolding names.steps_of slots.steps_of
     augment_agrees t u o x y h k = (refl, λ env frame r s. then_alike R (Ended R) _ _ _ _ (h.augment o x y k env frame r s) (λ a b q z. (refl, (refl, z))))
 
@@ -152,7 +152,7 @@ module _ {S : Type 0} (m : Primitives S) (R : Env → Frame → Type 0) where
       branches_alike [] (d ∷ ds) h xs zs k env frame r s = absurd h
       branches_alike (b ∷ bs) [] h xs zs k env frame r s = absurd h
 
-      module _ (t : AssignTarget) (u : CodeTarget) (h : TargetAgree m R E F max_layers t u) (xs : List Stmt) (zs : List CodeStmt) (k : Pairwise StmtAlike xs zs) where
+      module _ (t : TargetExpr) (u : CodeTarget) (h : TargetAgree m R E F max_layers t u) (xs : List Stmt) (zs : List CodeStmt) (k : Pairwise StmtAlike xs zs) where
         turn_alike : (v : Datum) → RunsAlike (names.turn m E run t xs v) (slots.turn m F other u zs v)
         unfolding names.turn slots.turn
         turn_alike v env frame r s =
@@ -182,6 +182,6 @@ module _ {S : Type 0} (m : Primitives S) (R : Env → Frame → Type 0) where
           → LayerAlike (Stmt-F.If bs xs) (CodeStmt-F.If ds zs)
       if_layer bs ds h xs zs k env frame r s = then_both (Ended R) (m.step 1 s) _ _ (λ _ w. branches_alike bs ds h xs zs k env frame r w)
 
-      pub for_layer : (t : AssignTarget) (u : CodeTarget) (x : Expr) (y : Code) (xs : List Stmt) (zs : List CodeStmt) → TargetAgree m R E F max_layers t u → ExprAgree R E F x y → Pairwise StmtAlike xs zs
+      pub for_layer : (t : TargetExpr) (u : CodeTarget) (x : Expr) (y : Code) (xs : List Stmt) (zs : List CodeStmt) → TargetAgree m R E F max_layers t u → ExprAgree R E F x y → Pairwise StmtAlike xs zs
           → LayerAlike (Stmt-F.For t x xs) (CodeStmt-F.For u y zs)
       for_layer t u x y xs zs h l k env frame r s = then_both (Ended R) (m.step 1 s) _ _ (λ _ w. for_alike t u h xs zs k x y l env frame r w)

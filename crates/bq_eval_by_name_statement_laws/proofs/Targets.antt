@@ -1,10 +1,10 @@
 -- What is assigned to does the same by names and by slots, where binding a name keeps what an environment and a frame have in common.
 use Rattle.std.proofs.Common.{◌≡◌, ℕ, suc, List, [], ◌∷◌, refl, subst}
-use Rattle.bq_parse_grammar.specs.declared.tree.Argument.TheOpen.{AssignTarget-F}
+use Rattle.bq_parse_grammar.specs.declared.tree.Argument.TheOpen.{TargetExpr-F}
 use Rattle.bq_parse_grammar.specs.declared.tree.Expr.{Expr}
 use Rattle.bq_parse_grammar.specs.declared.tree.Identifier.{Identifier}
 use Rattle.bq_parse_grammar.specs.declared.tree.Operator.{Operator}
-use Rattle.bq_parse_grammar.specs.declared.tree.AssignTarget.{AssignTarget, out-AssignTarget}
+use Rattle.bq_parse_grammar.specs.declared.tree.TargetExpr.{TargetExpr, out-TargetExpr}
 use Rattle.bq_resolve_scope.specs.declared.code.Code.{Code}
 use Rattle.bq_resolve_scope.specs.declared.code.Code.TheOpen.{CodeTarget-F}
 use Rattle.bq_resolve_scope.specs.declared.code.CodeTarget.{CodeTarget, out-CodeTarget}
@@ -30,17 +30,17 @@ module _ {S : Type 0} (m : Primitives S) (R : Env → Frame → Type 0) (E : Eva
 
   -- ---- a target, and what it resolves to
 
-  abbrev pub BindAgree : ℕ → AssignTarget → CodeTarget → Type 0
+  abbrev pub BindAgree : ℕ → TargetExpr → CodeTarget → Type 0
   BindAgree n t u = (v : Datum) (env : Env) (frame : Frame) (ps : Places) → R env frame → (s : S) → Alike Bound (names.bind_to m n t v env ps s) (slots.bind_to m n u v frame ps s)
 
-  abbrev pub PlacesAgree : ℕ → AssignTarget → CodeTarget → Type 0
+  abbrev pub PlacesAgree : ℕ → TargetExpr → CodeTarget → Type 0
   PlacesAgree n t u = (env : Env) (frame : Frame) (ps : Places) → R env frame → (s : S) → Alike Same (names.places_to m E n t env ps s) (slots.places_to m F n u frame ps s)
 
-  abbrev pub AugmentAgree : AssignTarget → CodeTarget → Type 0
+  abbrev pub AugmentAgree : TargetExpr → CodeTarget → Type 0
   AugmentAgree t u =
       (o : Operator) (x : Expr) (y : Code) → ExprAgree R E F x y → (env : Env) (frame : Frame) → R env frame → (s : S) → Alike R (names.augment m E t o x env s) (slots.augment m F u o y frame s)
 
-  pub record TargetAgree (n : ℕ) (t : AssignTarget) (u : CodeTarget) : Type 0 where
+  pub record TargetAgree (n : ℕ) (t : TargetExpr) (u : CodeTarget) : Type 0 where
     pub binding : BindAgree n t u
     pub places : PlacesAgree n t u
     pub augment : AugmentAgree t u
@@ -64,7 +64,7 @@ module _ {S : Type 0} (m : Primitives S) (R : Env → Frame → Type 0) (E : Eva
     pub places : PlacesLayer n o p
     pub augment : AugmentLayer o p
 
-  pub layer_agrees : (n : ℕ) (t : AssignTarget) (u : CodeTarget) → LayerAgree n (out-AssignTarget t) (out-CodeTarget u) → TargetAgree (suc n) t u
+  pub layer_agrees : (n : ℕ) (t : TargetExpr) (u : CodeTarget) → LayerAgree n (out-TargetExpr t) (out-CodeTarget u) → TargetAgree (suc n) t u
   unfolding names.bind_to names.bind_target names.places_to names.places_of names.augment slots.bind_to slots.bind_target slots.places_to slots.places_of slots.augment
   layer_agrees n t u h = record { binding = h.binding; places = h.places; augment = h.augment }
 
@@ -78,11 +78,11 @@ module _ {S : Type 0} (m : Primitives S) (R : Env → Frame → Type 0) (E : Eva
       (then_both R (slots.bound m (frame slot) s) _ _
       (λ old t. then_same R _ _ _ _ (agree env frame h t) (λ v w. then_pure R (m.augment a old v w) (λ new. bind env i.name new) (λ new. fill frame slot new) (λ new. (keeps env frame h).1 new))))
 
-  pub local_agrees : (n : ℕ) (i : Identifier) (slot : ℕ) → Keeps R i.name slot → LayerAgree n (AssignTarget-F.Target::Name i) (CodeTarget-F.Local slot)
+  pub local_agrees : (n : ℕ) (i : Identifier) (slot : ℕ) → Keeps R i.name slot → LayerAgree n (TargetExpr-F.Target::Name i) (CodeTarget-F.Local slot)
   local_agrees n i slot keeps =
       record { binding = λ v env frame ps h s. (refl, ((keeps env frame h).1 v, refl)); places = λ env frame ps h s. (refl, refl); augment = name_augment i slot keeps }
 
-  pub global_agrees : (n : ℕ) (i : Identifier) (slot : ℕ) → Keeps R i.name slot → LayerAgree n (AssignTarget-F.Target::Name i) (CodeTarget-F.Global slot)
+  pub global_agrees : (n : ℕ) (i : Identifier) (slot : ℕ) → Keeps R i.name slot → LayerAgree n (TargetExpr-F.Target::Name i) (CodeTarget-F.Global slot)
   global_agrees n i slot keeps =
       record { binding = λ v env frame ps h s. (refl, ((keeps env frame h).1 v, refl)); places = λ env frame ps h s. (refl, refl); augment = name_augment i slot keeps }
 
@@ -106,12 +106,12 @@ module _ {S : Type 0} (m : Primitives S) (R : Env → Frame → Type 0) (E : Eva
         (λ k r. then_both R (m.index u k r) _ _ (λ old q. then_same R _ _ _ _ (agree env frame h q)
         (λ v p. then_both R (m.augment a old v p) _ _ (λ new o. then_pure R (m.set_index u k new o) (λ _. env) (λ _. frame) (λ _. h))))))
 
-    pub index_agrees : (n : ℕ) → LayerAgree n (AssignTarget-F.Target::Index x i) (CodeTarget-F.CodeTarget::Index y j)
+    pub index_agrees : (n : ℕ) → LayerAgree n (TargetExpr-F.Target::Index x i) (CodeTarget-F.CodeTarget::Index y j)
     index_agrees n = record { binding = place_bind; places = place_alike; augment = index_augment }
 
   -- ---- `(t, ..)` and `[t, ..]`
 
-  each_bind : (n : ℕ) (ts : List AssignTarget) (us : List CodeTarget) → Pairwise (TargetAgree n) ts us → (vs : List Datum) (env : Env) (frame : Frame) (ps : Places) → R env frame → (s : S)
+  each_bind : (n : ℕ) (ts : List TargetExpr) (us : List CodeTarget) → Pairwise (TargetAgree n) ts us → (vs : List Datum) (env : Env) (frame : Frame) (ps : Places) → R env frame → (s : S)
       → Alike Bound (names.bind_each m (names.bind_to m n) ts vs env ps s) (slots.bind_each m (slots.bind_to m n) us vs frame ps s)
   unfolding names.bind_each slots.bind_each
   each_bind n [] [] h vs env frame ps r s = (refl, (r, refl))
@@ -122,12 +122,12 @@ module _ {S : Type 0} (m : Primitives S) (R : Env → Frame → Type 0) (E : Eva
   each_bind n [] (u ∷ us) h vs env frame ps r s = absurd h
   each_bind n (t ∷ ts) [] h vs env frame ps r s = absurd h
 
-  unpack_bind : (n : ℕ) (ts : List AssignTarget) (us : List CodeTarget) → Pairwise (TargetAgree n) ts us → (v : Datum) (env : Env) (frame : Frame) (ps : Places) → R env frame → (s : S)
+  unpack_bind : (n : ℕ) (ts : List TargetExpr) (us : List CodeTarget) → Pairwise (TargetAgree n) ts us → (v : Datum) (env : Env) (frame : Frame) (ps : Places) → R env frame → (s : S)
       → Alike Bound (names.unpack m (names.bind_to m n) ts v env ps s) (slots.unpack m (slots.bind_to m n) us v frame ps s)
   unfolding names.unpack slots.unpack
   unpack_bind n ts us h v env frame ps r s = rw (same_length (TargetAgree n) ts us h) (then_both Bound _ _ _ (λ vs t. each_bind n ts us h vs env frame ps r t))
 
-  each_places : (n : ℕ) (ts : List AssignTarget) (us : List CodeTarget) → Pairwise (TargetAgree n) ts us → (env : Env) (frame : Frame) (ps : Places) → R env frame → (s : S)
+  each_places : (n : ℕ) (ts : List TargetExpr) (us : List CodeTarget) → Pairwise (TargetAgree n) ts us → (env : Env) (frame : Frame) (ps : Places) → R env frame → (s : S)
       → Alike Same (names.places_each m E (names.places_to m E n) ts env ps s) (slots.places_each m F (slots.places_to m F n) us frame ps s)
   unfolding names.places_each slots.places_each
   each_places n [] [] h env frame ps r s = (refl, refl)
@@ -135,20 +135,20 @@ module _ {S : Type 0} (m : Primitives S) (R : Env → Frame → Type 0) (E : Eva
   each_places n [] (u ∷ us) h env frame ps r s = absurd h
   each_places n (t ∷ ts) [] h env frame ps r s = absurd h
 
-  pub tuple_agrees : (n : ℕ) (ts : List AssignTarget) (us : List CodeTarget) → Pairwise (TargetAgree n) ts us → LayerAgree n (AssignTarget-F.Target::Tuple ts) (CodeTarget-F.CodeTarget::Tuple us)
+  pub tuple_agrees : (n : ℕ) (ts : List TargetExpr) (us : List CodeTarget) → Pairwise (TargetAgree n) ts us → LayerAgree n (TargetExpr-F.Target::Tuple ts) (CodeTarget-F.CodeTarget::Tuple us)
   tuple_agrees n ts us h = record { binding = unpack_bind n ts us h; places = each_places n ts us h; augment = λ a x y agree env frame r s. refl }
 
-  pub list_agrees : (n : ℕ) (ts : List AssignTarget) (us : List CodeTarget) → Pairwise (TargetAgree n) ts us → LayerAgree n (AssignTarget-F.Target::List ts) (CodeTarget-F.CodeTarget::List us)
+  pub list_agrees : (n : ℕ) (ts : List TargetExpr) (us : List CodeTarget) → Pairwise (TargetAgree n) ts us → LayerAgree n (TargetExpr-F.Target::List ts) (CodeTarget-F.CodeTarget::List us)
   list_agrees n ts us h = record { binding = unpack_bind n ts us h; places = each_places n ts us h; augment = λ a x y agree env frame r s. refl }
 
   -- ---- assignments
 
-  pub assign_alike : (t : AssignTarget) (u : CodeTarget) → TargetAgree max_layers t u → (v : Datum) (env : Env) (frame : Frame) → R env frame → (s : S) → Alike R (names.assign m E t v env s) (slots.assign m F u v frame s)
+  pub assign_alike : (t : TargetExpr) (u : CodeTarget) → TargetAgree max_layers t u → (v : Datum) (env : Env) (frame : Frame) → R env frame → (s : S) → Alike R (names.assign m E t v env s) (slots.assign m F u v frame s)
   unfolding names.assign slots.assign
   assign_alike t u h v env frame r s =
       then_same R _ _ _ _ (h.places env frame [] r s) (λ ps w. then_alike Bound R _ _ _ _ (h.binding v env frame ps r w) (λ a b q k. (refl, k.0)))
 
-  pub variables_alike : (t : AssignTarget) (u : CodeTarget) → TargetAgree max_layers t u → (v : Datum) (env : Env) (frame : Frame) → R env frame → (s : S)
+  pub variables_alike : (t : TargetExpr) (u : CodeTarget) → TargetAgree max_layers t u → (v : Datum) (env : Env) (frame : Frame) → R env frame → (s : S)
       → Alike R (names.bind_variables m t v env s) (slots.bind_variables m u v frame s)
   unfolding names.bind_variables slots.bind_variables
   variables_alike t u h v env frame r s = then_alike Bound R _ _ _ _ (h.binding v env frame [] r s) (λ a b w k. (refl, k.0))

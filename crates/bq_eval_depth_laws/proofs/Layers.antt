@@ -1,7 +1,7 @@
 -- How many layers a tree has at most when it is resolved: as many as it is deep, but that a comprehension counts twice, since outside
 -- functions it is in a layer that gives it a frame of its own.
 use Rattle.std.specs.Prelude.{ℕ, ◌+◌, max, map, Some}
-use Rattle.bq_parse_grammar.specs.declared.tree.Argument.TheFolds.{fold-Argument, fold-Choice, fold-Clause, fold-Expr, fold-Operation, fold-Pair, fold-Suffix, fold-AssignTarget}
+use Rattle.bq_parse_grammar.specs.declared.tree.Argument.TheFolds.{fold-Argument, fold-Choice, fold-Clause, fold-Expr, fold-Operation, fold-Pair, fold-Suffix, fold-TargetExpr}
 use Rattle.bq_parse_grammar.specs.declared.tree.Argument.TheOpen.{Expr-F}
 use Rattle.bq_parse_grammar.specs.declared.tree.Argument.{Argument}
 use Rattle.bq_parse_grammar.specs.declared.tree.Choice.{Choice}
@@ -10,7 +10,7 @@ use Rattle.bq_parse_grammar.specs.declared.tree.Expr.{Expr}
 use Rattle.bq_parse_grammar.specs.declared.tree.Operation.{Operation}
 use Rattle.bq_parse_grammar.specs.declared.tree.Pair.{Pair}
 use Rattle.bq_parse_grammar.specs.declared.tree.Suffix.{Suffix}
-use Rattle.bq_parse_grammar.specs.declared.tree.AssignTarget.{AssignTarget}
+use Rattle.bq_parse_grammar.specs.declared.tree.TargetExpr.{TargetExpr}
 use Rattle.bq_parse_grammar.specs.declared.tree.Branch.{Branch}
 use Rattle.bq_parse_grammar.specs.declared.tree.Parameter.{Parameter}
 use Rattle.bq_parse_grammar.specs.declared.tree.Parameter.TheVariants as p
@@ -30,8 +30,8 @@ layers_step x = expr_step x
 abbrev pub expr_layers : Expr → ℕ
 expr_layers = fold-Expr ℕ ℕ ℕ ℕ ℕ ℕ ℕ ℕ argument_step clause_step layers_step suffix_step target_step choice_step operation_step pair_step
 
-abbrev pub target_layers : AssignTarget → ℕ
-target_layers = fold-AssignTarget ℕ ℕ ℕ ℕ ℕ ℕ ℕ ℕ argument_step clause_step layers_step suffix_step target_step choice_step operation_step pair_step
+abbrev pub target_layers : TargetExpr → ℕ
+target_layers = fold-TargetExpr ℕ ℕ ℕ ℕ ℕ ℕ ℕ ℕ argument_step clause_step layers_step suffix_step target_step choice_step operation_step pair_step
 
 -- of what is no expression itself: those of the deepest in it
 

@@ -9,7 +9,7 @@ use Rattle.bq_parse_grammar.specs.declared.arguments.Allowed.{Allowed}
 use Rattle.bq_parse_grammar.specs.declared.arguments.ArgumentKind.{ArgumentKind}
 use Rattle.bq_parse_grammar.specs.declared.tree.Argument.{Argument}
 use Rattle.bq_parse_grammar.specs.declared.tree.Clause.{Clause}
-use Rattle.bq_parse_grammar.specs.declared.tree.AssignTarget.{AssignTarget}
+use Rattle.bq_parse_grammar.specs.declared.tree.TargetExpr.{TargetExpr}
 use Rattle.bq_parse_grammar.specs.Operators.{sign, negation}
 use Rattle.bq_parse_grammar.specs.Phrases as P
 use Rattle.bq_parse_grammar.specs.Phrases.{Phrase, none, Repeat, Listed, CommaThen}
@@ -23,7 +23,7 @@ use Rattle.bq_eval_depth_laws.proofs.Steps.{part_layers}
 
 -- ---- variables of a `for`
 
-module _ (n : ℕ) (X : Phrase AssignTarget) (inner : Within target_layers n X) where
+module _ (n : ℕ) (X : Phrase TargetExpr) (inner : Within target_layers n X) where
   var_within : Within target_layers (n + 1) (IsVarOver X)
   var_within ts rest y (G.name {t = t} f g) = let e : target_layers y ≡ 1 = ap target_layers g ∙ D.layers-target_Name (identifier t) in omega arith
   var_within ts rest y (G.parenthesized {c = c} {ts = us} f p g) = let a : target_layers y ≤ n = inner us (c ∷ rest) y p in omega arith
@@ -37,7 +37,7 @@ module _ (n : ℕ) (X : Phrase AssignTarget) (inner : Within target_layers n X) 
       let b : deepest (map target_layers (x ∷ xs)) ≤ n = listed_within target_layers n X inner _ us rest (x ∷ xs) q in
       omega arith
 
-  pub targets_within : (ts mid rest : List Lexeme) (x y : AssignTarget) (xs : List AssignTarget) → X ts mid x → Repeat (CommaThen X) mid rest xs → y ≡ targets_of x xs → target_layers y ≤ n + 1
+  pub targets_within : (ts mid rest : List Lexeme) (x y : TargetExpr) (xs : List TargetExpr) → X ts mid x → Repeat (CommaThen X) mid rest xs → y ≡ targets_of x xs → target_layers y ≤ n + 1
   targets_within ts mid rest x y [] p q f =
       let e : target_layers y ≡ target_layers x = ap target_layers f in
       let a : target_layers x ≤ n = inner ts mid x p in
@@ -60,7 +60,7 @@ vars_to_within depth = vars_within (depth + 1) (IsVar depth) (var_to_within dept
 
 -- ---- over what stands in brackets
 
-module _ (n : ℕ) (O T : Phrase Expr) (V : Phrase AssignTarget) (ors : Within expr_layers n O) (tests : Within expr_layers n T) (variables : Within target_layers n V) where
+module _ (n : ℕ) (O T : Phrase Expr) (V : Phrase TargetExpr) (ors : Within expr_layers n O) (tests : Within expr_layers n T) (variables : Within target_layers n V) where
   pair_within : Within pair_layers n (IsPair O T V)
   pair_within ts rest y (G.pair {c = c} {mid = mid} {x = x} {y = z} p f q g) =
       let e : pair_layers y ≡ max (expr_layers x) (expr_layers z) = ap pair_layers g ∙ D.layers-pair x z in

@@ -9,7 +9,7 @@ use Rattle.bq_parse_grammar.specs.declared.tree.Parameter.{Parameter}
 use Rattle.bq_parse_grammar.specs.declared.tree.SmallStmt.{SmallStmt}
 use Rattle.bq_parse_grammar.specs.declared.tree.Stmt.{Stmt}
 use Rattle.bq_parse_grammar.specs.declared.tree.Suffix.{Suffix}
-use Rattle.bq_parse_grammar.specs.declared.tree.AssignTarget.{AssignTarget}
+use Rattle.bq_parse_grammar.specs.declared.tree.TargetExpr.{TargetExpr}
 use Rattle.bq_parse_grammar.specs.Phrases.{Phrase, none, Repeat}
 use Rattle.bq_parse_grammar.specs.Grammar.{primary_of, IsTestTo, IsOperandTo, IsSuffixTo}
 use Rattle.bq_parse_grammar.specs.Statements as S
@@ -38,7 +38,7 @@ indexed_within depth ts rest y (S.indexed {o = o} c {mid = mid} {us = us} x xs i
     let b : expr_layers i ≤ 15 * depth + 1 = index_to_within depth us (c ∷ rest) i r in
     omega arith
 
-item_within : (depth n : ℕ) (X : Phrase AssignTarget) → 15 * depth + 4 ≤ n + 1 → Within target_layers n X → Within target_layers (n + 1) (IsItemOver depth X)
+item_within : (depth n : ℕ) (X : Phrase TargetExpr) → 15 * depth + 4 ≤ n + 1 → Within target_layers n X → Within target_layers (n + 1) (IsItemOver depth X)
 item_within depth n X wide inner ts rest y (S.name {t = t} f g) = let e : target_layers y ≡ 1 = ap target_layers g ∙ D.layers-target_Name (identifier t) in omega arith
 item_within depth n X wide inner ts rest y (S.index p) = let a : target_layers y ≤ 15 * depth + 4 = indexed_within depth ts rest y p in omega arith
 item_within depth n X wide inner ts rest y (S.parenthesized {c = c} {ts = us} f p g) = let a : target_layers y ≤ n = inner us (c ∷ rest) y p in omega arith

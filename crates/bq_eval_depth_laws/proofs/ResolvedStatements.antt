@@ -14,7 +14,7 @@ use Rattle.bq_parse_grammar.specs.declared.tree.SmallKind.TheVariants as small
 use Rattle.bq_parse_grammar.specs.declared.tree.SmallStmt.{SmallStmt}
 use Rattle.bq_parse_grammar.specs.declared.tree.Stmt.{Stmt, out-Stmt}
 use Rattle.bq_parse_grammar.specs.declared.tree.Stmt.TheOpen.{Stmt-F}
-use Rattle.bq_parse_grammar.specs.declared.tree.AssignTarget.{AssignTarget}
+use Rattle.bq_parse_grammar.specs.declared.tree.TargetExpr.{TargetExpr}
 use Rattle.bq_resolve_scope.specs.declared.code.CodeBranch.{roll-CodeBranch}
 use Rattle.bq_resolve_scope.specs.declared.code.CodeSmall.{CodeSmall}
 use Rattle.bq_resolve_scope.specs.declared.code.CodeSmall.TheVariants as c
@@ -46,7 +46,7 @@ module _ (file : FileParts) where
   unfolding expr
   an_expr_gives blocks x h = expr_gives max_layers file max_layers (omega arith) blocks x h
 
-  a_target_gives : (blocks : List BlockParts) (u : AssignTarget) → target_layers u ≤ max_layers → Gives (λ z. PlaceFits z) (target file blocks u)
+  a_target_gives : (blocks : List BlockParts) (u : TargetExpr) → target_layers u ≤ max_layers → Gives (λ z. PlaceFits z) (target file blocks u)
   unfolding target
   a_target_gives blocks u h = target_gives file (expr_to max_layers file) (expr_gives max_layers file) max_layers max_layers max_layers (omega arith) blocks u h (omega arith)
 
@@ -66,13 +66,13 @@ module _ (file : FileParts) where
 
   -- ---- small statements
 
-  assign_gives : (blocks : List BlockParts) (t : AssignTarget) (x : Expr) → target_layers t ≤ max_layers → expr_layers x ≤ max_layers → Gives (λ z. SmallFits z) (assign file blocks t x)
+  assign_gives : (blocks : List BlockParts) (t : TargetExpr) (x : Expr) → target_layers t ≤ max_layers → expr_layers x ≤ max_layers → Gives (λ z. SmallFits z) (assign file blocks t x)
   unfolding assign
   assign_gives blocks t x h k =
       gives_two (λ z. PlaceFits z) (λ z. ExprFits z) (λ z. SmallFits z) (target file blocks t) (expr file blocks x) (λ u y. c.Assign u y) (a_target_gives blocks t h) (an_expr_gives blocks x k)
       (λ u y p q. (p, q))
 
-  augment_gives : (blocks : List BlockParts) (t : AssignTarget) (o : Operator) (x : Expr) → target_layers t ≤ max_layers → expr_layers x ≤ max_layers → Gives (λ z. SmallFits z) (augment file blocks t o x)
+  augment_gives : (blocks : List BlockParts) (t : TargetExpr) (o : Operator) (x : Expr) → target_layers t ≤ max_layers → expr_layers x ≤ max_layers → Gives (λ z. SmallFits z) (augment file blocks t o x)
   unfolding augment
   augment_gives blocks t o x h k =
       gives_two (λ z. PlaceFits z) (λ z. ExprFits z) (λ z. SmallFits z) (target file blocks t) (expr file blocks x) (λ u y. c.Augment u o y) (a_target_gives blocks t h) (an_expr_gives blocks x k)
@@ -130,7 +130,7 @@ module _ (file : FileParts) where
       (gives_each (BranchFits (StmtFits m)) branch_layers m (branch file inner blocks) (branch_gives inner blocks m few inners) [] bs tt h) (gives_each (StmtFits m) stmt_layers m inner inners [] zs tt k)
       (λ xs ys p q. made_stmt m (s.If xs ys) (CodeStmt-F.If xs ys) (s.rolls-If xs ys) (p, q))
 
-  for_gives : (inner : Stmt → Visit CodeStmt) (blocks : List BlockParts) (m : ℕ) → m ≤ max_layers → ((x : Stmt) → stmt_layers x ≤ m → Gives (λ z. StmtFits m z) (inner x)) → (t : AssignTarget) (x : Expr) (body : List Stmt)
+  for_gives : (inner : Stmt → Visit CodeStmt) (blocks : List BlockParts) (m : ℕ) → m ≤ max_layers → ((x : Stmt) → stmt_layers x ≤ m → Gives (λ z. StmtFits m z) (inner x)) → (t : TargetExpr) (x : Expr) (body : List Stmt)
       → target_layers t ≤ m → expr_layers x ≤ m → deepest (map stmt_layers body) ≤ m → Gives (λ z. StmtFits (suc m) z) (for_stmt file inner blocks t x body)
   unfolding for_stmt
   for_gives inner blocks m few inners t x body h k l =

@@ -15,8 +15,8 @@ use Rattle.bq_parse_grammar.specs.declared.tree.Operation.{Operation, roll-Opera
 use Rattle.bq_parse_grammar.specs.declared.tree.Pair.{Pair, roll-Pair}
 use Rattle.bq_parse_grammar.specs.declared.tree.Suffix.{Suffix}
 use Rattle.bq_parse_grammar.specs.declared.tree.Suffix.TheVariants as s
-use Rattle.bq_parse_grammar.specs.declared.tree.AssignTarget.{AssignTarget}
-use Rattle.bq_parse_grammar.specs.declared.tree.AssignTarget.TheVariants as t
+use Rattle.bq_parse_grammar.specs.declared.tree.TargetExpr.{TargetExpr}
+use Rattle.bq_parse_grammar.specs.declared.tree.TargetExpr.TheVariants as t
 use Rattle.bq_parse_grammar.specs.declared.tree.Branch.{Branch, roll-Branch}
 use Rattle.bq_parse_grammar.specs.declared.tree.Parameter.{Parameter}
 use Rattle.bq_parse_grammar.specs.declared.tree.SmallStmt.{SmallStmt}
@@ -107,7 +107,7 @@ layers-Star x = search (rules, the_lemmas)
 pub layers-StarStar : (x : Expr) → argument_layers (a.StarStar x) ≡ expr_layers x
 layers-StarStar x = search (rules, the_lemmas)
 
-pub layers-For : (v : AssignTarget) (x : Expr) → clause_layers (cl.For v x) ≡ max (target_layers v) (expr_layers x)
+pub layers-For : (v : TargetExpr) (x : Expr) → clause_layers (cl.For v x) ≡ max (target_layers v) (expr_layers x)
 layers-For v x = search (rules, the_lemmas)
 
 pub layers-If : (x : Expr) → clause_layers (cl.If x) ≡ expr_layers x
@@ -119,10 +119,10 @@ layers-target_Name n = search (rules, the_lemmas)
 pub layers-target_Index : (x i : Expr) → target_layers (t.Index x i) ≡ max (expr_layers x) (expr_layers i) + 1
 layers-target_Index x i = search (rules, the_lemmas)
 
-pub layers-target_Tuple : (xs : List AssignTarget) → target_layers (t.Tuple xs) ≡ deepest (map target_layers xs) + 1
+pub layers-target_Tuple : (xs : List TargetExpr) → target_layers (t.Tuple xs) ≡ deepest (map target_layers xs) + 1
 layers-target_Tuple xs = search (rules, the_lemmas)
 
-pub layers-target_List : (xs : List AssignTarget) → target_layers (t.List xs) ≡ deepest (map target_layers xs) + 1
+pub layers-target_List : (xs : List TargetExpr) → target_layers (t.List xs) ≡ deepest (map target_layers xs) + 1
 layers-target_List xs = search (rules, the_lemmas)
 
 pub layers-pair : (x y : Expr) → pair_layers (roll-Pair (record { key = x; value = y })) ≡ max (expr_layers x) (expr_layers y)
@@ -142,7 +142,7 @@ layers-Simple xs = search (rules, stmt.the_lemmas)
 pub layers-stmt_If : (bs : List Branch) (zs : List Stmt) → stmt_layers (st.If bs zs) ≡ max (deepest (map branch_layers bs)) (deepest (map stmt_layers zs)) + 1
 layers-stmt_If bs zs = search (rules, stmt.the_lemmas)
 
-pub layers-stmt_For : (v : AssignTarget) (x : Expr) (xs : List Stmt) → stmt_layers (st.For v x xs) ≡ max (target_layers v) (max (expr_layers x) (deepest (map stmt_layers xs))) + 1
+pub layers-stmt_For : (v : TargetExpr) (x : Expr) (xs : List Stmt) → stmt_layers (st.For v x xs) ≡ max (target_layers v) (max (expr_layers x) (deepest (map stmt_layers xs))) + 1
 layers-stmt_For v x xs = search (rules, stmt.the_lemmas)
 
 pub layers-stmt_Def : (n : Identifier) (ps : List Parameter) (xs : List Stmt) → stmt_layers (st.Def n ps xs) ≡ max (deepest (map parameter_layers ps)) (deepest (map stmt_layers xs)) + 1

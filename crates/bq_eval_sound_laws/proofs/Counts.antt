@@ -15,8 +15,8 @@ use Rattle.bq_parse_grammar.specs.declared.tree.Operation.{Operation, roll-Opera
 use Rattle.bq_parse_grammar.specs.declared.tree.Pair.{Pair, roll-Pair}
 use Rattle.bq_parse_grammar.specs.declared.tree.Suffix.{Suffix}
 use Rattle.bq_parse_grammar.specs.declared.tree.Suffix.TheVariants as s
-use Rattle.bq_parse_grammar.specs.declared.tree.AssignTarget.{AssignTarget}
-use Rattle.bq_parse_grammar.specs.declared.tree.AssignTarget.TheVariants as t
+use Rattle.bq_parse_grammar.specs.declared.tree.TargetExpr.{TargetExpr}
+use Rattle.bq_parse_grammar.specs.declared.tree.TargetExpr.TheVariants as t
 use Rattle.bq_parse_grammar.specs.declared.tree.Branch.{Branch, roll-Branch}
 use Rattle.bq_parse_grammar.specs.declared.tree.Parameter.{Parameter}
 use Rattle.bq_parse_grammar.specs.declared.tree.SmallStmt.{SmallStmt}
@@ -107,7 +107,7 @@ module _ (build : Bool) where
   pub count-StarStar : (x : Expr) → argument_count build (a.StarStar x) ≡ star build + expr_count build x
   count-StarStar x = search (rules, the_lemmas)
 
-  pub count-For : (v : AssignTarget) (x : Expr) → clause_count build (cl.For v x) ≡ target_count build v + expr_count build x
+  pub count-For : (v : TargetExpr) (x : Expr) → clause_count build (cl.For v x) ≡ target_count build v + expr_count build x
   count-For v x = search (rules, the_lemmas)
 
   pub count-If : (x : Expr) → clause_count build (cl.If x) ≡ expr_count build x
@@ -119,10 +119,10 @@ module _ (build : Bool) where
   pub count-target_Index : (x i : Expr) → target_count build (t.Index x i) ≡ expr_count build x + expr_count build i
   count-target_Index x i = search (rules, the_lemmas)
 
-  pub count-target_Tuple : (xs : List AssignTarget) → target_count build (t.Tuple xs) ≡ sum_of (map (target_count build) xs)
+  pub count-target_Tuple : (xs : List TargetExpr) → target_count build (t.Tuple xs) ≡ sum_of (map (target_count build) xs)
   count-target_Tuple xs = search (rules, the_lemmas)
 
-  pub count-target_List : (xs : List AssignTarget) → target_count build (t.List xs) ≡ sum_of (map (target_count build) xs)
+  pub count-target_List : (xs : List TargetExpr) → target_count build (t.List xs) ≡ sum_of (map (target_count build) xs)
   count-target_List xs = search (rules, the_lemmas)
 
   pub count-pair : (x y : Expr) → pair_count build (roll-Pair (record { key = x; value = y })) ≡ expr_count build x + expr_count build y
@@ -142,7 +142,7 @@ module _ (build : Bool) where
   pub count-stmt_If : (bs : List Branch) (zs : List Stmt) → stmt_count build (st.If bs zs) ≡ sum_of (map (branch_count build) bs) + sum_of (map (stmt_count build) zs)
   count-stmt_If bs zs = search (rules, stmt.the_lemmas)
 
-  pub count-stmt_For : (v : AssignTarget) (x : Expr) (xs : List Stmt) → stmt_count build (st.For v x xs) ≡ target_count build v + (expr_count build x + sum_of (map (stmt_count build) xs))
+  pub count-stmt_For : (v : TargetExpr) (x : Expr) (xs : List Stmt) → stmt_count build (st.For v x xs) ≡ target_count build v + (expr_count build x + sum_of (map (stmt_count build) xs))
   count-stmt_For v x xs = search (rules, stmt.the_lemmas)
 
   pub count-stmt_Def : (n : Identifier) (ps : List Parameter) (xs : List Stmt) → stmt_count build (st.Def n ps xs) ≡ sum_of (map (parameter_count build) ps) + sum_of (map (stmt_count build) xs)

@@ -1,6 +1,6 @@
 -- The weight of a tree by its outermost layer.
 use Rattle.std.proofs.Common.{◌≡◌, ◌≤◌, ℕ, ◌+◌, max, List, map, Option, Some, None, refl, sym, ap, ◌∙◌, rules, arith}
-use Rattle.bq_parse_grammar.specs.declared.tree.Argument.TheOpen.{Argument-F, Clause-F, Expr-F, Suffix-F, AssignTarget-F}
+use Rattle.bq_parse_grammar.specs.declared.tree.Argument.TheOpen.{Argument-F, Clause-F, Expr-F, Suffix-F, TargetExpr-F}
 use Rattle.bq_parse_grammar.specs.declared.tree.Argument.{Argument, out-Argument, roll-Argument, roll-out-Argument}
 use Rattle.bq_parse_grammar.specs.declared.tree.Branch.{Branch, out-Branch, roll-Branch, roll-out-Branch}
 use Rattle.bq_parse_grammar.specs.declared.tree.Choice.{Choice, out-Choice, roll-Choice, roll-out-Choice}
@@ -13,7 +13,7 @@ use Rattle.bq_parse_grammar.specs.declared.tree.Stmt as stmt
 use Rattle.bq_parse_grammar.specs.declared.tree.Stmt.{Stmt, out-Stmt, roll-Stmt, roll-out-Stmt}
 use Rattle.bq_parse_grammar.specs.declared.tree.Stmt.TheOpen.{Stmt-F}
 use Rattle.bq_parse_grammar.specs.declared.tree.Suffix.{Suffix, out-Suffix, roll-Suffix, roll-out-Suffix}
-use Rattle.bq_parse_grammar.specs.declared.tree.AssignTarget.{AssignTarget, out-AssignTarget, roll-AssignTarget, roll-out-AssignTarget}
+use Rattle.bq_parse_grammar.specs.declared.tree.TargetExpr.{TargetExpr, out-TargetExpr, roll-TargetExpr, roll-out-TargetExpr}
 use Rattle.bq_parse_grammar.specs.Targets.{ExprLayer, SuffixLayer}
 use Rattle.bq_resolve_scope.specs.Names.{TargetLayer, ClauseLayer}
 use Rattle.bq_parse_tree_laws.specs.Depth.{deepest}
@@ -22,7 +22,7 @@ use Rattle.bq_eval_sound_laws.proofs.Steps.{part_weight, all_first, all_second}
 
 -- ---- expressions
 
-abbrev pub argument_layer : Argument-F Argument Clause Expr Suffix AssignTarget Choice Operation Pair → ℕ
+abbrev pub argument_layer : Argument-F Argument Clause Expr Suffix TargetExpr Choice Operation Pair → ℕ
 argument_layer (Argument-F.Positional x) = expr_weight x
 argument_layer (Argument-F.Named n x) = expr_weight x
 argument_layer (Argument-F.Star x) = expr_weight x
@@ -40,16 +40,16 @@ suffix_layer (Suffix-F.Suffix::Index x) = expr_weight x
 suffix_layer (Suffix-F.Slice x y z) = max (part_weight x) (max (part_weight y) (part_weight z))
 
 abbrev pub variables_layer : TargetLayer → ℕ
-variables_layer (AssignTarget-F.Target::Name n) = 1
-variables_layer (AssignTarget-F.Target::Index x i) = too_much
-variables_layer (AssignTarget-F.Target::Tuple ts) = deepest (map variables_weight ts) + 1
-variables_layer (AssignTarget-F.Target::List ts) = deepest (map variables_weight ts) + 1
+variables_layer (TargetExpr-F.Target::Name n) = 1
+variables_layer (TargetExpr-F.Target::Index x i) = too_much
+variables_layer (TargetExpr-F.Target::Tuple ts) = deepest (map variables_weight ts) + 1
+variables_layer (TargetExpr-F.Target::List ts) = deepest (map variables_weight ts) + 1
 
 abbrev pub place_layer : TargetLayer → ℕ
-place_layer (AssignTarget-F.Target::Name n) = 1
-place_layer (AssignTarget-F.Target::Index x i) = max (expr_weight x) (expr_weight i) + 1
-place_layer (AssignTarget-F.Target::Tuple ts) = deepest (map place_weight ts) + 1
-place_layer (AssignTarget-F.Target::List ts) = deepest (map place_weight ts) + 1
+place_layer (TargetExpr-F.Target::Name n) = 1
+place_layer (TargetExpr-F.Target::Index x i) = max (expr_weight x) (expr_weight i) + 1
+place_layer (TargetExpr-F.Target::Tuple ts) = deepest (map place_weight ts) + 1
+place_layer (TargetExpr-F.Target::List ts) = deepest (map place_weight ts) + 1
 
 abbrev pub expr_layer : ExprLayer → ℕ
 expr_layer (Expr-F.Expr::Name n) = 1
@@ -67,7 +67,7 @@ expr_layer (Expr-F.Compare x o y) = max (expr_weight x) (expr_weight y) + 1
 expr_layer (Expr-F.Conditional cs x) = max (deepest (map choice_weight cs)) (expr_weight x) + 1
 expr_layer Expr-F.Lambda = too_much
 
-rolled_argument : (o : Argument-F Argument Clause Expr Suffix AssignTarget Choice Operation Pair) → argument_weight (roll-Argument o) ≡ argument_layer o
+rolled_argument : (o : Argument-F Argument Clause Expr Suffix TargetExpr Choice Operation Pair) → argument_weight (roll-Argument o) ≡ argument_layer o
 rolled_argument (Argument-F.Positional x) = search (rules, the_lemmas)
 rolled_argument (Argument-F.Named n x) = search (rules, the_lemmas)
 rolled_argument (Argument-F.Star x) = search (rules, the_lemmas)
@@ -104,49 +104,49 @@ pub opened_suffix : (x : Suffix) → suffix_weight x ≡ suffix_layer (out-Suffi
 opened_suffix x = sym (ap suffix_weight (roll-out-Suffix x)) ∙ rolled_suffix (out-Suffix x)
 
 abbrev layer_weights : TargetLayer → ℕ × ℕ
-layer_weights (AssignTarget-F.Target::Name n) = (1, 1)
-layer_weights (AssignTarget-F.Target::Index x i) = (too_much, max (expr_weight x) (expr_weight i) + 1)
-layer_weights (AssignTarget-F.Target::Tuple ts) = (firsts (map target_weights ts) + 1, seconds (map target_weights ts) + 1)
-layer_weights (AssignTarget-F.Target::List ts) = (firsts (map target_weights ts) + 1, seconds (map target_weights ts) + 1)
+layer_weights (TargetExpr-F.Target::Name n) = (1, 1)
+layer_weights (TargetExpr-F.Target::Index x i) = (too_much, max (expr_weight x) (expr_weight i) + 1)
+layer_weights (TargetExpr-F.Target::Tuple ts) = (firsts (map target_weights ts) + 1, seconds (map target_weights ts) + 1)
+layer_weights (TargetExpr-F.Target::List ts) = (firsts (map target_weights ts) + 1, seconds (map target_weights ts) + 1)
 
-rolled_target : (o : TargetLayer) → target_weights (roll-AssignTarget o) ≡ layer_weights o
-rolled_target (AssignTarget-F.Target::Name n) = search (rules, the_lemmas)
-rolled_target (AssignTarget-F.Target::Index x i) = search (rules, the_lemmas)
-rolled_target (AssignTarget-F.Target::Tuple ts) = search (rules, the_lemmas)
-rolled_target (AssignTarget-F.Target::List ts) = search (rules, the_lemmas)
+rolled_target : (o : TargetLayer) → target_weights (roll-TargetExpr o) ≡ layer_weights o
+rolled_target (TargetExpr-F.Target::Name n) = search (rules, the_lemmas)
+rolled_target (TargetExpr-F.Target::Index x i) = search (rules, the_lemmas)
+rolled_target (TargetExpr-F.Target::Tuple ts) = search (rules, the_lemmas)
+rolled_target (TargetExpr-F.Target::List ts) = search (rules, the_lemmas)
 
-opened_target : (x : AssignTarget) → target_weights x ≡ layer_weights (out-AssignTarget x)
-opened_target x = sym (ap target_weights (roll-out-AssignTarget x)) ∙ rolled_target (out-AssignTarget x)
+opened_target : (x : TargetExpr) → target_weights x ≡ layer_weights (out-TargetExpr x)
+opened_target x = sym (ap target_weights (roll-out-TargetExpr x)) ∙ rolled_target (out-TargetExpr x)
 
 first_layer : (o : TargetLayer) → (layer_weights o).0 ≡ variables_layer o
-first_layer (AssignTarget-F.Target::Name n) = refl
-first_layer (AssignTarget-F.Target::Index x i) = refl
-first_layer (AssignTarget-F.Target::Tuple ts) = ap (λ (n : ℕ). n + 1) (all_first ts)
-first_layer (AssignTarget-F.Target::List ts) = ap (λ (n : ℕ). n + 1) (all_first ts)
+first_layer (TargetExpr-F.Target::Name n) = refl
+first_layer (TargetExpr-F.Target::Index x i) = refl
+first_layer (TargetExpr-F.Target::Tuple ts) = ap (λ (n : ℕ). n + 1) (all_first ts)
+first_layer (TargetExpr-F.Target::List ts) = ap (λ (n : ℕ). n + 1) (all_first ts)
 
 second_layer : (o : TargetLayer) → (layer_weights o).1 ≡ place_layer o
-second_layer (AssignTarget-F.Target::Name n) = refl
-second_layer (AssignTarget-F.Target::Index x i) = refl
-second_layer (AssignTarget-F.Target::Tuple ts) = ap (λ (n : ℕ). n + 1) (all_second ts)
-second_layer (AssignTarget-F.Target::List ts) = ap (λ (n : ℕ). n + 1) (all_second ts)
+second_layer (TargetExpr-F.Target::Name n) = refl
+second_layer (TargetExpr-F.Target::Index x i) = refl
+second_layer (TargetExpr-F.Target::Tuple ts) = ap (λ (n : ℕ). n + 1) (all_second ts)
+second_layer (TargetExpr-F.Target::List ts) = ap (λ (n : ℕ). n + 1) (all_second ts)
 
-pub opened_variables : (x : AssignTarget) → variables_weight x ≡ variables_layer (out-AssignTarget x)
-opened_variables x = ap (λ (p : ℕ × ℕ). p.0) (opened_target x) ∙ first_layer (out-AssignTarget x)
+pub opened_variables : (x : TargetExpr) → variables_weight x ≡ variables_layer (out-TargetExpr x)
+opened_variables x = ap (λ (p : ℕ × ℕ). p.0) (opened_target x) ∙ first_layer (out-TargetExpr x)
 
-pub opened_place : (x : AssignTarget) → place_weight x ≡ place_layer (out-AssignTarget x)
-opened_place x = ap (λ (p : ℕ × ℕ). p.1) (opened_target x) ∙ second_layer (out-AssignTarget x)
+pub opened_place : (x : TargetExpr) → place_weight x ≡ place_layer (out-TargetExpr x)
+opened_place x = ap (λ (p : ℕ × ℕ). p.1) (opened_target x) ∙ second_layer (out-TargetExpr x)
 
 pub variables_have_weight : (o : TargetLayer) → 1 ≤ variables_layer o
-variables_have_weight (AssignTarget-F.Target::Name n) = omega arith
-variables_have_weight (AssignTarget-F.Target::Index x i) = omega arith
-variables_have_weight (AssignTarget-F.Target::Tuple ts) = omega arith
-variables_have_weight (AssignTarget-F.Target::List ts) = omega arith
+variables_have_weight (TargetExpr-F.Target::Name n) = omega arith
+variables_have_weight (TargetExpr-F.Target::Index x i) = omega arith
+variables_have_weight (TargetExpr-F.Target::Tuple ts) = omega arith
+variables_have_weight (TargetExpr-F.Target::List ts) = omega arith
 
 pub place_has_weight : (o : TargetLayer) → 1 ≤ place_layer o
-place_has_weight (AssignTarget-F.Target::Name n) = omega arith
-place_has_weight (AssignTarget-F.Target::Index x i) = omega arith
-place_has_weight (AssignTarget-F.Target::Tuple ts) = omega arith
-place_has_weight (AssignTarget-F.Target::List ts) = omega arith
+place_has_weight (TargetExpr-F.Target::Name n) = omega arith
+place_has_weight (TargetExpr-F.Target::Index x i) = omega arith
+place_has_weight (TargetExpr-F.Target::Tuple ts) = omega arith
+place_has_weight (TargetExpr-F.Target::List ts) = omega arith
 
 rolled_expr : (o : ExprLayer) → expr_weight (roll-Expr o) ≡ expr_layer o
 rolled_expr (Expr-F.Expr::Name n) = search (rules, the_lemmas)

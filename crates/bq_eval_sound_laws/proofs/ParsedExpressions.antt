@@ -10,7 +10,7 @@ use Rattle.bq_parse_grammar.specs.declared.arguments.Allowed.{Allowed}
 use Rattle.bq_parse_grammar.specs.declared.arguments.ArgumentKind.{ArgumentKind}
 use Rattle.bq_parse_grammar.specs.declared.tree.Argument.{Argument}
 use Rattle.bq_parse_grammar.specs.declared.tree.Clause.{Clause}
-use Rattle.bq_parse_grammar.specs.declared.tree.AssignTarget.{AssignTarget}
+use Rattle.bq_parse_grammar.specs.declared.tree.TargetExpr.{TargetExpr}
 use Rattle.bq_parse_grammar.specs.Operators.{sign, negation}
 use Rattle.bq_parse_grammar.specs.Phrases as P
 use Rattle.bq_parse_grammar.specs.Phrases.{Phrase, none, Repeat, Listed, CommaThen}
@@ -29,7 +29,7 @@ use Rattle.bq_eval_sound_laws.proofs.Steps.{part_weight}
 
 -- ---- variables of a `for`
 
-module _ (n : ℕ) (X : Phrase AssignTarget) (inner : Within variables_weight n X) where
+module _ (n : ℕ) (X : Phrase TargetExpr) (inner : Within variables_weight n X) where
   var_within : Within variables_weight (n + 1) (IsVarOver X)
   var_within ts rest y (G.name {t = t} f g) = let e : variables_weight y ≡ 1 = ap variables_weight g ∙ D.weight-vars_Name (identifier t) in omega arith
   var_within ts rest y (G.parenthesized {c = c} {ts = us} f p g) = let a : variables_weight y ≤ n = inner us (c ∷ rest) y p in omega arith
@@ -43,7 +43,7 @@ module _ (n : ℕ) (X : Phrase AssignTarget) (inner : Within variables_weight n 
       let b : deepest (map variables_weight (x ∷ xs)) ≤ n = listed_within variables_weight n X inner _ us rest (x ∷ xs) q in
       omega arith
 
-  pub targets_within : (ts mid rest : List Lexeme) (x y : AssignTarget) (xs : List AssignTarget) → X ts mid x → Repeat (CommaThen X) mid rest xs → y ≡ targets_of x xs → variables_weight y ≤ n + 1
+  pub targets_within : (ts mid rest : List Lexeme) (x y : TargetExpr) (xs : List TargetExpr) → X ts mid x → Repeat (CommaThen X) mid rest xs → y ≡ targets_of x xs → variables_weight y ≤ n + 1
   targets_within ts mid rest x y [] p q f =
       let e : variables_weight y ≡ variables_weight x = ap variables_weight f in
       let a : variables_weight x ≤ n = inner ts mid x p in
@@ -67,7 +67,7 @@ vars_to_within depth = vars_within (depth + 1) (IsVar depth) (var_to_within dept
 module _ (build : Bool) where
   -- ---- over what stands in brackets
 
-  module _ (n : ℕ) (O T : Phrase Expr) (V : Phrase AssignTarget) (ors : Below expr_weight (expr_count build) n O) (tests : Below expr_weight (expr_count build) n T) (variables : Within variables_weight n V) where
+  module _ (n : ℕ) (O T : Phrase Expr) (V : Phrase TargetExpr) (ors : Below expr_weight (expr_count build) n O) (tests : Below expr_weight (expr_count build) n T) (variables : Within variables_weight n V) where
     pair_below : Below pair_weight (pair_count build) n (IsPair O T V)
     pair_below ts rest y (G.pair {c = c} {mid = mid} {x = x} {y = z} p f q g) =
         let e : pair_weight y ≡ max (expr_weight x) (expr_weight z) = ap pair_weight g ∙ D.weight-pair x z in

@@ -10,7 +10,7 @@ use Rattle.bq_parse_grammar.specs.declared.tree.SmallStmt.{SmallStmt}
 use Rattle.bq_parse_grammar.specs.declared.tree.Stmt.{Stmt}
 use Rattle.bq_parse_grammar.specs.declared.tree.Suffix.{Suffix}
 use Rattle.bq_parse_grammar.specs.declared.tree.Stmt.TheVariants as st
-use Rattle.bq_parse_grammar.specs.declared.tree.AssignTarget.{AssignTarget, out-AssignTarget}
+use Rattle.bq_parse_grammar.specs.declared.tree.TargetExpr.{TargetExpr, out-TargetExpr}
 use Rattle.bq_parse_grammar.specs.Phrases.{Phrase, none, Repeat, CommaThen}
 use Rattle.bq_parse_grammar.specs.Grammar.{primary_of, targets_of, IsTestTo, IsOperandTo, IsSuffixTo}
 use Rattle.bq_parse_grammar.specs.Statements as S
@@ -27,7 +27,7 @@ use Rattle.bq_eval_sound_laws.proofs.ParsedExpressions.{operand_to_below, suffix
 module _ (build : Bool) where
   -- ---- targets
 
-  targets_below : (n : ℕ) (X : Phrase AssignTarget) → Below place_weight (target_count build) n X → (ts mid rest : List Lexeme) (x y : AssignTarget) (xs : List AssignTarget) → X ts mid x
+  targets_below : (n : ℕ) (X : Phrase TargetExpr) → Below place_weight (target_count build) n X → (ts mid rest : List Lexeme) (x y : TargetExpr) (xs : List TargetExpr) → X ts mid x
       → Repeat (CommaThen X) mid rest xs → y ≡ targets_of x xs → place_weight y ≤ n + 1 + 2000 * target_count build y
   targets_below n X inner ts mid rest x y [] p q f =
       let e : place_weight y ≡ place_weight x = ap place_weight f in
@@ -42,8 +42,8 @@ module _ (build : Bool) where
       omega arith
 
   -- `x[i]` is one target
-  indexed_one : (depth : ℕ) (ts rest : List Lexeme) (y : AssignTarget) → IsIndexed depth ts rest y → one_weight (out-AssignTarget y) ≡ 0
-  indexed_one depth ts rest y (S.indexed c x xs i p q f r g h) = ap (λ z. one_weight (out-AssignTarget z)) h ∙ one_index (primary_of x xs) i
+  indexed_one : (depth : ℕ) (ts rest : List Lexeme) (y : TargetExpr) → IsIndexed depth ts rest y → one_weight (out-TargetExpr y) ≡ 0
+  indexed_one depth ts rest y (S.indexed c x xs i p q f r g h) = ap (λ z. one_weight (out-TargetExpr z)) h ∙ one_index (primary_of x xs) i
 
   applied_below : (depth : ℕ) (ts mid rest : List Lexeme) (x : Expr) (xs : List Suffix) → IsOperandTo depth ts mid x → Repeat (IsSuffixTo depth) mid rest xs
       → expr_weight (primary_of x xs) ≤ 15 * depth + 3 + 2000 * expr_count build (primary_of x xs)
@@ -63,7 +63,7 @@ module _ (build : Bool) where
       let b : expr_weight i ≤ 15 * depth + 1 + 2000 * expr_count build i = index_to_below build depth us (c ∷ rest) i r in
       omega arith
 
-  item_below : (depth n : ℕ) (X : Phrase AssignTarget) → 15 * depth + 4 ≤ n + 1 → Below place_weight (target_count build) n X → Below place_weight (target_count build) (n + 1) (IsItemOver depth X)
+  item_below : (depth n : ℕ) (X : Phrase TargetExpr) → 15 * depth + 4 ≤ n + 1 → Below place_weight (target_count build) n X → Below place_weight (target_count build) (n + 1) (IsItemOver depth X)
   item_below depth n X wide inner ts rest y (S.name {t = t} f g) = let e : place_weight y ≡ 1 = ap place_weight g ∙ D.weight-place_Name (identifier t) in let c_g = ap (target_count build) g ∙ C.count-target_Name build (identifier t) in omega arith
   item_below depth n X wide inner ts rest y (S.index p) = let a : place_weight y ≤ 15 * depth + 4 + 2000 * target_count build y = indexed_below depth ts rest y p in omega arith
   item_below depth n X wide inner ts rest y (S.parenthesized {c = c} {ts = us} f p g) = let a : place_weight y ≤ n + 2000 * target_count build y = inner us (c ∷ rest) y p in omega arith
@@ -141,9 +141,9 @@ module _ (build : Bool) where
         let b : expr_weight v ≤ 15 * depth + 15 + 1 + 2000 * expr_count build v = expr_to_below build depth us rest v r in
         omega arith
     kind_below ts rest y (S.augment_index {q = q} {mid = mid} {o = o} x v p g r h) =
-        let e : kind_weight y ≡ max (one_weight (out-AssignTarget x)) (max (place_weight x) (expr_weight v)) = ap kind_weight h in
+        let e : kind_weight y ≡ max (one_weight (out-TargetExpr x)) (max (place_weight x) (expr_weight v)) = ap kind_weight h in
         let c_h = ap (kind_count build) h in
-        let one : one_weight (out-AssignTarget x) ≡ 0 = indexed_one depth ts (q ∷ mid) x p in
+        let one : one_weight (out-TargetExpr x) ≡ 0 = indexed_one depth ts (q ∷ mid) x p in
         let a : place_weight x ≤ 15 * depth + 4 + 2000 * target_count build x = indexed_below depth ts (q ∷ mid) x p in
         let b : expr_weight v ≤ 15 * depth + 15 + 1 + 2000 * expr_count build v = expr_to_below build depth mid rest v r in
         omega arith

@@ -5,7 +5,7 @@ use Rattle.std.specs.List.{AllByRecursion}
 use Rattle.bq_base.specs.declared.fault.Fault.{Fault}
 use Rattle.bq_base.specs.declared.fault.FaultKind.TheVariants as f
 use Rattle.bq_parse_grammar.specs.declared.tree.FileKind.{FileKind}
-use Rattle.bq_parse_grammar.specs.declared.tree.Argument.TheOpen.{Expr-F, Suffix-F, Argument-F, Clause-F, AssignTarget-F}
+use Rattle.bq_parse_grammar.specs.declared.tree.Argument.TheOpen.{Expr-F, Suffix-F, Argument-F, Clause-F, TargetExpr-F}
 use Rattle.bq_parse_grammar.specs.declared.tree.Argument.{Argument, out-Argument}
 use Rattle.bq_parse_grammar.specs.declared.tree.Choice.{Choice, out-Choice}
 use Rattle.bq_parse_grammar.specs.declared.tree.Clause.{Clause, out-Clause}
@@ -14,7 +14,7 @@ use Rattle.bq_parse_grammar.specs.declared.tree.Identifier.{Identifier}
 use Rattle.bq_parse_grammar.specs.declared.tree.Operation.{Operation, out-Operation}
 use Rattle.bq_parse_grammar.specs.declared.tree.Pair.{Pair, out-Pair}
 use Rattle.bq_parse_grammar.specs.declared.tree.Suffix.{Suffix, out-Suffix}
-use Rattle.bq_parse_grammar.specs.declared.tree.AssignTarget.{AssignTarget, out-AssignTarget}
+use Rattle.bq_parse_grammar.specs.declared.tree.TargetExpr.{TargetExpr, out-TargetExpr}
 use Rattle.bq_parse_grammar.specs.Targets.{ExprLayer, SuffixLayer}
 use Rattle.bq_resolve_scope.specs.declared.code.Binding.{Binding}
 use Rattle.bq_resolve_scope.specs.declared.code.Binding.TheVariants as b
@@ -104,52 +104,52 @@ module _ (file : FileParts) (visit : List BlockParts → Expr → Visit Code)
     (visits : (n : ℕ) → n ≤ max_layers → (blocks : List BlockParts) (x : Expr) → expr_weight x ≤ n → Gives {A = Code} (λ z. CodeIsSound n z) (visit blocks x)) where
   -- ---- targets
 
-  target_by_gives : (n k : ℕ) → k ≤ max_layers → (inner : AssignTarget → Visit CodeTarget) (blocks : List BlockParts)
-      → ((u : AssignTarget) → place_weight u ≤ n → place_weight u ≤ k + 1 → Gives {A = CodeTarget} (λ z. TargetFits (CodeIsSound k) n z) (inner u)) → (o : TargetLayer)
+  target_by_gives : (n k : ℕ) → k ≤ max_layers → (inner : TargetExpr → Visit CodeTarget) (blocks : List BlockParts)
+      → ((u : TargetExpr) → place_weight u ≤ n → place_weight u ≤ k + 1 → Gives {A = CodeTarget} (λ z. TargetFits (CodeIsSound k) n z) (inner u)) → (o : TargetLayer)
       → place_layer o ≤ n + 1 → place_layer o ≤ k + 1 → Gives {A = CodeTarget} (λ z. TargetFits (CodeIsSound k) (suc n) z) (target_by file visit inner blocks o)
-  target_by_gives n k small inner blocks inners (AssignTarget-F.Target::Name m) h l = name_gives (CodeIsSound k) n file blocks m
-  target_by_gives n k small inner blocks inners (AssignTarget-F.Target::Index x i) h l =
+  target_by_gives n k small inner blocks inners (TargetExpr-F.Target::Name m) h l = name_gives (CodeIsSound k) n file blocks m
+  target_by_gives n k small inner blocks inners (TargetExpr-F.Target::Index x i) h l =
       let p : expr_weight x ≤ k = omega arith in
       let q : expr_weight i ≤ k = omega arith in
       gives_two (CodeIsSound k) (CodeIsSound k) (λ z. TargetFits (CodeIsSound k) (suc n) z) (visit blocks x) (visit blocks i) (λ y j. t.Index y j) (visits k small blocks x p) (visits k small blocks i q)
       (λ y j d e. made_target (CodeIsSound k) n (t.Index y j) (CodeTarget-F.CodeTarget::Index y j) (t.rolls-Index y j) tt (d, e))
-  target_by_gives n k small inner blocks inners (AssignTarget-F.Target::Tuple us) h l =
+  target_by_gives n k small inner blocks inners (TargetExpr-F.Target::Tuple us) h l =
       gives_map (λ vs. AllByRecursion (TargetFits (CodeIsSound k) n) vs) (λ z. TargetFits (CodeIsSound k) (suc n) z) (each inner [] us) (λ vs. t.Tuple vs)
       (gives_each (TargetFits (CodeIsSound k) n) place_weight (deepest (map place_weight us)) inner (λ u w. inners u (omega arith) (omega arith)) [] us tt (omega arith))
       (λ vs d. made_target (CodeIsSound k) n (t.Tuple vs) (CodeTarget-F.CodeTarget::Tuple vs) (t.rolls-Tuple vs) d tt)
-  target_by_gives n k small inner blocks inners (AssignTarget-F.Target::List us) h l =
+  target_by_gives n k small inner blocks inners (TargetExpr-F.Target::List us) h l =
       gives_map (λ vs. AllByRecursion (TargetFits (CodeIsSound k) n) vs) (λ z. TargetFits (CodeIsSound k) (suc n) z) (each inner [] us) (λ vs. t.List vs)
       (gives_each (TargetFits (CodeIsSound k) n) place_weight (deepest (map place_weight us)) inner (λ u w. inners u (omega arith) (omega arith)) [] us tt (omega arith))
       (λ vs d. made_target (CodeIsSound k) n (t.List vs) (CodeTarget-F.CodeTarget::List vs) (t.rolls-List vs) d tt)
 
-  pub target_gives : (layers n k : ℕ) → k ≤ max_layers → (blocks : List BlockParts) (u : AssignTarget) → place_weight u ≤ n → place_weight u ≤ k + 1
+  pub target_gives : (layers n k : ℕ) → k ≤ max_layers → (blocks : List BlockParts) (u : TargetExpr) → place_weight u ≤ n → place_weight u ≤ k + 1
       → Gives {A = CodeTarget} (λ z. TargetFits (CodeIsSound k) n z) (target_to file visit layers blocks u)
   unfolding target_to
   target_gives zero n k small blocks u h l = λ s fit. tt
-  target_gives (suc layers) zero k small blocks u h l = absurd (omega (arith, opened_place u, place_has_weight (out-AssignTarget u)))
+  target_gives (suc layers) zero k small blocks u h l = absurd (omega (arith, opened_place u, place_has_weight (out-TargetExpr u)))
   target_gives (suc layers) (suc n) k small blocks u h l =
-      target_by_gives n k small (target_to file visit layers blocks) blocks (λ v p q. target_gives layers n k small blocks v p q) (out-AssignTarget u)
+      target_by_gives n k small (target_to file visit layers blocks) blocks (λ v p q. target_gives layers n k small blocks v p q) (out-TargetExpr u)
       (omega (arith, opened_place u)) (omega (arith, opened_place u))
 
   -- the variables of a `for`
-  names_by_gives : (n : ℕ) → n ≤ max_layers → (inner : AssignTarget → Visit CodeTarget) (blocks : List BlockParts)
-      → ((u : AssignTarget) → variables_weight u ≤ n → Gives {A = CodeTarget} (λ z. TargetFits NoExpr n z) (inner u)) → (o : TargetLayer)
+  names_by_gives : (n : ℕ) → n ≤ max_layers → (inner : TargetExpr → Visit CodeTarget) (blocks : List BlockParts)
+      → ((u : TargetExpr) → variables_weight u ≤ n → Gives {A = CodeTarget} (λ z. TargetFits NoExpr n z) (inner u)) → (o : TargetLayer)
       → variables_layer o ≤ n + 1 → Gives {A = CodeTarget} (λ z. TargetFits NoExpr (suc n) z) (target_by file visit inner blocks o)
-  names_by_gives n small inner blocks inners (AssignTarget-F.Target::Name m) h = name_gives NoExpr n file blocks m
-  names_by_gives n small inner blocks inners (AssignTarget-F.Target::Index x i) h = absurd (omega (arith, few, small))
-  names_by_gives n small inner blocks inners (AssignTarget-F.Target::Tuple us) h =
+  names_by_gives n small inner blocks inners (TargetExpr-F.Target::Name m) h = name_gives NoExpr n file blocks m
+  names_by_gives n small inner blocks inners (TargetExpr-F.Target::Index x i) h = absurd (omega (arith, few, small))
+  names_by_gives n small inner blocks inners (TargetExpr-F.Target::Tuple us) h =
       gives_map (λ vs. AllByRecursion (TargetFits NoExpr n) vs) (λ z. TargetFits NoExpr (suc n) z) (each inner [] us) (λ vs. t.Tuple vs)
       (gives_each (TargetFits NoExpr n) variables_weight n inner inners [] us tt (omega arith)) (λ vs d. made_target NoExpr n (t.Tuple vs) (CodeTarget-F.CodeTarget::Tuple vs) (t.rolls-Tuple vs) d tt)
-  names_by_gives n small inner blocks inners (AssignTarget-F.Target::List us) h =
+  names_by_gives n small inner blocks inners (TargetExpr-F.Target::List us) h =
       gives_map (λ vs. AllByRecursion (TargetFits NoExpr n) vs) (λ z. TargetFits NoExpr (suc n) z) (each inner [] us) (λ vs. t.List vs)
       (gives_each (TargetFits NoExpr n) variables_weight n inner inners [] us tt (omega arith)) (λ vs d. made_target NoExpr n (t.List vs) (CodeTarget-F.CodeTarget::List vs) (t.rolls-List vs) d tt)
 
-  pub names_gives : (layers n : ℕ) → n ≤ max_layers → (blocks : List BlockParts) (u : AssignTarget) → variables_weight u ≤ n → Gives {A = CodeTarget} (λ z. TargetFits NoExpr n z) (target_to file visit layers blocks u)
+  pub names_gives : (layers n : ℕ) → n ≤ max_layers → (blocks : List BlockParts) (u : TargetExpr) → variables_weight u ≤ n → Gives {A = CodeTarget} (λ z. TargetFits NoExpr n z) (target_to file visit layers blocks u)
   unfolding target_to
   names_gives zero n small blocks u h = λ s fit. tt
-  names_gives (suc layers) zero small blocks u h = absurd (omega (arith, opened_variables u, variables_have_weight (out-AssignTarget u)))
+  names_gives (suc layers) zero small blocks u h = absurd (omega (arith, opened_variables u, variables_have_weight (out-TargetExpr u)))
   names_gives (suc layers) (suc n) small blocks u h =
-      names_by_gives n (omega arith) (target_to file visit layers blocks) blocks (names_gives layers n (omega arith) blocks) (out-AssignTarget u) (omega (arith, opened_variables u))
+      names_by_gives n (omega arith) (target_to file visit layers blocks) blocks (names_gives layers n (omega arith) blocks) (out-TargetExpr u) (omega (arith, opened_variables u))
 
   module _ (n : ℕ) (small : n ≤ max_layers) where
     -- ---- what stands in an expression
@@ -172,7 +172,7 @@ module _ (file : FileParts) (visit : List BlockParts → Expr → Visit Code)
         gives_two (CodeIsSound n) (CodeIsSound n) (λ z. ChoiceParts (CodeIsSound n) z) (visit blocks (out-Choice o).value) (visit blocks (out-Choice o).condition) (λ v x. roll-CodeChoice (record { value = v; condition = x }))
         (visits n small blocks (out-Choice o).value (omega (arith, opened_choice o))) (visits n small blocks (out-Choice o).condition (omega (arith, opened_choice o))) (made_choice (CodeIsSound n))
 
-    argument_by_gives : (blocks : List BlockParts) (o : Argument-F Argument Clause Expr Suffix AssignTarget Choice Operation Pair) → argument_layer o ≤ n
+    argument_by_gives : (blocks : List BlockParts) (o : Argument-F Argument Clause Expr Suffix TargetExpr Choice Operation Pair) → argument_layer o ≤ n
         → Gives (λ z. ArgumentParts (CodeIsSound n) z) (argument_by file visit blocks o)
     argument_by_gives blocks (Argument-F.Positional x) h =
         gives_map (CodeIsSound n) (λ z. ArgumentParts (CodeIsSound n) z) (visit blocks x) (λ y. a.Positional y) (visits n small blocks x h) (λ y k. made_argument (CodeIsSound n) (a.Positional y) (CodeArgument-F.Positional y) (a.rolls-Positional y) k)

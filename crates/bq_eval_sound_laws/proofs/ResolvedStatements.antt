@@ -14,8 +14,8 @@ use Rattle.bq_parse_grammar.specs.declared.tree.SmallKind.TheVariants as small
 use Rattle.bq_parse_grammar.specs.declared.tree.SmallStmt.{SmallStmt}
 use Rattle.bq_parse_grammar.specs.declared.tree.Stmt.{Stmt, out-Stmt}
 use Rattle.bq_parse_grammar.specs.declared.tree.Stmt.TheOpen.{Stmt-F}
-use Rattle.bq_parse_grammar.specs.declared.tree.Argument.TheOpen.{AssignTarget-F}
-use Rattle.bq_parse_grammar.specs.declared.tree.AssignTarget.{AssignTarget, out-AssignTarget}
+use Rattle.bq_parse_grammar.specs.declared.tree.Argument.TheOpen.{TargetExpr-F}
+use Rattle.bq_parse_grammar.specs.declared.tree.TargetExpr.{TargetExpr, out-TargetExpr}
 use Rattle.bq_resolve_scope.specs.declared.code.Code.{Code}
 use Rattle.bq_resolve_scope.specs.declared.code.Code.TheOpen.{CodeTarget-F}
 use Rattle.bq_resolve_scope.specs.declared.code.CodeTarget.{CodeTarget}
@@ -51,11 +51,11 @@ module _ (file : FileParts) where
   unfolding expr
   an_expr_gives blocks x h = expr_gives max_layers file max_layers (omega arith) blocks x h
 
-  a_target_gives : (blocks : List BlockParts) (u : AssignTarget) → place_weight u ≤ max_layers → Gives (λ z. PlaceIsSound z) (target file blocks u)
+  a_target_gives : (blocks : List BlockParts) (u : TargetExpr) → place_weight u ≤ max_layers → Gives (λ z. PlaceIsSound z) (target file blocks u)
   unfolding target
   a_target_gives blocks u h = target_gives file (expr_to max_layers file) (expr_gives max_layers file) max_layers max_layers max_layers (omega arith) blocks u h (omega arith)
 
-  some_names_give : (blocks : List BlockParts) (u : AssignTarget) → variables_weight u ≤ max_layers → Gives (λ z. AreNames z) (target file blocks u)
+  some_names_give : (blocks : List BlockParts) (u : TargetExpr) → variables_weight u ≤ max_layers → Gives (λ z. AreNames z) (target file blocks u)
   unfolding target
   some_names_give blocks u h = names_gives file (expr_to max_layers file) (expr_gives max_layers file) max_layers max_layers (omega arith) blocks u h
 
@@ -75,7 +75,7 @@ module _ (file : FileParts) where
 
   -- ---- small statements
 
-  assign_gives : (blocks : List BlockParts) (t : AssignTarget) (x : Expr) → place_weight t ≤ max_layers → expr_weight x ≤ max_layers → Gives (λ z. SmallIsSound z) (assign file blocks t x)
+  assign_gives : (blocks : List BlockParts) (t : TargetExpr) (x : Expr) → place_weight t ≤ max_layers → expr_weight x ≤ max_layers → Gives (λ z. SmallIsSound z) (assign file blocks t x)
   unfolding assign
   assign_gives blocks t x h k =
       gives_two (λ z. PlaceIsSound z) (λ z. ExprIsSound z) (λ z. SmallIsSound z) (target file blocks t) (expr file blocks x) (λ u y. c.Assign u y) (a_target_gives blocks t h) (an_expr_gives blocks x k)
@@ -83,28 +83,28 @@ module _ (file : FileParts) where
 
   -- the target of a name or of `x[i]` is one
   one_gives : (visit : List BlockParts → Expr → Visit Code) → ((blocks : List BlockParts) (x : Expr) → expr_weight x ≤ max_layers → Gives {A = Code} (λ z. ExprIsSound z) (visit blocks x))
-      → (inner : AssignTarget → Visit CodeTarget) (blocks : List BlockParts) (o : TargetLayer) → one_weight o ≤ max_layers → place_layer o ≤ max_layers → Gives {A = CodeTarget} (λ z. IsOne z) (target_by file visit inner blocks o)
-  one_gives visit visits inner blocks (AssignTarget-F.Target::Name n) h k = one_name_gives file blocks n
-  one_gives visit visits inner blocks (AssignTarget-F.Target::Index x i) h k =
+      → (inner : TargetExpr → Visit CodeTarget) (blocks : List BlockParts) (o : TargetLayer) → one_weight o ≤ max_layers → place_layer o ≤ max_layers → Gives {A = CodeTarget} (λ z. IsOne z) (target_by file visit inner blocks o)
+  one_gives visit visits inner blocks (TargetExpr-F.Target::Name n) h k = one_name_gives file blocks n
+  one_gives visit visits inner blocks (TargetExpr-F.Target::Index x i) h k =
       gives_two (λ z. ExprIsSound z) (λ z. ExprIsSound z) (λ z. IsOne z) (visit blocks x) (visit blocks i) (λ y j. ct.Index y j) (visits blocks x (omega arith)) (visits blocks i (omega arith))
       (λ y j p q. made_one (ct.Index y j) (CodeTarget-F.CodeTarget::Index y j) (ct.rolls-Index y j) tt)
-  one_gives visit visits inner blocks (AssignTarget-F.Target::Tuple ts) h k = absurd (omega (arith, few))
-  one_gives visit visits inner blocks (AssignTarget-F.Target::List ts) h k = absurd (omega (arith, few))
+  one_gives visit visits inner blocks (TargetExpr-F.Target::Tuple ts) h k = absurd (omega (arith, few))
+  one_gives visit visits inner blocks (TargetExpr-F.Target::List ts) h k = absurd (omega (arith, few))
 
-  one_to_gives : (layers : ℕ) (blocks : List BlockParts) (t : AssignTarget) → one_weight (out-AssignTarget t) ≤ max_layers → place_weight t ≤ max_layers
+  one_to_gives : (layers : ℕ) (blocks : List BlockParts) (t : TargetExpr) → one_weight (out-TargetExpr t) ≤ max_layers → place_weight t ≤ max_layers
       → Gives {A = CodeTarget} (λ z. IsOne z) (target_to file (expr_to max_layers file) layers blocks t)
   unfolding target_to
   one_to_gives zero blocks t h k = λ u fit. tt
   one_to_gives (suc layers) blocks t h k =
-      one_gives (expr_to max_layers file) (expr_gives max_layers file max_layers (omega arith)) (target_to file (expr_to max_layers file) layers blocks) blocks (out-AssignTarget t) h (omega (arith, opened_place t))
+      one_gives (expr_to max_layers file) (expr_gives max_layers file max_layers (omega arith)) (target_to file (expr_to max_layers file) layers blocks) blocks (out-TargetExpr t) h (omega (arith, opened_place t))
 
-  one_target_gives : (blocks : List BlockParts) (t : AssignTarget) → one_weight (out-AssignTarget t) ≤ max_layers → place_weight t ≤ max_layers → Gives {A = CodeTarget} (λ z. PlaceIsSound z × IsOne z) (target file blocks t)
+  one_target_gives : (blocks : List BlockParts) (t : TargetExpr) → one_weight (out-TargetExpr t) ≤ max_layers → place_weight t ≤ max_layers → Gives {A = CodeTarget} (λ z. PlaceIsSound z × IsOne z) (target file blocks t)
   unfolding target
   one_target_gives blocks t h k =
       gives_both (λ z. PlaceIsSound z) (λ z. IsOne z) (target_to file (expr_to max_layers file) max_layers blocks t)
       (target_gives file (expr_to max_layers file) (expr_gives max_layers file) max_layers max_layers max_layers (omega arith) blocks t k (omega arith)) (one_to_gives max_layers blocks t h k)
 
-  augment_gives : (blocks : List BlockParts) (t : AssignTarget) (o : Operator) (x : Expr) → one_weight (out-AssignTarget t) ≤ max_layers → place_weight t ≤ max_layers → expr_weight x ≤ max_layers
+  augment_gives : (blocks : List BlockParts) (t : TargetExpr) (o : Operator) (x : Expr) → one_weight (out-TargetExpr t) ≤ max_layers → place_weight t ≤ max_layers → expr_weight x ≤ max_layers
       → Gives (λ z. SmallIsSound z) (augment file blocks t o x)
   unfolding augment
   augment_gives blocks t o x one h k =
@@ -163,7 +163,7 @@ module _ (file : FileParts) where
       (gives_each (BranchIsSound (StmtIsSound m)) branch_weight m (branch file inner blocks) (branch_gives inner blocks m few inners) [] bs tt h) (gives_each (StmtIsSound m) stmt_weight m inner inners [] zs tt k)
       (λ xs ys p q. made_stmt m (s.If xs ys) (CodeStmt-F.If xs ys) (s.rolls-If xs ys) (p, q))
 
-  for_gives : (inner : Stmt → Visit CodeStmt) (blocks : List BlockParts) (m : ℕ) → m ≤ max_layers → ((x : Stmt) → stmt_weight x ≤ m → Gives (λ z. StmtIsSound m z) (inner x)) → (t : AssignTarget) (x : Expr) (body : List Stmt)
+  for_gives : (inner : Stmt → Visit CodeStmt) (blocks : List BlockParts) (m : ℕ) → m ≤ max_layers → ((x : Stmt) → stmt_weight x ≤ m → Gives (λ z. StmtIsSound m z) (inner x)) → (t : TargetExpr) (x : Expr) (body : List Stmt)
       → variables_weight t ≤ m → expr_weight x ≤ m → deepest (map stmt_weight body) ≤ m → Gives (λ z. StmtIsSound (suc m) z) (for_stmt file inner blocks t x body)
   unfolding for_stmt
   for_gives inner blocks m few inners t x body h k l =

@@ -15,8 +15,8 @@ use Rattle.bq_parse_grammar.specs.declared.tree.Operation.{Operation, roll-Opera
 use Rattle.bq_parse_grammar.specs.declared.tree.Pair.{Pair, roll-Pair}
 use Rattle.bq_parse_grammar.specs.declared.tree.Suffix.{Suffix}
 use Rattle.bq_parse_grammar.specs.declared.tree.Suffix.TheVariants as s
-use Rattle.bq_parse_grammar.specs.declared.tree.AssignTarget.{AssignTarget, out-AssignTarget}
-use Rattle.bq_parse_grammar.specs.declared.tree.AssignTarget.TheVariants as t
+use Rattle.bq_parse_grammar.specs.declared.tree.TargetExpr.{TargetExpr, out-TargetExpr}
+use Rattle.bq_parse_grammar.specs.declared.tree.TargetExpr.TheVariants as t
 use Rattle.bq_parse_grammar.specs.declared.tree.Branch.{Branch, roll-Branch}
 use Rattle.bq_parse_grammar.specs.declared.tree.Parameter.{Parameter}
 use Rattle.bq_parse_grammar.specs.declared.tree.SmallStmt.{SmallStmt}
@@ -107,18 +107,18 @@ weight-Star x = search (rules, the_lemmas)
 pub weight-StarStar : (x : Expr) → argument_weight (a.StarStar x) ≡ expr_weight x
 weight-StarStar x = search (rules, the_lemmas)
 
-pub weight-For : (v : AssignTarget) (x : Expr) → clause_weight (cl.For v x) ≡ max (variables_weight v) (expr_weight x)
+pub weight-For : (v : TargetExpr) (x : Expr) → clause_weight (cl.For v x) ≡ max (variables_weight v) (expr_weight x)
 weight-For v x = search (rules, the_lemmas)
 
 pub weight-If : (x : Expr) → clause_weight (cl.If x) ≡ expr_weight x
 weight-If x = search (rules, the_lemmas)
 
 -- of several targets
-pub all_first : (ts : List AssignTarget) → firsts (map target_weights ts) ≡ deepest (map variables_weight ts)
+pub all_first : (ts : List TargetExpr) → firsts (map target_weights ts) ≡ deepest (map variables_weight ts)
 all_first [] = refl
 all_first (t ∷ ts) = ap (λ (n : ℕ). max (variables_weight t) n) (all_first ts)
 
-pub all_second : (ts : List AssignTarget) → seconds (map target_weights ts) ≡ deepest (map place_weight ts)
+pub all_second : (ts : List TargetExpr) → seconds (map target_weights ts) ≡ deepest (map place_weight ts)
 all_second [] = refl
 all_second (t ∷ ts) = ap (λ (n : ℕ). max (place_weight t) n) (all_second ts)
 
@@ -128,19 +128,19 @@ weights-Name n = search (rules, the_lemmas)
 weights-Index : (x i : Expr) → target_weights (t.Index x i) ≡ (too_much, max (expr_weight x) (expr_weight i) + 1)
 weights-Index x i = search (rules, the_lemmas)
 
-weights-Tuple : (xs : List AssignTarget) → target_weights (t.Tuple xs) ≡ (firsts (map target_weights xs) + 1, seconds (map target_weights xs) + 1)
+weights-Tuple : (xs : List TargetExpr) → target_weights (t.Tuple xs) ≡ (firsts (map target_weights xs) + 1, seconds (map target_weights xs) + 1)
 weights-Tuple xs = search (rules, the_lemmas)
 
-weights-List : (xs : List AssignTarget) → target_weights (t.List xs) ≡ (firsts (map target_weights xs) + 1, seconds (map target_weights xs) + 1)
+weights-List : (xs : List TargetExpr) → target_weights (t.List xs) ≡ (firsts (map target_weights xs) + 1, seconds (map target_weights xs) + 1)
 weights-List xs = search (rules, the_lemmas)
 
 pub weight-vars_Name : (n : Identifier) → variables_weight (t.Name n) ≡ 1
 weight-vars_Name n = ap (λ (p : ℕ × ℕ). p.0) (weights-Name n)
 
-pub weight-vars_Tuple : (xs : List AssignTarget) → variables_weight (t.Tuple xs) ≡ deepest (map variables_weight xs) + 1
+pub weight-vars_Tuple : (xs : List TargetExpr) → variables_weight (t.Tuple xs) ≡ deepest (map variables_weight xs) + 1
 weight-vars_Tuple xs = ap (λ (p : ℕ × ℕ). p.0) (weights-Tuple xs) ∙ ap (λ (n : ℕ). n + 1) (all_first xs)
 
-pub weight-vars_List : (xs : List AssignTarget) → variables_weight (t.List xs) ≡ deepest (map variables_weight xs) + 1
+pub weight-vars_List : (xs : List TargetExpr) → variables_weight (t.List xs) ≡ deepest (map variables_weight xs) + 1
 weight-vars_List xs = ap (λ (p : ℕ × ℕ). p.0) (weights-List xs) ∙ ap (λ (n : ℕ). n + 1) (all_first xs)
 
 pub weight-place_Name : (n : Identifier) → place_weight (t.Name n) ≡ 1
@@ -149,10 +149,10 @@ weight-place_Name n = ap (λ (p : ℕ × ℕ). p.1) (weights-Name n)
 pub weight-place_Index : (x i : Expr) → place_weight (t.Index x i) ≡ max (expr_weight x) (expr_weight i) + 1
 weight-place_Index x i = ap (λ (p : ℕ × ℕ). p.1) (weights-Index x i)
 
-pub weight-place_Tuple : (xs : List AssignTarget) → place_weight (t.Tuple xs) ≡ deepest (map place_weight xs) + 1
+pub weight-place_Tuple : (xs : List TargetExpr) → place_weight (t.Tuple xs) ≡ deepest (map place_weight xs) + 1
 weight-place_Tuple xs = ap (λ (p : ℕ × ℕ). p.1) (weights-Tuple xs) ∙ ap (λ (n : ℕ). n + 1) (all_second xs)
 
-pub weight-place_List : (xs : List AssignTarget) → place_weight (t.List xs) ≡ deepest (map place_weight xs) + 1
+pub weight-place_List : (xs : List TargetExpr) → place_weight (t.List xs) ≡ deepest (map place_weight xs) + 1
 weight-place_List xs = ap (λ (p : ℕ × ℕ). p.1) (weights-List xs) ∙ ap (λ (n : ℕ). n + 1) (all_second xs)
 
 pub weight-pair : (x y : Expr) → pair_weight (roll-Pair (record { key = x; value = y })) ≡ max (expr_weight x) (expr_weight y)
@@ -165,10 +165,10 @@ pub weight-choice : (x y : Expr) → choice_weight (roll-Choice (record { value 
 weight-choice x y = search (rules, the_lemmas)
 
 -- a name, and `x[i]`, are one target
-pub one_name : (n : Identifier) → one_weight (out-AssignTarget (t.Name n)) ≡ 0
+pub one_name : (n : Identifier) → one_weight (out-TargetExpr (t.Name n)) ≡ 0
 one_name n = search (rules, the_lemmas)
 
-pub one_index : (x i : Expr) → one_weight (out-AssignTarget (t.Index x i)) ≡ 0
+pub one_index : (x i : Expr) → one_weight (out-TargetExpr (t.Index x i)) ≡ 0
 one_index x i = search (rules, the_lemmas)
 
 -- ---- statements
@@ -179,7 +179,7 @@ weight-Simple xs = search (rules, stmt.the_lemmas)
 pub weight-stmt_If : (bs : List Branch) (zs : List Stmt) → stmt_weight (st.If bs zs) ≡ max (deepest (map branch_weight bs)) (deepest (map stmt_weight zs)) + 1
 weight-stmt_If bs zs = search (rules, stmt.the_lemmas)
 
-pub weight-stmt_For : (v : AssignTarget) (x : Expr) (xs : List Stmt) → stmt_weight (st.For v x xs) ≡ max (variables_weight v) (max (expr_weight x) (deepest (map stmt_weight xs))) + 1
+pub weight-stmt_For : (v : TargetExpr) (x : Expr) (xs : List Stmt) → stmt_weight (st.For v x xs) ≡ max (variables_weight v) (max (expr_weight x) (deepest (map stmt_weight xs))) + 1
 weight-stmt_For v x xs = search (rules, stmt.the_lemmas)
 
 pub weight-stmt_Def : (n : Identifier) (ps : List Parameter) (xs : List Stmt) → stmt_weight (st.Def n ps xs) ≡ max (deepest (map parameter_weight ps)) (deepest (map stmt_weight xs)) + 1

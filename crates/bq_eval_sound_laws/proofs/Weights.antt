@@ -1,8 +1,8 @@
 -- How many layers a tree has at most when it is resolved, where a comprehension counts twice, since outside functions it is in a layer that
 -- gives it a frame of its own. What may stand nowhere weighs more than the layers that are looked at.
 use Rattle.std.specs.Prelude.{ℕ, ◌+◌, max, List, [], ◌∷◌, map, Some}
-use Rattle.bq_parse_grammar.specs.declared.tree.Argument.TheFolds.{fold-Argument, fold-Choice, fold-Clause, fold-Expr, fold-Operation, fold-Pair, fold-Suffix, fold-AssignTarget}
-use Rattle.bq_parse_grammar.specs.declared.tree.Argument.TheOpen.{Clause-F, Expr-F, Suffix-F, AssignTarget-F, Argument-F, Choice-F, Operation-F, Pair-F}
+use Rattle.bq_parse_grammar.specs.declared.tree.Argument.TheFolds.{fold-Argument, fold-Choice, fold-Clause, fold-Expr, fold-Operation, fold-Pair, fold-Suffix, fold-TargetExpr}
+use Rattle.bq_parse_grammar.specs.declared.tree.Argument.TheOpen.{Clause-F, Expr-F, Suffix-F, TargetExpr-F, Argument-F, Choice-F, Operation-F, Pair-F}
 use Rattle.bq_parse_grammar.specs.declared.tree.Argument.{Argument}
 use Rattle.bq_parse_grammar.specs.declared.tree.Choice.{Choice}
 use Rattle.bq_parse_grammar.specs.declared.tree.Clause.{Clause}
@@ -10,7 +10,7 @@ use Rattle.bq_parse_grammar.specs.declared.tree.Expr.{Expr}
 use Rattle.bq_parse_grammar.specs.declared.tree.Operation.{Operation}
 use Rattle.bq_parse_grammar.specs.declared.tree.Pair.{Pair}
 use Rattle.bq_parse_grammar.specs.declared.tree.Suffix.{Suffix}
-use Rattle.bq_parse_grammar.specs.declared.tree.AssignTarget.{AssignTarget, out-AssignTarget}
+use Rattle.bq_parse_grammar.specs.declared.tree.TargetExpr.{TargetExpr, out-TargetExpr}
 use Rattle.bq_parse_grammar.specs.declared.tree.Branch.{Branch}
 use Rattle.bq_parse_grammar.specs.declared.tree.Parameter.{Parameter}
 use Rattle.bq_parse_grammar.specs.declared.tree.Parameter.TheVariants as p
@@ -62,11 +62,11 @@ suffix_step (Suffix-F.Attribute b) = too_much
 suffix_step (Suffix-F.Suffix::Index n) = n
 suffix_step (Suffix-F.Slice l m n) = max (optional_depth l) (max (optional_depth m) (optional_depth n))
 
-abbrev pub target_step : AssignTarget-F ℕ ℕ ℕ ℕ (ℕ × ℕ) ℕ ℕ ℕ → ℕ × ℕ
-target_step (AssignTarget-F.Target::Name b) = (1, 1)
-target_step (AssignTarget-F.Target::Index m n) = (too_much, max m n + 1)
-target_step (AssignTarget-F.Target::Tuple ps) = (firsts ps + 1, seconds ps + 1)
-target_step (AssignTarget-F.Target::List ps) = (firsts ps + 1, seconds ps + 1)
+abbrev pub target_step : TargetExpr-F ℕ ℕ ℕ ℕ (ℕ × ℕ) ℕ ℕ ℕ → ℕ × ℕ
+target_step (TargetExpr-F.Target::Name b) = (1, 1)
+target_step (TargetExpr-F.Target::Index m n) = (too_much, max m n + 1)
+target_step (TargetExpr-F.Target::Tuple ps) = (firsts ps + 1, seconds ps + 1)
+target_step (TargetExpr-F.Target::List ps) = (firsts ps + 1, seconds ps + 1)
 
 abbrev pub expr_step : Expr-F ℕ ℕ ℕ ℕ (ℕ × ℕ) ℕ ℕ ℕ → ℕ
 expr_step (Expr-F.Expr::Name b) = 1
@@ -87,19 +87,19 @@ expr_step Expr-F.Lambda = too_much
 abbrev pub expr_weight : Expr → ℕ
 expr_weight = fold-Expr ℕ ℕ ℕ ℕ (ℕ × ℕ) ℕ ℕ ℕ argument_step clause_step expr_step suffix_step target_step choice_step operation_step pair_step
 
-abbrev pub target_weights : AssignTarget → ℕ × ℕ
-target_weights = fold-AssignTarget ℕ ℕ ℕ ℕ (ℕ × ℕ) ℕ ℕ ℕ argument_step clause_step expr_step suffix_step target_step choice_step operation_step pair_step
+abbrev pub target_weights : TargetExpr → ℕ × ℕ
+target_weights = fold-TargetExpr ℕ ℕ ℕ ℕ (ℕ × ℕ) ℕ ℕ ℕ argument_step clause_step expr_step suffix_step target_step choice_step operation_step pair_step
 
-abbrev pub variables_weight : AssignTarget → ℕ
+abbrev pub variables_weight : TargetExpr → ℕ
 variables_weight t = (target_weights t).0
 
-abbrev pub place_weight : AssignTarget → ℕ
+abbrev pub place_weight : TargetExpr → ℕ
 place_weight t = (target_weights t).1
 
 -- what is augmented is no tuple and no list
-abbrev pub one_weight : AssignTarget-F Argument Clause Expr Suffix AssignTarget Choice Operation Pair → ℕ
-one_weight (AssignTarget-F.Target::Tuple ts) = too_much
-one_weight (AssignTarget-F.Target::List ts) = too_much
+abbrev pub one_weight : TargetExpr-F Argument Clause Expr Suffix TargetExpr Choice Operation Pair → ℕ
+one_weight (TargetExpr-F.Target::Tuple ts) = too_much
+one_weight (TargetExpr-F.Target::List ts) = too_much
 one_weight _ = 0
 
 -- of what is no expression itself: those of the deepest in it
@@ -131,7 +131,7 @@ parameter_weight _ = 0
 abbrev pub kind_weight : SmallKind → ℕ
 kind_weight (small.Expr x) = expr_weight x
 kind_weight (small.Assign t x) = max (place_weight t) (expr_weight x)
-kind_weight (small.Augment t o x) = max (one_weight (out-AssignTarget t)) (max (place_weight t) (expr_weight x))
+kind_weight (small.Augment t o x) = max (one_weight (out-TargetExpr t)) (max (place_weight t) (expr_weight x))
 kind_weight (small.Return (Some x)) = expr_weight x
 kind_weight _ = 0
 

@@ -86,7 +86,7 @@ impl TargetNames {
     }
 
     /// Adds a name as the last, and answers whether it wasn't there.
-    #[tactic(auto, unfolding(crate::specs::TargetNames::with_name))]
+    #[tactic(auto, unfolding(crate::specs::Names::with_name))]
     pub fn add(&mut self, name: &Bytes) -> Result<bool, AllocError>
         ensures added { IfOk result (λ added. added ≡ not (has self.old name.now)) }
         ensures after { OnOk result (self.new ≡ with_name self.old name.now) }

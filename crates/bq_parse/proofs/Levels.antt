@@ -7,7 +7,7 @@ use Rattle.bq_parse_grammar.specs.declared.tree.Parameter.{Parameter}
 use Rattle.bq_parse_grammar.specs.declared.tree.Stmt.{Stmt, out-Stmt}
 use Rattle.bq_parse_grammar.specs.declared.tree.Stmt as stmt
 use Rattle.bq_parse_grammar.specs.declared.tree.Stmt.TheVariants as variant
-use Rattle.bq_parse_grammar.specs.declared.tree.AssignTarget.{AssignTarget}
+use Rattle.bq_parse_grammar.specs.declared.tree.TargetExpr.{TargetExpr}
 use Rattle.bq_parse_grammar.specs.LeftOut.{any, nested_in, nested_def}
 use Rattle.bq_parse_grammar.specs.declared.tree.Stmt.TheOpen.{Stmt-F}
 use Rattle.bq_parse.specs.Nested.{nested_within, in_block, in_branches, in_statement}
@@ -42,7 +42,7 @@ pub in_if : (depth : ℕ) (inside : Bool) (bs : List Branch) (zs : List Stmt)
     → in_statement depth inside (out-Stmt (variant.If bs zs)) ≡ (in_branches depth inside bs || in_block depth inside zs)
 in_if depth inside bs zs = search (rules, stmt.the_lemmas)
 
-pub in_for : (depth : ℕ) (inside : Bool) (v : AssignTarget) (x : Expr) (xs : List Stmt) → in_statement depth inside (out-Stmt (variant.For v x xs)) ≡ in_block depth inside xs
+pub in_for : (depth : ℕ) (inside : Bool) (v : TargetExpr) (x : Expr) (xs : List Stmt) → in_statement depth inside (out-Stmt (variant.For v x xs)) ≡ in_block depth inside xs
 in_for depth inside v x xs = search (rules, stmt.the_lemmas)
 
 pub in_def : (depth : ℕ) (inside : Bool) (n : Identifier) (ps : List Parameter) (xs : List Stmt)

@@ -12,8 +12,8 @@ use Rattle.bq_parse_grammar.specs.declared.tree.Identifier.{Identifier}
 use Rattle.bq_parse_grammar.specs.declared.tree.Expr.{Expr}
 use Rattle.bq_parse_grammar.specs.declared.tree.Expr.TheVariants as e
 use Rattle.bq_parse_grammar.specs.declared.tree.Nested.{Nested}
-use Rattle.bq_parse_grammar.specs.declared.tree.AssignTarget.{AssignTarget}
-use Rattle.bq_parse_grammar.specs.declared.tree.AssignTarget.TheVariants as target
+use Rattle.bq_parse_grammar.specs.declared.tree.TargetExpr.{TargetExpr}
+use Rattle.bq_parse_grammar.specs.declared.tree.TargetExpr.TheVariants as target
 use Rattle.bq_parse_grammar.specs.Turns.{Found, Parse, ◌>>=◌}
 use Rattle.bq_parse_grammar.specs.Reading.{word, var, var_by, operand, operand_by}
 use Rattle.bq_parse_cursor.specs.Tokens.{kind_ahead}
@@ -26,7 +26,7 @@ abbrev name_if : {A : Type 0} → (Identifier → A) → Lexeme → List Lexeme 
 name_if f t ts b = (if b then Ok (identifier t, ts) else Err Syntax) >>= λ n rest. Ok (f n, rest)
 
 -- where a word comes next, a variable or an operand is its name
-pub word_is_var : (inner : Parse AssignTarget) (ts : List Lexeme) → kind_ahead ts ≡ Some k.Identifier
+pub word_is_var : (inner : Parse TargetExpr) (ts : List Lexeme) → kind_ahead ts ≡ Some k.Identifier
     → var inner ts ≡ (word ts >>= λ n rest. Ok (target.Name n, rest))
 unfolding var
 word_is_var inner [] next_is = absurd (cc)
@@ -34,7 +34,7 @@ word_is_var inner (t ∷ ts) next_is =
     let is : t.kind ≡ k.Identifier = cc in
     ap (λ q. var_by inner q t ts) is ∙ sym (ap (name_if target.Name t ts) (kind_is t.kind k.Identifier is))
 
-pub word_is_operand : (inner : Nested → Parse Expr) (variables : Parse AssignTarget) (ts : List Lexeme) → kind_ahead ts ≡ Some k.Identifier
+pub word_is_operand : (inner : Nested → Parse Expr) (variables : Parse TargetExpr) (ts : List Lexeme) → kind_ahead ts ≡ Some k.Identifier
     → operand inner variables ts ≡ (word ts >>= λ n rest. Ok (e.Name n, rest))
 unfolding operand
 word_is_operand inner variables [] next_is = absurd (cc)

@@ -6,7 +6,7 @@ use Rattle.bq_parse_grammar.specs.Lexeme.{Lexeme}
 use Rattle.bq_parse_grammar.specs.declared.refusal.SyntaxErr.{SyntaxErr}
 use Rattle.bq_parse_grammar.specs.declared.tree.Expr.{Expr}
 use Rattle.bq_parse_grammar.specs.declared.tree.Nested.{Nested}
-use Rattle.bq_parse_grammar.specs.declared.tree.AssignTarget.{AssignTarget}
+use Rattle.bq_parse_grammar.specs.declared.tree.TargetExpr.{TargetExpr}
 use Rattle.bq_parse_grammar.specs.Turns.{Reads}
 use Rattle.bq_parse_grammar.specs.Reading.{phrase, var_to}
 
@@ -17,7 +17,7 @@ pub record ReadsNested (depth : ℕ) (pre : Global → MutBor (List Lexeme) → 
       → Reads (phrase depth which old.now) r new.now
 
 pub record ReadsVar (depth : ℕ) (pre : Global → MutBor (List Lexeme) → ℕ → Type 0)
-    (post : Global → MutBor (List Lexeme) → ℕ → Result AssignTarget SyntaxErr → MutBor (List Lexeme) → Type 0) : Type 0 where
+    (post : Global → MutBor (List Lexeme) → ℕ → Result TargetExpr SyntaxErr → MutBor (List Lexeme) → Type 0) : Type 0 where
   pub callable : (alloc : Global) (old : MutBor (List Lexeme)) → pre alloc old depth
-  pub reads : (alloc : Global) (old new : MutBor (List Lexeme)) (r : Result AssignTarget SyntaxErr) → post alloc old depth r new
+  pub reads : (alloc : Global) (old new : MutBor (List Lexeme)) (r : Result TargetExpr SyntaxErr) → post alloc old depth r new
       → Reads (var_to depth old.now) r new.now

@@ -3,13 +3,13 @@
 ghost use Rattle.bq_parse_grammar.specs.Turns.{Reads};
 ghost use Rattle.bq_parse_grammar.specs.Turns as turns;
 ghost use Rattle.bq_parse_grammar.specs.Reading as spec;
-ghost use Rattle.bq_parse_grammar.specs.declared.tree.AssignTarget.TheVariants as target;
+ghost use Rattle.bq_parse_grammar.specs.declared.tree.TargetExpr.TheVariants as target;
 ghost use Rattle.bq_source.specs.declared.token.TokenKind.TheVariants as kind;
 ghost use Rattle.bq_parse_expression.specs.Nested.{ReadsVar};
 
 use crate::steps::{closed, only};
 use bq_parse_cursor::Tokens;
-use bq_parse_grammar::{AssignTarget, SyntaxErr};
+use bq_parse_grammar::{TargetExpr, SyntaxErr};
 use bq_source::TokenKind;
 use sqlite_items::Items;
 use std::alloc::Global;
@@ -23,8 +23,8 @@ pub struct Variables<F> {
     pub var: F,
 }
 
-impl<F: Fn(Global, &mut Tokens<'_>, usize) -> Result<AssignTarget, SyntaxErr>> Variables<F> {
-    fn nested(&self, tokens: &mut Tokens<'_>) -> Result<AssignTarget, SyntaxErr>
+impl<F: Fn(Global, &mut Tokens<'_>, usize) -> Result<TargetExpr, SyntaxErr>> Variables<F> {
+    fn nested(&self, tokens: &mut Tokens<'_>) -> Result<TargetExpr, SyntaxErr>
         requires { ReadsVar self.now.depth (F.pre self.now.var) (F.post self.now.var) }
         ensures { Reads (spec.var_to self.now.depth tokens.old) result tokens.new }
     {
@@ -37,8 +37,8 @@ impl<F: Fn(Global, &mut Tokens<'_>, usize) -> Result<AssignTarget, SyntaxErr>> V
         &self,
         tokens: &mut Tokens<'_>,
         close: TokenKind,
-        mut found: Items<AssignTarget>,
-    ) -> Result<Items<AssignTarget>, SyntaxErr>
+        mut found: Items<TargetExpr>,
+    ) -> Result<Items<TargetExpr>, SyntaxErr>
         requires { ReadsVar self.now.depth (F.pre self.now.var) (F.post self.now.var) }
         ensures { Reads (turns.listed_from close (spec.var_to self.now.depth) found tokens.old) result tokens.new }
     {
@@ -57,7 +57,7 @@ impl<F: Fn(Global, &mut Tokens<'_>, usize) -> Result<AssignTarget, SyntaxErr>> V
 
     /// '(' Var ')' | '(' Var ',' [ Var { ',' Var } [','] ] ')', after the first bracket
     #[tactic(auto, unfolding(bq_parse_grammar::specs::Reading::var_in_parens))]
-    fn in_parens(&self, tokens: &mut Tokens<'_>) -> Result<AssignTarget, SyntaxErr>
+    fn in_parens(&self, tokens: &mut Tokens<'_>) -> Result<TargetExpr, SyntaxErr>
         requires { ReadsVar self.now.depth (F.pre self.now.var) (F.post self.now.var) }
         ensures { Reads (spec.var_in_parens (spec.var_to self.now.depth) tokens.old) result tokens.new }
     {
@@ -66,7 +66,7 @@ impl<F: Fn(Global, &mut Tokens<'_>, usize) -> Result<AssignTarget, SyntaxErr>> V
             let found = only(self.alloc, first)?;
             return self
                 .listed(tokens, TokenKind::RightParen, found)
-                .map(AssignTarget::Tuple);
+                .map(TargetExpr::Tuple);
         }
         closed(tokens, TokenKind::RightParen, first)
     }
@@ -75,8 +75,8 @@ impl<F: Fn(Global, &mut Tokens<'_>, usize) -> Result<AssignTarget, SyntaxErr>> V
     fn list_after(
         &self,
         tokens: &mut Tokens<'_>,
-        first: AssignTarget,
-    ) -> Result<Items<AssignTarget>, SyntaxErr>
+        first: TargetExpr,
+    ) -> Result<Items<TargetExpr>, SyntaxErr>
         requires { ReadsVar self.now.depth (F.pre self.now.var) (F.post self.now.var) }
         ensures { Reads (spec.items_after kind.RightBracket (spec.var_to self.now.depth) first tokens.old) result tokens.new }
     {
@@ -89,22 +89,22 @@ impl<F: Fn(Global, &mut Tokens<'_>, usize) -> Result<AssignTarget, SyntaxErr>> V
 
     /// '[' Var { ',' Var } [','] ']', after the first bracket
     #[tactic(auto, unfolding(bq_parse_grammar::specs::Reading::var_in_brackets))]
-    fn in_brackets(&self, tokens: &mut Tokens<'_>) -> Result<AssignTarget, SyntaxErr>
+    fn in_brackets(&self, tokens: &mut Tokens<'_>) -> Result<TargetExpr, SyntaxErr>
         requires { ReadsVar self.now.depth (F.pre self.now.var) (F.post self.now.var) }
         ensures { Reads (spec.var_in_brackets (spec.var_to self.now.depth) tokens.old) result tokens.new }
     {
         let first = self.nested(tokens)?;
-        Ok(AssignTarget::List(self.list_after(tokens, first)?))
+        Ok(TargetExpr::List(self.list_after(tokens, first)?))
     }
 
     /// Var = identifier | '(' Vars [','] ')' | '[' Vars [','] ']'
     #[tactic(auto, unfolding(bq_parse_grammar::specs::Reading::var))]
-    fn var(&self, tokens: &mut Tokens<'_>) -> Result<AssignTarget, SyntaxErr>
+    fn var(&self, tokens: &mut Tokens<'_>) -> Result<TargetExpr, SyntaxErr>
         requires { ReadsVar self.now.depth (F.pre self.now.var) (F.post self.now.var) }
         ensures { Reads (spec.var (spec.var_to self.now.depth) tokens.old) result tokens.new }
     {
         match tokens.peek() {
-            Some(TokenKind::Identifier) => Ok(AssignTarget::Name(tokens.word(self.alloc)?)),
+            Some(TokenKind::Identifier) => Ok(TargetExpr::Name(tokens.word(self.alloc)?)),
             Some(TokenKind::LeftParen) => {
                 tokens.advance();
                 self.in_parens(tokens)
@@ -119,7 +119,7 @@ impl<F: Fn(Global, &mut Tokens<'_>, usize) -> Result<AssignTarget, SyntaxErr>> V
 }
 
 /// A variable in which so many brackets less one may be open.
-pub fn var(alloc: Global, tokens: &mut Tokens<'_>, depth: usize) -> Result<AssignTarget, SyntaxErr>
+pub fn var(alloc: Global, tokens: &mut Tokens<'_>, depth: usize) -> Result<TargetExpr, SyntaxErr>
     ensures { Reads (spec.var_to depth tokens.old) result tokens.new }
 {
     if depth == 0 {
@@ -138,7 +138,7 @@ fn var_after_comma(
     alloc: Global,
     tokens: &mut Tokens<'_>,
     depth: usize,
-) -> Result<AssignTarget, SyntaxErr>
+) -> Result<TargetExpr, SyntaxErr>
     ensures { Reads (spec.after_comma (spec.var_to depth) tokens.old) result tokens.new }
 {
     tokens.expect(TokenKind::Comma)?;
@@ -151,8 +151,8 @@ fn further_vars(
     alloc: Global,
     tokens: &mut Tokens<'_>,
     depth: usize,
-    mut found: Items<AssignTarget>,
-) -> Result<Items<AssignTarget>, SyntaxErr>
+    mut found: Items<TargetExpr>,
+) -> Result<Items<TargetExpr>, SyntaxErr>
     ensures { Reads (turns.repeat (turns.sees kind.Comma) (spec.after_comma (spec.var_to depth)) found tokens.old) result tokens.new }
 {
     // Each turn takes a token.
@@ -167,7 +167,7 @@ fn further_vars(
 
 /// Vars = Var { ',' Var }
 #[tactic(auto, unfolding(bq_parse_grammar::specs::Reading::vars))]
-pub fn vars(alloc: Global, tokens: &mut Tokens<'_>, depth: usize) -> Result<AssignTarget, SyntaxErr>
+pub fn vars(alloc: Global, tokens: &mut Tokens<'_>, depth: usize) -> Result<TargetExpr, SyntaxErr>
     ensures { Reads (spec.variables_to depth tokens.old) result tokens.new }
 {
     let first = var(alloc, tokens, depth)?;
@@ -176,5 +176,5 @@ pub fn vars(alloc: Global, tokens: &mut Tokens<'_>, depth: usize) -> Result<Assi
     }
     let mut found = only(alloc, first)?;
     found.push(var_after_comma(alloc, tokens, depth)?)?;
-    Ok(AssignTarget::Tuple(further_vars(alloc, tokens, depth, found)?))
+    Ok(TargetExpr::Tuple(further_vars(alloc, tokens, depth, found)?))
 }

@@ -23,8 +23,8 @@ use Rattle.bq_parse_grammar.specs.declared.arguments.ArgumentKind.TheVariants as
 use Rattle.bq_parse_grammar.specs.declared.tree.Argument.{Argument}
 use Rattle.bq_parse_grammar.specs.declared.tree.Argument.TheVariants as a
 use Rattle.bq_parse_grammar.specs.declared.tree.Clause.TheVariants as cl
-use Rattle.bq_parse_grammar.specs.declared.tree.AssignTarget.{AssignTarget}
-use Rattle.bq_parse_grammar.specs.declared.tree.AssignTarget.TheVariants as target
+use Rattle.bq_parse_grammar.specs.declared.tree.TargetExpr.{TargetExpr}
+use Rattle.bq_parse_grammar.specs.declared.tree.TargetExpr.TheVariants as target
 use Rattle.bq_source.specs.Number.{int_value}
 use Rattle.bq_source.specs.StringLiteral.{string_value}
 use Rattle.bq_parse_grammar.specs.Literals.{identifier}
@@ -138,7 +138,7 @@ module _ (P : List Lexeme → Type 0) (E : Type 0) (tail : (t : Lexeme) (ts : Li
 
   -- ---- variables
 
-  var_kept : (one : Parse AssignTarget) → Keeps one → Keeps (var one)
+  var_kept : (one : Parse TargetExpr) → Keeps one → Keeps (var one)
   unfolding var var_in_parens var_in_brackets
   var_kept one safe [] h = tt
   var_kept one safe (t ∷ ts) h = at t.kind
@@ -158,13 +158,13 @@ module _ (P : List Lexeme → Type 0) (E : Type 0) (tail : (t : Lexeme) (ts : Li
   var_to_kept zero ts h = tt
   var_to_kept (suc depth) ts h = var_kept (var_to depth) (var_to_kept depth) ts h
 
-  pub vars_kept : (one : Parse AssignTarget) → Keeps one → Keeps (vars one)
+  pub vars_kept : (one : Parse TargetExpr) → Keeps one → Keeps (vars one)
   unfolding vars
   vars_kept one safe ts h = then_kept (one ts) (λ x mid. chained target.Tuple one x mid) (safe ts h) (λ x us g. chained_kept target.Tuple one safe x us g)
 
   -- ---- over what stands in brackets
 
-  module _ (inner : Nested → Parse Expr) (variables : Parse AssignTarget) (safe : (w : Nested) → Keeps (inner w)) (safe_vars : Keeps variables) where
+  module _ (inner : Nested → Parse Expr) (variables : Parse TargetExpr) (safe : (w : Nested) → Keeps (inner w)) (safe_vars : Keeps variables) where
     pair_kept : Keeps (pair inner variables)
     unfolding pair
     pair_kept ts h = then_kept (inner Test ts) (λ x mid. expect k.Colon mid >>= λ _ us. inner Test us >>= λ y rest. Ok (roll-Pair (record { key = x; value = y }), rest)) (safe Test ts h)

@@ -11,7 +11,7 @@ use Rattle.bq_parse_grammar.specs.declared.tree.Expr.TheVariants as e
 use Rattle.bq_parse_grammar.specs.declared.tree.Pair.{Pair, roll-Pair}
 use Rattle.bq_parse_grammar.specs.declared.tree.Clause.{Clause}
 use Rattle.bq_parse_grammar.specs.declared.tree.Clause.TheVariants as cl
-use Rattle.bq_parse_grammar.specs.declared.tree.AssignTarget.{AssignTarget}
+use Rattle.bq_parse_grammar.specs.declared.tree.TargetExpr.{TargetExpr}
 use Rattle.bq_source.specs.Number.{int_value}
 use Rattle.bq_source.specs.StringLiteral.{string_value}
 use Rattle.bq_parse_grammar.specs.Phrases.{Phrase, Repeat, over, Listed, none_listed, last_listed}
@@ -28,7 +28,7 @@ use Rattle.bq_parse_grammar.proofs.Lists.{items_sound, first_item}
 abbrev pub ends_vars : TokenKind → Bool
 ends_vars q = not (is_comma q)
 
-module _ (O T : Phrase Expr) (V : Phrase AssignTarget) (inner : Nested → Parse Expr) (variables : Parse AssignTarget)
+module _ (O T : Phrase Expr) (V : Phrase TargetExpr) (inner : Nested → Parse Expr) (variables : Parse TargetExpr)
     (ors : Agrees first_not (ends 10) O (inner Or)) (tests : Agrees first_test (ends 11) T (inner Test))
     (vars_agree : Agrees first_var ends_vars V variables) (vars_never : (ts : List Lexeme) → Never (variables ts)) where
   -- ---- pairs

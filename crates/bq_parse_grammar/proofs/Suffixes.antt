@@ -17,7 +17,7 @@ use Rattle.bq_parse_grammar.specs.declared.arguments.ArgumentKind.{ArgumentKind}
 use Rattle.bq_parse_grammar.specs.declared.arguments.ArgumentKind.TheVariants as ak
 use Rattle.bq_parse_grammar.specs.declared.tree.Argument.{Argument}
 use Rattle.bq_parse_grammar.specs.declared.tree.Argument.TheVariants as a
-use Rattle.bq_parse_grammar.specs.declared.tree.AssignTarget.{AssignTarget}
+use Rattle.bq_parse_grammar.specs.declared.tree.TargetExpr.{TargetExpr}
 use Rattle.bq_parse_grammar.specs.Literals.{identifier}
 use Rattle.bq_parse_grammar.specs.Phrases as P
 use Rattle.bq_parse_grammar.specs.Phrases.{Phrase, Repeat, over, again, CommaThen}
@@ -93,7 +93,7 @@ both_on false q h = absurd (cc)
 is_it : (p q r p' q' r' : Bool) → p ≡ p' → q ≡ q' → r ≡ r' → kind_by p q r ≡ kind_by p' q' r'
 is_it p q r p' q' r' e f g = ap (λ x. kind_by x q r) e ∙ ap (λ x. kind_by p' x r) f ∙ ap (λ x. kind_by p' q' x) g
 
-module _ (O T : Phrase Expr) (V : Phrase AssignTarget) (inner : Nested → Parse Expr) (variables : Parse AssignTarget)
+module _ (O T : Phrase Expr) (V : Phrase TargetExpr) (inner : Nested → Parse Expr) (variables : Parse TargetExpr)
     (ors : Agrees first_not (ends 10) O (inner Or)) (tests : Agrees first_test (ends 11) T (inner Test))
     (vars_agree : Agrees first_var ends_vars V variables) (vars_never : (ts : List Lexeme) → Never (variables ts)) (unnamed : Unnamed T) where
   -- ---- arguments

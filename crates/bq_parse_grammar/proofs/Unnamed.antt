@@ -7,7 +7,7 @@ use Rattle.bq_parse_grammar.specs.Lexeme.{Lexeme}
 use Rattle.bq_parse_grammar.specs.declared.tree.Expr.{Expr}
 use Rattle.bq_parse_grammar.specs.declared.tree.Operation.{Operation}
 use Rattle.bq_parse_grammar.specs.declared.tree.Suffix.{Suffix}
-use Rattle.bq_parse_grammar.specs.declared.tree.AssignTarget.{AssignTarget}
+use Rattle.bq_parse_grammar.specs.declared.tree.TargetExpr.{TargetExpr}
 use Rattle.bq_parse_grammar.specs.declared.tree.Comparison.{Comparison}
 use Rattle.bq_parse_grammar.specs.declared.tree.UnaryOperator.{UnaryOperator}
 use Rattle.bq_parse_grammar.specs.Operators.{operator_at, sign, negation, comparison}
@@ -47,7 +47,7 @@ stays X u us mid rest xs e unseen (again {mid = m} {x = y} p ps) = absurd (unsee
 no_value : {B : Type 0} (o : Option B) (y : B) → o ≡ None → o ≡ Some y → ⊥
 no_value o y e f = let w = sym e ∙ f in absurd (cc)
 
-module _ (O T : Phrase Expr) (V : Phrase AssignTarget) where
+module _ (O T : Phrase Expr) (V : Phrase TargetExpr) where
   pub suffix_begins : (ts rest : List Lexeme) (y : Suffix) → IsSuffix O T V ts rest y → Begins first_suffix ts
   suffix_begins ts rest y (G.attribute f g h i) = ap first_suffix f
   suffix_begins ts rest y (G.method f g h p i) = ap first_suffix f

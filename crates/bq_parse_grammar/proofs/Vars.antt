@@ -7,8 +7,8 @@ use Rattle.bq_parse_grammar.specs.declared.refusal.SyntaxErr.TheVariants.{Syntax
 use Rattle.bq_parse_grammar.specs.declared.tree.Nested.{Nested}
 use Rattle.bq_parse_grammar.specs.declared.tree.Nested.TheVariants.{Or, Test}
 use Rattle.bq_parse_grammar.specs.declared.tree.Expr.{Expr}
-use Rattle.bq_parse_grammar.specs.declared.tree.AssignTarget.{AssignTarget}
-use Rattle.bq_parse_grammar.specs.declared.tree.AssignTarget.TheVariants as target
+use Rattle.bq_parse_grammar.specs.declared.tree.TargetExpr.{TargetExpr}
+use Rattle.bq_parse_grammar.specs.declared.tree.TargetExpr.TheVariants as target
 use Rattle.bq_parse_grammar.specs.Phrases.{Phrase, none, Repeat, over, Listed, last_listed, CommaThen}
 use Rattle.bq_parse_grammar.specs.Grammar as G
 use Rattle.bq_parse_grammar.specs.Grammar.{targets_of, IsVarOver, IsVar, IsVarsOver, IsVars, IsPrimary, IsPrimaryTo, IsOrTo, IsTestTo, IsOperandTo, IsSuffixTo}
@@ -23,7 +23,7 @@ use Rattle.bq_parse_grammar.proofs.Operands.{ends_vars, operand_agrees}
 use Rattle.bq_parse_grammar.proofs.Unnamed.{Unnamed, none_unnamed, test_unnamed}
 use Rattle.bq_parse_grammar.proofs.Suffixes.{suffix_agrees, primary_agrees}
 
-target_chain : (x : AssignTarget) (xs : List AssignTarget) → chain_of target.Tuple x xs ≡ targets_of x xs
+target_chain : (x : TargetExpr) (xs : List TargetExpr) → chain_of target.Tuple x xs ≡ targets_of x xs
 target_chain x [] = refl
 target_chain x (y ∷ ys) = refl
 
@@ -31,40 +31,40 @@ never_if : {A : Type 0} (b : Bool) (x y : Found A) → Never x → Never y → N
 never_if true x y m n = m
 never_if false x y m n = n
 
-module _ (X : Phrase AssignTarget) (r : Parse AssignTarget) (ag : Agrees first_var any X r) where
-  var_at : (q : TokenKind) (t : Lexeme) (ts : List Lexeme) → t.kind ≡ q → Owes AssignTarget (IsVarOver X (t ∷ ts)) (var_by r q t ts)
+module _ (X : Phrase TargetExpr) (r : Parse TargetExpr) (ag : Agrees first_var any X r) where
+  var_at : (q : TokenKind) (t : Lexeme) (ts : List Lexeme) → t.kind ≡ q → Owes TargetExpr (IsVarOver X (t ∷ ts)) (var_by r q t ts)
   unfolding var_in_parens var_in_brackets
   var_at k.Identifier t ts f = G.name f refl
   var_at k.LeftParen t ts f = seq (X ts) (IsVarOver X (t ∷ ts)) (r ts) (λ x mid. vars_after r x mid) (ag.sound ts)
       (λ x mid p. sees_owes (λ m. X ts m x) (IsVarOver X (t ∷ ts)) k.Comma mid (λ us. listed_from k.RightParen r (x ∷ []) us >>= λ xs rest. Ok (target.Tuple xs, rest)) (expect k.RightParen mid >>= λ _ rest. Ok (x, rest)) p
-      (λ c us g w. then_is (λ rest ys. (xs : List AssignTarget) × (ys ≡ (x ∷ []) ++ xs) × Listed k.RightParen X us rest xs) (IsVarOver X (t ∷ ts))
+      (λ c us g w. then_is (λ rest ys. (xs : List TargetExpr) × (ys ≡ (x ∷ []) ++ xs) × Listed k.RightParen X us rest xs) (IsVarOver X (t ∷ ts))
       (listed_from k.RightParen r (x ∷ []) us) target.Tuple (listed_sound X r ag k.RightParen (x ∷ []) us) (λ ys rest v. G.tuple f w g v.2 (ap target.Tuple v.1)))
       (λ h. expects (λ m. X ts m x) (IsVarOver X (t ∷ ts)) k.RightParen mid (λ _ rest. Ok (x, rest)) p (λ c us g w. G.parenthesized f w g)))
       (λ h rest. let x = h (tok k.RightParen ∷ rest) in (x.0, G.parenthesized f x.1 (tok_kind k.RightParen)))
   var_at k.LeftBracket t ts f = seq (X ts) (IsVarOver X (t ∷ ts)) (r ts) (λ x mid. items_after k.RightBracket r x mid >>= λ xs rest. Ok (target.List xs, rest)) (ag.sound ts)
-      (λ x mid p. then_is (λ rest ys. (zs : List AssignTarget) × (ys ≡ x ∷ zs) × Listed k.RightBracket X ts rest (x ∷ zs)) (IsVarOver X (t ∷ ts)) (items_after k.RightBracket r x mid) target.List
+      (λ x mid p. then_is (λ rest ys. (zs : List TargetExpr) × (ys ≡ x ∷ zs) × Listed k.RightBracket X ts rest (x ∷ zs)) (IsVarOver X (t ∷ ts)) (items_after k.RightBracket r x mid) target.List
       (items_sound X r ag k.RightBracket x ts mid p) (λ ys rest w. G.list f w.2 (ap target.List w.1)))
       (λ h rest. let x = h (tok k.RightBracket ∷ rest) in (target.List (x.0 ∷ []), G.list f (last_listed x.1 (tok_kind k.RightBracket)) refl))
   var_at _ t ts f = tt
 
-  abbrev VarReading : Lexeme → List Lexeme → TokenKind → Found AssignTarget
+  abbrev VarReading : Lexeme → List Lexeme → TokenKind → Found TargetExpr
   VarReading t ts q = var_by r q t ts
 
   var_agrees : Agrees first_var any (IsVarOver X) (var r)
   unfolding var var_in_parens var_in_brackets
   var_agrees = record { begins = begins; sound = sound; complete = complete }
     where
-      begins : (ts rest : List Lexeme) (x : AssignTarget) → IsVarOver X ts rest x → Begins first_var ts
+      begins : (ts rest : List Lexeme) (x : TargetExpr) → IsVarOver X ts rest x → Begins first_var ts
       begins ts rest x (G.name f g) = ap first_var f
       begins ts rest x (G.parenthesized f p g) = ap first_var f
       begins ts rest x (G.tuple f p g ps h) = ap first_var f
       begins ts rest x (G.list f ps g) = ap first_var f
 
-      sound : (ts : List Lexeme) → Owes AssignTarget (IsVarOver X ts) (var r ts)
+      sound : (ts : List Lexeme) → Owes TargetExpr (IsVarOver X ts) (var r ts)
       sound [] = tt
       sound (t ∷ ts) = var_at t.kind t ts refl
 
-      complete : (ts rest : List Lexeme) (x : AssignTarget) → IsVarOver X ts rest x → Stops any rest → Met 1 ts (var r ts) x rest
+      complete : (ts rest : List Lexeme) (x : TargetExpr) → IsVarOver X ts rest x → Stops any rest → Met 1 ts (var r ts) x rest
       complete ts rest y (G.name {t = t} f g) st = met_is _ _ (ap (VarReading t rest) f) (met (ap (λ y. Ok (y, rest)) (sym g)) (omega arith))
       complete ts rest y (G.parenthesized {o = o} {c = c} {ts = us} f p g) st = met_is _ _ (ap (VarReading o us) f)
           (met_over o us (met_less (met_then (r us) (λ x mid. vars_after r x mid) (ag.complete us (c ∷ rest) y p refl)
@@ -95,27 +95,27 @@ module _ (X : Phrase AssignTarget) (r : Parse AssignTarget) (ag : Agrees first_v
       stops_any [] = tt
       stops_any (t ∷ ts) = refl
 
-      begins : (ts rest : List Lexeme) (x : AssignTarget) → IsVarsOver X ts rest x → Begins first_var ts
+      begins : (ts rest : List Lexeme) (x : TargetExpr) → IsVarsOver X ts rest x → Begins first_var ts
       begins ts rest y (G.vars {mid = mid} {x = x} p ps f) = ag.begins ts mid x p
 
-      sound : (ts : List Lexeme) → Owes AssignTarget (IsVarsOver X ts) (vars r ts)
+      sound : (ts : List Lexeme) → Owes TargetExpr (IsVarsOver X ts) (vars r ts)
       sound ts = seq (X ts) (IsVarsOver X ts) (r ts) (λ x mid. chained target.Tuple r x mid) (ag.sound ts)
-          (λ x mid p. owes_as (λ rest y. (xs : List AssignTarget) × (y ≡ chain_of target.Tuple x xs) × Repeat (CommaThen X) mid rest xs) (IsVarsOver X ts) (chained target.Tuple r x mid) (chained_sound X r ag target.Tuple x mid)
+          (λ x mid p. owes_as (λ rest y. (xs : List TargetExpr) × (y ≡ chain_of target.Tuple x xs) × Repeat (CommaThen X) mid rest xs) (IsVarsOver X ts) (chained target.Tuple r x mid) (chained_sound X r ag target.Tuple x mid)
           (λ y rest w. G.vars p w.2 (w.1 ∙ target_chain x w.0)))
           (λ h rest. let x = h rest in (x.0, G.vars x.1 over refl))
 
-      complete : (ts rest : List Lexeme) (x : AssignTarget) → IsVarsOver X ts rest x → Stops ends_vars rest → Met 1 ts (vars r ts) x rest
+      complete : (ts rest : List Lexeme) (x : TargetExpr) → IsVarsOver X ts rest x → Stops ends_vars rest → Met 1 ts (vars r ts) x rest
       complete ts rest y (G.vars {mid = mid} {x = x} {xs = xs} p ps f) st =
           met_then (r ts) (λ x mid. chained target.Tuple r x mid) (ag.complete ts mid x p (stops_any mid))
           (chained_met X r ag target.Tuple refl x y mid rest xs ps (stops_any rest) (stops_no ends_vars rest k.Comma st refl) (f ∙ sym (target_chain x xs)))
 
 -- a variable holds no `lambda`
-module _ (r : Parse AssignTarget) (n : (ts : List Lexeme) → Never (r ts)) where
-  items_never : (x : AssignTarget) (ts : List Lexeme) → Never (items_after k.RightBracket r x ts)
+module _ (r : Parse TargetExpr) (n : (ts : List Lexeme) → Never (r ts)) where
+  items_never : (x : TargetExpr) (ts : List Lexeme) → Never (items_after k.RightBracket r x ts)
   items_never x ts = never_if (sees k.Comma ts) (listed_from k.RightBracket r (x ∷ []) (next ts)) (expect k.RightBracket ts >>= λ _ rest. Ok (x ∷ [], rest))
       (never_listed r n k.RightBracket (x ∷ []) (next ts)) (never_then (expect k.RightBracket ts) (λ _ rest. Ok (x ∷ [], rest)) (never_expect k.RightBracket ts) (λ u mid. tt))
 
-  after_never : (x : AssignTarget) (ts : List Lexeme) → Never (vars_after r x ts)
+  after_never : (x : TargetExpr) (ts : List Lexeme) → Never (vars_after r x ts)
   after_never x ts = never_if (sees k.Comma ts) (listed_from k.RightParen r (x ∷ []) (next ts) >>= λ xs rest. Ok (target.Tuple xs, rest)) (expect k.RightParen ts >>= λ _ rest. Ok (x, rest))
       (never_then (listed_from k.RightParen r (x ∷ []) (next ts)) (λ xs rest. Ok (target.Tuple xs, rest)) (never_listed r n k.RightParen (x ∷ []) (next ts)) (λ xs mid. tt))
       (never_then (expect k.RightParen ts) (λ _ rest. Ok (x, rest)) (never_expect k.RightParen ts) (λ u mid. tt))
@@ -174,7 +174,7 @@ abbrev pub primary_at : ℕ → Parse Expr
 primary_at depth = primary (phrase depth) (vars (var_to depth))
 
 -- what stands in the brackets of a layer agrees with its readers
-pub record Layer (O T : Phrase Expr) (V : Phrase AssignTarget) (depth : ℕ) : Type 0 where
+pub record Layer (O T : Phrase Expr) (V : Phrase TargetExpr) (depth : ℕ) : Type 0 where
   pub ors : Agrees first_not (ends 10) O (phrase depth Or)
   pub tests : Agrees first_test (ends 11) T (phrase depth Test)
   pub variables : Agrees first_var ends_vars V (vars (var_to depth))
@@ -192,7 +192,7 @@ layer_over depth ag = record {
   unnamed = test_unnamed depth;
 }
 
-layer_primary : (O T : Phrase Expr) (V : Phrase AssignTarget) (depth : ℕ) → Layer O T V depth → Agrees first_operand (ends 0) (IsPrimary O T V) (primary_at depth)
+layer_primary : (O T : Phrase Expr) (V : Phrase TargetExpr) (depth : ℕ) → Layer O T V depth → Agrees first_operand (ends 0) (IsPrimary O T V) (primary_at depth)
 layer_primary O T V depth l = primary_agrees O T V (phrase depth) (vars (var_to depth)) l.ors l.tests l.variables (vars_never (var_to depth) (var_to_never depth)) l.unnamed
 
 -- the primaries in which so many brackets may be in one another

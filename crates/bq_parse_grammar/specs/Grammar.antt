@@ -24,8 +24,8 @@ use Rattle.bq_parse_grammar.specs.declared.tree.Argument.{Argument}
 use Rattle.bq_parse_grammar.specs.declared.tree.Argument.TheVariants as a
 use Rattle.bq_parse_grammar.specs.declared.tree.Clause.{Clause}
 use Rattle.bq_parse_grammar.specs.declared.tree.Clause.TheVariants as cl
-use Rattle.bq_parse_grammar.specs.declared.tree.AssignTarget.{AssignTarget}
-use Rattle.bq_parse_grammar.specs.declared.tree.AssignTarget.TheVariants as target
+use Rattle.bq_parse_grammar.specs.declared.tree.TargetExpr.{TargetExpr}
+use Rattle.bq_parse_grammar.specs.declared.tree.TargetExpr.TheVariants as target
 use Rattle.bq_source.specs.Number.{int_value}
 use Rattle.bq_source.specs.StringLiteral.{string_value}
 use Rattle.bq_parse_grammar.specs.Literals.{identifier}
@@ -64,36 +64,36 @@ abbrev pub conditional_of : Expr → List (Expr × Expr) → Expr
 conditional_of x [] = x
 conditional_of x (p ∷ ps) = e.Conditional (choices_of x (p ∷ ps)) (last_of x (p ∷ ps))
 
-abbrev pub targets_of : AssignTarget → List AssignTarget → AssignTarget
+abbrev pub targets_of : TargetExpr → List TargetExpr → TargetExpr
 targets_of x [] = x
 targets_of x (y ∷ ys) = target.Tuple (x ∷ y ∷ ys)
 
 -- ---- variables of a `for`
 
 -- Var = identifier | '(' Vars [','] ')' | '[' Vars [','] ']'
-pub data IsVarOver (Inner : Phrase AssignTarget) : List Lexeme → List Lexeme → AssignTarget → Type 0 where
-  name : {t : Lexeme} {rest : List Lexeme} {x : AssignTarget} → t.kind ≡ k.Identifier → x ≡ target.Name (identifier t) → IsVarOver Inner (t ∷ rest) rest x
+pub data IsVarOver (Inner : Phrase TargetExpr) : List Lexeme → List Lexeme → TargetExpr → Type 0 where
+  name : {t : Lexeme} {rest : List Lexeme} {x : TargetExpr} → t.kind ≡ k.Identifier → x ≡ target.Name (identifier t) → IsVarOver Inner (t ∷ rest) rest x
   -- '(' Var ')'
-  parenthesized : {o c : Lexeme} {ts rest : List Lexeme} {x : AssignTarget} → o.kind ≡ k.LeftParen → Inner ts (c ∷ rest) x → c.kind ≡ k.RightParen
+  parenthesized : {o c : Lexeme} {ts rest : List Lexeme} {x : TargetExpr} → o.kind ≡ k.LeftParen → Inner ts (c ∷ rest) x → c.kind ≡ k.RightParen
       → IsVarOver Inner (o ∷ ts) rest x
   -- '(' Var ',' [ Var { ',' Var } [','] ] ')'
-  tuple : {o c : Lexeme} {ts mid rest : List Lexeme} {x y : AssignTarget} {xs : List AssignTarget} → o.kind ≡ k.LeftParen → Inner ts (c ∷ mid) x → c.kind ≡ k.Comma
+  tuple : {o c : Lexeme} {ts mid rest : List Lexeme} {x y : TargetExpr} {xs : List TargetExpr} → o.kind ≡ k.LeftParen → Inner ts (c ∷ mid) x → c.kind ≡ k.Comma
       → Listed k.RightParen Inner mid rest xs → y ≡ target.Tuple (x ∷ xs) → IsVarOver Inner (o ∷ ts) rest y
   -- '[' Var { ',' Var } [','] ']'
-  list : {o : Lexeme} {ts rest : List Lexeme} {x y : AssignTarget} {xs : List AssignTarget} → o.kind ≡ k.LeftBracket → Listed k.RightBracket Inner ts rest (x ∷ xs)
+  list : {o : Lexeme} {ts rest : List Lexeme} {x y : TargetExpr} {xs : List TargetExpr} → o.kind ≡ k.LeftBracket → Listed k.RightBracket Inner ts rest (x ∷ xs)
       → y ≡ target.List (x ∷ xs) → IsVarOver Inner (o ∷ ts) rest y
 
 -- with so many brackets in one another
-abbrev pub IsVar : ℕ → Phrase AssignTarget
+abbrev pub IsVar : ℕ → Phrase TargetExpr
 IsVar zero = IsVarOver none
 IsVar (suc depth) = IsVarOver (IsVar depth)
 
 -- Vars = Var { ',' Var }
-pub data IsVarsOver (Var : Phrase AssignTarget) : List Lexeme → List Lexeme → AssignTarget → Type 0 where
-  vars : {ts mid rest : List Lexeme} {x y : AssignTarget} {xs : List AssignTarget} → Var ts mid x → Repeat (CommaThen Var) mid rest xs → y ≡ targets_of x xs
+pub data IsVarsOver (Var : Phrase TargetExpr) : List Lexeme → List Lexeme → TargetExpr → Type 0 where
+  vars : {ts mid rest : List Lexeme} {x y : TargetExpr} {xs : List TargetExpr} → Var ts mid x → Repeat (CommaThen Var) mid rest xs → y ≡ targets_of x xs
       → IsVarsOver Var ts rest y
 
-abbrev pub IsVars : ℕ → Phrase AssignTarget
+abbrev pub IsVars : ℕ → Phrase TargetExpr
 IsVars depth = IsVarsOver (IsVar depth)
 
 -- ---- what arguments may still come
@@ -116,7 +116,7 @@ allowed_after al.AfterStarStar q = None
 
 -- ---- expressions over what stands in brackets
 
-module _ (InnerOr InnerTest : Phrase Expr) (InnerVars : Phrase AssignTarget) where
+module _ (InnerOr InnerTest : Phrase Expr) (InnerVars : Phrase TargetExpr) where
   -- Pair = Test ':' Test
   pub data IsPair : List Lexeme → List Lexeme → Pair → Type 0 where
     pair : {c : Lexeme} {ts mid rest : List Lexeme} {x y : Expr} {p : Pair} → InnerTest ts (c ∷ mid) x → c.kind ≡ k.Colon → InnerTest mid rest y
@@ -124,7 +124,7 @@ module _ (InnerOr InnerTest : Phrase Expr) (InnerVars : Phrase AssignTarget) whe
 
   -- ForClause = 'for' Vars 'in' Or
   pub data IsForClause : List Lexeme → List Lexeme → Clause → Type 0 where
-    for_clause : {f i : Lexeme} {ts mid rest : List Lexeme} {v : AssignTarget} {x : Expr} {y : Clause} → f.kind ≡ k.For → InnerVars ts (i ∷ mid) v → i.kind ≡ k.In
+    for_clause : {f i : Lexeme} {ts mid rest : List Lexeme} {v : TargetExpr} {x : Expr} {y : Clause} → f.kind ≡ k.For → InnerVars ts (i ∷ mid) v → i.kind ≡ k.In
         → InnerOr mid rest x → y ≡ cl.For v x → IsForClause (f ∷ ts) rest y
 
   -- Clause = ForClause | 'if' Or

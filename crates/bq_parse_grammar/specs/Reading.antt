@@ -27,8 +27,8 @@ use Rattle.bq_parse_grammar.specs.declared.tree.Argument.{Argument}
 use Rattle.bq_parse_grammar.specs.declared.tree.Argument.TheVariants as a
 use Rattle.bq_parse_grammar.specs.declared.tree.Clause.{Clause}
 use Rattle.bq_parse_grammar.specs.declared.tree.Clause.TheVariants as cl
-use Rattle.bq_parse_grammar.specs.declared.tree.AssignTarget.{AssignTarget}
-use Rattle.bq_parse_grammar.specs.declared.tree.AssignTarget.TheVariants as target
+use Rattle.bq_parse_grammar.specs.declared.tree.TargetExpr.{TargetExpr}
+use Rattle.bq_parse_grammar.specs.declared.tree.TargetExpr.TheVariants as target
 use Rattle.bq_source.specs.Number.{int_value}
 use Rattle.bq_source.specs.StringLiteral.{string_value}
 use Rattle.bq_parse_grammar.specs.Literals.{identifier}
@@ -80,39 +80,39 @@ chained many one x ts =
 
 -- ---- variables of a `for`
 
-abbrev pub vars_after : Parse AssignTarget → AssignTarget → Parse AssignTarget
+abbrev pub vars_after : Parse TargetExpr → TargetExpr → Parse TargetExpr
 vars_after inner x ts =
     if sees k.Comma ts then (listed_from k.RightParen inner (x ∷ []) (next ts) >>= λ xs rest. Ok (target.Tuple xs, rest))
     else (expect k.RightParen ts >>= λ _ rest. Ok (x, rest))
 
 -- after '('
-unfoldable pub var_in_parens : Parse AssignTarget → Parse AssignTarget
+unfoldable pub var_in_parens : Parse TargetExpr → Parse TargetExpr
 var_in_parens inner ts = inner ts >>= λ x mid. vars_after inner x mid
 
 -- after '['
-unfoldable pub var_in_brackets : Parse AssignTarget → Parse AssignTarget
+unfoldable pub var_in_brackets : Parse TargetExpr → Parse TargetExpr
 var_in_brackets inner ts = inner ts >>= λ x mid. items_after k.RightBracket inner x mid >>= λ xs rest. Ok (target.List xs, rest)
 
-abbrev pub var_by : Parse AssignTarget → TokenKind → Lexeme → Parse AssignTarget
+abbrev pub var_by : Parse TargetExpr → TokenKind → Lexeme → Parse TargetExpr
 var_by inner k.Identifier t ts = Ok (target.Name (identifier t), ts)
 var_by inner k.LeftParen t ts = var_in_parens inner ts
 var_by inner k.LeftBracket t ts = var_in_brackets inner ts
 var_by inner _ t ts = Err Syntax
 
-unfoldable pub var : Parse AssignTarget → Parse AssignTarget
+unfoldable pub var : Parse TargetExpr → Parse TargetExpr
 var inner [] = Err Syntax
 var inner (t ∷ ts) = var_by inner t.kind t ts
 
 -- a variable in which so many brackets less one may be open
-unfoldable pub var_to : ℕ → Parse AssignTarget
+unfoldable pub var_to : ℕ → Parse TargetExpr
 var_to zero ts = Err Syntax
 var_to (suc depth) ts = var (var_to depth) ts
 
-unfoldable pub vars : Parse AssignTarget → Parse AssignTarget
+unfoldable pub vars : Parse TargetExpr → Parse TargetExpr
 vars one ts = one ts >>= λ x mid. chained target.Tuple one x mid
 
 -- the variables of a `for` in which so many brackets less one may be open
-abbrev pub variables_to : ℕ → Parse AssignTarget
+abbrev pub variables_to : ℕ → Parse TargetExpr
 variables_to depth = vars (var_to depth)
 
 -- ---- what needs nothing of what stands in brackets
@@ -156,7 +156,7 @@ begins_suffix ts = sees k.Dot ts || (sees k.LeftParen ts || sees k.LeftBracket t
 
 -- ---- operands and what is done to them, over what stands in brackets
 
-module _ (inner : Nested → Parse Expr) (variables : Parse AssignTarget) where
+module _ (inner : Nested → Parse Expr) (variables : Parse TargetExpr) where
   unfoldable pub pair : Parse Pair
   pair ts = inner Test ts >>= λ x mid. expect k.Colon mid >>= λ _ us. inner Test us >>= λ y rest. Ok (roll-Pair (record { key = x; value = y }), rest)
 

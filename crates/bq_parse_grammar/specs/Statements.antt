@@ -6,8 +6,8 @@ use Rattle.bq_parse_grammar.specs.Lexeme.{Lexeme}
 use Rattle.bq_parse_grammar.specs.declared.tree.Expr.{Expr}
 use Rattle.bq_parse_grammar.specs.declared.tree.Suffix.{Suffix}
 use Rattle.bq_parse_grammar.specs.declared.tree.Operator.{Operator}
-use Rattle.bq_parse_grammar.specs.declared.tree.AssignTarget.{AssignTarget}
-use Rattle.bq_parse_grammar.specs.declared.tree.AssignTarget.TheVariants as target
+use Rattle.bq_parse_grammar.specs.declared.tree.TargetExpr.{TargetExpr}
+use Rattle.bq_parse_grammar.specs.declared.tree.TargetExpr.TheVariants as target
 use Rattle.bq_parse_grammar.specs.declared.parameters.AllowedParameters.{AllowedParameters}
 use Rattle.bq_parse_grammar.specs.declared.parameters.AllowedParameters.TheVariants as ap
 use Rattle.bq_parse_grammar.specs.declared.parameters.ParameterKind.{ParameterKind}
@@ -36,35 +36,35 @@ line_of (t ∷ ts) = t.line
 -- ---- targets
 
 -- Primary '[' Expr ']'
-pub data IsIndexed (depth : ℕ) : List Lexeme → List Lexeme → AssignTarget → Type 0 where
-  indexed : {o : Lexeme} (c : Lexeme) {ts mid us rest : List Lexeme} (x : Expr) (xs : List Suffix) (i : Expr) {y : AssignTarget} → IsOperandTo depth ts mid x
+pub data IsIndexed (depth : ℕ) : List Lexeme → List Lexeme → TargetExpr → Type 0 where
+  indexed : {o : Lexeme} (c : Lexeme) {ts mid us rest : List Lexeme} (x : Expr) (xs : List Suffix) (i : Expr) {y : TargetExpr} → IsOperandTo depth ts mid x
       → Repeat (IsSuffixTo depth) mid (o ∷ us) xs → o.kind ≡ k.LeftBracket → IsIndexTo depth us (c ∷ rest) i → c.kind ≡ k.RightBracket
       → y ≡ target.Index (primary_of x xs) i → IsIndexed depth ts rest y
 
 -- Item = identifier | Primary '[' Expr ']' | '(' Target [','] ')' | '[' Target [','] ']'
-pub data IsItemOver (depth : ℕ) (Inner : Phrase AssignTarget) : List Lexeme → List Lexeme → AssignTarget → Type 0 where
-  name : {t : Lexeme} {rest : List Lexeme} {x : AssignTarget} → t.kind ≡ k.Identifier → x ≡ target.Name (identifier t) → IsItemOver depth Inner (t ∷ rest) rest x
-  index : {ts rest : List Lexeme} {x : AssignTarget} → IsIndexed depth ts rest x → IsItemOver depth Inner ts rest x
+pub data IsItemOver (depth : ℕ) (Inner : Phrase TargetExpr) : List Lexeme → List Lexeme → TargetExpr → Type 0 where
+  name : {t : Lexeme} {rest : List Lexeme} {x : TargetExpr} → t.kind ≡ k.Identifier → x ≡ target.Name (identifier t) → IsItemOver depth Inner (t ∷ rest) rest x
+  index : {ts rest : List Lexeme} {x : TargetExpr} → IsIndexed depth ts rest x → IsItemOver depth Inner ts rest x
   -- '(' Item ')'
-  parenthesized : {o c : Lexeme} {ts rest : List Lexeme} {x : AssignTarget} → o.kind ≡ k.LeftParen → Inner ts (c ∷ rest) x → c.kind ≡ k.RightParen
+  parenthesized : {o c : Lexeme} {ts rest : List Lexeme} {x : TargetExpr} → o.kind ≡ k.LeftParen → Inner ts (c ∷ rest) x → c.kind ≡ k.RightParen
       → IsItemOver depth Inner (o ∷ ts) rest x
   -- '(' Item ',' [ Item { ',' Item } [','] ] ')'
-  tuple : {o c : Lexeme} {ts mid rest : List Lexeme} {x y : AssignTarget} {xs : List AssignTarget} → o.kind ≡ k.LeftParen → Inner ts (c ∷ mid) x → c.kind ≡ k.Comma
+  tuple : {o c : Lexeme} {ts mid rest : List Lexeme} {x y : TargetExpr} {xs : List TargetExpr} → o.kind ≡ k.LeftParen → Inner ts (c ∷ mid) x → c.kind ≡ k.Comma
       → Listed k.RightParen Inner mid rest xs → y ≡ target.Tuple (x ∷ xs) → IsItemOver depth Inner (o ∷ ts) rest y
   -- '[' Item { ',' Item } [','] ']'
-  list : {o : Lexeme} {ts rest : List Lexeme} {x y : AssignTarget} {xs : List AssignTarget} → o.kind ≡ k.LeftBracket → Listed k.RightBracket Inner ts rest (x ∷ xs)
+  list : {o : Lexeme} {ts rest : List Lexeme} {x y : TargetExpr} {xs : List TargetExpr} → o.kind ≡ k.LeftBracket → Listed k.RightBracket Inner ts rest (x ∷ xs)
       → y ≡ target.List (x ∷ xs) → IsItemOver depth Inner (o ∷ ts) rest y
 
-abbrev pub IsItem : ℕ → Phrase AssignTarget
+abbrev pub IsItem : ℕ → Phrase TargetExpr
 IsItem zero = IsItemOver zero none
 IsItem (suc depth) = IsItemOver (suc depth) (IsItem depth)
 
 -- Target = Item { ',' Item }
-pub data IsTargetOver (Item : Phrase AssignTarget) : List Lexeme → List Lexeme → AssignTarget → Type 0 where
-  items : {ts mid rest : List Lexeme} {x y : AssignTarget} {xs : List AssignTarget} → Item ts mid x → Repeat (CommaThen Item) mid rest xs → y ≡ targets_of x xs
+pub data IsTargetOver (Item : Phrase TargetExpr) : List Lexeme → List Lexeme → TargetExpr → Type 0 where
+  items : {ts mid rest : List Lexeme} {x y : TargetExpr} {xs : List TargetExpr} → Item ts mid x → Repeat (CommaThen Item) mid rest xs → y ≡ targets_of x xs
       → IsTargetOver Item ts rest y
 
-abbrev pub IsTarget : ℕ → Phrase AssignTarget
+abbrev pub IsTarget : ℕ → Phrase TargetExpr
 IsTarget depth = IsTargetOver (IsItem depth)
 
 -- ---- parameters
@@ -143,11 +143,11 @@ pub data IsSmallKind (depth : ℕ) : List Lexeme → List Lexeme → SmallKind �
   load_alone : {t o m c : Lexeme} {rest : List Lexeme} {b : List ℕ} {y : SmallKind} → t.kind ≡ k.Load → o.kind ≡ k.LeftParen → m.kind ≡ k.String
       → string_value m.spelling ≡ Some b → c.kind ≡ k.RightParen → y ≡ small.Load (record { label = b; clauses = [] })
       → IsSmallKind depth (t ∷ o ∷ m ∷ c ∷ rest) rest y
-  assign : {q : Lexeme} {ts mid rest : List Lexeme} (x : AssignTarget) (v : Expr) {y : SmallKind} → IsTarget depth ts (q ∷ mid) x → q.kind ≡ k.Assign
+  assign : {q : Lexeme} {ts mid rest : List Lexeme} (x : TargetExpr) (v : Expr) {y : SmallKind} → IsTarget depth ts (q ∷ mid) x → q.kind ≡ k.Assign
       → IsExprTo depth mid rest v → y ≡ small.Assign x v → IsSmallKind depth ts rest y
   augment_name : {n q : Lexeme} {ts rest : List Lexeme} {o : Operator} (v : Expr) {y : SmallKind} → n.kind ≡ k.Identifier → augmented q.kind ≡ Some o
       → IsExprTo depth ts rest v → y ≡ small.Augment (target.Name (identifier n)) o v → IsSmallKind depth (n ∷ q ∷ ts) rest y
-  augment_index : {q : Lexeme} {ts mid rest : List Lexeme} {o : Operator} (x : AssignTarget) (v : Expr) {y : SmallKind} → IsIndexed depth ts (q ∷ mid) x
+  augment_index : {q : Lexeme} {ts mid rest : List Lexeme} {o : Operator} (x : TargetExpr) (v : Expr) {y : SmallKind} → IsIndexed depth ts (q ∷ mid) x
       → augmented q.kind ≡ Some o → IsExprTo depth mid rest v → y ≡ small.Augment x o v → IsSmallKind depth ts rest y
   expression : {ts rest : List Lexeme} (x : Expr) {y : SmallKind} → IsExprTo depth ts rest x → y ≡ small.Expr x → IsSmallKind depth ts rest y
 
@@ -192,7 +192,7 @@ module _ (depth : ℕ) (Inner : Phrase Stmt) where
     simple : {ts rest : List Lexeme} {xs : List SmallStmt} {y : Stmt} → AreSmall depth ts rest xs → y ≡ s.Simple xs → IsStmtOver ts rest y
     if_stmt : {t : Lexeme} {ts mid us rest : List Lexeme} {x : Branch} {xs : List Branch} {zs : List Stmt} {y : Stmt} → t.kind ≡ k.If → IsBranch ts mid x
         → Repeat IsElif mid us xs → IsElse us rest zs → y ≡ s.If (x ∷ xs) zs → IsStmtOver (t ∷ ts) rest y
-    for_stmt : {t i c : Lexeme} {ts mid us rest : List Lexeme} (v : AssignTarget) (x : Expr) {xs : List Stmt} {y : Stmt} → t.kind ≡ k.For
+    for_stmt : {t i c : Lexeme} {ts mid us rest : List Lexeme} (v : TargetExpr) (x : Expr) {xs : List Stmt} {y : Stmt} → t.kind ≡ k.For
         → IsVars depth ts (i ∷ mid) v → i.kind ≡ k.In → IsExprTo depth mid (c ∷ us) x → c.kind ≡ k.Colon → IsSuite us rest xs → y ≡ s.For v x xs
         → IsStmtOver (t ∷ ts) rest y
     def_stmt : {t n o c : Lexeme} {ts mid rest : List Lexeme} (ps : List Parameter) {xs : List Stmt} {y : Stmt} → t.kind ≡ k.Def → n.kind ≡ k.Identifier

@@ -11,44 +11,44 @@ use Rattle.bq_parse_grammar.specs.declared.tree.Expr.{Expr, out-Expr}
 use Rattle.bq_parse_grammar.specs.declared.tree.Operation.{Operation}
 use Rattle.bq_parse_grammar.specs.declared.tree.Pair.{Pair}
 use Rattle.bq_parse_grammar.specs.declared.tree.Suffix.{Suffix, out-Suffix}
-use Rattle.bq_parse_grammar.specs.declared.tree.AssignTarget.{AssignTarget}
-use Rattle.bq_parse_grammar.specs.declared.tree.AssignTarget.TheVariants as target
+use Rattle.bq_parse_grammar.specs.declared.tree.TargetExpr.{TargetExpr}
+use Rattle.bq_parse_grammar.specs.declared.tree.TargetExpr.TheVariants as target
 use Rattle.bq_parse_grammar.specs.Grammar.{primary_of}
 
 -- one level of a tree
 abbrev pub ExprLayer : Type 0
-ExprLayer = Expr-F Argument Clause Expr Suffix AssignTarget Choice Operation Pair
+ExprLayer = Expr-F Argument Clause Expr Suffix TargetExpr Choice Operation Pair
 
 abbrev pub SuffixLayer : Type 0
-SuffixLayer = Suffix-F Argument Clause Expr Suffix AssignTarget Choice Operation Pair
+SuffixLayer = Suffix-F Argument Clause Expr Suffix TargetExpr Choice Operation Pair
 
-abbrev pub with_target : {B : Type 0} → Result AssignTarget SyntaxErr → (AssignTarget → Result B SyntaxErr) → Result B SyntaxErr
+abbrev pub with_target : {B : Type 0} → Result TargetExpr SyntaxErr → (TargetExpr → Result B SyntaxErr) → Result B SyntaxErr
 with_target (Err why) f = Err why
 with_target (Ok x) f = f x
 
 -- the targets found, and those of all further expressions
-abbrev pub targets_from : (Expr → Result AssignTarget SyntaxErr) → List AssignTarget → List Expr → Result (List AssignTarget) SyntaxErr
+abbrev pub targets_from : (Expr → Result TargetExpr SyntaxErr) → List TargetExpr → List Expr → Result (List TargetExpr) SyntaxErr
 targets_from one found [] = Ok found
 targets_from one found (x ∷ xs) = with_target (one x) (λ y. targets_from one (found ++ y ∷ []) xs)
 
 -- at least one, in brackets or out of them
-abbrev pub many_of : (List AssignTarget → AssignTarget) → Result (List AssignTarget) SyntaxErr → Result AssignTarget SyntaxErr
+abbrev pub many_of : (List TargetExpr → TargetExpr) → Result (List TargetExpr) SyntaxErr → Result TargetExpr SyntaxErr
 many_of make (Err why) = Err why
 many_of make (Ok []) = Err Syntax
 many_of make (Ok (x ∷ xs)) = Ok (make (x ∷ xs))
 
 -- what is done last is an index
-abbrev pub index_of : Expr → SuffixLayer → Result AssignTarget SyntaxErr
+abbrev pub index_of : Expr → SuffixLayer → Result TargetExpr SyntaxErr
 index_of x (Suffix-F.Suffix::Index i) = Ok (target.Index x i)
 index_of x _ = Err Syntax
 
 -- the operand, what was done to it, and what is still done
-abbrev pub indexed_from : Expr → List Suffix → List Suffix → Result AssignTarget SyntaxErr
+abbrev pub indexed_from : Expr → List Suffix → List Suffix → Result TargetExpr SyntaxErr
 indexed_from x done [] = Err Syntax
 indexed_from x done (y ∷ []) = index_of (primary_of x done) (out-Suffix y)
 indexed_from x done (y ∷ z ∷ zs) = indexed_from x (done ++ y ∷ []) (z ∷ zs)
 
-abbrev pub target_by : (Expr → Result AssignTarget SyntaxErr) → ExprLayer → Result AssignTarget SyntaxErr
+abbrev pub target_by : (Expr → Result TargetExpr SyntaxErr) → ExprLayer → Result TargetExpr SyntaxErr
 target_by inner (Expr-F.Expr::Name n) = Ok (target.Name n)
 target_by inner (Expr-F.Primary x xs) = indexed_from x [] xs
 target_by inner (Expr-F.Expr::Tuple xs) = many_of target.Tuple (targets_from inner [] xs)
@@ -56,15 +56,15 @@ target_by inner (Expr-F.Expr::List xs) = many_of target.List (targets_from inner
 target_by inner _ = Err Syntax
 
 -- the target that an expression is, which holds so many lists and tuples in one another less one
-unfoldable pub target_to : ℕ → Expr → Result AssignTarget SyntaxErr
+unfoldable pub target_to : ℕ → Expr → Result TargetExpr SyntaxErr
 target_to zero x = Err Syntax
 target_to (suc depth) x = target_by (target_to depth) (out-Expr x)
 
 -- what an augmented assignment may assign to
-abbrev pub augmented_by : ExprLayer → Result AssignTarget SyntaxErr
+abbrev pub augmented_by : ExprLayer → Result TargetExpr SyntaxErr
 augmented_by (Expr-F.Expr::Name n) = Ok (target.Name n)
 augmented_by (Expr-F.Primary x xs) = indexed_from x [] xs
 augmented_by _ = Err Syntax
 
-unfoldable pub augmented_target : Expr → Result AssignTarget SyntaxErr
+unfoldable pub augmented_target : Expr → Result TargetExpr SyntaxErr
 augmented_target x = augmented_by (out-Expr x)

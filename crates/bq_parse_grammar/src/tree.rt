@@ -152,7 +152,7 @@ pub enum Argument {
 #[derive(Drop)]
 pub enum Clause {
     /// `for variables in iterable`
-    For(AssignTarget, Expr),
+    For(TargetExpr, Expr),
     /// `if condition`
     If(Expr),
 }
@@ -160,12 +160,12 @@ pub enum Clause {
 /// What is assigned to.
 #[cycle(ast)]
 #[derive(Drop)]
-pub enum AssignTarget {
+pub enum TargetExpr {
     Name(Identifier),
     /// `operand[index]`; never the variable of a `for`.
     Index(Boxed<Expr>, Boxed<Expr>),
-    Tuple(Items<AssignTarget>),
-    List(Items<AssignTarget>),
+    Tuple(Items<TargetExpr>),
+    List(Items<TargetExpr>),
 }
 
 /// A top-level statement.
@@ -183,7 +183,7 @@ pub enum Stmt {
     Simple(Items<SmallStmt>),
     /// The branches of `if` and of each `elif`, and the block of `else`, empty where there is none.
     If(Items<Branch>, Items<Stmt>),
-    For(AssignTarget, Expr, Items<Stmt>),
+    For(TargetExpr, Expr, Items<Stmt>),
     Def(Identifier, Items<Parameter>, Items<Stmt>),
 }
 
@@ -220,9 +220,9 @@ pub struct SmallStmt {
 pub enum SmallKind {
     /// An expression, as a call that is made for what it declares.
     Expr(Expr),
-    Assign(AssignTarget, Expr),
+    Assign(TargetExpr, Expr),
     /// `target += value` and the like; the target is a name or an index.
-    Augment(AssignTarget, Operator, Expr),
+    Augment(TargetExpr, Operator, Expr),
     Return(Option<Expr>),
     Break,
     Continue,

@@ -8,7 +8,7 @@ ghost use Rattle.bq_parse_grammar.specs.declared.tree.Expr.{out-Expr};
 ghost use Rattle.bq_parse_grammar.specs.declared.tree.Suffix.{out-Suffix};
 ghost use Rattle.bq_parse_statement.specs.Makes.{Makes, MakesTarget};
 
-use bq_parse_grammar::{AssignTarget, Expr, Suffix, SyntaxErr};
+use bq_parse_grammar::{TargetExpr, Expr, Suffix, SyntaxErr};
 use sqlite_items::{Boxed, Items};
 use std::alloc::{AllocError, Global};
 
@@ -44,11 +44,11 @@ fn indexed_by(
     operand: Boxed<Expr>,
     suffixes: Items<Suffix>,
     last: Suffix,
-) -> Result<AssignTarget, SyntaxErr>
+) -> Result<TargetExpr, SyntaxErr>
     ensures { Makes (spec.index_of (grammar.primary_of operand suffixes) (out-Suffix last)) result }
 {
     match last {
-        Suffix::Index(index) => Ok(AssignTarget::Index(
+        Suffix::Index(index) => Ok(TargetExpr::Index(
             primary_of(alloc, operand, suffixes)?,
             index,
         )),
@@ -62,7 +62,7 @@ fn indexed(
     alloc: Global,
     operand: Boxed<Expr>,
     mut suffixes: Items<Suffix>,
-) -> Result<AssignTarget, SyntaxErr>
+) -> Result<TargetExpr, SyntaxErr>
     ensures { Makes (spec.indexed_from operand [] suffixes) result }
 {
     match suffixes.pop() {
@@ -98,8 +98,8 @@ pub struct Targets<F> {
     target: F,
 }
 
-impl<F: Fn(Global, usize, Expr) -> Result<AssignTarget, SyntaxErr>> Targets<F> {
-    fn nested(&self, expr: Expr) -> Result<AssignTarget, SyntaxErr>
+impl<F: Fn(Global, usize, Expr) -> Result<TargetExpr, SyntaxErr>> Targets<F> {
+    fn nested(&self, expr: Expr) -> Result<TargetExpr, SyntaxErr>
         requires { MakesTarget self.now.depth (F.pre self.now.target) (F.post self.now.target) }
         ensures { Makes (spec.target_to self.now.depth expr) result }
     {
@@ -108,7 +108,7 @@ impl<F: Fn(Global, usize, Expr) -> Result<AssignTarget, SyntaxErr>> Targets<F> {
 
     /// The targets that the expressions are.
     #[tactic(auto, using(crate::proofs::Reversed::reverse_last, crate::proofs::Reversed::reverse_reversed))]
-    fn all(&self, exprs: Items<Expr>) -> Result<Items<AssignTarget>, SyntaxErr>
+    fn all(&self, exprs: Items<Expr>) -> Result<Items<TargetExpr>, SyntaxErr>
         requires { MakesTarget self.now.depth (F.pre self.now.target) (F.post self.now.target) }
         ensures { Makes (spec.targets_from (spec.target_to self.now.depth) [] exprs) result }
     {
@@ -120,22 +120,22 @@ impl<F: Fn(Global, usize, Expr) -> Result<AssignTarget, SyntaxErr>> Targets<F> {
         Ok(found)
     }
 
-    fn target(&self, expr: Expr) -> Result<AssignTarget, SyntaxErr>
+    fn target(&self, expr: Expr) -> Result<TargetExpr, SyntaxErr>
         requires { MakesTarget self.now.depth (F.pre self.now.target) (F.post self.now.target) }
         ensures { Makes (spec.target_by (spec.target_to self.now.depth) (out-Expr expr)) result }
     {
         match expr {
-            Expr::Name(name) => Ok(AssignTarget::Name(name)),
+            Expr::Name(name) => Ok(TargetExpr::Name(name)),
             Expr::Primary(operand, suffixes) => indexed(self.alloc, operand, suffixes),
-            Expr::Tuple(exprs) => some(self.all(exprs)?).map(AssignTarget::Tuple),
-            Expr::List(exprs) => some(self.all(exprs)?).map(AssignTarget::List),
+            Expr::Tuple(exprs) => some(self.all(exprs)?).map(TargetExpr::Tuple),
+            Expr::List(exprs) => some(self.all(exprs)?).map(TargetExpr::List),
             other => refused(other),
         }
     }
 }
 
 /// The target that an expression is, which holds so many lists and tuples in one another less one.
-fn target_to(alloc: Global, depth: usize, expr: Expr) -> Result<AssignTarget, SyntaxErr>
+fn target_to(alloc: Global, depth: usize, expr: Expr) -> Result<TargetExpr, SyntaxErr>
     ensures { Makes (spec.target_to depth expr) result }
 {
     if depth == 0 {
@@ -151,7 +151,7 @@ fn target_to(alloc: Global, depth: usize, expr: Expr) -> Result<AssignTarget, Sy
 
 /// The target that an expression is, which holds so many lists and tuples in one another.
 #[tactic(auto, unfolding(bq_parse_grammar::specs::Targets::target_to))]
-pub fn target(alloc: Global, depth: usize, expr: Expr) -> Result<AssignTarget, SyntaxErr>
+pub fn target(alloc: Global, depth: usize, expr: Expr) -> Result<TargetExpr, SyntaxErr>
     ensures { Makes (spec.target_to (suc depth) expr) result }
 {
     Targets {
@@ -164,11 +164,11 @@ pub fn target(alloc: Global, depth: usize, expr: Expr) -> Result<AssignTarget, S
 
 /// What an augmented assignment may assign to.
 #[tactic(auto, unfolding(bq_parse_grammar::specs::Targets::augmented_target))]
-pub fn augmented_target(alloc: Global, expr: Expr) -> Result<AssignTarget, SyntaxErr>
+pub fn augmented_target(alloc: Global, expr: Expr) -> Result<TargetExpr, SyntaxErr>
     ensures { Makes (spec.augmented_target expr) result }
 {
     match expr {
-        Expr::Name(name) => Ok(AssignTarget::Name(name)),
+        Expr::Name(name) => Ok(TargetExpr::Name(name)),
         Expr::Primary(operand, suffixes) => indexed(alloc, operand, suffixes),
         other => refused(other),
     }

@@ -7,7 +7,7 @@ use Rattle.bq_parse_grammar.specs.Lexeme.{Lexeme}
 use Rattle.bq_parse_grammar.specs.declared.tree.Expr.{Expr}
 use Rattle.bq_parse_grammar.specs.declared.tree.Nested.TheVariants.{Test}
 use Rattle.bq_parse_grammar.specs.declared.tree.Identifier.{Identifier}
-use Rattle.bq_parse_grammar.specs.declared.tree.AssignTarget.{AssignTarget}
+use Rattle.bq_parse_grammar.specs.declared.tree.TargetExpr.{TargetExpr}
 use Rattle.bq_parse_grammar.specs.declared.tree.Parameter.{Parameter}
 use Rattle.bq_parse_grammar.specs.declared.parameters.AllowedParameters.TheVariants as ap
 use Rattle.bq_parse_grammar.specs.declared.tree.SmallStmt.{SmallStmt}
@@ -228,7 +228,7 @@ module _ (depth : ℕ) (Inner : Phrase Stmt) (inner : Parse Stmt) (ag : Agrees f
       (λ c vs h u. then_is (IsSuite depth Inner vs) (IsStmtOver depth Inner (t ∷ ts)) (suite (suc depth) inner vs) (s.For v x) (suite_agrees.sound vs) (λ xs rest q. S.for_stmt v x f w g u h q refl)))
       (λ h rest. let x = h (tok k.Colon ∷ tok k.Pass ∷ tok k.Newline ∷ rest) in let z = a_suite rest in (s.For v x.0 z.0, S.for_stmt v x.0 f w g x.1 (tok_kind k.Colon) z.1 refl))))
 
-  for_met : (ts : List Lexeme) (i : Lexeme) (mid : List Lexeme) (c : Lexeme) (us rest : List Lexeme) (v : AssignTarget) (x : Expr) (xs : List Stmt) (y : Stmt) → IsVars depth ts (i ∷ mid) v → i.kind ≡ k.In
+  for_met : (ts : List Lexeme) (i : Lexeme) (mid : List Lexeme) (c : Lexeme) (us rest : List Lexeme) (v : TargetExpr) (x : Expr) (xs : List Stmt) (y : Stmt) → IsVars depth ts (i ∷ mid) v → i.kind ≡ k.In
       → IsExprTo depth mid (c ∷ us) x → c.kind ≡ k.Colon → IsSuite depth Inner us rest xs → y ≡ s.For v x xs → Met 1 ts (for_stmt (suc depth) inner ts) y rest
   unfolding for_stmt
   for_met ts i mid c us rest v x xs y p g r h q j =

@@ -6,8 +6,8 @@ use Rattle.bq_parse_grammar.specs.declared.refusal.SyntaxErr.TheVariants.{Memory
 use Rattle.bq_parse_grammar.specs.declared.tree.Argument.TheOpen.{Expr-F, Suffix-F}
 use Rattle.bq_parse_grammar.specs.declared.tree.Expr.{Expr, out-Expr}
 use Rattle.bq_parse_grammar.specs.declared.tree.Suffix.{Suffix, out-Suffix}
-use Rattle.bq_parse_grammar.specs.declared.tree.AssignTarget.{AssignTarget}
-use Rattle.bq_parse_grammar.specs.declared.tree.AssignTarget.TheVariants as target
+use Rattle.bq_parse_grammar.specs.declared.tree.TargetExpr.{TargetExpr}
+use Rattle.bq_parse_grammar.specs.declared.tree.TargetExpr.TheVariants as target
 use Rattle.bq_parse_grammar.specs.Grammar.{primary_of}
 use Rattle.bq_parse_grammar.specs.Targets.{ExprLayer, SuffixLayer, with_target, targets_from, many_of, index_of, indexed_from, target_by, target_to, augmented_by, augmented_target}
 use Rattle.bq_parse_grammar.specs.Turns.{Parse, ◌>>=◌}
@@ -18,17 +18,17 @@ abbrev pub Calm : {A : Type 0} → Result A SyntaxErr → Type 0
 Calm (Err Lambda) = ⊥
 Calm _ = Unit {0}
 
-with_calm : {B : Type 0} (r : Result AssignTarget SyntaxErr) (f : AssignTarget → Result B SyntaxErr) → Calm r → ((x : AssignTarget) → Calm (f x)) → Calm (with_target r f)
+with_calm : {B : Type 0} (r : Result TargetExpr SyntaxErr) (f : TargetExpr → Result B SyntaxErr) → Calm r → ((x : TargetExpr) → Calm (f x)) → Calm (with_target r f)
 with_calm (Ok x) f h g = g x
 with_calm (Err Memory) f h g = tt
 with_calm (Err Syntax) f h g = tt
 with_calm (Err Lambda) f h g = absurd h
 
-targets_calm : (one : Expr → Result AssignTarget SyntaxErr) → ((x : Expr) → Calm (one x)) → (found : List AssignTarget) (xs : List Expr) → Calm (targets_from one found xs)
+targets_calm : (one : Expr → Result TargetExpr SyntaxErr) → ((x : Expr) → Calm (one x)) → (found : List TargetExpr) (xs : List Expr) → Calm (targets_from one found xs)
 targets_calm one each found [] = tt
 targets_calm one each found (x ∷ xs) = with_calm (one x) (λ y. targets_from one (found ++ y ∷ []) xs) (each x) (λ y. targets_calm one each (found ++ y ∷ []) xs)
 
-many_calm : (make : List AssignTarget → AssignTarget) (r : Result (List AssignTarget) SyntaxErr) → Calm r → Calm (many_of make r)
+many_calm : (make : List TargetExpr → TargetExpr) (r : Result (List TargetExpr) SyntaxErr) → Calm r → Calm (many_of make r)
 many_calm make (Ok []) h = tt
 many_calm make (Ok (x ∷ xs)) h = tt
 many_calm make (Err Memory) h = tt
@@ -44,7 +44,7 @@ indexed_calm x done [] = tt
 indexed_calm x done (y ∷ []) = index_calm (primary_of x done) (out-Suffix y)
 indexed_calm x done (y ∷ z ∷ zs) = indexed_calm x (done ++ y ∷ []) (z ∷ zs)
 
-by_calm : (inner : Expr → Result AssignTarget SyntaxErr) → ((x : Expr) → Calm (inner x)) → (l : ExprLayer) → Calm (target_by inner l)
+by_calm : (inner : Expr → Result TargetExpr SyntaxErr) → ((x : Expr) → Calm (inner x)) → (l : ExprLayer) → Calm (target_by inner l)
 by_calm inner each (Expr-F.Expr::Name n) = tt
 by_calm inner each (Expr-F.Primary x xs) = indexed_calm x [] xs
 by_calm inner each (Expr-F.Expr::Tuple xs) = many_calm target.Tuple (targets_from inner [] xs) (targets_calm inner each [] xs)

@@ -16,8 +16,8 @@ use Rattle.bq_parse_grammar.specs.declared.tree.Nested.TheVariants.{Test}
 use Rattle.bq_parse_grammar.specs.declared.tree.Pair.{Pair}
 use Rattle.bq_parse_grammar.specs.declared.tree.Suffix.{Suffix}
 use Rattle.bq_parse_grammar.specs.declared.tree.Suffix.TheVariants as s
-use Rattle.bq_parse_grammar.specs.declared.tree.AssignTarget.{AssignTarget}
-use Rattle.bq_parse_grammar.specs.declared.tree.AssignTarget.TheVariants as target
+use Rattle.bq_parse_grammar.specs.declared.tree.TargetExpr.{TargetExpr}
+use Rattle.bq_parse_grammar.specs.declared.tree.TargetExpr.TheVariants as target
 use Rattle.bq_parse_grammar.specs.Literals.{identifier}
 use Rattle.bq_parse_grammar.specs.Phrases.{Phrase, none, Repeat, over, again}
 use Rattle.bq_parse_grammar.specs.Grammar as G
@@ -146,7 +146,7 @@ module _ (depth : ℕ) (ts : List Lexeme) (x : Expr) (q : Lexeme) (mid : List Le
       go more (cut f) = absurd (not_cut (λ rest. let v = owed (IsSuffixTo depth m) _ ((suffix_to_agrees depth).sound m) f rest in lift rest (v.0 ∷ []) (again v.1 over)))
 
 -- an index ends with its bracket
-pub index_ends : (depth : ℕ) (ts : List Lexeme) (x : Expr) (q : Lexeme) (mid : List Lexeme) (y : AssignTarget) → expr_to (suc depth) ts ≡ Ok (x, q ∷ mid) → IsIndexed depth ts (q ∷ mid) y
+pub index_ends : (depth : ℕ) (ts : List Lexeme) (x : Expr) (q : Lexeme) (mid : List Lexeme) (y : TargetExpr) → expr_to (suc depth) ts ≡ Ok (x, q ∷ mid) → IsIndexed depth ts (q ∷ mid) y
     → ended_by k.RightParen ts (q ∷ mid) ≡ false
 index_ends zero ts x q mid y read (S.indexed c z zs i p ps f r g h) = absurd r
 index_ends (suc depth) ts x q mid y read (S.indexed {o = o} c {mid = m} {us = us} z zs i p ps f r g h) = go ((expr_to_agrees depth).complete us (c ∷ q ∷ mid) i r (subst (λ j. ends 12 j ≡ true) (sym g) refl))
@@ -208,7 +208,7 @@ augmented-DictComprehension : (p : Pair) (cs : List Clause) → augmented_target
 unfolding augmented_target
 augmented-DictComprehension p cs = search (rules, the_lemmas)
 
-augmented_form : (x : Expr) (y : AssignTarget) → augmented_target x ≡ Ok y → has_form x ≡ true
+augmented_form : (x : Expr) (y : TargetExpr) → augmented_target x ≡ Ok y → has_form x ≡ true
 unfolding augmented_target
 augmented_form x y h = go (out-Expr x) h
   where
@@ -218,17 +218,17 @@ augmented_form x y h = go (out-Expr x) h
     go _ g = absurd (cc)
 
 -- a name alone, or an index
-pub data IsAssignable (depth : ℕ) (ts rest : List Lexeme) (y : AssignTarget) : Type 0 where
+pub data IsAssignable (depth : ℕ) (ts rest : List Lexeme) (y : TargetExpr) : Type 0 where
   a_name : (n : Lexeme) → ts ≡ n ∷ rest → n.kind ≡ k.Identifier → y ≡ target.Name (identifier n) → IsAssignable depth ts rest y
   an_index : IsIndexed depth ts rest y → IsAssignable depth ts rest y
 
-module _ (depth : ℕ) (ts : List Lexeme) (x : Expr) (q : Lexeme) (mid : List Lexeme) (y : AssignTarget) (read : expr_to (suc depth) ts ≡ Ok (x, q ∷ mid)) (takes : augmented_target x ≡ Ok y)
+module _ (depth : ℕ) (ts : List Lexeme) (x : Expr) (q : Lexeme) (mid : List Lexeme) (y : TargetExpr) (read : expr_to (suc depth) ts ≡ Ok (x, q ∷ mid)) (takes : augmented_target x ≡ Ok y)
     (open_ : ended_by k.RightParen ts (q ∷ mid) ≡ false) where
   -- in parentheses
   never_closed : (c : Lexeme) → c.kind ≡ k.RightParen → Later ts (c ∷ q ∷ mid) → ⊥
   never_closed c f w = clash (kind_is c.kind k.RightParen f) (sym (last_is k.RightParen ts (q ∷ mid) c w) ∙ open_)
 
-  operand_open : (O T : Phrase Expr) (V : Phrase AssignTarget) (us rest : List Lexeme) (z : Expr) → us ≡ ts → rest ≡ q ∷ mid → augmented_target z ≡ Ok y
+  operand_open : (O T : Phrase Expr) (V : Phrase TargetExpr) (us rest : List Lexeme) (z : Expr) → us ≡ ts → rest ≡ q ∷ mid → augmented_target z ≡ Ok y
       → ((o c : Lexeme) (vs : List Lexeme) (v : Expr) → ts ≡ o ∷ vs → o.kind ≡ k.LeftParen → T vs (c ∷ q ∷ mid) v → c.kind ≡ k.RightParen → ⊥)
       → IsOperand O T V us rest z → IsAssignable depth ts (q ∷ mid) y
   operand_open O T V us rest z a b h paren (G.a_name {t = t} g i) =
@@ -244,7 +244,7 @@ module _ (depth : ℕ) (ts : List Lexeme) (x : Expr) (q : Lexeme) (mid : List Le
   operand_open O T V us rest z a b h paren (G.a_dict_comprehension {p = v} {cs = cs} g p ps j i) = absurd (no_target _ y (ap augmented_target i ∙ augmented-DictComprehension v cs) h)
 
 -- parentheses around it, at a depth
-in_parens : (depth : ℕ) (ts : List Lexeme) (x : Expr) (q : Lexeme) (mid : List Lexeme) (y : AssignTarget) → expr_to (suc (suc depth)) ts ≡ Ok (x, q ∷ mid) → augmented_target x ≡ Ok y
+in_parens : (depth : ℕ) (ts : List Lexeme) (x : Expr) (q : Lexeme) (mid : List Lexeme) (y : TargetExpr) → expr_to (suc (suc depth)) ts ≡ Ok (x, q ∷ mid) → augmented_target x ≡ Ok y
     → ended_by k.RightParen ts (q ∷ mid) ≡ false
     → (o c : Lexeme) (vs : List Lexeme) (v : Expr) → ts ≡ o ∷ vs → o.kind ≡ k.LeftParen → IsTestTo depth vs (c ∷ q ∷ mid) v → c.kind ≡ k.RightParen → ⊥
 in_parens depth ts x q mid y read takes open_ o c vs v f g p h = go ((test_to_agrees depth).complete vs (c ∷ q ∷ mid) v p (subst (λ j. ends 11 j ≡ true) (sym h) refl))
@@ -255,7 +255,7 @@ in_parens depth ts x q mid y read takes open_ o c vs v f g p h = go ((test_to_ag
         (λ rest. let w = owed (suc depth) ts x q mid read (IsTestTo depth vs) (phrase (suc depth) Test vs) ((test_to_agrees depth).sound vs) a (tok k.RightParen ∷ rest) in
         (w.0, subst (λ m. IsPrimaryTo (suc depth) m rest w.0) (sym f) (G.primary (G.parenthesized g w.1 (tok_kind k.RightParen)) over refl)))
 
-pub assignable : (depth : ℕ) (ts : List Lexeme) (x : Expr) (q : Lexeme) (mid : List Lexeme) (y : AssignTarget) → expr_to (suc depth) ts ≡ Ok (x, q ∷ mid) → augmented_target x ≡ Ok y
+pub assignable : (depth : ℕ) (ts : List Lexeme) (x : Expr) (q : Lexeme) (mid : List Lexeme) (y : TargetExpr) → expr_to (suc depth) ts ≡ Ok (x, q ∷ mid) → augmented_target x ≡ Ok y
     → ended_by k.RightParen ts (q ∷ mid) ≡ false → IsExprTo depth ts (q ∷ mid) x → IsAssignable depth ts (q ∷ mid) y
 assignable depth ts x q mid y read takes open_ (G.tests {x = a} p (again {x = b} {xs = bs} r rs) i) = absurd (no_target _ y (ap augmented_target i ∙ augmented-Tuple (a ∷ b ∷ bs)) takes)
 assignable depth ts x q mid y read takes open_ (G.tests {x = a} p over i) =

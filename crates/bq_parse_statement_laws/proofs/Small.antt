@@ -12,8 +12,8 @@ use Rattle.bq_parse_grammar.specs.declared.tree.Suffix.TheVariants as s
 use Rattle.bq_parse_grammar.specs.declared.tree.SmallKind.{SmallKind}
 use Rattle.bq_parse_grammar.specs.declared.tree.SmallKind.TheVariants as small
 use Rattle.bq_parse_grammar.specs.declared.tree.SmallStmt.{SmallStmt}
-use Rattle.bq_parse_grammar.specs.declared.tree.AssignTarget.{AssignTarget}
-use Rattle.bq_parse_grammar.specs.declared.tree.AssignTarget.TheVariants as target
+use Rattle.bq_parse_grammar.specs.declared.tree.TargetExpr.{TargetExpr}
+use Rattle.bq_parse_grammar.specs.declared.tree.TargetExpr.TheVariants as target
 use Rattle.bq_parse_grammar.specs.Literals.{identifier}
 use Rattle.bq_parse_grammar.specs.Operators.{augmented}
 use Rattle.bq_parse_grammar.specs.Grammar.{IsExprTo}
@@ -104,7 +104,7 @@ module _ (depth : ℕ) where
       made_then (IsSmallKind depth ts) (augmented_target x) (λ y us. looked_up augmented us >>= λ o ws. expr_to (suc depth) ws >>= λ v rest. Ok (small.Augment y o v, rest)) (q ∷ us) (augmented_calm x)
       (λ y takes. go y (augmented q.kind) refl (assignable depth ts x q us y read takes g p))
     where
-      go : (y : AssignTarget) (o : Option Operator) → augmented q.kind ≡ o → IsAssignable depth ts (q ∷ us) y
+      go : (y : TargetExpr) (o : Option Operator) → augmented q.kind ≡ o → IsAssignable depth ts (q ∷ us) y
           → Owes SmallKind (IsSmallKind depth ts) (known o us >>= λ o ws. expr_to (suc depth) ws >>= λ v rest. Ok (small.Augment y o v, rest))
       go y None f w = tt
       go y (Some o) f (a_name n i j l) = then_is (IsExprTo depth us) (IsSmallKind depth ts) (expr_to (suc depth) us) (small.Augment y o) ((expr_to_agrees depth).sound us)
@@ -137,7 +137,7 @@ module _ (depth : ℕ) where
       (met_no (sees k.Assign rest) _ (cond (has augmented rest) (augmented_as (suc depth) (ended_by k.RightParen ts rest) x rest) (Ok (small.Expr x, rest))) (unseen k.Assign rest refl st)
       (met_no (has augmented rest) _ (Ok (small.Expr x, rest)) (not_augmented rest st) (met_as (sym f) (met_done (small.Expr x) rest))))
 
-  assign_met : (ts : List Lexeme) (q : Lexeme) (mid rest : List Lexeme) (x : AssignTarget) (v : Expr) (y : SmallKind) → S.IsTarget depth ts (q ∷ mid) x → q.kind ≡ k.Assign → IsExprTo depth mid rest v
+  assign_met : (ts : List Lexeme) (q : Lexeme) (mid rest : List Lexeme) (x : TargetExpr) (v : Expr) (y : SmallKind) → S.IsTarget depth ts (q ∷ mid) x → q.kind ≡ k.Assign → IsExprTo depth mid rest v
       → y ≡ small.Assign x v → EndsStmt rest → Met 1 ts (expression (suc depth) ts) y rest
   unfolding expression
   assign_met ts q mid rest x v y p f pv g st = let w = target_comes depth ts (q ∷ mid) x p in
@@ -148,7 +148,7 @@ module _ (depth : ℕ) where
       (met_less (met_then (expr_to (suc depth) mid) (λ v rest. Ok (small.Assign x v, rest)) ((expr_to_agrees depth).complete mid rest v pv (wide rest st)) (met_as (sym g) (met_done (small.Assign x v) rest))))))))
 
   -- after a left side that an augmented assignment may have
-  augment_met : (ts : List Lexeme) (q : Lexeme) (mid rest : List Lexeme) (x : Expr) (z : AssignTarget) (o : Operator) (v : Expr) (y : SmallKind) → IsExprTo depth ts (q ∷ mid) x → augmented_target x ≡ Ok z
+  augment_met : (ts : List Lexeme) (q : Lexeme) (mid rest : List Lexeme) (x : Expr) (z : TargetExpr) (o : Operator) (v : Expr) (y : SmallKind) → IsExprTo depth ts (q ∷ mid) x → augmented_target x ≡ Ok z
       → (expr_to (suc depth) ts ≡ Ok (x, q ∷ mid) → ended_by k.RightParen ts (q ∷ mid) ≡ false) → augmented q.kind ≡ Some o → IsExprTo depth mid rest v → y ≡ small.Augment z o v → EndsStmt rest
       → Met 1 ts (expression (suc depth) ts) y rest
   unfolding expression

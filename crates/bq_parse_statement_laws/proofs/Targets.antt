@@ -14,8 +14,8 @@ use Rattle.bq_parse_grammar.specs.declared.tree.Identifier.{Identifier}
 use Rattle.bq_parse_grammar.specs.declared.tree.Pair.{Pair}
 use Rattle.bq_parse_grammar.specs.declared.tree.Suffix.{Suffix, out-Suffix}
 use Rattle.bq_parse_grammar.specs.declared.tree.Suffix.TheVariants as s
-use Rattle.bq_parse_grammar.specs.declared.tree.AssignTarget.{AssignTarget}
-use Rattle.bq_parse_grammar.specs.declared.tree.AssignTarget.TheVariants as target
+use Rattle.bq_parse_grammar.specs.declared.tree.TargetExpr.{TargetExpr}
+use Rattle.bq_parse_grammar.specs.declared.tree.TargetExpr.TheVariants as target
 use Rattle.bq_parse_grammar.specs.Literals.{identifier}
 use Rattle.bq_parse_grammar.specs.Phrases.{Phrase, none, Repeat, over, again, Listed, none_listed, last_listed, more_listed, CommaThen, comma_then}
 use Rattle.bq_parse_grammar.specs.Grammar as G
@@ -63,11 +63,11 @@ target-DictComprehension : (f : ℕ) (p : Pair) (cs : List Clause) → target_to
 unfolding target_to
 target-DictComprehension f p cs = search (rules, the_lemmas)
 
-target_zero : (x : Expr) (y : AssignTarget) → target_to zero x ≡ Ok y → ⊥
+target_zero : (x : Expr) (y : TargetExpr) → target_to zero x ≡ Ok y → ⊥
 unfolding target_to
 target_zero x y h = absurd (cc)
 
-pub target_form : (f : ℕ) (x : Expr) (y : AssignTarget) → target_to f x ≡ Ok y → has_form x ≡ true
+pub target_form : (f : ℕ) (x : Expr) (y : TargetExpr) → target_to f x ≡ Ok y → has_form x ≡ true
 unfolding target_to
 target_form zero x y h = absurd (cc)
 target_form (suc f) x y h = go (out-Expr x) h
@@ -104,7 +104,7 @@ primary_more : (x : Expr) (xs : List Suffix) (y : Suffix) → primary_of x (xs +
 primary_more x [] y = refl
 primary_more x (z ∷ zs) y = refl
 
-pub no_target : (r : Result AssignTarget SyntaxErr) (x : AssignTarget) → r ≡ Err Syntax → r ≡ Ok x → ⊥
+pub no_target : (r : Result TargetExpr SyntaxErr) (x : TargetExpr) → r ≡ Err Syntax → r ≡ Ok x → ⊥
 no_target r x f h = let w = sym f ∙ h in absurd (cc)
 
 abbrev pub Done : {A : Type 0} → A → Result A SyntaxErr
@@ -120,7 +120,7 @@ ok_same {A = A} {x = x} h = ap (value x) h
 -- ---- from targets to expressions
 
 -- an expression that is this target, whatever more lists and tuples it might hold
-abbrev Comes : Phrase Expr → ℕ → List Lexeme → List Lexeme → AssignTarget → Type 0
+abbrev Comes : Phrase Expr → ℕ → List Lexeme → List Lexeme → TargetExpr → Type 0
 Comes T n ts rest x = (y : Expr) × T ts rest y × ((f : ℕ) → n ≤ f → target_to (suc f) y ≡ Ok x)
 
 pub repeat_snoc : {A : Type 0} (X : Phrase A) (ts mid rest : List Lexeme) (xs : List A) (y : A) → Repeat X ts mid xs → X mid rest y → Repeat X ts rest (xs ++ y ∷ [])
@@ -133,7 +133,7 @@ index_suffix : (depth : ℕ) (o c : Lexeme) (us rest : List Lexeme) (i : Expr) �
 index_suffix zero o c us rest i f p g = absurd p
 index_suffix (suc depth) o c us rest i f (G.tests p ps h) g = G.index f (G.tests p ps h) g refl
 
-pub indexed_expr : (depth : ℕ) (ts rest : List Lexeme) (x : AssignTarget) → IsIndexed depth ts rest x
+pub indexed_expr : (depth : ℕ) (ts rest : List Lexeme) (x : TargetExpr) → IsIndexed depth ts rest x
     → (z : Expr) × (zs : List Suffix) × (i : Expr) × IsPrimaryTo depth ts rest (e.Primary z (zs ++ s.Index i ∷ [])) × (x ≡ target.Index (primary_of z zs) i)
 indexed_expr depth ts rest x (S.indexed {o = o} c {mid = mid} {us = us} z zs i p ps f q g h) = (
   z,
@@ -147,16 +147,16 @@ indexed_expr depth ts rest x (S.indexed {o = o} c {mid = mid} {us = us} z zs i p
 pub indexed_value : (z : Expr) (zs : List Suffix) (i : Expr) → indexed_from z [] (zs ++ s.Index i ∷ []) ≡ Ok (target.Index (primary_of z zs) i)
 indexed_value z zs i = indexed_last z [] zs (s.Index i) ∙ index-Index (primary_of z zs) i
 
-indexed_comes : (depth : ℕ) (ts rest : List Lexeme) (x : AssignTarget) → IsIndexed depth ts rest x → Comes (IsPrimaryTo depth) depth ts rest x
+indexed_comes : (depth : ℕ) (ts rest : List Lexeme) (x : TargetExpr) → IsIndexed depth ts rest x → Comes (IsPrimaryTo depth) depth ts rest x
 indexed_comes depth ts rest x p = let w = indexed_expr depth ts rest x p in (
   e.Primary w.0 (w.1 ++ s.Index w.2 ∷ []),
   w.3,
   λ f le. target-Primary f w.0 (w.1 ++ s.Index w.2 ∷ []) ∙ indexed_value w.0 w.1 w.2 ∙ ap Ok (sym w.4),
 )
 
-module _ (T : Phrase Expr) (Inner : Phrase AssignTarget) (n : ℕ) (down : (ts rest : List Lexeme) (x : AssignTarget) → Inner ts rest x → Comes T n ts rest x) where
-  listed_comes : (close : TokenKind) (ts rest : List Lexeme) (xs : List AssignTarget) → Listed close Inner ts rest xs
-      → (ys : List Expr) × Listed close T ts rest ys × ((f : ℕ) → n ≤ f → (found : List AssignTarget) → targets_from (target_to (suc f)) found ys ≡ Ok (found ++ xs))
+module _ (T : Phrase Expr) (Inner : Phrase TargetExpr) (n : ℕ) (down : (ts rest : List Lexeme) (x : TargetExpr) → Inner ts rest x → Comes T n ts rest x) where
+  listed_comes : (close : TokenKind) (ts rest : List Lexeme) (xs : List TargetExpr) → Listed close Inner ts rest xs
+      → (ys : List Expr) × Listed close T ts rest ys × ((f : ℕ) → n ≤ f → (found : List TargetExpr) → targets_from (target_to (suc f)) found ys ≡ Ok (found ++ xs))
   listed_comes close ts rest xs (none_listed g) = ([], none_listed g, λ f le found. ap Ok (sym (append-nil found)))
   listed_comes close ts rest xs (last_listed {t = t} {x = x} p g) = let w = down ts (t ∷ rest) x p in (
     w.0 ∷ [],
@@ -169,8 +169,8 @@ module _ (T : Phrase Expr) (Inner : Phrase AssignTarget) (n : ℕ) (down : (ts r
     λ f le found. ap (λ r. with_target r (λ y. targets_from (target_to (suc f)) (found ++ y ∷ []) v.0)) (w.2 f le) ∙ v.2 f le (found ++ x ∷ []) ∙ ap Ok (append_assoc found (x ∷ []) zs),
   )
 
-  repeat_comes : (ts rest : List Lexeme) (xs : List AssignTarget) → Repeat (CommaThen Inner) ts rest xs
-      → (ys : List Expr) × Repeat (CommaThen T) ts rest ys × ((f : ℕ) → n ≤ f → (found : List AssignTarget) → targets_from (target_to (suc f)) found ys ≡ Ok (found ++ xs))
+  repeat_comes : (ts rest : List Lexeme) (xs : List TargetExpr) → Repeat (CommaThen Inner) ts rest xs
+      → (ys : List Expr) × Repeat (CommaThen T) ts rest ys × ((f : ℕ) → n ≤ f → (found : List TargetExpr) → targets_from (target_to (suc f)) found ys ≡ Ok (found ++ xs))
   repeat_comes ts rest xs over = ([], over, λ f le found. ap Ok (sym (append-nil found)))
   repeat_comes ts rest xs (again {mid = mid} {x = x} {xs = zs} (comma_then {ts = us} g p) ps) = let w = down us mid x p in let v = repeat_comes mid rest zs ps in (
     w.0 ∷ v.0,
@@ -178,11 +178,11 @@ module _ (T : Phrase Expr) (Inner : Phrase AssignTarget) (n : ℕ) (down : (ts r
     λ f le found. ap (λ r. with_target r (λ y. targets_from (target_to (suc f)) (found ++ y ∷ []) v.0)) (w.2 f le) ∙ v.2 f le (found ++ x ∷ []) ∙ ap Ok (append_assoc found (x ∷ []) zs),
   )
 
-test_comes : (depth : ℕ) → ((ts rest : List Lexeme) (x : AssignTarget) → IsItem depth ts rest x → Comes (IsPrimaryTo depth) depth ts rest x)
-    → (ts rest : List Lexeme) (x : AssignTarget) → IsItem depth ts rest x → Comes (IsTestTo depth) depth ts rest x
+test_comes : (depth : ℕ) → ((ts rest : List Lexeme) (x : TargetExpr) → IsItem depth ts rest x → Comes (IsPrimaryTo depth) depth ts rest x)
+    → (ts rest : List Lexeme) (x : TargetExpr) → IsItem depth ts rest x → Comes (IsTestTo depth) depth ts rest x
 test_comes depth comes ts rest x p = let w = comes ts rest x p in (w.0, test_up (IsPrimaryTo depth) ts rest w.0 w.1, w.2)
 
-item_comes : (depth : ℕ) (ts rest : List Lexeme) (x : AssignTarget) → IsItem depth ts rest x → Comes (IsPrimaryTo depth) depth ts rest x
+item_comes : (depth : ℕ) (ts rest : List Lexeme) (x : TargetExpr) → IsItem depth ts rest x → Comes (IsPrimaryTo depth) depth ts rest x
 item_comes zero ts rest x (S.name {t = t} g h) = (e.Name (identifier t), G.primary (G.a_name g refl) over refl, λ f le. target-Name f (identifier t) ∙ ap Ok (sym h))
 item_comes zero ts rest x (S.index p) = indexed_comes zero ts rest x p
 item_comes zero ts rest x (S.parenthesized g p h) = absurd p
@@ -205,9 +205,9 @@ item_comes (suc depth) ts rest x (S.tuple {c = c} {ts = us} {mid = mid} {x = y} 
       tuple_value target.Tuple y ys x i (w.0) v.0 (λ f. e.Tuple (w.0 ∷ v.0)) (λ f. target-Tuple f (w.0 ∷ v.0)) w.2 v.2,
     )
   where
-    tuple_value : (make : List AssignTarget → AssignTarget) (y : AssignTarget) (ys : List AssignTarget) (x : AssignTarget) → x ≡ make (y ∷ ys) → (w : Expr) (v : List Expr) (whole : ℕ → Expr)
+    tuple_value : (make : List TargetExpr → TargetExpr) (y : TargetExpr) (ys : List TargetExpr) (x : TargetExpr) → x ≡ make (y ∷ ys) → (w : Expr) (v : List Expr) (whole : ℕ → Expr)
         → ((f : ℕ) → target_to (suc f) (whole f) ≡ many_of make (targets_from (target_to f) [] (w ∷ v)))
-        → ((f : ℕ) → depth ≤ f → target_to (suc f) w ≡ Ok y) → ((f : ℕ) → depth ≤ f → (found : List AssignTarget) → targets_from (target_to (suc f)) found v ≡ Ok (found ++ ys))
+        → ((f : ℕ) → depth ≤ f → target_to (suc f) w ≡ Ok y) → ((f : ℕ) → depth ≤ f → (found : List TargetExpr) → targets_from (target_to (suc f)) found v ≡ Ok (found ++ ys))
         → (f : ℕ) → suc depth ≤ f → target_to (suc f) (whole f) ≡ Ok x
     tuple_value make y ys x i w v whole open_ a b zero le = absurd (omega arith)
     tuple_value make y ys x i w v whole open_ a b (suc f) le =
@@ -220,12 +220,12 @@ item_comes (suc depth) ts rest x (S.list {ts = us} {x = y} {xs = ys} g ps i) =
       list_value v.0 v.2,
     )
   where
-    list_value : (v : List Expr) → ((f : ℕ) → depth ≤ f → (found : List AssignTarget) → targets_from (target_to (suc f)) found v ≡ Ok (found ++ y ∷ ys))
+    list_value : (v : List Expr) → ((f : ℕ) → depth ≤ f → (found : List TargetExpr) → targets_from (target_to (suc f)) found v ≡ Ok (found ++ y ∷ ys))
         → (f : ℕ) → suc depth ≤ f → target_to (suc f) (e.List v) ≡ Ok x
     list_value v b zero le = absurd (omega arith)
     list_value v b (suc f) le = target-List (suc f) v ∙ ap (many_of target.List) (b f (omega arith) []) ∙ ap Ok (sym i)
 
-pub target_comes : (depth : ℕ) (ts rest : List Lexeme) (x : AssignTarget) → IsTarget depth ts rest x
+pub target_comes : (depth : ℕ) (ts rest : List Lexeme) (x : TargetExpr) → IsTarget depth ts rest x
     → (y : Expr) × IsExprTo depth ts rest y × ((f : ℕ) → suc depth ≤ f → target_to (suc f) y ≡ Ok x)
 target_comes depth ts rest x (S.items {mid = mid} {x = y} p over h) = let w = item_comes depth ts mid y p in
     (w.0, expr_up depth ts rest w.0 w.1, λ f le. w.2 f (omega arith) ∙ ap Ok (sym h))
@@ -240,7 +240,7 @@ target_comes depth ts rest x (S.items {mid = mid} {x = y} p (again {mid = m} {x 
     )
   where
     value : (a b : Expr) (v : List Expr) → ((f : ℕ) → depth ≤ f → target_to (suc f) a ≡ Ok y) → ((f : ℕ) → depth ≤ f → target_to (suc f) b ≡ Ok z)
-        → ((f : ℕ) → depth ≤ f → (found : List AssignTarget) → targets_from (target_to (suc f)) found v ≡ Ok (found ++ zs)) → (f : ℕ) → suc depth ≤ f
+        → ((f : ℕ) → depth ≤ f → (found : List TargetExpr) → targets_from (target_to (suc f)) found v ≡ Ok (found ++ zs)) → (f : ℕ) → suc depth ≤ f
         → target_to (suc f) (e.Tuple (a ∷ b ∷ v)) ≡ Ok x
     value a b v i j l zero le = absurd (omega arith)
     value a b v i j l (suc f) le = target-Tuple (suc f) (a ∷ b ∷ v)
@@ -250,19 +250,19 @@ target_comes depth ts rest x (S.items {mid = mid} {x = y} p (again {mid = m} {x 
 
 -- ---- from expressions to targets
 
-target_given : {A : Type 0} (r : Result AssignTarget SyntaxErr) (g : AssignTarget → Result A SyntaxErr) (z : A) → with_target r g ≡ Ok z → (x : AssignTarget) × (r ≡ Ok x) × (g x ≡ Ok z)
+target_given : {A : Type 0} (r : Result TargetExpr SyntaxErr) (g : TargetExpr → Result A SyntaxErr) (z : A) → with_target r g ≡ Ok z → (x : TargetExpr) × (r ≡ Ok x) × (g x ≡ Ok z)
 target_given (Ok x) g z h = (x, refl, h)
 target_given (Err why) g z h = absurd (cc)
 
-many_given : (make : List AssignTarget → AssignTarget) (r : Result (List AssignTarget) SyntaxErr) (x : AssignTarget) → many_of make r ≡ Ok x
-    → (z : AssignTarget) × (zs : List AssignTarget) × (r ≡ Ok (z ∷ zs)) × (x ≡ make (z ∷ zs))
+many_given : (make : List TargetExpr → TargetExpr) (r : Result (List TargetExpr) SyntaxErr) (x : TargetExpr) → many_of make r ≡ Ok x
+    → (z : TargetExpr) × (zs : List TargetExpr) × (r ≡ Ok (z ∷ zs)) × (x ≡ make (z ∷ zs))
 many_given make (Ok []) x h = absurd (cc)
 many_given make (Ok (z ∷ zs)) x h = (z, zs, refl, sym (ok_same h))
 many_given make (Err why) x h = absurd (cc)
 
-module _ (T : Phrase Expr) (Inner : Phrase AssignTarget) (up : (f : ℕ) (ts rest : List Lexeme) (x : AssignTarget) (y : Expr) → T ts rest y → target_to f y ≡ Ok x → Inner ts rest x) where
-  listed_back : (close : TokenKind) (f : ℕ) (ts rest : List Lexeme) (ys : List Expr) (found zs : List AssignTarget) → Listed close T ts rest ys → targets_from (target_to f) found ys ≡ Ok zs
-      → (xs : List AssignTarget) × (zs ≡ found ++ xs) × Listed close Inner ts rest xs
+module _ (T : Phrase Expr) (Inner : Phrase TargetExpr) (up : (f : ℕ) (ts rest : List Lexeme) (x : TargetExpr) (y : Expr) → T ts rest y → target_to f y ≡ Ok x → Inner ts rest x) where
+  listed_back : (close : TokenKind) (f : ℕ) (ts rest : List Lexeme) (ys : List Expr) (found zs : List TargetExpr) → Listed close T ts rest ys → targets_from (target_to f) found ys ≡ Ok zs
+      → (xs : List TargetExpr) × (zs ≡ found ++ xs) × Listed close Inner ts rest xs
   listed_back close f ts rest ys found zs (none_listed g) h = ([], sym (ok_same h) ∙ sym (append-nil found), none_listed g)
   listed_back close f ts rest ys found zs (last_listed {t = t} {x = y} p g) h =
       let w = target_given (target_to f y) (λ z. targets_from (target_to f) (found ++ z ∷ []) []) zs h in
@@ -272,8 +272,8 @@ module _ (T : Phrase Expr) (Inner : Phrase AssignTarget) (up : (f : ℕ) (ts res
       let v = listed_back close f mid rest vs (found ++ w.0 ∷ []) zs ps w.2 in
       (w.0 ∷ v.0, v.1 ∙ append_assoc found (w.0 ∷ []) v.0, more_listed (up f ts (t ∷ mid) w.0 y p w.1) g v.2)
 
-  repeat_back : (f : ℕ) (ts rest : List Lexeme) (ys : List Expr) (found zs : List AssignTarget) → Repeat (CommaThen T) ts rest ys → targets_from (target_to f) found ys ≡ Ok zs
-      → (xs : List AssignTarget) × (zs ≡ found ++ xs) × Repeat (CommaThen Inner) ts rest xs
+  repeat_back : (f : ℕ) (ts rest : List Lexeme) (ys : List Expr) (found zs : List TargetExpr) → Repeat (CommaThen T) ts rest ys → targets_from (target_to f) found ys ≡ Ok zs
+      → (xs : List TargetExpr) × (zs ≡ found ++ xs) × Repeat (CommaThen Inner) ts rest xs
   repeat_back f ts rest ys found zs over h = ([], sym (ok_same h) ∙ sym (append-nil found), over)
   repeat_back f ts rest ys found zs (again {mid = mid} {x = y} {xs = vs} (comma_then {ts = us} g p) ps) h =
       let w = target_given (target_to f y) (λ z. targets_from (target_to f) (found ++ z ∷ []) vs) zs h in
@@ -291,7 +291,7 @@ split_last {A = A} X ts mid rest x xs p (again {mid = m} {x = y} {xs = ys} q qs)
     go : LastOf X mid rest (y ∷ ys) → LastOf X ts rest (x ∷ y ∷ ys)
     go (last_of l zs z g ps r) = last_of l (x ∷ zs) z (ap (λ vs. x ∷ vs) g) (again p ps) r
 
-index_back : (depth : ℕ) (z : Expr) (mid rest : List Lexeme) (y : Suffix) (x : AssignTarget) → IsSuffixTo depth mid rest y → index_of z (out-Suffix y) ≡ Ok x
+index_back : (depth : ℕ) (z : Expr) (mid rest : List Lexeme) (y : Suffix) (x : TargetExpr) → IsSuffixTo depth mid rest y → index_of z (out-Suffix y) ≡ Ok x
     → (o c : Lexeme) × (us : List Lexeme) × (i : Expr) × (mid ≡ o ∷ us) × (o.kind ≡ k.LeftBracket) × IsIndexTo depth us (c ∷ rest) i × (c.kind ≡ k.RightBracket) × (x ≡ target.Index z i)
 index_back zero z mid rest y x (G.attribute {n = n} f g h i) r = absurd (no_target _ x (ap (λ y. index_of z (out-Suffix y)) i ∙ index-Attribute z (identifier n)) r)
 index_back zero z mid rest y x (G.method {n = n} {xs = xs} f g h p i) r = absurd (no_target _ x (ap (λ y. index_of z (out-Suffix y)) i ∙ index-Method z (identifier n) xs) r)
@@ -307,7 +307,7 @@ index_back (suc depth) z mid rest y x (G.stepped {x = a} {y = b} {w = w} f p g q
 index_back (suc depth) z mid rest y x (G.index {o = o} {c = c} {ts = us} {x = i} f (G.tests p ps j) g h) r =
     (o, c, us, i, refl, f, G.tests p ps j, g, sym (ok_same (sym (ap (λ y. index_of z (out-Suffix y)) h ∙ index-Index z i) ∙ r)))
 
-pub indexed_back : (depth : ℕ) (ts mid m rest : List Lexeme) (z : Expr) (y : Suffix) (ys : List Suffix) (x : AssignTarget) → IsOperandTo depth ts mid z → IsSuffixTo depth mid m y
+pub indexed_back : (depth : ℕ) (ts mid m rest : List Lexeme) (z : Expr) (y : Suffix) (ys : List Suffix) (x : TargetExpr) → IsOperandTo depth ts mid z → IsSuffixTo depth mid m y
     → Repeat (IsSuffixTo depth) m rest ys → indexed_from z [] (y ∷ ys) ≡ Ok x → IsIndexed depth ts rest x
 indexed_back depth ts mid m rest z y ys x p q qs h = go (split_last (IsSuffixTo depth) mid m rest y ys q qs)
   where
@@ -316,9 +316,9 @@ indexed_back depth ts mid m rest z y ys x p q qs h = go (split_last (IsSuffixTo 
         let w = index_back depth (primary_of z vs) l rest v x r (sym (indexed_last z [] vs v) ∙ ap (indexed_from z []) (sym g) ∙ h) in
         S.indexed w.1 z vs w.3 p (subst (λ b. Repeat (IsSuffixTo depth) mid b vs) w.4 ps) w.5 w.6 w.7 w.8
 
-module _ (depth : ℕ) (O T : Phrase Expr) (V : Phrase AssignTarget) (Inner : Phrase AssignTarget)
-    (up : (f : ℕ) (ts rest : List Lexeme) (x : AssignTarget) (y : Expr) → T ts rest y → target_to f y ≡ Ok x → Inner ts rest x) where
-  operand_back : (f : ℕ) (ts rest : List Lexeme) (x : AssignTarget) (y : Expr) → IsOperand O T V ts rest y → target_to (suc f) y ≡ Ok x → IsItemOver depth Inner ts rest x
+module _ (depth : ℕ) (O T : Phrase Expr) (V : Phrase TargetExpr) (Inner : Phrase TargetExpr)
+    (up : (f : ℕ) (ts rest : List Lexeme) (x : TargetExpr) (y : Expr) → T ts rest y → target_to f y ≡ Ok x → Inner ts rest x) where
+  operand_back : (f : ℕ) (ts rest : List Lexeme) (x : TargetExpr) (y : Expr) → IsOperand O T V ts rest y → target_to (suc f) y ≡ Ok x → IsItemOver depth Inner ts rest x
   operand_back f ts rest x y (G.a_name {t = t} g i) h = S.name g (sym (ok_same (sym (ap (target_to (suc f)) i ∙ target-Name f (identifier t)) ∙ h)))
   operand_back f ts rest x y (G.an_int g j i) h = absurd (no_target _ x (ap (target_to (suc f)) i ∙ target-Int f _) h)
   operand_back f ts rest x y (G.a_string {b = b} g j i) h = absurd (no_target _ x (ap (target_to (suc f)) i ∙ target-String f b) h)
@@ -337,18 +337,18 @@ module _ (depth : ℕ) (O T : Phrase Expr) (V : Phrase AssignTarget) (Inner : Ph
   operand_back f ts rest x y (G.a_dict {ps = zs} g ps i) h = absurd (no_target _ x (ap (target_to (suc f)) i ∙ target-Dict f zs) h)
   operand_back f ts rest x y (G.a_dict_comprehension {p = z} {cs = cs} g q ps j i) h = absurd (no_target _ x (ap (target_to (suc f)) i ∙ target-DictComprehension f z cs) h)
 
-indexed_item : (depth : ℕ) (ts rest : List Lexeme) (x : AssignTarget) → IsIndexed depth ts rest x → IsItem depth ts rest x
+indexed_item : (depth : ℕ) (ts rest : List Lexeme) (x : TargetExpr) → IsIndexed depth ts rest x → IsItem depth ts rest x
 indexed_item zero ts rest x p = S.index p
 indexed_item (suc depth) ts rest x p = S.index p
 
 -- what a primary's parts make of it
-back_by : (depth f : ℕ) (ts rest : List Lexeme) (x : AssignTarget) (y : Expr) → ((z : Expr) → IsOperandTo depth ts rest z → target_to (suc f) z ≡ Ok x → IsItem depth ts rest x)
+back_by : (depth f : ℕ) (ts rest : List Lexeme) (x : TargetExpr) (y : Expr) → ((z : Expr) → IsOperandTo depth ts rest z → target_to (suc f) z ≡ Ok x → IsItem depth ts rest x)
     → Parts depth ts rest y → target_to (suc f) y ≡ Ok x → IsItem depth ts rest x
 back_by depth f ts rest x y operand (parts mid z zs q over g) h = operand z q (ap (target_to (suc f)) (sym g) ∙ h)
 back_by depth f ts rest x y operand (parts mid z zs q (again {mid = m} {x = v} {xs = vs} r rs) g) h =
     indexed_item depth ts rest x (indexed_back depth ts mid m rest z v vs x q r rs (sym (target-Primary f z (v ∷ vs)) ∙ ap (target_to (suc f)) (sym g) ∙ h))
 
-primary_back : (depth f : ℕ) (ts rest : List Lexeme) (x : AssignTarget) (y : Expr) → IsPrimaryTo depth ts rest y → target_to f y ≡ Ok x → IsItem depth ts rest x
+primary_back : (depth f : ℕ) (ts rest : List Lexeme) (x : TargetExpr) (y : Expr) → IsPrimaryTo depth ts rest y → target_to f y ≡ Ok x → IsItem depth ts rest x
 primary_back depth zero ts rest x y p h = absurd (target_zero y x h)
 primary_back zero (suc f) ts rest x y p h =
     back_by zero f ts rest x y (λ z q. operand_back zero none none none none (λ f ts rest x y p h. absurd p) f ts rest x z q) (parts_of zero ts rest y p) h
@@ -358,10 +358,10 @@ primary_back (suc depth) (suc f) ts rest x y p h =
     (λ f ts rest x y p h. primary_back depth f ts rest x y (test_down (IsPrimaryTo depth) ts rest y p (target_form f y x h)) h) f ts rest x z q)
     (parts_of (suc depth) ts rest y p) h
 
-test_back : (depth f : ℕ) (ts rest : List Lexeme) (x : AssignTarget) (y : Expr) → IsTestTo depth ts rest y → target_to f y ≡ Ok x → IsItem depth ts rest x
+test_back : (depth f : ℕ) (ts rest : List Lexeme) (x : TargetExpr) (y : Expr) → IsTestTo depth ts rest y → target_to f y ≡ Ok x → IsItem depth ts rest x
 test_back depth f ts rest x y p h = primary_back depth f ts rest x y (test_down (IsPrimaryTo depth) ts rest y p (target_form f y x h)) h
 
-pub target_back : (depth f : ℕ) (ts rest : List Lexeme) (x : AssignTarget) (y : Expr) → IsExprTo depth ts rest y → target_to f y ≡ Ok x → IsTarget depth ts rest x
+pub target_back : (depth f : ℕ) (ts rest : List Lexeme) (x : TargetExpr) (y : Expr) → IsExprTo depth ts rest y → target_to f y ≡ Ok x → IsTarget depth ts rest x
 target_back depth f ts rest x y (G.tests {x = a} p over i) h = S.items (test_back depth f ts rest x a p (ap (target_to f) (sym i) ∙ h)) over refl
 target_back depth zero ts rest x y (G.tests p (again q ps) i) h = absurd (target_zero y x h)
 target_back depth (suc f) ts rest x y (G.tests {mid = mid} {x = a} p (again {mid = l} {x = b} {xs = bs} (comma_then {ts = us} g q) ps) i) h =

@@ -9,7 +9,7 @@ use Rattle.bq_parse_grammar.specs.declared.refusal.SyntaxErr.TheVariants.{Lambda
 use Rattle.bq_parse_grammar.specs.declared.tree.Expr.{Expr}
 use Rattle.bq_parse_grammar.specs.declared.tree.FileKind.{FileKind}
 use Rattle.bq_parse_grammar.specs.declared.tree.Stmt.{Stmt}
-use Rattle.bq_parse_grammar.specs.declared.tree.AssignTarget.{AssignTarget}
+use Rattle.bq_parse_grammar.specs.declared.tree.TargetExpr.{TargetExpr}
 use Rattle.bq_parse_grammar.specs.declared.tree.TopLevel.{TopLevel}
 use Rattle.bq_parse_grammar.specs.Grammar.{IsExprTo}
 use Rattle.bq_parse_grammar.specs.Laws.{NoLambda}
@@ -20,7 +20,7 @@ use Rattle.bq_parse_grammar.specs.Targets.{target_to}
 use Rattle.bq_parse_grammar.specs.Verdict.{ReadsAs}
 
 -- the tokens are a target just where they are an expression that can be taken for it
-abbrev pub TargetsAreExpressions : ℕ → List Lexeme → List Lexeme → AssignTarget → Type 0
+abbrev pub TargetsAreExpressions : ℕ → List Lexeme → List Lexeme → TargetExpr → Type 0
 TargetsAreExpressions depth ts rest x =
     (IsTarget depth ts rest x → (y : Expr) × IsExprTo depth ts rest y × (target_to (suc (suc depth)) y ≡ Ok x))
     × ((y : Expr) → IsExprTo depth ts rest y → target_to (suc (suc depth)) y ≡ Ok x → IsTarget depth ts rest x)

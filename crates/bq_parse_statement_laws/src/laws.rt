@@ -4,13 +4,13 @@ ghost use Rattle.std.specs.Prelude.{◌≡◌, ℕ, List, []};
 ghost use Rattle.bq_parse_grammar.specs.Lexeme.{Lexeme};
 ghost use Rattle.bq_parse_grammar.specs.Pieces.{pieces};
 ghost use Rattle.bq_parse_grammar.specs.declared.tree.FileKind.{FileKind};
-ghost use Rattle.bq_parse_grammar.specs.declared.tree.AssignTarget.{AssignTarget};
+ghost use Rattle.bq_parse_grammar.specs.declared.tree.TargetExpr.{TargetExpr};
 ghost use Rattle.bq_parse_statement_laws.specs.Laws.{TargetsAreExpressions, Sound, Complete, OneStatement, OneVerdict, OneReading};
 ghost use Rattle.bq_parse_statement_laws.specs.Pieces.{joined, AreStatements};
 
 /// What stands before `=` is a target just where it is an expression that can be taken for one.
 pub fn assignments_have_targets()
-    ensures { (depth : ℕ) (ts rest : List Lexeme) (x : AssignTarget) → TargetsAreExpressions depth ts rest x }
+    ensures { (depth : ℕ) (ts rest : List Lexeme) (x : TargetExpr) → TargetsAreExpressions depth ts rest x }
 {}
 
 /// What is read is what the grammar has; where the reading stops at `lambda`, the grammar has a statement whatever follows.

@@ -15,7 +15,7 @@ use Rattle.bq_parse_grammar.specs.declared.arguments.Allowed.{Allowed}
 use Rattle.bq_parse_grammar.specs.declared.arguments.ArgumentKind.{ArgumentKind}
 use Rattle.bq_parse_grammar.specs.declared.tree.Argument.{Argument, out-Argument}
 use Rattle.bq_parse_grammar.specs.declared.tree.Clause.{Clause, out-Clause}
-use Rattle.bq_parse_grammar.specs.declared.tree.AssignTarget.{AssignTarget, out-AssignTarget}
+use Rattle.bq_parse_grammar.specs.declared.tree.TargetExpr.{TargetExpr, out-TargetExpr}
 use Rattle.bq_parse_grammar.specs.Operators.{sign, negation}
 use Rattle.bq_parse_grammar.specs.Phrases as P
 use Rattle.bq_parse_grammar.specs.Phrases.{Phrase, none, Repeat, Listed, CommaThen}
@@ -75,25 +75,25 @@ made_argument {first = b} {ps = ps} {ts = ts} f w = W.argument (subst (λ m. Wri
 made_clause : {y : Clause} {l : ClauseLayer} {ps : List Part} {ts : List Lexeme} → out-Clause y ≡ l → Writes (clause_parts_by l ps) ts → Writes (parts.clause y ∷ ps) ts
 made_clause {ps = ps} {ts = ts} f w = W.clause (subst (λ m. Writes (clause_parts_by m ps) ts) (sym f) w)
 
-pub made_target : {y : AssignTarget} {l : TargetLayer} {ps : List Part} {ts : List Lexeme} → out-AssignTarget y ≡ l → Writes (target_parts_by l ps) ts → Writes (parts.target y ∷ ps) ts
+pub made_target : {y : TargetExpr} {l : TargetLayer} {ps : List Part} {ts : List Lexeme} → out-TargetExpr y ≡ l → Writes (target_parts_by l ps) ts → Writes (parts.target y ∷ ps) ts
 made_target {ps = ps} {ts = ts} f w = W.target (subst (λ m. Writes (target_parts_by m ps) ts) (sym f) w)
 
 -- ---- variables of a `for`
 
-module _ (X : Phrase AssignTarget) (inner : Tells parts.target X) where
+module _ (X : Phrase TargetExpr) (inner : Tells parts.target X) where
   var_tells : Tells parts.target (IsVarOver X)
-  var_tells ts rest y (G.name {t = t} f g) ps w = made_target (ap out-AssignTarget g ∙ L.out-target_Name (identifier t)) (W.word f refl w)
+  var_tells ts rest y (G.name {t = t} f g) ps w = made_target (ap out-TargetExpr g ∙ L.out-target_Name (identifier t)) (W.word f refl w)
   var_tells ts rest y (G.parenthesized {c = c} {ts = us} f p g) ps w = W.target_in_parentheses (W.token f (inner us (c ∷ rest) y p (parts.token k.RightParen ∷ ps) (W.token g w)))
-  var_tells ts rest y (G.tuple {c = c} {ts = us} {mid = mid} {x = x} {xs = xs} f p g q h) ps w = made_target (ap out-AssignTarget h ∙ L.out-target_Tuple (x ∷ xs))
+  var_tells ts rest y (G.tuple {c = c} {ts = us} {mid = mid} {x = x} {xs = xs} f p g q h) ps w = made_target (ap out-TargetExpr h ∙ L.out-target_Tuple (x ∷ xs))
       (W.token f (inner us (c ∷ mid) x p (parts.token k.Comma ∷ listed k.Comma parts.target xs (parts.token k.RightParen ∷ ps)) (W.token g (listed_tells parts.target X inner k.RightParen mid rest xs q ps w))))
-  var_tells ts rest y (G.list {ts = us} {x = x} {xs = xs} f q h) ps w = made_target (ap out-AssignTarget h ∙ L.out-target_List (x ∷ xs))
+  var_tells ts rest y (G.list {ts = us} {x = x} {xs = xs} f q h) ps w = made_target (ap out-TargetExpr h ∙ L.out-target_List (x ∷ xs))
       (W.token f (listed_tells parts.target X inner k.RightBracket us rest (x ∷ xs) q ps w))
 
-  pub same_target : {x y : AssignTarget} {ps : List Part} {ts : List Lexeme} → y ≡ x → Writes (parts.target x ∷ ps) ts → Writes (parts.target y ∷ ps) ts
+  pub same_target : {x y : TargetExpr} {ps : List Part} {ts : List Lexeme} → y ≡ x → Writes (parts.target x ∷ ps) ts → Writes (parts.target y ∷ ps) ts
   same_target {ps = ps} {ts = ts} f w = subst (λ z. Writes (parts.target z ∷ ps) ts) (sym f) w
 
   -- one or more with commas between them
-  pub targets_tell : (ts mid rest : List Lexeme) (x y : AssignTarget) (xs : List AssignTarget) → X ts mid x → Repeat (CommaThen X) mid rest xs → y ≡ G.targets_of x xs
+  pub targets_tell : (ts mid rest : List Lexeme) (x y : TargetExpr) (xs : List TargetExpr) → X ts mid x → Repeat (CommaThen X) mid rest xs → y ≡ G.targets_of x xs
       → (ps : List Part) → Writes ps rest → Writes (parts.open_target y ∷ ps) ts
   targets_tell ts mid rest x y [] p q f ps w = W.whole_target (same_target f (inner ts mid x p ps (commas_tell parts.target X inner mid rest [] q ps w)))
   targets_tell ts mid rest x y (z ∷ zs) p q f ps w = W.open_targets x z zs f (inner ts mid x p (commas parts.target (z ∷ zs) ps) (commas_tell parts.target X inner mid rest (z ∷ zs) q ps w))
@@ -110,7 +110,7 @@ vars_to_tell depth = vars_tell (IsVar depth) (var_to_tells depth)
 
 -- ---- over what stands in brackets
 
-module _ (O T : Phrase Expr) (V : Phrase AssignTarget) (ors : Tells parts.expr O) (tests : Tells parts.expr T) (variables : Tells parts.open_target V) where
+module _ (O T : Phrase Expr) (V : Phrase TargetExpr) (ors : Tells parts.expr O) (tests : Tells parts.expr T) (variables : Tells parts.open_target V) where
   pair_tells : Tells parts.pair (IsPair O T V)
   pair_tells ts rest y (G.pair {c = c} {mid = mid} {x = x} {y = z} p f q g) ps w =
       W.pair (subst (λ m. Writes (parts.expr m.key ∷ parts.token k.Colon ∷ parts.expr m.value ∷ ps) ts) (sym (ap out-Pair g ∙ L.opened_pair (record { key = x; value = z })))

@@ -1,6 +1,6 @@
 -- The layer that a made node opens to.
 use Rattle.std.proofs.Common.{◌≡◌, ℕ, ℤ, List, Option, rules}
-use Rattle.bq_parse_grammar.specs.declared.tree.Argument.TheOpen.{Argument-F, Choice-F, Clause-F, Expr-F, Operation-F, Pair-F, Suffix-F, AssignTarget-F}
+use Rattle.bq_parse_grammar.specs.declared.tree.Argument.TheOpen.{Argument-F, Choice-F, Clause-F, Expr-F, Operation-F, Pair-F, Suffix-F, TargetExpr-F}
 use Rattle.bq_parse_grammar.specs.declared.tree.Identifier.{Identifier}
 use Rattle.bq_parse_grammar.specs.declared.tree.UnaryOperator.{UnaryOperator}
 use Rattle.bq_parse_grammar.specs.declared.tree.Comparison.{Comparison}
@@ -15,8 +15,8 @@ use Rattle.bq_parse_grammar.specs.declared.tree.Operation.{Operation, out-Operat
 use Rattle.bq_parse_grammar.specs.declared.tree.Pair.{Pair, out-Pair, roll-Pair}
 use Rattle.bq_parse_grammar.specs.declared.tree.Suffix.{Suffix, out-Suffix}
 use Rattle.bq_parse_grammar.specs.declared.tree.Suffix.TheVariants as s
-use Rattle.bq_parse_grammar.specs.declared.tree.AssignTarget.{AssignTarget, out-AssignTarget}
-use Rattle.bq_parse_grammar.specs.declared.tree.AssignTarget.TheVariants as t
+use Rattle.bq_parse_grammar.specs.declared.tree.TargetExpr.{TargetExpr, out-TargetExpr}
+use Rattle.bq_parse_grammar.specs.declared.tree.TargetExpr.TheVariants as t
 use Rattle.bq_parse_grammar.specs.declared.tree.Branch.{Branch, out-Branch, roll-Branch}
 use Rattle.bq_parse_grammar.specs.declared.tree.Parameter.{Parameter}
 use Rattle.bq_parse_grammar.specs.declared.tree.SmallStmt.{SmallStmt}
@@ -94,38 +94,38 @@ out-Star x = search (rules, the_lemmas)
 pub out-StarStar : (x : Expr) → out-Argument (a.StarStar x) ≡ Argument-F.StarStar x
 out-StarStar x = search (rules, the_lemmas)
 
-pub out-For : (v : AssignTarget) (x : Expr) → out-Clause (cl.For v x) ≡ Clause-F.For v x
+pub out-For : (v : TargetExpr) (x : Expr) → out-Clause (cl.For v x) ≡ Clause-F.For v x
 out-For v x = search (rules, the_lemmas)
 
 pub out-If : (x : Expr) → out-Clause (cl.If x) ≡ Clause-F.If x
 out-If x = search (rules, the_lemmas)
 
-pub out-target_Name : (n : Identifier) → out-AssignTarget (t.Name n) ≡ AssignTarget-F.Target::Name n
+pub out-target_Name : (n : Identifier) → out-TargetExpr (t.Name n) ≡ TargetExpr-F.Target::Name n
 out-target_Name n = search (rules, the_lemmas)
 
-pub out-target_Index : (x i : Expr) → out-AssignTarget (t.Index x i) ≡ AssignTarget-F.Target::Index x i
+pub out-target_Index : (x i : Expr) → out-TargetExpr (t.Index x i) ≡ TargetExpr-F.Target::Index x i
 out-target_Index x i = search (rules, the_lemmas)
 
-pub out-target_Tuple : (xs : List AssignTarget) → out-AssignTarget (t.Tuple xs) ≡ AssignTarget-F.Target::Tuple xs
+pub out-target_Tuple : (xs : List TargetExpr) → out-TargetExpr (t.Tuple xs) ≡ TargetExpr-F.Target::Tuple xs
 out-target_Tuple xs = search (rules, the_lemmas)
 
-pub out-target_List : (xs : List AssignTarget) → out-AssignTarget (t.List xs) ≡ AssignTarget-F.Target::List xs
+pub out-target_List : (xs : List TargetExpr) → out-TargetExpr (t.List xs) ≡ TargetExpr-F.Target::List xs
 out-target_List xs = search (rules, the_lemmas)
 
 abbrev pub PairLayer : Type 0
-PairLayer = Pair-F Argument Clause Expr Suffix AssignTarget Choice Operation Pair
+PairLayer = Pair-F Argument Clause Expr Suffix TargetExpr Choice Operation Pair
 
 pub opened_pair : (l : PairLayer) → out-Pair (roll-Pair l) ≡ l
 opened_pair l = search (rules, the_lemmas)
 
 abbrev pub OperationLayer : Type 0
-OperationLayer = Operation-F Argument Clause Expr Suffix AssignTarget Choice Operation Pair
+OperationLayer = Operation-F Argument Clause Expr Suffix TargetExpr Choice Operation Pair
 
 pub opened_operation : (l : OperationLayer) → out-Operation (roll-Operation l) ≡ l
 opened_operation l = search (rules, the_lemmas)
 
 abbrev pub ChoiceLayer : Type 0
-ChoiceLayer = Choice-F Argument Clause Expr Suffix AssignTarget Choice Operation Pair
+ChoiceLayer = Choice-F Argument Clause Expr Suffix TargetExpr Choice Operation Pair
 
 pub opened_choice : (l : ChoiceLayer) → out-Choice (roll-Choice l) ≡ l
 opened_choice l = search (rules, the_lemmas)
@@ -136,7 +136,7 @@ out-Simple xs = search (rules, stmt.the_lemmas)
 pub out-stmt_If : (bs : List Branch) (zs : List Stmt) → out-Stmt (st.If bs zs) ≡ Stmt-F.If bs zs
 out-stmt_If bs zs = search (rules, stmt.the_lemmas)
 
-pub out-stmt_For : (v : AssignTarget) (x : Expr) (xs : List Stmt) → out-Stmt (st.For v x xs) ≡ Stmt-F.For v x xs
+pub out-stmt_For : (v : TargetExpr) (x : Expr) (xs : List Stmt) → out-Stmt (st.For v x xs) ≡ Stmt-F.For v x xs
 out-stmt_For v x xs = search (rules, stmt.the_lemmas)
 
 pub out-stmt_Def : (n : Identifier) (ps : List Parameter) (xs : List Stmt) → out-Stmt (st.Def n ps xs) ≡ Stmt-F.Def n ps xs

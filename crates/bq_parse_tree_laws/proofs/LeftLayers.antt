@@ -1,6 +1,6 @@
 -- How many nodes of a tree are left out, by its first layer.
 use Rattle.std.proofs.Common.{◌≡◌, ℕ, ◌+◌, Bool, map, Option, Some, None, rules, sym, ap, ◌∙◌}
-use Rattle.bq_parse_grammar.specs.declared.tree.Argument.TheOpen.{Argument-F, Clause-F, Expr-F, Suffix-F, AssignTarget-F}
+use Rattle.bq_parse_grammar.specs.declared.tree.Argument.TheOpen.{Argument-F, Clause-F, Expr-F, Suffix-F, TargetExpr-F}
 use Rattle.bq_parse_grammar.specs.declared.tree.Argument.{Argument, out-Argument, roll-Argument}
 use Rattle.bq_parse_grammar.specs.declared.tree.Choice.{Choice, out-Choice, roll-Choice}
 use Rattle.bq_parse_grammar.specs.declared.tree.Clause.{Clause, out-Clause, roll-Clause}
@@ -8,7 +8,7 @@ use Rattle.bq_parse_grammar.specs.declared.tree.Expr.{Expr, out-Expr, roll-Expr,
 use Rattle.bq_parse_grammar.specs.declared.tree.Operation.{Operation, out-Operation, roll-Operation}
 use Rattle.bq_parse_grammar.specs.declared.tree.Pair.{Pair, out-Pair, roll-Pair}
 use Rattle.bq_parse_grammar.specs.declared.tree.Suffix.{Suffix, out-Suffix, roll-Suffix}
-use Rattle.bq_parse_grammar.specs.declared.tree.AssignTarget.{AssignTarget, out-AssignTarget, roll-AssignTarget}
+use Rattle.bq_parse_grammar.specs.declared.tree.TargetExpr.{TargetExpr, out-TargetExpr, roll-TargetExpr}
 use Rattle.bq_parse_grammar.specs.declared.tree.Branch.{Branch, out-Branch, roll-Branch}
 use Rattle.bq_parse_grammar.specs.declared.tree.Stmt as stmt
 use Rattle.bq_parse_grammar.specs.declared.tree.Stmt.{Stmt, out-Stmt, roll-Stmt}
@@ -96,16 +96,16 @@ module _ (b : Bool) where
   clause_rolled (Clause-F.If x) = search (rules, the_lemmas)
 
   abbrev pub target_by : TargetLayer → ℕ
-  target_by (AssignTarget-F.Target::Name n) = 0
-  target_by (AssignTarget-F.Target::Index x i) = expr_count b x + expr_count b i
-  target_by (AssignTarget-F.Target::Tuple xs) = sum_of (map (target_count b) xs)
-  target_by (AssignTarget-F.Target::List xs) = sum_of (map (target_count b) xs)
+  target_by (TargetExpr-F.Target::Name n) = 0
+  target_by (TargetExpr-F.Target::Index x i) = expr_count b x + expr_count b i
+  target_by (TargetExpr-F.Target::Tuple xs) = sum_of (map (target_count b) xs)
+  target_by (TargetExpr-F.Target::List xs) = sum_of (map (target_count b) xs)
 
-  target_rolled : (l : TargetLayer) → target_count b (roll-AssignTarget l) ≡ target_by l
-  target_rolled (AssignTarget-F.Target::Name n) = search (rules, the_lemmas)
-  target_rolled (AssignTarget-F.Target::Index x i) = search (rules, the_lemmas)
-  target_rolled (AssignTarget-F.Target::Tuple xs) = search (rules, the_lemmas)
-  target_rolled (AssignTarget-F.Target::List xs) = search (rules, the_lemmas)
+  target_rolled : (l : TargetLayer) → target_count b (roll-TargetExpr l) ≡ target_by l
+  target_rolled (TargetExpr-F.Target::Name n) = search (rules, the_lemmas)
+  target_rolled (TargetExpr-F.Target::Index x i) = search (rules, the_lemmas)
+  target_rolled (TargetExpr-F.Target::Tuple xs) = search (rules, the_lemmas)
+  target_rolled (TargetExpr-F.Target::List xs) = search (rules, the_lemmas)
 
   pair_rolled : (l : PairLayer) → pair_count b (roll-Pair l) ≡ expr_count b l.key + expr_count b l.value
   pair_rolled l = search (rules, the_lemmas)
@@ -157,11 +157,11 @@ module _ (b : Bool) where
   pub clause_opened : (x : Clause) → clause_count b x ≡ clause_by (out-Clause x)
   clause_opened x = ap (clause_count b) (sym (rolled_clause x)) ∙ clause_rolled (out-Clause x)
 
-  rolled_target : (x : AssignTarget) → roll-AssignTarget (out-AssignTarget x) ≡ x
+  rolled_target : (x : TargetExpr) → roll-TargetExpr (out-TargetExpr x) ≡ x
   rolled_target x = search (rules, the_lemmas)
 
-  pub target_opened : (x : AssignTarget) → target_count b x ≡ target_by (out-AssignTarget x)
-  target_opened x = ap (target_count b) (sym (rolled_target x)) ∙ target_rolled (out-AssignTarget x)
+  pub target_opened : (x : TargetExpr) → target_count b x ≡ target_by (out-TargetExpr x)
+  target_opened x = ap (target_count b) (sym (rolled_target x)) ∙ target_rolled (out-TargetExpr x)
 
   rolled_pair : (x : Pair) → roll-Pair (out-Pair x) ≡ x
   rolled_pair x = search (rules, the_lemmas)

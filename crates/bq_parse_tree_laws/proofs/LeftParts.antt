@@ -3,7 +3,7 @@
 use Rattle.std.proofs.Common.{◌≡◌, ℕ, ◌+◌, Bool, true, false, ◌≤◌, ◌⊎◌, inl, inr, List, [], ◌∷◌, map, Option, Some, None, refl, sym, ap, ◌∙◌, subst, arith}
 use Rattle.bq_source.specs.declared.token.TokenKind.{TokenKind}
 use Rattle.bq_source.specs.declared.token.TokenKind.TheVariants as k
-use Rattle.bq_parse_grammar.specs.declared.tree.Argument.TheOpen.{Argument-F, Clause-F, Expr-F, Suffix-F, AssignTarget-F}
+use Rattle.bq_parse_grammar.specs.declared.tree.Argument.TheOpen.{Argument-F, Clause-F, Expr-F, Suffix-F, TargetExpr-F}
 use Rattle.bq_parse_grammar.specs.declared.tree.Argument.{Argument, out-Argument}
 use Rattle.bq_parse_grammar.specs.declared.tree.Choice.{Choice}
 use Rattle.bq_parse_grammar.specs.declared.tree.Clause.{Clause, out-Clause}
@@ -17,7 +17,7 @@ use Rattle.bq_parse_grammar.specs.declared.tree.Comparison.{Comparison}
 use Rattle.bq_parse_grammar.specs.declared.tree.Comparison.TheVariants as c
 use Rattle.bq_parse_grammar.specs.declared.tree.Pair.{Pair}
 use Rattle.bq_parse_grammar.specs.declared.tree.Suffix.{Suffix, out-Suffix}
-use Rattle.bq_parse_grammar.specs.declared.tree.AssignTarget.{AssignTarget, out-AssignTarget}
+use Rattle.bq_parse_grammar.specs.declared.tree.TargetExpr.{TargetExpr, out-TargetExpr}
 use Rattle.bq_parse_grammar.specs.declared.tree.Parameter.{Parameter}
 use Rattle.bq_parse_grammar.specs.declared.tree.Parameter.TheVariants as p
 use Rattle.bq_parse_grammar.specs.declared.tree.SmallKind.{SmallKind}
@@ -27,7 +27,7 @@ use Rattle.bq_parse_grammar.specs.declared.tree.Branch.{Branch}
 use Rattle.bq_parse_grammar.specs.declared.tree.Stmt.{Stmt, out-Stmt}
 use Rattle.bq_parse_grammar.specs.declared.tree.Stmt.TheOpen.{Stmt-F}
 use Rattle.bq_parse_grammar.specs.declared.tree.Expr.TheVariants as e
-use Rattle.bq_parse_grammar.specs.declared.tree.AssignTarget.TheVariants as t
+use Rattle.bq_parse_grammar.specs.declared.tree.TargetExpr.TheVariants as t
 use Rattle.bq_parse_tree_laws.specs.Parts as parts
 use Rattle.bq_parse_tree_laws.specs.Parts.{Part, row, listed, commas, operator_kind, unary, comparison, assignment_kind, token_of, ExprLayer, expr_parts_by, expr_parts, pair_parts, operation_parts, choice_parts, SuffixLayer, optional_expr, step_parts, arguments, suffix_parts_by, suffix_parts, ArgumentLayer, argument_parts_by, argument_parts, ClauseLayer, clause_parts_by, clause_parts, TargetLayer, target_parts_by, target_parts, parameter_parts, load_parts, small_parts, branch_parts, else_parts, if_parts, stmt_parts_by, stmt_parts}
 use Rattle.bq_parse_tree_laws.specs.LeftOut.{sum_of, division, star, expr_count, target_count, argument_count, clause_count, suffix_count, choice_count, operation_count, pair_count, parameter_count, kind_count, small_count, stmt_count, branch_count}
@@ -240,19 +240,19 @@ module _ (b high : Bool) where
   clause_holds x ps = let e = L.clause_opened b x in let i = clause_total_by (out-Clause x) ps in omega arith
 
   target_total_by : (l : TargetLayer) (ps : List Part) → total (target_parts_by l ps) ≡ target_by b l + total ps
-  target_total_by (AssignTarget-F.Target::Name n) ps = omega arith
-  target_total_by (AssignTarget-F.Target::Index x i) ps = omega arith
-  target_total_by (AssignTarget-F.Target::Tuple []) ps = omega arith
-  target_total_by (AssignTarget-F.Target::Tuple (x ∷ xs)) ps = let i = listed_total parts.target (target_count b) (λ x. refl) k.Comma refl refl xs (parts.token k.RightParen ∷ ps) in omega arith
-  target_total_by (AssignTarget-F.Target::List xs) ps = let i = listed_total parts.target (target_count b) (λ x. refl) k.Comma refl refl xs (parts.token k.RightBracket ∷ ps) in omega arith
+  target_total_by (TargetExpr-F.Target::Name n) ps = omega arith
+  target_total_by (TargetExpr-F.Target::Index x i) ps = omega arith
+  target_total_by (TargetExpr-F.Target::Tuple []) ps = omega arith
+  target_total_by (TargetExpr-F.Target::Tuple (x ∷ xs)) ps = let i = listed_total parts.target (target_count b) (λ x. refl) k.Comma refl refl xs (parts.token k.RightParen ∷ ps) in omega arith
+  target_total_by (TargetExpr-F.Target::List xs) ps = let i = listed_total parts.target (target_count b) (λ x. refl) k.Comma refl refl xs (parts.token k.RightBracket ∷ ps) in omega arith
 
-  pub target_holds : (x : AssignTarget) (ps : List Part) → total (target_parts x ps) ≡ total (parts.target x ∷ ps)
-  target_holds x ps = let e = L.target_opened b x in let i = target_total_by (out-AssignTarget x) ps in omega arith
+  pub target_holds : (x : TargetExpr) (ps : List Part) → total (target_parts x ps) ≡ total (parts.target x ∷ ps)
+  target_holds x ps = let e = L.target_opened b x in let i = target_total_by (out-TargetExpr x) ps in omega arith
 
   pub tuple_count : (xs : List Expr) → expr_count b (e.Tuple xs) ≡ sum_of (map (expr_count b) xs)
   tuple_count xs = L.expr_opened b (e.Tuple xs) ∙ ap (expr_by b) (out-Tuple xs)
 
-  pub tuple_target_count : (xs : List AssignTarget) → target_count b (t.Tuple xs) ≡ sum_of (map (target_count b) xs)
+  pub tuple_target_count : (xs : List TargetExpr) → target_count b (t.Tuple xs) ≡ sum_of (map (target_count b) xs)
   tuple_target_count xs = L.target_opened b (t.Tuple xs) ∙ ap (target_by b) (out-target_Tuple xs)
 
   -- ---- statements

@@ -15,7 +15,7 @@ use Rattle.bq_parse_grammar.specs.declared.tree.SmallStmt.{SmallStmt}
 use Rattle.bq_parse_grammar.specs.declared.tree.Stmt.{Stmt, out-Stmt}
 use Rattle.bq_parse_grammar.specs.declared.tree.Stmt.TheOpen.{Stmt-F}
 use Rattle.bq_parse_grammar.specs.declared.tree.Suffix.{Suffix}
-use Rattle.bq_parse_grammar.specs.declared.tree.AssignTarget.{AssignTarget, out-AssignTarget}
+use Rattle.bq_parse_grammar.specs.declared.tree.TargetExpr.{TargetExpr, out-TargetExpr}
 use Rattle.bq_parse_grammar.specs.Phrases.{Phrase, none, Repeat}
 use Rattle.bq_parse_grammar.specs.Grammar.{primary_of, IsTestTo, IsOperandTo, IsSuffixTo}
 use Rattle.bq_parse_grammar.specs.Statements as S
@@ -38,18 +38,18 @@ applied depth ts mid rest x (z ∷ zs) p q ps w = made_expr (L.out-Primary x (z 
     (operand_to_tells depth ts mid x p (row parts.suffix (z ∷ zs) ps) (row_tells parts.suffix (IsSuffixTo depth) (suffix_to_tells depth) mid rest (z ∷ zs) q ps w))
 
 indexed_tells : (depth : ℕ) → Tells parts.target (IsIndexed depth)
-indexed_tells depth ts rest y (S.indexed {o = o} c {mid = mid} {us = us} x xs i p q f r g h) ps w = made_target (ap out-AssignTarget h ∙ L.out-target_Index (primary_of x xs) i)
+indexed_tells depth ts rest y (S.indexed {o = o} c {mid = mid} {us = us} x xs i p q f r g h) ps w = made_target (ap out-TargetExpr h ∙ L.out-target_Index (primary_of x xs) i)
     (applied depth ts mid (o ∷ us) x xs p q (parts.token k.LeftBracket ∷ parts.open_expr i ∷ parts.token k.RightBracket ∷ ps)
     (W.token f (index_to_tells depth us (c ∷ rest) i r (parts.token k.RightBracket ∷ ps) (W.token g w))))
 
-item_tells : (depth : ℕ) (X : Phrase AssignTarget) → Tells parts.target X → Tells parts.target (IsItemOver depth X)
-item_tells depth X inner ts rest y (S.name {t = t} f g) ps w = made_target (ap out-AssignTarget g ∙ L.out-target_Name (identifier t)) (W.word f refl w)
+item_tells : (depth : ℕ) (X : Phrase TargetExpr) → Tells parts.target X → Tells parts.target (IsItemOver depth X)
+item_tells depth X inner ts rest y (S.name {t = t} f g) ps w = made_target (ap out-TargetExpr g ∙ L.out-target_Name (identifier t)) (W.word f refl w)
 item_tells depth X inner ts rest y (S.index p) ps w = indexed_tells depth ts rest y p ps w
 item_tells depth X inner ts rest y (S.parenthesized {c = c} {ts = us} f p g) ps w =
     W.target_in_parentheses (W.token f (inner us (c ∷ rest) y p (parts.token k.RightParen ∷ ps) (W.token g w)))
-item_tells depth X inner ts rest y (S.tuple {c = c} {ts = us} {mid = mid} {x = x} {xs = xs} f p g q h) ps w = made_target (ap out-AssignTarget h ∙ L.out-target_Tuple (x ∷ xs))
+item_tells depth X inner ts rest y (S.tuple {c = c} {ts = us} {mid = mid} {x = x} {xs = xs} f p g q h) ps w = made_target (ap out-TargetExpr h ∙ L.out-target_Tuple (x ∷ xs))
     (W.token f (inner us (c ∷ mid) x p (parts.token k.Comma ∷ listed k.Comma parts.target xs (parts.token k.RightParen ∷ ps)) (W.token g (listed_tells parts.target X inner k.RightParen mid rest xs q ps w))))
-item_tells depth X inner ts rest y (S.list {ts = us} {x = x} {xs = xs} f q h) ps w = made_target (ap out-AssignTarget h ∙ L.out-target_List (x ∷ xs))
+item_tells depth X inner ts rest y (S.list {ts = us} {x = x} {xs = xs} f q h) ps w = made_target (ap out-TargetExpr h ∙ L.out-target_List (x ∷ xs))
     (W.token f (listed_tells parts.target X inner k.RightBracket us rest (x ∷ xs) q ps w))
 
 item_to_tells : (depth : ℕ) → Tells parts.target (IsItem depth)

@@ -15,8 +15,8 @@ use Rattle.bq_parse_grammar.specs.declared.tree.Operation.{Operation, roll-Opera
 use Rattle.bq_parse_grammar.specs.declared.tree.Pair.{Pair, roll-Pair}
 use Rattle.bq_parse_grammar.specs.declared.tree.Suffix.{Suffix}
 use Rattle.bq_parse_grammar.specs.declared.tree.Suffix.TheVariants as s
-use Rattle.bq_parse_grammar.specs.declared.tree.AssignTarget.{AssignTarget}
-use Rattle.bq_parse_grammar.specs.declared.tree.AssignTarget.TheVariants as t
+use Rattle.bq_parse_grammar.specs.declared.tree.TargetExpr.{TargetExpr}
+use Rattle.bq_parse_grammar.specs.declared.tree.TargetExpr.TheVariants as t
 use Rattle.bq_parse_grammar.specs.declared.tree.Branch.{Branch, roll-Branch}
 use Rattle.bq_parse_grammar.specs.declared.tree.Parameter.{Parameter}
 use Rattle.bq_parse_grammar.specs.declared.tree.SmallStmt.{SmallStmt}
@@ -106,7 +106,7 @@ depth-Star x = search (rules, the_lemmas)
 pub depth-StarStar : (x : Expr) → argument_depth (a.StarStar x) ≡ expr_depth x
 depth-StarStar x = search (rules, the_lemmas)
 
-pub depth-For : (v : AssignTarget) (x : Expr) → clause_depth (cl.For v x) ≡ max (target_depth v) (expr_depth x)
+pub depth-For : (v : TargetExpr) (x : Expr) → clause_depth (cl.For v x) ≡ max (target_depth v) (expr_depth x)
 depth-For v x = search (rules, the_lemmas)
 
 pub depth-If : (x : Expr) → clause_depth (cl.If x) ≡ expr_depth x
@@ -118,10 +118,10 @@ depth-target_Name n = search (rules, the_lemmas)
 pub depth-target_Index : (x i : Expr) → target_depth (t.Index x i) ≡ max (expr_depth x) (expr_depth i) + 1
 depth-target_Index x i = search (rules, the_lemmas)
 
-pub depth-target_Tuple : (xs : List AssignTarget) → target_depth (t.Tuple xs) ≡ deepest (map target_depth xs) + 1
+pub depth-target_Tuple : (xs : List TargetExpr) → target_depth (t.Tuple xs) ≡ deepest (map target_depth xs) + 1
 depth-target_Tuple xs = search (rules, the_lemmas)
 
-pub depth-target_List : (xs : List AssignTarget) → target_depth (t.List xs) ≡ deepest (map target_depth xs) + 1
+pub depth-target_List : (xs : List TargetExpr) → target_depth (t.List xs) ≡ deepest (map target_depth xs) + 1
 depth-target_List xs = search (rules, the_lemmas)
 
 pub depth-pair : (x y : Expr) → pair_depth (roll-Pair (record { key = x; value = y })) ≡ max (expr_depth x) (expr_depth y)
@@ -141,7 +141,7 @@ depth-Simple xs = search (rules, stmt.the_lemmas)
 pub depth-stmt_If : (bs : List Branch) (zs : List Stmt) → stmt_depth (st.If bs zs) ≡ max (deepest (map branch_depth bs)) (deepest (map stmt_depth zs)) + 1
 depth-stmt_If bs zs = search (rules, stmt.the_lemmas)
 
-pub depth-stmt_For : (v : AssignTarget) (x : Expr) (xs : List Stmt) → stmt_depth (st.For v x xs) ≡ max (target_depth v) (max (expr_depth x) (deepest (map stmt_depth xs))) + 1
+pub depth-stmt_For : (v : TargetExpr) (x : Expr) (xs : List Stmt) → stmt_depth (st.For v x xs) ≡ max (target_depth v) (max (expr_depth x) (deepest (map stmt_depth xs))) + 1
 depth-stmt_For v x xs = search (rules, stmt.the_lemmas)
 
 pub depth-stmt_Def : (n : Identifier) (ps : List Parameter) (xs : List Stmt) → stmt_depth (st.Def n ps xs) ≡ max (deepest (map parameter_depth ps)) (deepest (map stmt_depth xs)) + 1

@@ -1,7 +1,7 @@
 -- How deep a tree is: the most expressions, targets and statements in one another.
 use Rattle.std.specs.Prelude.{ℕ, ◌+◌, max, List, [], ◌∷◌, map, Option, Some, None}
-use Rattle.bq_parse_grammar.specs.declared.tree.Argument.TheFolds.{fold-Argument, fold-Choice, fold-Clause, fold-Expr, fold-Operation, fold-Pair, fold-Suffix, fold-AssignTarget}
-use Rattle.bq_parse_grammar.specs.declared.tree.Argument.TheOpen.{Argument-F, Choice-F, Clause-F, Expr-F, Operation-F, Pair-F, Suffix-F, AssignTarget-F}
+use Rattle.bq_parse_grammar.specs.declared.tree.Argument.TheFolds.{fold-Argument, fold-Choice, fold-Clause, fold-Expr, fold-Operation, fold-Pair, fold-Suffix, fold-TargetExpr}
+use Rattle.bq_parse_grammar.specs.declared.tree.Argument.TheOpen.{Argument-F, Choice-F, Clause-F, Expr-F, Operation-F, Pair-F, Suffix-F, TargetExpr-F}
 use Rattle.bq_parse_grammar.specs.declared.tree.Argument.{Argument}
 use Rattle.bq_parse_grammar.specs.declared.tree.Choice.{Choice}
 use Rattle.bq_parse_grammar.specs.declared.tree.Clause.{Clause}
@@ -9,7 +9,7 @@ use Rattle.bq_parse_grammar.specs.declared.tree.Expr.{Expr}
 use Rattle.bq_parse_grammar.specs.declared.tree.Operation.{Operation}
 use Rattle.bq_parse_grammar.specs.declared.tree.Pair.{Pair}
 use Rattle.bq_parse_grammar.specs.declared.tree.Suffix.{Suffix}
-use Rattle.bq_parse_grammar.specs.declared.tree.AssignTarget.{AssignTarget}
+use Rattle.bq_parse_grammar.specs.declared.tree.TargetExpr.{TargetExpr}
 use Rattle.bq_parse_grammar.specs.declared.tree.Branch.{Branch}
 use Rattle.bq_parse_grammar.specs.declared.tree.Parameter.{Parameter}
 use Rattle.bq_parse_grammar.specs.declared.tree.Parameter.TheVariants as p
@@ -57,11 +57,11 @@ suffix_step (Suffix-F.Attribute b) = 0
 suffix_step (Suffix-F.Suffix::Index n) = n
 suffix_step (Suffix-F.Slice l m n) = max (optional_depth l) (max (optional_depth m) (optional_depth n))
 
-abbrev pub target_step : AssignTarget-F ℕ ℕ ℕ ℕ ℕ ℕ ℕ ℕ → ℕ
-target_step (AssignTarget-F.Target::Name b) = 1
-target_step (AssignTarget-F.Target::Index m n) = max m n + 1
-target_step (AssignTarget-F.Target::Tuple ns) = deepest ns + 1
-target_step (AssignTarget-F.Target::List ns) = deepest ns + 1
+abbrev pub target_step : TargetExpr-F ℕ ℕ ℕ ℕ ℕ ℕ ℕ ℕ → ℕ
+target_step (TargetExpr-F.Target::Name b) = 1
+target_step (TargetExpr-F.Target::Index m n) = max m n + 1
+target_step (TargetExpr-F.Target::Tuple ns) = deepest ns + 1
+target_step (TargetExpr-F.Target::List ns) = deepest ns + 1
 
 abbrev pub expr_step : Expr-F ℕ ℕ ℕ ℕ ℕ ℕ ℕ ℕ → ℕ
 expr_step (Expr-F.Expr::Name b) = 1
@@ -82,8 +82,8 @@ expr_step Expr-F.Lambda = 1
 abbrev pub expr_depth : Expr → ℕ
 expr_depth = fold-Expr ℕ ℕ ℕ ℕ ℕ ℕ ℕ ℕ argument_step clause_step expr_step suffix_step target_step choice_step operation_step pair_step
 
-abbrev pub target_depth : AssignTarget → ℕ
-target_depth = fold-AssignTarget ℕ ℕ ℕ ℕ ℕ ℕ ℕ ℕ argument_step clause_step expr_step suffix_step target_step choice_step operation_step pair_step
+abbrev pub target_depth : TargetExpr → ℕ
+target_depth = fold-TargetExpr ℕ ℕ ℕ ℕ ℕ ℕ ℕ ℕ argument_step clause_step expr_step suffix_step target_step choice_step operation_step pair_step
 
 -- of what is no expression itself: the depth of the deepest in it
 

@@ -8,8 +8,8 @@ use Rattle.bq_parse_grammar.specs.Lexeme.{Lexeme}
 use Rattle.bq_parse_grammar.specs.LeftOut.{native, calls_method, kinds, any}
 use Rattle.bq_parse_grammar.specs.declared.tree.Operator.{Operator}
 use Rattle.bq_parse_grammar.specs.declared.tree.Operator.TheVariants as o
-use Rattle.bq_parse_grammar.specs.declared.tree.Argument.TheFolds.{fold-Argument, fold-Choice, fold-Clause, fold-Expr, fold-Operation, fold-Pair, fold-Suffix, fold-AssignTarget}
-use Rattle.bq_parse_grammar.specs.declared.tree.Argument.TheOpen.{Argument-F, Choice-F, Clause-F, Expr-F, Operation-F, Pair-F, Suffix-F, AssignTarget-F}
+use Rattle.bq_parse_grammar.specs.declared.tree.Argument.TheFolds.{fold-Argument, fold-Choice, fold-Clause, fold-Expr, fold-Operation, fold-Pair, fold-Suffix, fold-TargetExpr}
+use Rattle.bq_parse_grammar.specs.declared.tree.Argument.TheOpen.{Argument-F, Choice-F, Clause-F, Expr-F, Operation-F, Pair-F, Suffix-F, TargetExpr-F}
 use Rattle.bq_parse_grammar.specs.declared.tree.Argument.{Argument}
 use Rattle.bq_parse_grammar.specs.declared.tree.Choice.{Choice}
 use Rattle.bq_parse_grammar.specs.declared.tree.Clause.{Clause}
@@ -17,7 +17,7 @@ use Rattle.bq_parse_grammar.specs.declared.tree.Expr.{Expr}
 use Rattle.bq_parse_grammar.specs.declared.tree.Operation.{Operation}
 use Rattle.bq_parse_grammar.specs.declared.tree.Pair.{Pair}
 use Rattle.bq_parse_grammar.specs.declared.tree.Suffix.{Suffix}
-use Rattle.bq_parse_grammar.specs.declared.tree.AssignTarget.{AssignTarget}
+use Rattle.bq_parse_grammar.specs.declared.tree.TargetExpr.{TargetExpr}
 use Rattle.bq_parse_grammar.specs.declared.tree.Branch.{Branch}
 use Rattle.bq_parse_grammar.specs.declared.tree.Parameter.{Parameter}
 use Rattle.bq_parse_grammar.specs.declared.tree.Parameter.TheVariants as p
@@ -73,11 +73,11 @@ suffix_left (Suffix-F.Attribute b) = 1
 suffix_left (Suffix-F.Suffix::Index n) = n
 suffix_left (Suffix-F.Slice l m n) = optional_count l + (optional_count m + optional_count n)
 
-abbrev pub target_left : AssignTarget-F ℕ ℕ ℕ ℕ ℕ ℕ ℕ ℕ → ℕ
-target_left (AssignTarget-F.Target::Name b) = 0
-target_left (AssignTarget-F.Target::Index m n) = m + n
-target_left (AssignTarget-F.Target::Tuple ns) = sum_of ns
-target_left (AssignTarget-F.Target::List ns) = sum_of ns
+abbrev pub target_left : TargetExpr-F ℕ ℕ ℕ ℕ ℕ ℕ ℕ ℕ → ℕ
+target_left (TargetExpr-F.Target::Name b) = 0
+target_left (TargetExpr-F.Target::Index m n) = m + n
+target_left (TargetExpr-F.Target::Tuple ns) = sum_of ns
+target_left (TargetExpr-F.Target::List ns) = sum_of ns
 
 abbrev pub expr_left : Expr-F ℕ ℕ ℕ ℕ ℕ ℕ ℕ ℕ → ℕ
 expr_left (Expr-F.Expr::Name b) = 0
@@ -98,8 +98,8 @@ expr_left Expr-F.Lambda = 1
 abbrev pub expr_count : Bool → Expr → ℕ
 expr_count build = fold-Expr ℕ ℕ ℕ ℕ ℕ ℕ ℕ ℕ (argument_left build) clause_left expr_left suffix_left target_left choice_left operation_left pair_left
 
-abbrev pub target_count : Bool → AssignTarget → ℕ
-target_count build = fold-AssignTarget ℕ ℕ ℕ ℕ ℕ ℕ ℕ ℕ (argument_left build) clause_left expr_left suffix_left target_left choice_left operation_left pair_left
+abbrev pub target_count : Bool → TargetExpr → ℕ
+target_count build = fold-TargetExpr ℕ ℕ ℕ ℕ ℕ ℕ ℕ ℕ (argument_left build) clause_left expr_left suffix_left target_left choice_left operation_left pair_left
 
 abbrev pub argument_count : Bool → Argument → ℕ
 argument_count build = fold-Argument ℕ ℕ ℕ ℕ ℕ ℕ ℕ ℕ (argument_left build) clause_left expr_left suffix_left target_left choice_left operation_left pair_left

@@ -10,7 +10,7 @@ use Rattle.bq_parse_grammar.specs.declared.tree.UnaryOperator.{UnaryOperator}
 use Rattle.bq_parse_grammar.specs.declared.tree.UnaryOperator.TheVariants as u
 use Rattle.bq_parse_grammar.specs.declared.tree.Comparison.{Comparison}
 use Rattle.bq_parse_grammar.specs.declared.tree.Comparison.TheVariants as c
-use Rattle.bq_parse_grammar.specs.declared.tree.Argument.TheOpen.{Argument-F, Clause-F, Expr-F, Suffix-F, AssignTarget-F}
+use Rattle.bq_parse_grammar.specs.declared.tree.Argument.TheOpen.{Argument-F, Clause-F, Expr-F, Suffix-F, TargetExpr-F}
 use Rattle.bq_parse_grammar.specs.declared.tree.Argument.{Argument, out-Argument}
 use Rattle.bq_parse_grammar.specs.declared.tree.Choice.{Choice, out-Choice}
 use Rattle.bq_parse_grammar.specs.declared.tree.Clause.{Clause, out-Clause}
@@ -18,7 +18,7 @@ use Rattle.bq_parse_grammar.specs.declared.tree.Expr.{Expr, out-Expr}
 use Rattle.bq_parse_grammar.specs.declared.tree.Operation.{Operation, out-Operation}
 use Rattle.bq_parse_grammar.specs.declared.tree.Pair.{Pair, out-Pair}
 use Rattle.bq_parse_grammar.specs.declared.tree.Suffix.{Suffix, out-Suffix}
-use Rattle.bq_parse_grammar.specs.declared.tree.AssignTarget.{AssignTarget, out-AssignTarget}
+use Rattle.bq_parse_grammar.specs.declared.tree.TargetExpr.{TargetExpr, out-TargetExpr}
 use Rattle.bq_parse_grammar.specs.declared.tree.Parameter.{Parameter}
 use Rattle.bq_parse_grammar.specs.declared.tree.Parameter.TheVariants as p
 use Rattle.bq_parse_grammar.specs.declared.tree.SmallKind.{SmallKind}
@@ -57,9 +57,9 @@ pub data Part : Type 0 where
   -- the first argument, with the `(` before it, or a further one, with the comma before it
   argument : Bool → Argument → Part
   clause : Clause → Part
-  target : AssignTarget → Part
+  target : TargetExpr → Part
   -- a target where a tuple needs no parentheses
-  open_target : AssignTarget → Part
+  open_target : TargetExpr → Part
   parameter : Parameter → Part
   load_clause : LoadClause → Part
   small_stmt : SmallStmt → Part
@@ -145,7 +145,7 @@ token_of (Some q) more = token q ∷ more
 -- ---- expressions
 
 abbrev pub ExprLayer : Type 0
-ExprLayer = Expr-F Argument Clause Expr Suffix AssignTarget Choice Operation Pair
+ExprLayer = Expr-F Argument Clause Expr Suffix TargetExpr Choice Operation Pair
 
 abbrev pub expr_parts_by : ExprLayer → List Part → List Part
 expr_parts_by (Expr-F.Expr::Name n) more = word n ∷ more
@@ -178,7 +178,7 @@ abbrev pub choice_parts : Choice → List Part → List Part
 choice_parts x more = expr (out-Choice x).value ∷ token k.If ∷ expr (out-Choice x).condition ∷ token k.Else ∷ more
 
 abbrev pub SuffixLayer : Type 0
-SuffixLayer = Suffix-F Argument Clause Expr Suffix AssignTarget Choice Operation Pair
+SuffixLayer = Suffix-F Argument Clause Expr Suffix TargetExpr Choice Operation Pair
 
 abbrev pub optional_expr : Option Expr → List Part → List Part
 optional_expr None more = more
@@ -205,7 +205,7 @@ abbrev pub suffix_parts : Suffix → List Part → List Part
 suffix_parts x more = suffix_parts_by (out-Suffix x) more
 
 abbrev pub ArgumentLayer : Type 0
-ArgumentLayer = Argument-F Argument Clause Expr Suffix AssignTarget Choice Operation Pair
+ArgumentLayer = Argument-F Argument Clause Expr Suffix TargetExpr Choice Operation Pair
 
 abbrev pub opening : Bool → TokenKind
 opening true = k.LeftParen
@@ -221,7 +221,7 @@ abbrev pub argument_parts : Bool → Argument → List Part → List Part
 argument_parts first x more = argument_parts_by first (out-Argument x) more
 
 abbrev pub ClauseLayer : Type 0
-ClauseLayer = Clause-F Argument Clause Expr Suffix AssignTarget Choice Operation Pair
+ClauseLayer = Clause-F Argument Clause Expr Suffix TargetExpr Choice Operation Pair
 
 abbrev pub clause_parts_by : ClauseLayer → List Part → List Part
 clause_parts_by (Clause-F.For v x) more = token k.For ∷ open_target v ∷ token k.In ∷ expr x ∷ more
@@ -231,17 +231,17 @@ abbrev pub clause_parts : Clause → List Part → List Part
 clause_parts x more = clause_parts_by (out-Clause x) more
 
 abbrev pub TargetLayer : Type 0
-TargetLayer = AssignTarget-F Argument Clause Expr Suffix AssignTarget Choice Operation Pair
+TargetLayer = TargetExpr-F Argument Clause Expr Suffix TargetExpr Choice Operation Pair
 
 abbrev pub target_parts_by : TargetLayer → List Part → List Part
-target_parts_by (AssignTarget-F.Target::Name n) more = word n ∷ more
-target_parts_by (AssignTarget-F.Target::Index x i) more = expr x ∷ token k.LeftBracket ∷ open_expr i ∷ token k.RightBracket ∷ more
-target_parts_by (AssignTarget-F.Target::Tuple []) more = token k.LeftParen ∷ token k.RightParen ∷ more
-target_parts_by (AssignTarget-F.Target::Tuple (x ∷ xs)) more = token k.LeftParen ∷ target x ∷ token k.Comma ∷ listed k.Comma target xs (token k.RightParen ∷ more)
-target_parts_by (AssignTarget-F.Target::List xs) more = token k.LeftBracket ∷ listed k.Comma target xs (token k.RightBracket ∷ more)
+target_parts_by (TargetExpr-F.Target::Name n) more = word n ∷ more
+target_parts_by (TargetExpr-F.Target::Index x i) more = expr x ∷ token k.LeftBracket ∷ open_expr i ∷ token k.RightBracket ∷ more
+target_parts_by (TargetExpr-F.Target::Tuple []) more = token k.LeftParen ∷ token k.RightParen ∷ more
+target_parts_by (TargetExpr-F.Target::Tuple (x ∷ xs)) more = token k.LeftParen ∷ target x ∷ token k.Comma ∷ listed k.Comma target xs (token k.RightParen ∷ more)
+target_parts_by (TargetExpr-F.Target::List xs) more = token k.LeftBracket ∷ listed k.Comma target xs (token k.RightBracket ∷ more)
 
-abbrev pub target_parts : AssignTarget → List Part → List Part
-target_parts x more = target_parts_by (out-AssignTarget x) more
+abbrev pub target_parts : TargetExpr → List Part → List Part
+target_parts x more = target_parts_by (out-TargetExpr x) more
 
 -- ---- statements
 

@@ -20,8 +20,8 @@ use Rattle.bq_parse_grammar.specs.declared.tree.Expr.TheVariants as e
 use Rattle.bq_parse_grammar.specs.declared.tree.Operation.{Operation}
 use Rattle.bq_parse_grammar.specs.declared.tree.Pair.{Pair}
 use Rattle.bq_parse_grammar.specs.declared.tree.Suffix.{Suffix}
-use Rattle.bq_parse_grammar.specs.declared.tree.AssignTarget.{AssignTarget}
-use Rattle.bq_parse_grammar.specs.declared.tree.AssignTarget.TheVariants as t
+use Rattle.bq_parse_grammar.specs.declared.tree.TargetExpr.{TargetExpr}
+use Rattle.bq_parse_grammar.specs.declared.tree.TargetExpr.TheVariants as t
 use Rattle.bq_parse_grammar.specs.declared.tree.Parameter.{Parameter}
 use Rattle.bq_parse_grammar.specs.declared.tree.SmallStmt.{SmallStmt}
 use Rattle.bq_parse_grammar.specs.declared.tree.LoadClause.{LoadClause}
@@ -67,11 +67,11 @@ pub data Writes : List Part → List Lexeme → Type 0 where
       → Writes (parts.argument first x ∷ ps) ts
   clause : {x : Clause} {ps : List Part} {ts : List Lexeme} → Writes (parts.clause_parts x ps) ts → Writes (parts.clause x ∷ ps) ts
   -- targets
-  target : {x : AssignTarget} {ps : List Part} {ts : List Lexeme} → Writes (parts.target_parts x ps) ts → Writes (parts.target x ∷ ps) ts
-  target_in_parentheses : {x : AssignTarget} {ps : List Part} {ts : List Lexeme}
+  target : {x : TargetExpr} {ps : List Part} {ts : List Lexeme} → Writes (parts.target_parts x ps) ts → Writes (parts.target x ∷ ps) ts
+  target_in_parentheses : {x : TargetExpr} {ps : List Part} {ts : List Lexeme}
       → Writes (parts.token k.LeftParen ∷ parts.target x ∷ parts.token k.RightParen ∷ ps) ts → Writes (parts.target x ∷ ps) ts
-  whole_target : {x : AssignTarget} {ps : List Part} {ts : List Lexeme} → Writes (parts.target x ∷ ps) ts → Writes (parts.open_target x ∷ ps) ts
-  open_targets : {z : AssignTarget} (x y : AssignTarget) (xs : List AssignTarget) {ps : List Part} {ts : List Lexeme} → z ≡ t.Tuple (x ∷ y ∷ xs)
+  whole_target : {x : TargetExpr} {ps : List Part} {ts : List Lexeme} → Writes (parts.target x ∷ ps) ts → Writes (parts.open_target x ∷ ps) ts
+  open_targets : {z : TargetExpr} (x y : TargetExpr) (xs : List TargetExpr) {ps : List Part} {ts : List Lexeme} → z ≡ t.Tuple (x ∷ y ∷ xs)
       → Writes (parts.target x ∷ commas parts.target (y ∷ xs) ps) ts → Writes (parts.open_target z ∷ ps) ts
   -- statements
   parameter : {x : Parameter} {ps : List Part} {ts : List Lexeme} → Writes (parts.parameter_parts x ps) ts → Writes (parts.parameter x ∷ ps) ts

@@ -1,7 +1,7 @@
 -- Kinds of tokens, and the next token.
 use Rattle.std.proofs.Common.{◌≡◌, Bool, true, false, List, ◌∷◌, refl, ap, ◌∙◌, rules}
 use denote.Enum.Bare.{same_true, true_same}
-use Rattle.bq_query_lex.specs.contracts.token.TokenKind.{the_type}
+use Rattle.bq_query_lex.specs.contracts.token.QueryTokenKind.{the_type}
 use Rattle.bq_query_lex.specs.declared.token.QueryTokenKind.{QueryTokenKind}
 use Rattle.bq_query_tree.specs.Lexeme.{Lexeme, same_kind}
 use Rattle.bq_query_tree.specs.Turns.{sees}

@@ -1,7 +1,7 @@
 -- A token with its spelling, which is what the grammar reads.
 use Rattle.std.specs.Prelude.{ℕ, ◌-◌, Bool, List, [], ◌∷◌, length, take, slice_range}
 use denote.Enum.Bare.{sameb}
-use Rattle.bq_query_lex.specs.contracts.token.TokenKind.{the_type}
+use Rattle.bq_query_lex.specs.contracts.token.QueryTokenKind.{the_type}
 use Rattle.bq_query_lex.specs.declared.token.QueryToken.{QueryToken}
 use Rattle.bq_query_lex.specs.declared.token.QueryTokenKind.{QueryTokenKind}
 

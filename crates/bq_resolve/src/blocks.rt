@@ -10,7 +10,7 @@ ghost use Rattle.bq_resolve.specs.Inner.{WalksStatement};
 use crate::expressions::{expr, target};
 use crate::small::{line, misplaced};
 use bq_base::SourceErr;
-use bq_parse_grammar::{AssignTarget, Branch, Expr, Stmt};
+use bq_parse_grammar::{TargetExpr, Branch, Expr, Stmt};
 use bq_resolve_expression::Walk;
 use bq_resolve_scope::{Block, Code, CodeBranch, CodeStmt, CodeTarget, FileNames};
 use sqlite_items::{Boxed, Items};
@@ -31,7 +31,7 @@ fn header(
     file: &FileNames,
     blocks: &[Block],
     walk: &mut Walk,
-    variables: &AssignTarget,
+    variables: &TargetExpr,
     iterable: &Expr,
 ) -> Result<(CodeTarget, Code), SourceErr>
     ensures { Walks (visit.following (spec.target file.now blocks.now variables.now walk.old) (λ t p. visit.following (spec.expr file.now blocks.now iterable.now p) (λ x. visit.pure (t, x)))) result walk.new }
@@ -177,7 +177,7 @@ impl<
         file: &FileNames,
         blocks: &[Block],
         walk: &mut Walk,
-        variables: &AssignTarget,
+        variables: &TargetExpr,
         iterable: &Expr,
         body: &[Stmt],
     ) -> Result<CodeStmt, SourceErr>

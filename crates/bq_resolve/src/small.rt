@@ -11,7 +11,7 @@ ghost use Rattle.bq_resolve_expression.specs.Walks.{Walks};
 use crate::expressions::{expr, target};
 use crate::load::load;
 use bq_base::{Fault, FaultKind, SourceErr};
-use bq_parse_grammar::{AssignTarget, Expr, Load, Operator, SmallKind, SmallStmt};
+use bq_parse_grammar::{TargetExpr, Expr, Load, Operator, SmallKind, SmallStmt};
 use bq_resolve_expression::Walk;
 use bq_resolve_scope::{Block, CodeSmall, FileNames};
 use sqlite_items::{Boxed, Items};
@@ -71,7 +71,7 @@ fn assign(
     file: &FileNames,
     blocks: &[Block],
     walk: &mut Walk,
-    left: &AssignTarget,
+    left: &TargetExpr,
     value: &Expr,
 ) -> Result<CodeSmall, SourceErr>
     ensures { Walks (spec.assign file.now blocks.now left.now value.now walk.old) result walk.new }
@@ -89,7 +89,7 @@ fn augment(
     file: &FileNames,
     blocks: &[Block],
     walk: &mut Walk,
-    left: &AssignTarget,
+    left: &TargetExpr,
     operator: Operator,
     value: &Expr,
 ) -> Result<CodeSmall, SourceErr>

@@ -3,7 +3,7 @@ use Rattle.std.proofs.Common.{◌≤◌, ℕ, zero, suc, ◌+◌, ◌&&◌, ◌|
 use Rattle.bq_base.specs.declared.fault.Fault.{Fault}
 use Rattle.bq_base.specs.declared.fault.FaultKind.TheVariants as f
 use Rattle.bq_parse_grammar.specs.declared.tree.FileKind.{FileKind}
-use Rattle.bq_parse_grammar.specs.declared.tree.Argument.TheOpen.{Expr-F, Suffix-F, Argument-F, Clause-F, AssignTarget-F}
+use Rattle.bq_parse_grammar.specs.declared.tree.Argument.TheOpen.{Expr-F, Suffix-F, Argument-F, Clause-F, TargetExpr-F}
 use Rattle.bq_parse_grammar.specs.declared.tree.Argument.{Argument, out-Argument}
 use Rattle.bq_parse_grammar.specs.declared.tree.Choice.{Choice, out-Choice}
 use Rattle.bq_parse_grammar.specs.declared.tree.Clause.{Clause, out-Clause}
@@ -12,7 +12,7 @@ use Rattle.bq_parse_grammar.specs.declared.tree.Identifier.{Identifier}
 use Rattle.bq_parse_grammar.specs.declared.tree.Operation.{Operation, out-Operation}
 use Rattle.bq_parse_grammar.specs.declared.tree.Pair.{Pair, out-Pair}
 use Rattle.bq_parse_grammar.specs.declared.tree.Suffix.{Suffix, out-Suffix}
-use Rattle.bq_parse_grammar.specs.declared.tree.AssignTarget.{AssignTarget, out-AssignTarget}
+use Rattle.bq_parse_grammar.specs.declared.tree.TargetExpr.{TargetExpr, out-TargetExpr}
 use Rattle.bq_parse_grammar.specs.Targets.{ExprLayer, SuffixLayer}
 use Rattle.bq_resolve_scope.specs.declared.code.Code.{Code}
 use Rattle.bq_resolve_scope.specs.declared.code.Code.TheVariants as c
@@ -70,23 +70,23 @@ frame_calm (b ∷ bs) v h = h
 module _ (file : FileParts) (n : ℕ) (visit : List BlockParts → Expr → Visit Code) (visits : (blocks : List BlockParts) (x : Expr) → expr_depth x ≤ n → Calm (visit blocks x)) where
   -- ---- targets
 
-  target_by_calm : (inner : AssignTarget → Visit CodeTarget) (blocks : List BlockParts) (layers : ℕ) → ((u : AssignTarget) → target_depth u ≤ layers → target_depth u ≤ n → Calm (inner u)) → (o : TargetLayer)
+  target_by_calm : (inner : TargetExpr → Visit CodeTarget) (blocks : List BlockParts) (layers : ℕ) → ((u : TargetExpr) → target_depth u ≤ layers → target_depth u ≤ n → Calm (inner u)) → (o : TargetLayer)
       → target_layer o ≤ layers + 1 → target_layer o ≤ n + 1 → Calm (target_by file visit inner blocks o)
-  target_by_calm inner blocks layers inners (AssignTarget-F.Target::Name m) h k = name_calm file blocks m
-  target_by_calm inner blocks layers inners (AssignTarget-F.Target::Index x i) h k =
+  target_by_calm inner blocks layers inners (TargetExpr-F.Target::Name m) h k = name_calm file blocks m
+  target_by_calm inner blocks layers inners (TargetExpr-F.Target::Index x i) h k =
       let p : expr_depth x ≤ n = omega arith in
       let q : expr_depth i ≤ n = omega arith in
       calm_two (visit blocks x) (visit blocks i) (λ y j. t.Index y j) (visits blocks x p) (visits blocks i q)
-  target_by_calm inner blocks layers inners (AssignTarget-F.Target::Tuple us) h k =
+  target_by_calm inner blocks layers inners (TargetExpr-F.Target::Tuple us) h k =
       calm_map (each inner [] us) (λ vs. t.Tuple vs) (calm_each target_depth (deepest (map target_depth us)) inner (λ u l. inners u (omega arith) (omega arith)) [] us (omega arith))
-  target_by_calm inner blocks layers inners (AssignTarget-F.Target::List us) h k =
+  target_by_calm inner blocks layers inners (TargetExpr-F.Target::List us) h k =
       calm_map (each inner [] us) (λ vs. t.List vs) (calm_each target_depth (deepest (map target_depth us)) inner (λ u l. inners u (omega arith) (omega arith)) [] us (omega arith))
 
-  pub target_calm : (layers : ℕ) (blocks : List BlockParts) (u : AssignTarget) → target_depth u ≤ layers → target_depth u ≤ n + 1 → Calm (target_to file visit layers blocks u)
+  pub target_calm : (layers : ℕ) (blocks : List BlockParts) (u : TargetExpr) → target_depth u ≤ layers → target_depth u ≤ n + 1 → Calm (target_to file visit layers blocks u)
   unfolding target_to
-  target_calm zero blocks u h k = absurd (omega (arith, opened_target u, target_has_depth (out-AssignTarget u)))
+  target_calm zero blocks u h k = absurd (omega (arith, opened_target u, target_has_depth (out-TargetExpr u)))
   target_calm (suc layers) blocks u h k =
-      target_by_calm (target_to file visit layers blocks) blocks layers (λ v p q. target_calm layers blocks v p (omega arith)) (out-AssignTarget u)
+      target_by_calm (target_to file visit layers blocks) blocks layers (λ v p q. target_calm layers blocks v p (omega arith)) (out-TargetExpr u)
       (omega (arith, opened_target u)) (omega (arith, opened_target u))
 
   -- ---- what stands in an expression
@@ -109,7 +109,7 @@ module _ (file : FileParts) (n : ℕ) (visit : List BlockParts → Expr → Visi
       calm_two (visit blocks (out-Choice o).value) (visit blocks (out-Choice o).condition) (λ v x. roll-CodeChoice (record { value = v; condition = x }))
       (visits blocks (out-Choice o).value (omega (arith, opened_choice o))) (visits blocks (out-Choice o).condition (omega (arith, opened_choice o)))
 
-  argument_by_calm : (blocks : List BlockParts) (o : Argument-F Argument Clause Expr Suffix AssignTarget Choice Operation Pair) → argument_layer o ≤ n → Calm (argument_by file visit blocks o)
+  argument_by_calm : (blocks : List BlockParts) (o : Argument-F Argument Clause Expr Suffix TargetExpr Choice Operation Pair) → argument_layer o ≤ n → Calm (argument_by file visit blocks o)
   argument_by_calm blocks (Argument-F.Positional x) h = calm_map (visit blocks x) (λ y. a.Positional y) (visits blocks x h)
   argument_by_calm blocks (Argument-F.Named m x) h = calm_map (visit blocks x) (λ y. a.Named m y) (visits blocks x h)
   argument_by_calm blocks (Argument-F.Star x) h = calm_map (visit blocks x) (λ y. a.Star y) (visits blocks x h)

@@ -1,6 +1,6 @@
 -- The depth of a tree by its outermost layer.
 use Rattle.std.proofs.Common.{◌≡◌, ◌≤◌, ℕ, ◌+◌, max, List, map, Option, Some, None, sym, ap, ◌∙◌, rules, arith}
-use Rattle.bq_parse_grammar.specs.declared.tree.Argument.TheOpen.{Argument-F, Clause-F, Expr-F, Suffix-F, AssignTarget-F}
+use Rattle.bq_parse_grammar.specs.declared.tree.Argument.TheOpen.{Argument-F, Clause-F, Expr-F, Suffix-F, TargetExpr-F}
 use Rattle.bq_parse_grammar.specs.declared.tree.Argument.{Argument, out-Argument, roll-Argument, roll-out-Argument}
 use Rattle.bq_parse_grammar.specs.declared.tree.Branch.{Branch, out-Branch, roll-Branch, roll-out-Branch}
 use Rattle.bq_parse_grammar.specs.declared.tree.Choice.{Choice, out-Choice, roll-Choice, roll-out-Choice}
@@ -13,7 +13,7 @@ use Rattle.bq_parse_grammar.specs.declared.tree.Stmt as stmt
 use Rattle.bq_parse_grammar.specs.declared.tree.Stmt.{Stmt, out-Stmt, roll-Stmt, roll-out-Stmt}
 use Rattle.bq_parse_grammar.specs.declared.tree.Stmt.TheOpen.{Stmt-F}
 use Rattle.bq_parse_grammar.specs.declared.tree.Suffix.{Suffix, out-Suffix, roll-Suffix, roll-out-Suffix}
-use Rattle.bq_parse_grammar.specs.declared.tree.AssignTarget.{AssignTarget, out-AssignTarget, roll-AssignTarget, roll-out-AssignTarget}
+use Rattle.bq_parse_grammar.specs.declared.tree.TargetExpr.{TargetExpr, out-TargetExpr, roll-TargetExpr, roll-out-TargetExpr}
 use Rattle.bq_parse_grammar.specs.Targets.{ExprLayer, SuffixLayer}
 use Rattle.bq_resolve_scope.specs.Names.{TargetLayer, ClauseLayer}
 use Rattle.bq_parse_tree_laws.specs.Depth.{deepest, expr_depth, target_depth, argument_depth, clause_depth, suffix_depth, choice_depth, operation_depth, pair_depth, parameter_depth, small_depth, stmt_depth, branch_depth}
@@ -25,7 +25,7 @@ part_depth (Some x) = expr_depth x
 
 -- ---- expressions
 
-abbrev pub argument_layer : Argument-F Argument Clause Expr Suffix AssignTarget Choice Operation Pair → ℕ
+abbrev pub argument_layer : Argument-F Argument Clause Expr Suffix TargetExpr Choice Operation Pair → ℕ
 argument_layer (Argument-F.Positional x) = expr_depth x
 argument_layer (Argument-F.Named n x) = expr_depth x
 argument_layer (Argument-F.Star x) = expr_depth x
@@ -43,10 +43,10 @@ suffix_layer (Suffix-F.Suffix::Index x) = expr_depth x
 suffix_layer (Suffix-F.Slice x y z) = max (part_depth x) (max (part_depth y) (part_depth z))
 
 abbrev pub target_layer : TargetLayer → ℕ
-target_layer (AssignTarget-F.Target::Name n) = 1
-target_layer (AssignTarget-F.Target::Index x i) = max (expr_depth x) (expr_depth i) + 1
-target_layer (AssignTarget-F.Target::Tuple ts) = deepest (map target_depth ts) + 1
-target_layer (AssignTarget-F.Target::List ts) = deepest (map target_depth ts) + 1
+target_layer (TargetExpr-F.Target::Name n) = 1
+target_layer (TargetExpr-F.Target::Index x i) = max (expr_depth x) (expr_depth i) + 1
+target_layer (TargetExpr-F.Target::Tuple ts) = deepest (map target_depth ts) + 1
+target_layer (TargetExpr-F.Target::List ts) = deepest (map target_depth ts) + 1
 
 abbrev pub expr_layer : ExprLayer → ℕ
 expr_layer (Expr-F.Expr::Name n) = 1
@@ -64,7 +64,7 @@ expr_layer (Expr-F.Compare x o y) = max (expr_depth x) (expr_depth y) + 1
 expr_layer (Expr-F.Conditional cs x) = max (deepest (map choice_depth cs)) (expr_depth x) + 1
 expr_layer Expr-F.Lambda = 1
 
-rolled_argument : (o : Argument-F Argument Clause Expr Suffix AssignTarget Choice Operation Pair) → argument_depth (roll-Argument o) ≡ argument_layer o
+rolled_argument : (o : Argument-F Argument Clause Expr Suffix TargetExpr Choice Operation Pair) → argument_depth (roll-Argument o) ≡ argument_layer o
 rolled_argument (Argument-F.Positional x) = search (rules, the_lemmas)
 rolled_argument (Argument-F.Named n x) = search (rules, the_lemmas)
 rolled_argument (Argument-F.Star x) = search (rules, the_lemmas)
@@ -100,20 +100,20 @@ rolled_suffix (Suffix-F.Slice x y z) = rolled_slice x y z
 pub opened_suffix : (x : Suffix) → suffix_depth x ≡ suffix_layer (out-Suffix x)
 opened_suffix x = sym (ap suffix_depth (roll-out-Suffix x)) ∙ rolled_suffix (out-Suffix x)
 
-rolled_target : (o : TargetLayer) → target_depth (roll-AssignTarget o) ≡ target_layer o
-rolled_target (AssignTarget-F.Target::Name n) = search (rules, the_lemmas)
-rolled_target (AssignTarget-F.Target::Index x i) = search (rules, the_lemmas)
-rolled_target (AssignTarget-F.Target::Tuple ts) = search (rules, the_lemmas)
-rolled_target (AssignTarget-F.Target::List ts) = search (rules, the_lemmas)
+rolled_target : (o : TargetLayer) → target_depth (roll-TargetExpr o) ≡ target_layer o
+rolled_target (TargetExpr-F.Target::Name n) = search (rules, the_lemmas)
+rolled_target (TargetExpr-F.Target::Index x i) = search (rules, the_lemmas)
+rolled_target (TargetExpr-F.Target::Tuple ts) = search (rules, the_lemmas)
+rolled_target (TargetExpr-F.Target::List ts) = search (rules, the_lemmas)
 
-pub opened_target : (x : AssignTarget) → target_depth x ≡ target_layer (out-AssignTarget x)
-opened_target x = sym (ap target_depth (roll-out-AssignTarget x)) ∙ rolled_target (out-AssignTarget x)
+pub opened_target : (x : TargetExpr) → target_depth x ≡ target_layer (out-TargetExpr x)
+opened_target x = sym (ap target_depth (roll-out-TargetExpr x)) ∙ rolled_target (out-TargetExpr x)
 
 pub target_has_depth : (o : TargetLayer) → 1 ≤ target_layer o
-target_has_depth (AssignTarget-F.Target::Name n) = omega arith
-target_has_depth (AssignTarget-F.Target::Index x i) = omega arith
-target_has_depth (AssignTarget-F.Target::Tuple ts) = omega arith
-target_has_depth (AssignTarget-F.Target::List ts) = omega arith
+target_has_depth (TargetExpr-F.Target::Name n) = omega arith
+target_has_depth (TargetExpr-F.Target::Index x i) = omega arith
+target_has_depth (TargetExpr-F.Target::Tuple ts) = omega arith
+target_has_depth (TargetExpr-F.Target::List ts) = omega arith
 
 rolled_expr : (o : ExprLayer) → expr_depth (roll-Expr o) ≡ expr_layer o
 rolled_expr (Expr-F.Expr::Name n) = search (rules, the_lemmas)

@@ -13,7 +13,7 @@ use Rattle.bq_parse_grammar.specs.declared.tree.SmallKind.TheVariants as small
 use Rattle.bq_parse_grammar.specs.declared.tree.SmallStmt.{SmallStmt}
 use Rattle.bq_parse_grammar.specs.declared.tree.Stmt.{Stmt, out-Stmt}
 use Rattle.bq_parse_grammar.specs.declared.tree.Stmt.TheOpen.{Stmt-F}
-use Rattle.bq_parse_grammar.specs.declared.tree.AssignTarget.{AssignTarget}
+use Rattle.bq_parse_grammar.specs.declared.tree.TargetExpr.{TargetExpr}
 use Rattle.bq_resolve_scope.specs.declared.code.CodeBranch.{roll-CodeBranch}
 use Rattle.bq_resolve_scope.specs.declared.code.CodeSmall.{CodeSmall}
 use Rattle.bq_resolve_scope.specs.declared.code.CodeSmall.TheVariants as c
@@ -41,7 +41,7 @@ module _ (file : FileParts) where
   unfolding expr
   an_expr_calm blocks x h = expr_calm max_layers file (omega arith) blocks x h
 
-  a_target_calm : (blocks : List BlockParts) (u : AssignTarget) → target_depth u ≤ max_layers → Calm (target file blocks u)
+  a_target_calm : (blocks : List BlockParts) (u : TargetExpr) → target_depth u ≤ max_layers → Calm (target file blocks u)
   unfolding target
   a_target_calm blocks u h = target_calm file max_layers (expr_to max_layers file) (expr_calm max_layers file (omega arith)) max_layers blocks u h (omega arith)
 
@@ -60,11 +60,11 @@ module _ (file : FileParts) where
 
   -- ---- small statements
 
-  assign_calm : (blocks : List BlockParts) (t : AssignTarget) (x : Expr) → target_depth t ≤ max_layers → expr_depth x ≤ max_layers → Calm (assign file blocks t x)
+  assign_calm : (blocks : List BlockParts) (t : TargetExpr) (x : Expr) → target_depth t ≤ max_layers → expr_depth x ≤ max_layers → Calm (assign file blocks t x)
   unfolding assign
   assign_calm blocks t x h k = calm_two (target file blocks t) (expr file blocks x) (λ u y. c.Assign u y) (a_target_calm blocks t h) (an_expr_calm blocks x k)
 
-  augment_calm : (blocks : List BlockParts) (t : AssignTarget) (o : Operator) (x : Expr) → target_depth t ≤ max_layers → expr_depth x ≤ max_layers → Calm (augment file blocks t o x)
+  augment_calm : (blocks : List BlockParts) (t : TargetExpr) (o : Operator) (x : Expr) → target_depth t ≤ max_layers → expr_depth x ≤ max_layers → Calm (augment file blocks t o x)
   unfolding augment
   augment_calm blocks t o x h k = calm_two (target file blocks t) (expr file blocks x) (λ u y. c.Augment u o y) (a_target_calm blocks t h) (an_expr_calm blocks x k)
 
@@ -115,7 +115,7 @@ module _ (file : FileParts) where
       calm_two (each (branch file inner blocks) [] bs) (each inner [] zs) (λ xs ys. s.If xs ys)
       (calm_each branch_depth m (branch file inner blocks) (branch_calm inner blocks m few inners) [] bs h) (calm_each stmt_depth m inner inners [] zs k)
 
-  for_calm : (inner : Stmt → Visit CodeStmt) (blocks : List BlockParts) (m : ℕ) → m ≤ max_layers → ((x : Stmt) → stmt_depth x ≤ m → Calm (inner x)) → (t : AssignTarget) (x : Expr) (body : List Stmt)
+  for_calm : (inner : Stmt → Visit CodeStmt) (blocks : List BlockParts) (m : ℕ) → m ≤ max_layers → ((x : Stmt) → stmt_depth x ≤ m → Calm (inner x)) → (t : TargetExpr) (x : Expr) (body : List Stmt)
       → target_depth t ≤ m → expr_depth x ≤ m → deepest (map stmt_depth body) ≤ m → Calm (for_stmt file inner blocks t x body)
   unfolding for_stmt
   for_calm inner blocks m few inners t x body h k l =

@@ -2,7 +2,7 @@
 use Rattle.std.proofs.Common.{◌≡◌, ◌-◌, ◌<◌, ℕ, zero, suc, List, Result, refl, sym, subst, arith}
 use Rattle.bq_base.specs.declared.fault.Fault.{Fault}
 use Rattle.bq_base.specs.declared.fault.SourceErr.{SourceErr}
-use Rattle.bq_parse_grammar.specs.declared.tree.AssignTarget.{AssignTarget, out-AssignTarget}
+use Rattle.bq_parse_grammar.specs.declared.tree.TargetExpr.{TargetExpr, out-TargetExpr}
 use Rattle.bq_parse_grammar.specs.declared.tree.Expr.{Expr, out-Expr}
 use Rattle.bq_resolve_scope.specs.declared.code.Code.{Code}
 use Rattle.bq_resolve_scope.specs.declared.code.CodeTarget.{CodeTarget}
@@ -11,15 +11,15 @@ use Rattle.bq_resolve_scope.specs.Visit.{Passed, Visit}
 use Rattle.bq_resolve_scope.specs.Expressions.{target_by, target_to, expr_by, expr_to}
 use Rattle.bq_resolve_expression.specs.Walks.{Walks}
 
-pub code_target_layer : (file : FileParts) (visit : List BlockParts → Expr → Visit Code) (layers : ℕ) (blocks : List BlockParts) (t : AssignTarget) (s : Passed) → (layers ≡ 0 → ⊥)
-    → target_to file visit layers blocks t s ≡ target_by file visit (target_to file visit (layers - 1) blocks) blocks (out-AssignTarget t) s
+pub code_target_layer : (file : FileParts) (visit : List BlockParts → Expr → Visit Code) (layers : ℕ) (blocks : List BlockParts) (t : TargetExpr) (s : Passed) → (layers ≡ 0 → ⊥)
+    → target_to file visit layers blocks t s ≡ target_by file visit (target_to file visit (layers - 1) blocks) blocks (out-TargetExpr t) s
 unfolding target_to
 code_target_layer file visit zero blocks t s some = absurd (some refl)
 code_target_layer file visit (suc layers) blocks t s some = let e : suc layers - 1 ≡ layers = omega arith in rw e refl
 
 -- a target by its form
-pub target_form : (file : FileParts) (visit : List BlockParts → Expr → Visit Code) (layers : ℕ) (blocks : List BlockParts) (t : AssignTarget) (s new : Passed) (r : Result CodeTarget SourceErr)
-    → (layers ≡ 0 → ⊥) → Walks (target_by file visit (target_to file visit (layers - 1) blocks) blocks (out-AssignTarget t) s) r new → Walks (target_to file visit layers blocks t s) r new
+pub target_form : (file : FileParts) (visit : List BlockParts → Expr → Visit Code) (layers : ℕ) (blocks : List BlockParts) (t : TargetExpr) (s new : Passed) (r : Result CodeTarget SourceErr)
+    → (layers ≡ 0 → ⊥) → Walks (target_by file visit (target_to file visit (layers - 1) blocks) blocks (out-TargetExpr t) s) r new → Walks (target_to file visit layers blocks t s) r new
 target_form file visit layers blocks t s new r some walks =
     let P : Result (CodeTarget × Passed) Fault → Type 0 = λ found. Walks found r new in subst P (sym (code_target_layer file visit layers blocks t s some)) walks
 

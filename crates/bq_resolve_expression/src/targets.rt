@@ -1,8 +1,8 @@
 //! Targets of assignments and loops.
 
 ghost use Rattle.std.specs.Prelude.{[]};
-ghost use Rattle.bq_parse_grammar.specs.declared.tree.Argument.TheOpen.{AssignTarget-F};
-ghost use Rattle.bq_parse_grammar.specs.declared.tree.AssignTarget.{AssignTarget};
+ghost use Rattle.bq_parse_grammar.specs.declared.tree.Argument.TheOpen.{TargetExpr-F};
+ghost use Rattle.bq_parse_grammar.specs.declared.tree.TargetExpr.{TargetExpr};
 ghost use Rattle.bq_resolve_scope.specs.declared.code.CodeTarget.{CodeTarget};
 ghost use Rattle.bq_resolve_scope.specs.Visit as visit;
 ghost use Rattle.bq_resolve_scope.specs.Expressions as spec;
@@ -13,7 +13,7 @@ use crate::room::with_room;
 use crate::rules::Rules;
 use crate::walk::Walk;
 use bq_base::{Fault, FaultKind, SourceErr};
-use bq_parse_grammar::{AssignTarget, Expr};
+use bq_parse_grammar::{TargetExpr, Expr};
 use bq_resolve_scope::{Block, Code, CodeTarget, FileNames};
 use sqlite_items::Items;
 use std::alloc::Global;
@@ -31,7 +31,7 @@ impl<F: Fn(Global, &FileNames, usize, &[Block], &mut Walk, &Expr) -> Result<Code
         index: &Expr,
     ) -> Result<CodeTarget, SourceErr>
         requires { WalksNested self.now.depth (F.pre self.now.visit) (F.post self.now.visit) }
-        ensures { (inner : AssignTarget → visit.Visit CodeTarget) → Walks (spec.target_by file.now (spec.expr_to self.now.depth file.now) inner blocks.now (AssignTarget-F.Target::Index operand.now index.now) walk.old) result walk.new }
+        ensures { (inner : TargetExpr → visit.Visit CodeTarget) → Walks (spec.target_by file.now (spec.expr_to self.now.depth file.now) inner blocks.now (TargetExpr-F.Target::Index operand.now index.now) walk.old) result walk.new }
     {
         let operand = self.boxed(file, blocks, walk, operand)?;
         let index = self.boxed(file, blocks, walk, index)?;
@@ -46,7 +46,7 @@ impl<F: Fn(Global, &FileNames, usize, &[Block], &mut Walk, &Expr) -> Result<Code
         layers: usize,
         blocks: &[Block],
         walk: &mut Walk,
-        targets: &[AssignTarget],
+        targets: &[TargetExpr],
     ) -> Result<Items<CodeTarget>, SourceErr>
         requires { WalksNested self.now.depth (F.pre self.now.visit) (F.post self.now.visit) }
         ensures { Walks (visit.each (spec.target_to file.now (spec.expr_to self.now.depth file.now) layers blocks.now) [] targets.now walk.old) result walk.new }
@@ -67,7 +67,7 @@ impl<F: Fn(Global, &FileNames, usize, &[Block], &mut Walk, &Expr) -> Result<Code
         layers: usize,
         blocks: &[Block],
         walk: &mut Walk,
-        target: &AssignTarget,
+        target: &TargetExpr,
     ) -> Result<CodeTarget, SourceErr>
         requires { WalksNested self.now.depth (F.pre self.now.visit) (F.post self.now.visit) }
         ensures { Walks (spec.target_to file.now (spec.expr_to self.now.depth file.now) layers blocks.now target.now walk.old) result walk.new }
@@ -76,15 +76,15 @@ impl<F: Fn(Global, &FileNames, usize, &[Block], &mut Walk, &Expr) -> Result<Code
             return Err(SourceErr::Bad(Fault::at(FaultKind::Nesting, 0)));
         }
         match target {
-            AssignTarget::Name(name) => name_target(file, blocks, walk, name),
-            AssignTarget::Index(operand, index) => {
+            TargetExpr::Name(name) => name_target(file, blocks, walk, name),
+            TargetExpr::Index(operand, index) => {
                 self.index_target(file, blocks, walk, operand.get(), index.get())
             }
-            AssignTarget::Tuple(targets) => {
+            TargetExpr::Tuple(targets) => {
                 self.targets_to(file, layers - 1, blocks, walk, targets.as_slice())
                     .map(CodeTarget::Tuple)
             }
-            AssignTarget::List(targets) => {
+            TargetExpr::List(targets) => {
                 self.targets_to(file, layers - 1, blocks, walk, targets.as_slice())
                     .map(CodeTarget::List)
             }

@@ -6,7 +6,7 @@ use Rattle.bq_base.specs.Fault.{fault_at}
 use Rattle.bq_parse_grammar.specs.declared.tree.FileKind.{FileKind}
 use Rattle.bq_parse_grammar.specs.declared.tree.FileKind.TheVariants as kinds
 use Rattle.bq_parse_grammar.specs.declared.tree.Identifier.{Identifier}
-use Rattle.bq_parse_grammar.specs.declared.tree.Argument.TheOpen.{Expr-F, Suffix-F, Argument-F, Clause-F, AssignTarget-F}
+use Rattle.bq_parse_grammar.specs.declared.tree.Argument.TheOpen.{Expr-F, Suffix-F, Argument-F, Clause-F, TargetExpr-F}
 use Rattle.bq_parse_grammar.specs.declared.tree.Argument.{Argument, out-Argument}
 use Rattle.bq_parse_grammar.specs.declared.tree.Choice.{Choice, out-Choice}
 use Rattle.bq_parse_grammar.specs.declared.tree.Clause.{Clause, out-Clause}
@@ -14,7 +14,7 @@ use Rattle.bq_parse_grammar.specs.declared.tree.Expr.{Expr, out-Expr}
 use Rattle.bq_parse_grammar.specs.declared.tree.Operation.{Operation, out-Operation}
 use Rattle.bq_parse_grammar.specs.declared.tree.Pair.{Pair, out-Pair}
 use Rattle.bq_parse_grammar.specs.declared.tree.Suffix.{Suffix, out-Suffix}
-use Rattle.bq_parse_grammar.specs.declared.tree.AssignTarget.{AssignTarget, out-AssignTarget}
+use Rattle.bq_parse_grammar.specs.declared.tree.TargetExpr.{TargetExpr, out-TargetExpr}
 use Rattle.bq_parse_grammar.specs.Targets.{ExprLayer, SuffixLayer}
 use Rattle.bq_resolve_scope.specs.declared.universe.Namespace.{Namespace}
 use Rattle.bq_resolve_scope.specs.declared.code.Binding.{Binding}
@@ -109,16 +109,16 @@ name_target file blocks n = bind_in file.universe.kind blocks n >>= λ _. given 
 module _ (file : FileParts) (visit : List BlockParts → Expr → Visit Code) where
   -- ---- targets
 
-  abbrev pub target_by : (AssignTarget → Visit CodeTarget) → List BlockParts → TargetLayer → Visit CodeTarget
-  target_by inner blocks (AssignTarget-F.Target::Name n) = name_target file blocks n
-  target_by inner blocks (AssignTarget-F.Target::Index x i) = visit blocks x >>= λ y. visit blocks i >>= λ j. pure (target.Index y j)
-  target_by inner blocks (AssignTarget-F.Target::Tuple ts) = each inner [] ts >>= λ us. pure (target.Tuple us)
-  target_by inner blocks (AssignTarget-F.Target::List ts) = each inner [] ts >>= λ us. pure (target.List us)
+  abbrev pub target_by : (TargetExpr → Visit CodeTarget) → List BlockParts → TargetLayer → Visit CodeTarget
+  target_by inner blocks (TargetExpr-F.Target::Name n) = name_target file blocks n
+  target_by inner blocks (TargetExpr-F.Target::Index x i) = visit blocks x >>= λ y. visit blocks i >>= λ j. pure (target.Index y j)
+  target_by inner blocks (TargetExpr-F.Target::Tuple ts) = each inner [] ts >>= λ us. pure (target.Tuple us)
+  target_by inner blocks (TargetExpr-F.Target::List ts) = each inner [] ts >>= λ us. pure (target.List us)
 
   -- of targets that are no deeper than so many layers; no tree that is parsed holds a deeper one
-  unfoldable pub target_to : ℕ → List BlockParts → AssignTarget → Visit CodeTarget
+  unfoldable pub target_to : ℕ → List BlockParts → TargetExpr → Visit CodeTarget
   target_to zero blocks t = stop (fault_at f.Nesting 0)
-  target_to (suc n) blocks t = target_by (target_to n blocks) blocks (out-AssignTarget t)
+  target_to (suc n) blocks t = target_by (target_to n blocks) blocks (out-TargetExpr t)
 
   -- ---- what stands in an expression
 
@@ -132,7 +132,7 @@ module _ (file : FileParts) (visit : List BlockParts → Expr → Visit Code) wh
   unfoldable pub choice : List BlockParts → Choice → Visit CodeChoice
   choice blocks o = visit blocks (out-Choice o).value >>= λ v. visit blocks (out-Choice o).condition >>= λ x. pure (roll-CodeChoice (record { value = v; condition = x }))
 
-  abbrev pub argument_by : List BlockParts → Argument-F Argument Clause Expr Suffix AssignTarget Choice Operation Pair → Visit CodeArgument
+  abbrev pub argument_by : List BlockParts → Argument-F Argument Clause Expr Suffix TargetExpr Choice Operation Pair → Visit CodeArgument
   argument_by blocks (Argument-F.Positional x) = visit blocks x >>= λ y. pure (argument.Positional y)
   argument_by blocks (Argument-F.Named name x) = visit blocks x >>= λ y. pure (argument.Named name y)
   argument_by blocks (Argument-F.Star x) = visit blocks x >>= λ y. pure (argument.Star y)

@@ -4,7 +4,7 @@
 use Rattle.std.specs.Prelude.{ℕ, zero, suc, List, [], ◌∷◌, ◌++◌, Bool, Option, Some, None, bytes_eq, if◌then◌else◌}
 use Rattle.std.specs.Option.{option_map}
 use Rattle.std.specs.List.{list_any}
-use Rattle.bq_parse_grammar.specs.declared.tree.Argument.TheOpen.{Clause-F, AssignTarget-F}
+use Rattle.bq_parse_grammar.specs.declared.tree.Argument.TheOpen.{Clause-F, TargetExpr-F}
 use Rattle.bq_parse_grammar.specs.declared.tree.Argument.{Argument}
 use Rattle.bq_parse_grammar.specs.declared.tree.Choice.{Choice}
 use Rattle.bq_parse_grammar.specs.declared.tree.Expr.{Expr}
@@ -12,7 +12,7 @@ use Rattle.bq_parse_grammar.specs.declared.tree.Operation.{Operation}
 use Rattle.bq_parse_grammar.specs.declared.tree.Pair.{Pair}
 use Rattle.bq_parse_grammar.specs.declared.tree.Suffix.{Suffix}
 use Rattle.bq_parse_grammar.specs.declared.tree.Clause.{Clause, out-Clause}
-use Rattle.bq_parse_grammar.specs.declared.tree.AssignTarget.{AssignTarget, out-AssignTarget}
+use Rattle.bq_parse_grammar.specs.declared.tree.TargetExpr.{TargetExpr, out-TargetExpr}
 use Rattle.bq_parse_grammar.specs.declared.tree.Branch.{Branch, out-Branch}
 use Rattle.bq_parse_grammar.specs.declared.tree.Stmt.{Stmt, out-Stmt}
 use Rattle.bq_parse_grammar.specs.declared.tree.Stmt.TheOpen.{Stmt-F}
@@ -53,23 +53,23 @@ with_each add names (x ∷ xs) = with_each add (add names x) xs
 -- ---- targets
 
 abbrev pub TargetLayer : Type 0
-TargetLayer = AssignTarget-F Argument Clause Expr Suffix AssignTarget Choice Operation Pair
+TargetLayer = TargetExpr-F Argument Clause Expr Suffix TargetExpr Choice Operation Pair
 
 abbrev pub ClauseLayer : Type 0
-ClauseLayer = Clause-F Argument Clause Expr Suffix AssignTarget Choice Operation Pair
+ClauseLayer = Clause-F Argument Clause Expr Suffix TargetExpr Choice Operation Pair
 
-abbrev pub with_target_by : (List Name → AssignTarget → List Name) → List Name → TargetLayer → List Name
-with_target_by inner names (AssignTarget-F.Target::Name n) = with_name names n.name
-with_target_by inner names (AssignTarget-F.Target::Index x i) = names
-with_target_by inner names (AssignTarget-F.Target::Tuple ts) = with_each inner names ts
-with_target_by inner names (AssignTarget-F.Target::List ts) = with_each inner names ts
+abbrev pub with_target_by : (List Name → TargetExpr → List Name) → List Name → TargetLayer → List Name
+with_target_by inner names (TargetExpr-F.Target::Name n) = with_name names n.name
+with_target_by inner names (TargetExpr-F.Target::Index x i) = names
+with_target_by inner names (TargetExpr-F.Target::Tuple ts) = with_each inner names ts
+with_target_by inner names (TargetExpr-F.Target::List ts) = with_each inner names ts
 
-unfoldable pub with_target_to : ℕ → List Name → AssignTarget → List Name
+unfoldable pub with_target_to : ℕ → List Name → TargetExpr → List Name
 with_target_to zero names t = names
-with_target_to (suc depth) names t = with_target_by (with_target_to depth) names (out-AssignTarget t)
+with_target_to (suc depth) names t = with_target_by (with_target_to depth) names (out-TargetExpr t)
 
 -- with a target's names
-unfoldable pub with_target : List Name → AssignTarget → List Name
+unfoldable pub with_target : List Name → TargetExpr → List Name
 with_target names t = with_target_to max_layers names t
 
 abbrev pub with_clause_by : List Name → ClauseLayer → List Name

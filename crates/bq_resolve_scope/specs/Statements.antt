@@ -16,7 +16,7 @@ use Rattle.bq_parse_grammar.specs.declared.tree.SmallKind.TheVariants as small
 use Rattle.bq_parse_grammar.specs.declared.tree.SmallStmt.{SmallStmt}
 use Rattle.bq_parse_grammar.specs.declared.tree.Stmt.{Stmt, out-Stmt}
 use Rattle.bq_parse_grammar.specs.declared.tree.Stmt.TheOpen.{Stmt-F}
-use Rattle.bq_parse_grammar.specs.declared.tree.AssignTarget.{AssignTarget}
+use Rattle.bq_parse_grammar.specs.declared.tree.TargetExpr.{TargetExpr}
 use Rattle.bq_resolve_scope.specs.declared.code.Code.{Code}
 use Rattle.bq_resolve_scope.specs.declared.code.CodeBranch.{CodeBranch, roll-CodeBranch}
 use Rattle.bq_resolve_scope.specs.declared.code.CodeParameter.{CodeParameter}
@@ -49,7 +49,7 @@ module _ (file : FileParts) where
   unfoldable pub expr : List BlockParts → Expr → Visit Code
   expr blocks x = expr_to max_layers file blocks x
 
-  unfoldable pub target : List BlockParts → AssignTarget → Visit CodeTarget
+  unfoldable pub target : List BlockParts → TargetExpr → Visit CodeTarget
   target blocks t = target_to file (expr_to max_layers file) max_layers blocks t
 
   -- ---- loads
@@ -70,11 +70,11 @@ module _ (file : FileParts) where
   -- ---- small statements: `looping` inside a `for` of the function
 
   -- `t = x`: the target comes first
-  unfoldable pub assign : List BlockParts → AssignTarget → Expr → Visit CodeSmall
+  unfoldable pub assign : List BlockParts → TargetExpr → Expr → Visit CodeSmall
   assign blocks t x = target blocks t >>= λ u. expr blocks x >>= λ y. pure (c.Assign u y)
 
   -- `t += x`
-  unfoldable pub augment : List BlockParts → AssignTarget → Operator → Expr → Visit CodeSmall
+  unfoldable pub augment : List BlockParts → TargetExpr → Operator → Expr → Visit CodeSmall
   augment blocks t o x = target blocks t >>= λ u. expr blocks x >>= λ y. pure (c.Augment u o y)
 
   -- `return` is allowed in functions alone
@@ -113,7 +113,7 @@ module _ (file : FileParts) where
   unfoldable pub if_stmt : (Stmt → Visit CodeStmt) → List BlockParts → List Branch → List Stmt → Visit CodeStmt
   if_stmt inner blocks bs zs = each (branch inner blocks) [] bs >>= λ xs. each inner [] zs >>= λ ys. pure (s.If xs ys)
 
-  unfoldable pub for_stmt : (Stmt → Visit CodeStmt) → List BlockParts → AssignTarget → Expr → List Stmt → Visit CodeStmt
+  unfoldable pub for_stmt : (Stmt → Visit CodeStmt) → List BlockParts → TargetExpr → Expr → List Stmt → Visit CodeStmt
   for_stmt inner blocks t x body = target blocks t >>= λ u. expr blocks x >>= λ y. each inner [] body >>= λ zs. pure (s.For u y zs)
 
   -- a `def` in a `def` is left out before names are looked at

@@ -5,7 +5,7 @@ ghost use Rattle.bq_resolve_scope.specs.Names as spec;
 
 use crate::names::Names;
 use bq_parse_grammar::{
-    AssignTarget, Branch, Clause, LoadClause, Parameter, SmallKind, SmallStmt, Stmt, TopLevel,
+    TargetExpr, Branch, Clause, LoadClause, Parameter, SmallKind, SmallStmt, Stmt, TopLevel,
 };
 use std::alloc::{AllocError, Global};
 
@@ -17,7 +17,7 @@ pub const MAX_LAYERS: usize = 1024;
 fn add_targets_to(
     names: &mut Names,
     depth: usize,
-    targets: &[AssignTarget],
+    targets: &[TargetExpr],
 ) -> Result<(), AllocError>
     ensures { OnOk result (names.new ≡ spec.with_each (spec.with_target_to depth) names.old targets.now) }
 {
@@ -30,23 +30,23 @@ fn add_targets_to(
 /// Adds the names of a target that is no deeper than so many layers.
 #[cycle(targets)]
 #[tactic(auto, using(crate::proofs::Layers::target_layer), unfolding(crate::specs::Names::with_target_to))]
-fn add_target_to(names: &mut Names, depth: usize, target: &AssignTarget) -> Result<(), AllocError>
+fn add_target_to(names: &mut Names, depth: usize, target: &TargetExpr) -> Result<(), AllocError>
     ensures { OnOk result (names.new ≡ spec.with_target_to depth names.old target.now) }
 {
     if depth == 0 {
         return Ok(());
     }
     match target {
-        AssignTarget::Name(name) => names.add(&name.name),
-        AssignTarget::Index(_, _) => Ok(()),
-        AssignTarget::Tuple(targets) => add_targets_to(names, depth - 1, targets.as_slice()),
-        AssignTarget::List(targets) => add_targets_to(names, depth - 1, targets.as_slice()),
+        TargetExpr::Name(name) => names.add(&name.name),
+        TargetExpr::Index(_, _) => Ok(()),
+        TargetExpr::Tuple(targets) => add_targets_to(names, depth - 1, targets.as_slice()),
+        TargetExpr::List(targets) => add_targets_to(names, depth - 1, targets.as_slice()),
     }
 }
 
 /// Adds the names of a target.
 #[tactic(auto, unfolding(crate::specs::Names::with_target, crate::specs::Names::max_layers))]
-fn add_target(names: &mut Names, target: &AssignTarget) -> Result<(), AllocError>
+fn add_target(names: &mut Names, target: &TargetExpr) -> Result<(), AllocError>
     ensures { OnOk result (names.new ≡ spec.with_target names.old target.now) }
 {
     add_target_to(names, MAX_LAYERS, target)

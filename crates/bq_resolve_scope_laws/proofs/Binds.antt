@@ -2,7 +2,7 @@
 use Rattle.std.proofs.Common.{◌≡◌, ℕ, zero, suc, Bool, true, false, List, [], ◌∷◌, ◌++◌, ◌⊎◌, inl, inr, ◌||◌, refl, sym, subst, bytes_eq}
 use Rattle.std.specs.Prelude.{if◌then◌else◌}
 use Rattle.std.proofs.lemmas.Slice.Eq.{bytes_eq-Decides}
-use Rattle.bq_parse_grammar.specs.declared.tree.Argument.TheOpen.{Clause-F, AssignTarget-F}
+use Rattle.bq_parse_grammar.specs.declared.tree.Argument.TheOpen.{Clause-F, TargetExpr-F}
 use Rattle.bq_parse_grammar.specs.declared.tree.Branch.{Branch, out-Branch}
 use Rattle.bq_parse_grammar.specs.declared.tree.Clause.{out-Clause}
 use Rattle.bq_parse_grammar.specs.declared.tree.Parameter.{Parameter}
@@ -11,7 +11,7 @@ use Rattle.bq_parse_grammar.specs.declared.tree.SmallKind.{SmallKind}
 use Rattle.bq_parse_grammar.specs.declared.tree.SmallKind.TheVariants as small
 use Rattle.bq_parse_grammar.specs.declared.tree.Stmt.{Stmt, out-Stmt}
 use Rattle.bq_parse_grammar.specs.declared.tree.Stmt.TheOpen.{Stmt-F}
-use Rattle.bq_parse_grammar.specs.declared.tree.AssignTarget.{AssignTarget, out-AssignTarget}
+use Rattle.bq_parse_grammar.specs.declared.tree.TargetExpr.{TargetExpr, out-TargetExpr}
 use Rattle.bq_parse_grammar.specs.declared.tree.TopLevel.{TopLevel}
 use Rattle.bq_resolve_scope.specs.Names.{Name, TargetLayer, ClauseLayer, max_layers, has, with_name, with_each, with_target_by, with_target_to, with_target, with_clause_by, with_clause, comprehension_names, with_small_by, with_small, with_branch, with_stmt_by, with_stmt_to, with_stmt, with_parameter, function_names, global_names, with_load_clause, with_load_by, with_load, with_loads_by, with_loads, loaded_names}
 use Rattle.bq_resolve_scope_laws.specs.Binds.{AnyOf, target_binds_by, TargetBindsTo, TargetBinds, clause_binds_by, ClauseBinds, kind_binds, SmallBinds, stmt_binds_by, StmtBindsTo, StmtBinds, ParameterBinds, load_binds_by, loads_bind_by, ComprehensionBinds, FunctionBinds, FileBinds, LoadsBind}
@@ -108,26 +108,26 @@ kept (inr b) = absurd b
 
 -- ---- targets
 
-target_from : (inner : List Name → AssignTarget → List Name) (Binds : Name → AssignTarget → Type 0) → Adds inner Binds → (names : List Name) (o : TargetLayer) (name : Name)
+target_from : (inner : List Name → TargetExpr → List Name) (Binds : Name → TargetExpr → Type 0) → Adds inner Binds → (names : List Name) (o : TargetLayer) (name : Name)
     → Held (with_target_by inner names o) name → Held names name ⊎ target_binds_by (Binds name) name o
-target_from inner Binds adds names (AssignTarget-F.Target::Name n) name h = name_adds.from names n.name name h
-target_from inner Binds adds names (AssignTarget-F.Target::Index x i) name h = inl h
-target_from inner Binds adds names (AssignTarget-F.Target::Tuple ts) name h = each_from inner Binds adds ts names name h
-target_from inner Binds adds names (AssignTarget-F.Target::List ts) name h = each_from inner Binds adds ts names name h
+target_from inner Binds adds names (TargetExpr-F.Target::Name n) name h = name_adds.from names n.name name h
+target_from inner Binds adds names (TargetExpr-F.Target::Index x i) name h = inl h
+target_from inner Binds adds names (TargetExpr-F.Target::Tuple ts) name h = each_from inner Binds adds ts names name h
+target_from inner Binds adds names (TargetExpr-F.Target::List ts) name h = each_from inner Binds adds ts names name h
 
-target_into : (inner : List Name → AssignTarget → List Name) (Binds : Name → AssignTarget → Type 0) → Adds inner Binds → (names : List Name) (o : TargetLayer) (name : Name)
+target_into : (inner : List Name → TargetExpr → List Name) (Binds : Name → TargetExpr → Type 0) → Adds inner Binds → (names : List Name) (o : TargetLayer) (name : Name)
     → Held names name ⊎ target_binds_by (Binds name) name o → Held (with_target_by inner names o) name
-target_into inner Binds adds names (AssignTarget-F.Target::Name n) name h = name_adds.into names n.name name h
-target_into inner Binds adds names (AssignTarget-F.Target::Index x i) name h = kept h
-target_into inner Binds adds names (AssignTarget-F.Target::Tuple ts) name h = each_into inner Binds adds ts names name h
-target_into inner Binds adds names (AssignTarget-F.Target::List ts) name h = each_into inner Binds adds ts names name h
+target_into inner Binds adds names (TargetExpr-F.Target::Name n) name h = name_adds.into names n.name name h
+target_into inner Binds adds names (TargetExpr-F.Target::Index x i) name h = kept h
+target_into inner Binds adds names (TargetExpr-F.Target::Tuple ts) name h = each_into inner Binds adds ts names name h
+target_into inner Binds adds names (TargetExpr-F.Target::List ts) name h = each_into inner Binds adds ts names name h
 
 target_to_adds : (layers : ℕ) → Adds (with_target_to layers) (TargetBindsTo layers)
 unfolding with_target_to TargetBindsTo
 target_to_adds zero = record { from = λ names t name h. inl h; into = λ names t name h. kept h }
 target_to_adds (suc layers) = record {
-  from = λ names t name h. target_from (with_target_to layers) (TargetBindsTo layers) (target_to_adds layers) names (out-AssignTarget t) name h;
-  into = λ names t name h. target_into (with_target_to layers) (TargetBindsTo layers) (target_to_adds layers) names (out-AssignTarget t) name h;
+  from = λ names t name h. target_from (with_target_to layers) (TargetBindsTo layers) (target_to_adds layers) names (out-TargetExpr t) name h;
+  into = λ names t name h. target_into (with_target_to layers) (TargetBindsTo layers) (target_to_adds layers) names (out-TargetExpr t) name h;
 }
 
 target_adds : Adds with_target TargetBinds

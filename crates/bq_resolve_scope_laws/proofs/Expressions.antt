@@ -3,7 +3,7 @@ use Rattle.std.proofs.Common.{◌≡◌, ◌≤◌, ℕ, zero, suc, ◌+◌, max
 use Rattle.bq_base.specs.declared.fault.Fault.{Fault}
 use Rattle.bq_base.specs.declared.fault.FaultKind.TheVariants as f
 use Rattle.bq_base.specs.Fault.{fault_at}
-use Rattle.bq_parse_grammar.specs.declared.tree.Argument.TheOpen.{Expr-F, Suffix-F, Argument-F, Clause-F, AssignTarget-F}
+use Rattle.bq_parse_grammar.specs.declared.tree.Argument.TheOpen.{Expr-F, Suffix-F, Argument-F, Clause-F, TargetExpr-F}
 use Rattle.bq_parse_grammar.specs.declared.tree.Argument.{Argument, out-Argument}
 use Rattle.bq_parse_grammar.specs.declared.tree.Choice.{Choice, out-Choice}
 use Rattle.bq_parse_grammar.specs.declared.tree.Clause.{Clause, out-Clause}
@@ -12,7 +12,7 @@ use Rattle.bq_parse_grammar.specs.declared.tree.Identifier.{Identifier}
 use Rattle.bq_parse_grammar.specs.declared.tree.Operation.{Operation, out-Operation}
 use Rattle.bq_parse_grammar.specs.declared.tree.Pair.{Pair, out-Pair}
 use Rattle.bq_parse_grammar.specs.declared.tree.Suffix.{Suffix, out-Suffix}
-use Rattle.bq_parse_grammar.specs.declared.tree.AssignTarget.{AssignTarget, out-AssignTarget}
+use Rattle.bq_parse_grammar.specs.declared.tree.TargetExpr.{TargetExpr, out-TargetExpr}
 use Rattle.bq_parse_grammar.specs.Targets.{ExprLayer, SuffixLayer}
 use Rattle.bq_resolve_scope.specs.declared.code.Code.{Code}
 use Rattle.bq_resolve_scope.specs.declared.code.Code.TheVariants as c
@@ -70,20 +70,20 @@ frame_needs (b ∷ bs) v opened s t x w h g = let o : Opened s t x = opened s t 
 module _ (file : FileParts) (visit : List BlockParts → Expr → Visit Code) (visits : (blocks : List BlockParts) (x : Expr) → Needs blocks 0 code_slots (visit blocks x)) where
   -- ---- targets
 
-  target_by_needs : (inner : AssignTarget → Visit CodeTarget) (blocks : List BlockParts) → ((u : AssignTarget) → Needs blocks 0 target_slots (inner u)) → (o : TargetLayer)
+  target_by_needs : (inner : TargetExpr → Visit CodeTarget) (blocks : List BlockParts) → ((u : TargetExpr) → Needs blocks 0 target_slots (inner u)) → (o : TargetLayer)
       → Needs blocks 0 target_slots (target_by file visit inner blocks o)
-  target_by_needs inner blocks inners (AssignTarget-F.Target::Name n) = name_needs file blocks n
-  target_by_needs inner blocks inners (AssignTarget-F.Target::Index x i) =
+  target_by_needs inner blocks inners (TargetExpr-F.Target::Name n) = name_needs file blocks n
+  target_by_needs inner blocks inners (TargetExpr-F.Target::Index x i) =
       needs_two blocks code_slots code_slots target_slots (visit blocks x) (visit blocks i) (λ y j. t.Index y j) (visits blocks x) (visits blocks i) (λ y j. omega (arith, S.slots-target_Index y j))
-  target_by_needs inner blocks inners (AssignTarget-F.Target::Tuple us) =
+  target_by_needs inner blocks inners (TargetExpr-F.Target::Tuple us) =
       needs_map blocks 0 (λ vs. most (map target_slots vs)) target_slots (each inner [] us) (λ vs. t.Tuple vs) (needs_all blocks target_slots inner inners us) (λ vs. omega (arith, S.slots-target_Tuple vs))
-  target_by_needs inner blocks inners (AssignTarget-F.Target::List us) =
+  target_by_needs inner blocks inners (TargetExpr-F.Target::List us) =
       needs_map blocks 0 (λ vs. most (map target_slots vs)) target_slots (each inner [] us) (λ vs. t.List vs) (needs_all blocks target_slots inner inners us) (λ vs. omega (arith, S.slots-target_List vs))
 
-  pub target_needs : (layers : ℕ) (blocks : List BlockParts) (u : AssignTarget) → Needs blocks 0 target_slots (target_to file visit layers blocks u)
+  pub target_needs : (layers : ℕ) (blocks : List BlockParts) (u : TargetExpr) → Needs blocks 0 target_slots (target_to file visit layers blocks u)
   unfolding target_to
   target_needs zero blocks u = needs_stop blocks 0 target_slots (fault_at f.Nesting 0)
-  target_needs (suc layers) blocks u = target_by_needs (target_to file visit layers blocks) blocks (target_needs layers blocks) (out-AssignTarget u)
+  target_needs (suc layers) blocks u = target_by_needs (target_to file visit layers blocks) blocks (target_needs layers blocks) (out-TargetExpr u)
 
   -- ---- what stands in an expression
 
@@ -105,7 +105,7 @@ module _ (file : FileParts) (visit : List BlockParts → Expr → Visit Code) (v
       needs_two blocks code_slots code_slots choice_slots (visit blocks (out-Choice o).value) (visit blocks (out-Choice o).condition) (λ v x. roll-CodeChoice (record { value = v; condition = x }))
       (visits blocks (out-Choice o).value) (visits blocks (out-Choice o).condition) (λ v x. omega (arith, S.slots-choice v x))
 
-  argument_by_needs : (blocks : List BlockParts) (o : Argument-F Argument Clause Expr Suffix AssignTarget Choice Operation Pair) → Needs blocks 0 argument_slots (argument_by file visit blocks o)
+  argument_by_needs : (blocks : List BlockParts) (o : Argument-F Argument Clause Expr Suffix TargetExpr Choice Operation Pair) → Needs blocks 0 argument_slots (argument_by file visit blocks o)
   argument_by_needs blocks (Argument-F.Positional x) = needs_map blocks 0 code_slots argument_slots (visit blocks x) (λ y. a.Positional y) (visits blocks x) (λ y. omega (arith, S.slots-Positional y))
   argument_by_needs blocks (Argument-F.Named n x) = needs_map blocks 0 code_slots argument_slots (visit blocks x) (λ y. a.Named n y) (visits blocks x) (λ y. omega (arith, S.slots-Named n y))
   argument_by_needs blocks (Argument-F.Star x) = needs_map blocks 0 code_slots argument_slots (visit blocks x) (λ y. a.Star y) (visits blocks x) (λ y. omega (arith, S.slots-Star y))

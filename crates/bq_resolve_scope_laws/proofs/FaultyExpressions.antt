@@ -2,7 +2,7 @@
 use Rattle.std.proofs.Common.{ℕ, zero, suc, ◌+◌, List, [], ◌∷◌, ◌++◌, length, Option, Some, None, is_some, Result, Ok, Err, inl, inr, refl, subst}
 use Rattle.bq_base.specs.declared.fault.Fault.{Fault}
 use Rattle.bq_base.specs.declared.fault.FaultKind.TheVariants as f
-use Rattle.bq_parse_grammar.specs.declared.tree.Argument.TheOpen.{Expr-F, Suffix-F, Argument-F, Clause-F, AssignTarget-F}
+use Rattle.bq_parse_grammar.specs.declared.tree.Argument.TheOpen.{Expr-F, Suffix-F, Argument-F, Clause-F, TargetExpr-F}
 use Rattle.bq_parse_grammar.specs.declared.tree.Argument.{Argument, out-Argument}
 use Rattle.bq_parse_grammar.specs.declared.tree.Choice.{Choice, out-Choice}
 use Rattle.bq_parse_grammar.specs.declared.tree.Clause.{Clause, out-Clause}
@@ -11,7 +11,7 @@ use Rattle.bq_parse_grammar.specs.declared.tree.Identifier.{Identifier}
 use Rattle.bq_parse_grammar.specs.declared.tree.Operation.{Operation, out-Operation}
 use Rattle.bq_parse_grammar.specs.declared.tree.Pair.{Pair, out-Pair}
 use Rattle.bq_parse_grammar.specs.declared.tree.Suffix.{Suffix, out-Suffix}
-use Rattle.bq_parse_grammar.specs.declared.tree.AssignTarget.{AssignTarget, out-AssignTarget}
+use Rattle.bq_parse_grammar.specs.declared.tree.TargetExpr.{TargetExpr, out-TargetExpr}
 use Rattle.bq_parse_grammar.specs.Targets.{ExprLayer, SuffixLayer}
 use Rattle.bq_resolve_scope.specs.declared.code.Code.{Code}
 use Rattle.bq_resolve_scope.specs.declared.code.Code.TheVariants as c
@@ -50,23 +50,23 @@ frame_finds (b ∷ bs) v faults h = h
 module _ (file : FileParts) (visit : List BlockParts → Expr → Visit Code) (inner : Around → Expr → List Fault) (visits : (blocks : List BlockParts) (x : Expr) → Finds (inner (around_of blocks) x) (visit blocks x)) where
   -- ---- targets, whose names the block holds
 
-  target_by_finds : (go : AssignTarget → Visit CodeTarget) (F : AssignTarget → List Fault) (P : Name → AssignTarget → Type 0) (block : BlockParts) (blocks : List BlockParts)
-      → ((u : AssignTarget) → Holds block.names (λ name. P name u) → Finds (F u) (go u)) → (o : TargetLayer) → Holds block.names (λ name. target_binds_by (P name) name o)
+  target_by_finds : (go : TargetExpr → Visit CodeTarget) (F : TargetExpr → List Fault) (P : Name → TargetExpr → Type 0) (block : BlockParts) (blocks : List BlockParts)
+      → ((u : TargetExpr) → Holds block.names (λ name. P name u) → Finds (F u) (go u)) → (o : TargetLayer) → Holds block.names (λ name. target_binds_by (P name) name o)
       → Finds (in_target_by file inner F (around_of (block ∷ blocks)) o) (target_by file visit go (block ∷ blocks) o)
-  target_by_finds go F P block blocks goes (AssignTarget-F.Target::Name n) held = local_finds file block blocks n (held n.name refl)
-  target_by_finds go F P block blocks goes (AssignTarget-F.Target::Index x i) held =
+  target_by_finds go F P block blocks goes (TargetExpr-F.Target::Name n) held = local_finds file block blocks n (held n.name refl)
+  target_by_finds go F P block blocks goes (TargetExpr-F.Target::Index x i) held =
       finds_two (visit (block ∷ blocks) x) (visit (block ∷ blocks) i) (λ y j. t.Index y j) (inner (around_of (block ∷ blocks)) x) (inner (around_of (block ∷ blocks)) i)
       (visits (block ∷ blocks) x) (visits (block ∷ blocks) i)
-  target_by_finds go F P block blocks goes (AssignTarget-F.Target::Tuple us) held = finds_map (each go [] us) (λ vs. t.Tuple vs) (of_all F us) (finds_held block.names go F P goes [] us held)
-  target_by_finds go F P block blocks goes (AssignTarget-F.Target::List us) held = finds_map (each go [] us) (λ vs. t.List vs) (of_all F us) (finds_held block.names go F P goes [] us held)
+  target_by_finds go F P block blocks goes (TargetExpr-F.Target::Tuple us) held = finds_map (each go [] us) (λ vs. t.Tuple vs) (of_all F us) (finds_held block.names go F P goes [] us held)
+  target_by_finds go F P block blocks goes (TargetExpr-F.Target::List us) held = finds_map (each go [] us) (λ vs. t.List vs) (of_all F us) (finds_held block.names go F P goes [] us held)
 
-  pub target_finds : (layers : ℕ) (block : BlockParts) (blocks : List BlockParts) (u : AssignTarget) → Holds block.names (λ name. TargetBindsTo layers name u)
+  pub target_finds : (layers : ℕ) (block : BlockParts) (blocks : List BlockParts) (u : TargetExpr) → Holds block.names (λ name. TargetBindsTo layers name u)
       → Finds (in_target_to file inner layers (around_of (block ∷ blocks)) u) (target_to file visit layers (block ∷ blocks) u)
   unfolding in_target_to target_to TargetBindsTo
   target_finds zero block blocks u held = λ z. refl
   target_finds (suc layers) block blocks u held =
       target_by_finds (target_to file visit layers (block ∷ blocks)) (in_target_to file inner layers (around_of (block ∷ blocks))) (TargetBindsTo layers) block blocks
-      (target_finds layers block blocks) (out-AssignTarget u) held
+      (target_finds layers block blocks) (out-TargetExpr u) held
 
   -- ---- what stands in an expression
 
@@ -88,7 +88,7 @@ module _ (file : FileParts) (visit : List BlockParts → Expr → Visit Code) (i
       finds_two (visit blocks (out-Choice o).value) (visit blocks (out-Choice o).condition) (λ v x. roll-CodeChoice (record { value = v; condition = x }))
       (inner (around_of blocks) (out-Choice o).value) (inner (around_of blocks) (out-Choice o).condition) (visits blocks (out-Choice o).value) (visits blocks (out-Choice o).condition)
 
-  argument_by_finds : (blocks : List BlockParts) (o : Argument-F Argument Clause Expr Suffix AssignTarget Choice Operation Pair)
+  argument_by_finds : (blocks : List BlockParts) (o : Argument-F Argument Clause Expr Suffix TargetExpr Choice Operation Pair)
       → Finds (in_argument_by file inner (around_of blocks) o) (argument_by file visit blocks o)
   argument_by_finds blocks (Argument-F.Positional x) = finds_map (visit blocks x) (λ y. a.Positional y) (inner (around_of blocks) x) (visits blocks x)
   argument_by_finds blocks (Argument-F.Named n x) = finds_map (visit blocks x) (λ y. a.Named n y) (inner (around_of blocks) x) (visits blocks x)

@@ -3,7 +3,7 @@ use Rattle.std.proofs.Common.{◌≡◌, ℕ, zero, suc, Bool, true, false, ◌&
 use Rattle.std.specs.Prelude.{◌↔◌, if◌then◌else◌}
 use Rattle.bq_base.specs.declared.fault.Fault.{Fault}
 use Rattle.bq_base.specs.declared.fault.FaultKind.TheVariants as f
-use Rattle.bq_parse_grammar.specs.declared.tree.Argument.TheOpen.{AssignTarget-F}
+use Rattle.bq_parse_grammar.specs.declared.tree.Argument.TheOpen.{TargetExpr-F}
 use Rattle.bq_parse_grammar.specs.declared.tree.Branch.{Branch}
 use Rattle.bq_parse_grammar.specs.declared.tree.Expr.{Expr}
 use Rattle.bq_parse_grammar.specs.declared.tree.Identifier.{Identifier}
@@ -17,7 +17,7 @@ use Rattle.bq_parse_grammar.specs.declared.tree.SmallKind.TheVariants as small
 use Rattle.bq_parse_grammar.specs.declared.tree.SmallStmt.{SmallStmt}
 use Rattle.bq_parse_grammar.specs.declared.tree.Stmt.{Stmt, out-Stmt}
 use Rattle.bq_parse_grammar.specs.declared.tree.Stmt.TheOpen.{Stmt-F}
-use Rattle.bq_parse_grammar.specs.declared.tree.AssignTarget.{AssignTarget, out-AssignTarget}
+use Rattle.bq_parse_grammar.specs.declared.tree.TargetExpr.{TargetExpr, out-TargetExpr}
 use Rattle.bq_parse_grammar.specs.declared.tree.TopLevel.{TopLevel}
 use Rattle.bq_resolve_scope.specs.declared.code.Code.{Code}
 use Rattle.bq_resolve_scope.specs.declared.code.CodeParameter.{CodeParameter}
@@ -64,32 +64,32 @@ all_small b (x ∷ xs) = all_small (after_small b x) xs
 module _ (file : FileParts) where
   -- ---- targets outside functions
 
-  target_by_tells : (go : AssignTarget → Visit CodeTarget) (F : Before → AssignTarget → List Fault) (add : List Name → AssignTarget → List Name) (P : Name → AssignTarget → Type 0)
-      → ((u : AssignTarget) → Holds file.globals (λ name. P name u) → Tells (λ b. F b u) (λ b. record b { bound = add b.bound u }) (go u)) → (o : TargetLayer)
+  target_by_tells : (go : TargetExpr → Visit CodeTarget) (F : Before → TargetExpr → List Fault) (add : List Name → TargetExpr → List Name) (P : Name → TargetExpr → Type 0)
+      → ((u : TargetExpr) → Holds file.globals (λ name. P name u) → Tells (λ b. F b u) (λ b. record b { bound = add b.bound u }) (go u)) → (o : TargetLayer)
       → Holds file.globals (λ name. target_binds_by (P name) name o)
       → Tells (λ b. in_file_target_by file F add b o) (λ b. record b { bound = with_target_by add b.bound o }) (target_by file (expr_to max_layers file) go [] o)
   unfolding in_expr
-  target_by_tells go F add P goes (AssignTarget-F.Target::Name n) held = global_tells file n (held n.name refl)
-  target_by_tells go F add P goes (AssignTarget-F.Target::Index x i) held =
+  target_by_tells go F add P goes (TargetExpr-F.Target::Name n) held = global_tells file n (held n.name refl)
+  target_by_tells go F add P goes (TargetExpr-F.Target::Index x i) held =
       finds_two (expr_to max_layers file [] x) (expr_to max_layers file [] i) (λ y j. t.Index y j) (in_expr_to file max_layers [] x) (in_expr_to file max_layers [] i)
       (expr_finds max_layers file [] x) (expr_finds max_layers file [] i)
-  target_by_tells go F add P goes (AssignTarget-F.Target::Tuple us) held =
-      let on : Before → AssignTarget → Before = λ b u. record b { bound = add b.bound u } in
+  target_by_tells go F add P goes (TargetExpr-F.Target::Tuple us) held =
+      let on : Before → TargetExpr → Before = λ b u. record b { bound = add b.bound u } in
       tells_map (each go [] us) (λ vs. t.Tuple vs) (λ b. in_turn F on b us) (λ b. record b { bound = with_each add b.bound us })
       (tells_as (each go [] us) (λ b. in_turn F on b us) (λ b. all_on on b us) (λ b. record b { bound = with_each add b.bound us }) (λ b. all_bound add b us) (tells_each file.globals go F on P goes [] us held))
-  target_by_tells go F add P goes (AssignTarget-F.Target::List us) held =
-      let on : Before → AssignTarget → Before = λ b u. record b { bound = add b.bound u } in
+  target_by_tells go F add P goes (TargetExpr-F.Target::List us) held =
+      let on : Before → TargetExpr → Before = λ b u. record b { bound = add b.bound u } in
       tells_map (each go [] us) (λ vs. t.List vs) (λ b. in_turn F on b us) (λ b. record b { bound = with_each add b.bound us })
       (tells_as (each go [] us) (λ b. in_turn F on b us) (λ b. all_on on b us) (λ b. record b { bound = with_each add b.bound us }) (λ b. all_bound add b us) (tells_each file.globals go F on P goes [] us held))
 
-  target_to_tells : (layers : ℕ) (u : AssignTarget) → Holds file.globals (λ name. TargetBindsTo layers name u)
+  target_to_tells : (layers : ℕ) (u : TargetExpr) → Holds file.globals (λ name. TargetBindsTo layers name u)
       → Tells (λ b. in_file_target_to file layers b u) (λ b. record b { bound = with_target_to layers b.bound u }) (target_to file (expr_to max_layers file) layers [] u)
   unfolding in_file_target_to with_target_to target_to TargetBindsTo
   target_to_tells zero u held = λ z. refl
   target_to_tells (suc layers) u held =
-      target_by_tells (target_to file (expr_to max_layers file) layers []) (in_file_target_to file layers) (with_target_to layers) (TargetBindsTo layers) (target_to_tells layers) (out-AssignTarget u) held
+      target_by_tells (target_to file (expr_to max_layers file) layers []) (in_file_target_to file layers) (with_target_to layers) (TargetBindsTo layers) (target_to_tells layers) (out-TargetExpr u) held
 
-  a_target_tells : (u : AssignTarget) → Holds file.globals (λ name. TargetBinds name u) → Tells (λ b. in_file_target file b u) (λ b. record b { bound = with_target b.bound u }) (target file [] u)
+  a_target_tells : (u : TargetExpr) → Holds file.globals (λ name. TargetBinds name u) → Tells (λ b. in_file_target file b u) (λ b. record b { bound = with_target b.bound u }) (target file [] u)
   unfolding in_file_target with_target target TargetBinds
   a_target_tells u held = target_to_tells max_layers u held
 
@@ -131,14 +131,14 @@ module _ (file : FileParts) where
 
   -- ---- small statements
 
-  assign_tells : (u : AssignTarget) (x : Expr) → Holds file.globals (λ name. TargetBinds name u)
+  assign_tells : (u : TargetExpr) (x : Expr) → Holds file.globals (λ name. TargetBinds name u)
       → Tells (λ b. in_file_target file b u ++ in_expr file [] x) (λ b. record b { bound = with_target b.bound u }) (assign file [] u x)
   unfolding assign
   assign_tells u x held =
       tells_two (target file [] u) (expr file [] x) (λ v y. c.Assign v y) (λ b. in_file_target file b u) (λ b. record b { bound = with_target b.bound u }) (in_expr file [] x)
       (a_target_tells u held) (an_expr_finds file [] x)
 
-  augment_tells : (u : AssignTarget) (o : Operator) (x : Expr) → Holds file.globals (λ name. TargetBinds name u)
+  augment_tells : (u : TargetExpr) (o : Operator) (x : Expr) → Holds file.globals (λ name. TargetBinds name u)
       → Tells (λ b. in_file_target file b u ++ in_expr file [] x) (λ b. record b { bound = with_target b.bound u }) (augment file [] u o x)
   unfolding augment
   augment_tells u o x held =

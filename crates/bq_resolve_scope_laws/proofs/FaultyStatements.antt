@@ -11,7 +11,7 @@ use Rattle.bq_parse_grammar.specs.declared.tree.SmallKind.TheVariants as small
 use Rattle.bq_parse_grammar.specs.declared.tree.SmallStmt.{SmallStmt}
 use Rattle.bq_parse_grammar.specs.declared.tree.Stmt.{Stmt, out-Stmt}
 use Rattle.bq_parse_grammar.specs.declared.tree.Stmt.TheOpen.{Stmt-F}
-use Rattle.bq_parse_grammar.specs.declared.tree.AssignTarget.{AssignTarget}
+use Rattle.bq_parse_grammar.specs.declared.tree.TargetExpr.{TargetExpr}
 use Rattle.bq_resolve_scope.specs.declared.code.CodeBranch.{roll-CodeBranch}
 use Rattle.bq_resolve_scope.specs.declared.code.CodeSmall.{CodeSmall}
 use Rattle.bq_resolve_scope.specs.declared.code.CodeSmall.TheVariants as c
@@ -33,21 +33,21 @@ module _ (file : FileParts) where
   unfolding in_expr expr
   an_expr_finds blocks x = expr_finds max_layers file blocks x
 
-  a_target_finds : (block : BlockParts) (blocks : List BlockParts) (u : AssignTarget) → Holds block.names (λ name. TargetBinds name u)
+  a_target_finds : (block : BlockParts) (blocks : List BlockParts) (u : TargetExpr) → Holds block.names (λ name. TargetBinds name u)
       → Finds (in_target file (around_of (block ∷ blocks)) u) (target file (block ∷ blocks) u)
   unfolding in_target target in_expr TargetBinds
   a_target_finds block blocks u held = target_finds file (expr_to max_layers file) (in_expr_to file max_layers) (expr_finds max_layers file) max_layers block blocks u held
 
   -- ---- small statements
 
-  assign_finds : (block : BlockParts) (blocks : List BlockParts) (t : AssignTarget) (x : Expr) → Holds block.names (λ name. TargetBinds name t)
+  assign_finds : (block : BlockParts) (blocks : List BlockParts) (t : TargetExpr) (x : Expr) → Holds block.names (λ name. TargetBinds name t)
       → Finds (in_target file (around_of (block ∷ blocks)) t ++ in_expr file (around_of (block ∷ blocks)) x) (assign file (block ∷ blocks) t x)
   unfolding assign
   assign_finds block blocks t x held =
       finds_two (target file (block ∷ blocks) t) (expr file (block ∷ blocks) x) (λ u y. c.Assign u y) (in_target file (around_of (block ∷ blocks)) t) (in_expr file (around_of (block ∷ blocks)) x)
       (a_target_finds block blocks t held) (an_expr_finds (block ∷ blocks) x)
 
-  augment_finds : (block : BlockParts) (blocks : List BlockParts) (t : AssignTarget) (o : Operator) (x : Expr) → Holds block.names (λ name. TargetBinds name t)
+  augment_finds : (block : BlockParts) (blocks : List BlockParts) (t : TargetExpr) (o : Operator) (x : Expr) → Holds block.names (λ name. TargetBinds name t)
       → Finds (in_target file (around_of (block ∷ blocks)) t ++ in_expr file (around_of (block ∷ blocks)) x) (augment file (block ∷ blocks) t o x)
   unfolding augment
   augment_finds block blocks t o x held =
@@ -103,7 +103,7 @@ module _ (file : FileParts) where
         (finds_held block.names (branch file go (block ∷ blocks)) (in_branch file F (around_of (block ∷ blocks))) (λ name b. AnyOf (P name) (out-Branch b).block) (branch_finds go F goes) [] bs held)
         (finds_held block.names go F P goes [] zs other)
 
-    for_finds : (go : Stmt → Visit CodeStmt) (F : Stmt → List Fault) → ((x : Stmt) → Holds block.names (λ name. P name x) → Finds (F x) (go x)) → (t : AssignTarget) (x : Expr) (body : List Stmt)
+    for_finds : (go : Stmt → Visit CodeStmt) (F : Stmt → List Fault) → ((x : Stmt) → Holds block.names (λ name. P name x) → Finds (F x) (go x)) → (t : TargetExpr) (x : Expr) (body : List Stmt)
         → Holds block.names (λ name. TargetBinds name t) → Holds block.names (λ name. AnyOf (P name) body)
         → Finds (in_target file (around_of (block ∷ blocks)) t ++ (in_expr file (around_of (block ∷ blocks)) x ++ of_all F body)) (for_stmt file go (block ∷ blocks) t x body)
     unfolding for_stmt

@@ -1,14 +1,14 @@
 -- What is bound stays bound: the names of a function are at least as many as its parameters.
 use Rattle.std.proofs.Common.{◌≤◌, ℕ, zero, suc, Bool, true, false, List, [], ◌∷◌, ◌++◌, length, length-append, arith}
 use Rattle.std.specs.Prelude.{if◌then◌else◌}
-use Rattle.bq_parse_grammar.specs.declared.tree.Argument.TheOpen.{AssignTarget-F}
+use Rattle.bq_parse_grammar.specs.declared.tree.Argument.TheOpen.{TargetExpr-F}
 use Rattle.bq_parse_grammar.specs.declared.tree.Branch.{Branch, out-Branch}
 use Rattle.bq_parse_grammar.specs.declared.tree.Parameter.{Parameter}
 use Rattle.bq_parse_grammar.specs.declared.tree.SmallKind.{SmallKind}
 use Rattle.bq_parse_grammar.specs.declared.tree.SmallKind.TheVariants as small
 use Rattle.bq_parse_grammar.specs.declared.tree.Stmt.{Stmt, out-Stmt}
 use Rattle.bq_parse_grammar.specs.declared.tree.Stmt.TheOpen.{Stmt-F}
-use Rattle.bq_parse_grammar.specs.declared.tree.AssignTarget.{AssignTarget, out-AssignTarget}
+use Rattle.bq_parse_grammar.specs.declared.tree.TargetExpr.{TargetExpr, out-TargetExpr}
 use Rattle.bq_resolve_scope.specs.Names.{Name, TargetLayer, max_layers, has, with_name, with_each, with_target_by, with_target_to, with_target, with_small_by, with_small, with_branch, with_stmt_by, with_stmt_to, with_stmt, with_parameter, function_names}
 
 abbrev Grows : {A : Type 0} → (List Name → A → List Name) → Type 0
@@ -28,16 +28,16 @@ each_grows add grows names (x ∷ xs) =
     let a : length names ≤ length (add names x) = grows names x in
     let b : length (add names x) ≤ length (with_each add (add names x) xs) = each_grows add grows (add names x) xs in omega arith
 
-target_by_grows : (inner : List Name → AssignTarget → List Name) → Grows inner → (names : List Name) (o : TargetLayer) → length names ≤ length (with_target_by inner names o)
-target_by_grows inner grows names (AssignTarget-F.Target::Name n) = name_grows names n.name
-target_by_grows inner grows names (AssignTarget-F.Target::Index x i) = omega arith
-target_by_grows inner grows names (AssignTarget-F.Target::Tuple ts) = each_grows inner grows names ts
-target_by_grows inner grows names (AssignTarget-F.Target::List ts) = each_grows inner grows names ts
+target_by_grows : (inner : List Name → TargetExpr → List Name) → Grows inner → (names : List Name) (o : TargetLayer) → length names ≤ length (with_target_by inner names o)
+target_by_grows inner grows names (TargetExpr-F.Target::Name n) = name_grows names n.name
+target_by_grows inner grows names (TargetExpr-F.Target::Index x i) = omega arith
+target_by_grows inner grows names (TargetExpr-F.Target::Tuple ts) = each_grows inner grows names ts
+target_by_grows inner grows names (TargetExpr-F.Target::List ts) = each_grows inner grows names ts
 
 target_to_grows : (depth : ℕ) → Grows (with_target_to depth)
 unfolding with_target_to
 target_to_grows zero names t = omega arith
-target_to_grows (suc depth) names t = target_by_grows (with_target_to depth) (target_to_grows depth) names (out-AssignTarget t)
+target_to_grows (suc depth) names t = target_by_grows (with_target_to depth) (target_to_grows depth) names (out-TargetExpr t)
 
 target_grows : Grows with_target
 unfolding with_target

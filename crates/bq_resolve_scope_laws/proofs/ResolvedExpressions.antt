@@ -3,7 +3,7 @@ use Rattle.std.proofs.Common.{◌≡◌, ℕ, zero, suc, ◌+◌, Bool, true, fa
 use Rattle.std.specs.Prelude.{if◌then◌else◌}
 use Rattle.bq_base.specs.declared.fault.Fault.{Fault}
 use Rattle.bq_base.specs.declared.fault.FaultKind.TheVariants as f
-use Rattle.bq_parse_grammar.specs.declared.tree.Argument.TheOpen.{Expr-F, Suffix-F, Argument-F, Clause-F, AssignTarget-F}
+use Rattle.bq_parse_grammar.specs.declared.tree.Argument.TheOpen.{Expr-F, Suffix-F, Argument-F, Clause-F, TargetExpr-F}
 use Rattle.bq_parse_grammar.specs.declared.tree.Argument.{Argument, out-Argument}
 use Rattle.bq_parse_grammar.specs.declared.tree.Choice.{Choice, out-Choice}
 use Rattle.bq_parse_grammar.specs.declared.tree.Clause.{Clause, out-Clause}
@@ -12,7 +12,7 @@ use Rattle.bq_parse_grammar.specs.declared.tree.Identifier.{Identifier}
 use Rattle.bq_parse_grammar.specs.declared.tree.Operation.{Operation, out-Operation}
 use Rattle.bq_parse_grammar.specs.declared.tree.Pair.{Pair, out-Pair}
 use Rattle.bq_parse_grammar.specs.declared.tree.Suffix.{Suffix, out-Suffix}
-use Rattle.bq_parse_grammar.specs.declared.tree.AssignTarget.{AssignTarget, out-AssignTarget}
+use Rattle.bq_parse_grammar.specs.declared.tree.TargetExpr.{TargetExpr, out-TargetExpr}
 use Rattle.bq_parse_grammar.specs.Targets.{ExprLayer, SuffixLayer}
 use Rattle.bq_resolve_scope.specs.declared.code.Code.{Code}
 use Rattle.bq_resolve_scope.specs.declared.code.Binding.{Binding}
@@ -69,17 +69,17 @@ framed_by P u old (Ok p) g l h = ((p.1.slots, p.0, h.0, refl), h.1 ∙ g, h.2 �
 module _ (file : FileParts) (visit : List BlockParts → Expr → Visit Code) (Is : List BlockParts → Expr → Code → Type 0) (visits : (blocks : List BlockParts) (x : Expr) → Makes (Is blocks x) (visit blocks x)) where
   -- ---- targets
 
-  target_by_makes : (go : AssignTarget → Visit CodeTarget) (R : AssignTarget → CodeTarget → Type 0) (blocks : List BlockParts) → ((u : AssignTarget) → Makes (R u) (go u)) → (o : TargetLayer)
+  target_by_makes : (go : TargetExpr → Visit CodeTarget) (R : TargetExpr → CodeTarget → Type 0) (blocks : List BlockParts) → ((u : TargetExpr) → Makes (R u) (go u)) → (o : TargetLayer)
       → Makes (target_is_by file Is R blocks o) (target_by file visit go blocks o)
-  target_by_makes go R blocks goes (AssignTarget-F.Target::Name n) = name_makes file blocks n
-  target_by_makes go R blocks goes (AssignTarget-F.Target::Index x i) = makes_two (Is blocks x) (Is blocks i) (visit blocks x) (visit blocks i) (λ y j. t.Index y j) (visits blocks x) (visits blocks i)
-  target_by_makes go R blocks goes (AssignTarget-F.Target::Tuple us) = makes_map (λ vs. InOrder R us vs) (each go [] us) (λ vs. t.Tuple vs) (makes_all R go goes us)
-  target_by_makes go R blocks goes (AssignTarget-F.Target::List us) = makes_map (λ vs. InOrder R us vs) (each go [] us) (λ vs. t.List vs) (makes_all R go goes us)
+  target_by_makes go R blocks goes (TargetExpr-F.Target::Name n) = name_makes file blocks n
+  target_by_makes go R blocks goes (TargetExpr-F.Target::Index x i) = makes_two (Is blocks x) (Is blocks i) (visit blocks x) (visit blocks i) (λ y j. t.Index y j) (visits blocks x) (visits blocks i)
+  target_by_makes go R blocks goes (TargetExpr-F.Target::Tuple us) = makes_map (λ vs. InOrder R us vs) (each go [] us) (λ vs. t.Tuple vs) (makes_all R go goes us)
+  target_by_makes go R blocks goes (TargetExpr-F.Target::List us) = makes_map (λ vs. InOrder R us vs) (each go [] us) (λ vs. t.List vs) (makes_all R go goes us)
 
-  pub target_makes : (layers : ℕ) (blocks : List BlockParts) (u : AssignTarget) → Makes (TargetTo file Is layers blocks u) (target_to file visit layers blocks u)
+  pub target_makes : (layers : ℕ) (blocks : List BlockParts) (u : TargetExpr) → Makes (TargetTo file Is layers blocks u) (target_to file visit layers blocks u)
   unfolding TargetTo target_to
   target_makes zero blocks u = λ z. tt
-  target_makes (suc layers) blocks u = target_by_makes (target_to file visit layers blocks) (TargetTo file Is layers blocks) blocks (target_makes layers blocks) (out-AssignTarget u)
+  target_makes (suc layers) blocks u = target_by_makes (target_to file visit layers blocks) (TargetTo file Is layers blocks) blocks (target_makes layers blocks) (out-TargetExpr u)
 
   -- ---- what stands in an expression
 
@@ -100,7 +100,7 @@ module _ (file : FileParts) (visit : List BlockParts → Expr → Visit Code) (I
       makes_two (Is blocks (out-Choice o).value) (Is blocks (out-Choice o).condition) (visit blocks (out-Choice o).value) (visit blocks (out-Choice o).condition)
       (λ v x. roll-CodeChoice (record { value = v; condition = x })) (visits blocks (out-Choice o).value) (visits blocks (out-Choice o).condition)
 
-  argument_by_makes : (blocks : List BlockParts) (o : Argument-F Argument Clause Expr Suffix AssignTarget Choice Operation Pair) → Makes (argument_is_by file Is blocks o) (argument_by file visit blocks o)
+  argument_by_makes : (blocks : List BlockParts) (o : Argument-F Argument Clause Expr Suffix TargetExpr Choice Operation Pair) → Makes (argument_is_by file Is blocks o) (argument_by file visit blocks o)
   argument_by_makes blocks (Argument-F.Positional x) = makes_map (Is blocks x) (visit blocks x) (λ y. a.Positional y) (visits blocks x)
   argument_by_makes blocks (Argument-F.Named n x) = makes_map (Is blocks x) (visit blocks x) (λ y. a.Named n y) (visits blocks x)
   argument_by_makes blocks (Argument-F.Star x) = makes_map (Is blocks x) (visit blocks x) (λ y. a.Star y) (visits blocks x)

@@ -8,7 +8,7 @@ use Rattle.bq_parse_grammar.specs.declared.tree.SmallKind.TheVariants as small
 use Rattle.bq_parse_grammar.specs.declared.tree.SmallStmt.{SmallStmt}
 use Rattle.bq_parse_grammar.specs.declared.tree.Stmt.{Stmt, out-Stmt}
 use Rattle.bq_parse_grammar.specs.declared.tree.Stmt.TheOpen.{Stmt-F}
-use Rattle.bq_parse_grammar.specs.declared.tree.AssignTarget.{AssignTarget}
+use Rattle.bq_parse_grammar.specs.declared.tree.TargetExpr.{TargetExpr}
 use Rattle.bq_resolve_scope.specs.declared.code.CodeBranch.{roll-CodeBranch}
 use Rattle.bq_resolve_scope.specs.declared.code.CodeSmall.{CodeSmall}
 use Rattle.bq_resolve_scope.specs.declared.code.CodeSmall.TheVariants as c
@@ -28,15 +28,15 @@ module _ (file : FileParts) where
   unfolding ExprIs expr
   an_expr_makes blocks x = expr_makes max_layers file blocks x
 
-  a_target_makes : (blocks : List BlockParts) (u : AssignTarget) → Makes (TargetIs file blocks u) (target file blocks u)
+  a_target_makes : (blocks : List BlockParts) (u : TargetExpr) → Makes (TargetIs file blocks u) (target file blocks u)
   unfolding TargetIs target
   a_target_makes blocks u = target_makes file (expr_to max_layers file) (ExprTo file max_layers) (expr_makes max_layers file) max_layers blocks u
 
-  pub assign_makes : (blocks : List BlockParts) (t : AssignTarget) (x : Expr) → Makes (kind_is file blocks (small.Assign t x)) (assign file blocks t x)
+  pub assign_makes : (blocks : List BlockParts) (t : TargetExpr) (x : Expr) → Makes (kind_is file blocks (small.Assign t x)) (assign file blocks t x)
   unfolding assign
   assign_makes blocks t x = makes_two (TargetIs file blocks t) (ExprIs file blocks x) (target file blocks t) (expr file blocks x) (λ u y. c.Assign u y) (a_target_makes blocks t) (an_expr_makes blocks x)
 
-  pub augment_makes : (blocks : List BlockParts) (t : AssignTarget) (o : Operator) (x : Expr) → Makes (kind_is file blocks (small.Augment t o x)) (augment file blocks t o x)
+  pub augment_makes : (blocks : List BlockParts) (t : TargetExpr) (o : Operator) (x : Expr) → Makes (kind_is file blocks (small.Augment t o x)) (augment file blocks t o x)
   unfolding augment
   augment_makes blocks t o x = makes_two (TargetIs file blocks t) (ExprIs file blocks x) (target file blocks t) (expr file blocks x) (λ u y. c.Augment u o y) (a_target_makes blocks t) (an_expr_makes blocks x)
 
@@ -81,7 +81,7 @@ module _ (file : FileParts) where
         makes_two (λ ys. InOrder (BranchIs file R (b ∷ bs)) xs ys) (λ ys. InOrder R zs ys) (each (branch file go (b ∷ bs)) [] xs) (each go [] zs) (λ us vs. s.If us vs)
         (makes_all (BranchIs file R (b ∷ bs)) (branch file go (b ∷ bs)) (branch_makes go goes) xs) (makes_all R go goes zs)
 
-    for_makes : (go : Stmt → Visit CodeStmt) → ((x : Stmt) → Makes (R x) (go x)) → (t : AssignTarget) (x : Expr) (body : List Stmt)
+    for_makes : (go : Stmt → Visit CodeStmt) → ((x : Stmt) → Makes (R x) (go x)) → (t : TargetExpr) (x : Expr) (body : List Stmt)
         → Makes (stmt_is_by file R (b ∷ bs) (Stmt-F.For t x body)) (for_stmt file go (b ∷ bs) t x body)
     unfolding for_stmt
     for_makes go goes t x body =

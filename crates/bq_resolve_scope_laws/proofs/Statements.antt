@@ -14,7 +14,7 @@ use Rattle.bq_parse_grammar.specs.declared.tree.SmallKind.TheVariants as small
 use Rattle.bq_parse_grammar.specs.declared.tree.SmallStmt.{SmallStmt}
 use Rattle.bq_parse_grammar.specs.declared.tree.Stmt.{Stmt, out-Stmt}
 use Rattle.bq_parse_grammar.specs.declared.tree.Stmt.TheOpen.{Stmt-F}
-use Rattle.bq_parse_grammar.specs.declared.tree.AssignTarget.{AssignTarget}
+use Rattle.bq_parse_grammar.specs.declared.tree.TargetExpr.{TargetExpr}
 use Rattle.bq_resolve_scope.specs.declared.code.Code.{Code}
 use Rattle.bq_resolve_scope.specs.declared.code.CodeBranch.{roll-CodeBranch}
 use Rattle.bq_resolve_scope.specs.declared.code.CodeSmall.{CodeSmall}
@@ -41,7 +41,7 @@ module _ (file : FileParts) where
   unfolding expr
   an_expr_needs blocks x = expr_needs max_layers file blocks x
 
-  pub a_target_needs : (blocks : List BlockParts) (t : AssignTarget) → Needs blocks 0 target_slots (target file blocks t)
+  pub a_target_needs : (blocks : List BlockParts) (t : TargetExpr) → Needs blocks 0 target_slots (target file blocks t)
   unfolding target
   a_target_needs blocks t = target_needs file (expr_to max_layers file) (expr_needs max_layers file) max_layers blocks t
 
@@ -74,12 +74,12 @@ module _ (file : FileParts) where
 
   -- ---- small statements
 
-  assign_needs : (blocks : List BlockParts) (t : AssignTarget) (x : Expr) → Needs blocks 0 small_slots (assign file blocks t x)
+  assign_needs : (blocks : List BlockParts) (t : TargetExpr) (x : Expr) → Needs blocks 0 small_slots (assign file blocks t x)
   unfolding assign
   assign_needs blocks t x =
       needs_two blocks target_slots code_slots small_slots (target file blocks t) (expr file blocks x) (λ u y. c.Assign u y) (a_target_needs blocks t) (an_expr_needs blocks x) (λ u y. omega arith)
 
-  augment_needs : (blocks : List BlockParts) (t : AssignTarget) (o : Operator) (x : Expr) → Needs blocks 0 small_slots (augment file blocks t o x)
+  augment_needs : (blocks : List BlockParts) (t : TargetExpr) (o : Operator) (x : Expr) → Needs blocks 0 small_slots (augment file blocks t o x)
   unfolding augment
   augment_needs blocks t o x =
       needs_two blocks target_slots code_slots small_slots (target file blocks t) (expr file blocks x) (λ u y. c.Augment u o y) (a_target_needs blocks t) (an_expr_needs blocks x) (λ u y. omega arith)
@@ -133,7 +133,7 @@ module _ (file : FileParts) where
       needs_two blocks (λ xs. most (map branch_slots xs)) (λ ys. most (map stmt_slots ys)) stmt_slots (each (branch file inner blocks) [] bs) (each inner [] zs) (λ xs ys. s.If xs ys)
       (needs_all blocks branch_slots (branch file inner blocks) (branch_needs inner blocks inners) bs) (needs_all blocks stmt_slots inner inners zs) (λ xs ys. omega (arith, S.slots-stmt_If xs ys))
 
-  for_needs : (inner : Stmt → Visit CodeStmt) (blocks : List BlockParts) → ((x : Stmt) → Needs blocks 0 stmt_slots (inner x)) → (t : AssignTarget) (x : Expr) (body : List Stmt)
+  for_needs : (inner : Stmt → Visit CodeStmt) (blocks : List BlockParts) → ((x : Stmt) → Needs blocks 0 stmt_slots (inner x)) → (t : TargetExpr) (x : Expr) (body : List Stmt)
       → Needs blocks 0 stmt_slots (for_stmt file inner blocks t x body)
   unfolding for_stmt
   for_needs inner blocks inners t x body =

@@ -1,7 +1,7 @@
 -- Which names a block binds, in words (Starlark specification, "Name binding and variables"): whether a name is bound by a target, a
 -- clause, a statement, a parameter or a load. Of a tree so many layers are looked at as `bq_resolve_scope` does (`max_layers`).
 use Rattle.std.specs.Prelude.{◌≡◌, ◌≢◌, ◌<◌, ℕ, zero, suc, ◌+◌, List, [], ◌∷◌, length, true, false, Some, None, codes, ◌⊎◌, ◌↔◌}
-use Rattle.bq_parse_grammar.specs.declared.tree.Argument.TheOpen.{Clause-F, AssignTarget-F}
+use Rattle.bq_parse_grammar.specs.declared.tree.Argument.TheOpen.{Clause-F, TargetExpr-F}
 use Rattle.bq_parse_grammar.specs.declared.tree.Branch.{Branch, out-Branch}
 use Rattle.bq_parse_grammar.specs.declared.tree.Clause.{Clause, out-Clause}
 use Rattle.bq_parse_grammar.specs.declared.tree.Parameter.{Parameter}
@@ -11,7 +11,7 @@ use Rattle.bq_parse_grammar.specs.declared.tree.SmallKind.TheVariants as small
 use Rattle.bq_parse_grammar.specs.declared.tree.SmallStmt.{SmallStmt}
 use Rattle.bq_parse_grammar.specs.declared.tree.Stmt.{Stmt, out-Stmt}
 use Rattle.bq_parse_grammar.specs.declared.tree.Stmt.TheOpen.{Stmt-F}
-use Rattle.bq_parse_grammar.specs.declared.tree.AssignTarget.{AssignTarget, out-AssignTarget}
+use Rattle.bq_parse_grammar.specs.declared.tree.TargetExpr.{TargetExpr, out-TargetExpr}
 use Rattle.bq_parse_grammar.specs.declared.tree.TopLevel.{TopLevel}
 use Rattle.bq_resolve_scope.specs.declared.code.Binding.TheVariants as b
 use Rattle.bq_parse_grammar.specs.declared.tree.FileKind.TheVariants as kinds
@@ -30,17 +30,17 @@ AnyOf P [] = ⊥
 AnyOf P (x ∷ xs) = P x ⊎ AnyOf P xs
 
 -- a target binds the names in it, but for those of `operand[index]`
-abbrev pub target_binds_by : (AssignTarget → Type 0) → Name → TargetLayer → Type 0
-target_binds_by inner name (AssignTarget-F.Target::Name n) = name ≡ n.name
-target_binds_by inner name (AssignTarget-F.Target::Index x i) = ⊥
-target_binds_by inner name (AssignTarget-F.Target::Tuple ts) = AnyOf inner ts
-target_binds_by inner name (AssignTarget-F.Target::List ts) = AnyOf inner ts
+abbrev pub target_binds_by : (TargetExpr → Type 0) → Name → TargetLayer → Type 0
+target_binds_by inner name (TargetExpr-F.Target::Name n) = name ≡ n.name
+target_binds_by inner name (TargetExpr-F.Target::Index x i) = ⊥
+target_binds_by inner name (TargetExpr-F.Target::Tuple ts) = AnyOf inner ts
+target_binds_by inner name (TargetExpr-F.Target::List ts) = AnyOf inner ts
 
-unfoldable pub TargetBindsTo : ℕ → Name → AssignTarget → Type 0
+unfoldable pub TargetBindsTo : ℕ → Name → TargetExpr → Type 0
 TargetBindsTo zero name t = ⊥
-TargetBindsTo (suc layers) name t = target_binds_by (TargetBindsTo layers name) name (out-AssignTarget t)
+TargetBindsTo (suc layers) name t = target_binds_by (TargetBindsTo layers name) name (out-TargetExpr t)
 
-unfoldable pub TargetBinds : Name → AssignTarget → Type 0
+unfoldable pub TargetBinds : Name → TargetExpr → Type 0
 TargetBinds name t = TargetBindsTo max_layers name t
 
 abbrev pub clause_binds_by : Name → ClauseLayer → Type 0

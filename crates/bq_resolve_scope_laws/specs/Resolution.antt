@@ -2,7 +2,7 @@
 -- stands for among the blocks round it (`use_of`; `StandsFor` of bq_resolve_scope says it in words); all else of the resolved tree is that
 -- of the tree, in its order. The slots of a block begin anywhere; that they fit, and are a block's own, is said by other laws.
 use Rattle.std.specs.Prelude.{◌≡◌, ℕ, zero, suc, ◌+◌, List, [], ◌∷◌, ◌++◌, length, Option, Some, None, Ok}
-use Rattle.bq_parse_grammar.specs.declared.tree.Argument.TheOpen.{Expr-F, Suffix-F, Argument-F, Clause-F, AssignTarget-F}
+use Rattle.bq_parse_grammar.specs.declared.tree.Argument.TheOpen.{Expr-F, Suffix-F, Argument-F, Clause-F, TargetExpr-F}
 use Rattle.bq_parse_grammar.specs.declared.tree.Argument.{Argument, out-Argument}
 use Rattle.bq_parse_grammar.specs.declared.tree.Branch.{Branch, out-Branch}
 use Rattle.bq_parse_grammar.specs.declared.tree.Choice.{Choice, out-Choice}
@@ -21,7 +21,7 @@ use Rattle.bq_parse_grammar.specs.declared.tree.SmallStmt.{SmallStmt}
 use Rattle.bq_parse_grammar.specs.declared.tree.Stmt.{Stmt, out-Stmt}
 use Rattle.bq_parse_grammar.specs.declared.tree.Stmt.TheOpen.{Stmt-F}
 use Rattle.bq_parse_grammar.specs.declared.tree.Suffix.{Suffix, out-Suffix}
-use Rattle.bq_parse_grammar.specs.declared.tree.AssignTarget.{AssignTarget, out-AssignTarget}
+use Rattle.bq_parse_grammar.specs.declared.tree.TargetExpr.{TargetExpr, out-TargetExpr}
 use Rattle.bq_parse_grammar.specs.declared.tree.TopLevel.{TopLevel}
 use Rattle.bq_parse_grammar.specs.Targets.{ExprLayer, SuffixLayer}
 use Rattle.bq_resolve_scope.specs.declared.code.Binding.{Binding}
@@ -74,15 +74,15 @@ module _ (file : FileParts) where
   -- ---- expressions: `Is` relates those inside
 
   module _ (Is : List BlockParts → Expr → Code → Type 0) where
-    abbrev pub target_is_by : (AssignTarget → CodeTarget → Type 0) → List BlockParts → TargetLayer → CodeTarget → Type 0
-    target_is_by inner blocks (AssignTarget-F.Target::Name n) z = place_of (use_of file blocks n.name) ≡ Some z
-    target_is_by inner blocks (AssignTarget-F.Target::Index x i) z = (y : Code) × (j : Code) × Is blocks x y × Is blocks i j × (z ≡ target.Index y j)
-    target_is_by inner blocks (AssignTarget-F.Target::Tuple ts) z = (us : List CodeTarget) × InOrder inner ts us × (z ≡ target.Tuple us)
-    target_is_by inner blocks (AssignTarget-F.Target::List ts) z = (us : List CodeTarget) × InOrder inner ts us × (z ≡ target.List us)
+    abbrev pub target_is_by : (TargetExpr → CodeTarget → Type 0) → List BlockParts → TargetLayer → CodeTarget → Type 0
+    target_is_by inner blocks (TargetExpr-F.Target::Name n) z = place_of (use_of file blocks n.name) ≡ Some z
+    target_is_by inner blocks (TargetExpr-F.Target::Index x i) z = (y : Code) × (j : Code) × Is blocks x y × Is blocks i j × (z ≡ target.Index y j)
+    target_is_by inner blocks (TargetExpr-F.Target::Tuple ts) z = (us : List CodeTarget) × InOrder inner ts us × (z ≡ target.Tuple us)
+    target_is_by inner blocks (TargetExpr-F.Target::List ts) z = (us : List CodeTarget) × InOrder inner ts us × (z ≡ target.List us)
 
-    unfoldable pub TargetTo : ℕ → List BlockParts → AssignTarget → CodeTarget → Type 0
+    unfoldable pub TargetTo : ℕ → List BlockParts → TargetExpr → CodeTarget → Type 0
     TargetTo zero blocks t z = ⊥
-    TargetTo (suc layers) blocks t z = target_is_by (TargetTo layers blocks) blocks (out-AssignTarget t) z
+    TargetTo (suc layers) blocks t z = target_is_by (TargetTo layers blocks) blocks (out-TargetExpr t) z
 
     abbrev pub PairIs : List BlockParts → Pair → CodePair → Type 0
     PairIs blocks p z = (k : Code) × (v : Code) × Is blocks (out-Pair p).key k × Is blocks (out-Pair p).value v × (z ≡ roll-CodePair (record { key = k; value = v }))
@@ -94,7 +94,7 @@ module _ (file : FileParts) where
     ChoiceIs blocks o z =
         (v : Code) × (x : Code) × Is blocks (out-Choice o).value v × Is blocks (out-Choice o).condition x × (z ≡ roll-CodeChoice (record { value = v; condition = x }))
 
-    abbrev pub argument_is_by : List BlockParts → Argument-F Argument Clause Expr Suffix AssignTarget Choice Operation Pair → CodeArgument → Type 0
+    abbrev pub argument_is_by : List BlockParts → Argument-F Argument Clause Expr Suffix TargetExpr Choice Operation Pair → CodeArgument → Type 0
     argument_is_by blocks (Argument-F.Positional x) z = (y : Code) × Is blocks x y × (z ≡ argument.Positional y)
     argument_is_by blocks (Argument-F.Named name x) z = (y : Code) × Is blocks x y × (z ≡ argument.Named name y)
     argument_is_by blocks (Argument-F.Star x) z = (y : Code) × Is blocks x y × (z ≡ argument.Star y)
@@ -166,7 +166,7 @@ module _ (file : FileParts) where
   unfoldable pub ExprIs : List BlockParts → Expr → Code → Type 0
   ExprIs blocks x z = ExprTo max_layers blocks x z
 
-  unfoldable pub TargetIs : List BlockParts → AssignTarget → CodeTarget → Type 0
+  unfoldable pub TargetIs : List BlockParts → TargetExpr → CodeTarget → Type 0
   TargetIs blocks t z = TargetTo (ExprTo max_layers) max_layers blocks t z
 
   -- ---- statements

@@ -9,7 +9,7 @@ use Rattle.bq_base.specs.Fault.{fault_at}
 use Rattle.bq_parse_grammar.specs.declared.tree.FileKind.{FileKind}
 use Rattle.bq_parse_grammar.specs.declared.tree.FileKind.TheVariants as kinds
 use Rattle.bq_parse_grammar.specs.declared.tree.Identifier.{Identifier}
-use Rattle.bq_parse_grammar.specs.declared.tree.Argument.TheOpen.{Expr-F, Suffix-F, Argument-F, Clause-F, AssignTarget-F}
+use Rattle.bq_parse_grammar.specs.declared.tree.Argument.TheOpen.{Expr-F, Suffix-F, Argument-F, Clause-F, TargetExpr-F}
 use Rattle.bq_parse_grammar.specs.declared.tree.Argument.{Argument, out-Argument}
 use Rattle.bq_parse_grammar.specs.declared.tree.Branch.{Branch, out-Branch}
 use Rattle.bq_parse_grammar.specs.declared.tree.Choice.{Choice, out-Choice}
@@ -26,7 +26,7 @@ use Rattle.bq_parse_grammar.specs.declared.tree.SmallStmt.{SmallStmt}
 use Rattle.bq_parse_grammar.specs.declared.tree.Stmt.{Stmt, out-Stmt}
 use Rattle.bq_parse_grammar.specs.declared.tree.Stmt.TheOpen.{Stmt-F}
 use Rattle.bq_parse_grammar.specs.declared.tree.Suffix.{Suffix, out-Suffix}
-use Rattle.bq_parse_grammar.specs.declared.tree.AssignTarget.{AssignTarget, out-AssignTarget}
+use Rattle.bq_parse_grammar.specs.declared.tree.TargetExpr.{TargetExpr, out-TargetExpr}
 use Rattle.bq_parse_grammar.specs.declared.tree.TopLevel.{TopLevel}
 use Rattle.bq_parse_grammar.specs.Targets.{ExprLayer, SuffixLayer}
 use Rattle.bq_resolve_scope.specs.declared.code.Resolved.{Resolved}
@@ -133,15 +133,15 @@ module _ (file : FileParts) where
 
   module _ (inner : Around → Expr → List Fault) where
     -- a target in a block, whose names the block holds
-    abbrev pub in_target_by : (AssignTarget → List Fault) → Around → TargetLayer → List Fault
-    in_target_by of_one around (AssignTarget-F.Target::Name n) = []
-    in_target_by of_one around (AssignTarget-F.Target::Index x i) = inner around x ++ inner around i
-    in_target_by of_one around (AssignTarget-F.Target::Tuple ts) = of_all of_one ts
-    in_target_by of_one around (AssignTarget-F.Target::List ts) = of_all of_one ts
+    abbrev pub in_target_by : (TargetExpr → List Fault) → Around → TargetLayer → List Fault
+    in_target_by of_one around (TargetExpr-F.Target::Name n) = []
+    in_target_by of_one around (TargetExpr-F.Target::Index x i) = inner around x ++ inner around i
+    in_target_by of_one around (TargetExpr-F.Target::Tuple ts) = of_all of_one ts
+    in_target_by of_one around (TargetExpr-F.Target::List ts) = of_all of_one ts
 
-    unfoldable pub in_target_to : ℕ → Around → AssignTarget → List Fault
+    unfoldable pub in_target_to : ℕ → Around → TargetExpr → List Fault
     in_target_to zero around t = too_deep
-    in_target_to (suc layers) around t = in_target_by (in_target_to layers around) around (out-AssignTarget t)
+    in_target_to (suc layers) around t = in_target_by (in_target_to layers around) around (out-TargetExpr t)
 
     unfoldable pub in_pair : Around → Pair → List Fault
     in_pair around p = inner around (out-Pair p).key ++ inner around (out-Pair p).value
@@ -152,7 +152,7 @@ module _ (file : FileParts) where
     unfoldable pub in_choice : Around → Choice → List Fault
     in_choice around o = inner around (out-Choice o).value ++ inner around (out-Choice o).condition
 
-    abbrev pub in_argument_by : Around → Argument-F Argument Clause Expr Suffix AssignTarget Choice Operation Pair → List Fault
+    abbrev pub in_argument_by : Around → Argument-F Argument Clause Expr Suffix TargetExpr Choice Operation Pair → List Fault
     in_argument_by around (Argument-F.Positional x) = inner around x
     in_argument_by around (Argument-F.Named name x) = inner around x
     in_argument_by around (Argument-F.Star x) = inner around x
@@ -224,7 +224,7 @@ module _ (file : FileParts) where
   unfoldable pub in_expr : Around → Expr → List Fault
   in_expr around x = in_expr_to max_layers around x
 
-  unfoldable pub in_target : Around → AssignTarget → List Fault
+  unfoldable pub in_target : Around → TargetExpr → List Fault
   in_target around t = in_target_to in_expr max_layers around t
 
   -- ---- F23: statements of functions; `looping` in a `for` of the function
@@ -277,17 +277,17 @@ module _ (file : FileParts) where
   -- ---- what stands outside functions
 
   -- a target there binds names of the file, one after the other
-  abbrev pub in_file_target_by : (Before → AssignTarget → List Fault) → (List Name → AssignTarget → List Name) → Before → TargetLayer → List Fault
-  in_file_target_by of_one add before (AssignTarget-F.Target::Name n) = in_binding before n
-  in_file_target_by of_one add before (AssignTarget-F.Target::Index x i) = in_expr [] x ++ in_expr [] i
-  in_file_target_by of_one add before (AssignTarget-F.Target::Tuple ts) = in_turn of_one (λ b t. record b { bound = add b.bound t }) before ts
-  in_file_target_by of_one add before (AssignTarget-F.Target::List ts) = in_turn of_one (λ b t. record b { bound = add b.bound t }) before ts
+  abbrev pub in_file_target_by : (Before → TargetExpr → List Fault) → (List Name → TargetExpr → List Name) → Before → TargetLayer → List Fault
+  in_file_target_by of_one add before (TargetExpr-F.Target::Name n) = in_binding before n
+  in_file_target_by of_one add before (TargetExpr-F.Target::Index x i) = in_expr [] x ++ in_expr [] i
+  in_file_target_by of_one add before (TargetExpr-F.Target::Tuple ts) = in_turn of_one (λ b t. record b { bound = add b.bound t }) before ts
+  in_file_target_by of_one add before (TargetExpr-F.Target::List ts) = in_turn of_one (λ b t. record b { bound = add b.bound t }) before ts
 
-  unfoldable pub in_file_target_to : ℕ → Before → AssignTarget → List Fault
+  unfoldable pub in_file_target_to : ℕ → Before → TargetExpr → List Fault
   in_file_target_to zero before t = too_deep
-  in_file_target_to (suc layers) before t = in_file_target_by (in_file_target_to layers) (with_target_to layers) before (out-AssignTarget t)
+  in_file_target_to (suc layers) before t = in_file_target_by (in_file_target_to layers) (with_target_to layers) before (out-TargetExpr t)
 
-  unfoldable pub in_file_target : Before → AssignTarget → List Fault
+  unfoldable pub in_file_target : Before → TargetExpr → List Fault
   in_file_target before t = in_file_target_to max_layers before t
 
   -- `return` stands in functions, and `break` and `continue` in loops of functions

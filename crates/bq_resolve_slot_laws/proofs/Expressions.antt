@@ -3,7 +3,7 @@ use Rattle.std.proofs.Common.{◌≡◌, ◌∙◌, ℕ, zero, suc, ◌+◌, Lis
 use Rattle.std.proofs.lemmas.List.{append-nil}
 use Rattle.bq_base.specs.declared.fault.FaultKind.TheVariants as f
 use Rattle.bq_base.specs.Fault.{fault_at}
-use Rattle.bq_parse_grammar.specs.declared.tree.Argument.TheOpen.{Expr-F, Suffix-F, Argument-F, Clause-F, AssignTarget-F}
+use Rattle.bq_parse_grammar.specs.declared.tree.Argument.TheOpen.{Expr-F, Suffix-F, Argument-F, Clause-F, TargetExpr-F}
 use Rattle.bq_parse_grammar.specs.declared.tree.Argument.{Argument, out-Argument}
 use Rattle.bq_parse_grammar.specs.declared.tree.Choice.{Choice, out-Choice}
 use Rattle.bq_parse_grammar.specs.declared.tree.Clause.{Clause, out-Clause}
@@ -12,7 +12,7 @@ use Rattle.bq_parse_grammar.specs.declared.tree.Identifier.{Identifier}
 use Rattle.bq_parse_grammar.specs.declared.tree.Operation.{Operation, out-Operation}
 use Rattle.bq_parse_grammar.specs.declared.tree.Pair.{Pair, out-Pair}
 use Rattle.bq_parse_grammar.specs.declared.tree.Suffix.{Suffix, out-Suffix}
-use Rattle.bq_parse_grammar.specs.declared.tree.AssignTarget.{AssignTarget, out-AssignTarget}
+use Rattle.bq_parse_grammar.specs.declared.tree.TargetExpr.{TargetExpr, out-TargetExpr}
 use Rattle.bq_parse_grammar.specs.Targets.{ExprLayer, SuffixLayer}
 use Rattle.bq_resolve_scope.specs.declared.code.Code.{Code}
 use Rattle.bq_resolve_scope.specs.declared.code.Code.TheVariants as c
@@ -56,20 +56,20 @@ module _ (file : FileParts) (visit : List BlockParts → Expr → Visit Code) (l
     (plain : (rs : List Block) (x : Expr) (n : Identifier) (k : ℕ) → out-Expr x ≡ Expr-F.Expr::Name n → use_among rs n.name ≡ [] → listed rs x k ≡ ([], k)) where
   -- ---- targets
 
-  target_by_lists : (inner : AssignTarget → Visit CodeTarget) (part : AssignTarget → Part) (rs : List Block) (bs : List BlockParts) → ((u : AssignTarget) → Lists rs bs [] target_slots (part u) (inner u)) → (o : TargetLayer)
+  target_by_lists : (inner : TargetExpr → Visit CodeTarget) (part : TargetExpr → Part) (rs : List Block) (bs : List BlockParts) → ((u : TargetExpr) → Lists rs bs [] target_slots (part u) (inner u)) → (o : TargetLayer)
       → Lists rs bs [] target_slots (uses.target_by listed part rs o) (target_by file visit inner bs o)
-  target_by_lists inner part rs bs inners (AssignTarget-F.Target::Name n) = name_lists file rs bs n
-  target_by_lists inner part rs bs inners (AssignTarget-F.Target::Index x i) =
+  target_by_lists inner part rs bs inners (TargetExpr-F.Target::Name n) = name_lists file rs bs n
+  target_by_lists inner part rs bs inners (TargetExpr-F.Target::Index x i) =
       lists_two rs bs code_slots code_slots target_slots (listed rs x) (listed rs i) (visit bs x) (visit bs i) (λ y j. t.Index y j) (visits rs bs x) (visits rs bs i) S.slots-target_Index
-  target_by_lists inner part rs bs inners (AssignTarget-F.Target::Tuple us) =
+  target_by_lists inner part rs bs inners (TargetExpr-F.Target::Tuple us) =
       lists_map rs bs [] (λ vs. all (map target_slots vs)) target_slots (uses.all part us) (each inner [] us) (λ vs. t.Tuple vs) (lists_all rs bs target_slots part inner inners us) S.slots-target_Tuple
-  target_by_lists inner part rs bs inners (AssignTarget-F.Target::List us) =
+  target_by_lists inner part rs bs inners (TargetExpr-F.Target::List us) =
       lists_map rs bs [] (λ vs. all (map target_slots vs)) target_slots (uses.all part us) (each inner [] us) (λ vs. t.List vs) (lists_all rs bs target_slots part inner inners us) S.slots-target_List
 
-  pub target_lists : (layers : ℕ) (rs : List Block) (bs : List BlockParts) (u : AssignTarget) → Lists rs bs [] target_slots (uses.target_to listed layers rs u) (target_to file visit layers bs u)
+  pub target_lists : (layers : ℕ) (rs : List Block) (bs : List BlockParts) (u : TargetExpr) → Lists rs bs [] target_slots (uses.target_to listed layers rs u) (target_to file visit layers bs u)
   unfolding target_to uses.target_to
   target_lists zero rs bs u = lists_stop rs bs [] target_slots (uses.target_to listed zero rs u) (fault_at f.Nesting 0)
-  target_lists (suc layers) rs bs u = target_by_lists (target_to file visit layers bs) (uses.target_to listed layers rs) rs bs (target_lists layers rs bs) (out-AssignTarget u)
+  target_lists (suc layers) rs bs u = target_by_lists (target_to file visit layers bs) (uses.target_to listed layers rs) rs bs (target_lists layers rs bs) (out-TargetExpr u)
 
   -- ---- what stands in an expression
 
@@ -91,7 +91,7 @@ module _ (file : FileParts) (visit : List BlockParts → Expr → Visit Code) (l
       lists_two rs bs code_slots code_slots choice_slots (listed rs (out-Choice o).value) (listed rs (out-Choice o).condition) (visit bs (out-Choice o).value) (visit bs (out-Choice o).condition)
       (λ v x. roll-CodeChoice (record { value = v; condition = x })) (visits rs bs (out-Choice o).value) (visits rs bs (out-Choice o).condition) S.slots-choice
 
-  argument_by_lists : (rs : List Block) (bs : List BlockParts) (o : Argument-F Argument Clause Expr Suffix AssignTarget Choice Operation Pair) → Lists rs bs [] argument_slots (uses.argument_by listed rs o) (argument_by file visit bs o)
+  argument_by_lists : (rs : List Block) (bs : List BlockParts) (o : Argument-F Argument Clause Expr Suffix TargetExpr Choice Operation Pair) → Lists rs bs [] argument_slots (uses.argument_by listed rs o) (argument_by file visit bs o)
   argument_by_lists rs bs (Argument-F.Positional x) = lists_map rs bs [] code_slots argument_slots (listed rs x) (visit bs x) (λ y. a.Positional y) (visits rs bs x) S.slots-Positional
   argument_by_lists rs bs (Argument-F.Named n x) = lists_map rs bs [] code_slots argument_slots (listed rs x) (visit bs x) (λ y. a.Named n y) (visits rs bs x) (S.slots-Named n)
   argument_by_lists rs bs (Argument-F.Star x) = lists_map rs bs [] code_slots argument_slots (listed rs x) (visit bs x) (λ y. a.Star y) (visits rs bs x) S.slots-Star
@@ -276,6 +276,6 @@ module _ (file : FileParts) where
   unfolding expr
   an_expr_lists rs bs x = expr_lists max_layers file rs bs x
 
-  pub a_target_lists : (rs : List Block) (bs : List BlockParts) (u : AssignTarget) → Lists rs bs [] target_slots (uses.target rs u) (target file bs u)
+  pub a_target_lists : (rs : List Block) (bs : List BlockParts) (u : TargetExpr) → Lists rs bs [] target_slots (uses.target rs u) (target file bs u)
   unfolding target
   a_target_lists rs bs u = target_lists file (expr_to max_layers file) (uses.expr_to max_layers) (expr_lists max_layers file) (plain_name max_layers) max_layers rs bs u

@@ -11,7 +11,7 @@ use Rattle.bq_parse_grammar.specs.declared.tree.SmallKind.TheVariants as small
 use Rattle.bq_parse_grammar.specs.declared.tree.SmallStmt.{SmallStmt}
 use Rattle.bq_parse_grammar.specs.declared.tree.Stmt.{Stmt, out-Stmt}
 use Rattle.bq_parse_grammar.specs.declared.tree.Stmt.TheOpen.{Stmt-F}
-use Rattle.bq_parse_grammar.specs.declared.tree.AssignTarget.{AssignTarget}
+use Rattle.bq_parse_grammar.specs.declared.tree.TargetExpr.{TargetExpr}
 use Rattle.bq_resolve_scope.specs.declared.code.Code.{Code}
 use Rattle.bq_resolve_scope.specs.declared.code.CodeBranch.{roll-CodeBranch}
 use Rattle.bq_resolve_scope.specs.declared.code.CodeSmall.{CodeSmall}
@@ -32,12 +32,12 @@ use Rattle.bq_resolve_slot_laws.proofs.Steps.{part_slots}
 module _ (file : FileParts) where
   -- ---- small statements
 
-  assign_lists : (rs : List Block) (bs : List BlockParts) (t : AssignTarget) (x : Expr) → Lists rs bs [] small_slots (both (uses.target rs t) (uses.expr rs x)) (assign file bs t x)
+  assign_lists : (rs : List Block) (bs : List BlockParts) (t : TargetExpr) (x : Expr) → Lists rs bs [] small_slots (both (uses.target rs t) (uses.expr rs x)) (assign file bs t x)
   unfolding assign
   assign_lists rs bs t x =
       lists_two rs bs target_slots code_slots small_slots (uses.target rs t) (uses.expr rs x) (target file bs t) (expr file bs x) (λ u y. c.Assign u y) (a_target_lists file rs bs t) (an_expr_lists file rs bs x) (λ u y. refl)
 
-  augment_lists : (rs : List Block) (bs : List BlockParts) (t : AssignTarget) (o : Operator) (x : Expr) → Lists rs bs [] small_slots (both (uses.target rs t) (uses.expr rs x)) (augment file bs t o x)
+  augment_lists : (rs : List Block) (bs : List BlockParts) (t : TargetExpr) (o : Operator) (x : Expr) → Lists rs bs [] small_slots (both (uses.target rs t) (uses.expr rs x)) (augment file bs t o x)
   unfolding augment
   augment_lists rs bs t o x =
       lists_two rs bs target_slots code_slots small_slots (uses.target rs t) (uses.expr rs x) (target file bs t) (expr file bs x) (λ u y. c.Augment u o y) (a_target_lists file rs bs t) (an_expr_lists file rs bs x) (λ u y. refl)
@@ -93,7 +93,7 @@ module _ (file : FileParts) where
         lists_two rs bs (λ xs. all (map branch_slots xs)) (λ ys. all (map stmt_slots ys)) stmt_slots (uses.all (uses.branch part rs) cs) (uses.all part zs) (each (branch file inner bs) [] cs) (each inner [] zs) (λ xs ys. s.If xs ys)
         (lists_all rs bs branch_slots (uses.branch part rs) (branch file inner bs) branch_lists cs) (lists_all rs bs stmt_slots part inner inners zs) S.slots-stmt_If
 
-    for_lists : (t : AssignTarget) (x : Expr) (body : List Stmt) → Lists rs bs [] stmt_slots (both (uses.target rs t) (both (uses.expr rs x) (uses.all part body))) (for_stmt file inner bs t x body)
+    for_lists : (t : TargetExpr) (x : Expr) (body : List Stmt) → Lists rs bs [] stmt_slots (both (uses.target rs t) (both (uses.expr rs x) (uses.all part body))) (for_stmt file inner bs t x body)
     unfolding for_stmt
     for_lists t x body =
         lists_three rs bs target_slots code_slots (λ ys. all (map stmt_slots ys)) stmt_slots (uses.target rs t) (uses.expr rs x) (uses.all part body) (target file bs t) (expr file bs x) (each inner [] body) (λ u y zs. s.For u y zs)

@@ -2,7 +2,7 @@
 -- binding and variables"). A block is the function itself or a comprehension in it; they are numbered in the order in which they begin, so
 -- that the function is 0. What is assigned to counts as a use.
 use Rattle.std.specs.Prelude.{ℕ, zero, suc, ◌+◌, List, [], ◌∷◌, ◌++◌, Option, Some, None, if◌then◌else◌}
-use Rattle.bq_parse_grammar.specs.declared.tree.Argument.TheOpen.{Expr-F, Suffix-F, Argument-F, Clause-F, AssignTarget-F}
+use Rattle.bq_parse_grammar.specs.declared.tree.Argument.TheOpen.{Expr-F, Suffix-F, Argument-F, Clause-F, TargetExpr-F}
 use Rattle.bq_parse_grammar.specs.declared.tree.Argument.{Argument, out-Argument}
 use Rattle.bq_parse_grammar.specs.declared.tree.Branch.{Branch, out-Branch}
 use Rattle.bq_parse_grammar.specs.declared.tree.Choice.{Choice, out-Choice}
@@ -16,7 +16,7 @@ use Rattle.bq_parse_grammar.specs.declared.tree.SmallStmt.{SmallStmt}
 use Rattle.bq_parse_grammar.specs.declared.tree.Stmt.{Stmt, out-Stmt}
 use Rattle.bq_parse_grammar.specs.declared.tree.Stmt.TheOpen.{Stmt-F}
 use Rattle.bq_parse_grammar.specs.declared.tree.Suffix.{Suffix, out-Suffix}
-use Rattle.bq_parse_grammar.specs.declared.tree.AssignTarget.{AssignTarget, out-AssignTarget}
+use Rattle.bq_parse_grammar.specs.declared.tree.TargetExpr.{TargetExpr, out-TargetExpr}
 use Rattle.bq_parse_grammar.specs.Targets.{ExprLayer, SuffixLayer}
 use Rattle.bq_resolve_scope.specs.Names.{Name, TargetLayer, ClauseLayer, max_layers, has, comprehension_names}
 
@@ -56,15 +56,15 @@ abbrev pub name_use : List Block → Name → Part
 name_use blocks name = λ k. (use_among blocks name, k)
 
 module _ (visit : List Block → Expr → Part) where
-  abbrev pub target_by : (AssignTarget → Part) → List Block → TargetLayer → Part
-  target_by inner blocks (AssignTarget-F.Target::Name n) = name_use blocks n.name
-  target_by inner blocks (AssignTarget-F.Target::Index x i) = both (visit blocks x) (visit blocks i)
-  target_by inner blocks (AssignTarget-F.Target::Tuple ts) = all inner ts
-  target_by inner blocks (AssignTarget-F.Target::List ts) = all inner ts
+  abbrev pub target_by : (TargetExpr → Part) → List Block → TargetLayer → Part
+  target_by inner blocks (TargetExpr-F.Target::Name n) = name_use blocks n.name
+  target_by inner blocks (TargetExpr-F.Target::Index x i) = both (visit blocks x) (visit blocks i)
+  target_by inner blocks (TargetExpr-F.Target::Tuple ts) = all inner ts
+  target_by inner blocks (TargetExpr-F.Target::List ts) = all inner ts
 
-  unfoldable pub target_to : ℕ → List Block → AssignTarget → Part
+  unfoldable pub target_to : ℕ → List Block → TargetExpr → Part
   target_to zero blocks t = nothing
-  target_to (suc layers) blocks t = target_by (target_to layers blocks) blocks (out-AssignTarget t)
+  target_to (suc layers) blocks t = target_by (target_to layers blocks) blocks (out-TargetExpr t)
 
   abbrev pub pair : List Block → Pair → Part
   pair blocks p = both (visit blocks (out-Pair p).key) (visit blocks (out-Pair p).value)
@@ -75,7 +75,7 @@ module _ (visit : List Block → Expr → Part) where
   abbrev pub choice : List Block → Choice → Part
   choice blocks o = both (visit blocks (out-Choice o).value) (visit blocks (out-Choice o).condition)
 
-  abbrev pub argument_by : List Block → Argument-F Argument Clause Expr Suffix AssignTarget Choice Operation Pair → Part
+  abbrev pub argument_by : List Block → Argument-F Argument Clause Expr Suffix TargetExpr Choice Operation Pair → Part
   argument_by blocks (Argument-F.Positional x) = visit blocks x
   argument_by blocks (Argument-F.Named name x) = visit blocks x
   argument_by blocks (Argument-F.Star x) = visit blocks x
@@ -135,7 +135,7 @@ expr_to (suc layers) blocks x = expr_by (expr_to layers) blocks (out-Expr x)
 abbrev pub expr : List Block → Expr → Part
 expr blocks x = expr_to max_layers blocks x
 
-abbrev pub target : List Block → AssignTarget → Part
+abbrev pub target : List Block → TargetExpr → Part
 target blocks t = target_to (expr_to max_layers) max_layers blocks t
 
 -- ---- statements of a function

@@ -9,7 +9,7 @@ use crate::source::{refusal, repeated};
 use crate::trees::{expr_text, target_text};
 use bq_parse_cursor::Tokens;
 use bq_parse_expression::{expr_list, phrase, vars};
-use bq_parse_grammar::{AssignTarget, Expr, Nested, SyntaxErr};
+use bq_parse_grammar::{TargetExpr, Expr, Nested, SyntaxErr};
 use bq_source::{Token, TokenKind, lex, tokens_lie_within};
 use std::alloc::{AllocError, Global};
 use std::thread::{Builder, Threads};
@@ -61,7 +61,7 @@ fn shown_expr(
 
 fn shown_target(
     alloc: Global,
-    found: &Result<AssignTarget, SyntaxErr>,
+    found: &Result<TargetExpr, SyntaxErr>,
     ahead: Option<&Token>,
 ) -> Result<Vec<u8>, AllocError> {
     match found {

@@ -10,7 +10,7 @@ use crate::trees::{binary_sign, expr_text, target_text};
 use bq_base::{Bytes, SourceErr};
 use bq_parse::parse;
 use bq_parse_grammar::{
-    AssignTarget, Branch, Expr, FileKind, Load, Parameter, SmallKind, SmallStmt, Stmt,
+    TargetExpr, Branch, Expr, FileKind, Load, Parameter, SmallKind, SmallStmt, Stmt,
 };
 use bq_source::lex;
 use std::alloc::{AllocError, Global};
@@ -49,7 +49,7 @@ impl<'a> Printer<'a> {
         self.bytes(&text)
     }
 
-    fn target(&mut self, target: &AssignTarget) -> Result<(), AllocError> {
+    fn target(&mut self, target: &TargetExpr) -> Result<(), AllocError> {
         let text = target_text(self.alloc, target)?;
         self.bytes(&text)
     }
@@ -65,7 +65,7 @@ impl<'a> Printer<'a> {
 
     fn assign(
         &mut self,
-        target: &AssignTarget,
+        target: &TargetExpr,
         sign: &str,
         value: &Expr,
     ) -> Result<(), AllocError> {

@@ -10,7 +10,7 @@
 
 use bq_base::Bytes;
 use bq_parse_grammar::{
-    Argument, AssignTarget, Choice, Clause, Comparison, Expr, Operation, Operator, Pair, Suffix,
+    Argument, TargetExpr, Choice, Clause, Comparison, Expr, Operation, Operator, Pair, Suffix,
     UnaryOperator,
 };
 use sqlite_items::Boxed;
@@ -29,7 +29,7 @@ enum Part<'a> {
     String(&'a Bytes),
     Expr(&'a Expr),
     Optional(&'a Option<Boxed<Expr>>),
-    AssignTarget(&'a AssignTarget),
+    TargetExpr(&'a TargetExpr),
     Exprs(&'a [Expr]),
     Operators(&'a [UnaryOperator]),
     Operations(&'a [Operation]),
@@ -38,7 +38,7 @@ enum Part<'a> {
     Suffixes(&'a [Suffix]),
     Arguments(&'a [Argument]),
     Clauses(&'a [Clause]),
-    Targets(&'a [AssignTarget]),
+    Targets(&'a [TargetExpr]),
 }
 
 /// The parts that a part is made of, the last one first.
@@ -183,18 +183,18 @@ fn optional_parts(expr: &Option<Boxed<Expr>>) -> Parts<'_> {
     }
 }
 
-fn target_parts(target: &AssignTarget) -> Parts<'_> {
+fn target_parts(target: &TargetExpr) -> Parts<'_> {
     match target {
-        AssignTarget::Name(word) => one(Part::Name(&word.name)),
-        AssignTarget::Index(operand, index) => {
+        TargetExpr::Name(word) => one(Part::Name(&word.name)),
+        TargetExpr::Index(operand, index) => {
             node(
                 "element",
                 Part::Expr(operand.get()),
                 Part::Expr(index.get()),
             )
         }
-        AssignTarget::Tuple(items) => node("tuple", Part::Targets(items.as_slice()), Part::Nothing),
-        AssignTarget::List(items) => node("list", Part::Targets(items.as_slice()), Part::Nothing),
+        TargetExpr::Tuple(items) => node("tuple", Part::Targets(items.as_slice()), Part::Nothing),
+        TargetExpr::List(items) => node("list", Part::Targets(items.as_slice()), Part::Nothing),
     }
 }
 
@@ -348,6 +348,6 @@ pub fn expr_text(alloc: Global, expr: &Expr) -> Result<Vec<u8>, AllocError> {
 }
 
 /// The text of the variables of a `for`.
-pub fn target_text(alloc: Global, target: &AssignTarget) -> Result<Vec<u8>, AllocError> {
+pub fn target_text(alloc: Global, target: &TargetExpr) -> Result<Vec<u8>, AllocError> {
     text_of(alloc, Part::Target(target))
 }

@@ -1,6 +1,6 @@
 use Rattle.std.proofs.Common.{◌≡◌, Result, sym, ap, subst, arith}
 use Rattle.bq_parse_grammar.specs.declared.refusal.SyntaxErr.{SyntaxErr}
-use Rattle.bq_parse_grammar.specs.declared.tree.AssignTarget.{AssignTarget}
+use Rattle.bq_parse_grammar.specs.declared.tree.TargetExpr.{TargetExpr}
 use Rattle.bq_parse_grammar.specs.Targets.{target_to}
 use Rattle.bq_parse_statement.specs.Makes.{Makes}
 use Rattle.bq_parse_statement.proofs.LoopTurns.{deeper}
@@ -10,7 +10,7 @@ pub returns-then-depth-eq0 : goal.returns-then-depth-eq0
 unfolding target_to
 returns-then-depth-eq0 t c =
     let none : c.args.depth ≡ 0 = omega arith in
-    let P : Result AssignTarget SyntaxErr → Type 0 = λ r. Makes (target_to c.args.depth c.args.expr) r in
+    let P : Result TargetExpr SyntaxErr → Type 0 = λ r. Makes (target_to c.args.depth c.args.expr) r in
     subst P (sym c.refused.ensures) (λ _. ap (λ n. target_to n c.args.expr) none)
 
 pub returns : goal.returns
