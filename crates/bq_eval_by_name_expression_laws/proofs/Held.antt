@@ -10,10 +10,10 @@ use Rattle.bq_eval_by_name_expression_laws.proofs.Walks.{Every}
 
 -- the names of a target are among these
 abbrev pub names_in_by : (TargetExpr → Type 0) → List Name → TargetLayer → Type 0
-names_in_by inner names (TargetExpr-F.Target::Name n) = has names n.name ≡ true
-names_in_by inner names (TargetExpr-F.Target::Index x i) = Unit {0}
-names_in_by inner names (TargetExpr-F.Target::Tuple ts) = Every inner ts
-names_in_by inner names (TargetExpr-F.Target::List ts) = Every inner ts
+names_in_by inner names (TargetExpr-F.TargetExpr::Name n) = has names n.name ≡ true
+names_in_by inner names (TargetExpr-F.TargetExpr::Index x i) = Unit {0}
+names_in_by inner names (TargetExpr-F.TargetExpr::Tuple ts) = Every inner ts
+names_in_by inner names (TargetExpr-F.TargetExpr::List ts) = Every inner ts
 
 unfoldable pub NamesIn : List Name → ℕ → TargetExpr → Type 0
 NamesIn names zero t = Unit {0}
@@ -74,10 +74,10 @@ each_grows add one names (x ∷ xs) name h = each_grows add one (add names x) xs
 -- ---- targets
 
 target_by_grows : (inner : List Name → TargetExpr → List Name) → ((names : List Name) (t : TargetExpr) → Grows names (inner names t)) → (names : List Name) (o : TargetLayer) → Grows names (with_target_by inner names o)
-target_by_grows inner one names (TargetExpr-F.Target::Name n) = name_grows names n.name
-target_by_grows inner one names (TargetExpr-F.Target::Index x i) = λ name h. h
-target_by_grows inner one names (TargetExpr-F.Target::Tuple ts) = each_grows inner one names ts
-target_by_grows inner one names (TargetExpr-F.Target::List ts) = each_grows inner one names ts
+target_by_grows inner one names (TargetExpr-F.TargetExpr::Name n) = name_grows names n.name
+target_by_grows inner one names (TargetExpr-F.TargetExpr::Index x i) = λ name h. h
+target_by_grows inner one names (TargetExpr-F.TargetExpr::Tuple ts) = each_grows inner one names ts
+target_by_grows inner one names (TargetExpr-F.TargetExpr::List ts) = each_grows inner one names ts
 
 target_grows : (n : ℕ) (names : List Name) (t : TargetExpr) → Grows names (with_target_to n names t)
 unfolding with_target_to
@@ -89,10 +89,10 @@ every_more P Q weaker [] h = tt
 every_more P Q weaker (x ∷ xs) h = (weaker x h.0, every_more P Q weaker xs h.1)
 
 in_more_by : (names more : List Name) → Grows names more → (P Q : TargetExpr → Type 0) → ((t : TargetExpr) → P t → Q t) → (o : TargetLayer) → names_in_by P names o → names_in_by Q more o
-in_more_by names more g P Q weaker (TargetExpr-F.Target::Name n) h = g n.name h
-in_more_by names more g P Q weaker (TargetExpr-F.Target::Index x i) h = tt
-in_more_by names more g P Q weaker (TargetExpr-F.Target::Tuple ts) h = every_more P Q weaker ts h
-in_more_by names more g P Q weaker (TargetExpr-F.Target::List ts) h = every_more P Q weaker ts h
+in_more_by names more g P Q weaker (TargetExpr-F.TargetExpr::Name n) h = g n.name h
+in_more_by names more g P Q weaker (TargetExpr-F.TargetExpr::Index x i) h = tt
+in_more_by names more g P Q weaker (TargetExpr-F.TargetExpr::Tuple ts) h = every_more P Q weaker ts h
+in_more_by names more g P Q weaker (TargetExpr-F.TargetExpr::List ts) h = every_more P Q weaker ts h
 
 in_more : (names more : List Name) → Grows names more → (n : ℕ) (t : TargetExpr) → NamesIn names n t → NamesIn more n t
 unfolding NamesIn
@@ -108,10 +108,10 @@ each_in n one names (t ∷ ts) = (
 
 in_by : (n : ℕ) → ((names : List Name) (t : TargetExpr) → NamesIn (with_target_to n names t) n t) → (names : List Name) (o : TargetLayer)
     → names_in_by (NamesIn (with_target_by (with_target_to n) names o) n) (with_target_by (with_target_to n) names o) o
-in_by n one names (TargetExpr-F.Target::Name m) = name_has names m.name
-in_by n one names (TargetExpr-F.Target::Index x i) = tt
-in_by n one names (TargetExpr-F.Target::Tuple ts) = each_in n one names ts
-in_by n one names (TargetExpr-F.Target::List ts) = each_in n one names ts
+in_by n one names (TargetExpr-F.TargetExpr::Name m) = name_has names m.name
+in_by n one names (TargetExpr-F.TargetExpr::Index x i) = tt
+in_by n one names (TargetExpr-F.TargetExpr::Tuple ts) = each_in n one names ts
+in_by n one names (TargetExpr-F.TargetExpr::List ts) = each_in n one names ts
 
 target_in : (n : ℕ) (names : List Name) (t : TargetExpr) → NamesIn (with_target_to n names t) n t
 unfolding NamesIn with_target_to

@@ -62,30 +62,30 @@ module _ {S : Type 0} (m : Primitives S) (file : FileParts) (visit : List BlockP
     abbrev LayerGood : ℕ → TargetLayer → CodeTarget → Type 0
     LayerGood n o u = LayerAgree m (block ∷ rest) nested n o u
 
-    name_walks : (n : ℕ) (i : Identifier) → has block.names i.name ≡ true → Walks {A = CodeTarget} (block ∷ rest) (λ u. LayerGood n (TargetExpr-F.Target::Name i) u) (scope.name_target file (block ∷ rest) i)
+    name_walks : (n : ℕ) (i : Identifier) → has block.names i.name ≡ true → Walks {A = CodeTarget} (block ∷ rest) (λ u. LayerGood n (TargetExpr-F.TargetExpr::Name i) u) (scope.name_target file (block ∷ rest) i)
     unfolding scope.name_target
     name_walks n i h =
         let at = slot_held block rest i.name h in
         let used : use_of file (block ∷ rest) i.name ≡ Some (b.Local at.0) = use_is file (block ∷ rest) i.name at.0 at.1 in
         let is : scope.place_of (use_of file (block ∷ rest) i.name) ≡ Some (target.Local at.0) = ap scope.place_of used in
-        walks_bind (block ∷ rest) (λ _. Unit {0}) (λ u. LayerGood n (TargetExpr-F.Target::Name i) u) (pure (tt {0}))
+        walks_bind (block ∷ rest) (λ _. Unit {0}) (λ u. LayerGood n (TargetExpr-F.TargetExpr::Name i) u) (pure (tt {0}))
         (λ _. given (fault_of f.UnknownName i) (scope.place_of (use_of file (block ∷ rest) i.name))) (walks_pure (block ∷ rest) (λ _. Unit {0}) (tt {0}) (tt {0}))
-        (λ _ _. walks_weaker (block ∷ rest) (λ u. scope.place_of (use_of file (block ∷ rest) i.name) ≡ Some u) (λ u. LayerGood n (TargetExpr-F.Target::Name i) u)
+        (λ _ _. walks_weaker (block ∷ rest) (λ u. scope.place_of (use_of file (block ∷ rest) i.name) ≡ Some u) (λ u. LayerGood n (TargetExpr-F.TargetExpr::Name i) u)
         (given (fault_of f.UnknownName i) (scope.place_of (use_of file (block ∷ rest) i.name)))
         (λ u e. let one : target.Local at.0 ≡ u = cc in name_agrees m (block ∷ rest) nested n i at.0 u at.1 (target.rolls-Local at.0 ∙ one))
         (walks_given (block ∷ rest) (fault_of f.UnknownName i) (scope.place_of (use_of file (block ∷ rest) i.name))))
 
     target_by_walks : (n : ℕ) (inner : TargetExpr → Visit CodeTarget) → ((t : TargetExpr) → NamesIn block.names n t → Walks {A = CodeTarget} (block ∷ rest) (λ u. TargetGood n t u) (inner t)) → (o : TargetLayer)
         → names_in_by (NamesIn block.names n) block.names o → Walks {A = CodeTarget} (block ∷ rest) (λ u. LayerGood n o u) (scope.target_by file visit inner (block ∷ rest) o)
-    target_by_walks n inner inners (TargetExpr-F.Target::Name i) h = name_walks n i h
-    target_by_walks n inner inners (TargetExpr-F.Target::Index x i) h =
-        walks_two (block ∷ rest) (λ z. Agree m E F (block ∷ rest) x z) (λ z. Agree m E F (block ∷ rest) i z) (λ u. LayerGood n (TargetExpr-F.Target::Index x i) u) (visit (block ∷ rest) x) (visit (block ∷ rest) i)
+    target_by_walks n inner inners (TargetExpr-F.TargetExpr::Name i) h = name_walks n i h
+    target_by_walks n inner inners (TargetExpr-F.TargetExpr::Index x i) h =
+        walks_two (block ∷ rest) (λ z. Agree m E F (block ∷ rest) x z) (λ z. Agree m E F (block ∷ rest) i z) (λ u. LayerGood n (TargetExpr-F.TargetExpr::Index x i) u) (visit (block ∷ rest) x) (visit (block ∷ rest) i)
         (λ y j. target.Index y j) (λ y j p q. index_agrees m (block ∷ rest) nested n x i y j (target.Index y j) (target.rolls-Index y j)) (visits (block ∷ rest) nested x) (visits (block ∷ rest) nested i)
-    target_by_walks n inner inners (TargetExpr-F.Target::Tuple ts) h =
-        walks_map (block ∷ rest) (λ us. Pairwise (TargetGood n) ts us) (λ u. LayerGood n (TargetExpr-F.Target::Tuple ts) u) (each inner [] ts) (λ us. target.Tuple us)
+    target_by_walks n inner inners (TargetExpr-F.TargetExpr::Tuple ts) h =
+        walks_map (block ∷ rest) (λ us. Pairwise (TargetGood n) ts us) (λ u. LayerGood n (TargetExpr-F.TargetExpr::Tuple ts) u) (each inner [] ts) (λ us. target.Tuple us)
         (λ us k. tuple_agrees m (block ∷ rest) nested n ts us (target.Tuple us) (target.rolls-Tuple us) k) (walks_some (block ∷ rest) (TargetGood n) (NamesIn block.names n) inner inners ts h)
-    target_by_walks n inner inners (TargetExpr-F.Target::List ts) h =
-        walks_map (block ∷ rest) (λ us. Pairwise (TargetGood n) ts us) (λ u. LayerGood n (TargetExpr-F.Target::List ts) u) (each inner [] ts) (λ us. target.List us)
+    target_by_walks n inner inners (TargetExpr-F.TargetExpr::List ts) h =
+        walks_map (block ∷ rest) (λ us. Pairwise (TargetGood n) ts us) (λ u. LayerGood n (TargetExpr-F.TargetExpr::List ts) u) (each inner [] ts) (λ us. target.List us)
         (λ us k. list_agrees m (block ∷ rest) nested n ts us (target.List us) (target.rolls-List us) k) (walks_some (block ∷ rest) (TargetGood n) (NamesIn block.names n) inner inners ts h)
 
     target_walks : (n : ℕ) (t : TargetExpr) → NamesIn block.names n t → Walks {A = CodeTarget} (block ∷ rest) (λ u. TargetGood n t u) (scope.target_to file visit n (block ∷ rest) t)

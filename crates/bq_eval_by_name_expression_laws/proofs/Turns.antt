@@ -59,17 +59,17 @@ module _ {S : Type 0} (m : Primitives S) (blocks : List BlockParts) (nested : Ne
       subst (λ z. Alike Bound (targets.bind_by m (targets.bind_to m n) o v env ps s) (places.bind_by m (places.bind_to m n) z v frame ps s)) (sym (out-roll-CodeTarget p) ∙ ap out-CodeTarget e)
       (h v env frame ps shows s)
 
-  pub name_agrees : (n : ℕ) (i : Identifier) (slot : ℕ) (u : CodeTarget) → slot_of blocks i.name ≡ Some slot → roll-CodeTarget (CodeTarget-F.Local slot) ≡ u → LayerAgree n (TargetExpr-F.Target::Name i) u
+  pub name_agrees : (n : ℕ) (i : Identifier) (slot : ℕ) (u : CodeTarget) → slot_of blocks i.name ≡ Some slot → roll-CodeTarget (CodeTarget-F.Local slot) ≡ u → LayerAgree n (TargetExpr-F.TargetExpr::Name i) u
   name_agrees n i slot u at e =
-      made_target n (TargetExpr-F.Target::Name i) u (CodeTarget-F.Local slot) e (λ v env frame ps shows s. (refl, (shows_bind blocks nested env frame i.name slot v at shows, refl)))
+      made_target n (TargetExpr-F.TargetExpr::Name i) u (CodeTarget-F.Local slot) e (λ v env frame ps shows s. (refl, (shows_bind blocks nested env frame i.name slot v at shows, refl)))
 
   place_alike : (v : Datum) (env : Env) (frame : Frame) (ps : Places) → Shows blocks env frame → (s : S) → Alike Bound (targets.bind_place m v env ps s) (places.bind_place m v frame ps s)
   unfolding targets.bind_place places.bind_place
   place_alike v env frame [] shows s = refl
   place_alike v env frame (p ∷ ps) shows s = then_pure Bound (m.set_index p.0 p.1 v s) (λ _. (env, ps)) (λ _. (frame, ps)) (λ _. (shows, refl))
 
-  pub index_agrees : (n : ℕ) (x i : Expr) (y j : Code) (u : CodeTarget) → roll-CodeTarget (CodeTarget-F.CodeTarget::Index y j) ≡ u → LayerAgree n (TargetExpr-F.Target::Index x i) u
-  index_agrees n x i y j u e = made_target n (TargetExpr-F.Target::Index x i) u (CodeTarget-F.CodeTarget::Index y j) e place_alike
+  pub index_agrees : (n : ℕ) (x i : Expr) (y j : Code) (u : CodeTarget) → roll-CodeTarget (CodeTarget-F.CodeTarget::Index y j) ≡ u → LayerAgree n (TargetExpr-F.TargetExpr::Index x i) u
+  index_agrees n x i y j u e = made_target n (TargetExpr-F.TargetExpr::Index x i) u (CodeTarget-F.CodeTarget::Index y j) e place_alike
 
   each_alike : (n : ℕ) (ts : List TargetExpr) (us : List CodeTarget) → Pairwise (TargetAgree n) ts us → (vs : List Datum) (env : Env) (frame : Frame) (ps : Places) → Shows blocks env frame → (s : S)
       → Alike Bound (targets.bind_each m (targets.bind_to m n) ts vs env ps s) (places.bind_each m (places.bind_to m n) us vs frame ps s)
@@ -89,12 +89,12 @@ module _ {S : Type 0} (m : Primitives S) (blocks : List BlockParts) (nested : Ne
       rw (same_length (TargetAgree n) ts us h) (then_both Bound _ _ _ (λ vs t. each_alike n ts us h vs env frame ps shows t))
 
   pub tuple_agrees : (n : ℕ) (ts : List TargetExpr) (us : List CodeTarget) (u : CodeTarget) → roll-CodeTarget (CodeTarget-F.CodeTarget::Tuple us) ≡ u → Pairwise (TargetAgree n) ts us
-      → LayerAgree n (TargetExpr-F.Target::Tuple ts) u
-  tuple_agrees n ts us u e h = made_target n (TargetExpr-F.Target::Tuple ts) u (CodeTarget-F.CodeTarget::Tuple us) e (unpack_alike n ts us h)
+      → LayerAgree n (TargetExpr-F.TargetExpr::Tuple ts) u
+  tuple_agrees n ts us u e h = made_target n (TargetExpr-F.TargetExpr::Tuple ts) u (CodeTarget-F.CodeTarget::Tuple us) e (unpack_alike n ts us h)
 
   pub list_agrees : (n : ℕ) (ts : List TargetExpr) (us : List CodeTarget) (u : CodeTarget) → roll-CodeTarget (CodeTarget-F.CodeTarget::List us) ≡ u → Pairwise (TargetAgree n) ts us
-      → LayerAgree n (TargetExpr-F.Target::List ts) u
-  list_agrees n ts us u e h = made_target n (TargetExpr-F.Target::List ts) u (CodeTarget-F.CodeTarget::List us) e (unpack_alike n ts us h)
+      → LayerAgree n (TargetExpr-F.TargetExpr::List ts) u
+  list_agrees n ts us u e h = made_target n (TargetExpr-F.TargetExpr::List ts) u (CodeTarget-F.CodeTarget::List us) e (unpack_alike n ts us h)
 
   -- the variables of a `for`
   variables_alike : (t : TargetExpr) (u : CodeTarget) → TargetAgree max_layers t u → (v : Datum) (env : Env) (frame : Frame) → Shows blocks env frame → (s : S)

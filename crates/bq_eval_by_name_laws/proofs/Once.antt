@@ -57,10 +57,10 @@ each_once add keeps names [] once = once
 each_once add keeps names (x ∷ xs) once = each_once add keeps (add names x) xs (keeps names x once)
 
 target_by_once : (inner : List Name → TargetExpr → List Name) → Keeps inner → (names : List Name) (o : TargetLayer) → Once names → Once (with_target_by inner names o)
-target_by_once inner keeps names (TargetExpr-F.Target::Name n) once = name_once names n.name once
-target_by_once inner keeps names (TargetExpr-F.Target::Index x i) once = once
-target_by_once inner keeps names (TargetExpr-F.Target::Tuple ts) once = each_once inner keeps names ts once
-target_by_once inner keeps names (TargetExpr-F.Target::List ts) once = each_once inner keeps names ts once
+target_by_once inner keeps names (TargetExpr-F.TargetExpr::Name n) once = name_once names n.name once
+target_by_once inner keeps names (TargetExpr-F.TargetExpr::Index x i) once = once
+target_by_once inner keeps names (TargetExpr-F.TargetExpr::Tuple ts) once = each_once inner keeps names ts once
+target_by_once inner keeps names (TargetExpr-F.TargetExpr::List ts) once = each_once inner keeps names ts once
 
 target_to_once : (depth : ℕ) → Keeps (with_target_to depth)
 unfolding with_target_to

@@ -94,10 +94,10 @@ module _ {S : Type 0} (m : Primitives S) (counted : PartsAreCounted m) where
 
   layer_bound : (add : List Name → TargetExpr → List Name) (inner : TargetExpr → Datum → Env → Places → Action S (Env × Places)) → Binds add inner → (o : TargetLayer) (ns : List Name) (v : Datum) (env : Env) (ps : Places) (s : S)
       → AllBound ns env → Gives (λ r. AllBound (with_target_by add ns o) r.0) (bind_by m inner o v env ps s)
-  layer_bound add inner one (TargetExpr-F.Target::Name n) ns v env ps s h = bound_bind ns env n.name v h
-  layer_bound add inner one (TargetExpr-F.Target::Index x i) ns v env ps s h = place_bound ns v env ps s h
-  layer_bound add inner one (TargetExpr-F.Target::Tuple ts) ns v env ps s h = unpack_bound add inner one ts ns v env ps s h
-  layer_bound add inner one (TargetExpr-F.Target::List ts) ns v env ps s h = unpack_bound add inner one ts ns v env ps s h
+  layer_bound add inner one (TargetExpr-F.TargetExpr::Name n) ns v env ps s h = bound_bind ns env n.name v h
+  layer_bound add inner one (TargetExpr-F.TargetExpr::Index x i) ns v env ps s h = place_bound ns v env ps s h
+  layer_bound add inner one (TargetExpr-F.TargetExpr::Tuple ts) ns v env ps s h = unpack_bound add inner one ts ns v env ps s h
+  layer_bound add inner one (TargetExpr-F.TargetExpr::List ts) ns v env ps s h = unpack_bound add inner one ts ns v env ps s h
 
   target_bound : (n : ℕ) → Binds (with_target_to n) (bind_to m n)
   unfolding with_target_to bind_to bind_target
@@ -114,13 +114,13 @@ module _ {S : Type 0} (m : Primitives S) (counted : PartsAreCounted m) where
     augment_by_bound : (add : List Name → TargetExpr → List Name) (o : TargetLayer) (op : Operator) (x : Expr) (ns : List Name) (env : Env) (s : S) → AllBound ns env
         → Gives (AllBound (with_target_by add ns o)) (augment_by m E o op x env s)
     unfolding augment_name augment_index
-    augment_by_bound add (TargetExpr-F.Target::Name n) op x ns env s h =
+    augment_by_bound add (TargetExpr-F.TargetExpr::Name n) op x ns env s h =
         gives_after _ (assigned m (env n.name) s) _ (λ old a. gives_after _ (E x env a) _ (λ v b. gives_after _ (m.augment op old v b) _ (λ new d. bound_bind ns env n.name new h)))
-    augment_by_bound add (TargetExpr-F.Target::Index y i) op x ns env s h =
+    augment_by_bound add (TargetExpr-F.TargetExpr::Index y i) op x ns env s h =
         gives_after _ (E y env s) _ (λ u a. gives_after _ (E i env a) _ (λ w b. gives_after _ (m.index u w b) _
         (λ old d. gives_after _ (E x env d) _ (λ v e. gives_after _ (m.augment op old v e) _ (λ new f. gives_after _ (m.set_index u w new f) _ (λ _ g. h))))))
-    augment_by_bound add (TargetExpr-F.Target::Tuple ts) op x ns env s h = tt
-    augment_by_bound add (TargetExpr-F.Target::List ts) op x ns env s h = tt
+    augment_by_bound add (TargetExpr-F.TargetExpr::Tuple ts) op x ns env s h = tt
+    augment_by_bound add (TargetExpr-F.TargetExpr::List ts) op x ns env s h = tt
 
     augment_bound : (t : TargetExpr) (op : Operator) (x : Expr) (ns : List Name) (env : Env) (s : S) → AllBound ns env → Gives (AllBound (with_target ns t)) (augment m E t op x env s)
     unfolding augment with_target with_target_to max_layers

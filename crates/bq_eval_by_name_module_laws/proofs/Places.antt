@@ -60,10 +60,10 @@ each_stays add one names (x ∷ xs) name i e = each_stays add one (add names x) 
 -- ---- targets and statements
 
 target_by_stays : (inner : List Name → TargetExpr → List Name) → Adds inner → (names : List Name) (o : TargetLayer) → Stays names (with_target_by inner names o)
-target_by_stays inner one names (TargetExpr-F.Target::Name n) = name_stays names n.name
-target_by_stays inner one names (TargetExpr-F.Target::Index x i) = λ name k e. e
-target_by_stays inner one names (TargetExpr-F.Target::Tuple ts) = each_stays inner one names ts
-target_by_stays inner one names (TargetExpr-F.Target::List ts) = each_stays inner one names ts
+target_by_stays inner one names (TargetExpr-F.TargetExpr::Name n) = name_stays names n.name
+target_by_stays inner one names (TargetExpr-F.TargetExpr::Index x i) = λ name k e. e
+target_by_stays inner one names (TargetExpr-F.TargetExpr::Tuple ts) = each_stays inner one names ts
+target_by_stays inner one names (TargetExpr-F.TargetExpr::List ts) = each_stays inner one names ts
 
 target_to_stays : (depth : ℕ) → Adds (with_target_to depth)
 unfolding with_target_to

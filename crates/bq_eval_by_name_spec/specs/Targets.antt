@@ -36,10 +36,10 @@ module _ {S : Type 0} (m : Primitives S) where
   unpack inner ts v env ps = m.parts (length ts) v >>= λ vs. bind_each inner ts vs env ps
 
   abbrev pub bind_by : (TargetExpr → Binds) → TargetLayer → Binds
-  bind_by inner (TargetExpr-F.Target::Name n) v env ps = pure (bind env n.name v, ps)
-  bind_by inner (TargetExpr-F.Target::Index x i) v env ps = bind_place v env ps
-  bind_by inner (TargetExpr-F.Target::Tuple ts) v env ps = unpack inner ts v env ps
-  bind_by inner (TargetExpr-F.Target::List ts) v env ps = unpack inner ts v env ps
+  bind_by inner (TargetExpr-F.TargetExpr::Name n) v env ps = pure (bind env n.name v, ps)
+  bind_by inner (TargetExpr-F.TargetExpr::Index x i) v env ps = bind_place v env ps
+  bind_by inner (TargetExpr-F.TargetExpr::Tuple ts) v env ps = unpack inner ts v env ps
+  bind_by inner (TargetExpr-F.TargetExpr::List ts) v env ps = unpack inner ts v env ps
 
   unfoldable pub bind_target : (TargetExpr → Binds) → TargetExpr → Binds
   bind_target inner t v env ps = bind_by inner (out-TargetExpr t) v env ps
@@ -69,10 +69,10 @@ module _ {S : Type 0} (m : Primitives S) where
     places_each inner (t ∷ ts) env ps = inner t env ps >>= λ qs. places_each inner ts env qs
 
     abbrev pub places_by : (TargetExpr → Env → Places → Action S Places) → TargetLayer → Env → Places → Action S Places
-    places_by inner (TargetExpr-F.Target::Name n) env ps = pure ps
-    places_by inner (TargetExpr-F.Target::Index x i) env ps = place x i env ps
-    places_by inner (TargetExpr-F.Target::Tuple ts) env ps = places_each inner ts env ps
-    places_by inner (TargetExpr-F.Target::List ts) env ps = places_each inner ts env ps
+    places_by inner (TargetExpr-F.TargetExpr::Name n) env ps = pure ps
+    places_by inner (TargetExpr-F.TargetExpr::Index x i) env ps = place x i env ps
+    places_by inner (TargetExpr-F.TargetExpr::Tuple ts) env ps = places_each inner ts env ps
+    places_by inner (TargetExpr-F.TargetExpr::List ts) env ps = places_each inner ts env ps
 
     unfoldable pub places_of : (TargetExpr → Env → Places → Action S Places) → TargetExpr → Env → Places → Action S Places
     places_of inner t env ps = places_by inner (out-TargetExpr t) env ps
@@ -98,8 +98,8 @@ module _ {S : Type 0} (m : Primitives S) where
 
     -- the grammar has no augmented assignment to a tuple or list
     abbrev pub augment_by : TargetLayer → Operator → Expr → Env → Action S Env
-    augment_by (TargetExpr-F.Target::Name n) op x env = augment_name n.name op x env
-    augment_by (TargetExpr-F.Target::Index y i) op x env = augment_index y i op x env
+    augment_by (TargetExpr-F.TargetExpr::Name n) op x env = augment_name n.name op x env
+    augment_by (TargetExpr-F.TargetExpr::Index y i) op x env = augment_index y i op x env
     augment_by _ op x env = stop m f.Syntax
 
     unfoldable pub augment : TargetExpr → Operator → Expr → Env → Action S Env

@@ -73,23 +73,23 @@ module _ {S : Type 0} (m : Primitives S) (file : FileParts) (blocks : List Block
   made n o u p e h = subst (λ z. LayerGood n o z) (sym (out-roll-CodeTarget p) ∙ ap out-CodeTarget e) h
 
   name_good : (n : ℕ) (i : Identifier) → IsKept file blocks R i.name → (o : Option Binding) → use_of file blocks i.name ≡ o → (u : CodeTarget) → scope.place_of o ≡ Some u
-      → LayerGood n (TargetExpr-F.Target::Name i) (out-CodeTarget u)
+      → LayerGood n (TargetExpr-F.TargetExpr::Name i) (out-CodeTarget u)
   name_good n i kept (Some (b.Local slot)) at u e =
       let one : target.Local slot ≡ u = cc in
-      made n (TargetExpr-F.Target::Name i) u (CodeTarget-F.Local slot) (target.rolls-Local slot ∙ one) (λ _. local_agrees m R E F n i slot (kept slot (ap slot_bound at)))
+      made n (TargetExpr-F.TargetExpr::Name i) u (CodeTarget-F.Local slot) (target.rolls-Local slot ∙ one) (λ _. local_agrees m R E F n i slot (kept slot (ap slot_bound at)))
   name_good n i kept (Some (b.Global slot)) at u e =
       let one : target.Global slot ≡ u = cc in
-      made n (TargetExpr-F.Target::Name i) u (CodeTarget-F.Global slot) (target.rolls-Global slot ∙ one) (λ _. global_agrees m R E F n i slot (kept slot (ap slot_bound at)))
+      made n (TargetExpr-F.TargetExpr::Name i) u (CodeTarget-F.Global slot) (target.rolls-Global slot ∙ one) (λ _. global_agrees m R E F n i slot (kept slot (ap slot_bound at)))
   name_good n i kept (Some (b.Loaded k)) at u e = absurd (let no : ⊥ = cc in no)
   name_good n i kept (Some (b.Predeclared p)) at u e = absurd (let no : ⊥ = cc in no)
   name_good n i kept None at u e = absurd (let no : ⊥ = cc in no)
 
-  pub name_walks : (n : ℕ) (i : Identifier) → IsKept file blocks R i.name → Walks {A = CodeTarget} blocks (λ u. LayerGood n (TargetExpr-F.Target::Name i) (out-CodeTarget u)) (scope.name_target file blocks i)
+  pub name_walks : (n : ℕ) (i : Identifier) → IsKept file blocks R i.name → Walks {A = CodeTarget} blocks (λ u. LayerGood n (TargetExpr-F.TargetExpr::Name i) (out-CodeTarget u)) (scope.name_target file blocks i)
   unfolding scope.name_target
   name_walks n i kept =
-      walks_bind blocks (λ _. Unit {0}) (λ u. LayerGood n (TargetExpr-F.Target::Name i) (out-CodeTarget u)) (scope.bind_in file.universe.kind blocks i)
+      walks_bind blocks (λ _. Unit {0}) (λ u. LayerGood n (TargetExpr-F.TargetExpr::Name i) (out-CodeTarget u)) (scope.bind_in file.universe.kind blocks i)
       (λ _. given (fault_of f.UnknownName i) (scope.place_of (use_of file blocks i.name))) (bind_walks file.universe.kind blocks i)
-      (λ _ _. walks_weaker blocks (λ u. scope.place_of (use_of file blocks i.name) ≡ Some u) (λ u. LayerGood n (TargetExpr-F.Target::Name i) (out-CodeTarget u))
+      (λ _ _. walks_weaker blocks (λ u. scope.place_of (use_of file blocks i.name) ≡ Some u) (λ u. LayerGood n (TargetExpr-F.TargetExpr::Name i) (out-CodeTarget u))
       (given (fault_of f.UnknownName i) (scope.place_of (use_of file blocks i.name))) (λ u e. name_good n i kept (use_of file blocks i.name) refl u e)
       (walks_given blocks (fault_of f.UnknownName i) (scope.place_of (use_of file blocks i.name))))
 
@@ -103,20 +103,20 @@ module _ {S : Type 0} (m : Primitives S) (file : FileParts) (blocks : List Block
     target_by_walks : (n : ℕ) (inner : TargetExpr → Visit CodeTarget) → ((t : TargetExpr) → KeptIn n t → Walks {A = CodeTarget} blocks (λ u. TargetGood n t u) (inner t)) → (o : TargetLayer)
         → ((name : Name) → target_binds_by (TargetBindsTo n name) name o → IsKept file blocks R name)
         → Walks {A = CodeTarget} blocks (λ u. LayerGood n o (out-CodeTarget u)) (scope.target_by file visit inner blocks o)
-    target_by_walks n inner inners (TargetExpr-F.Target::Name i) kept = name_walks n i (kept i.name refl)
-    target_by_walks n inner inners (TargetExpr-F.Target::Index x i) kept =
-        walks_two blocks (λ z. ExprFits z → ExprAgree R E F x z) (λ z. ExprFits z → ExprAgree R E F i z) (λ u. LayerGood n (TargetExpr-F.Target::Index x i) (out-CodeTarget u)) (visit blocks x) (visit blocks i)
+    target_by_walks n inner inners (TargetExpr-F.TargetExpr::Name i) kept = name_walks n i (kept i.name refl)
+    target_by_walks n inner inners (TargetExpr-F.TargetExpr::Index x i) kept =
+        walks_two blocks (λ z. ExprFits z → ExprAgree R E F x z) (λ z. ExprFits z → ExprAgree R E F i z) (λ u. LayerGood n (TargetExpr-F.TargetExpr::Index x i) (out-CodeTarget u)) (visit blocks x) (visit blocks i)
         (λ y j. target.Index y j)
-        (λ y j p q. made n (TargetExpr-F.Target::Index x i) (target.Index y j) (CodeTarget-F.CodeTarget::Index y j) (target.rolls-Index y j) (λ fits. index_agrees m R E F x i y j (p fits.1.0) (q fits.1.1) n))
+        (λ y j p q. made n (TargetExpr-F.TargetExpr::Index x i) (target.Index y j) (CodeTarget-F.CodeTarget::Index y j) (target.rolls-Index y j) (λ fits. index_agrees m R E F x i y j (p fits.1.0) (q fits.1.1) n))
         (visits x) (visits i)
-    target_by_walks n inner inners (TargetExpr-F.Target::Tuple ts) kept =
-        walks_map blocks (λ us. Pairwise (TargetGood n) ts us) (λ u. LayerGood n (TargetExpr-F.Target::Tuple ts) (out-CodeTarget u)) (each inner [] ts) (λ us. target.Tuple us)
-        (λ us h. made n (TargetExpr-F.Target::Tuple ts) (target.Tuple us) (CodeTarget-F.CodeTarget::Tuple us) (target.rolls-Tuple us)
+    target_by_walks n inner inners (TargetExpr-F.TargetExpr::Tuple ts) kept =
+        walks_map blocks (λ us. Pairwise (TargetGood n) ts us) (λ u. LayerGood n (TargetExpr-F.TargetExpr::Tuple ts) (out-CodeTarget u)) (each inner [] ts) (λ us. target.Tuple us)
+        (λ us h. made n (TargetExpr-F.TargetExpr::Tuple ts) (target.Tuple us) (CodeTarget-F.CodeTarget::Tuple us) (target.rolls-Tuple us)
         (λ fits. tuple_agrees m R E F n ts us (fitting (TargetFits ExprFits n) (TargetAgree m R E F n) ts us h fits.0)))
         (walks_some blocks (TargetGood n) (KeptIn n) inner inners ts (of_each (IsKept file blocks R) (TargetBindsTo n) ts kept))
-    target_by_walks n inner inners (TargetExpr-F.Target::List ts) kept =
-        walks_map blocks (λ us. Pairwise (TargetGood n) ts us) (λ u. LayerGood n (TargetExpr-F.Target::List ts) (out-CodeTarget u)) (each inner [] ts) (λ us. target.List us)
-        (λ us h. made n (TargetExpr-F.Target::List ts) (target.List us) (CodeTarget-F.CodeTarget::List us) (target.rolls-List us)
+    target_by_walks n inner inners (TargetExpr-F.TargetExpr::List ts) kept =
+        walks_map blocks (λ us. Pairwise (TargetGood n) ts us) (λ u. LayerGood n (TargetExpr-F.TargetExpr::List ts) (out-CodeTarget u)) (each inner [] ts) (λ us. target.List us)
+        (λ us h. made n (TargetExpr-F.TargetExpr::List ts) (target.List us) (CodeTarget-F.CodeTarget::List us) (target.rolls-List us)
         (λ fits. list_agrees m R E F n ts us (fitting (TargetFits ExprFits n) (TargetAgree m R E F n) ts us h fits.0)))
         (walks_some blocks (TargetGood n) (KeptIn n) inner inners ts (of_each (IsKept file blocks R) (TargetBindsTo n) ts kept))
 

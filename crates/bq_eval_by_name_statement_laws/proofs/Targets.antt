@@ -78,11 +78,11 @@ module _ {S : Type 0} (m : Primitives S) (R : Env → Frame → Type 0) (E : Eva
       (then_both R (slots.bound m (frame slot) s) _ _
       (λ old t. then_same R _ _ _ _ (agree env frame h t) (λ v w. then_pure R (m.augment a old v w) (λ new. bind env i.name new) (λ new. fill frame slot new) (λ new. (keeps env frame h).1 new))))
 
-  pub local_agrees : (n : ℕ) (i : Identifier) (slot : ℕ) → Keeps R i.name slot → LayerAgree n (TargetExpr-F.Target::Name i) (CodeTarget-F.Local slot)
+  pub local_agrees : (n : ℕ) (i : Identifier) (slot : ℕ) → Keeps R i.name slot → LayerAgree n (TargetExpr-F.TargetExpr::Name i) (CodeTarget-F.Local slot)
   local_agrees n i slot keeps =
       record { binding = λ v env frame ps h s. (refl, ((keeps env frame h).1 v, refl)); places = λ env frame ps h s. (refl, refl); augment = name_augment i slot keeps }
 
-  pub global_agrees : (n : ℕ) (i : Identifier) (slot : ℕ) → Keeps R i.name slot → LayerAgree n (TargetExpr-F.Target::Name i) (CodeTarget-F.Global slot)
+  pub global_agrees : (n : ℕ) (i : Identifier) (slot : ℕ) → Keeps R i.name slot → LayerAgree n (TargetExpr-F.TargetExpr::Name i) (CodeTarget-F.Global slot)
   global_agrees n i slot keeps =
       record { binding = λ v env frame ps h s. (refl, ((keeps env frame h).1 v, refl)); places = λ env frame ps h s. (refl, refl); augment = name_augment i slot keeps }
 
@@ -106,7 +106,7 @@ module _ {S : Type 0} (m : Primitives S) (R : Env → Frame → Type 0) (E : Eva
         (λ k r. then_both R (m.index u k r) _ _ (λ old q. then_same R _ _ _ _ (agree env frame h q)
         (λ v p. then_both R (m.augment a old v p) _ _ (λ new o. then_pure R (m.set_index u k new o) (λ _. env) (λ _. frame) (λ _. h))))))
 
-    pub index_agrees : (n : ℕ) → LayerAgree n (TargetExpr-F.Target::Index x i) (CodeTarget-F.CodeTarget::Index y j)
+    pub index_agrees : (n : ℕ) → LayerAgree n (TargetExpr-F.TargetExpr::Index x i) (CodeTarget-F.CodeTarget::Index y j)
     index_agrees n = record { binding = place_bind; places = place_alike; augment = index_augment }
 
   -- ---- `(t, ..)` and `[t, ..]`
@@ -135,10 +135,10 @@ module _ {S : Type 0} (m : Primitives S) (R : Env → Frame → Type 0) (E : Eva
   each_places n [] (u ∷ us) h env frame ps r s = absurd h
   each_places n (t ∷ ts) [] h env frame ps r s = absurd h
 
-  pub tuple_agrees : (n : ℕ) (ts : List TargetExpr) (us : List CodeTarget) → Pairwise (TargetAgree n) ts us → LayerAgree n (TargetExpr-F.Target::Tuple ts) (CodeTarget-F.CodeTarget::Tuple us)
+  pub tuple_agrees : (n : ℕ) (ts : List TargetExpr) (us : List CodeTarget) → Pairwise (TargetAgree n) ts us → LayerAgree n (TargetExpr-F.TargetExpr::Tuple ts) (CodeTarget-F.CodeTarget::Tuple us)
   tuple_agrees n ts us h = record { binding = unpack_bind n ts us h; places = each_places n ts us h; augment = λ a x y agree env frame r s. refl }
 
-  pub list_agrees : (n : ℕ) (ts : List TargetExpr) (us : List CodeTarget) → Pairwise (TargetAgree n) ts us → LayerAgree n (TargetExpr-F.Target::List ts) (CodeTarget-F.CodeTarget::List us)
+  pub list_agrees : (n : ℕ) (ts : List TargetExpr) (us : List CodeTarget) → Pairwise (TargetAgree n) ts us → LayerAgree n (TargetExpr-F.TargetExpr::List ts) (CodeTarget-F.CodeTarget::List us)
   list_agrees n ts us h = record { binding = unpack_bind n ts us h; places = each_places n ts us h; augment = λ a x y agree env frame r s. refl }
 
   -- ---- assignments

@@ -40,10 +40,10 @@ suffix_layer (Suffix-F.Suffix::Index x) = expr_layers x
 suffix_layer (Suffix-F.Slice x y z) = max (part_layers x) (max (part_layers y) (part_layers z))
 
 abbrev pub target_layer : TargetLayer → ℕ
-target_layer (TargetExpr-F.Target::Name n) = 1
-target_layer (TargetExpr-F.Target::Index x i) = max (expr_layers x) (expr_layers i) + 1
-target_layer (TargetExpr-F.Target::Tuple ts) = deepest (map target_layers ts) + 1
-target_layer (TargetExpr-F.Target::List ts) = deepest (map target_layers ts) + 1
+target_layer (TargetExpr-F.TargetExpr::Name n) = 1
+target_layer (TargetExpr-F.TargetExpr::Index x i) = max (expr_layers x) (expr_layers i) + 1
+target_layer (TargetExpr-F.TargetExpr::Tuple ts) = deepest (map target_layers ts) + 1
+target_layer (TargetExpr-F.TargetExpr::List ts) = deepest (map target_layers ts) + 1
 
 abbrev pub expr_layer : ExprLayer → ℕ
 expr_layer (Expr-F.Expr::Name n) = 1
@@ -98,19 +98,19 @@ pub opened_suffix : (x : Suffix) → suffix_layers x ≡ suffix_layer (out-Suffi
 opened_suffix x = sym (ap suffix_layers (roll-out-Suffix x)) ∙ rolled_suffix (out-Suffix x)
 
 rolled_target : (o : TargetLayer) → target_layers (roll-TargetExpr o) ≡ target_layer o
-rolled_target (TargetExpr-F.Target::Name n) = search (rules, the_lemmas)
-rolled_target (TargetExpr-F.Target::Index x i) = search (rules, the_lemmas)
-rolled_target (TargetExpr-F.Target::Tuple ts) = search (rules, the_lemmas)
-rolled_target (TargetExpr-F.Target::List ts) = search (rules, the_lemmas)
+rolled_target (TargetExpr-F.TargetExpr::Name n) = search (rules, the_lemmas)
+rolled_target (TargetExpr-F.TargetExpr::Index x i) = search (rules, the_lemmas)
+rolled_target (TargetExpr-F.TargetExpr::Tuple ts) = search (rules, the_lemmas)
+rolled_target (TargetExpr-F.TargetExpr::List ts) = search (rules, the_lemmas)
 
 pub opened_target : (x : TargetExpr) → target_layers x ≡ target_layer (out-TargetExpr x)
 opened_target x = sym (ap target_layers (roll-out-TargetExpr x)) ∙ rolled_target (out-TargetExpr x)
 
 pub target_has_layers : (o : TargetLayer) → 1 ≤ target_layer o
-target_has_layers (TargetExpr-F.Target::Name n) = omega arith
-target_has_layers (TargetExpr-F.Target::Index x i) = omega arith
-target_has_layers (TargetExpr-F.Target::Tuple ts) = omega arith
-target_has_layers (TargetExpr-F.Target::List ts) = omega arith
+target_has_layers (TargetExpr-F.TargetExpr::Name n) = omega arith
+target_has_layers (TargetExpr-F.TargetExpr::Index x i) = omega arith
+target_has_layers (TargetExpr-F.TargetExpr::Tuple ts) = omega arith
+target_has_layers (TargetExpr-F.TargetExpr::List ts) = omega arith
 
 rolled_expr : (o : ExprLayer) → expr_layers (roll-Expr o) ≡ expr_layer o
 rolled_expr (Expr-F.Expr::Name n) = search (rules, the_lemmas)

@@ -88,17 +88,17 @@ module _ (file : FileParts) (visit : List BlockParts → Expr → Visit Code)
   target_by_gives : (n k : ℕ) → k ≤ max_layers → (inner : TargetExpr → Visit CodeTarget) (blocks : List BlockParts)
       → ((u : TargetExpr) → target_layers u ≤ n → target_layers u ≤ k + 1 → Gives {A = CodeTarget} (λ z. TargetFits (CodeFits k) n z) (inner u)) → (o : TargetLayer)
       → target_layer o ≤ n + 1 → target_layer o ≤ k + 1 → Gives {A = CodeTarget} (λ z. TargetFits (CodeFits k) (suc n) z) (target_by file visit inner blocks o)
-  target_by_gives n k small inner blocks inners (TargetExpr-F.Target::Name m) h l = name_gives (CodeFits k) n file blocks m
-  target_by_gives n k small inner blocks inners (TargetExpr-F.Target::Index x i) h l =
+  target_by_gives n k small inner blocks inners (TargetExpr-F.TargetExpr::Name m) h l = name_gives (CodeFits k) n file blocks m
+  target_by_gives n k small inner blocks inners (TargetExpr-F.TargetExpr::Index x i) h l =
       let p : expr_layers x ≤ k = omega arith in
       let q : expr_layers i ≤ k = omega arith in
       gives_two (CodeFits k) (CodeFits k) (λ z. TargetFits (CodeFits k) (suc n) z) (visit blocks x) (visit blocks i) (λ y j. t.Index y j) (visits k small blocks x p) (visits k small blocks i q)
       (λ y j d e. made_target (CodeFits k) n (t.Index y j) (CodeTarget-F.CodeTarget::Index y j) (t.rolls-Index y j) tt (d, e))
-  target_by_gives n k small inner blocks inners (TargetExpr-F.Target::Tuple us) h l =
+  target_by_gives n k small inner blocks inners (TargetExpr-F.TargetExpr::Tuple us) h l =
       gives_map (λ vs. AllByRecursion (TargetFits (CodeFits k) n) vs) (λ z. TargetFits (CodeFits k) (suc n) z) (each inner [] us) (λ vs. t.Tuple vs)
       (gives_each (TargetFits (CodeFits k) n) target_layers (deepest (map target_layers us)) inner (λ u w. inners u (omega arith) (omega arith)) [] us tt (omega arith))
       (λ vs d. made_target (CodeFits k) n (t.Tuple vs) (CodeTarget-F.CodeTarget::Tuple vs) (t.rolls-Tuple vs) d tt)
-  target_by_gives n k small inner blocks inners (TargetExpr-F.Target::List us) h l =
+  target_by_gives n k small inner blocks inners (TargetExpr-F.TargetExpr::List us) h l =
       gives_map (λ vs. AllByRecursion (TargetFits (CodeFits k) n) vs) (λ z. TargetFits (CodeFits k) (suc n) z) (each inner [] us) (λ vs. t.List vs)
       (gives_each (TargetFits (CodeFits k) n) target_layers (deepest (map target_layers us)) inner (λ u w. inners u (omega arith) (omega arith)) [] us tt (omega arith))
       (λ vs d. made_target (CodeFits k) n (t.List vs) (CodeTarget-F.CodeTarget::List vs) (t.rolls-List vs) d tt)

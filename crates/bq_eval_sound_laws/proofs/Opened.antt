@@ -40,16 +40,16 @@ suffix_layer (Suffix-F.Suffix::Index x) = expr_weight x
 suffix_layer (Suffix-F.Slice x y z) = max (part_weight x) (max (part_weight y) (part_weight z))
 
 abbrev pub variables_layer : TargetLayer → ℕ
-variables_layer (TargetExpr-F.Target::Name n) = 1
-variables_layer (TargetExpr-F.Target::Index x i) = too_much
-variables_layer (TargetExpr-F.Target::Tuple ts) = deepest (map variables_weight ts) + 1
-variables_layer (TargetExpr-F.Target::List ts) = deepest (map variables_weight ts) + 1
+variables_layer (TargetExpr-F.TargetExpr::Name n) = 1
+variables_layer (TargetExpr-F.TargetExpr::Index x i) = too_much
+variables_layer (TargetExpr-F.TargetExpr::Tuple ts) = deepest (map variables_weight ts) + 1
+variables_layer (TargetExpr-F.TargetExpr::List ts) = deepest (map variables_weight ts) + 1
 
 abbrev pub place_layer : TargetLayer → ℕ
-place_layer (TargetExpr-F.Target::Name n) = 1
-place_layer (TargetExpr-F.Target::Index x i) = max (expr_weight x) (expr_weight i) + 1
-place_layer (TargetExpr-F.Target::Tuple ts) = deepest (map place_weight ts) + 1
-place_layer (TargetExpr-F.Target::List ts) = deepest (map place_weight ts) + 1
+place_layer (TargetExpr-F.TargetExpr::Name n) = 1
+place_layer (TargetExpr-F.TargetExpr::Index x i) = max (expr_weight x) (expr_weight i) + 1
+place_layer (TargetExpr-F.TargetExpr::Tuple ts) = deepest (map place_weight ts) + 1
+place_layer (TargetExpr-F.TargetExpr::List ts) = deepest (map place_weight ts) + 1
 
 abbrev pub expr_layer : ExprLayer → ℕ
 expr_layer (Expr-F.Expr::Name n) = 1
@@ -104,31 +104,31 @@ pub opened_suffix : (x : Suffix) → suffix_weight x ≡ suffix_layer (out-Suffi
 opened_suffix x = sym (ap suffix_weight (roll-out-Suffix x)) ∙ rolled_suffix (out-Suffix x)
 
 abbrev layer_weights : TargetLayer → ℕ × ℕ
-layer_weights (TargetExpr-F.Target::Name n) = (1, 1)
-layer_weights (TargetExpr-F.Target::Index x i) = (too_much, max (expr_weight x) (expr_weight i) + 1)
-layer_weights (TargetExpr-F.Target::Tuple ts) = (firsts (map target_weights ts) + 1, seconds (map target_weights ts) + 1)
-layer_weights (TargetExpr-F.Target::List ts) = (firsts (map target_weights ts) + 1, seconds (map target_weights ts) + 1)
+layer_weights (TargetExpr-F.TargetExpr::Name n) = (1, 1)
+layer_weights (TargetExpr-F.TargetExpr::Index x i) = (too_much, max (expr_weight x) (expr_weight i) + 1)
+layer_weights (TargetExpr-F.TargetExpr::Tuple ts) = (firsts (map target_weights ts) + 1, seconds (map target_weights ts) + 1)
+layer_weights (TargetExpr-F.TargetExpr::List ts) = (firsts (map target_weights ts) + 1, seconds (map target_weights ts) + 1)
 
 rolled_target : (o : TargetLayer) → target_weights (roll-TargetExpr o) ≡ layer_weights o
-rolled_target (TargetExpr-F.Target::Name n) = search (rules, the_lemmas)
-rolled_target (TargetExpr-F.Target::Index x i) = search (rules, the_lemmas)
-rolled_target (TargetExpr-F.Target::Tuple ts) = search (rules, the_lemmas)
-rolled_target (TargetExpr-F.Target::List ts) = search (rules, the_lemmas)
+rolled_target (TargetExpr-F.TargetExpr::Name n) = search (rules, the_lemmas)
+rolled_target (TargetExpr-F.TargetExpr::Index x i) = search (rules, the_lemmas)
+rolled_target (TargetExpr-F.TargetExpr::Tuple ts) = search (rules, the_lemmas)
+rolled_target (TargetExpr-F.TargetExpr::List ts) = search (rules, the_lemmas)
 
 opened_target : (x : TargetExpr) → target_weights x ≡ layer_weights (out-TargetExpr x)
 opened_target x = sym (ap target_weights (roll-out-TargetExpr x)) ∙ rolled_target (out-TargetExpr x)
 
 first_layer : (o : TargetLayer) → (layer_weights o).0 ≡ variables_layer o
-first_layer (TargetExpr-F.Target::Name n) = refl
-first_layer (TargetExpr-F.Target::Index x i) = refl
-first_layer (TargetExpr-F.Target::Tuple ts) = ap (λ (n : ℕ). n + 1) (all_first ts)
-first_layer (TargetExpr-F.Target::List ts) = ap (λ (n : ℕ). n + 1) (all_first ts)
+first_layer (TargetExpr-F.TargetExpr::Name n) = refl
+first_layer (TargetExpr-F.TargetExpr::Index x i) = refl
+first_layer (TargetExpr-F.TargetExpr::Tuple ts) = ap (λ (n : ℕ). n + 1) (all_first ts)
+first_layer (TargetExpr-F.TargetExpr::List ts) = ap (λ (n : ℕ). n + 1) (all_first ts)
 
 second_layer : (o : TargetLayer) → (layer_weights o).1 ≡ place_layer o
-second_layer (TargetExpr-F.Target::Name n) = refl
-second_layer (TargetExpr-F.Target::Index x i) = refl
-second_layer (TargetExpr-F.Target::Tuple ts) = ap (λ (n : ℕ). n + 1) (all_second ts)
-second_layer (TargetExpr-F.Target::List ts) = ap (λ (n : ℕ). n + 1) (all_second ts)
+second_layer (TargetExpr-F.TargetExpr::Name n) = refl
+second_layer (TargetExpr-F.TargetExpr::Index x i) = refl
+second_layer (TargetExpr-F.TargetExpr::Tuple ts) = ap (λ (n : ℕ). n + 1) (all_second ts)
+second_layer (TargetExpr-F.TargetExpr::List ts) = ap (λ (n : ℕ). n + 1) (all_second ts)
 
 pub opened_variables : (x : TargetExpr) → variables_weight x ≡ variables_layer (out-TargetExpr x)
 opened_variables x = ap (λ (p : ℕ × ℕ). p.0) (opened_target x) ∙ first_layer (out-TargetExpr x)
@@ -137,16 +137,16 @@ pub opened_place : (x : TargetExpr) → place_weight x ≡ place_layer (out-Targ
 opened_place x = ap (λ (p : ℕ × ℕ). p.1) (opened_target x) ∙ second_layer (out-TargetExpr x)
 
 pub variables_have_weight : (o : TargetLayer) → 1 ≤ variables_layer o
-variables_have_weight (TargetExpr-F.Target::Name n) = omega arith
-variables_have_weight (TargetExpr-F.Target::Index x i) = omega arith
-variables_have_weight (TargetExpr-F.Target::Tuple ts) = omega arith
-variables_have_weight (TargetExpr-F.Target::List ts) = omega arith
+variables_have_weight (TargetExpr-F.TargetExpr::Name n) = omega arith
+variables_have_weight (TargetExpr-F.TargetExpr::Index x i) = omega arith
+variables_have_weight (TargetExpr-F.TargetExpr::Tuple ts) = omega arith
+variables_have_weight (TargetExpr-F.TargetExpr::List ts) = omega arith
 
 pub place_has_weight : (o : TargetLayer) → 1 ≤ place_layer o
-place_has_weight (TargetExpr-F.Target::Name n) = omega arith
-place_has_weight (TargetExpr-F.Target::Index x i) = omega arith
-place_has_weight (TargetExpr-F.Target::Tuple ts) = omega arith
-place_has_weight (TargetExpr-F.Target::List ts) = omega arith
+place_has_weight (TargetExpr-F.TargetExpr::Name n) = omega arith
+place_has_weight (TargetExpr-F.TargetExpr::Index x i) = omega arith
+place_has_weight (TargetExpr-F.TargetExpr::Tuple ts) = omega arith
+place_has_weight (TargetExpr-F.TargetExpr::List ts) = omega arith
 
 rolled_expr : (o : ExprLayer) → expr_weight (roll-Expr o) ≡ expr_layer o
 rolled_expr (Expr-F.Expr::Name n) = search (rules, the_lemmas)

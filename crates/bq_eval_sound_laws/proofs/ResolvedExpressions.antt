@@ -107,17 +107,17 @@ module _ (file : FileParts) (visit : List BlockParts → Expr → Visit Code)
   target_by_gives : (n k : ℕ) → k ≤ max_layers → (inner : TargetExpr → Visit CodeTarget) (blocks : List BlockParts)
       → ((u : TargetExpr) → place_weight u ≤ n → place_weight u ≤ k + 1 → Gives {A = CodeTarget} (λ z. TargetFits (CodeIsSound k) n z) (inner u)) → (o : TargetLayer)
       → place_layer o ≤ n + 1 → place_layer o ≤ k + 1 → Gives {A = CodeTarget} (λ z. TargetFits (CodeIsSound k) (suc n) z) (target_by file visit inner blocks o)
-  target_by_gives n k small inner blocks inners (TargetExpr-F.Target::Name m) h l = name_gives (CodeIsSound k) n file blocks m
-  target_by_gives n k small inner blocks inners (TargetExpr-F.Target::Index x i) h l =
+  target_by_gives n k small inner blocks inners (TargetExpr-F.TargetExpr::Name m) h l = name_gives (CodeIsSound k) n file blocks m
+  target_by_gives n k small inner blocks inners (TargetExpr-F.TargetExpr::Index x i) h l =
       let p : expr_weight x ≤ k = omega arith in
       let q : expr_weight i ≤ k = omega arith in
       gives_two (CodeIsSound k) (CodeIsSound k) (λ z. TargetFits (CodeIsSound k) (suc n) z) (visit blocks x) (visit blocks i) (λ y j. t.Index y j) (visits k small blocks x p) (visits k small blocks i q)
       (λ y j d e. made_target (CodeIsSound k) n (t.Index y j) (CodeTarget-F.CodeTarget::Index y j) (t.rolls-Index y j) tt (d, e))
-  target_by_gives n k small inner blocks inners (TargetExpr-F.Target::Tuple us) h l =
+  target_by_gives n k small inner blocks inners (TargetExpr-F.TargetExpr::Tuple us) h l =
       gives_map (λ vs. AllByRecursion (TargetFits (CodeIsSound k) n) vs) (λ z. TargetFits (CodeIsSound k) (suc n) z) (each inner [] us) (λ vs. t.Tuple vs)
       (gives_each (TargetFits (CodeIsSound k) n) place_weight (deepest (map place_weight us)) inner (λ u w. inners u (omega arith) (omega arith)) [] us tt (omega arith))
       (λ vs d. made_target (CodeIsSound k) n (t.Tuple vs) (CodeTarget-F.CodeTarget::Tuple vs) (t.rolls-Tuple vs) d tt)
-  target_by_gives n k small inner blocks inners (TargetExpr-F.Target::List us) h l =
+  target_by_gives n k small inner blocks inners (TargetExpr-F.TargetExpr::List us) h l =
       gives_map (λ vs. AllByRecursion (TargetFits (CodeIsSound k) n) vs) (λ z. TargetFits (CodeIsSound k) (suc n) z) (each inner [] us) (λ vs. t.List vs)
       (gives_each (TargetFits (CodeIsSound k) n) place_weight (deepest (map place_weight us)) inner (λ u w. inners u (omega arith) (omega arith)) [] us tt (omega arith))
       (λ vs d. made_target (CodeIsSound k) n (t.List vs) (CodeTarget-F.CodeTarget::List vs) (t.rolls-List vs) d tt)
@@ -135,12 +135,12 @@ module _ (file : FileParts) (visit : List BlockParts → Expr → Visit Code)
   names_by_gives : (n : ℕ) → n ≤ max_layers → (inner : TargetExpr → Visit CodeTarget) (blocks : List BlockParts)
       → ((u : TargetExpr) → variables_weight u ≤ n → Gives {A = CodeTarget} (λ z. TargetFits NoExpr n z) (inner u)) → (o : TargetLayer)
       → variables_layer o ≤ n + 1 → Gives {A = CodeTarget} (λ z. TargetFits NoExpr (suc n) z) (target_by file visit inner blocks o)
-  names_by_gives n small inner blocks inners (TargetExpr-F.Target::Name m) h = name_gives NoExpr n file blocks m
-  names_by_gives n small inner blocks inners (TargetExpr-F.Target::Index x i) h = absurd (omega (arith, few, small))
-  names_by_gives n small inner blocks inners (TargetExpr-F.Target::Tuple us) h =
+  names_by_gives n small inner blocks inners (TargetExpr-F.TargetExpr::Name m) h = name_gives NoExpr n file blocks m
+  names_by_gives n small inner blocks inners (TargetExpr-F.TargetExpr::Index x i) h = absurd (omega (arith, few, small))
+  names_by_gives n small inner blocks inners (TargetExpr-F.TargetExpr::Tuple us) h =
       gives_map (λ vs. AllByRecursion (TargetFits NoExpr n) vs) (λ z. TargetFits NoExpr (suc n) z) (each inner [] us) (λ vs. t.Tuple vs)
       (gives_each (TargetFits NoExpr n) variables_weight n inner inners [] us tt (omega arith)) (λ vs d. made_target NoExpr n (t.Tuple vs) (CodeTarget-F.CodeTarget::Tuple vs) (t.rolls-Tuple vs) d tt)
-  names_by_gives n small inner blocks inners (TargetExpr-F.Target::List us) h =
+  names_by_gives n small inner blocks inners (TargetExpr-F.TargetExpr::List us) h =
       gives_map (λ vs. AllByRecursion (TargetFits NoExpr n) vs) (λ z. TargetFits NoExpr (suc n) z) (each inner [] us) (λ vs. t.List vs)
       (gives_each (TargetFits NoExpr n) variables_weight n inner inners [] us tt (omega arith)) (λ vs d. made_target NoExpr n (t.List vs) (CodeTarget-F.CodeTarget::List vs) (t.rolls-List vs) d tt)
 

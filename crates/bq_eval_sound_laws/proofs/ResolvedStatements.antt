@@ -84,12 +84,12 @@ module _ (file : FileParts) where
   -- the target of a name or of `x[i]` is one
   one_gives : (visit : List BlockParts → Expr → Visit Code) → ((blocks : List BlockParts) (x : Expr) → expr_weight x ≤ max_layers → Gives {A = Code} (λ z. ExprIsSound z) (visit blocks x))
       → (inner : TargetExpr → Visit CodeTarget) (blocks : List BlockParts) (o : TargetLayer) → one_weight o ≤ max_layers → place_layer o ≤ max_layers → Gives {A = CodeTarget} (λ z. IsOne z) (target_by file visit inner blocks o)
-  one_gives visit visits inner blocks (TargetExpr-F.Target::Name n) h k = one_name_gives file blocks n
-  one_gives visit visits inner blocks (TargetExpr-F.Target::Index x i) h k =
+  one_gives visit visits inner blocks (TargetExpr-F.TargetExpr::Name n) h k = one_name_gives file blocks n
+  one_gives visit visits inner blocks (TargetExpr-F.TargetExpr::Index x i) h k =
       gives_two (λ z. ExprIsSound z) (λ z. ExprIsSound z) (λ z. IsOne z) (visit blocks x) (visit blocks i) (λ y j. ct.Index y j) (visits blocks x (omega arith)) (visits blocks i (omega arith))
       (λ y j p q. made_one (ct.Index y j) (CodeTarget-F.CodeTarget::Index y j) (ct.rolls-Index y j) tt)
-  one_gives visit visits inner blocks (TargetExpr-F.Target::Tuple ts) h k = absurd (omega (arith, few))
-  one_gives visit visits inner blocks (TargetExpr-F.Target::List ts) h k = absurd (omega (arith, few))
+  one_gives visit visits inner blocks (TargetExpr-F.TargetExpr::Tuple ts) h k = absurd (omega (arith, few))
+  one_gives visit visits inner blocks (TargetExpr-F.TargetExpr::List ts) h k = absurd (omega (arith, few))
 
   one_to_gives : (layers : ℕ) (blocks : List BlockParts) (t : TargetExpr) → one_weight (out-TargetExpr t) ≤ max_layers → place_weight t ≤ max_layers
       → Gives {A = CodeTarget} (λ z. IsOne z) (target_to file (expr_to max_layers file) layers blocks t)

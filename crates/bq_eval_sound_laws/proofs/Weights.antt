@@ -63,10 +63,10 @@ suffix_step (Suffix-F.Suffix::Index n) = n
 suffix_step (Suffix-F.Slice l m n) = max (optional_depth l) (max (optional_depth m) (optional_depth n))
 
 abbrev pub target_step : TargetExpr-F ℕ ℕ ℕ ℕ (ℕ × ℕ) ℕ ℕ ℕ → ℕ × ℕ
-target_step (TargetExpr-F.Target::Name b) = (1, 1)
-target_step (TargetExpr-F.Target::Index m n) = (too_much, max m n + 1)
-target_step (TargetExpr-F.Target::Tuple ps) = (firsts ps + 1, seconds ps + 1)
-target_step (TargetExpr-F.Target::List ps) = (firsts ps + 1, seconds ps + 1)
+target_step (TargetExpr-F.TargetExpr::Name b) = (1, 1)
+target_step (TargetExpr-F.TargetExpr::Index m n) = (too_much, max m n + 1)
+target_step (TargetExpr-F.TargetExpr::Tuple ps) = (firsts ps + 1, seconds ps + 1)
+target_step (TargetExpr-F.TargetExpr::List ps) = (firsts ps + 1, seconds ps + 1)
 
 abbrev pub expr_step : Expr-F ℕ ℕ ℕ ℕ (ℕ × ℕ) ℕ ℕ ℕ → ℕ
 expr_step (Expr-F.Expr::Name b) = 1
@@ -98,8 +98,8 @@ place_weight t = (target_weights t).1
 
 -- what is augmented is no tuple and no list
 abbrev pub one_weight : TargetExpr-F Argument Clause Expr Suffix TargetExpr Choice Operation Pair → ℕ
-one_weight (TargetExpr-F.Target::Tuple ts) = too_much
-one_weight (TargetExpr-F.Target::List ts) = too_much
+one_weight (TargetExpr-F.TargetExpr::Tuple ts) = too_much
+one_weight (TargetExpr-F.TargetExpr::List ts) = too_much
 one_weight _ = 0
 
 -- of what is no expression itself: those of the deepest in it

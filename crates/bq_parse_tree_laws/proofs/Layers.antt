@@ -100,16 +100,16 @@ out-For v x = search (rules, the_lemmas)
 pub out-If : (x : Expr) → out-Clause (cl.If x) ≡ Clause-F.If x
 out-If x = search (rules, the_lemmas)
 
-pub out-target_Name : (n : Identifier) → out-TargetExpr (t.Name n) ≡ TargetExpr-F.Target::Name n
+pub out-target_Name : (n : Identifier) → out-TargetExpr (t.Name n) ≡ TargetExpr-F.TargetExpr::Name n
 out-target_Name n = search (rules, the_lemmas)
 
-pub out-target_Index : (x i : Expr) → out-TargetExpr (t.Index x i) ≡ TargetExpr-F.Target::Index x i
+pub out-target_Index : (x i : Expr) → out-TargetExpr (t.Index x i) ≡ TargetExpr-F.TargetExpr::Index x i
 out-target_Index x i = search (rules, the_lemmas)
 
-pub out-target_Tuple : (xs : List TargetExpr) → out-TargetExpr (t.Tuple xs) ≡ TargetExpr-F.Target::Tuple xs
+pub out-target_Tuple : (xs : List TargetExpr) → out-TargetExpr (t.Tuple xs) ≡ TargetExpr-F.TargetExpr::Tuple xs
 out-target_Tuple xs = search (rules, the_lemmas)
 
-pub out-target_List : (xs : List TargetExpr) → out-TargetExpr (t.List xs) ≡ TargetExpr-F.Target::List xs
+pub out-target_List : (xs : List TargetExpr) → out-TargetExpr (t.List xs) ≡ TargetExpr-F.TargetExpr::List xs
 out-target_List xs = search (rules, the_lemmas)
 
 abbrev pub PairLayer : Type 0

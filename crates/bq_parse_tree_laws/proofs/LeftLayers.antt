@@ -96,16 +96,16 @@ module _ (b : Bool) where
   clause_rolled (Clause-F.If x) = search (rules, the_lemmas)
 
   abbrev pub target_by : TargetLayer → ℕ
-  target_by (TargetExpr-F.Target::Name n) = 0
-  target_by (TargetExpr-F.Target::Index x i) = expr_count b x + expr_count b i
-  target_by (TargetExpr-F.Target::Tuple xs) = sum_of (map (target_count b) xs)
-  target_by (TargetExpr-F.Target::List xs) = sum_of (map (target_count b) xs)
+  target_by (TargetExpr-F.TargetExpr::Name n) = 0
+  target_by (TargetExpr-F.TargetExpr::Index x i) = expr_count b x + expr_count b i
+  target_by (TargetExpr-F.TargetExpr::Tuple xs) = sum_of (map (target_count b) xs)
+  target_by (TargetExpr-F.TargetExpr::List xs) = sum_of (map (target_count b) xs)
 
   target_rolled : (l : TargetLayer) → target_count b (roll-TargetExpr l) ≡ target_by l
-  target_rolled (TargetExpr-F.Target::Name n) = search (rules, the_lemmas)
-  target_rolled (TargetExpr-F.Target::Index x i) = search (rules, the_lemmas)
-  target_rolled (TargetExpr-F.Target::Tuple xs) = search (rules, the_lemmas)
-  target_rolled (TargetExpr-F.Target::List xs) = search (rules, the_lemmas)
+  target_rolled (TargetExpr-F.TargetExpr::Name n) = search (rules, the_lemmas)
+  target_rolled (TargetExpr-F.TargetExpr::Index x i) = search (rules, the_lemmas)
+  target_rolled (TargetExpr-F.TargetExpr::Tuple xs) = search (rules, the_lemmas)
+  target_rolled (TargetExpr-F.TargetExpr::List xs) = search (rules, the_lemmas)
 
   pair_rolled : (l : PairLayer) → pair_count b (roll-Pair l) ≡ expr_count b l.key + expr_count b l.value
   pair_rolled l = search (rules, the_lemmas)

@@ -240,11 +240,11 @@ module _ (b high : Bool) where
   clause_holds x ps = let e = L.clause_opened b x in let i = clause_total_by (out-Clause x) ps in omega arith
 
   target_total_by : (l : TargetLayer) (ps : List Part) → total (target_parts_by l ps) ≡ target_by b l + total ps
-  target_total_by (TargetExpr-F.Target::Name n) ps = omega arith
-  target_total_by (TargetExpr-F.Target::Index x i) ps = omega arith
-  target_total_by (TargetExpr-F.Target::Tuple []) ps = omega arith
-  target_total_by (TargetExpr-F.Target::Tuple (x ∷ xs)) ps = let i = listed_total parts.target (target_count b) (λ x. refl) k.Comma refl refl xs (parts.token k.RightParen ∷ ps) in omega arith
-  target_total_by (TargetExpr-F.Target::List xs) ps = let i = listed_total parts.target (target_count b) (λ x. refl) k.Comma refl refl xs (parts.token k.RightBracket ∷ ps) in omega arith
+  target_total_by (TargetExpr-F.TargetExpr::Name n) ps = omega arith
+  target_total_by (TargetExpr-F.TargetExpr::Index x i) ps = omega arith
+  target_total_by (TargetExpr-F.TargetExpr::Tuple []) ps = omega arith
+  target_total_by (TargetExpr-F.TargetExpr::Tuple (x ∷ xs)) ps = let i = listed_total parts.target (target_count b) (λ x. refl) k.Comma refl refl xs (parts.token k.RightParen ∷ ps) in omega arith
+  target_total_by (TargetExpr-F.TargetExpr::List xs) ps = let i = listed_total parts.target (target_count b) (λ x. refl) k.Comma refl refl xs (parts.token k.RightBracket ∷ ps) in omega arith
 
   pub target_holds : (x : TargetExpr) (ps : List Part) → total (target_parts x ps) ≡ total (parts.target x ∷ ps)
   target_holds x ps = let e = L.target_opened b x in let i = target_total_by (out-TargetExpr x) ps in omega arith

@@ -58,10 +58,10 @@ suffix_step (Suffix-F.Suffix::Index n) = n
 suffix_step (Suffix-F.Slice l m n) = max (optional_depth l) (max (optional_depth m) (optional_depth n))
 
 abbrev pub target_step : TargetExpr-F ℕ ℕ ℕ ℕ ℕ ℕ ℕ ℕ → ℕ
-target_step (TargetExpr-F.Target::Name b) = 1
-target_step (TargetExpr-F.Target::Index m n) = max m n + 1
-target_step (TargetExpr-F.Target::Tuple ns) = deepest ns + 1
-target_step (TargetExpr-F.Target::List ns) = deepest ns + 1
+target_step (TargetExpr-F.TargetExpr::Name b) = 1
+target_step (TargetExpr-F.TargetExpr::Index m n) = max m n + 1
+target_step (TargetExpr-F.TargetExpr::Tuple ns) = deepest ns + 1
+target_step (TargetExpr-F.TargetExpr::List ns) = deepest ns + 1
 
 abbrev pub expr_step : Expr-F ℕ ℕ ℕ ℕ ℕ ℕ ℕ ℕ → ℕ
 expr_step (Expr-F.Expr::Name b) = 1

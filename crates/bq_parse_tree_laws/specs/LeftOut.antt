@@ -74,10 +74,10 @@ suffix_left (Suffix-F.Suffix::Index n) = n
 suffix_left (Suffix-F.Slice l m n) = optional_count l + (optional_count m + optional_count n)
 
 abbrev pub target_left : TargetExpr-F ℕ ℕ ℕ ℕ ℕ ℕ ℕ ℕ → ℕ
-target_left (TargetExpr-F.Target::Name b) = 0
-target_left (TargetExpr-F.Target::Index m n) = m + n
-target_left (TargetExpr-F.Target::Tuple ns) = sum_of ns
-target_left (TargetExpr-F.Target::List ns) = sum_of ns
+target_left (TargetExpr-F.TargetExpr::Name b) = 0
+target_left (TargetExpr-F.TargetExpr::Index m n) = m + n
+target_left (TargetExpr-F.TargetExpr::Tuple ns) = sum_of ns
+target_left (TargetExpr-F.TargetExpr::List ns) = sum_of ns
 
 abbrev pub expr_left : Expr-F ℕ ℕ ℕ ℕ ℕ ℕ ℕ ℕ → ℕ
 expr_left (Expr-F.Expr::Name b) = 0

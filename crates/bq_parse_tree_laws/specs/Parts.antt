@@ -234,11 +234,11 @@ abbrev pub TargetLayer : Type 0
 TargetLayer = TargetExpr-F Argument Clause Expr Suffix TargetExpr Choice Operation Pair
 
 abbrev pub target_parts_by : TargetLayer → List Part → List Part
-target_parts_by (TargetExpr-F.Target::Name n) more = word n ∷ more
-target_parts_by (TargetExpr-F.Target::Index x i) more = expr x ∷ token k.LeftBracket ∷ open_expr i ∷ token k.RightBracket ∷ more
-target_parts_by (TargetExpr-F.Target::Tuple []) more = token k.LeftParen ∷ token k.RightParen ∷ more
-target_parts_by (TargetExpr-F.Target::Tuple (x ∷ xs)) more = token k.LeftParen ∷ target x ∷ token k.Comma ∷ listed k.Comma target xs (token k.RightParen ∷ more)
-target_parts_by (TargetExpr-F.Target::List xs) more = token k.LeftBracket ∷ listed k.Comma target xs (token k.RightBracket ∷ more)
+target_parts_by (TargetExpr-F.TargetExpr::Name n) more = word n ∷ more
+target_parts_by (TargetExpr-F.TargetExpr::Index x i) more = expr x ∷ token k.LeftBracket ∷ open_expr i ∷ token k.RightBracket ∷ more
+target_parts_by (TargetExpr-F.TargetExpr::Tuple []) more = token k.LeftParen ∷ token k.RightParen ∷ more
+target_parts_by (TargetExpr-F.TargetExpr::Tuple (x ∷ xs)) more = token k.LeftParen ∷ target x ∷ token k.Comma ∷ listed k.Comma target xs (token k.RightParen ∷ more)
+target_parts_by (TargetExpr-F.TargetExpr::List xs) more = token k.LeftBracket ∷ listed k.Comma target xs (token k.RightBracket ∷ more)
 
 abbrev pub target_parts : TargetExpr → List Part → List Part
 target_parts x more = target_parts_by (out-TargetExpr x) more

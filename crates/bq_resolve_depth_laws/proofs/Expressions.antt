@@ -72,14 +72,14 @@ module _ (file : FileParts) (n : ℕ) (visit : List BlockParts → Expr → Visi
 
   target_by_calm : (inner : TargetExpr → Visit CodeTarget) (blocks : List BlockParts) (layers : ℕ) → ((u : TargetExpr) → target_depth u ≤ layers → target_depth u ≤ n → Calm (inner u)) → (o : TargetLayer)
       → target_layer o ≤ layers + 1 → target_layer o ≤ n + 1 → Calm (target_by file visit inner blocks o)
-  target_by_calm inner blocks layers inners (TargetExpr-F.Target::Name m) h k = name_calm file blocks m
-  target_by_calm inner blocks layers inners (TargetExpr-F.Target::Index x i) h k =
+  target_by_calm inner blocks layers inners (TargetExpr-F.TargetExpr::Name m) h k = name_calm file blocks m
+  target_by_calm inner blocks layers inners (TargetExpr-F.TargetExpr::Index x i) h k =
       let p : expr_depth x ≤ n = omega arith in
       let q : expr_depth i ≤ n = omega arith in
       calm_two (visit blocks x) (visit blocks i) (λ y j. t.Index y j) (visits blocks x p) (visits blocks i q)
-  target_by_calm inner blocks layers inners (TargetExpr-F.Target::Tuple us) h k =
+  target_by_calm inner blocks layers inners (TargetExpr-F.TargetExpr::Tuple us) h k =
       calm_map (each inner [] us) (λ vs. t.Tuple vs) (calm_each target_depth (deepest (map target_depth us)) inner (λ u l. inners u (omega arith) (omega arith)) [] us (omega arith))
-  target_by_calm inner blocks layers inners (TargetExpr-F.Target::List us) h k =
+  target_by_calm inner blocks layers inners (TargetExpr-F.TargetExpr::List us) h k =
       calm_map (each inner [] us) (λ vs. t.List vs) (calm_each target_depth (deepest (map target_depth us)) inner (λ u l. inners u (omega arith) (omega arith)) [] us (omega arith))
 
   pub target_calm : (layers : ℕ) (blocks : List BlockParts) (u : TargetExpr) → target_depth u ≤ layers → target_depth u ≤ n + 1 → Calm (target_to file visit layers blocks u)

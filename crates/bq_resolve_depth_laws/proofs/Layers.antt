@@ -43,10 +43,10 @@ suffix_layer (Suffix-F.Suffix::Index x) = expr_depth x
 suffix_layer (Suffix-F.Slice x y z) = max (part_depth x) (max (part_depth y) (part_depth z))
 
 abbrev pub target_layer : TargetLayer → ℕ
-target_layer (TargetExpr-F.Target::Name n) = 1
-target_layer (TargetExpr-F.Target::Index x i) = max (expr_depth x) (expr_depth i) + 1
-target_layer (TargetExpr-F.Target::Tuple ts) = deepest (map target_depth ts) + 1
-target_layer (TargetExpr-F.Target::List ts) = deepest (map target_depth ts) + 1
+target_layer (TargetExpr-F.TargetExpr::Name n) = 1
+target_layer (TargetExpr-F.TargetExpr::Index x i) = max (expr_depth x) (expr_depth i) + 1
+target_layer (TargetExpr-F.TargetExpr::Tuple ts) = deepest (map target_depth ts) + 1
+target_layer (TargetExpr-F.TargetExpr::List ts) = deepest (map target_depth ts) + 1
 
 abbrev pub expr_layer : ExprLayer → ℕ
 expr_layer (Expr-F.Expr::Name n) = 1
@@ -101,19 +101,19 @@ pub opened_suffix : (x : Suffix) → suffix_depth x ≡ suffix_layer (out-Suffix
 opened_suffix x = sym (ap suffix_depth (roll-out-Suffix x)) ∙ rolled_suffix (out-Suffix x)
 
 rolled_target : (o : TargetLayer) → target_depth (roll-TargetExpr o) ≡ target_layer o
-rolled_target (TargetExpr-F.Target::Name n) = search (rules, the_lemmas)
-rolled_target (TargetExpr-F.Target::Index x i) = search (rules, the_lemmas)
-rolled_target (TargetExpr-F.Target::Tuple ts) = search (rules, the_lemmas)
-rolled_target (TargetExpr-F.Target::List ts) = search (rules, the_lemmas)
+rolled_target (TargetExpr-F.TargetExpr::Name n) = search (rules, the_lemmas)
+rolled_target (TargetExpr-F.TargetExpr::Index x i) = search (rules, the_lemmas)
+rolled_target (TargetExpr-F.TargetExpr::Tuple ts) = search (rules, the_lemmas)
+rolled_target (TargetExpr-F.TargetExpr::List ts) = search (rules, the_lemmas)
 
 pub opened_target : (x : TargetExpr) → target_depth x ≡ target_layer (out-TargetExpr x)
 opened_target x = sym (ap target_depth (roll-out-TargetExpr x)) ∙ rolled_target (out-TargetExpr x)
 
 pub target_has_depth : (o : TargetLayer) → 1 ≤ target_layer o
-target_has_depth (TargetExpr-F.Target::Name n) = omega arith
-target_has_depth (TargetExpr-F.Target::Index x i) = omega arith
-target_has_depth (TargetExpr-F.Target::Tuple ts) = omega arith
-target_has_depth (TargetExpr-F.Target::List ts) = omega arith
+target_has_depth (TargetExpr-F.TargetExpr::Name n) = omega arith
+target_has_depth (TargetExpr-F.TargetExpr::Index x i) = omega arith
+target_has_depth (TargetExpr-F.TargetExpr::Tuple ts) = omega arith
+target_has_depth (TargetExpr-F.TargetExpr::List ts) = omega arith
 
 rolled_expr : (o : ExprLayer) → expr_depth (roll-Expr o) ≡ expr_layer o
 rolled_expr (Expr-F.Expr::Name n) = search (rules, the_lemmas)

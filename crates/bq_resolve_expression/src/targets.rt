@@ -31,7 +31,7 @@ impl<F: Fn(Global, &FileNames, usize, &[Block], &mut Walk, &Expr) -> Result<Code
         index: &Expr,
     ) -> Result<CodeTarget, SourceErr>
         requires { WalksNested self.now.depth (F.pre self.now.visit) (F.post self.now.visit) }
-        ensures { (inner : TargetExpr → visit.Visit CodeTarget) → Walks (spec.target_by file.now (spec.expr_to self.now.depth file.now) inner blocks.now (TargetExpr-F.Target::Index operand.now index.now) walk.old) result walk.new }
+        ensures { (inner : TargetExpr → visit.Visit CodeTarget) → Walks (spec.target_by file.now (spec.expr_to self.now.depth file.now) inner blocks.now (TargetExpr-F.TargetExpr::Index operand.now index.now) walk.old) result walk.new }
     {
         let operand = self.boxed(file, blocks, walk, operand)?;
         let index = self.boxed(file, blocks, walk, index)?;

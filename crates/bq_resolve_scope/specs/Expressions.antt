@@ -110,10 +110,10 @@ module _ (file : FileParts) (visit : List BlockParts → Expr → Visit Code) wh
   -- ---- targets
 
   abbrev pub target_by : (TargetExpr → Visit CodeTarget) → List BlockParts → TargetLayer → Visit CodeTarget
-  target_by inner blocks (TargetExpr-F.Target::Name n) = name_target file blocks n
-  target_by inner blocks (TargetExpr-F.Target::Index x i) = visit blocks x >>= λ y. visit blocks i >>= λ j. pure (target.Index y j)
-  target_by inner blocks (TargetExpr-F.Target::Tuple ts) = each inner [] ts >>= λ us. pure (target.Tuple us)
-  target_by inner blocks (TargetExpr-F.Target::List ts) = each inner [] ts >>= λ us. pure (target.List us)
+  target_by inner blocks (TargetExpr-F.TargetExpr::Name n) = name_target file blocks n
+  target_by inner blocks (TargetExpr-F.TargetExpr::Index x i) = visit blocks x >>= λ y. visit blocks i >>= λ j. pure (target.Index y j)
+  target_by inner blocks (TargetExpr-F.TargetExpr::Tuple ts) = each inner [] ts >>= λ us. pure (target.Tuple us)
+  target_by inner blocks (TargetExpr-F.TargetExpr::List ts) = each inner [] ts >>= λ us. pure (target.List us)
 
   -- of targets that are no deeper than so many layers; no tree that is parsed holds a deeper one
   unfoldable pub target_to : ℕ → List BlockParts → TargetExpr → Visit CodeTarget

@@ -59,10 +59,10 @@ abbrev pub ClauseLayer : Type 0
 ClauseLayer = Clause-F Argument Clause Expr Suffix TargetExpr Choice Operation Pair
 
 abbrev pub with_target_by : (List Name → TargetExpr → List Name) → List Name → TargetLayer → List Name
-with_target_by inner names (TargetExpr-F.Target::Name n) = with_name names n.name
-with_target_by inner names (TargetExpr-F.Target::Index x i) = names
-with_target_by inner names (TargetExpr-F.Target::Tuple ts) = with_each inner names ts
-with_target_by inner names (TargetExpr-F.Target::List ts) = with_each inner names ts
+with_target_by inner names (TargetExpr-F.TargetExpr::Name n) = with_name names n.name
+with_target_by inner names (TargetExpr-F.TargetExpr::Index x i) = names
+with_target_by inner names (TargetExpr-F.TargetExpr::Tuple ts) = with_each inner names ts
+with_target_by inner names (TargetExpr-F.TargetExpr::List ts) = with_each inner names ts
 
 unfoldable pub with_target_to : ℕ → List Name → TargetExpr → List Name
 with_target_to zero names t = names

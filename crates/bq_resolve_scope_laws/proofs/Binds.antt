@@ -110,17 +110,17 @@ kept (inr b) = absurd b
 
 target_from : (inner : List Name → TargetExpr → List Name) (Binds : Name → TargetExpr → Type 0) → Adds inner Binds → (names : List Name) (o : TargetLayer) (name : Name)
     → Held (with_target_by inner names o) name → Held names name ⊎ target_binds_by (Binds name) name o
-target_from inner Binds adds names (TargetExpr-F.Target::Name n) name h = name_adds.from names n.name name h
-target_from inner Binds adds names (TargetExpr-F.Target::Index x i) name h = inl h
-target_from inner Binds adds names (TargetExpr-F.Target::Tuple ts) name h = each_from inner Binds adds ts names name h
-target_from inner Binds adds names (TargetExpr-F.Target::List ts) name h = each_from inner Binds adds ts names name h
+target_from inner Binds adds names (TargetExpr-F.TargetExpr::Name n) name h = name_adds.from names n.name name h
+target_from inner Binds adds names (TargetExpr-F.TargetExpr::Index x i) name h = inl h
+target_from inner Binds adds names (TargetExpr-F.TargetExpr::Tuple ts) name h = each_from inner Binds adds ts names name h
+target_from inner Binds adds names (TargetExpr-F.TargetExpr::List ts) name h = each_from inner Binds adds ts names name h
 
 target_into : (inner : List Name → TargetExpr → List Name) (Binds : Name → TargetExpr → Type 0) → Adds inner Binds → (names : List Name) (o : TargetLayer) (name : Name)
     → Held names name ⊎ target_binds_by (Binds name) name o → Held (with_target_by inner names o) name
-target_into inner Binds adds names (TargetExpr-F.Target::Name n) name h = name_adds.into names n.name name h
-target_into inner Binds adds names (TargetExpr-F.Target::Index x i) name h = kept h
-target_into inner Binds adds names (TargetExpr-F.Target::Tuple ts) name h = each_into inner Binds adds ts names name h
-target_into inner Binds adds names (TargetExpr-F.Target::List ts) name h = each_into inner Binds adds ts names name h
+target_into inner Binds adds names (TargetExpr-F.TargetExpr::Name n) name h = name_adds.into names n.name name h
+target_into inner Binds adds names (TargetExpr-F.TargetExpr::Index x i) name h = kept h
+target_into inner Binds adds names (TargetExpr-F.TargetExpr::Tuple ts) name h = each_into inner Binds adds ts names name h
+target_into inner Binds adds names (TargetExpr-F.TargetExpr::List ts) name h = each_into inner Binds adds ts names name h
 
 target_to_adds : (layers : ℕ) → Adds (with_target_to layers) (TargetBindsTo layers)
 unfolding with_target_to TargetBindsTo

@@ -72,12 +72,12 @@ module _ (file : FileParts) (visit : List BlockParts → Expr → Visit Code) (v
 
   target_by_needs : (inner : TargetExpr → Visit CodeTarget) (blocks : List BlockParts) → ((u : TargetExpr) → Needs blocks 0 target_slots (inner u)) → (o : TargetLayer)
       → Needs blocks 0 target_slots (target_by file visit inner blocks o)
-  target_by_needs inner blocks inners (TargetExpr-F.Target::Name n) = name_needs file blocks n
-  target_by_needs inner blocks inners (TargetExpr-F.Target::Index x i) =
+  target_by_needs inner blocks inners (TargetExpr-F.TargetExpr::Name n) = name_needs file blocks n
+  target_by_needs inner blocks inners (TargetExpr-F.TargetExpr::Index x i) =
       needs_two blocks code_slots code_slots target_slots (visit blocks x) (visit blocks i) (λ y j. t.Index y j) (visits blocks x) (visits blocks i) (λ y j. omega (arith, S.slots-target_Index y j))
-  target_by_needs inner blocks inners (TargetExpr-F.Target::Tuple us) =
+  target_by_needs inner blocks inners (TargetExpr-F.TargetExpr::Tuple us) =
       needs_map blocks 0 (λ vs. most (map target_slots vs)) target_slots (each inner [] us) (λ vs. t.Tuple vs) (needs_all blocks target_slots inner inners us) (λ vs. omega (arith, S.slots-target_Tuple vs))
-  target_by_needs inner blocks inners (TargetExpr-F.Target::List us) =
+  target_by_needs inner blocks inners (TargetExpr-F.TargetExpr::List us) =
       needs_map blocks 0 (λ vs. most (map target_slots vs)) target_slots (each inner [] us) (λ vs. t.List vs) (needs_all blocks target_slots inner inners us) (λ vs. omega (arith, S.slots-target_List vs))
 
   pub target_needs : (layers : ℕ) (blocks : List BlockParts) (u : TargetExpr) → Needs blocks 0 target_slots (target_to file visit layers blocks u)

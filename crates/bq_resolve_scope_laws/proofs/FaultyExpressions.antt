@@ -53,12 +53,12 @@ module _ (file : FileParts) (visit : List BlockParts → Expr → Visit Code) (i
   target_by_finds : (go : TargetExpr → Visit CodeTarget) (F : TargetExpr → List Fault) (P : Name → TargetExpr → Type 0) (block : BlockParts) (blocks : List BlockParts)
       → ((u : TargetExpr) → Holds block.names (λ name. P name u) → Finds (F u) (go u)) → (o : TargetLayer) → Holds block.names (λ name. target_binds_by (P name) name o)
       → Finds (in_target_by file inner F (around_of (block ∷ blocks)) o) (target_by file visit go (block ∷ blocks) o)
-  target_by_finds go F P block blocks goes (TargetExpr-F.Target::Name n) held = local_finds file block blocks n (held n.name refl)
-  target_by_finds go F P block blocks goes (TargetExpr-F.Target::Index x i) held =
+  target_by_finds go F P block blocks goes (TargetExpr-F.TargetExpr::Name n) held = local_finds file block blocks n (held n.name refl)
+  target_by_finds go F P block blocks goes (TargetExpr-F.TargetExpr::Index x i) held =
       finds_two (visit (block ∷ blocks) x) (visit (block ∷ blocks) i) (λ y j. t.Index y j) (inner (around_of (block ∷ blocks)) x) (inner (around_of (block ∷ blocks)) i)
       (visits (block ∷ blocks) x) (visits (block ∷ blocks) i)
-  target_by_finds go F P block blocks goes (TargetExpr-F.Target::Tuple us) held = finds_map (each go [] us) (λ vs. t.Tuple vs) (of_all F us) (finds_held block.names go F P goes [] us held)
-  target_by_finds go F P block blocks goes (TargetExpr-F.Target::List us) held = finds_map (each go [] us) (λ vs. t.List vs) (of_all F us) (finds_held block.names go F P goes [] us held)
+  target_by_finds go F P block blocks goes (TargetExpr-F.TargetExpr::Tuple us) held = finds_map (each go [] us) (λ vs. t.Tuple vs) (of_all F us) (finds_held block.names go F P goes [] us held)
+  target_by_finds go F P block blocks goes (TargetExpr-F.TargetExpr::List us) held = finds_map (each go [] us) (λ vs. t.List vs) (of_all F us) (finds_held block.names go F P goes [] us held)
 
   pub target_finds : (layers : ℕ) (block : BlockParts) (blocks : List BlockParts) (u : TargetExpr) → Holds block.names (λ name. TargetBindsTo layers name u)
       → Finds (in_target_to file inner layers (around_of (block ∷ blocks)) u) (target_to file visit layers (block ∷ blocks) u)

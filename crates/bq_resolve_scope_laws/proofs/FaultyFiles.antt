@@ -69,15 +69,15 @@ module _ (file : FileParts) where
       → Holds file.globals (λ name. target_binds_by (P name) name o)
       → Tells (λ b. in_file_target_by file F add b o) (λ b. record b { bound = with_target_by add b.bound o }) (target_by file (expr_to max_layers file) go [] o)
   unfolding in_expr
-  target_by_tells go F add P goes (TargetExpr-F.Target::Name n) held = global_tells file n (held n.name refl)
-  target_by_tells go F add P goes (TargetExpr-F.Target::Index x i) held =
+  target_by_tells go F add P goes (TargetExpr-F.TargetExpr::Name n) held = global_tells file n (held n.name refl)
+  target_by_tells go F add P goes (TargetExpr-F.TargetExpr::Index x i) held =
       finds_two (expr_to max_layers file [] x) (expr_to max_layers file [] i) (λ y j. t.Index y j) (in_expr_to file max_layers [] x) (in_expr_to file max_layers [] i)
       (expr_finds max_layers file [] x) (expr_finds max_layers file [] i)
-  target_by_tells go F add P goes (TargetExpr-F.Target::Tuple us) held =
+  target_by_tells go F add P goes (TargetExpr-F.TargetExpr::Tuple us) held =
       let on : Before → TargetExpr → Before = λ b u. record b { bound = add b.bound u } in
       tells_map (each go [] us) (λ vs. t.Tuple vs) (λ b. in_turn F on b us) (λ b. record b { bound = with_each add b.bound us })
       (tells_as (each go [] us) (λ b. in_turn F on b us) (λ b. all_on on b us) (λ b. record b { bound = with_each add b.bound us }) (λ b. all_bound add b us) (tells_each file.globals go F on P goes [] us held))
-  target_by_tells go F add P goes (TargetExpr-F.Target::List us) held =
+  target_by_tells go F add P goes (TargetExpr-F.TargetExpr::List us) held =
       let on : Before → TargetExpr → Before = λ b u. record b { bound = add b.bound u } in
       tells_map (each go [] us) (λ vs. t.List vs) (λ b. in_turn F on b us) (λ b. record b { bound = with_each add b.bound us })
       (tells_as (each go [] us) (λ b. in_turn F on b us) (λ b. all_on on b us) (λ b. record b { bound = with_each add b.bound us }) (λ b. all_bound add b us) (tells_each file.globals go F on P goes [] us held))

@@ -29,10 +29,10 @@ each_grows add grows names (x ∷ xs) =
     let b : length (add names x) ≤ length (with_each add (add names x) xs) = each_grows add grows (add names x) xs in omega arith
 
 target_by_grows : (inner : List Name → TargetExpr → List Name) → Grows inner → (names : List Name) (o : TargetLayer) → length names ≤ length (with_target_by inner names o)
-target_by_grows inner grows names (TargetExpr-F.Target::Name n) = name_grows names n.name
-target_by_grows inner grows names (TargetExpr-F.Target::Index x i) = omega arith
-target_by_grows inner grows names (TargetExpr-F.Target::Tuple ts) = each_grows inner grows names ts
-target_by_grows inner grows names (TargetExpr-F.Target::List ts) = each_grows inner grows names ts
+target_by_grows inner grows names (TargetExpr-F.TargetExpr::Name n) = name_grows names n.name
+target_by_grows inner grows names (TargetExpr-F.TargetExpr::Index x i) = omega arith
+target_by_grows inner grows names (TargetExpr-F.TargetExpr::Tuple ts) = each_grows inner grows names ts
+target_by_grows inner grows names (TargetExpr-F.TargetExpr::List ts) = each_grows inner grows names ts
 
 target_to_grows : (depth : ℕ) → Grows (with_target_to depth)
 unfolding with_target_to

@@ -71,10 +71,10 @@ module _ (file : FileParts) (visit : List BlockParts → Expr → Visit Code) (I
 
   target_by_makes : (go : TargetExpr → Visit CodeTarget) (R : TargetExpr → CodeTarget → Type 0) (blocks : List BlockParts) → ((u : TargetExpr) → Makes (R u) (go u)) → (o : TargetLayer)
       → Makes (target_is_by file Is R blocks o) (target_by file visit go blocks o)
-  target_by_makes go R blocks goes (TargetExpr-F.Target::Name n) = name_makes file blocks n
-  target_by_makes go R blocks goes (TargetExpr-F.Target::Index x i) = makes_two (Is blocks x) (Is blocks i) (visit blocks x) (visit blocks i) (λ y j. t.Index y j) (visits blocks x) (visits blocks i)
-  target_by_makes go R blocks goes (TargetExpr-F.Target::Tuple us) = makes_map (λ vs. InOrder R us vs) (each go [] us) (λ vs. t.Tuple vs) (makes_all R go goes us)
-  target_by_makes go R blocks goes (TargetExpr-F.Target::List us) = makes_map (λ vs. InOrder R us vs) (each go [] us) (λ vs. t.List vs) (makes_all R go goes us)
+  target_by_makes go R blocks goes (TargetExpr-F.TargetExpr::Name n) = name_makes file blocks n
+  target_by_makes go R blocks goes (TargetExpr-F.TargetExpr::Index x i) = makes_two (Is blocks x) (Is blocks i) (visit blocks x) (visit blocks i) (λ y j. t.Index y j) (visits blocks x) (visits blocks i)
+  target_by_makes go R blocks goes (TargetExpr-F.TargetExpr::Tuple us) = makes_map (λ vs. InOrder R us vs) (each go [] us) (λ vs. t.Tuple vs) (makes_all R go goes us)
+  target_by_makes go R blocks goes (TargetExpr-F.TargetExpr::List us) = makes_map (λ vs. InOrder R us vs) (each go [] us) (λ vs. t.List vs) (makes_all R go goes us)
 
   pub target_makes : (layers : ℕ) (blocks : List BlockParts) (u : TargetExpr) → Makes (TargetTo file Is layers blocks u) (target_to file visit layers blocks u)
   unfolding TargetTo target_to

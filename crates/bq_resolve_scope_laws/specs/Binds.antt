@@ -31,10 +31,10 @@ AnyOf P (x ∷ xs) = P x ⊎ AnyOf P xs
 
 -- a target binds the names in it, but for those of `operand[index]`
 abbrev pub target_binds_by : (TargetExpr → Type 0) → Name → TargetLayer → Type 0
-target_binds_by inner name (TargetExpr-F.Target::Name n) = name ≡ n.name
-target_binds_by inner name (TargetExpr-F.Target::Index x i) = ⊥
-target_binds_by inner name (TargetExpr-F.Target::Tuple ts) = AnyOf inner ts
-target_binds_by inner name (TargetExpr-F.Target::List ts) = AnyOf inner ts
+target_binds_by inner name (TargetExpr-F.TargetExpr::Name n) = name ≡ n.name
+target_binds_by inner name (TargetExpr-F.TargetExpr::Index x i) = ⊥
+target_binds_by inner name (TargetExpr-F.TargetExpr::Tuple ts) = AnyOf inner ts
+target_binds_by inner name (TargetExpr-F.TargetExpr::List ts) = AnyOf inner ts
 
 unfoldable pub TargetBindsTo : ℕ → Name → TargetExpr → Type 0
 TargetBindsTo zero name t = ⊥

@@ -75,10 +75,10 @@ module _ (file : FileParts) where
 
   module _ (Is : List BlockParts → Expr → Code → Type 0) where
     abbrev pub target_is_by : (TargetExpr → CodeTarget → Type 0) → List BlockParts → TargetLayer → CodeTarget → Type 0
-    target_is_by inner blocks (TargetExpr-F.Target::Name n) z = place_of (use_of file blocks n.name) ≡ Some z
-    target_is_by inner blocks (TargetExpr-F.Target::Index x i) z = (y : Code) × (j : Code) × Is blocks x y × Is blocks i j × (z ≡ target.Index y j)
-    target_is_by inner blocks (TargetExpr-F.Target::Tuple ts) z = (us : List CodeTarget) × InOrder inner ts us × (z ≡ target.Tuple us)
-    target_is_by inner blocks (TargetExpr-F.Target::List ts) z = (us : List CodeTarget) × InOrder inner ts us × (z ≡ target.List us)
+    target_is_by inner blocks (TargetExpr-F.TargetExpr::Name n) z = place_of (use_of file blocks n.name) ≡ Some z
+    target_is_by inner blocks (TargetExpr-F.TargetExpr::Index x i) z = (y : Code) × (j : Code) × Is blocks x y × Is blocks i j × (z ≡ target.Index y j)
+    target_is_by inner blocks (TargetExpr-F.TargetExpr::Tuple ts) z = (us : List CodeTarget) × InOrder inner ts us × (z ≡ target.Tuple us)
+    target_is_by inner blocks (TargetExpr-F.TargetExpr::List ts) z = (us : List CodeTarget) × InOrder inner ts us × (z ≡ target.List us)
 
     unfoldable pub TargetTo : ℕ → List BlockParts → TargetExpr → CodeTarget → Type 0
     TargetTo zero blocks t z = ⊥

@@ -134,10 +134,10 @@ module _ (file : FileParts) where
   module _ (inner : Around → Expr → List Fault) where
     -- a target in a block, whose names the block holds
     abbrev pub in_target_by : (TargetExpr → List Fault) → Around → TargetLayer → List Fault
-    in_target_by of_one around (TargetExpr-F.Target::Name n) = []
-    in_target_by of_one around (TargetExpr-F.Target::Index x i) = inner around x ++ inner around i
-    in_target_by of_one around (TargetExpr-F.Target::Tuple ts) = of_all of_one ts
-    in_target_by of_one around (TargetExpr-F.Target::List ts) = of_all of_one ts
+    in_target_by of_one around (TargetExpr-F.TargetExpr::Name n) = []
+    in_target_by of_one around (TargetExpr-F.TargetExpr::Index x i) = inner around x ++ inner around i
+    in_target_by of_one around (TargetExpr-F.TargetExpr::Tuple ts) = of_all of_one ts
+    in_target_by of_one around (TargetExpr-F.TargetExpr::List ts) = of_all of_one ts
 
     unfoldable pub in_target_to : ℕ → Around → TargetExpr → List Fault
     in_target_to zero around t = too_deep
@@ -278,10 +278,10 @@ module _ (file : FileParts) where
 
   -- a target there binds names of the file, one after the other
   abbrev pub in_file_target_by : (Before → TargetExpr → List Fault) → (List Name → TargetExpr → List Name) → Before → TargetLayer → List Fault
-  in_file_target_by of_one add before (TargetExpr-F.Target::Name n) = in_binding before n
-  in_file_target_by of_one add before (TargetExpr-F.Target::Index x i) = in_expr [] x ++ in_expr [] i
-  in_file_target_by of_one add before (TargetExpr-F.Target::Tuple ts) = in_turn of_one (λ b t. record b { bound = add b.bound t }) before ts
-  in_file_target_by of_one add before (TargetExpr-F.Target::List ts) = in_turn of_one (λ b t. record b { bound = add b.bound t }) before ts
+  in_file_target_by of_one add before (TargetExpr-F.TargetExpr::Name n) = in_binding before n
+  in_file_target_by of_one add before (TargetExpr-F.TargetExpr::Index x i) = in_expr [] x ++ in_expr [] i
+  in_file_target_by of_one add before (TargetExpr-F.TargetExpr::Tuple ts) = in_turn of_one (λ b t. record b { bound = add b.bound t }) before ts
+  in_file_target_by of_one add before (TargetExpr-F.TargetExpr::List ts) = in_turn of_one (λ b t. record b { bound = add b.bound t }) before ts
 
   unfoldable pub in_file_target_to : ℕ → Before → TargetExpr → List Fault
   in_file_target_to zero before t = too_deep

@@ -58,12 +58,12 @@ module _ (file : FileParts) (visit : List BlockParts → Expr → Visit Code) (l
 
   target_by_lists : (inner : TargetExpr → Visit CodeTarget) (part : TargetExpr → Part) (rs : List Block) (bs : List BlockParts) → ((u : TargetExpr) → Lists rs bs [] target_slots (part u) (inner u)) → (o : TargetLayer)
       → Lists rs bs [] target_slots (uses.target_by listed part rs o) (target_by file visit inner bs o)
-  target_by_lists inner part rs bs inners (TargetExpr-F.Target::Name n) = name_lists file rs bs n
-  target_by_lists inner part rs bs inners (TargetExpr-F.Target::Index x i) =
+  target_by_lists inner part rs bs inners (TargetExpr-F.TargetExpr::Name n) = name_lists file rs bs n
+  target_by_lists inner part rs bs inners (TargetExpr-F.TargetExpr::Index x i) =
       lists_two rs bs code_slots code_slots target_slots (listed rs x) (listed rs i) (visit bs x) (visit bs i) (λ y j. t.Index y j) (visits rs bs x) (visits rs bs i) S.slots-target_Index
-  target_by_lists inner part rs bs inners (TargetExpr-F.Target::Tuple us) =
+  target_by_lists inner part rs bs inners (TargetExpr-F.TargetExpr::Tuple us) =
       lists_map rs bs [] (λ vs. all (map target_slots vs)) target_slots (uses.all part us) (each inner [] us) (λ vs. t.Tuple vs) (lists_all rs bs target_slots part inner inners us) S.slots-target_Tuple
-  target_by_lists inner part rs bs inners (TargetExpr-F.Target::List us) =
+  target_by_lists inner part rs bs inners (TargetExpr-F.TargetExpr::List us) =
       lists_map rs bs [] (λ vs. all (map target_slots vs)) target_slots (uses.all part us) (each inner [] us) (λ vs. t.List vs) (lists_all rs bs target_slots part inner inners us) S.slots-target_List
 
   pub target_lists : (layers : ℕ) (rs : List Block) (bs : List BlockParts) (u : TargetExpr) → Lists rs bs [] target_slots (uses.target_to listed layers rs u) (target_to file visit layers bs u)

@@ -57,10 +57,10 @@ name_use blocks name = λ k. (use_among blocks name, k)
 
 module _ (visit : List Block → Expr → Part) where
   abbrev pub target_by : (TargetExpr → Part) → List Block → TargetLayer → Part
-  target_by inner blocks (TargetExpr-F.Target::Name n) = name_use blocks n.name
-  target_by inner blocks (TargetExpr-F.Target::Index x i) = both (visit blocks x) (visit blocks i)
-  target_by inner blocks (TargetExpr-F.Target::Tuple ts) = all inner ts
-  target_by inner blocks (TargetExpr-F.Target::List ts) = all inner ts
+  target_by inner blocks (TargetExpr-F.TargetExpr::Name n) = name_use blocks n.name
+  target_by inner blocks (TargetExpr-F.TargetExpr::Index x i) = both (visit blocks x) (visit blocks i)
+  target_by inner blocks (TargetExpr-F.TargetExpr::Tuple ts) = all inner ts
+  target_by inner blocks (TargetExpr-F.TargetExpr::List ts) = all inner ts
 
   unfoldable pub target_to : ℕ → List Block → TargetExpr → Part
   target_to zero blocks t = nothing
