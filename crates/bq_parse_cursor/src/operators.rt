@@ -29,6 +29,7 @@ pub fn binary_operator(kind: TokenKind) -> Option<(usize, Operator)>
 }
 
 /// The operator of this level that a token is.
+#[inline(always)]
 pub fn operator_at(level: usize, kind: TokenKind) -> Option<Operator>
     ensures { result ≡ spec.operator_at level kind }
 {

@@ -14,7 +14,7 @@ ghost use Rattle.bq_source.specs.StringLiteral as strings;
 ghost use Rattle.bq_source.specs.declared.token.TokenKind.TheVariants as kind;
 ghost use Rattle.bq_parse_cursor.specs.Tokens as ahead;
 
-use crate::operators::{augmented, comparison, negation, operator_at, sign};
+use crate::operators::{augmented, binary_operator, comparison, negation, operator_at, sign};
 use bq_base::Bytes;
 use bq_parse_grammar::{Comparison, Expr, Identifier, Operator, SyntaxErr, UnaryOperator};
 use bq_source::{Token, TokenKind, int_value, string_value};
@@ -297,6 +297,16 @@ impl<'a> Tokens<'a> {
                 None => Err(SyntaxErr::Syntax),
             },
             None => Err(SyntaxErr::Syntax),
+        }
+    }
+
+    /// An operator between operands comes next, of whatever level.
+    pub fn sees_any_operator(&self) -> bool
+        ensures { result ≡ reading.has operators.binary_operator self.now }
+    {
+        match self.rest.first() {
+            Some(token) => binary_operator(token.kind).is_some(),
+            None => false,
         }
     }
 

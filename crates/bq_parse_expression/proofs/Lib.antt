@@ -1,2 +1,4 @@
 pub mod LoopTurns
 pub mod Ahead
+pub mod Alone
+pub mod AfterOperand

@@ -1,1 +1,3 @@
 pub mod Nested
+pub mod Lone
+pub mod Further

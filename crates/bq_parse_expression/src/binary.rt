@@ -8,8 +8,10 @@ ghost use Rattle.bq_parse_grammar.specs.Grammar as grammar;
 ghost use Rattle.bq_parse_grammar.specs.Reading as spec;
 ghost use Rattle.bq_parse_grammar.specs.declared.tree.Choice.{roll-Choice};
 ghost use Rattle.bq_parse_expression.specs.Nested.{ReadsNested};
+ghost use Rattle.bq_parse_expression.specs.Further.{further};
 
 use crate::grammar::Grammar;
+use crate::lone::stands_alone;
 use bq_parse_cursor::Tokens;
 use bq_parse_grammar::{
     Choice, Comparison, Expr, Nested, Operation, Operator, SyntaxErr, UnaryOperator,
@@ -96,6 +98,7 @@ fn choice_of(value: Boxed<Expr>, condition: Boxed<Expr>) -> Choice
 
 impl<F: Fn(Global, &mut Tokens<'_>, usize, Nested) -> Result<Expr, SyntaxErr>> Grammar<F> {
     /// Unary = { '+' | '-' | '~' } Primary
+    #[inline(always)]
     #[tactic(auto, unfolding(bq_parse_grammar::specs::Reading::prefixed))]
     fn unary(&self, tokens: &mut Tokens<'_>) -> Result<Expr, SyntaxErr>
         requires { ReadsNested self.now.depth (F.pre self.now.phrase) (F.post self.now.phrase) }
@@ -163,6 +166,36 @@ impl<F: Fn(Global, &mut Tokens<'_>, usize, Nested) -> Result<Expr, SyntaxErr>> G
         })
     }
 
+    /// What operators of up to this level do to an operand.
+    #[tactic(auto, using(crate::proofs::AfterOperand::further_above, crate::proofs::AfterOperand::further_none, crate::proofs::LoopTurns::none_follow))]
+    fn further(&self, tokens: &mut Tokens<'_>, first: Expr, level: usize) -> Result<Expr, SyntaxErr>
+        requires { ReadsNested self.now.depth (F.pre self.now.phrase) (F.post self.now.phrase) }
+        ensures { Reads (further (spec.primary (spec.phrase self.now.depth) (spec.variables_to self.now.depth)) level first tokens.old) result tokens.new }
+    {
+        if level == 0 {
+            return Ok(first);
+        }
+        let first = self.further(tokens, first, level - 1)?;
+        if !tokens.sees_operator(level) {
+            return Ok(first);
+        }
+        let first = Boxed::new(self.alloc, first)?;
+        let operations = self.operations(tokens, level)?;
+        Ok(binary_of(first, operations))
+    }
+
+    /// Bor: most operands have no operator after them, and need no look at each level.
+    fn bor(&self, tokens: &mut Tokens<'_>) -> Result<Expr, SyntaxErr>
+        requires { ReadsNested self.now.depth (F.pre self.now.phrase) (F.post self.now.phrase) }
+        ensures { Reads (spec.binary (spec.primary (spec.phrase self.now.depth) (spec.variables_to self.now.depth)) 6 tokens.old) result tokens.new }
+    {
+        let first = self.unary(tokens)?;
+        if !tokens.sees_any_operator() {
+            return Ok(first);
+        }
+        self.further(tokens, first, 6)
+    }
+
     /// CompOp = '==' | '!=' | '<' | '>' | '<=' | '>=' | 'in' | 'not' 'in'
     #[tactic(auto, unfolding(bq_parse_grammar::specs::Reading::comp_op))]
     fn comp_op(&self, tokens: &mut Tokens<'_>) -> Result<Comparison, SyntaxErr>
@@ -176,22 +209,24 @@ impl<F: Fn(Global, &mut Tokens<'_>, usize, Nested) -> Result<Expr, SyntaxErr>> G
     }
 
     /// Comp = Bor [ CompOp Bor ]
+    #[inline(always)]
     #[tactic(auto, unfolding(bq_parse_grammar::specs::Reading::comp))]
     fn comp(&self, tokens: &mut Tokens<'_>) -> Result<Expr, SyntaxErr>
         requires { ReadsNested self.now.depth (F.pre self.now.phrase) (F.post self.now.phrase) }
         ensures { Reads (spec.comp (spec.primary (spec.phrase self.now.depth) (spec.variables_to self.now.depth)) tokens.old) result tokens.new }
     {
-        let left = self.binary(tokens, 6)?;
+        let left = self.bor(tokens)?;
         if !(tokens.sees_comparison() || tokens.sees(TokenKind::Not)) {
             return Ok(left);
         }
         let left = Boxed::new(self.alloc, left)?;
         let comparison = self.comp_op(tokens)?;
-        let right = self.binary(tokens, 6)?;
+        let right = self.bor(tokens)?;
         Ok(Expr::Compare(left, comparison, Boxed::new(self.alloc, right)?))
     }
 
     /// Not = { 'not' } Comp
+    #[inline(always)]
     #[tactic(auto, unfolding(bq_parse_grammar::specs::Reading::prefixed))]
     fn not_test(&self, tokens: &mut Tokens<'_>) -> Result<Expr, SyntaxErr>
         requires { ReadsNested self.now.depth (F.pre self.now.phrase) (F.post self.now.phrase) }
@@ -233,6 +268,7 @@ impl<F: Fn(Global, &mut Tokens<'_>, usize, Nested) -> Result<Expr, SyntaxErr>> G
     }
 
     /// And = not_test { 'and' not_test }
+    #[inline(always)]
     #[tactic(auto, using(crate::proofs::LoopTurns::none_follow), unfolding(bq_parse_grammar::specs::Reading::chain))]
     fn and_test(&self, tokens: &mut Tokens<'_>) -> Result<Expr, SyntaxErr>
         requires { ReadsNested self.now.depth (F.pre self.now.phrase) (F.post self.now.phrase) }
@@ -355,10 +391,14 @@ impl<F: Fn(Global, &mut Tokens<'_>, usize, Nested) -> Result<Expr, SyntaxErr>> G
     }
 
     /// What stands in brackets.
+    #[tactic(auto, using(crate::proofs::Alone::lone_phrase))]
     pub fn phrase_by(&self, tokens: &mut Tokens<'_>, which: Nested) -> Result<Expr, SyntaxErr>
         requires { ReadsNested self.now.depth (F.pre self.now.phrase) (F.post self.now.phrase) }
         ensures { Reads (spec.phrase_by (spec.primary (spec.phrase self.now.depth) (spec.variables_to self.now.depth)) which tokens.old) result tokens.new }
     {
+        if stands_alone(tokens) {
+            return self.operand(tokens);
+        }
         match which {
             Nested::Or => self.or_test(tokens),
             Nested::Test => self.test(tokens),

@@ -24,6 +24,7 @@
 //! - `steps`: steps that several productions share;
 //! - `variables`: the variables of a `for`;
 //! - `grammar`: the reader of what stands in brackets, and lists of it;
+//! - `lone`: phrases of one token;
 //! - `operands`, `suffixes`, `binary`: the productions, from what binds tightest;
 //! - `expr`: expressions.
 #![tactic(auto)]
@@ -31,6 +32,7 @@
 mod binary;
 mod expr;
 mod grammar;
+mod lone;
 mod operands;
 mod steps;
 mod suffixes;

@@ -16,6 +16,9 @@ use crate::token::{Token, TokenKind};
 use bq_base::{Fault, FaultKind, SourceErr};
 use std::alloc::{AllocError, Global};
 
+/// A token with the blanks before it mostly takes more: so much room is taken at once, and of a text with more tokens the list grows.
+const BYTES_OF_TOKEN: usize = 6;
+
 /// The start of a logical line that begins with this text.
 fn margin_of(text: &[u8], line: u32) -> Margin
     ensures { result ≡ spec.margin_of text.now line }
@@ -147,6 +150,7 @@ impl<'a> Lexer<'a> {
     }
 
     /// The indentation of the line, where its first token is next.
+    #[inline(always)]
     #[tactic(auto, unfolding(crate::specs::Reading::indent))]
     fn indent(&mut self) -> Result<(), SourceErr>
         ensures { Gives (λ _. self.new) SourceErr.Bad result (spec.indent self.old) }
@@ -253,6 +257,7 @@ pub fn lex(alloc: Global, text: &[u8]) -> Result<Vec<Token>, SourceErr>
     if text.len() > MAX_FILE_BYTES {
         return Err(SourceErr::Bad(Fault::at(FaultKind::FileTooLong, line_past_limit(text))));
     }
+    let tokens = Vec::with_capacity(alloc, text.len() / BYTES_OF_TOKEN)?;
     let mut lexer = Lexer {
         text,
         at: 0,
@@ -260,7 +265,7 @@ pub fn lex(alloc: Global, text: &[u8]) -> Result<Vec<Token>, SourceErr>
         margin: Some(margin_of(text, 1)),
         open_brackets: Vec::new(alloc),
         widths: Vec::new(alloc),
-        tokens: Vec::new(alloc),
+        tokens,
     };
     while !lexer.rest().is_empty() {
         lexer.step()?;

@@ -18,12 +18,12 @@ loop-lexer-preserved c = λ r h. c.loop-lexer.invariant r (goes (search rules) c
 
 pub returns-in_err-step-clause-reads : goal.returns-in_err-step-clause-reads
 returns-in_err-step-clause-reads c =
-    let p = err_from_is_err_and c.from_residual.result c.from_residual.ensures.1 in
+    let p = err_from_is_err_and c.from_residual-in_err-step.result c.from_residual-in_err-step.ensures.1 in
     rw (p.1, p.2) (stopped c.args.text.now c.loop-lexer.lexer (omega arith) c.loop-lexer.invariant (search rules) _ c.in_err-step.ensures)
 
 pub returns-in_err-step-clause-only : goal.returns-in_err-step-clause-only
 returns-in_err-step-clause-only c =
-    let p = err_from_is_err_and c.from_residual.result c.from_residual.ensures.1 in
+    let p = err_from_is_err_and c.from_residual-in_err-step.result c.from_residual-in_err-step.ensures.1 in
     rw (p.1, p.2) (stopped_only c.args.text.now c.loop-lexer.lexer (omega arith) c.loop-lexer.invariant (search rules) _ c.in_err-step.ensures)
 
 pub returns-clause-reads : goal.returns-clause-reads
