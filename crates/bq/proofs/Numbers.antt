@@ -1,7 +1,7 @@
 -- The number of an option is what its text writes.
 use Rattle.std.proofs.Common.{◌≡◌, ◌∙◌, ◌<◌, ◌≤◌, ◌^◌, refl, sym, ap, subst, ℕ, List, Option, Some, None, Result, Ok, Err, arith}
 use Rattle.std.specs.Prelude.{min, max, unwrap_or}
-use Rattle.std.specs.Str.Parse.{IsNumeral, ParsesUnsigned, without_leading_plus, digits_value}
+use Rattle.std.specs.Str.Parse.{ParsesUnsigned, without_leading_plus, digits_value}
 use Rattle.std.proofs.Math.Nat.{max-eq_right, min-eq_left}
 use Rattle.clap.specs.Words.{ReadsOne}
 use Rattle.bq.specs.Words.{Writes, IsNumberOf}

@@ -1,5 +1,5 @@
 -- What a command line asks for, by what clap read of its words (FORMATS: "The command line").
-use Rattle.std.specs.Prelude.{◌≡◌, ◌<◌, ◌≤◌, ℕ, List, [], Option, Some, None, unwrap_or, option_map, codes, bytes_eq, string_bytes, if◌then◌else◌}
+use Rattle.std.specs.Prelude.{◌≡◌, ◌≤◌, ℕ, List, [], Option, Some, None, unwrap_or, option_map, codes, bytes_eq, string_bytes, if◌then◌else◌}
 use Rattle.std.specs.Str.Parse.{IsNumeral, without_leading_plus, digits_value}
 use Rattle.clap.specs.Words.{first_value, found_of, one_text}
 use Rattle.clap.specs.declared.parser.matches.ArgMatches.{ArgMatches}

@@ -125,7 +125,7 @@ fn form_of(word: Option<&str>) -> OutputForm
     match word {
         None => OutputForm::Label,
         Some(word) => {
-            if word.as_bytes() == b"label_kind" {
+            if word.as_bytes() == b"label_kind".as_slice() {
                 OutputForm::LabelKind
             } else {
                 OutputForm::Label

@@ -5,12 +5,9 @@ use Rattle.std.specs.declared.cmp.Ordering.{Ordering}
 use Rattle.std.specs.declared.cmp.Ordering.TheVariants.{Less, Equal, Greater}
 use Rattle.std.specs.Ordering.{is_lt, is_le, is_gt, is_ge}
 use Rattle.bq_base.specs.declared.fault.FaultKind.{FaultKind}
-use Rattle.bq_value.specs.Cells.{StoreView}
-use Rattle.bq_value.specs.Datum.{Datum}
 use Rattle.bq_value_compare.specs.Looked.{Looked}
-use Rattle.bq_builtin_machine.specs.Machine.{looked_equal, looked_order}
+use Rattle.bq_builtin_machine.specs.Machine.{looked_order}
 use Rattle.bq_builtin_operators.specs.Comparing.{negated, by_order, compared}
-use Rattle.bq_builtin_operators.specs.Membership.{contained}
 use Rattle.bq_builtin_operator_laws.specs.Comparisons.{OppositesDiffer}
 
 abbrev answer : Bool → ℕ → Looked Bool

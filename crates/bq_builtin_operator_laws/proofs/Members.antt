@@ -1,19 +1,20 @@
 -- What is in a list, a tuple or a dict.
-use Rattle.std.proofs.Common.{◌≡◌, ◌∙◌, refl, sym, ap, subst, ℕ, Bool, true, false, List, [], ◌∷◌, ◌++◌, Option, Some, None, Ok, Err}
+use Rattle.std.proofs.Common.{◌≡◌, ◌∙◌, refl, sym, ap, ℕ, Bool, true, false, List, [], ◌∷◌, Option, Some, None, Ok, Err}
 use Rattle.std.specs.Prelude.{is_some}
 use Rattle.std.specs.List.{AllByRecursion}
+use Rattle.std.proofs.lemmas.Bool.{false≢true}
 use Rattle.bq_base.specs.declared.fault.FaultKind.{FaultKind}
 use Rattle.bq_base.specs.declared.fault.FaultKind.TheVariants.{NoKey}
-use Rattle.bq_value.specs.Cells.{StoreView, content_at}
-use Rattle.bq_value.specs.Contents.{Contents, items, pairs}
-use Rattle.bq_value.specs.Datum.{Datum, Data, tuple, cell, list_of}
+use Rattle.bq_value.specs.Cells.{StoreView}
+use Rattle.bq_value.specs.Contents.{Contents}
+use Rattle.bq_value.specs.Datum.{Datum, cell}
 use Rattle.bq_value.specs.Pairs.{found}
 use Rattle.bq_value_compare.specs.Looked.{Looked, max_levels}
 use Rattle.bq_value_compare.specs.KeyWalk.{walked_at, keyed}
 use Rattle.bq_builtin_machine.specs.Machine.{looked_equal}
 use Rattle.bq_builtin_operators.specs.Membership.{if_not, among, among_keys, in_list, in_dict, in_content, contained}
 use Rattle.bq_builtin_operators.specs.Subscript.{or_fault, at_no_cost, value_by, value_in, content_item, item_of}
-use Rattle.bq_builtin_operator_laws.specs.Members.{HasElements, IsEqualToOne, IsNotEqual, IsMember, MembersAreEqualToAnElement, IsKey, KeysHaveValues}
+use Rattle.bq_builtin_operator_laws.specs.Members.{HasElements, IsEqualToOne, IsNotEqual, MembersAreEqualToAnElement, KeysHaveValues}
 
 abbrev answer : Bool → ℕ → Looked Bool
 answer so left = Ok (so, left)
@@ -27,11 +28,19 @@ no_refusal so left why e = cc
 no_answer : (so : Bool) (left : ℕ) (why : FaultKind) → answer so left ≡ refusal why → ⊥
 no_answer so left why e = cc
 
+abbrev said : Looked Bool → Bool
+said (Ok p) = p.0
+said (Err why) = false
+
+abbrev left_by : Looked Bool → ℕ
+left_by (Ok p) = p.1
+left_by (Err why) = 0
+
 unlike : (k left : ℕ) → answer true k ≡ answer false left → ⊥
-unlike k left e = cc
+unlike k left e = false≢true (sym (ap said e))
 
 other : (k left : ℕ) → answer false k ≡ answer true left → ⊥
-other k left e = cc
+other k left e = false≢true (ap said e)
 
 -- ---- lists and tuples
 
@@ -77,7 +86,7 @@ abbrev value : Datum → ℕ → Looked Datum
 value x left = Ok (x, left)
 
 same_left : (so : Bool) (k left : ℕ) → answer so k ≡ answer so left → k ≡ left
-same_left so k left e = cc
+same_left so k left e = ap left_by e
 
 there_by : (k left : ℕ) (o : Option Datum) → answer (is_some o) k ≡ answer true left → (x : Datum) × (at_no_cost k (or_fault NoKey o) ≡ Ok (x, left))
 there_by k left None e = absurd (other k left e)

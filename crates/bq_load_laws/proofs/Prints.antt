@@ -1,5 +1,5 @@
 -- What a module printed stays.
-use Rattle.std.proofs.Common.{◌≡◌, refl}
+use Rattle.std.proofs.Common.{refl}
 use Rattle.bq_builtin_machine.specs.Action.{done, stopped}
 use Rattle.bq_load.specs.Evaluation.{module_after}
 use Rattle.bq_load_laws.specs.Prints.{PrintsAreKept}
