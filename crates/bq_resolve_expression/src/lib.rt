@@ -33,6 +33,5 @@ mod walk;
 
 pub use expressions::expr_to;
 pub use identifier::{fault_of, name_target, use_at};
-pub use room::with_room;
 pub use rules::Rules;
 pub use walk::Walk;

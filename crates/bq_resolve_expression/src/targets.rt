@@ -9,11 +9,10 @@ ghost use Rattle.bq_resolve_scope.specs.Expressions as spec;
 ghost use Rattle.bq_resolve_expression.specs.Walks.{Walks, WalksNested};
 
 use crate::identifier::name_target;
-use crate::room::with_room;
 use crate::rules::Rules;
 use crate::walk::Walk;
 use bq_base::{Fault, FaultKind, SourceErr};
-use bq_parse_grammar::{TargetExpr, Expr};
+use bq_parse_grammar::{Expr, TargetExpr};
 use bq_resolve_scope::{Block, Code, CodeTarget, FileNames};
 use sqlite_items::Items;
 use std::alloc::Global;
@@ -51,7 +50,7 @@ impl<F: Fn(Global, &FileNames, usize, &[Block], &mut Walk, &Expr) -> Result<Code
         requires { WalksNested self.now.depth (F.pre self.now.visit) (F.post self.now.visit) }
         ensures { Walks (visit.each (spec.target_to file.now (spec.expr_to self.now.depth file.now) layers blocks.now) [] targets.now walk.old) result walk.new }
     {
-        let mut done = with_room(self.alloc, targets.len())?;
+        let mut done = Items::new(self.alloc);
         for target in targets {
             done.push(self.target_to(file, layers, blocks, walk, target)?)?;
         }
