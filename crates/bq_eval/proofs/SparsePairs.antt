@@ -1,9 +1,9 @@
 -- What is found among pairs, and what an edit of them does to it.
-use Rattle.std.proofs.Common.{◌≡◌, ℕ, zero, suc, ◌<◌, ◌≤◌, ◌==◌, ◌≢◌, [], ◌∷◌, length, get_or, set, if◌then◌else◌, Some, None, refl, arith}
+use Rattle.std.proofs.Common.{◌≡◌, ℕ, zero, suc, ◌<◌, ◌≢◌, [], ◌∷◌, length, get_or, set, Some, None, refl, arith}
 use Rattle.std.specs.List.{insert}
 use Rattle.std.proofs.lemmas.Bool.Decides.{nat_tests}
 use Rattle.bq_value.specs.Datum.{Datum, none}
-use Rattle.bq_eval.specs.Sparse.{Pairs, found, slot_at, IsAt, IsStrictlySorted, Binds}
+use Rattle.bq_eval.specs.Sparse.{Pairs, found, slot_at, IsAt, Binds}
 
 -- no pair before this place has the slot
 abbrev pub NoneBefore : Pairs → ℕ → ℕ → Type 0

@@ -1,5 +1,5 @@
 -- The frame that slots are: a list of them, and what the clauses of comprehensions bind over those of a function.
-use Rattle.std.specs.Prelude.{ℕ, List, [], ◌∷◌, map, Option, Some, None, slice_get}
+use Rattle.std.specs.Prelude.{List, [], ◌∷◌, map, Option, Some, None, slice_get}
 use Rattle.bq_value.specs.Datum.{Datum}
 use Rattle.bq_meaning.specs.Frame.{Frame}
 use Rattle.bq_eval.specs.Sparse.{Pairs, found}

@@ -15,11 +15,11 @@ ghost use Rattle.bq_package.specs.Calls.{HeldPackage, outside, declaring, held_b
 ghost use Rattle.bq_package.specs.Keeping.{answer, package_after, Settles, IsSettled, OwnsTarget, OwnsFiles};
 
 use crate::building::{BuildHost, Building};
-use crate::function::{BuildFunction, function_of};
 use crate::place::Place;
 use bq_host::Host;
 use bq_label::{Label, PackageId, Packages, Workspace};
 use bq_machine::{Args, Machine, Signature, bind};
+use bq_predeclared::HostFunction;
 use bq_rule_class::{AttributeValue, RuleClass};
 use bq_schema::Schema;
 use bq_source::{Bytes, FaultKind};
@@ -219,7 +219,7 @@ impl<'a> BuildHost<'a> {
     /// A call of `glob`.
     #[tactic(auto, using(crate::proofs::Meaning::refused_outside, crate::proofs::Meaning::glob_refused, crate::proofs::Meaning::glob_done))]
     fn glob(&self, alloc: Global, args: Args, machine: &mut Machine) -> Result<Value, EvalErr>
-        ensures { HostDoes (λ v. v) result machine.new (held_by self.now) (call_by machine.old (held_by self.now) BuildFunction.Glob args) }
+        ensures { HostDoes (λ v. v) result machine.new (held_by self.now) (call_by machine.old (held_by self.now) HostFunction.Glob args) }
     {
         let place = self.place()?;
         let names = place.globbed(alloc, machine.store(), args)?;
@@ -234,7 +234,7 @@ impl<'a> BuildHost<'a> {
         args: Args,
         machine: &Machine,
     ) -> Result<Value, EvalErr>
-        ensures says { HostDoes (λ v. v) result machine.now (held_by self.new) (call_by machine.now (held_by self.old) BuildFunction.ExportsFiles args) }
+        ensures says { HostDoes (λ v. v) result machine.now (held_by self.new) (call_by machine.now (held_by self.old) HostFunction.ExportsFiles args) }
         ensures keeps { KeepsIfRefused result (held_by self.old) (held_by self.new) }
     {
         let place = self.place()?;
@@ -250,7 +250,7 @@ impl<'a> BuildHost<'a> {
         args: Args,
         machine: &Machine,
     ) -> Result<Value, EvalErr>
-        ensures says { HostDoes (λ v. v) result machine.now (held_by self.new) (call_by machine.now (held_by self.old) BuildFunction.PackageGroup args) }
+        ensures says { HostDoes (λ v. v) result machine.now (held_by self.new) (call_by machine.now (held_by self.old) HostFunction.PackageGroup args) }
         ensures keeps { KeepsIfRefused result (held_by self.old) (held_by self.new) }
     {
         let place = self.place()?;
@@ -267,7 +267,7 @@ impl<'a> BuildHost<'a> {
         args: Args,
         machine: &Machine,
     ) -> Result<Value, EvalErr>
-        ensures says { HostDoes (λ v. v) result machine.now (held_by self.new) (call_by machine.now (held_by self.old) (BuildFunction.Rule rule) args) }
+        ensures says { HostDoes (λ v. v) result machine.now (held_by self.new) (call_by machine.now (held_by self.old) (HostFunction.Rule rule) args) }
         ensures keeps { KeepsIfRefused result (held_by self.old) (held_by self.new) }
     {
         let place = self.place()?;
@@ -298,7 +298,7 @@ impl<'a> BuildHost<'a> {
     /// A call of `package_name`.
     #[tactic(auto, using(crate::proofs::Meaning::refused_outside, crate::proofs::Meaning::name_done))]
     fn name(&self, alloc: Global, args: Args) -> Result<Value, EvalErr>
-        ensures { (s : State) → HostDoes (λ v. v) result s (held_by self.now) (call_by s (held_by self.now) BuildFunction.PackageName args) }
+        ensures { (s : State) → HostDoes (λ v. v) result s (held_by self.now) (call_by s (held_by self.now) HostFunction.PackageName args) }
     {
         let place = self.place()?;
         package_name(alloc, place, args)
@@ -307,8 +307,8 @@ impl<'a> BuildHost<'a> {
     /// A call that takes any arguments and changes nothing.
     #[tactic(auto, using(crate::proofs::Meaning::refused_outside, crate::proofs::Meaning::package_done, crate::proofs::Meaning::licenses_done))]
     fn nothing(&self, alloc: Global, args: Args) -> Result<Value, EvalErr>
-        ensures as_package { (s : State) → HostDoes (λ v. v) result s (held_by self.now) (call_by s (held_by self.now) BuildFunction.Package args) }
-        ensures as_licenses { (s : State) → HostDoes (λ v. v) result s (held_by self.now) (call_by s (held_by self.now) BuildFunction.Licenses args) }
+        ensures as_package { (s : State) → HostDoes (λ v. v) result s (held_by self.now) (call_by s (held_by self.now) HostFunction.Package args) }
+        ensures as_licenses { (s : State) → HostDoes (λ v. v) result s (held_by self.now) (call_by s (held_by self.now) HostFunction.Licenses args) }
     {
         let _place = self.place()?;
         ignored(alloc, args)
@@ -319,7 +319,7 @@ impl<'a> BuildHost<'a> {
     fn carry_out(
         &mut self,
         alloc: Global,
-        function: BuildFunction,
+        function: HostFunction,
         args: Args,
         machine: &mut Machine,
     ) -> Result<Value, EvalErr>
@@ -327,13 +327,13 @@ impl<'a> BuildHost<'a> {
         ensures keeps { KeepsIfRefused result (held_by self.old) (held_by self.new) }
     {
         match function {
-            BuildFunction::Glob => self.glob(alloc, args, machine),
-            BuildFunction::PackageName => self.name(alloc, args),
-            BuildFunction::Package => self.nothing(alloc, args),
-            BuildFunction::Licenses => self.nothing(alloc, args),
-            BuildFunction::ExportsFiles => self.exports_files(alloc, args, machine),
-            BuildFunction::PackageGroup => self.package_group(alloc, args, machine),
-            BuildFunction::Rule(rule) => self.rule(alloc, rule, args, machine),
+            HostFunction::Glob => self.glob(alloc, args, machine),
+            HostFunction::PackageName => self.name(alloc, args),
+            HostFunction::Package => self.nothing(alloc, args),
+            HostFunction::Licenses => self.nothing(alloc, args),
+            HostFunction::ExportsFiles => self.exports_files(alloc, args, machine),
+            HostFunction::PackageGroup => self.package_group(alloc, args, machine),
+            HostFunction::Rule(rule) => self.rule(alloc, rule, args, machine),
         }
     }
 }
@@ -361,11 +361,11 @@ impl<'a> Host for BuildHost<'a> {
     fn call(
         &mut self,
         alloc: Global,
-        id: u32,
+        function: HostFunction,
         args: Args,
         machine: &mut Machine,
     ) -> Result<Value, EvalErr> {
-        self.carry_out(alloc, function_of(id), args, machine)
+        self.carry_out(alloc, function, args, machine)
     }
 
     #[tactic(auto, using(crate::proofs::Meaning::rule_refuses), unfolding(crate::specs::Calls::rule_call))]

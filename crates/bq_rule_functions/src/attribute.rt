@@ -74,7 +74,7 @@ fn resolved_default<H: Host>(
     }
 }
 
-/// By the truth of the argument.
+/// Whether a call has to give the attribute, by the truth of `mandatory`.
 fn is_mandatory(store: &Store, value: Option<&Value>) -> bool
     ensures { result ≡ is_mandatory store.now (option_copied value.entry) }
 {

@@ -32,7 +32,7 @@ fn type_of(function: RuleFunction) -> Option<AttributeType>
     }
 }
 
-/// `attr.NAME(..)`
+/// Calls `attr.NAME`: gives a new attribute of a type.
 #[tactic(auto, unfolding(crate::specs::Call::new_attribute))]
 fn new_attribute<H: Host>(
     alloc: Global,
@@ -47,7 +47,7 @@ fn new_attribute<H: Host>(
     Ok(Value::attribute(alloc, attribute)?)
 }
 
-/// `rule(..)`
+/// Calls `rule`: gives a new cell that holds a rule.
 #[tactic(auto, unfolding(crate::specs::Call::new_rule))]
 fn new_rule(
     alloc: Global,
@@ -61,6 +61,7 @@ fn new_rule(
     machine.new_content(Content::rule(class))
 }
 
+/// Declares an attribute or a rule.
 fn declare<H: Host>(
     alloc: Global,
     host: &H,
@@ -76,7 +77,7 @@ fn declare<H: Host>(
     }
 }
 
-/// A call of a function that declares rules.
+/// Calls a function that declares rules.
 #[tactic(auto, using(crate::proofs::Lifting::lifted), unfolding(crate::specs::Call::call_rule_function))]
 pub fn call_rule_function<H: Host>(
     alloc: Global,
@@ -90,7 +91,7 @@ pub fn call_rule_function<H: Host>(
     declare(alloc, host, function, args, machine)
 }
 
-/// The attributes of the rule that a cell holds.
+/// The attributes of the rule that a cell holds, or F40.
 fn class_in(store: &Store, cell: Cell) -> Result<RuleClass, EvalErr>
     ensures { Gives (λ c. c) Bad result (class_in (content_at store.now cell.module cell.number)) }
 {
@@ -103,7 +104,7 @@ fn class_in(store: &Store, cell: Cell) -> Result<RuleClass, EvalErr>
     }
 }
 
-/// The kind of the rule that a cell holds.
+/// The kind of the rule that a cell holds, where its module is frozen and names it.
 fn kind_of(store: &Store, cell: Cell) -> Result<Option<Bytes>, AllocError>
     ensures { IfOk result (λ kind. kind ≡ kind_of store.now cell.module cell.number) }
 {
@@ -113,7 +114,7 @@ fn kind_of(store: &Store, cell: Cell) -> Result<Option<Bytes>, AllocError>
     }
 }
 
-/// A call of a rule of a kind.
+/// Has the host carry out a rule of this kind; F57 where it has none.
 fn call_kind<H: Host>(
     alloc: Global,
     host: &mut H,
@@ -130,7 +131,7 @@ fn call_kind<H: Host>(
     }
 }
 
-/// A call of the rule that a cell holds.
+/// Calls the rule of these attributes that a cell holds; F70 while no BUILD file is evaluated.
 #[tactic(auto, unfolding(crate::specs::Call::call_class))]
 fn call_class<H: Host>(
     alloc: Global,
@@ -149,7 +150,7 @@ fn call_class<H: Host>(
     call_kind(alloc, host, kind, class, args, machine)
 }
 
-/// A call of a cell.
+/// Calls the rule that a cell holds; F40 where it holds none.
 #[tactic(auto, unfolding(crate::specs::Call::call_cell))]
 pub fn call_cell<H: Host>(
     alloc: Global,

@@ -1,5 +1,5 @@
 -- Lists and dicts that are being made (Starlark, "List comprehensions", "Dictionaries"): what they hold so far, and one more.
-use Rattle.std.specs.Prelude.{cond, List, [], ◌∷◌, ◌++◌, is_some, Result, Ok, Err}
+use Rattle.std.specs.Prelude.{cond, [], ◌∷◌, ◌++◌, is_some, Result, Ok, Err}
 use Rattle.bq_source.specs.declared.fault.FaultKind.{FaultKind}
 use Rattle.bq_source.specs.declared.fault.FaultKind.TheVariants.{WrongType, DoubleKey}
 use Rattle.bq_value.specs.Contents.{Contents, items, pairs}

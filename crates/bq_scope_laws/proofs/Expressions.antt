@@ -36,7 +36,6 @@ use Rattle.bq_scope.specs.Visit.{Passed, Visit, ◌>>=◌, pure, given, fault_of
 use Rattle.bq_scope.specs.Expressions.{framed, in_frame, MemberCall, member_call, namespace_at, use_at, target_by, target_to, pair, operation, choice, argument_by, arguments, suffix_by, suffixes, operand, call_member, primary_by, primary, clause_by, clauses, in_block, comprehension, expr_by, expr_to}
 use Rattle.bq_scope_laws.specs.Slots.{most, binding_slots, framed_slots, code_slots, argument_slots, clause_slots, suffix_slots, target_slots, choice_slots, operation_slots, pair_slots}
 use Rattle.bq_scope_laws.proofs.Steps as S
-use Rattle.bq_scope_laws.proofs.Steps.{part_slots}
 use Rattle.bq_scope_laws.proofs.Needs.{Within, within_more, Made, Needs, moved, weaker, needs_pure, needs_stop, needs_given, needs_bind, needs_map, needs_two, needs_three, needs_each, needs_all, part, needs_optional, needs_inside}
 use Rattle.bq_scope_laws.proofs.Uses.{use_needs, name_needs}
 

@@ -1,5 +1,5 @@
 -- The labels that are read in a package are of it, and so are the files that a rule makes.
-use Rattle.std.proofs.Common.{◌≡◌, ◌∙◌, ℕ, Bool, true, false, List, [], Result, Ok, Err, refl, ap, subst}
+use Rattle.std.proofs.Common.{◌≡◌, ◌∙◌, ℕ, true, List, [], Ok, refl, ap, subst}
 use Rattle.std.specs.List.{list_all, list_any}
 use Rattle.std.proofs.lemmas.Slice.Eq.{bytes_eq-Decides}
 use Rattle.bq_source.specs.declared.fault.FaultKind.TheVariants as f
@@ -16,9 +16,8 @@ use Rattle.bq_target.specs.Value.{outputs_of}
 use Rattle.bq_target.specs.Target.{is_of}
 use Rattle.bq_typed.specs.declared.label_texts.TextKind.{TextKind}
 use Rattle.bq_typed.specs.declared.label_texts.TextKind.TheVariants as k
-use Rattle.bq_typed.specs.declared.written.Written.{Written}
 use Rattle.bq_typed.specs.declared.written.Written.TheVariants as w
-use Rattle.bq_typed.specs.Steps.{and_then, in_turn}
+use Rattle.bq_typed.specs.Steps.{in_turn}
 use Rattle.bq_typed.specs.Scope.{own_label_crosses, inside, all_inside}
 use Rattle.bq_typed.specs.Texts.{text_in, texts_in}
 use Rattle.bq_typed.specs.LabelTexts.{named, without_colon, read, read_all, label, labels}

@@ -1,4 +1,4 @@
-use Rattle.std.proofs.Common.{subst, arith}
+use Rattle.std.proofs.Common.{subst}
 use Rattle.bq_eval.specs.Sparse.{IsStrictlySorted}
 use Rattle.bq_eval.proofs.SparseSearch.{sorted_set, binds_set, sorted_insert, binds_insert}
 use Rattle.bq_eval.proofs.sparse.SparseSlots.fill.Goals as goal
