@@ -30,7 +30,7 @@ fn show_loaded(rt: &HostRuntime, found: Result<Loaded, LoadErr>) -> Result<()> {
         Ok(loaded) => {
             show_count(rt, loaded.modules.len())?;
             show_count(rt, target_count(&loaded.packages))?;
-            show_bytes(rt, &loaded.prints)?;
+            show_bytes(rt, &loaded.prints.to_vec(rt.alloc())?)?;
             show_bytes(rt, &loaded.faults.text(rt.alloc())?)
         }
         Err(error) => show_error(rt, &error),

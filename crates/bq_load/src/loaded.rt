@@ -9,6 +9,7 @@ use crate::outcome::ModuleOutcome;
 use crate::packages::packages_in;
 use bq_fault_line::FaultLines;
 use bq_label::Packages;
+use bq_rope::Rope;
 use bq_target::Package;
 use std::alloc::{AllocError, Global};
 
@@ -21,8 +22,8 @@ pub struct Loaded {
     pub packages: Vec<Package>,
     /// A line for each module that failed.
     pub faults: FaultLines,
-    /// `LABEL: TEXT` and a newline for each text that a module printed.
-    pub prints: Vec<u8>,
+    /// `LABEL: TEXT` and a newline for each text that a module printed. Long texts are shared with the modules.
+    pub prints: Rope,
 }
 
 impl Loaded {

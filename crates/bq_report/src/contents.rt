@@ -1,13 +1,14 @@
 //! What is in a workspace that is loaded.
 
 use bq_fault_line::FaultLines;
+use bq_rope::Rope;
 use bq_target::Package;
 
 /// What is in a workspace that is loaded.
 #[derive(Drop)]
 pub struct Contents {
     /// The lines of what its modules printed.
-    pub prints: Vec<u8>,
+    pub prints: Rope,
     /// The lines of its modules' faults.
     pub faults: FaultLines,
     /// Its packages in order; one without targets where the BUILD file has a fault.

@@ -11,6 +11,7 @@ use crate::contents::Contents;
 use crate::ending::{Refusal, Status};
 use crate::reply::{Question, reply_over};
 use bq_fault_line::FaultLines;
+use bq_rope::Rope;
 use bq_target_graph::add_dangling;
 use std::alloc::{AllocError, Global};
 
@@ -18,7 +19,7 @@ use std::alloc::{AllocError, Global};
 #[derive(Drop)]
 pub struct Report {
     /// The lines for the faults writer.
-    pub faults: Vec<u8>,
+    pub faults: Rope,
     /// The lines for the writer.
     pub answer: Vec<u8>,
     pub end: Result<Status, Refusal>,
@@ -35,8 +36,8 @@ fn status_by(lines: &FaultLines) -> Status
 }
 
 /// What the modules printed, and then the lines of all faults, which are given up as they are appended.
-fn fault_text(alloc: Global, mut prints: Vec<u8>, lines: FaultLines) -> Result<Vec<u8>, AllocError>
-    ensures { IfOk result (λ text. text.items ≡ prints.items ++ flat_map line_text lines) }
+fn fault_text(alloc: Global, mut prints: Rope, lines: FaultLines) -> Result<Rope, AllocError>
+    ensures { IfOk result (λ text. text ≡ prints ++ flat_map line_text lines) }
 {
     lines.append_to(alloc, &mut prints)?;
     Ok(prints)

@@ -13,6 +13,7 @@ use bq_label::Workspace;
 use bq_load::{Loaded, OpenGate, load_with};
 use bq_query_check::{CheckedQuery, parse_query};
 use bq_report::{Contents, Question, Refusal, Report, refusal_of, report_on};
+use bq_rope::Rope;
 use bq_schema::Schema;
 use std::alloc::{AllocError, Global};
 use std::sync::Wait;
@@ -23,7 +24,7 @@ fn refused(alloc: Global, why: Refusal) -> Report
     ensures { report_view result ≡ refused why }
 {
     Report {
-        faults: Vec::new(alloc),
+        faults: Rope::new(alloc),
         answer: Vec::new(alloc),
         end: Err(why),
     }
