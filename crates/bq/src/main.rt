@@ -48,7 +48,7 @@ fn refuse_arguments(rt: &impl Eprint, error: &io::Error) -> u8
     if error.kind() == io::ErrorKind::OutOfMemory {
         return report_no_memory(rt);
     }
-    let _ = eprintln!(rt; "error: an argument is no text in UTF-8");
+    let _ = eprintln!(rt; "error: an argument is not valid UTF-8");
     REFUSED
 }
 

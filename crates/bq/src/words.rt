@@ -27,7 +27,7 @@ Examples:
 
 Exit status:
   0  the query was answered, and no file has a fault
-  2  the arguments, the bundle, the query or the schema was refused
+  2  the arguments, the bundle, the query or the schema was refused, or there are too many modules
   3  the query was answered, and standard error lists faults
   4  out of memory
   5  reading the input or writing the output failed"#;

@@ -9,7 +9,7 @@ use crate::source::{refusal, repeated};
 use crate::trees::{expr_text, target_text};
 use bq_parse_cursor::Tokens;
 use bq_parse_expression::{expr_list, phrase, vars};
-use bq_parse_grammar::{TargetExpr, Expr, Nested, SyntaxErr};
+use bq_parse_grammar::{Expr, Nested, SyntaxErr, TargetExpr};
 use bq_source::{Token, TokenKind, lex, tokens_lie_within};
 use std::alloc::{AllocError, Global};
 use std::thread::{Builder, Threads};

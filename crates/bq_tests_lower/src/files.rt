@@ -10,7 +10,7 @@ use crate::trees::{binary_sign, expr_text, target_text};
 use bq_base::{Bytes, SourceErr};
 use bq_parse::parse;
 use bq_parse_grammar::{
-    TargetExpr, Branch, Expr, FileKind, Load, Parameter, SmallKind, SmallStmt, Stmt,
+    Branch, Expr, FileKind, Load, Parameter, SmallKind, SmallStmt, Stmt, TargetExpr,
 };
 use bq_source::lex;
 use std::alloc::{AllocError, Global};
@@ -63,12 +63,7 @@ impl<'a> Printer<'a> {
         self.out.push_str(")")
     }
 
-    fn assign(
-        &mut self,
-        target: &TargetExpr,
-        sign: &str,
-        value: &Expr,
-    ) -> Result<(), AllocError> {
+    fn assign(&mut self, target: &TargetExpr, sign: &str, value: &Expr) -> Result<(), AllocError> {
         write!(self.out, "({sign}=")?;
         self.target(target)?;
         self.expr(value)?;

@@ -10,7 +10,7 @@
 
 use bq_base::Bytes;
 use bq_parse_grammar::{
-    Argument, TargetExpr, Choice, Clause, Comparison, Expr, Operation, Operator, Pair, Suffix,
+    Argument, Choice, Clause, Comparison, Expr, Operation, Operator, Pair, Suffix, TargetExpr,
     UnaryOperator,
 };
 use sqlite_items::Boxed;
@@ -265,7 +265,7 @@ fn clause_parts<'a>(clause: &'a Clause, after: Part<'a>) -> Parts<'a> {
     match clause {
         Clause::For(variables, iterable) => node2(
             "for",
-            Part::Target(variables),
+            Part::TargetExpr(variables),
             Part::Expr(iterable),
             after,
         ),
@@ -291,7 +291,7 @@ fn list_parts(part: Part<'_>) -> Parts<'_> {
         Part::Arguments([first, rest @ ..]) => argument_parts(first, Part::Arguments(rest)),
         Part::Clauses([first, rest @ ..]) => clause_parts(first, Part::Clauses(rest)),
         Part::Targets([first, rest @ ..]) => {
-            parts(Part::Target(first), Part::Targets(rest), Part::Nothing)
+            parts(Part::TargetExpr(first), Part::Targets(rest), Part::Nothing)
         }
         _ => one(Part::Nothing),
     }
@@ -313,7 +313,7 @@ fn write_part<'a>(
         Part::String(bytes) => write!(out, " \"{bytes:?}\""),
         Part::Expr(expr) => ahead.extend_from_slice(&expr_parts(expr)),
         Part::Optional(expr) => ahead.extend_from_slice(&optional_parts(expr)),
-        Part::Target(target) => ahead.extend_from_slice(&target_parts(target)),
+        Part::TargetExpr(target) => ahead.extend_from_slice(&target_parts(target)),
         list => ahead.extend_from_slice(&list_parts(list)),
     }
 }
@@ -349,5 +349,5 @@ pub fn expr_text(alloc: Global, expr: &Expr) -> Result<Vec<u8>, AllocError> {
 
 /// The text of the variables of a `for`.
 pub fn target_text(alloc: Global, target: &TargetExpr) -> Result<Vec<u8>, AllocError> {
-    text_of(alloc, Part::Target(target))
+    text_of(alloc, Part::TargetExpr(target))
 }
