@@ -121,7 +121,15 @@ fn threads_meet<R: Threads + Wait + Sync>(rt: &R, tree: Tree<'_>) -> Result<bool
     let alloc = tree.alloc;
     let gate = Holding::new();
     let graph = discover(alloc, tree.workspace, tree.schema)?;
-    let (pool, mut seats) = Pool::open(alloc, tree.workspace, tree.schema, LIMIT, graph, 2)?;
+    let (pool, mut seats) = Pool::open(
+        alloc,
+        tree.workspace,
+        tree.schema,
+        LIMIT,
+        Seed::fixed(),
+        graph,
+        2,
+    )?;
     let one = seats.pop().unwrap();
     let other = seats.pop().unwrap();
     let (a, b) = both(rt, alloc, &pool, one, other, &gate);
