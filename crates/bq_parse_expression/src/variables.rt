@@ -9,7 +9,7 @@ ghost use Rattle.bq_parse_expression.specs.Nested.{ReadsVar};
 
 use crate::steps::{closed, only};
 use bq_parse_cursor::Tokens;
-use bq_parse_grammar::{TargetExpr, SyntaxErr};
+use bq_parse_grammar::{SyntaxErr, TargetExpr};
 use bq_source::TokenKind;
 use sqlite_items::Items;
 use std::alloc::Global;

@@ -8,7 +8,7 @@ ghost use Rattle.bq_parse_grammar.specs.declared.tree.Expr.{out-Expr};
 ghost use Rattle.bq_parse_grammar.specs.declared.tree.Suffix.{out-Suffix};
 ghost use Rattle.bq_parse_statement.specs.Makes.{Makes, MakesTarget};
 
-use bq_parse_grammar::{TargetExpr, Expr, Suffix, SyntaxErr};
+use bq_parse_grammar::{Expr, Suffix, SyntaxErr, TargetExpr};
 use sqlite_items::{Boxed, Items};
 use std::alloc::{AllocError, Global};
 
@@ -48,10 +48,7 @@ fn indexed_by(
     ensures { Makes (spec.index_of (grammar.primary_of operand suffixes) (out-Suffix last)) result }
 {
     match last {
-        Suffix::Index(index) => Ok(TargetExpr::Index(
-            primary_of(alloc, operand, suffixes)?,
-            index,
-        )),
+        Suffix::Index(index) => Ok(TargetExpr::Index(primary_of(alloc, operand, suffixes)?, index)),
         _ => Err(SyntaxErr::Syntax),
     }
 }

@@ -10,7 +10,7 @@ ghost use Rattle.bq_resolve.specs.Inner.{WalksStatement};
 use crate::expressions::{expr, target};
 use crate::small::{line, misplaced};
 use bq_base::SourceErr;
-use bq_parse_grammar::{TargetExpr, Branch, Expr, Stmt};
+use bq_parse_grammar::{Branch, Expr, Stmt, TargetExpr};
 use bq_resolve_expression::Walk;
 use bq_resolve_scope::{Block, Code, CodeBranch, CodeStmt, CodeTarget, FileNames};
 use sqlite_items::{Boxed, Items};

@@ -5,7 +5,7 @@ ghost use Rattle.bq_resolve_scope.specs.Statements as spec;
 ghost use Rattle.bq_resolve_expression.specs.Walks.{Walks};
 
 use bq_base::SourceErr;
-use bq_parse_grammar::{TargetExpr, Expr};
+use bq_parse_grammar::{Expr, TargetExpr};
 use bq_resolve_expression::{Rules, Walk, expr_to};
 use bq_resolve_scope::{Block, Code, CodeTarget, FileNames, MAX_LAYERS};
 use std::alloc::Global;

@@ -11,7 +11,7 @@ ghost use Rattle.bq_resolve_expression.specs.Walks.{Walks};
 use crate::expressions::{expr, target};
 use crate::load::load;
 use bq_base::{Fault, FaultKind, SourceErr};
-use bq_parse_grammar::{TargetExpr, Expr, Load, Operator, SmallKind, SmallStmt};
+use bq_parse_grammar::{Expr, Load, Operator, SmallKind, SmallStmt, TargetExpr};
 use bq_resolve_expression::Walk;
 use bq_resolve_scope::{Block, CodeSmall, FileNames};
 use sqlite_items::{Boxed, Items};

@@ -5,7 +5,7 @@ ghost use Rattle.bq_resolve_scope.specs.Names as spec;
 
 use crate::names::Names;
 use bq_parse_grammar::{
-    TargetExpr, Branch, Clause, LoadClause, Parameter, SmallKind, SmallStmt, Stmt, TopLevel,
+    Branch, Clause, LoadClause, Parameter, SmallKind, SmallStmt, Stmt, TargetExpr, TopLevel,
 };
 use std::alloc::{AllocError, Global};
 
@@ -14,11 +14,7 @@ pub const MAX_LAYERS: usize = 1024;
 
 /// Adds the names of targets that are no deeper than so many layers.
 #[cycle(targets)]
-fn add_targets_to(
-    names: &mut Names,
-    depth: usize,
-    targets: &[TargetExpr],
-) -> Result<(), AllocError>
+fn add_targets_to(names: &mut Names, depth: usize, targets: &[TargetExpr]) -> Result<(), AllocError>
     ensures { OnOk result (names.new ≡ spec.with_each (spec.with_target_to depth) names.old targets.now) }
 {
     for target in targets {
