@@ -1,5 +1,5 @@
 use Rattle.bq.specs.Runs.{DoesOnDirectory}
-use Rattle.bq.proofs.Runs.{not_read}
+use Rattle.bq.proofs.Directories.{not_read}
 use Rattle.bq.proofs.runs.run_on_directory.Goals as goal
 
 pub returns-in-Ok : goal.returns-in-Ok
