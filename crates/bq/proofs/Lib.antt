@@ -1,4 +1,4 @@
 -- the numbers of options
 pub mod Numbers
 -- a directory that can't be read
-pub mod Runs
+pub mod Directories

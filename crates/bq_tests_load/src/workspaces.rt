@@ -8,6 +8,7 @@ use bq_run::{MAX_JOBS, Metered, Options, OutputForm, RunErr, Status, run, status
 use bq_tests_rows::{is_row, row_of};
 use std::alloc::{AllocError, Global};
 use std::process::Abort;
+use std::random::RandomSource;
 use std::sync::Wait;
 use std::thread::Threads;
 
@@ -42,7 +43,7 @@ fn shown(
 }
 
 /// What a run over a bundle writes by so many workers.
-fn written<R: Threads + Wait + Sync>(
+fn written<R: Threads + Wait + RandomSource + Sync>(
     rt: &R,
     alloc: Global,
     bundle: &[u8],
@@ -89,7 +90,7 @@ fn difference(found: &[u8], wanted: &[u8]) -> usize {
 }
 
 /// A bundle is written as is wanted, by so many workers.
-fn check_written<R: Threads + Wait + Sync + Abort>(
+fn check_written<R: Threads + Wait + RandomSource + Sync + Abort>(
     rt: &R,
     alloc: Global,
     bundle: &[u8],
@@ -107,7 +108,7 @@ fn check_written<R: Threads + Wait + Sync + Abort>(
 }
 
 /// The workspace of a table is written as the table says, by each of these numbers of workers.
-pub fn check_workspace<R: Threads + Wait + Sync + Abort>(
+pub fn check_workspace<R: Threads + Wait + RandomSource + Sync + Abort>(
     rt: &R,
     alloc: Global,
     rows: &str,

@@ -5,6 +5,7 @@ use crate::rows::Row;
 use crate::runs::{Table, check_runs};
 use bq_run::OutputForm;
 use std::alloc::{AllocError, Global};
+use std::random::RandomSource;
 use std::sync::Wait;
 use std::thread::Threads;
 
@@ -24,7 +25,7 @@ fn bundle_of(alloc: Global, packages: u64, files: u64) -> Result<String, AllocEr
 }
 
 /// What is written by one worker over as many packages as cell 0 says, each of which loads as many files as cell 1 says.
-pub fn over_edges<R: Threads + Wait + Sync>(
+pub fn over_edges<R: Threads + Wait + RandomSource + Sync>(
     rt: &R,
     alloc: Global,
     row: Row,

@@ -11,9 +11,9 @@ some_detail (b ∷ bs) h = refl
 
 pub returns-clause-begins : goal.returns-clause-begins
 returns-clause-begins g c =
-    let a = g.W.Sink.contents c.args.writer.now in
-    let b = g.W.Sink.contents c.write_all.new.writer in
-    let d = g.W.Sink.contents c.write_all-2.new.writer in
+    let a = g.W.ByteSink.contents c.args.writer.now in
+    let b = g.W.ByteSink.contents c.write_all.new.writer in
+    let d = g.W.ByteSink.contents c.write_all-2.new.writer in
     subst (λ (t : List ℕ). Begins a d t) (some_detail c.args.detail.now c.if-is_empty.ensures)
     (Begins-more a b d (32 ∷ []) c.args.detail.now c.in_ok-write_all.ensures.whole c.write_all-2.ensures.begins)
 

@@ -10,8 +10,8 @@ use Rattle.bq_run.proofs.status.write_line.Goals as goal
 
 pub returns-in_err-write_all-clause-begins : goal.returns-in_err-write_all-clause-begins
 returns-in_err-write_all-clause-begins g c =
-    let a = g.W.Sink.contents c.args.writer.now in
-    let b = g.W.Sink.contents c.write_all.new.writer in
+    let a = g.W.ByteSink.contents c.args.writer.now in
+    let b = g.W.ByteSink.contents c.write_all.new.writer in
     let title = run_title c.args.error.now in
     let detail = detail_text (error_detail c.args.error.now) in
     Begins-front a b (codes "bq: " ++ title ++ detail) (10 ∷ [])
@@ -19,9 +19,9 @@ returns-in_err-write_all-clause-begins g c =
 
 pub returns-in_err-write_all-2-clause-begins : goal.returns-in_err-write_all-2-clause-begins
 returns-in_err-write_all-2-clause-begins g c =
-    let a = g.W.Sink.contents c.args.writer.now in
-    let b = g.W.Sink.contents c.write_all.new.writer in
-    let d = g.W.Sink.contents c.write_all-2.new.writer in
+    let a = g.W.ByteSink.contents c.args.writer.now in
+    let b = g.W.ByteSink.contents c.write_all.new.writer in
+    let d = g.W.ByteSink.contents c.write_all-2.new.writer in
     let title = run_title c.args.error.now in
     let detail = detail_text (error_detail c.args.error.now) in
     let second = subst (λ (t : List ℕ). Begins b d t) (c.as_bytes.ensures.value ∙ c.title.ensures) c.write_all-2.ensures.begins in
@@ -30,10 +30,10 @@ returns-in_err-write_all-2-clause-begins g c =
 
 pub returns-in_err-write_detail-clause-begins : goal.returns-in_err-write_detail-clause-begins
 returns-in_err-write_detail-clause-begins g c =
-    let a = g.W.Sink.contents c.args.writer.now in
-    let b = g.W.Sink.contents c.write_all.new.writer in
-    let d = g.W.Sink.contents c.write_all-2.new.writer in
-    let e = g.W.Sink.contents c.write_detail.new.writer in
+    let a = g.W.ByteSink.contents c.args.writer.now in
+    let b = g.W.ByteSink.contents c.write_all.new.writer in
+    let d = g.W.ByteSink.contents c.write_all-2.new.writer in
+    let e = g.W.ByteSink.contents c.write_detail.new.writer in
     let title = run_title c.args.error.now in
     let detail = detail_text (error_detail c.args.error.now) in
     let second = subst (λ (t : List ℕ). Appends b d t) (c.as_bytes.ensures.value ∙ c.title.ensures) c.in_ok-write_all-2.ensures.whole in
@@ -43,11 +43,11 @@ returns-in_err-write_detail-clause-begins g c =
 
 pub returns-clause-whole : goal.returns-clause-whole
 returns-clause-whole g c =
-    let a = g.W.Sink.contents c.args.writer.now in
-    let b = g.W.Sink.contents c.write_all.new.writer in
-    let d = g.W.Sink.contents c.write_all-2.new.writer in
-    let e = g.W.Sink.contents c.write_detail.new.writer in
-    let f = g.W.Sink.contents c.write_all-3.new.writer in
+    let a = g.W.ByteSink.contents c.args.writer.now in
+    let b = g.W.ByteSink.contents c.write_all.new.writer in
+    let d = g.W.ByteSink.contents c.write_all-2.new.writer in
+    let e = g.W.ByteSink.contents c.write_detail.new.writer in
+    let f = g.W.ByteSink.contents c.write_all-3.new.writer in
     let title = run_title c.args.error.now in
     let detail = detail_text (error_detail c.args.error.now) in
     let second = subst (λ (t : List ℕ). Appends b d t) (c.as_bytes.ensures.value ∙ c.title.ensures) c.in_ok-write_all-2.ensures.whole in
@@ -59,11 +59,11 @@ returns-clause-whole g c =
 
 pub returns-clause-begins : goal.returns-clause-begins
 returns-clause-begins g c =
-    let a = g.W.Sink.contents c.args.writer.now in
-    let b = g.W.Sink.contents c.write_all.new.writer in
-    let d = g.W.Sink.contents c.write_all-2.new.writer in
-    let e = g.W.Sink.contents c.write_detail.new.writer in
-    let f = g.W.Sink.contents c.write_all-3.new.writer in
+    let a = g.W.ByteSink.contents c.args.writer.now in
+    let b = g.W.ByteSink.contents c.write_all.new.writer in
+    let d = g.W.ByteSink.contents c.write_all-2.new.writer in
+    let e = g.W.ByteSink.contents c.write_detail.new.writer in
+    let f = g.W.ByteSink.contents c.write_all-3.new.writer in
     let title = run_title c.args.error.now in
     let detail = detail_text (error_detail c.args.error.now) in
     let second = subst (λ (t : List ℕ). Appends b d t) (c.as_bytes.ensures.value ∙ c.title.ensures) c.in_ok-write_all-2.ensures.whole in

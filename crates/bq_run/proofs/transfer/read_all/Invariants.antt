@@ -4,7 +4,7 @@ use Rattle.bq_run.proofs.transfer.read_all.Given as goal
 
 abbrev pub invariant-loop-chunk : goal.invariant-loop-chunk
 invariant-loop-chunk g l = record {
-  got : Consumes (g.R.Source.remaining l.fn.reader) (g.R.Source.remaining l.reader) l.bytes.items;
+  got : Consumes (g.R.ByteSource.remaining l.fn.reader) (g.R.ByteSource.remaining l.reader) l.bytes.items;
   quiet : g.R.Counted.failed l.reader ≡ g.R.Counted.failed l.fn.reader;
 }
 
