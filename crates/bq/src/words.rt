@@ -120,7 +120,7 @@ pub enum Asked {
 
 /// The output form of that word, as clap has let it through.
 fn form_of(word: Option<&str>) -> OutputForm
-    ensures { result ≡ form_by (option_map (λ s. s.now) word) }
+    ensures { result ≡ form_by (option_map (λ s. s.now) word.entry) }
 {
     match word {
         None => OutputForm::Label,
