@@ -3,48 +3,39 @@
 //! `--explain`, `bq_run_explain::explain`'s.
 //!
 //! - `words`: the command line;
-//! - `streams`: where the program writes;
-//! - `runs`: runs over a bundle and over a directory;
 //! - `tests`: its tests.
 #![tactic(auto)]
 
-mod runs;
-mod streams;
 #[cfg(test)]
 mod tests;
 mod words;
 
-ghost use Rattle.std.specs.Prelude.{◌≡◌, ◌≢◌, ◌⊎◌, is_ok};
-ghost use Rattle.clap.specs.Words.{kind_of};
-ghost use Rattle.bq.specs.Shown.{printed_status};
 ghost use Rattle.bq_run.specs.Run.{IsInRange};
 
-use bq_run::{ANSWERED, DEVICE_FAILED, Metered, NO_MEMORY, REFUSED, RunErr, end_run};
+use bq_run::{
+    ANSWERED, DEVICE_FAILED, Metered, NO_MEMORY, Options, REFUSED, RunErr, Status, run, run_files,
+    status_code, write_status_line,
+};
+use bq_run_directory::{DirectoryErr, read_directory};
 use bq_run_explain::Explanation;
 use clap::Error;
 use clap::error::ErrorKind;
-use runs::{run_on_bundle, run_on_directory};
 use std::alloc::Global;
 use std::process::ExitCode;
 use std::random::RandomSource;
 use std::sync::Wait;
 use std::thread::Threads;
 use std::{env, io};
-use streams::{standard_answers, standard_faults};
 use words::{Asked, Words, words_of};
 
 /// Writes the error line of a lack of memory, which takes none.
-fn report_no_memory(rt: &impl Eprint) -> u8
-    ensures { result ≡ 4 }
-{
+fn report_no_memory(rt: &impl Eprint) -> u8 {
     let _ = eprintln!(rt; "bq: {}", RunErr::Memory);
     NO_MEMORY
 }
 
 /// Why the arguments could not be read: they are not UTF-8, or there is no memory for them.
-fn refuse_arguments(rt: &impl Eprint, error: &io::Error) -> u8
-    ensures { (result ≡ 2) ⊎ (result ≡ 4) }
-{
+fn refuse_arguments(rt: &impl Eprint, error: &io::Error) -> u8 {
     if error.kind() == io::ErrorKind::OutOfMemory {
         return report_no_memory(rt);
     }
@@ -52,43 +43,88 @@ fn refuse_arguments(rt: &impl Eprint, error: &io::Error) -> u8
     REFUSED
 }
 
-/// The exit status after a text that was asked for.
-fn printed_status(printed: &io::Result<()>) -> u8
-    ensures { result ≡ printed_status (is_ok printed.now) }
-{
-    match printed {
-        Ok(_) => ANSWERED,
-        Err(_) => DEVICE_FAILED,
-    }
-}
-
 /// Prints help on standard output, and why words are refused on standard error.
-fn show<R: Print + Eprint>(rt: &R, error: &Error) -> u8
-    ensures memory { kind_of error.now ≡ ErrorKind.OutOfMemory → result ≡ 4 }
-    ensures help { kind_of error.now ≡ ErrorKind.DisplayHelp → (result ≡ 0) ⊎ (result ≡ 5) }
-    ensures refused { kind_of error.now ≢ ErrorKind.OutOfMemory → kind_of error.now ≢ ErrorKind.DisplayHelp → result ≡ 2 }
-{
+fn show<R: Print + Eprint>(rt: &R, error: &Error) -> u8 {
+    if error.kind() == ErrorKind::OutOfMemory {
+        return report_no_memory(rt);
+    }
+    let printed = error.print(rt);
     match error.kind() {
-        ErrorKind::OutOfMemory => report_no_memory(rt),
-        ErrorKind::DisplayHelp => printed_status(&error.print(rt)),
-        _ => {
-            let _ = error.print(rt);
-            REFUSED
-        }
+        ErrorKind::DisplayHelp if printed.is_err() => DEVICE_FAILED,
+        ErrorKind::DisplayHelp => ANSWERED,
+        _ => REFUSED,
     }
 }
 
 /// Prints what is said of a number.
-fn show_explanation(rt: &impl Print, explanation: &Explanation) -> u8
-    ensures { (result ≡ 0) ⊎ (result ≡ 5) }
-{
+fn show_explanation(rt: &impl Print, explanation: &Explanation) -> u8 {
     let number = explanation.number;
     let name = explanation.name;
     let text = explanation.text;
-    printed_status(&print!(rt; "{number} {name}\n\n{text}"))
+    match print!(rt; "{number} {name}\n\n{text}") {
+        Ok(()) => ANSWERED,
+        Err(_) => DEVICE_FAILED,
+    }
 }
 
-/// Runs as the words say, with threads of that handle, and ends with the error line, if there is one.
+/// Why a run over a directory has no answer.
+fn run_err(error: DirectoryErr) -> RunErr {
+    match error {
+        DirectoryErr::Memory => RunErr::Memory,
+        DirectoryErr::Read => RunErr::Read,
+        DirectoryErr::TooManyFiles => RunErr::Bundle,
+    }
+}
+
+/// Runs over the bundle on standard input, with threads of that handle.
+fn run_on_bundle<T: Threads + Wait + RandomSource + Sync>(
+    rt: &HostRuntime,
+    threads: &T,
+    alloc: Global,
+    options: &Options,
+) -> Result<Status, RunErr>
+    requires { IsInRange options.now }
+{
+    let mut reader = Metered::new(rt.stdin());
+    let mut writer = Metered::new(rt.stdout());
+    let mut faults = Metered::new(rt.stderr());
+    run(
+        threads,
+        alloc,
+        &mut reader,
+        &mut writer,
+        &mut faults,
+        options,
+    )
+}
+
+/// Runs over the files of a directory, with threads of that handle.
+fn run_on_directory<T: Threads + Wait + RandomSource + Sync>(
+    rt: &HostRuntime,
+    threads: &T,
+    alloc: Global,
+    directory: &str,
+    options: &Options,
+) -> Result<Status, RunErr>
+    requires { IsInRange options.now }
+{
+    let workspace = match read_directory(rt, directory) {
+        Ok(workspace) => workspace,
+        Err(error) => return Err(run_err(error)),
+    };
+    let mut writer = Metered::new(rt.stdout());
+    let mut faults = Metered::new(rt.stderr());
+    run_files(
+        threads,
+        alloc,
+        &workspace,
+        &mut writer,
+        &mut faults,
+        options,
+    )
+}
+
+/// Runs as the words say, and ends with the error line, if there is one.
 fn run_by_words<T: Threads + Wait + RandomSource + Sync>(
     rt: &HostRuntime,
     threads: &T,
@@ -97,33 +133,15 @@ fn run_by_words<T: Threads + Wait + RandomSource + Sync>(
 ) -> u8
     requires { IsInRange words.now.options }
 {
-    let options = &words.options;
-    let mut answers = standard_answers(rt);
-    let mut faults = standard_faults(rt);
     let ended = match &words.directory {
-        None => {
-            let mut reader = Metered::new(rt.stdin());
-            run_on_bundle(
-                threads,
-                alloc,
-                &mut reader,
-                &mut answers,
-                &mut faults,
-                options,
-            )
+        None => run_on_bundle(rt, threads, alloc, &words.options),
+        Some(directory) => {
+            run_on_directory(rt, threads, alloc, directory.as_str(), &words.options)
         }
-        Some(directory) => run_on_directory(
-            rt,
-            threads,
-            alloc,
-            directory.as_str(),
-            &mut answers,
-            &mut faults,
-            options,
-        ),
     };
-    let mut errors = standard_faults(rt);
-    end_run(&mut errors.sink, &ended)
+    let mut errors = Metered::new(rt.stderr());
+    let _ = write_status_line(&mut errors, &ended);
+    status_code(&ended)
 }
 
 fn main(rt: HostRuntime) -> ExitCode {

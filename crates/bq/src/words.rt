@@ -1,9 +1,7 @@
 //! The command line.
 
-ghost use Rattle.std.specs.Prelude.{◌≡◌, ◌≤◌, [], IfOk, codes, option_map, string_bytes, unwrap_or};
+ghost use Rattle.std.specs.Prelude.{◌≡◌, IfOk};
 ghost use Rattle.bq_run.specs.Run.{IsInRange};
-ghost use Rattle.bq_load_workers.specs.Workers.{max_workers};
-ghost use Rattle.bq.specs.Words.{Asks, AsksWith, IsNumberOf, form_by, number_text, text_of};
 ghost use Rattle.bq.specs.declared.words.Words.{Words};
 ghost use Rattle.bq.specs.declared.words.Asked.TheVariants.{Answer};
 
@@ -118,80 +116,37 @@ pub enum Asked {
     Explanation(Explanation),
 }
 
-/// The output form of that word, as clap has let it through.
-fn form_of(word: Option<&str>) -> OutputForm
-    ensures { result ≡ form_by (option_map (λ s. s.now) word) }
-{
-    match word {
-        None => OutputForm::Label,
-        Some(word) => {
-            if word.as_bytes() == b"label_kind".as_slice() {
-                OutputForm::LabelKind
-            } else {
-                OutputForm::Label
-            }
-        }
-    }
-}
-
-fn jobs_of(matches: &ArgMatches) -> u32
-    ensures range { (1 ≤ result) × (result ≤ max_workers) }
-    ensures number { IsNumberOf 4 max_workers (number_text matches.now (codes "jobs")) result }
-{
-    matches
-        .get_one::<u32>("jobs")
-        .unwrap_or(DEFAULT_JOBS)
-        .clamp(1, MAX_JOBS)
-}
-
-fn max_steps_of(matches: &ArgMatches) -> u64
-    ensures range { (1 ≤ result) × (result ≤ 1000000000) }
-    ensures number { IsNumberOf 1000000 1000000000 (number_text matches.now (codes "max-steps")) result }
-{
-    matches
-        .get_one::<u64>("max-steps")
-        .unwrap_or(DEFAULT_STEPS)
-        .clamp(1, MAX_STEPS)
-}
-
-fn query_of(alloc: Global, matches: &ArgMatches) -> Result<Vec<u8>, AllocError>
-    ensures { IfOk result (λ q. q.items ≡ unwrap_or (text_of matches.now (codes "query")) []) }
-{
-    match matches.get_str("query") {
-        Some(query) => query.as_bytes().to_vec(alloc),
-        None => Ok(Vec::new(alloc)),
-    }
-}
-
 fn options_of(alloc: Global, matches: &ArgMatches) -> Result<Options, AllocError>
-    ensures range { IfOk result IsInRange }
-    ensures words { IfOk result (AsksWith matches.now) }
+    ensures { IfOk result IsInRange }
 {
+    let jobs = matches.get_one::<u32>("jobs").unwrap_or(DEFAULT_JOBS);
+    let max_steps = matches.get_one::<u64>("max-steps").unwrap_or(DEFAULT_STEPS);
+    let output = match matches.get_str("output") {
+        Some("label_kind") => OutputForm::LabelKind,
+        _ => OutputForm::Label,
+    };
     Ok(Options {
-        query: query_of(alloc, matches)?,
-        jobs: jobs_of(matches),
-        output: form_of(matches.get_str("output")),
-        max_steps: max_steps_of(matches),
+        query: matches
+            .get_str("query")
+            .unwrap_or("")
+            .as_bytes()
+            .to_vec(alloc)?,
+        jobs: jobs.clamp(1, MAX_JOBS),
+        output,
+        max_steps: max_steps.clamp(1, MAX_STEPS),
     })
 }
 
-fn directory_of(alloc: Global, matches: &ArgMatches) -> Result<Option<String>, AllocError>
-    ensures { IfOk result (λ d. option_map string_bytes d ≡ text_of matches.now (codes "dir")) }
+fn query_of(alloc: Global, matches: &ArgMatches) -> Result<Words, AllocError>
+    ensures { IfOk result (λ w. IsInRange w.options) }
 {
-    match matches.get_str("dir") {
-        Some(directory) => Ok(Some(String::from_str(alloc, directory)?)),
-        None => Ok(None),
-    }
-}
-
-/// A query, and where its workspace is, by the words.
-fn asked_query(alloc: Global, matches: &ArgMatches) -> Result<Words, AllocError>
-    ensures range { IfOk result (λ w. IsInRange w.options) }
-    ensures words { IfOk result (Asks matches.now) }
-{
+    let directory = match matches.get_str("dir") {
+        Some(directory) => Some(String::from_str(alloc, directory)?),
+        None => None,
+    };
     Ok(Words {
         options: options_of(alloc, matches)?,
-        directory: directory_of(alloc, matches)?,
+        directory,
     })
 }
 
@@ -215,6 +170,6 @@ pub fn words_of(alloc: Global, words: &[String]) -> Result<Asked, Error>
     let matches = command(alloc)?.try_get_matches_from(words)?;
     match matches.get_str("explain") {
         Some(number) => Ok(Asked::Explanation(explanation_of(alloc, number)?)),
-        None => Ok(Asked::Answer(asked_query(alloc, &matches)?)),
+        None => Ok(Asked::Answer(query_of(alloc, &matches)?)),
     }
 }

@@ -1,8 +1,7 @@
 //! How runs over directories end.
 
 use super::lines::words_in;
-use crate::runs::run_on_directory;
-use crate::streams::{standard_answers, standard_faults};
+use crate::run_on_directory;
 use crate::words::{Asked, words_of};
 use bq_run::{RunErr, Status, status_of};
 use bq_tests_rows::{is_row, row_of, wanted_of};
@@ -44,15 +43,7 @@ fn ending<T: Threads + Wait + RandomSource + Sync>(
     let Some(directory) = &words.directory else {
         return b"no directory".to_vec(alloc);
     };
-    let ended = run_on_directory(
-        rt,
-        threads,
-        alloc,
-        directory.as_str(),
-        &mut standard_answers(rt),
-        &mut standard_faults(rt),
-        &words.options,
-    );
+    let ended = run_on_directory(rt, threads, alloc, directory.as_str(), &words.options);
     shown(alloc, &ended)
 }
 
