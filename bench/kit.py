@@ -1,13 +1,17 @@
-"""What the scripts in bench/ share: the crates of the repository, a room outside it where one of them is checked, and the page of
-figures."""
+"""What the scripts in bench/ share: the crates of the repository, a room outside it where one of them is checked, what a run takes, and
+the page of figures."""
+import collections
 import contextlib
 import datetime
 import io
 import os
 import re
+import resource
 import shutil
+import subprocess
 import sys
 import tempfile
+import time
 from contextlib import contextmanager
 
 ROOT = os.path.dirname(os.path.dirname(os.path.realpath(__file__)))
@@ -53,6 +57,24 @@ def room(name, known, keeps=False):
             if (keeps or crate != name) and os.path.isdir(kept):
                 shutil.copytree(kept, kept.replace(ROOT, folder, 1), symlinks=True)
         yield f"{folder}/crates/{name}"
+
+
+Run = collections.namedtuple("Run", "clock seconds peak answer")
+
+
+def timed(command, stdin=os.devnull, folder=None):
+    """Runs a command: its seconds by the clock, its processor seconds, its bytes at the peak, and what it writes."""
+    # GNU time starts the program: a child of this process would be charged with the interpreter's memory
+    with open(stdin, "rb") as given, tempfile.NamedTemporaryFile() as report:
+        before, start = resource.getrusage(resource.RUSAGE_CHILDREN), time.monotonic()
+        ended = subprocess.run(
+            ["/usr/bin/time", "-q", "-f", "%M", "-o", report.name, *command], stdin=given, capture_output=True, cwd=folder
+        )
+        clock, after = time.monotonic() - start, resource.getrusage(resource.RUSAGE_CHILDREN)
+        if ended.returncode != 0:
+            sys.exit(f"{command[0]}: status {ended.returncode}: {ended.stderr.decode()[-300:]}")
+        seconds = after.ru_utime + after.ru_stime - before.ru_utime - before.ru_stime
+        return Run(clock, seconds, int(report.read()) * 1024, ended.stdout)
 
 
 def machine():
