@@ -43,7 +43,7 @@ impl Content {
         }
     }
 
-    /// A dict has no key twice.
+    /// States, for proofs, that a dict has no key twice.
     pub(crate) fn keys_differ(&self)
         ensures { KeysDiffer (Some self.now) }
     {

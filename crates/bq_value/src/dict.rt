@@ -14,16 +14,17 @@ use std::alloc::{AllocError, Global};
 use std::marker::Model;
 use std::mem;
 
-/// Pairs with distinct keys, in the order in which the keys came. Contracts see the list of the pairs.
+/// Pairs with distinct keys, in the order in which the keys were inserted. Contracts see the list of the pairs.
 ///
-/// Places at the front are left empty, with their keys and without their values, until they are half of all: so no pair moves
-/// where the first one is taken out. A key of theirs that comes again goes last, and its place gets a key that nothing has.
+/// Removing one of the first pairs moves none: its place is left empty at the front, with its key and without its
+/// value, until half of all places are empty. Where the key of an empty place is inserted again, it goes last, and a
+/// key that the dict doesn't have takes the empty place.
 #[derive(Drop)]
 pub struct Dict {
     entries: IndexMap<Key, Value, Seed>,
     /// How many places at the front are empty.
     gone: usize,
-    /// The integer that is tried next for a key that nothing has.
+    /// The integer that is tried next as a key that the dict doesn't have.
     next: i64,
 }
 
@@ -42,7 +43,7 @@ impl Model for Dict {
 }
 
 impl Dict {
-    /// `{}`, whose keys are found by this seed.
+    /// Returns `{}`, which hashes its keys by `seed`.
     pub fn new(alloc: Global, seed: Seed) -> Dict
         ensures { result ≡ [] }
     {
@@ -53,21 +54,21 @@ impl Dict {
         }
     }
 
-    /// No key is twice.
+    /// States, for proofs, that no key is there twice.
     pub(crate) fn has_no_key_twice(&self)
         ensures { HasNoKeyTwice self.now }
     {
         let _len = self.entries.len(); // PROOF: the map says so
     }
 
-    /// How many pairs.
+    /// Returns the number of pairs.
     pub fn len(&self) -> usize
         ensures { result ≡ length self.now }
     {
         self.entries.len() - self.gone
     }
 
-    /// The value of a key.
+    /// Returns the value of `key`.
     pub fn get(&self, key: &Key) -> Option<&Value>
         ensures { option_copied result ≡ found key.now self.now }
     {
@@ -77,7 +78,7 @@ impl Dict {
         self.entries.get(key)
     }
 
-    /// The pair at a place in the order.
+    /// Returns the pair at `index`, in the order.
     pub fn pair(&self, index: usize) -> (&Key, &Value)
         requires { index < length self.now }
         ensures { drop index self.now ≡ deref_pair result ∷ drop (index + 1) self.now }
@@ -86,7 +87,7 @@ impl Dict {
         self.entries.get_index(self.gone + index).unwrap()
     }
 
-    /// Gives a key this value, and answers the one that it had. A new key goes last.
+    /// Sets the value of `key`, and returns its value before. A new key goes last.
     pub fn insert(&mut self, key: Key, value: Value) -> Result<Option<Value>, AllocError>
         ensures before { IfOk result (λ before. before ≡ found key self.old) }
         ensures after { OnOk result (self.new ≡ put key value self.old) }
@@ -96,7 +97,7 @@ impl Dict {
         Ok(self.entries.insert(key, value)?)
     }
 
-    /// Takes a key and its value out. The others keep their order.
+    /// Removes `key`, and returns its value. The other pairs keep their order.
     pub fn remove(&mut self, key: &Key) -> Option<Value>
         ensures before { result ≡ found key.now self.old }
         ensures after { self.new ≡ without key.now self.old }
@@ -113,7 +114,7 @@ impl Dict {
         Some(value)
     }
 
-    /// Takes all pairs out.
+    /// Removes all pairs.
     pub fn clear(&mut self)
         ensures { self.new ≡ [] }
     {
@@ -122,7 +123,7 @@ impl Dict {
     }
 }
 
-/// A key stands in one of the places that are empty.
+/// Returns whether `key` is in one of the empty places.
 fn is_gone(entries: &IndexMap<Key, Value, Seed>, gone: usize, key: &Key) -> bool
     requires { gone ≤ index_map_len entries.now }
     ensures before { result ≡ is_some (found key.now (take gone entries.now.entries)) }
@@ -137,7 +138,7 @@ fn is_gone(entries: &IndexMap<Key, Value, Seed>, gone: usize, key: &Key) -> bool
     }
 }
 
-/// An integer that is no key here. Each that was tried is tried once more only after all others.
+/// Returns an integer that is no key here. One that was tried is tried again only after all others.
 fn absent_key(entries: &IndexMap<Key, Value, Seed>, next: &mut i64) -> Option<Key>
     ensures { IfSome result (λ key. found key entries.now.entries ≡ None) }
 {
@@ -151,7 +152,7 @@ fn absent_key(entries: &IndexMap<Key, Value, Seed>, next: &mut i64) -> Option<Ke
     None
 }
 
-/// Takes a key out of the places that are empty, if it is there: a new key gets its place. The answer is how many are empty.
+/// Puts another key into the empty place of `key`, if it is in one. Returns how many places are empty then.
 fn without_key(
     entries: &mut IndexMap<Key, Value, Seed>,
     gone: usize,
@@ -176,7 +177,7 @@ fn without_key(
     Ok(gone)
 }
 
-/// Takes the value out at an index, and moves its place to the end of those that are empty.
+/// Takes the value out at `index`, and moves its place to the end of the empty ones.
 fn take_early(entries: &mut IndexMap<Key, Value, Seed>, gone: usize, index: usize) -> Value
     requires after { gone ≤ index }
     requires within { index < index_map_len entries.old }
@@ -189,7 +190,7 @@ fn take_early(entries: &mut IndexMap<Key, Value, Seed>, gone: usize, index: usiz
     value
 }
 
-/// Closes up the empty places where they are more than half. The answer is how many are left.
+/// Removes the empty places where they are more than half. Returns how many are left.
 fn without_many(entries: &mut IndexMap<Key, Value, Seed>, gone: usize) -> usize
     requires { gone ≤ index_map_len entries.old }
     ensures pairs { drop result entries.new.entries ≡ drop gone entries.old.entries }
@@ -202,7 +203,7 @@ fn without_many(entries: &mut IndexMap<Key, Value, Seed>, gone: usize) -> usize
     0
 }
 
-/// Takes the places at the front out.
+/// Removes the empty places.
 fn close_up(entries: &mut IndexMap<Key, Value, Seed>, gone: usize)
     requires { gone ≤ index_map_len entries.old }
     ensures { entries.new.entries ≡ drop gone entries.old.entries }

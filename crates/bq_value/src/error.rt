@@ -6,12 +6,12 @@ ghost use Rattle.bq_value.specs.declared.error.EvalErr.TheVariants.{Bad, Memory}
 use bq_base::FaultKind;
 use std::alloc::{AllocError, AllocFailed};
 
-/// Two plain words: the line and the detail of a fault are known where it leaves the evaluation.
+/// Neither case has a line or a detail: these are known where the fault leaves the evaluation.
 #[derive(Clone, Copy, Debug, PartialEq, Eq)]
 pub enum EvalErr {
     /// The program is faulty.
     Bad(FaultKind),
-    /// Memory was refused. It says nothing of the program.
+    /// Memory was refused, which says nothing about the program.
     Memory,
 }
 

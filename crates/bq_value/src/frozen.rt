@@ -34,21 +34,21 @@ impl Model for Frozen {
 }
 
 impl Frozen {
-    /// The module's number.
+    /// Returns the module's number.
     pub fn module(&self) -> u32
         ensures { result ≡ self.now.own }
     {
         self.own
     }
 
-    /// The values of its globals.
+    /// Returns the values of the module's globals.
     pub fn globals(&self) -> &[Value]
         ensures { result.now ≡ self.now.cells.globals }
     {
         self.cells.globals()
     }
 
-    /// The values of the globals of a module: of this one, or of one that it reaches.
+    /// Returns the values of the globals of module `home`, if it is this one or one that it reaches.
     #[tactic(auto, unfolding(crate::specs::Cells::globals_at))]
     pub fn globals_of(&self, home: u32) -> Option<&[Value]>
         ensures { MatchOption result (globals_at self.now home ≡ None) (λ g. globals_at self.now home ≡ Some g.now) }
@@ -59,7 +59,7 @@ impl Frozen {
         self.reached.globals(home)
     }
 
-    /// What a cell holds.
+    /// Returns what `cell` holds.
     #[tactic(auto, unfolding(crate::specs::Cells::frozen_at))]
     pub fn content(&self, cell: Cell) -> Option<&Content>
         ensures { MatchOption result (frozen_at self.now cell.module cell.number ≡ None) (λ c. frozen_at self.now cell.module cell.number ≡ Some c.now) }
@@ -71,8 +71,8 @@ impl Frozen {
     }
 }
 
-/// Ends a module's evaluation, where its globals have these names and values: each cell stays as it is, and none is copied. After
-/// the values of the globals come those that the module loads.
+/// Ends the evaluation of a module whose globals have these names and values: each cell stays as it is, and none is
+/// copied. `globals` has the values of the globals first, and then those that the module loads.
 pub fn freeze(
     alloc: Global,
     store: Store,

@@ -34,7 +34,7 @@ impl Model for Key {
 }
 
 impl Key {
-    /// The key of a value that may be one.
+    /// Makes a key of a value that may be one.
     pub fn new(value: Value) -> Key
         requires { IsKey value }
         ensures { result ≡ value }
@@ -42,7 +42,7 @@ impl Key {
         Key { value }
     }
 
-    /// The key as a value.
+    /// Returns the value of the key.
     pub fn value(&self) -> &Value
         ensures same { result.now ≡ self.now }
         ensures key { IsKey self.now }
@@ -50,7 +50,7 @@ impl Key {
         &self.value
     }
 
-    /// The same key once more. It is refused where 2^63 owners are alive.
+    /// Returns another owner of the key. Fails where 2^63 owners are alive.
     pub fn share(&self) -> Result<Key, AllocError>
         ensures { IfOk result (λ k. k ≡ self.now) }
     {

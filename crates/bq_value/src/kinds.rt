@@ -1,4 +1,4 @@
-//! The kinds of rules (Bazel, "rule"): a rule has the name of the first of the globals of its own module that holds it.
+//! The kinds of rules (Bazel, "rule"): the name of a rule is that of the first global of its own module that holds it.
 
 ghost use Rattle.std.specs.Prelude.{◌≡◌, [], option_copied, IfOk, OnOk};
 ghost use Rattle.bq_value.specs.Kinds.{kind_at, is_rule, rule_number, with_kind, kinds_of};
@@ -35,14 +35,14 @@ impl Kinds {
         }
     }
 
-    /// The kind of the rule in the cell of this number.
+    /// Returns the kind of the rule in the cell of this number.
     pub(crate) fn get(&self, number: usize) -> Option<&Bytes>
         ensures { option_copied result ≡ kind_at number self.now }
     {
         self.names.get(&number)
     }
 
-    /// Gives the rule of this number the name, where it has none.
+    /// Names the rule of this number, if it has no name yet.
     #[tactic(auto, unfolding(crate::specs::Kinds::with_kind))]
     fn add(&mut self, number: Option<usize>, name: &Bytes) -> Result<(), AllocError>
         ensures { OnOk result (self.new ≡ with_kind self.old number name.now) }
@@ -73,7 +73,7 @@ fn is_rule(content: Option<&Content>) -> bool
     }
 }
 
-/// The number of the cell that a value is, where that is one of these cells of this module, and holds a rule.
+/// Returns the number of the cell that `value` is, if that is one of these cells of module `own`, and holds a rule.
 #[tactic(auto, unfolding(crate::specs::Kinds::rule_number))]
 fn rule_number(own: u32, cells: &[Content], value: &Value) -> Option<usize>
     ensures { result ≡ rule_number own cells.now value.now }
@@ -89,7 +89,7 @@ fn rule_number(own: u32, cells: &[Content], value: &Value) -> Option<usize>
     }
 }
 
-/// The kinds of the rules of a module with these cells, where its globals have these names and values.
+/// Returns the kinds of the rules of a module with these cells and these globals.
 #[tactic(auto, unfolding(crate::specs::Kinds::kinds_of))]
 pub(crate) fn kinds_of(
     alloc: Global,

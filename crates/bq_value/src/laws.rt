@@ -16,17 +16,17 @@ ghost use Rattle.bq_value.specs.Lending.{with_cell};
 use crate::store::Store;
 use crate::value::Cell;
 
-/// Keys are equal just where they are one value.
+/// Keys are equal exactly where they are one value.
 pub fn equality_of_keys()
     ensures { (j k : Datum) → (same j k ≡ true) ↔ (j ≡ k) }
 {}
 
-/// A range has just the elements that lie before its end.
+/// A range has exactly the elements that lie before its end.
 pub fn elements_of_a_range()
     ensures { (start stop step : ℤ) (k : ℕ) → step ≢ pos 0 → (k < range_count start stop step) ↔ IsBefore (range_element start step k) stop step }
 {}
 
-/// A key that was put has the new value; every other key has the value that it had.
+/// A key that was inserted has the new value; every other key has the value that it had.
 pub fn a_pair_that_is_put()
     ensures value { (k v : Datum) (pairs : List (Datum × Datum)) → found k (put k v pairs) ≡ Some v }
     ensures others { (j k v : Datum) (pairs : List (Datum × Datum)) → j ≢ k → found j (put k v pairs) ≡ found j pairs }
@@ -37,13 +37,13 @@ pub fn places_of_keys()
     ensures { (k v : Datum) (pairs : List (Datum × Datum)) → keys (put k v pairs) ≡ cond (is_some (found k pairs)) (keys pairs) (keys pairs ++ k ∷ []) }
 {}
 
-/// Taking out a key takes out its pair alone, and keeps the order of the rest.
+/// Removing a key removes its pair alone, and keeps the order of the rest.
 pub fn a_key_that_is_taken_out()
     ensures there { (k v : Datum) (pairs : List (Datum × Datum)) → found k pairs ≡ Some v → TakenOut k v pairs (without k pairs) }
     ensures absent { (k : Datum) (pairs : List (Datum × Datum)) → found k pairs ≡ None → without k pairs ≡ pairs }
 {}
 
-/// No key is twice in `{}`, and putting a pair and taking one out keep it so.
+/// No key is twice in `{}`, and inserting or removing a pair keeps it so.
 pub fn keys_stay_distinct()
     ensures empty { HasNoKeyTwice [] }
     ensures put { (k v : Datum) (pairs : List (Datum × Datum)) → HasNoKeyTwice pairs → HasNoKeyTwice (put k v pairs) }
@@ -64,16 +64,16 @@ pub fn freezing_keeps_every_cell()
     ensures { (s : StoreView) (names : List (List ℕ)) (globals : List Datum) (home number : ℕ) → frozen_at (frozen s names globals) home number ≡ content_at s home number }
 {}
 
-/// A rule of a frozen module has as its kind the name of the first of that module's globals, in order, that is the rule, and no
-/// kind where none is. Who loads the module finds that kind, whatever it calls the rule; in the module itself, which isn't frozen
-/// yet, the rule has none.
+/// A rule of a frozen module has as its kind the name of the first of that module's globals, in order, that is the
+/// rule; it has no kind if no global is. Whoever loads the module finds that kind, whatever name it gives the rule. In
+/// the module itself, which isn't frozen yet, the rule has none.
 pub fn a_kind_is_the_first_name()
     ensures frozen { (s : StoreView) (names : List (List ℕ)) (globals : List Datum) (number : ℕ) (class : Class) → content_at s s.own number ≡ Some (rule class) → kind_at number (frozen s names globals).cells.kinds ≡ first_holding (cell s.own number) names globals }
     ensures loaded { (s t : StoreView) (names : List (List ℕ)) (globals : List Datum) (number : ℕ) (class : Class) → t.own ≢ s.own → module_at t.own s.loaded ≡ None → content_at t t.own number ≡ Some (rule class) → kind_of (with_loaded (fold added s.loaded (brought (frozen t names globals))) s) t.own number ≡ first_holding (cell t.own number) names globals }
     ensures own { (s : StoreView) (number : ℕ) → kind_of s s.own number ≡ None }
 {}
 
-/// What is reached after a load is by its number what was there before, or else what the load brings.
+/// A module that is reached after a load is the one that had its number before, or else the one that the load brings.
 pub fn modules_after_a_load()
     ensures { (home : ℕ) (before brings : Modules) → module_at home (fold added before brings) ≡ option_or (module_at home before) (module_at home brings) }
 {}

@@ -1,5 +1,5 @@
-//! Values as data: what a value is, how it is shared and given up, the keys of dicts, and the lists, dicts and rules that a
-//! module makes, while it runs and once it is frozen.
+//! Values as data: what a value is, how it is shared and dropped, the keys of dicts, and the lists, dicts and rules
+//! that a module makes, while it runs and once it is frozen.
 //!
 //! The promise: a store and a frozen module are finite maps from cells to lists, dicts and rules (`content_at`, `frozen_at`,
 //! `specs/Cells.antt`); nothing changes a cell of another module, and freezing keeps every cell and names the rules
@@ -12,10 +12,10 @@
 //!
 //! In reading order:
 //!
-//! - `value`: the eleven kinds of values, their sharing and their end;
+//! - `value`: the eleven kinds of values, how they are shared and dropped;
 //! - `range`: how many elements a range has, and when two have the same;
-//! - `same`, `key`: when two keys are one, and what they feed to a hash;
-//! - `dict`: pairs with distinct keys in the order in which the keys came;
+//! - `same`, `key`: when two keys are one, and what a key feeds to a hasher;
+//! - `dict`: pairs with distinct keys in the order in which the keys were inserted;
 //! - `content`: what a cell holds;
 //! - `kinds`: by which names rules are called;
 //! - `shared`, `tree`, `modules`, `frozen`: modules whose evaluation has ended, each shared by all that reach it;

@@ -13,7 +13,7 @@ use bq_base::Bytes;
 use std::alloc::{AllocError, Global};
 use std::marker::Model;
 
-/// Contracts see the list of the modules with their numbers, in the order of the numbers.
+/// Frozen modules. Contracts see the list of them with their numbers, in the order of the numbers.
 ///
 /// All numbers are below 2^height.
 #[derive(Drop)]
@@ -48,7 +48,7 @@ impl Modules {
         }
     }
 
-    /// What a cell of one of these modules holds.
+    /// Returns what `cell` holds, if it is of one of these modules.
     pub(crate) fn content(&self, cell: Cell) -> Option<&Content>
         ensures { MatchOption result (cell_of cell.number (module_at cell.module self.now) ≡ None) (λ c. cell_of cell.number (module_at cell.module self.now) ≡ Some c.now) }
     {
@@ -58,7 +58,7 @@ impl Modules {
         }
     }
 
-    /// The kind of the rule in a cell of one of these modules.
+    /// Returns the kind of the rule in `cell`, if it is of one of these modules.
     pub(crate) fn kind(&self, cell: Cell) -> Option<&Bytes>
         ensures { option_copied result ≡ kind_in cell.number (module_at cell.module self.now) }
     {
@@ -68,7 +68,7 @@ impl Modules {
         }
     }
 
-    /// The values of the globals of one of these modules.
+    /// Returns the values of the globals of module `home`, if it is here.
     pub(crate) fn globals(&self, home: u32) -> Option<&[Value]>
         ensures { MatchOption result (globals_of (module_at home self.now) ≡ None) (λ g. globals_of (module_at home self.now) ≡ Some g.now) }
     {
@@ -84,7 +84,7 @@ impl Modules {
         self.tree.get(self.height, 0, home)
     }
 
-    /// Takes a share of a module, if it isn't there.
+    /// Adds a module, if none of its number is here.
     pub(crate) fn add(&mut self, home: u32, shared: &Shared) -> Result<(), AllocError>
         ensures ok { OnOk result (self.new ≡ added self.old (home, shared.now)) }
         ensures err { OnErr result (self.new ≡ self.old) }
@@ -101,7 +101,7 @@ impl Modules {
         }
     }
 
-    /// Takes a share of each of these modules that isn't there.
+    /// Adds each of the other modules whose number isn't here.
     pub(crate) fn add_all(&mut self, others: &Modules) -> Result<(), AllocError>
         ensures { OnOk result (self.new ≡ fold added self.old others.now) }
     {
@@ -118,8 +118,8 @@ impl Modules {
     }
 }
 
-/// A tree of all modules of the first, of height `from`, and of those of the other, of height `to`, whose numbers the first
-/// doesn't have; `None` where it has all.
+/// Returns a tree of all modules of the first, which has the height `from`, and of those of the other, which has the
+/// height `to`, whose numbers the first doesn't have; `None` if it has all of them.
 fn joined(
     alloc: Global,
     tree: &Tree,
@@ -136,7 +136,7 @@ fn joined(
     tree.joined(alloc, to, other)
 }
 
-/// The same modules in a tree for a longer range of numbers.
+/// Returns a tree of the same modules for a longer range of numbers.
 fn raised(alloc: Global, tree: &Tree, from: u32, to: u32) -> Result<Tree, AllocError>
     requires longer { from ≤ to }
     requires shaped { IsShaped tree.now from }
@@ -150,7 +150,7 @@ fn raised(alloc: Global, tree: &Tree, from: u32, to: u32) -> Result<Tree, AllocE
     Ok(longer)
 }
 
-/// The least height of a tree for a range from 0 on that has this number.
+/// Returns the least height of a tree, for a range from 0 on, that has room for this number.
 fn height_of(home: u32) -> u32
     ensures fits { result ≤ 32 }
     ensures within { home < 2 ^ result }

@@ -12,7 +12,7 @@ pub struct Range {
 }
 
 impl Range {
-    /// How many elements. A range of step 0, which no program makes, has none.
+    /// Returns the number of elements. A range of step 0, which no program makes, has none.
     #[tactic(auto, unfolding(crate::specs::Range::range_count))]
     pub fn count(self) -> u64
         ensures { result ≡ range_count self.start self.stop self.step }
@@ -26,7 +26,7 @@ impl Range {
         }
     }
 
-    /// Whether two ranges have the same elements (Starlark, "Comparisons").
+    /// Returns whether two ranges have the same elements (Starlark, "Comparisons").
     #[tactic(auto, unfolding(crate::specs::Range::ranges_same))]
     pub fn equals(self, other: Range) -> bool
         ensures { result ≡ ranges_same self.start self.stop self.step other.start other.stop other.step }
@@ -38,7 +38,7 @@ impl Range {
     }
 }
 
-/// How many steps of that size stand from one integer up to below another.
+/// Returns how many steps of size `step` lead from `low` up to below `high`.
 #[tactic(auto, unfolding(crate::specs::Range::steps_between))]
 fn steps(low: i64, high: i64, step: i64) -> u64
     requires { step ≢ pos 0 }

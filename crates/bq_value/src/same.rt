@@ -1,4 +1,4 @@
-//! When two values are the same in each part, and what one feeds to a hash. Dicts look keys up by these.
+//! When two values are the same in each part, and what a value feeds to a hasher. Dicts find their keys by these.
 
 ghost use Rattle.std.specs.Prelude.{◌≡◌, fold};
 ghost use Rattle.bq_value.specs.Datum.{none, boolean, int, string, tuple, range, cell, function, built_in, rule_function, attribute, data_of};
@@ -12,7 +12,7 @@ use bq_resolve_predeclared::RuleFunction;
 use std::hash::{Hash, Hasher};
 
 impl Value {
-    /// Whether this is `None`.
+    /// Returns whether this is `None`.
     pub fn is_none(&self) -> bool
         ensures { result ≡ same none self.now }
     {
@@ -22,7 +22,7 @@ impl Value {
         }
     }
 
-    /// Whether this is that truth value.
+    /// Returns whether this is the truth value `b`.
     pub fn is_bool(&self, b: bool) -> bool
         ensures { result ≡ same (boolean b) self.now }
     {
@@ -32,7 +32,7 @@ impl Value {
         }
     }
 
-    /// Whether this is that integer.
+    /// Returns whether this is the integer `n`.
     pub fn is_int(&self, n: i64) -> bool
         ensures { result ≡ same (int n) self.now }
     {
@@ -42,7 +42,7 @@ impl Value {
         }
     }
 
-    /// Whether this is the string of these bytes.
+    /// Returns whether this is the string of these bytes.
     pub fn is_string(&self, bytes: &[u8]) -> bool
         ensures { result ≡ same (string bytes.now) self.now }
     {
@@ -52,7 +52,7 @@ impl Value {
         }
     }
 
-    /// Whether this is the built-in function of that name.
+    /// Returns whether this is the built-in function of that name.
     pub fn is_built_in(&self, name: &[u8]) -> bool
         ensures { result ≡ same (built_in name.now) self.now }
     {
@@ -62,7 +62,7 @@ impl Value {
         }
     }
 
-    /// Whether this is that function that declares rules.
+    /// Returns whether this is `function`.
     pub fn is_rule_function(&self, function: RuleFunction) -> bool
         ensures { result ≡ same (rule_function function) self.now }
     {
@@ -72,7 +72,7 @@ impl Value {
         }
     }
 
-    /// Whether this is an attribute of the same type, mandatory as that one, and with the same default.
+    /// Returns whether this is an attribute of the same type, with the same default, that is mandatory if `parts` is.
     pub fn is_attribute(&self, parts: &Attribute) -> bool
         ensures { result ≡ same (attribute parts.now) self.now }
     {
@@ -83,7 +83,7 @@ impl Value {
     }
 }
 
-/// Functions that declare rules, by numbers.
+/// Returns a number for each function that declares rules.
 fn number_of(function: RuleFunction) -> u8
     ensures { result ≡ number_of function }
 {

@@ -72,7 +72,7 @@ impl Shared {
         self.cells.contents.get(number)
     }
 
-    /// The kind of the rule in a cell.
+    /// Returns the kind of the rule in a cell.
     pub(crate) fn kind(&self, number: usize) -> Option<&Bytes>
         ensures { option_copied result ≡ kind_at number self.now.kinds }
     {

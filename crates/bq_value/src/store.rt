@@ -22,7 +22,7 @@ pub struct Store {
     pub(crate) own: u32,
     pub(crate) cells: Vec<Content>,
     pub(crate) loaded: Modules,
-    /// By which the keys of its dicts are found.
+    /// What the keys of its dicts are hashed by.
     seed: Seed,
 }
 
@@ -39,7 +39,7 @@ impl Model for Store {
 }
 
 impl Store {
-    /// The store of a module that has made no cell and loaded nothing. Its dicts find their keys by this seed.
+    /// Makes the store of a module that has made no cell and loaded nothing. Its dicts hash their keys by `seed`.
     pub fn new(alloc: Global, own: u32, seed: Seed) -> Store
         ensures { result ≡ record { own = own; cells = []; loaded = [] } }
     {
@@ -51,19 +51,20 @@ impl Store {
         }
     }
 
-    /// By which the keys of new dicts are found.
+    /// Returns what the keys of new dicts are hashed by.
     pub fn seed(&self) -> Seed {
         self.seed
     }
 
-    /// The running module's number.
+    /// Returns the running module's number.
     pub fn module(&self) -> u32
         ensures { result ≡ self.now.own }
     {
         self.own
     }
 
-    /// Makes the cells of a frozen module, and of those that it reaches, readable here: a share of each that isn't there.
+    /// Makes the cells of a frozen module, and of those that it reaches, readable here: shares each that isn't there
+    /// yet.
     pub fn load(&mut self, frozen: &Frozen) -> Result<(), AllocError>
         ensures { OnOk result (self.new ≡ with_loaded (fold added self.old.loaded (brought frozen.now)) self.old) }
     {
@@ -71,7 +72,7 @@ impl Store {
         self.loaded.add_all(&frozen.reached)
     }
 
-    /// A new cell, numbered in order of creation.
+    /// Makes a cell, which gets the next number.
     pub fn make(&mut self, content: Content) -> Result<Cell, AllocError>
         ensures cell { IfOk result (λ c. c ≡ record { «module» = self.old.own; number = length self.old.cells }) }
         ensures ok { OnOk result (self.new ≡ with_cells (self.old.cells ++ content ∷ []) self.old) }
@@ -85,7 +86,7 @@ impl Store {
         })
     }
 
-    /// What a cell holds.
+    /// Returns what `cell` holds.
     #[tactic(auto, unfolding(crate::specs::Cells::content_at))]
     pub fn content(&self, cell: Cell) -> Option<&Content>
         ensures { MatchOption result (content_at self.now cell.module cell.number ≡ None) (λ c. content_at self.now cell.module cell.number ≡ Some c.now) }
@@ -96,7 +97,7 @@ impl Store {
         self.loaded.content(cell)
     }
 
-    /// The kind of the rule in a cell of a frozen module. A rule of the running module has none yet.
+    /// Returns the kind of the rule in a cell of a frozen module. A rule of the running module has none yet.
     #[tactic(auto, unfolding(crate::specs::Cells::kind_of))]
     pub fn kind(&self, cell: Cell) -> Option<&Bytes>
         ensures { option_copied result ≡ kind_of self.now cell.module cell.number }
@@ -107,7 +108,7 @@ impl Store {
         self.loaded.kind(cell)
     }
 
-    /// A cell of the running module, to be changed.
+    /// Returns what a cell of the running module holds, to be changed.
     fn own_cell(&mut self, number: usize) -> &mut Content
         requires { number < length self.old.cells }
         ensures* lends { sem 𝓛 (LendsCell self.entry number result) }
@@ -116,7 +117,7 @@ impl Store {
         &mut self.cells[number]
     }
 
-    /// What a cell holds, to be changed. Nothing changes a cell of another module (F47).
+    /// Returns what `cell` holds, to be changed. Cells of other modules can't be changed (F47).
     pub fn change(&mut self, cell: Cell) -> Result<&mut Content, EvalErr>
         requires { cell.module ≡ self.old.own → cell.number < length self.old.cells }
         ensures* lends { sem 𝓛 (LendsCellIfOk self.entry cell.number result) }

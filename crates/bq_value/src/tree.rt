@@ -1,10 +1,11 @@
-//! Frozen modules by their numbers, in a tree whose parts are shared: what is put into it, or joined to it, makes anew only
-//! the nodes on the way.
+//! Frozen modules by their numbers, in a tree whose parts are shared: adding a module, or joining two trees, makes anew
+//! only the nodes on the way.
 //!
-//! A tree is for a range of 2^height numbers that begins with `base`: a leaf has the only module of one number, and a fork has
-//! the modules of the lower half and those of the upper half (a binary trie; Okasaki and Gill, "Fast Mergeable Integer Maps").
-//! So of modules that load one another in a chain each makes `height` nodes, and shares the others. Modules that reach nearly
-//! the same are joined block by block: the keys of 64 numbers are one word.
+//! A tree is for a range of 2^height numbers that begins with `base`: a leaf has the only module of one number, and a
+//! fork has the modules of the lower half and those of the upper half (a binary trie; Okasaki and Gill, "Fast Mergeable
+//! Integer Maps"). So of modules that load one another in a chain each makes `height` nodes, and shares the others.
+//! Where two modules reach nearly the same ones, their trees are joined block by block: the keys of 64 numbers are one
+//! word of 64 bits.
 
 ghost use Rattle.std.specs.Prelude.{◌≡◌, ◌+◌, ◌-◌, ◌*◌, ◌^◌, ◌<◌, ◌≤◌, ◌∷◌, [], None, IfOk, MatchOption};
 ghost use Rattle.std.specs.Option.{option_copied, unwrap_or};
@@ -19,7 +20,7 @@ use std::sync::Arc;
 /// The height of a block of 64 numbers.
 const BLOCK: u32 = 6;
 
-/// Contracts see its `Trie`.
+/// A tree of modules. Contracts see its `Trie`.
 #[cycle(tree)]
 #[derive(Drop)]
 pub(crate) struct Tree {
@@ -76,7 +77,7 @@ impl Tree {
         }
     }
 
-    /// A tree of this height with these halves.
+    /// Makes a tree of this height of two halves.
     pub(crate) fn fork(
         alloc: Global,
         height: u32,
@@ -105,7 +106,7 @@ impl Tree {
         }
     }
 
-    /// The same tree once more; no node is copied.
+    /// Returns another owner of the tree; no node is copied.
     pub(crate) fn share(&self) -> Result<Tree, AllocError>
         ensures { IfOk result (λ t. t ≡ self.now) }
     {
@@ -117,7 +118,7 @@ impl Tree {
         Ok(Tree { node })
     }
 
-    /// The module of this number.
+    /// Returns the module of number `home`.
     pub(crate) fn get(&self, height: u32, base: u32, home: u32) -> Option<&Shared>
         requires shaped { IsShaped self.now height }
         requires fits { base + 2 ^ height ≤ 2 ^ 32 }
@@ -141,7 +142,7 @@ impl Tree {
         }
     }
 
-    /// A tree of one module.
+    /// Makes a tree of one module.
     pub(crate) fn lone(
         alloc: Global,
         height: u32,
@@ -167,7 +168,7 @@ impl Tree {
         Tree::fork(alloc, height, Tree::bare(), right)
     }
 
-    /// The tree with those modules of the other too whose numbers aren't here, or `None` where there are none.
+    /// Returns the tree with those modules of `other` too whose numbers aren't here, or `None` if there are none.
     pub(crate) fn joined(
         &self,
         alloc: Global,
@@ -196,7 +197,7 @@ impl Tree {
         }
     }
 
-    /// The same tree once more, or `None` where it has no module.
+    /// Returns another owner of the tree, or `None` if it has no module.
     fn share_of_some(&self) -> Result<Option<Tree>, AllocError>
         ensures { IfOk result (λ t. unwrap_or t bare ≡ self.now) }
     {
@@ -218,7 +219,7 @@ impl Tree {
 }
 
 impl Halves {
-    /// A tree of this height where one of the halves is changed, or `None` where neither is.
+    /// Returns a tree of this height in which the halves that are given replace these, or `None` if neither is given.
     fn changed(
         &self,
         alloc: Global,
@@ -240,7 +241,7 @@ impl Halves {
     }
 }
 
-/// The first number of the upper half.
+/// Returns the first number of the upper half.
 fn middle(height: u32, base: u32) -> u32
     requires above { 0 < height }
     requires fits { base + 2 ^ height ≤ 2 ^ 32 }
@@ -249,7 +250,7 @@ fn middle(height: u32, base: u32) -> u32
     base + (1 << (height - 1))
 }
 
-/// The keys of a tree of this height with these halves, if it is within a block.
+/// Returns the keys of a tree of this height with these halves, if it is within a block.
 fn keys_of(height: u32, left: &Tree, right: &Tree) -> u64
     requires above { 0 < height }
     requires left { IsShaped left.now (height - 1) }

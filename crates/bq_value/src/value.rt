@@ -76,8 +76,8 @@ impl Model for Value {
     ghost size_decreases = { λ a h. Prim.omega (arith, deep_le-weight a.node) };
 }
 
-/// Tuples and defaults may be nested without limit, so what is within is given up by a list of what is left, and not by
-/// calls within calls.
+/// Tuples and defaults may be nested without limit. So what is within is dropped by a loop over a list of what is left,
+/// and not by calls within calls.
 impl Drop for Value {
     #[cycle(give_up)]
     fn drop(self) {
@@ -107,7 +107,7 @@ impl Drop for Value {
     }
 }
 
-/// Gives up these values, and what they alone own.
+/// Drops these values, and what they alone own.
 #[cycle(give_up)]
 #[tactic(auto, using(crate::proofs::Weights::pushed))]
 fn give_up(mut left: Vec<Value>) {
@@ -125,7 +125,7 @@ fn give_up(mut left: Vec<Value>) {
     left.destroy_empty();
 }
 
-/// Moves the items to the list. Where memory is refused, an item is leaked.
+/// Moves the items to the list. If memory is refused, an item is leaked.
 #[cycle(give_up)]
 #[tactic(auto, using(crate::proofs::Weights::pushed))]
 fn move_all(left: &mut Vec<Value>, mut items: Vec<Value>)
@@ -143,7 +143,7 @@ fn move_all(left: &mut Vec<Value>, mut items: Vec<Value>)
 }
 
 impl Value {
-    /// The items of a tuple, or the defaults of a function, that nothing else owns.
+    /// Returns the items of a tuple, or the defaults of a function, if nothing else owns them.
     fn into_own_items(self) -> Option<Vec<Value>>
         ensures { IfSome result (λ items. weights (data_of items.items) < weight self) }
     {
@@ -169,7 +169,7 @@ impl Value {
         }
     }
 
-    /// `None`.
+    /// Makes `None`.
     pub fn none() -> Value
         ensures { result ≡ none }
     {
@@ -178,7 +178,7 @@ impl Value {
         }
     }
 
-    /// `True` or `False`.
+    /// Makes `True` or `False`.
     pub fn bool(b: bool) -> Value
         ensures { result ≡ boolean b }
     {
@@ -217,7 +217,7 @@ impl Value {
         }
     }
 
-    /// The list, dict or rule in this cell.
+    /// Makes the value of the list, dict or rule in this cell.
     pub fn cell(place: Cell) -> Value
         ensures { result ≡ cell place.module place.number }
     {
@@ -258,7 +258,7 @@ impl Value {
         })
     }
 
-    /// The same value once more. It is refused where 2^63 owners are alive.
+    /// Returns another owner of the value. Fails where 2^63 owners are alive.
     pub fn share(&self) -> Result<Value, AllocError>
         ensures { IfOk result (λ v. v ≡ self.now) }
     {

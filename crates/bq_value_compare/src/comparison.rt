@@ -1,4 +1,4 @@
-//! `<` and its kin (Starlark, "Comparisons").
+//! `<`, `<=`, `>` and `>=` (Starlark, "Comparisons").
 
 ghost use Rattle.std.specs.Prelude.{◌≡◌, option_copied};
 ghost use Rattle.bq_value_compare.specs.Looked.{max_levels};
@@ -11,14 +11,15 @@ use bq_base::{Bytes, FaultKind};
 use bq_value::{Body, Content, Node, Store, Value};
 use std::cmp::Ordering;
 
-/// How two values are ordered, and the steps that are left of these. `a <= b` is an answer other than `Greater`.
+/// Compares two values within `steps`. Returns their order and the steps that are left; `a <= b` is an order other than
+/// `Greater`.
 pub fn order(store: &Store, steps: u64, a: &Value, b: &Value) -> Result<(Ordering, u64), FaultKind>
     ensures { result ≡ ordered_at max_levels store.now steps a.now b.now }
 {
     values_ordered(store, MAX_LEVELS, steps, a, b)
 }
 
-/// Whether `a < b`, and the steps that are left of these.
+/// Returns whether `a < b`, and how many of the steps are left.
 pub fn less(store: &Store, steps: u64, a: &Value, b: &Value) -> Result<(bool, u64), FaultKind>
     ensures { result ≡ less_of (ordered_at max_levels store.now steps a.now b.now) }
 {
@@ -28,7 +29,7 @@ pub fn less(store: &Store, steps: u64, a: &Value, b: &Value) -> Result<(bool, u6
     }
 }
 
-/// How two values are ordered, with so many levels to go.
+/// Compares two values, of which `levels` levels may be looked at.
 #[cycle(order)]
 #[tactic(auto, using(bq_value::specs::Datum::list_of_data_of))]
 fn values_ordered(

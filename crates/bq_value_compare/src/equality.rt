@@ -8,14 +8,14 @@ use crate::MAX_LEVELS;
 use bq_base::FaultKind;
 use bq_value::{Body, Cell, Content, Dict, Function, Node, Range, Store, Value};
 
-/// Whether two values are equal, and the steps that are left of these.
+/// Returns whether two values are equal, and how many of the steps are left.
 pub fn equal(store: &Store, steps: u64, a: &Value, b: &Value) -> Result<(bool, u64), FaultKind>
     ensures { result ≡ equal_at max_levels store.now steps a.now b.now }
 {
     values_equal(store, MAX_LEVELS, steps, a, b)
 }
 
-/// The same, with so many levels to go.
+/// Returns whether two values are equal, where `levels` levels of them may be looked at.
 #[cycle(equal)]
 #[tactic(auto, using(bq_value::specs::Datum::list_of_data_of))]
 pub(crate) fn values_equal(
@@ -85,7 +85,7 @@ fn tuple_equal(
     }
 }
 
-/// Whether two cells are one.
+/// Returns whether two cells are one.
 fn is_one(x: Cell, y: Cell) -> bool
     ensures { result ≡ ((x.module == y.module) && (x.number == y.number)) }
 {
@@ -115,7 +115,7 @@ fn cell_equal(
     }
 }
 
-/// What two cells hold, and whether they are one cell.
+/// Compares what two cells hold; `one` says whether they are one cell.
 #[cycle(equal)]
 fn contents_equal(
     store: &Store,

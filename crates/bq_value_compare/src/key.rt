@@ -10,8 +10,8 @@ use crate::MAX_LEVELS;
 use bq_base::FaultKind;
 use bq_value::{EvalErr, Key, Node, Value};
 
-/// The key that a value makes, and the steps that are left of these. Other values than `None`, bools, integers, strings and
-/// tuples of these make none (F45).
+/// Returns the key that a value makes, and how many of the steps are left. Only `None`, bools, integers, strings and
+/// tuples of these make one; for another value it is F45.
 pub fn key_of(steps: u64, value: &Value) -> Result<(Key, u64), EvalErr>
     ensures { Gives (λ key. key) Bad result (keyed value.now (walked_at max_levels steps value.now)) }
 {
@@ -20,7 +20,7 @@ pub fn key_of(steps: u64, value: &Value) -> Result<(Key, u64), EvalErr>
     Ok((Key::new(value), left))
 }
 
-/// Visits a value with so many levels to go.
+/// Visits a value, of which `levels` levels may be looked at. Returns how many of the steps are left.
 #[cycle(walk)]
 #[tactic(auto, using(bq_value::specs::Datum::list_of_data_of))]
 fn walk(levels: u32, steps: u64, value: &Value) -> Result<u64, FaultKind>

@@ -31,12 +31,12 @@ pub fn unlike_types_differ()
     ensures { (s : StoreView) (a b : Datum) (so : Bool) → kind_of s a ≢ kind_of s b → Equals s a b so → so ≡ false }
 {}
 
-/// A key is equal just to itself.
+/// A key is equal only to itself.
 pub fn equal_keys_are_one()
     ensures { (s : StoreView) → KeysAreDistinct s → (a b : Datum) (so : Bool) → IsKey a → Equals s a b so → (so ≡ true) ↔ (a ≡ b) }
 {}
 
-/// Where the order answers, it is a strict order that agrees with `==`: one of less, equal and greater.
+/// Where the order answers, it is a strict order that agrees with `==`: exactly one of less, equal and greater holds.
 pub fn less_is_an_order()
     ensures itself { (s : StoreView) → KeysAreDistinct s → (a : Datum) (so : Ordering) → Ordered s a a so → so ≡ Equal }
     ensures turned { (s : StoreView) → KeysAreDistinct s → (a b : Datum) (so back : Ordering) → Ordered s a b so → Ordered s b a back → back ≡ ordering_reverse so }
@@ -57,7 +57,7 @@ pub fn first_unequal_place_decides()
     ensures lists { (s : StoreView) (a i b j : ℕ) (xs ys : List Datum) (so : Ordering) → content_at s a i ≡ Some (items xs) → content_at s b j ≡ Some (items ys) → Ordered s (cell a i) (cell b j) so → Decided s 63 xs ys so }
 {}
 
-/// A walk has a number of steps and an outcome of its own: with fewer it is F53, with more these are left.
+/// A walk has a number of steps and an outcome of its own: with fewer steps it is F53, with more the rest is left.
 pub fn steps_are_the_walks_own()
     ensures equality { (s : StoreView) (a b : Datum) → Takes (λ n. equal_at max_levels s n a b) }
     ensures order { (s : StoreView) (a b : Datum) → Takes (λ n. ordered_at max_levels s n a b) }
@@ -86,7 +86,7 @@ pub fn attributes_are_equal_by_what_they_say()
     ensures step { (s : StoreView) (a b : Attribute) (n : ℕ) → equal_at max_levels s (suc n) (attribute a) (attribute b) ≡ Ok (same_attribute a b, n) }
 {}
 
-/// A key is the value that it is made of. Only a value that may be a key makes one, and none of these is F45.
+/// A key is the value that it is made of. Only a value that may be a key makes one, and none of these gives F45.
 pub fn a_key_is_its_value()
     ensures value { (v k : Datum) (n m : ℕ) → keyed v (walked_at max_levels n v) ≡ Ok (k, m) → k ≡ v }
     ensures kind { (v k : Datum) (n m : ℕ) → keyed v (walked_at max_levels n v) ≡ Ok (k, m) → IsKey v }

@@ -3,7 +3,7 @@
 ghost use Rattle.std.specs.Prelude.{◌≡◌, ◌+◌, ◌≤◌, length};
 ghost use Rattle.bq_value_seed.specs.Folding as folding;
 
-/// The two halves of the 128 bits of a product, joined by xor.
+/// Returns the two halves of the 128 bits of a product, joined by xor.
 pub(crate) fn folded_multiply(a: u64, b: u64) -> u64
     ensures { result ≡ folding.folded_multiply a b }
 {
@@ -11,7 +11,7 @@ pub(crate) fn folded_multiply(a: u64, b: u64) -> u64
     (product & 0xFFFF_FFFF_FFFF_FFFF) as u64 ^ (product >> 64) as u64
 }
 
-/// Four bytes as a number, the lowest first.
+/// Reads four bytes as a number, the lowest first.
 fn read_u32(bytes: &[u8], at: usize) -> u64
     requires { at + 4 ≤ length bytes.now }
     ensures { result ≡ folding.read_u32 bytes.now at }
@@ -19,7 +19,7 @@ fn read_u32(bytes: &[u8], at: usize) -> u64
     u32::from_le_bytes([bytes[at], bytes[at + 1], bytes[at + 2], bytes[at + 3]]) as u64
 }
 
-/// Eight bytes as a number, the lowest first.
+/// Reads eight bytes as a number, the lowest first.
 pub(crate) fn read_u64(bytes: &[u8], at: usize) -> u64
     requires { at + 8 ≤ length bytes.now }
     ensures { result ≡ folding.read_u64 bytes.now at }
@@ -27,7 +27,7 @@ pub(crate) fn read_u64(bytes: &[u8], at: usize) -> u64
     read_u32(bytes, at) | read_u32(bytes, at + 4) << 32
 }
 
-/// Up to eight bytes as one number, by reads that may overlap.
+/// Reads up to eight bytes as one number, by reads that may overlap.
 pub(crate) fn read_short(bytes: &[u8]) -> u64
     ensures { result ≡ folding.read_short bytes.now }
 {

@@ -5,10 +5,10 @@ ghost use Rattle.bq_value_seed.specs.Folding as folding;
 use crate::folding::{folded_multiply, read_short, read_u64};
 use std::hash::Hasher;
 
-/// What has been fed so far, and what the next words are multiplied by.
+/// What has been written so far, and what the next words are multiplied by.
 ///
-/// It is the kit's `FoldHasher` but for the multiplier, which is fixed there: whoever knows it writes a word that makes every product
-/// zero, whatever the state was.
+/// It is the kit's `FoldHasher` but for the multiplier, which is fixed there: whoever knows it can choose a word that
+/// makes every product zero, whatever the state was.
 #[derive(Clone, Copy)]
 pub struct KeyHasher {
     pub(crate) state: u64,

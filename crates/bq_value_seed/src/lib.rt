@@ -1,7 +1,7 @@
 //! The hash of keys that strangers choose: random bytes come in once for a run; builders of hashers go out.
 //!
-//! The promise: a hasher is a function of its seed and of what is fed to it (`write`, `specs/Folding.antt`), so a map finds what it
-//! holds by any seed, and none shows. No contract above speaks of it.
+//! The promise: a hasher is a function of its seed and of what is fed to it (`write`, `specs/Folding.antt`), so a map
+//! finds what it holds whatever the seed is, and no answer depends on the seed. No contract above speaks of it.
 #![tactic(auto)]
 
 mod folding;

@@ -13,7 +13,7 @@ pub struct Seed {
 }
 
 impl Seed {
-    /// One that everybody knows, for keys that nobody chooses.
+    /// Returns the seed that everybody knows, for keys that nobody chooses.
     pub fn fixed() -> Seed {
         Seed {
             begun: KeyHasher {
@@ -23,7 +23,8 @@ impl Seed {
         }
     }
 
-    /// A random one, which nobody can know before the run. Where the system gives no random bytes, it is the fixed one.
+    /// Draws a random seed, which nobody can know before the run; where the system gives no random bytes, the fixed
+    /// one.
     pub fn draw(source: &impl RandomSource) -> Seed {
         let mut bytes = [0; 16];
         if source.fill_bytes(&mut bytes).is_err() {

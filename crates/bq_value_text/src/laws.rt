@@ -12,8 +12,8 @@ ghost use Rattle.bq_value_text.specs.Laws.{IsKeyInRange, HasText};
 ghost use Rattle.bq_value_text.specs.Page.{PageView, max_text};
 ghost use Rattle.bq_value_text.specs.Shown.{repr_shown, string_in, repr_of, text_of};
 
-/// The `str` of a string is the string, and its `repr` is the literal that reads back as it; each takes one step. Of any other
-/// value the `str` is the `repr`.
+/// The `str` of a string is the string, and its `repr` is the literal that reads back as it; each takes one step. The
+/// `str` of any other value is its `repr`.
 pub fn the_text_of_a_string()
     ensures text { (s : StoreView) (n : ℕ) (bytes : List ℕ) → length bytes ≤ max_text → text_of s (suc n) (string bytes) ≡ Ok (bytes, n) }
     ensures repr { (s : StoreView) (n : ℕ) (bytes : List ℕ) → length (quoted bytes) ≤ max_text → repr_of s (suc n) (string bytes) ≡ Ok (quoted bytes, n) }
@@ -36,13 +36,13 @@ pub fn levels_and_steps_of_texts()
     ensures next { (s : StoreView) (page : PageView) (n : ℕ) → repr_shown s page (65 + n) (nested 64) ≡ Err TooDeep }
 {}
 
-/// A walk has a number of steps and an outcome of its own: with fewer it is F53, with more these are left.
+/// A text has a number of steps and an outcome of its own: with fewer steps it is F53, with more the rest is left.
 pub fn steps_are_the_texts_own()
     ensures repr { (s : StoreView) (v : Datum) → Takes (λ n. repr_of s n v) }
     ensures text { (s : StoreView) (v : Datum) → Takes (λ n. text_of s n v) }
 {}
 
-/// Two keys have one `repr` just where they are one key, tuples too: `1`, `"1"`, `True` and `(1,)` are told apart.
+/// Two keys have one `repr` only where they are one key, tuples too: `1`, `"1"`, `True` and `(1,)` are told apart.
 pub fn keys_have_texts_of_their_own()
     ensures { (s : StoreView) (n m k j : ℕ) (v w : Datum) (t u : List ℕ) → IsKeyInRange v → IsKeyInRange w → repr_of s n v ≡ Ok (t, m) → repr_of s k w ≡ Ok (u, j) → (t ≡ u) ↔ (v ≡ w) }
 {}

@@ -40,7 +40,7 @@ fn write_int(n: i64, page: &mut Page) -> Result<(), AllocError>
     page.write(buffer.format(n).as_bytes())
 }
 
-/// `range(0, 3)`, or with a step other than 1 `range(0, 6, 2)`.
+/// Writes `range(0, 3)`, or with a step other than 1 `range(0, 6, 2)`.
 #[tactic(auto, unfolding(crate::specs::Leaf::range_written))]
 fn write_range(range: Range, page: &mut Page) -> Result<(), AllocError>
     ensures { OnOk result (page.new ≡ range_written page.old range.start range.stop range.step) }
@@ -56,7 +56,7 @@ fn write_range(range: Range, page: &mut Page) -> Result<(), AllocError>
     page.write(b")")
 }
 
-/// `<function NAME>`, `<built-in function NAME>`, `<attr.NAME>`.
+/// Writes `<function NAME>`, `<built-in function NAME>` or `<attr.NAME>`.
 #[tactic(auto, unfolding(crate::specs::Leaf::named_written))]
 fn write_named(before: &[u8], name: &[u8], page: &mut Page) -> Result<(), AllocError>
     ensures { OnOk result (page.new ≡ named_written before.now name.now page.old) }

@@ -6,7 +6,7 @@
 //! goes on, so that F54 comes after all that the visits find: F53 where no step is left, F55 at the 65th level. A list that holds
 //! itself is thus F55, and no text ever takes more memory than the limit.
 //!
-//! What a caller sees of a `Page`: the bytes written so far, or none once they were too many.
+//! What a caller sees of a `Page`: the bytes written so far, or none once they were more than `MAX_TEXT`.
 //!
 //! In reading order:
 //!

@@ -13,7 +13,7 @@ use std::marker::Model;
 /// The most bytes of a text (F54).
 pub const MAX_TEXT: usize = 1_048_576;
 
-/// The bytes written so far. Once they would be more than `MAX_TEXT`, none are kept, and no more are taken. Contracts see
+/// The bytes written so far. Once they would be more than `MAX_TEXT`, none is kept and no more is taken. Contracts see
 /// the bytes, or none where they were too many.
 #[derive(Drop)]
 pub struct Page {
@@ -30,7 +30,7 @@ impl Model for Page {
 }
 
 impl Page {
-    /// Nothing is written yet.
+    /// Makes an empty page.
     pub fn new(alloc: Global) -> Page
         ensures { result ≡ Some [] }
     {
@@ -40,7 +40,7 @@ impl Page {
         }
     }
 
-    /// Writes these bytes after what is written.
+    /// Appends `bytes`.
     #[tactic(auto, using(std::proofs::lemmas::Bool::Decides::nat_tests), unfolding(crate::specs::Page::written))]
     pub fn write(&mut self, bytes: &[u8]) -> Result<(), AllocError>
         ensures { OnOk result (self.new ≡ written self.old bytes.now) }
@@ -56,7 +56,7 @@ impl Page {
         self.bytes.extend_from_slice(bytes)
     }
 
-    /// The text, or F54.
+    /// Returns the text, or F54.
     pub fn finish(self, alloc: Global) -> Result<Bytes, EvalErr>
         ensures { Gives (λ text. text) Bad result (finished self) }
     {

@@ -13,7 +13,7 @@ use bq_value::{Body, Content, Dict, EvalErr, Node, Store, Value};
 use bq_value_compare::MAX_LEVELS;
 use std::alloc::Global;
 
-/// The `repr` of a value, and the steps that are left of these.
+/// Returns the `repr` of a value, and how many of the steps are left.
 pub fn repr(
     alloc: Global,
     store: &Store,
@@ -27,7 +27,7 @@ pub fn repr(
     Ok((page.finish(alloc)?, left))
 }
 
-/// The `str` of a value, and the steps that are left of these.
+/// Returns the `str` of a value, and how many of the steps are left.
 pub fn text(
     alloc: Global,
     store: &Store,
@@ -41,7 +41,7 @@ pub fn text(
     Ok((page.finish(alloc)?, left))
 }
 
-/// Writes the `repr` of a value, and gives the steps that are left of these.
+/// Writes the `repr` of a value, and returns how many of the steps are left.
 #[tactic(auto, unfolding(crate::specs::Shown::repr_shown))]
 pub fn write_repr(store: &Store, steps: u64, value: &Value, page: &mut Page) -> Result<u64, EvalErr>
     ensures { Gives (λ left. (page.new, left)) Bad result (repr_shown store.now page.old steps value.now) }
@@ -49,7 +49,7 @@ pub fn write_repr(store: &Store, steps: u64, value: &Value, page: &mut Page) -> 
     show(store, MAX_LEVELS, steps, value, page)
 }
 
-/// Writes the `str` of a value, and gives the steps that are left of these. A string is itself.
+/// Writes the `str` of a value, and returns how many of the steps are left. A string is written as it is.
 pub fn write_text(store: &Store, steps: u64, value: &Value, page: &mut Page) -> Result<u64, EvalErr>
     ensures { Gives (λ left. (page.new, left)) Bad result (text_shown store.now page.old steps value.now) }
 {
@@ -65,7 +65,7 @@ pub fn write_text(store: &Store, steps: u64, value: &Value, page: &mut Page) -> 
     }
 }
 
-/// The bytes of a string.
+/// Returns the bytes of a string.
 fn string_in(value: &Value) -> Option<&Bytes>
     ensures { option_copied result ≡ string_in value.now }
 {
@@ -77,7 +77,7 @@ fn string_in(value: &Value) -> Option<&Bytes>
     }
 }
 
-/// Visits a value with so many levels to go.
+/// Visits a value, of which `levels` levels may be written. Returns how many of the steps are left.
 #[cycle(show)]
 #[tactic(auto, using(bq_value::specs::Datum::list_of_data_of))]
 fn show(
@@ -181,7 +181,7 @@ fn show_pairs(
     Ok(left)
 }
 
-/// A tuple of one has a comma.
+/// Returns what ends a tuple: one of a single item has a comma.
 fn tuple_end(items: &[Value]) -> &'static [u8]
     ensures { result.now ≡ tuple_end items.now }
 {
