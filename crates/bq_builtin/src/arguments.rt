@@ -10,7 +10,7 @@ use bq_base::{Bytes, FaultKind};
 use bq_builtin_machine::Args;
 use bq_value::{EvalErr, Node, Value};
 
-/// No argument by name.
+/// Returns the positional arguments, if none is passed by name.
 #[tactic(auto, unfolding(crate::specs::Arguments::by_place))]
 pub(crate) fn by_place(args: &Args) -> Result<&[Value], EvalErr>
     ensures { Gives (λ vs. vs.now) Bad result (by_place args.now) }
@@ -53,7 +53,7 @@ fn one_or_two(values: &[Value]) -> Result<(&Value, Option<&Value>), EvalErr>
     }
 }
 
-/// One to three arguments.
+/// Returns one to three positional arguments.
 #[tactic(auto, unfolding(crate::specs::Arguments::one_to_three))]
 pub(crate) fn one_to_three(
     values: &[Value],
@@ -68,7 +68,7 @@ pub(crate) fn one_to_three(
     }
 }
 
-/// One argument.
+/// Returns the one argument.
 #[tactic(auto, unfolding(crate::specs::Arguments::only_argument))]
 pub(crate) fn only_argument(args: &Args) -> Result<&Value, EvalErr>
     ensures { Gives (λ v. v.now) Bad result (only_argument args.now) }
@@ -76,7 +76,7 @@ pub(crate) fn only_argument(args: &Args) -> Result<&Value, EvalErr>
     one_argument(by_place(args)?)
 }
 
-/// One argument, which may be left out.
+/// Returns the argument, which may be left out.
 #[tactic(auto, unfolding(crate::specs::Arguments::only_argument_if_any))]
 pub(crate) fn only_argument_if_any(args: &Args) -> Result<Option<&Value>, EvalErr>
     ensures { Gives (λ o. option_copied o) Bad result (only_argument_if_any args.now) }
@@ -84,7 +84,7 @@ pub(crate) fn only_argument_if_any(args: &Args) -> Result<Option<&Value>, EvalEr
     optional_argument(by_place(args)?)
 }
 
-/// One argument at most by name: the one of this name.
+/// Returns the one argument that may be passed by name, which has to be this one.
 #[tactic(auto, unfolding(crate::specs::Arguments::only_named))]
 pub(crate) fn only_named<'a>(
     name: &[u8],
@@ -120,7 +120,7 @@ fn passed_once<'a>(
     }
 }
 
-/// One argument, and a second one that may be left out, by place or by this name.
+/// Returns an argument, and a second one that may be left out, by place or by this name.
 #[tactic(auto, unfolding(crate::specs::Arguments::one_and_named))]
 pub(crate) fn one_and_named<'a>(
     name: &[u8],
@@ -133,7 +133,7 @@ pub(crate) fn one_and_named<'a>(
     passed_once(first, second, named)
 }
 
-/// An integer (F40).
+/// Returns an integer (F40).
 #[tactic(auto, unfolding(crate::specs::Arguments::integer))]
 pub(crate) fn integer(value: &Value) -> Result<i64, EvalErr>
     ensures { Gives (λ i. i) Bad result (integer value.now) }
@@ -144,7 +144,7 @@ pub(crate) fn integer(value: &Value) -> Result<i64, EvalErr>
     }
 }
 
-/// A bool; left out, false.
+/// Returns a bool, which is false if it is left out.
 #[tactic(auto, unfolding(crate::specs::Arguments::flag))]
 pub(crate) fn flag(value: Option<&Value>) -> Result<bool, EvalErr>
     ensures { Gives (λ b. b) Bad result (flag (option_copied value.entry)) }
@@ -158,7 +158,7 @@ pub(crate) fn flag(value: Option<&Value>) -> Result<bool, EvalErr>
     }
 }
 
-/// A string (F40).
+/// Returns a string (F40).
 #[tactic(auto, unfolding(crate::specs::Arguments::text))]
 pub(crate) fn text(value: &Value) -> Result<&Bytes, EvalErr>
     ensures { Gives (λ t. t.now) Bad result (text value.now) }

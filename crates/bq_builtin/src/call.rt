@@ -32,7 +32,7 @@ enum BuiltInFunction {
     Select,
 }
 
-/// Those that give a value, and need no more for it than the arguments and what lists and dicts hold.
+/// The functions that return a value, and need no more for it than the arguments and what lists and dicts hold.
 #[derive(Clone, Copy)]
 enum ValueFunction {
     All,
@@ -47,7 +47,7 @@ enum ValueFunction {
     Type,
 }
 
-/// Those that give a new list.
+/// The functions that return a new list.
 #[derive(Clone, Copy)]
 enum ListFunction {
     Enumerate,
@@ -57,8 +57,8 @@ enum ListFunction {
     Zip,
 }
 
-/// The built-in function that a predeclared name stands for; none for constants, for what the host carries out, and for what declares
-/// rules.
+/// Returns the built-in function that a predeclared name stands for. Constants are none, nor are the functions of the
+/// host and those that declare rules.
 fn built_in(predeclared: Predeclared) -> Option<BuiltInFunction>
     ensures { result ≡ built_in predeclared }
 {
@@ -92,7 +92,7 @@ fn built_in(predeclared: Predeclared) -> Option<BuiltInFunction>
     }
 }
 
-/// The value of a function that gives one.
+/// Returns the value of a function that gives one.
 fn value(
     alloc: Global,
     machine: &Machine,
@@ -115,7 +115,7 @@ fn value(
     }
 }
 
-/// The values of the new list.
+/// Returns the values of a new list.
 fn list_values(
     alloc: Global,
     machine: &Machine,
@@ -133,7 +133,7 @@ fn list_values(
     }
 }
 
-/// What a built-in function gives.
+/// Returns the result of a built-in function.
 #[tactic(auto, unfolding(crate::specs::Call::given_by))]
 fn given_by(
     alloc: Global,
@@ -158,7 +158,7 @@ fn given_by(
     }
 }
 
-/// `function(args)`; F40 for what is no function of the language.
+/// Returns `function(args)`; F40 for what is no function of the language.
 #[tactic(auto, unfolding(crate::specs::Call::call_function))]
 pub fn call_function(
     alloc: Global,

@@ -13,7 +13,7 @@ use bq_builtin_numbers::MAX_LEN;
 use bq_value::{EvalErr, Value};
 use std::alloc::{AllocError, Global};
 
-/// The elements of an iterable (F40).
+/// Returns the elements of an iterable (F40).
 #[tactic(auto, unfolding(bq_builtin_machine::specs::Iteration::elements))]
 pub(crate) fn elements_in(
     alloc: Global,
@@ -25,7 +25,7 @@ pub(crate) fn elements_in(
     machine.elements(alloc, value)
 }
 
-/// All of these.
+/// Returns all of these as a list.
 pub(crate) fn values_of(alloc: Global, mut elements: Elements) -> Result<Vec<Value>, AllocError>
     ensures { IfOk result (λ xs. xs.items ≡ elements) }
 {
@@ -36,7 +36,7 @@ pub(crate) fn values_of(alloc: Global, mut elements: Elements) -> Result<Vec<Val
     Ok(values)
 }
 
-/// Whether a list or tuple may have so many elements (F54).
+/// Checks that a list or tuple may have `count` elements (F54).
 #[tactic(auto, using(std::proofs::lemmas::Bool::Decides::nat_tests), unfolding(crate::specs::Elements::room_for))]
 pub(crate) fn room_for(count: usize) -> Result<(), FaultKind>
     ensures says { result ≡ room_for count }
@@ -48,7 +48,7 @@ pub(crate) fn room_for(count: usize) -> Result<(), FaultKind>
     Ok(())
 }
 
-/// The elements of an iterable, where a list may have as many.
+/// Returns the elements of an iterable, if a list may have as many.
 #[tactic(auto, unfolding(crate::specs::Elements::listed))]
 pub(crate) fn listed(alloc: Global, machine: &Machine, value: &Value) -> Result<Vec<Value>, EvalErr>
     ensures { Gives (λ xs. xs.items) Bad result (listed machine.now.store value.now) }
@@ -58,7 +58,7 @@ pub(crate) fn listed(alloc: Global, machine: &Machine, value: &Value) -> Result<
     Ok(values_of(alloc, elements)?)
 }
 
-/// Those of an iterable that may be left out.
+/// Returns the elements of an iterable that may be left out.
 #[tactic(auto, unfolding(crate::specs::Elements::listed_if_any))]
 pub(crate) fn listed_if_any(
     alloc: Global,

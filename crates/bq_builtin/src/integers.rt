@@ -17,7 +17,7 @@ use std::str;
 /// The greatest integer.
 const MAX: u64 = 9_223_372_036_854_775_807;
 
-/// Whether there are digits, and nothing else.
+/// Returns whether there are digits, and nothing else.
 fn is_numeral(digits: &[u8]) -> bool
     ensures { result ≡ is_numeral digits.now }
 {
@@ -42,7 +42,7 @@ fn without_sign(text: &[u8]) -> &[u8]
     }
 }
 
-/// The integer of digits after a sign, or without one, where it has 64 bits.
+/// Returns the integer of digits after a sign, or without one, if it fits 64 bits.
 fn parsed(text: &[u8]) -> Option<i64>
     requires { is_numeral (without_leading_sign text.now) ≡ true }
     ensures { Fitted result (signed_digits_value 10 text.now) }
@@ -53,7 +53,7 @@ fn parsed(text: &[u8]) -> Option<i64>
     text.parse::<i64>().ok()
 }
 
-/// The integer that a text is.
+/// Returns the integer that a text is.
 #[tactic(auto, unfolding(crate::specs::Integers::read_integer))]
 fn read_integer(text: &[u8]) -> Result<i64, FaultKind>
     ensures { result ≡ read_integer text.now }
@@ -77,7 +77,7 @@ fn integer_from(value: &Value) -> Result<i64, FaultKind>
     }
 }
 
-/// `int(x)`: an integer itself, a bool as 0 or 1, what a string says.
+/// Returns `int(x)`: an integer itself, a bool as 0 or 1, and what a string reads as.
 #[tactic(auto, unfolding(crate::specs::Integers::int))]
 pub(crate) fn int(args: &Args) -> Result<Value, EvalErr>
     ensures { Gives (λ v. v) Bad result (int args.now) }
@@ -96,7 +96,7 @@ fn content_length(content: &Content) -> Result<usize, FaultKind>
     }
 }
 
-/// How many bytes or elements there are (F40).
+/// Returns how many bytes or elements there are (F40).
 #[tactic(auto, using(bq_value::specs::Datum::list_of_data_of), unfolding(crate::specs::Integers::length_in))]
 fn length_in(store: &Store, value: &Value) -> Result<u64, FaultKind>
     ensures { result ≡ length_in store.now value.now }
@@ -113,7 +113,7 @@ fn length_in(store: &Store, value: &Value) -> Result<u64, FaultKind>
     }
 }
 
-/// A count as an integer, where it has 64 bits (F41).
+/// Returns a count as an integer, if it fits 64 bits (F41).
 fn from_count(count: u64) -> Result<i64, FaultKind>
     ensures { result ≡ fitted (pos count) }
 {
@@ -123,7 +123,7 @@ fn from_count(count: u64) -> Result<i64, FaultKind>
     Ok(count as i64)
 }
 
-/// `len(x)`: how many bytes a string has, and how many elements another value.
+/// Returns `len(x)`: how many bytes a string has, and how many elements another value.
 #[tactic(auto, unfolding(crate::specs::Integers::len))]
 pub(crate) fn len(machine: &Machine, args: &Args) -> Result<Value, EvalErr>
     ensures { Gives (λ v. v) Bad result (len machine.now.store args.now) }
@@ -142,7 +142,7 @@ fn step_or_one(value: Option<&Value>) -> Result<i64, EvalErr>
     }
 }
 
-/// The range of these bounds; F57 for a step of 0.
+/// Makes the range of these bounds; F57 for a step of 0.
 #[tactic(auto, unfolding(crate::specs::Integers::range_by))]
 fn range_by(start: i64, stop: i64, step: i64) -> Result<Value, EvalErr>
     ensures { Gives (λ v. v) Bad result (range_by start stop step) }
@@ -172,7 +172,7 @@ fn range_from(
     }
 }
 
-/// `range(stop)` and `range(start, stop, step)`.
+/// Returns `range(stop)` or `range(start, stop, step)`.
 #[tactic(auto, unfolding(crate::specs::Integers::range))]
 pub(crate) fn range(args: &Args) -> Result<Value, EvalErr>
     ensures { Gives (λ v. v) Bad result (range args.now) }

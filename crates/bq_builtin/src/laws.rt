@@ -29,7 +29,7 @@ pub fn extremes_are_elements()
     ensures least { (is : List ℤ) (m : ℤ) → extreme Least (map int is) ≡ Ok (int m) → (k : ℕ) (i : ℤ) → slice_get is k ≡ Some i → m ≤ℤ i }
 {}
 
-/// `len(x)` is how many elements an iterable has.
+/// `len(x)` is the number of elements of an iterable.
 pub fn lengths_count_elements()
     ensures { (s : StoreView) (v : Datum) (xs : List Datum) (n : ℕ) → elements_in s v ≡ Ok xs → length_in s v ≡ Ok n → length xs ≡ n }
 {}
@@ -51,7 +51,7 @@ pub fn integers_are_read_back()
     ensures { (i : ℤ) → FitsSigned w64 i → read_integer (signed_decimal i) ≡ Ok i }
 {}
 
-/// A function that takes its arguments by place refuses any that has a name, whatever the others are.
+/// A function with positional arguments alone refuses any that has a name, whatever the others are.
 pub fn names_are_refused()
     ensures { (p : Passed) (name : List ℕ) (v : Datum) (named : List (List ℕ × Datum)) → p.named ≡ (name, v) ∷ named → by_place p ≡ Err Args }
 {}

@@ -1,13 +1,13 @@
-//! A built-in function, its arguments and the state of the machine come in; what the call gives goes out: a value, a new list, a text
-//! that is printed, or a fault.
+//! A built-in function, its arguments and the state of the machine come in; the result of the call goes out: a value, a
+//! new list, a text that is printed, or a fault.
 //!
-//! The promise: `call_function` gives exactly what the equation of the function gives of the arguments and the state of the machine,
-//! unless memory runs out.
+//! The promise: `call_function` does exactly what the equation of the function says of the arguments and the state of
+//! the machine, unless memory runs out.
 //!
-//! Arguments are given by place; `start` of `enumerate` and `reverse` of `sorted` by name too, and `sep` of `print` by name alone.
-//! Other arguments than a function takes are F52, before all other faults; then come those of types (F40) and values (F41, F57), and
-//! F54 last, before memory for a long list is asked for. Ranges aren't walked where a formula has the answer: `len`, `all`, `any`, `max` and `min` of a range
-//! take no time by its length.
+//! Arguments are positional; `start` of `enumerate` and `reverse` of `sorted` may have their names too, and `sep` of
+//! `print` has to. Other arguments than a function takes are F52, before all other faults; then come those of types
+//! (F40) and values (F41, F57), and F54 last, before memory for a long list is asked for. Ranges aren't walked where a
+//! formula has the answer: the time of `len`, `all`, `any`, `max` and `min` of a range doesn't depend on its length.
 //!
 //! In reading order:
 //!

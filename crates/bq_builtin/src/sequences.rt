@@ -13,7 +13,7 @@ use bq_builtin_machine::{Args, Machine};
 use bq_value::{EvalErr, Value};
 use std::alloc::{AllocError, Global};
 
-/// `tuple(x)`.
+/// Returns `tuple(x)`.
 #[tactic(auto, unfolding(crate::specs::Sequences::tuple))]
 pub(crate) fn tuple(alloc: Global, machine: &Machine, args: &Args) -> Result<Value, EvalErr>
     ensures { Gives (λ v. v) Bad result (tuple machine.now.store args.now) }
@@ -23,7 +23,7 @@ pub(crate) fn tuple(alloc: Global, machine: &Machine, args: &Args) -> Result<Val
     Ok(Value::tuple(alloc, items)?)
 }
 
-/// `list(x)`: the values of the new list.
+/// Returns the values of the new list `list(x)`.
 #[tactic(auto, unfolding(crate::specs::Sequences::list))]
 pub(crate) fn list(alloc: Global, machine: &Machine, args: &Args) -> Result<Vec<Value>, EvalErr>
     ensures { Gives (λ vs. vs.items) Bad result (list machine.now.store args.now) }
@@ -31,7 +31,7 @@ pub(crate) fn list(alloc: Global, machine: &Machine, args: &Args) -> Result<Vec<
     listed_if_any(alloc, machine, only_argument_if_any(args)?)
 }
 
-/// `reversed(x)`: the values of the new list.
+/// Returns the values of the new list `reversed(x)`.
 #[tactic(auto, unfolding(crate::specs::Sequences::reversed))]
 pub(crate) fn reversed(alloc: Global, machine: &Machine, args: &Args) -> Result<Vec<Value>, EvalErr>
     ensures { Gives (λ vs. vs.items) Bad result (reversed machine.now.store args.now) }
@@ -50,7 +50,7 @@ fn start_or_zero(value: Option<&Value>) -> Result<i64, EvalErr>
     }
 }
 
-/// Whether the last of so many numbers has 64 bits (F41).
+/// Checks that the last of `count` numbers from `start` on fits 64 bits (F41).
 fn numbers_fit(start: i64, count: usize) -> Result<(), FaultKind>
     ensures says { result ≡ numbers_fit start count }
     ensures below { OnOk result ((start +ℤ pos count) ≤ℤ pos (2 ^ 63)) }
@@ -64,7 +64,7 @@ fn numbers_fit(start: i64, count: usize) -> Result<(), FaultKind>
     Ok(())
 }
 
-/// `(number, value)`.
+/// Returns `(number, value)`.
 fn numbered_value(alloc: Global, number: i64, value: &Value) -> Result<Value, AllocError>
     ensures { IfOk result (λ v. v ≡ numbered_value number value.now) }
 {
@@ -74,7 +74,7 @@ fn numbered_value(alloc: Global, number: i64, value: &Value) -> Result<Value, Al
     Value::tuple(alloc, parts)
 }
 
-/// Each value with its number.
+/// Returns each value with its number.
 fn numbered(alloc: Global, start: i64, values: &[Value]) -> Result<Vec<Value>, AllocError>
     requires few { length values.now ≤ max_len }
     requires below { (start +ℤ pos (length values.now)) ≤ℤ pos (2 ^ 63) }
@@ -87,7 +87,7 @@ fn numbered(alloc: Global, start: i64, values: &[Value]) -> Result<Vec<Value>, A
     Ok(pairs)
 }
 
-/// `enumerate(x, start = 0)`: the values of the new list.
+/// Returns the values of the new list `enumerate(x, start = 0)`.
 #[tactic(auto, unfolding(crate::specs::Sequences::enumerate))]
 pub(crate) fn enumerate(
     alloc: Global,

@@ -47,7 +47,7 @@ fn type_name(store: &Store, value: &Value) -> Result<&'static [u8], EvalErr>
     }
 }
 
-/// `type(x)`: the name of its type.
+/// Returns `type(x)`: the name of its type.
 #[tactic(auto, unfolding(crate::specs::Texts::type_of))]
 pub(crate) fn type_of(alloc: Global, machine: &Machine, args: &Args) -> Result<Value, EvalErr>
     ensures { Gives (λ v. v) Bad result (type_of machine.now.store args.now) }
@@ -57,7 +57,7 @@ pub(crate) fn type_of(alloc: Global, machine: &Machine, args: &Args) -> Result<V
     Ok(Value::string(Bytes::from_slice(alloc, name)?))
 }
 
-/// `str(x)`.
+/// Returns `str(x)`.
 #[tactic(auto, unfolding(crate::specs::Texts::str))]
 pub(crate) fn str(alloc: Global, machine: &mut Machine, args: &Args) -> Result<Value, EvalErr>
     ensures { Does (λ v. v) result machine.new (str args.now machine.old) }
@@ -66,7 +66,7 @@ pub(crate) fn str(alloc: Global, machine: &mut Machine, args: &Args) -> Result<V
     Ok(Value::string(machine.text(alloc, value)?))
 }
 
-/// `repr(x)`.
+/// Returns `repr(x)`.
 #[tactic(auto, unfolding(crate::specs::Texts::repr))]
 pub(crate) fn repr(alloc: Global, machine: &mut Machine, args: &Args) -> Result<Value, EvalErr>
     ensures { Does (λ v. v) result machine.new (repr args.now machine.old) }
@@ -75,7 +75,7 @@ pub(crate) fn repr(alloc: Global, machine: &mut Machine, args: &Args) -> Result<
     Ok(Value::string(machine.repr(alloc, value)?))
 }
 
-/// Writes the separator and the `str` of a value, and gives the steps that are left.
+/// Writes the separator and the `str` of a value, and returns how many of the steps are left.
 fn write_next(
     store: &Store,
     steps: u64,
@@ -89,7 +89,7 @@ fn write_next(
     write_text(store, steps, value, page)
 }
 
-/// Writes the `str` of each value after the separator, and gives the steps that are left.
+/// Writes the `str` of each value after the separator, and returns how many of the steps are left.
 fn write_others(
     store: &Store,
     steps: u64,
@@ -106,7 +106,7 @@ fn write_others(
     Ok(left)
 }
 
-/// Writes the `str` of each value, with the separator between two, and gives the steps that are left.
+/// Writes the `str` of each value, with the separator between two, and returns how many of the steps are left.
 fn write_values(
     store: &Store,
     steps: u64,
@@ -125,7 +125,7 @@ fn write_values(
     }
 }
 
-/// The text of values and the steps that are left.
+/// Returns the text of values, and how many of the steps are left.
 #[tactic(auto, unfolding(crate::specs::Texts::joined_texts))]
 fn joined_texts(
     alloc: Global,
@@ -157,7 +157,7 @@ fn separator_in(named: &[(Bytes, Value)]) -> Result<&[u8], EvalErr>
     separator_of(only_named(b"sep", named)?)
 }
 
-/// `print(.., sep = " ")`: one text more is printed.
+/// `print(.., sep = " ")`: prints one more text.
 #[tactic(auto, unfolding(crate::specs::Texts::print))]
 pub(crate) fn print(alloc: Global, machine: &mut Machine, args: &Args) -> Result<Value, EvalErr>
     ensures { Does (λ v. v) result machine.new (print args.now machine.old) }
@@ -175,7 +175,7 @@ pub(crate) fn print(alloc: Global, machine: &mut Machine, args: &Args) -> Result
     Ok(Value::none())
 }
 
-/// `fail(..)`: the program gives up.
+/// `fail(..)`: stops the program.
 #[tactic(auto, unfolding(crate::specs::Texts::fail))]
 pub(crate) fn fail(alloc: Global, machine: &mut Machine, args: &Args) -> Result<Value, EvalErr>
     ensures { Does (λ v. v) result machine.new (fail args.now machine.old) }

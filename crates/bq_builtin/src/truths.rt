@@ -16,7 +16,7 @@ use bq_value::{EvalErr, Node, Range, Store, Value};
 use bq_value_compare::truth;
 use std::alloc::Global;
 
-/// `all(x)`: whether each element counts as true.
+/// Returns `all(x)`: whether each element counts as true.
 #[tactic(auto, unfolding(crate::specs::Truths::all))]
 pub(crate) fn all(alloc: Global, machine: &Machine, args: &Args) -> Result<Value, EvalErr>
     ensures { Gives (λ v. v) Bad result (all machine.now.store args.now) }
@@ -29,7 +29,7 @@ pub(crate) fn all(alloc: Global, machine: &Machine, args: &Args) -> Result<Value
     Ok(Value::bool(all_true(machine.store(), elements)))
 }
 
-/// `any(x)`: whether some element counts as true.
+/// Returns `any(x)`: whether some element counts as true.
 #[tactic(auto, unfolding(crate::specs::Truths::any))]
 pub(crate) fn any(alloc: Global, machine: &Machine, args: &Args) -> Result<Value, EvalErr>
     ensures { Gives (λ v. v) Bad result (any machine.now.store args.now) }
@@ -66,7 +66,7 @@ fn any_true(store: &Store, mut elements: Elements) -> bool
     false
 }
 
-/// Whether 0 isn't among the integers of a range.
+/// Returns whether 0 isn't among the integers of a range.
 #[tactic(auto, unfolding(crate::specs::Truths::all_true))]
 fn all_in_range(range: Range) -> bool
     ensures { (s : StoreView) → result ≡ all_true s (map int (range_integers range.start range.stop range.step)) }
@@ -74,7 +74,7 @@ fn all_in_range(range: Range) -> bool
     !range_has(range, 0)
 }
 
-/// Whether a range has another integer than 0: where it has two, one of them is.
+/// Returns whether a range has an integer other than 0: if it has two, one of them is.
 #[tactic(auto, unfolding(crate::specs::Truths::any_true))]
 fn any_in_range(range: Range) -> bool
     ensures { (s : StoreView) → result ≡ any_true s (map int (range_integers range.start range.stop range.step)) }
@@ -95,7 +95,7 @@ fn truth_if_any(store: &Store, value: Option<&Value>) -> bool
     }
 }
 
-/// `bool(x)`: whether x counts as true.
+/// Returns `bool(x)`: whether x counts as true.
 #[tactic(auto, unfolding(crate::specs::Truths::bool))]
 pub(crate) fn bool(machine: &Machine, args: &Args) -> Result<Value, EvalErr>
     ensures { Gives (λ v. v) Bad result (bool machine.now.store args.now) }

@@ -12,7 +12,7 @@ use bq_builtin_machine::{Args, Elements, Machine};
 use bq_value::{EvalErr, Value};
 use std::alloc::{AllocError, Global};
 
-/// The elements of each value (F40).
+/// Returns the elements of each value (F40).
 fn elements_of_each(
     alloc: Global,
     machine: &Machine,
@@ -36,7 +36,7 @@ fn shortest_from(mut count: usize, columns: &[Elements]) -> usize
     count
 }
 
-/// How many elements the column with the fewest has.
+/// Returns the number of elements of the column with the fewest.
 fn shortest(columns: &[Elements]) -> usize
     ensures { result ≡ shortest columns.now }
 {
@@ -57,7 +57,7 @@ fn move_next(column: &mut Elements, row: &mut Vec<Value>) -> Result<(), AllocErr
     Ok(())
 }
 
-/// The next element of each column.
+/// Returns the next element of each column.
 fn row(alloc: Global, columns: &mut [Elements]) -> Result<Vec<Value>, AllocError>
     ensures heads { IfOk result (λ values. values.items ≡ heads columns.old) }
     ensures rest { OnOk result (columns.new ≡ map (drop 1) columns.old) }
@@ -77,7 +77,7 @@ fn tuple_of_row(alloc: Global, columns: &mut [Elements]) -> Result<Value, AllocE
     Value::tuple(alloc, values)
 }
 
-/// So many tuples, one of each row.
+/// Returns `count` tuples, one for each row.
 fn rows(alloc: Global, count: usize, columns: &mut [Elements]) -> Result<Vec<Value>, AllocError>
     ensures { IfOk result (λ vs. vs.items ≡ rows count columns.old) }
 {
@@ -88,7 +88,7 @@ fn rows(alloc: Global, count: usize, columns: &mut [Elements]) -> Result<Vec<Val
     Ok(tuples)
 }
 
-/// `zip(x, y, ..)`: the values of the new list.
+/// Returns the values of the new list `zip(x, y, ..)`.
 #[tactic(auto, unfolding(crate::specs::Sequences::zip))]
 pub(crate) fn zip(alloc: Global, machine: &Machine, args: &Args) -> Result<Vec<Value>, EvalErr>
     ensures { Gives (λ vs. vs.items) Bad result (zip machine.now.store args.now) }

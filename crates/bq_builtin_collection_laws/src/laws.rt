@@ -35,7 +35,7 @@ pub fn wrong_numbers_of_arguments_come_first()
     ensures dict_clear { (home number : ℕ) (args : List Datum) (why : FaultKind) (s : State) → no_argument args ≡ Err why → IsRefusedForFirst (dict.clear home number args s) (Some why ∷ []) }
 {}
 
-/// A list is refused to a method, or to an assignment, for the first of what is listed, and for nothing else.
+/// A method, or an assignment, refuses a list for the first of the reasons that are listed, and for nothing else.
 #[tactic(auto, using(crate::proofs::Lists::append_refused, crate::proofs::Lists::clear_refused, crate::proofs::Lists::extend_refused, crate::proofs::Lists::insert_refused, crate::proofs::Lists::pop_refused, crate::proofs::Lists::remove_refused, crate::proofs::Lists::set_refused))]
 pub fn lists_are_refused_in_order()
     ensures append { (home number : ℕ) (xs : List Datum) (v : Datum) (s : State) → IsList s home number xs → IsRefusedForFirst (list.append home number (v ∷ []) s) (appending s home number xs) }
@@ -47,7 +47,7 @@ pub fn lists_are_refused_in_order()
     ensures set { (home number : ℕ) (xs : List Datum) (at v : Datum) (s : State) → IsList s home number xs → IsRefusedForFirst (set_index (cell home number) at v s) (setting_element s home number xs at v) }
 {}
 
-/// A dict is refused to a method, or to an assignment, for the first of what is listed, and for nothing else.
+/// A method, or an assignment, refuses a dict for the first of the reasons that are listed, and for nothing else.
 #[tactic(auto, using(crate::proofs::Dicts::clear_refused, crate::proofs::Dicts::pop_refused, crate::proofs::Dicts::pop_or_refused, crate::proofs::Dicts::popitem_refused, crate::proofs::Dicts::setdefault_refused, crate::proofs::Dicts::update_refused, crate::proofs::Dicts::set_refused))]
 pub fn dicts_are_refused_in_order()
     ensures clear { (home number : ℕ) (ps : List (Datum × Datum)) (s : State) → IsDict s home number ps → IsRefusedForFirst (dict.clear home number [] s) (clearing s home number) }
@@ -59,26 +59,26 @@ pub fn dicts_are_refused_in_order()
     ensures set { (home number : ℕ) (ps : List (Datum × Datum)) (k v : Datum) (s : State) → IsDict s home number ps → IsRefusedForFirst (set_index (cell home number) k v s) (setting_pair s home number ps k v) }
 {}
 
-/// A rule is neither a list nor a dict: an assignment to an index or key of it, `+=` and `|=` are refused for its type (F40), whether
-/// it is frozen or not.
+/// A rule is neither a list nor a dict: an assignment to an index or key of it, `+=` and `|=` fail because of its type
+/// (F40), whether it is frozen or not.
 pub fn rules_are_no_lists_and_no_dicts()
     ensures set { (home number : ℕ) (class : Class) (at v : Datum) (s : State) → IsRule s home number class → set_index (cell home number) at v s ≡ stopped (stop_at WrongType s) }
     ensures sum { (home number : ℕ) (class : Class) (b : Datum) (s : State) → IsRule s home number class → augment op.Add (cell home number) b s ≡ stopped (stop_at WrongType s) }
     ensures union { (home number : ℕ) (class : Class) (b : Datum) (s : State) → IsRule s home number class → augment op.BitOr (cell home number) b s ≡ stopped (stop_at WrongType s) }
 {}
 
-/// `a += b` keeps the list `a` the same list: it has the elements of `b` behind its own, and no new list is made.
+/// `a += b` keeps the list `a` the same list: it has the elements of `b` after its own, and no new list is made.
 pub fn lists_stay_the_same_lists()
     ensures { (home number : ℕ) (xs more : List Datum) (b answer : Datum) (s t : State) → IsList s home number xs → elements_in s.store b ≡ Ok more → augment op.Add (cell home number) b s ≡ done answer t → StaysTheSameList home number xs more answer s t }
 {}
 
-/// What `popitem` answers is the first of the dict's `items()`, and the others are left, in their order.
+/// `popitem` returns the first of the dict's `items()`; the others stay, in their order.
 #[tactic(auto, using(crate::proofs::Items::first_item))]
 pub fn the_first_item_is_popped()
     ensures { (ps left : List (Datum × Datum)) (answer : Datum) → first_out ps ≡ Ok (answer, left) → map pair_tuple ps ≡ answer ∷ map pair_tuple left }
 {}
 
-/// `setdefault` of a key that is there changes nothing, and answers the key's value.
+/// `setdefault` of a key that is there changes nothing, and returns the key's value.
 #[tactic(auto, using(crate::proofs::Items::value_stays))]
 pub fn a_value_that_is_there_stays()
     ensures { (k d v : Datum) (ps : List (Datum × Datum)) → found k ps ≡ Some v → with_default k d ps ≡ Ok (v, ps) }

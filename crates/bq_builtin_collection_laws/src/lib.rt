@@ -1,8 +1,9 @@
 //! Laws of lists and dicts that are changed, by the definitions of `bq_builtin_collections` and `bq_builtin_operators`.
 //!
-//! In: nothing; the functions do nothing, and their contracts are the laws. The promise: each method that changes a list or dict, and
-//! each assignment to an index or key, is refused for the first of the reasons that are listed for it; `+=` keeps a list the same
-//! list; `popitem` takes the first of a dict's items; and what changes lists and dicts refuses a rule for its type.
+//! In: nothing; the functions do nothing, and their contracts are the laws. The promise: each method that changes a
+//! list or dict, and each assignment to an index or key, fails for the first of the reasons that are listed for it;
+//! `+=` keeps a list the same list; `popitem` takes the first of a dict's items; and what changes lists and dicts
+//! refuses a rule because of its type.
 //!
 //! `specs/Orders.antt` has a list of checks for each operation, as docs/LANGUAGE.md has a table of them.
 #![tactic(auto)]

@@ -1,4 +1,4 @@
-//! Arguments by place alone.
+//! Positional arguments.
 
 ghost use Rattle.std.specs.Prelude.{option_copied};
 ghost use Rattle.bq_base.specs.Gives.{Gives};
@@ -8,7 +8,7 @@ ghost use Rattle.bq_builtin_collections.specs.Arguments.{no_argument, one_argume
 use bq_base::FaultKind;
 use bq_value::{EvalErr, Node, Value};
 
-/// No argument.
+/// Checks that there is no argument.
 #[tactic(auto, unfolding(crate::specs::Arguments::no_argument))]
 pub(crate) fn no_argument(args: &[Value]) -> Result<(), EvalErr>
     ensures { Gives (λ _. tt) Bad result (no_argument args.now) }
@@ -19,7 +19,7 @@ pub(crate) fn no_argument(args: &[Value]) -> Result<(), EvalErr>
     }
 }
 
-/// One argument.
+/// Returns the one argument.
 #[tactic(auto, unfolding(crate::specs::Arguments::one_argument))]
 pub(crate) fn one_argument(args: &[Value]) -> Result<&Value, EvalErr>
     ensures { Gives (λ v. v.now) Bad result (one_argument args.now) }
@@ -30,7 +30,7 @@ pub(crate) fn one_argument(args: &[Value]) -> Result<&Value, EvalErr>
     }
 }
 
-/// Two arguments.
+/// Returns the two arguments.
 #[tactic(auto, unfolding(crate::specs::Arguments::two_arguments))]
 pub(crate) fn two_arguments(args: &[Value]) -> Result<(&Value, &Value), EvalErr>
     ensures { Gives (λ r. (r.0.now, r.1.now)) Bad result (two_arguments args.now) }
@@ -41,7 +41,7 @@ pub(crate) fn two_arguments(args: &[Value]) -> Result<(&Value, &Value), EvalErr>
     }
 }
 
-/// One argument, which may be left out.
+/// Returns the argument, which may be left out.
 #[tactic(auto, unfolding(crate::specs::Arguments::optional_argument))]
 pub(crate) fn optional_argument(args: &[Value]) -> Result<Option<&Value>, EvalErr>
     ensures { Gives (λ o. option_copied o) Bad result (optional_argument args.now) }
@@ -53,7 +53,7 @@ pub(crate) fn optional_argument(args: &[Value]) -> Result<Option<&Value>, EvalEr
     }
 }
 
-/// Two arguments, the second of which may be left out.
+/// Returns the two arguments, of which the second may be left out.
 #[tactic(auto, unfolding(crate::specs::Arguments::one_or_two))]
 pub(crate) fn one_or_two(args: &[Value]) -> Result<(&Value, Option<&Value>), EvalErr>
     ensures { Gives (λ r. (r.0.now, option_copied r.1)) Bad result (one_or_two args.now) }
@@ -65,7 +65,7 @@ pub(crate) fn one_or_two(args: &[Value]) -> Result<(&Value, Option<&Value>), Eva
     }
 }
 
-/// An integer (F40).
+/// Returns an integer (F40).
 #[tactic(auto, unfolding(crate::specs::Arguments::integer))]
 pub(crate) fn integer(value: &Value) -> Result<i64, EvalErr>
     ensures { Gives (λ i. i) Bad result (integer value.now) }
@@ -76,7 +76,7 @@ pub(crate) fn integer(value: &Value) -> Result<i64, EvalErr>
     }
 }
 
-/// An index; where it is left out, that of the last element.
+/// Returns an index; if it is left out, that of the last element.
 #[tactic(auto, unfolding(crate::specs::Arguments::index_or_last))]
 pub(crate) fn index_or_last(value: Option<&Value>) -> Result<i64, EvalErr>
     ensures { Gives (λ i. i) Bad result (index_or_last (option_copied value.entry)) }
@@ -87,7 +87,7 @@ pub(crate) fn index_or_last(value: Option<&Value>) -> Result<i64, EvalErr>
     }
 }
 
-/// Three arguments, the second and the third of which may be left out.
+/// Returns the three arguments, of which the second and the third may be left out.
 #[tactic(auto, unfolding(crate::specs::Arguments::one_to_three))]
 pub(crate) fn one_to_three(
     args: &[Value],
@@ -102,7 +102,7 @@ pub(crate) fn one_to_three(
     }
 }
 
-/// An integer, or none where it is left out or `None`.
+/// Returns an integer, or `None` if it is left out or `None`.
 #[tactic(auto, unfolding(crate::specs::Arguments::optional_integer))]
 pub(crate) fn optional_integer(value: Option<&Value>) -> Result<Option<i64>, EvalErr>
     ensures { Gives (λ o. o) Bad result (optional_integer (option_copied value.entry)) }

@@ -14,7 +14,7 @@ use bq_builtin_operators::{put_pairs, unite};
 use bq_value::{Body, Cell, Dict, EvalErr, Key, Value};
 use std::alloc::{AllocError, Global};
 
-/// The pairs of a dict.
+/// Returns the pairs of a dict.
 #[tactic(auto, unfolding(crate::specs::Dict::pairs_in))]
 fn pairs_in(machine: &Machine, dict: Cell) -> Result<&Dict, EvalErr>
     ensures { Does (λ ps. ps.now) result machine.now (pairs_in dict.module dict.number machine.now) }
@@ -27,7 +27,7 @@ fn pairs_in(machine: &Machine, dict: Cell) -> Result<&Dict, EvalErr>
     }
 }
 
-/// A value that may be left out, which is `None` then.
+/// Returns a value that may be left out, and `None` if it is.
 fn or_none(value: Option<&Value>) -> Result<Value, AllocError>
     ensures { IfOk result (λ v. v ≡ or_none (option_copied value.entry)) }
 {
@@ -46,7 +46,7 @@ fn shared(value: Option<&Value>) -> Result<Option<Value>, AllocError>
     }
 }
 
-/// `clear()`: no pair.
+/// `clear()`: removes all pairs.
 #[tactic(auto, unfolding(crate::specs::Dict::clear))]
 pub fn clear(
     alloc: Global,
@@ -60,7 +60,7 @@ pub fn clear(
     change_dict(alloc, machine, dict, DictEdit::Clear)
 }
 
-/// `get(key, default)`: the key's value.
+/// `get(key, default)`: returns the key's value.
 #[tactic(auto, unfolding(crate::specs::Dict::get))]
 pub fn get(machine: &mut Machine, dict: Cell, args: &[Value]) -> Result<Value, EvalErr>
     ensures { Does (λ v. v) result machine.new (get dict.module dict.number args.now machine.old) }
@@ -73,7 +73,7 @@ pub fn get(machine: &mut Machine, dict: Cell, args: &[Value]) -> Result<Value, E
     }
 }
 
-/// `items()`: a new list of the pairs, each a tuple.
+/// `items()`: makes a list of the pairs, each a tuple.
 #[tactic(auto, unfolding(crate::specs::Dict::dict_items))]
 pub fn items(
     alloc: Global,
@@ -88,7 +88,7 @@ pub fn items(
     machine.new_list(tuples)
 }
 
-/// `keys()`: a new list of the keys.
+/// `keys()`: makes a list of the keys.
 #[tactic(auto, unfolding(crate::specs::Dict::dict_keys))]
 pub fn keys(
     alloc: Global,
@@ -103,7 +103,7 @@ pub fn keys(
     machine.new_list(keys)
 }
 
-/// `values()`: a new list of the values.
+/// `values()`: makes a list of the values.
 #[tactic(auto, unfolding(crate::specs::Dict::dict_values))]
 pub fn values(
     alloc: Global,
@@ -140,7 +140,7 @@ fn tuples_of(alloc: Global, dict: &Dict) -> Result<Vec<Value>, AllocError>
     Ok(tuples)
 }
 
-/// A key by which the dict is changed.
+/// Returns a key by which the dict is changed.
 #[tactic(auto, unfolding(crate::specs::Dict::key_to_change))]
 fn key_to_change(machine: &mut Machine, dict: Cell, key: &Value) -> Result<Key, EvalErr>
     ensures { Does (λ key. key) result machine.new (key_to_change dict.module dict.number key.now machine.old) }
@@ -150,7 +150,7 @@ fn key_to_change(machine: &mut Machine, dict: Cell, key: &Value) -> Result<Key, 
     machine.key(key)
 }
 
-/// `pop(key, default)`: the key's pair is taken out.
+/// `pop(key, default)`: removes the key's pair, and returns its value.
 #[tactic(auto, unfolding(crate::specs::Dict::pop))]
 pub fn pop(
     alloc: Global,
@@ -166,7 +166,7 @@ pub fn pop(
     change_dict(alloc, machine, dict, DictEdit::Pop(key, default))
 }
 
-/// `popitem()`: the first pair is taken out.
+/// `popitem()`: removes the first pair, and returns it.
 #[tactic(auto, unfolding(crate::specs::Dict::popitem))]
 pub fn popitem(
     alloc: Global,
@@ -180,7 +180,7 @@ pub fn popitem(
     change_dict(alloc, machine, dict, DictEdit::PopItem)
 }
 
-/// `setdefault(key, default)`: the key's value, which is the default where there was none.
+/// `setdefault(key, default)`: returns the key's value, which becomes the default if there is none.
 #[tactic(auto, unfolding(crate::specs::Dict::setdefault))]
 pub fn setdefault(
     alloc: Global,
@@ -196,7 +196,7 @@ pub fn setdefault(
     change_dict(alloc, machine, dict, DictEdit::SetDefault(key, default))
 }
 
-/// `update(pairs = [], **keywords)`: each pair is put in turn; a key that is there keeps its place.
+/// `update(pairs = [], **keywords)`: inserts each pair in turn; a key that is there keeps its place.
 #[tactic(auto, unfolding(crate::specs::Dict::update))]
 pub fn update(
     alloc: Global,
@@ -213,7 +213,7 @@ pub fn update(
     Ok(Value::none())
 }
 
-/// The function `dict(pairs = [], **keywords)`: a new dict, into which each pair is put in turn.
+/// `dict(pairs = [], **keywords)`: makes a dict into which each pair is inserted in turn.
 #[tactic(auto, unfolding(crate::specs::Dict::dict_made))]
 pub fn new_dict(alloc: Global, machine: &mut Machine, args: Args) -> Result<Value, EvalErr>
     ensures { Does (λ v. v) result machine.new (dict_made args machine.old) }

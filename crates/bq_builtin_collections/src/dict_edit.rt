@@ -1,4 +1,4 @@
-//! What changes a dict.
+//! Changes of a dict.
 
 ghost use Rattle.std.specs.Prelude.{◌≡◌, IfOk};
 ghost use Rattle.bq_base.specs.Gives.{Gives};
@@ -104,7 +104,7 @@ fn with_default(pairs: &mut Dict, key: Key, default: Value) -> Result<Value, Eva
     Ok(default)
 }
 
-/// `(key, value)`.
+/// Returns `(key, value)`.
 pub(crate) fn pair_tuple(alloc: Global, key: &Key, value: &Value) -> Result<Value, AllocError>
     ensures { IfOk result (λ v. v ≡ pair_tuple (key.now, value.now)) }
 {

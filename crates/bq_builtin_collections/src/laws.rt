@@ -13,21 +13,21 @@ ghost use Rattle.bq_builtin_collections.specs.List.{appended, inserted, popped, 
 ghost use Rattle.bq_builtin_collections.specs.Dict.{with_default, taken_out, update};
 ghost use Rattle.bq_builtin_collections.specs.Laws.{Dict, KeepsPlaces};
 
-/// Of the pairs that are put into a dict the last one of a key wins; a key without any has the value that it had. Keys that were
-/// there keep their places, and new ones go last.
+/// Of the pairs that are inserted into a dict the last one of a key wins; a key without one keeps its value. Keys that
+/// were there keep their places, and new ones go last.
 pub fn pairs_that_are_put()
     ensures values { (key : Datum) (dict more : Dict) → found key (put_all dict more) ≡ or_else (found key (reverse more)) (found key dict) }
     ensures places { (dict more : Dict) → KeepsPlaces dict (put_all dict more) }
 {}
 
-/// After `d.update(e)` of two dicts, the pairs of `e` are put into `d` in turn, also where both are the same dict; after
-/// `d.update(e, name = value)` the name, too, as the last one.
+/// After `d.update(e)` of two dicts, the pairs of `e` are in `d`, inserted in turn, also where both are the same dict;
+/// after `d.update(e, name = value)` the name is too, as the last one.
 pub fn a_dict_that_is_updated()
     ensures pairs { (home number other place : ℕ) (dict more : Dict) (answer : Datum) (s t : State) → content_at s.store home number ≡ Some (pairs dict) → content_at s.store other place ≡ Some (pairs more) → update home number (record { positional = cell other place ∷ []; named = [] }) s ≡ done answer t → content_at t.store home number ≡ Some (pairs (put_all dict more)) }
     ensures name { (home number other place : ℕ) (name : List ℕ) (value : Datum) (dict more : Dict) (answer : Datum) (s t : State) → content_at s.store home number ≡ Some (pairs dict) → content_at s.store other place ≡ Some (pairs more) → update home number (record { positional = cell other place ∷ []; named = (name, value) ∷ [] }) s ≡ done answer t → content_at t.store home number ≡ Some (pairs (put (string name) value (put_all dict more))) }
 {}
 
-/// What `setdefault` answers is the key's value then.
+/// What `setdefault` returns is the value that the key has then.
 pub fn a_default_is_the_value()
     ensures { (key default answer : Datum) (dict after : Dict) → with_default key default dict ≡ Ok (answer, after) → found key after ≡ Some answer }
 {}
@@ -37,7 +37,7 @@ pub fn a_key_that_is_popped_is_gone()
     ensures { (key answer : Datum) (default : Option Datum) (dict after : Dict) → HasNoKeyTwice dict → taken_out key default dict ≡ Ok (answer, after) → found key after ≡ None }
 {}
 
-/// `pop()` takes out what was appended, and `pop` of its place what was inserted; the list is then as it was.
+/// `pop()` removes what was appended, and `pop` of its place what was inserted; the list is then as it was.
 pub fn what_is_put_into_a_list_is_taken_out()
     ensures appended { (answer v : Datum) (list after : List Datum) → appended v list ≡ Ok (answer, after) → popped (negsuc 0) after ≡ Ok (v, list) }
     ensures inserted { (i : ℤ) (answer v : Datum) (list after : List Datum) → inserted i v list ≡ Ok (answer, after) → taken (clamped (length list) i) after ≡ Ok (v, list) }

@@ -1,13 +1,13 @@
 //! The methods of lists and dicts.
 //!
-//! The promise: each method gives exactly what the action of its name gives (`specs/List.antt`, `specs/Dict.antt`), unless memory
-//! runs out: the answer, the list or dict then, the steps, or the fault. Its arguments are those by place; only `update` of dicts
-//! takes named ones.
+//! The promise: each method does exactly what the action of its name does (`specs/List.antt`, `specs/Dict.antt`),
+//! unless memory runs out: the answer, the list or dict then, the steps, or the fault. Its arguments are positional;
+//! only `update` of dicts takes named ones too.
 //!
 //! In reading order:
 //!
 //! - `arguments`: how many arguments there are, and of which types;
-//! - `list_edit`, `dict_edit`: what changes a list, and a dict;
+//! - `list_edit`, `dict_edit`: changes of a list, and of a dict;
 //! - `search`: the first element that is equal to a value;
 //! - `pairs_given`: the pairs that `update` of dicts and the function `dict` are given;
 //! - `list`, `dict`: the methods;

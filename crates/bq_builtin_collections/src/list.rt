@@ -17,7 +17,7 @@ use bq_builtin_numbers::MAX_LEN;
 use bq_value::{Body, Cell, EvalErr, Value};
 use std::alloc::Global;
 
-/// `append(v)`: one element more, at the end.
+/// `append(v)`: adds an element at the end.
 #[tactic(auto, unfolding(crate::specs::List::append))]
 pub fn append(machine: &mut Machine, list: Cell, args: &[Value]) -> Result<Value, EvalErr>
     ensures { Does (λ v. v) result machine.new (append list.module list.number args.now machine.old) }
@@ -26,7 +26,7 @@ pub fn append(machine: &mut Machine, list: Cell, args: &[Value]) -> Result<Value
     change_list(machine, list, ListEdit::Append(value))
 }
 
-/// `clear()`: no element.
+/// `clear()`: removes all elements.
 #[tactic(auto, unfolding(crate::specs::List::clear))]
 pub fn clear(machine: &mut Machine, list: Cell, args: &[Value]) -> Result<Value, EvalErr>
     ensures { Does (λ v. v) result machine.new (clear list.module list.number args.now machine.old) }
@@ -35,7 +35,7 @@ pub fn clear(machine: &mut Machine, list: Cell, args: &[Value]) -> Result<Value,
     change_list(machine, list, ListEdit::Clear)
 }
 
-/// `extend(x)`: the elements of `x` at the end.
+/// `extend(x)`: adds the elements of `x` at the end.
 #[tactic(auto, unfolding(crate::specs::List::extend))]
 pub fn extend(
     alloc: Global,
@@ -49,7 +49,7 @@ pub fn extend(
     change_list(machine, list, ListEdit::Extend(elements))
 }
 
-/// `insert(i, v)`: before the element of index `i`; past an end, at that end.
+/// `insert(i, v)`: adds an element before the one of index `i`; past an end, at that end.
 #[tactic(auto, unfolding(crate::specs::List::insert_at))]
 pub fn insert(machine: &mut Machine, list: Cell, args: &[Value]) -> Result<Value, EvalErr>
     ensures { Does (λ v. v) result machine.new (insert_at list.module list.number args.now machine.old) }
@@ -60,7 +60,7 @@ pub fn insert(machine: &mut Machine, list: Cell, args: &[Value]) -> Result<Value
     change_list(machine, list, ListEdit::Insert(place, value))
 }
 
-/// `pop(i)`: the element of index `i` is taken out; without an index, the last one.
+/// `pop(i)`: removes the element of index `i`, or without an index the last one, and returns it.
 #[tactic(auto, unfolding(crate::specs::List::pop))]
 pub fn pop(machine: &mut Machine, list: Cell, args: &[Value]) -> Result<Value, EvalErr>
     ensures { Does (λ v. v) result machine.new (pop list.module list.number args.now machine.old) }
@@ -69,7 +69,7 @@ pub fn pop(machine: &mut Machine, list: Cell, args: &[Value]) -> Result<Value, E
     change_list(machine, list, ListEdit::Pop(place))
 }
 
-/// The values of a list.
+/// Returns the values of a list.
 #[tactic(auto, unfolding(crate::specs::List::list_in))]
 fn list_in(machine: &Machine, list: Cell) -> Result<&[Value], EvalErr>
     ensures { Does (λ xs. xs.now) result machine.now (list_in list.module list.number machine.now) }
@@ -82,7 +82,7 @@ fn list_in(machine: &Machine, list: Cell) -> Result<&[Value], EvalErr>
     }
 }
 
-/// The place of the first element between two indices that is equal to `value`, if there is one.
+/// Returns the place of the first element between two indices that is equal to `value`, if there is one.
 #[tactic(auto, unfolding(crate::specs::List::find))]
 fn find(
     machine: &mut Machine,
@@ -99,7 +99,7 @@ fn find(
     Ok(at)
 }
 
-/// The place that was found, as an integer.
+/// Returns the place that was found, as an integer.
 #[tactic(auto, using(std::proofs::lemmas::Bool::Decides::nat_tests), unfolding(crate::specs::List::place_value))]
 fn place_value(at: Option<usize>) -> Result<Value, EvalErr>
     ensures { Gives (λ v. v) Bad result (place_value at) }
@@ -115,7 +115,7 @@ fn place_value(at: Option<usize>) -> Result<Value, EvalErr>
     }
 }
 
-/// `index(v, start, end)`: the place of the first element that is equal to `v`.
+/// `index(v, start, end)`: returns the place of the first element that is equal to `v`.
 #[tactic(auto, unfolding(crate::specs::List::index))]
 pub fn index(machine: &mut Machine, list: Cell, args: &[Value]) -> Result<Value, EvalErr>
     ensures { Does (λ v. v) result machine.new (index list.module list.number args.now machine.old) }
@@ -127,7 +127,7 @@ pub fn index(machine: &mut Machine, list: Cell, args: &[Value]) -> Result<Value,
     place_value(at)
 }
 
-/// `remove(v)`: the first element that is equal to `v` is taken out.
+/// `remove(v)`: removes the first element that is equal to `v`.
 #[tactic(auto, unfolding(crate::specs::List::remove_value))]
 pub fn remove(machine: &mut Machine, list: Cell, args: &[Value]) -> Result<Value, EvalErr>
     ensures { Does (λ v. v) result machine.new (remove_value list.module list.number args.now machine.old) }

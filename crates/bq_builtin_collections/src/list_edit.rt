@@ -1,4 +1,4 @@
-//! What changes a list.
+//! Changes of a list.
 
 ghost use Rattle.std.specs.Prelude.{◌≡◌, ◌++◌, OnOk};
 ghost use Rattle.bq_base.specs.Gives.{Gives};
@@ -20,7 +20,7 @@ pub(crate) enum ListEdit {
     Insert(i64, Value),
     Pop(i64),
     Clear,
-    /// Takes out the element of that place.
+    /// Removes the element of this place.
     Drop(usize),
 }
 

@@ -1,7 +1,7 @@
 //! The pairs that `update` and `dict` are given (Starlark, "dict", "dict·update").
 //!
-//! What is given is read as a whole before any key is made, and all keys are made before a pair is put: so the faults come in the
-//! order F52, F40, then F47 and F48 of the dict that is changed, then those of keys (F45, F53, F55), then F57, then F54.
+//! All is read before any key is made, and all keys are made before a pair is inserted: so the faults come in the order
+//! F52, F40, then F47 and F48 of the dict that is changed, then those of keys (F45, F53, F55), then F57, then F54.
 
 ghost use Rattle.std.specs.Prelude.{◌≡◌, ◌++◌, IfOk, OnOk, option_copied};
 ghost use Rattle.bq_base.specs.Gives.{Gives};
@@ -26,7 +26,7 @@ const PAIRS: Signature<'static> = Signature {
     takes_keywords: true,
 };
 
-/// What is read of the arguments. Contracts see `GivenView`.
+/// What was read of the arguments. Contracts see `GivenView`.
 #[derive(Drop)]
 pub(crate) struct PairsGiven {
     /// Pairs of a dict.
@@ -141,7 +141,7 @@ fn first_value(values: &[Option<Value>]) -> Option<&Value>
     }
 }
 
-/// The dict that a value is.
+/// Returns the dict that a value is.
 fn dict_of<'s>(store: &'s Store, value: &Value) -> Option<&'s Dict>
     ensures { option_copied result ≡ dict_of store.now value.now }
 {
@@ -158,7 +158,7 @@ fn dict_of<'s>(store: &'s Store, value: &Value) -> Option<&'s Dict>
     }
 }
 
-/// The two parts of a list or tuple, if it has two (F40).
+/// Returns the two parts of a list or tuple, if it has two (F40).
 #[tactic(auto, using(bq_value::specs::Datum::list_of_data_of), unfolding(crate::specs::PairsGiven::pair_in))]
 fn pair_in(store: &Store, element: &Value) -> Result<Option<(Value, Value)>, EvalErr>
     ensures { Gives (λ o. o) Bad result (pair_in store.now element.now) }
@@ -177,7 +177,7 @@ fn pair_in(store: &Store, element: &Value) -> Result<Option<(Value, Value)>, Eva
     }
 }
 
-/// Shares of two values, if there are just two.
+/// Shares two values, if there are exactly two.
 fn two(values: &[Value]) -> Result<Option<(Value, Value)>, AllocError>
     ensures { IfOk result (λ o. o ≡ two values.now) }
 {
@@ -187,7 +187,7 @@ fn two(values: &[Value]) -> Result<Option<(Value, Value)>, AllocError>
     }
 }
 
-/// Shares of the pairs of a dict behind those that are there.
+/// Appends shares of the pairs of a dict.
 fn push_pairs(pairs: &mut Vec<(Key, Value)>, dict: &Dict) -> Result<(), AllocError>
     ensures { OnOk result (pairs.new.items ≡ pairs.old.items ++ dict.now) }
 {

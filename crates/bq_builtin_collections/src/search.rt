@@ -8,7 +8,8 @@ use bq_base::FaultKind;
 use bq_builtin_numbers::span;
 use bq_value::{Store, Value};
 
-/// The place of the first of these values between two indices that is equal to `value`, and the steps that are left of these.
+/// Returns the place of the first of these values between two indices that is equal to `value`, and how many of the
+/// steps are left.
 #[tactic(auto, unfolding(crate::specs::Search::found_between))]
 pub(crate) fn found_between(
     store: &Store,
@@ -27,7 +28,7 @@ pub(crate) fn found_between(
     first_equal(store, steps, from, value, &values[from..to])
 }
 
-/// The place of the first of these values that is equal to `value`, where the first one has the place `at`.
+/// Returns the place of the first of these values that is equal to `value`, where the first one has the place `at`.
 fn first_equal(
     store: &Store,
     steps: u64,

@@ -10,14 +10,14 @@ use bq_base::Bytes;
 use bq_source::{is_letter, is_word};
 use bq_value::Value;
 
-/// Whether a format has had fields without text, and fields with a number.
+/// Whether fields without text have come, and fields with a number.
 #[derive(Clone, Copy)]
 pub struct Numbering {
     pub is_automatic: bool,
     pub is_numbered: bool,
 }
 
-/// Whether the text is made of digits, one at least.
+/// Returns whether the text consists of digits, one at least.
 fn is_number(text: &[u8]) -> bool
     ensures { result ≡ is_number text.now }
 {
@@ -29,7 +29,7 @@ fn is_number(text: &[u8]) -> bool
     !text.is_empty()
 }
 
-/// Whether the text is a word, which begins with no digit.
+/// Returns whether the text is a word that doesn't begin with a digit.
 fn is_name(text: &[u8]) -> bool
     ensures { result ≡ is_name text.now }
 {
@@ -44,7 +44,7 @@ fn is_name(text: &[u8]) -> bool
     is_letter(*first)
 }
 
-/// The number with one more digit, where it fits.
+/// Returns the number with one more digit, if it fits.
 fn with_digit(number: usize, digit: u8) -> Option<usize>
     requires { is_digit digit ≡ true }
     ensures { SomeIff result (number * 10 + digit_value digit < 2 ^ 64) (number * 10 + digit_value digit) }
@@ -52,7 +52,7 @@ fn with_digit(number: usize, digit: u8) -> Option<usize>
     number.checked_mul(10)?.checked_add((digit - b'0') as usize)
 }
 
-/// The value of this number.
+/// Returns the value of this number.
 fn numbered_value<'v>(values: &'v [Value], digits: &[u8]) -> Option<&'v Value>
     requires { is_number digits.now ≡ true }
     ensures { option_copied result ≡ slice_get values.now (digits_value 10 digits.now) }
@@ -66,7 +66,7 @@ fn numbered_value<'v>(values: &'v [Value], digits: &[u8]) -> Option<&'v Value>
     values.get(number)
 }
 
-/// The value of this name.
+/// Returns the value of this name.
 fn named_value<'v>(named: &'v [(Bytes, Value)], name: &[u8]) -> Option<&'v Value>
     ensures { option_copied result ≡ named_value name.now named.now }
 {
@@ -78,7 +78,7 @@ fn named_value<'v>(named: &'v [(Bytes, Value)], name: &[u8]) -> Option<&'v Value
     None
 }
 
-/// The value that a field of this text names, where `next` are the values from the next one on.
+/// Returns the value that a field of this text names, where `next` are the values from the next one on.
 pub fn argument<'v>(
     values: &'v [Value],
     named: &'v [(Bytes, Value)],
@@ -99,7 +99,7 @@ pub fn argument<'v>(
     None
 }
 
-/// The values from the next one on, after a field of this text.
+/// Returns the values from the next one on, after a field of this text.
 pub fn next_after<'v>(next: &'v [Value], text: &[u8]) -> &'v [Value]
     ensures { result.now ≡ next_after next.now text.now }
 {
@@ -110,7 +110,7 @@ pub fn next_after<'v>(next: &'v [Value], text: &[u8]) -> &'v [Value]
 }
 
 impl Numbering {
-    /// No field has come.
+    /// Returns the state before any field.
     pub fn none() -> Numbering
         ensures { result ≡ no_fields }
     {
@@ -120,7 +120,7 @@ impl Numbering {
         }
     }
 
-    /// A field of this text has come, too.
+    /// Returns the state after one more field, of this text.
     pub fn and(self, text: &[u8]) -> Numbering
         ensures { result ≡ numbering_after self text.now }
     {
@@ -139,7 +139,7 @@ impl Numbering {
         self
     }
 
-    /// Whether there are fields of both kinds, which is malformed.
+    /// Returns whether fields of both kinds have come, which is malformed.
     pub fn is_mixed(self) -> bool
         ensures { result ≡ is_mixed self }
     {

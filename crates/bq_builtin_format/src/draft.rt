@@ -1,4 +1,4 @@
-//! What is written of a text that is formatted.
+//! What is written of a formatted text.
 
 ghost use Rattle.std.specs.Prelude.{◌≡◌, OnOk};
 ghost use Rattle.bq_base.specs.Gives.{Gives};
@@ -29,7 +29,7 @@ impl Model for Draft {
 }
 
 impl Draft {
-    /// Nothing is written yet.
+    /// Makes an empty draft.
     pub fn new(alloc: Global) -> Draft
         ensures { result ≡ blank }
     {
@@ -39,7 +39,7 @@ impl Draft {
         }
     }
 
-    /// Writes these bytes after what is written.
+    /// Appends `bytes`.
     pub fn write(&mut self, bytes: &[u8]) -> Result<(), AllocError>
         ensures { OnOk result (self.new ≡ and_write self.old bytes.now) }
     {
@@ -53,7 +53,7 @@ impl Draft {
         self.is_malformed = true;
     }
 
-    /// Writes an integer in decimal digits. Another value is malformed there.
+    /// Writes an integer in decimal digits. Another value is malformed here.
     fn write_decimal(&mut self, value: &Value) -> Result<(), AllocError>
         ensures { OnOk result (self.new ≡ decimal self.old value.now) }
     {
@@ -66,7 +66,7 @@ impl Draft {
         }
     }
 
-    /// Writes what the conversion of this name says of a value, and gives the steps that are left.
+    /// Writes a value by the conversion of this name, and returns how many of the steps are left.
     pub fn show(
         &mut self,
         store: &Store,
@@ -86,7 +86,7 @@ impl Draft {
         Ok(steps)
     }
 
-    /// The text; F59 where something was malformed, else F54 where it is too long.
+    /// Returns the text; F59 if something was malformed, or else F54 if it is too long.
     pub fn finish(self, alloc: Global) -> Result<Bytes, EvalErr>
         ensures { Gives (λ text. text) Bad result (finished_draft self) }
     {

@@ -14,8 +14,8 @@ pub fn the_pieces_of_a_format()
     ensures only { (format : List ℕ) (ps : List Piece) → IsCutInto format ps → (pieces format ≡ ps) × HasNoLone ps }
 {}
 
-/// A format without fields is a text in which each brace is doubled, and what it makes is that text, whatever the arguments;
-/// no step is taken.
+/// A format without fields is a text in which each brace is doubled, and it makes that text, whatever the arguments; no
+/// step is taken.
 pub fn a_format_without_fields()
     ensures doubled { (text format : List ℕ) → IsCutInto format (bytes text) ↔ (format ≡ with_doubled_braces text) }
     ensures made { (s : StoreView) (n : ℕ) (text : List ℕ) (values : List Datum) (named : List (List ℕ × Datum)) → length text ≤ max_text → formatted s n (with_doubled_braces text) values named ≡ Ok (text, n) }

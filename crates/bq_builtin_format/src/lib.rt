@@ -3,14 +3,14 @@
 //! The promise: `percent` and `format` give exactly the text or the fault of their definitions, and the steps that are left, unless
 //! memory runs out.
 //!
-//! What is malformed is noted in a `Draft` and the walk goes on, so that F59 comes after all that the visits find (F53, F55), and
-//! F54 last.
+//! What is malformed is noted in a `Draft` and the walk goes on, so that F59 comes after all that visits to values find
+//! (F53, F55), and F54 last.
 //!
 //! In reading order:
 //!
 //! - `draft`: what is written, and whether something was malformed;
 //! - `operator`: conversions, and the operator `%`;
-//! - `piece`: what a format of the method is cut into;
+//! - `piece`: the pieces of a format for the method;
 //! - `argument`: which value a field names;
 //! - `method`: the method `format`;
 //! - `laws`: what the definitions say together.

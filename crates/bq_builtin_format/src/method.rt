@@ -31,7 +31,8 @@ fn show_field(
     }
 }
 
-/// The text of a draft, with the steps that are left. Fields without text beside fields with a number are malformed.
+/// Returns the text of a draft, with the steps that are left. Fields without text beside fields with a number are
+/// malformed.
 fn finish(
     alloc: Global,
     draft: Draft,
@@ -47,7 +48,7 @@ fn finish(
     Ok((draft.finish(alloc)?, left))
 }
 
-/// The text that the method `format` makes of a format and values, and the steps that are left of these.
+/// Fills a format with values, as the method `format` does. Returns the text and how many of the steps are left.
 #[tactic(auto, unfolding(crate::specs::Method::formatted))]
 pub fn format(
     alloc: Global,

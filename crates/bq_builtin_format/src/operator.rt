@@ -12,7 +12,7 @@ use bq_value::{EvalErr, Node, Store, Value};
 use std::alloc::Global;
 use std::slice;
 
-/// Whether the conversion of this name takes a value.
+/// Returns whether the conversion of this name takes a value.
 fn takes_value(kind: u8) -> bool
     ensures { result ≡ takes_value kind }
 {
@@ -36,7 +36,7 @@ fn show_next(
     draft.show(store, steps, kind, value)
 }
 
-/// The conversion that the first byte of `after` names.
+/// Writes what the conversion that `after` begins with makes of its value.
 fn convert(
     store: &Store,
     steps: u64,
@@ -61,7 +61,7 @@ fn convert(
     Ok(steps)
 }
 
-/// The values that are left after the conversion that the first byte of `after` names.
+/// Returns the values that are left after the conversion that the first byte of `after` names.
 fn values_after<'v>(after: &[u8], values: &'v [Value]) -> &'v [Value]
     ensures { result.now ≡ values_after after.now values.now }
 {
@@ -74,7 +74,7 @@ fn values_after<'v>(after: &[u8], values: &'v [Value]) -> &'v [Value]
     values
 }
 
-/// Values that are left at the end are malformed.
+/// Notes that it is malformed if values are left at the end.
 fn end(draft: &mut Draft, values: &[Value])
     ensures { draft.new ≡ ended draft.old values.now }
 {
@@ -107,7 +107,7 @@ fn write_filled(
     Ok(left)
 }
 
-/// The text of a format and the values that it takes.
+/// Returns the text of a format and the values that it takes.
 fn fill(
     alloc: Global,
     store: &Store,
@@ -122,8 +122,8 @@ fn fill(
     Ok((draft.finish(alloc)?, left))
 }
 
-/// The text that `format % right` is, and the steps that are left of these. The right side is a tuple of the values, or the one
-/// value.
+/// Returns the text `format % right`, and how many of the steps are left. The right side is a tuple of the values, or
+/// the one value.
 #[tactic(auto, using(bq_value::specs::Datum::list_of_data_of))]
 pub fn percent(
     alloc: Global,

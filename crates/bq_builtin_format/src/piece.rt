@@ -13,7 +13,7 @@ fn is_brace(byte: u8) -> bool
     byte == b'{' || byte == b'}'
 }
 
-/// How many bytes that are no braces the text begins with.
+/// Returns how many bytes that are no braces the text begins with.
 fn plain_len(text: &[u8]) -> usize
     ensures len { result ≡ prefix_len is_plain text.now }
     ensures within { result ≤ length text.now }
@@ -28,7 +28,7 @@ fn plain_len(text: &[u8]) -> usize
     at
 }
 
-/// How many bytes the text has before its first closing brace.
+/// Returns how many bytes the text has before its first closing brace.
 fn inside_len(text: &[u8]) -> usize
     ensures len { result ≡ prefix_len is_inside text.now }
     ensures within { result ≤ length text.now }
@@ -43,7 +43,7 @@ fn inside_len(text: &[u8]) -> usize
     at
 }
 
-/// The text of the field that a format begins with, and what is after it.
+/// Returns the text of the field that a format begins with, and what is after it.
 #[tactic(auto, unfolding(crate::specs::Piece::field_of))]
 pub fn field_of(format: &[u8]) -> Option<(&[u8], &[u8])>
     ensures field { MatchOption result (field_of format.now ≡ None) (λ p. field_of format.now ≡ Some (p.0.now, p.1.now)) }
@@ -68,7 +68,7 @@ pub fn field_of(format: &[u8]) -> Option<(&[u8], &[u8])>
     Some((name, after))
 }
 
-/// Writes what a brace that begins no field stands for, and gives what is after it.
+/// Writes what a brace that begins no field stands for, and returns what is after it.
 fn write_brace<'f>(brace: u8, after: &'f [u8], draft: &mut Draft) -> Result<&'f [u8], AllocError>
     ensures piece { IfOk result (λ rest. draft.new ≡ piece_written draft.old (doubled brace after.now).0) }
     ensures rest { IfOk result (λ rest. rest.now ≡ (doubled brace after.now).1) }
@@ -88,7 +88,8 @@ fn write_brace<'f>(brace: u8, after: &'f [u8], draft: &mut Draft) -> Result<&'f 
     Ok(after)
 }
 
-/// Writes the plain bytes that a format begins with, or what its first brace stands for, and gives what is after that.
+/// Writes the plain bytes that a format begins with, or what its first brace stands for, and returns what is after
+/// that.
 fn write_piece<'f>(format: &'f [u8], draft: &mut Draft) -> Result<&'f [u8], AllocError>
     requires some { 0 < length format.now }
     requires no_field { field_of format.now ≡ None }
@@ -104,7 +105,7 @@ fn write_piece<'f>(format: &'f [u8], draft: &mut Draft) -> Result<&'f [u8], Allo
     Ok(&format[len..])
 }
 
-/// Writes what a format says up to its first field, and gives what is left from there on.
+/// Writes a format up to its first field, and returns the rest.
 pub fn write_literal<'f>(format: &'f [u8], draft: &mut Draft) -> Result<&'f [u8], AllocError>
     ensures literal { IfOk result (λ rest. literal draft.old (pieces format.now) ≡ (draft.new, pieces rest.now)) }
     ensures field { IfOk result (λ rest. field_of rest.now ≡ None → rest.now ≡ []) }

@@ -1,7 +1,8 @@
 //! Laws of formats, by the definition of `bq_builtin_format`.
 //!
-//! In: nothing; the functions do nothing, and their contracts are the laws. The promise: `%` takes just as many values as it is given,
-//! and a format for the method `format` hasn't both fields without text and fields with a number.
+//! In: nothing; the functions do nothing, and their contracts are the laws. The promise: `%` takes exactly as many
+//! values as it is given, and a format for the method `format` doesn't have both fields without text and fields with a
+//! number.
 #![tactic(auto)]
 
 mod laws;

@@ -15,19 +15,19 @@ ghost use Rattle.bq_builtin.specs.Texts.{print};
 ghost use Rattle.bq_builtin.specs.Truths.{all, any};
 ghost use Rattle.bq_builtin_function_laws.specs.Words.{by_place, AreCounted};
 
-/// `reversed` gives each element at the place that is as far from the end as it was from the start; what is reversed twice is as it was.
+/// `reversed` has each element as far from the end as it was from the start; what is reversed twice is as it was.
 pub fn reversed_lists_go_backwards()
     ensures places { (s : StoreView) (x : Datum) (xs ys : List Datum) → elements_in s x ≡ Ok xs → reversed s (by_place (x ∷ [])) ≡ Ok ys → (i j : ℕ) → i + j + 1 ≡ length xs → slice_get ys i ≡ slice_get xs j }
     ensures twice { (s : StoreView) (x : Datum) (xs ys zs : List Datum) → elements_in s x ≡ Ok xs → reversed s (by_place (x ∷ [])) ≡ Ok ys → reversed s (by_place (tuple (data_of ys) ∷ [])) ≡ Ok zs → zs ≡ xs }
 {}
 
-/// `any` is true where one of the elements counts as true, and false where none does.
+/// `any` is true if one of the elements counts as true, and false if none does.
 pub fn any_asks_for_one_element()
     ensures one { (s : StoreView) (x : Datum) (xs : List Datum) → elements_in s x ≡ Ok xs → Any (λ v. truth_of s v ≡ true) xs → any s (by_place (x ∷ [])) ≡ Ok (boolean true) }
     ensures none { (s : StoreView) (x : Datum) (xs : List Datum) → elements_in s x ≡ Ok xs → All (λ v. truth_of s v ≡ false) xs → any s (by_place (x ∷ [])) ≡ Ok (boolean false) }
 {}
 
-/// `all` is true where each of the elements counts as true, and false where one doesn't.
+/// `all` is true if each of the elements counts as true, and false if one doesn't.
 pub fn all_asks_for_every_element()
     ensures every { (s : StoreView) (x : Datum) (xs : List Datum) → elements_in s x ≡ Ok xs → All (λ v. truth_of s v ≡ true) xs → all s (by_place (x ∷ [])) ≡ Ok (boolean true) }
     ensures not_one { (s : StoreView) (x : Datum) (xs : List Datum) → elements_in s x ≡ Ok xs → Any (λ v. truth_of s v ≡ false) xs → all s (by_place (x ∷ [])) ≡ Ok (boolean false) }
@@ -40,7 +40,7 @@ pub fn ranges_are_counted()
     ensures step { (s : StoreView) (start stop step : ℤ) (v : Datum) (xs : List Datum) → range (by_place (int start ∷ int stop ∷ int step ∷ [])) ≡ Ok v → elements_in s v ≡ Ok xs → AreCounted start stop step xs }
 {}
 
-/// `print` of two strings prints both with a space between, or with the string `sep`, as one text after those that were printed.
+/// `print` of two strings prints both with a space between, or with the string `sep`, as one text after those before.
 pub fn prints_have_the_separator_between()
     ensures space { (a b : List ℕ) (v : Datum) (s t : State) → print (by_place (string a ∷ string b ∷ [])) s ≡ done v t → t.prints ≡ s.prints ++ ((a ++ codes " ") ++ b) ∷ [] }
     ensures sep { (a b between : List ℕ) (v : Datum) (s t : State) → print (record { positional = string a ∷ string b ∷ []; named = (codes "sep", string between) ∷ [] }) s ≡ done v t → t.prints ≡ s.prints ++ ((a ++ between) ++ b) ∷ [] }

@@ -1,7 +1,8 @@
 //! Laws of built-in functions, by the definition of `bq_builtin`.
 //!
-//! In: nothing; the functions do nothing, and their contracts are the laws. The promise: `reversed`, `sorted`, `list`, `tuple`, `any`,
-//! `all`, `range` and `print` give what the elements of their arguments decide, told by places and by arithmetic.
+//! In: nothing; the functions do nothing, and their contracts are the laws. The promise: `reversed`, `sorted`, `list`,
+//! `tuple`, `any`, `all`, `range` and `print` have the results that the elements of their arguments decide, said by
+//! places and by arithmetic.
 #![tactic(auto)]
 
 mod laws;

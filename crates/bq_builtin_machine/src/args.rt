@@ -28,7 +28,7 @@ impl Model for Args {
 }
 
 impl Args {
-    /// `()`
+    /// Makes the arguments of `()`.
     pub fn new(alloc: Global) -> Args
         ensures { result ≡ nothing_passed }
     {

@@ -17,13 +17,14 @@ use std::alloc::{AllocError, Global};
 use std::collections::BTreeMap;
 use std::marker::Model;
 
-/// So many named arguments, or arguments to so many parameters, look through the parameters one by one. More have a map of them.
+/// Where at most this many arguments are named, or there are at most this many parameters, each name is searched among
+/// the parameters one by one. Where there are more of both, a map finds it.
 const FEW: usize = 16;
 
 /// What the parameters of a function take. Contracts see `BoundView`.
 #[derive(Drop)]
 pub struct Bound {
-    /// The argument of each parameter, where it has one.
+    /// The argument of each parameter, if it has one.
     pub values: Vec<Option<Value>>,
     /// What `*` takes.
     pub rest: Vec<Value>,
@@ -43,7 +44,7 @@ impl Model for Bound {
     ghost view = { bound_of };
 }
 
-/// Binds arguments to parameters, or F52. What `**` takes is found by this seed.
+/// Binds arguments to parameters, or fails with F52. What `**` takes is hashed by `seed`.
 #[tactic(auto, unfolding(crate::specs::Binding::bind))]
 pub fn bind(
     alloc: Global,
@@ -77,7 +78,7 @@ fn is_too_many(signature: &Signature<'_>, count: usize) -> bool
     !(signature.takes_rest || count <= places(signature))
 }
 
-/// The first so many of so many parameters take the next values, one each.
+/// Makes a slot for each of `count` parameters. The first `placed` of them take the next values.
 fn placed_values(
     alloc: Global,
     placed: usize,
@@ -96,7 +97,7 @@ fn placed_values(
     Ok(slots)
 }
 
-/// All that is left.
+/// Returns all values that are left.
 fn rest_of(alloc: Global, values: &mut Elements) -> Result<Vec<Value>, AllocError>
     ensures { IfOk result (λ xs. xs.items ≡ values.old) }
 {
@@ -128,7 +129,7 @@ fn has_value(values: &[Option<Value>], i: usize) -> bool
 }
 
 impl Bound {
-    /// The positional arguments go to the parameters in their order.
+    /// Gives the positional arguments to the parameters, in order.
     fn placed(
         alloc: Global,
         seed: Seed,
@@ -152,7 +153,7 @@ impl Bound {
         })
     }
 
-    /// Each named argument goes to the parameter of its name, and else to `**`.
+    /// Gives each named argument to the parameter of its name, or else to `**`.
     fn take_all_named(
         &mut self,
         alloc: Global,
@@ -168,7 +169,7 @@ impl Bound {
         self.take_many_named(&by_name, signature, named)
     }
 
-    /// The same, where each looks through the parameters.
+    /// Gives each named argument to its parameter, which is searched among all.
     #[tactic(auto, unfolding(crate::specs::Binding::take_all_named))]
     fn take_few_named(
         &mut self,
@@ -184,7 +185,7 @@ impl Bound {
         Ok(())
     }
 
-    /// The same, by the places of all parameters.
+    /// Gives each named argument to its parameter, which is found in a map of all.
     #[tactic(auto, unfolding(crate::specs::Binding::take_all_named))]
     fn take_many_named(
         &mut self,
@@ -202,7 +203,7 @@ impl Bound {
         Ok(())
     }
 
-    /// A named argument goes to the parameter at the place of its name, and else to `**`.
+    /// Gives a named argument to the parameter at the place of its name, or else to `**`.
     #[tactic(auto, unfolding(crate::specs::Binding::take_named))]
     fn take_named(
         &mut self,

@@ -12,7 +12,7 @@ use bq_value::EvalErr;
 pub const MAX_ACTIVE: usize = 100;
 
 impl Machine {
-    /// A function becomes active: the one of that module at that place.
+    /// Makes a function active: the one of `module` whose `def` has this place.
     #[tactic(auto, unfolding(crate::specs::Calls::enter))]
     pub fn enter(&mut self, module: u32, place: u32) -> Result<(), EvalErr>
         ensures { Does (λ _. tt) result self.new (enter «module» place self.old) }
@@ -27,7 +27,7 @@ impl Machine {
         Ok(())
     }
 
-    /// The function that became active last is left.
+    /// Leaves the function that became active last.
     #[tactic(auto, unfolding(crate::specs::Calls::leave))]
     pub fn leave(&mut self)
         ensures { self.new ≡ leave self.old }

@@ -1,4 +1,4 @@
-//! Lists, dicts and rules: new ones, what they hold, and leave to change it.
+//! Lists, dicts and rules: how they are made, what they hold, and whether they may be changed.
 
 ghost use Rattle.std.specs.Prelude.{◌≡◌, ◌<◌, IfOk, OnOk, Some, length};
 ghost use Rattle.std.specs.Borrow.{sem};
@@ -12,7 +12,7 @@ use bq_base::FaultKind;
 use bq_value::{Cell, Content, Dict, EvalErr, Value};
 
 impl Machine {
-    /// A new list, dict or rule.
+    /// Makes a list, a dict or a rule.
     #[tactic(auto, unfolding(crate::specs::Cells::new_content))]
     pub fn new_content(&mut self, content: Content) -> Result<Value, EvalErr>
         ensures { Does (λ v. v) result self.new (new_content content self.old) }
@@ -20,7 +20,7 @@ impl Machine {
         Ok(Value::cell(self.store.make(content)?))
     }
 
-    /// A new list.
+    /// Makes a list.
     #[tactic(auto, unfolding(crate::specs::Cells::new_list))]
     pub fn new_list(&mut self, values: Vec<Value>) -> Result<Value, EvalErr>
         ensures { Does (λ v. v) result self.new (new_list values.items self.old) }
@@ -28,7 +28,7 @@ impl Machine {
         self.new_content(Content::list(values))
     }
 
-    /// A new dict.
+    /// Makes a dict.
     #[tactic(auto, unfolding(crate::specs::Cells::new_dict))]
     pub fn new_dict(&mut self, pairs: Dict) -> Result<Value, EvalErr>
         ensures { Does (λ v. v) result self.new (new_dict pairs self.old) }
@@ -36,7 +36,7 @@ impl Machine {
         self.new_content(Content::dict(pairs))
     }
 
-    /// What a list, dict or rule holds.
+    /// Returns what a list, dict or rule holds.
     #[tactic(auto, unfolding(crate::specs::Cells::content))]
     pub fn content(&self, cell: Cell) -> Result<&Content, EvalErr>
         ensures { Does (λ c. c.now) result self.now (content cell.module cell.number self.now) }
@@ -47,7 +47,7 @@ impl Machine {
         }
     }
 
-    /// Whether a list or dict may be changed (F47, F48).
+    /// Fails where a list or dict may not be changed (F47, F48).
     #[tactic(auto, unfolding(crate::specs::Cells::may_change))]
     pub fn may_change(&self, cell: Cell) -> Result<(), EvalErr>
         ensures says { Does (λ _. tt) result self.now (may_change cell.module cell.number self.now) }
@@ -62,7 +62,7 @@ impl Machine {
         Ok(())
     }
 
-    /// Whether a list or dict is there and may be changed.
+    /// Fails where there is no such list or dict, or it may not be changed.
     #[tactic(auto, using(crate::proofs::Within::known_here, crate::proofs::Within::known_within), unfolding(crate::specs::Cells::can_change, crate::specs::Cells::content))]
     fn can_change(&self, cell: Cell) -> Result<(), EvalErr>
         ensures says { Does (λ _. tt) result self.now (can_change cell.module cell.number self.now) }
@@ -75,7 +75,7 @@ impl Machine {
         }
     }
 
-    /// What a list or dict holds, to be changed.
+    /// Returns what a list or dict holds, to be changed.
     pub fn change(&mut self, cell: Cell) -> Result<&mut Content, EvalErr>
         ensures* lends { sem 𝓛 (LendsContent self.entry cell.number result) }
         ensures says { Does (λ _. tt) result self.old (can_change cell.module cell.number self.old) }

@@ -23,7 +23,7 @@ pub struct Elements {
 
 #[derive(Drop)]
 enum Left {
-    /// The next one last.
+    /// In reverse: the last one comes next.
     Values(Vec<Value>),
     Range(RangeWalk),
 }
@@ -44,7 +44,7 @@ impl Model for Elements {
 }
 
 impl Elements {
-    /// These values, in order.
+    /// Makes elements of these values, in order.
     #[tactic(auto, using(crate::proofs::Reversed::reversed_twice))]
     pub fn of(mut values: Vec<Value>) -> Elements
         ensures { result ≡ values.items }
@@ -55,7 +55,7 @@ impl Elements {
         }
     }
 
-    /// Those of a range.
+    /// Makes the elements of a range.
     pub fn of_range(range: Range) -> Elements
         ensures { result ≡ map int (range_integers range.start range.stop range.step) }
     {
@@ -64,7 +64,7 @@ impl Elements {
         }
     }
 
-    /// How many.
+    /// Returns how many are to come.
     #[tactic(auto, using(crate::proofs::Reversed::reversed_length, crate::proofs::Reversed::mapped_length))]
     pub fn len(&self) -> usize
         ensures { result ≡ length self.now }
@@ -75,7 +75,7 @@ impl Elements {
         }
     }
 
-    /// The next one.
+    /// Takes the next one.
     #[tactic(auto, using(crate::proofs::Reversed::popped))]
     pub fn next(&mut self) -> Option<Value>
         ensures { IsNext result self.old self.new }
@@ -91,7 +91,7 @@ impl Elements {
 }
 
 impl Machine {
-    /// The elements of an iterable, as they are now.
+    /// Returns the elements that an iterable has now.
     #[tactic(auto, using(bq_value::specs::Datum::list_of_data_of), unfolding(crate::specs::Iteration::elements))]
     pub fn elements(&self, alloc: Global, value: &Value) -> Result<Elements, EvalErr>
         ensures { Does (λ xs. xs) result self.now (elements value.now self.now) }
@@ -107,7 +107,7 @@ impl Machine {
         }
     }
 
-    /// Begins a walk over an iterable. While it goes on, nothing changes the list or dict.
+    /// Begins a walk over an iterable. Until it ends, nothing can change the list or dict.
     #[tactic(auto, unfolding(crate::specs::Iteration::begin_walk))]
     pub fn begin_walk(&mut self, alloc: Global, value: &Value) -> Result<Elements, EvalErr>
         ensures { Does (λ xs. xs) result self.new (begin_walk value.now self.old) }
@@ -119,7 +119,7 @@ impl Machine {
         Ok(elements)
     }
 
-    /// Ends the walk that began last, which was over this value.
+    /// Ends the walk that began last, which was over `value`.
     #[tactic(auto, unfolding(crate::specs::Iteration::end_walk))]
     pub fn end_walk(&mut self, value: &Value)
         ensures { self.new ≡ end_walk value.now self.old }
@@ -130,7 +130,7 @@ impl Machine {
     }
 }
 
-/// Shares of these values.
+/// Shares these values.
 pub fn copies(alloc: Global, values: &[Value]) -> Result<Vec<Value>, AllocError>
     ensures { IfOk result (λ xs. xs.items ≡ values.now) }
 {
@@ -141,7 +141,7 @@ pub fn copies(alloc: Global, values: &[Value]) -> Result<Vec<Value>, AllocError>
     Ok(shares)
 }
 
-/// Shares of the keys of a dict.
+/// Shares the keys of a dict.
 pub fn keys_of(alloc: Global, dict: &Dict) -> Result<Vec<Value>, AllocError>
     ensures { IfOk result (λ xs. xs.items ≡ keys dict.now) }
 {

@@ -1,18 +1,19 @@
 //! The state of a module's evaluation, and the actions that change it.
 //!
-//! The promise: a [`Machine`] is seen as its `State` (`specs/State.antt`), and each call gives exactly what the action of its name
-//! gives of that state, unless memory runs out: a value and the state after it, or why the program stops there.
+//! The promise: a [`Machine`] is seen as its `State` (`specs/State.antt`), and each call does exactly what the action
+//! of its name does to that state, unless memory runs out: it returns a value and leaves the state after it, or says
+//! why the program stops.
 //!
-//! An *action* (`specs/Action.antt`) goes from a state to a value and a state, or to a `Stop`: the fault, the line that was running,
-//! the message of `fail`, and what was printed by then. Actions are put one after another by `>>=`. They are for any state: what is
-//! done on a machine alone is an action on a `State`, and where a host keeps something beside, `on_machine` makes it one on both.
-//! `Does` and `HostDoes` say in a contract that a call gave what an action gives.
+//! An *action* (`specs/Action.antt`) goes from a state to a value and a state, or to a `Stop`: the fault, the line that
+//! was running, the message of `fail`, and what was printed by then. Actions are joined one after another by `>>=`.
+//! They work on any state: what changes a machine alone is an action on a `State`, and where a host has a state beside
+//! it, `on_machine` makes it one on both. `Does` and `HostDoes` say in a contract that a call did what an action does.
 //!
 //! In reading order:
 //!
 //! - `machine`: the state; steps, prints, `fail`, the line that is running;
 //! - `walks`: equality, order, texts and keys, with the machine's steps;
-//! - `cells`: new lists, dicts and rules, what they hold, and leave to change it;
+//! - `cells`: lists, dicts and rules: how they are made, what they hold, and whether they may be changed;
 //! - `range_walk`, `iteration`: the elements of an iterable, and walks over them;
 //! - `calls`: which functions are active;
 //! - `args`, `parameters`, `binding`: what a call passes, what a function takes, and which argument goes to which parameter;

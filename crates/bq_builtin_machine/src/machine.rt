@@ -37,7 +37,7 @@ impl Model for Machine {
 }
 
 impl Machine {
-    /// The evaluation of a module begins: so many steps are left, and nothing is printed.
+    /// Begins the evaluation of a module: `limit` steps are left, and nothing is printed.
     pub fn new(alloc: Global, store: Store, limit: u64) -> Machine
         ensures { result ≡ started store limit }
     {
@@ -52,42 +52,42 @@ impl Machine {
         }
     }
 
-    /// The store.
+    /// Returns the store.
     pub fn store(&self) -> &Store
         ensures { result.now ≡ self.now.store }
     {
         &self.store
     }
 
-    /// How many steps are left.
+    /// Returns how many steps are left.
     pub fn steps(&self) -> u64
         ensures { result ≡ self.now.steps }
     {
         self.steps
     }
 
-    /// So many steps are left: what a walk over values leaves of those that it was given.
+    /// Sets how many steps are left: what a walk over values has left of those that it was given.
     pub fn set_steps(&mut self, left: u64)
         ensures { self.new ≡ with_steps left self.old }
     {
         self.steps = left;
     }
 
-    /// The line of the top-level statement that is running.
+    /// Returns the line of the top-level statement that is running.
     pub fn line(&self) -> u32
         ensures { result ≡ self.now.line }
     {
         self.line
     }
 
-    /// The top-level statement of that line runs from now on.
+    /// Sets the line of the top-level statement that runs from now on.
     pub fn set_line(&mut self, line: u32)
         ensures { self.new ≡ record self.old { line = line } }
     {
         self.line = line;
     }
 
-    /// Takes steps (F53).
+    /// Takes `count` steps (F53).
     #[tactic(auto, unfolding(crate::specs::Machine::step))]
     pub fn step(&mut self, count: u64) -> Result<(), EvalErr>
         ensures { Does (λ _. tt) result self.new (step count self.old) }
@@ -108,7 +108,7 @@ impl Machine {
         Ok(())
     }
 
-    /// The program gives up, with that message (F56).
+    /// Stops the program with `message` (F56).
     #[tactic(auto, unfolding(crate::specs::Machine::fail))]
     pub fn fail(&mut self, message: Bytes) -> Result<Value, EvalErr>
         ensures { Does (λ v. v) result self.new (fail message self.old) }
@@ -117,14 +117,14 @@ impl Machine {
         Err(EvalErr::Bad(FaultKind::Fail))
     }
 
-    /// The message of `fail`, empty until it is called.
+    /// Returns the message of `fail`, which is empty until it is called.
     pub fn message(&self) -> &Bytes
         ensures { result.now ≡ self.now.message }
     {
         &self.message
     }
 
-    /// The evaluation is over: its store, and the texts that it printed, in order.
+    /// Ends the evaluation. Returns its store, and the texts that it printed, in order.
     pub fn into_parts(self) -> (Store, Vec<Bytes>)
         ensures store { result.0 ≡ self.store }
         ensures prints { result.1.items ≡ self.prints }

@@ -10,7 +10,7 @@ use std::collections::BTreeMap;
 /// A parameter that takes one argument.
 #[derive(Clone, Copy)]
 pub struct SingleParameter<'a> {
-    /// None: it takes a positional argument alone.
+    /// `None` for a parameter that only a positional argument can reach.
     pub name: Option<&'a [u8]>,
     /// Whether it has no default.
     pub is_required: bool,
@@ -20,7 +20,7 @@ pub struct SingleParameter<'a> {
 #[derive(Clone, Copy)]
 pub struct Signature<'a> {
     pub parameters: &'a [SingleParameter<'a>],
-    /// The first so many take positional arguments, the others named ones alone.
+    /// How many of the first parameters take positional arguments too. The others take named ones alone.
     pub placed: usize,
     /// Whether there is a `*`, which takes the positional arguments that are left.
     pub takes_rest: bool,
@@ -28,7 +28,7 @@ pub struct Signature<'a> {
     pub takes_keywords: bool,
 }
 
-/// The first parameter of that name, by its place.
+/// Returns the place of the first parameter of this name.
 pub(crate) fn parameter_called(parameters: &[SingleParameter<'_>], name: &[u8]) -> Option<usize>
     ensures { result ≡ position_from (is_called name.now) 0 (map parameter_of parameters.now) }
 {
@@ -42,7 +42,8 @@ pub(crate) fn parameter_called(parameters: &[SingleParameter<'_>], name: &[u8]) 
     None
 }
 
-/// The places of parameters by their names: of two of one name the first's. Names that strangers choose take no longer in a tree.
+/// Returns the places of parameters by their names; of two with one name, the first's. It is a tree, and not a hash
+/// table, since strangers choose the names.
 #[tactic(auto, using(crate::proofs::Places::none_after, crate::proofs::Places::unnamed_before, crate::proofs::Places::named_before))]
 pub(crate) fn places_by_name<'a>(
     alloc: Global,

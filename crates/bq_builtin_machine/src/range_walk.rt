@@ -32,7 +32,7 @@ impl Model for RangeWalk {
 }
 
 impl RangeWalk {
-    /// All of a range.
+    /// Begins a walk over all of a range.
     pub(crate) fn over(range: Range) -> RangeWalk
         ensures { result ≡ range_integers range.start range.stop range.step }
     {
@@ -43,14 +43,14 @@ impl RangeWalk {
         }
     }
 
-    /// How many.
+    /// Returns how many are to come.
     pub(crate) fn len(&self) -> usize
         ensures { result ≡ length self.now }
     {
         self.left as usize
     }
 
-    /// The next one.
+    /// Takes the next one.
     pub(crate) fn next(&mut self) -> Option<i64>
         ensures { IsNext result self.old self.new }
     {

@@ -11,7 +11,7 @@ use std::alloc::Global;
 use std::cmp::Ordering;
 
 impl Machine {
-    /// `a == b`.
+    /// Returns `a == b`.
     #[tactic(auto, unfolding(crate::specs::Machine::equal))]
     pub fn equal(&mut self, a: &Value, b: &Value) -> Result<bool, EvalErr>
         ensures { Does (λ same. same) result self.new (equal a.now b.now self.old) }
@@ -21,7 +21,7 @@ impl Machine {
         Ok(same)
     }
 
-    /// How two values are ordered, for `<` and its kin.
+    /// Compares two values, for `<`, `<=`, `>` and `>=`.
     #[tactic(auto, unfolding(crate::specs::Machine::order))]
     pub fn order(&mut self, a: &Value, b: &Value) -> Result<Ordering, EvalErr>
         ensures { Does (λ ordering. ordering) result self.new (order a.now b.now self.old) }
@@ -31,7 +31,7 @@ impl Machine {
         Ok(ordering)
     }
 
-    /// `str(value)`.
+    /// Returns `str(value)`.
     #[tactic(auto, unfolding(crate::specs::Machine::text))]
     pub fn text(&mut self, alloc: Global, value: &Value) -> Result<Bytes, EvalErr>
         ensures { Does (λ bytes. bytes) result self.new (text value.now self.old) }
@@ -41,7 +41,7 @@ impl Machine {
         Ok(text)
     }
 
-    /// `repr(value)`.
+    /// Returns `repr(value)`.
     #[tactic(auto, unfolding(crate::specs::Machine::repr))]
     pub fn repr(&mut self, alloc: Global, value: &Value) -> Result<Bytes, EvalErr>
         ensures { Does (λ bytes. bytes) result self.new (repr value.now self.old) }
@@ -51,7 +51,7 @@ impl Machine {
         Ok(text)
     }
 
-    /// The key that a value makes (F45).
+    /// Returns the key that a value makes (F45).
     #[tactic(auto, unfolding(crate::specs::Machine::key))]
     pub fn key(&mut self, value: &Value) -> Result<Key, EvalErr>
         ensures { Does (λ key. key) result self.new (key value.now self.old) }

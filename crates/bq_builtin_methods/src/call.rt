@@ -12,7 +12,7 @@ use bq_builtin_string_methods::string_method;
 use bq_value::{Body, Cell, EvalErr, Node, Value};
 use std::alloc::Global;
 
-/// `receiver.name(args)`; F58 where the receiver's type lacks the method.
+/// Returns `receiver.name(args)`; F58 if the receiver's type lacks the method.
 #[tactic(auto, unfolding(crate::specs::Call::call_method))]
 pub fn call_method(
     alloc: Global,

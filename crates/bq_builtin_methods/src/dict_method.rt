@@ -12,7 +12,7 @@ use std::alloc::Global;
 
 #[derive(Clone, Copy)]
 pub(crate) enum DictMethod {
-    /// Takes arguments by place alone.
+    /// Takes positional arguments alone.
     Placed(PlacedMethod),
     Update,
 }
@@ -41,7 +41,7 @@ const METHODS: [(&[u8], DictMethod); 9] = [
     (b"values", DictMethod::Placed(PlacedMethod::Values)),
 ];
 
-/// The method of a name; none where dicts lack it.
+/// Returns the method of a name, if dicts have it.
 pub(crate) fn dict_method(name: &[u8]) -> Option<DictMethod>
     ensures { result ≡ dict_method name.now }
 {
@@ -70,7 +70,7 @@ fn placed_call(
     }
 }
 
-/// `dict.method(args)`.
+/// Carries out `dict.method(args)`.
 #[tactic(auto, unfolding(crate::specs::DictMethod::dict_call))]
 pub(crate) fn dict_call(
     alloc: Global,

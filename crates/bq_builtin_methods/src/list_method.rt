@@ -31,14 +31,14 @@ const METHODS: [(&[u8], ListMethod); 7] = [
     (b"remove", ListMethod::Remove),
 ];
 
-/// The method of a name; none where lists lack it.
+/// Returns the method of a name, if lists have it.
 pub(crate) fn list_method(name: &[u8]) -> Option<ListMethod>
     ensures { result ≡ list_method name.now }
 {
     named(&METHODS, name)
 }
 
-/// `list.method(args)`.
+/// Carries out `list.method(args)`.
 #[tactic(auto, unfolding(crate::specs::ListMethod::list_call))]
 pub(crate) fn list_call(
     alloc: Global,

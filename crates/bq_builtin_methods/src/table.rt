@@ -1,4 +1,4 @@
-//! Tables of names, and arguments by place alone.
+//! Tables of names, and positional arguments.
 
 ghost use Rattle.std.specs.Prelude.{◌≡◌, map};
 ghost use Rattle.std.specs.Map.{lookup};
@@ -11,7 +11,7 @@ use bq_base::FaultKind;
 use bq_builtin_machine::Args;
 use bq_value::{EvalErr, Value};
 
-/// What a name stands for; none where the table lacks it.
+/// Returns what a name stands for, if the table has it.
 pub(crate) fn named<M: Copy>(mut table: &[(&[u8], M)], name: &[u8]) -> Option<M>
     ensures { result ≡ lookup (bytes_eq name.now) (map (λ row. (row.0.now, row.1)) table.entry.now) }
 {
@@ -24,7 +24,7 @@ pub(crate) fn named<M: Copy>(mut table: &[(&[u8], M)], name: &[u8]) -> Option<M>
     None
 }
 
-/// The arguments by place, where none is passed by name (F52).
+/// Returns the positional arguments, if none is passed by name (F52).
 #[tactic(auto, unfolding(crate::specs::Placed::placed))]
 pub(crate) fn placed(args: &Args) -> Result<&[Value], EvalErr>
     ensures { Gives (λ values. values.now) Bad result (placed args.now) }

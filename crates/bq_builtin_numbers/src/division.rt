@@ -6,7 +6,7 @@ ghost use Rattle.bq_builtin_numbers.specs.Division.{divided, remainder};
 use crate::integer::fit;
 use bq_base::FaultKind;
 
-/// `x // y`, which rounds down; F42 where `y` is 0.
+/// Returns `x // y`, rounded down; F42 if `y` is 0.
 pub fn floor_divide(x: i64, y: i64) -> Result<i64, FaultKind>
     ensures { result ≡ divided x y }
 {
@@ -22,7 +22,7 @@ pub fn floor_divide(x: i64, y: i64) -> Result<i64, FaultKind>
     fit(x.checked_div(y))
 }
 
-/// `x % y`, which has the sign of `y`; F42 where `y` is 0.
+/// Returns `x % y`, which has the sign of `y`; F42 if `y` is 0.
 pub fn modulo(x: i64, y: i64) -> Result<i64, FaultKind>
     ensures { result ≡ remainder x y }
 {

@@ -8,14 +8,14 @@ use bq_base::FaultKind;
 /// The greatest integer.
 const MAX: u64 = 9_223_372_036_854_775_807;
 
-/// The answer where it fits.
+/// Returns the answer if there is one, and else F41.
 pub(crate) fn fit(answer: Option<i64>) -> Result<i64, FaultKind>
     ensures { (z : ℤ) → Fitted answer z → result ≡ fitted z }
 {
     answer.ok_or(FaultKind::Overflow)
 }
 
-/// A count as an integer, where it fits.
+/// Returns a count as an integer; F41 if it doesn't fit.
 pub(crate) fn from_count(count: u64) -> Result<i64, FaultKind>
     ensures { result ≡ fitted (pos count) }
 {
@@ -25,56 +25,56 @@ pub(crate) fn from_count(count: u64) -> Result<i64, FaultKind>
     Ok(count as i64)
 }
 
-/// `x + y`.
+/// Returns `x + y`.
 pub fn add(x: i64, y: i64) -> Result<i64, FaultKind>
     ensures { result ≡ fitted (x +ℤ y) }
 {
     fit(x.checked_add(y))
 }
 
-/// `x - y`.
+/// Returns `x - y`.
 pub fn subtract(x: i64, y: i64) -> Result<i64, FaultKind>
     ensures { result ≡ fitted (x -ℤ y) }
 {
     fit(x.checked_sub(y))
 }
 
-/// `x * y`.
+/// Returns `x * y`.
 pub fn multiply(x: i64, y: i64) -> Result<i64, FaultKind>
     ensures { result ≡ fitted (x *ℤ y) }
 {
     fit(x.checked_mul(y))
 }
 
-/// `-x`.
+/// Returns `-x`.
 pub fn negate(x: i64) -> Result<i64, FaultKind>
     ensures { result ≡ fitted (neg_ℤ x) }
 {
     fit(x.checked_neg())
 }
 
-/// `x & y`, of the bits in two's complement.
+/// Returns `x & y`, of the bits in two's complement.
 pub fn bit_and(x: i64, y: i64) -> i64
     ensures { result ≡ both x y }
 {
     x & y
 }
 
-/// `x | y`, of the bits in two's complement.
+/// Returns `x | y`, of the bits in two's complement.
 pub fn bit_or(x: i64, y: i64) -> i64
     ensures { result ≡ either x y }
 {
     x | y
 }
 
-/// `x ^ y`, of the bits in two's complement.
+/// Returns `x ^ y`, of the bits in two's complement.
 pub fn bit_xor(x: i64, y: i64) -> i64
     ensures { result ≡ one_of x y }
 {
     x ^ y
 }
 
-/// `~x`.
+/// Returns `~x`.
 pub fn bit_not(x: i64) -> i64
     ensures { result ≡ neg_ℤ x -ℤ pos 1 }
 {

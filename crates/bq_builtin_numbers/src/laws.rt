@@ -9,14 +9,13 @@ ghost use Rattle.bq_builtin_numbers.specs.Place.{clamped, indexed};
 ghost use Rattle.bq_builtin_numbers.specs.Slice.{slice_start, slice_stop, slice_of, AreElements};
 ghost use Rattle.bq_builtin_numbers.specs.Division.{floor_quotient, floor_rest, IsRestOf};
 
-/// What a quotient leaves: the dividend is the divisor that many times and the rest, and the rest is 0 or lies between 0 and the
-/// divisor.
+/// The dividend is the divisor times the quotient, plus the rest. The rest is 0 or lies between 0 and the divisor.
 pub fn quotient_and_rest()
     ensures whole { (x y : ℤ) → (y ≢ pos 0) → (floor_quotient x y *ℤ y) +ℤ floor_rest x y ≡ x }
     ensures between { (x y : ℤ) → (y ≢ pos 0) → IsRestOf y (floor_rest x y) }
 {}
 
-/// Each place that a slice takes is that of an element.
+/// Each place that a slice takes is the place of an element.
 pub fn places_of_a_slice()
     ensures { (len : ℕ) (start stop : Option ℤ) (step : ℤ) (k : ℕ) → (step ≢ pos 0) → k < range_count (slice_start (pos len) step start) (slice_stop (pos len) step stop) step → (pos 0 ≤ℤ range_element (slice_start (pos len) step start) step k) × (range_element (slice_start (pos len) step start) step k <ℤ pos len) }
 {}
@@ -31,8 +30,8 @@ pub fn a_whole_slice()
     ensures { (xs : List ℕ) → slice_of xs None None (pos 1) ≡ xs }
 {}
 
-/// A list that is put together of three parts: its middle part is the slice from the first part's length to that of the first two,
-/// counted from the start or from the end. A bound past an end is that end.
+/// Of a list that consists of three parts, the middle part is the slice from the first part's length to that of the
+/// first two, counted from the start or from the end. A bound past an end means that end.
 pub fn slices_are_parts()
     ensures from_start { (before part after : List ℕ) → slice_of (before ++ (part ++ after)) (Some (pos (length before))) (Some (pos (length before + length part))) (pos 1) ≡ part }
     ensures from_end { (before part after : List ℕ) → 0 < length after → slice_of (before ++ (part ++ after)) (Some (neg_ℤ (pos (length part + length after)))) (Some (neg_ℤ (pos (length after)))) (pos 1) ≡ part }
@@ -52,8 +51,8 @@ pub fn indices_count_from_both_ends()
     ensures past { (len n : ℕ) → len ≤ n → (indexed len (pos n) ≡ Err Index) × (indexed len (negsuc n) ≡ Err Index) }
 {}
 
-/// The same of the places where `insert` puts an element and where a search begins, but that an index past an end stands for that
-/// end.
+/// The places where `insert` puts an element and where a search begins are counted from both ends too, but an index
+/// past an end means that end.
 pub fn places_count_from_both_ends()
     ensures from_start { (before after : List ℕ) → clamped (length (before ++ after)) (pos (length before)) ≡ length before }
     ensures from_end { (before after : List ℕ) → 0 < length after → clamped (length (before ++ after)) (neg_ℤ (pos (length after))) ≡ length before }

@@ -1,5 +1,5 @@
-//! How long a joined or a repeated list or string is (Starlark, "String concatenation", "String repetition"): F54 where it is too
-//! long, before any memory is asked for.
+//! How long a joined or a repeated list or string is (Starlark, "String concatenation", "String repetition"): F54 if it
+//! is too long, before any memory is asked for.
 
 ghost use Rattle.std.specs.Prelude.{◌≡◌, ◌+◌, ◌*◌};
 ghost use Rattle.bq_builtin_numbers.specs.Length.{within, times_of};
@@ -9,7 +9,7 @@ use bq_base::FaultKind;
 /// The most elements of a list, and bytes of a string.
 pub const MAX_LEN: usize = 1_048_576;
 
-/// The length of `x + y`, from those of `x` and `y`.
+/// Returns the length of `x + y`, from the lengths `x` and `y`.
 #[tactic(auto, using(std::proofs::lemmas::Bool::Decides::nat_tests))]
 pub fn joined_len(x: usize, y: usize) -> Result<usize, FaultKind>
     ensures { result ≡ within (x + y) }
@@ -20,7 +20,7 @@ pub fn joined_len(x: usize, y: usize) -> Result<usize, FaultKind>
     Ok(x + y)
 }
 
-/// The length of `x * times`, from that of `x`. What is repeated less than once is empty.
+/// Returns the length of `x * times`, from the length `len` of `x`. What is repeated less than once is empty.
 #[tactic(auto, using(std::proofs::lemmas::Bool::Decides::nat_tests))]
 pub fn repeated_len(len: usize, times: i64) -> Result<usize, FaultKind>
     ensures { result ≡ within (len * times_of times) }

@@ -1,11 +1,11 @@
-//! Integers, ranges, and places in lists and strings come in; what the operators of the language make of them goes out.
+//! Integers, ranges, and places in lists and strings come in; the results of the operators of the language go out.
 //!
 //! The promise: each call gives exactly the answer or the fault of its definition. None takes memory, and none walks a range.
 //!
 //! In reading order:
 //!
 //! - `integer`: arithmetic of integers of 64 bits;
-//! - `division`: quotients that are rounded down, and what they leave;
+//! - `division`: quotients that are rounded down, and remainders;
 //! - `shift`: products and quotients by powers of two;
 //! - `length`: how long what is joined or repeated is;
 //! - `place`: the places of an index and of a searched region;

@@ -5,8 +5,8 @@ ghost use Rattle.bq_builtin_numbers.specs.Place.{clamped, bound, indexed};
 
 use bq_base::FaultKind;
 
-/// An index of a list of so many elements, or a place at its end: from the end where it is negative, and the nearest place where
-/// it is past one.
+/// Returns the place that `index` means in a list of `len` elements, or its end: a negative one counts from the end,
+/// and one past an end means that end.
 pub fn clamp(len: usize, index: i64) -> usize
     ensures place { result ≡ clamped len index }
     ensures within { result ≤ len }
@@ -19,7 +19,8 @@ pub fn clamp(len: usize, index: i64) -> usize
     }
 }
 
-/// Where a slice of step 1 starts and ends, at most: from `start`, or the first element, to `end`, or after the last.
+/// Returns where a slice of step 1 starts, and where it ends at most: from `start`, or the first element, to `end`, or
+/// after the last one.
 pub fn span(len: usize, start: Option<i64>, end: Option<i64>) -> (usize, usize)
     ensures start { result.0 ≡ bound len 0 start }
     ensures end { result.1 ≡ bound len len end }
@@ -37,7 +38,7 @@ pub fn span(len: usize, start: Option<i64>, end: Option<i64>) -> (usize, usize)
     (from, to)
 }
 
-/// The place of an index; F43 where the list has none there.
+/// Returns the place of an index; F43 if the list has no element there.
 pub fn index(len: usize, index: i64) -> Result<usize, FaultKind>
     ensures place { result ≡ indexed len index }
     ensures within { IfOk result (λ at. at < len) }

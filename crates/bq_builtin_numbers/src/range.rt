@@ -10,24 +10,24 @@ use crate::place::index;
 use bq_base::FaultKind;
 use bq_value::Range;
 
-/// The element of a number, from 0.
+/// Returns the element of a number, counted from 0.
 pub fn element(range: Range, number: u64) -> i64
     requires { number < range_count range.start range.stop range.step }
     ensures { result ≡ range_element range.start range.step number }
 {
-    // What doesn't fit 64 bits on the way comes back in the end.
+    // What overflows 64 bits on the way wraps back in the end.
     let distance = number.cast_signed().wrapping_mul(range.step);
     range.start.wrapping_add(distance)
 }
 
-/// How many elements, as an integer: F41 where that doesn't fit.
+/// Returns the number of elements as an integer; F41 if it doesn't fit.
 pub fn range_len(range: Range) -> Result<i64, FaultKind>
     ensures { result ≡ fitted (pos (range_count range.start range.stop range.step)) }
 {
     from_count(range.count())
 }
 
-/// The element at an index: F43 where there is none.
+/// Returns the element at an index; F43 if there is none.
 pub fn range_item(range: Range, at: i64) -> Result<i64, FaultKind>
     ensures { result ≡ range_item range.start range.stop range.step at }
 {
@@ -35,7 +35,7 @@ pub fn range_item(range: Range, at: i64) -> Result<i64, FaultKind>
     Ok(element(range, number as u64))
 }
 
-/// Whether an integer is an element.
+/// Returns whether `n` is an element.
 pub fn range_has(range: Range, n: i64) -> bool
     ensures { result ≡ range_has range.start range.stop range.step n }
 {
@@ -45,7 +45,7 @@ pub fn range_has(range: Range, n: i64) -> bool
     is_between(range, n) && is_some_steps_on(range, n)
 }
 
-/// Whether an integer is from the start on, and before the end.
+/// Returns whether `n` isn't before the start, and is before the end.
 fn is_between(range: Range, n: i64) -> bool
     ensures { result ≡ is_between range.start range.stop range.step n }
 {
@@ -55,7 +55,7 @@ fn is_between(range: Range, n: i64) -> bool
     range.start <= n && n < range.stop
 }
 
-/// Whether the steps from the start come to an integer.
+/// Returns whether steps from the start lead to `n`.
 fn is_some_steps_on(range: Range, n: i64) -> bool
     requires { range.step ≢ pos 0 }
     ensures { result ≡ (unsigned_abs (n -ℤ range.start) % unsigned_abs range.step == 0) }

@@ -6,7 +6,7 @@ ghost use Rattle.bq_builtin_numbers.specs.Shift.{shift_count, scaled, halved, sh
 use crate::integer::multiply;
 use bq_base::FaultKind;
 
-/// `x << count`: F57 where the count isn't one from 0 to 63, F41 where the answer doesn't fit.
+/// Returns `x << count`; F57 if the count isn't from 0 to 63, F41 if the result doesn't fit.
 pub fn shift_left(x: i64, count: i64) -> Result<i64, FaultKind>
     ensures { result ≡ shifted_left x count }
 {
@@ -14,7 +14,7 @@ pub fn shift_left(x: i64, count: i64) -> Result<i64, FaultKind>
     scaled(x, count)
 }
 
-/// `x >> count`, rounded down: F57 where the count isn't one from 0 to 63.
+/// Returns `x >> count`, rounded down; F57 if the count isn't from 0 to 63.
 pub fn shift_right(x: i64, count: i64) -> Result<i64, FaultKind>
     ensures { result ≡ shifted_right x count }
 {
@@ -22,7 +22,7 @@ pub fn shift_right(x: i64, count: i64) -> Result<i64, FaultKind>
     Ok(halved(x, count))
 }
 
-/// By how many bits, or F57.
+/// Returns by how many bits to shift, or F57.
 fn shift_count(count: i64) -> Result<u32, FaultKind>
     ensures count { result ≡ shift_count count }
     ensures within { IfOk result (λ n. n < 64) }
@@ -36,7 +36,7 @@ fn shift_count(count: i64) -> Result<u32, FaultKind>
     Err(FaultKind::BadValue)
 }
 
-/// The product by a power of two.
+/// Returns `x` times 2^`count`.
 fn scaled(x: i64, count: u32) -> Result<i64, FaultKind>
     requires { count < 64 }
     ensures { result ≡ scaled x count }
@@ -47,7 +47,7 @@ fn scaled(x: i64, count: u32) -> Result<i64, FaultKind>
     multiply(x, 1 << count)
 }
 
-/// The product by 2^63, which doesn't fit itself.
+/// Returns `x` times 2^63, a power that isn't an integer of 64 bits itself.
 fn scaled_most(x: i64) -> Result<i64, FaultKind>
     ensures { result ≡ scaled x 63 }
 {
@@ -60,7 +60,7 @@ fn scaled_most(x: i64) -> Result<i64, FaultKind>
     Err(FaultKind::Overflow)
 }
 
-/// The quotient by a power of two.
+/// Returns `x` divided by 2^`count`, rounded down.
 fn halved(x: i64, count: u32) -> i64
     requires { count < 64 }
     ensures { result ≡ halved x count }

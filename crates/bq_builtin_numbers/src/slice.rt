@@ -5,7 +5,7 @@ ghost use Rattle.bq_builtin_numbers.specs.Slice.{from_start, nearest, slice_star
 
 use bq_value::Range;
 
-/// The places that a slice of so many elements takes, in order, as a range of them. The step isn't 0.
+/// Returns the places that a slice of a list of `len` elements takes, in order, as a range. The step isn't 0.
 pub fn slice_places(len: usize, start: Option<i64>, stop: Option<i64>, step: i64) -> Range
     requires { len < 2 ^ 63 }
     ensures start { result.start ≡ slice_start (pos len) step start }
@@ -28,7 +28,7 @@ pub fn slice_places(len: usize, start: Option<i64>, stop: Option<i64>, step: i64
     }
 }
 
-/// The nearest number from `low` to `high` to an index, or another one where there is no index.
+/// Returns the number from `low` to `high` that is nearest to `index`, or `other` if there is no index.
 fn nearest(len: i64, low: i64, high: i64, index: Option<i64>, other: i64) -> i64
     requires { pos 0 ≤ℤ len }
     ensures { result ≡ nearest len low high index other }
@@ -39,7 +39,7 @@ fn nearest(len: i64, low: i64, high: i64, index: Option<i64>, other: i64) -> i64
     }
 }
 
-/// An index, counted from the start.
+/// Returns an index that counts from the start.
 fn from_start(len: i64, index: i64) -> i64
     requires { pos 0 ≤ℤ len }
     ensures { result ≡ from_start len index }

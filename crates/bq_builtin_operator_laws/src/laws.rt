@@ -6,18 +6,18 @@ ghost use Rattle.bq_builtin_operators.specs.Slicing.{sliced};
 ghost use Rattle.bq_builtin_operator_laws.specs.Comparisons.{OppositesDiffer};
 ghost use Rattle.bq_builtin_operator_laws.specs.Members.{KeysHaveValues, MembersAreEqualToAnElement};
 
-/// Of `==` and `!=`, of `in` and `not in`, of `<` and `>=`, and of `<=` and `>` one is true where the other is false; they are refused for
-/// the same, and take the same steps.
+/// Of `==` and `!=`, of `in` and `not in`, of `<` and `>=`, and of `<=` and `>` one is true where the other is false.
+/// They fail with the same faults, and take the same steps.
 pub fn opposite_comparisons_differ()
     ensures { OppositesDiffer }
 {}
 
-/// A value is in a list or tuple where it is equal to one of the elements, and is not where it is equal to none.
+/// A value is in a list or tuple if it is equal to one of the elements, and isn't if it is equal to none.
 pub fn members_are_equal_to_an_element()
     ensures { MembersAreEqualToAnElement }
 {}
 
-/// A value is in a dict where the dict has a value for it; where it is not, an index of it is F44.
+/// A value is in a dict if the dict has a value for it; if it isn't, an index of it is F44.
 pub fn keys_in_a_dict_have_values()
     ensures { KeysHaveValues }
 {}

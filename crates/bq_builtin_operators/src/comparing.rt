@@ -10,7 +10,7 @@ use crate::walks::{equal, order};
 use bq_parse_grammar::Comparison;
 use bq_value::{EvalErr, Store, Value};
 
-/// Whether `a op b`, and the steps that are left of these.
+/// Returns whether `a op b`, and how many of the steps are left.
 #[tactic(auto, unfolding(crate::specs::Comparing::compared))]
 pub(crate) fn compared(
     store: &Store,

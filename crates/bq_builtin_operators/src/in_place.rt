@@ -21,7 +21,7 @@ use bq_parse_grammar::Operator;
 use bq_value::{Body, Cell, Content, Dict, EvalErr, Key, Node, Value};
 use std::alloc::{AllocError, Global};
 
-/// `a op= b`: a list by `+=`, and a dict by `|=`, stays the same and is changed; else what `a op b` is.
+/// Carries out `a op= b`: a list by `+=`, and a dict by `|=`, is changed in place. All else is `a op b`.
 #[tactic(auto, unfolding(crate::specs::InPlace::augment))]
 pub fn augment(
     alloc: Global,
@@ -39,7 +39,7 @@ pub fn augment(
     }
 }
 
-/// `a += b`; for a list F40, F47, F48, F54.
+/// Carries out `a += b`; for a list F40, F47, F48, F54.
 #[tactic(auto, unfolding(crate::specs::InPlace::augment_sum))]
 fn augment_sum(alloc: Global, machine: &mut Machine, a: &Value, b: &Value) -> Result<Value, EvalErr>
     ensures { Does (λ value. value) result machine.new (augment_sum a.now b.now machine.old) }
@@ -74,7 +74,7 @@ fn list_extended(content: &mut Content, more: Elements) -> Result<(), EvalErr>
     }
 }
 
-/// These values behind those that are there (F54).
+/// Appends these elements (F54).
 #[tactic(auto, using(crate::proofs::Sequences::joined_is))]
 fn push_all(values: &mut Vec<Value>, more: Elements) -> Result<(), EvalErr>
     ensures { Gives (λ _. values.new.items) Bad result (joined values.old.items more) }
@@ -93,7 +93,7 @@ fn push_elements(values: &mut Vec<Value>, mut more: Elements) -> Result<(), Allo
     Ok(())
 }
 
-/// `a |= b`; for a dict F40, F47, F48, F54.
+/// Carries out `a |= b`; for a dict F40, F47, F48, F54.
 #[tactic(auto, unfolding(crate::specs::InPlace::augment_union))]
 fn augment_union(
     alloc: Global,
@@ -114,7 +114,7 @@ fn augment_union(
     }
 }
 
-/// Shares of the pairs of a dict.
+/// Shares the pairs of a dict.
 fn pairs_of(alloc: Global, dict: &Dict) -> Result<Vec<(Key, Value)>, AllocError>
     ensures { IfOk result (λ pairs. pairs.items ≡ dict.now) }
 {
@@ -126,7 +126,7 @@ fn pairs_of(alloc: Global, dict: &Dict) -> Result<Vec<(Key, Value)>, AllocError>
     Ok(pairs)
 }
 
-/// Puts these pairs in turn into a dict that may be changed (F47, F48, F54).
+/// Inserts these pairs in turn into a dict that may be changed (F47, F48, F54).
 #[tactic(auto, unfolding(bq_builtin_machine::specs::Cells::changing))]
 pub fn unite(machine: &mut Machine, dict: Cell, more: &[(Key, Value)]) -> Result<(), EvalErr>
     ensures { Does (λ _. tt) result machine.new (changing dict.module dict.number (dict_united more.now) machine.old) }
@@ -146,7 +146,7 @@ fn dict_united(content: &mut Content, more: &[(Key, Value)]) -> Result<(), EvalE
     }
 }
 
-/// Puts these pairs in turn (F54).
+/// Inserts these pairs in turn (F54).
 pub fn put_pairs(dict: &mut Dict, more: &[(Key, Value)]) -> Result<(), EvalErr>
     ensures { Gives (λ _. dict.new) Bad result (limited (put_all dict.old more.now)) }
 {
@@ -170,7 +170,7 @@ fn put_pair(dict: &mut Dict, key: Key, value: Value) -> Result<(), AllocError>
     Ok(())
 }
 
-/// F54 where a dict has too many pairs.
+/// Fails with F54 if a dict has too many pairs.
 fn check_len(dict: &Dict) -> Result<(), EvalErr>
     ensures { Gives (λ _. dict.now) Bad result (limited dict.now) }
 {
@@ -180,7 +180,7 @@ fn check_len(dict: &Dict) -> Result<(), EvalErr>
     Ok(())
 }
 
-/// `container[at] = value`: F40, F47, F48, then F53, F55 and F45 of a key, F43 and F54.
+/// Carries out `container[at] = value`: F40, F47, F48, then F53, F55 and F45 of a key, F43 and F54.
 #[tactic(auto, unfolding(crate::specs::InPlace::set_index))]
 pub fn set_index(
     machine: &mut Machine,

@@ -13,7 +13,7 @@ use bq_parse_grammar::{Operator, UnaryOperator};
 use bq_value::{Store, Value};
 use bq_value_compare::truth;
 
-/// `x op y` of two integers.
+/// Returns `x op y` of two integers.
 #[inline(always)]
 #[tactic(auto, unfolding(crate::specs::Integers::arithmetic))]
 pub(crate) fn arithmetic(operator: Operator, x: i64, y: i64) -> Result<i64, FaultKind>
@@ -34,7 +34,7 @@ pub(crate) fn arithmetic(operator: Operator, x: i64, y: i64) -> Result<i64, Faul
     }
 }
 
-/// `a op b` of two integers: F40 where one is none, then F41, F42 and F57.
+/// Returns `a op b` of two integers: F40 if one isn't an integer, then F41, F42 and F57.
 #[tactic(auto, unfolding(crate::specs::Integers::integers))]
 pub(crate) fn integers(operator: Operator, a: &Value, b: &Value) -> Result<Value, FaultKind>
     ensures { result ≡ integers operator a.now b.now }
@@ -44,7 +44,7 @@ pub(crate) fn integers(operator: Operator, a: &Value, b: &Value) -> Result<Value
     Ok(Value::int(arithmetic(operator, x, y)?))
 }
 
-/// `op value`: F40 where a sign stands before anything but an integer, F41 where the answer doesn't fit.
+/// Returns `op value`: F40 for a sign before anything but an integer, F41 if the result doesn't fit.
 #[tactic(auto, unfolding(crate::specs::Integers::signed))]
 pub(crate) fn signed(
     store: &Store,

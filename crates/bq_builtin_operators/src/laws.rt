@@ -6,7 +6,8 @@ ghost use Rattle.bq_value.specs.Pairs.{found, HasNoKeyTwice};
 ghost use Rattle.bq_builtin_operators.specs.Sequence.{copies};
 ghost use Rattle.bq_builtin_operators.specs.Union.{put_all, or_else};
 
-/// So many times and then some more times are the sum of both; and what is repeated is so many times as long.
+/// Repeating `m + n` times is repeating `m` times and then `n` times; and what is repeated `n` times is `n` times as
+/// long.
 pub fn repetition_adds()
     ensures copies { (xs : List ℕ) (m n : ℕ) → copies xs (m + n) ≡ copies xs m ++ copies xs n }
     ensures len { (xs : List ℕ) (n : ℕ) → length (copies xs n) ≡ length xs * n }

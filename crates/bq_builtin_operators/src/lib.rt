@@ -1,10 +1,10 @@
-//! Operators over values: what each makes of its operands, with the steps of a machine.
+//! Operators over values: operands come in, results go out, with the steps of a machine.
 //!
 //! The promise: each public call does exactly what the definition of its name does to the machine, unless memory runs out
 //! (`specs/Operate.antt`). An evaluator calls one of them for each operator, and does no arithmetic of its own.
 //!
-//! The order of faults in one operation is F40, then those of visits and keys (F53, F55, F45), then F41 to F44 and F57, and last
-//! F54. The length of what `+` and `*` make is known before memory is asked for.
+//! The order of faults in one operation is F40, then those of visits to values and keys (F53, F55, F45), then F41 to
+//! F44 and F57, and last F54. The length of the result of `+` and `*` is known before memory is asked for.
 //!
 //! In reading order:
 //!
@@ -16,7 +16,7 @@
 //! - `subscript`: the item at an index or a key;
 //! - `slicing`: slices;
 //! - `operate`: a call for each kind of operator;
-//! - `in_place`: what changes a list or dict in place;
+//! - `in_place`: changes of a list or dict in place;
 //! - `laws`: what the definitions say together.
 #![tactic(auto)]
 

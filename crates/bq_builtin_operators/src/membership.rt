@@ -12,7 +12,8 @@ use bq_builtin_string_parts::find;
 use bq_value::{Body, Content, Dict, EvalErr, Node, Range, Store, Value};
 use bq_value_compare::key_of;
 
-/// Whether a value is in a container, and the steps that are left of these: F40 where nothing can be in it, or not such a value.
+/// Returns whether a value is in a container, and how many of the steps are left: F40 if nothing can be in it, or no
+/// such value.
 #[tactic(auto, using(bq_value::specs::Datum::list_of_data_of))]
 pub(crate) fn contained(
     store: &Store,
@@ -34,7 +35,7 @@ pub(crate) fn contained(
     }
 }
 
-/// In what a cell holds.
+/// Looks for a value in what a cell holds.
 fn in_content(
     store: &Store,
     steps: u64,
@@ -50,7 +51,7 @@ fn in_content(
     }
 }
 
-/// A substring.
+/// Looks for a substring.
 #[tactic(auto, unfolding(crate::specs::Membership::in_string))]
 fn in_string(steps: u64, value: &Value, text: &[u8]) -> Result<(bool, u64), FaultKind>
     ensures { result ≡ in_string steps value.now text.now }
@@ -61,7 +62,7 @@ fn in_string(steps: u64, value: &Value, text: &[u8]) -> Result<(bool, u64), Faul
     }
 }
 
-/// An element of a range.
+/// Looks for an element of a range.
 #[tactic(auto, unfolding(crate::specs::Membership::in_range))]
 fn in_range(steps: u64, value: &Value, range: Range) -> Result<(bool, u64), FaultKind>
     ensures { result ≡ in_range steps value.now range.start range.stop range.step }
@@ -72,7 +73,7 @@ fn in_range(steps: u64, value: &Value, range: Range) -> Result<(bool, u64), Faul
     }
 }
 
-/// One of these values is equal to it.
+/// Looks for a value that is equal to one of these.
 #[tactic(auto, unfolding(crate::specs::Membership::in_list))]
 fn in_list(
     store: &Store,
@@ -93,7 +94,7 @@ fn in_list(
     Ok((false, left))
 }
 
-/// A key of a dict.
+/// Looks for a key of a dict.
 #[tactic(auto, unfolding(crate::specs::Membership::in_dict))]
 fn in_dict(steps: u64, value: &Value, dict: &Dict) -> Result<(bool, u64), EvalErr>
     ensures { Gives (λ answer. answer) Bad result (in_dict steps value.now dict.now) }

@@ -8,7 +8,7 @@ ghost use Rattle.bq_builtin_operators.specs.Operand.{int_of, list_in, dict_in};
 use bq_base::FaultKind;
 use bq_value::{Body, Dict, EvalErr, Node, Store, Value};
 
-/// An integer.
+/// Returns an integer.
 pub(crate) fn int_of(value: &Value) -> Result<i64, FaultKind>
     ensures { result ≡ int_of value.now }
 {
@@ -18,7 +18,7 @@ pub(crate) fn int_of(value: &Value) -> Result<i64, FaultKind>
     }
 }
 
-/// The values of a list.
+/// Returns the values of a list.
 pub(crate) fn list_in<'s>(store: &'s Store, value: &Value) -> Result<&'s [Value], EvalErr>
     ensures { Gives (λ xs. xs.now) Bad result (list_in store.now value.now) }
 {
@@ -35,7 +35,7 @@ pub(crate) fn list_in<'s>(store: &'s Store, value: &Value) -> Result<&'s [Value]
     }
 }
 
-/// The pairs of a dict.
+/// Returns the pairs of a dict.
 pub(crate) fn dict_in<'s>(store: &'s Store, value: &Value) -> Result<&'s Dict, EvalErr>
     ensures { Gives (λ ps. ps.now) Bad result (dict_in store.now value.now) }
 {

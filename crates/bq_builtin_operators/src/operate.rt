@@ -23,8 +23,8 @@ use bq_parse_grammar::{Comparison, Operator, UnaryOperator};
 use bq_value::{Content, EvalErr, Node, Store, Value};
 use std::alloc::Global;
 
-/// `a op b`. An operator that the language leaves out, or that stops early, is F40. Two integers, which are the most frequent
-/// operands, are looked for first.
+/// Returns `a op b`. An operator that the language leaves out, or that stops early, is F40. Two integers, which are the
+/// most frequent operands, are looked for first.
 pub fn binary(
     alloc: Global,
     machine: &mut Machine,
@@ -43,7 +43,7 @@ pub fn binary(
     }
 }
 
-/// Of two integers, on any machine, which stays as it is.
+/// Returns `x op y` of two integers. No machine is needed.
 #[inline(always)]
 fn of_integers(operator: Operator, x: i64, y: i64) -> Result<Value, EvalErr>
     ensures { (machine : State) → Does (λ value. value) result machine (binary operator (int x) (int y) machine) }
@@ -51,7 +51,7 @@ fn of_integers(operator: Operator, x: i64, y: i64) -> Result<Value, EvalErr>
     Ok(Value::int(integers::arithmetic(operator, x, y)?))
 }
 
-/// The same, by the operator.
+/// Returns `a op b` of other operands.
 #[inline(never)]
 #[tactic(auto, unfolding(crate::specs::Operate::binary))]
 fn by_operator(
@@ -72,7 +72,7 @@ fn by_operator(
     }
 }
 
-/// `op value`.
+/// Returns `op value`.
 #[tactic(auto, unfolding(crate::specs::Operate::unary))]
 pub fn unary(machine: &Machine, operator: UnaryOperator, value: &Value) -> Result<Value, EvalErr>
     ensures { Does (λ value. value) result machine.now (unary operator value.now machine.now) }
@@ -80,7 +80,7 @@ pub fn unary(machine: &Machine, operator: UnaryOperator, value: &Value) -> Resul
     Ok(integers::signed(machine.store(), operator, value)?)
 }
 
-/// `a op b` as `True` or `False`.
+/// Returns `a op b` as `True` or `False`.
 #[tactic(auto, unfolding(crate::specs::Operate::compare))]
 pub fn compare(
     machine: &mut Machine,
@@ -95,7 +95,7 @@ pub fn compare(
     Ok(Value::bool(so))
 }
 
-/// `container[at]`.
+/// Returns `container[at]`.
 #[tactic(auto, unfolding(crate::specs::Operate::index))]
 pub fn index(
     alloc: Global,
@@ -110,7 +110,7 @@ pub fn index(
     Ok(value)
 }
 
-/// `a[start:stop:step]`, each `None` where it is left out.
+/// Returns `a[start:stop:step]`, where each that is left out is `None`.
 #[tactic(auto, unfolding(crate::specs::Operate::slice), using(bq_value::specs::Datum::list_of_data_of))]
 pub fn slice(
     alloc: Global,
@@ -136,7 +136,7 @@ pub fn slice(
     }
 }
 
-/// The values of the new list.
+/// Returns the values of a new list.
 #[tactic(auto, unfolding(crate::specs::Operate::list_slice))]
 fn list_slice(
     alloc: Global,

@@ -15,7 +15,7 @@ use bq_parse_grammar::Operator;
 use bq_value::{Content, EvalErr, Node, Store, Value};
 use std::alloc::Global;
 
-/// `a * b`, of integers, or of an integer and a string, a tuple or a list; F40, F41, F54.
+/// Returns `a * b`, of integers, or of an integer and a string, a tuple or a list; F40, F41, F54.
 #[tactic(auto, unfolding(crate::specs::Product::product))]
 pub(crate) fn product(
     alloc: Global,
@@ -34,7 +34,7 @@ pub(crate) fn product(
     }
 }
 
-/// With an integer on the left.
+/// Returns `n * b`.
 #[tactic(auto, unfolding(crate::specs::Product::int_product))]
 fn int_product(alloc: Global, machine: &mut Machine, n: i64, b: &Value) -> Result<Value, EvalErr>
     ensures { Does (λ value. value) result machine.new (int_product n b.now machine.old) }
@@ -45,7 +45,7 @@ fn int_product(alloc: Global, machine: &mut Machine, n: i64, b: &Value) -> Resul
     }
 }
 
-/// A string, a tuple or a list so many times.
+/// Returns a string, a tuple or a list `n` times.
 #[tactic(auto, unfolding(crate::specs::Product::times), using(bq_value::specs::Datum::list_of_data_of))]
 fn times(alloc: Global, machine: &mut Machine, a: &Value, n: i64) -> Result<Value, EvalErr>
     ensures { Does (λ value. value) result machine.new (times a.now n machine.old) }
@@ -61,7 +61,7 @@ fn times(alloc: Global, machine: &mut Machine, a: &Value, n: i64) -> Result<Valu
     }
 }
 
-/// The values of the new list.
+/// Returns the values of a new list.
 #[tactic(auto, unfolding(crate::specs::Product::list_product))]
 fn list_product(alloc: Global, store: &Store, a: &Value, n: i64) -> Result<Vec<Value>, EvalErr>
     ensures { Gives (λ values. values.items) Bad result (list_product store.now a.now n) }

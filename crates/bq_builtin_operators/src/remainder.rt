@@ -10,7 +10,7 @@ use bq_parse_grammar::Operator;
 use bq_value::{EvalErr, Node, Value};
 use std::alloc::Global;
 
-/// `a % b`, of integers, or a format and what it is filled with; F40, F53, F55, F41, F42, F59, F54.
+/// Returns `a % b`, of integers, or of a format and its values; F40, F53, F55, F41, F42, F59, F54.
 #[tactic(auto, unfolding(crate::specs::Remainder::remainder))]
 pub(crate) fn remainder(
     alloc: Global,

@@ -1,5 +1,5 @@
-//! Lists, tuples and strings that are joined, repeated and sliced (Starlark, "String concatenation", "String repetition", "Slice
-//! expressions"). How long an answer is, is known before memory is asked for (F54).
+//! Lists, tuples and strings that are joined, repeated and sliced (Starlark, "String concatenation", "String
+//! repetition", "Slice expressions"). The length of a result is known before memory is asked for (F54).
 
 ghost use Rattle.std.specs.Prelude.{◌≡◌, ◌≢◌, ◌++◌, ◌∷◌, [], OnOk, IfOk, cond, ◌==◌, pos};
 ghost use Rattle.bq_base.specs.Gives.{Gives};
@@ -13,7 +13,7 @@ use bq_builtin_numbers::{element, joined_len, repeated_len, slice_places};
 use bq_value::{EvalErr, Range, Value};
 use std::alloc::{AllocError, Global};
 
-/// `xs + ys` of strings.
+/// Returns `xs + ys` of strings.
 #[tactic(auto, unfolding(crate::specs::Sequence::joined))]
 pub(crate) fn join_bytes(alloc: Global, xs: &[u8], ys: &[u8]) -> Result<Bytes, EvalErr>
     ensures { Gives (λ text. text) Bad result (joined xs.now ys.now) }
@@ -25,7 +25,7 @@ pub(crate) fn join_bytes(alloc: Global, xs: &[u8], ys: &[u8]) -> Result<Bytes, E
     Ok(Bytes::from_vec(alloc, text)?)
 }
 
-/// `xs + ys` of lists or tuples.
+/// Returns `xs + ys` of lists or tuples.
 #[tactic(auto, unfolding(crate::specs::Sequence::joined))]
 pub(crate) fn join_values(alloc: Global, xs: &[Value], ys: &[Value]) -> Result<Vec<Value>, EvalErr>
     ensures { Gives (λ values. values.items) Bad result (joined xs.now ys.now) }
@@ -37,7 +37,7 @@ pub(crate) fn join_values(alloc: Global, xs: &[Value], ys: &[Value]) -> Result<V
     Ok(values)
 }
 
-/// Shares of these values after those that are there.
+/// Appends shares of these values.
 pub(crate) fn push_shares(values: &mut Vec<Value>, more: &[Value]) -> Result<(), AllocError>
     ensures { OnOk result (values.new.items ≡ values.old.items ++ more.now) }
 {
@@ -53,7 +53,7 @@ fn push_share(values: &mut Vec<Value>, value: &Value) -> Result<(), AllocError>
     Ok(values.push(value.share()?)?)
 }
 
-/// `text * times` of strings.
+/// Returns `xs * times` of strings.
 #[tactic(auto, using(crate::proofs::Sequences::repeated_is))]
 pub(crate) fn repeat_bytes(alloc: Global, xs: &[u8], times: i64) -> Result<Bytes, EvalErr>
     ensures { Gives (λ text. text) Bad result (repeated xs.now times) }
@@ -64,7 +64,7 @@ pub(crate) fn repeat_bytes(alloc: Global, xs: &[u8], times: i64) -> Result<Bytes
     Ok(Bytes::from_vec(alloc, text)?)
 }
 
-/// `values * times` of lists or tuples.
+/// Returns `xs * times` of lists or tuples.
 #[tactic(auto, using(crate::proofs::Sequences::repeated_is))]
 pub(crate) fn repeat_values(alloc: Global, xs: &[Value], times: i64) -> Result<Vec<Value>, EvalErr>
     ensures { Gives (λ values. values.items) Bad result (repeated xs.now times) }
@@ -75,7 +75,7 @@ pub(crate) fn repeat_values(alloc: Global, xs: &[Value], times: i64) -> Result<V
     Ok(values)
 }
 
-/// Some bytes, so many times, after those that are there.
+/// Appends `xs`, `times` times.
 fn push_copies(text: &mut Vec<u8>, xs: &[u8], times: i64) -> Result<(), AllocError>
     ensures { OnOk result (text.new.items ≡ text.old.items ++ copies xs.now (times_of times)) }
 {
@@ -85,7 +85,7 @@ fn push_copies(text: &mut Vec<u8>, xs: &[u8], times: i64) -> Result<(), AllocErr
     Ok(())
 }
 
-/// Some values, so many times, after those that are there.
+/// Appends shares of `xs`, `times` times.
 fn push_values(values: &mut Vec<Value>, xs: &[Value], times: i64) -> Result<(), AllocError>
     ensures { OnOk result (values.new.items ≡ values.old.items ++ copies xs.now (times_of times)) }
 {
@@ -95,7 +95,7 @@ fn push_values(values: &mut Vec<Value>, xs: &[Value], times: i64) -> Result<(), 
     Ok(())
 }
 
-/// How many turns it takes to repeat so many elements: none where there is nothing to repeat.
+/// Returns how many turns it takes to repeat `len` elements: none if there is nothing to repeat.
 fn turns(len: usize, times: i64) -> usize
     ensures { result ≡ cond (len == 0) 0 (times_of times) }
 {
@@ -105,7 +105,7 @@ fn turns(len: usize, times: i64) -> usize
     times as usize
 }
 
-/// The elements of `text[start:stop:step]`, where the step isn't 0.
+/// Returns the elements of `text[start:stop:step]`, where the step isn't 0.
 pub(crate) fn slice_bytes(
     alloc: Global,
     text: &[u8],
@@ -119,7 +119,7 @@ pub(crate) fn slice_bytes(
     take_bytes(alloc, text, slice_places(text.len(), start, stop, step))
 }
 
-/// The elements of `values[start:stop:step]`, where the step isn't 0.
+/// Returns the elements of `values[start:stop:step]`, where the step isn't 0.
 pub(crate) fn slice_values(
     alloc: Global,
     values: &[Value],
@@ -133,7 +133,7 @@ pub(crate) fn slice_values(
     take_values(alloc, values, slice_places(values.len(), start, stop, step))
 }
 
-/// The bytes at these places.
+/// Returns the bytes at these places.
 fn take_bytes(alloc: Global, text: &[u8], places: Range) -> Result<Vec<u8>, AllocError>
     requires { AreWithin text.now places.start places.stop places.step }
     ensures { IfOk result (λ taken. taken.items ≡ taken_by text.now places.start places.stop places.step) }
@@ -147,7 +147,7 @@ fn take_bytes(alloc: Global, text: &[u8], places: Range) -> Result<Vec<u8>, Allo
     Ok(taken)
 }
 
-/// The values at these places.
+/// Returns the values at these places.
 fn take_values(alloc: Global, values: &[Value], places: Range) -> Result<Vec<Value>, AllocError>
     requires { AreWithin values.now places.start places.stop places.step }
     ensures { IfOk result (λ taken. taken.items ≡ taken_by values.now places.start places.stop places.step) }

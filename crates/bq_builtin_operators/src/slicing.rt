@@ -10,7 +10,7 @@ use bq_base::{Bytes, FaultKind};
 use bq_value::{EvalErr, Node, Value};
 use std::alloc::Global;
 
-/// A slice of a string.
+/// Returns a slice of a string.
 #[tactic(auto, unfolding(crate::specs::Slicing::sliced))]
 pub(crate) fn sliced_bytes(
     alloc: Global,
@@ -26,7 +26,7 @@ pub(crate) fn sliced_bytes(
     Ok(Bytes::from_vec(alloc, taken)?)
 }
 
-/// A slice of a tuple or a list.
+/// Returns a slice of a tuple or a list.
 #[tactic(auto, unfolding(crate::specs::Slicing::sliced))]
 pub(crate) fn sliced_values(
     alloc: Global,
@@ -41,7 +41,7 @@ pub(crate) fn sliced_values(
     Ok(slice_values(alloc, values, start, stop, step)?)
 }
 
-/// The start, the stop and the step: F40 where one is neither an integer nor `None`, then F57 for a step of 0.
+/// Returns the start, the stop and the step: F40 if one is neither an integer nor `None`, then F57 for a step of 0.
 #[tactic(auto, unfolding(crate::specs::Slicing::bounds_of))]
 fn bounds_of(
     start: &Value,
@@ -60,7 +60,7 @@ fn bounds_of(
     Ok((start, stop, step))
 }
 
-/// A bound, where it isn't left out.
+/// Returns a bound, if it isn't left out.
 fn bound_of(value: &Value) -> Result<Option<i64>, FaultKind>
     ensures { result ≡ bound_of value.now }
 {

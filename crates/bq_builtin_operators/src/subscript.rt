@@ -12,7 +12,7 @@ use bq_value::{Body, Content, Dict, EvalErr, Node, Range, Store, Value};
 use bq_value_compare::key_of;
 use std::alloc::Global;
 
-/// The item of a container at an index or a key, and the steps that are left of these.
+/// Returns the item of a container at an index or a key, and how many of the steps are left.
 #[tactic(auto, using(bq_value::specs::Datum::list_of_data_of))]
 pub(crate) fn item_of(
     alloc: Global,
@@ -35,7 +35,7 @@ pub(crate) fn item_of(
     }
 }
 
-/// Of what a cell holds.
+/// Returns the item of what a cell holds.
 fn content_item(steps: u64, content: &Content, at: &Value) -> Result<(Value, u64), EvalErr>
     ensures { Gives (λ answer. answer) Bad result (content_item steps (Some content.now) at.now) }
 {
@@ -46,7 +46,7 @@ fn content_item(steps: u64, content: &Content, at: &Value) -> Result<(Value, u64
     }
 }
 
-/// A value at an index.
+/// Returns a value at an index.
 #[tactic(auto, unfolding(crate::specs::Subscript::item_in))]
 fn item_in(values: &[Value], at: &Value) -> Result<Value, EvalErr>
     ensures { Gives (λ value. value) Bad result (item_in values.now at.now) }
@@ -55,7 +55,7 @@ fn item_in(values: &[Value], at: &Value) -> Result<Value, EvalErr>
     Ok(values[place].share()?)
 }
 
-/// The byte at an index, as a string.
+/// Returns the byte at an index, as a string.
 #[tactic(auto, unfolding(crate::specs::Subscript::byte_in, crate::specs::Subscript::item_in))]
 fn byte_in(alloc: Global, text: &[u8], at: &Value) -> Result<Value, EvalErr>
     ensures { Gives (λ value. value) Bad result (byte_in text.now at.now) }
@@ -64,7 +64,7 @@ fn byte_in(alloc: Global, text: &[u8], at: &Value) -> Result<Value, EvalErr>
     Ok(Value::string(Bytes::from_slice(alloc, &[text[place]])?))
 }
 
-/// The element of a range at an index.
+/// Returns the element of a range at an index.
 #[tactic(auto, unfolding(crate::specs::Subscript::integer_in))]
 fn integer_in(range: Range, at: &Value) -> Result<Value, FaultKind>
     ensures { result ≡ integer_in range.start range.stop range.step at.now }
@@ -72,7 +72,7 @@ fn integer_in(range: Range, at: &Value) -> Result<Value, FaultKind>
     Ok(Value::int(range_item(range, int_of(at)?)?))
 }
 
-/// The value of a key.
+/// Returns the value of a key, and how many of the steps are left.
 #[tactic(auto, unfolding(crate::specs::Subscript::value_in))]
 fn value_in(steps: u64, dict: &Dict, at: &Value) -> Result<(Value, u64), EvalErr>
     ensures { Gives (λ answer. answer) Bad result (value_in steps dict.now at.now) }

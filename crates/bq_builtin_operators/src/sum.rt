@@ -15,7 +15,7 @@ use bq_parse_grammar::Operator;
 use bq_value::{Content, EvalErr, Node, Store, Value};
 use std::alloc::Global;
 
-/// `a + b`, of integers, strings, tuples or lists; F40, F41, F54.
+/// Returns `a + b`, of integers, strings, tuples or lists; F40, F41, F54.
 #[tactic(auto, unfolding(crate::specs::Sum::sum), using(bq_value::specs::Datum::list_of_data_of))]
 pub(crate) fn sum(
     alloc: Global,
@@ -56,7 +56,7 @@ fn tuple_sum(alloc: Global, values: &[Value], b: &Value) -> Result<Value, EvalEr
     }
 }
 
-/// The values of the new list.
+/// Returns the values of a new list.
 #[tactic(auto, unfolding(crate::specs::Sum::list_sum))]
 fn list_sum(alloc: Global, store: &Store, a: &Value, b: &Value) -> Result<Vec<Value>, EvalErr>
     ensures { Gives (λ values. values.items) Bad result (list_sum store.now a.now b.now) }

@@ -16,7 +16,7 @@ use bq_value::{Content, Dict, EvalErr, Node, Store, Value};
 use bq_value_seed::Seed;
 use std::alloc::{AllocError, Global};
 
-/// `a | b`, of integers or of dicts; F40, F54.
+/// Returns `a | b`, of integers or of dicts; F40, F54.
 #[tactic(auto, unfolding(crate::specs::Union::union))]
 pub(crate) fn union(
     alloc: Global,
@@ -35,7 +35,7 @@ pub(crate) fn union(
     }
 }
 
-/// The pairs of the new dict.
+/// Returns the pairs of a new dict.
 #[tactic(auto, unfolding(crate::specs::Union::dict_union))]
 fn dict_union(alloc: Global, store: &Store, a: &Value, b: &Value) -> Result<Dict, EvalErr>
     ensures { Gives (λ dict. dict) Bad result (dict_union store.now a.now b.now) }
@@ -45,7 +45,7 @@ fn dict_union(alloc: Global, store: &Store, a: &Value, b: &Value) -> Result<Dict
     united(alloc, store.seed(), dict, more)
 }
 
-/// A new dict into which the pairs of both are put in turn.
+/// Makes a dict into which the pairs of both are inserted in turn.
 #[tactic(auto, unfolding(crate::specs::Union::united))]
 fn united(alloc: Global, seed: Seed, dict: &Dict, more: &Dict) -> Result<Dict, EvalErr>
     ensures { Gives (λ all. all) Bad result (united dict.now more.now) }
@@ -59,7 +59,7 @@ fn united(alloc: Global, seed: Seed, dict: &Dict, more: &Dict) -> Result<Dict, E
     Ok(all)
 }
 
-/// Puts each pair of another dict.
+/// Inserts each pair of another dict.
 fn put_all(dict: &mut Dict, more: &Dict) -> Result<(), AllocError>
     ensures { OnOk result (dict.new ≡ put_all dict.old more.now) }
 {

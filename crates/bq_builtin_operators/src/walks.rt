@@ -1,4 +1,4 @@
-//! The walks of comparisons, at all their levels, as one word each.
+//! The walks of comparisons, with all their levels, a call for each.
 
 ghost use Rattle.std.specs.Prelude.{◌≡◌};
 ghost use Rattle.bq_builtin_machine.specs.Machine.{looked_equal, looked_order};
@@ -7,7 +7,7 @@ use bq_base::FaultKind;
 use bq_value::{Store, Value};
 use std::cmp::Ordering;
 
-/// Whether two values are equal, and the steps that are left of these.
+/// Returns whether two values are equal, and how many of the steps are left.
 #[tactic(auto, unfolding(bq_builtin_machine::specs::Machine::looked_equal))]
 pub(crate) fn equal(
     store: &Store,
@@ -20,7 +20,7 @@ pub(crate) fn equal(
     bq_value_compare::equal(store, steps, a, b)
 }
 
-/// How two values are ordered, and the steps that are left of these.
+/// Compares two values. Returns their order and how many of the steps are left.
 #[tactic(auto, unfolding(bq_builtin_machine::specs::Machine::looked_order))]
 pub(crate) fn order(
     store: &Store,

@@ -1,4 +1,4 @@
-//! The classes that a text is made of, its cases, its bytes one by one.
+//! The classes that the bytes of a text are of, its upper and lower case, and its bytes one by one.
 
 ghost use Rattle.std.specs.Prelude.{◌≡◌, map, IfOk};
 ghost use Rattle.std.specs.List.{list_any};
@@ -10,7 +10,7 @@ use crate::class::ByteClass;
 use bq_base::Bytes;
 use std::alloc::{AllocError, Global};
 
-/// Whether the text is not empty and each of its bytes is of the class.
+/// Returns whether the text isn't empty and all its bytes are of `class`.
 pub fn all_are(text: &[u8], class: ByteClass) -> bool
     ensures { result ≡ all_are class text.now }
 {
@@ -22,7 +22,7 @@ pub fn all_are(text: &[u8], class: ByteClass) -> bool
     !text.is_empty()
 }
 
-/// Whether some byte of the text is of the class.
+/// Returns whether some byte of the text is of the class.
 fn any_is(text: &[u8], class: ByteClass) -> bool
     ensures { result ≡ list_any (has class) text.now }
 {
@@ -34,21 +34,21 @@ fn any_is(text: &[u8], class: ByteClass) -> bool
     false
 }
 
-/// Whether the text has a lower-case letter and no upper-case one.
+/// Returns whether the text has a lower-case letter and no upper-case one.
 pub fn is_lower(text: &[u8]) -> bool
     ensures { result ≡ is_lower text.now }
 {
     any_is(text, ByteClass::Lowercase) && !any_is(text, ByteClass::Uppercase)
 }
 
-/// Whether the text has an upper-case letter and no lower-case one.
+/// Returns whether the text has an upper-case letter and no lower-case one.
 pub fn is_upper(text: &[u8]) -> bool
     ensures { result ≡ is_upper text.now }
 {
     any_is(text, ByteClass::Uppercase) && !any_is(text, ByteClass::Lowercase)
 }
 
-/// The text with each letter in lower case.
+/// Returns the text with each letter in lower case.
 pub fn lower(alloc: Global, text: &[u8]) -> Result<Vec<u8>, AllocError>
     ensures { IfOk result (λ made. made.items ≡ map to_ascii_lowercase text.now) }
 {
@@ -59,7 +59,7 @@ pub fn lower(alloc: Global, text: &[u8]) -> Result<Vec<u8>, AllocError>
     Ok(made)
 }
 
-/// The text with each letter in upper case.
+/// Returns the text with each letter in upper case.
 pub fn upper(alloc: Global, text: &[u8]) -> Result<Vec<u8>, AllocError>
     ensures { IfOk result (λ made. made.items ≡ map to_ascii_uppercase text.now) }
 {
@@ -70,7 +70,7 @@ pub fn upper(alloc: Global, text: &[u8]) -> Result<Vec<u8>, AllocError>
     Ok(made)
 }
 
-/// The bytes of the text, each as a text of its own.
+/// Returns the bytes of the text, each as a text of its own.
 pub fn elems(alloc: Global, text: &[u8]) -> Result<Vec<Bytes>, AllocError>
     ensures { IfOk result (λ parts. parts.items ≡ elems text.now) }
 {

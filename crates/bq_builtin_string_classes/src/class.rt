@@ -16,7 +16,7 @@ pub enum ByteClass {
     NonSpace,
 }
 
-/// Space, tab, newline, carriage return and the bytes 11 and 12.
+/// Returns whether a byte is a space, a tab, a newline, a carriage return, or has the number 11 or 12.
 fn is_space(byte: u8) -> bool
     ensures { result ≡ is_space byte }
 {
@@ -24,7 +24,7 @@ fn is_space(byte: u8) -> bool
 }
 
 impl ByteClass {
-    /// Whether a byte is of this class.
+    /// Returns whether a byte is of this class.
     pub fn has(self, byte: u8) -> bool
         ensures { result ≡ has self byte }
     {
@@ -39,7 +39,7 @@ impl ByteClass {
         }
     }
 
-    /// How many bytes of this class the text begins with.
+    /// Returns how many bytes of this class the text begins with.
     pub fn run_len(self, text: &[u8]) -> usize
         ensures len { result ≡ prefix_len (has self) text.now }
         ensures within { result ≤ length text.now }
@@ -54,7 +54,7 @@ impl ByteClass {
         at
     }
 
-    /// How long the text is without the bytes of this class that it ends in.
+    /// Returns the length of the text without the bytes of this class at its end.
     pub fn len_without_run(self, text: &[u8]) -> usize
         ensures len { result ≡ length text.now - suffix_len (has self) text.now }
         ensures within { result ≤ length text.now }

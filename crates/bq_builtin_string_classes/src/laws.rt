@@ -6,12 +6,12 @@ ghost use Rattle.std.specs.List.{concat, All};
 ghost use Rattle.bq_builtin_string_classes.specs.Word.{words, rwords, AreWords};
 ghost use Rattle.bq_builtin_string_classes.specs.Line.{lines};
 
-/// Where the cuts are not too few, the words are the longest runs of bytes that are not space, in their order.
+/// Where enough cuts are allowed, the words are the longest runs of bytes that are not space, in their order.
 pub fn the_words()
     ensures { (text : List ℕ) (most : ℕ) → length text ≤ most → AreWords text (words most text) }
 {}
 
-/// Where the cuts are not too few, the words from the right are the words.
+/// Where enough cuts are allowed, the words from the right are the words.
 pub fn the_words_from_the_right()
     ensures { (text : List ℕ) (most : ℕ) → length text ≤ most → rwords most text ≡ words most text }
 {}

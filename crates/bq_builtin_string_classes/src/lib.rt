@@ -1,14 +1,14 @@
-//! The bytes of strings come in; their words, lines and other cases go out, and which classes of bytes they are made of.
+//! The bytes of strings come in; their words, lines and other cases go out, and which classes their bytes are of.
 //!
-//! The promise: each call gives exactly what its definition says of the bytes, and the time is in proportion to them.
+//! The promise: each call returns exactly what its definition says of the bytes, in time proportional to them.
 //! Letters and digits are those of ASCII.
 //!
 //! In reading order:
 //!
 //! - `class`: classes of bytes, and how long a run of them is;
-//! - `case`: the classes that a text is made of, its upper and lower case, its bytes one by one;
+//! - `case`: the classes that the bytes of a text are of, its upper and lower case, its bytes one by one;
 //! - `word`: what is between runs of space;
-//! - `line`: what line ends end;
+//! - `line`: lines and their ends;
 //! - `laws`: what the definitions say together.
 #![tactic(auto)]
 

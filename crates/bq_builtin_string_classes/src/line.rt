@@ -6,15 +6,15 @@ ghost use Rattle.bq_builtin_string_classes.specs.Line.{line_len, line_ends, bare
 use bq_base::Bytes;
 use std::alloc::{AllocError, Global};
 
-/// Whether a line ends with the byte, before what is after it: at a newline, and at a carriage return that has no newline after
-/// it.
+/// Returns whether a line ends with `byte`, where `after` is what comes after it: at a newline, and at a carriage
+/// return that no newline comes after.
 fn line_ends(byte: u8, after: &[u8]) -> bool
     ensures { result ≡ line_ends byte after.now }
 {
     byte == b'\n' || (byte == b'\r' && !after.starts_with(b"\n"))
 }
 
-/// How long the first line is, with its end.
+/// Returns the length of the first line, with its end.
 fn line_len(text: &[u8]) -> usize
     ensures len { result ≡ line_len text.now }
     ensures within { result ≤ length text.now }
@@ -28,7 +28,7 @@ fn line_len(text: &[u8]) -> usize
     text.len()
 }
 
-/// A line without its end.
+/// Returns a line without its end.
 #[tactic(auto, unfolding(crate::specs::Line::bare))]
 fn bare(line: &[u8]) -> &[u8]
     ensures { result.now ≡ bare line.now }
@@ -42,14 +42,14 @@ fn bare(line: &[u8]) -> &[u8]
     line
 }
 
-/// A line with its end or without.
+/// Returns a line with its end or without.
 fn part(line: &[u8], keep_end: bool) -> &[u8]
     ensures { result.now ≡ part keep_end line.now }
 {
     if keep_end { line } else { bare(line) }
 }
 
-/// The lines of the text, with their ends or without.
+/// Returns the lines of the text, with their ends or without.
 pub fn lines(alloc: Global, text: &[u8], keep_ends: bool) -> Result<Vec<Bytes>, AllocError>
     ensures { IfOk result (λ parts. parts.items ≡ map (part keep_ends) (lines text.now)) }
 {

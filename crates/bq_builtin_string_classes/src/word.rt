@@ -8,7 +8,7 @@ use crate::class::ByteClass;
 use bq_base::Bytes;
 use std::alloc::{AllocError, Global};
 
-/// The text without the space that it begins with.
+/// Returns the text without the space that it begins with.
 #[tactic(auto, unfolding(bq_builtin_string_parts::specs::Trim::lstrip))]
 fn after_space(text: &[u8]) -> &[u8]
     ensures { result.now ≡ lstrip spaces text.now }
@@ -16,7 +16,7 @@ fn after_space(text: &[u8]) -> &[u8]
     &text[ByteClass::Space.run_len(text)..]
 }
 
-/// The text without the space that it ends in.
+/// Returns the text without the space at its end.
 #[tactic(auto, unfolding(bq_builtin_string_parts::specs::Trim::rstrip))]
 fn before_space(text: &[u8]) -> &[u8]
     ensures { result.now ≡ rstrip spaces text.now }
@@ -24,7 +24,7 @@ fn before_space(text: &[u8]) -> &[u8]
     &text[..ByteClass::Space.len_without_run(text)]
 }
 
-/// The word that the text begins with, and what is after it, where some cuts are left.
+/// Returns the word that the text begins with, and what is after it, if cuts are left.
 #[tactic(auto, unfolding(crate::specs::Word::word_within))]
 fn word_within(text: &[u8], left: usize) -> Option<(&[u8], &[u8])>
     ensures cut { MatchOption result (word_within left text.now ≡ None) (λ p. word_within left text.now ≡ Some (p.0.now, p.1.now)) }
@@ -39,7 +39,7 @@ fn word_within(text: &[u8], left: usize) -> Option<(&[u8], &[u8])>
     Some(text.split_at(ByteClass::NonSpace.run_len(text)))
 }
 
-/// What is before the word that the text ends in, and the word, where some cuts are left.
+/// Returns what is before the word at the end of the text, and the word, if cuts are left.
 #[tactic(auto, unfolding(crate::specs::Word::last_word_within))]
 fn last_word_within(text: &[u8], left: usize) -> Option<(&[u8], &[u8])>
     ensures cut { MatchOption result (last_word_within left text.now ≡ None) (λ p. last_word_within left text.now ≡ Some (p.0.now, p.1.now)) }
@@ -54,7 +54,7 @@ fn last_word_within(text: &[u8], left: usize) -> Option<(&[u8], &[u8])>
     Some(text.split_at(ByteClass::NonSpace.len_without_run(text)))
 }
 
-/// Adds what is left as a part, if it has a byte.
+/// Appends what is left as a part, if it isn't empty.
 fn push_part(alloc: Global, parts: &mut Vec<Bytes>, rest: &[u8]) -> Result<(), AllocError>
     ensures { OnOk result (parts.new.items ≡ parts.old.items ++ last_part rest.now) }
 {
@@ -65,8 +65,8 @@ fn push_part(alloc: Global, parts: &mut Vec<Bytes>, rest: &[u8]) -> Result<(), A
     Ok(())
 }
 
-/// The words of the text, cut from the left at most so many times. What is left then is one more part, with the space that it
-/// ends in.
+/// Returns the words of the text, cut from the left at most `most` times. What is left then is one more part, with the
+/// space at its end.
 pub fn words(alloc: Global, text: &[u8], most: usize) -> Result<Vec<Bytes>, AllocError>
     ensures { IfOk result (λ parts. parts.items ≡ words most text.now) }
 {
@@ -82,8 +82,8 @@ pub fn words(alloc: Global, text: &[u8], most: usize) -> Result<Vec<Bytes>, Allo
     Ok(parts)
 }
 
-/// The words of the text, cut from the right at most so many times. What is left then is one more part, with the space that it
-/// begins with.
+/// Returns the words of the text, cut from the right at most `most` times. What is left then is one more part, with the
+/// space at its start.
 pub fn rwords(alloc: Global, text: &[u8], most: usize) -> Result<Vec<Bytes>, AllocError>
     ensures { IfOk result (λ parts. parts.items ≡ rwords most text.now) }
 {

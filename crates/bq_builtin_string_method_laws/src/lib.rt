@@ -1,8 +1,8 @@
 //! Laws of the methods of strings, by the definitions of `bq_builtin_string_methods` and `bq_builtin_string_classes`.
 //!
-//! In: nothing; the functions do nothing, and their contracts are the laws. The promise: a tuple of affixes is one of them; the three
-//! parts of a partition are the text, wherever its separator is; and no part of a text that is split at space begins with space,
-//! however few cuts are made; and an affix is removed once.
+//! In: nothing; the functions do nothing, and their contracts are the laws. The promise: a tuple of affixes stands for
+//! one of them; the three parts of a partition are the text, wherever its separator is; no part of a text that is split
+//! at space begins with space, however few cuts are made; and an affix is removed once.
 #![tactic(auto)]
 
 mod laws;

@@ -24,7 +24,7 @@ fn has_end(method: EndMethod, part: &[u8], text: &[u8]) -> bool
     }
 }
 
-/// Whether one of these strings is at that end; F40 where one of them is no string.
+/// Returns whether one of these strings is at that end; F40 if one of them isn't a string.
 fn has_one(method: EndMethod, part: &[u8], values: &[Value]) -> Result<bool, FaultKind>
     ensures { result ≡ and_then (texts_of values.now) (λ texts. Ok (list_any (has_end method part.now) texts)) }
 {
@@ -38,7 +38,7 @@ fn has_one(method: EndMethod, part: &[u8], values: &[Value]) -> Result<bool, Fau
     Ok(found)
 }
 
-/// `s.method(x, start, end)`, where x is a string, or a tuple of strings of which one has to be there.
+/// Returns `s.method(x, start, end)`, where x is a string, or a tuple of strings of which one has to be there.
 #[tactic(auto, using(bq_value::specs::Datum::list_of_data_of), unfolding(crate::specs::Affixes::ends))]
 pub fn ends(method: EndMethod, text: &[u8], values: &[Value]) -> Result<Value, FaultKind>
     ensures { result ≡ ends method text.now values.now }

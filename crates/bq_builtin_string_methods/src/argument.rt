@@ -1,4 +1,4 @@
-//! What a method takes of an argument, and F40 where it is of another type.
+//! The arguments of a method by their types: F40 for one of another type.
 
 ghost use Rattle.std.specs.Prelude.{◌≡◌, ◌≤◌, length, option_copied, slice_get};
 ghost use Rattle.bq_builtin_string_methods.specs.Argument.{Says, text_in, place_in, bytes_in, separator_in, most_in, truth_in, part_of, region};
@@ -8,14 +8,14 @@ use bq_builtin_numbers::span;
 use bq_builtin_string_parts::SPACES;
 use bq_value::{Node, Value};
 
-/// The argument at this place, if there is one.
+/// Returns the argument at this place, if there is one.
 pub fn argument(values: &[Value], index: usize) -> Option<&Value>
     ensures { option_copied result ≡ slice_get values.now index }
 {
     values.get(index)
 }
 
-/// A string.
+/// Returns a string.
 pub fn text_in(values: &[Value], index: usize) -> Result<&Bytes, FaultKind>
     ensures { Says (λ text. text.now) result (text_in (slice_get values.now index)) }
 {
@@ -28,7 +28,7 @@ pub fn text_in(values: &[Value], index: usize) -> Result<&Bytes, FaultKind>
     }
 }
 
-/// An integer, none where the argument is left out or `None`.
+/// Returns an integer, or `None` if the argument is left out or `None`.
 fn place_in(values: &[Value], index: usize) -> Result<Option<i64>, FaultKind>
     ensures { result ≡ place_in (slice_get values.now index) }
 {
@@ -42,7 +42,7 @@ fn place_in(values: &[Value], index: usize) -> Result<Option<i64>, FaultKind>
     }
 }
 
-/// Bytes; those that count as space where the argument is left out or `None`.
+/// Returns the bytes of a string; those that count as space if the argument is left out or `None`.
 pub fn bytes_in(values: &[Value], index: usize) -> Result<&[u8], FaultKind>
     ensures { Says (λ text. text.now) result (bytes_in (slice_get values.now index)) }
 {
@@ -56,7 +56,7 @@ pub fn bytes_in(values: &[Value], index: usize) -> Result<&[u8], FaultKind>
     }
 }
 
-/// A separator, none where the argument is left out or `None`.
+/// Returns a separator, or `None` if the argument is left out or `None`.
 pub fn separator_in(values: &[Value], index: usize) -> Result<Option<&Bytes>, FaultKind>
     ensures { Says option_copied result (separator_in (slice_get values.now index)) }
 {
@@ -70,7 +70,8 @@ pub fn separator_in(values: &[Value], index: usize) -> Result<Option<&Bytes>, Fa
     }
 }
 
-/// How often at most in a text of so many bytes: where the argument is left out or negative, once more than it has bytes.
+/// Returns how often something is done at most in a text: if the argument is left out or negative, once more than it
+/// has bytes.
 pub fn most_in(text: &[u8], values: &[Value], index: usize) -> Result<usize, FaultKind>
     ensures { result ≡ most_in (length text.now) (slice_get values.now index) }
 {
@@ -89,7 +90,7 @@ pub fn most_in(text: &[u8], values: &[Value], index: usize) -> Result<usize, Fau
     }
 }
 
-/// A truth value, false where the argument is left out.
+/// Returns a truth value, which is false if the argument is left out.
 pub fn truth_in(values: &[Value], index: usize) -> Result<bool, FaultKind>
     ensures { result ≡ truth_in (slice_get values.now index) }
 {
@@ -102,7 +103,7 @@ pub fn truth_in(values: &[Value], index: usize) -> Result<bool, FaultKind>
     }
 }
 
-/// The bytes from a place up to another, none where that comes before it.
+/// Returns the bytes from one place to another; none if that comes before it.
 fn part_of(text: &[u8], from: usize, to: usize) -> &[u8]
     requires from { from ≤ length text.now }
     requires to { to ≤ length text.now }
@@ -114,7 +115,7 @@ fn part_of(text: &[u8], from: usize, to: usize) -> &[u8]
     &text[from..to]
 }
 
-/// The region of a text between the places of two arguments, and where it starts.
+/// Returns the region of a text between the places of two arguments, and where it starts.
 pub fn region<'t>(
     text: &'t [u8],
     values: &[Value],

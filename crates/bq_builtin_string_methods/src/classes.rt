@@ -1,4 +1,4 @@
-//! The methods that say what a string is made of, and those that change its case (Starlark, "string·isalnum",
+//! The methods that test the classes of a string's bytes, and those that change its case (Starlark, "string·isalnum",
 //! "string·isalpha", "string·isdigit", "string·isspace", "string·islower", "string·isupper", "string·lower", "string·upper").
 
 ghost use Rattle.std.specs.Prelude.{◌≡◌, IfOk};
@@ -18,7 +18,7 @@ pub enum TestMethod {
     Isupper,
 }
 
-/// `s.method()`.
+/// Returns `s.method()`, for a test.
 pub fn test(method: TestMethod, text: &[u8]) -> bool
     ensures { result ≡ test method text.now }
 {
@@ -38,7 +38,7 @@ pub enum CaseMethod {
     Upper,
 }
 
-/// `s.method()`.
+/// Returns `s.method()`, for a change of case.
 pub fn in_case(alloc: Global, method: CaseMethod, text: &[u8]) -> Result<Bytes, AllocError>
     ensures { IfOk result (λ made. made ≡ in_case method text.now) }
 {

@@ -19,7 +19,7 @@ pub enum Side {
     Right,
 }
 
-/// The tuple of three strings.
+/// Makes the tuple of three strings.
 fn three(alloc: Global, first: &[u8], second: &[u8], third: &[u8]) -> Result<Value, AllocError>
     ensures { IfOk result (λ v. v ≡ three first.now second.now third.now) }
 {
@@ -30,7 +30,7 @@ fn three(alloc: Global, first: &[u8], second: &[u8], third: &[u8]) -> Result<Val
     Value::tuple(alloc, items)
 }
 
-/// What is before the separator, and what is after it, by the first one or the last.
+/// Returns what is before the separator, and what is after it: the first separator or the last.
 fn cut_once<'t>(side: Side, separator: &[u8], text: &'t [u8]) -> Option<(&'t [u8], &'t [u8])>
     ensures { MatchOption result (cut_once side separator.now text.now ≡ None) (λ p. cut_once side separator.now text.now ≡ Some (p.0.now, p.1.now)) }
 {
@@ -40,7 +40,7 @@ fn cut_once<'t>(side: Side, separator: &[u8], text: &'t [u8]) -> Option<(&'t [u8
     }
 }
 
-/// `s.partition(sep)`, and from the right `s.rpartition(sep)`.
+/// Returns `s.partition(sep)`, and from the right `s.rpartition(sep)`.
 #[tactic(auto, unfolding(crate::specs::Cuts::partition))]
 pub fn partition(alloc: Global, side: Side, text: &[u8], values: &[Value]) -> Result<Value, EvalErr>
     ensures { Gives (λ v. v) Bad result (partition side text.now values.now) }
@@ -52,7 +52,8 @@ pub fn partition(alloc: Global, side: Side, text: &[u8], values: &[Value]) -> Re
     Ok(three_parts(alloc, side, separator, text)?)
 }
 
-/// What is before the separator, the separator, and what is after it. Without one the text is at the side where cutting begins.
+/// Makes the tuple of what is before the separator, the separator, and what is after it. If there is no separator, the
+/// text is at the side where cutting begins.
 fn three_parts(
     alloc: Global,
     side: Side,
@@ -94,7 +95,7 @@ fn words_of(alloc: Global, side: Side, most: usize, text: &[u8]) -> Result<Vec<B
     }
 }
 
-/// `s.split(sep, maxsplit)`, and from the right `s.rsplit(sep, maxsplit)`.
+/// Returns `s.split(sep, maxsplit)`, and from the right `s.rsplit(sep, maxsplit)`.
 #[tactic(auto, unfolding(crate::specs::Cuts::split))]
 pub fn split(
     alloc: Global,
@@ -117,7 +118,7 @@ pub fn split(
     }
 }
 
-/// `s.splitlines(keepends)`.
+/// Returns `s.splitlines(keepends)`.
 #[tactic(auto, unfolding(crate::specs::Cuts::splitlines))]
 pub fn splitlines(alloc: Global, text: &[u8], values: &[Value]) -> Result<Vec<Bytes>, EvalErr>
     ensures { Gives (λ parts. parts.items) Bad result (splitlines text.now values.now) }

@@ -1,17 +1,17 @@
-//! A string, a method and its arguments come in; what the call gives goes out: a value, a new list, or a fault.
+//! A string, a method and its arguments come in; the result of the call goes out: a value, a new list, or a fault.
 //!
-//! The promise: `call` gives exactly what the equation of the method gives of the string, the arguments and the state of the
-//! machine, unless memory runs out.
+//! The promise: `call` returns exactly what the equation of the method says of the string, the arguments and the state
+//! of the machine, unless memory runs out.
 //!
-//! All arguments are given by place but those of `format`; F52 comes before the types of the arguments (F40), then F57 or F59, and F54
-//! last, before memory for the text is asked for.
+//! All arguments are positional but those of `format`; F52 comes before the types of the arguments (F40), then F57 or
+//! F59, and F54 last, before memory for the text is asked for.
 //!
 //! In reading order:
 //!
-//! - `argument`: what a method takes of an argument, and the region that two of them name;
+//! - `argument`: the arguments by their types, and the region that two of them name;
 //! - `searches`, `affixes`: what is found in a region, and at its ends;
-//! - `classes`: what a string is made of, and its cases;
-//! - `strips`, `cuts`: what is taken off the ends, and the parts of a string;
+//! - `classes`: the classes of a string's bytes, and its cases;
+//! - `strips`, `cuts`: what is removed from the ends, and the parts of a string;
 //! - `longer`: what makes longer strings;
 //! - `method`: the names of the methods, how many arguments each takes, and the call.
 #![tactic(auto)]

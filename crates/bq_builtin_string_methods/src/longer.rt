@@ -15,7 +15,7 @@ use bq_builtin_string_parts::cuts;
 use bq_value::{EvalErr, Value};
 use std::alloc::Global;
 
-/// How often a text is replaced, at most so many times.
+/// Returns how often `old` is replaced in the text, at most `most` times.
 #[tactic(auto, unfolding(crate::specs::Longer::times))]
 fn times(text: &[u8], old: &[u8], most: usize) -> usize
     ensures { result ≡ times old.now most text.now }
@@ -26,7 +26,8 @@ fn times(text: &[u8], old: &[u8], most: usize) -> usize
     cuts(text, old, most)
 }
 
-/// F54 where a text is too long in which a part has been replaced so often.
+/// Fails with F54 if a text is too long in which a part of length `old` has been replaced `times` times by one of
+/// length `new`.
 fn fit_replaced(len: usize, times: usize, old: usize, new: usize) -> Result<(), FaultKind>
     requires { times * old ≤ len }
     ensures { result ≡ fit_replaced len times old new }
@@ -40,7 +41,7 @@ fn fit_replaced(len: usize, times: usize, old: usize, new: usize) -> Result<(), 
     }
 }
 
-/// `s.replace(old, new, count)`.
+/// Returns `s.replace(old, new, count)`.
 #[tactic(auto, unfolding(crate::specs::Longer::replace))]
 pub fn replace(alloc: Global, text: &[u8], values: &[Value]) -> Result<Bytes, EvalErr>
     ensures { Gives (λ made. made) Bad result (replace text.now values.now) }
@@ -55,7 +56,7 @@ pub fn replace(alloc: Global, text: &[u8], values: &[Value]) -> Result<Bytes, Ev
     )?)
 }
 
-/// The length with another separator and part.
+/// Returns the length with another separator and part.
 #[tactic(auto, using(std::proofs::lemmas::Bool::Decides::nat_tests))]
 fn with_part(len: usize, separator: usize, part: usize) -> Result<usize, FaultKind>
     ensures { result ≡ within (len + separator + part) }
@@ -63,7 +64,7 @@ fn with_part(len: usize, separator: usize, part: usize) -> Result<usize, FaultKi
     joined_len(joined_len(len, separator)?, part)
 }
 
-/// F54 where a first part would be too long with others, each after the separator.
+/// Fails with F54 if a first part would be too long with the others, each after a separator.
 fn fit_parts(separator: &[u8], first: usize, others: &[Bytes]) -> Result<(), FaultKind>
     ensures { result ≡ fits (first + length (joined_on separator.now others.now)) }
 {
@@ -75,7 +76,7 @@ fn fit_parts(separator: &[u8], first: usize, others: &[Bytes]) -> Result<(), Fau
     Ok(())
 }
 
-/// F54 where the strings would be too long, with the separator between each two.
+/// Fails with F54 if the strings would be too long, with the separator between each two.
 fn fit_joined(separator: &[u8], strings: &[Bytes]) -> Result<(), FaultKind>
     ensures { result ≡ fits (length (parts.join separator.now strings.now)) }
 {
@@ -85,7 +86,7 @@ fn fit_joined(separator: &[u8], strings: &[Bytes]) -> Result<(), FaultKind>
     fit_parts(separator, strings[0].len(), &strings[1..])
 }
 
-/// `text.join(x)`, of the strings of x.
+/// Returns `text.join(x)`, of the strings of x.
 pub fn join(alloc: Global, text: &[u8], strings: &[Bytes]) -> Result<Bytes, EvalErr>
     ensures { Gives (λ made. made) Bad result (join text.now strings.now) }
 {

@@ -1,4 +1,4 @@
-//! The methods of strings: their names, how many arguments they take, and what a call gives.
+//! The methods of strings: their names, how many arguments they take, and their calls.
 
 ghost use Rattle.std.specs.Prelude.{◌≡◌, ◌++◌, ◌∷◌, [], Some, Ok, map, option_copied, IfOk};
 ghost use Rattle.std.specs.Map.{lookup};
@@ -34,7 +34,7 @@ pub enum StringMethod {
     Format,
 }
 
-/// Those that give a value, and need no more for it than the string and the arguments.
+/// The methods that return a value, and need no more for it than the string and the arguments.
 #[derive(Clone, Copy)]
 pub enum ValueMethod {
     Search(SearchMethod),
@@ -46,7 +46,7 @@ pub enum ValueMethod {
     Replace,
 }
 
-/// Those that give a new list of strings.
+/// The methods that return a new list of strings.
 #[derive(Clone, Copy)]
 pub enum PartsMethod {
     Split(Side),
@@ -170,14 +170,14 @@ fn named_in(mut table: &[(&[u8], StringMethod)], name: &[u8]) -> Option<StringMe
     None
 }
 
-/// The method of a name; none where strings lack it (F58).
+/// Returns the method of a name, if strings have it (F58).
 pub fn string_method(name: &[u8]) -> Option<StringMethod>
     ensures { result ≡ string_method name.now }
 {
     named_in(&METHODS, name)
 }
 
-/// The fewest and the most arguments.
+/// Returns the fewest and the most arguments.
 fn value_counts(method: ValueMethod) -> (usize, usize)
     ensures { result ≡ value_counts method }
 {
@@ -204,7 +204,7 @@ fn parts_counts(method: PartsMethod) -> (usize, usize)
     }
 }
 
-/// So many arguments by place, and none by name (F52).
+/// Checks that the number of arguments is within `counts`, and that none is passed by name (F52).
 fn placed(counts: (usize, usize), args: &Args) -> Result<(), FaultKind>
     ensures { result ≡ placed counts args.now }
 {
@@ -226,7 +226,7 @@ fn takes(method: StringMethod, args: &Args) -> Result<(), FaultKind>
     }
 }
 
-/// The value of a method that needs no more than the string and the arguments.
+/// Returns the value of a method that needs no more than the string and the arguments.
 fn value(
     alloc: Global,
     method: ValueMethod,
@@ -249,7 +249,7 @@ fn value(
     }
 }
 
-/// The strings of a new list.
+/// Returns the strings of a new list.
 fn parts(
     alloc: Global,
     method: PartsMethod,
@@ -275,7 +275,7 @@ fn values_of(alloc: Global, strings: &[Bytes]) -> Result<Vec<Value>, AllocError>
     Ok(values)
 }
 
-/// A new list of these strings.
+/// Makes a list of these strings.
 fn new_strings(alloc: Global, machine: &mut Machine, strings: &[Bytes]) -> Result<Value, EvalErr>
     ensures { Does (λ v. v) result machine.new (new_strings strings.now machine.old) }
 {
@@ -283,7 +283,7 @@ fn new_strings(alloc: Global, machine: &mut Machine, strings: &[Bytes]) -> Resul
     machine.new_content(Content::list(values))
 }
 
-/// Adds a string to others; F40 for another value.
+/// Appends a string; F40 for another value.
 fn push_text(strings: &mut Vec<Bytes>, value: &Value) -> Result<(), EvalErr>
     ensures { Gives (λ _. strings.new.items) Bad result (and_then (text_in (Some value.now)) (λ text. Ok (strings.old.items ++ text ∷ []))) }
 {
@@ -296,7 +296,7 @@ fn push_text(strings: &mut Vec<Bytes>, value: &Value) -> Result<(), EvalErr>
     }
 }
 
-/// The strings that these elements are; F40 where one is none.
+/// Returns the strings that these elements are; F40 if one isn't a string.
 fn texts_of(alloc: Global, elements: Elements) -> Result<Vec<Bytes>, EvalErr>
     ensures { Gives (λ strings. strings.items) Bad result (texts_of elements) }
 {
@@ -308,7 +308,7 @@ fn texts_of(alloc: Global, elements: Elements) -> Result<Vec<Bytes>, EvalErr>
     Ok(strings)
 }
 
-/// The strings of an iterable, with the text between each two.
+/// Returns the strings of an iterable, with the text between each two.
 fn joined(
     alloc: Global,
     machine: &mut Machine,
@@ -325,7 +325,7 @@ fn joined(
     Ok(Value::string(join(alloc, text, &strings)?))
 }
 
-/// What a call of a method gives whose arguments are as many as it takes.
+/// Returns the result of a method that has as many arguments as it takes.
 #[tactic(auto, unfolding(crate::specs::Method::answered))]
 fn answered(
     alloc: Global,
@@ -347,7 +347,7 @@ fn answered(
     }
 }
 
-/// What the method `format` makes of a text and arguments.
+/// Returns the result of `format`.
 fn formatted(
     alloc: Global,
     machine: &mut Machine,
@@ -368,7 +368,7 @@ fn formatted(
     Ok(Value::string(made))
 }
 
-/// `text.method(args)`.
+/// Returns `text.method(args)`.
 #[tactic(auto, unfolding(crate::specs::Method::call))]
 pub fn call(
     alloc: Global,

@@ -18,7 +18,7 @@ pub enum SearchMethod {
     Rindex,
 }
 
-/// A number; F41 where it doesn't fit 64 bits, which is out of reach of strings as long as they may be.
+/// Returns a number as a value; F41 if it doesn't fit 64 bits, which no string is long enough for.
 #[tactic(auto, using(std::proofs::lemmas::Bool::Decides::nat_tests))]
 fn number(n: usize) -> Result<Value, FaultKind>
     ensures { result ≡ number n }
@@ -29,7 +29,7 @@ fn number(n: usize) -> Result<Value, FaultKind>
     Ok(Value::int(n as i64))
 }
 
-/// The number that is the sum.
+/// Returns a sum as a value.
 #[tactic(auto, using(std::proofs::lemmas::Bool::Decides::nat_tests))]
 fn sum(from: usize, at: usize) -> Result<Value, FaultKind>
     ensures { result ≡ number (from + at) }
@@ -40,7 +40,7 @@ fn sum(from: usize, at: usize) -> Result<Value, FaultKind>
     }
 }
 
-/// The place in the string of what was found in a region that starts at `from`; -1 where it was not found.
+/// Returns the place in the string of what was found in a region that starts at `from`; -1 if nothing was found.
 fn place_or_less(from: usize, found: Option<usize>) -> Result<Value, FaultKind>
     ensures { result ≡ place_or_less from found }
 {
@@ -50,7 +50,7 @@ fn place_or_less(from: usize, found: Option<usize>) -> Result<Value, FaultKind>
     }
 }
 
-/// The same, with F57 where it was not found.
+/// Returns the place in the string of what was found in a region that starts at `from`; F57 if nothing was found.
 fn place_or_fault(from: usize, found: Option<usize>) -> Result<Value, FaultKind>
     ensures { result ≡ place_or_fault from found }
 {
@@ -60,7 +60,7 @@ fn place_or_fault(from: usize, found: Option<usize>) -> Result<Value, FaultKind>
     }
 }
 
-/// What a region says that starts at `from`.
+/// Returns the result of a search in `part`, a region that starts at `from`.
 fn said(method: SearchMethod, sub: &[u8], from: usize, part: &[u8]) -> Result<Value, FaultKind>
     ensures { result ≡ said method sub.now from part.now }
 {
@@ -73,7 +73,7 @@ fn said(method: SearchMethod, sub: &[u8], from: usize, part: &[u8]) -> Result<Va
     }
 }
 
-/// `s.method(sub, start, end)`.
+/// Returns `s.method(sub, start, end)`.
 #[tactic(auto, unfolding(crate::specs::Searches::search))]
 pub fn search(method: SearchMethod, text: &[u8], values: &[Value]) -> Result<Value, FaultKind>
     ensures { result ≡ search method text.now values.now }

@@ -1,5 +1,5 @@
-//! The methods that take something off the ends of a string (Starlark, "string·strip", "string·lstrip", "string·rstrip",
-//! "string·removeprefix", "string·removesuffix").
+//! The methods that remove something from the ends of a string (Starlark, "string·strip", "string·lstrip",
+//! "string·rstrip", "string·removeprefix", "string·removesuffix").
 
 ghost use Rattle.std.specs.Prelude.{◌≡◌};
 ghost use Rattle.bq_builtin_string_methods.specs.Argument.{Says};
@@ -19,7 +19,7 @@ pub enum StripMethod {
     Removesuffix,
 }
 
-/// What is taken off: bytes of a set, or a text.
+/// Returns what is removed: bytes of a set, or a text.
 fn end_in(method: StripMethod, values: &[Value]) -> Result<&[u8], FaultKind>
     ensures { Says (λ end. end.now) result (end_in method values.now) }
 {
@@ -44,7 +44,7 @@ fn without<'t>(method: StripMethod, end: &[u8], text: &'t [u8]) -> &'t [u8]
     }
 }
 
-/// `s.method(end)`.
+/// Returns `s.method(end)`.
 #[tactic(auto, unfolding(crate::specs::Strips::strip))]
 pub fn strip<'t>(
     method: StripMethod,

@@ -6,12 +6,12 @@ ghost use Rattle.std.specs.List.{Contains};
 ghost use Rattle.bq_builtin_string_parts.specs.Search.{find, rfind, StandsAt, IsLeastPlace, IsGreatestPlace};
 ghost use Rattle.bq_builtin_string_parts.specs.Parts.{split, rsplit, join, replace_cuts};
 
-/// A text is found at the least place at which the other has it, and nowhere where it has it nowhere.
+/// A text is found at the least place at which the other has it, and nowhere if the other doesn't have it.
 pub fn the_least_place()
     ensures { (sub text : List ℕ) → IsLeastPlace sub text (find sub text) }
 {}
 
-/// From the right a text is found at the greatest place.
+/// From the right, a text is found at the greatest place.
 pub fn the_greatest_place()
     ensures { (sub text : List ℕ) → IsGreatestPlace sub text (rfind sub text) }
 {}
@@ -22,12 +22,12 @@ pub fn parts_join_to_the_text()
     ensures right { (separator text : List ℕ) (most : ℕ) → join separator (rsplit separator most text) ≡ text }
 {}
 
-/// Where the cuts are not too few, no part has the separator.
+/// Where enough cuts are allowed, no part has the separator.
 pub fn no_part_has_the_separator()
     ensures { (separator text part : List ℕ) (most : ℕ) → (separator ≢ []) → length text ≤ most → Contains (split separator most text) part → (at : ℕ) → StandsAt separator part at → ⊥ }
 {}
 
-/// What is replaced is what parts the text.
+/// A replacement is the parts between the old text, joined by the new one.
 pub fn replacing_joins_the_parts()
     ensures { (old new text : List ℕ) (most : ℕ) → replace_cuts old new most text ≡ join new (split old most text) }
 {}

@@ -1,12 +1,12 @@
-//! The bytes of strings come in; what the methods of strings say of them goes out: places, parts, other bytes.
+//! The bytes of strings come in; places, parts and other bytes go out, for the methods of strings.
 //!
-//! The promise: each call gives exactly what its definition says of the bytes, and the time is in proportion to them.
+//! The promise: each call returns exactly what its definition says of the bytes, in time proportional to them.
 //!
 //! In reading order:
 //!
-//! - `search`: where a text stands in another;
-//! - `parts`: the parts of a text between separators, and what is put between or in place of them;
-//! - `trim`: what is taken off the ends;
+//! - `search`: where a text occurs in another;
+//! - `parts`: the parts of a text between separators, and how they are joined or replaced;
+//! - `trim`: what is removed from the ends;
 //! - `laws`: what the definitions say together.
 #![tactic(auto)]
 

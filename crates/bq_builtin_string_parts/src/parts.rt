@@ -7,7 +7,7 @@ use bq_base::Bytes;
 use memchr::memmem::{Finder, FinderRev};
 use std::alloc::{AllocError, Global};
 
-/// What is before the first place that the finder finds, and what is after it.
+/// Returns what is before the first place that the finder finds, and what is after it.
 #[tactic(auto, unfolding(crate::specs::Parts::partition))]
 fn cut<'t>(finder: &Finder, len: usize, text: &'t [u8]) -> Option<(&'t [u8], &'t [u8])>
     requires { len ≡ length finder.now }
@@ -17,7 +17,7 @@ fn cut<'t>(finder: &Finder, len: usize, text: &'t [u8]) -> Option<(&'t [u8], &'t
     Some((&text[..at], &text[at + len..]))
 }
 
-/// The same at the last place.
+/// Returns what is before the last place that the finder finds, and what is after it.
 #[tactic(auto, unfolding(crate::specs::Parts::rpartition))]
 fn cut_last<'t>(finder: &FinderRev, len: usize, text: &'t [u8]) -> Option<(&'t [u8], &'t [u8])>
     requires { len ≡ length finder.now }
@@ -27,7 +27,7 @@ fn cut_last<'t>(finder: &FinderRev, len: usize, text: &'t [u8]) -> Option<(&'t [
     Some((&text[..at], &text[at + len..]))
 }
 
-/// The same where some cuts are left.
+/// Cuts at the first place that the finder finds, if cuts are left.
 #[tactic(auto, unfolding(crate::specs::Parts::cut_within))]
 fn cut_within<'t>(
     finder: &Finder,
@@ -45,7 +45,7 @@ fn cut_within<'t>(
     cut(finder, len, text)
 }
 
-/// The same from the right.
+/// Cuts at the last place that the finder finds, if cuts are left.
 #[tactic(auto, unfolding(crate::specs::Parts::cut_last_within))]
 fn cut_last_within<'t>(
     finder: &FinderRev,
@@ -63,21 +63,21 @@ fn cut_last_within<'t>(
     cut_last(finder, len, text)
 }
 
-/// What is before the first separator, and what is after it; none where the text has none.
+/// Returns what is before the first separator and what is after it, if the text has one.
 pub fn partition<'t>(text: &'t [u8], separator: &[u8]) -> Option<(&'t [u8], &'t [u8])>
     ensures { MatchOption result (partition separator.now text.now ≡ None) (λ p. partition separator.now text.now ≡ Some (p.0.now, p.1.now)) }
 {
     cut(&Finder::new(separator), separator.len(), text)
 }
 
-/// What is before the last separator, and what is after it; none where the text has none.
+/// Returns what is before the last separator and what is after it, if the text has one.
 pub fn rpartition<'t>(text: &'t [u8], separator: &[u8]) -> Option<(&'t [u8], &'t [u8])>
     ensures { MatchOption result (rpartition separator.now text.now ≡ None) (λ p. rpartition separator.now text.now ≡ Some (p.0.now, p.1.now)) }
 {
     cut_last(&FinderRev::new(separator), separator.len(), text)
 }
 
-/// Adds a part to others.
+/// Appends a part.
 fn push_part(alloc: Global, parts: &mut Vec<Bytes>, part: &[u8]) -> Result<(), AllocError>
     ensures { OnOk result (parts.new.items ≡ parts.old.items ++ part.now ∷ []) }
 {
@@ -85,7 +85,7 @@ fn push_part(alloc: Global, parts: &mut Vec<Bytes>, part: &[u8]) -> Result<(), A
     Ok(())
 }
 
-/// Adds the parts of the text to others, cut from the left at most so many times.
+/// Appends the parts of the text, cut from the left at most `most` times.
 fn push_parts(
     alloc: Global,
     parts: &mut Vec<Bytes>,
@@ -107,7 +107,7 @@ fn push_parts(
     push_part(alloc, parts, rest)
 }
 
-/// The same from the right, the last part first.
+/// Appends the parts of the text, cut from the right at most `most` times, the last part first.
 fn push_last_parts(
     alloc: Global,
     parts: &mut Vec<Bytes>,
@@ -130,7 +130,7 @@ fn push_last_parts(
     Ok(())
 }
 
-/// The parts of the text between separators, cut from the left at most so many times.
+/// Returns the parts of the text between separators, cut from the left at most `most` times.
 pub fn split(
     alloc: Global,
     text: &[u8],
@@ -145,7 +145,7 @@ pub fn split(
     Ok(parts)
 }
 
-/// The parts of the text between separators, cut from the right at most so many times.
+/// Returns the parts of the text between separators, cut from the right at most `most` times.
 pub fn rsplit(
     alloc: Global,
     text: &[u8],
@@ -161,7 +161,7 @@ pub fn rsplit(
     Ok(parts)
 }
 
-/// How often the text can be cut at a separator, from the left and at most so many times.
+/// Returns how often the text can be cut at a separator, from the left and at most `most` times.
 pub fn cuts(text: &[u8], separator: &[u8], most: usize) -> usize
     ensures { result ≡ cuts separator.now most text.now }
 {
@@ -175,7 +175,7 @@ pub fn cuts(text: &[u8], separator: &[u8], most: usize) -> usize
     most - left
 }
 
-/// How often the text has `sub`, without overlaps; an empty one once more than the text has bytes.
+/// Returns how often the text has `sub`, without overlaps. It has an empty `sub` once more than it has bytes.
 #[tactic(auto, unfolding(crate::specs::Parts::count))]
 pub fn count(text: &[u8], sub: &[u8]) -> usize
     ensures { result ≡ count sub.now text.now }
@@ -186,7 +186,7 @@ pub fn count(text: &[u8], sub: &[u8]) -> usize
     cuts(text, sub, text.len())
 }
 
-/// The parts with the separator between each two.
+/// Returns the parts with the separator between each two.
 pub fn join(alloc: Global, separator: &[u8], parts: &[Bytes]) -> Result<Vec<u8>, AllocError>
     ensures { IfOk result (λ text. text.items ≡ join separator.now parts.now) }
 {
@@ -202,7 +202,7 @@ pub fn join(alloc: Global, separator: &[u8], parts: &[Bytes]) -> Result<Vec<u8>,
     Ok(text)
 }
 
-/// Adds the text to what is made, with `new` in place of what the finder finds, at most so many times.
+/// Appends the text, with `new` in place of what the finder finds, at most `most` times.
 fn push_replaced(
     made: &mut Vec<u8>,
     finder: &Finder,
@@ -226,7 +226,7 @@ fn push_replaced(
     Ok(())
 }
 
-/// The text with `new` in place of `old`, which isn't empty, at most so many times.
+/// Returns the text with `new` in place of `old`, which isn't empty, at most `most` times.
 fn replace_cuts(
     alloc: Global,
     text: &[u8],
@@ -242,7 +242,7 @@ fn replace_cuts(
     Ok(made)
 }
 
-/// `new` before each byte of the text and at its end, at most so many times.
+/// Returns the text with `new` before each byte and at its end, at most `most` times.
 fn interleave(alloc: Global, text: &[u8], new: &[u8], most: usize) -> Result<Vec<u8>, AllocError>
     ensures { IfOk result (λ made. made.items ≡ interleave new.now most text.now) }
 {
@@ -261,8 +261,8 @@ fn interleave(alloc: Global, text: &[u8], new: &[u8], most: usize) -> Result<Vec
     Ok(made)
 }
 
-/// The text with `new` in place of `old` from the left, at most so many times. An empty `old` is before each byte and at the
-/// end.
+/// Returns the text with `new` in place of `old` from the left, at most `most` times. An empty `old` is before each
+/// byte and at the end.
 #[tactic(auto, unfolding(crate::specs::Parts::replace))]
 pub fn replace(
     alloc: Global,

@@ -1,4 +1,4 @@
-//! What is taken off the ends of a text.
+//! What is removed from the ends of a text.
 
 ghost use Rattle.std.specs.Prelude.{◌≡◌, ℕ, ◌<◌, ◌≤◌, ◌-◌, false, length, slice_index_or};
 ghost use Rattle.std.specs.List.{prefix_len, suffix_len};
@@ -24,7 +24,7 @@ impl Model for ByteSet {
 }
 
 impl ByteSet {
-    /// The bytes of `set`.
+    /// Makes the set of the bytes of `set`.
     fn of(set: &[u8]) -> ByteSet
         ensures { (b : ℕ) → b < 256 → slice_index_or result b false ≡ is_among set.now b }
     {
@@ -42,7 +42,7 @@ impl ByteSet {
     }
 }
 
-/// How many bytes of the set the text begins with.
+/// Returns how many bytes of the set the text begins with.
 fn run_len(text: &[u8], set: &[u8]) -> usize
     ensures len { result ≡ prefix_len (is_among set.now) text.now }
     ensures within { result ≤ length text.now }
@@ -58,7 +58,7 @@ fn run_len(text: &[u8], set: &[u8]) -> usize
     at
 }
 
-/// How long the text is without the bytes of the set that it ends in.
+/// Returns the length of the text without the bytes of the set at its end.
 fn len_without_run(text: &[u8], set: &[u8]) -> usize
     ensures len { result ≡ length text.now - suffix_len (is_among set.now) text.now }
     ensures within { result ≤ length text.now }
@@ -74,7 +74,7 @@ fn len_without_run(text: &[u8], set: &[u8]) -> usize
     len
 }
 
-/// The text without the longest run of the set's bytes at its start.
+/// Returns the text without the longest run of the set's bytes at its start.
 #[tactic(auto, unfolding(crate::specs::Trim::lstrip))]
 pub fn lstrip<'t>(text: &'t [u8], set: &[u8]) -> &'t [u8]
     ensures { result.now ≡ lstrip set.now text.now }
@@ -82,7 +82,7 @@ pub fn lstrip<'t>(text: &'t [u8], set: &[u8]) -> &'t [u8]
     &text[run_len(text, set)..]
 }
 
-/// The text without the longest run of the set's bytes at its end.
+/// Returns the text without the longest run of the set's bytes at its end.
 #[tactic(auto, unfolding(crate::specs::Trim::rstrip))]
 pub fn rstrip<'t>(text: &'t [u8], set: &[u8]) -> &'t [u8]
     ensures { result.now ≡ rstrip set.now text.now }
@@ -90,14 +90,14 @@ pub fn rstrip<'t>(text: &'t [u8], set: &[u8]) -> &'t [u8]
     &text[..len_without_run(text, set)]
 }
 
-/// The text without such runs at both ends.
+/// Returns the text without the longest runs of the set's bytes at both ends.
 pub fn strip<'t>(text: &'t [u8], set: &[u8]) -> &'t [u8]
     ensures { result.now ≡ strip set.now text.now }
 {
     rstrip(lstrip(text, set), set)
 }
 
-/// The text without this beginning, where it has it.
+/// Returns the text without `prefix`, if it begins with it.
 pub fn remove_prefix<'t>(text: &'t [u8], prefix: &[u8]) -> &'t [u8]
     ensures { result.now ≡ remove_prefix prefix.now text.now }
 {
@@ -108,7 +108,7 @@ pub fn remove_prefix<'t>(text: &'t [u8], prefix: &[u8]) -> &'t [u8]
     }
 }
 
-/// The text without this end, where it has it.
+/// Returns the text without `suffix`, if it ends with it.
 pub fn remove_suffix<'t>(text: &'t [u8], suffix: &[u8]) -> &'t [u8]
     ensures { result.now ≡ remove_suffix suffix.now text.now }
 {
