@@ -16,7 +16,7 @@ use bq_eval_rules::Frame;
 use bq_value::{Value, freeze};
 use std::alloc::{AllocError, Global};
 
-/// The value of a global.
+/// Returns the value of a global.
 fn value_in(globals: &Frame<'_>, slot: usize) -> Result<Value, AllocError>
     ensures { IfOk result (λ v. v ≡ or_none (slots_of globals.now slot)) }
 {
@@ -26,7 +26,7 @@ fn value_in(globals: &Frame<'_>, slot: usize) -> Result<Value, AllocError>
     }
 }
 
-/// The values of a file's globals, and then of what its loads bind.
+/// Returns the values of a file's globals, and then of what its loads bind.
 #[tactic(auto, unfolding(crate::specs::Module::frozen_values))]
 fn frozen_values(
     alloc: Global,
@@ -63,7 +63,7 @@ fn push_shares(values: &mut Vec<Value>, more: &[Value]) -> Result<(), AllocError
     Ok(())
 }
 
-/// A file that ran to its end.
+/// Freezes a file that ran to its end.
 pub(crate) fn module_of(
     alloc: Global,
     module: &ResolvedModule<'_>,
@@ -78,7 +78,7 @@ pub(crate) fn module_of(
     Ok(FileOutcome::Module(frozen, prints))
 }
 
-/// The fault of a file that stopped.
+/// Returns the fault of a file that stopped.
 fn fault_of(alloc: Global, kind: FaultKind, machine: &Machine) -> Result<Fault, AllocError>
     ensures { IfOk result (λ fault. fault ≡ fault_of (stop_at kind machine.now)) }
 {
@@ -89,7 +89,7 @@ fn fault_of(alloc: Global, kind: FaultKind, machine: &Machine) -> Result<Fault, 
     })
 }
 
-/// What a machine printed.
+/// Returns what a machine printed.
 fn prints_of(machine: Machine) -> Vec<Bytes>
     ensures { result.items ≡ machine.prints }
 {
@@ -97,7 +97,7 @@ fn prints_of(machine: Machine) -> Vec<Bytes>
     prints
 }
 
-/// A file that stopped.
+/// Returns the outcome of a file that stopped.
 pub(crate) fn failed(
     alloc: Global,
     kind: FaultKind,
@@ -110,7 +110,7 @@ pub(crate) fn failed(
     Ok(FileOutcome::Failed(fault?, prints))
 }
 
-/// The message of `fail` as `repr` shows it; the other faults of an evaluation tell nothing.
+/// Returns the message of `fail` as `repr` shows it; the other faults of an evaluation have no detail.
 fn detail_of(alloc: Global, kind: FaultKind, message: &Bytes) -> Result<Bytes, AllocError>
     ensures { IfOk result (λ detail. detail ≡ detail_of kind message.now) }
 {
@@ -120,7 +120,7 @@ fn detail_of(alloc: Global, kind: FaultKind, message: &Bytes) -> Result<Bytes, A
     Ok(Bytes::empty())
 }
 
-/// A string in double quotes, with escapes for a backslash, a double quote, LF, CR and tab.
+/// Returns a string in double quotes, with escapes for a backslash, a double quote, LF, CR and tab.
 #[tactic(auto, unfolding(bq_source::specs::StringLiteral::quoted))]
 fn quoted(alloc: Global, bytes: &[u8]) -> Result<Vec<u8>, AllocError>
     ensures { IfOk result (λ text. text.items ≡ quoted bytes.now) }

@@ -25,7 +25,8 @@ use bq_value_seed::Seed;
 use std::alloc::{AllocError, Global};
 use std::marker::Brand;
 
-/// Runs a file on a machine and a host, where the rules have the names of `K`: its globals, or why it stops, and both afterwards.
+/// Runs a file on a machine and a host, where the rules have the names of `K`. Returns its globals, or why it stops,
+/// and both afterwards.
 #[tactic(auto, using(bq_eval_operations::specs::Runtime::machine_of, crate::proofs::Ends::host_does))]
 fn run_on<H: Host, K: RuleNames>(
     alloc: Global,
@@ -43,7 +44,7 @@ fn run_on<H: Host, K: RuleNames>(
     (ran, machine, host)
 }
 
-/// The outcome of a file that ran so.
+/// Returns the outcome of a file from how its run ended.
 fn outcome_of<H: Host>(
     alloc: Global,
     module: &ResolvedModule<'_>,
@@ -83,8 +84,8 @@ fn evaluate<H: Host + Drop, K: RuleNames>(
     Ok(EvaluatedFile { outcome, host })
 }
 
-/// Evaluates a file: its statements run in order on a fresh machine, with so many steps. Its dicts find their keys by
-/// this seed, which shows nowhere.
+/// Evaluates a file: its statements run in order on a fresh machine, with `limit` steps. Its dicts hash their keys by
+/// `seed`, which no answer depends on.
 pub fn eval_module<H: Host + Drop>(
     alloc: Global,
     built_ins: &BuiltIns,

@@ -1,12 +1,12 @@
-//! A resolved file, the frozen modules that it loads and a host to the module that it is, or why it failed.
+//! A resolved file, the frozen modules that it loads and a host come in; the frozen module, or why it failed, goes out.
 //!
-//! The promise: what [`eval_module`] answers is what the meaning of the file gives (`module_run` and `ended`, `specs/Module.antt`),
-//! whatever the host, unless memory runs out: the values of its globals and its cells, frozen, or the first fault; what it printed;
-//! and what the host keeps then.
+//! The promise: what [`eval_module`] returns is what the meaning of the file says (`module_run` and `ended`,
+//! `specs/Module.antt`), whatever the host, unless memory runs out: the values of its globals and its cells, frozen, or
+//! the first fault; what it printed; and what the host keeps then.
 //!
 //! In reading order:
 //!
-//! - `module`: a file that is to be evaluated, with what it loads;
+//! - `module`: a file that is evaluated, with what it loads;
 //! - `outcome`: how an evaluation ends;
 //! - `loads`: what a file has before its first statement runs: the cells of what it loads, and the loaded names that it binds itself;
 //! - `run`: the statements of a file;

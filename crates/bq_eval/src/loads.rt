@@ -13,7 +13,7 @@ use bq_value_seed::Seed;
 use std::alloc::{AllocError, Global};
 use std::sync::Arc;
 
-/// The store of a module that has made nothing yet.
+/// Makes the store of a module that has made nothing yet.
 pub(crate) fn first_store(
     alloc: Global,
     number: u32,
@@ -29,7 +29,7 @@ pub(crate) fn first_store(
     Ok(store)
 }
 
-/// A loaded name that the file binds too is a global whose first value is the loaded one.
+/// Returns the first globals: a loaded name that the file binds too is a global whose first value is the loaded one.
 #[tactic(auto, unfolding(bq_eval_meaning_spec::specs::Module::first_globals))]
 pub(crate) fn first_globals(
     globals: &mut Frame<'_>,
@@ -45,7 +45,7 @@ pub(crate) fn first_globals(
     Ok(())
 }
 
-/// Those of one load. What is left are the values for the loads after it.
+/// Binds those of one load. Returns the values for the loads after it.
 fn first_of_clauses<'a>(
     globals: &mut Frame<'_>,
     clauses: &[LoadedSymbol],

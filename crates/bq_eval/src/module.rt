@@ -1,10 +1,10 @@
-//! A file that is to be evaluated.
+//! A file that is evaluated.
 
 use bq_resolve_scope::Resolved;
 use bq_value::{Frozen, Value};
 use std::sync::Arc;
 
-/// A file that is to be evaluated as the module of a number, with what it loads.
+/// A file that is evaluated as the module of a number, with what it loads.
 #[derive(Clone, Copy)]
 pub struct ResolvedModule<'a> {
     pub number: u32,

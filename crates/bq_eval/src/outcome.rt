@@ -3,7 +3,7 @@
 use bq_base::{Bytes, Fault};
 use bq_value::Frozen;
 
-/// The outcome for a module, with what it printed, in order.
+/// The outcome of a module, with what it printed, in order.
 #[derive(Drop)]
 pub enum FileOutcome {
     Module(Frozen, Vec<Bytes>),

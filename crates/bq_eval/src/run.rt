@@ -15,7 +15,7 @@ use bq_resolve_scope::{CodeTopLevel, LoadStmt};
 use bq_value::EvalErr;
 use std::alloc::Global;
 
-/// The globals that statements leave, as those of one of the modules of a program.
+/// Runs statements, and returns their globals as those of one of the modules of a program.
 #[tactic(auto, using(bq_eval_rules::proofs::Slots::none_filled), unfolding(crate::specs::Outcomes::program_run, bq_eval_meaning_spec::specs::Module::eval_top, bq_eval_meaning_spec::specs::Calls::max_active, bq_eval_rules::specs::Round::evals, bq_eval_rules::specs::Round::outside_functions, bq_eval_rules::specs::Round::units_at))]
 fn run_program<'f, R: Runtime>(
     alloc: Global,
@@ -41,7 +41,7 @@ fn run_program<'f, R: Runtime>(
     Ok(globals)
 }
 
-/// The globals that a file has in the end.
+/// Runs a file, and returns its globals.
 #[tactic(auto, using(crate::proofs::Programs::module_of_program))]
 pub(crate) fn run_module<'f, R: Runtime>(
     alloc: Global,

@@ -8,9 +8,9 @@ ghost use Rattle.bq_eval_by_name_spec.specs.Names.{Round};
 ghost use Rattle.bq_eval_by_name_expression_laws.specs.Agreement.{CallsAgree, LayersAgree, ExpressionsAgree, OutsideAgree};
 ghost use Rattle.bq_eval_by_name_expression_laws.specs.Shows.{Around};
 
-/// Where calls mean the same, and what is round an expression says the same by names and by slots, then a resolved expression means by
-/// slots what the tree that it comes from means by names: for any number of layers that suffices, for the number that is looked at, and
-/// outside all blocks.
+/// Where calls mean the same, and the context of an expression says the same by names and by slots, a resolved
+/// expression means by slots what the tree that it comes from means by names: for any number of layers that suffices,
+/// for the number that is looked at, and outside all blocks.
 pub fn names_and_slots_agree<S>()
     ensures layers { (m : Primitives S) (file : FileParts) (round : Round) (surroundings : Surroundings) (call other : Calls S) → Around file round surroundings → CallsAgree call other → LayersAgree m file round surroundings call other }
     ensures expressions { (m : Primitives S) (file : FileParts) (round : Round) (surroundings : Surroundings) (call other : Calls S) → Around file round surroundings → CallsAgree call other → ExpressionsAgree m file round surroundings call other }

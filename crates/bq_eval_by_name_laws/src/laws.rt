@@ -11,17 +11,18 @@ pub fn loads_and_globals_are_kept()
     ensures globals { GlobalsAreKept }
 {}
 
-/// A frozen module is read as it ended: its globals have the values that they had, and what its loads bind those that they gave.
+/// A frozen module is read as it ended: its globals have the values that they had, and the names that its loads bind
+/// have theirs.
 pub fn frozen_modules_keep_their_globals()
     ensures { FrozenModulesKeepTheirGlobals }
 {}
 
-/// Whatever frozen modules a file loads, those that they reach are the same ones by names and by slots.
+/// Whatever frozen modules a file loads, those that they reach are the same by names and by slots.
 pub fn frozen_units_agree()
     ensures { FrozenUnitsAgree }
 {}
 
-/// A file that is parsed and resolved ends by names in what it ends in by slots, beside every host.
+/// A file that is parsed and resolved ends by names as it ends by slots, beside every host.
 pub fn evaluations_agree<W>()
     ensures { (rules : List Name) (host : HostCalls W) → EvaluationsAgree rules host }
 {}

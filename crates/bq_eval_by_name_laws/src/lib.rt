@@ -1,12 +1,15 @@
-//! Laws of names for the evaluation of files: on the machine of a program, beside any host, a file ends by names in what it ends in by slots.
+//! Laws of names for the evaluation of files: on the machine of a program, beside any host, a file ends by names as it
+//! ends by slots.
 //!
-//! In: nothing; the functions do nothing, and their contracts are the laws. The promise: a file that is parsed and resolved ends in the same
-//! frozen module or the same fault, with the same prints, and its host keeps the same, whichever of the two meanings tells it.
+//! In: nothing; the functions do nothing, and their contracts are the laws. The promise: a file that is parsed and
+//! resolved ends in the same frozen module or the same fault, with the same prints, and its host keeps the same, by
+//! either of the two meanings.
 //!
-//! `specs/Evaluation.antt` says by names what a file's evaluation ends in, as bq_eval says it by slots; `specs/Loads.antt` says what a
-//! file loads. How the proofs go: a file binds each global once, so its values by names are those by slots, in their order
-//! (`proofs/Once.antt`, `proofs/Values.antt`). A frozen module is read by names as it is by slots (`proofs/Units.antt`), so the premises
-//! of bq_eval_by_name_module_laws hold of the program's primitives (`proofs/Evaluations.antt`, `proofs/Bound.antt`).
+//! `specs/Evaluation.antt` says by names how a file's evaluation ends, as bq_eval says it by slots; `specs/Loads.antt`
+//! says what a file loads. The proofs: a file binds each global once, so its values by names are those by slots, in
+//! their order (`proofs/Once.antt`, `proofs/Values.antt`). A frozen module is read by names as it is by slots
+//! (`proofs/Units.antt`), so the premises of bq_eval_by_name_module_laws hold of the program's primitives
+//! (`proofs/Evaluations.antt`, `proofs/Bound.antt`).
 #![tactic(auto)]
 
 mod laws;

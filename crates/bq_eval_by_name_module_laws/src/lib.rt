@@ -1,15 +1,17 @@
 //! Laws of names: what a call and a file mean by names, the resolved ones mean by slots.
 //!
-//! In: nothing; the functions do nothing, and their contracts are the laws. The promise: a call binds its arguments, runs and faults, and
-//! a file evaluates its statements, by the meaning over frames of slots (bq_eval_meaning_spec) as the Starlark specification tells it over
-//! the tree as parsed (bq_eval_by_name_spec): each `def` makes the file's function of its place, a function sees the globals as they are
-//! when it runs, and a loaded name is a global where the file binds it too.
+//! In: nothing; the functions do nothing, and their contracts are the laws. The promise: a call binds its arguments,
+//! runs and faults, and a file evaluates its statements, by the meaning over frames of slots (bq_eval_meaning_spec) as
+//! the Starlark specification describes it over the tree as parsed (bq_eval_by_name_spec): each `def` makes the file's
+//! function of its place, a function sees the globals as they are when it runs, and a loaded name is a global if the
+//! file binds it too.
 //!
-//! `specs/Units.antt` says when modules by names and by slots are the same ones. How the proof goes: no name loses its place as more names
-//! are bound (`proofs/Places.antt`), so the parameters have the first slots (`proofs/Parameters.antt`, `proofs/Entry.antt`). Calls agree by
-//! induction on how many functions may still become active (`proofs/Called.antt`). No two load clauses bind one name (`proofs/Fresh.antt`),
-//! so what loads bind is found by place (`proofs/Loads.antt`). A file is a walk that adds a function at each `def` (`proofs/Files.antt`). Each
-//! statement of a file runs once and binds its names, so all are bound where it ends (`specs/Ends.antt`, `proofs/Bound.antt`).
+//! `specs/Units.antt` says when modules by names and by slots are the same. The proof: no name loses its place as more
+//! names are bound (`proofs/Places.antt`), so the parameters have the first slots (`proofs/Parameters.antt`,
+//! `proofs/Entry.antt`). Calls agree by induction on how many functions may still become active (`proofs/Called.antt`).
+//! No two load clauses bind one name (`proofs/Fresh.antt`), so what loads bind is found by place (`proofs/Loads.antt`).
+//! A file is a walk that adds a function at each `def` (`proofs/Files.antt`). Each statement of a file runs once and
+//! binds its names, so all are bound where it ends (`specs/Ends.antt`, `proofs/Bound.antt`).
 #![tactic(auto)]
 
 mod laws;

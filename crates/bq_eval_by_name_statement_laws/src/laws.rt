@@ -17,7 +17,8 @@ pub fn statements_agree<S>()
     ensures { (m : Primitives S) (file : FileParts) (block : BlockParts) (rest : List BlockParts) (eval : Eval S) (other : trees.Eval S) → Nested (block ∷ rest) → EvalsAgree file (block ∷ rest) (Shows (block ∷ rest)) eval other → StatementsAgree m file block rest eval other }
 {}
 
-/// The body of a function does the same by slots as by names, where calls mean the same and what is round the function says the same.
+/// The body of a function does the same by slots as by names, where calls mean the same and the context of the function
+/// says the same.
 pub fn bodies_agree<S>()
     ensures { (m : Primitives S) (file : FileParts) (round : Round) (surroundings : Surroundings) (call other : Calls S) → Around file round surroundings → CallsAgree call other → BodiesAgree m file round surroundings call other }
 {}

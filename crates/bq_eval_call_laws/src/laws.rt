@@ -21,21 +21,22 @@ ghost use Rattle.bq_builtin_refusal_laws.specs.Refusals.{IsRefusedForFirst};
 ghost use Rattle.bq_eval_call_laws.specs.Misfits.{IsMisfit};
 ghost use Rattle.bq_eval_call_laws.specs.Orders.{entering};
 
-/// Arguments are refused, F52, exactly where they don't fit the parameters: one is left over without `*`, a name is no parameter's and
-/// there is no `**`, a parameter has two arguments, a name is passed twice, or a parameter lacks the argument that it must have.
+/// Arguments are refused, F52, exactly where they don't fit the parameters: one is left over and there is no `*`, a
+/// name is no parameter's and there is no `**`, a parameter has two arguments, a name is passed twice, or a required
+/// parameter has none.
 pub fn misfits_are_refused()
     ensures refused { (s : SignatureView) (p : Passed) → IsMisfit s p → bind s p ≡ Err Args }
     ensures only { (s : SignatureView) (p : Passed) (why : FaultKind) → bind s p ≡ Err why → IsMisfit s p }
 {}
 
-/// That a function is active (F50) comes before that too many are (F51).
+/// The check that a function isn't active (F50) comes before the check that fewer than 100 are (F51).
 #[tactic(auto, using(crate::proofs::Entering::entered_in_order))]
 pub fn functions_are_entered_in_order()
     ensures { (home place : ℕ) (s : State) → IsRefusedForFirst (enter home place s) (entering s home place) }
 {}
 
-/// A call that is refused for its arguments (F52) is refused for nothing else: whether the function is active or not, and however many
-/// are. A function that may not become active (F50, F51) runs no statement.
+/// A call whose arguments are refused (F52) is refused for nothing else: whether the function is active or not, and
+/// however many are. A function that may not become active (F50, F51) runs no statement.
 #[tactic(auto, using(crate::proofs::Entering::arguments_first, crate::proofs::Entering::activity_second))]
 pub fn arguments_come_before_activity<S>()
     ensures arguments { (m : Primitives S) (inner : Option (Calls S)) (home place : ℕ) (u : CodeUnit) (d : CodeFunction) (ds : List Datum) (p : Passed) (s : S) (why : Stop) → entry m d ds p s ≡ stopped why → call_function m inner home place u d ds p s ≡ stopped why }

@@ -9,14 +9,15 @@ pub fn no_resolved_file_is_too_deep()
     ensures { NoResolvedFileIsTooDeep }
 {}
 
-/// What fits in so many layers is no deeper, as the laws of the meaning say it.
+/// What fits in some number of layers is no deeper, as the laws of the meaning say it.
 pub fn what_fits_is_within()
     ensures expressions { ExpressionsAreWithin }
     ensures statements { StatementsAreWithin }
     ensures targets { TargetsAreWithin }
 {}
 
-/// What fits in the layers that are looked at means the same with more of them: an expression, a statement, and what is assigned to.
+/// What fits in the layers that are looked at means the same with more of them: an expression, a statement, and a
+/// target.
 pub fn what_fits_needs_no_more_layers<S>()
     ensures expressions { (m : Primitives S) → ExpressionsNeedNoMore m }
     ensures statements { (m : Primitives S) → StatementsNeedNoMore m }

@@ -19,7 +19,7 @@ use std::marker::Model;
 #[derive(Drop)]
 pub struct BuiltIns {
     rules: Items<Bytes>,
-    /// The same names, where each is found.
+    /// The same names, in which a name is looked up.
     universe: Universe,
 }
 
@@ -37,7 +37,7 @@ impl Model for BuiltIns {
     ghost invariant = { λ b. b.universe ≡ record { kind = file.Build; rules = b.rules } };
 }
 
-/// The names, each once.
+/// Returns the names, each once.
 fn distinct(alloc: Global, names: &[Bytes]) -> Result<Items<Bytes>, AllocError>
     ensures { IfOk result (λ distinct. distinct ≡ with_each with_name [] names.now) }
 {
@@ -48,7 +48,7 @@ fn distinct(alloc: Global, names: &[Bytes]) -> Result<Items<Bytes>, AllocError>
     distinct.list(alloc)
 }
 
-/// The function of that name.
+/// Returns the function of this name, or `None` if there is no name.
 fn function_of(alloc: Global, name: Option<&[u8]>) -> Result<Value, AllocError>
     ensures { IfOk result (λ v. v ≡ function_of (option_copied name.entry)) }
 {
@@ -59,7 +59,7 @@ fn function_of(alloc: Global, name: Option<&[u8]>) -> Result<Value, AllocError>
 }
 
 impl BuiltIns {
-    /// Those of a workspace whose schema has these rules.
+    /// Makes those of a workspace whose schema has these rules.
     pub fn new(alloc: Global, rules: &[Bytes]) -> Result<BuiltIns, AllocError>
         ensures { IfOk result (λ b. b ≡ with_each with_name [] rules.now) }
     {
@@ -69,7 +69,7 @@ impl BuiltIns {
         })
     }
 
-    /// The function of the host of that id.
+    /// Returns the function of the host of this id.
     fn host_function(&self, alloc: Global, id: u32) -> Result<Value, AllocError>
         ensures { IfOk result (λ v. v ≡ function_of (host_name self.now id (name_of (Predeclared.Host id)))) }
     {
@@ -82,7 +82,7 @@ impl BuiltIns {
         }
     }
 
-    /// The value of a predeclared name.
+    /// Returns the value of a predeclared name.
     #[tactic(auto, unfolding(crate::specs::BuiltIns::predeclared_value))]
     pub fn value(&self, alloc: Global, name: Predeclared) -> Result<Value, AllocError>
         ensures { IfOk result (λ v. v ≡ predeclared_value self.now name) }
@@ -97,7 +97,7 @@ impl BuiltIns {
         }
     }
 
-    /// The built-in function of that name.
+    /// Returns the built-in function of this name.
     #[tactic(auto, using(crate::proofs::Named::found_name))]
     pub fn function(&self, name: &Bytes) -> Result<Option<Predeclared>, AllocError>
         ensures { IfOk result (λ function. function ≡ function_named self.now name.now) }
@@ -109,7 +109,7 @@ impl BuiltIns {
         }
     }
 
-    /// The same, by a walk along all names.
+    /// Returns the built-in function of this name, by a walk along all names.
     #[tactic(auto, unfolding(crate::specs::BuiltIns::function_named, bq_resolve_scope::specs::Universe::universe_has))]
     fn looked_up(&self, name: &Bytes) -> Result<Option<Predeclared>, AllocError>
         ensures { IfOk result (λ function. function ≡ function_named self.now name.now) }

@@ -1,11 +1,11 @@
-//! Predeclared names that are found without a walk along their table.
+//! Predeclared names that are looked up without a walk along their table.
 
 ghost use Rattle.std.specs.Prelude.{◌≡◌, ◌<◌, Some, IfSome};
 ghost use Rattle.bq_resolve_predeclared.specs.Predeclared.{name_of};
 
 use bq_resolve_predeclared::Predeclared;
 
-/// The functions of the language and the build functions, each at the place of its name; `None` at the places that are left.
+/// The functions of the language and the build functions, each at the place of its name; `None` at the other places.
 const PLACES: [Predeclared; 64] = [
     Predeclared::Bool,
     Predeclared::None,
@@ -73,7 +73,7 @@ const PLACES: [Predeclared; 64] = [
     Predeclared::None,
 ];
 
-/// A place for each name. No two of the functions have the same, which the times of calls rest on, and no answer.
+/// Returns a place for each name. No two functions have the same; only the time of calls rests on that, and no answer.
 fn place(name: &[u8]) -> usize
     ensures { result < 64 }
 {
@@ -86,7 +86,7 @@ fn place(name: &[u8]) -> usize
     }
 }
 
-/// What has this name, if it is at the place of the name.
+/// Returns what has this name, if it is at the place of the name.
 pub(crate) fn found(name: &[u8]) -> Option<Predeclared>
     ensures { IfSome result (λ x. name_of x ≡ Some name.now) }
 {

@@ -16,7 +16,7 @@ use std::alloc::Global;
 
 /// Carries out the functions of a host, and the calls of rules that .bzl files declare.
 pub trait Host {
-    /// What contracts see of what it keeps.
+    /// What it keeps, as contracts see it.
     ghost Kept: { Type 0 };
 
     ghost seen: { Self → Kept };
@@ -24,17 +24,17 @@ pub trait Host {
     /// What calls mean.
     ghost means: { HostCalls Kept };
 
-    /// Whether a BUILD file is evaluated.
+    /// Returns whether a BUILD file is evaluated.
     fn in_build(&self) -> bool
         ensures { result ≡ means.in_build (seen self.now) };
 
-    /// The value of a default, with its labels read in the package of the module that is evaluated.
+    /// Returns the value of a default, with its labels read in the package of the module that is evaluated.
     fn read_default(&self, alloc: Global, written: Written) -> Result<AttributeValue, EvalErr>
         ensures says { Gives (λ v. v) Bad result (means.read_default (seen self.now) written) }
         ensures refuses { Refuses result };
 
-    /// A function of the host by its id: 0 to 5 are `glob`, `package_name`, `package`, `licenses`, `exports_files` and
-    /// `package_group`, and 6 + r is rule r of the schema.
+    /// Calls a function of the host by its id: 0 to 5 are `glob`, `package_name`, `package`, `licenses`,
+    /// `exports_files` and `package_group`, and 6 + r is rule r of the schema.
     fn call(
         &mut self,
         alloc: Global,
@@ -46,7 +46,7 @@ pub trait Host {
         ensures keeps { KeepsIfRefused result (seen self.old) (seen self.new) }
         ensures refuses { Refuses result };
 
-    /// A rule that a .bzl file declares, by its kind and its attributes.
+    /// Calls a rule that a .bzl file declares, by its kind and its attributes.
     fn call_rule(
         &mut self,
         alloc: Global,

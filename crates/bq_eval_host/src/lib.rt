@@ -1,16 +1,18 @@
-//! What carries out the functions that the language leaves to the tool round it, and the built-in functions by their names.
+//! What carries out the functions that the language leaves to the tool around it, and the built-in functions by their
+//! names.
 //!
 //! The promise: a [`Host`] carries out a call of a build function or of a rule, of the schema or of a .bzl file, as its meaning says
 //! (`specs/Host.antt`); a call that it refuses leaves what it keeps as it was. Which faults it may refuse a call for is a table
 //! (`specs/Refusals.antt`).
 //!
-//! The evaluator is proved over any host. What a host keeps, a package and its targets for the one of a BUILD file, stands beside the
-//! state of the machine (`on_machine`, `specs/Action.antt` of bq_builtin_machine), and the evaluator hands it on without a look into it.
+//! The evaluator is proved over any host. What a host keeps, such as a package and its targets for a BUILD file, is
+//! beside the state of the machine (`on_machine`, `specs/Action.antt` of bq_builtin_machine), and the evaluator hands
+//! it on without looking into it.
 //!
 //! In reading order:
 //!
 //! - `host`: what carries out the functions;
-//! - `found`: predeclared names that are found at once;
+//! - `found`: predeclared names that are looked up at once;
 //! - `built_ins`: the values of predeclared names, and which function a name calls;
 //! - `laws`: what holds of built-in functions.
 #![tactic(auto)]

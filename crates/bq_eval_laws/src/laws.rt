@@ -6,13 +6,14 @@ ghost use Rattle.bq_eval_laws.specs.Files.{HostTakes, FilesTakeTheirSteps, Other
 
 use bq_eval_host::Host;
 
-/// A file has a number of steps and an outcome of its own: under every limit of at least so many steps it has its outcome, and under
-/// a lower one it is F53 after a beginning of the same prints.
+/// A file has a number of steps and an outcome of its own: under every limit of at least that many steps it has its
+/// outcome, and under a lower one it is F53 after a beginning of the same prints.
 pub fn files_take_their_steps<H: Host>()
     ensures { (names : List Name) → HostTakes H.means → FilesTakeTheirSteps names H.means }
 {}
 
-/// A cell of another module holds at the end of a file what it held at its start, whatever functions of that module were called (F47).
+/// A cell of another module holds at the end of a file what it held at its start, whatever functions of that module are
+/// called (F47).
 pub fn other_modules_stay<H: Host>()
     ensures { (names : List Name) → HostTakes H.means → OtherModulesStay names H.means }
 {}

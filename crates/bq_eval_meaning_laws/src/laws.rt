@@ -52,9 +52,9 @@ pub fn arguments_are_evaluated_from_left_to_right<S>()
     ensures suffixes { (m : Primitives S) → SuffixesInOrder m }
 {}
 
-/// `and` and `or` evaluate their right side only where the left one doesn't decide. A conditional and a branch evaluate their condition
-/// first, an assignment its right side, a comprehension its clauses: what its first clause goes over, and for each of its elements the
-/// variables and then what stands in that clause.
+/// `and` and `or` evaluate their right side only if the left one doesn't decide. A conditional and a branch evaluate
+/// their condition first, an assignment its right side, a comprehension its clauses: what its first clause goes over,
+/// and for each of its elements the variables and then what is inside that clause.
 pub fn what_decides_is_evaluated_first<S>()
     ensures sides { (m : Primitives S) → LeftSidesDecide m }
     ensures conditions { (m : Primitives S) → ConditionsFirst m }

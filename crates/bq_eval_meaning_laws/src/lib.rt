@@ -4,10 +4,10 @@
 //! means; a call leaves the frame of the caller as it was, and a function begins with one that holds its parameters alone; the parts of
 //! an expression, and the arguments of a call, are evaluated from left to right, and what decides is evaluated before what it chooses.
 //!
-//! `specs/Layers.antt` says how many layers a tree has. How the proofs go: `Respects` (`proofs/Respects.antt`) says of a relation
-//! between actions that it holds of what the rules ask for, and of actions made of others where it holds of these; such a relation
-//! holds of each rule, and so of expressions, statements, calls and files (`proofs/*Rules.antt`). A law is one such relation: the law of
-//! depth is that two actions run alike.
+//! `specs/Layers.antt` says how many layers a tree has. The proofs: `Respects` (`proofs/Respects.antt`) says that a
+//! relation between actions holds of what the rules ask for, and of actions made of others if it holds of these; such a
+//! relation holds of each rule, and so of expressions, statements, calls and files (`proofs/*Rules.antt`). A law is one
+//! such relation: the law of depth is that two actions run alike.
 #![tactic(auto)]
 
 mod laws;

@@ -18,7 +18,7 @@ use bq_value_seed::Seed;
 use std::alloc::{AllocError, Global};
 use std::marker::{Brand, PhantomData};
 
-/// The names of the rules of a schema, which stay the same during an evaluation. Proofs alone see it.
+/// The names of the rules of a schema, which stay the same during an evaluation. Only contracts see them.
 pub trait RuleNames {
     ghost rules: { List (List ℕ) };
 }
@@ -39,7 +39,7 @@ pub struct Evaluation<'a, H: Host, K: RuleNames> {
 }
 
 impl<'a, H: Host, K: RuleNames> Evaluation<'a, H, K> {
-    /// An evaluation begins.
+    /// Begins an evaluation.
     pub fn new(
         alloc: Global,
         built_ins: &'a BuiltIns,
@@ -59,7 +59,7 @@ impl<'a, H: Host, K: RuleNames> Evaluation<'a, H, K> {
         }
     }
 
-    /// The evaluation is over.
+    /// Ends the evaluation.
     pub fn into_parts(self) -> (Machine, H)
         ensures machine { result.0 ≡ self.entry.machine }
         ensures host { result.1 ≡ self.entry.host }

@@ -8,7 +8,7 @@
 //!
 //! - `making`: lists and dicts that are being made;
 //! - `passing`: the arguments of a call, one after another;
-//! - `unpacking`: the elements that so many targets take;
+//! - `unpacking`: the elements for a number of targets;
 //! - `evaluation`: the operations.
 #![tactic(auto)]
 

@@ -9,7 +9,7 @@ use bq_base::FaultKind;
 use bq_builtin_numbers::MAX_LEN;
 use bq_value::{Body, Content, EvalErr, Key, Value};
 
-/// One more element of a list (F54).
+/// Appends an element to a list (F54).
 #[tactic(auto, unfolding(crate::specs::Making::with_element))]
 pub(crate) fn with_element(content: &mut Content, value: Value) -> Result<(), EvalErr>
     ensures { Gives (λ _. content.new) Bad result (with_element content.old value) }
@@ -26,7 +26,7 @@ pub(crate) fn with_element(content: &mut Content, value: Value) -> Result<(), Ev
     }
 }
 
-/// The key has this value (F54).
+/// Sets the value of a key (F54).
 #[tactic(auto, unfolding(crate::specs::Making::with_pair))]
 pub(crate) fn with_pair(content: &mut Content, key: Key, value: Value) -> Result<(), EvalErr>
     ensures { Gives (λ _. content.new) Bad result (with_pair content.old key value) }
@@ -43,7 +43,7 @@ pub(crate) fn with_pair(content: &mut Content, key: Key, value: Value) -> Result
     }
 }
 
-/// A key that isn't there yet has this value (F46, F54).
+/// Sets the value of a key that isn't there yet (F46, F54).
 #[tactic(auto, unfolding(crate::specs::Making::with_new_pair))]
 pub(crate) fn with_new_pair(content: &mut Content, key: Key, value: Value) -> Result<(), EvalErr>
     ensures { Gives (λ _. content.new) Bad result (with_new_pair content.old key value) }

@@ -14,7 +14,7 @@ use bq_builtin_numbers::joined_len;
 use bq_value::{Body, Dict, EvalErr, Node, Store, Value};
 use std::alloc::AllocError;
 
-/// F54 where so many more arguments are too many.
+/// Fails with F54 if `more` further arguments are too many.
 fn check_count(args: &Args, more: usize) -> Result<(), FaultKind>
     ensures { result ≡ cond (nat_le (length args.now.positional + length args.now.named + more) max_len) (Ok tt) (Err TooLong) }
 {
@@ -22,7 +22,7 @@ fn check_count(args: &Args, more: usize) -> Result<(), FaultKind>
     Ok(())
 }
 
-/// `value`
+/// Passes `value`.
 pub(crate) fn pass(args: &mut Args, value: Value) -> Result<(), EvalErr>
     ensures { Gives (λ _. args.new) Bad result (if_few (with_positional args.old (value ∷ []))) }
 {
@@ -31,7 +31,7 @@ pub(crate) fn pass(args: &mut Args, value: Value) -> Result<(), EvalErr>
     Ok(())
 }
 
-/// `name = value`
+/// Passes `name = value`.
 pub(crate) fn pass_named(args: &mut Args, name: &Bytes, value: Value) -> Result<(), EvalErr>
     ensures { Gives (λ _. args.new) Bad result (if_few (with_named args.old name.now value)) }
 {
@@ -40,7 +40,7 @@ pub(crate) fn pass_named(args: &mut Args, name: &Bytes, value: Value) -> Result<
     Ok(())
 }
 
-/// The elements of an iterable. How many there are is known before memory is asked for.
+/// Passes the elements of an iterable. Their number is known before memory is asked for.
 pub(crate) fn pass_all(args: &mut Args, values: Elements) -> Result<(), EvalErr>
     ensures { Gives (λ _. args.new) Bad result (if_few (with_positional args.old values)) }
 {
@@ -58,7 +58,7 @@ fn push_elements(values: &mut Vec<Value>, mut more: Elements) -> Result<(), Allo
     Ok(())
 }
 
-/// The pairs of a dict, whose keys are names.
+/// Passes the pairs of a dict, whose keys are names.
 pub(crate) fn pass_pairs(args: &mut Args, dict: &Dict) -> Result<(), EvalErr>
     ensures { Gives (λ _. args.new) Bad result (and_then (with_pairs args.old dict.now) if_few) }
 {
@@ -90,7 +90,7 @@ fn push_pair(args: &mut Args, key: &Value, value: &Value) -> Result<(), EvalErr>
     }
 }
 
-/// The dict that `**` takes.
+/// Returns the dict that `**` takes.
 pub(crate) fn dict_in<'s>(store: &'s Store, value: &Value) -> Result<&'s Dict, EvalErr>
     ensures { Gives (λ ps. ps.now) Bad result (dict_in store.now value.now) }
 {

@@ -8,7 +8,7 @@ use bq_builtin_machine::{Elements, Machine};
 use bq_value::{EvalErr, Value};
 use std::alloc::Global;
 
-/// The elements of an iterable that has just so many (F57).
+/// Returns the elements of an iterable that has exactly `count` (F57).
 #[tactic(auto, unfolding(crate::specs::Unpacking::parts, bq_builtin_machine::specs::Iteration::elements))]
 pub fn parts_of(
     machine: &Machine,

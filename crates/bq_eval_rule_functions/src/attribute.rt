@@ -15,7 +15,7 @@ use bq_value::{EvalErr, Node, Store, Value};
 use bq_value_compare::truth;
 use std::alloc::Global;
 
-/// The default as it is written, where one is given that isn't `None`.
+/// Returns the default as it is written, if one is given that isn't `None`.
 fn written_default(
     alloc: Global,
     store: &Store,
@@ -36,7 +36,7 @@ fn written_default(
     }
 }
 
-/// Whether an attribute of the type has this by itself.
+/// Returns whether this is the value that an attribute of the type has without a default.
 fn is_blank(value: &AttributeValue) -> bool
     ensures { result ≡ is_blank value.now }
 {
@@ -50,7 +50,7 @@ fn is_blank(value: &AttributeValue) -> bool
     }
 }
 
-/// The default that is kept.
+/// Returns the default, if it has to be kept.
 fn kept(value: AttributeValue) -> Option<AttributeValue>
     ensures { result ≡ kept value }
 {
@@ -60,7 +60,7 @@ fn kept(value: AttributeValue) -> Option<AttributeValue>
     Some(value)
 }
 
-/// The default that is kept, read by the host.
+/// Returns the default that is kept, read by the host.
 fn resolved_default<H: Host>(
     alloc: Global,
     host: &H,
@@ -74,7 +74,7 @@ fn resolved_default<H: Host>(
     }
 }
 
-/// By the truth of the argument.
+/// Returns whether the attribute is mandatory: the truth of the argument.
 fn is_mandatory(store: &Store, value: Option<&Value>) -> bool
     ensures { result ≡ is_mandatory store.now (option_copied value.entry) }
 {
@@ -84,7 +84,7 @@ fn is_mandatory(store: &Store, value: Option<&Value>) -> bool
     }
 }
 
-/// An attribute of a type, of the arguments of its parameters.
+/// Makes an attribute of a type, from the arguments of its parameters.
 #[tactic(auto, unfolding(crate::specs::Attribute::attribute_of))]
 fn attribute_of<H: Host>(
     alloc: Global,
@@ -105,7 +105,7 @@ fn attribute_of<H: Host>(
     })
 }
 
-/// The attribute that a call declares.
+/// Returns the attribute that a call declares.
 #[tactic(auto, unfolding(crate::specs::Attribute::attribute))]
 pub(crate) fn attribute<H: Host>(
     alloc: Global,

@@ -17,7 +17,7 @@ use bq_resolve_predeclared::RuleFunction;
 use bq_value::{Body, Cell, Content, EvalErr, Store, Value};
 use std::alloc::{AllocError, Global};
 
-/// The type of the attributes that a function declares; none for `rule`.
+/// Returns the type of the attributes that a function declares; `rule` declares none.
 fn type_of(function: RuleFunction) -> Option<AttributeType>
     ensures { result ≡ type_of function }
 {
@@ -32,7 +32,7 @@ fn type_of(function: RuleFunction) -> Option<AttributeType>
     }
 }
 
-/// `attr.NAME(..)`
+/// Carries out `attr.NAME(..)`.
 #[tactic(auto, unfolding(crate::specs::Call::new_attribute))]
 fn new_attribute<H: Host>(
     alloc: Global,
@@ -47,7 +47,7 @@ fn new_attribute<H: Host>(
     Ok(Value::attribute(alloc, attribute)?)
 }
 
-/// `rule(..)`
+/// Carries out `rule(..)`.
 #[tactic(auto, unfolding(crate::specs::Call::new_rule))]
 fn new_rule(
     alloc: Global,
@@ -76,7 +76,7 @@ fn declare<H: Host>(
     }
 }
 
-/// A call of a function that declares rules.
+/// Calls a function that declares rules.
 #[tactic(auto, using(crate::proofs::Lifting::lifted), unfolding(crate::specs::Call::call_rule_function))]
 pub fn call_rule_function<H: Host>(
     alloc: Global,
@@ -90,7 +90,7 @@ pub fn call_rule_function<H: Host>(
     declare(alloc, host, function, args, machine)
 }
 
-/// The attributes of the rule that a cell holds.
+/// Returns the attributes of the rule that a cell holds.
 fn class_in(store: &Store, cell: Cell) -> Result<RuleClass, EvalErr>
     ensures { Gives (λ c. c) Bad result (class_in (content_at store.now cell.module cell.number)) }
 {
@@ -103,7 +103,7 @@ fn class_in(store: &Store, cell: Cell) -> Result<RuleClass, EvalErr>
     }
 }
 
-/// The kind of the rule that a cell holds.
+/// Returns the kind of the rule that a cell holds.
 fn kind_of(store: &Store, cell: Cell) -> Result<Option<Bytes>, AllocError>
     ensures { IfOk result (λ kind. kind ≡ kind_of store.now cell.module cell.number) }
 {
@@ -113,7 +113,7 @@ fn kind_of(store: &Store, cell: Cell) -> Result<Option<Bytes>, AllocError>
     }
 }
 
-/// A call of a rule of a kind.
+/// Calls a rule of a kind.
 fn call_kind<H: Host>(
     alloc: Global,
     host: &mut H,
@@ -130,7 +130,7 @@ fn call_kind<H: Host>(
     }
 }
 
-/// A call of the rule that a cell holds.
+/// Calls the rule that a cell holds.
 #[tactic(auto, unfolding(crate::specs::Call::call_class))]
 fn call_class<H: Host>(
     alloc: Global,
@@ -149,7 +149,7 @@ fn call_class<H: Host>(
     call_kind(alloc, host, kind, class, args, machine)
 }
 
-/// A call of a cell.
+/// Calls a cell.
 #[tactic(auto, unfolding(crate::specs::Call::call_cell))]
 pub fn call_cell<H: Host>(
     alloc: Global,

@@ -12,7 +12,7 @@ use bq_value::{EvalErr, Node, Value};
 use bq_value_seed::Seed;
 use std::alloc::Global;
 
-/// `(*, default, mandatory = False, doc = "")`, and what is accepted and changes nothing.
+/// `(*, default, mandatory = False, doc = "")`, and what is accepted and has no effect.
 const ATTRIBUTE: Signature<'static> = Signature {
     parameters: &[
         SingleParameter {
@@ -61,7 +61,7 @@ const ATTRIBUTE: Signature<'static> = Signature {
     takes_keywords: false,
 };
 
-/// `(implementation, attrs = {}, doc = "")`, and by keyword what is accepted and changes nothing.
+/// `(implementation, attrs = {}, doc = "")`, and by keyword what is accepted and has no effect.
 const RULE: Signature<'static> = Signature {
     parameters: &[
         SingleParameter {
@@ -102,21 +102,21 @@ const RULE: Signature<'static> = Signature {
     takes_keywords: false,
 };
 
-/// The arguments of `attr.NAME`, or F52.
+/// Returns the arguments of `attr.NAME`, or F52.
 pub(crate) fn bind_attribute(alloc: Global, args: Args) -> Result<Bound, EvalErr>
     ensures { Gives (λ b. b) Bad result (bind attribute_parameters args) }
 {
     bind(alloc, Seed::fixed(), &ATTRIBUTE, args)
 }
 
-/// The arguments of `rule`, or F52.
+/// Returns the arguments of `rule`, or F52.
 pub(crate) fn bind_rule(alloc: Global, args: Args) -> Result<Bound, EvalErr>
     ensures { Gives (λ b. b) Bad result (bind rule_parameters args) }
 {
     bind(alloc, Seed::fixed(), &RULE, args)
 }
 
-/// F40 where `doc` is neither a string nor `None`.
+/// Fails with F40 if `doc` is neither a string nor `None`.
 pub(crate) fn documented(value: Option<&Value>) -> Result<(), FaultKind>
     ensures { result ≡ documented (option_copied value.entry) }
 {

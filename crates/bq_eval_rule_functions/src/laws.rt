@@ -7,7 +7,7 @@ pub fn rules_are_refused_in_order()
     ensures { RulesAreRefusedInOrder }
 {}
 
-/// A rule has just the attributes of its dict, in the dict's order.
+/// A rule has exactly the attributes of its dict, in the dict's order.
 pub fn a_rule_has_the_attributes_of_its_dict()
     ensures { ARuleHasTheAttributesOfItsDict }
 {}

@@ -1,14 +1,14 @@
-//! A function that declares rules, its arguments and the host come in; an attribute or a rule goes out. A rule that is called goes to
-//! the host.
+//! A function that declares rules, its arguments and the host come in; an attribute or a rule goes out. A call of a
+//! rule goes to the host.
 //!
 //! The promise: [`call_rule_function`] and [`call_cell`] do exactly what the definitions of their names say (`specs/Call.antt`) to the
 //! state of the machine and to what the host keeps, out of memory aside.
 //!
-//! The idea. `attr.NAME(..)` gives an *attribute*, a plain value: its type, whether it is mandatory, and its default. `rule(..)` gives a
-//! *rule*, a new cell that nothing changes, which holds its attributes as a *class*; its implementation is never called. What a rule
-//! is called in messages and queries, its *kind*, is no part of it: that is the name of the global that holds it once its module is
-//! frozen (bq_value), so a rule has none while its own module is evaluated. A call of a rule that has a kind declares a target, which
-//! is the host's to do.
+//! The idea. `attr.NAME(..)` makes an *attribute*, a plain value: its type, whether it is mandatory, and its default.
+//! `rule(..)` makes a *rule*, a new cell that nothing changes, which holds its attributes as a *class*; its
+//! implementation is never called. The name of a rule in messages and queries, its *kind*, is no part of it: that is
+//! the name of the global that holds it once its module is frozen (bq_value), so a rule has none while its own module
+//! is evaluated. A call of a rule that has a kind declares a target, which is the host's to do.
 //!
 //! In reading order:
 //!

@@ -17,7 +17,7 @@ use bq_value::laws::dicts_of_stores_have_distinct_keys;
 use bq_value::{Body, Cell, Dict, EvalErr, Node, Store, Value};
 use std::alloc::Global;
 
-/// F40 where it is no function that a `def` made.
+/// Fails with F40 if this isn't a function that a `def` made.
 fn implemented(value: Option<&Value>) -> Result<(), FaultKind>
     ensures { result ≡ implemented (option_copied value.entry) }
 {
@@ -39,7 +39,7 @@ fn attribute_in(alloc: Global, value: &Value) -> Result<Attribute, EvalErr>
     }
 }
 
-/// An attribute by its name.
+/// Returns an attribute with its name.
 fn entry(alloc: Global, key: &Value, value: &Value) -> Result<(Bytes, Attribute), EvalErr>
     ensures { Gives (λ e. e) Bad result (entry (key.now, value.now)) }
 {
@@ -47,7 +47,7 @@ fn entry(alloc: Global, key: &Value, value: &Value) -> Result<(Bytes, Attribute)
     Ok((name, attribute_in(alloc, value)?))
 }
 
-/// The attributes that a dict holds, in its order.
+/// Returns the attributes that a dict holds, in its order.
 #[tactic(auto, unfolding(crate::specs::Rule::entries, bq_package_typed_value::specs::Steps::in_turn))]
 fn entries(alloc: Global, dict: &Dict) -> Result<RuleClass, EvalErr>
     requires { HasNoKeyTwice dict.now }
@@ -66,7 +66,7 @@ fn entries(alloc: Global, dict: &Dict) -> Result<RuleClass, EvalErr>
     Ok(class)
 }
 
-/// The attributes that a cell holds, if it is a dict.
+/// Returns the attributes that a cell holds, if it is a dict.
 fn entries_in(alloc: Global, store: &Store, cell: Cell) -> Result<RuleClass, EvalErr>
     ensures { Gives (λ c. c) Bad result (entries_in (content_at store.now cell.module cell.number)) }
 {
@@ -80,7 +80,7 @@ fn entries_in(alloc: Global, store: &Store, cell: Cell) -> Result<RuleClass, Eva
     }
 }
 
-/// The attributes of a rule.
+/// Returns the attributes of a rule.
 fn attributes_in(alloc: Global, store: &Store, value: Option<&Value>) -> Result<RuleClass, EvalErr>
     ensures { Gives (λ c. c) Bad result (attributes_in store.now (option_copied value.entry)) }
 {
@@ -93,7 +93,7 @@ fn attributes_in(alloc: Global, store: &Store, value: Option<&Value>) -> Result<
     }
 }
 
-/// Whether an attribute of a rule may have the name.
+/// Returns whether an attribute of a rule may have the name.
 #[tactic(auto, unfolding(crate::specs::Rule::may_be_named))]
 fn may_be_named(name: &[u8]) -> bool
     ensures { result ≡ may_be_named name.now }
@@ -101,7 +101,7 @@ fn may_be_named(name: &[u8]) -> bool
     is_identifier(name) && common_attribute(name).is_none()
 }
 
-/// Whether all attributes may have their names.
+/// Returns whether all attributes may have their names.
 #[tactic(auto, unfolding(crate::specs::Rule::are_named))]
 fn are_named(class: &RuleClass) -> bool
     ensures { result ≡ are_named class.now }
@@ -117,7 +117,7 @@ fn are_named(class: &RuleClass) -> bool
     true
 }
 
-/// The attributes of the rule that a call declares, of the arguments of its parameters.
+/// Returns the attributes of the rule that a call declares, from the arguments of its parameters.
 #[tactic(auto, unfolding(crate::specs::Rule::class_of))]
 fn class_of(
     alloc: Global,
@@ -136,7 +136,7 @@ fn class_of(
     Ok(class)
 }
 
-/// The attributes of the rule that a call declares.
+/// Returns the attributes of the rule that a call declares.
 #[tactic(auto, unfolding(crate::specs::Rule::class))]
 pub(crate) fn class(
     alloc: Global,

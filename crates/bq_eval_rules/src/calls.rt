@@ -21,7 +21,7 @@ use bq_resolve_scope::CodeFunction;
 use bq_value::{EvalErr, Node, Value};
 use std::alloc::Global;
 
-/// The frame that a function begins with.
+/// Returns the frame with which a function begins.
 #[tactic(auto, using(crate::proofs::CallSteps::given_acts), unfolding(bq_eval_meaning_spec::specs::Calls::entry))]
 pub fn entry<'f, R: Runtime>(
     alloc: Global,
@@ -99,7 +99,7 @@ pub fn call_function<R: Runtime>(
     Ok(value)
 }
 
-/// Calls the function of a module at that place.
+/// Calls the function of a module whose `def` has this place.
 #[cycle(calls)]
 #[tactic(auto, unfolding(bq_eval_meaning_spec::specs::Calls::call_at))]
 pub fn call_at<R: Runtime>(
@@ -152,7 +152,7 @@ pub fn apply<R: Runtime>(
     }
 }
 
-/// What a call answers.
+/// Returns the result of a call.
 #[cycle(calls)]
 #[tactic(auto, using(crate::proofs::CallSteps::calls_step), unfolding(crate::specs::Round::inside))]
 pub fn call<R: Runtime>(

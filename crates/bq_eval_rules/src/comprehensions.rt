@@ -23,7 +23,7 @@ impl<
     C: Copy,
     F: Fn(&Context<'_>, usize, C, &Frame<'_>, &mut R, &Code) -> Result<Value, EvalErr>,
 > Evaluator<R, C, F> {
-    /// One more element.
+    /// Appends an element.
     #[tactic(auto, unfolding(bq_eval_meaning_spec::specs::Comprehensions::element))]
     fn element(
         &self,
@@ -40,7 +40,7 @@ impl<
         runtime.add(content, value)
     }
 
-    /// One more pair, or a new value of a key that is there.
+    /// Adds a pair, or sets the value of a key that is there.
     #[tactic(auto, unfolding(bq_eval_meaning_spec::specs::Comprehensions::pair_element))]
     fn pair_element(
         &self,
@@ -58,7 +58,7 @@ impl<
         runtime.put_pair(content, &key, value)
     }
 
-    /// What stands before the clauses of a comprehension.
+    /// Evaluates what is before the clauses of a comprehension, and adds it.
     #[tactic(auto, unfolding(bq_eval_meaning_spec::specs::Comprehensions::body))]
     fn body(
         &self,
@@ -82,7 +82,7 @@ impl<
         }
     }
 
-    /// `for target in iterable`: a loop that is open, with the clauses after it.
+    /// Opens the loop `for target in iterable`, with the clauses after it.
     #[tactic(auto, unfolding(crate::specs::OpenLoops::opening))]
     fn open<'a>(
         &self,
@@ -106,7 +106,7 @@ impl<
         })
     }
 
-    /// The clauses as far as the first loop, which is opened. Where there is none, what stands before the clauses.
+    /// Runs the clauses up to the first loop, which it opens. If there is none, evaluates what is before the clauses.
     fn inward<'a>(
         &self,
         context: &Context<'_>,
@@ -138,7 +138,7 @@ impl<
         Ok(None)
     }
 
-    /// A turn of a loop, as far as the first loop inside it.
+    /// Begins a turn of a loop, and runs it up to the first loop inside it.
     #[tactic(auto, unfolding(bq_eval_meaning_spec::specs::Comprehensions::turn, crate::specs::OpenLoops::turn_count))]
     fn turn<'a>(
         &self,
@@ -159,7 +159,7 @@ impl<
         self.inward(context, &*frame, runtime, content, after, comprehension)
     }
 
-    /// The turns of a loop, and those of the loops that open inside it.
+    /// Runs the turns of a loop, and those of the loops that open inside it.
     fn turns<'a>(
         &self,
         context: &Context<'_>,
@@ -201,7 +201,7 @@ impl<
         }
     }
 
-    /// The clauses, in a frame of their own.
+    /// Runs the clauses in `frame`, which is their own.
     fn clauses(
         &self,
         context: &Context<'_>,
@@ -220,7 +220,7 @@ impl<
         }
     }
 
-    /// Adds what a comprehension makes. What its clauses bind is bound in a frame of its own.
+    /// Adds all elements of a comprehension, whose clauses bind their variables in a frame of their own.
     fn run_clauses(
         &self,
         context: &Context<'_>,
@@ -244,7 +244,7 @@ impl<
         )
     }
 
-    /// A comprehension, from an empty list or dict.
+    /// Evaluates a comprehension, from an empty list or dict on.
     #[tactic(auto, unfolding(bq_eval_meaning_spec::specs::Comprehensions::comprehension))]
     fn comprehension(
         &self,
@@ -271,7 +271,7 @@ impl<
         runtime.make(content)
     }
 
-    /// `[x for ..]`
+    /// Evaluates `[x for ..]`.
     #[inline(never)]
     pub fn list_comprehension(
         &self,
@@ -288,7 +288,7 @@ impl<
         self.comprehension(context, frame, runtime, empty, comprehension, clauses)
     }
 
-    /// `{key: value for ..}`
+    /// Evaluates `{key: value for ..}`.
     #[inline(never)]
     pub fn dict_comprehension(
         &self,

@@ -1,4 +1,4 @@
-//! What is round an expression.
+//! The environment in which code is evaluated.
 
 ghost use Rattle.std.specs.Prelude.{◌≡◌, option_copied};
 ghost use Rattle.bq_eval_rules.specs.Round.{globals_of};
@@ -12,7 +12,7 @@ use std::sync::Arc;
 /// The globals of a file.
 #[derive(Clone, Copy)]
 pub enum Globals<'a> {
-    /// None is bound.
+    /// Nothing is bound.
     Absent,
     /// Those of the file that is evaluated, of which some are not bound yet.
     Running(&'a Frame<'a>),
@@ -39,7 +39,7 @@ impl<'a> Globals<'a> {
 pub struct Program<'a> {
     pub number: u32,
     pub functions: &'a [CodeFunction],
-    /// What its loads bind.
+    /// The values that its loads bind.
     pub loaded: &'a [Value],
     /// The resolved files, by the numbers of their modules.
     pub code: &'a [Option<Resolved>],
@@ -47,7 +47,7 @@ pub struct Program<'a> {
     pub frozen: &'a [Arc<Frozen>],
 }
 
-/// What is round an expression or a statement.
+/// The environment in which an expression or a statement is evaluated.
 #[derive(Clone, Copy)]
 pub struct Context<'a> {
     pub alloc: Global,
@@ -56,10 +56,10 @@ pub struct Context<'a> {
     pub program: &'a Program<'a>,
     /// The globals of the module that is evaluated.
     pub own: Globals<'a>,
-    /// A statement stands outside functions: its frame is the globals of the module that is evaluated.
+    /// Whether the statement is outside functions: its frame is the globals of the module that is evaluated.
     pub outside: bool,
-    /// The globals of the file that the code stands in.
+    /// The globals of the file of this code.
     pub globals: Globals<'a>,
-    /// What the loads of the file that the code stands in bind.
+    /// The values that the loads of the file of this code bind.
     pub loaded: &'a [Value],
 }

@@ -18,7 +18,7 @@ impl<
     C: Copy,
     F: Fn(&Context<'_>, usize, C, &Frame<'_>, &mut R, &Code) -> Result<Value, EvalErr>,
 > Evaluator<R, C, F> {
-    /// The values of expressions, one after another.
+    /// Evaluates expressions, one after another.
     #[tactic(auto, unfolding(bq_eval_meaning_spec::specs::Expressions::values))]
     pub fn values(
         &self,
@@ -37,7 +37,7 @@ impl<
         Ok(all)
     }
 
-    /// `[x, ..]`
+    /// Evaluates `[x, ..]`.
     #[inline(never)]
     #[tactic(auto, unfolding(bq_eval_meaning_spec::specs::Expressions::list_display))]
     pub fn list_display(
@@ -55,7 +55,7 @@ impl<
         runtime.make(Content::list(values))
     }
 
-    /// `(x, ..)`
+    /// Evaluates `(x, ..)`.
     #[inline(never)]
     #[tactic(auto, unfolding(bq_eval_meaning_spec::specs::Expressions::tuple_display))]
     pub fn tuple_display(
@@ -73,7 +73,7 @@ impl<
         Ok(Value::tuple(context.alloc, values)?)
     }
 
-    /// `key: value` of a display.
+    /// Evaluates `key: value` of a display, and adds it.
     #[tactic(auto, unfolding(bq_eval_meaning_spec::specs::Expressions::pair))]
     fn pair(
         &self,
@@ -109,7 +109,7 @@ impl<
         Ok(())
     }
 
-    /// `{key: value, ..}`
+    /// Evaluates `{key: value, ..}`.
     #[inline(never)]
     #[tactic(auto, unfolding(bq_eval_meaning_spec::specs::Expressions::dict_display))]
     pub fn dict_display(

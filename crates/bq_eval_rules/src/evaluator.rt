@@ -1,4 +1,4 @@
-//! The rules to a depth. Each rule takes what evaluates the expressions inside, so that it is proved by itself.
+//! The rules at one depth. Each rule takes what evaluates the expressions inside, so that it is proved by itself.
 
 ghost use Rattle.std.specs.Prelude.{◌≡◌};
 ghost use Rattle.bq_value.specs.Datum.{int};
@@ -19,7 +19,7 @@ use std::marker::PhantomData;
 
 #[derive(Clone, Copy)]
 pub struct Evaluator<R, C, F> {
-    /// How many layers inside are still looked at.
+    /// How many layers further inside are still looked at.
     pub depth: usize,
     pub call: C,
     pub eval: F,
@@ -31,7 +31,7 @@ impl<
     C: Copy,
     F: Fn(&Context<'_>, usize, C, &Frame<'_>, &mut R, &Code) -> Result<Value, EvalErr>,
 > Evaluator<R, C, F> {
-    /// The value of an expression inside.
+    /// Evaluates an expression inside.
     #[inline(always)]
     pub fn value(
         &self,
@@ -46,7 +46,7 @@ impl<
         (self.eval)(context, self.depth, self.call, frame, runtime, code)
     }
 
-    /// A literal.
+    /// Evaluates a literal.
     #[tactic(auto, unfolding(bq_eval_meaning_spec::specs::Expressions::literal))]
     #[inline(always)]
     pub fn literal(&self, runtime: &mut R, value: Value) -> Result<Value, EvalErr>
@@ -56,7 +56,7 @@ impl<
         Ok(value)
     }
 
-    /// An integer that stands in the code, as an operand.
+    /// Evaluates an integer literal, as an operand.
     #[inline(always)]
     fn int_operand<'f>(&self, runtime: &mut R, n: i64) -> Result<Operand<'f>, EvalErr>
         ensures { Acts R.means read_of result (R.seen runtime.new) (meaning.literal R.means (int n) (R.seen runtime.old)) }
@@ -64,7 +64,8 @@ impl<
         Ok(Operand::Own(self.literal(runtime, Value::int(n))?))
     }
 
-    /// The value of an expression inside that is only read: a frame lends it. An integer is at hand, too.
+    /// Evaluates an expression inside whose value is only read: its frame lends the value of a name, and an integer is
+    /// made here.
     #[inline(always)]
     pub fn operand<'f>(
         &self,
@@ -87,7 +88,7 @@ impl<
         Ok(Operand::Own(self.value(context, frame, runtime, code)?))
     }
 
-    /// Whether a condition holds.
+    /// Evaluates a condition.
     #[inline(always)]
     pub fn holds(
         &self,

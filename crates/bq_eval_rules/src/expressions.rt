@@ -21,7 +21,7 @@ use bq_resolve_scope::{Binding, Code};
 use bq_value::{EvalErr, Value};
 use std::marker::PhantomData;
 
-/// The value of an expression that is no deeper than so many layers.
+/// Evaluates an expression that is at most `depth` layers deep.
 #[tactic(auto, unfolding(bq_eval_meaning_spec::specs::Expressions::expr_to))]
 pub fn expr_to<
     R: Runtime,
@@ -54,7 +54,7 @@ impl<
     C: Copy + Fn(&Context<'_>, &mut R, &Value, Args) -> Result<Value, EvalErr>,
     F: Fn(&Context<'_>, usize, C, &Frame<'_>, &mut R, &Code) -> Result<Value, EvalErr>,
 > Evaluator<R, C, F> {
-    /// The use of a name.
+    /// Evaluates the use of a name.
     #[inline(always)]
     fn use_of(
         &self,
@@ -68,7 +68,7 @@ impl<
         Ok(use_of(context, frame, runtime, binding)?.own()?)
     }
 
-    /// A function of `native` or `attr`, by its name there.
+    /// Returns a function of `native` or `attr`, by its name there.
     #[inline(always)]
     fn member(&self, runtime: &mut R, function: Predeclared) -> Result<Value, EvalErr>
         ensures { Acts R.means (λ v. v) result (R.seen runtime.new) (done (R.means.predeclared function) (R.seen runtime.old)) }
@@ -76,7 +76,7 @@ impl<
         Ok(runtime.predeclared(function)?)
     }
 
-    /// A string. No byte is copied.
+    /// Evaluates a string. No byte is copied.
     #[inline(always)]
     fn string(&self, runtime: &mut R, text: &Bytes) -> Result<Value, EvalErr>
         ensures { Acts R.means (λ v. v) result (R.seen runtime.new) (meaning.literal R.means (string text.now) (R.seen runtime.old)) }
@@ -85,7 +85,7 @@ impl<
         self.literal(runtime, Value::string(text))
     }
 
-    /// An expression.
+    /// Evaluates an expression.
     #[tactic(auto, unfolding(bq_eval_meaning_spec::specs::Expressions::expr))]
     pub fn expr(
         &self,
@@ -132,7 +132,7 @@ impl<
         }
     }
 
-    /// A comprehension outside functions, in a frame of its own.
+    /// Evaluates a comprehension outside functions, in a frame of its own.
     #[inline(never)]
     #[tactic(auto, unfolding(bq_eval_meaning_spec::specs::Expressions::framed), using(crate::proofs::Slots::none_filled))]
     fn framed(&self, context: &Context<'_>, runtime: &mut R, code: &Code) -> Result<Value, EvalErr>

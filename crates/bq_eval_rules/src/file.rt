@@ -22,7 +22,7 @@ use bq_value::{EvalErr, Function, Value};
 use std::alloc::AllocError;
 use std::marker::PhantomData;
 
-/// The name of a function of the file.
+/// Returns the name of the function of the file whose `def` has this place.
 fn name_of(functions: &[CodeFunction], place: usize) -> Result<Bytes, AllocError>
     ensures { IfOk result (λ b. b ≡ meaning.name_of (slice_get functions.now place)) }
 {
@@ -36,7 +36,7 @@ impl<R: Runtime, C: Copy + Fn(&Context<'_>, &mut R, &Value, Args) -> Result<Valu
     R,
     C,
 > {
-    /// The values of expressions, one after another.
+    /// Evaluates expressions, one after another.
     #[tactic(auto, unfolding(bq_eval_meaning_spec::specs::Expressions::values))]
     fn values(
         &self,
@@ -55,7 +55,7 @@ impl<R: Runtime, C: Copy + Fn(&Context<'_>, &mut R, &Value, Args) -> Result<Valu
         Ok(all)
     }
 
-    /// A `def`.
+    /// Carries out a `def`.
     #[tactic(auto, unfolding(bq_eval_meaning_spec::specs::Module::def_stmt))]
     fn def_stmt(
         &self,
@@ -69,7 +69,7 @@ impl<R: Runtime, C: Copy + Fn(&Context<'_>, &mut R, &Value, Args) -> Result<Valu
     {
         runtime.step(1)?;
         let defaults = self.values(context, frame, runtime, def.defaults.as_slice())?;
-        // No file has so many functions: they would not fit into memory.
+        // No file has so many functions: they wouldn't fit into memory.
         if def.function > u32::MAX as usize {
             return Err(EvalErr::Memory);
         }
@@ -103,7 +103,7 @@ impl<R: Runtime, C: Copy + Fn(&Context<'_>, &mut R, &Value, Args) -> Result<Valu
         }
     }
 
-    /// A top-level statement: a fault names its line.
+    /// Carries out a top-level statement, whose line a fault names.
     #[tactic(auto, unfolding(bq_eval_meaning_spec::specs::Module::top_level))]
     fn top_level(
         &self,
@@ -119,7 +119,7 @@ impl<R: Runtime, C: Copy + Fn(&Context<'_>, &mut R, &Value, Args) -> Result<Valu
         self.file_stmt(context, frame, runtime, &stmt.statement)
     }
 
-    /// The statements of a file.
+    /// Carries out the statements of a file.
     #[tactic(auto, unfolding(bq_eval_meaning_spec::specs::Module::top_levels))]
     pub fn top_levels(
         &self,
@@ -143,7 +143,7 @@ impl<R: Runtime, C: Copy + Fn(&Context<'_>, &mut R, &Value, Args) -> Result<Valu
     }
 }
 
-/// Runs the statements of a file. Its frame holds the globals.
+/// Runs the statements of a file. Its frame has the globals.
 pub fn run_file<R: Runtime>(
     context: &Context<'_>,
     frame: &mut Frame<'_>,

@@ -1,4 +1,4 @@
-//! Putting what parameters hold into the frame of a function.
+//! Filling the frame of a function with its parameters.
 
 ghost use Rattle.std.specs.Prelude.{◌≡◌};
 ghost use Rattle.bq_builtin_machine.specs.Action.{following, pure};
@@ -21,13 +21,13 @@ use std::alloc::Global;
 pub struct Filling<'a> {
     pub values: &'a [Option<Value>],
     pub defaults: &'a [Value],
-    /// The elements of what `*` holds.
+    /// The elements of the tuple for `*`.
     pub rest: &'a [Value],
-    /// What `**` holds.
+    /// The dict for `**`.
     pub keywords: &'a Value,
 }
 
-/// A parameter without default.
+/// Fills the slot of a parameter without a default.
 fn fill_plain<'a, R: Runtime>(
     runtime: &R,
     filling: Filling<'a>,
@@ -52,7 +52,7 @@ fn fill_plain<'a, R: Runtime>(
     }
 }
 
-/// A parameter with a default, which is its value where it has no argument.
+/// Fills the slot of a parameter with a default, which is its value if it has no argument.
 fn fill_default<'a, R: Runtime>(
     runtime: &R,
     filling: Filling<'a>,
@@ -80,7 +80,7 @@ fn fill_default<'a, R: Runtime>(
     })
 }
 
-/// Puts one parameter into the frame.
+/// Fills the slot of one parameter.
 #[tactic(auto, unfolding(bq_eval_meaning_spec::specs::Calls::fill_parameter))]
 fn fill_parameter<'a, R: Runtime>(
     alloc: Global,
@@ -107,7 +107,7 @@ fn fill_parameter<'a, R: Runtime>(
     }
 }
 
-/// Puts these parameters into the frame.
+/// Fills the slots of these parameters.
 #[tactic(auto, unfolding(bq_eval_meaning_spec::specs::Calls::fill_parameters))]
 fn fill_parameters<'a, R: Runtime>(
     alloc: Global,
@@ -125,7 +125,7 @@ fn fill_parameters<'a, R: Runtime>(
     Ok(left)
 }
 
-/// A frame with room for so many slots, in which these parameters are.
+/// Makes a frame with room for `slots` slots, and fills those of the parameters.
 #[tactic(auto, using(crate::proofs::Slots::none_filled))]
 pub fn filled_frame<'f, R: Runtime>(
     alloc: Global,

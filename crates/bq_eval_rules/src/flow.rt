@@ -15,7 +15,7 @@ pub enum Flow {
     Answer(Value),
 }
 
-/// What a function answers.
+/// Returns the result of a function whose body ended so.
 pub fn answered(flow: Flow) -> Value
     ensures { result ≡ answered (flow_of flow) }
 {

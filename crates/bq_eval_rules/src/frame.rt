@@ -16,16 +16,16 @@ use bq_value::{EvalErr, Value};
 use std::alloc::{AllocError, Global};
 use std::marker::Model;
 
-/// How many slots a frame has room for that is copied.
+/// Up to this room for slots, a comprehension gets a copy of its frame.
 const MAX_COPIED: usize = 32;
 
-/// Slots, of which some are empty. A function and a file have a list of them. A comprehension has a copy of a short list, which is read
-/// without a search. In a function with more names it has what its clauses bind, over the frame round it, which it only reads. Contracts
-/// see the list and those layers.
+/// Slots, of which some are empty. A function and a file have a list of them. A comprehension has a copy of a short
+/// list, which is read without a search; in a function with more names it has what its clauses bind, over the frame
+/// around it, which it only reads. Contracts see the list and those layers.
 #[derive(Drop)]
 pub struct Frame<'a> {
     slots: Vec<Option<Value>>,
-    /// Those of a comprehension that has no list.
+    /// The slots of a comprehension that has no list.
     inner: Option<Inner<'a>>,
 }
 
@@ -47,7 +47,7 @@ impl<'a> Model for Frame<'a> {
 }
 
 impl<'a> Frame<'a> {
-    /// A frame whose slots are empty.
+    /// Makes a frame of empty slots.
     pub fn new(alloc: Global) -> Frame<'a>
         ensures { result ≡ no_slots }
     {
@@ -57,7 +57,7 @@ impl<'a> Frame<'a> {
         }
     }
 
-    /// A frame whose slots are empty, with room for so many.
+    /// Makes a frame of empty slots, with room for `slots` of them.
     pub fn with_room(alloc: Global, slots: usize) -> Result<Frame<'a>, AllocError>
         ensures { IfOk result (λ f. f ≡ no_slots) }
     {
@@ -67,7 +67,7 @@ impl<'a> Frame<'a> {
         })
     }
 
-    /// The frame of a comprehension.
+    /// Makes the frame of a comprehension over what is around it.
     fn over(alloc: Global, inner: Inner<'a>) -> Frame<'a>
         ensures { result ≡ ([], layers_of (Some inner.entry)) }
     {
@@ -77,7 +77,8 @@ impl<'a> Frame<'a> {
         }
     }
 
-    /// The frame of a comprehension inside one that has only a list, which has room for all slots of its function.
+    /// Makes the frame of a comprehension inside a frame with only a list, which has room for all slots of its
+    /// function.
     #[tactic(auto, using(crate::proofs::Slots::inside_function))]
     fn inside_list(alloc: Global, slots: &'a Vec<Option<Value>>) -> Result<Frame<'a>, AllocError>
         ensures { IfOk result (λ f. slots_of f ≡ slots_of (slots.now.items, ([], []))) }
@@ -91,7 +92,7 @@ impl<'a> Frame<'a> {
         })
     }
 
-    /// The frame of a comprehension inside: what its clauses bind is bound in it alone.
+    /// Makes the frame of a comprehension inside this one: what its clauses bind is bound in it alone.
     #[tactic(auto, using(crate::proofs::Slots::inside_comprehension))]
     pub fn inside(&self, alloc: Global) -> Result<Frame<'_>, AllocError>
         ensures { IfOk result (λ f. slots_of f ≡ slots_of self.now) }
@@ -102,7 +103,7 @@ impl<'a> Frame<'a> {
         }
     }
 
-    /// The value in a slot that isn't one of the list.
+    /// Returns the value in a slot that isn't one of the list.
     #[inline(never)]
     fn layered(&self, slot: usize) -> Option<&Value>
         ensures { option_copied result ≡ layered self.now.1.0 self.now.1.1 slot }
@@ -113,7 +114,7 @@ impl<'a> Frame<'a> {
         }
     }
 
-    /// The value in a slot.
+    /// Returns the value in a slot.
     #[tactic(auto, unfolding(crate::specs::Slots::slots_of))]
     #[inline(always)]
     pub fn get(&self, slot: usize) -> Option<&Value>
@@ -125,7 +126,7 @@ impl<'a> Frame<'a> {
         }
     }
 
-    /// The value of a name, which is lent, or F49.
+    /// Lends the value of a name, or fails with F49.
     #[tactic(auto, unfolding(bq_eval_meaning_spec::specs::Targets::bound))]
     #[inline(always)]
     pub(crate) fn read<R: Runtime>(&self, runtime: &R, slot: usize) -> Result<&Value, EvalErr>
@@ -137,7 +138,7 @@ impl<'a> Frame<'a> {
         }
     }
 
-    /// The use of a local name: its value, which is lent, or F49.
+    /// Lends the value of a local name, or fails with F49. It takes the step of the use.
     #[inline(always)]
     pub fn local<R: Runtime>(&self, runtime: &mut R, slot: usize) -> Result<&Value, EvalErr>
         ensures { Acts R.means (λ v. v.now) result (R.seen runtime.new) (local_use R.means (slots_of self.now) slot (R.seen runtime.old)) }

@@ -12,14 +12,14 @@ use std::alloc::{AllocError, Global};
 #[derive(Drop)]
 pub struct Inner<'a> {
     pub bound: SparseSlots,
-    /// What the comprehensions round it bind, the innermost first.
+    /// What the comprehensions around it bind, the innermost first.
     pub around: Vec<&'a SparseSlots>,
     /// The slots of the function.
     pub function: &'a [Option<Value>],
 }
 
 impl<'a> Inner<'a> {
-    /// The value in a slot.
+    /// Returns the value in a slot.
     #[tactic(auto, unfolding(crate::specs::Slots::layered))]
     pub fn get(&self, slot: usize) -> Option<&Value>
         ensures { option_copied result ≡ layered (self.now.bound ∷ map (λ b. b.now) self.now.around.items) self.now.function.now slot }
@@ -30,7 +30,7 @@ impl<'a> Inner<'a> {
         self.outer(slot)
     }
 
-    /// The value that a slot has round the comprehension.
+    /// Returns the value that a slot has around the comprehension.
     #[tactic(auto, unfolding(crate::specs::Slots::layered))]
     fn outer(&self, slot: usize) -> Option<&Value>
         ensures { option_copied result ≡ layered (map (λ b. b.now) self.now.around.items) self.now.function.now slot }
@@ -43,7 +43,7 @@ impl<'a> Inner<'a> {
         slot_in(self.function, slot)
     }
 
-    /// Those of a comprehension in a function, which has bound nothing yet.
+    /// Makes the names of a comprehension in a function, which has bound nothing yet.
     pub fn of_function(alloc: Global, function: &'a [Option<Value>]) -> Inner<'a>
         ensures { layers_of (Some result) ≡ ([] ∷ [], function.now) }
     {
@@ -54,7 +54,7 @@ impl<'a> Inner<'a> {
         }
     }
 
-    /// What it binds, and the comprehensions round it.
+    /// Returns what it binds, and then what the comprehensions around it bind.
     fn layers(&self, alloc: Global) -> Result<Vec<&SparseSlots>, AllocError>
         ensures { IfOk result (λ v. map (λ b. b.now) v.items ≡ self.now.bound ∷ map (λ b. b.now) self.now.around.items) }
     {
@@ -66,7 +66,7 @@ impl<'a> Inner<'a> {
         Ok(layers)
     }
 
-    /// Those of a comprehension inside this one, which has bound nothing yet.
+    /// Makes the names of a comprehension inside this one, which has bound nothing yet.
     pub fn inside(&self, alloc: Global) -> Result<Inner<'_>, AllocError>
         ensures { IfOk result (λ x. layers_of (Some x) ≡ ([] ∷ (layers_of (Some self.now)).0, (layers_of (Some self.now)).1)) }
     {

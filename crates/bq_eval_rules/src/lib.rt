@@ -1,20 +1,20 @@
 //! The evaluator: resolved trees to values, by the meaning of `bq_eval_meaning_spec`.
 //!
-//! The promise: each rule does exactly what the word of its name means (`specs/Acts.antt`): the value, and the state after it, or the
-//! fault where the definition has it, unless memory runs out.
+//! The promise: each rule does exactly what the definition of its name means (`specs/Acts.antt`): the value, and the
+//! state after it, or the fault where the definition has it, unless memory runs out.
 //!
-//! The form. A rule takes what evaluates the expressions inside as a function value, a field of `Evaluator`, and what runs the
-//! statements inside as one of `Runner`; `specs/Nests.antt` and `specs/Runs.antt` say what these promise. So each rule is proved by
-//! itself, and only `expr_to`, `run_to` and `call` pass themselves on. Operators, lists, walks and built-in functions are a
-//! `Runtime`, of which a rule knows no more than its meaning. Expressions read a frame and change none; an operand that is only read
-//! is lent by it (`operand`).
+//! The form. A rule takes what evaluates the expressions inside as a function value, a field of `Evaluator`, and what
+//! runs the statements inside as one of `Runner`; `specs/Nests.antt` and `specs/Runs.antt` say what these promise. So
+//! each rule is proved by itself, and only `expr_to`, `run_to` and `call` pass themselves on. Operators, lists, walks
+//! and built-in functions are a `Runtime`, of which a rule knows no more than its meaning. Expressions read a frame and
+//! change none; an operand that is only read is lent by the frame (`operand`).
 //!
 //! In reading order:
 //!
 //! - `runtime`: what the rules ask for;
-//! - `slot_list`, `sparse`, `inner`, `frame`, `context`, `operand`: the values of names, and what is round an expression;
+//! - `slot_list`, `sparse`, `inner`, `frame`, `context`, `operand`: the values of names, and the environment of an expression;
 //! - `evaluator`, `displays`, `operators`, `suffixes`, `comprehensions`, `expressions`: the rules of expressions;
-//! - `places`, `targets`, `reader`: what is assigned to;
+//! - `places`, `targets`, `reader`: the targets of assignments;
 //! - `flow`, `small`, `statements`: the rules of statements;
 //! - `parameters`, `filling`, `units`, `calls`: calls;
 //! - `file`: the top-level statements of a file.

@@ -1,16 +1,16 @@
-//! Loops of comprehensions that are open.
+//! Open loops of comprehensions.
 
 use bq_builtin_machine::Elements;
 use bq_resolve_scope::{CodeClause, CodeTarget};
 use bq_value::Value;
 
-/// A `for` clause whose walk has begun. The loops that are open lie in a list, so that clauses take no stack.
+/// A `for` clause whose walk has begun. The open loops are in a list, so that clauses take no stack.
 #[derive(Drop)]
 pub struct OpenLoop<'a> {
     pub target: &'a CodeTarget,
     /// The clauses after it, which each turn runs.
     pub after: &'a [CodeClause],
     pub walked: Value,
-    /// Those that are still to come.
+    /// The elements that are still to come.
     pub elements: Elements,
 }

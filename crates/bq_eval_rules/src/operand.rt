@@ -19,7 +19,7 @@ use bq_resolve_scope::{Binding, Code};
 use bq_value::{EvalErr, Value};
 use std::alloc::AllocError;
 
-/// A value that a frame lends, or one of its own.
+/// A value that a frame lends, or an owned one.
 #[derive(Drop)]
 pub enum Operand<'f> {
     Lent(&'f Value),
@@ -37,7 +37,7 @@ impl<'f> Operand<'f> {
         }
     }
 
-    /// The value itself.
+    /// Returns the value itself.
     pub fn own(self) -> Result<Value, AllocError>
         ensures { IfOk result (λ v. v ≡ read_of self.entry) }
     {
@@ -48,7 +48,7 @@ impl<'f> Operand<'f> {
     }
 }
 
-/// The value of a name, or F49.
+/// Lends the value of a name, or fails with F49.
 #[tactic(auto, unfolding(bq_eval_meaning_spec::specs::Targets::bound))]
 #[inline(always)]
 fn lent<'f, R: Runtime>(runtime: &R, value: Option<&'f Value>) -> Result<Operand<'f>, EvalErr>
@@ -60,7 +60,7 @@ fn lent<'f, R: Runtime>(runtime: &R, value: Option<&'f Value>) -> Result<Operand
     }
 }
 
-/// The use of a name.
+/// Evaluates the use of a name.
 #[tactic(auto, unfolding(bq_eval_meaning_spec::specs::Expressions::use_of, crate::specs::Round::round_of))]
 #[inline(always)]
 pub fn use_of<'f, R: Runtime>(
@@ -80,7 +80,7 @@ pub fn use_of<'f, R: Runtime>(
     }
 }
 
-/// The slot of the local name that this is.
+/// Returns the slot of the local name that this is, if it is one.
 #[inline(always)]
 pub fn local_in(code: &Code) -> Option<usize>
     ensures { IfSome result (λ slot. out-Code code.now ≡ Code-F.Use (bindings.Local slot)) }
@@ -91,7 +91,7 @@ pub fn local_in(code: &Code) -> Option<usize>
     }
 }
 
-/// The integer that this is.
+/// Returns the integer that this is, if it is one.
 #[inline(always)]
 pub fn int_in(code: &Code) -> Option<i64>
     ensures { IfSome result (λ n. out-Code code.now ≡ Code-F.Int n) }

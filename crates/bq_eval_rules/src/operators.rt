@@ -18,7 +18,7 @@ use bq_parse_grammar::{Comparison, Operator, UnaryOperator};
 use bq_resolve_scope::{Code, CodeChoice, CodeOperation};
 use bq_value::{EvalErr, Value};
 
-/// What these operators make of a value, the last one first.
+/// Applies these operators to a value, the last one first.
 #[tactic(auto, unfolding(bq_eval_meaning_spec::specs::Expressions::unary_each))]
 fn unary_each<R: Runtime>(
     runtime: &mut R,
@@ -41,7 +41,7 @@ impl<
     C: Copy,
     F: Fn(&Context<'_>, usize, C, &Frame<'_>, &mut R, &Code) -> Result<Value, EvalErr>,
 > Evaluator<R, C, F> {
-    /// Operators before an operand.
+    /// Evaluates operators before an operand.
     #[inline(never)]
     #[tactic(auto, unfolding(bq_eval_meaning_spec::specs::Expressions::unary))]
     pub fn unary(
@@ -60,7 +60,7 @@ impl<
         unary_each(runtime, operators, value)
     }
 
-    /// One operation on the value so far.
+    /// Applies one operation to the value so far.
     #[inline(always)]
     #[tactic(auto, unfolding(bq_eval_meaning_spec::specs::Expressions::operation))]
     fn operation(
@@ -91,7 +91,7 @@ impl<
         }
     }
 
-    /// `left op name`, for a local name.
+    /// Applies `left op name`, for a local name.
     #[inline(always)]
     fn apply_local(
         &self,
@@ -107,7 +107,7 @@ impl<
         runtime.binary(operator, left, right)
     }
 
-    /// `left op n`, for an integer.
+    /// Applies `left op n`, for an integer literal.
     #[inline(always)]
     fn apply_int(
         &self,
@@ -122,7 +122,7 @@ impl<
         runtime.binary(operator, left, &right)
     }
 
-    /// `left op operand`, but for `and` and `or`. Most operands are local names or integers.
+    /// Applies `left op operand`, for all operators but `and` and `or`. Most operands are local names or integers.
     #[inline(always)]
     fn apply(
         &self,
@@ -167,7 +167,7 @@ impl<
         Ok(value)
     }
 
-    /// The operations of a chain on its first operand, most often one.
+    /// Applies the operations of a chain to its first operand. Most often it is one.
     #[tactic(auto, unfolding(bq_eval_meaning_spec::specs::Expressions::operations))]
     #[inline(always)]
     fn chain(
@@ -187,7 +187,7 @@ impl<
         }
     }
 
-    /// Any number of operations.
+    /// Applies any number of operations.
     #[tactic(auto, unfolding(bq_eval_meaning_spec::specs::Expressions::operations))]
     #[inline(never)]
     fn long_chain(
@@ -210,7 +210,7 @@ impl<
         }
     }
 
-    /// A chain whose first operand is a local name.
+    /// Evaluates a chain whose first operand is a local name.
     #[inline(always)]
     fn chain_of_local(
         &self,
@@ -227,7 +227,7 @@ impl<
         self.chain(context, frame, runtime, operations, first)
     }
 
-    /// A first operand, which is only read, and the operations on it.
+    /// Evaluates the first operand, which is only read, and the operations on it.
     #[inline(always)]
     fn chain_of(
         &self,
@@ -249,7 +249,7 @@ impl<
         self.chain(context, frame, runtime, operations, &first)
     }
 
-    /// A chain of operators.
+    /// Evaluates a chain of operators.
     #[tactic(auto, unfolding(bq_eval_meaning_spec::specs::Expressions::binary))]
     pub fn binary(
         &self,
@@ -285,7 +285,7 @@ impl<
         runtime.compare(operator, left.get(), right.get())
     }
 
-    /// The value of a choice, if its condition holds.
+    /// Returns the value of a choice, if its condition holds.
     #[tactic(auto, unfolding(bq_eval_meaning_spec::specs::Expressions::choice))]
     fn choice(
         &self,
@@ -305,7 +305,7 @@ impl<
         Ok(None)
     }
 
-    /// `x if y else ..`
+    /// Evaluates `x if y else ..`.
     #[inline(never)]
     #[tactic(auto, unfolding(bq_eval_meaning_spec::specs::Expressions::conditional))]
     pub fn conditional(

@@ -1,4 +1,4 @@
-//! The frame that a function begins with.
+//! The parameters of a function, and the binding of its arguments.
 
 ghost use Rattle.std.specs.Prelude.{◌≡◌, ◌++◌, ◌∷◌, [], map, IfOk, OnOk};
 ghost use Rattle.bq_base.specs.Gives.{Gives};
@@ -15,7 +15,7 @@ use bq_value::{Content, Dict, EvalErr, Value};
 use bq_value_seed::Seed;
 use std::alloc::{AllocError, Global};
 
-/// Adds the parameter, if it takes one argument.
+/// Appends the parameter, if it takes one argument.
 #[tactic(auto, using(crate::proofs::ParameterLists::one_more))]
 fn add_single<'a>(
     all: &mut Vec<SingleParameter<'a>>,
@@ -43,7 +43,7 @@ fn add_single<'a>(
     Ok(())
 }
 
-/// Those that take one argument.
+/// Returns the parameters that take one argument.
 #[tactic(auto, using(crate::proofs::ParameterLists::singles_from))]
 fn singles<'a>(
     alloc: Global,
@@ -58,7 +58,7 @@ fn singles<'a>(
     Ok(all)
 }
 
-/// How many of them stand before a `*`.
+/// Returns how many of them are before a `*`.
 fn placed_of(parameters: &[CodeParameter]) -> usize
     ensures { result ≡ meaning.placed_of parameters.now }
 {
@@ -75,7 +75,7 @@ fn placed_of(parameters: &[CodeParameter]) -> usize
     placed
 }
 
-/// Whether there is a `*` that takes arguments.
+/// Returns whether there is a `*` that takes arguments.
 fn has_star(parameters: &[CodeParameter]) -> bool
     ensures { result ≡ meaning.has_star parameters.now }
 {
@@ -87,7 +87,7 @@ fn has_star(parameters: &[CodeParameter]) -> bool
     false
 }
 
-/// Whether there is a `**`.
+/// Returns whether there is a `**`.
 pub fn has_star_star(parameters: &[CodeParameter]) -> bool
     ensures { result ≡ meaning.has_star_star parameters.now }
 {
@@ -99,7 +99,7 @@ pub fn has_star_star(parameters: &[CodeParameter]) -> bool
     false
 }
 
-/// Binds the arguments of a call, or F52.
+/// Binds the arguments of a call, or fails with F52.
 #[tactic(auto, unfolding(bq_eval_meaning_spec::specs::Calls::signature))]
 pub fn bind_args(
     alloc: Global,
@@ -119,7 +119,7 @@ pub fn bind_args(
     bind(alloc, seed, &signature, args)
 }
 
-/// What `**` holds.
+/// Returns the dict for `**`, or `None` if there is no `**`.
 #[tactic(auto, unfolding(bq_eval_meaning_spec::specs::Calls::keywords_of))]
 pub fn keywords_of<R: Runtime>(
     runtime: &mut R,

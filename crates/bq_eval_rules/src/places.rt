@@ -27,7 +27,7 @@ impl Model for IndexedOperands {
 }
 
 impl IndexedOperands {
-    /// None.
+    /// Makes an empty list.
     pub fn new(alloc: Global) -> IndexedOperands
         ensures { result ≡ [] }
     {
@@ -36,7 +36,7 @@ impl IndexedOperands {
         }
     }
 
-    /// These, in order.
+    /// Makes these, in order.
     #[tactic(auto, using(crate::proofs::Reversed::reversed_twice))]
     pub fn of(mut places: Vec<(Value, Value)>) -> IndexedOperands
         ensures { result ≡ places.items }
@@ -45,7 +45,7 @@ impl IndexedOperands {
         IndexedOperands { left: places }
     }
 
-    /// The next one.
+    /// Takes the next one.
     #[tactic(auto, using(crate::proofs::Reversed::popped))]
     pub fn next(&mut self) -> Option<(Value, Value)>
         ensures { IsNext result self.old self.new }

@@ -21,7 +21,7 @@ use bq_resolve_scope::{Code, CodeTarget};
 use bq_value::{EvalErr, Value};
 use std::marker::PhantomData;
 
-/// Reads the expressions of statements.
+/// Evaluates the expressions of statements.
 #[derive(Clone, Copy)]
 pub struct Reader<R, C> {
     pub call: C,
@@ -32,7 +32,7 @@ impl<R: Runtime, C: Copy + Fn(&Context<'_>, &mut R, &Value, Args) -> Result<Valu
     R,
     C,
 > {
-    /// The value of an expression. Outside functions its globals are the frame.
+    /// Evaluates an expression. At top level, the frame has the globals.
     #[tactic(auto, unfolding(crate::specs::Round::evals, crate::specs::Round::in_function, bq_resolve_scope::specs::Names::max_layers))]
     pub fn value(
         &self,
@@ -50,7 +50,7 @@ impl<R: Runtime, C: Copy + Fn(&Context<'_>, &mut R, &Value, Args) -> Result<Valu
         expr_to(context, MAX_LAYERS, self.call, frame, runtime, code)
     }
 
-    /// The value of an expression that stands outside functions.
+    /// Evaluates an expression outside functions.
     #[inline(never)]
     #[tactic(auto, using(crate::proofs::Slots::none_filled), unfolding(crate::specs::Round::outside_functions, crate::specs::Round::inside, crate::specs::Round::round_of, crate::specs::Round::globals_of, bq_resolve_scope::specs::Names::max_layers))]
     fn outside(
@@ -76,7 +76,7 @@ impl<R: Runtime, C: Copy + Fn(&Context<'_>, &mut R, &Value, Args) -> Result<Valu
         expr_to(&inner, MAX_LAYERS, self.call, &empty, runtime, code)
     }
 
-    /// Whether a condition holds.
+    /// Evaluates a condition.
     #[inline(always)]
     pub fn holds(
         &self,
@@ -94,7 +94,7 @@ impl<R: Runtime, C: Copy + Fn(&Context<'_>, &mut R, &Value, Args) -> Result<Valu
 
     // ---- the places of a target
 
-    /// `x[i]`
+    /// Evaluates the operand and the index of `x[i]`, and appends them.
     #[tactic(auto, unfolding(bq_eval_meaning_spec::specs::Targets::place))]
     fn place(
         &self,
@@ -163,7 +163,7 @@ impl<R: Runtime, C: Copy + Fn(&Context<'_>, &mut R, &Value, Args) -> Result<Valu
         }
     }
 
-    /// The places so far, and those of a target that is no deeper than so many layers.
+    /// Appends the places of a target that is at most `depth` layers deep.
     #[cycle(places)]
     #[tactic(auto, unfolding(bq_eval_meaning_spec::specs::Targets::places_to))]
     fn places_to(
@@ -186,7 +186,7 @@ impl<R: Runtime, C: Copy + Fn(&Context<'_>, &mut R, &Value, Args) -> Result<Valu
 
     // ---- assignments
 
-    /// `target = value`. A name has no operands, and is bound at once.
+    /// Carries out `target = value`. A name has no operands, and is bound at once.
     #[inline(always)]
     pub fn assign(
         &self,
@@ -206,7 +206,7 @@ impl<R: Runtime, C: Copy + Fn(&Context<'_>, &mut R, &Value, Args) -> Result<Valu
         }
     }
 
-    /// The same of any target: its operands and indices first.
+    /// Carries out `target = value` for any target: its operands and indices are evaluated first.
     #[inline(never)]
     #[tactic(auto, unfolding(bq_eval_meaning_spec::specs::Targets::assign, bq_resolve_scope::specs::Names::max_layers))]
     fn assign_parts(
@@ -234,7 +234,7 @@ impl<R: Runtime, C: Copy + Fn(&Context<'_>, &mut R, &Value, Args) -> Result<Valu
         )
     }
 
-    /// What `op= x` makes of an old value.
+    /// Returns the new value for `op= x` and an old one.
     #[inline(always)]
     fn augmented(
         &self,
@@ -252,7 +252,7 @@ impl<R: Runtime, C: Copy + Fn(&Context<'_>, &mut R, &Value, Args) -> Result<Valu
         runtime.augment(operator, old, &value)
     }
 
-    /// `name op= x`
+    /// Carries out `name op= x`.
     #[tactic(auto, unfolding(bq_eval_meaning_spec::specs::Targets::augment_name))]
     fn augment_name(
         &self,
@@ -272,7 +272,7 @@ impl<R: Runtime, C: Copy + Fn(&Context<'_>, &mut R, &Value, Args) -> Result<Valu
         Ok(())
     }
 
-    /// `y[i] op= x`, where `y` and `i` have these values.
+    /// Carries out `y[i] op= x`, where `y` and `i` have these values.
     fn augment_at(
         &self,
         context: &Context<'_>,
@@ -291,7 +291,7 @@ impl<R: Runtime, C: Copy + Fn(&Context<'_>, &mut R, &Value, Args) -> Result<Valu
         runtime.set_index(operand, index, new)
     }
 
-    /// `y[i] op= x`
+    /// Carries out `y[i] op= x`.
     #[inline(never)]
     #[tactic(auto, unfolding(bq_eval_meaning_spec::specs::Targets::augment_index))]
     fn augment_index(
@@ -312,7 +312,7 @@ impl<R: Runtime, C: Copy + Fn(&Context<'_>, &mut R, &Value, Args) -> Result<Valu
         self.augment_at(context, frame, runtime, &operand, &index, operator, code)
     }
 
-    /// `target op= x`
+    /// Carries out `target op= x`.
     #[tactic(auto, unfolding(bq_eval_meaning_spec::specs::Targets::augment))]
     pub fn augment(
         &self,

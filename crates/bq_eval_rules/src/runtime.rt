@@ -12,9 +12,9 @@ use bq_value::{Cell, Content, EvalErr, Value};
 use bq_value_seed::Seed;
 use std::alloc::{AllocError, Global};
 
-/// The operations of the language, on a state. A call that is refused for want of memory may leave any state.
+/// The operations of the language, on a state. A call that runs out of memory may leave any state.
 pub trait Runtime {
-    /// What contracts see of it.
+    /// The state, as contracts see it.
     ghost State: { Type 0 };
 
     ghost seen: { Self → State };
@@ -22,25 +22,25 @@ pub trait Runtime {
     /// What the operations mean.
     ghost means: { Primitives State };
 
-    /// By which the keys of new dicts are found.
+    /// Returns what the keys of new dicts are hashed by.
     fn seed(&self) -> Seed;
 
     /// Takes steps.
     fn step(&mut self, count: u64) -> Result<(), EvalErr>
         ensures { Acts means (λ _. tt) result (seen self.new) (means.step count (seen self.old)) };
 
-    /// Whether a value counts as true.
+    /// Returns whether a value counts as true.
     fn truth(&self, value: &Value) -> bool
         ensures { result ≡ means.truth value.now (seen self.now) };
 
-    /// The value of a predeclared name.
+    /// Returns the value of a predeclared name.
     fn predeclared(&self, name: Predeclared) -> Result<Value, AllocError>
         ensures { IfOk result (λ v. v ≡ means.predeclared name) };
 
     fn unary(&mut self, operator: UnaryOperator, value: &Value) -> Result<Value, EvalErr>
         ensures { Acts means (λ v. v) result (seen self.new) (means.unary operator value.now (seen self.old)) };
 
-    /// An operator between two operands, but for `and` and `or`.
+    /// Applies an operator other than `and` and `or`.
     fn binary(&mut self, operator: Operator, left: &Value, right: &Value) -> Result<Value, EvalErr>
         ensures { Acts means (λ v. v) result (seen self.new) (means.binary operator left.now right.now (seen self.old)) };
 
@@ -52,19 +52,19 @@ pub trait Runtime {
     ) -> Result<Value, EvalErr>
         ensures { Acts means (λ v. v) result (seen self.new) (means.compare operator left.now right.now (seen self.old)) };
 
-    /// What an augmented assignment makes of a value.
+    /// Applies the operator of an augmented assignment.
     fn augment(&mut self, operator: Operator, left: &Value, right: &Value) -> Result<Value, EvalErr>
         ensures { Acts means (λ v. v) result (seen self.new) (means.augment operator left.now right.now (seen self.old)) };
 
-    /// `value[index]`
+    /// Returns `value[index]`.
     fn index(&mut self, value: &Value, index: &Value) -> Result<Value, EvalErr>
         ensures { Acts means (λ v. v) result (seen self.new) (means.index value.now index.now (seen self.old)) };
 
-    /// `value[index] = item`
+    /// Carries out `value[index] = item`.
     fn set_index(&mut self, value: &Value, index: &Value, item: Value) -> Result<(), EvalErr>
         ensures { Acts means (λ _. tt) result (seen self.new) (means.set_index value.now index.now item (seen self.old)) };
 
-    /// `value[start:stop:step]`, where a part that is left out is `None`.
+    /// Returns `value[start:stop:step]`, where a part that is left out is `None`.
     fn slice(
         &mut self,
         value: &Value,
@@ -74,51 +74,51 @@ pub trait Runtime {
     ) -> Result<Value, EvalErr>
         ensures { Acts means (λ v. v) result (seen self.new) (means.slice value.now start.now stop.now step.now (seen self.old)) };
 
-    /// A new list or dict.
+    /// Makes a list or dict.
     fn make(&mut self, content: Content) -> Result<Value, EvalErr>
         ensures { Acts means (λ v. v) result (seen self.new) (means.make content (seen self.old)) };
 
-    /// One more element of a list that is being made.
+    /// Appends an element to a list that is being made.
     fn add(&mut self, content: &mut Content, value: Value) -> Result<(), EvalErr>
         ensures { Acts means (λ _. content.new) result (seen self.new) (means.add content.old value (seen self.old)) };
 
-    /// One more pair of a dict that is being made, whose key isn't there yet.
+    /// Adds a pair to a dict that is being made, which doesn't have its key yet.
     fn add_pair(&mut self, content: &mut Content, key: &Value, value: Value) -> Result<(), EvalErr>
         ensures { Acts means (λ _. content.new) result (seen self.new) (means.add_pair content.old key.now value (seen self.old)) };
 
-    /// The key of a dict that is being made has this value.
+    /// Sets the value of a key of a dict that is being made.
     fn put_pair(&mut self, content: &mut Content, key: &Value, value: Value) -> Result<(), EvalErr>
         ensures { Acts means (λ _. content.new) result (seen self.new) (means.put_pair content.old key.now value (seen self.old)) };
 
-    /// The elements of an iterable that has just so many.
+    /// Returns the elements of an iterable that has exactly `count`.
     fn parts(&mut self, alloc: Global, count: usize, value: &Value) -> Result<Elements, EvalErr>
         ensures { Acts means (λ xs. xs) result (seen self.new) (means.parts count value.now (seen self.old)) };
 
-    /// The elements of an iterable. A list or dict may not be changed from now on.
+    /// Begins a walk over an iterable, and returns its elements. Until it ends, a list or dict may not be changed.
     fn begin_walk(&mut self, alloc: Global, value: &Value) -> Result<Elements, EvalErr>
         ensures { Acts means (λ xs. xs) result (seen self.new) (means.begin_walk value.now (seen self.old)) };
 
-    /// It may be changed again.
+    /// Ends the walk over `value`, which may be changed again.
     fn end_walk(&mut self, value: &Value)
         ensures { seen self.new ≡ means.end_walk value.now (seen self.old) };
 
-    /// One more positional argument.
+    /// Passes a positional argument.
     fn pass(&mut self, args: &mut Args, value: Value) -> Result<(), EvalErr>
         ensures { Acts means (λ _. args.new) result (seen self.new) (means.pass args.old value (seen self.old)) };
 
-    /// `name = value`
+    /// Passes `name = value`.
     fn pass_named(&mut self, args: &mut Args, name: &Bytes, value: Value) -> Result<(), EvalErr>
         ensures { Acts means (λ _. args.new) result (seen self.new) (means.pass_named args.old name.now value (seen self.old)) };
 
-    /// `*value`
+    /// Passes `*value`.
     fn pass_all(&mut self, args: &mut Args, value: &Value) -> Result<(), EvalErr>
         ensures { Acts means (λ _. args.new) result (seen self.new) (means.pass_all args.old value.now (seen self.old)) };
 
-    /// `**value`
+    /// Passes `**value`.
     fn pass_all_named(&mut self, args: &mut Args, value: &Value) -> Result<(), EvalErr>
         ensures { Acts means (λ _. args.new) result (seen self.new) (means.pass_all_named args.old value.now (seen self.old)) };
 
-    /// `value.name(args)`
+    /// Returns `value.name(args)`.
     fn call_method(
         &mut self,
         alloc: Global,
@@ -128,11 +128,11 @@ pub trait Runtime {
     ) -> Result<Value, EvalErr>
         ensures { Acts means (λ v. v) result (seen self.new) (means.call_method name.now value.now args (seen self.old)) };
 
-    /// A built-in function, by its name.
+    /// Calls a built-in function by its name.
     fn call_built_in(&mut self, alloc: Global, name: &Bytes, args: Args) -> Result<Value, EvalErr>
         ensures { Acts means (λ v. v) result (seen self.new) (means.call_built_in name.now args (seen self.old)) };
 
-    /// A function that declares rules.
+    /// Calls a function that declares rules.
     fn call_rule_function(
         &mut self,
         alloc: Global,
@@ -141,19 +141,19 @@ pub trait Runtime {
     ) -> Result<Value, EvalErr>
         ensures { Acts means (λ v. v) result (seen self.new) (means.call_rule_function function args (seen self.old)) };
 
-    /// A cell, which can be called where it is a rule.
+    /// Calls a cell; only a rule can be called.
     fn call_cell(&mut self, alloc: Global, cell: Cell, args: Args) -> Result<Value, EvalErr>
         ensures { Acts means (λ v. v) result (seen self.new) (means.call_cell cell.«module» cell.number args (seen self.old)) };
 
-    /// A function of a module becomes active.
+    /// Makes a function of a module active.
     fn enter(&mut self, home: u32, place: u32) -> Result<(), EvalErr>
         ensures { Acts means (λ _. tt) result (seen self.new) (means.enter home place (seen self.old)) };
 
-    /// The function that became active last is left.
+    /// Leaves the function that became active last.
     fn leave(&mut self)
         ensures { seen self.new ≡ means.leave (seen self.old) };
 
-    /// The top-level statement that runs is on this line.
+    /// Sets the line of the top-level statement that runs.
     fn at_line(&mut self, line: u32)
         ensures { seen self.new ≡ means.at_line line (seen self.old) };
 }

@@ -7,7 +7,7 @@ ghost use Rattle.bq_eval_rules.specs.Slots.{list_slots};
 use bq_value::Value;
 use std::alloc::{AllocError, Global};
 
-/// The value in a slot of a list.
+/// Returns the value in a slot of a list.
 #[tactic(auto, unfolding(crate::specs::Slots::list_slots))]
 #[inline(always)]
 pub fn slot_in(slots: &[Option<Value>], slot: usize) -> Option<&Value>
@@ -19,7 +19,7 @@ pub fn slot_in(slots: &[Option<Value>], slot: usize) -> Option<&Value>
     }
 }
 
-/// The same values.
+/// Shares the values of a list.
 pub fn copied(alloc: Global, slots: &[Option<Value>]) -> Result<Vec<Option<Value>>, AllocError>
     ensures { IfOk result (λ all. all.items ≡ slots.now) }
 {
@@ -30,7 +30,7 @@ pub fn copied(alloc: Global, slots: &[Option<Value>]) -> Result<Vec<Option<Value
     Ok(all)
 }
 
-/// The same value, if there is one.
+/// Shares a value, if there is one.
 fn share(slot: &Option<Value>) -> Result<Option<Value>, AllocError>
     ensures { IfOk result (λ s. s ≡ slot.now) }
 {
@@ -40,7 +40,7 @@ fn share(slot: &Option<Value>) -> Result<Option<Value>, AllocError>
     }
 }
 
-/// Puts a value into a slot of a list, in which there is room for it afterwards.
+/// Puts a value into a slot of a list, for which it makes room.
 #[inline(never)]
 #[tactic(auto, using(crate::proofs::Slots::list_filled))]
 pub fn put(slots: &mut Vec<Option<Value>>, slot: usize, value: Value) -> Result<(), AllocError>

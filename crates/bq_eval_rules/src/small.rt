@@ -17,7 +17,7 @@ use bq_builtin_machine::Args;
 use bq_resolve_scope::{Code, CodeSmall, CodeTarget};
 use bq_value::{EvalErr, Value};
 
-/// How many steps a small statement takes itself.
+/// Returns how many steps a small statement takes itself.
 #[tactic(auto, unfolding(bq_eval_meaning_spec::specs::Statements::steps_of))]
 fn steps_of(stmt: &CodeSmall) -> u64
     ensures { result ≡ meaning.steps_of stmt.now }
@@ -38,7 +38,7 @@ impl<R: Runtime, C: Copy + Fn(&Context<'_>, &mut R, &Value, Args) -> Result<Valu
     R,
     C,
 > {
-    /// An expression as a statement.
+    /// Carries out an expression as a statement.
     #[tactic(auto, unfolding(bq_eval_meaning_spec::specs::Statements::expr_stmt))]
     fn expr_stmt(
         &self,
@@ -54,7 +54,7 @@ impl<R: Runtime, C: Copy + Fn(&Context<'_>, &mut R, &Value, Args) -> Result<Valu
         Ok(Flow::Next)
     }
 
-    /// `target = x`: the right side first.
+    /// Carries out `target = x`: the right side first.
     #[tactic(auto, unfolding(bq_eval_meaning_spec::specs::Statements::assign_stmt))]
     fn assign_stmt(
         &self,
@@ -72,7 +72,7 @@ impl<R: Runtime, C: Copy + Fn(&Context<'_>, &mut R, &Value, Args) -> Result<Valu
         Ok(Flow::Next)
     }
 
-    /// `return x`
+    /// Carries out `return x`.
     #[tactic(auto, unfolding(bq_eval_meaning_spec::specs::Statements::return_stmt))]
     fn return_stmt(
         &self,
@@ -93,7 +93,7 @@ impl<R: Runtime, C: Copy + Fn(&Context<'_>, &mut R, &Value, Args) -> Result<Valu
         }
     }
 
-    /// A small statement, after its step.
+    /// Carries out a small statement, after its step.
     #[tactic(auto, unfolding(bq_eval_meaning_spec::specs::Statements::small_effect))]
     fn small_effect(
         &self,
@@ -122,7 +122,7 @@ impl<R: Runtime, C: Copy + Fn(&Context<'_>, &mut R, &Value, Args) -> Result<Valu
         }
     }
 
-    /// A small statement: all but a load take a step.
+    /// Carries out a small statement: all but a load take a step.
     #[tactic(auto, unfolding(bq_eval_meaning_spec::specs::Statements::small_stmt))]
     fn small_stmt(
         &self,
@@ -138,7 +138,7 @@ impl<R: Runtime, C: Copy + Fn(&Context<'_>, &mut R, &Value, Args) -> Result<Valu
         self.small_effect(context, frame, runtime, stmt)
     }
 
-    /// The statements of one line.
+    /// Carries out the statements of one line.
     #[tactic(auto, unfolding(bq_eval_meaning_spec::specs::Statements::line))]
     pub fn line(
         &self,

@@ -1,4 +1,4 @@
-//! Slots of which few are filled: what the clauses of a comprehension bind.
+//! Slots of which few are filled: those that the clauses of a comprehension bind.
 
 ghost use Rattle.std.specs.Prelude.{◌≡◌, [], IfOk, IfErr, OnOk, option_copied};
 ghost use Rattle.bq_eval_rules.specs.Sparse.{found, IsAt, IsGapFor, Binds};
@@ -30,7 +30,7 @@ impl Model for SparseSlots {
 }
 
 impl SparseSlots {
-    /// Every slot is empty.
+    /// Makes slots that are all empty.
     pub fn new(alloc: Global) -> SparseSlots
         ensures { result ≡ [] }
     {
@@ -39,7 +39,7 @@ impl SparseSlots {
         }
     }
 
-    /// Where the slot is, or where it would go.
+    /// Returns the index of the slot, or the one at which to insert it.
     fn place(&self, slot: usize) -> Result<usize, usize>
         ensures found { IfOk result (IsAt self.now slot) }
         ensures absent { IfErr result (IsGapFor self.now slot) }
@@ -47,7 +47,7 @@ impl SparseSlots {
         self.pairs.binary_search_by_key(&slot, |pair| pair.0)
     }
 
-    /// The value in a slot.
+    /// Returns the value in a slot.
     pub fn get(&self, slot: usize) -> Option<&Value>
         ensures { option_copied result ≡ found self.now slot }
     {

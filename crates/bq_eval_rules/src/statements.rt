@@ -24,13 +24,13 @@ use std::marker::PhantomData;
 
 #[derive(Clone, Copy)]
 pub struct Runner<R, C, G> {
-    /// How many layers inside are still looked at.
+    /// How many layers further inside are still looked at.
     pub depth: usize,
     pub reader: Reader<R, C>,
     pub run: G,
 }
 
-/// Runs a statement that is no deeper than so many layers.
+/// Runs a statement that is at most `depth` layers deep.
 #[tactic(auto, unfolding(bq_eval_meaning_spec::specs::Statements::run_to))]
 fn run_to<R: Runtime, C: Copy + Fn(&Context<'_>, &mut R, &Value, Args) -> Result<Value, EvalErr>>(
     context: &Context<'_>,
@@ -126,7 +126,7 @@ impl<
         Ok(Flow::Next)
     }
 
-    /// The block of the first branch whose condition holds.
+    /// Runs the block of the first branch whose condition holds.
     #[tactic(auto, unfolding(bq_eval_meaning_spec::specs::Statements::branches))]
     fn branches(
         &self,
@@ -211,7 +211,7 @@ impl<
         Ok(flow)
     }
 
-    /// `for target in iterable`
+    /// Carries out `for target in iterable`.
     #[inline(never)]
     #[tactic(auto, unfolding(bq_eval_meaning_spec::specs::Statements::for_loop))]
     fn for_loop(
@@ -231,7 +231,7 @@ impl<
         self.walk(context, frame, runtime, target, &iterable, body)
     }
 
-    /// A statement.
+    /// Carries out a statement.
     #[tactic(auto, unfolding(bq_eval_meaning_spec::specs::Statements::stmt))]
     fn stmt(
         &self,

@@ -1,4 +1,4 @@
-//! What is done to an operand.
+//! Suffixes of operands: indices, slices and calls.
 
 ghost use Rattle.std.specs.Prelude.{◌≡◌};
 ghost use Rattle.bq_eval_meaning_spec.specs.Expressions as meaning;
@@ -22,7 +22,7 @@ impl<
     C: Copy,
     F: Fn(&Context<'_>, usize, C, &Frame<'_>, &mut R, &Code) -> Result<Value, EvalErr>,
 > Evaluator<R, C, F> {
-    /// `value[index]`
+    /// Applies `value[index]`.
     #[tactic(auto, unfolding(bq_eval_meaning_spec::specs::Expressions::index))]
     pub fn index(
         &self,
@@ -39,7 +39,7 @@ impl<
         runtime.index(value, index.get())
     }
 
-    /// A part of a slice.
+    /// Evaluates a part of a slice.
     #[tactic(auto, unfolding(bq_eval_meaning_spec::specs::Expressions::part))]
     fn part(
         &self,
@@ -57,7 +57,7 @@ impl<
         }
     }
 
-    /// `value[start:stop:step]`
+    /// Applies `value[start:stop:step]`.
     #[inline(never)]
     #[tactic(auto, unfolding(bq_eval_meaning_spec::specs::Expressions::slice))]
     pub fn slice(
@@ -79,7 +79,7 @@ impl<
         runtime.slice(value, &start, &stop, &step)
     }
 
-    /// One more argument.
+    /// Evaluates and passes an argument.
     #[tactic(auto, unfolding(bq_eval_meaning_spec::specs::Expressions::argument))]
     fn argument(
         &self,
@@ -112,7 +112,7 @@ impl<
         }
     }
 
-    /// The arguments so far, and all of these.
+    /// Evaluates and passes all these arguments, after those so far.
     #[tactic(auto, unfolding(bq_eval_meaning_spec::specs::Expressions::arguments))]
     fn arguments(
         &self,
@@ -131,7 +131,7 @@ impl<
         Ok(())
     }
 
-    /// `value.name(..)`
+    /// Applies `value.name(..)`.
     #[inline(never)]
     #[tactic(auto, unfolding(bq_eval_meaning_spec::specs::Expressions::method))]
     fn method(
@@ -157,7 +157,7 @@ impl<
     C: Copy + Fn(&Context<'_>, &mut R, &Value, Args) -> Result<Value, EvalErr>,
     F: Fn(&Context<'_>, usize, C, &Frame<'_>, &mut R, &Code) -> Result<Value, EvalErr>,
 > Evaluator<R, C, F> {
-    /// `value(..)`
+    /// Applies `value(..)`.
     #[inline(never)]
     #[tactic(auto, unfolding(bq_eval_meaning_spec::specs::Expressions::call_of))]
     fn call_of(
@@ -177,7 +177,7 @@ impl<
         (self.call)(context, runtime, value, args)
     }
 
-    /// What is done to a value.
+    /// Applies a suffix to a value.
     #[tactic(auto, unfolding(bq_eval_meaning_spec::specs::Expressions::suffix))]
     fn suffix(
         &self,
@@ -226,7 +226,7 @@ impl<
         Ok(value)
     }
 
-    /// What is done to an operand.
+    /// Applies any number of suffixes to an operand.
     #[inline(never)]
     #[tactic(auto, unfolding(bq_eval_meaning_spec::specs::Expressions::suffixes))]
     fn long_suffixed(
@@ -250,7 +250,7 @@ impl<
         }
     }
 
-    /// What is done to an operand, most often one thing.
+    /// Applies the suffixes of an operand. Most often it is one.
     #[inline(always)]
     #[tactic(auto, unfolding(bq_eval_meaning_spec::specs::Expressions::suffixes))]
     fn suffixed(
@@ -271,7 +271,7 @@ impl<
         }
     }
 
-    /// An operand, which is only read, and what is done to it.
+    /// Evaluates an operand, which is only read, and its suffixes.
     #[tactic(auto, unfolding(bq_eval_meaning_spec::specs::Expressions::primary))]
     pub fn primary(
         &self,

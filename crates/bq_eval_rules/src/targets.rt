@@ -18,7 +18,7 @@ use std::alloc::Global;
 /// How many layers of a tree are looked at.
 pub const MAX_LAYERS: usize = 1024;
 
-/// `x[i] = value`
+/// Carries out `x[i] = value`.
 #[tactic(auto, unfolding(bq_eval_meaning_spec::specs::Targets::bind_place))]
 fn bind_place<R: Runtime>(
     runtime: &mut R,
@@ -34,7 +34,7 @@ fn bind_place<R: Runtime>(
     }
 }
 
-/// Each of these targets gets one of the elements.
+/// Binds each of these targets to one of the elements.
 #[cycle(targets)]
 #[tactic(auto, unfolding(bq_eval_meaning_spec::specs::Targets::bind_each))]
 fn bind_each<R: Runtime>(
@@ -57,7 +57,7 @@ fn bind_each<R: Runtime>(
     Ok(())
 }
 
-/// Unpacking.
+/// Unpacks a value.
 #[cycle(targets)]
 #[inline(never)]
 #[tactic(auto, unfolding(bq_eval_meaning_spec::specs::Targets::unpack))]
@@ -118,7 +118,7 @@ fn bind_target<R: Runtime>(
     }
 }
 
-/// Binds the parts of a target that is no deeper than so many layers.
+/// Binds the parts of a target that is at most `depth` layers deep.
 #[cycle(targets)]
 #[tactic(auto, unfolding(bq_eval_meaning_spec::specs::Targets::bind_to))]
 pub fn bind_to<R: Runtime>(
@@ -157,7 +157,7 @@ pub fn bind_variables<R: Runtime>(
     }
 }
 
-/// The same of any target.
+/// Binds the variables of a `for`, whatever target they are.
 #[inline(never)]
 #[tactic(auto, unfolding(bq_eval_meaning_spec::specs::Targets::bind_variables, bq_resolve_scope::specs::Names::max_layers))]
 fn bind_parts<R: Runtime>(
@@ -181,7 +181,7 @@ fn bind_parts<R: Runtime>(
     )
 }
 
-/// A turn of a `for` begins: its step, and the variables get the next element.
+/// Begins a turn of a `for`: takes its step, and binds the variables to the next element.
 #[inline(always)]
 pub fn begin_turn<R: Runtime>(
     alloc: Global,

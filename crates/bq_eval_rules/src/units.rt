@@ -18,7 +18,7 @@ pub struct CodeUnit<'a> {
     pub loaded: &'a [Value],
 }
 
-/// The module of that number, where the globals of the one that is evaluated are these.
+/// Returns the module of this number, where `own` are the globals of the one that is evaluated.
 #[tactic(auto, unfolding(crate::specs::Round::units_at, bq_eval_meaning_spec::specs::Module::frozen_units, crate::specs::Round::globals_of))]
 pub fn unit_at<'a>(program: &'a Program<'a>, own: Globals<'a>, home: u32) -> Option<CodeUnit<'a>>
     ensures { MatchOption result (units_at program.now (globals_of own.entry) home ≡ None) (λ u. units_at program.now (globals_of own.entry) home ≡ Some (unit_of u)) }
@@ -40,7 +40,7 @@ pub fn unit_at<'a>(program: &'a Program<'a>, own: Globals<'a>, home: u32) -> Opt
     }
 }
 
-/// The values of the globals of a module, and of what its loads bind: of one of these frozen modules, or of one that they reach.
+/// Returns the globals and loaded values of module `home`, if one of `frozen` is that module or reaches it.
 #[tactic(auto, unfolding(bq_eval_meaning_spec::specs::Module::globals_among))]
 fn globals_among<'a>(mut frozen: &'a [Arc<Frozen>], home: u32) -> Option<&'a [Value]>
     ensures { MatchOption result (globals_among home (views_of frozen.entry.now) ≡ None) (λ values. globals_among home (views_of frozen.entry.now) ≡ Some values.now) }
@@ -54,7 +54,7 @@ fn globals_among<'a>(mut frozen: &'a [Arc<Frozen>], home: u32) -> Option<&'a [Va
     None
 }
 
-/// A frozen module, from its file, and the values of its globals and of what its loads bind.
+/// Returns a frozen module, from its file, and the values of its globals and of what its loads bind.
 fn frozen_unit<'a>(file: &'a Resolved, values: &'a [Value]) -> CodeUnit<'a>
     ensures { Some (unit_of result) ≡ frozen_unit (Some (Some file.now)) (Some values.now) }
 {

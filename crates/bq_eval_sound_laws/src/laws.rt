@@ -2,8 +2,8 @@
 
 ghost use Rattle.bq_eval_sound_laws.specs.Laws.{EachResolvedFileIsSound};
 
-/// Where a file is parsed and resolved, nothing stands in it that ends an evaluation by itself: nothing that the language leaves out,
-/// no `for` over another variable than a name, and no tree that is too deep.
+/// In a file that is parsed and resolved there is nothing that ends an evaluation by itself: nothing that the language
+/// leaves out, no `for` over another variable than a name, and no tree that is too deep.
 pub fn each_resolved_file_is_sound()
     ensures { EachResolvedFileIsSound }
 {}
