@@ -28,7 +28,7 @@ impl Label {
     ghost use Rattle.bq_label.specs.Label.{label_in, package_of, IsLabel};
     ghost use Rattle.bq_label.specs.Paths.{is_path};
 
-    /// A name in a package.
+    /// Makes the label of a name in a package.
     pub fn new(package: PackageId, name: Bytes) -> Label
         requires { is_path name ≡ true }
         ensures { result ≡ label_in «package» name }
@@ -36,7 +36,7 @@ impl Label {
         Label { package, name }
     }
 
-    /// The repository's name, empty for the main one.
+    /// Returns the repository's name, which is empty for the main one.
     pub fn repo(&self) -> &Bytes
         ensures value { result.now ≡ self.now.repo }
         ensures valid { IsLabel self.now }
@@ -45,7 +45,7 @@ impl Label {
         self.package.repo()
     }
 
-    /// The package's path in its repository, empty for the root.
+    /// Returns the package's path in its repository, which is empty for the root.
     pub fn package(&self) -> &Bytes
         ensures value { result.now ≡ self.now.package }
         ensures valid { IsLabel self.now }
@@ -54,7 +54,7 @@ impl Label {
         self.package.package()
     }
 
-    /// The name in the package.
+    /// Returns the name in the package.
     pub fn name(&self) -> &Bytes
         ensures value { result.now ≡ self.now.name }
         ensures valid { IsLabel self.now }
@@ -68,7 +68,7 @@ impl Label {
         &self.package
     }
 
-    /// The same label. No byte is copied.
+    /// Returns another owner of the label. No byte is copied.
     pub fn share(&self) -> Result<Label, AllocError>
         ensures { IfOk result (λ l. l ≡ self.now) }
     {

@@ -12,7 +12,7 @@ ghost use Rattle.bq_label.specs.Label.{PackageParts, LabelParts, label_in, IsLab
 ghost use Rattle.bq_label.specs.Paths.{HasNoSlash};
 ghost use Rattle.bq_label.specs.Reading.{label_of};
 
-/// [`crate::read_label`]'s function reads a text as a label exactly where one of the forms of a label does.
+/// [`crate::read_label`] reads a text as a label exactly where one of the forms of a label does.
 pub fn forms_of_a_label()
     ensures { (own : PackageParts) (text : List ℕ) (l : LabelParts) → (label_of own text ≡ Some l) ↔ ReadsAs own text l }
 {}
@@ -32,13 +32,13 @@ pub fn one_full_form()
     ensures { (l m : LabelParts) → IsLabel l → IsLabel m → full_form l ≡ full_form m → l ≡ m }
 {}
 
-/// A workspace of files is these files in the one order in which each path is below the next, where the paths are
-/// valid and distinct and none is a directory of another.
+/// A workspace of files has these files in the one order in which each path is below the next, if the paths are valid
+/// and distinct and none is a directory of another.
 pub fn one_order()
     ensures { (files w : List File) → (workspace_of files ≡ Some w) ↔ IsWorkspaceOf files w }
 {}
 
-/// A package's directory has a BUILD file: `BUILD.bazel`, or `BUILD` where there is no `BUILD.bazel`.
+/// A package's directory has a BUILD file: `BUILD.bazel`, or `BUILD` if there is no `BUILD.bazel`.
 pub fn a_package_has_a_build_file()
     ensures { (files : List File) (b : BuildFile) → IsWorkspace files → Contains (packages_of files) b → IsPackageOf files b }
 {}
@@ -53,14 +53,14 @@ pub fn one_entry_each()
     ensures { (files : List File) → IsWorkspace files → IsStrictlySortedBy package_cmp (packages_of files) }
 {}
 
-/// A path is one of another repository exactly where it is below `external` and that repository's name, and one of the main
-/// repository exactly where it is not below `external`.
+/// A path is one of another repository exactly if it is below `external` and that repository's name, and one of the
+/// main repository exactly if it isn't below `external`.
 pub fn the_repository_of_a_path()
     ensures { (path repo rest : List ℕ) → (split_repository path ≡ Some (repo, rest)) ↔ IsPathOf path repo rest }
 {}
 
-/// A label that names a file names a file of its own repository, at its package's path and then its name; and it names one
-/// where there is such a file.
+/// A label that names a file names a file of its own repository, at its package's path and then its name; and it names
+/// one if there is such a file.
 pub fn a_label_names_a_file_of_its_repository()
     ensures { (files : List File) (l : LabelParts) → FileIs files l (label_file files l) }
 {}

@@ -7,7 +7,7 @@ ghost use Rattle.bq_label.specs.Label.{cmp_ended, cmp_names};
 use crate::label::Label;
 use std::cmp::Ordering;
 
-/// The byte at a place, or the one that ends the text.
+/// Returns the byte at a place, or the one that ends the text.
 fn byte_or(text: &[u8], at: usize, end: u8) -> u8
     ensures { result ≡ slice_index_or text.now at end }
 {
@@ -17,7 +17,7 @@ fn byte_or(text: &[u8], at: usize, end: u8) -> u8
     }
 }
 
-/// How two texts compare that are followed by a byte that neither has.
+/// Compares two texts that a byte follows which neither has.
 #[tactic(auto, using(crate::proofs::FullForms::ended_at))]
 fn cmp_ended(a: &[u8], b: &[u8], end: u8) -> Ordering
     requires plain_a { list_any (λ x. x == end) a.now ≡ false }
@@ -29,7 +29,7 @@ fn cmp_ended(a: &[u8], b: &[u8], end: u8) -> Ordering
     by_front.then(byte_or(a, shared, end).cmp(&byte_or(b, shared, end)))
 }
 
-/// How `package:name` of two labels compare.
+/// Compares `package:name` of two labels.
 fn cmp_names(a: &Label, b: &Label) -> Ordering
     ensures { result ≡ cmp_names a.now b.now }
 {

@@ -35,8 +35,8 @@ impl Model for PackageId {
 impl PackageId {
     ghost use Rattle.bq_label.specs.Label.{PackageParts, IsPackage, package_at};
 
-    /// The package of a repository, whose name is empty for the main one, at a path, which is empty for the root. There
-    /// is none where one of them is not valid.
+    /// Makes the package of a repository, whose name is empty for the main one, at a path, which is empty for the root.
+    /// Returns `None` if one of them isn't valid.
     pub fn new(alloc: Global, repo: Bytes, package: Bytes) -> Result<Option<PackageId>, AllocError>
         ensures { IfOk result (λ found. MatchOption found (IsPackage (package_at repo «package») → ⊥) (λ p. (p ≡ package_at repo «package») × IsPackage p)) }
     {
@@ -47,7 +47,7 @@ impl PackageId {
         }
     }
 
-    /// The package, where both names are known to be valid.
+    /// Makes a package of two names that are known to be valid.
     pub(crate) fn from_parts(
         alloc: Global,
         repo: Bytes,
@@ -61,7 +61,7 @@ impl PackageId {
         })
     }
 
-    /// The root package of the main repository.
+    /// Makes the root package of the main repository.
     #[tactic(auto, unfolding(crate::specs::Paths::is_repository, crate::specs::Paths::is_package))]
     pub fn root(alloc: Global) -> Result<PackageId, AllocError>
         ensures { IfOk result (λ p. p ≡ package_at [] []) }
@@ -69,7 +69,7 @@ impl PackageId {
         PackageId::from_parts(alloc, Bytes::empty(), Bytes::empty())
     }
 
-    /// The repository's name, empty for the main one.
+    /// Returns the repository's name, which is empty for the main one.
     pub fn repo(&self) -> &Bytes
         ensures value { result.now ≡ self.now.repo }
         ensures valid { IsPackage self.now }
@@ -77,7 +77,7 @@ impl PackageId {
         &self.names.repo
     }
 
-    /// The path in the repository, empty for the root.
+    /// Returns the path in the repository, which is empty for the root.
     pub fn package(&self) -> &Bytes
         ensures value { result.now ≡ self.now.package }
         ensures valid { IsPackage self.now }
@@ -85,7 +85,7 @@ impl PackageId {
         &self.names.package
     }
 
-    /// The same package. No byte is copied.
+    /// Returns another owner of the package. No byte is copied.
     pub fn share(&self) -> Result<PackageId, AllocError>
         ensures { IfOk result (λ p. p ≡ self.now) }
     {

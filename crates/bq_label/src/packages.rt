@@ -29,7 +29,7 @@ pub struct BuildFile {
 }
 
 impl BuildFile {
-    /// The same package. No byte is copied.
+    /// Returns another owner of the package. No byte is copied.
     pub fn share(&self) -> Result<BuildFile, AllocError>
         ensures { IfOk result (λ b. b ≡ self.now) }
     {
@@ -39,21 +39,21 @@ impl BuildFile {
         })
     }
 
-    /// The BUILD file's name in its directory: `BUILD.bazel` or `BUILD`.
+    /// Returns the BUILD file's name in its directory: `BUILD.bazel` or `BUILD`.
     pub fn name(&self) -> &[u8]
         ensures { result.now ≡ last_segment self.now.file.path }
     {
         last_segment(self.file.path.as_slice())
     }
 
-    /// The package's directory in the workspace, which is empty for the root of the main repository.
+    /// Returns the package's directory in the workspace, which is empty for the root of the main repository.
     pub fn directory(&self) -> &[u8]
         ensures { result.now ≡ directory_of self.now.file.path }
     {
         directory_of(self.file.path.as_slice())
     }
 
-    /// The BUILD file's own label, as `//a:BUILD.bazel`. There is none where the file's path does not end in a name.
+    /// Returns the BUILD file's own label, as `//a:BUILD.bazel`; `None` if the file's path doesn't end in a name.
     #[tactic(auto, unfolding(crate::specs::Packages::build_label))]
     pub fn label(&self, alloc: Global) -> Result<Option<Label>, AllocError>
         ensures { IfOk result (λ l. l ≡ build_label self.now) }
@@ -67,14 +67,14 @@ impl BuildFile {
     }
 }
 
-/// Whether the path's last segment is this one.
+/// Returns whether the path's last segment is `name`.
 fn has_name(path: &[u8], name: &[u8]) -> bool
     ensures { result ≡ bytes_eq (last_segment path.now) name.now }
 {
     last_segment(path) == name
 }
 
-/// The path of a `BUILD.bazel` beside a `BUILD`.
+/// Returns the path of a `BUILD.bazel` beside a `BUILD`.
 fn preferred_path(alloc: Global, path: &[u8]) -> Result<Vec<u8>, AllocError>
     ensures { IfOk result (λ p. p.items ≡ path.now ++ codes ".bazel") }
 {
@@ -83,7 +83,8 @@ fn preferred_path(alloc: Global, path: &[u8]) -> Result<Vec<u8>, AllocError>
     Ok(preferred)
 }
 
-/// Whether the file at this path is its directory's BUILD file: `BUILD.bazel`, or `BUILD` with no `BUILD.bazel` beside it.
+/// Returns whether the file at this path is its directory's BUILD file: `BUILD.bazel`, or `BUILD` with no `BUILD.bazel`
+/// beside it.
 fn is_build_file(alloc: Global, workspace: &Workspace, path: &[u8]) -> Result<bool, AllocError>
     ensures { IfOk result (λ w. w ≡ is_build_file (paths_of workspace.now) path.now) }
 {
@@ -97,7 +98,7 @@ fn is_build_file(alloc: Global, workspace: &Workspace, path: &[u8]) -> Result<bo
     Ok(workspace.file(&preferred).is_none())
 }
 
-/// The package whose BUILD file this is.
+/// Returns the package whose BUILD file this is.
 #[tactic(auto, unfolding(crate::specs::Packages::package_of_file))]
 fn package_of_file(
     alloc: Global,
@@ -121,7 +122,7 @@ fn package_of_file(
     }))
 }
 
-/// The packages of a workspace, in the order of their BUILD files' paths.
+/// Returns the packages of a workspace, in the order of their BUILD files' paths.
 fn build_files(alloc: Global, workspace: &Workspace) -> Result<Vec<BuildFile>, AllocError>
     ensures found { IfOk result (λ found. found.items ≡ build_files (paths_of workspace.now) workspace.now) }
     ensures valid { IsWorkspace workspace.now }
@@ -137,7 +138,7 @@ fn build_files(alloc: Global, workspace: &Workspace) -> Result<Vec<BuildFile>, A
     Ok(found)
 }
 
-/// By the bytes of the repository, and then of the path.
+/// Compares a package with a name: by the bytes of the repository, and then of the path.
 fn compare(id: &PackageId, repo: &[u8], path: &[u8]) -> Ordering
     ensures { result ≡ id_cmp id.now (package_at repo.now path.now) }
 {
@@ -145,7 +146,7 @@ fn compare(id: &PackageId, repo: &[u8], path: &[u8]) -> Ordering
     by_repo.then(id.package().as_slice().cmp(path))
 }
 
-/// The packages, ascending by their names.
+/// Returns the packages, ascending by their names.
 fn sorted(found: Vec<BuildFile>) -> Vec<BuildFile>
     ensures moved { IsPermutation found.items result.items }
     ensures ascending { IsSorted package_cmp result.items }
@@ -159,7 +160,7 @@ fn sorted(found: Vec<BuildFile>) -> Vec<BuildFile>
     found
 }
 
-/// The place of the package of this name.
+/// Returns the place of the package of this name.
 fn find_place(packages: &[BuildFile], repo: &[u8], path: &[u8]) -> Option<usize>
     requires { IsStrictlySortedBy package_cmp packages.now }
     ensures found { IfSome result (λ at. slice_get packages.now at ≡ package_named packages.now (package_at repo.now path.now)) }
@@ -171,7 +172,7 @@ fn find_place(packages: &[BuildFile], repo: &[u8], path: &[u8]) -> Option<usize>
     }
 }
 
-/// The package of this name.
+/// Returns the package of this name.
 fn find_package<'a>(packages: &'a [BuildFile], repo: &[u8], path: &[u8]) -> Option<&'a BuildFile>
     requires { IsStrictlySortedBy package_cmp packages.now }
     ensures { option_copied result ≡ package_named packages.now (package_at repo.now path.now) }
@@ -182,7 +183,7 @@ fn find_package<'a>(packages: &'a [BuildFile], repo: &[u8], path: &[u8]) -> Opti
     }
 }
 
-/// The package whose directory is the nearest above a path of a repository.
+/// Returns the package whose directory is the nearest above a path of a repository.
 fn nearest_above<'a>(packages: &'a [BuildFile], repo: &[u8], rest: &[u8]) -> Option<&'a BuildFile>
     requires { IsStrictlySortedBy package_cmp packages.now }
     ensures { option_copied result ≡ nearest_over packages.now repo.now rest.now }
@@ -221,7 +222,8 @@ impl Model for Packages {
 }
 
 impl Packages {
-    /// The packages of a workspace: the directories with a file `BUILD.bazel` or `BUILD`, of which the first takes precedence.
+    /// Finds the packages of a workspace: the directories with a file `BUILD.bazel` or `BUILD`, of which the first
+    /// takes precedence.
     pub fn of(alloc: Global, workspace: &Workspace) -> Result<Packages, AllocError>
         ensures { IfOk result (λ p. p ≡ packages_of workspace.now) }
     {
@@ -231,7 +233,7 @@ impl Packages {
         })
     }
 
-    /// The packages, ascending by the bytes of their repositories and then of their paths.
+    /// Returns the packages, ascending by the bytes of their repositories and then of their paths.
     pub fn all(&self) -> &[BuildFile]
         ensures value { result.now ≡ self.now }
         ensures ascending { IsStrictlySortedBy package_cmp self.now }
@@ -239,7 +241,7 @@ impl Packages {
         self.packages.as_slice()
     }
 
-    /// The place in `all` of the package of this name, in time logarithmic in the number of packages.
+    /// Returns the place in `all` of the package of this name, in time logarithmic in the number of packages.
     pub fn place(&self, id: &PackageId) -> Option<usize>
         ensures found { IfSome result (λ at. slice_get self.now at ≡ package_named self.now id.now) }
         ensures none { IfNone result (package_named self.now id.now ≡ None) }
@@ -251,7 +253,7 @@ impl Packages {
         )
     }
 
-    /// The package of this name, in time logarithmic in the number of packages.
+    /// Returns the package of this name, in time logarithmic in the number of packages.
     pub fn named(&self, id: &PackageId) -> Option<&BuildFile>
         ensures { option_copied result ≡ package_named self.now id.now }
     {
@@ -262,15 +264,15 @@ impl Packages {
         )
     }
 
-    /// The package of a repository at a path, in time logarithmic in the number of packages.
+    /// Returns the package of a repository at a path, in time logarithmic in the number of packages.
     pub fn at(&self, repo: &[u8], path: &[u8]) -> Option<&BuildFile>
         ensures { option_copied result ≡ package_named self.now (package_at repo.now path.now) }
     {
         find_package(&self.packages, repo, path)
     }
 
-    /// The owner of a path: the package whose directory is the nearest above it in its repository. It takes time
-    /// logarithmic in the number of packages for each level of the path.
+    /// Returns the owner of a path: the package whose directory is the nearest above it in its repository. It takes
+    /// time logarithmic in the number of packages for each level of the path.
     #[tactic(auto, unfolding(crate::specs::Packages::owner_of))]
     pub fn owner_of(&self, path: &[u8]) -> Option<&BuildFile>
         ensures { option_copied result ≡ owner_of self.now path.now }

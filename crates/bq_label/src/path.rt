@@ -16,7 +16,7 @@ fn are_path_bytes(text: &[u8]) -> bool
     text.iter().all(|byte| is_path_byte(*byte))
 }
 
-/// Whether a path may have this segment: it is not empty, and neither `.` nor `..`.
+/// Returns whether a path may have this segment: it isn't empty, and neither `.` nor `..`.
 pub fn is_segment(segment: &[u8]) -> bool
     ensures { result ≡ is_segment segment.now }
 {
@@ -29,8 +29,8 @@ fn are_segments(path: &[u8]) -> bool
     path.split(|byte| *byte == b'/').all(is_segment)
 }
 
-/// Whether a target, a rule or an output may have this name: segments of printable ASCII but for `:` and `\`, joined
-/// by `/`, none of them empty, `.` or `..`. A file's path is valid by the same test.
+/// Returns whether a target, a rule or an output may have this name: segments of printable ASCII but for `:` and `\`,
+/// joined by `/`, none of them empty, `.` or `..`. A file's path is valid by the same test.
 #[tactic(auto, unfolding(crate::specs::Paths::is_path))]
 pub fn is_path(text: &[u8]) -> bool
     ensures { result ≡ is_path text.now }
@@ -38,7 +38,7 @@ pub fn is_path(text: &[u8]) -> bool
     are_path_bytes(text) && are_segments(text)
 }
 
-/// Whether a package may have this path in its repository: a name's segments, or the empty path of the root.
+/// Returns whether a package may have this path in its repository: a name's segments, or the empty path of the root.
 #[tactic(auto, unfolding(crate::specs::Paths::is_package))]
 pub(crate) fn is_package(text: &[u8]) -> bool
     ensures { result ≡ is_package text.now }
@@ -52,7 +52,7 @@ fn is_repository_byte(byte: u8) -> bool
     matches!(byte, b'a'..=b'z' | b'A'..=b'Z' | b'0'..=b'9' | b'_' | b'-' | b'.' | b'+' | b'~')
 }
 
-/// Whether this is the name of a repository: letters, digits and `_ - . + ~`; empty for the main one.
+/// Returns whether this is the name of a repository: letters, digits and `_ - . + ~`; it is empty for the main one.
 #[tactic(auto, unfolding(crate::specs::Paths::is_repository))]
 pub fn is_repository(text: &[u8]) -> bool
     ensures { result ≡ is_repository text.now }

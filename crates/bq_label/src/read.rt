@@ -21,7 +21,7 @@ fn bad_label() -> SourceErr
     SourceErr::Bad(Fault::at(FaultKind::BadLabel, 0))
 }
 
-/// A name in a package.
+/// Reads a name in a package.
 #[tactic(auto, unfolding(crate::specs::Reading::valid_label, crate::specs::Reading::is_label))]
 fn read_name(alloc: Global, package: PackageId, name: &[u8]) -> Result<Label, SourceErr>
     ensures { Gives (λ label. label) Bad result (or_bad_label (valid_label (label_in «package» name.now))) }
@@ -44,7 +44,7 @@ fn read_parts(alloc: Global, repo: Bytes, package: &[u8], name: &[u8]) -> Result
     }
 }
 
-/// What follows `//`.
+/// Reads what follows `//`.
 #[tactic(auto, unfolding(crate::specs::Reading::absolute_label))]
 fn read_absolute(alloc: Global, repo: Bytes, text: &[u8]) -> Result<Label, SourceErr>
     ensures { Gives (λ label. label) Bad result (or_bad_label (valid_label (absolute_label repo text.now))) }
@@ -55,7 +55,7 @@ fn read_absolute(alloc: Global, repo: Bytes, text: &[u8]) -> Result<Label, Sourc
     }
 }
 
-/// What follows `@`.
+/// Reads what follows `@`.
 #[tactic(auto, unfolding(crate::specs::Reading::external_label, crate::specs::Reading::label_of))]
 fn read_external(alloc: Global, text: &[u8]) -> Result<Label, SourceErr>
     ensures { Gives (λ label. label) Bad result (or_bad_label (option_and_then valid_label (external_label text.now))) }
@@ -71,7 +71,7 @@ fn read_external(alloc: Global, text: &[u8]) -> Result<Label, SourceErr>
     }
 }
 
-/// The label that a text reads as in a file of the package. A text that reads as none is fault F78, at line 0.
+/// Reads a text as a label in a file of the package. A text that isn't one is fault F78, at line 0.
 ///
 /// The forms are those of Bazel's page "Labels": `//package:name`, `//a/b` for `//a/b:b`, `:name`, `name`, and
 /// `@repository` in front of `//` or for `@repository//:repository`.

@@ -20,8 +20,8 @@ pub(crate) struct RepositoryPath<'a> {
     pub(crate) rest: &'a [u8],
 }
 
-/// Where a path lies: `external/NAME/REST` is REST of repository NAME, any other path below `external` is in no
-/// repository, and the rest is the main repository's.
+/// Returns where a path lies: `external/NAME/REST` is REST of repository NAME, any other path below `external` is in no
+/// repository, and every other path is in the main repository.
 #[tactic(auto, unfolding(crate::specs::Packages::split_repository))]
 pub(crate) fn split_repository(path: &[u8]) -> Option<RepositoryPath<'_>>
     ensures { MatchOption result (split_repository path.now ≡ None) (λ h. split_repository path.now ≡ Some (h.repo.now, h.rest.now)) }
@@ -41,7 +41,7 @@ pub(crate) fn split_repository(path: &[u8]) -> Option<RepositoryPath<'_>>
     Some(RepositoryPath { repo, rest })
 }
 
-/// The path that a label names: its package's directory, then its name.
+/// Returns the path that a label names: its package's directory, then its name.
 #[tactic(auto, unfolding(crate::specs::Packages::label_path))]
 pub fn label_path(alloc: Global, label: &Label) -> Result<Vec<u8>, AllocError>
     ensures { IfOk result (λ path. path.items ≡ label_path label.now) }
@@ -60,7 +60,7 @@ pub fn label_path(alloc: Global, label: &Label) -> Result<Vec<u8>, AllocError>
     Ok(path)
 }
 
-/// Whether the path lies in the repository.
+/// Returns whether the path lies in the repository.
 #[tactic(auto, unfolding(crate::specs::Packages::is_in_repository))]
 fn is_in_repository(path: &[u8], repo: &[u8]) -> bool
     ensures { result ≡ is_in_repository repo.now path.now }
@@ -71,8 +71,8 @@ fn is_in_repository(path: &[u8], repo: &[u8]) -> bool
     }
 }
 
-/// The file that a label names: the one at its path, where that is a path of the label's repository. So no label of the main
-/// repository names a file below `external`.
+/// Returns the file that a label names: the one at its path, if that is a path of the label's repository. So no label
+/// of the main repository names a file below `external`.
 pub fn label_file<'a>(
     alloc: Global,
     workspace: &'a Workspace,

@@ -1,11 +1,11 @@
-//! How a text is cut at a byte.
+//! Cutting a text at a byte.
 
 ghost use Rattle.std.specs.Prelude.{◌≡◌, ◌≢◌, ◌<◌, ℕ, Some, None, MatchOption, IfSome, IfNone, length, slice_index};
 ghost use Rattle.bq_label.specs.Label.{last_segment};
 ghost use Rattle.bq_label.specs.Reading.{split_once};
 ghost use Rattle.bq_label.specs.Packages.{directory_of};
 
-/// The place of the first such byte.
+/// Returns the place of the first such byte.
 fn first_place(text: &[u8], byte: u8) -> Option<usize>
     ensures found { IfSome result (λ at. (at < length text.now) × (slice_index text.now at ≡ byte) × ((k : ℕ) → k < at → slice_index text.now k ≢ byte)) }
     ensures none { IfNone result ((k : ℕ) → k < length text.now → slice_index text.now k ≢ byte) }
@@ -13,7 +13,7 @@ fn first_place(text: &[u8], byte: u8) -> Option<usize>
     text.iter().position(|b| *b == byte)
 }
 
-/// The text before the first such byte, and the text after it.
+/// Returns the text before the first such byte, and the text after it.
 pub(crate) fn split_once(text: &[u8], byte: u8) -> Option<(&[u8], &[u8])>
     ensures { MatchOption result (split_once byte text.now ≡ None) (λ p. split_once byte text.now ≡ Some (p.0.now, p.1.now)) }
 {
@@ -23,7 +23,7 @@ pub(crate) fn split_once(text: &[u8], byte: u8) -> Option<(&[u8], &[u8])>
     }
 }
 
-/// The text after the last slash.
+/// Returns the text after the last slash.
 pub(crate) fn last_segment(path: &[u8]) -> &[u8]
     ensures { result.now ≡ last_segment path.now }
 {
@@ -34,7 +34,7 @@ pub(crate) fn last_segment(path: &[u8]) -> &[u8]
     &path[at..]
 }
 
-/// The text before the last slash; nothing where there is none.
+/// Returns the text before the last slash; nothing if there is none.
 #[tactic(auto, unfolding(crate::specs::Packages::directory_of))]
 pub(crate) fn directory_of(path: &[u8]) -> &[u8]
     ensures { result.now ≡ directory_of path.now }

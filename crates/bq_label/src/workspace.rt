@@ -22,7 +22,7 @@ pub struct File {
 }
 
 impl File {
-    /// The same file. No byte is copied.
+    /// Returns another owner of the file. No byte is copied.
     pub fn share(&self) -> Result<File, AllocError>
         ensures { IfOk result (λ f. f ≡ self.now) }
     {
@@ -62,14 +62,14 @@ impl Model for Workspace {
     ghost invariant = { λ w. IsWorkspace w.files.items };
 }
 
-/// Whether every path is valid.
+/// Returns whether every path is valid.
 fn have_valid_paths(files: &[File]) -> bool
     ensures { result ≡ list_all (λ f. is_path f.path) files.now }
 {
     files.iter().all(|file| is_path(file.path.as_slice()))
 }
 
-/// The file at a path.
+/// Returns the file at a path.
 fn find_file<'a>(files: &'a [File], path: &[u8]) -> Option<&'a File>
     requires { IsStrictlySortedBy path_cmp files.now }
     ensures { option_copied result ≡ file_at files.now path.now }
@@ -80,7 +80,7 @@ fn find_file<'a>(files: &'a [File], path: &[u8]) -> Option<&'a File>
     }
 }
 
-/// How many bytes two texts have in common at the front.
+/// Returns how many bytes two texts have in common at the front.
 #[tactic(auto, unfolding(crate::specs::Paths::common_len))]
 fn common_len(a: &[u8], b: &[u8]) -> usize
     ensures { result ≡ common_len a.now b.now }
@@ -92,7 +92,7 @@ fn common_len(a: &[u8], b: &[u8]) -> usize
     at
 }
 
-/// Whether the path goes on with a slash where it parts from another path, and a file is there.
+/// Returns whether the path goes on with a slash where it parts from the path before it, and a file is there.
 #[tactic(auto, unfolding(crate::specs::Workspace::parts_at_file))]
 fn parts_at_file(files: &[File], before: &[u8], path: &[u8]) -> bool
     requires { IsStrictlySortedBy path_cmp files.now }
@@ -102,10 +102,10 @@ fn parts_at_file(files: &[File], before: &[u8], path: &[u8]) -> bool
     at < path.len() && path[at] == b'/' && find_file(files, &path[..at]).is_some()
 }
 
-/// Whether no file is where a directory of another is.
+/// Returns whether no file is where a directory of another is.
 ///
-/// A directory that the path before has too was looked up there, and no file is between two neighbours: so the only place
-/// to look at is the one where a path parts from the path before it.
+/// A directory of a path that the path before has too was looked up for that one, and no file is between two
+/// neighbours: so the only place to look at is the one where a path parts from the path before it.
 fn are_apart(files: &[File]) -> bool
     requires { IsStrictlySortedBy path_cmp files.now }
     ensures { result ≡ are_apart (paths_of files.now) }
@@ -122,7 +122,7 @@ fn are_apart(files: &[File]) -> bool
     true
 }
 
-/// Whether no path is there twice.
+/// Returns whether no path is there twice.
 fn are_ascending(files: &[File]) -> bool
     requires { IsSorted path_cmp files.now }
     ensures strict { OnTrue result (IsStrictlySortedBy path_cmp files.now) }
@@ -136,7 +136,7 @@ fn are_ascending(files: &[File]) -> bool
     true
 }
 
-/// Whether the paths are those of a workspace.
+/// Returns whether the paths are those of a workspace.
 #[tactic(auto, using(crate::proofs::Workspaces::are_paths_is))]
 fn are_valid(files: &[File]) -> bool
     requires { IsSorted path_cmp files.now }
@@ -149,7 +149,7 @@ fn are_valid(files: &[File]) -> bool
     are_apart(files)
 }
 
-/// The files, ascending by their paths.
+/// Returns the files, ascending by their paths.
 fn sorted(files: Vec<File>) -> Vec<File>
     ensures moved { IsPermutation files.items result.items }
     ensures ascending { IsSorted path_cmp result.items }
@@ -160,7 +160,7 @@ fn sorted(files: Vec<File>) -> Vec<File>
 }
 
 impl Workspace {
-    /// The workspace of these files, in any order. A path is refused where it is not valid, is there twice, or is a
+    /// Makes the workspace of these files, in any order. A path is refused if it isn't valid, is there twice, or is a
     /// directory of another, and so are more than [`MAX_FILES`] files.
     pub fn new(files: Vec<File>) -> Result<Workspace, PathErr>
         ensures { MatchResult result (λ w. workspace_of files.items ≡ Some w) (λ _. workspace_of files.items ≡ None) }
@@ -175,7 +175,7 @@ impl Workspace {
         Ok(Workspace { files })
     }
 
-    /// The files, ascending by the bytes of their paths.
+    /// Returns the files, ascending by the bytes of their paths.
     pub fn files(&self) -> &[File]
         ensures value { result.now ≡ self.now }
         ensures valid { IsWorkspace self.now }
@@ -183,7 +183,7 @@ impl Workspace {
         self.files.as_slice()
     }
 
-    /// The file at a path, in time logarithmic in the number of files.
+    /// Returns the file at a path, in time logarithmic in the number of files.
     pub fn file(&self, path: &[u8]) -> Option<&File>
         ensures { option_copied result ≡ file_at self.now path.now }
     {

@@ -25,12 +25,12 @@ pub fn a_plain_pattern_matches_itself_alone()
     ensures { (pattern path : List ℕ) → list_any is_star pattern ≡ false → (matches pattern path ≡ true) ↔ (pattern ≡ path) }
 {}
 
-/// A name is given exactly where it is that of a file of the package that some pattern includes and none excludes.
+/// A name is returned exactly if it is that of a file of the package that some pattern includes and none excludes.
 pub fn what_glob_gives()
     ensures { (files : List File) (packages : List BuildFile) (p : PackageParts) (include exclude : List (List ℕ)) (name : List ℕ) → Contains (glob files packages p include exclude) name ↔ IsGiven files packages p include exclude name }
 {}
 
-/// The names ascend by their bytes, so none is given twice.
+/// The names ascend by their bytes, so none is returned twice.
 pub fn names_in_order()
     ensures { (files : List File) (packages : List BuildFile) (p : PackageParts) (include exclude : List (List ℕ)) → IsWorkspace files → IsStrictlySortedBy (slice_cmp nat_cmp) (glob files packages p include exclude) }
 {}

@@ -11,8 +11,8 @@ use bq_base::Bytes;
 use bq_label::{File, PackageId, Packages, Workspace};
 use std::alloc::{AllocError, Global};
 
-/// What precedes the names of a package's files: `external/NAME/` outside the main repository, then the package's path and a
-/// slash.
+/// Returns what precedes the names of a package's files: `external/NAME/` outside the main repository, then the
+/// package's path and a slash.
 #[tactic(auto, unfolding(crate::specs::Names::directory, bq_label::specs::Packages::label_path))]
 fn directory(alloc: Global, id: &PackageId) -> Result<Vec<u8>, AllocError>
     ensures { IfOk result (λ d. d.items ≡ directory id.now) }
@@ -30,7 +30,7 @@ fn directory(alloc: Global, id: &PackageId) -> Result<Vec<u8>, AllocError>
     Ok(above)
 }
 
-/// How many files are before the text.
+/// Returns how many files are before the text.
 fn files_before(workspace: &Workspace, text: &[u8]) -> usize
     ensures bound { result ≤ length workspace.now }
     ensures before { IsPartitionPoint (λ f. is_before text.now f ≡ true) (λ f. is_before text.now f ≡ false) workspace.now result }
@@ -40,8 +40,8 @@ fn files_before(workspace: &Workspace, text: &[u8]) -> usize
         .partition_point(|file| file.path.as_slice().cmp(text).is_lt())
 }
 
-/// The files whose paths go on after the directory. They follow one another, so it takes time logarithmic in the number of
-/// files.
+/// Returns the files whose paths go on after the directory. They follow one another, so it takes time logarithmic in
+/// the number of files.
 fn files_beneath<'a>(workspace: &'a Workspace, above: &[u8]) -> &'a [File]
     ensures { result.now ≡ filter (λ f. is_beneath above.now f.path) workspace.now }
 {
@@ -50,7 +50,7 @@ fn files_beneath<'a>(workspace: &'a Workspace, above: &[u8]) -> &'a [File]
     &rest[..len]
 }
 
-/// Whether the package owns the path.
+/// Returns whether the package owns the path.
 #[tactic(auto, unfolding(crate::specs::Names::is_owned))]
 fn is_owned(packages: &Packages, id: &PackageId, path: &[u8]) -> bool
     ensures { result ≡ is_owned packages.now id.now path.now }
@@ -64,7 +64,7 @@ fn is_owned(packages: &Packages, id: &PackageId, path: &[u8]) -> bool
     }
 }
 
-/// The name of a path in the package that owns it.
+/// Returns the name of a path in the package that owns it.
 #[tactic(auto, unfolding(crate::specs::Names::name_in))]
 fn name_in<'a>(
     packages: &Packages,
@@ -87,7 +87,7 @@ fn matches_some(patterns: &[Pattern], name: &[u8]) -> bool
     patterns.iter().any(|pattern| pattern.matches(name))
 }
 
-/// Whether some pattern matches the name, and no excluded one.
+/// Returns whether some pattern matches the name, and no excluded one does.
 #[tactic(auto, unfolding(crate::specs::Names::is_wanted))]
 fn is_wanted(include: &[Pattern], exclude: &[Pattern], name: &[u8]) -> bool
     ensures { result ≡ is_wanted include.now exclude.now name.now }
@@ -102,8 +102,9 @@ fn push_name(alloc: Global, names: &mut Vec<Bytes>, name: &[u8]) -> Result<(), A
     Ok(())
 }
 
-/// The names in the package of its files that some pattern matches and no excluded one, ascending by their bytes. Files of
-/// the packages beneath it are theirs. The time is that of matching each file beneath the package against each pattern.
+/// Returns the names in the package of its files that some pattern matches and no excluded one does, ascending by their
+/// bytes. Files of the packages beneath it are theirs. The time is that of matching each file beneath the package
+/// against each pattern.
 pub fn glob(
     alloc: Global,
     workspace: &Workspace,

@@ -33,7 +33,7 @@ impl Model for Pattern {
     ghost invariant = { λ p. is_pattern p.text ≡ true };
 }
 
-/// Whether two stars are next to each other.
+/// Returns whether two stars are next to each other.
 #[tactic(auto, unfolding(crate::specs::Pattern::has_two_stars))]
 fn has_two_stars(segment: &[u8]) -> bool
     ensures { result ≡ has_two_stars segment.now }
@@ -48,7 +48,7 @@ fn has_two_stars(segment: &[u8]) -> bool
     false
 }
 
-/// Whether this segment takes any number of segments.
+/// Returns whether this segment takes any number of segments.
 fn is_any_segments(segment: &[u8]) -> bool
     ensures { result ≡ is_any_segments segment.now }
 {
@@ -69,8 +69,8 @@ fn is_pattern(text: &[u8]) -> bool
     text.split(|byte| *byte == b'/').all(is_pattern_segment)
 }
 
-/// The pattern that a text is. A text that is none is fault F77, at line 0: it or a segment of it is empty, a segment is `.`
-/// or `..`, or `**` is a part of a longer segment.
+/// Reads a text as a pattern. A text that isn't one is fault F77, at line 0: it or a segment of it is empty, a segment
+/// is `.` or `..`, or `**` is a part of a longer segment.
 #[tactic(auto, unfolding(crate::specs::Pattern::pattern_of))]
 pub fn read_pattern(alloc: Global, text: &[u8]) -> Result<Pattern, SourceErr>
     ensures { Gives (λ p. p) Bad result (pattern_of text.now) }
@@ -82,7 +82,7 @@ pub fn read_pattern(alloc: Global, text: &[u8]) -> Result<Pattern, SourceErr>
     Ok(Pattern { text })
 }
 
-/// What the segments at two places say: `**` takes any segments, every other segment one that fits it.
+/// Returns the step at two places: `**` takes any segments, every other segment takes one that fits it.
 fn segment_step(pattern: &[u8], p: usize, path: &[u8], t: usize) -> Step
     ensures { StepIs is_any_segments fits_segment (segments_from pattern.now) (segments_from path.now) p t result }
 {
@@ -104,8 +104,8 @@ fn segment_step(pattern: &[u8], p: usize, path: &[u8], t: usize) -> Step
     Step::One(p + wanted.len() + 1, t + segment.len() + 1)
 }
 
-/// Whether a path matches a pattern. Of several `**` only the last is tried anew: what an earlier one would take more, the last
-/// can take.
+/// Returns whether a path matches a pattern. Of several `**` only the last is tried anew: what an earlier one would
+/// take more, the last can take.
 fn matches(pattern: &[u8], path: &[u8]) -> bool
     ensures { result ≡ matches pattern.now path.now }
 {
@@ -146,14 +146,14 @@ fn matches(pattern: &[u8], path: &[u8]) -> bool
 }
 
 impl Pattern {
-    /// Whether the pattern matches a path. The time is at most the product of the two lengths.
+    /// Returns whether the pattern matches a path. The time is at most the product of the two lengths.
     pub fn matches(&self, path: &[u8]) -> bool
         ensures { result ≡ matches self.now path.now }
     {
         matches(self.text.as_slice(), path)
     }
 
-    /// The pattern's text.
+    /// Returns the pattern's text.
     pub fn text(&self) -> &[u8]
         ensures { result.now ≡ self.now }
     {

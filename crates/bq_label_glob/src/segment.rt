@@ -7,7 +7,7 @@ ghost use Rattle.bq_label_glob.specs.Segment.{IsCutAtStar, IsAfterFirst, IsNowhe
 
 use memchr::{memchr, memmem};
 
-/// What a pattern has before its first star, and what it has after it; none where it has no star.
+/// Returns what a pattern has before its first star, and what it has after it, if it has one.
 fn cut_at_star(pattern: &[u8]) -> Option<(&[u8], &[u8])>
     ensures { MatchOption result (list_any is_star pattern.now ≡ false) (λ p. IsCutAtStar pattern.now p.0.now p.1.now) }
 {
@@ -17,7 +17,7 @@ fn cut_at_star(pattern: &[u8]) -> Option<(&[u8], &[u8])>
     }
 }
 
-/// What a text has after the first place of a piece; none where it doesn't have the piece.
+/// Returns what a text has after the first place of a piece, if it has the piece.
 fn after_first<'t>(piece: &[u8], text: &'t [u8]) -> Option<&'t [u8]>
     ensures { MatchOption result (IsNowhere piece.now text.now) (λ rest. IsAfterFirst piece.now text.now rest.now) }
 {
@@ -27,10 +27,10 @@ fn after_first<'t>(piece: &[u8], text: &'t [u8]) -> Option<&'t [u8]>
     }
 }
 
-/// Whether some end of a text fits what a pattern has after a star.
+/// Returns whether some end of a text fits what a pattern has after a star.
 ///
-/// Each piece between two stars is taken where the text has it first: what it leaves ends as every text does that it leaves
-/// at a later place. So the time is linear in the two lengths.
+/// Each piece between two stars takes the first place at which the text has it: what that leaves has every end of what
+/// a later place would leave. So the time is linear in the two lengths.
 fn fits_some_end(pattern: &[u8], text: &[u8]) -> bool
     ensures { result ≡ any_tail (fits_segment pattern.now) text.now }
 {
@@ -46,8 +46,8 @@ fn fits_some_end(pattern: &[u8], text: &[u8]) -> bool
     rest.ends_with(pieces)
 }
 
-/// Whether a segment of a path fits a segment of a pattern: `*` takes any bytes, every other byte itself. The time is linear
-/// in the two lengths.
+/// Returns whether a segment of a path fits a segment of a pattern: `*` takes any bytes, every other byte itself. The
+/// time is linear in the two lengths.
 pub(crate) fn fits_segment(pattern: &[u8], text: &[u8]) -> bool
     ensures { result ≡ fits_segment pattern.now text.now }
 {
@@ -60,7 +60,7 @@ pub(crate) fn fits_segment(pattern: &[u8], text: &[u8]) -> bool
     fits_some_end(pieces, &text[first.len()..])
 }
 
-/// The segment that begins at a place of a path; none past the path's end.
+/// Returns the segment that begins at a place of a path, if that isn't past the path's end.
 pub(crate) fn segment_at(path: &[u8], at: usize) -> Option<&[u8]>
     ensures cut { MatchOption result (segments_from path.now at ≡ []) (λ s. segments_from path.now at ≡ s.now ∷ segments_from path.now (at + length s.now + 1)) }
     ensures room { IfSome result (λ s. at + length s.now ≤ length path.now) }

@@ -1,4 +1,4 @@
-//! The state of matching that tries only the last element that takes many anew.
+//! The state of matching, which tries only the last element anew that takes any number of elements.
 
 /// Where matching goes on when what follows the last such element fails: the place after it in the pattern, and the place in
 /// the text at which the rest of the pattern was tried last.
@@ -8,7 +8,7 @@ pub(crate) struct Retry {
     pub(crate) text: usize,
 }
 
-/// What the first elements of what is left of a pattern and of a text say, with the places after them.
+/// What the first elements of the rest of a pattern and of a text say, with the places after them.
 #[derive(Clone, Copy)]
 pub(crate) enum Step {
     /// The pattern's element takes any number of elements.

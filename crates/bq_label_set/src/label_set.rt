@@ -11,7 +11,7 @@ use std::alloc::{AllocError, Global};
 use std::hash::{Hash, Hasher};
 use std::marker::Model;
 
-/// A label that is found by its hash.
+/// A label that is looked up by its hash.
 #[derive(Drop)]
 struct Key {
     label: Label,
@@ -25,7 +25,7 @@ impl Model for Key {
     ghost view = { λ k. k.label };
 }
 
-/// Whether it is one label. The names are compared first, since they differ most often.
+/// Returns whether the labels are one. The names are compared first, since they differ most often.
 #[tactic(auto, unfolding(crate::specs::Labels::same_label))]
 fn is_same(a: &Label, b: &Label) -> bool
     ensures { result ≡ same_label a.now b.now }
@@ -59,7 +59,7 @@ impl Hash for Key {
     }
 }
 
-/// Labels, none of them twice, in the order in which they first came. Contracts see the list of them.
+/// Labels, none of them twice, in the order in which they were first added. Contracts see the list of them.
 #[derive(Drop)]
 pub struct LabelSet {
     keys: IndexSet<Key>,
@@ -83,7 +83,7 @@ impl LabelSet {
         }
     }
 
-    /// Adds a label as the last, and answers whether it wasn't there.
+    /// Appends a label; true if it is new.
     #[tactic(auto, unfolding(crate::specs::Labels::with_label))]
     pub fn add(&mut self, label: &Label) -> Result<bool, AllocError>
         ensures added { IfOk result (λ added. added ≡ not (has_label self.old label.now)) }
@@ -93,7 +93,7 @@ impl LabelSet {
         Ok(self.keys.insert(Key { label })?)
     }
 
-    /// Whether this is one of them.
+    /// Returns whether this is one of them. It fails where 2^63 owners of the label are alive: the look-up shares it.
     pub fn has(&self, label: &Label) -> Result<bool, AllocError>
         ensures { IfOk result (λ has. has ≡ has_label self.now label.now) }
     {
@@ -101,7 +101,7 @@ impl LabelSet {
         Ok(self.keys.contains(&Key { label }))
     }
 
-    /// Adds each of these labels that isn't there.
+    /// Appends each of these labels that is new.
     #[tactic(auto, unfolding(crate::specs::Labels::with_labels))]
     pub fn add_all(&mut self, labels: &[Label]) -> Result<(), AllocError>
         ensures { OnOk result (self.new ≡ with_labels self.old labels.now) }
@@ -112,7 +112,7 @@ impl LabelSet {
         Ok(())
     }
 
-    /// The label of a number.
+    /// Returns the label of a number.
     pub fn get(&self, number: usize) -> Option<&Label>
         ensures { option_copied result ≡ slice_get self.now number }
     {
@@ -122,7 +122,7 @@ impl LabelSet {
         }
     }
 
-    /// The number of a label: its place in the order in which they came.
+    /// Returns the number of a label: its place in the order in which they were added. It fails as `has` does.
     pub fn number(&self, label: &Label) -> Result<Option<usize>, AllocError>
         ensures number { IfOk result (λ number. number ≡ position (same_label label.now) self.now) }
         ensures within { IfOk result (λ number. IfSome number (λ n. n < length self.now)) }

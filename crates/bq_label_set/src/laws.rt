@@ -17,12 +17,12 @@ pub fn numbers_stay()
     ensures { NumbersStay }
 {}
 
-/// A label of a set has the number at which it is there, and no other label has a number.
+/// A label of a set has as its number the place at which it is there, and no other label has a number.
 pub fn labels_with_numbers()
     ensures { LabelsWithNumbers }
 {}
 
-/// Labels of which none comes twice are numbered in their order.
+/// Labels none of which comes twice are numbered in their order.
 pub fn those_that_differ()
     ensures { ThoseThatDiffer }
 {}

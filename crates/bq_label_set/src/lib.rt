@@ -1,7 +1,8 @@
-//! Labels come in; the set of them goes out, in which each has a number: its place in the order in which they first came.
+//! Labels come in; a set of them goes out, in which each has a number: its place in the order in which they were first
+//! added.
 //!
-//! The promise: a set holds just the labels that were added, each once (`specs/Labels.antt`). A label is found by its hash, in the
-//! time of its length.
+//! The promise: a set holds exactly the labels that were added, each once (`specs/Labels.antt`). A label is looked up
+//! by its hash, in time proportional to its length.
 //!
 //! In reading order:
 //!
