@@ -12,7 +12,8 @@ use std::alloc::Global;
 
 pub type BoardSeat<V, B> = atomic_table::Seat<Option<V>, View<B>>;
 
-/// Hands the modules of a plan to seats. Seats use it through a `&`, each in a thread of its own; no call but `open` and `close` takes or gives back memory, and none waits.
+/// Hands the modules of a plan to seats. Seats use it through a `&`, each in a thread of its own; no call but `open`
+/// and `close` allocates or frees memory, and none waits.
 #[derive(Drop)]
 pub struct Board<V: Parcel> {
     pub(crate) plan: Plan,
@@ -29,7 +30,7 @@ pub struct Seat<V: Parcel> {
 }
 
 impl<V: Parcel> Board<V> {
-    /// The plan whose modules the board hands out.
+    /// Returns the plan whose modules the board hands out.
     pub fn plan(&self) -> &Plan
         ensures { result.now ≡ self.now.plan }
     {

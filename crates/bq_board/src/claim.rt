@@ -20,11 +20,12 @@ pub enum Claim {
 }
 
 impl<V: Parcel> Board<V> {
-    /// Claims module `m`, where all edges into it are posted and no seat has it.
+    /// Claims module `m`, if all edges into it are posted and no seat has it.
     ///
     /// `Won`: a module that is new to this seat, at a step at which no seat had it, with all edges into it posted.
-    /// `Taken`: at a step of this call a seat had it. It is the answer once `done` has returned the number of modules to this seat.
-    /// `Waiting(edge)`: that edge into `m` wasn't posted at a step of this call. This seat has neither posted it nor seen it posted.
+    /// `Taken`: at a step of this call a seat had it. It is always the answer once `done` has returned the number of
+    /// modules to this seat. `Waiting(edge)`: that edge into `m` wasn't posted at a step of this call. This seat has
+    /// neither posted it nor seen it posted.
     pub fn claim(&self, seat: &mut Seat<V>, m: usize) -> Claim
         requires seat { IsSeatOf self.now seat.old }
         requires module { m < length self.now.plan }

@@ -6,8 +6,8 @@ use crate::board::{Board, Seat};
 use crate::parcel::Parcel;
 
 impl<V: Parcel> Board<V> {
-    /// Gives up the board and the parcels left in it.
-    /// The board ends in a state that meets its rule, in which this seat has done what its view says. Nothing is known of seats dropped before.
+    /// Drops the board and the parcels left in it. The board ends in a state that meets its rule, in which this seat
+    /// has done what its view says. Nothing is known of seats that were dropped before.
     pub fn close(self, seat: Seat<V>)
         requires seat { IsSeatOf self seat }
         ensures rule { EndsWith V.belongs (base_of self) self.plan (seats_of self) seat.place.id (view_of seat) }

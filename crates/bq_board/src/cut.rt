@@ -12,7 +12,8 @@ use crate::topological::Order;
 use std::alloc::{AllocError, Global};
 
 impl Plan {
-    /// The plan of a load graph without the loads of its cyclic and its too deep modules. `order` is the graph's topological order.
+    /// Makes the plan of a load graph without the loads of its cyclic and its too deep modules. `order` is the graph's
+    /// topological order.
     pub fn cut(alloc: Global, graph: &Graph, order: &Order) -> Result<Plan, AllocError>
         requires cyclic { MarksCycles graph.now order.now.pending.items }
         requires depths { HasDepths graph.now order.now.depths.items }

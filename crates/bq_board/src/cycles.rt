@@ -1,4 +1,4 @@
-//! Which modules are cyclic, in words of paths and cycles. Each function does nothing; its contract is the law.
+//! Which modules are cyclic, said of paths and cycles. Each function does nothing; its contract is the law.
 ghost use Rattle.bq_board.specs.Cycles.{TestsPaths, ReachesACycle, LoadsACyclic};
 ghost use Rattle.bq_board.specs.Graph.{Loads};
 

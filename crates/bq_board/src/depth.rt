@@ -15,7 +15,8 @@ use std::alloc::{AllocError, Global};
 pub const MAX_LOAD_DEPTH: usize = 1000;
 
 impl Graph {
-    // For each module that isn't cyclic how many edges the longest path has that starts at it: one pass along the order.
+    /// Returns for each module that isn't cyclic the number of edges of the longest path that starts at it: one pass
+    /// along the order.
     pub(crate) fn depths(&self, alloc: Global, sorted: &Sorted) -> Result<Vec<usize>, AllocError>
         requires order { IsTopologicalOrder self.now sorted.now.modules.items sorted.now.pending.items }
         requires cyclic { MarksCycles self.now sorted.now.pending.items }
@@ -31,7 +32,7 @@ impl Graph {
 }
 
 impl Order {
-    /// Whether a module of the graph, whose topological order this is, is too deep.
+    /// Returns whether a module of the graph, whose topological order this is, is too deep.
     #[tactic(auto, unfolding(crate::specs::Depth::max_load_depth))]
     pub fn is_too_deep(&self, graph: &Graph, m: usize) -> bool
         requires cyclic { MarksCycles graph.now self.now.pending.items }
@@ -45,7 +46,8 @@ impl Order {
         self.depths[m] > MAX_LOAD_DEPTH
     }
 
-    /// Whether a path of `MAX_LOAD_DEPTH` edges starts at a module of the graph that isn't cyclic: what loads it is too deep.
+    /// Returns whether a path of `MAX_LOAD_DEPTH` edges starts at a module of the graph that isn't cyclic: what loads
+    /// it is too deep.
     #[tactic(auto, unfolding(crate::specs::Depth::max_load_depth))]
     pub fn is_at_limit(&self, graph: &Graph, m: usize) -> bool
         requires depths { HasDepths graph.now self.now.depths.items }
@@ -57,7 +59,7 @@ impl Order {
     }
 }
 
-// One more than the largest depth of these modules, or 0 where there are none.
+/// Returns one more than the largest depth of these modules, or 0 if there are none.
 fn depth_by(loads: &[u32], depths: &[usize]) -> usize
     requires known { (l : ℕ) → Has loads.now l → l < length depths.now }
     requires low { (l : ℕ) → Has loads.now l → get_or depths.now l 0 + 1 < 2 ^ 64 }

@@ -9,7 +9,7 @@ use crate::parcel::Parcel;
 use crate::steps::LoadDone;
 
 impl<V: Parcel> Board<V> {
-    /// The number of finished modules, found at one step of this call. It joins this seat's counts, as the last.
+    /// Returns the number of finished modules at one step of this call, and appends it to this seat's counts.
     pub fn done(&self, seat: &mut Seat<V>) -> u64
         requires { IsSeatOf self.now seat.old }
         ensures seat { IsSeatOf self.now seat.new }

@@ -1,4 +1,4 @@
-//! Fetches: the parcel of an edge comes to the seat that claimed its target.
+//! Fetches: the parcel of an edge goes to the seat that claimed its target.
 ghost use Rattle.std.specs.Prelude.{◌≡◌, ℕ, ◌<◌};
 ghost use Rattle.bq_board.specs.Counts.{Has};
 ghost use Rattle.bq_board.specs.Graph.{edges};
@@ -11,7 +11,7 @@ use crate::parcel::Parcel;
 use crate::steps::FetchEdge;
 
 impl<V: Parcel> Board<V> {
-    /// The parcel of an edge into a module that this seat claimed. Each edge is fetched once.
+    /// Takes the parcel of an edge into a module that this seat claimed. Each edge is fetched once.
     /// The parcel belongs to the edge's source.
     pub fn fetch(&self, seat: &mut Seat<V>, edge: usize) -> V
         requires seat { IsSeatOf self.now seat.old }

@@ -29,8 +29,8 @@ impl Model for Graph {
 }
 
 impl Graph {
-    /// The graph in which module `m` loads the modules `rows[m]`, in this order.
-    /// P3 for too many modules or edges, then P2 for a loaded module that the graph hasn't.
+    /// Makes the graph in which module `m` loads the modules `rows[m]`, in this order.
+    /// P3 for too many modules or edges, then P2 for a loaded module that the graph doesn't have.
     pub fn new(rows: Vec<Vec<u32>>) -> Result<Graph, PlanErr>
         ensures graph { IfOk result (λ g. g ≡ lists rows.items) }
         ensures valid { OnOk result (IsGraph (lists rows.items)) }
@@ -45,7 +45,7 @@ impl Graph {
         Ok(Graph { rows })
     }
 
-    // The graph of rows that make one.
+    /// Makes the graph of rows that are known to make one.
     pub(crate) fn from_rows(rows: Vec<Vec<u32>>) -> Graph
         requires { IsGraph (lists rows.items) }
         ensures { result ≡ lists rows.items }
@@ -53,7 +53,7 @@ impl Graph {
         Graph { rows }
     }
 
-    /// The number of modules.
+    /// Returns the number of modules.
     pub fn len(&self) -> usize
         ensures len { result ≡ length self.now }
         ensures valid { IsGraph self.now }
@@ -61,7 +61,7 @@ impl Graph {
         self.rows.len()
     }
 
-    /// The modules that module `m` loads.
+    /// Returns the modules that module `m` loads.
     pub fn row(&self, m: usize) -> &[u32]
         requires { m < length self.now }
         ensures row { result.now ≡ row self.now m }
@@ -71,7 +71,7 @@ impl Graph {
     }
 }
 
-// Whether the rows have no more entries than a graph may have edges.
+/// Returns whether the rows have no more entries than a graph may have edges.
 fn has_few_edges(rows: &[Vec<u32>]) -> bool
     ensures { IsTrue result ↔ (edges (lists rows.now) ≤ MAX_EDGES) }
 {
@@ -85,7 +85,7 @@ fn has_few_edges(rows: &[Vec<u32>]) -> bool
     true
 }
 
-// Whether each entry is the number of a row.
+/// Returns whether each entry is the number of a row.
 fn knows_all(rows: &[Vec<u32>]) -> bool
     ensures { IsTrue result ↔ Known (lists rows.now) }
 {
@@ -108,7 +108,7 @@ fn is_below(loaded: &[u32], bound: usize) -> bool
     true
 }
 
-// n rows without entries.
+/// Makes `n` rows without entries.
 pub(crate) fn empty_rows(alloc: Global, n: usize) -> Result<Vec<Vec<u32>>, AllocError>
     ensures { IfOk result (λ v. (vec_len v ≡ n) × ((m : ℕ) → row (lists v.items) m ≡ [])) }
 {

@@ -1,14 +1,15 @@
 //! Hands the modules of a load plan to seats, so that threads can load modules side by side.
 //!
-//! In: for each module, by number, the modules that it loads. Out: for each seat, the modules that it won, and the parcels of what they load.
-//! The promise: a module is won once, by one seat, when all that it loads is posted, and a parcel that is fetched for a load belongs to the loaded module.
-//! It holds for every number of seats and every order of their steps, with no lock: each step is one atomic step on one word.
+//! In: for each module, by number, the modules that it loads. Out: for each seat, the modules that it won, and the
+//! parcels of what they load. The promise: a module is won once, by one seat, when all that it loads is posted, and a
+//! parcel that is fetched for a load belongs to the loaded module. It holds for every number of seats and every order
+//! of their steps, with no lock: each step is one atomic step on one word.
 //!
-//! In reading order:
-//! `graph`, `cycles`, `topological` and `depth` (load graphs, which modules are cyclic, an order for the others, and which of them are too deep),
-//! `plan`, `cut` and `refusal` (graphs without cyclic modules, with numbered edges),
-//! `parcel` (what modules hand on), `board` and `opening` (the board, its words, slots and seats), `view` (what contracts know of a seat),
-//! `claim`, `fetch`, `post`, `finish`, `done`, `close` (the calls), `steps` and `rule` (the atomic steps, and the rule that each keeps), `laws` (that rule in words).
+//! In reading order: `graph`, `cycles`, `topological` and `depth` (load graphs, which modules are cyclic, an order for
+//! the others, and which of them are too deep), `plan`, `cut` and `refusal` (graphs without cyclic modules, with
+//! numbered edges), `parcel` (what modules hand on), `board` and `opening` (the board, its words, slots and seats),
+//! `view` (what contracts know of a seat), `claim`, `fetch`, `post`, `finish`, `done`, `close` (the calls), `steps` and
+//! `rule` (the atomic steps, and the rule that each keeps), `laws` (that rule as users see it).
 #![tactic(auto)]
 
 mod board;

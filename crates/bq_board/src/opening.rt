@@ -23,8 +23,8 @@ type Opened<V> = (
 pub const MAX_SEATS: usize = 257;
 
 impl<V: Parcel> Board<V> {
-    /// A board with all modules free and no edge posted, and all its seats, 1 to `MAX_SEATS`, which have done nothing.
-    /// It takes the memory for all that the seats' calls use.
+    /// Opens a board with all modules free and no edge posted, and all its seats, 1 to `MAX_SEATS`, which have done
+    /// nothing. It allocates the memory for all that the seats' calls use.
     pub fn open(
         alloc: Global,
         plan: Plan,
@@ -43,7 +43,7 @@ impl<V: Parcel> Board<V> {
         Ok((board, all))
     }
 
-    // The board with one seat, from which the others are cut.
+    /// Makes the board with one seat, from which the others are split off.
     fn with_one(
         alloc: Global,
         plan: Plan,
@@ -59,7 +59,7 @@ impl<V: Parcel> Board<V> {
         Ok((Board { plan, table }, Seat { place }))
     }
 
-    // The seats: `first`, and all that may be cut from it.
+    /// Returns the seats: `first`, and all that may be split off from it.
     fn cut(
         &self,
         alloc: Global,
@@ -81,7 +81,7 @@ impl<V: Parcel> Board<V> {
     }
 }
 
-// The table of a board on which nothing was done yet, and the place of its one seat.
+/// Makes the table of a board on which nothing was done yet, and the place of its one seat.
 fn free_table<V: Parcel>(
     alloc: Global,
     plan: &Plan,

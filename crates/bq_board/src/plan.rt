@@ -30,10 +30,10 @@ impl Model for Plan {
 }
 
 impl Plan {
-    /// The plan in which module `m` loads the modules `loads[m]`, in this order. The empty list is a plan.
-    /// Edges are numbered by `m`, then by place; an edge's source is the loaded module, its target is `m`.
-    /// P3 for too many modules or edges, then P2 for a loaded module that isn't there, then P1 for a cyclic module; P4 where it is out of memory.
-    /// It takes time linear in modules and edges.
+    /// Makes the plan in which module `m` loads the modules `loads[m]`, in this order. The empty list is a plan. Edges
+    /// are numbered by `m`, then by place; an edge's source is the loaded module, its target is `m`. P3 for too many
+    /// modules or edges, then P2 for a loaded module that isn't there, then P1 for a cyclic module; P4 if it runs out
+    /// of memory. It takes time linear in modules and edges.
     pub fn new(alloc: Global, loads: Vec<Vec<u32>>) -> Result<Plan, PlanErr>
         ensures plan { IfOk result (λ p. p ≡ lists loads.items) }
         ensures valid { OnOk result (IsPlan (lists loads.items)) }
@@ -46,7 +46,7 @@ impl Plan {
         Ok(Plan::of(alloc, graph)?)
     }
 
-    // The plan of a graph without cyclic modules.
+    /// Makes the plan of a graph without cyclic modules.
     pub(crate) fn of(alloc: Global, graph: Graph) -> Result<Plan, AllocError>
         requires { IsAcyclic graph }
         ensures { IfOk result (λ p. p ≡ graph) }
@@ -62,7 +62,7 @@ impl Plan {
         })
     }
 
-    /// The number of modules.
+    /// Returns the number of modules.
     pub fn modules(&self) -> usize
         ensures count { result ≡ length self.now }
         ensures valid { IsPlan self.now }
@@ -70,7 +70,7 @@ impl Plan {
         self.graph.len()
     }
 
-    /// The number of edges.
+    /// Returns the number of edges.
     pub fn edges(&self) -> usize
         ensures count { result ≡ edges self.now }
         ensures valid { IsPlan self.now }
@@ -78,7 +78,7 @@ impl Plan {
         self.starts[self.modules()]
     }
 
-    /// The number of the first edge into module `m`. At the number of modules it is the number of edges.
+    /// Returns the number of the first edge into module `m`. For the number of modules it is the number of edges.
     pub fn start(&self, m: usize) -> usize
         requires { m ≤ length self.now }
         ensures number { result ≡ start self.now m }
@@ -88,7 +88,7 @@ impl Plan {
         self.starts[m]
     }
 
-    /// The module that an edge runs into: one that loads the edge's source.
+    /// Returns the module that an edge runs into: one that loads the edge's source.
     pub fn target(&self, edge: usize) -> usize
         requires { edge < edges self.now }
         ensures into { Into self.now result edge }
@@ -98,7 +98,7 @@ impl Plan {
         self.targets[edge] as usize
     }
 
-    /// The numbers of the edges out of module `m`: those into the modules that load it.
+    /// Returns the numbers of the edges out of module `m`: those into the modules that load it.
     pub fn edges_out(&self, m: usize) -> &[u32]
         requires { m < length self.now }
         ensures out { IsOut self.now m result.now }
@@ -117,7 +117,7 @@ pub fn starts_are_sums()
     ensures { (p : Loads) → StartsAreSums p }
 {}
 
-// Where the edges into each module begin, and at last the number of edges.
+/// Returns where the edges into each module begin, and at last the number of edges.
 fn starts(alloc: Global, graph: &Graph) -> Result<Vec<usize>, AllocError>
     ensures { IfOk result (λ v. HasStarts graph.now v.items) }
 {
@@ -131,7 +131,7 @@ fn starts(alloc: Global, graph: &Graph) -> Result<Vec<usize>, AllocError>
     Ok(starts)
 }
 
-// For each edge the module that it runs into.
+/// Returns for each edge the module that it runs into.
 fn targets(alloc: Global, graph: &Graph) -> Result<Vec<u32>, AllocError>
     ensures { IfOk result (λ v. HasTargets graph.now v.items) }
 {
@@ -151,7 +151,7 @@ fn push_times(targets: &mut Vec<u32>, m: u32, count: usize) -> Result<(), AllocE
     Ok(())
 }
 
-// For each module the edges out of it.
+/// Returns for each module the edges out of it.
 fn outs(alloc: Global, graph: &Graph) -> Result<Vec<Vec<u32>>, AllocError>
     ensures { IfOk result (λ v. OutsOf (sources graph.now) (length graph.now) (lists v.items)) }
 {
@@ -165,7 +165,7 @@ fn outs(alloc: Global, graph: &Graph) -> Result<Vec<Vec<u32>>, AllocError>
     Ok(outs)
 }
 
-// The edges into one more module, numbered from `first` on, each among those out of its source.
+/// Adds the edges into one more module, numbered from `first` on, each among those out of its source.
 fn add_outs(outs: &mut Vec<Vec<u32>>, first: u32, loaded: &[u32]) -> Result<(), AllocError>
     requires known { (l : ℕ) → Has loaded.now l → l < length outs.old.items }
     requires few { first + length loaded.now < 2 ^ 32 }

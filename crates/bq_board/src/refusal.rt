@@ -1,10 +1,10 @@
 use std::alloc::AllocError;
 use thiserror::Error;
 
-/// Why loads make no plan. The first that applies of `TooMany`, `BadIndex`, `Cyclic`; `Memory` where memory ran out.
+/// Why loads make no plan. The first that applies of `TooMany`, `BadIndex`, `Cyclic`; `Memory` if memory runs out.
 #[derive(Debug, Drop, Error)]
 pub enum PlanErr {
-    /// A module is cyclic: loads lead from it round a cycle.
+    /// A module is cyclic: loads lead from it to a cycle.
     #[error("P1 Cyclic")]
     Cyclic,
     /// A loaded module isn't one of the plan's.

@@ -1,4 +1,4 @@
-//! The seven kinds of step on the board's table, and the cut of a seat: what each means to its seat.
+//! The seven kinds of step on the board's table, and the splitting of a seat: what each means to its seat.
 ghost use Rattle.std.specs.Prelude.{ℕ, ◌-◌};
 ghost use Rattle.bq_board.specs.Board.{blank};
 ghost use Rattle.bq_board.specs.Steps.{looked, tried, opened, posted, fetched, added, counted};
@@ -22,21 +22,21 @@ impl<V, B> Play<Option<V>, View<B>> for TryClaim {
     ghost then = { tried };
 }
 
-/// An edge's word, 0 to 3: its empty slot comes to the seat.
+/// An edge's word from 0 to 3: its empty slot goes to the seat.
 pub struct OpenEdge;
 
 impl<V, B> Play<Option<V>, View<B>> for OpenEdge {
     ghost then = { opened };
 }
 
-/// An edge's word, 3 to 1: its filled slot goes back to the board.
+/// An edge's word from 3 to 1: its filled slot goes back to the board.
 pub struct PostEdge;
 
 impl<V, B> Play<Option<V>, View<B>> for PostEdge {
     ghost then = { posted };
 }
 
-/// An edge's word, 1 to 2: its filled slot comes to the seat.
+/// An edge's word from 1 to 2: its filled slot goes to the seat.
 pub struct FetchEdge<V> {
     of: PhantomData<V>,
 }
@@ -70,7 +70,7 @@ impl<V, B> Play<Option<V>, View<B>> for LoadDone {
     ghost then = { counted };
 }
 
-/// One more seat, which has done nothing, cut from one that may still be cut.
+/// One more seat, which has done nothing, split off from one that may still be split.
 pub struct Fresh;
 
 impl<B> Split<View<B>> for Fresh {

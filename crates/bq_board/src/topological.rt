@@ -15,9 +15,9 @@ use std::alloc::{AllocError, Global};
 #[derive(Drop)]
 pub struct Order {
     pub modules: Vec<u32>,
-    /// For each module how many of its loads aren't in the order: 0 exactly where it isn't cyclic.
+    /// For each module how many of its loads aren't in the order: 0 exactly if it isn't cyclic.
     pub pending: Vec<usize>,
-    /// For each module that isn't cyclic how many edges the longest path has that starts at it.
+    /// For each module that isn't cyclic the number of edges of the longest path that starts at it.
     pub depths: Vec<usize>,
 }
 
@@ -29,7 +29,7 @@ pub(crate) struct Sorted {
 }
 
 impl Graph {
-    /// The modules that aren't cyclic, each after all that it loads. It takes time linear in modules and edges.
+    /// Returns the modules that aren't cyclic, each after all that it loads. It takes time linear in modules and edges.
     pub fn topological_order(&self, alloc: Global) -> Result<Order, AllocError>
         ensures order { IfOk result (λ o. IsTopologicalOrder self.now o.modules.items o.pending.items) }
         ensures cyclic { IfOk result (λ o. MarksCycles self.now o.pending.items) }
@@ -44,7 +44,7 @@ impl Graph {
         })
     }
 
-    // The modules in order.
+    /// Sorts the modules.
     fn sorted(&self, alloc: Global) -> Result<Sorted, AllocError>
         ensures order { IfOk result (λ o. IsTopologicalOrder self.now o.modules.items o.pending.items) }
         ensures cyclic { IfOk result (λ o. MarksCycles self.now o.pending.items) }
@@ -62,7 +62,7 @@ impl Graph {
         Ok(order)
     }
 
-    /// Whether no module is cyclic.
+    /// Returns whether no module is cyclic.
     pub fn is_acyclic(&self, alloc: Global) -> Result<bool, AllocError>
         ensures { IfOk result (λ b. IsTrue b ↔ IsAcyclic self.now) }
     {
@@ -71,7 +71,7 @@ impl Graph {
         Ok(order.pending.iter().all(|n| *n == 0))
     }
 
-    // For each module, as often as they load it, the modules that load it.
+    /// Returns for each module the modules that load it, each as often as it loads it.
     fn dependents(&self, alloc: Global) -> Result<Vec<Vec<u32>>, AllocError>
         ensures { IfOk result (λ v. IsDependents self.now (lists v.items)) }
     {
@@ -82,7 +82,7 @@ impl Graph {
         Ok(dependents)
     }
 
-    // How many loads each module has. Those that have none are the first of the order.
+    /// Counts the loads of each module. Those without any are the first of the order.
     fn begin(&self, alloc: Global) -> Result<Sorted, AllocError>
         ensures { IfOk result (λ o. Sorting self.now 0 o.modules.items o.pending.items) }
     {
@@ -101,7 +101,7 @@ impl Graph {
     }
 }
 
-// One more dependent, of each module that it loads.
+/// Adds one more dependent, of each module that it loads.
 fn add_dependent(dependents: &mut Vec<Vec<u32>>, u: u32, loaded: &[u32]) -> Result<(), AllocError>
     requires { (l : ℕ) → Has loaded.now l → l < length dependents.old.items }
     ensures { OnOk result (Adds u loaded.now (lists dependents.old.items) (lists dependents.new.items)) }
@@ -112,7 +112,7 @@ fn add_dependent(dependents: &mut Vec<Vec<u32>>, u: u32, loaded: &[u32]) -> Resu
     Ok(())
 }
 
-// One pending load less for each dependent. Those that have none left join the order.
+/// Takes one pending load from each dependent. Those that have none left join the order.
 fn settle(
     pending: &mut Vec<usize>,
     order: &mut Vec<u32>,

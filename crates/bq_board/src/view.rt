@@ -1,10 +1,10 @@
-//! What a seat has seen and done. It is in contracts alone.
+//! What a seat has seen and done. It occurs in contracts alone.
 ghost use Rattle.std.specs.Prelude.{ℕ, List};
 ghost use Rattle.std.specs.Borrow.{ftrue};
 
 use std::marker::{Model, PhantomData};
 
-/// The plan and the base of the board, which no step changes, and in order of time what this seat's steps were.
+/// The plan and the base of the board, which no step changes, and what this seat's steps were, in order of time.
 /// No value of it is made.
 pub struct View<B> {
     pub of: PhantomData<B>,
@@ -23,7 +23,7 @@ pub struct View<B> {
     pub ghost finished: { List ℕ },
     // What `done` returned.
     pub ghost counts: { List ℕ },
-    // How many more seats may be cut from this one: none, once the board is open.
+    // How many more seats may be split off from this one: none, once the board is open.
     pub ghost spare: { ℕ },
 }
 
