@@ -1,6 +1,6 @@
-//! The program `bq`: words, and a bundle on standard input or a directory come in; the answer goes to standard output, and the
-//! faults and the error line to standard error. All that it promises is `bq_run::run`'s, and `bq_run::run_files`' of a directory; of
-//! `--explain`, `bq_run_explain::explain`'s.
+//! The program `bq`: words, and a bundle on standard input or a directory come in; the answer goes to standard output,
+//! and the faults and the error line to standard error. Its promises are those of `bq_run::run`, for a directory of
+//! `bq_run::run_files`, and for `--explain` of `bq_run_explain::explain`.
 //!
 //! - `words`: the command line;
 //! - `tests`: its tests.
@@ -28,13 +28,13 @@ use std::thread::Threads;
 use std::{env, io};
 use words::{Asked, Words, words_of};
 
-/// Writes the error line of a lack of memory, which takes none.
+/// Writes the error line for out of memory, which takes no memory itself.
 fn report_no_memory(rt: &impl Eprint) -> u8 {
     let _ = eprintln!(rt; "bq: {}", RunErr::Memory);
     NO_MEMORY
 }
 
-/// Why the arguments could not be read: they are not UTF-8, or there is no memory for them.
+/// Writes why the arguments could not be read: they are not UTF-8, or there is no memory for them.
 fn refuse_arguments(rt: &impl Eprint, error: &io::Error) -> u8 {
     if error.kind() == io::ErrorKind::OutOfMemory {
         return report_no_memory(rt);
@@ -43,7 +43,7 @@ fn refuse_arguments(rt: &impl Eprint, error: &io::Error) -> u8 {
     REFUSED
 }
 
-/// Prints help on standard output, and why words are refused on standard error.
+/// Prints help on standard output, or why words are refused on standard error.
 fn show<R: Print + Eprint>(rt: &R, error: &Error) -> u8 {
     if error.kind() == ErrorKind::OutOfMemory {
         return report_no_memory(rt);
@@ -56,7 +56,7 @@ fn show<R: Print + Eprint>(rt: &R, error: &Error) -> u8 {
     }
 }
 
-/// Prints what is said of a number.
+/// Prints the explanation of a number.
 fn show_explanation(rt: &impl Print, explanation: &Explanation) -> u8 {
     let number = explanation.number;
     let name = explanation.name;
@@ -67,7 +67,7 @@ fn show_explanation(rt: &impl Print, explanation: &Explanation) -> u8 {
     }
 }
 
-/// Why a run over a directory has no answer.
+/// Returns why a run over a directory has no answer.
 fn run_err(error: DirectoryErr) -> RunErr {
     match error {
         DirectoryErr::Memory => RunErr::Memory,
@@ -76,7 +76,7 @@ fn run_err(error: DirectoryErr) -> RunErr {
     }
 }
 
-/// Runs over the bundle on standard input, with threads of that handle.
+/// Runs over the bundle on standard input, with threads of this handle.
 fn run_on_bundle<T: Threads + Wait + RandomSource + Sync>(
     rt: &HostRuntime,
     threads: &T,
@@ -98,7 +98,7 @@ fn run_on_bundle<T: Threads + Wait + RandomSource + Sync>(
     )
 }
 
-/// Runs over the files of a directory, with threads of that handle.
+/// Runs over the files of a directory, with threads of this handle.
 fn run_on_directory<T: Threads + Wait + RandomSource + Sync>(
     rt: &HostRuntime,
     threads: &T,
@@ -124,7 +124,7 @@ fn run_on_directory<T: Threads + Wait + RandomSource + Sync>(
     )
 }
 
-/// Runs as the words say, and ends with the error line, if there is one.
+/// Runs as the words say. Ends with the error line, if there is one.
 fn run_by_words<T: Threads + Wait + RandomSource + Sync>(
     rt: &HostRuntime,
     threads: &T,

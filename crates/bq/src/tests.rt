@@ -1,4 +1,4 @@
-//! What no clause says of the program: clap's texts, the options that words give, and how runs over directories end.
+//! What no clause says of the program: clap's texts, the options of a command line, and how runs over directories end.
 //!
 //! - `lines`: command lines, and what they ask for;
 //! - `directories`: runs over directories.

@@ -11,7 +11,7 @@ use clap::error::ErrorKind;
 use clap::{Arg, ArgAction, ArgMatches, Command, Error, value_parser};
 use std::alloc::{AllocError, Global};
 
-/// What `--help` says after the options.
+/// What `--help` prints after the options.
 const NOTES: &str =
     r#"Without --dir the workspace is read from standard input, as a bundle: for each file a line `=== PATH`,
 and then the file's bytes. The answer goes to standard output, a target a line, sorted. What files
@@ -88,7 +88,7 @@ fn query<'a>(alloc: Global) -> Arg<'a> {
         .action(ArgAction::Set)
 }
 
-/// The command, before it has seen any words.
+/// Makes the command, before it has seen any words.
 fn command<'a>(alloc: Global) -> Result<Command<'a>, AllocError> {
     Command::new(alloc, "bq")
         .about("Answers a query over the targets of a workspace of BUILD files")
@@ -105,7 +105,7 @@ fn command<'a>(alloc: Global) -> Result<Command<'a>, AllocError> {
 #[derive(Drop)]
 pub struct Words {
     pub options: Options,
-    /// The directory that holds the workspace; without one it is on standard input.
+    /// The directory that holds the workspace; without it the workspace is on standard input.
     pub directory: Option<String>,
 }
 
@@ -150,7 +150,7 @@ fn query_of(alloc: Global, matches: &ArgMatches) -> Result<Words, AllocError>
     })
 }
 
-/// What is said of the number. A word that is no number is refused as clap refuses others.
+/// Returns the explanation of the number. A word that isn't a number is refused as clap refuses others.
 fn explanation_of(alloc: Global, number: &str) -> Result<Explanation, Error> {
     match explain(number.as_bytes()) {
         Some(explanation) => Ok(explanation),

@@ -18,7 +18,7 @@ const MARKER: &[u8] = b"=== ";
 /// The most bytes that a bundle has.
 const MAX_BUNDLE_BYTES: usize = 1 << 30;
 
-/// How long the first line is, with its newline.
+/// Returns the length of the first line, with its newline.
 fn line_len(text: &[u8]) -> usize
     requires { 0 < length text.now }
     ensures some { 0 < result }
@@ -31,7 +31,7 @@ fn line_len(text: &[u8]) -> usize
     }
 }
 
-/// How many bytes there are before the first header.
+/// Returns how many bytes there are before the first header.
 fn lead(text: &[u8]) -> usize
     ensures within { result ≤ length text.now }
     ensures bytes { (cut (lines text.now)).before ≡ take result text.now }
@@ -58,7 +58,7 @@ struct Piece<'a> {
     rest: &'a [u8],
 }
 
-/// The first piece of a text that begins with a header; none where that header has no newline.
+/// Returns the first piece of a text that begins with a header, if that header has a newline.
 fn first_piece(text: &[u8]) -> Option<Piece<'_>>
     requires some { 0 < length text.now }
     requires header { (cut (lines text.now)).before ≡ [] }
@@ -87,7 +87,7 @@ fn make_file(alloc: Global, path: &[u8], content: &[u8]) -> Result<File, AllocEr
     Ok(File { path, content })
 }
 
-/// The files of a text in their order there.
+/// Returns the files of a text in their order there.
 fn files_in(alloc: Global, text: &[u8]) -> Result<Vec<File>, RunErr>
     ensures found { IfOk result (λ files. files_of text.now ≡ Some files.items) }
     ensures none { IsErrOf result RunErr.Bundle → files_of text.now ≡ None }
@@ -108,7 +108,7 @@ fn files_in(alloc: Global, text: &[u8]) -> Result<Vec<File>, RunErr>
     Ok(files)
 }
 
-/// The workspace of a bundle in hand. The text is given back before the files are put in order.
+/// Makes the workspace of a bundle. The text is dropped before the files are put in order.
 #[tactic(auto, unfolding(crate::specs::Bundle::bundle_of))]
 fn workspace_in(alloc: Global, text: Vec<u8>) -> Result<Workspace, RunErr>
     requires { length text.items ≤ max_bundle_bytes }
@@ -126,8 +126,8 @@ fn workspace_in(alloc: Global, text: Vec<u8>) -> Result<Workspace, RunErr>
 
 /// Reads a bundle to its end.
 ///
-/// E2: a read failed; it is not tried again. E4: the bytes are no bundle, or are more than 1,073,741,824, which a
-/// reader that never ends meets. E1: a growth was refused.
+/// E2: a read failed; it is not tried again. E4: the bytes are no bundle, or are more than 1,073,741,824, as they are
+/// of a reader that never ends. E1: memory was refused.
 #[tactic(auto, unfolding(crate::specs::Bundle::bundle_of))]
 pub fn read_bundle<R: ByteSource>(alloc: Global, reader: &mut R) -> Result<Workspace, RunErr>
     requires { R.failed reader.old < 2 ^ 64 - 1 }

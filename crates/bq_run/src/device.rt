@@ -8,7 +8,7 @@ ghost use Rattle.bq_run.specs.Device.{ReadCounts, WriteCounts};
 use std::io;
 use std::io::{Read, Write};
 
-/// A device that counts the calls of it that failed. At 2^64 - 1 the count stays.
+/// A device that counts its calls that failed. At 2^64 - 1 the count stays.
 pub trait Counted {
     ghost failed: { Self → ℕ };
 
@@ -18,10 +18,10 @@ pub trait Counted {
 
 /// A reader that counts each read that returns an error.
 pub trait ByteSource: Counted {
-    /// The bytes that reads will give from here on, where they are known.
+    /// The bytes that the reader still has, if they are known.
     ghost remaining: { Self → Option (List ℕ) } = { λ _. None };
 
-    /// Reads some bytes into the front of `buf`, and returns how many: 0 at the end, and where `buf` is empty.
+    /// Reads some bytes into the front of `buf`, and returns how many: 0 at the end, and if `buf` is empty.
     fn read(&mut self, buf: &mut [u8]) -> io::Result<usize>
         ensures bound { ReadsAtMost result buf.new }
         ensures bytes { ReadConsumes (remaining self.old) (remaining self.new) result buf.new }
@@ -30,7 +30,7 @@ pub trait ByteSource: Counted {
 
 /// A writer that counts each write that returns an error, and each of some bytes that takes none.
 pub trait ByteSink: Counted {
-    /// The bytes that the writer holds, where they are known.
+    /// The bytes that the writer has taken, if they are known.
     ghost contents: { Self → Option (List ℕ) } = { λ _. None };
 
     /// Takes some bytes from the front of `buf`, and returns how many.
@@ -48,7 +48,7 @@ pub struct Metered<D> {
 }
 
 impl<D> Metered<D> {
-    /// The device with a count of 0.
+    /// Returns the device with a count of 0.
     pub fn new(device: D) -> Self
         ensures device { result.device ≡ device }
         ensures none { result.failures ≡ 0 }

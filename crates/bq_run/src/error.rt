@@ -15,7 +15,7 @@ use std::fmt;
 /// Why a run has no answer.
 #[derive(Debug, Drop)]
 pub enum RunErr {
-    /// A growth was refused.
+    /// Memory was refused.
     Memory,
     /// The reader failed.
     Read,
@@ -25,14 +25,14 @@ pub enum RunErr {
     Bundle,
     /// The query has no answer.
     Query(QueryErr),
-    /// `rules.schema` is faulty at this line, from 1.
+    /// `rules.schema` has a fault at this line, from 1.
     Schema(u32),
     /// There are more modules than a workspace may have.
     TooManyModules,
 }
 
 impl RunErr {
-    /// The number and the name, as `E4 Bundle`. A query's error has its own.
+    /// Returns the number and the name, as `E4 Bundle`. A query's error has its own.
     pub fn title(&self) -> &'static str
         ensures { result.now ≡ run_title self.now }
     {

@@ -5,7 +5,7 @@ ghost use Rattle.bq_label.specs.declared.workspace.File.{File};
 ghost use Rattle.bq_run.specs.Bundle.{files_of};
 ghost use Rattle.bq_run.specs.Written.{IsWritten};
 
-/// A text is read as files exactly where it is written by those files: as header lines, each followed by a content
+/// A text is read as files exactly if it is written by those files: as header lines, each followed by a content
 /// that has no header in it.
 pub fn one_reading_of_a_bundle()
     ensures { (text : List ℕ) (files : List File) → (files_of text ≡ Some files) ↔ IsWritten text files }

@@ -1,7 +1,7 @@
 //! The bytes of a bundle and a query come in; the bytes of the faults and of the answer go out.
 //!
-//! [`run`] promises that the two texts, and how it ends, are those of the definition for the bytes that are read: `IsRunOf`, in
-//! `specs/Run.antt`.
+//! [`run`] promises that the two texts, and how it ends, are those of the definition for the bytes that it reads:
+//! `IsRunOf`, in `specs/Run.antt`.
 //!
 //! In reading order:
 //!
@@ -9,8 +9,8 @@
 //! - `transfer`: reading to the end, and writing a whole text;
 //! - `error`: the errors of runs;
 //! - `bundle`: the text form of a workspace;
-//! - `options`: what a run is asked;
-//! - `reports`: the report on a workspace in hand;
+//! - `options`: what a run is asked to do;
+//! - `reports`: the report on a workspace;
 //! - `runs`: the run;
 //! - `status`: the exit status and the error line;
 //! - `laws`: what the definitions say together.

@@ -1,4 +1,4 @@
-//! What a run is asked.
+//! What a run is asked to do.
 
 use bq_load_workers::MAX_WORKERS;
 use bq_query::OutputForm;
@@ -6,7 +6,7 @@ use bq_query::OutputForm;
 /// The most jobs that a run may have.
 pub const MAX_JOBS: u32 = MAX_WORKERS as u32;
 
-/// What a run is asked. The ranges are a condition of the calls that take it.
+/// What a run is asked to do. The ranges are a condition of the calls that take it.
 #[derive(Drop)]
 pub struct Options {
     /// The query's text.

@@ -1,4 +1,4 @@
-//! The report on a workspace in hand.
+//! The report on a workspace.
 
 ghost use Rattle.std.specs.Prelude.{◌≡◌, Ok, IfOk};
 ghost use Rattle.bq_load_discover.specs.Schema.{schema_in};
@@ -20,7 +20,7 @@ use std::random::RandomSource;
 use std::sync::Wait;
 use std::thread::Threads;
 
-/// The report where nothing is loaded.
+/// Makes the report of a run that loads nothing.
 fn refused(alloc: Global, why: NoAnswer) -> Report
     ensures { report_view result ≡ refused why }
 {
@@ -31,7 +31,7 @@ fn refused(alloc: Global, why: NoAnswer) -> Report
     }
 }
 
-/// The report on a workspace whose schema and query are read.
+/// Makes the report on a workspace whose schema and query are read.
 fn report_by<T: Threads + Wait + RandomSource + Sync>(
     rt: &T,
     alloc: Global,
@@ -64,7 +64,7 @@ fn report_by<T: Threads + Wait + RandomSource + Sync>(
                 faults,
                 prints,
             } = loaded;
-            drop(modules); // so that their values give their memory to the graph
+            drop(modules); // so that the graph gets the memory of their values
             let contents = Contents {
                 prints,
                 faults,
@@ -77,7 +77,7 @@ fn report_by<T: Threads + Wait + RandomSource + Sync>(
     }
 }
 
-/// The report on a workspace and a query that is read.
+/// Makes the report on a workspace and a query that is read.
 fn report_query<T: Threads + Wait + RandomSource + Sync>(
     rt: &T,
     alloc: Global,
@@ -102,8 +102,8 @@ fn report_query<T: Threads + Wait + RandomSource + Sync>(
     }
 }
 
-/// The texts of a run over this workspace, and how it ends once they are written. Only a lack of memory is an error; Q1 to Q8, E6 and E7
-/// are in the ending.
+/// Returns the texts of a run over this workspace, and how it ends once they are written. Only out of memory is an
+/// error; Q1 to Q8, E6 and E7 are in the ending.
 pub fn report_workspace<T: Threads + Wait + RandomSource + Sync>(
     rt: &T,
     alloc: Global,

@@ -19,7 +19,8 @@ use std::random::RandomSource;
 use std::sync::Wait;
 use std::thread::Threads;
 
-/// Writes the texts of a report, the faults first. A refusal has no answer, and where the workspace was not loaded no faults.
+/// Writes the texts of a report, the faults first. A refusal has no answer, and if the workspace wasn't loaded no
+/// faults.
 fn write_texts<W: ByteSink, F: ByteSink>(
     report: &Report,
     writer: &mut W,
@@ -47,7 +48,7 @@ fn write_texts<W: ByteSink, F: ByteSink>(
     }
 }
 
-/// How a run ends whose texts are written, whatever they are.
+/// Returns how a run ends once its texts are written, whatever they are.
 fn ended(end: Result<Status, NoAnswer>) -> Result<Status, RunErr>
     ensures { (faults answer : List ℕ) → result ≡ (run_by faults answer end).end }
 {
@@ -77,7 +78,7 @@ fn send<W: ByteSink, F: ByteSink>(
     }
 }
 
-/// A run over a workspace in hand: [`run`] without its reader.
+/// Runs over a workspace: [`run`] without its reader.
 pub fn run_files<T: Threads + Wait + RandomSource + Sync, W: ByteSink, F: ByteSink>(
     rt: &T,
     alloc: Global,
@@ -100,11 +101,11 @@ pub fn run_files<T: Threads + Wait + RandomSource + Sync, W: ByteSink, F: ByteSi
     send(report, writer, faults_writer)
 }
 
-/// A run: the bundle is read to its end, the query and the schema are read, the modules are loaded by as many workers as there are jobs,
-/// and the query is answered. Then the faults writer gets the faults, and after it the writer gets the answer.
+/// Runs: reads the bundle to its end, reads the query and the schema, loads the modules by as many workers as there are
+/// jobs, and answers the query. Then the faults writer gets the faults, and after it the writer gets the answer.
 ///
-/// E4, E5 with Q1 to Q4, Q7 or Q8, E6 and E7 take precedence in this order, and nothing is written with them. With Q5 or Q6 only the
-/// faults are written. E1 comes before the first byte is written.
+/// E4, E5 with Q1 to Q4, Q7 or Q8, E6 and E7 take precedence in this order, and nothing is written with them. With Q5
+/// or Q6 only the faults are written. E1 is returned before the first byte is written.
 #[tactic(auto, unfolding(crate::specs::Run::IsRunOf))]
 pub fn run<T: Threads + Wait + RandomSource + Sync, R: ByteSource, W: ByteSink, F: ByteSink>(
     rt: &T,
@@ -125,7 +126,7 @@ pub fn run<T: Threads + Wait + RandomSource + Sync, R: ByteSource, W: ByteSink, 
     // With such an error nothing is written, whatever is known of the reader.
     ensures silent { IsSilent result → Keeps (F.contents faults_writer.old) (F.contents faults_writer.new) × Keeps (W.contents writer.old) (W.contents writer.new) }
 
-    // E2 and E3 come exactly after one failed call of a device, which is not tried again.
+    // E2 and E3 are returned exactly after one failed call of a device, which is not tried again.
     ensures read { IsErrOf result RunErr.Read → R.failed reader.new ≡ R.failed reader.old + 1 }
     ensures quiet_reader { (IsErrOf result RunErr.Read → ⊥) → R.failed reader.new ≡ R.failed reader.old }
     ensures write { IsErrOf result RunErr.Write → OneFailed (F.failed faults_writer.old) (F.failed faults_writer.new) (W.failed writer.old) (W.failed writer.new) }

@@ -14,18 +14,18 @@ use bq_run_report::Status;
 use itoa::Buffer;
 use std::alloc::{AllocError, Global};
 
-/// The run answered, and no file is faulty.
+/// The query was answered, and no file has a fault.
 pub const ANSWERED: u8 = 0;
 /// The program's words, the bundle, the query or the schema is refused.
 pub const REFUSED: u8 = 2;
-/// The run answered, and a file is faulty.
+/// The query was answered, and a file has a fault.
 pub const WITH_FAULTS: u8 = 3;
-/// A growth of memory was refused.
+/// Memory was refused.
 pub const NO_MEMORY: u8 = 4;
 /// Reading the input or writing the output failed.
 pub const DEVICE_FAILED: u8 = 5;
 
-/// The exit status of a run.
+/// Returns the exit status of a run.
 pub fn status_code(ended: &Result<Status, RunErr>) -> u8
     ensures { result ≡ status_code ended.now }
 {
@@ -42,7 +42,7 @@ pub fn status_code(ended: &Result<Status, RunErr>) -> u8
     }
 }
 
-/// What is printed after an error's name. Where it is a number, `digits` holds it.
+/// Returns what is printed after an error's name. If it is a number, `digits` holds it.
 fn detail_of<'a>(error: &'a RunErr, digits: &'a mut Buffer) -> &'a [u8]
     ensures { result.now ≡ error_detail error.now }
 {
@@ -57,7 +57,7 @@ fn detail_of<'a>(error: &'a RunErr, digits: &'a mut Buffer) -> &'a [u8]
     }
 }
 
-/// The line that names an error, with its newline.
+/// Returns the line that names an error, with its newline.
 fn line_of(alloc: Global, error: &RunErr) -> Result<Vec<u8>, AllocError>
     ensures { IfOk result (λ line. line.items ≡ error_line error.now) }
 {
@@ -70,7 +70,7 @@ fn line_of(alloc: Global, error: &RunErr) -> Result<Vec<u8>, AllocError>
     Ok(line)
 }
 
-/// The exit status of a run, and the line for standard error, empty where there is none.
+/// Returns the exit status of a run, and the line for standard error, which is empty if there is none.
 pub fn status_of(alloc: Global, ended: &Result<Status, RunErr>) -> Result<(u8, Vec<u8>), AllocError>
     ensures code { IfOk result (λ r. r.0 ≡ status_code ended.now) }
     ensures line { IfOk result (λ r. r.1.items ≡ status_line ended.now) }
@@ -82,7 +82,7 @@ pub fn status_of(alloc: Global, ended: &Result<Status, RunErr>) -> Result<(u8, V
     Ok((status_code(ended), line))
 }
 
-/// Writes a space and the detail, where there is one.
+/// Writes a space and the detail, if there is one.
 fn write_detail<W: ByteSink>(writer: &mut W, detail: &[u8]) -> Result<(), WriteFault>
     requires { W.failed writer.old < 2 ^ 64 - 1 }
     ensures whole { OnOk result (Appends (W.contents writer.old) (W.contents writer.new) (detail_text detail.now)) }
@@ -112,7 +112,7 @@ fn write_line<W: ByteSink>(writer: &mut W, error: &RunErr) -> Result<(), WriteFa
     write_all(writer, b"\n")
 }
 
-/// Writes the line for standard error, where there is one. It is written in pieces, so that it takes no memory: after a
+/// Writes the line for standard error, if there is one. It is written in pieces, so that it takes no memory: after a
 /// run that has written something, no lack of memory can hide how it ended.
 pub fn write_status_line<W: ByteSink>(
     writer: &mut W,
@@ -129,8 +129,8 @@ pub fn write_status_line<W: ByteSink>(
     }
 }
 
-/// Ends a run: writes its error line, where it has one, and returns its exit status. Where the writer fails the line is lost, and with
-/// it only that: the status is the same.
+/// Ends a run: writes its error line, if it has one, and returns its exit status. If the writer fails, only the line is
+/// lost: the status is the same.
 pub fn end_run<W: ByteSink>(writer: &mut W, ended: &Result<Status, RunErr>) -> u8
     requires { W.failed writer.old < 2 ^ 64 - 1 }
     ensures code { result ≡ status_code ended.now }

@@ -28,7 +28,7 @@ impl From<AllocError> for ReadFault {
 /// How many bytes a read asks for.
 const CHUNK: usize = 4096;
 
-/// All that the reader has left, at most `limit` bytes of it. The first failed read ends it: none is tried again.
+/// Reads all that the reader has left, at most `limit` bytes of it. The first failed read ends it: none is tried again.
 pub fn read_all<R: ByteSource>(
     alloc: Global,
     reader: &mut R,
@@ -53,11 +53,11 @@ pub fn read_all<R: ByteSource>(
     Err(ReadFault::TooLong)
 }
 
-/// A writer failed before it had all of the text.
+/// A writer failed before it had the whole text.
 #[derive(Clone, Copy, Debug, PartialEq, Eq)]
 pub struct WriteFault;
 
-/// Writes all of the text. A write of some bytes that takes none is a failure. The first failed write ends it: none is
+/// Writes the whole text. A write of some bytes that takes none is a failure. The first failed write ends it: none is
 /// tried again.
 pub fn write_all<W: ByteSink>(writer: &mut W, text: &[u8]) -> Result<(), WriteFault>
     requires { W.failed writer.old < 2 ^ 64 - 1 }

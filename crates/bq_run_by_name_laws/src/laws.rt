@@ -2,7 +2,7 @@
 
 ghost use Rattle.bq_run_by_name_laws.specs.Agreement.{RunsAgree, WorkspaceRunsAgree, WritesByNames, WritesWorkspaceByNames};
 
-/// A run is by names exactly what it is by slots, over the bytes of a bundle and over a workspace in hand.
+/// A run is by names exactly what it is by slots, over the bytes of a bundle and over a workspace.
 pub fn runs_agree()
     ensures bundles { RunsAgree }
     ensures workspaces { WorkspaceRunsAgree }

@@ -19,8 +19,8 @@ fn read_entries<R: Files + Alloc<A = Global> + Clone + Drop>(
     Ok(())
 }
 
-/// The workspace of the files in the directory at `root` and below it. Their paths are those from `root` on. Files whose bytes no
-/// run looks at have none in it.
+/// Returns the workspace of the files in the directory at `root` and below it. Their paths are those from `root` on.
+/// Files whose bytes no run reads have none in it.
 pub fn read_directory<R: Files + Alloc<A = Global> + Clone + Drop>(
     rt: &R,
     root: &str,

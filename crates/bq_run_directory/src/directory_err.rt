@@ -1,14 +1,14 @@
-//! Why a directory gives no workspace.
+//! Why a directory makes no workspace.
 
 use bq_label::PathErr;
 use std::alloc::{AllocError, AllocFailed};
 use std::io;
 use thiserror::Error;
 
-/// Why a directory gives no workspace.
+/// Why a directory makes no workspace.
 #[derive(Clone, Copy, Debug, PartialEq, Eq, Error)]
 pub enum DirectoryErr {
-    /// A growth was refused.
+    /// Memory was refused.
     #[error("out of memory")]
     Memory,
     /// A directory or a file could not be read, or a name is not UTF-8.
@@ -40,7 +40,8 @@ impl From<io::Error> for DirectoryErr {
     }
 }
 
-/// Valid paths that are there once, with no file where a directory of another is, as a disk has them, are only ever too many.
+/// Valid paths that are there once, with no file where a directory of another is, as a disk has them, can only be too
+/// many.
 impl From<PathErr> for DirectoryErr {
     fn from(_: PathErr) -> Self {
         DirectoryErr::TooManyFiles

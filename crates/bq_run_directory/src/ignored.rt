@@ -3,7 +3,7 @@
 use bq_base::Bytes;
 use std::alloc::{AllocError, Global};
 
-/// The file at the root that names them, one a line.
+/// The file at the root that names them, one on each line.
 pub const IGNORE_FILE: &str = ".bazelignore";
 
 /// The directories that `.bazelignore` names, by their paths from the root.
@@ -12,7 +12,7 @@ pub struct Ignored {
     paths: Vec<Bytes>,
 }
 
-/// A line's path: without blanks around it, `./` before it and a slash after it.
+/// Returns the path that a line names: without blanks around it, `./` before it and a slash after it.
 fn path_of(line: &[u8]) -> &[u8] {
     let path = line.trim_ascii();
     let path = path.strip_prefix(b"./").unwrap_or(path);
@@ -20,14 +20,15 @@ fn path_of(line: &[u8]) -> &[u8] {
 }
 
 impl Ignored {
-    /// No directory.
+    /// Returns no directory.
     pub fn none(alloc: Global) -> Ignored {
         Ignored {
             paths: Vec::new(alloc),
         }
     }
 
-    /// Those that a text names, one a line. Blank lines, and lines that begin with `#`, name none.
+    /// Returns the directories that a text names, one on each line. Blank lines, and lines that begin with `#`, name
+    /// none.
     pub fn of(alloc: Global, text: &[u8]) -> Result<Ignored, AllocError> {
         let mut ignored = Ignored::none(alloc);
         for line in text.split(|byte| *byte == b'\n') {
@@ -39,7 +40,7 @@ impl Ignored {
         Ok(ignored)
     }
 
-    /// Whether the directory at this path is one of them.
+    /// Returns whether the directory at this path is one of them.
     pub fn has(&self, directory: &[u8]) -> bool {
         self.paths.iter().any(|path| path.as_slice() == directory)
     }

@@ -45,12 +45,12 @@ pub struct DirectoryWalk {
     ignored: Ignored,
     /// The directories that are still to be read. The last one is read next.
     pending: Vec<Pending>,
-    /// The directory that is read now, after all that it lies in, the root first.
+    /// The directories around the one that is read now, the root first, and then that one itself.
     around: Vec<Identity>,
     files: Vec<File>,
 }
 
-/// The directories that `.bazelignore` at the root names.
+/// Reads which directories `.bazelignore` at the root names.
 fn read_ignored<R: Files + Alloc<A = Global>>(rt: &R, root: &str) -> Result<Ignored, DirectoryErr> {
     let alloc = rt.alloc();
     let slash = if root.ends_with('/') { "" } else { "/" };
@@ -66,7 +66,8 @@ fn read_ignored<R: Files + Alloc<A = Global>>(rt: &R, root: &str) -> Result<Igno
     }
 }
 
-/// What an entry is, links followed; nothing where it is a link that can't be followed, and no file that is to be read.
+/// Returns what an entry is, links followed; `None` for a link that can't be followed and isn't a file that has to be
+/// read.
 fn look_at<R: Files>(
     rt: &R,
     path: Path<'_>,
@@ -81,13 +82,13 @@ fn look_at<R: Files>(
     }
 }
 
-/// Whether an entry is one of the links at the root by which Bazel shows its output tree.
+/// Returns whether an entry is one of the links at the root by which Bazel shows its output tree.
 fn is_output_link<R: Files>(rt: &R, path: Path<'_>, inner: &[u8]) -> Result<bool, DirectoryErr> {
     Ok(is_output_name(inner) && fs::symlink_metadata(rt, path)?.is_symlink())
 }
 
 impl DirectoryWalk {
-    /// The walk before its first step.
+    /// Begins a walk.
     pub fn new<R: Files + Alloc<A = Global>>(
         rt: &R,
         root: &str,
@@ -106,7 +107,7 @@ impl DirectoryWalk {
         Ok(walk)
     }
 
-    /// Puts a directory of the one that is read now among those that are still to be read.
+    /// Adds a directory inside the one that is read now to those that are still to be read.
     fn push(&mut self, path: &str, identity: Identity) -> Result<(), DirectoryErr> {
         self.pending.push(Pending {
             path: String::from_str(self.alloc, path)?,
@@ -116,7 +117,7 @@ impl DirectoryWalk {
         Ok(())
     }
 
-    /// The next directory to read.
+    /// Takes the next directory to read.
     pub fn next_directory(&mut self) -> Result<Option<String>, DirectoryErr> {
         let Some(next) = self.pending.pop() else {
             return Ok(None);
@@ -149,7 +150,7 @@ impl DirectoryWalk {
         Ok(())
     }
 
-    /// Has a directory read later, but where it is ignored, or lies in itself by a link.
+    /// Has a directory read later, unless it is ignored or is inside itself by a link.
     fn enter(&mut self, path: &str, inner: &[u8], identity: Identity) -> Result<(), DirectoryErr> {
         if self.ignored.has(inner) || self.around.contains(&identity) {
             return Ok(());
@@ -157,7 +158,7 @@ impl DirectoryWalk {
         self.push(path, identity)
     }
 
-    /// Keeps a file, with its bytes where a run looks at them.
+    /// Keeps a file, with its bytes if a run reads them.
     fn keep<R: Files + Alloc<A = Global>>(
         &mut self,
         rt: &R,
@@ -168,7 +169,7 @@ impl DirectoryWalk {
             return Err(DirectoryErr::TooManyFiles);
         }
         let content = if has_content(inner) {
-            // what a read asks for is more than what it keeps
+            // a read asks for more memory than its text takes
             let text = fs::read(rt, path)?;
             Bytes::from_slice(self.alloc, &text)?
         } else {
@@ -179,7 +180,7 @@ impl DirectoryWalk {
         Ok(())
     }
 
-    /// The files that were read.
+    /// Returns the files that were read.
     pub fn into_files(self) -> Vec<File> {
         self.files
     }

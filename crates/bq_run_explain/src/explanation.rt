@@ -1,9 +1,9 @@
-//! What is said of a number, and its look-up in a table.
+//! The explanation of a number, and its look-up in a table.
 
 ghost use Rattle.std.specs.Prelude.{◌≡◌, map, option_map};
 ghost use Rattle.bq_run_explain.specs.Numbers.{entry_of, first_entry};
 
-/// What `bq --explain` prints of a number.
+/// What `bq --explain` prints for a number.
 #[derive(Clone, Copy)]
 pub struct Explanation {
     /// As `F47`.
@@ -15,7 +15,7 @@ pub struct Explanation {
     pub text: &'static str,
 }
 
-/// The first entry of the table with this number.
+/// Returns the first entry of the table with this number.
 #[tactic(auto, unfolding(crate::specs::Numbers::first_entry))]
 pub(crate) fn first_numbered(mut table: &[Explanation], number: &[u8]) -> Option<Explanation>
     ensures { option_map entry_of result ≡ first_entry number.now (map entry_of table.entry.now) }

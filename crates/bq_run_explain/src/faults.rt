@@ -5,7 +5,7 @@ ghost use Rattle.bq_run_explain.specs.Numbers.{lexis, grammar, names, loads, val
 
 use crate::explanation::{Explanation, first_numbered};
 
-/// Of tokens.
+/// Faults of tokens.
 const LEXIS: [Explanation; 8] = [
     Explanation {
         number: "F1",
@@ -139,7 +139,7 @@ Split the file, and move generated lists into .bzl files of their own.
     },
 ];
 
-/// Of statements.
+/// Faults of statements.
 const GRAMMAR: [Explanation; 4] = [
     Explanation {
         number: "F10",
@@ -213,7 +213,7 @@ code into a macro in a .bzl file.
     },
 ];
 
-/// Of names.
+/// Faults of names.
 const NAMES: [Explanation; 5] = [
     Explanation {
         number: "F20",
@@ -315,7 +315,7 @@ Rename one of them.
     },
 ];
 
-/// Of loads.
+/// Faults of loads.
 const LOADS: [Explanation; 9] = [
     Explanation {
         number: "F30",
@@ -474,7 +474,7 @@ before it.
     },
 ];
 
-/// Of operations on values.
+/// Faults of operations on values.
 const VALUES: [Explanation; 7] = [
     Explanation {
         number: "F40",
@@ -586,7 +586,7 @@ last value.
     },
 ];
 
-/// Of programs that run.
+/// Faults of programs that run.
 const PROGRAMS: [Explanation; 7] = [
     Explanation {
         number: "F47",
@@ -714,7 +714,7 @@ be longer than was meant.
     },
 ];
 
-/// Of results, methods and formats.
+/// Faults of results, methods and formats.
 const RESULTS: [Explanation; 7] = [
     Explanation {
         number: "F54",
@@ -841,7 +841,7 @@ OVERLAY).
     },
 ];
 
-/// Of calls of the build functions.
+/// Faults of calls of the build functions.
 const CALLS: [Explanation; 9] = [
     Explanation {
         number: "F70",
@@ -992,7 +992,7 @@ left out.
     },
 ];
 
-/// Of the target graph and the schema.
+/// Faults of the target graph and the schema.
 const WHOLE: [Explanation; 2] = [
     Explanation {
         number: "F79",
@@ -1036,63 +1036,63 @@ deprecation) are not declared.
     },
 ];
 
-/// F1 to F8: faults of tokens.
+/// Looks up F1 to F8: faults of tokens.
 pub fn in_lexis(number: &[u8]) -> Option<Explanation>
     ensures { option_map entry_of result ≡ first_entry number.now lexis }
 {
     first_numbered(&LEXIS, number)
 }
 
-/// F10 to F13: faults of statements.
+/// Looks up F10 to F13: faults of statements.
 pub fn in_grammar(number: &[u8]) -> Option<Explanation>
     ensures { option_map entry_of result ≡ first_entry number.now grammar }
 {
     first_numbered(&GRAMMAR, number)
 }
 
-/// F20 to F24: faults of names.
+/// Looks up F20 to F24: faults of names.
 pub fn in_names(number: &[u8]) -> Option<Explanation>
     ensures { option_map entry_of result ≡ first_entry number.now names }
 {
     first_numbered(&NAMES, number)
 }
 
-/// F30 to F38: faults of loads.
+/// Looks up F30 to F38: faults of loads.
 pub fn in_loads(number: &[u8]) -> Option<Explanation>
     ensures { option_map entry_of result ≡ first_entry number.now loads }
 {
     first_numbered(&LOADS, number)
 }
 
-/// F40 to F46: faults of operations on values.
+/// Looks up F40 to F46: faults of operations on values.
 pub fn in_values(number: &[u8]) -> Option<Explanation>
     ensures { option_map entry_of result ≡ first_entry number.now values }
 {
     first_numbered(&VALUES, number)
 }
 
-/// F47 to F53: faults of programs that run.
+/// Looks up F47 to F53: faults of programs that run.
 pub fn in_programs(number: &[u8]) -> Option<Explanation>
     ensures { option_map entry_of result ≡ first_entry number.now programs }
 {
     first_numbered(&PROGRAMS, number)
 }
 
-/// F54 to F60: faults of results, methods and formats.
+/// Looks up F54 to F60: faults of results, methods and formats.
 pub fn in_results(number: &[u8]) -> Option<Explanation>
     ensures { option_map entry_of result ≡ first_entry number.now results }
 {
     first_numbered(&RESULTS, number)
 }
 
-/// F70 to F78: faults of calls of the build functions.
+/// Looks up F70 to F78: faults of calls of the build functions.
 pub fn in_calls(number: &[u8]) -> Option<Explanation>
     ensures { option_map entry_of result ≡ first_entry number.now calls }
 {
     first_numbered(&CALLS, number)
 }
 
-/// F79 to F80: faults of the target graph and the schema.
+/// Looks up F79 and F80: faults of the target graph and the schema.
 pub fn in_whole(number: &[u8]) -> Option<Explanation>
     ensures { option_map entry_of result ≡ first_entry number.now whole }
 {

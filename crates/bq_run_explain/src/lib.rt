@@ -1,4 +1,4 @@
-//! A number that a run prints, as `F47`, comes in; what it means, an example and what to do come out.
+//! A number that a run prints, as `F47`, comes in; what it means, an example and what to do go out.
 //!
 //! The promise: [`explain`] has an entry, with the right name, for each fault of a file, each error of a query and each error of a run
 //! that can be printed, and for nothing else (`specs/Laws.antt`).

@@ -12,7 +12,7 @@ use crate::faults::{
 use crate::queries::in_queries;
 use crate::runs::in_runs;
 
-/// What was found first.
+/// Returns `found` if there is one, and else `next`.
 fn first(found: Option<Explanation>, next: Option<Explanation>) -> Option<Explanation>
     ensures { option_map entry_of result ≡ option_or (option_map entry_of found) (option_map entry_of next) }
 {
@@ -22,7 +22,7 @@ fn first(found: Option<Explanation>, next: Option<Explanation>) -> Option<Explan
     }
 }
 
-/// What is said of this number; none where there is no such number.
+/// Returns the explanation of this number, if there is such a number.
 #[tactic(auto, unfolding(crate::specs::Numbers::entry_numbered, crate::specs::Numbers::found_in))]
 pub fn explain(number: &[u8]) -> Option<Explanation>
     ensures { option_map entry_of result ≡ entry_numbered number.now }

@@ -116,7 +116,7 @@ docs/QUERY.md, "Functions", has the arguments of each.
     },
 ];
 
-/// Q1 to Q8.
+/// Looks up Q1 to Q8.
 pub fn in_queries(number: &[u8]) -> Option<Explanation>
     ensures { option_map entry_of result ≡ first_entry number.now queries }
 {

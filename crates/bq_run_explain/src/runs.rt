@@ -94,7 +94,7 @@ run one bundle for each part (docs/SCALE.md).
     },
 ];
 
-/// E1 to E7, but for those of queries.
+/// Looks up E1 to E7, but for those of queries.
 pub fn in_runs(number: &[u8]) -> Option<Explanation>
     ensures { option_map entry_of result ≡ first_entry number.now runs }
 {

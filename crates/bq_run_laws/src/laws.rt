@@ -16,13 +16,13 @@ ghost use Rattle.bq_run.specs.Run.{Run, IsRunOver, IsRunOf, IsSilent};
 ghost use Rattle.bq_run.specs.WorkspaceRun.{IsReportOn};
 ghost use Rattle.bq_run_laws.specs.Order.{EndsWithWrongQuery};
 
-/// A bundle that is none of a workspace is E4, whatever the query and the schema are, and nothing is written.
+/// A bundle that makes no workspace is E4, whatever the query and the schema are, and nothing is written.
 pub fn bundles_come_first()
     ensures { (o : Options) (input : List ℕ) (what : Run) → bundle_of input ≡ None → IsRunOf o input what → (what.end ≡ Err run.Bundle) × (what.faults ≡ []) × (what.answer ≡ []) }
 {}
 
-/// A query that is wrong ends the run with an error of a query, whatever the schema is. Whether a pattern is too big is not said, so
-/// this is of Q1, Q2, Q3, Q7 and Q8. A wrong schema (E6) is the error only where the query is not wrong.
+/// A wrong query ends the run with an error of a query, whatever the schema is. Whether a pattern is too big is not
+/// said, so this is of Q1, Q2, Q3, Q7 and Q8. A wrong schema (E6) is the error only if the query isn't wrong.
 pub fn queries_come_before_the_schema()
     ensures wrong { (o : Options) (files : List File) (what : Run) (why : QueryErr) → IsWrong o.query.items why → why ≢ BadRegex → IsRunOver o files what → EndsWithWrongQuery o what }
     ensures right { (o : Options) (files : List File) (what : Run) (line : ℕ) → IsRunOver o files what → what.end ≡ Err (run.Schema line) → (query : CheckedQuery) × IsChecked o.query.items query }
@@ -38,7 +38,8 @@ pub fn prints_come_first()
     ensures { (i : Inside) → (lines : List ℕ) × (fault_text i ≡ i.prints ++ lines) }
 {}
 
-/// Where a query names what isn't there (Q5, Q6) the faults of the workspace are written, and no answer; with every other error nothing is.
+/// If a query names what isn't there (Q5, Q6), the faults of the workspace are written, and no answer; with every other
+/// error nothing is.
 pub fn errors_write_no_answer()
     ensures unanswered { (o : Options) (files : List File) (what : Run) (why : QueryErr) → IsRunOver o files what → what.end ≡ Err (run.Query why) → names_nothing why ≡ true → (r : ReportView) × IsReportOn o files r × (what.faults ≡ r.faults) × (what.answer ≡ []) }
     ensures silent { (o : Options) (files : List File) (what : Run) → IsRunOver o files what → IsSilent what.end → (what.faults ≡ []) × (what.answer ≡ []) }

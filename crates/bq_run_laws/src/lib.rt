@@ -1,8 +1,8 @@
 //! Laws of runs, by the definitions of `bq_run_report` and `bq_run`.
 //!
-//! In: nothing; the functions do nothing, and their contracts are the laws. The promise: a bundle that is wrong ends a run before
-//! anything else is looked at, then a query that is wrong, and then a schema; what modules printed comes before the faults; and with Q5
-//! or Q6 the faults are written and no answer, with every other error nothing.
+//! In: nothing; the functions do nothing, and their contracts are the laws. The promise: a wrong bundle ends a run
+//! before anything else is read, then a wrong query, and then a wrong schema; what modules printed comes before the
+//! faults; and with Q5 or Q6 the faults are written and no answer, with every other error nothing.
 #![tactic(auto)]
 
 mod laws;

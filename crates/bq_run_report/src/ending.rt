@@ -23,11 +23,11 @@ pub enum NoAnswer {
     Query(QueryErr),
     /// `rules.schema` is faulty at this line, from 1.
     Schema(u32),
-    /// There are more modules, or more loads of one by another, than a workspace may have.
+    /// There are more modules, or more loads between them, than a workspace may have.
     TooManyModules,
 }
 
-/// Whether the error is Q5 or Q6.
+/// Returns whether the error is Q5 or Q6.
 fn names_nothing(error: &QueryErr) -> bool
     ensures { result ≡ names_nothing error.now }
 {
@@ -39,7 +39,8 @@ fn names_nothing(error: &QueryErr) -> bool
 }
 
 impl NoAnswer {
-    /// Whether the query is valid and names what is not there (Q5, Q6). The workspace was then loaded, and has its faults.
+    /// Returns whether the query is valid and names what isn't there (Q5, Q6). The workspace was then loaded, and its
+    /// faults are known.
     pub fn is_unanswered(&self) -> bool
         ensures { result ≡ is_unanswered self.now }
     {
@@ -60,7 +61,7 @@ fn is_memory(error: &QueryErr) -> bool
     }
 }
 
-/// What a run is refused for that has no query but this error. Q9 says nothing of the query.
+/// Returns why a run is refused whose query has this error. Q9 is out of memory, and says nothing about the query.
 pub fn refusal_of(error: QueryErr) -> Result<NoAnswer, AllocError>
     ensures known { IfOk result (λ _. error ≢ Memory) }
     ensures value { IfOk result (λ refusal. refusal ≡ Query error) }

@@ -2,7 +2,7 @@
 
 ghost use Rattle.bq_run_report.specs.Laws.{OneReport};
 
-/// A workspace that is loaded and a query that was checked have one report: its texts and its ending hang on nothing else.
+/// A loaded workspace and a checked query have one report: its texts and its ending depend on nothing else.
 pub fn one_report()
     ensures { OneReport }
 {}

@@ -1,13 +1,13 @@
-//! A workspace that is loaded and a query come in; the texts of the run, and how it ends once they are written, go out.
+//! A loaded workspace and a query come in; the texts of the run, and how it ends once they are written, go out.
 //!
-//! The promise: [`report_on`] gives the definition's texts and ending (`specs/Report.antt`): what the modules printed and then the lines of
-//! all faults in their order, each once; and the lines of the targets that the query stands for, or the first of its words that names
-//! what is not there (Q5, Q6).
+//! The promise: [`report_on`] returns the definition's texts and ending (`specs/Report.antt`): what the modules printed
+//! and then the lines of all faults in their order, each once; and the lines of the targets that the query stands for,
+//! or the first of its words that names what isn't there (Q5, Q6).
 //!
 //! In reading order:
 //!
 //! - `ending`: how a run over a workspace ends;
-//! - `contents`: what is in a workspace that is loaded;
+//! - `contents`: what is in a loaded workspace;
 //! - `reply`: the answer to the query, over the graph of the targets;
 //! - `whole`: the whole report;
 //! - `laws`: there is one.

@@ -26,7 +26,7 @@ pub struct Reply {
     pub end: Result<Status, NoAnswer>,
 }
 
-/// The reply to a query. With a status the run ends so.
+/// Returns the reply to a query; with an answer the run ends with `status`.
 fn reply_to(
     alloc: Global,
     graph: &TargetGraph,
@@ -47,7 +47,7 @@ fn reply_to(
     }
 }
 
-/// The reply to a query, over the graph of the targets of packages.
+/// Returns the reply to a query, over the graph of the targets of packages.
 pub fn reply_over(
     alloc: Global,
     packages: Vec<Package>,

@@ -1,4 +1,4 @@
-//! The report on a workspace that is loaded.
+//! The report on a loaded workspace.
 
 ghost use Rattle.std.specs.Prelude.{◌≡◌, ◌++◌, IfOk};
 ghost use Rattle.std.specs.List.{flat_map};
@@ -34,7 +34,7 @@ fn status_by(lines: &FaultLines) -> Status
     }
 }
 
-/// What the modules printed, and then the lines of all faults, which are given up as they are appended.
+/// Returns what the modules printed, and then the lines of all faults, each of which is dropped once it is appended.
 fn fault_text(alloc: Global, mut prints: Vec<u8>, lines: FaultLines) -> Result<Vec<u8>, AllocError>
     ensures { IfOk result (λ text. text.items ≡ prints.items ++ flat_map line_text lines) }
 {
@@ -42,8 +42,8 @@ fn fault_text(alloc: Global, mut prints: Vec<u8>, lines: FaultLines) -> Result<V
     Ok(prints)
 }
 
-/// The report on what is in a workspace. A label that names no target is one more fault, F79. Only a lack of memory is an error; Q5 and
-/// Q6 are in the ending.
+/// Makes the report on what is in a workspace. A label that names no target is one more fault, F79. Only out of memory
+/// is an error; Q5 and Q6 are in the ending.
 pub fn report_on(
     alloc: Global,
     contents: Contents,

@@ -13,7 +13,7 @@ use std::sync::Wait;
 use std::thread::Threads;
 use std::{fs, io};
 
-/// An empty directory of this name.
+/// Makes an empty directory of this name.
 fn fresh(rt: &HostRuntime, root: &str) -> io::Result<()> {
     if fs::exists(rt, root)? {
         fs::remove_dir_all(rt, root)?;
@@ -21,7 +21,7 @@ fn fresh(rt: &HostRuntime, root: &str) -> io::Result<()> {
     fs::create_dir_all(rt, root)
 }
 
-/// The status, and the error line.
+/// Returns the status, and the error line.
 fn shown(alloc: Global, ended: &Result<Status, RunErr>) -> Result<Vec<u8>, AllocError> {
     let (status, line) = status_of(alloc, ended)?;
     let mut whole = format!(in alloc; "{status} ")?.into_bytes();
@@ -29,7 +29,8 @@ fn shown(alloc: Global, ended: &Result<Status, RunErr>) -> Result<Vec<u8>, Alloc
     Ok(whole)
 }
 
-/// How the run of a command line over a directory ends. What it writes goes to the standard streams of the test.
+/// Runs a command line over a directory, and returns how that ends. What it writes goes to the standard streams of the
+/// test.
 fn ending<T: Threads + Wait + RandomSource + Sync>(
     rt: &HostRuntime,
     threads: &T,
@@ -67,7 +68,7 @@ fn check_endings<T: Threads + Wait + RandomSource + Sync + Abort>(
     Ok(())
 }
 
-/// A workspace, with a second one in it, one of whose files is faulty.
+/// Writes a workspace, and a second one in it, one of whose files has a fault.
 fn write_workspaces(rt: &HostRuntime) -> io::Result<()> {
     fresh(rt, "whole")?;
     fs::create_dir_all(rt, "whole/a")?;
@@ -88,7 +89,7 @@ fn by_what_files_hold(rt: HostRuntime) -> io::Result<()> {
     Ok(())
 }
 
-/// 257 directories with 256 files each: one directory, and links to it.
+/// Makes 257 directories with 256 files each: one directory, and links to it.
 fn write_many(rt: &HostRuntime) -> io::Result<()> {
     fresh(rt, "many")?;
     fs::create_dir_all(rt, "many/there")?;
@@ -101,7 +102,7 @@ fn write_many(rt: &HostRuntime) -> io::Result<()> {
     Ok(())
 }
 
-/// There are more files than a workspace may have.
+/// Tests a directory with more files than a workspace may have.
 #[test]
 fn by_too_many_files(rt: HostRuntime) -> io::Result<()> {
     write_many(&rt)?;

@@ -1,4 +1,4 @@
-//! What command lines ask for, and what is said of those that are refused.
+//! What command lines ask for, and the texts that refuse others.
 
 use crate::show;
 use crate::words::{Asked, Words, words_of};
@@ -7,7 +7,7 @@ use bq_tests_rows::{is_row, row_of, wanted_of};
 use std::alloc::{AllocError, Global};
 use std::process::Abort;
 
-/// The words of a line, which stand between blanks, after the program's name.
+/// Returns the words of a line, which are between blanks, after the program's name.
 pub fn words_in(alloc: Global, line: &[u8]) -> Result<Vec<String>, AllocError> {
     let mut words = Vec::new(alloc);
     words.push(String::from_str(alloc, "bq")?)?;
@@ -20,7 +20,7 @@ pub fn words_in(alloc: Global, line: &[u8]) -> Result<Vec<String>, AllocError> {
     Ok(words)
 }
 
-/// The query, where the workspace is, and the options.
+/// Returns the query, where the workspace is, and the options.
 fn shown(alloc: Global, words: &Words) -> Result<Vec<u8>, AllocError> {
     let options = &words.options;
     let form = match options.output {
@@ -39,7 +39,7 @@ fn shown(alloc: Global, words: &Words) -> Result<Vec<u8>, AllocError> {
     Ok(whole)
 }
 
-/// What a line asks for, or what is said of it.
+/// Returns what a line asks for, or the text that refuses it.
 fn answer(alloc: Global, line: &[u8]) -> Result<Vec<u8>, AllocError> {
     let words = words_in(alloc, line)?;
     match words_of(alloc, &words) {
@@ -80,7 +80,7 @@ fn are_answered_with_help(rt: HostRuntime) -> Result<(), AllocError> {
     check_lines(&rt, rt.alloc(), HELP)
 }
 
-/// The exit status of a line that is answered by a text of clap's, which it prints.
+/// Returns the exit status of a line that is answered by a text of clap's, which it prints.
 fn status(rt: &HostRuntime, line: &[u8]) -> Result<u8, AllocError> {
     let words = words_in(rt.alloc(), line)?;
     match words_of(rt.alloc(), &words) {
@@ -109,7 +109,7 @@ const TAKEN: &str = r#"
 --explain Q5 | NoSuchTarget
 "#;
 
-/// A line but for the program's name, and what is said of it.
+/// A line but for the program's name, and the text that refuses it.
 const REFUSED: &str = r#"
  | error: the following required arguments were not provided:\n  <QUERY>\n\nUsage: bq <QUERY>\n\nFor more information, try '--help'.\n
 //a:x //b:y | error: unexpected argument '//b:y' found\n\nUsage: bq [OPTIONS] <QUERY>\n\nFor more information, try '--help'.\n
