@@ -55,7 +55,7 @@ module _ {B V : Type 0} (fact : B → ℕ → V → Type 0) (b : B) (p : Loads) 
     pub out : 2 ≤ w → h ≡ some none
     pub full : w ≡ 1 → (x : V) × (h ≡ some (some (Some x))) × fact b (source p e) x
 
-  -- the rule of a board with so many seats: what holds of words, slots and all views between any two steps
+  -- the rule of a board with `seats` seats: what holds of words, slots and all views between any two steps
   pub record RuleHolds (seats : ℕ) (s : State (Option V) (View B)) : Type 0 where
     pub sound : IsGraph p
     pub wide : length s.words ≡ 1 + length p + edges p

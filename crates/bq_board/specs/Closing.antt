@@ -7,6 +7,6 @@ use Rattle.bq_board.specs.Graph.{Loads}
 use Rattle.bq_board.specs.Board.{RuleHolds}
 use Rattle.bq_board.specs.declared.view.View.{View}
 
--- some state meets the rule of a board with so many seats, and has this view at this place
+-- some state meets the rule of a board with this many seats, and has this view at this place
 abbrev pub EndsWith : {B V : Type 0} → (B → ℕ → V → Type 0) → B → Loads → ℕ → ℕ → View B → Type 0
 EndsWith {B} {V} fact b p seats id v = (s : State (Option V) (View B)) × RuleHolds fact b p seats s × (get_elem? s.views id ≡ some v)

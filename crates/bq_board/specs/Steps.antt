@@ -67,7 +67,7 @@ module _ {B V : Type 0} where
   abbrev pub tried : Play B V
   tried st m r n = (n.1 ≡ m.1) × ((k : ℕ) → st.word ≡ module_word k → Claimed m.0 k r n.0)
 
-  -- the empty slot comes to the seat
+  -- the empty slot goes to the seat
   abbrev pub opened : Play B V
   opened st m r n = (e : ℕ) → st.word ≡ edge_word m.0.plan e → n ≡ (with_opened m.0 e, (e, None) ∷ m.1)
 
@@ -75,7 +75,7 @@ module _ {B V : Type 0} where
   abbrev pub posted : Play B V
   posted st m r n = (e : ℕ) → st.word ≡ edge_word m.0.plan e → n ≡ (with_posted m.0 e, rest m.1)
 
-  -- the slot comes to the seat, with a parcel that belongs to the edge's source
+  -- the slot goes to the seat, with a parcel that belongs to the edge's source
   abbrev pub fetched : (B → ℕ → V → Type 0) → Play B V
   fetched fact st m r n = (e : ℕ) → st.word ≡ edge_word m.0.plan e → (x : V) × (n ≡ (with_fetched m.0 e, (e, Some x) ∷ m.1)) × fact m.0.base (source m.0.plan e) x
 

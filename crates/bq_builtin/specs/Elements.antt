@@ -8,7 +8,7 @@ use Rattle.bq_value.specs.Cells.{StoreView}
 use Rattle.bq_builtin_machine.specs.Iteration.{elements_in}
 use Rattle.bq_builtin.specs.Arguments.{and_then}
 
--- whether a list or tuple may have so many elements (F54)
+-- whether a list or tuple may have `n` elements (F54)
 unfoldable pub room_for : ℕ → Result (Unit {0}) FaultKind
 room_for n = cond (nat_le n max_len) (Ok tt) (Err TooLong)
 

@@ -29,7 +29,7 @@ is_numeral ds = nat_lt 0 (length ds) && all_ascii_digits ds
 unfoldable pub read_integer : List ℕ → Result ℤ FaultKind
 read_integer text = cond (is_numeral (without_leading_sign text)) (fitted (signed_digits_value 10 text)) (Err BadValue)
 
--- an integer itself, a bool as 0 or 1, what a string says
+-- an integer itself, a bool as 0 or 1, what a string reads as
 unfoldable pub integer_from : Datum → Result ℤ FaultKind
 integer_from (datum.int i) = Ok i
 integer_from (boolean false) = Ok (pos 0)

@@ -32,7 +32,7 @@ abbrev pub start_or_zero : Option Datum → Result ℤ FaultKind
 start_or_zero None = Ok (pos 0)
 start_or_zero (Some v) = integer v
 
--- the last of so many numbers, of which the first one is `start`, has 64 bits (F41)
+-- the last of a number of integers, of which the first one is `start`, fits 64 bits (F41)
 abbrev pub numbers_fit : ℤ → ℕ → Result (Unit {0}) FaultKind
 numbers_fit start zero = Ok tt
 numbers_fit start (suc n) = and_then (fitted (start +ℤ pos n)) (λ last. Ok tt)
@@ -57,7 +57,7 @@ abbrev pub heads : List (List Datum) → List Datum
 heads [] = []
 heads (xs ∷ xss) = take 1 xs ++ heads xss
 
--- so many tuples: the first ones of the lists, the second ones, and so on
+-- a number of tuples: the first elements of the lists, the second ones, and so on
 abbrev pub rows : ℕ → List (List Datum) → List Datum
 rows zero xss = []
 rows (suc n) xss = datum.tuple (data_of (heads xss)) ∷ rows n (map (drop 1) xss)

@@ -47,7 +47,7 @@ one_to_three (v ∷ w ∷ []) = Ok (v, (Some w, None))
 one_to_three (v ∷ w ∷ x ∷ []) = Ok (v, (Some w, Some x))
 one_to_three _ = Err Args
 
--- an integer, or none where it is left out or `None`
+-- an integer, or `None` if it is left out or `None`
 unfoldable pub optional_integer : Option Datum → Result (Option ℤ) FaultKind
 optional_integer None = Ok None
 optional_integer (Some none) = Ok None

@@ -1,4 +1,4 @@
--- The words of the laws of lists and dicts.
+-- The definitions of the laws of lists and dicts.
 use Rattle.std.specs.Prelude.{◌≡◌, ◌++◌, List}
 use Rattle.bq_value.specs.Datum.{Datum}
 use Rattle.bq_value.specs.Pairs.{keys}

@@ -98,7 +98,7 @@ pairs_given args = given (bind pairs_signature args) >>= λ b. read_optional (fi
 
 -- ---- the keys
 
--- a pair, behind those that are made, once its key is (F45, F53, F55)
+-- a pair, after those that are made, once its key is (F45, F53, F55)
 unfoldable pub make_key : Datum × Datum → Pairs → Action State Pairs
 make_key p made = key p.0 >>= λ k. pure (made ++ (k, p.1) ∷ [])
 

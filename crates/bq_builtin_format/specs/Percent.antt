@@ -67,7 +67,8 @@ abbrev pub filled_by : (DraftView → ℕ → List Datum → List ℕ → Looked
 filled_by later s d n values text None = Ok (ended (and_write d text) values, n)
 filled_by later s d n values text (Some p) = and_then (converted s (and_write d p.0) n p.1 values) (λ e m. later e m (values_after p.1 values) (drop 1 p.1))
 
--- what is before the first percent sign is text; then the conversion after it, then the rest; with at most so many percent signs
+-- what is before the first percent sign is text; then the conversion after it, then the rest; with at most this many
+-- percent signs
 unfoldable pub filled : ℕ → StoreView → DraftView → ℕ → List Datum → List ℕ → Looked DraftView
 filled zero s d n values text = Ok (ended (and_write d text) values, n)
 filled (suc most) s d n values text = filled_by (filled most s) s d n values text (partition (codes "%") text)

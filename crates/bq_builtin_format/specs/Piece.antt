@@ -62,7 +62,7 @@ piece_by b bs None = if is_brace b then doubled b bs else (byte b, bs)
 unfoldable pub first_piece : ℕ → List ℕ → Piece × List ℕ
 first_piece b bs = piece_by b bs (field_of (b ∷ bs))
 
--- the pieces, at most so many
+-- the pieces, at most this many
 unfoldable pub cut : ℕ → List ℕ → List Piece
 cut most [] = []
 cut zero (b ∷ bs) = []

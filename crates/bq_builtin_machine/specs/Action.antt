@@ -68,6 +68,6 @@ Ends view (Err e) after machine run = (why : FaultKind) → e ≡ Bad why → ru
 abbrev pub Does : {A B : Type 0} → (A → B) → Result A EvalErr → State → Run State B → Type 0
 Does view result machine run = Ends view result machine machine run
 
--- the same where a host keeps something beside
+-- what a call did, where a host keeps something beside the state
 abbrev pub HostDoes : {W A B : Type 0} → (A → B) → Result A EvalErr → State → W → Run (State × W) B → Type 0
 HostDoes view result machine kept run = Ends view result (machine, kept) machine run

@@ -1,4 +1,4 @@
--- Which argument goes to which parameter (Starlark, "Function and method calls"). What doesn't go is F52.
+-- Which argument goes to which parameter (Starlark, "Function and method calls"). An argument that goes to none is F52.
 use Rattle.std.specs.Prelude.{ℕ, zero, suc, ◌+◌, nat_le, Bool, true, false, not, cond, ◌&&◌, ◌||◌, List, [], ◌∷◌, drop, length, set, slice_get, Option, Some, None, is_some, Result, Ok, Err, refl}
 use Rattle.std.specs.List.{position_from}
 use Rattle.std.specs.Coded.{Coded, code_by, coded×, coded_list, coded_option}
@@ -21,7 +21,8 @@ pub record BoundView : Type 0 where
 abbrev pub Binding : Type 0
 Binding = Result BoundView FaultKind
 
--- So many parameters, of which the first so many take positional arguments, one each. The others have none yet.
+-- The arguments of a number of parameters, of which the first `placed` take positional arguments, one each. The others
+-- have none yet.
 abbrev pub placed_values : ℕ → ℕ → List Datum → List (Option Datum)
 placed_values placed zero xs = []
 placed_values zero (suc n) xs = None ∷ placed_values zero n xs

@@ -45,7 +45,7 @@ can_change home number = content home number >> may_change home number
 abbrev pub put_content : ℕ → Contents → Action State (Unit {0})
 put_content number c = change (λ s. with_content s number c)
 
--- What changes a list or dict that may be changed: from what it holds to what it holds then and an answer, or a fault.
+-- A change of a list or dict that may be changed: from what it holds to what it holds then and an answer, or a fault.
 abbrev pub Change : Type 0 → Type 0
 Change A = Contents → Result (A × Contents) FaultKind
 

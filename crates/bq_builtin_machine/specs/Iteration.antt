@@ -11,7 +11,7 @@ use Rattle.bq_builtin_machine.specs.State.{State}
 use Rattle.bq_builtin_machine.specs.Action.{Action, ◌>>=◌, ◌>>◌, pure, stop, look, change}
 use Rattle.bq_builtin_machine.specs.Calls.{without_newest}
 
--- so many integers from the first one on, by that step
+-- a number of integers from the first one on, by this step
 abbrev pub integers : ℤ → ℤ → ℕ → List ℤ
 integers first step zero = []
 integers first step (suc n) = first ∷ integers (first +ℤ step) step n

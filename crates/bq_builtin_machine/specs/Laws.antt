@@ -1,4 +1,4 @@
--- The words of the laws of binding (Starlark, "Function and method calls").
+-- The definitions of the laws of binding (Starlark, "Function and method calls").
 use Rattle.std.specs.Prelude.{◌≡◌, ℕ, ◌<◌, List, drop, slice_get, Some}
 use Rattle.std.specs.List.{position_from}
 use Rattle.bq_value.specs.Datum.{Datum}

@@ -15,11 +15,11 @@ use Rattle.bq_builtin_machine.specs.Action.{Action, done, stop, change}
 abbrev pub with_steps : ℕ → State → State
 with_steps n s = record s { steps = n }
 
--- so many steps are taken, or there are not so many left (F53)
+-- takes `count` steps, or too few are left (F53)
 unfoldable pub step : ℕ → Action State (Unit {0})
 step count s = cond (nat_lt s.steps count) (stop StepLimit s) (done tt (with_steps (s.steps - count) s))
 
--- what a walk over values gives, and the steps that it leaves
+-- a walk over values: its answer, and the steps that it leaves
 abbrev pub after_walk : {A : Type 0} → Looked A → Action State A
 after_walk (Ok answer) = λ s. done answer.0 (with_steps answer.1 s)
 after_walk (Err kind) = stop kind
@@ -58,6 +58,6 @@ key v = walk (λ store n. keyed v (walked_at max_levels n v))
 unfoldable pub print : List ℕ → Action State (Unit {0})
 print bytes = change (λ s. record s { prints = s.prints ++ bytes ∷ [] })
 
--- the program gives up, with a message (F56)
+-- stops the program with a message (F56)
 unfoldable pub fail : {A : Type 0} → List ℕ → Action State A
 fail bytes s = stop Fail (record s { message = bytes })

@@ -14,8 +14,8 @@ pub record ParameterView : Type 0 where
   pub name : Option (List ℕ)
   pub is_required : Bool
 
--- The parameters of a function that take one argument, of which the first so many take positional ones; whether there is a `*` and
--- a `**`, which take what is left.
+-- The parameters of a function that take one argument, of which the first `placed` take positional ones; whether there
+-- is a `*` and a `**`, which take what is left.
 pub record SignatureView : Type 0 where
   pub parameters : List ParameterView
   pub placed : ℕ
@@ -40,7 +40,7 @@ name_is name (Some other) = bytes_eq name other
 abbrev pub is_called : List ℕ → ParameterView → Bool
 is_called name p = name_is name p.name
 
--- the first so many parameters take positional arguments
+-- how many of the first parameters take positional arguments
 abbrev pub places : SignatureView → ℕ
 places s = min s.placed (length s.parameters)
 

@@ -26,7 +26,7 @@ dict_methods =
     (codes "values", m.Placed p.Values) ∷
     []
 
--- the method of a name; none where dicts lack it
+-- the method of a name, if dicts have it
 abbrev pub dict_method : List ℕ → Option DictMethod
 dict_method name = lookup (bytes_eq name) dict_methods
 

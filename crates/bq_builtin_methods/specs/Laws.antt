@@ -1,4 +1,4 @@
--- The words of the laws of methods.
+-- The definitions of the laws of methods.
 use Rattle.std.specs.Prelude.{◌≡◌, ℕ, Bool, true, false, List, slice_get, Some}
 use Rattle.std.specs.List.{IsDistinct}
 use Rattle.std.specs.Map.{lookup, keys_of}

@@ -20,7 +20,7 @@ list_methods =
     (codes "remove", m.Remove) ∷
     []
 
--- the method of a name; none where lists lack it
+-- the method of a name, if lists have it
 abbrev pub list_method : List ℕ → Option ListMethod
 list_method name = lookup (bytes_eq name) list_methods
 

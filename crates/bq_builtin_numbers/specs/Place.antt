@@ -1,4 +1,4 @@
--- Places in a list of so many elements (Starlark, "Index expressions", "Slice expressions").
+-- Places in a list of `len` elements (Starlark, "Index expressions", "Slice expressions").
 use Rattle.std.specs.Prelude.{ℕ, suc, ◌-◌, nat_lt, nat_le, min, cond, ℤ, pos, negsuc, Option, Some, None, Result, Ok, Err}
 use Rattle.bq_base.specs.declared.fault.FaultKind.{FaultKind}
 use Rattle.bq_base.specs.declared.fault.FaultKind.TheVariants.{Index}

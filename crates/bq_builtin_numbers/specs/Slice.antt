@@ -31,7 +31,7 @@ abbrev pub with_first : {A : Type 0} → Option A → List A → List A
 with_first (Some x) xs = x ∷ xs
 with_first None xs = xs
 
--- the elements at so many places, from one on by a step
+-- the elements at a number of places, from one on by a step
 abbrev pub taken : {A : Type 0} → List A → ℕ → ℤ → ℤ → List A
 taken xs zero at step = []
 taken xs (suc count) at step = with_first (element_at xs at) (taken xs count (at +ℤ step) step)
@@ -44,7 +44,7 @@ taken_by xs start stop step = taken xs (range_count start stop step) start step
 abbrev pub slice_of : {A : Type 0} → List A → Option ℤ → Option ℤ → ℤ → List A
 slice_of xs start stop step = taken_by xs (slice_start (pos (length xs)) step start) (slice_stop (pos (length xs)) step stop) step
 
--- these are the elements at so many places, in their order, and no other
+-- these are the elements at `n` places, in their order, and no others
 pub record AreElements {A : Type 0} (xs : List A) (n : ℕ) (at step : ℤ) (ys : List A) : Type 0 where
   pub count : length ys ≡ n
   pub each : (k : ℕ) → k < n → slice_get ys k ≡ element_at xs (at +ℤ (pos k *ℤ step))

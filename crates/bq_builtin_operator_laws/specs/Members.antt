@@ -17,7 +17,7 @@ pub data HasElements (s : StoreView) (c : Datum) (xs : List Datum) : Type 0 wher
   of_tuple : (values : Data) → c ≡ tuple values → xs ≡ list_of values → HasElements s c xs
   of_list : (home number : ℕ) → c ≡ cell home number → content_at s home number ≡ Some (items xs) → HasElements s c xs
 
--- looked at with so many steps, the value is equal to one of the elements
+-- looked at with `left` steps, the value is equal to one of the elements
 pub record IsEqualToOne (s : StoreView) (v : Datum) (xs : List Datum) (left : ℕ) : Type 0 where
   pub before : List Datum
   pub element : Datum

@@ -20,7 +20,7 @@ use Rattle.bq_builtin_operators.specs.Operate.{binary}
 
 -- ---- what a list or dict holds then
 
--- these values behind those that are there
+-- these values after those that are there
 unfoldable pub list_extended : List Datum → Change (Unit {0})
 list_extended more (items xs) = and_then (joined xs more) (λ ys. Ok (tt, items ys))
 list_extended more (pairs ps) = Err WrongType

@@ -1,5 +1,5 @@
--- What each operator does (Starlark, "Unary operators", "Binary operators", "Index expressions", "Slice expressions"), a word for
--- each kind of operator.
+-- What each operator does (Starlark, "Unary operators", "Binary operators", "Index expressions", "Slice expressions"):
+-- a definition for each kind of operator.
 use Rattle.std.specs.Prelude.{List, Result}
 use Rattle.bq_parse_grammar.specs.declared.tree.Operator.{Operator}
 use Rattle.bq_parse_grammar.specs.declared.tree.Operator.TheVariants as op

@@ -16,7 +16,7 @@ use Rattle.bq_builtin_operators.specs.Sum.{listed}
 unfoldable pub list_product : StoreView → Datum → ℤ → Result (List Datum) FaultKind
 list_product s a times = and_then (list_in s a) (λ xs. repeated xs times)
 
--- a string, a tuple or a list so many times
+-- a string, a tuple or a list `n` times
 unfoldable pub times : Datum → ℤ → Action State Datum
 times (string text) n = given (as_string (repeated text n))
 times (tuple xs) n = given (as_tuple (repeated (list_of xs) n))

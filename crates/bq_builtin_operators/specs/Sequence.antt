@@ -6,7 +6,7 @@ use Rattle.bq_base.specs.declared.fault.FaultKind.TheVariants.{TooLong}
 use Rattle.bq_value.specs.Range.{range_count, range_element}
 use Rattle.bq_builtin_numbers.specs.Length.{max_len, times_of}
 
--- so many elements or bytes at most, else F54
+-- at most `max_len` elements or bytes, else F54
 abbrev pub limited : {A : Type 0} → List A → Result (List A) FaultKind
 limited xs = cond (nat_le (length xs) max_len) (Ok xs) (Err TooLong)
 
@@ -14,7 +14,7 @@ limited xs = cond (nat_le (length xs) max_len) (Ok xs) (Err TooLong)
 unfoldable pub joined : {A : Type 0} → List A → List A → Result (List A) FaultKind
 joined xs ys = limited (xs ++ ys)
 
--- so many times in a row
+-- a list a number of times in a row
 abbrev pub copies : {A : Type 0} → List A → ℕ → List A
 copies xs zero = []
 copies xs (suc n) = xs ++ copies xs n

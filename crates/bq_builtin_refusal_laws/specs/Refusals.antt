@@ -1,4 +1,4 @@
--- What a call is refused for where several things are wrong with it: the first of these, in the call's own order.
+-- Why a call fails where several things are wrong with it: for the first of these, in the call's own order.
 --
 -- An order is a list of checks. Each of them says what it finds wrong with the call, if anything, whatever the others find.
 use Rattle.std.specs.Prelude.{◌≡◌, Bool, cond, List, [], ◌∷◌, Option, Some, None, Result, Ok, Err}
@@ -34,7 +34,7 @@ abbrev pub fault_then : {A : Type 0} → Result A FaultKind → (A → Check) �
 fault_then (Ok a) check = check a
 fault_then (Err kind) check = None
 
--- the same of what a run gives
+-- what a check finds wrong with the result of a run, where there is one
 abbrev pub fault_after : {S A : Type 0} → Run S A → (A → Check) → Check
 fault_after (done a s) check = check a
 fault_after (stopped why) check = None

@@ -8,7 +8,7 @@ use Rattle.bq_builtin_machine.specs.Action.{Action, Run, done, stopped}
 use Rattle.bq_builtin_machine.specs.Machine.{with_steps}
 use Rattle.bq_builtin_machine.specs.State.{State}
 
--- What is seen of a state: the same state where so many steps are left; what is printed; and its store.
+-- What is seen of a state: the same state with another number of steps left; what is printed; and its store.
 pub record Seen (S : Type 0) : Type 0 where
   pub left : ℕ → S → S
   pub prints : S → List (List ℕ)
@@ -33,7 +33,7 @@ abbrev pub Begins : List (List ℕ) → List (List ℕ) → Type 0
 Begins texts all = (rest : List (List ℕ)) × (texts ++ rest ≡ all)
 
 module _ {S : Type 0} (c : Seen S) where
-  -- the same end, where so many steps are left
+  -- the same end, with `n` steps left
   abbrev pub leaving : {A : Type 0} → ℕ → Run S A → Run S A
   leaving n (done x s) = done x (c.left n s)
   leaving n (stopped why) = stopped why

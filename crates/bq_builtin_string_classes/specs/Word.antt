@@ -56,7 +56,7 @@ abbrev pub words_by : (List ℕ → List (List ℕ)) → List ℕ → Option (Li
 words_by later text None = last_part text
 words_by later text (Some p) = p.0 ∷ later (lstrip spaces p.1)
 
--- the words of a text that begins with no space, cut from the left at most so many times
+-- the words of a text that begins with no space, cut from the left at most this many times
 unfoldable pub words_from : ℕ → List ℕ → List (List ℕ)
 words_from zero text = last_part text
 words_from (suc most) text = words_by (words_from most) text (first_word text)
@@ -68,7 +68,7 @@ abbrev pub rwords_by : (List ℕ → List (List ℕ)) → List ℕ → Option (L
 rwords_by earlier text None = last_part text
 rwords_by earlier text (Some p) = earlier (rstrip spaces p.0) ++ p.1 ∷ []
 
--- the words of a text that ends in no space, cut from the right at most so many times
+-- the words of a text that ends in no space, cut from the right at most this many times
 unfoldable pub rwords_from : ℕ → List ℕ → List (List ℕ)
 rwords_from zero text = last_part text
 rwords_from (suc most) text = rwords_by (rwords_from most) text (last_word text)

@@ -43,7 +43,8 @@ separator_in (Some none) = Ok None
 separator_in (Some (string text)) = Ok (Some text)
 separator_in (Some v) = Err WrongType
 
--- how often at most in a text of so many bytes; left out or negative, as often as can be, which is once more than it has bytes
+-- how often at most in a text of `len` bytes; left out or negative, as often as can be, which is once more than it has
+-- bytes
 abbrev pub most_in : ℕ → Option Datum → Result ℕ FaultKind
 most_in len None = Ok (len + 1)
 most_in len (Some (int (pos most))) = Ok most
@@ -56,7 +57,7 @@ truth_in None = Ok false
 truth_in (Some (boolean so)) = Ok so
 truth_in (Some v) = Err WrongType
 
--- the bytes from a place up to another, none where that comes before it
+-- the bytes from one place to another; none if that comes before it
 abbrev pub part_of : List ℕ → ℕ → ℕ → List ℕ
 part_of text from to = take (to - from) (drop from text)
 

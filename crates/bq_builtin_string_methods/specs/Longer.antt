@@ -25,7 +25,7 @@ join text strings = unless_too_long (parts.join text strings)
 
 -- ---- lengths before there are texts
 
--- how often a text is replaced, at most so many times
+-- how often a text is replaced, at most `most` times
 unfoldable pub times : List ℕ → ℕ → List ℕ → ℕ
 times old most text = if bytes_eq old [] then min most (length text + 1) else parts.cuts old most text
 

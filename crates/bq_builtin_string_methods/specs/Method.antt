@@ -70,7 +70,7 @@ methods =
     (codes "upper", m.Value (v.Case case_method.Upper)) ∷
     []
 
--- the method of a name; none where strings lack it
+-- the method of a name, if strings have it
 abbrev pub string_method : List ℕ → Option StringMethod
 string_method name = lookup (bytes_eq name) methods
 
@@ -93,7 +93,7 @@ parts_counts (p.Split side) = (0, 2)
 parts_counts p.Splitlines = (0, 1)
 parts_counts p.Elems = (0, 0)
 
--- so many arguments by place, and none by name (F52)
+-- the number of positional arguments is within the counts, and none is passed by name (F52)
 abbrev pub placed : ℕ × ℕ → Passed → Result (Unit {0}) FaultKind
 placed counts args = if nat_le (length args.named) 0 && (nat_le (counts.0) (length args.positional) && nat_le (length args.positional) (counts.1)) then Ok tt else Err Args
 

@@ -24,7 +24,7 @@ abbrev pub place_or_fault : ℕ → Option ℕ → Result Datum FaultKind
 place_or_fault from None = Err BadValue
 place_or_fault from (Some at) = number (from + at)
 
--- what a region says that starts at `from`
+-- the result of a search in a region that starts at `from`
 abbrev pub said : SearchMethod → List ℕ → ℕ → List ℕ → Result Datum FaultKind
 said Count sub from part = number (count sub part)
 said Find sub from part = place_or_less from (find sub part)

@@ -30,7 +30,7 @@ abbrev pub split_by : (List ℕ → List (List ℕ)) → List ℕ → Option (Li
 split_by later text None = text ∷ []
 split_by later text (Some p) = p.0 ∷ later p.1
 
--- the text cut at the first separator in what is left, at most so many times
+-- the text cut at the first separator in what is left, at most this many times
 unfoldable pub split : List ℕ → ℕ → List ℕ → List (List ℕ)
 split separator zero text = text ∷ []
 split separator (suc most) text = split_by (split separator most) text (partition separator text)
@@ -39,7 +39,7 @@ abbrev pub rsplit_by : (List ℕ → List (List ℕ)) → List ℕ → Option (L
 rsplit_by earlier text None = text ∷ []
 rsplit_by earlier text (Some p) = earlier p.0 ++ p.1 ∷ []
 
--- the text cut at the last separator in what is left, at most so many times
+-- the text cut at the last separator in what is left, at most this many times
 unfoldable pub rsplit : List ℕ → ℕ → List ℕ → List (List ℕ)
 rsplit separator zero text = text ∷ []
 rsplit separator (suc most) text = rsplit_by (rsplit separator most) text (rpartition separator text)
@@ -76,7 +76,7 @@ unfoldable pub replace_cuts : List ℕ → List ℕ → ℕ → List ℕ → Lis
 replace_cuts old new zero text = text
 replace_cuts old new (suc most) text = replace_by (replace_cuts old new most) new text (partition old text)
 
--- `new` before each byte and at the end, at most so many times
+-- `new` before each byte and at the end, at most this many times
 unfoldable pub interleave : List ℕ → ℕ → List ℕ → List ℕ
 interleave new zero text = text
 interleave new (suc most) [] = new

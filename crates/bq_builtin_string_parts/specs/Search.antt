@@ -1,18 +1,18 @@
--- Where a text stands in another (Starlark, "string·find", "string·rfind", "string·count").
+-- Where a text occurs in another (Starlark, "string·find", "string·rfind", "string·count").
 use Rattle.std.specs.Prelude.{◌≡◌, ◌<◌, ℕ, suc, ◌++◌, Bool, nat_eq, List, [], ◌∷◌, length, Option, Some, None, if◌then◌else◌}
 use Rattle.std.specs.List.{starts_with}
 use Rattle.std.specs.Option.{option_map}
 
 -- ---- in words
 
--- the text has `sub` after so many bytes
+-- the text has `sub` after `at` bytes
 pub record StandsAt (sub text : List ℕ) (at : ℕ) : Type 0 where
   pub before : List ℕ
   pub after : List ℕ
   pub whole : text ≡ before ++ (sub ++ after)
   pub place : length before ≡ at
 
--- the least place at which the text has `sub`; none where it has it nowhere
+-- the least place at which the text has `sub`; `None` if it doesn't have it
 abbrev pub IsLeastPlace : List ℕ → List ℕ → Option ℕ → Type 0
 IsLeastPlace sub text None = (k : ℕ) → StandsAt sub text k → ⊥
 IsLeastPlace sub text (Some at) = StandsAt sub text at × ((k : ℕ) → k < at → StandsAt sub text k → ⊥)

@@ -46,7 +46,7 @@ values_from slot (name ∷ names) globals = or_none (globals slot) ∷ values_fr
 unfoldable pub frozen_values : Resolved → List Datum → Frame → List Datum
 frozen_values file imports globals = values_from 0 file.globals globals ++ imports
 
--- `fail` tells its message
+-- `fail` has its message as its detail
 abbrev pub detail_of : FaultKind → List ℕ → List ℕ
 detail_of kind message = cond (fault_number kind == fault_number f.Fail) (quoted message) []
 
@@ -62,8 +62,8 @@ abbrev pub kept_after : {W : Type 0} → Run (State × W) Frame → Option W
 kept_after (done globals s) = Some s.1
 kept_after (stopped why) = None
 
--- A file among those of the workspace runs as the module of that number, with the frozen modules that it loads and a value for each clause
--- of its loads: its statements in order, on a fresh machine, with so many steps.
+-- A file among those of the workspace runs as the module of that number, with the frozen modules that it loads and a
+-- value for each clause of its loads: its statements in order, on a fresh machine, with `limit` steps.
 unfoldable pub module_run : {W : Type 0} → List Name → HostCalls W → List (Option Resolved) → ℕ → Resolved → List FrozenView → List Datum → ℕ → W → Run (State × W) Frame
 module_run rules host code number file loaded imports limit kept =
     module_meaning (primitives rules host) (frozen_units code loaded) number file imports (started (first_store number loaded) limit, kept)

@@ -20,7 +20,7 @@ abbrev pub ended_of : FileOutcome → Ended
 ended_of (o.Module frozen prints) = evaluated frozen prints.items
 ended_of (o.Failed fault prints) = failed fault prints.items
 
--- where the rules have these names, and the host makes this of its calls: with so many steps, from what the host keeps
+-- where the rules have these names, and the host means this by its calls: with `limit` steps, from what the host keeps
 abbrev pub run_of : {W : Type 0} → List Name → HostCalls W → ResolvedModule → ℕ → W → Run (State × W) Frame
 run_of rules host m limit kept = module_run rules host m.code.now m.number m.file.now (views_of m.loaded.now) m.imports.now limit kept
 

@@ -21,11 +21,11 @@ use Rattle.bq_eval_by_name_expression_laws.specs.Shows.{Below, Nested, Shows}
 abbrev pub CallsAgree : {S : Type 0} → Calls S → Calls S → Type 0
 CallsAgree {S} call other = (v : Datum) (p : args.Passed) (s : S) → call v p s ≡ other v p s
 
--- What is round an expression says the same by names and by slots.
+-- What is around an expression says the same by names and by slots.
 module _ {S : Type 0} (m : Primitives S) (file : FileParts) (round : Round) (surroundings : Surroundings) (call other : Calls S) where
-  -- An expression that resolves, among blocks whose slots are taken already, and where no name of a block has the slot of another. Both
-  -- meanings look at as many layers as there are: a resolved tree has at most twice those of its tree, since what stands outside functions
-  -- has a layer that gives it a frame.
+  -- An expression that resolves, among blocks whose slots are taken already, and where no name of a block has the slot
+  -- of another. Both meanings look at as many layers as there are: a resolved tree has at most twice those of its tree,
+  -- since what is outside functions has a layer that gives it a frame.
   abbrev pub LayersAgree : Type 0
   LayersAgree =
       (n k l : ℕ) (blocks : List BlockParts) (x : Expr) (c : Code) (p q : Passed) → n ≤ k → n + n ≤ l → Nested blocks → Below blocks p.slots → scope.expr_to n file blocks x p ≡ Ok (c, q)

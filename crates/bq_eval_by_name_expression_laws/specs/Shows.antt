@@ -11,7 +11,7 @@ abbrev pub Below : List BlockParts → ℕ → Type 0
 Below [] slot = Unit {0}
 Below (b ∷ bs) slot = (b.base + length b.names ≤ slot) × Below bs slot
 
--- the slots of a block come after those of the blocks round it; the blocks stand innermost first
+-- the slots of a block come after those of the blocks around it; the blocks are in order, the innermost first
 abbrev pub Nested : List BlockParts → Type 0
 Nested [] = Unit {0}
 Nested (b ∷ bs) = Below bs b.base × Nested bs
@@ -38,7 +38,7 @@ pub record Shows (blocks : List BlockParts) (env : Env) (frame : Frame) : Type 0
   pub reads : Reads (slot_of blocks) env frame
   pub empty : (slot : ℕ) → IsFree blocks slot → frame slot ≡ None
 
--- the same of the names that are round all blocks
+-- what is around all blocks says the same of the names there
 pub record Around (file : FileParts) (round : Round) (surroundings : Surroundings) : Type 0 where
   pub globals : Reads (λ name. place_among name file.globals) round.globals surroundings.globals
   pub loaded : Reads (λ name. place_among name file.loaded) round.loaded surroundings.loaded

@@ -62,8 +62,8 @@ abbrev pub kept_after : {W : Type 0} → Run (State × W) Env → Option W
 kept_after (done globals s) = Some s.1
 kept_after (stopped why) = None
 
--- A file among those of the workspace runs as the module of that number, with the frozen modules that it loads and a value for each clause
--- of its loads: its statements in order, on a fresh machine, with so many steps.
+-- A file among those of the workspace runs as the module of that number, with the frozen modules that it loads and a
+-- value for each clause of its loads: its statements in order, on a fresh machine, with `limit` steps.
 unfoldable pub module_run : {W : Type 0} → List Name → HostCalls W → List (Option ParsedFile) → ℕ → ParsedFile → List FrozenView → List Datum → ℕ → W → Run (State × W) Env
 module_run rules host files number file loaded imports limit kept =
     meaning.module_meaning (primitives rules host) (frozen_units files loaded) number file.universe file.statements imports (started (first_store number loaded) limit, kept)

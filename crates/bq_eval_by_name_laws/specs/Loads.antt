@@ -1,4 +1,4 @@
--- The loads of a file as it is parsed: where each stands, and which symbols of the other file it names.
+-- The loads of a file as it is parsed: where each is, and which symbols of the other file it names.
 use Rattle.std.specs.Prelude.{ℕ, List, [], ◌∷◌, ◌++◌, map}
 use Rattle.bq_parse_grammar.specs.declared.tree.Branch.{Branch}
 use Rattle.bq_parse_grammar.specs.declared.tree.SmallKind.{SmallKind}

@@ -14,7 +14,8 @@ use Rattle.bq_eval_by_name_spec.specs.Calls as names
 use Rattle.bq_eval_by_name_spec.specs.Calls.{Def, TreeUnit}
 use Rattle.bq_eval_by_name_expression_laws.specs.Shows.{Around}
 
--- What a function resolves to among the names of its file: its parameters and its body are resolved, wherever in the file it stands.
+-- What a function resolves to among the names of its file: its parameters and its body are resolved, wherever in the
+-- file it is.
 pub record FunctionIs (file : FileParts) (d : Def) (f : CodeFunction) : Type 0 where
   pub name : f.name ≡ d.name
   pub parts : ParameterParts
@@ -27,8 +28,8 @@ pub record FunctionIs (file : FileParts) (d : Def) (f : CodeFunction) : Type 0 w
   pub room : length (function_names d.parameters d.body) ≤ start.slots
   pub body : statements_in file (function_names d.parameters d.body) d.body start ≡ Ok (f.body, end)
 
--- The functions of a module are those of the other, in their order, and what is round them says the same. Their bodies are no deeper than
--- the layers that are looked at, as are all bodies (bq_eval_depth_laws).
+-- The functions of a module are those of the other, in their order, and what is around them says the same. Their bodies
+-- are no deeper than the layers that are looked at, as are all bodies (bq_eval_depth_laws).
 pub record UnitIs (t : TreeUnit) (c : CodeUnit) : Type 0 where
   pub file : FileParts
   pub functions : InOrder (FunctionIs file) t.functions c.functions

@@ -24,7 +24,7 @@ pub record Def : Type 0 where
   pub parameters : List Parameter
   pub body : List Stmt
 
--- a module: its functions in the order of their `def`s, and what is round them
+-- a module: its functions in the order of their `def`s, and what is around them
 pub record TreeUnit : Type 0 where
   pub functions : List Def
   pub round : Round
@@ -42,7 +42,7 @@ singles (parameter.Plain n ∷ ps) = record { name = Some n.name; is_required = 
 singles (parameter.Default n x ∷ ps) = record { name = Some n.name; is_required = false } ∷ singles ps
 singles (_ ∷ ps) = singles ps
 
--- how many of them stand before a `*`: after it only named arguments come
+-- how many of them are before a `*`: after it only named arguments come
 abbrev pub placed_of : List Parameter → ℕ
 placed_of [] = 0
 placed_of (parameter.Plain n ∷ ps) = suc (placed_of ps)
@@ -97,7 +97,7 @@ module _ {S : Type 0} (m : Primitives S) where
   fill_parameters [] x = pure x
   fill_parameters (p ∷ ps) x = fill_parameter p x >>= λ y. fill_parameters ps y
 
-  -- The environment that a function begins with: no block is round its own.
+  -- The environment that a function begins with: no block is around its own.
   unfoldable pub entry : Def → List Datum → Passed → Action S Env
   entry d ds p =
       given_by m (arguments.bind (signature d.parameters) p) >>= λ b. keywords_of m (has_star_star d.parameters) b.keywords
@@ -106,7 +106,7 @@ module _ {S : Type 0} (m : Primitives S) where
 
   -- ---- calls
 
-  -- `inner` is what calls mean inside; none where as many functions are active as may be
+  -- `inner` is what calls mean inside; `None` if as many functions are active as may be
   unfoldable pub body_of : Calls S → TreeUnit → Def → Env → Action S Datum
   body_of inner u d env = block m (eval_in m inner u.round) (run_in m (eval_in m inner u.round)) d.body env >>= λ r. pure (answered r.0)
 
@@ -132,7 +132,7 @@ module _ {S : Type 0} (m : Primitives S) where
   unfoldable pub apply : Units → Option (Calls S) → Calls S
   apply units inner v p = apply_by units inner v p
 
--- with so many functions that may still become active
+-- with a number of functions that may still become active
 unfoldable pub calls : {S : Type 0} → ℕ → Primitives S → Units → Calls S
 calls zero m units v p = apply m units None v p
 calls (suc left) m units v p = apply m units (Some (calls left m units)) v p

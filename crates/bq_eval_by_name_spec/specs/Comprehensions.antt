@@ -1,5 +1,5 @@
--- Comprehensions (Starlark specification, "Comprehensions"): "the first iterable" is evaluated outside, all else in a block of its own,
--- whose names are the variables of all its clauses. What is bound in it is not seen round it.
+-- Comprehensions (Starlark specification, "Comprehensions"): "the first iterable" is evaluated outside, all else in a
+-- block of its own, whose names are the variables of all its clauses. What is bound in it is not seen around it.
 use Rattle.std.specs.Prelude.{List, [], ◌∷◌, if◌then◌else◌}
 use Rattle.bq_parse_grammar.specs.declared.tree.Argument.TheOpen.{Clause-F}
 use Rattle.bq_parse_grammar.specs.declared.tree.Clause.{Clause, out-Clause}

@@ -31,7 +31,7 @@ use Rattle.bq_eval_by_name_spec.specs.Names.{Env, Round, use_of, namespace_at}
 use Rattle.bq_eval_by_name_spec.specs.Comprehensions.{element, pair_element, comprehension}
 use Rattle.bq_eval_by_name_spec.specs.Trees.{Eval, ArgumentLayer}
 
--- Each rule takes what expressions inside mean, and the last ones what calls mean, and what is round the expression.
+-- Each rule takes what expressions inside mean, and the last ones what calls mean, and what is around the expression.
 module _ {S : Type 0} (m : Primitives S) (eval : Eval S) where
   -- the values so far, and those of all of these
   unfoldable pub values : List Expr → Env → List Datum → Action S (List Datum)
@@ -154,7 +154,7 @@ module _ {S : Type 0} (m : Primitives S) (eval : Eval S) where
     operand x xs env = m.step (length xs) >>= λ _. eval x env >>= λ v. suffixes xs env v
 
     module _ (round : Round) where
-      -- what a namespace holds by this name, or F20
+      -- what a namespace has by this name, or F20
       abbrev pub member_by : Option Predeclared → Action S Datum
       member_by None = stop m f.UnknownName
       member_by (Some p) = pure (m.predeclared p)
@@ -192,7 +192,7 @@ module _ {S : Type 0} (m : Primitives S) (eval : Eval S) where
       unfoldable pub expr : Expr → Env → Action S Datum
       expr e env = expr_by (out-Expr e) env
 
--- of expressions that are no deeper than so many layers; no tree that is parsed holds a deeper one
+-- of expressions that are at most this many layers deep; no tree that is parsed has a deeper one
 unfoldable pub expr_to : {S : Type 0} → ℕ → Primitives S → Calls S → Round → Eval S
 expr_to zero m call round e env = stop m f.Nesting
 expr_to (suc depth) m call round e env = expr m (expr_to depth m call round) call round e env

@@ -27,7 +27,7 @@ use Rattle.bq_eval_by_name_spec.specs.Statements.{Exec, go_on, line}
 use Rattle.bq_eval_by_name_spec.specs.Calls.{Def, TreeUnit, Units, calls}
 use Rattle.bq_eval_by_name_spec.specs.Trees.{Eval}
 
--- ---- what a file holds
+-- ---- what a file has
 
 abbrev pub defs_by : Stmt-F Stmt Branch → List Def
 defs_by (Stmt-F.Def n ps body) = record { name = n.name; parameters = ps; body = body } ∷ []
@@ -83,7 +83,7 @@ module _ {S : Type 0} (m : Primitives S) (own : Own) (eval : Eval S) where
   def_stmt place n ps globals =
       m.step 1 >>= λ _. values m eval (defaults_of ps) globals [] >>= λ vs. pure (next, bind globals n.name (function own.number place n.name (data_of vs)))
 
-  -- `if` and `for` stand in functions (F23)
+  -- `if` and `for` occur only in functions (F23)
   abbrev pub file_stmt_by : ℕ → Stmt-F Stmt Branch → Exec S
   file_stmt_by place (Stmt-F.Simple xs) globals = line m eval xs globals
   file_stmt_by place (Stmt-F.If bs otherwise) globals = stop m f.BadFlow
@@ -97,12 +97,12 @@ module _ {S : Type 0} (m : Primitives S) (own : Own) (eval : Eval S) where
   unfoldable pub top_level : ℕ → TopLevel → Exec S
   top_level place t globals = change m (m.at_line t.line) >>= λ _. file_stmt place t.statement globals
 
-  -- so many functions stand before these
+  -- where this many functions are before these
   unfoldable pub top_levels : ℕ → List TopLevel → Exec S
   top_levels place [] globals = pure (next, globals)
   top_levels place (t ∷ ts) globals = top_level place t globals >>= λ r. go_on (top_levels (place + length (defs_by (out-Stmt t.statement))) ts) r
 
--- what an expression means that stands outside functions, where no block is open
+-- what an expression means outside functions, where no block is open
 unfoldable pub eval_top : {S : Type 0} → Primitives S → Units → Own → Eval S
 eval_top m units own = λ x globals. eval_in m (calls max_active m (with_own units own globals)) (own_round own globals) x outside
 

@@ -1,4 +1,4 @@
--- Environments: the values of names where a piece of a program stands (Starlark specification, "Name binding and variables").
+-- Environments: the values of names at a place of a program (Starlark specification, "Name binding and variables").
 use Rattle.std.specs.Prelude.{List, Bool, true, false, ◌&&◌, Option, Some, None, bytes_eq, if◌then◌else◌}
 use Rattle.std.specs.Option.{option_map}
 use Rattle.bq_base.specs.declared.fault.FaultKind.TheVariants as f
@@ -22,7 +22,7 @@ Env = Name → Option (Option Datum)
 unfoldable pub bind : Env → Name → Datum → Env
 bind env name v = λ other. if bytes_eq other name then Some (Some v) else env other
 
--- a block opens: its names hide those of the same name round it, and none of them is bound yet
+-- a block opens: its names hide those of the same name around it, and none of them is bound yet
 unfoldable pub declare : Env → List Name → Env
 declare env names = λ other. if has names other then Some None else env other
 
@@ -30,15 +30,16 @@ declare env names = λ other. if has names other then Some None else env other
 unfoldable pub outside : Env
 outside name = None
 
--- What is round a function's body or a file's statements: the names that the file binds, those that its loads bind, and those that
--- every file of its kind has.
+-- What is around a function's body or a file's statements: the names that the file binds, those that its loads bind,
+-- and those that every file of its kind has.
 pub record Round : Type 0 where
   pub globals : Env
   pub loaded : Env
   pub universe : UniverseParts
 
 module _ {S : Type 0} (m : Primitives S) (round : Round) where
-  -- "a use belongs to the innermost block round it whose set holds the name": else to the file's, else to its loads, else to all files
+  -- "a use belongs to the innermost block around it whose set holds the name": else to the file's, else to its loads,
+  -- else to all files
   unfoldable pub held : Env → Name → Option (Option Datum)
   held env name =
       or_else (env name) (or_else (round.globals name) (or_else (round.loaded name) (option_map (λ p. Some (m.predeclared p)) (universe_has round.universe name))))

@@ -44,7 +44,7 @@ module _ {S : Type 0} (m : Primitives S) where
   unfoldable pub bind_target : (TargetExpr → Binds) → TargetExpr → Binds
   bind_target inner t v env ps = bind_by inner (out-TargetExpr t) v env ps
 
-  -- of targets that are no deeper than so many layers; no tree that is parsed holds a deeper one
+  -- of targets that are at most this many layers deep; no tree that is parsed has a deeper one
   unfoldable pub bind_to : ℕ → TargetExpr → Binds
   bind_to zero t v env ps = stop m f.Nesting
   bind_to (suc depth) t v env ps = bind_target (bind_to depth) t v env ps
@@ -53,7 +53,8 @@ module _ {S : Type 0} (m : Primitives S) where
   unfoldable pub bind_variables : TargetExpr → Datum → Env → Action S Env
   bind_variables t v env = bind_to max_layers t v env [] >>= λ r. pure r.0
 
-  -- What a name that is assigned holds. Its own block holds the name, so nothing round that block is read: unbound there, it is F49.
+  -- What a name that is assigned has. Its own block has the name, so nothing around that block is read: unbound there,
+  -- it is F49.
   abbrev pub assigned : Option (Option Datum) → Action S Datum
   assigned None = stop m f.Unbound
   assigned (Some v) = bound m v

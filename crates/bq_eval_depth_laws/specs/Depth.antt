@@ -26,7 +26,7 @@ abbrev pub NoResolvedFileIsTooDeep : Type 0
 NoResolvedFileIsTooDeep =
     (kind : FileKind) (ts : List Lexeme) (xs : List TopLevel) (universe : UniverseParts) (file : Resolved) → Parses kind ts (Ok xs) → resolved universe xs ≡ Ok file → FileFits file
 
--- ---- trees that fit: they have no more layers, in the words of the laws of the meaning
+-- ---- trees that fit: they have no more layers, as the laws of the meaning say it
 
 abbrev pub ExpressionsAreWithin : Type 0
 ExpressionsAreWithin = (layers : ℕ) (x : Code) → CodeFits layers x → IsWithin layers x

@@ -1,5 +1,5 @@
--- Trees that are no deeper than the layers that are looked at, with all trees in them: `IsWithin`, `TargetIsWithin` and `StmtIsWithin` of
--- bq_eval_meaning_laws, of each expression, target and statement of a file, wherever it stands.
+-- Trees that are no deeper than the layers that are looked at, with all trees in them: `IsWithin`, `TargetIsWithin` and
+-- `StmtIsWithin` of bq_eval_meaning_laws, of each expression, target and statement of a file, wherever it is.
 use Rattle.std.specs.Prelude.{ℕ, zero, suc}
 use Rattle.std.specs.List.{AllByRecursion}
 use Rattle.bq_resolve_scope.specs.declared.code.Code.{Code, out-Code}
@@ -26,7 +26,7 @@ abbrev pub IndexParts : (Code → Type 0) → TargetLayer → Type 0
 IndexParts E (CodeTarget-F.CodeTarget::Index x i) = E x × E i
 IndexParts E _ = Unit {0}
 
--- a target is no deeper than so many layers, and `E` holds of each expression in it
+-- a target is at most this many layers deep, and `E` holds of each expression in it
 unfoldable pub TargetFits : (Code → Type 0) → ℕ → CodeTarget → Type 0
 TargetFits E zero t = ⊥
 TargetFits E (suc layers) t = TargetParts (TargetFits E layers) (out-CodeTarget t) × IndexParts E (out-CodeTarget t)
@@ -46,8 +46,8 @@ module _ (T : CodeTarget → Type 0) where
   VariableParts (Code-F.DictComprehension p cs) = AllByRecursion Variables cs
   VariableParts _ = Unit {0}
 
--- an expression is no deeper than so many layers; the variables of its comprehensions fit, and what stands in them is one layer less
--- deep, as all else in it
+-- an expression is at most this many layers deep; the variables of its comprehensions fit, and what is in them is one
+-- layer less deep, as all else in it
 unfoldable pub CodeFits : ℕ → Code → Type 0
 CodeFits zero x = ⊥
 CodeFits (suc layers) x = CodeParts (CodeFits layers) (out-Code x) × VariableParts (TargetFits (CodeFits layers) max_layers) (out-Code x)
@@ -75,7 +75,7 @@ StmtLayerFits inner (CodeStmt-F.Simple xs) = AllByRecursion SmallFits xs
 StmtLayerFits inner (CodeStmt-F.If bs otherwise) = AllByRecursion (BranchFits inner) bs × AllByRecursion inner otherwise
 StmtLayerFits inner (CodeStmt-F.For t x body) = PlaceFits t × ExprFits x × AllByRecursion inner body
 
--- a statement is no deeper than so many layers, and the expressions and targets in it fit
+-- a statement is at most this many layers deep, and the expressions and targets in it fit
 unfoldable pub StmtFits : ℕ → CodeStmt → Type 0
 StmtFits zero x = ⊥
 StmtFits (suc layers) x = StmtLayerFits (StmtFits layers) (out-CodeStmt x)

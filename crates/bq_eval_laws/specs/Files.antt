@@ -32,8 +32,8 @@ abbrev pub EndsShort : Ended → List (List ℕ) → Type 0
 EndsShort (evaluated frozen prints) all = ⊥
 EndsShort (failed fault prints) all = (fault.kind ≡ StepLimit) × Begins prints all
 
--- A file has a number of steps and an outcome of its own: under every limit of at least so many steps it has its outcome, and under a
--- lower one it is F53 after a beginning of the same prints.
+-- A file has a number of steps and an outcome of its own: under every limit of at least that many steps it has its
+-- outcome, and under a lower one it is F53 after a beginning of the same prints.
 pub record FileTakes (ends : ℕ → Ended) : Type 0 where
   pub steps : ℕ
   pub outcome : Ended

@@ -35,20 +35,20 @@ module _ {S : Type 0} (m : Primitives S) where
       → (m.truth v t ≡ true → branches m eval run (b ∷ bs) otherwise env s ≡ block m eval run (out-CodeBranch b).block env t)
       × (m.truth v t ≡ false → branches m eval run (b ∷ bs) otherwise env s ≡ branches m eval run bs otherwise env t)
 
-  -- the condition of an `if` clause, and then what stands in it, or else nothing
+  -- the condition of an `if` clause, and then what is in it, or else nothing
   abbrev pub FiltersFirst : Type 0
   FiltersFirst =
       (eval : Eval S) (env : Frame) (x : Code) (inner : Turn S) (c : Contents) (v : Datum) (s t : S) → eval x env s ≡ done v t
       → (m.truth v t ≡ true → if_clause m eval x inner env c s ≡ inner env c t) × (m.truth v t ≡ false → if_clause m eval x inner env c s ≡ done (c, env) t)
 
-  -- the variables of a `for` clause, and then what stands in it
+  -- the variables of a `for` clause, and then what is in it
   abbrev pub VariablesFirst : Type 0
   VariablesFirst =
       (eval : Eval S) (env new : Frame) (t : CodeTarget) (inner : Turn S) (v : Datum) (c : Contents) (r s u : S) → m.step 1 r ≡ done tt s → bind_variables m t v env s ≡ done new u
       → turn m eval t inner v env c r ≡ inner new c u
 
-  -- The first clause, with the others in it, and in the last one what stands before them: where the first clause stops, nothing else is
-  -- evaluated.
+  -- The first clause, with the others in it, and in the last one what is before them: where the first clause stops,
+  -- nothing else is evaluated.
   abbrev pub ClausesFirst : Type 0
   ClausesFirst =
       (eval : Eval S) (env : Frame) (first : Contents) (x : Code) (c : CodeClause) (cs : List CodeClause) (r s : S) → m.step 1 r ≡ done tt s

@@ -1,5 +1,5 @@
--- How many layers a resolved tree has: an expression is no deeper than so many layers where the expressions in it are no deeper than one
--- layer less; so are statements, and the targets of assignments.
+-- How many layers a resolved tree has: an expression is at most n layers deep if the expressions in it are at most n -
+-- 1 layers deep; so are statements, and the targets of assignments.
 use Rattle.std.specs.Prelude.{ℕ, zero, suc, Option, Some, None}
 use Rattle.std.specs.List.{AllByRecursion}
 use Rattle.bq_resolve_scope.specs.declared.code.Code.{Code, out-Code}
@@ -76,7 +76,7 @@ module _ (P : Code → Type 0) where
   CodeParts (Code-F.Conditional cs x) = AllByRecursion ChoiceParts cs × P x
   CodeParts Code-F.Lambda = Unit {0}
 
--- an expression is no deeper than so many layers
+-- an expression is at most this many layers deep
 unfoldable pub IsWithin : ℕ → Code → Type 0
 IsWithin zero x = ⊥
 IsWithin (suc layers) x = CodeParts (IsWithin layers) (out-Code x)
@@ -88,7 +88,7 @@ TargetParts P (CodeTarget-F.CodeTarget::Tuple ts) = AllByRecursion P ts
 TargetParts P (CodeTarget-F.CodeTarget::List ts) = AllByRecursion P ts
 TargetParts P _ = Unit {0}
 
--- a target is no deeper than so many layers
+-- a target is at most this many layers deep
 unfoldable pub TargetIsWithin : ℕ → CodeTarget → Type 0
 TargetIsWithin zero t = ⊥
 TargetIsWithin (suc layers) t = TargetParts (TargetIsWithin layers) (out-CodeTarget t)
@@ -103,7 +103,7 @@ StmtParts P (CodeStmt-F.Simple xs) = Unit {0}
 StmtParts P (CodeStmt-F.If bs otherwise) = AllByRecursion (BranchParts P) bs × AllByRecursion P otherwise
 StmtParts P (CodeStmt-F.For t x body) = AllByRecursion P body
 
--- a statement is no deeper than so many layers
+-- a statement is at most this many layers deep
 unfoldable pub StmtIsWithin : ℕ → CodeStmt → Type 0
 StmtIsWithin zero x = ⊥
 StmtIsWithin (suc layers) x = StmtParts (StmtIsWithin layers) (out-CodeStmt x)

@@ -17,7 +17,7 @@ use Rattle.bq_eval_meaning_spec.specs.Expressions.{eval_in}
 use Rattle.bq_eval_meaning_spec.specs.Statements.{Flow, answer, block, run_in}
 use Rattle.bq_eval_meaning_spec.specs.Trees.{Calls}
 
--- a module: its functions in the order of their `def`s, and what is round them
+-- a module: its functions in the order of their `def`s, and what is around them
 pub record CodeUnit : Type 0 where
   pub functions : List CodeFunction
   pub round : Surroundings
@@ -35,7 +35,7 @@ singles (parameter.Plain name slot ∷ ps) = record { name = Some name; is_requi
 singles (parameter.Default name slot ∷ ps) = record { name = Some name; is_required = false } ∷ singles ps
 singles (_ ∷ ps) = singles ps
 
--- how many of them stand before a `*`: after it only named arguments come
+-- how many of them are before a `*`: after it only named arguments come
 abbrev pub placed_of : List CodeParameter → ℕ
 placed_of [] = 0
 placed_of (parameter.Plain name slot ∷ ps) = suc (placed_of ps)
@@ -109,7 +109,7 @@ module _ {S : Type 0} (m : Primitives S) where
 
   -- ---- calls
 
-  -- `inner` is what calls mean inside; none where as many functions are active as may be
+  -- `inner` is what calls mean inside; `None` if as many functions are active as may be
   abbrev pub within : {A : Type 0} → Option (Calls S) → (Calls S → Action S A) → Action S A
   within None go = stop m f.CallDepth
   within (Some inner) go = go inner
@@ -147,7 +147,7 @@ module _ {S : Type 0} (m : Primitives S) where
 unfoldable pub max_active : ℕ
 max_active = 100
 
--- with so many functions that may still become active
+-- with a number of functions that may still become active
 unfoldable pub calls : {S : Type 0} → ℕ → Primitives S → Units → Calls S
 calls zero m units v p = apply m units None v p
 calls (suc left) m units v p = apply m units (Some (calls left m units)) v p

@@ -1,5 +1,5 @@
--- Comprehensions (Starlark specification, "Comprehensions"). One runs on a copy of the frame, so that it writes none of the names that
--- are round it. Its turns hand on the list or dict so far.
+-- Comprehensions (Starlark specification, "Comprehensions"). One runs on a copy of the frame, so that it writes none of
+-- the names that are around it. Its turns hand on the list or dict so far.
 use Rattle.std.specs.Prelude.{List, [], ◌∷◌, if◌then◌else◌}
 use Rattle.bq_resolve_scope.specs.declared.code.Code.{Code, out-Code}
 use Rattle.bq_resolve_scope.specs.declared.code.Code.TheOpen.{Code-F, CodeClause-F}
@@ -27,7 +27,7 @@ module _ {S : Type 0} (m : Primitives S) (eval : Eval S) where
   unfoldable pub pair_element : CodePair → Turn S
   pair_element p env c = eval (out-CodePair p).key env >>= λ k. eval (out-CodePair p).value env >>= λ v. m.put_pair c k v >>= λ d. pure (d, env)
 
-  -- what stands before the clauses
+  -- what is before the clauses
   abbrev pub body_by : CodeLayer → Turn S
   body_by (Code-F.ListComprehension x cs) = element x
   body_by (Code-F.DictComprehension p cs) = pair_element p

@@ -200,7 +200,7 @@ module _ {S : Type 0} (m : Primitives S) (eval : Eval S) where
       unfoldable pub expr : Code → Frame → Action S Datum
       expr e env = expr_by e (out-Code e) env
 
--- of expressions that are no deeper than so many layers; no tree that is parsed holds a deeper one
+-- of expressions that are at most this many layers deep; no tree that is parsed has a deeper one
 unfoldable pub expr_to : {S : Type 0} → ℕ → Primitives S → Calls S → Surroundings → Eval S
 expr_to zero m call round e env = stop m f.Nesting
 expr_to (suc depth) m call round e env = expr m (expr_to depth m call round) call round e env

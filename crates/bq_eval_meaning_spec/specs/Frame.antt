@@ -14,7 +14,8 @@ empty slot = None
 unfoldable pub fill : Frame → ℕ → Datum → Frame
 fill frame slot v = λ other. if other == slot then Some v else frame other
 
--- What is round a function's body or a file's statements: the values of the file's globals, and of what its loads bind.
+-- What is around a function's body or a file's statements: the values of the file's globals, and of what its loads
+-- bind.
 pub record Surroundings : Type 0 where
   pub globals : Frame
   pub loaded : Frame

@@ -78,7 +78,7 @@ module _ {S : Type 0} (m : Primitives S) (own : Own) (eval : Eval S) where
   top_levels [] globals = pure (next, globals)
   top_levels (t ∷ ts) globals = top_level t globals >>= λ r. go_on (top_levels ts) r
 
--- what an expression means that stands outside functions, where no name is a slot of a frame
+-- what an expression means outside functions, where no name is a slot of a frame
 unfoldable pub eval_top : {S : Type 0} → Primitives S → Units → Own → Eval S
 eval_top m units own = λ x globals. eval_in m (calls max_active m (with_own units own globals)) (own_round own globals) x empty
 

@@ -16,7 +16,7 @@ use Rattle.bq_builtin_machine.specs.State.{State, stop_at}
 pub record Primitives (S : Type 0) : Type 0 where
   -- what a state has of the machine's
   pub machine : S → State
-  -- takes so many steps (F53)
+  -- takes a number of steps (F53)
   pub step : ℕ → Action S (Unit {0})
   -- the top-level statement that runs is on this line
   pub at_line : ℕ → S → S
@@ -44,7 +44,7 @@ pub record Primitives (S : Type 0) : Type 0 where
   pub add_pair : Contents → Datum → Datum → Action S Contents
   -- a dict in which the key has this value
   pub put_pair : Contents → Datum → Datum → Action S Contents
-  -- the elements of an iterable that has just so many (F57)
+  -- the elements of an iterable that has exactly this many (F57)
   pub parts : ℕ → Datum → Action S (List Datum)
   -- the elements of an iterable (F40); a list or dict may not be changed from now on (F48)
   pub begin_walk : Datum → Action S (List Datum)

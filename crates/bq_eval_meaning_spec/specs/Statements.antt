@@ -39,7 +39,7 @@ turn_on run (again, env) = run env
 turn_on run (leave, env) = pure (next, env)
 turn_on run (answer v, env) = pure (answer v, env)
 
--- a load does nothing where it stands, and takes no step
+-- a load does nothing where it is, and takes no step
 unfoldable pub steps_of : CodeSmall → ℕ
 steps_of small.Load = 0
 steps_of _ = 1
@@ -111,7 +111,7 @@ module _ {S : Type 0} (m : Primitives S) (eval : Eval S) where
     unfoldable pub stmt : CodeStmt → Exec S
     stmt x env = stmt_by (out-CodeStmt x) env
 
--- of statements that are no deeper than so many layers; no tree that is parsed holds a deeper one
+-- of statements that are at most this many layers deep; no tree that is parsed has a deeper one
 unfoldable pub run_to : {S : Type 0} → ℕ → Primitives S → Eval S → CodeStmt → Exec S
 run_to zero m eval x env = stop m f.Nesting
 run_to (suc depth) m eval x env = stmt m eval (run_to depth m eval) x env

@@ -53,7 +53,7 @@ module _ {S : Type 0} (m : Primitives S) where
   unfoldable pub bind_target : (CodeTarget → Binds) → CodeTarget → Binds
   bind_target inner t v env ps = bind_by inner (out-CodeTarget t) v env ps
 
-  -- of targets that are no deeper than so many layers; no tree that is parsed holds a deeper one
+  -- of targets that are at most this many layers deep; no tree that is parsed has a deeper one
   unfoldable pub bind_to : ℕ → CodeTarget → Binds
   bind_to zero t v env ps = stop m f.Nesting
   bind_to (suc depth) t v env ps = bind_target (bind_to depth) t v env ps

@@ -1,4 +1,5 @@
--- Unpacking (Starlark specification, "Assignments"): so many targets take an iterable of just as many elements (F57).
+-- Unpacking (Starlark specification, "Assignments"): a number of targets take an iterable of exactly as many elements
+-- (F57).
 use Rattle.std.specs.Prelude.{ℕ, List, length, ◌==◌, cond, Result, Ok, Err}
 use Rattle.bq_base.specs.declared.fault.FaultKind.{FaultKind}
 use Rattle.bq_base.specs.declared.fault.FaultKind.TheVariants.{BadValue}
@@ -7,7 +8,7 @@ use Rattle.bq_builtin_machine.specs.State.{State}
 use Rattle.bq_builtin_machine.specs.Action.{Action, look}
 use Rattle.bq_builtin_machine.specs.Iteration.{elements_in}
 
--- just so many elements
+-- exactly `count` elements
 abbrev pub just : ℕ → Result (List Datum) FaultKind → Result (List Datum) FaultKind
 just count (Ok xs) = cond (length xs == count) (Ok xs) (Err BadValue)
 just count (Err _) = Err BadValue

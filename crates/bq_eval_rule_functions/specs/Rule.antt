@@ -42,7 +42,7 @@ abbrev pub entries_in : Option Contents → Result Class FaultKind
 entries_in (Some (pairs ps)) = entries ps
 entries_in _ = Err WrongType
 
--- the attributes of a rule: none where `attrs` is left out
+-- the attributes of a rule; it has none if `attrs` is left out
 abbrev pub attributes_in : StoreView → Option Datum → Result Class FaultKind
 attributes_in store None = Ok []
 attributes_in store (Some (datum.cell home number)) = entries_in (content_at store home number)

@@ -1,5 +1,5 @@
--- The loops of a comprehension that are open: what they still do, in the words of the definition (`Comprehensions` of
--- `bq_eval_meaning_spec`), and how many turns and ends of loops that takes. `body` is what stands before the clauses.
+-- The open loops of a comprehension: what they still do, by the definition (`Comprehensions` of
+-- `bq_eval_meaning_spec`), and how many turns and ends of loops that takes. `body` is what is before the clauses.
 use Rattle.std.specs.Prelude.{ℕ, suc, ◌+◌, List, [], ◌∷◌, Option, Some, None, map, reverse, if◌then◌else◌}
 use Rattle.bq_resolve_scope.specs.declared.code.Code.{Code}
 use Rattle.bq_resolve_scope.specs.declared.code.Code.TheOpen.{CodeClause-F}

@@ -1,4 +1,4 @@
--- What a context says of what is round an expression or a statement.
+-- What a context says of the environment of an expression or a statement.
 use Rattle.std.specs.Prelude.{List, map, slice_get, if◌then◌else◌}
 use Rattle.std.specs.declared.alloc.Global.{Global}
 use Rattle.std.specs.declared.sync.Arc.{Arc}
@@ -43,7 +43,7 @@ inside m c = calls c.left m (units_at c.program.now (globals_of c.own))
 
 -- ---- statements
 
--- what an expression means that stands outside functions, where the frame is the globals
+-- what an expression means outside functions, where the frame is the globals
 unfoldable pub outside_functions : {S : Type 0} → Primitives S → Context → Eval S
 outside_functions m c = λ x env. expr_to max_layers m (calls c.left m (units_at c.program.now env)) (own_round (own_of c.program.now) env) x empty
 

@@ -1,5 +1,6 @@
--- Trees in which nothing stands that ends an evaluation by itself: they are no deeper than the layers that are looked at, and in none of
--- them stands what the language leaves out, a `for` over another variable than a name, or an augmented assignment to a tuple or list.
+-- Trees without anything that ends an evaluation by itself: they are no deeper than the layers that are looked at, and
+-- none of them has what the language leaves out, a `for` over another variable than a name, or an augmented assignment
+-- to a tuple or list.
 use Rattle.std.specs.Prelude.{ℕ, zero, suc}
 use Rattle.std.specs.List.{AllByRecursion}
 use Rattle.bq_resolve_scope.specs.declared.code.Code.{Code, out-Code}
@@ -23,7 +24,7 @@ use Rattle.bq_eval_depth_laws.specs.Fits.{TargetFits, VariableParts}
 
 -- ---- targets
 
--- the variables of a `for` are names: in no part of them an expression stands
+-- the variables of a `for` are names: no part of them has an expression
 abbrev pub NoExpr : Code → Type 0
 NoExpr x = ⊥
 
@@ -41,7 +42,7 @@ IsOne t = IsOneLayer (out-CodeTarget t)
 
 -- ---- expressions
 
--- `.name` stands before a call alone
+-- `.name` occurs only before a call
 abbrev pub SuffixIsKeptLayer : SuffixLayer → Type 0
 SuffixIsKeptLayer (CodeSuffix-F.Attribute name) = ⊥
 SuffixIsKeptLayer _ = Unit {0}

@@ -1,4 +1,4 @@
--- How a label's text is read: a function that gives what the forms of `Label.antt` say (the law `forms_of_a_label`).
+-- How a label's text is read: a function that returns what the forms of `Label.antt` say (the law `forms_of_a_label`).
 use Rattle.std.specs.Prelude.{ℕ, ◌==◌, ◌&&◌, Bool, false, List, [], ◌∷◌, Option, Some, None, Result, Ok, Err, drop, if◌then◌else◌, option_and_then}
 use Rattle.std.specs.Option.{option_map}
 use Rattle.bq_base.specs.Fault.{fault_at}

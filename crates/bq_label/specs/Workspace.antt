@@ -25,11 +25,11 @@ are_apart paths = list_all (λ p. not (list_any (λ d. is_above d p) paths)) pat
 abbrev pub paths_of : List File → List (List ℕ)
 paths_of files = map (λ f. f.path) files
 
--- at most so many files
+-- the most files
 abbrev pub max_files : ℕ
 max_files = 65536
 
--- the paths are valid and distinct, none is a directory of another, and they are not too many
+-- the paths are valid and distinct, none is a directory of another, and there aren't too many
 unfoldable pub are_paths : List (List ℕ) → Bool
 are_paths paths = list_all is_path paths && are_distinct paths && are_apart paths
 

@@ -27,7 +27,7 @@ refused why = record { faults = []; answer = []; end = Err why }
 abbrev pub inside_by : LoadingParts → Loads → Inside
 inside_by x p = record { prints = print_lines (outcomes x p); faults = sorted_lines (fault_lines (outcomes x p)); packages = packages_in x.packages (outcomes x p) }
 
--- what is in the workspace once the modules of its load graph are loaded, each with so many steps
+-- what is in the workspace once the modules of its load graph are loaded, each with `limit` steps
 abbrev pub loaded_in : List File → Rules → ℕ → GraphParts → Inside
 loaded_in files rules limit g = inside_by (loading_in files rules limit g) g.edges
 

@@ -25,7 +25,7 @@ use Rattle.bq_load_by_name_laws.specs.Results.{outcomes}
 abbrev pub inside_by : List BuildFile → List OutcomeView → Inside
 inside_by bs os = record { prints = print_lines os; faults = sorted_lines (fault_lines os); packages = packages_in bs os }
 
--- what is in the workspace once the modules of its load graph are evaluated by names, each with so many steps
+-- what is in the workspace once the modules of its load graph are evaluated by names, each with `limit` steps
 abbrev pub loaded_by_names : List File → Rules → ℕ → GraphParts → Inside
 loaded_by_names files rules limit g = inside_by (packages_of files) (outcomes (parsed_in files rules limit g) g.edges)
 

@@ -60,7 +60,7 @@ frozen_at f home number = cond (home == f.own) (slice_get f.cells.cells number) 
 unfoldable pub globals_at : FrozenView → ℕ → Option (List Datum)
 globals_at f home = cond (home == f.own) (Some f.cells.globals) (globals_of (module_at home f.reached))
 
--- the running module comes to its end, where its globals have these names and values; after them come the values that it loads
+-- the running module ends, and its globals have these names and values; after them come the values that it loads
 abbrev pub frozen : StoreView → List (List ℕ) → List Datum → FrozenView
 frozen s names gs =
     record { own = s.own; cells = record { cells = s.cells; globals = gs; kinds = kinds_of s.own s.cells names gs }; reached = s.loaded }

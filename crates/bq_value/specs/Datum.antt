@@ -5,7 +5,7 @@ use Rattle.bq_resolve_predeclared.specs.declared.rule_function.RuleFunction.{Rul
 use Rattle.bq_package_rule_class.specs.declared.attribute.Attribute.{Attribute}
 
 mutual
-  -- a value; a list, a dict or a rule is a cell, the number of which stands with its module
+  -- a value; a list, a dict or a rule is a cell, whose number is beside that of its module
   pub data Datum : Type 0 where
     none : Datum
     boolean : Bool → Datum

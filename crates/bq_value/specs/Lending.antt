@@ -15,6 +15,6 @@ with_cell s number c = with_cells (set s.cells number c) s
 abbrev pub LendsCell : MutBor StoreView → ℕ → MutBor Contents → Fml
 LendsCell s number r = Lends the_row content_row s r (with_cell s.now number)
 
--- the same, where it is lent; else the store ends as it was
+-- the store ends with the cell as the borrower leaves it, if it is lent; else as it was
 abbrev pub LendsCellIfOk : MutBor StoreView → ℕ → Result (MutBor Contents) EvalErr → Fml
 LendsCellIfOk s number r = LendsIfOk the_row content_row s r (with_cell s.now number) s.now

@@ -1,4 +1,5 @@
--- The pairs of a dict (Starlark, "Dictionaries"): their keys are distinct, and stand in the order in which they came.
+-- The pairs of a dict (Starlark, "Dictionaries"): their keys are distinct, and in the order in which they were
+-- inserted.
 use Rattle.std.specs.Prelude.{◌≡◌, cond, List, [], ◌∷◌, ◌++◌, map, Option, Some, None}
 use Rattle.bq_value.specs.Datum.{Datum}
 use Rattle.bq_value.specs.Same.{same}

@@ -11,7 +11,7 @@ IsBefore element stop _ = stop <ℤ element
 abbrev pub range_element : ℤ → ℤ → ℕ → ℤ
 range_element start step k = start +ℤ (pos k *ℤ step)
 
--- how many steps of that size stand from one integer up to below another
+-- how many steps of that size lead from one integer up to below another
 unfoldable pub steps_between : ℤ → ℤ → ℤ → ℕ
 steps_between low high step = cond (int_lt low high) ((unsigned_abs (high -ℤ low) - 1) / unsigned_abs step + 1) 0
 
@@ -19,7 +19,8 @@ steps_between low high step = cond (int_lt low high) ((unsigned_abs (high -ℤ l
 unfoldable pub range_count : ℤ → ℤ → ℤ → ℕ
 range_count start stop step = cond (int_lt (pos 0) step) (steps_between start stop step) (cond (int_lt step (pos 0)) (steps_between stop start step) 0)
 
--- the same elements, without a walk over them: as many, and where there are any, the same first, and where there are two, the same step
+-- the same elements, without a walk over them: as many, and where there are any, the same first one, and where there
+-- are two, the same step
 unfoldable pub ranges_same : ℤ → ℤ → ℤ → ℤ → ℤ → ℤ → Bool
 ranges_same a b c d e f =
     (range_count a b c == range_count d e f) && ((range_count a b c == 0) || (int_eq a d && ((range_count a b c == 1) || int_eq c f)))

@@ -80,7 +80,7 @@ parts_equal compare s n (cell a i) b = cell_equal compare s n a i b
 parts_equal compare s n (function a i _ _) b = Ok (function_equal a i b, n)
 parts_equal compare s n a b = Ok (same a b, n)
 
--- with so many levels to go
+-- where this many levels may be looked at
 abbrev pub equal_at : ℕ → StoreView → Compares
 equal_at zero s n a b = stepped n (λ m. Err TooDeep)
 equal_at (suc l) s n a b = stepped n (λ m. parts_equal (equal_at l s) s m a b)

@@ -29,7 +29,7 @@ parts_walked walk n (string s) = Ok n
 parts_walked walk n (tuple xs) = all_walked walk n (list_of xs)
 parts_walked walk n _ = Err Unhashable
 
--- with so many levels to go
+-- where this many levels may be looked at
 abbrev pub walked_at : ℕ → ℕ → Datum → Walked
 walked_at zero n v = walk_step n (λ m. Err TooDeep)
 walked_at (suc l) n v = walk_step n (λ m. parts_walked (walked_at l) m v)

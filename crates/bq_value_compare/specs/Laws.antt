@@ -1,4 +1,4 @@
--- The words of the laws of walks.
+-- The definitions of the laws of walks.
 use Rattle.std.specs.Prelude.{◌≡◌, ℕ, zero, suc, ◌+◌, ◌<◌, ℤ, Bool, true, false, List, [], ◌∷◌, Option, Some, None, Result, Ok, Err}
 use Rattle.std.specs.declared.cmp.Ordering.{Ordering}
 use Rattle.std.specs.declared.cmp.Ordering.TheVariants.{Less, Equal, Greater}
@@ -12,7 +12,7 @@ use Rattle.bq_value_compare.specs.Looked.{Looked, max_levels}
 use Rattle.bq_value_compare.specs.Equality.{equal_at}
 use Rattle.bq_value_compare.specs.Order.{ordered_at}
 
--- a walk that has so many steps answers this
+-- with some number of steps, a walk has this answer
 pub record Answers {A : Type 0} (walk : ℕ → Looked A) (answer : A) : Type 0 where
   pub steps : ℕ
   pub left : ℕ
@@ -79,8 +79,8 @@ abbrev pub with_left : {A : Type 0} → Result A FaultKind → ℕ → Looked A
 with_left (Ok a) n = Ok (a, n)
 with_left (Err kind) n = Err kind
 
--- A walk has a number of steps and an outcome of its own: with fewer steps it is F53, with as many or more it has its outcome,
--- and what is left is what it doesn't take.
+-- A walk has a number of steps and an outcome of its own: with fewer steps it is F53, with as many or more it has its
+-- outcome, and the rest of the steps is left.
 pub record Takes {A : Type 0} (walk : ℕ → Looked A) : Type 0 where
   pub steps : ℕ
   pub outcome : Result A FaultKind
@@ -91,7 +91,7 @@ pub record Takes {A : Type 0} (walk : ℕ → Looked A) : Type 0 where
 abbrev pub HaveSameElements : ℤ → ℤ → ℤ → ℤ → ℤ → ℤ → Type 0
 HaveSameElements a b c d e f = (range_count a b c ≡ range_count d e f) × ((k : ℕ) → k < range_count a b c → range_element a c k ≡ range_element d f k)
 
--- `None` in so many tuples of one, in one another
+-- `None` in a number of tuples of one, each inside the next
 unfoldable pub nested : ℕ → Datum
 nested zero = none
 nested (suc k) = tuple (datum (nested k) end)

@@ -66,7 +66,7 @@ parts_ordered same order s n (tuple xs) b = tuple_ordered same order n (list_of 
 parts_ordered same order s n (cell a i) b = cell_ordered same order s n (content_at s a i) b
 parts_ordered same order s n _ b = Err WrongType
 
--- with so many levels to go
+-- where this many levels may be looked at
 abbrev pub ordered_at : ℕ → StoreView → Orders
 ordered_at zero s n a b = stepped n (λ m. Err TooDeep)
 ordered_at (suc l) s n a b = stepped n (λ m. parts_ordered (equal_at l s) (ordered_at l s) s m a b)

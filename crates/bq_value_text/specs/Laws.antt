@@ -1,4 +1,4 @@
--- The words of the laws of texts.
+-- The definitions of the laws of texts.
 use Rattle.std.specs.Prelude.{◌≡◌, ℕ, zero, suc, ◌^◌, ◌<◌, ℤ, pos, true, false, cond, List, [], ◌∷◌, ◌++◌, Option, Some, None, codes}
 use Rattle.std.specs.Fmt.{signed_decimal}
 use Rattle.std.specs.Ordering.{int_eq}
@@ -82,7 +82,7 @@ IsTextOf has s (built_in name) t = t ≡ codes "<built-in function " ++ (name ++
 IsTextOf has s (rule_function f) t = t ≡ codes "<built-in function " ++ (rule_function_name f ++ codes ">")
 IsTextOf has s (attribute a) t = t ≡ codes "<attr." ++ (type_name a.kind ++ codes ">")
 
--- of a value of at most so many levels
+-- the text of a value of at most this many levels
 abbrev pub HasText : ℕ → StoreView → Datum → List ℕ → Type 0
 HasText zero s v t = ⊥
 HasText (suc l) s v t = IsTextOf (HasText l s) s v t

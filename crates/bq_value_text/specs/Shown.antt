@@ -21,7 +21,7 @@ abbrev pub all_shown : Shows → List ℕ → PageView → ℕ → List Datum �
 all_shown show separator page n [] = Ok (page, n)
 all_shown show separator page n (x ∷ xs) = and_then (show (written page separator) n x) (λ p m. all_shown show (codes ", ") p m xs)
 
--- the same of pairs, each as `key: value`
+-- the texts of pairs, each as `key: value`
 abbrev pub pairs_shown : Shows → List ℕ → PageView → ℕ → List (Datum × Datum) → Looked PageView
 pairs_shown show separator page n [] = Ok (page, n)
 pairs_shown show separator page n (x ∷ xs) =
@@ -56,7 +56,7 @@ parts_shown show s page n (tuple xs) = list_shown show (codes "(") (tuple_end (l
 parts_shown show s page n (cell home number) = cell_shown show page n (content_at s home number)
 parts_shown show s page n v = Ok (leaf_written page v, n)
 
--- with so many levels to go
+-- where this many levels may be written
 abbrev pub shown_at : ℕ → StoreView → Shows
 shown_at zero s page n v = stepped n (λ m. Err TooDeep)
 shown_at (suc l) s page n v = stepped n (λ m. parts_shown (shown_at l s) s page m v)
