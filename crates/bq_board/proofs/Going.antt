@@ -66,7 +66,7 @@ module _ (p : Loads) where
   shorter (suc i) zero m le h = absurd (omega arith)
   shorter (suc i) (suc n) m le h = (h.0, h.1, shorter i n h.0 (omega arith) h.2)
 
-  -- round a cycle as often as wanted
+  -- around a cycle as often as wanted
   round : (j k l : ℕ) → PathTo p (suc k) l l → (n : ℕ) × (j ≤ n) × HasPath p n l
   round zero k l c = (0, omega arith, tt)
   round (suc j) k l c = let r = round j k l c in (suc k + r.0, omega (arith, r.1), joined (suc k) r.0 (suc k + r.0) l l refl c r.2)

@@ -9,7 +9,7 @@ use Rattle.bq_board.specs.Seats.{SitsAt}
 use Rattle.bq_board.specs.declared.view.View.{View}
 
 module _ {B V : Type 0} (z : TableId) (b : B) (p : Loads) where
-  -- the place is at the table and has done nothing; so many seats may be cut from it
+  -- the place is at the table and has done nothing; a number of seats may be split off from it
   abbrev pub IsFresh : ℕ → Place (Option V) (View B) → Type 0
   IsFresh n s = SitsAt z b p s × (s.me.0 ≡ blank_with b p n)
 

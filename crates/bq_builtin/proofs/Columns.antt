@@ -3,7 +3,7 @@ use Rattle.std.proofs.Common.{◌≡◌, ◌∙◌, sym, ap, ℕ, zero, suc, ◌
 use Rattle.bq_value.specs.Datum.{Datum, tuple, data_of}
 use Rattle.bq_builtin.specs.Sequences.{heads, rows}
 
--- the columns of which so many have moved on
+-- the columns after a number of moves
 abbrev pub moved_on : ℕ → List (List Datum) → List (List Datum)
 moved_on i xss = map (drop 1) (take i xss) ++ drop i xss
 

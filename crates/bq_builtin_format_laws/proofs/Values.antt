@@ -44,7 +44,7 @@ ended_malformed : (d : DraftView) (vs : List Datum) → d.malformed ≡ true →
 ended_malformed d [] h = h
 ended_malformed d (v ∷ vs) h = refl
 
--- with so many percent signs
+-- with a number of percent signs
 abbrev KeepsMalformed : StoreView → ℕ → Type 0
 KeepsMalformed s most = (d : DraftView) (n : ℕ) (vs : List Datum) (text : List ℕ) → d.malformed ≡ true → IsMalformed (filled most s d n vs text)
 

@@ -10,7 +10,7 @@ sub_next n i h = omega (arith, h)
 sub_end : (n i : ℕ) → n ≤ i → n - i ≡ 0
 sub_end n i h = omega (arith, h)
 
--- a slot that takes the next value, or none where there is none
+-- a slot that takes the next value, if there is one
 taken_by : (p n : ℕ) (v : Option Datum) (old new : List Datum) → IsNext v old new → placed_values (suc p) (suc n) old ≡ v ∷ placed_values p n new
 taken_by p n None old new h = ap (placed_values (suc p) (suc n)) h.0 ∙ ap (λ xs. None ∷ placed_values p n xs) (sym h.1)
 taken_by p n (Some x) old new h = ap (placed_values (suc p) (suc n)) h

@@ -65,7 +65,7 @@ part_from_end before part after p =
 pub past_the_ends : {A : Type 0} (xs : List A) (m n : ℕ) → length xs ≤ m → length xs ≤ n → slice_of xs (Some (neg_ℤ (pos m))) (Some (pos n)) (pos 1) ≡ xs
 past_the_ends xs m n l h = rw (start_past (length xs) m l) (rw (stop_past (length xs) n h) (whole_slice xs))
 
--- the other way round
+-- the other way around
 down_count : (n : ℕ) → range_count (pos n -ℤ pos 1) (negsuc 0) (negsuc 0) ≡ n
 down_count n =
     let c : ℕ = range_count (pos n -ℤ pos 1) (negsuc 0) (negsuc 0) in

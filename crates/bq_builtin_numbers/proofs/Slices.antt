@@ -67,7 +67,7 @@ elements_of_slice xs start stop step apart =
 pub at_most : (m n : ℕ) → (n < m → ⊥) → m ≤ n
 at_most m n h = elim (cases_lt n m) [ inl l ↦ absurd (h l) | inr l ↦ l ]
 
--- so many places lie from one to another, by steps of 1
+-- a number of places are from one to another, by steps of 1
 pub run_count : (i n : ℕ) → range_count (pos i) (pos (i + n)) (pos 1) ≡ n
 run_count i n =
     let c : ℕ = range_count (pos i) (pos (i + n)) (pos 1) in

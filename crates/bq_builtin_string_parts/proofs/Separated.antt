@@ -23,7 +23,7 @@ module _ (sep : List ℕ) (some : 0 < length sep) where
   nothing_has : (text : List ℕ) → length text ≤ 0 → (at : ℕ) → StandsAt sep text at → ⊥
   nothing_has text l at s = omega (arith, ap length s.whole, length-append s.before (sep ++ s.after), length-append sep s.after)
 
-  -- what stands in the front of a text stands in the text
+  -- what is in the front of a text is in the text
   in_front : (front rest : List ℕ) (k : ℕ) → StandsAt sep front k → StandsAt sep (front ++ rest) k
   in_front front rest k s = record {
     before = s.before;

@@ -6,7 +6,7 @@ pub mod Walks
 pub mod Slots
 pub mod Envs
 pub mod Uses
--- what stands in an expression
+-- what is in an expression
 pub mod Parts
 -- comprehensions: their names, and what their clauses do
 pub mod Held

@@ -1,4 +1,4 @@
--- What stands in an expression means the same by names and by slots, where the expressions in it do.
+-- What is in an expression means the same by names and by slots, where the expressions in it do.
 use Rattle.std.proofs.Common.{◌≡◌, List, [], ◌∷◌, ◌++◌, reverse, Option, Some, None, refl, subst}
 use Rattle.bq_parse_grammar.specs.declared.tree.Argument.{Argument}
 use Rattle.bq_parse_grammar.specs.declared.tree.Choice.{Choice, out-Choice}

@@ -47,7 +47,7 @@ use_is : (file : FileParts) (blocks : List BlockParts) (name : Name) (slot : ℕ
 unfolding use_of
 use_is file blocks name slot at = rw at refl
 
--- what is round a block is resolved among more
+-- what is around a block is resolved among more
 pub walks_inside : {A : Type 0} (block : BlockParts) (rest : List BlockParts) (P : A → Type 0) (v : Visit A) → Walks {A = A} rest P v → Walks {A = A} (block ∷ rest) P v
 walks_inside block rest P v h u below = h u below.1
 
@@ -126,7 +126,7 @@ module _ {S : Type 0} (m : Primitives S) (file : FileParts) (visit : List BlockP
         (λ zs a. subst (λ ds. ClausesAgree m E F (block ∷ rest) nested rest (c ∷ cs) ds) (sym a.2) (k, a.1))
         (walks_each (block ∷ rest) (ClauseGood (block ∷ rest)) (VariablesIn block.names) (λ z. scope.clause_by file visit (block ∷ rest) (block ∷ rest) (out-Clause z)) later_walks (y ∷ []) cs h.1))
 
-  -- ---- comprehensions: what stands before the clauses resolves to something of which `P` holds
+  -- ---- comprehensions: what is before the clauses resolves to something of which `P` holds
 
   module _ {A : Type 0} (element : List BlockParts → Visit A) (make : A → List CodeClause → Code) (none : Contents) (inner : names.Turn S) (P : List BlockParts → A → Type 0)
       (elements : (blocks : List BlockParts) → Nested blocks → Walks {A = A} blocks (λ y. P blocks y) (element blocks))

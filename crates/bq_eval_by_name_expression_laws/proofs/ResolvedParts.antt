@@ -1,4 +1,4 @@
--- What stands in an expression resolves to what means the same: pairs, operations, choices, arguments and suffixes.
+-- What is in an expression resolves to what means the same: pairs, operations, choices, arguments and suffixes.
 use Rattle.std.proofs.Common.{◌≡◌, List, [], ◌∷◌, Option, Some, None, sym, subst}
 use Rattle.bq_base.specs.declared.fault.FaultKind.TheVariants as f
 use Rattle.bq_parse_grammar.specs.declared.tree.Argument.TheOpen.{Argument-F, Suffix-F}

@@ -121,7 +121,7 @@ module _ {S : Type 0} (m : Primitives S) (blocks : List BlockParts) (nested : Ne
     pair_element_alike p q h env frame c shows s =
         then_same Turned _ _ _ _ (h.0 env frame shows s) (λ k t. then_same Turned _ _ _ _ (h.1 env frame shows t) (λ v u. then_pure Turned (m.put_pair c k v u) (λ d. (d, env)) (λ d. (d, frame)) (λ d. (refl, shows))))
 
-    -- what stands before the clauses
+    -- what is before the clauses
     pub body_alike : (f : names.Turn S) (c : Code) (o : trees.CodeLayer) → roll-Code o ≡ c → TurnAlike f (slots.body_by m F o) → TurnAlike f (slots.body m F c)
     unfolding slots.body
     body_alike f c o e h env frame made shows s =

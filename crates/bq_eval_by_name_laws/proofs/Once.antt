@@ -1,4 +1,4 @@
--- A file binds each of its globals once, so each stands in its own place.
+-- A file binds each of its globals once, so each is at its own place.
 use Rattle.std.proofs.Common.{◌≡◌, ◌⊎◌, inl, inr, ℕ, zero, suc, Bool, true, false, List, [], ◌∷◌, ◌++◌, length, Some, slice_get, refl, sym, ap, subst}
 use Rattle.std.specs.Prelude.{if◌then◌else◌}
 use Rattle.bq_parse_grammar.specs.declared.tree.Argument.TheOpen.{TargetExpr-F}
@@ -19,7 +19,7 @@ Once names = (i : ℕ) (name : Name) → slice_get names i ≡ Some name → pla
 abbrev Keeps : {A : Type 0} → (List Name → A → List Name) → Type 0
 Keeps {A = A} add = (names : List Name) (x : A) → Once names → Once (add names x)
 
--- what stands in the longer list stood in the shorter one, or is the last
+-- what is in the longer list was in the shorter one, or is the last
 among : (names : List Name) (n : Name) (i : ℕ) (name : Name) → slice_get (names ++ n ∷ []) i ≡ Some name → ((name ≡ n) × (i ≡ length names)) ⊎ (slice_get names i ≡ Some name)
 among [] n zero name e = inl (cc, refl)
 among [] n (suc i) name e = absurd (let no : ⊥ = cc in no)

@@ -45,7 +45,7 @@ named_reads (n ∷ ns) (v ∷ vs) name = with_by (bytes_eq name n) v vs (place_a
 
 -- ---- the values that a file ends with
 
--- these stand in the places from `k` on
+-- these are at the places from `k` on
 abbrev StandFrom : ℕ → List Name → List Name → Type 0
 StandFrom k all names = (i : ℕ) (name : Name) → slice_get names i ≡ Some name → place_among name all ≡ Some (k + i)
 

@@ -51,7 +51,7 @@ parts_by file (Ok p) x e =
     let made : Resolved = record { statements = p.0; functions = p.1.functions; globals = file.globals; loads = p.1.loads } in
     let is : x ≡ made = cc in (p.0, p.1, refl, is)
 
--- of the first so many, the one at a place
+-- of the first ones, the one at a place
 of_first : {A : Type 0} (n : ℕ) (xs : List A) (k : ℕ) → k < n → slice_get (take n xs) k ≡ slice_get xs k
 of_first zero xs k h = absurd (omega arith)
 of_first (suc n) [] k h = refl
@@ -106,7 +106,7 @@ module _ (universe : UniverseParts) (ts : List TopLevel) where
     globals_are : r.globals ≡ global_names ts
     globals_are = (to_themselves universe ts r e).1
 
-    -- the file's own functions, with what is round them
+    -- the file's own functions, with what is around them
     module _ (fits : FileFits r) where
       unit_is : (vs : List Datum) (env : Env) (frame loaded : Frame) → Reads (λ name. place_among name (global_names ts)) env frame
           → Reads (λ name. place_among name (loaded_names ts)) (names.loaded_values ts vs) loaded

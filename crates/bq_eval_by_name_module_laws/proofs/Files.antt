@@ -78,7 +78,7 @@ module _ (file : FileParts) where
 
   -- ---- a `def` adds its function
 
-  -- what it resolves to, where so many functions stand before it
+  -- what it resolves to, where a number of functions are before it
   pub record DefIs (n : Identifier) (ps : List Parameter) (body : List Stmt) (u w : Passed) (x : FileStmt) : Type 0 where
     pub target : CodeTarget
     pub at : place_of (use_of file [] n.name) ≡ Some target

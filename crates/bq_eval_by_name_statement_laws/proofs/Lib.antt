@@ -4,7 +4,7 @@ pub mod Kept
 pub mod Visits
 -- what is assigned to
 pub mod Targets
--- statements, where what stands in them does the same
+-- statements, where what is in them does the same
 pub mod Statements
 -- what each rule of the resolver makes
 pub mod ResolvedTargets

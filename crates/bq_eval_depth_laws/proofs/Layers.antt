@@ -84,6 +84,6 @@ stmt_layers = fold-Stmt ℕ ℕ stmt_layers_step branch_layers_step
 abbrev pub branch_layers : Branch → ℕ
 branch_layers = fold-Branch ℕ ℕ stmt_layers_step branch_layers_step
 
--- 64 brackets and indents in one another, 15 layers in each, and what stands round them
+-- 64 brackets and indents in one another, 15 layers in each, and what is around them
 abbrev pub most_layers : ℕ
 most_layers = 978

@@ -58,7 +58,7 @@ var_to_within (suc depth) = wider target_layers (depth + 1 + 1) (suc depth + 1) 
 pub vars_to_within : (depth : ℕ) → Within target_layers (depth + 1 + 1) (IsVars depth)
 vars_to_within depth = vars_within (depth + 1) (IsVar depth) (var_to_within depth)
 
--- ---- over what stands in brackets
+-- ---- over what is in brackets
 
 module _ (n : ℕ) (O T : Phrase Expr) (V : Phrase TargetExpr) (ors : Within expr_layers n O) (tests : Within expr_layers n T) (variables : Within target_layers n V) where
   pair_within : Within pair_layers n (IsPair O T V)

@@ -1,4 +1,4 @@
--- What expressions of at most so many layers resolve to fits.
+-- What expressions of at most a number of layers resolve to fits.
 use Rattle.std.proofs.Common.{◌≤◌, ℕ, zero, suc, ◌+◌, max, Bool, true, false, ◌&&◌, ◌||◌, List, [], ◌∷◌, map, length, Option, Some, None, Result, Ok, Err, arith}
 use Rattle.std.specs.Prelude.{if◌then◌else◌}
 use Rattle.std.specs.List.{AllByRecursion}
@@ -113,7 +113,7 @@ module _ (file : FileParts) (visit : List BlockParts → Expr → Visit Code)
       (omega (arith, opened_target u)) (omega (arith, opened_target u))
 
   module _ (n : ℕ) (small : n ≤ max_layers) where
-    -- ---- what stands in an expression
+    -- ---- what is in an expression
 
     pair_gives : (blocks : List BlockParts) (p : Pair) → pair_layers p ≤ n → Gives {A = CodePair} (λ z. PairParts (CodeFits n) z) (pair file visit blocks p)
     unfolding pair

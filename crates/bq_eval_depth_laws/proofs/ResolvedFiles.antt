@@ -1,4 +1,4 @@
--- What files of at most so many layers resolve to fits.
+-- What files of at most a number of layers resolve to fits.
 use Rattle.std.proofs.Common.{◌≡◌, ◌≤◌, ℕ, zero, suc, Bool, true, false, List, [], ◌∷◌, ◌++◌, map, length, Result, Ok, Err, subst, arith}
 use Rattle.std.specs.Prelude.{if◌then◌else◌}
 use Rattle.std.specs.List.{AllByRecursion}
@@ -99,7 +99,7 @@ module _ (file : FileParts) where
       (gives_each (StmtFits max_layers) stmt_layers max_layers (stmt_to file max_layers (block ∷ []) false) (stmt_gives file max_layers max_layers (omega arith) (block ∷ []) false) [] body tt h
       (record u { slots = length names }) fit)
 
-  -- ---- what stands outside functions
+  -- ---- what is outside functions
 
   def_gives : (n : Identifier) (ps : List Parameter) (body : List Stmt) → deepest (map parameter_layers ps) ≤ max_layers → deepest (map stmt_layers body) ≤ max_layers
       → Gives (λ z. FileStmtFits z) (def_stmt file n ps body)

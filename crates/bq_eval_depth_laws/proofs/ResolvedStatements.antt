@@ -1,4 +1,4 @@
--- What statements of functions of at most so many layers resolve to fits.
+-- What statements of functions of at most a number of layers resolve to fits.
 use Rattle.std.proofs.Common.{◌≤◌, ℕ, zero, suc, ◌+◌, Bool, true, false, ◌&&◌, List, [], ◌∷◌, map, Option, Some, None, Ok, Err, arith}
 use Rattle.std.specs.Prelude.{if◌then◌else◌}
 use Rattle.std.specs.List.{AllByRecursion}

@@ -17,7 +17,7 @@ use Rattle.bq_eval_laws.specs.Files.{HostTakes, CallsKeepRules}
 use Rattle.bq_eval_laws.proofs.Hosts.{OwnsItsSteps, own_steps}
 
 module _ {W A : Type 0} (action : Action (State × W) A) (s : State × W) (o : Takes hosted action s) (x : A) (t : State × W) (is : action s ≡ done x t) where
-  -- by the outcome, of which so many steps more are left
+  -- by the outcome, with a number of steps more left
   by_outcome : (more : ℕ) (r : Run (State × W) A) → Leaves hosted s.0.store r → leaving hosted more r ≡ done x t → Stays s.0.store t.0.store
   by_outcome more (done y u) stays e = subst (λ r. Leaves hosted s.0.store r) e stays
   by_outcome more (stopped why) stays e = let no : ⊥ = cc in absurd no

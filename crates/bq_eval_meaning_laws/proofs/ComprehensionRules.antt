@@ -16,7 +16,7 @@ use Rattle.bq_eval_meaning_laws.specs.Layers.{PairParts, ClauseLayerParts, Claus
 use Rattle.bq_eval_meaning_laws.proofs.Respects.{Relation, Respects}
 use Rattle.bq_eval_meaning_laws.proofs.TargetRules.{variables_rule}
 
--- what stands before the clauses
+-- what is before the clauses
 abbrev pub BodyParts : (Code → Type 0) → CodeLayer → Type 0
 BodyParts P (Code-F.ListComprehension x cs) = P x
 BodyParts P (Code-F.DictComprehension p cs) = PairParts P p

@@ -1,4 +1,4 @@
--- One call, where so many functions may still become active.
+-- One call, where a number of functions may still become active.
 use Rattle.std.proofs.Common.{◌≡◌, ◌∙◌, ℕ, zero, suc, ◌<◌, ◌≤◌, ◌-◌, List, length, get_or, slice_get, Option, Some, None, Result, Ok, Err, refl, ap, subst, arith}
 use Rattle.std.proofs.lemmas.Option.{slice_get_past, slice_get_read}
 use Rattle.bq_base.specs.declared.fault.FaultKind.{FaultKind}

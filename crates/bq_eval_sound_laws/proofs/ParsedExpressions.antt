@@ -65,7 +65,7 @@ pub vars_to_within : (depth : ℕ) → Within variables_weight (depth + 1 + 1) (
 vars_to_within depth = vars_within (depth + 1) (IsVar depth) (var_to_within depth)
 
 module _ (build : Bool) where
-  -- ---- over what stands in brackets
+  -- ---- over what is in brackets
 
   module _ (n : ℕ) (O T : Phrase Expr) (V : Phrase TargetExpr) (ors : Below expr_weight (expr_count build) n O) (tests : Below expr_weight (expr_count build) n T) (variables : Within variables_weight n V) where
     pair_below : Below pair_weight (pair_count build) n (IsPair O T V)

@@ -152,7 +152,7 @@ module _ (file : FileParts) (visit : List BlockParts → Expr → Visit Code)
       names_by_gives n (omega arith) (target_to file visit layers blocks) blocks (names_gives layers n (omega arith) blocks) (out-TargetExpr u) (omega (arith, opened_variables u))
 
   module _ (n : ℕ) (small : n ≤ max_layers) where
-    -- ---- what stands in an expression
+    -- ---- what is in an expression
 
     pair_gives : (blocks : List BlockParts) (p : Pair) → pair_weight p ≤ n → Gives {A = CodePair} (λ z. PairParts (CodeIsSound n) z) (pair file visit blocks p)
     unfolding pair
@@ -193,7 +193,7 @@ module _ (file : FileParts) (visit : List BlockParts → Expr → Visit Code)
     optional_gives blocks None h = gives_optional (CodeIsSound n) expr_weight n (visit blocks) (visits n small blocks) None h
     optional_gives blocks (Some x) h = gives_optional (CodeIsSound n) expr_weight n (visit blocks) (visits n small blocks) (Some x) h
 
-    -- a suffix, with what stands in it
+    -- a suffix, with what is in it
     abbrev SuffixIsSound : CodeSuffix → Type 0
     SuffixIsSound z = SuffixParts (CodeIsSound n) z × SuffixIsKept z
 

@@ -100,7 +100,7 @@ module _ (file : FileParts) where
       (gives_each (StmtIsSound max_layers) stmt_weight max_layers (stmt_to file max_layers (block ∷ []) false) (stmt_gives file max_layers max_layers (omega arith) (block ∷ []) false) [] body tt h
       (record u { slots = length names }) fit)
 
-  -- ---- what stands outside functions
+  -- ---- what is outside functions
 
   def_gives : (n : Identifier) (ps : List Parameter) (body : List Stmt) → deepest (map parameter_weight ps) ≤ max_layers → deepest (map stmt_weight body) ≤ max_layers
       → Gives (λ z. FileStmtIsSound z) (def_stmt file n ps body)

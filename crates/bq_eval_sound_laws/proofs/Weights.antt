@@ -153,6 +153,6 @@ stmt_weight = fold-Stmt ℕ ℕ stmt_step branch_step
 abbrev pub branch_weight : Branch → ℕ
 branch_weight = fold-Branch ℕ ℕ stmt_step branch_step
 
--- 64 brackets and indents in one another, 15 layers in each, and what stands round them
+-- 64 brackets and indents in one another, 15 layers in each, and what is around them
 abbrev pub most_weight : ℕ
 most_weight = 978

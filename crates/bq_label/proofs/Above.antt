@@ -12,7 +12,7 @@ same_bytes xs ys h = same_text xs ys (sym h)
 pub equal_bytes : (xs ys : List ℕ) → xs ≡ ys → pointwise nat_eq xs ys ≡ true
 equal_bytes xs ys e = subst (λ (zs : List ℕ). pointwise nat_eq xs zs ≡ true) e (nat_list_eq_equiv.refl xs)
 
--- a path goes on behind its directory and a slash
+-- a path goes on after its directory and a slash
 pub above_whole : (d path : List ℕ) → is_above d path ≡ true → path ≡ d ++ 47 ∷ drop (length d + 1) path
 unfolding is_above
 above_whole d path h =
@@ -28,7 +28,7 @@ above_joined d rest =
     let front : take n (d ++ 47 ∷ rest) ≡ d ++ 47 ∷ [] = ap (λ (t : List ℕ). take n t) (sym (append_assoc d (47 ∷ []) rest)) ∙ take-append_seam (d ++ 47 ∷ []) rest in
     equal_bytes (d ++ 47 ∷ []) (take n (d ++ 47 ∷ rest)) (sym front)
 
--- what stands before a slash
+-- what is before a slash
 pub above_take : (path : List ℕ) (k : ℕ) → k < length path → slice_index path k ≡ 47 → is_above (take k path) path ≡ true
 above_take path k l e =
     let more : take (k + 1) path ≡ take k path ++ slice_index path k ∷ [] = take_more path k 0 l in

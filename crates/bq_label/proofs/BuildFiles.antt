@@ -84,7 +84,7 @@ winner paths path h =
       | inr z ↦ inr (same_bytes (last_segment path) (codes "BUILD") (first_of_two plain other z), not_true (list_any (bytes_eq (path ++ codes ".bazel")) paths) (second_of_two plain other z))
     ]
 
--- `BUILD` with `.bazel` behind it
+-- `BUILD` with `.bazel` after it
 pub longer_name : (d : List ℕ) → joined d (codes "BUILD") ++ codes ".bazel" ≡ joined d (codes "BUILD.bazel")
 longer_name [] = refl
 longer_name (b ∷ bs) = append_assoc (b ∷ bs) (47 ∷ codes "BUILD") (codes ".bazel")

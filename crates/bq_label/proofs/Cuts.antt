@@ -1,4 +1,4 @@
--- Where a text is cut at a byte, and what stands behind its last slash.
+-- Where a text is cut at a byte, and what is after its last slash.
 use Rattle.std.proofs.Common.{◌≡◌, ◌≢◌, ◌≤◌, ◌<◌, ◌-◌, ◌++◌, ◌==◌, ℕ, zero, suc, true, false, List, [], ◌∷◌, Option, Some, None, length, take, drop, slice_index, refl, sym, ap, subst, ◌∙◌, arith, take_all, length-drop, inl, inr}
 use Rattle.std.proofs.lemmas.Bool.{cases_Bool}
 use mathlib.Core.Bool.{false≢true}
@@ -38,7 +38,7 @@ unfolding last_segment
 last_whole [] h = refl
 last_whole (b ∷ bs) h = rw h refl
 
--- behind the last slash
+-- after the last slash
 pub last_behind : (xs : List ℕ) (i : ℕ) → i < length xs → slice_index xs i ≡ 47 → list_any is_slash (drop (suc i) xs) ≡ false → last_segment xs ≡ drop (suc i) xs
 unfolding last_segment
 last_behind [] i h e n = absurd (omega arith)

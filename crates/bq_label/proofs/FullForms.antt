@@ -35,7 +35,7 @@ others c b bs h = elim (cases_Bool (b == c)) [
   | inr n ↦ sym (rw n refl) ∙ h
 ]
 
--- what stands behind decides where they tie
+-- what comes after decides where they tie
 pub behind_end : (c : ℕ) (xs ys us vs : List ℕ) → list_any (λ x. x == c) xs ≡ false → list_any (λ x. x == c) ys ≡ false → slice_cmp nat_cmp (xs ++ c ∷ us) (ys ++ c ∷ vs) ≡ ordering_then (cmp_ended c xs ys) (slice_cmp nat_cmp us vs)
 unfolding cmp_ended
 behind_end c [] [] us vs n m = sym (then_assoc (nat_cmp c c) Equal (slice_cmp nat_cmp us vs))
@@ -43,7 +43,7 @@ behind_end c [] (y ∷ ys) us vs n m = stays (nat_cmp c y) _ _ (λ e. other_firs
 behind_end c (x ∷ xs) [] us vs n m = stays (nat_cmp x c) _ _ (λ e. other_first c x xs n (is_tied x c e)) ∙ sym (then_assoc (nat_cmp x c) _ _)
 behind_end c (x ∷ xs) (y ∷ ys) us vs n m = ap (ordering_then (nat_cmp x y)) (behind_end c xs ys us vs (others c x xs n) (others c y ys m)) ∙ sym (then_assoc (nat_cmp x y) _ _)
 
--- the common beginning decides, and then the byte behind it
+-- the common beginning decides, and then the byte after it
 pub ended_at : (k : ℕ) (c : ℕ) (xs ys : List ℕ) → list_any (λ x. x == c) xs ≡ false → list_any (λ x. x == c) ys ≡ false → k ≤ length xs → k ≤ length ys → ((k ≡ length xs) ⊎ (k ≡ length ys))
     → cmp_ended c xs ys ≡ ordering_then (slice_cmp nat_cmp (take k xs) (take k ys)) (nat_cmp (get_or xs k c) (get_or ys k c))
 unfolding cmp_ended

@@ -113,7 +113,7 @@ file_in_words files l = by (label_file files l) refl
 
 -- ---- how it is found
 
--- what two texts have behind one front is the same
+-- what two texts have after one front is the same
 behind : (front a b : List ℕ) → front ++ a ≡ front ++ b → a ≡ b
 behind [] a b e = e
 behind (x ∷ xs) a b e = behind xs a b (ap (λ (t : List ℕ). drop 1 t) e)

@@ -135,7 +135,7 @@ main_home_of : (path : List ℕ) → is_above (codes "external") path ≡ false 
 unfolding split_repository
 main_home_of path h = let no : starts_with nat_eq path external_root ≡ false = starts_other path ∙ h in rw no refl
 
--- a `BUILD.bazel` beside a `BUILD` lies in the same directory of the same repository
+-- a `BUILD.bazel` beside a `BUILD` is in the same directory of the same repository
 home_longer : (path r d : List ℕ) → split_repository path ≡ Some (r, joined d (codes "BUILD")) → split_repository (path ++ codes ".bazel") ≡ Some (r, joined d (codes "BUILD.bazel"))
 home_longer path r d h = elim (cases_Bool (is_above (codes "external") path)) [
   | inl y ↦

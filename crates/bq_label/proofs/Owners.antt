@@ -196,7 +196,7 @@ empty_is : (xs : List ℕ) → length xs ≡ 0 → xs ≡ []
 empty_is [] e = refl
 empty_is (x ∷ xs) e = absurd (omega arith)
 
--- the directory before a slash is a package, and none behind it is
+-- the directory before a slash is a package, and none after it is
 pub near_found : (packages : List BuildFile) (repo rest : List ℕ) (at : ℕ) (b : BuildFile) → IsStrictlySortedBy package_cmp packages → at < length rest → slice_index rest at ≡ 47 → NoneFrom packages repo rest (at + 1)
     → package_named packages (package_at repo (take at rest)) ≡ Some b → nearest_over packages repo rest ≡ Some b
 unfolding nearest_over

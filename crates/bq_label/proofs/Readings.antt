@@ -111,7 +111,7 @@ pub label_from_reading : (own : PackageParts) (text : List ℕ) (l : LabelParts)
 unfolding label_of valid_label
 label_from_reading own text l r = rw (parts_written own text l r.valid r.written, is_label_from l r.valid) refl
 
--- what stands behind `//`, cut at the first colon
+-- what is after `//`, cut at the first colon
 absolute_parts : (r t : List ℕ) (l : LabelParts) (v : Option (List ℕ × List ℕ)) → split_once 58 t ≡ v → label_of_parts r t v ≡ l
     → ((t ≡ l.package ++ 58 ∷ l.name) ⊎ ((t ≡ l.package) × (l.name ≡ last_segment l.package))) × (l.repo ≡ r)
 absolute_parts r t l None e h = (inr (ap (λ (x : LabelParts). x.package) h, sym (ap (λ (x : LabelParts). x.name) h) ∙ ap (λ (x : LabelParts). last_segment x.package) h), sym (ap (λ (x : LabelParts). x.repo) h))

@@ -1,4 +1,4 @@
--- A path in its repository is behind the repository's root, and names its BUILD file's package.
+-- A path in its repository is after the repository's root, and names its BUILD file's package.
 use Rattle.std.proofs.Common.{◌≡◌, ◌++◌, ◌&&◌, ℕ, Bool, true, false, not, List, [], ◌∷◌, Option, Some, None, take, drop, codes, refl, sym, ap, ◌∙◌, append_assoc, inl, inr, nat_eq}
 use Rattle.std.proofs.lemmas.Bool.{cases_Bool, false≢true}
 use Rattle.std.proofs.lemmas.List.{take-append-drop}

@@ -237,7 +237,7 @@ module _ {A X : Type 0} (many : A → Bool) (fits : A → X → Bool) where
       let more : suc (length ys) * suc m ≡ length ys * suc m + suc m = suc-mul (length ys) (suc m) in
       omega (arith, more, h.retry_room.0)
 
--- ---- the same for lists that are told by places
+-- ---- the same for lists that are given by places
 
 module _ {A X : Type 0} (many : A → Bool) (fits : A → X → Bool) (P : ℕ → List A) (T : ℕ → List X) where
   abbrev pub at_places : Option Retry → Option (List A × List X)

@@ -16,7 +16,7 @@ or_none : (o : Option FrozenCells) → o ≡ option_or o None
 or_none (Some x) = refl
 or_none None = refl
 
--- a module that stands before others of which none has its number
+-- a module before others of which none has its number
 front_by : (home : ℕ) (m : ℕ × FrozenCells) (o : Option FrozenCells) (b : Bool) → (b ≡ true → o ≡ None) → cond b (Some m.1) o ≡ option_or o (cond b (Some m.1) None)
 front_by home m o true e = sym (ap (λ q. option_or q (Some m.1)) (e refl))
 front_by home m o false e = or_none o

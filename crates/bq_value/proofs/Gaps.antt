@@ -1,4 +1,4 @@
--- A dict whose first places are empty: what it has of a key is what is behind them.
+-- A dict whose first places are empty: what it has of a key is what is after them.
 use Rattle.std.proofs.Common.{◌≡◌, ◌∙◌, ap, sym, refl, cond, not, ℕ, zero, suc, ◌+◌, ◌-◌, ◌<◌, ◌≤◌, arith, Bool, true, false, List, [], ◌∷◌, ◌++◌, Option, Some, None, is_some, length, take, drop, slice_get}
 use Rattle.std.specs.Prelude.{nat_lt, position, reverse}
 use Rattle.std.specs.List.{IsDistinct, AllByRecursion, position_or_len, insert, remove}
@@ -66,7 +66,7 @@ below_by k f ps i false e within less =
     let h : f ≤ i = ltb-false i f less in
     sym (ap is_some (not_before k f ps (omega (arith, e, h))))
 
--- a key stands in front where its place does
+-- a key is in front where its place is
 pub below : (k : Datum) (f : ℕ) (ps : Dict) (i : ℕ) → first k ps ≡ i → f ≤ length ps → nat_lt i f ≡ is_some (found k (take f ps))
 below k f ps i e within = below_by k f ps i (nat_lt i f) e within refl
 
@@ -93,7 +93,7 @@ later k zero ps h within = omega arith
 later k (suc f) [] h within = absurd (omega arith)
 later k (suc f) (p ∷ ps) h within = later_by k f p ps (same k p.0) h (λ none. later k f ps none (omega arith))
 
--- ---- what is behind them
+-- ---- what is after them
 
 none_among : (j : Datum) (ps : Dict) → AllByRecursion (λ y. same j y ≡ false) (keys ps) → found j ps ≡ None
 none_among j [] h = refl
@@ -109,7 +109,7 @@ gone_by : (k : Datum) (f : ℕ) (p : Datum × Datum) (ps : Dict) (b : Bool) → 
 gone_by k f p ps true e once h more = ap (λ j. found j (drop f ps)) (same-true k p.0 e) ∙ none_behind p.0 f ps (IsDistinct-head same p.0 (keys ps) once)
 gone_by k f p ps false e once h more = more h
 
--- no key is twice: one in front isn't behind
+-- no key is twice: one in front isn't after them
 pub gone_absent : (k : Datum) (f : ℕ) (ps : Dict) → IsDistinct same (keys ps) → is_some (found k (take f ps)) ≡ true → found k (drop f ps) ≡ None
 gone_absent k zero ps once h = absurd (cc)
 gone_absent k (suc f) [] once h = absurd (cc)

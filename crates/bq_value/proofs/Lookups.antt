@@ -20,6 +20,6 @@ pub remove_without : (k : Datum) (ps : List (Datum × Datum)) → remove_entry (
 remove_without k [] = refl
 remove_without k (p ∷ ps) = ap (λ o. cond (same k p.0) ps (p ∷ o)) (remove_without k ps)
 
--- an element, and what is behind it
+-- an element, and what is after it
 pub drop_found : {A : Type 0} (xs : List A) (i : ℕ) (x : A) → slice_get xs i ≡ Some x → drop i xs ≡ x ∷ drop (i + 1) xs
 drop_found xs i x h = rw add-one (drop-cons xs i x (slice_get_within xs i x h) ∙ ap (λ y. y ∷ drop (suc i) xs) (get_or_from_slice_get xs i x x h))

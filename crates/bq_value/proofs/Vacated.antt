@@ -24,7 +24,7 @@ pub put_last : (k v : Datum) (ps : Dict) → found k ps ≡ None → put k v ps 
 put_last k v [] h = refl
 put_last k v (p ∷ ps) h = last_by k v p ps (same k p.0) h (put_last k v ps)
 
--- what is behind stays where a place in front gets another pair
+-- what is after them stays where a place in front gets another pair
 behind : (ps : Dict) (i f : ℕ) (x y : Datum × Datum) → i < f → f ≤ length ps → drop f (take (length ps) (slice_set (ps ++ x ∷ []) i y)) ≡ drop f ps
 behind [] i f x y h within = absurd (omega arith)
 behind (p ∷ ps) i zero x y h within = absurd (omega arith)
@@ -73,7 +73,7 @@ freed : (k : Datum) (f : ℕ) (ps : Dict) (x : Datum × Datum) → first k ps < 
 freed k f [] x h within = absurd (omega arith)
 freed k f (p ∷ ps) x h within = swapped k f p ps x h within
 
--- a key in front gets out, and what is behind stays
+-- a key in front is removed, and what is after them stays
 pub vacated : (k : Datum) (f : ℕ) (ps : Dict) (j v : Datum) → is_some (found k (take f ps)) ≡ true → f ≤ length ps → found j ps ≡ None → drop f (swap_remove_entry (same k) (put j v ps)) ≡ drop f ps
 vacated k f ps j v h within new =
     let early : first k ps < f = ltb-true (first k ps) f (below k f ps (first k ps) refl within ∙ h) in

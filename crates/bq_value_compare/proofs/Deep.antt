@@ -1,4 +1,4 @@
--- Values of so many levels: a step for each of them, and at most 64.
+-- Values of a number of levels: a step for each of them, and at most 64.
 use Rattle.std.proofs.Common.{◌≡◌, ◌∙◌, ◌+◌, ℕ, zero, suc, Bool, true, Ok, Err, ap, arith}
 use Rattle.std.specs.declared.cmp.Ordering.TheVariants.{Equal}
 use Rattle.bq_base.specs.declared.fault.FaultKind.TheVariants.{TooDeep}

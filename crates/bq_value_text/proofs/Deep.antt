@@ -1,4 +1,4 @@
--- Texts of values of so many levels: a step for each of them, and at most 64.
+-- Texts of values of a number of levels: a step for each of them, and at most 64.
 use Rattle.std.proofs.Common.{◌≡◌, ◌∙◌, ◌+◌, ℕ, zero, suc, [], Ok, Err, ap, arith}
 use Rattle.std.specs.Prelude.{codes}
 use Rattle.bq_base.specs.declared.fault.FaultKind.TheVariants.{TooDeep}

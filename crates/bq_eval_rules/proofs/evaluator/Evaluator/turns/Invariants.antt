@@ -14,7 +14,7 @@ invariant-loop-value g l =
     loops_left h.means e b (loop_of l.innermost ∷ loops_of l.outer.items) (slots_of l.frame) l.content (h.seen l.runtime)
     ≡ loop_left h.means e b (loop_of l.fn.first) (slots_of l.fn.frame) l.fn.content (h.seen l.fn.runtime)
 
--- each time round, a turn begins or a loop ends
+-- each time around, a turn begins or a loop ends
 abbrev pub decreases-loop-value : goal.decreases-loop-value
 decreases-loop-value g l =
     let h = g.R.Runtime in
