@@ -103,7 +103,7 @@ IsLoaded x p l = IsGathered x.packages (outcomes x p) l
 abbrev pub HasNoGraph : List File → Rules → LoadErr → Type 0
 HasNoGraph files rules why = (why ≡ e.TooManyModules → AreTooMany (inputs_of files rules)) × ((line : ℕ) → ¬ (why ≡ e.Schema line))
 
--- what the load graph of the workspace gives, with so many steps for each module
+-- what loading the workspace returns, with `limit` steps for each module
 abbrev pub LoadsWorkspace : List File → Rules → ℕ → Result Loaded LoadErr → Type 0
 LoadsWorkspace files rules limit (Ok l) = (g : GraphParts) × IsLoadGraph (inputs_of files rules) g × IsLoaded (loading_in files rules limit g) g.edges l
 LoadsWorkspace files rules limit (Err why) = HasNoGraph files rules why

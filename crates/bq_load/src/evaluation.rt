@@ -1,4 +1,4 @@
-//! What the statements of a file give.
+//! The evaluation of the statements of a file.
 
 ghost use Rattle.std.specs.Prelude.{◌≡◌, [], map, option_map, IfOk};
 ghost use Rattle.bq_eval.specs.Outcomes.{ended_of, run_of};
@@ -32,7 +32,7 @@ use bq_value_seed::Seed;
 use std::alloc::{AllocError, Global};
 use std::sync::Arc;
 
-/// The frozen cells of modules.
+/// Returns the frozen cells of modules.
 fn frozen_of(
     alloc: Global,
     modules: &[Arc<LoadedModule, Global>],
@@ -46,7 +46,7 @@ fn frozen_of(
     Ok(all)
 }
 
-/// A .bzl file that ran to its end.
+/// Returns the module of a .bzl file that ran to its end.
 fn bzl_module(alloc: Global, frozen: Frozen, prints: Vec<Bytes>) -> Result<LoadedModule, AllocError>
     ensures { IfOk result (λ m. module_view m ≡ module_with frozen prints.items None) }
 {
@@ -57,7 +57,8 @@ fn bzl_module(alloc: Global, frozen: Frozen, prints: Vec<Bytes>) -> Result<Loade
     })
 }
 
-/// The BUILD file of this number, which ran to its end with this package. Nobody loads it, so no cell of it stays.
+/// Returns the module of the BUILD file of this number, which ran to its end with this package. Nobody loads it, so it
+/// keeps no cell.
 fn build_module(
     alloc: Global,
     number: u32,
@@ -80,7 +81,7 @@ fn build_module(
     })
 }
 
-/// A module that ran to its end, with the package that its host keeps.
+/// Returns a module that ran to its end, with the package that its host keeps.
 fn loaded_module(
     alloc: Global,
     frozen: Frozen,
@@ -95,7 +96,7 @@ fn loaded_module(
     }
 }
 
-/// What an evaluation ends in.
+/// Returns the module of an ended evaluation.
 fn module_by(
     alloc: Global,
     evaluated: EvaluatedFile<BuildHost<'_>>,
@@ -111,7 +112,8 @@ fn module_by(
 }
 
 impl<'a> Loading<'a> {
-    /// The host of a file's evaluation, in the package of the file. Where it is a BUILD file its package has no targets yet.
+    /// Returns the host of a file's evaluation, in the package of the file. For a BUILD file its package has no targets
+    /// yet.
     fn host<'b>(&'b self, alloc: Global, label: &'b Label) -> Result<BuildHost<'b>, AllocError>
         ensures { IfOk result (λ h. held_by h ≡ kept_first (loading_of self.now) label.now) }
     {
@@ -146,7 +148,7 @@ impl<'a> Loading<'a> {
         module_by(alloc, evaluated)
     }
 
-    /// What a file evaluates to, by a value for each clause of its loads.
+    /// Evaluates a file, with a value for each clause of its loads.
     #[tactic(auto, unfolding(crate::specs::Evaluation::evaluation))]
     pub(crate) fn evaluated(
         &self,
@@ -171,7 +173,7 @@ impl<'a> Loading<'a> {
         Ok(self.run(alloc, &source.label, &module)?)
     }
 
-    /// What a file gets of the modules that it loads.
+    /// Returns what a file gets of the modules that it loads.
     pub(crate) fn imports(
         &self,
         alloc: Global,

@@ -29,7 +29,8 @@ impl<'a> Evaluate for Loading<'a> {
 
     ghost means = { λ e m modules. means (loading_of e) m modules };
 
-    /// What a module evaluates to, by the modules of the files that its loads name. The watch is told only of one whose statements are to run.
+    /// Evaluates a module, with the modules of the files that its loads name. The watch is notified only if its
+    /// statements are to run.
     fn evaluate<W: Watch>(
         &self,
         alloc: Global,
@@ -55,14 +56,14 @@ impl<'a> Evaluate for Loading<'a> {
     }
 }
 
-/// A module that failed before it was evaluated.
+/// Returns a module that failed before it was evaluated.
 fn not_evaluated(alloc: Global, fault: Fault) -> Result<LoadedModule, FailedModule>
     ensures { told module_view failed_view result ≡ Err (not_evaluated fault) }
 {
     Err(FailedModule::not_evaluated(alloc, fault))
 }
 
-/// The fault of a module that has no code.
+/// Returns the fault of a module that has no code.
 fn own_fault(source: &Source) -> Result<Fault, AllocError>
     ensures { IfOk result (λ f. f ≡ or_no_file source.now.fault) }
 {

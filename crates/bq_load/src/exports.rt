@@ -1,4 +1,4 @@
-//! What a module gives to the files that load it.
+//! What a module exports to the files that load it.
 
 ghost use Rattle.std.specs.Prelude.{◌≡◌, option_and_then, option_map, slice_get};
 ghost use Rattle.std.specs.Option.{option_copied, ForSome};
@@ -15,7 +15,7 @@ use bq_base::{Bytes, Fault, FaultKind, SourceErr};
 use bq_resolve_scope::{LoadedSymbol, Resolved};
 use bq_value::{EvalErr, Value};
 
-/// The value in the place in which its name is.
+/// Returns the value at the place of its name.
 #[tactic(auto, unfolding(crate::specs::Imports::value_named))]
 fn value_named<'a>(name: &Bytes, names: &[Bytes], values: &'a [Value]) -> Option<&'a Value>
     ensures { option_copied result ≡ value_named name.now names.now values.now }
@@ -33,7 +33,7 @@ fn value_named<'a>(name: &Bytes, names: &[Bytes], values: &'a [Value]) -> Option
     None
 }
 
-/// The value in a place.
+/// Returns the value at a place.
 fn value_at(place: Option<usize>, values: &[Value]) -> Option<&Value>
     ensures { option_copied result ≡ option_and_then (slice_get values.now) place }
 {
@@ -43,7 +43,7 @@ fn value_at(place: Option<usize>, values: &[Value]) -> Option<&Value>
     }
 }
 
-/// The value in the place in which its name is, by the places of the names where they are known.
+/// Returns the value at the place of its name, by the places of the names if they are known.
 fn value_by<'v>(
     places: Option<&NamePlaces<'_>>,
     name: &Bytes,
@@ -59,7 +59,7 @@ fn value_by<'v>(
     value_at(place_of(places, name), values)
 }
 
-/// The names of the globals that the file of a module binds.
+/// Returns the names of the globals that the file of a module binds.
 pub(crate) fn globals_of(code: &[Option<Resolved>], number: u32) -> &[Bytes]
     ensures { result.now ≡ globals_by (slice_get code.now number) }
 {
@@ -74,15 +74,15 @@ pub(crate) fn globals_of(code: &[Option<Resolved>], number: u32) -> &[Bytes]
 #[derive(Clone, Copy)]
 pub(crate) struct Exports<'t, 'a> {
     pub code: &'a [Option<Resolved>],
-    /// None: no such file is loaded.
+    /// `None` if no such file is loaded.
     pub module: Option<&'a LoadedModule>,
-    /// The places of its globals' names, where many clauses look for them.
+    /// The places of its globals' names, if many clauses look for them.
     pub places: Option<&'t NamePlaces<'a>>,
     ghost placed: { ForSome places (λ p. HasPlaces 0 (names_by code.now (option_map module_view (option_copied «module»))) p.now) },
 }
 
 impl<'t, 'a> Exports<'t, 'a> {
-    /// What the module exports by this name: F34, F33.
+    /// Returns what the module exports by this name: F34, F33.
     #[tactic(auto, unfolding(crate::specs::Imports::exported))]
     fn exported(&self, name: &Bytes) -> Result<Value, EvalErr>
         ensures { Gives (λ v. v) BadKind result (exported self.now.code.now (option_map module_view (option_copied self.now.module)) name.now) }
@@ -100,7 +100,7 @@ impl<'t, 'a> Exports<'t, 'a> {
         }
     }
 
-    /// The value of a clause of a load in this line, or its fault.
+    /// Returns the value of a clause of a load in this line, or its fault.
     fn clause_value(&self, line: u32, symbol: &Bytes) -> Result<Value, SourceErr>
         ensures { Gives (λ v. v) Bad result (at_symbol line symbol.now (exported self.now.code.now (option_map module_view (option_copied self.now.module)) symbol.now)) }
     {
@@ -115,7 +115,7 @@ impl<'t, 'a> Exports<'t, 'a> {
         }
     }
 
-    /// Adds a value for each clause of a load in this line.
+    /// Appends a value for each clause of a load in this line.
     #[tactic(auto, unfolding(crate::specs::Imports::clause_values))]
     pub(crate) fn clause_values(
         &self,

@@ -1,15 +1,15 @@
-//! Who is told of each evaluation.
+//! Who is notified of each evaluation.
 
 use crate::loading::Loading;
 use bq_label::Label;
 use bq_load_order::Watch;
 use std::marker::Sync;
 
-/// Is told of each module that is evaluated. What it does changes no outcome.
+/// Is notified of each module that is evaluated. What it does changes no outcome.
 pub trait Gate: Sync {
-    /// Whoever evaluates a module calls this once, right before it does. A module whose outcome is known without evaluation doesn't
-    /// enter: one with a fault of its own, one that is cyclic or too deep, one that loads a failed module, and one that loads a symbol that isn't
-    /// there.
+    /// Is called once by whoever evaluates a module, right before. It isn't called for a module whose outcome is known
+    /// without evaluation: one with a fault of its own, one that is cyclic or too deep, one that loads a failed module,
+    /// and one that loads a symbol that isn't there.
     fn enter(&self, module: &Label);
 }
 
@@ -23,7 +23,7 @@ impl Gate for OpenGate {
     }
 }
 
-/// Tells a gate of each evaluation, by the labels of the modules.
+/// Notifies a gate of each evaluation, by the labels of the modules.
 #[derive(Drop)]
 pub struct GateWatch<'a, G: Gate> {
     pub gate: &'a G,

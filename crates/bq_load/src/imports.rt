@@ -20,7 +20,8 @@ use bq_value::Value;
 use std::alloc::{AllocError, Global};
 use std::sync::Arc;
 
-/// So many clauses, or names, are looked through one by one: a map of the names takes as long as about a hundred searches of them.
+/// Up to this many clauses, or names, the names are searched one by one: a map of the names takes as long as about a
+/// hundred searches.
 const FEW: usize = 100;
 
 /// The files that the loads of a file name, each once, with a module for each, and the code of all modules.
@@ -32,8 +33,8 @@ pub struct LoadedFiles<'a> {
 }
 
 impl<'a> LoadedFiles<'a> {
-    /// How many clauses of these loads, which name these files, look into each of the modules. It decides how they look, and not
-    /// what they find.
+    /// Counts how many clauses of these loads, which name these files, look into each of the modules. That decides how
+    /// they look, and not what they find.
     fn clauses_by_module(
         &self,
         alloc: Global,
@@ -57,7 +58,7 @@ impl<'a> LoadedFiles<'a> {
         Ok(clauses)
     }
 
-    /// The places of the names of a module's globals, where so many clauses look for them that a map pays.
+    /// Returns the places of the names of a module's globals, if enough clauses look for them to pay for a map.
     fn places_of(
         &self,
         alloc: Global,
@@ -73,7 +74,7 @@ impl<'a> LoadedFiles<'a> {
         Ok(Some(places_by_name(alloc, names)?))
     }
 
-    /// The same for each of the modules, into which so many clauses look.
+    /// Returns the places of names for each of the modules, by how many clauses look into each.
     #[tactic(auto, using(crate::proofs::Placed::next_placed))]
     fn all_places(
         &self,
@@ -93,7 +94,7 @@ impl<'a> LoadedFiles<'a> {
         Ok(all)
     }
 
-    /// The module in this place.
+    /// Returns the module at this place.
     fn module_in(&self, number: usize) -> Option<&'a LoadedModule>
         ensures { option_map module_view (option_copied result) ≡ slice_get (module_views self.now.modules.now) number }
     {
@@ -103,7 +104,7 @@ impl<'a> LoadedFiles<'a> {
         }
     }
 
-    /// What the module in this place exports, if there is one.
+    /// Returns what the module at this place exports, if there is one.
     fn exports_in<'t>(&self, places: &'t [Option<NamePlaces<'a>>], number: usize) -> Exports<'t, 'a>
         requires { AllPlaced (names_of self.now.code.now self.now.modules.now) places.now }
         ensures code { result.code.now ≡ self.now.code.now }
@@ -116,7 +117,7 @@ impl<'a> LoadedFiles<'a> {
         }
     }
 
-    /// What the module of a file that a load names exports.
+    /// Returns what the module of a file that a load names exports.
     #[tactic(auto, unfolding(crate::specs::Imports::module_named))]
     fn exports_of<'t>(
         &self,
@@ -137,7 +138,7 @@ impl<'a> LoadedFiles<'a> {
         Ok(self.exports_in(places, number))
     }
 
-    /// Adds the values of the clauses of a load, which names this file.
+    /// Appends the values of the clauses of a load, which names this file.
     fn add_load(
         &self,
         places: &[Option<NamePlaces<'a>>],
@@ -152,7 +153,7 @@ impl<'a> LoadedFiles<'a> {
         exports.clause_values(load.line, values, load.clauses.as_slice())
     }
 
-    /// The values of the clauses of loads, which name these files, by the places of the modules' names.
+    /// Returns the values of the clauses of loads, which name these files, by the places of the modules' names.
     #[tactic(auto, unfolding(crate::specs::Imports::imports))]
     fn imports_by(
         &self,
@@ -176,7 +177,8 @@ impl<'a> LoadedFiles<'a> {
         Ok(values)
     }
 
-    /// The values of the clauses of loads, which name these files; or the fault of the first bad clause (F33, F34).
+    /// Returns the values of the clauses of loads, which name these files; or the fault of the first bad clause (F33,
+    /// F34).
     pub(crate) fn imports(
         &self,
         alloc: Global,

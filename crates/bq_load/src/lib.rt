@@ -1,9 +1,10 @@
-//! A workspace and its schema come in; its modules go out, each with its outcome, and the fault lines and the print lines that they
-//! give. The outcome of a BUILD file has its package.
+//! A workspace and its schema come in; its modules go out, each with its outcome, and their fault lines and print
+//! lines. The outcome of a BUILD file has its package.
 //!
-//! The promise: whatever the workspace, the schema and the number of steps that a module may take, they are those of the definition
-//! (`specs/Loaded.antt`): the outcome of each module is what the recursion along loads gives it, where a module evaluates to what its
-//! file means, by the modules that it loads, on a machine of its own ([`load_one_thread`]). By several workers ([`load_with`]) they are the same.
+//! The promise: whatever the workspace, the schema and the number of steps that a module may take, they are those of
+//! the definition (`specs/Loaded.antt`): the outcome of each module is that of the recursion along loads, where a
+//! module evaluates to what its file means, with the modules that it loads, on a machine of its own
+//! ([`load_one_thread`]). By several workers ([`load_with`]) they are the same.
 //!
 //! Each module is evaluated once, whatever loads it, and no call of a function goes along loads.
 //!
@@ -12,15 +13,15 @@
 //! - `outcome`: a module that was evaluated, and one that failed;
 //! - `source`: what is read of a module before it is evaluated;
 //! - `loading`: what decides the outcomes of all modules;
-//! - `places`: the places of names, for those who look for many;
-//! - `exports`: what a module gives to the files that load it;
+//! - `places`: the places of names, where many are looked for;
+//! - `exports`: what a module exports to the files that load it;
 //! - `imports`: what a file gets of the modules that it loads;
-//! - `gate`: who is told of each evaluation;
-//! - `evaluation`: what the statements of a file give;
+//! - `gate`: who is notified of each evaluation;
+//! - `evaluation`: the evaluation of the statements of a file;
 //! - `evaluator`: what a module evaluates to;
 //! - `results`: the outcomes of modules, with the faults of those that load a failed one;
 //! - `packages`: the packages of BUILD files;
-//! - `lines`: the lines that they give;
+//! - `lines`: the fault lines and the print lines of modules;
 //! - `loaded`: all of it;
 //! - `pool`, `opening`, `work`: the modules of a load graph, for threads of the caller's own ([`Pool`]);
 //! - `load`: the loading of a workspace.

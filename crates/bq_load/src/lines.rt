@@ -13,7 +13,7 @@ use bq_label::Label;
 use bq_load_fault_line::{FaultLine, FaultLines};
 use std::alloc::{AllocError, Global};
 
-/// The line of a module that failed.
+/// Returns the line of a module that failed.
 fn line_of(alloc: Global, label: &Label, failed: &FailedModule) -> Result<FaultLine, AllocError>
     ensures { IfOk result (λ line. line ≡ line_of label.now (failed_view failed.now)) }
 {
@@ -40,7 +40,7 @@ fn add_line(alloc: Global, module: &ModuleOutcome, lines: &mut FaultLines) -> Re
     }
 }
 
-/// The fault lines of modules, in order.
+/// Returns the fault lines of modules, in order.
 pub(crate) fn fault_lines(
     alloc: Global,
     modules: &[ModuleOutcome],
@@ -79,7 +79,7 @@ fn push_module(alloc: Global, text: &mut Vec<u8>, module: &ModuleOutcome) -> Res
     push_prints(text, form.as_slice(), prints)
 }
 
-/// What is printed of the modules: in the order of their labels, in each in the order of its calls.
+/// Returns the print lines of modules: in the order of their labels, and for each in the order of its calls.
 pub(crate) fn print_lines(alloc: Global, modules: &[ModuleOutcome]) -> Result<Vec<u8>, AllocError>
     ensures { IfOk result (λ text. text.items ≡ print_lines (map outcome_view modules.now)) }
 {

@@ -25,7 +25,7 @@ use std::marker::Sync;
 use std::sync::Wait;
 use std::thread::Threads;
 
-/// The modules with their outcomes, by one thread.
+/// Returns the modules with their outcomes, by one thread.
 fn modules_one_thread(
     alloc: Global,
     loading: &Loading<'_>,
@@ -38,7 +38,7 @@ fn modules_one_thread(
     loading.outcomes(alloc, edges, found.as_slice())
 }
 
-/// What the modules give, by one thread. Their code gives its memory to what comes.
+/// Loads the modules by one thread. Drops their code before the rest is made, to lower the peak of memory.
 #[tactic(auto, using(crate::proofs::Joined::gathered_is))]
 fn loaded_one_thread(
     alloc: Global,
@@ -54,7 +54,7 @@ fn loaded_one_thread(
     Ok(Loaded::gathered(alloc, &packages, modules)?)
 }
 
-/// What the modules of a pool give, by its seats. Their code gives its memory to what comes.
+/// Loads the modules of a pool by its seats. Drops their code before the rest is made, to lower the peak of memory.
 #[tactic(auto, using(crate::proofs::Joined::gathered_is))]
 fn loaded_by_workers<'a, R: Threads + Wait + Sync, G: Gate>(
     rt: &R,
@@ -72,9 +72,9 @@ fn loaded_by_workers<'a, R: Threads + Wait + Sync, G: Gate>(
     Ok(Loaded::gathered(alloc, &packages, modules)?)
 }
 
-/// Loads a workspace on one thread: each module is evaluated after all that it loads, with so many steps of its own. It is refused where
-/// there are too many modules or edges (L2), and where memory is refused (L1). It evaluates on the stack of its caller, which no call
-/// overflows where that is as large as `bq_load_workers::EVALUATION_STACK`.
+/// Loads a workspace on one thread: each module is evaluated after all that it loads, with `limit` steps of its own. It
+/// is refused if there are too many modules or edges (L2), and if memory is refused (L1). It evaluates on the stack of
+/// its caller, which no call overflows if that is as large as `bq_load_workers::EVALUATION_STACK`.
 #[tactic(auto, using(crate::proofs::Joined::loaded_is))]
 pub fn load_one_thread(
     alloc: Global,
@@ -94,8 +94,8 @@ pub fn load_one_thread(
     Ok(loaded_one_thread(alloc, loading, edges)?)
 }
 
-/// Loads a workspace by so many workers, each in a thread of its own with the stack that evaluation may take, and tells a gate of each
-/// evaluation. What it gives is what one thread gives, whatever the order of the workers' steps.
+/// Loads a workspace by several workers, each in a thread of its own with the stack that evaluation may take, and
+/// notifies a gate of each evaluation. It returns what one thread returns, whatever the order of the workers' steps.
 #[tactic(auto, using(crate::proofs::Joined::loaded_is))]
 pub fn load_with<R: Threads + Wait + Sync, G: Gate>(
     rt: &R,

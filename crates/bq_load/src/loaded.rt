@@ -1,4 +1,4 @@
-//! What loading a workspace gives.
+//! A workspace that was loaded.
 
 ghost use Rattle.std.specs.Prelude.{map, IfOk};
 ghost use Rattle.bq_load.specs.Views.{outcome_view};
@@ -26,7 +26,7 @@ pub struct Loaded {
 }
 
 impl Loaded {
-    /// What modules give, in a workspace with these packages.
+    /// Gathers the outcomes of modules, in a workspace with these packages.
     #[tactic(auto, using(crate::proofs::Ascending::packages_ascend))]
     pub(crate) fn gathered(
         alloc: Global,

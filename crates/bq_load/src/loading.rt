@@ -27,12 +27,12 @@ pub struct Loading<'a> {
     pub code: Vec<Option<Resolved>>,
     /// How many steps the evaluation of each module may take.
     pub limit: u64,
-    /// By which dicts find their keys.
+    /// What dicts hash their keys by.
     pub seed: Seed,
 }
 
 impl<'a> Loading<'a> {
-    /// What decides the outcomes of the modules of a load graph, and which loads which.
+    /// Takes what decides the outcomes of the modules from a load graph, and which loads which.
     #[tactic(auto, using(crate::proofs::Joined::decided, crate::proofs::Joined::as_wide))]
     pub(crate) fn of(
         alloc: Global,
@@ -63,7 +63,7 @@ impl<'a> Loading<'a> {
         Ok((loading, edges))
     }
 
-    /// The packages, once all modules are evaluated. Their code gives its memory to what comes.
+    /// Returns the packages, once all modules are evaluated. Drops their code, to lower the peak of memory.
     pub(crate) fn into_packages(self) -> Packages
         ensures { result ≡ self.entry.packages }
     {
@@ -71,7 +71,7 @@ impl<'a> Loading<'a> {
         packages
     }
 
-    /// The code of a module.
+    /// Returns the code of a module.
     pub(crate) fn code_of(&self, m: u32) -> Option<&Resolved>
         ensures { option_copied result ≡ code_in (slice_get self.now.code.items m) }
     {

@@ -22,8 +22,8 @@ use bq_value_seed::Seed;
 use std::alloc::{AllocError, Global};
 
 impl<'a> Pool<'a> {
-    /// A pool of the modules of the workspace's load graph, none of them begun, and its seats, which have done nothing. Each evaluation may take
-    /// so many steps.
+    /// Opens a pool of the modules of the workspace's load graph, none of them begun, and its seats, which have done
+    /// nothing. Each evaluation may take `limit` steps.
     pub fn open(
         alloc: Global,
         workspace: &'a Workspace,
@@ -46,7 +46,7 @@ impl<'a> Pool<'a> {
         Ok((pool, seats))
     }
 
-    /// What decides the outcomes of the modules.
+    /// Returns what decides the outcomes of the modules.
     pub(crate) fn loading(&self) -> &Loading<'a>
         ensures value { result.now ≡ self.now.shared.evaluator }
         ensures wide { length (loads_of self.now) ≡ length result.now.sources.items }
@@ -54,14 +54,14 @@ impl<'a> Pool<'a> {
         self.shared.evaluator()
     }
 
-    /// Which module loads which.
+    /// Returns which module loads which.
     pub(crate) fn edges(&self) -> &Graph
         ensures { result.now ≡ loads_of self.now }
     {
         self.shared.graph()
     }
 
-    /// The packages, once all modules are evaluated. Their code gives its memory to what comes.
+    /// Returns the packages, once all modules are evaluated. Drops their code, to lower the peak of memory.
     pub(crate) fn into_packages(self) -> Packages
         ensures { result ≡ self.entry.shared.evaluator.packages }
     {
@@ -70,9 +70,9 @@ impl<'a> Pool<'a> {
         loading.into_packages()
     }
 
-    /// Gives up the pool, and the modules that were posted and that nobody fetched. Its board ends in a state that meets the board's rule, in
-    /// which this seat has done what its view says; what was posted and not fetched is what the recursion along loads gives that module.
-    /// Nothing is known of seats dropped before.
+    /// Drops the pool, and the modules that were posted and that nobody fetched. Its board ends in a state that meets
+    /// the board's rule, in which this seat has done what its view says; what was posted and not fetched is the outcome
+    /// of that module by the recursion along loads. Nothing is known of seats that were dropped before.
     pub fn close(self, seat: PoolSeat<'a>)
         requires seat { IsSeatOf self.shared.board seat.place }
         ensures rule { ClosesWith self.entry.shared.board seat.entry.place (λ base m x. IsImport module_view (outcome (means (loading_of base.evaluator.value)) base.graph.value) m x.number x.value) }

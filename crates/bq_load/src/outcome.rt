@@ -10,11 +10,11 @@ use std::sync::Arc;
 /// A module that was evaluated.
 #[derive(Drop)]
 pub struct LoadedModule {
-    /// Its globals, and what they hold, for those that load it. Nobody loads a BUILD file: of one it is empty.
+    /// Its globals, and what they hold, for the modules that load it. Nobody loads a BUILD file: for one it is empty.
     pub frozen: Arc<Frozen>,
     /// What it printed, in order.
     pub prints: Vec<Bytes>,
-    /// Of a BUILD file, the package with its targets.
+    /// For a BUILD file, the package with its targets.
     pub package: Option<Package>,
 }
 
@@ -37,7 +37,7 @@ impl FailedModule {
     ghost use Rattle.std.specs.Prelude.{◌≡◌};
     ghost use Rattle.bq_load.specs.Views.{failed_view, not_evaluated};
 
-    /// One that failed before it was evaluated.
+    /// Makes one that failed before it was evaluated.
     pub(crate) fn not_evaluated(alloc: Global, fault: Fault) -> FailedModule
         ensures { failed_view result ≡ not_evaluated fault }
     {

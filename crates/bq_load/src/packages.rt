@@ -22,7 +22,7 @@ fn no_targets(alloc: Global, label: &Label) -> Result<Package, AllocError>
     Package::failed(alloc, label.share()?)
 }
 
-/// A BUILD file's package, where it is of the file's directory.
+/// Returns a BUILD file's package, if it is of the file's directory.
 fn own_package(
     alloc: Global,
     label: &Label,
@@ -39,7 +39,7 @@ fn own_package(
     no_targets(alloc, label)
 }
 
-/// The package of a BUILD file: one without targets where it failed.
+/// Returns the package of a BUILD file: one without targets if it failed.
 pub(crate) fn package_by(
     alloc: Global,
     label: &Label,
@@ -53,7 +53,7 @@ pub(crate) fn package_by(
     }
 }
 
-/// The labels of modules, each once.
+/// Returns the labels of modules, each once.
 #[tactic(auto, unfolding(bq_label_set::specs::Labels::with_labels))]
 fn labels_of(alloc: Global, modules: &[ModuleOutcome]) -> Result<LabelSet, AllocError>
     ensures { IfOk result (λ ls. ls ≡ with_labels [] (labels_of (map outcome_view modules.now))) }
@@ -65,7 +65,7 @@ fn labels_of(alloc: Global, modules: &[ModuleOutcome]) -> Result<LabelSet, Alloc
     Ok(labels)
 }
 
-/// The package of the BUILD file of this label.
+/// Returns the package of the BUILD file of this label.
 #[tactic(auto, unfolding(crate::specs::Loaded::package_at))]
 fn package_at(
     alloc: Global,
@@ -85,7 +85,7 @@ fn package_at(
     }
 }
 
-/// The package of a BUILD file, where that is one of the modules.
+/// Returns the package of a BUILD file, if that is one of the modules.
 fn package_in(
     alloc: Global,
     labels: &LabelSet,
@@ -101,7 +101,7 @@ fn package_in(
     }
 }
 
-/// Adds a package, where its BUILD file is one of the modules.
+/// Appends a package, if its BUILD file is one of the modules.
 fn add_package(
     alloc: Global,
     labels: &LabelSet,
@@ -121,7 +121,7 @@ fn add_package(
     }
 }
 
-/// The packages of these BUILD files in their order, by the labels of the modules.
+/// Returns the packages of these BUILD files in their order, by the labels of the modules.
 fn packages_by_labels(
     alloc: Global,
     labels: &LabelSet,
@@ -138,7 +138,7 @@ fn packages_by_labels(
     Ok(all)
 }
 
-/// The packages of a workspace in their order, by its modules.
+/// Returns the packages of a workspace in their order, by its modules.
 pub(crate) fn packages_in(
     alloc: Global,
     packages: &Packages,

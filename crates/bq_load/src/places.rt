@@ -1,4 +1,4 @@
-//! The places of names, for those who look for many of them.
+//! The places of names, where many are looked for.
 
 ghost use Rattle.std.specs.Prelude.{◌≡◌, IfOk, Some, slice_get};
 ghost use Rattle.std.specs.Option.{ForSome};
@@ -8,10 +8,11 @@ use bq_base::Bytes;
 use std::alloc::{AllocError, Global};
 use std::collections::BTreeMap;
 
-/// The place of each name: of two that are equal the first's. Names that strangers choose take no longer in a tree.
+/// The place of each name; of two that are equal, the first's. It is a tree, and not a hash table, since strangers
+/// choose the names.
 pub(crate) type NamePlaces<'a> = BTreeMap<&'a [u8], usize>;
 
-/// The places of names.
+/// Returns the places of names.
 #[tactic(auto, using(crate::proofs::ByName::none_after))]
 pub(crate) fn places_by_name<'a>(
     alloc: Global,
@@ -26,14 +27,14 @@ pub(crate) fn places_by_name<'a>(
     Ok(places)
 }
 
-/// The place of a name.
+/// Returns the place of a name.
 pub(crate) fn place_of(places: &NamePlaces<'_>, name: &Bytes) -> Option<usize>
     ensures { result ≡ place_in places.now name.now }
 {
     places.get(name.as_slice()).copied()
 }
 
-/// The map in this place, if there is one.
+/// Returns the map at this place, if there is one.
 pub(crate) fn places_at<'t, 'a>(
     all: &'t [Option<NamePlaces<'a>>],
     number: usize,

@@ -16,17 +16,17 @@ pub struct Pool<'a> {
 /// The right to work in one pool. It may go to another thread.
 pub type PoolSeat<'a> = bq_load_workers::WorkerSeat<Loading<'a>>;
 
-/// A module that a thread brought to its end.
+/// A module that a thread finished.
 #[derive(Drop)]
 pub struct Evaluated {
     /// Its number: its place among the labels of the load graph.
     pub module: u32,
     pub outcome: ModuleOutcome,
-    /// Of a BUILD file, its package: one without targets where it failed.
+    /// For a BUILD file, its package: one without targets if it failed.
     pub package: Option<Package>,
 }
 
-/// What a thread brought to its end in one call, and whether it found all modules of the pool so.
+/// What a thread finished in one call, and whether it found all modules of the pool finished.
 #[derive(Drop)]
 pub struct Worked {
     pub all: bool,

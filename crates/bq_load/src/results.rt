@@ -23,7 +23,7 @@ use bq_resolve_scope::{LoadStmt, Resolved};
 use std::alloc::{AllocError, Global};
 use std::sync::Arc;
 
-/// The line of the first of these loads, which name these files, that names this one.
+/// Returns the line of the first of these loads, which name these files, that names this one.
 #[tactic(auto, unfolding(crate::specs::Results::line_of_load))]
 fn line_of_load(label: &Label, loads: &[LoadStmt], files: &[Label]) -> u32
     ensures { result ≡ line_of_load label.now loads.now files.now }
@@ -50,14 +50,14 @@ fn line_by(label: &Label, source: &Source, code: Option<&Resolved>) -> u32
     }
 }
 
-/// The full form of a label.
+/// Returns the full form of a label.
 pub(crate) fn shown(alloc: Global, label: &Label) -> Result<Bytes, AllocError>
     ensures { IfOk result (λ text. text ≡ full_form label.now) }
 {
     Bytes::from_vec(alloc, print_label(alloc, label)?)
 }
 
-/// The same prints.
+/// Shares prints.
 fn share_prints(alloc: Global, prints: &[Bytes]) -> Result<Vec<Bytes>, AllocError>
     ensures { IfOk result (λ ps. ps.items ≡ prints.now) }
 {
@@ -78,7 +78,7 @@ fn share_failed(alloc: Global, failed: &FailedModule) -> Result<FailedModule, Al
 }
 
 impl<'a> Loading<'a> {
-    /// The fault of a module for its load of module `k`.
+    /// Returns the fault of a module for its load of module `k`.
     #[tactic(auto, unfolding(crate::specs::Results::load_fault))]
     fn load_fault(
         &self,
@@ -101,7 +101,7 @@ impl<'a> Loading<'a> {
         })
     }
 
-    /// What a module comes to, by its outcome along loads.
+    /// Returns the result of a module, by its outcome along loads.
     fn result_of(
         &self,
         alloc: Global,
@@ -129,7 +129,7 @@ impl<'a> Loading<'a> {
         }
     }
 
-    /// A module with its outcome, by its outcome along loads.
+    /// Returns a module with its outcome, by its outcome along loads.
     pub(crate) fn outcome_at(
         &self,
         alloc: Global,
@@ -144,7 +144,7 @@ impl<'a> Loading<'a> {
         Ok(ModuleOutcome { label, result })
     }
 
-    /// A module with its outcome.
+    /// Returns a module with its outcome.
     #[tactic(auto, using(crate::proofs::Listed::outcome_found, crate::proofs::Listed::found_at))]
     fn outcome(
         &self,
@@ -163,7 +163,7 @@ impl<'a> Loading<'a> {
         Ok(self.outcome_at(alloc, m as u32, source, &found[m])?)
     }
 
-    /// The modules with their outcomes.
+    /// Returns the modules with their outcomes.
     #[tactic(auto, using(crate::proofs::Listed::next), unfolding(crate::specs::Results::outcomes))]
     pub(crate) fn outcomes(
         &self,

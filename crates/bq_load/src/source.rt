@@ -29,7 +29,7 @@ pub struct Sources {
     pub code: Vec<Option<Resolved>>,
 }
 
-/// The same fault.
+/// Shares a fault.
 pub(crate) fn share_fault(fault: &Fault) -> Result<Fault, AllocError>
     ensures { IfOk result (λ f. f ≡ fault.now) }
 {
@@ -41,7 +41,7 @@ pub(crate) fn share_fault(fault: &Fault) -> Result<Fault, AllocError>
 }
 
 impl Sources {
-    /// The sources of the modules of a load graph.
+    /// Takes the sources of the modules from a load graph.
     pub(crate) fn of(alloc: Global, modules: Vec<Module>) -> Result<Sources, AllocError>
         ensures sources { IfOk result (λ s. s.sources.items ≡ map source_of modules.items) }
         ensures code { IfOk result (λ s. s.code.items ≡ map code_of modules.items) }
@@ -56,7 +56,7 @@ impl Sources {
         Ok(all)
     }
 
-    /// Adds that of one more module.
+    /// Adds the source of one more module.
     fn add(&mut self, alloc: Global, module: Module) -> Result<(), AllocError>
         ensures sources { OnOk result (self.new.sources.items ≡ self.old.sources.items ++ source_of «module» ∷ []) }
         ensures code { OnOk result (self.new.code.items ≡ self.old.code.items ++ code_of «module» ∷ []) }

@@ -1,4 +1,4 @@
-//! What the threads that work in a pool get.
+//! What the threads that work in a pool return.
 
 ghost use Rattle.std.specs.Prelude.{◌≡◌, ◌<◌, length, map, All, IfOk, IsTrue};
 ghost use Rattle.bq_board.specs.Counts.{Has};
@@ -24,7 +24,7 @@ use std::marker::Sync;
 use std::sync::Wait;
 use std::thread::Threads;
 
-/// The package of a BUILD file.
+/// Returns the package of a BUILD file.
 fn package_of_file(alloc: Global, module: &ModuleOutcome) -> Result<Option<Package>, AllocError>
     ensures { IfOk result (λ p. p ≡ package_of_file (outcome_view «module».now)) }
 {
@@ -35,9 +35,10 @@ fn package_of_file(alloc: Global, module: &ModuleOutcome) -> Result<Option<Packa
 }
 
 impl<'a> Pool<'a> {
-    /// Evaluates modules that nobody else has, each after all that it loads, until all are finished or a thread was refused memory, and tells the
-    /// gate of each evaluation. It gives just the modules that this seat finished in this call, in that order, and `all` only where this seat found
-    /// all modules finished. Where it is refused memory, what it finished in this call is in no answer.
+    /// Evaluates modules that nobody else has, each after all that it loads, until all are finished or a thread ran out
+    /// of memory, and notifies the gate of each evaluation. It returns exactly the modules that this seat finished in
+    /// this call, in that order, and `all` only if this seat found all modules finished. If it runs out of memory, what
+    /// it finished in this call is in no answer.
     pub fn work<R: Wait, G: Gate>(
         &self,
         rt: &R,
@@ -62,7 +63,7 @@ impl<'a> Pool<'a> {
         })
     }
 
-    /// Modules with their outcomes and packages.
+    /// Returns modules with their outcomes and packages.
     fn all_evaluated(
         &self,
         alloc: Global,
@@ -79,7 +80,7 @@ impl<'a> Pool<'a> {
         Ok(all)
     }
 
-    /// A module with its outcome and its package.
+    /// Returns a module with its outcome and its package.
     fn evaluated(
         &self,
         alloc: Global,
@@ -102,7 +103,8 @@ impl<'a> Pool<'a> {
         })
     }
 
-    /// All modules with their outcomes, by the seats, each in a thread of its own, and tells the gate of each evaluation.
+    /// Returns all modules with their outcomes, by the seats, each in a thread of its own, and notifies the gate of
+    /// each evaluation.
     pub(crate) fn outcomes<R: Threads + Wait + Sync, G: Gate>(
         &self,
         rt: &R,

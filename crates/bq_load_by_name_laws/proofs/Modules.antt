@@ -28,7 +28,7 @@ use Rattle.bq_load_by_name_laws.specs.Imports.{imports}
 use Rattle.bq_load_by_name_laws.specs.Parsed.{ParsedParts}
 use Rattle.bq_load_by_name_laws.proofs.Imports.{imports_same}
 
--- what stands in a place
+-- what is at a place
 pub file_at : (f : Option (Option ParsedFile)) (c : Option (Option Resolved)) → Maybe (Maybe IsCodeOf) f c → Maybe IsCodeOf (file_in f) (slots.code_in c)
 file_at None None h = tt
 file_at None (Some c) h = absurd h

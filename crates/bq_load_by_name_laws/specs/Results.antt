@@ -1,6 +1,6 @@
--- The outcome of each module by names, with its fault where it has no value. A module whose loads lead round a cycle is F35 and names its
--- first load that is cyclic; one that is too deep is F38 and names its first load at which a path of as many edges starts as there may be; one
--- with a load that has no value is F36 and names the first of them.
+-- The outcome of each module by names, with its fault if it has no value. A module whose loads lead to a cycle is F35
+-- and names its first load that is cyclic; one that is too deep is F38 and names its first load at which a path of as
+-- many edges starts as there may be; one with a load that has no value is F36 and names the first of them.
 use Rattle.std.specs.Prelude.{ℕ, ◌+◌, List, [], ◌∷◌, Option, Some, None, Result, Ok, Err, slice_get, bytes_eq, if◌then◌else◌}
 use Rattle.bq_base.specs.declared.fault.Fault.{Fault}
 use Rattle.bq_base.specs.declared.fault.FaultKind.{FaultKind}
@@ -63,7 +63,7 @@ outcomes_from x p m (s ∷ ss) = outcome_of x p m s ∷ outcomes_from x p (m + 1
 unfoldable pub outcomes : ParsedParts → Loads → List OutcomeView
 outcomes x p = outcomes_from x p 0 x.sources
 
--- what the load graph of the workspace gives by names, with so many steps for each module
+-- what loading the workspace returns by names, with `limit` steps for each module
 abbrev pub LoadsByNames : List File → Rules → ℕ → Result Loaded LoadErr → Type 0
 LoadsByNames files rules limit (Ok l) = (g : GraphParts) × IsLoadGraph (inputs_of files rules) g × IsGathered (packages_of files) (outcomes (parsed_in files rules limit g) g.edges) l
 LoadsByNames files rules limit (Err why) = HasNoGraph files rules why

@@ -1,13 +1,15 @@
-//! Laws of names for whole workspaces: the outcomes that loading gives by names are those that it gives by slots.
+//! Laws of names for whole workspaces: the outcomes of loading by names are those by slots.
 //!
-//! In: nothing; the functions do nothing, and their contracts are the laws. The promise: for every workspace, schema, limit and load graph
-//! each module has by names the outcome that bq_load gives it: the same globals and cells, prints, fault and package.
+//! In: nothing; the functions do nothing, and their contracts are the laws. The promise: for every workspace, schema,
+//! limit and load graph each module has by names the outcome that it has in bq_load: the same globals and cells,
+//! prints, fault and package.
 //!
-//! The definitions are those of bq_load, over files as they are parsed: `specs/Parsed.antt` (what is read of a load graph), `Imports`
-//! (what a file gets of what it loads), `Evaluation` (what a module evaluates to) and `Results` (the recursion along loads). How the
-//! proofs go: the code of each module is what its file resolves to (`proofs/Codes.antt`), so a file gets the same values by its loads
-//! (`proofs/Imports.antt`) and each module evaluates to the same, whatever it loads (`proofs/Modules.antt`). The recursion along loads
-//! is one word over what modules evaluate to, so the outcomes are the same (`proofs/Outcomes.antt`).
+//! The definitions are those of bq_load, over files as they are parsed: `specs/Parsed.antt` (what is read of a load
+//! graph), `Imports` (what a file gets of what it loads), `Evaluation` (what a module evaluates to) and `Results` (the
+//! recursion along loads). The proofs: the code of each module is what its file resolves to (`proofs/Codes.antt`), so a
+//! file gets the same values by its loads (`proofs/Imports.antt`) and each module evaluates to the same, whatever it
+//! loads (`proofs/Modules.antt`). The recursion along loads is one definition over what modules evaluate to, so the
+//! outcomes are the same (`proofs/Outcomes.antt`).
 #![tactic(auto)]
 
 mod laws;

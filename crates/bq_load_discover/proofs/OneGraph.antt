@@ -1,4 +1,4 @@
--- A workspace has one load graph at most, and none where there are too many modules or edges.
+-- A workspace has at most one load graph, and none if there are too many modules or edges.
 use Rattle.std.proofs.Common.{◌≡◌, ◌∙◌, ◌≤◌, ℕ, List, [], ◌∷◌, Option, Some, length, map, slice_get, refl, sym, ap, subst, arith}
 use Rattle.std.specs.List.{Contains, IsDistinct, flat_map}
 use Rattle.std.proofs.lemmas.List.{length-map}

@@ -28,7 +28,7 @@ pub record Explores (inputs : InputParts) (ls : List LabelParts) (ms : List Modu
 abbrev pub IsModuleAt : InputParts → List LabelParts → ℕ → Module → Type 0
 IsModuleAt inputs ls place m = (l : LabelParts) × (slice_get ls place ≡ Some l) × (m ≡ module_of inputs l)
 
--- one more module is read, where so many were; or all that was found is read
+-- one more module is read, after a number of others; or all that was found is read
 abbrev pub AfterReading : Bool → ℕ → List LabelParts → List Module → Type 0
 AfterReading true n ls ms = length ms ≡ n + 1
 AfterReading false n ls ms = (length ms ≡ n) × (length ls ≤ n)

@@ -22,7 +22,7 @@ use bq_package_schema::{Schema, rule_names};
 use std::alloc::Global;
 use std::thread::Threads;
 
-/// The load graph of modules that were found.
+/// Makes the load graph of modules that were found.
 fn load_graph(alloc: Global, modules: Vec<Module>) -> Result<LoadGraph, LoadErr>
     requires few { length modules.items ≤ MAX_MODULES }
     requires distinct { IsDistinct same_label (labels_of modules.items) }
@@ -34,7 +34,7 @@ fn load_graph(alloc: Global, modules: Vec<Module>) -> Result<LoadGraph, LoadErr>
     Ok(LoadGraph::of(labels, modules, edges))
 }
 
-/// The load graph of the modules that were found, if they aren't too many.
+/// Makes the load graph of the modules that were found, if they aren't too many.
 fn load_graph_of(
     alloc: Global,
     inputs: &Inputs<'_>,
@@ -50,8 +50,8 @@ fn load_graph_of(
     }
 }
 
-/// The load graph of a workspace, whose rules are those of the schema. It takes time linear in the files and loads of its modules,
-/// but for the order of the labels, which takes n log n.
+/// Finds the load graph of a workspace with the rules of the schema. It takes time linear in the files and loads of its
+/// modules, but for the order of the labels, which takes n log n.
 pub fn discover(alloc: Global, workspace: &Workspace, schema: &Schema) -> Result<LoadGraph, LoadErr>
     ensures { Discovers (inputs_of workspace.now schema.now) result }
 {
@@ -61,7 +61,7 @@ pub fn discover(alloc: Global, workspace: &Workspace, schema: &Schema) -> Result
     load_graph_of(alloc, &inputs, found)
 }
 
-/// The load graph of a workspace, as [`discover`] gives it. Its files are read in at most `workers` threads.
+/// Finds the load graph of a workspace, as [`discover`] does. Its files are read in at most `workers` threads.
 pub fn discover_by_workers<R: Threads + Sync>(
     rt: &R,
     alloc: Global,

@@ -13,7 +13,7 @@ use bq_label::Label;
 use bq_label_set::LabelSet;
 use std::alloc::{AllocError, Global};
 
-/// Adds the number of a label.
+/// Appends the number of a label.
 fn add_number(numbers: &LabelSet, label: &Label, row: &mut Vec<u32>) -> Result<(), AllocError>
     requires { length numbers.now ≤ MAX_MODULES }
     ensures { OnOk result (row.new.items ≡ row.old.items ++ option_to_list (number_in numbers.now label.now)) }
@@ -27,7 +27,7 @@ fn add_number(numbers: &LabelSet, label: &Label, row: &mut Vec<u32>) -> Result<(
     }
 }
 
-/// Adds the number of the file that a load names, unless one before it names that file.
+/// Appends the number of the file that a load names, unless an earlier one names that file.
 fn add_load(
     numbers: &LabelSet,
     load: &Label,
@@ -44,7 +44,7 @@ fn add_load(
     add_number(numbers, load, row)
 }
 
-/// The numbers of the files that loads name, each once, in the order in which they are first named.
+/// Returns the numbers of the files that loads name, each once, in the order in which they are first named.
 fn row(alloc: Global, numbers: &LabelSet, loads: &[Label]) -> Result<Vec<u32>, AllocError>
     requires { length numbers.now ≤ MAX_MODULES }
     ensures { IfOk result (λ row. row.items ≡ row_of numbers.now loads.now) }
@@ -57,7 +57,7 @@ fn row(alloc: Global, numbers: &LabelSet, loads: &[Label]) -> Result<Vec<u32>, A
     Ok(row)
 }
 
-/// The rows of modules.
+/// Returns the rows of modules.
 fn rows(alloc: Global, numbers: &LabelSet, modules: &[Module]) -> Result<Vec<Vec<u32>>, AllocError>
     requires { length numbers.now ≤ MAX_MODULES }
     ensures { IfOk result (λ rows. lists rows.items ≡ rows_of numbers.now modules.now) }
@@ -69,7 +69,7 @@ fn rows(alloc: Global, numbers: &LabelSet, modules: &[Module]) -> Result<Vec<Vec
     Ok(rows)
 }
 
-/// The labels, each with its place as its number.
+/// Numbers the labels by their places.
 fn numbers(alloc: Global, labels: &[Label]) -> Result<LabelSet, AllocError>
     ensures { IfOk result (λ numbers. numbers ≡ with_labels [] labels.now) }
 {
@@ -78,7 +78,7 @@ fn numbers(alloc: Global, labels: &[Label]) -> Result<LabelSet, AllocError>
     Ok(numbers)
 }
 
-/// The rows of modules of these labels.
+/// Returns the rows of modules of these labels.
 fn rows_by(alloc: Global, labels: &[Label], modules: &[Module]) -> Result<Vec<Vec<u32>>, AllocError>
     requires few { length labels.now ≤ MAX_MODULES }
     requires numbered { with_labels [] labels.now ≡ labels.now }
@@ -88,7 +88,7 @@ fn rows_by(alloc: Global, labels: &[Label], modules: &[Module]) -> Result<Vec<Ve
     rows(alloc, &numbers, modules)
 }
 
-/// The edges between modules of these labels.
+/// Returns the edges between modules of these labels.
 pub(crate) fn edges(alloc: Global, labels: &[Label], modules: &[Module]) -> Result<Graph, LoadErr>
     requires few { length labels.now ≤ MAX_MODULES }
     requires numbered { with_labels [] labels.now ≡ labels.now }

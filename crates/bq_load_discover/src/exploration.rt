@@ -15,7 +15,7 @@ use bq_label_set::LabelSet;
 use bq_load_front::Inputs;
 use std::alloc::{AllocError, Global};
 
-/// The labels of modules that were found, and the modules of the first of them, which are read.
+/// The labels of modules that were found, and the modules of the first of them, which were read.
 #[derive(Drop)]
 pub(crate) struct Exploration {
     pub(crate) found: LabelSet,
@@ -36,7 +36,7 @@ fn add_build_file(alloc: Global, build: &BuildFile, found: &mut LabelSet) -> Res
     }
 }
 
-/// The labels of the BUILD files.
+/// Returns the labels of the BUILD files.
 #[tactic(auto, unfolding(bq_label_set::specs::Labels::with_labels))]
 fn build_labels(alloc: Global, packages: &Packages) -> Result<LabelSet, AllocError>
     ensures { IfOk result (λ found. found ≡ with_labels [] (build_labels packages.now)) }
@@ -50,7 +50,7 @@ fn build_labels(alloc: Global, packages: &Packages) -> Result<LabelSet, AllocErr
 }
 
 impl Exploration {
-    /// The BUILD files are found, and nothing is read.
+    /// Finds the BUILD files, and reads nothing.
     pub(crate) fn new(alloc: Global, inputs: &Inputs<'_>) -> Result<Exploration, AllocError>
         ensures { IfOk result (λ e. Explores inputs.now e.found e.read.items) }
     {
@@ -60,7 +60,7 @@ impl Exploration {
         })
     }
 
-    /// The next module is read: finds what it loads.
+    /// Adds the next module, which was read, and finds what it loads.
     pub(crate) fn put(&mut self, next: Module) -> Result<(), AllocError>
         ensures explores { (inputs : InputParts) → Explores inputs self.old.found self.old.read.items → IsModuleAt inputs self.old.found (length self.old.read.items) next → OnOk result (Explores inputs self.new.found self.new.read.items) }
         ensures more { OnOk result (length self.new.read.items ≡ length self.old.read.items + 1) }
@@ -71,7 +71,7 @@ impl Exploration {
         added
     }
 
-    /// Reads the next module and finds what it loads. It is false where all that was found is read.
+    /// Reads the next module and finds what it loads. Returns false if all that was found has been read.
     fn read_next(&mut self, alloc: Global, inputs: &Inputs<'_>) -> Result<bool, AllocError>
         requires { Explores inputs.now self.old.found self.old.read.items }
         ensures explores { OnOk result (Explores inputs.now self.new.found self.new.read.items) }
@@ -85,7 +85,7 @@ impl Exploration {
         Ok(true)
     }
 
-    /// Reads all that is found, and what that loads. It is false where there are too many.
+    /// Reads all that is found, and what that loads. Returns false if there are too many modules.
     fn read_all(&mut self, alloc: Global, inputs: &Inputs<'_>) -> Result<bool, AllocError>
         requires { Explores inputs.now self.old.found self.old.read.items }
         ensures { IfOk result (λ all. AllAreRead inputs.now all self.new.read.items) }
@@ -102,7 +102,7 @@ impl Exploration {
     }
 }
 
-/// All modules of a workspace, where some are read; none where there are too many.
+/// Returns all modules of a workspace, some of which have been read; `None` if there are too many.
 pub(crate) fn read_rest(
     alloc: Global,
     inputs: &Inputs<'_>,
@@ -118,7 +118,7 @@ pub(crate) fn read_rest(
     }
 }
 
-/// The modules of a workspace in the order in which they are found; none where there are too many.
+/// Returns the modules of a workspace in the order in which they are found; `None` if there are too many.
 pub(crate) fn explore(alloc: Global, inputs: &Inputs<'_>) -> Result<Option<Vec<Module>>, AllocError>
     ensures { IfOk result (Finds inputs.now) }
 {

@@ -1,23 +1,24 @@
-//! A workspace and its schema come in; its load graph goes out: its modules, what the file of each gives, and which loads which.
+//! A workspace and its schema come in; its load graph goes out: its modules, the front of each file, and which module
+//! loads which.
 //!
 //! The modules are the BUILD files and all that they load, directly or not (`specs/Modules.antt`). Each is named by its label, so
 //! that two spellings of a label are one module. A module's number is its place in the order of the bytes of the labels' full forms.
 //!
-//! The promise: [`discover`] gives the one load graph of the workspace, or finds that it has more modules or edges than a load graph
-//! may have (`specs/LoadGraph.antt`), and [`discover_by_workers`] the same by several threads. Each file is read once, and nothing
-//! recurs along loads.
+//! The promise: [`discover`] returns the one load graph of the workspace, or finds that it has more modules or edges
+//! than a load graph may have (`specs/LoadGraph.antt`), and [`discover_by_workers`] the same by several threads. Each
+//! file is read once, and nothing recurs along loads.
 //!
 //! In reading order:
 //!
 //! - `load_err`: why there is no load graph;
 //! - `schema`: the schema of a workspace;
-//! - `modules`: a module, and what its file gives;
+//! - `modules`: a module with the front of its file;
 //! - `exploration`: the modules, found along loads;
-//! - `waves`: the same by several threads, which read at once what is found;
+//! - `waves`: how several threads find them, which read at once all that was found so far;
 //! - `order`: the modules in the order of their labels;
 //! - `edges`: which module loads which, by their numbers;
 //! - `load_graph`, `discovery`: the load graph, and how it is made of a workspace;
-//! - `laws`: what it is, in words of the workspace.
+//! - `laws`: what it is, said of the workspace.
 #![tactic(auto)]
 
 mod discovery;

@@ -6,7 +6,7 @@ use thiserror::Error;
 /// Why a workspace has no load graph.
 #[derive(Debug, Drop, Error)]
 pub enum LoadErr {
-    /// Memory was refused. It says nothing of the workspace.
+    /// Memory was refused, which says nothing about the workspace.
     #[error("L1 Memory")]
     Memory,
     /// More modules or edges than a load graph may have.

@@ -35,7 +35,7 @@ impl Model for LoadGraph {
 impl LoadGraph {
     ghost use Rattle.bq_load_discover.specs.LoadGraph.{GraphParts, IsNumbered};
 
-    /// The load graph of these parts.
+    /// Makes the load graph of these parts.
     pub(crate) fn of(labels: Vec<Label>, modules: Vec<Module>, edges: Graph) -> LoadGraph
         requires { IsNumbered (record { labels = labels.items; modules = modules.items; edges = edges }) }
         ensures { result ≡ record { labels = labels.items; modules = modules.items; edges = edges } }
@@ -47,7 +47,8 @@ impl LoadGraph {
         }
     }
 
-    /// The labels of the modules, each once, in the order of the bytes of their full forms. A module's number is its place here.
+    /// Returns the labels of the modules, each once, in the order of the bytes of their full forms. A module's number
+    /// is its place here.
     pub fn labels(&self) -> &[Label]
         ensures value { result.now ≡ self.now.labels }
         ensures valid { IsNumbered self.now }
@@ -56,7 +57,7 @@ impl LoadGraph {
         self.labels.as_slice()
     }
 
-    /// The modules by their numbers.
+    /// Returns the modules by their numbers.
     pub fn modules(&self) -> &[Module]
         ensures value { result.now ≡ self.now.modules }
         ensures valid { IsNumbered self.now }
@@ -65,7 +66,8 @@ impl LoadGraph {
         self.modules.as_slice()
     }
 
-    /// For each module the numbers of those that it loads, each once, in the order in which it first loads them.
+    /// Returns for each module the numbers of those that it loads, each once, in the order in which it first loads
+    /// them.
     pub fn edges(&self) -> &Graph
         ensures value { result.now ≡ self.now.edges }
         ensures valid { IsNumbered self.now }
@@ -74,7 +76,7 @@ impl LoadGraph {
         &self.edges
     }
 
-    /// The modules by their numbers, and the edges.
+    /// Returns the modules by their numbers, and the edges.
     pub fn into_parts(self) -> (Vec<Module>, Graph)
         ensures modules { result.0.items ≡ self.modules }
         ensures edges { result.1 ≡ self.edges }

@@ -1,4 +1,4 @@
-//! A module, and what its file gives.
+//! A module with the front of its file.
 
 ghost use Rattle.std.specs.Prelude.{◌≡◌, IfOk};
 ghost use Rattle.bq_load_front.specs.Front.{loads_by};
@@ -13,12 +13,12 @@ use std::alloc::{AllocError, Global};
 #[derive(Drop)]
 pub struct Module {
     pub label: Label,
-    /// What its file gives, or the fault that the file has on its own.
+    /// What its file is on its own, or the fault that the file has on its own.
     pub front: Result<Front, Fault>,
 }
 
 impl Module {
-    /// The module of this label.
+    /// Reads the module of this label.
     pub(crate) fn of(
         alloc: Global,
         inputs: &Inputs<'_>,
@@ -40,7 +40,7 @@ impl Module {
         }
     }
 
-    /// The labels of the files that it loads, one for each load; none where its file has a fault.
+    /// Returns the labels of the files that it loads, one for each load; none if its file has a fault.
     pub fn loads(&self) -> &[Label]
         ensures { result.now ≡ loads_by self.now.front }
     {

@@ -8,7 +8,7 @@ use crate::modules::Module;
 use bq_label::Label;
 use std::alloc::{AllocError, Global};
 
-/// The modules in the order of the bytes of their labels' full forms.
+/// Returns the modules in the order of the bytes of their labels' full forms.
 pub(crate) fn sorted(modules: Vec<Module>) -> Vec<Module>
     ensures moved { IsPermutation modules.items result.items }
     ensures ascending { IsSorted module_cmp result.items }
@@ -18,7 +18,7 @@ pub(crate) fn sorted(modules: Vec<Module>) -> Vec<Module>
     modules
 }
 
-/// The labels of modules.
+/// Returns the labels of modules.
 pub(crate) fn labels(alloc: Global, modules: &[Module]) -> Result<Vec<Label>, AllocError>
     ensures labels { IfOk result (λ ls. ls.items ≡ labels_of modules.now) }
     ensures valid { OnOk result (AreValid modules.now) }

@@ -15,7 +15,7 @@ use std::alloc::Global;
 /// The file at the root that has the schema.
 const SCHEMA_FILE: &[u8] = b"rules.schema";
 
-/// What the file of the schema declares, or its fault; the standard schema where there is no such file.
+/// Returns what the file of the schema declares, or its fault; the standard schema if there is no such file.
 #[tactic(auto, unfolding(crate::specs::Schema::declared_in))]
 fn declared_in(alloc: Global, workspace: &Workspace) -> Result<Schema, SourceErr>
     ensures { Gives itself Bad result (declared_in workspace.now) }
@@ -26,7 +26,7 @@ fn declared_in(alloc: Global, workspace: &Workspace) -> Result<Schema, SourceErr
     }
 }
 
-/// The schema of the workspace: that of its file `rules.schema`, or the standard one where there is none.
+/// Returns the schema of the workspace: that of its file `rules.schema`, or the standard one if there is none.
 #[tactic(auto, unfolding(crate::specs::Schema::schema_in))]
 pub fn schema_of(alloc: Global, workspace: &Workspace) -> Result<Schema, LoadErr>
     ensures { Gives itself BadSchema result (schema_in workspace.now) }

@@ -14,7 +14,7 @@ use std::alloc::{AllocError, Global};
 use std::thread;
 use std::thread::Threads;
 
-/// A thread is worth its start where it reads so many modules.
+/// How many modules a thread has to read to be worth its start.
 const MODULES_OF_A_THREAD: usize = 8;
 
 /// The place of a label, and the module of that label once it is read.
@@ -24,7 +24,7 @@ pub(crate) struct Reading {
     read: Result<Option<Module>, AllocError>,
 }
 
-/// Readings of all labels from that place on, as far as so many may be read; the last of them first.
+/// Returns one empty reading for each label from that place on, the last of them first. Labels past the limit get none.
 fn unread(alloc: Global, labels: &LabelSet, from: usize) -> Result<Vec<Reading>, AllocError> {
     let mut readings = Vec::new(alloc);
     for place in from..MAX_MODULES + 1 {
@@ -40,7 +40,7 @@ fn unread(alloc: Global, labels: &LabelSet, from: usize) -> Result<Vec<Reading>,
     Ok(readings)
 }
 
-/// The module of the label at that place, if there is one.
+/// Reads the module of the label at that place, if there is one.
 fn module_at(
     alloc: Global,
     inputs: &Inputs<'_>,
@@ -62,7 +62,7 @@ fn read_one(alloc: Global, inputs: &Inputs<'_>, labels: &LabelSet, reading: &mut
     reading.read = module_at(alloc, inputs, labels, reading.place);
 }
 
-/// Reads the modules of labels, in at most so many threads.
+/// Reads the modules of labels, in at most `threads` threads.
 fn read_all<R: Threads + Sync>(
     rt: &R,
     alloc: Global,
@@ -81,7 +81,7 @@ fn read_all<R: Threads + Sync>(
 }
 
 impl Exploration {
-    /// Puts the module of the label at this place, if it is the next.
+    /// Adds the module of the label at this place, if it is the next.
     #[tactic(auto, using(crate::proofs::Readings::grows, crate::proofs::Readings::grows_none, crate::proofs::Readings::at_next))]
     fn put_at(&mut self, place: usize, next: Module) -> Result<(), AllocError>
         ensures explores { (inputs : InputParts) → Explores inputs self.old.found self.old.read.items → IsModuleAt inputs self.old.found place next → OnOk result (Explores inputs self.new.found self.new.read.items) }
@@ -94,7 +94,7 @@ impl Exploration {
         Ok(())
     }
 
-    /// Puts what was read, if it is the next. Memory that was refused to its thread is refused here.
+    /// Adds what was read, if it is the next. If memory was refused to its thread, it fails too.
     #[tactic(auto, using(crate::proofs::Readings::grows_none))]
     fn take(&mut self, reading: Option<Reading>) -> Result<(), AllocError>
         ensures explores { (inputs : InputParts) → Explores inputs self.old.found self.old.read.items → IfSome reading (IsReading inputs self.old.found) → OnOk result (Explores inputs self.new.found self.new.read.items) }
@@ -110,7 +110,7 @@ impl Exploration {
         }
     }
 
-    /// Puts the modules that were read.
+    /// Adds the modules that were read.
     fn take_all(
         &mut self,
         inputs: &Inputs<'_>,
@@ -153,8 +153,8 @@ impl Exploration {
     }
 }
 
-/// The modules of a workspace in the order in which they are found; none where there are too many. What is found and not read yet
-/// is read in at most `workers` threads, again and again. What they leave is read here.
+/// Returns the modules of a workspace in the order in which they are found; `None` if there are too many. What is found
+/// and not read yet is read in at most `workers` threads, again and again. What they leave is read here.
 pub(crate) fn explore_by_workers<R: Threads + Sync>(
     rt: &R,
     alloc: Global,

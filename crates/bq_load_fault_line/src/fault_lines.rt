@@ -42,7 +42,7 @@ impl FaultLines {
         self.lines.is_empty()
     }
 
-    /// Puts a line at its place, unless it is there.
+    /// Inserts a line at its place, unless it is there.
     pub fn add(&mut self, line: FaultLine) -> Result<(), AllocError>
         ensures { OnOk result (self.new ≡ insert_key line_cmp self.old line) }
     {
@@ -50,7 +50,7 @@ impl FaultLines {
         Ok(())
     }
 
-    /// What is printed of the lines.
+    /// Returns the text of the lines.
     pub fn text(&self, alloc: Global) -> Result<Vec<u8>, AllocError>
         ensures { IfOk result (λ text. text.items ≡ flat_map line_text self.now) }
     {
@@ -61,8 +61,8 @@ impl FaultLines {
         Ok(text)
     }
 
-    /// Appends what is printed of the lines. Each line is given up once it is appended, so that no more than one detail is
-    /// held twice.
+    /// Appends the text of the lines. Each line is dropped once it is appended, so that at most one detail is in memory
+    /// twice.
     pub fn append_to(self, alloc: Global, text: &mut Vec<u8>) -> Result<(), AllocError>
         ensures { OnOk result (text.new.items ≡ text.old.items ++ flat_map line_text self) }
     {

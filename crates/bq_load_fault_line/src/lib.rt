@@ -1,4 +1,4 @@
-//! The faults of the files of a workspace come in, each as a line; the text that is printed of them goes out.
+//! The faults of the files of a workspace come in, each as a line; their text goes out.
 //!
 //! The promise: the text has each line once, ascending by the bytes of the file's label, then by the line's number, then by the
 //! fault's number, then by the bytes of the detail, and there is one such order of them ([`one_order_of_lines`]).

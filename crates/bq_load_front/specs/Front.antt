@@ -42,7 +42,7 @@ front_at inputs l (Some x) = front_by inputs l x.content
 unfoldable pub front_of : InputParts → LabelParts → Result Front Fault
 front_of inputs l = front_at inputs l (label_file inputs.files l)
 
--- the labels of the loads of a file: none where it has a fault of its own or a bad load
+-- the labels of the loads of a file: none if it has a fault of its own or a bad load
 abbrev pub loads_by : Result Front Fault → List LabelParts
 loads_by (Err why) = []
 loads_by (Ok front) = front.loads

@@ -14,7 +14,7 @@ use bq_resolve_scope::{Resolved, Universe};
 use bq_source::{Token, lex};
 use std::alloc::Global;
 
-/// The tokens of a text, or its fault (F1 to F8).
+/// Returns the tokens of a text, or its fault (F1 to F8).
 fn tokens(alloc: Global, text: &[u8]) -> Result<Vec<Token>, SourceErr>
     ensures found { Gives items Bad result (tokens_of text.now) }
     ensures reads { IfOk result (λ tokens. Lexes text.now (Ok tokens.items)) }
@@ -22,8 +22,8 @@ fn tokens(alloc: Global, text: &[u8]) -> Result<Vec<Token>, SourceErr>
     lex(alloc, text)
 }
 
-/// What a text resolves to as a file of this kind, or its first fault: of its tokens (F1 to F8), then of its statements (F10 to
-/// F13), then of its names (F20 to F24). It takes time and memory in proportion to the text.
+/// Returns what a text resolves to as a file of this kind, or its first fault: of its tokens (F1 to F8), then of its
+/// statements (F10 to F13), then of its names (F20 to F24). It takes time and memory in proportion to the text.
 #[tactic(auto, unfolding(crate::specs::Code::code_of))]
 pub fn code_of(alloc: Global, universe: &Universe, text: &[u8]) -> Result<Resolved, SourceErr>
     ensures { Gives itself Bad result (code_of universe.now text.now) }

@@ -1,4 +1,4 @@
-//! What the file of a module gives on its own.
+//! What the file of a module is on its own.
 
 ghost use Rattle.std.specs.Prelude.{◌≡◌, []};
 ghost use Rattle.bq_base.specs.Gives.{Gives};
@@ -24,7 +24,8 @@ pub struct Front {
     pub loads: Items<Label>,
 }
 
-/// The labels of the files that loads in this package name, or the fault of the first bad load (F30, F31, F32, F37).
+/// Returns the labels of the files that loads in this package name, or the fault of the first bad load (F30, F31, F32,
+/// F37).
 #[tactic(auto, unfolding(crate::specs::Front::labels_of))]
 fn labels_of(
     alloc: Global,
@@ -48,7 +49,7 @@ fn labels_of(
     Ok(labels)
 }
 
-/// The kind of the file of this label: a .bzl file where its name ends so, a BUILD file otherwise.
+/// Returns the kind of the file of this label: a .bzl file if its name ends so, a BUILD file otherwise.
 #[tactic(auto, unfolding(crate::specs::Front::kind_of))]
 pub fn kind_of(label: &Label) -> FileKind
     ensures { result ≡ kind_of label.now }
@@ -60,7 +61,7 @@ pub fn kind_of(label: &Label) -> FileKind
     }
 }
 
-/// What a text gives as the file of this label.
+/// Returns the front of a text, as the file of this label.
 fn front_by(
     alloc: Global,
     inputs: &Inputs<'_>,
@@ -74,8 +75,8 @@ fn front_by(
     Ok(Front { code, loads })
 }
 
-/// What the file of this label gives on its own, or its first fault: of its text (F1 to F24), then of its first bad load. A label
-/// that names no file is F31; no module has such a label.
+/// Returns the code and the loads of the file of this label, or its first fault: of its text (F1 to F24), then of its
+/// first bad load. A label that names no file is F31; no module has such a label.
 #[tactic(auto, unfolding(crate::specs::Front::front_of))]
 pub fn front_of(alloc: Global, inputs: &Inputs<'_>, label: &Label) -> Result<Front, SourceErr>
     ensures { Gives itself Bad result (front_of inputs.now label.now) }

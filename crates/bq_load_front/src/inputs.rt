@@ -1,4 +1,4 @@
-//! What is read.
+//! What files are read with.
 
 ghost use Rattle.std.specs.Prelude.{◌≡◌, [], IfOk};
 ghost use Rattle.bq_resolve_scope.specs.Names.{with_each, with_name};
@@ -35,7 +35,7 @@ impl<'a> Model for Inputs<'a> {
 }
 
 impl<'a> Inputs<'a> {
-    /// The workspace, its packages, and the names of its schema's rules.
+    /// Returns the workspace with its packages, and the names of its schema's rules.
     pub fn new(
         alloc: Global,
         workspace: &'a Workspace,
@@ -68,7 +68,7 @@ impl<'a> Inputs<'a> {
         self.packages
     }
 
-    /// The names that files of this kind have without binding them.
+    /// Returns the names that files of this kind have without binding them.
     pub fn universe(&self, kind: FileKind) -> &Universe
         ensures { result.now ≡ universe_of self.now kind }
     {

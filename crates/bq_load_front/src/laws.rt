@@ -1,9 +1,10 @@
-//! What files give, in words of their texts, statements and labels. The functions do nothing: their contracts are the laws.
+//! What fronts are, said of the texts, statements and labels of files. The functions do nothing: their contracts are
+//! the laws.
 
 ghost use Rattle.bq_load_front.specs.Laws.{CodesOfFiles, FaultsOfFiles, LoadsOfFiles, LoadedFiles};
 
-/// A file has a code exactly where its text reads as tokens, these as statements, and the names of these stand for something; the
-/// code is what they resolve to.
+/// A file has a code exactly if its text reads as tokens, these as statements, and the names of these stand for
+/// something; the code is what they resolve to.
 pub fn codes_of_files()
     ensures { CodesOfFiles }
 {}
@@ -13,8 +14,8 @@ pub fn faults_of_files()
     ensures { FaultsOfFiles }
 {}
 
-/// Where a file gives labels of loads, there is one for each load, in their order, and it is that of the file that the load names;
-/// where it has the fault of a load, each load before that one names a file, and that one doesn't, for this reason.
+/// If a file has labels of loads, there is one for each load, in their order, and it is that of the file that the load
+/// names; if it has the fault of a load, each load before that one names a file, and that one doesn't, for this reason.
 pub fn loads_of_files()
     ensures { LoadsOfFiles }
 {}

@@ -1,15 +1,15 @@
-//! A module of a workspace, by its label; what its file gives on its own goes out: the file's code and the files that it loads, or
-//! the first fault of its text (F1 to F24) or of its loads (F30, F31, F32, F37).
+//! A module of a workspace comes in, by its label; what its file is on its own goes out: its code and the files that it
+//! loads, or the first fault of its text (F1 to F24) or of its loads (F30, F31, F32, F37).
 //!
-//! The promise: [`front_of`] gives exactly what its definition gives of the file (`specs/Front.antt`): its tokens, the trees of its
-//! statements, what their names stand for, and then its loads in the order in which they are written.
+//! The promise: [`front_of`] returns exactly what its definition says of the file (`specs/Front.antt`): its tokens, the
+//! trees of its statements, what their names stand for, and then its loads in the order in which they are written.
 //!
 //! In reading order:
 //!
-//! - `inputs`: what is read: the files, the packages, and the names of the schema's rules;
+//! - `inputs`: what files are read with: the files, the packages, and the names of the schema's rules;
 //! - `code`: the text of a file to its resolved trees;
-//! - `front`: what the file of a label gives;
-//! - `laws`: what that is, in words of texts, statements and labels.
+//! - `front`: what the file of a label is on its own;
+//! - `laws`: what that is, said of texts, statements and labels.
 #![tactic(auto)]
 
 mod code;

@@ -4,8 +4,8 @@ ghost use Rattle.bq_load_label.specs.Laws.{LoadsNameFiles};
 
 use bq_label::laws::forms_of_a_label;
 
-/// A load is given a label exactly where its text names a .bzl file of the workspace by that label: the text begins with
-/// `//`, `@` or `:` and reads as the label, the file is at the label's path in the label's own repository, and lies in the
+/// A load has a label exactly if its text names a .bzl file of the workspace by that label: the text begins with `//`,
+/// `@` or `:` and reads as the label, the file is at the label's path in the label's own repository, and is in the
 /// label's package and in none beneath.
 pub fn loads_name_files()
     ensures { LoadsNameFiles }

@@ -12,7 +12,7 @@ use bq_base::{Bytes, Fault, FaultKind, SourceErr};
 use bq_label::{Label, PackageId, Packages, Workspace, label_file, print_label, read_label};
 use std::alloc::{AllocError, Global};
 
-/// Whether the text may be the label of a load: it begins with `//`, `@` or `:`.
+/// Returns whether the text may be the label of a load: it begins with `//`, `@` or `:`.
 #[tactic(auto, unfolding(crate::specs::NamedFile::has_load_form))]
 fn has_load_form(text: &[u8]) -> bool
     ensures { result ≡ has_load_form text.now }
@@ -20,7 +20,7 @@ fn has_load_form(text: &[u8]) -> bool
     text.starts_with(b"//") || text.starts_with(b"@") || text.starts_with(b":")
 }
 
-/// The label of a .bzl file that the text reads as.
+/// Reads the text as the label of a .bzl file.
 #[tactic(auto, unfolding(crate::specs::NamedFile::bzl_label))]
 fn bzl_label(alloc: Global, own: &PackageId, text: &[u8]) -> Result<Option<Label>, AllocError>
     ensures { IfOk result (λ label. label ≡ bzl_label own.now text.now) }
@@ -40,8 +40,8 @@ fn bzl_label(alloc: Global, own: &PackageId, text: &[u8]) -> Result<Option<Label
     }
 }
 
-/// Why the label names no file that can be loaded: F32 where it has no package, F37 where another package owns its path,
-/// F31 where its repository has no such file.
+/// Returns why the label names no file that can be loaded: F32 if it has no package, F37 if another package owns its
+/// path, F31 if its repository has no such file.
 #[tactic(auto, unfolding(crate::specs::NamedFile::fault_of_file))]
 fn fault_of_file(
     alloc: Global,
@@ -63,7 +63,7 @@ fn fault_of_file(
     Ok(None)
 }
 
-/// The fault of a load, in this line, of the file of this label.
+/// Returns the fault of a load, in this line, of the file of this label.
 fn file_fault(alloc: Global, kind: FaultKind, line: u32, label: &Label) -> Result<Fault, AllocError>
     ensures { IfOk result (λ fault. fault ≡ record { kind = kind; line = line; detail = full_form label.now }) }
 {
@@ -71,7 +71,7 @@ fn file_fault(alloc: Global, kind: FaultKind, line: u32, label: &Label) -> Resul
     Ok(Fault { kind, line, detail })
 }
 
-/// Whether the file of the label can be loaded.
+/// Fails if the file of the label can't be loaded.
 fn check_file(
     alloc: Global,
     workspace: &Workspace,
@@ -87,9 +87,9 @@ fn check_file(
     }
 }
 
-/// The label of the file that a load in the package `own` names by this text. The fault names the line of the load. F30, whose
-/// detail is empty, where the text is no label of a .bzl file that begins with `//`, `@` or `:`; then F32, F37 and F31, whose
-/// detail is the label in full form.
+/// Returns the label of the file that a load in the package `own` names by this text. The fault names the line of the
+/// load. It is F30, with an empty detail, if the text is no label of a .bzl file that begins with `//`, `@` or `:`;
+/// then F32, F37 and F31, with the label in full form as the detail.
 #[tactic(auto, unfolding(crate::specs::NamedFile::load_label))]
 pub fn load_label(
     alloc: Global,

@@ -20,17 +20,19 @@ ghost use Rattle.bq_load_laws.specs.FirstLoad.{IsFirstLoadOf};
 ghost use Rattle.bq_load_laws.specs.Orders.{exporting, failure, loading};
 ghost use Rattle.bq_load_laws.specs.Prints.{PrintsAreKept};
 
-/// A private symbol is F34 whether the module has it or not; another that it hasn't is F33.
+/// A private symbol is F34 whether the module has it or not; another one that it doesn't have is F33.
 pub fn symbols_are_refused_in_order()
     ensures { (code : List (Option Resolved)) (m : Option ModuleView) (name : Name) → FailsForFirst (exported code m name) (exporting code m name) }
 {}
 
-/// A module fails for the first of what is listed, and for nothing else: F35, F38, F36, and then its own fault.
+/// A module fails for the first of the reasons that are listed, and for nothing else: F35, F38, F36, and then its own
+/// fault.
 pub fn modules_fail_in_order()
     ensures { (x : LoadingParts) (p : Loads) (m : ℕ) (s : Source) → failure (result_of x m s (outcome (means x) p m)) ≡ first_fault (loading x p m) }
 {}
 
-/// What F35, F36 and F38 name is the line of the file's first load of the module, though later ones load it too, and the module's label.
+/// F35, F36 and F38 name the line of the file's first load of the module, even if later ones load it too, and the
+/// module's label.
 pub fn faults_of_loads_name_the_first_load()
     ensures { (x : LoadingParts) (m k : ℕ) (s loaded : Source) (kind : FaultKind) (file : Resolved) (load : LoadStmt) → slice_get x.code m ≡ Some (Some file) → slice_get x.sources k ≡ Some loaded → IsFirstLoadOf loaded.label load file.loads s.loads → load_fault x m s kind k ≡ record { kind = kind; line = load.line; detail = full_form loaded.label } }
 {}
@@ -40,7 +42,7 @@ pub fn modules_export_their_own()
     ensures { ModulesExportTheirOwn }
 {}
 
-/// What a module printed stays, one line a call, whether it ran to its end or failed then.
+/// What a module printed stays, one line for each call, whether it ran to its end or failed afterwards.
 pub fn prints_are_kept()
     ensures { PrintsAreKept }
 {}

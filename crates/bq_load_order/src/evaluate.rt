@@ -7,9 +7,9 @@ use std::alloc::{AllocError, Global};
 use std::marker::{Send, Sync};
 use std::sync::Arc;
 
-/// Evaluates modules, each by the values of what it loads. Threads may share it.
+/// Evaluates modules, each with the values of what it loads. Threads may share it.
 pub trait Evaluate: Sync {
-    /// What a module evaluates to, for those that load it.
+    /// What a module evaluates to, for the modules that load it.
     type Value: Send + Sync + Drop;
 
     /// Why a module has no value.
@@ -24,10 +24,10 @@ pub trait Evaluate: Sync {
 
     ghost see_fault: { Self.Fault → Reason };
 
-    /// What a module evaluates to, by the values of its loads in their order.
+    /// What a module evaluates to, with the values of its loads in their order.
     ghost means: { Self → ℕ → List Meaning → Result Meaning Reason };
 
-    /// Evaluates module `m`. It tells the watch right before the module's statements run; where none run, it doesn't.
+    /// Evaluates module `m`. It notifies the watch right before the module's statements run; if none run, it doesn't.
     fn evaluate<W: Watch>(
         &self,
         alloc: Global,

@@ -10,7 +10,7 @@ use crate::shared::{SharedOutcome, share_value};
 use std::alloc::{AllocError, Global};
 use std::sync::Arc;
 
-/// The values of loaded modules in the order of the loads, or the first load that has none.
+/// Returns the values of loaded modules in the order of the loads, or the first load that has none.
 pub fn imported<E: Evaluate>(
     alloc: Global,
     found: &[Option<SharedOutcome<E::Value, E::Fault>>],
@@ -29,7 +29,7 @@ pub fn imported<E: Evaluate>(
     Ok(Ok(imports))
 }
 
-// A share of the value that was found, if there is one.
+/// Shares the value that was found, if there is one.
 fn value_found<E: Evaluate>(
     found: &Option<SharedOutcome<E::Value, E::Fault>>,
 ) -> Result<Option<Arc<E::Value, Global>>, AllocError>

@@ -2,7 +2,8 @@
 ghost use Rattle.std.specs.Prelude.{◌≡◌, ℕ, List};
 ghost use Rattle.bq_load_order.specs.Slots.{Tabulates};
 
-/// One list alone has an outcome for each module, and no more: so all that promise the outcomes of modules return the same.
+/// Only one list has an outcome for each module, and no more: so all that promise the outcomes of modules return the
+/// same.
 pub fn one_list<A>()
     ensures { (n : ℕ) (f : ℕ → A) (xs ys : List A) → Tabulates n f xs → Tabulates n f ys → xs ≡ ys }
 {}

@@ -10,7 +10,8 @@ use bq_load_outcome_spec::Outcome;
 use std::alloc::{AllocError, Global};
 use std::sync::Arc;
 
-/// The outcome of a module that isn't cyclic, by the values of its loads or the first load that has none. It is evaluated only where all have one.
+/// Returns the outcome of a module that isn't cyclic, by the values of its loads or the first load without one. The
+/// module is evaluated only if all have one.
 pub fn outcome_by<E: Evaluate, W: Watch>(
     alloc: Global,
     evaluator: &E,
@@ -26,7 +27,7 @@ pub fn outcome_by<E: Evaluate, W: Watch>(
     }
 }
 
-// What a module evaluates to, shared.
+/// Evaluates a module, and shares the result.
 fn evaluate<E: Evaluate, W: Watch>(
     alloc: Global,
     evaluator: &E,

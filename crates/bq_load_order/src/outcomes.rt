@@ -16,8 +16,8 @@ use bq_board::{Graph, Order};
 use bq_load_outcome_spec::Outcome;
 use std::alloc::{AllocError, Global};
 
-/// The outcome of each module of a load graph. It calls the evaluator once for each module whose loads all have values, and the evaluator
-/// tells the watch.
+/// Returns the outcome of each module of a load graph. It calls the evaluator once for each module whose loads all have
+/// values, and the evaluator notifies the watch.
 pub fn outcomes_one_thread<E: Evaluate, W: Watch>(
     alloc: Global,
     evaluator: &E,
@@ -31,7 +31,7 @@ pub fn outcomes_one_thread<E: Evaluate, W: Watch>(
     complete(alloc, evaluator, graph, &order, found, watch)
 }
 
-/// The outcome of each module, where some are known.
+/// Returns the outcome of each module, where some are known.
 pub fn complete<E: Evaluate, W: Watch>(
     alloc: Global,
     evaluator: &E,
@@ -51,7 +51,7 @@ pub fn complete<E: Evaluate, W: Watch>(
     Ok(all_settled::<E>(alloc, graph, order, found.as_slice())?)
 }
 
-// Finds the outcomes of the modules of the order.
+/// Finds the outcomes of the modules of the order.
 fn fill<E: Evaluate, W: Watch>(
     alloc: Global,
     evaluator: &E,
@@ -72,7 +72,7 @@ fn fill<E: Evaluate, W: Watch>(
     Ok(())
 }
 
-// Finds the outcome of a module that isn't cyclic and whose loads have theirs.
+/// Finds the outcome of a module that isn't cyclic and whose loads have theirs.
 fn fill_one<E: Evaluate, W: Watch>(
     alloc: Global,
     evaluator: &E,
@@ -95,7 +95,7 @@ fn fill_one<E: Evaluate, W: Watch>(
     Ok(())
 }
 
-// The outcome of a module that isn't cyclic, by what was found for its loads.
+/// Returns the outcome of a module that isn't cyclic, by what was found for its loads.
 fn outcome_of<E: Evaluate, W: Watch>(
     alloc: Global,
     evaluator: &E,

@@ -7,10 +7,10 @@ use bq_load_outcome_spec::Outcome;
 use std::alloc::{AllocError, Global};
 use std::sync::Arc;
 
-/// An outcome of which all that load the module have a share.
+/// An outcome that all modules share that load the module.
 pub type SharedOutcome<V, F> = Outcome<Arc<V, Global>, Arc<F, Global>>;
 
-/// One more share of an outcome.
+/// Shares an outcome.
 pub fn share<E: Evaluate>(
     outcome: &SharedOutcome<E::Value, E::Fault>,
 ) -> Result<SharedOutcome<E::Value, E::Fault>, AllocError>
@@ -25,7 +25,7 @@ pub fn share<E: Evaluate>(
     }
 }
 
-/// A share of the value of an outcome, if it has one.
+/// Shares the value of an outcome, if it has one.
 pub fn share_value<E: Evaluate>(
     outcome: &SharedOutcome<E::Value, E::Fault>,
 ) -> Result<Option<Arc<E::Value, Global>>, AllocError>

@@ -14,7 +14,7 @@ use bq_board::{Graph, Order};
 use bq_load_outcome_spec::Outcome;
 use std::alloc::{AllocError, Global};
 
-/// A slot for each of so many modules, without outcomes.
+/// Makes a slot for each of a number of modules, without outcomes.
 pub fn empty_slots<V: Drop, F: Drop>(
     alloc: Global,
     modules: usize,
@@ -28,7 +28,7 @@ pub fn empty_slots<V: Drop, F: Drop>(
     Ok(slots)
 }
 
-/// The first of these loads that is cyclic, or 0 where none is. `order` is the graph's topological order.
+/// Returns the first of these loads that is cyclic, or 0 if none is. `order` is the graph's topological order.
 pub fn first_cyclic(order: &Order, graph: &Graph, loads: &[u32]) -> u32
     requires cyclic { MarksCycles graph.now order.now.pending.items }
     requires known { (l : ℕ) → Has loads.now l → l < length graph.now }
@@ -42,7 +42,8 @@ pub fn first_cyclic(order: &Order, graph: &Graph, loads: &[u32]) -> u32
     0
 }
 
-/// The first of these loads at which a path of `MAX_LOAD_DEPTH` edges starts, or 0 where none is. None of them is cyclic.
+/// Returns the first of these loads at which a path of `MAX_LOAD_DEPTH` edges starts, or 0 if there is none. None of
+/// them is cyclic.
 pub fn first_at_limit(order: &Order, graph: &Graph, loads: &[u32]) -> u32
     requires depths { HasDepths graph.now order.now.depths.items }
     requires known { (l : ℕ) → Has loads.now l → l < length graph.now }
@@ -57,7 +58,7 @@ pub fn first_at_limit(order: &Order, graph: &Graph, loads: &[u32]) -> u32
     0
 }
 
-// What was found for a module. A module for which nothing was found counts as cyclic.
+/// Returns what was found for a module. A module for which nothing was found counts as cyclic.
 fn settled<E: Evaluate>(
     graph: &Graph,
     order: &Order,
@@ -75,7 +76,7 @@ fn settled<E: Evaluate>(
     }
 }
 
-/// What was found, for each module. Modules for which nothing was found count as cyclic.
+/// Returns what was found, for each module. Modules for which nothing was found count as cyclic.
 pub fn all_settled<E: Evaluate>(
     alloc: Global,
     graph: &Graph,

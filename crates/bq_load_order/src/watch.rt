@@ -1,9 +1,9 @@
-//! Who is told of each evaluation.
+//! Who is notified of each evaluation.
 use std::marker::Sync;
 
-/// Is told of each module that is evaluated. What it does changes no outcome. Threads may share it.
+/// Is notified of each module that is evaluated. What it does changes no outcome. Threads may share it.
 pub trait Watch: Sync {
-    /// What evaluates a module calls this once, right before the module's statements run.
+    /// Is called by what evaluates a module, once, right before the module's statements run.
     fn begins(&self, m: u32);
 }
 

@@ -40,7 +40,7 @@ module _ {V F : Type 0} where
   by_loads means p at m = cond (is_cyclic p m) (Cyclic (first (is_cyclic p) (row p m)))
       (cond (is_too_deep p m) (TooDeep (first (starts_path p max_load_depth) (row p m))) (evaluated (means m) (values at (row p m))))
 
-  -- so many levels of it
+  -- a number of levels of it
   unfoldable pub outcome_within : (ℕ → List V → Result V F) → Loads → ℕ → ℕ → Outcome V F
   outcome_within means p zero m = LoadFailed 0
   outcome_within means p (suc n) m = by_loads means p (outcome_within means p n) m

@@ -1,4 +1,4 @@
-//! The recursion along loads in plain words. Each function does nothing; its contract is the law.
+//! What the recursion along loads means. Each function does nothing; its contract is the law.
 ghost use Rattle.std.specs.Prelude.{ℕ, List, Result};
 ghost use Rattle.bq_board.specs.Graph.{Loads};
 ghost use Rattle.bq_load_outcome_spec.specs.Outcome.{HasOneSolution};
@@ -14,7 +14,7 @@ pub fn one_solution<V, F>()
     ensures { (means : ℕ → List V → Result V F) (p : Loads) → HasOneSolution means p }
 {}
 
-/// A module from which loads lead round a cycle is `Cyclic`, with its first load that is cyclic.
+/// A module from which loads lead to a cycle is `Cyclic`, with its first load that is cyclic.
 pub fn cyclic_outcome<V, F>()
     ensures { (means : ℕ → List V → Result V F) (p : Loads) → CyclicOutcome means p }
 {
@@ -37,18 +37,18 @@ pub fn failed_load_outcome<V, F>()
     loads_of_too_deep();
 }
 
-/// Any other module is what it evaluates to by the values of its loads, in their order: a value or its own fault.
+/// Any other module is what it evaluates to with the values of its loads, in their order: a value or its own fault.
 pub fn loaded_outcome<V, F>()
     ensures { (means : ℕ → List V → Result V F) (p : Loads) → LoadedOutcome means p }
 {}
 
-/// The outcome of a module that is neither cyclic nor too deep is decided by the loads that a plan without those of such modules gives it: what workers
-/// over that plan make of it.
+/// The outcome of a module that is neither cyclic nor too deep depends only on the loads that it has in a plan without
+/// those of such modules: workers over that plan find it.
 pub fn outcome_by_the_plan<V, F>()
     ensures { (means : ℕ → List V → Result V F) (p q : Loads) → OutcomeByPlan means p q }
 {}
 
-/// An outcome is a matter of the module and of what it reaches by loads: other modules change nothing.
+/// An outcome depends only on the module and on what it reaches by loads: other modules change nothing.
 pub fn outcome_of_what_it_reaches<V, F>()
     ensures { (means others : ℕ → List V → Result V F) (p q : Loads) → OutcomeOfReached means others p q }
 {

@@ -2,17 +2,18 @@
 
 ghost use Rattle.bq_load_package_laws.specs.Packages.{FilesMakeTheirPackages, OutcomesHaveTheirPackages, PackagesCount};
 
-/// A BUILD file that runs to its end has a package, that of its own label, and a .bzl file has none: whatever either calls.
+/// A BUILD file that runs to its end has a package, that of its own label, and a .bzl file has none, whatever either
+/// calls.
 pub fn files_make_their_packages()
     ensures { FilesMakeTheirPackages }
 {}
 
-/// The same of the outcomes of the modules of a load graph.
+/// So have the modules of a load graph with their outcomes.
 pub fn outcomes_have_their_packages()
     ensures { OutcomesHaveTheirPackages }
 {}
 
-/// A BUILD file that ran to its end is in the workspace with the package that it made, and none is left out since it would be another's.
+/// A BUILD file that ran to its end is in the workspace with the package that it made; none is left out as another's.
 pub fn packages_count()
     ensures { PackagesCount }
 {}

@@ -15,7 +15,7 @@ use bq_load_order::{Evaluate, SharedOutcome, Watch, share_value};
 use std::alloc::{AllocError, Global};
 
 impl<E: Evaluate> WorkerPool<E> {
-    // Claims a module, and where it is won, finds its outcome, posts it and finishes the module.
+    /// Claims a module, and if it is won, finds its outcome, posts it and finishes the module.
     pub(crate) fn bring<W: Watch>(
         &self,
         alloc: Global,
@@ -42,7 +42,7 @@ impl<E: Evaluate> WorkerPool<E> {
         Ok(())
     }
 
-    // Claims a module, and answers whether it was won.
+    /// Claims a module, and returns whether it was won.
     fn wins(&self, seat: &mut Seat<Import<E>>, m: usize) -> bool
         requires seat { IsSeatOf self.now.board seat.old }
         requires known { m < length self.now.board.plan }
@@ -57,7 +57,7 @@ impl<E: Evaluate> WorkerPool<E> {
         }
     }
 
-    // Posts a module's value along all edges out of it, and finishes the module.
+    /// Posts a module's value along all edges out of it, and finishes the module.
     fn deliver(&self, seat: &mut Seat<Import<E>>, m: usize, out: &[u32], mut copies: Vec<Import<E>>)
         requires seat { IsSeatOf self.now.board seat.old }
         requires known { m < length self.now.board.plan }
@@ -76,7 +76,7 @@ impl<E: Evaluate> WorkerPool<E> {
     }
 }
 
-// So many imports of one module.
+/// Makes a number of imports of one module.
 fn copies<E: Evaluate>(
     alloc: Global,
     number: u32,

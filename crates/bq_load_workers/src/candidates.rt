@@ -16,7 +16,7 @@ pub(crate) enum Next {
 }
 
 impl<E: Evaluate> WorkerPool<E> {
-    // A module of the worker's own list, else one of another's.
+    /// Takes a module from the worker's own list, or else from another's.
     pub(crate) fn next(&self, list: &mut Worker<u32>) -> Next {
         match list.pop() {
             Some(m) => return Next::Candidate(m),
@@ -33,7 +33,8 @@ impl<E: Evaluate> WorkerPool<E> {
         next
     }
 
-    // Offers the modules that load `m`, and wakes workers for those that this one doesn't take next. Where a list can't grow, all workers stop.
+    /// Offers the modules that load `m`, and wakes workers for those that this one doesn't take next. If a list can't
+    /// grow, all workers stop.
     pub(crate) fn offer(&self, list: &mut Worker<u32>, m: usize)
         requires { m < length self.now.board.plan }
     {
@@ -53,7 +54,7 @@ impl<E: Evaluate> WorkerPool<E> {
         }
     }
 
-    // Has all workers stop.
+    /// Makes all workers stop.
     pub(crate) fn halt(&self) {
         self.stop.store(true, Ordering::SeqCst);
         self.idle.tell_all();

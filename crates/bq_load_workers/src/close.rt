@@ -10,9 +10,9 @@ use bq_board::Graph;
 use bq_load_order::Evaluate;
 
 impl<E: Evaluate + Drop> WorkerPool<E> {
-    /// Gives up the pool, and the values that were posted and that nobody fetched.
-    /// Its board ends in a state that meets the board's rule, in which this seat has done what its view says; a value that was posted and not fetched is that of its module.
-    /// Nothing is known of seats dropped before.
+    /// Drops the pool, and the values that were posted and that nobody fetched. Its board ends in a state that meets
+    /// the board's rule, in which this seat has done what its view says; a value that was posted and not fetched is
+    /// that of its module. Nothing is known of seats that were dropped before.
     pub fn close(self, seat: WorkerSeat<E>)
         requires seat { IsSeatOf self.board seat.place }
         ensures rule { ClosesWith self.board seat.place (λ base m x. IsImport E.see (outcome (E.means base.evaluator.value) base.graph.value) m x.number x.value) }
@@ -24,7 +24,7 @@ impl<E: Evaluate + Drop> WorkerPool<E> {
 }
 
 impl<E: Evaluate> WorkerPool<E> {
-    /// Gives up the pool, and gives back what evaluates its modules and which loads which. Nothing is known of its seats.
+    /// Drops the pool, and returns what evaluates its modules and which loads which. Nothing is known of its seats.
     pub fn into_parts(self) -> (E, Graph)
         ensures { (result.0 ≡ self.evaluator) × (result.1 ≡ self.graph) }
     {

@@ -15,7 +15,7 @@ use std::alloc::{AllocError, Global};
 use std::sync::Arc;
 
 impl<E: Evaluate> WorkerPool<E> {
-    // The outcome of a module, by what it loads.
+    /// Finds the outcome of a module, by what it loads.
     pub(crate) fn find<W: Watch>(
         &self,
         alloc: Global,
@@ -43,7 +43,7 @@ impl<E: Evaluate> WorkerPool<E> {
         Ok(outcome_by(alloc, &self.evaluator, m as u32, imports, watch)?)
     }
 
-    // The values of all that a module loads, or the first load that has none.
+    /// Returns the values of all that a module loads, or the first load without one.
     fn imports(
         &self,
         alloc: Global,

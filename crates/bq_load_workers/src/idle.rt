@@ -1,15 +1,16 @@
 //! What a worker does while it finds nothing to try: it sleeps until there is something new.
 //!
-//! No contract speaks of it, since a worker owes no return. That no worker sleeps on while there is work: each event is counted before sleepers are woken, a
-//! worker reads the count before it looks at the lists, and it falls asleep only if the count is still the same. So an event that it didn't see, since it had
-//! looked already, keeps it awake. Events are: a list has more candidates than its owner takes next; all modules are finished; all workers are to stop. A
-//! list with one candidate alone needs none, since its owner takes that one right away.
+//! No contract speaks of it, since a worker owes no return. Why no worker keeps sleeping while there is work: each
+//! event is counted before sleepers are woken, a worker reads the count before it looks at the lists, and it falls
+//! asleep only if the count is still the same. So an event that it didn't see, since it had looked already, keeps it
+//! awake. Events are: a list has more candidates than its owner takes next; all modules are finished; all workers are
+//! to stop. A list with one candidate alone needs none, since its owner takes that one right away.
 
 use std::sync::Wait;
 use std::sync::atomic::{AtomicU64, Ordering};
 use std::thread;
 
-/// So many turns a worker looks again before it sleeps: a few microseconds, in which short modules end.
+/// For how many turns a worker looks again before it sleeps: a few microseconds, in which short modules end.
 const TURNS_AWAKE: u32 = 32;
 
 /// Counts what sleeping workers wait for.
@@ -27,32 +28,34 @@ impl Idle {
         }
     }
 
-    /// How many events there were.
+    /// Returns how many events there were.
     pub(crate) fn events(&self) -> u64 {
         self.events.load(Ordering::SeqCst)
     }
 
-    /// Tells one sleeper of an event.
+    /// Wakes one sleeper for an event.
     pub(crate) fn tell_one(&self) {
         if self.count() {
             self.events.wake_one();
         }
     }
 
-    /// Tells all sleepers of an event.
+    /// Wakes all sleepers for an event.
     pub(crate) fn tell_all(&self) {
         if self.count() {
             self.events.wake_all();
         }
     }
 
-    // Counts an event, and returns whether anybody sleeps. A worker that falls asleep just now counts itself first, so either it is seen here, or it sees this event.
+    /// Counts an event, and returns whether anybody sleeps. A worker that falls asleep just now counts itself first, so
+    /// either it is seen here, or it sees this event.
     fn count(&self) -> bool {
         self.events.fetch_add(1, Ordering::SeqCst);
         self.sleepers.load(Ordering::SeqCst) > 0
     }
 
-    /// Lets a worker wait that found nothing for so many turns, and `seen` events before it looked: it yields, and after some turns sleeps until the next event.
+    /// Lets a worker wait that found nothing for `turns` turns, and knew of `seen` events before it looked: it yields,
+    /// and after some turns sleeps until the next event.
     pub(crate) fn wait<R: Wait>(&self, rt: &R, seen: u64, turns: u32) {
         if turns < TURNS_AWAKE {
             thread::yield_now();

@@ -1,4 +1,4 @@
-//! What goes from a module to those that load it.
+//! What a module hands to the modules that load it.
 ghost use Rattle.std.specs.Prelude.{◌≡◌};
 ghost use Rattle.bq_load_outcome_spec.specs.Outcome.{outcome};
 ghost use Rattle.bq_load_workers.specs.Work.{IsImport};
@@ -9,7 +9,7 @@ use std::alloc::Global;
 use std::snapshot::Snapshot;
 use std::sync::Arc;
 
-/// What decides the outcomes: the evaluator and the load graph. It stands in contracts alone.
+/// What decides the outcomes: the evaluator and the load graph. It occurs in contracts alone.
 #[derive(Drop)]
 pub struct Base<E> {
     pub evaluator: Snapshot<E>,

@@ -13,7 +13,8 @@ use std::alloc::{AllocError, Global};
 use std::sync::Wait;
 use std::thread::Threads;
 
-/// The outcome of each module of a pool, by its seats, each in a thread of its own. The watch is told of each evaluation.
+/// Returns the outcome of each module of a pool, by its seats, each in a thread of its own. The watch is notified of
+/// each evaluation.
 pub fn outcomes_by_workers<R: Threads + Wait + Sync, E: Evaluate, W: Watch>(
     rt: &R,
     alloc: Global,
@@ -29,7 +30,7 @@ pub fn outcomes_by_workers<R: Threads + Wait + Sync, E: Evaluate, W: Watch>(
     completed(rt, alloc, pool, found, watch)
 }
 
-// A slot for each module, with what the workers brought, where none of them was refused memory.
+/// Returns a slot for each module, with what the workers brought, if none of them ran out of memory.
 fn found_by<E: Evaluate>(
     alloc: Global,
     pool: &WorkerPool<E>,
@@ -44,7 +45,7 @@ fn found_by<E: Evaluate>(
     Ok(found)
 }
 
-// Puts what all workers brought into the slots. A worker that was refused memory makes the answer so.
+/// Puts what all workers brought into the slots. Fails if a worker ran out of memory.
 fn put_back<E: Evaluate>(
     pool: &WorkerPool<E>,
     found: &mut Vec<Option<SharedOutcome<E::Value, E::Fault>>>,
@@ -64,7 +65,7 @@ fn put_back<E: Evaluate>(
     Ok(())
 }
 
-// Puts what one worker brought into the slots.
+/// Puts what one worker brought into the slots.
 fn put_all<E: Evaluate>(
     pool: &WorkerPool<E>,
     found: &mut Vec<Option<SharedOutcome<E::Value, E::Fault>>>,

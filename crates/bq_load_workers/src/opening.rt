@@ -19,7 +19,7 @@ use std::sync::atomic::{AtomicBool, Ordering};
 pub const MAX_WORKERS: usize = 256;
 
 impl<E: Evaluate + Drop> WorkerPool<E> {
-    /// A pool of a graph's modules, none of them begun, and its seats, which have done nothing.
+    /// Opens a pool of a graph's modules, none of them begun, and its seats, which have done nothing.
     pub fn open(
         alloc: Global,
         evaluator: E,
@@ -48,7 +48,7 @@ impl<E: Evaluate + Drop> WorkerPool<E> {
     }
 }
 
-// A board of a graph's modules, none of them begun, and its seats, which have done nothing.
+/// Opens a board of a graph's modules, none of them begun, and its seats, which have done nothing.
 fn board_of<E: Evaluate>(
     alloc: Global,
     evaluator: &E,
@@ -70,7 +70,7 @@ fn board_of<E: Evaluate>(
     Ok(Board::open(alloc, plan, seats, &base)?)
 }
 
-// The list of seat `i` of `seats`: its share of the modules that load nothing.
+/// Makes the list of seat `i` of `seats`: its share of the modules that load nothing.
 fn list_of(
     alloc: Global,
     plan: &Plan,
@@ -92,7 +92,7 @@ fn list_of(
     Ok(list)
 }
 
-// Each place with its list.
+/// Returns each place with its list.
 fn seated<E: Evaluate>(
     alloc: Global,
     board: &Board<Import<E>>,
@@ -113,7 +113,7 @@ fn seated<E: Evaluate>(
     Ok(seats)
 }
 
-// Each place with its list, and what steals from these lists.
+/// Returns each place with its list, and what steals from these lists.
 fn seats_and_stealers<E: Evaluate>(
     alloc: Global,
     board: &Board<Import<E>>,

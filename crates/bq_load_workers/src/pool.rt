@@ -20,7 +20,7 @@ pub struct WorkerPool<E: Evaluate> {
     pub(crate) graph: Graph,
     pub(crate) order: Order,
     pub(crate) board: Board<Import<E>>,
-    /// A worker was refused memory, or a list of candidates: all workers stop.
+    /// A worker ran out of memory, for itself or for a list of candidates: all workers stop.
     pub(crate) stop: AtomicBool,
     /// Where workers sleep that find nothing to try.
     pub(crate) idle: Idle,
@@ -34,14 +34,14 @@ pub struct WorkerPool<E: Evaluate> {
 }
 
 impl<E: Evaluate> WorkerPool<E> {
-    /// What evaluates the modules.
+    /// Returns what evaluates the modules.
     pub fn evaluator(&self) -> &E
         ensures { result.now ≡ self.now.evaluator }
     {
         &self.evaluator
     }
 
-    /// Which module loads which.
+    /// Returns which module loads which.
     pub fn graph(&self) -> &Graph
         ensures { result.now ≡ self.now.graph }
     {

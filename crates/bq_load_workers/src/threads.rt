@@ -15,11 +15,12 @@ use std::sync::Wait;
 use std::thread;
 use std::thread::{Promise, PromisedHandle, Scope, Threads};
 
-/// The stack that a thread is given in which modules are evaluated: twice what the deepest evaluation takes. That is one in which each of 100 active functions
-/// calls the next from inside 64 brackets and indents; of such sources (`bench/stack` runs them) those with comprehensions took most, 32.5 MB.
+/// The stack of a thread in which modules are evaluated: twice what the deepest evaluation takes. That is one in which
+/// each of 100 active functions calls the next from inside 64 brackets and indents; of such sources (`bench/stack` runs
+/// them) those with comprehensions took most, 32.5 MB.
 pub const EVALUATION_STACK: usize = 64 << 20;
 
-/// What a worker brought, unless it was refused memory.
+/// What a worker brought, unless it ran out of memory.
 pub type Answer<V, F> = Result<WorkDone<V, F>, AllocError>;
 
 impl<E: Evaluate> Promise<Answer<E::Value, E::Fault>> for Base<E> {
@@ -30,7 +31,7 @@ impl<E: Evaluate> Promise<Result<Vec<SharedOutcome<E::Value, E::Fault>>, AllocEr
     ghost kept_by = { λ base r. IfOk r (λ v. Tabulates (length base.graph.value) (outcome (E.means base.evaluator.value) base.graph.value) (map (shown E.see E.see_fault) v.items)) };
 }
 
-// What the seats bring, each in a thread of its own. A seat for which there is no thread is left out.
+/// Returns what the seats bring, each in a thread of its own. A seat for which there is no thread is left out.
 pub(crate) fn brought<R: Threads + Wait + Sync, E: Evaluate, W: Watch>(
     rt: &R,
     alloc: Global,
@@ -54,7 +55,7 @@ pub(crate) fn brought<R: Threads + Wait + Sync, E: Evaluate, W: Watch>(
     )
 }
 
-// A thread for each seat for which there is one.
+/// Starts a thread for each seat for which there is one.
 fn started<'s, X, R: Threads + Wait + Sync, E: Evaluate, W: Watch>(
     scope: &Scope<'s, X>,
     rt: &'s R,
@@ -76,7 +77,7 @@ fn started<'s, X, R: Threads + Wait + Sync, E: Evaluate, W: Watch>(
     Ok(workers)
 }
 
-// A thread for a seat, if there is one.
+/// Starts a thread for a seat, if there is one.
 fn start<'s, X, R: Threads + Wait + Sync, E: Evaluate, W: Watch>(
     scope: &Scope<'s, X>,
     rt: &'s R,
@@ -102,7 +103,7 @@ fn start<'s, X, R: Threads + Wait + Sync, E: Evaluate, W: Watch>(
     }
 }
 
-// What a seat brings.
+/// Returns what a seat brings.
 fn worked<R: Wait, E: Evaluate, W: Watch>(
     rt: &R,
     alloc: Global,
@@ -116,7 +117,7 @@ fn worked<R: Wait, E: Evaluate, W: Watch>(
     pool.work(rt, alloc, &mut seat, watch)
 }
 
-// What the threads bring: an answer of each of them.
+/// Returns what the threads bring: an answer of each of them.
 fn joined<R: Threads, E: Evaluate>(
     rt: &R,
     alloc: Global,
@@ -134,7 +135,8 @@ fn joined<R: Threads, E: Evaluate>(
     Ok(answers)
 }
 
-// The outcome of each module, where some are known. Those that are left are evaluated in a thread, or where there is none, on this one's stack.
+/// Returns the outcome of each module, where some are known. The others are evaluated in a thread, or if there is none,
+/// on this one's stack.
 pub(crate) fn completed<R: Threads + Wait + Sync, E: Evaluate, W: Watch>(
     rt: &R,
     alloc: Global,
@@ -168,7 +170,7 @@ pub(crate) fn completed<R: Threads + Wait + Sync, E: Evaluate, W: Watch>(
     )
 }
 
-// The outcome of each module, where some are known.
+/// Returns the outcome of each module, where some are known.
 fn rest<E: Evaluate, W: Watch>(
     alloc: Global,
     pool: &WorkerPool<E>,

@@ -13,8 +13,9 @@ use std::sync::Wait;
 use std::sync::atomic::Ordering;
 
 impl<E: Evaluate> WorkerPool<E> {
-    /// Evaluates modules that nobody else has, each after all that it loads, until all are finished, or a worker stopped all.
-    /// The watch is told of each evaluation. It returns just the modules that this seat finished in this call, in that order, each with its outcome, and `all` only where this seat found all modules finished.
+    /// Evaluates modules that nobody else has, each after all that it loads, until all are finished, or a worker
+    /// stopped all. The watch is notified of each evaluation. It returns exactly the modules that this seat finished in
+    /// this call, in that order, each with its outcome, and `all` only if this seat found all modules finished.
     pub fn work<R: Wait, W: Watch>(
         &self,
         rt: &R,
@@ -34,7 +35,7 @@ impl<E: Evaluate> WorkerPool<E> {
         worked
     }
 
-    // Works until all modules are finished, all workers are to stop, or memory is refused.
+    /// Works until all modules are finished, all workers are to stop, or memory is refused.
     fn run<R: Wait, W: Watch>(
         &self,
         rt: &R,
@@ -73,7 +74,7 @@ impl<E: Evaluate> WorkerPool<E> {
         unreachable!()
     }
 
-    // Tries one candidate, and returns whether there may be another.
+    /// Tries one candidate, and returns whether there may be another.
     fn turn<W: Watch>(
         &self,
         alloc: Global,

@@ -48,7 +48,7 @@ abbrev pub text_of : Option Datum → Result (List ℕ) FaultKind
 text_of None = Err AttributeType
 text_of (Some v) = text_in AttributeType v
 
--- a list or a tuple of strings (F73); none where the argument is left out
+-- a list or a tuple of strings (F73); no strings if the argument is left out
 abbrev pub texts_of : StoreView → Option Datum → Result (List (List ℕ)) FaultKind
 texts_of store None = Ok []
 texts_of store (Some v) = texts_in AttributeType store v

@@ -1,4 +1,4 @@
-//! What is read of the arguments that the parameters of a build function take.
+//! The arguments that the parameters of a build function take, by their types.
 
 ghost use Rattle.std.specs.Prelude.{◌≡◌};
 ghost use Rattle.bq_base.specs.Gives.{Gives};
@@ -12,7 +12,7 @@ use bq_value::{EvalErr, Store, Value};
 use sqlite_items::Items;
 use std::alloc::Global;
 
-/// A string, or F73.
+/// Returns a string, or F73.
 pub fn text_of(values: &[Option<Value>], index: usize) -> Result<Bytes, EvalErr>
     ensures { Gives (λ text. text) Bad result (text_of (argument values.now index)) }
 {
@@ -22,7 +22,7 @@ pub fn text_of(values: &[Option<Value>], index: usize) -> Result<Bytes, EvalErr>
     }
 }
 
-/// A list or a tuple of strings, or F73; none where the argument is left out.
+/// Returns a list or a tuple of strings, or F73; no strings if the argument is left out.
 pub fn texts_of(
     alloc: Global,
     store: &Store,

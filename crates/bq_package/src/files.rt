@@ -46,7 +46,7 @@ fn bind_exports(alloc: Global, args: Args) -> Result<Bound, EvalErr>
 }
 
 impl<'a> Place<'a> {
-    /// The files that a call of `exports_files` names: F52, F73, F75, F37.
+    /// Returns the files that a call of `exports_files` names: F52, F73, F75, F37.
     #[tactic(auto, unfolding(crate::specs::Files::files_named))]
     pub fn files_named(
         &self,

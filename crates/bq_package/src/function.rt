@@ -3,7 +3,7 @@
 ghost use Rattle.std.specs.Prelude.{◌≡◌};
 ghost use Rattle.bq_package.specs.Functions.{function_of};
 
-/// What a call of a host is of.
+/// The functions of a host.
 #[derive(Clone, Copy)]
 pub enum BuildFunction {
     Glob,
@@ -26,7 +26,7 @@ const BUILD_FUNCTIONS: [BuildFunction; 6] = [
     BuildFunction::PackageGroup,
 ];
 
-/// The function of an id. The rules of the schema come after the build functions.
+/// Returns the function of an id. The rules of the schema come after the build functions.
 pub fn function_of(id: u32) -> BuildFunction
     ensures { result ≡ function_of id }
 {

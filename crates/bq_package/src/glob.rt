@@ -28,7 +28,7 @@ use std::slice;
 pub struct GlobRequest {
     pub include: Items<Pattern>,
     pub exclude: Items<Pattern>,
-    /// Whether nothing may be given.
+    /// Whether the result may be empty.
     pub allows_empty: bool,
 }
 
@@ -63,7 +63,7 @@ fn bind_glob(alloc: Global, args: Args) -> Result<Bound, EvalErr>
     bind(alloc, Seed::fixed(), &GLOB, args)
 }
 
-/// A text as a pattern, or F77.
+/// Reads a text as a pattern, or fails with F77.
 #[tactic(auto, using(crate::proofs::Patterns::pattern_ok, crate::proofs::Patterns::pattern_err))]
 fn pattern(alloc: Global, text: &Bytes) -> Result<Pattern, EvalErr>
     ensures { Gives (λ p. p) Bad result (pattern text.now) }
@@ -75,7 +75,7 @@ fn pattern(alloc: Global, text: &Bytes) -> Result<Pattern, EvalErr>
     }
 }
 
-/// Texts as patterns, or F77.
+/// Reads texts as patterns, or fails with F77.
 #[tactic(auto, unfolding(crate::specs::Glob::patterns, bq_package_typed_value::specs::Steps::in_turn))]
 fn patterns(alloc: Global, texts: &[Bytes]) -> Result<Items<Pattern>, EvalErr>
     ensures { Gives (λ ps. ps) Bad result (patterns texts.now) }
@@ -109,7 +109,7 @@ fn allows_empty(store: &Store, value: Option<&Value>) -> bool
     }
 }
 
-/// What a call asks for, of the arguments of its parameters: F73, F57, F77.
+/// Returns what a call asks for, from the arguments of its parameters: F73, F57, F77.
 #[tactic(auto, unfolding(crate::specs::Glob::request_of, crate::specs::Glob::request_by))]
 fn request_of(
     alloc: Global,
@@ -140,7 +140,7 @@ fn is_nothing(names: &[Bytes]) -> bool
 }
 
 impl<'a> Place<'a> {
-    /// The names of the package's files that some pattern matches and no excluded one.
+    /// Returns the names of the package's files that some pattern matches and no excluded one.
     fn names_of(
         &self,
         alloc: Global,
@@ -159,7 +159,7 @@ impl<'a> Place<'a> {
         )
     }
 
-    /// Whether the pattern matches no file of the package.
+    /// Returns whether the pattern matches no file of the package.
     fn is_idle(&self, alloc: Global, pattern: &Pattern) -> Result<bool, AllocError>
         ensures { IfOk result (λ idle. idle ≡ is_idle (place_of self.now) pattern.now) }
     {
@@ -167,7 +167,7 @@ impl<'a> Place<'a> {
         Ok(is_nothing(&names))
     }
 
-    /// Whether one of the patterns matches no file of the package.
+    /// Returns whether one of the patterns matches no file of the package.
     fn any_is_idle(&self, alloc: Global, patterns: &[Pattern]) -> Result<bool, AllocError>
         ensures { IfOk result (λ idle. idle ≡ list_any (is_idle (place_of self.now)) patterns.now) }
     {
@@ -179,7 +179,8 @@ impl<'a> Place<'a> {
         Ok(false)
     }
 
-    /// What a call gives that asks for this: F76 where nothing may not be given, and some pattern matches no file, or nothing is given.
+    /// Returns the result of a call that asks for this: F76 if it may not be empty, and some pattern matches no file,
+    /// or no name is left.
     #[tactic(auto, unfolding(crate::specs::Glob::found))]
     fn found(&self, alloc: Global, request: &GlobRequest) -> Result<Vec<Bytes>, EvalErr>
         ensures { Gives (λ names. names.items) Bad result (found (place_of self.now) request.now) }
@@ -198,7 +199,7 @@ impl<'a> Place<'a> {
         Ok(names)
     }
 
-    /// The names that a call of `glob` gives.
+    /// Returns the names of a call of `glob`.
     #[tactic(auto, unfolding(crate::specs::Glob::globbed))]
     pub fn globbed(&self, alloc: Global, store: &Store, args: Args) -> Result<Vec<Bytes>, EvalErr>
         ensures { Gives (λ names. names.items) Bad result (globbed (place_of self.now) store.now args) }

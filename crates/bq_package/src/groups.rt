@@ -49,7 +49,7 @@ fn bind_group(alloc: Global, args: Args) -> Result<Bound, EvalErr>
     bind(alloc, Seed::fixed(), &PACKAGE_GROUP, args)
 }
 
-/// Whether the name isn't written after the included groups, among named arguments.
+/// Returns whether `name` doesn't come after `includes` among named arguments.
 #[tactic(auto, unfolding(crate::specs::Groups::is_name_first))]
 fn is_name_first(named: &[(Bytes, Value)]) -> bool
     ensures { result ≡ is_name_first named.now }
@@ -65,14 +65,15 @@ fn is_name_first(named: &[(Bytes, Value)]) -> bool
     true
 }
 
-/// Whether the name isn't written after the included groups. A positional argument is the name.
+/// Returns whether `name` doesn't come after `includes` in the call, which decides whose fault is reported. A
+/// positional argument is the name.
 fn names_first(args: &Args) -> bool
     ensures { result ≡ names_first args.now }
 {
     !args.positional.is_empty() || is_name_first(&args.named)
 }
 
-/// A group of packages.
+/// Makes a group of packages.
 fn group(
     alloc: Global,
     line: u32,
@@ -95,7 +96,7 @@ fn group(
 }
 
 impl<'a> Place<'a> {
-    /// The labels of a group and of those that it includes.
+    /// Returns the labels of a group and of those that it includes.
     #[tactic(auto, unfolding(crate::specs::Groups::group_labels))]
     fn group_labels(
         &self,
@@ -114,7 +115,7 @@ impl<'a> Place<'a> {
         Ok((label(alloc, self.scope, TextKind::Name, name)?, includes))
     }
 
-    /// The group of a name and of those that it includes.
+    /// Makes the group of a name and of those that it includes.
     fn labelled_group(
         &self,
         alloc: Global,
@@ -129,7 +130,7 @@ impl<'a> Place<'a> {
         Ok(group(alloc, line, label, includes)?)
     }
 
-    /// The group that the arguments of the parameters declare: F73, F75, F78, F37.
+    /// Returns the group that the arguments of the parameters declare: F73, F75, F78, F37.
     #[tactic(auto, unfolding(crate::specs::Groups::group_of))]
     fn group_of(
         &self,
@@ -146,7 +147,7 @@ impl<'a> Place<'a> {
         self.labelled_group(alloc, line, first, &name, includes.as_slice())
     }
 
-    /// The group that a call of `package_group` declares: F52, then the faults of its arguments.
+    /// Returns the group that a call of `package_group` declares: F52, then the faults of its arguments.
     #[tactic(auto, unfolding(crate::specs::Groups::group_named))]
     pub fn group_named(
         &self,

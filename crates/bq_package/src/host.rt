@@ -45,7 +45,7 @@ const ANY_PARAMETERS: Signature<'static> = Signature {
     takes_keywords: true,
 };
 
-/// A new list of strings.
+/// Makes a list of strings.
 #[tactic(auto, unfolding(crate::specs::Calls::new_strings))]
 fn new_strings(alloc: Global, machine: &mut Machine, texts: Vec<Bytes>) -> Result<Value, EvalErr>
     ensures { Does (λ v. v) result machine.new (new_strings texts.items machine.old) }
@@ -64,7 +64,7 @@ fn strings(alloc: Global, texts: Vec<Bytes>) -> Result<Vec<Value>, AllocError>
     Ok(values)
 }
 
-/// What a call of `package_name` gives.
+/// Returns the result of `package_name`.
 #[tactic(auto, unfolding(crate::specs::Calls::package_name))]
 fn package_name(alloc: Global, place: Place<'_>, args: Args) -> Result<Value, EvalErr>
     ensures { Gives (λ v. v) Bad result (package_name (place_of place.entry) args) }
@@ -74,7 +74,7 @@ fn package_name(alloc: Global, place: Place<'_>, args: Args) -> Result<Value, Ev
     Ok(Value::string(name))
 }
 
-/// What a call gives that takes any arguments and changes nothing.
+/// Returns the result of a call that takes any arguments and has no effect.
 #[tactic(auto, unfolding(crate::specs::Calls::ignored))]
 fn ignored(alloc: Global, seed: Seed, args: Args) -> Result<Value, EvalErr>
     ensures { Gives (λ v. v) Bad result (ignored args) }
@@ -83,7 +83,7 @@ fn ignored(alloc: Global, seed: Seed, args: Args) -> Result<Value, EvalErr>
     Ok(Value::none())
 }
 
-/// What a call answers that declares targets. One that is refused is F74.
+/// Returns the result of a call that declares targets. A refused one is F74.
 fn answer(declared: &Declared) -> Result<Value, EvalErr>
     ensures { result ≡ answer declared.now }
 {
@@ -93,7 +93,7 @@ fn answer(declared: &Declared) -> Result<Value, EvalErr>
     }
 }
 
-/// The package that such a call leaves.
+/// Returns the package that such a call leaves.
 fn package_after(declared: Declared) -> PackageState
     ensures { result ≡ package_after declared }
 {
@@ -104,7 +104,7 @@ fn package_after(declared: Declared) -> PackageState
 }
 
 impl<'a> BuildHost<'a> {
-    /// No BUILD file is evaluated, but a file of this package: every call is F70.
+    /// Makes the host of a file of this package that is no BUILD file: every call is F70.
     pub fn outside(
         alloc: Global,
         own: &'a PackageId,
@@ -118,7 +118,7 @@ impl<'a> BuildHost<'a> {
         })
     }
 
-    /// The BUILD file of that label is evaluated.
+    /// Makes the host of the BUILD file of this label.
     pub fn inside(
         alloc: Global,
         workspace: &'a Workspace,
@@ -144,7 +144,7 @@ impl<'a> BuildHost<'a> {
         })
     }
 
-    /// What the accepted calls have declared, where a BUILD file is evaluated.
+    /// Returns what the accepted calls have declared, if a BUILD file is evaluated.
     pub fn into_package(self) -> Option<PackageState>
         ensures { result ≡ package_in (held_by self.entry) }
     {
@@ -155,7 +155,7 @@ impl<'a> BuildHost<'a> {
         }
     }
 
-    /// Where the BUILD file is evaluated, or F70.
+    /// Returns where the BUILD file is evaluated, or F70.
     fn place(&self) -> Result<Place<'a>, EvalErr>
         ensures { Gives place_of Bad result (place_in (held_by self.now)) }
     {
@@ -165,7 +165,7 @@ impl<'a> BuildHost<'a> {
         }
     }
 
-    /// The package of the file that is evaluated, among the others.
+    /// Returns the package of the file that is evaluated, among the others.
     fn scope(&self) -> Scope<'a>
         ensures own { result.own.now ≡ own_of (held_by self.now) }
         ensures packages { result.packages.now ≡ packages_of (held_by self.now) }
@@ -176,7 +176,7 @@ impl<'a> BuildHost<'a> {
         }
     }
 
-    /// Keeps the package that a call leaves. A call that is refused is F74.
+    /// Keeps the package that a call leaves. A refused call is F74.
     fn settle(&mut self, place: Place<'a>, declared: Declared) -> Result<Value, EvalErr>
         requires { package_of (package_after declared).build_file ≡ place.scope.own.now }
         ensures { Settles result (held_by self.new) (place_of place.entry) declared }
@@ -217,7 +217,7 @@ impl<'a> BuildHost<'a> {
         self.settle(place, declared)
     }
 
-    /// A call of `glob`.
+    /// Calls `glob`.
     #[tactic(auto, using(crate::proofs::Meaning::refused_outside, crate::proofs::Meaning::glob_refused, crate::proofs::Meaning::glob_done))]
     fn glob(&self, alloc: Global, args: Args, machine: &mut Machine) -> Result<Value, EvalErr>
         ensures { HostDoes (λ v. v) result machine.new (held_by self.now) (call_by machine.old (held_by self.now) BuildFunction.Glob args) }
@@ -227,7 +227,7 @@ impl<'a> BuildHost<'a> {
         new_strings(alloc, machine, names)
     }
 
-    /// A call of `exports_files`.
+    /// Calls `exports_files`.
     #[tactic(auto, using(crate::proofs::Meaning::refused_outside, crate::proofs::Meaning::files_refused, crate::proofs::Meaning::files_done, crate::proofs::Owning::files_owned))]
     fn exports_files(
         &mut self,
@@ -243,7 +243,7 @@ impl<'a> BuildHost<'a> {
         self.export(alloc, labels.as_slice(), machine.line())
     }
 
-    /// A call of `package_group`.
+    /// Calls `package_group`.
     #[tactic(auto, using(crate::proofs::Meaning::refused_outside, crate::proofs::Meaning::group_refused, crate::proofs::Meaning::group_done, crate::proofs::Owning::group_owned))]
     fn package_group(
         &mut self,
@@ -259,7 +259,7 @@ impl<'a> BuildHost<'a> {
         self.declare(alloc, target)
     }
 
-    /// A call of the schema's rule of this number.
+    /// Calls the schema's rule of this number.
     #[tactic(auto, using(crate::proofs::Meaning::refused_outside, crate::proofs::Meaning::rule_refused, crate::proofs::Meaning::rule_done, crate::proofs::Owning::rule_owned))]
     fn rule(
         &mut self,
@@ -277,7 +277,7 @@ impl<'a> BuildHost<'a> {
         self.declare(alloc, target)
     }
 
-    /// A call of a rule that a .bzl file declares, by its kind and its class.
+    /// Calls a rule that a .bzl file declares, by its kind and its class.
     #[tactic(auto, using(crate::proofs::Meaning::rule_outside, crate::proofs::Meaning::declared_refused, crate::proofs::Meaning::declared_done, crate::proofs::Owning::declared_owned))]
     fn declared_rule(
         &mut self,
@@ -296,7 +296,7 @@ impl<'a> BuildHost<'a> {
         self.declare(alloc, target)
     }
 
-    /// A call of `package_name`.
+    /// Calls `package_name`.
     #[tactic(auto, using(crate::proofs::Meaning::refused_outside, crate::proofs::Meaning::name_done))]
     fn name(&self, alloc: Global, args: Args) -> Result<Value, EvalErr>
         ensures { (s : State) → HostDoes (λ v. v) result s (held_by self.now) (call_by s (held_by self.now) BuildFunction.PackageName args) }
@@ -305,7 +305,7 @@ impl<'a> BuildHost<'a> {
         package_name(alloc, place, args)
     }
 
-    /// A call that takes any arguments and changes nothing.
+    /// Carries out a call that takes any arguments and has no effect.
     #[tactic(auto, using(crate::proofs::Meaning::refused_outside, crate::proofs::Meaning::package_done, crate::proofs::Meaning::licenses_done))]
     fn nothing(&self, alloc: Global, seed: Seed, args: Args) -> Result<Value, EvalErr>
         ensures as_package { (s : State) → HostDoes (λ v. v) result s (held_by self.now) (call_by s (held_by self.now) BuildFunction.Package args) }
@@ -315,7 +315,7 @@ impl<'a> BuildHost<'a> {
         ignored(alloc, seed, args)
     }
 
-    /// A call of a function.
+    /// Calls a function.
     #[tactic(auto, using(crate::proofs::Settling::keeps_same))]
     fn carry_out(
         &mut self,

@@ -2,7 +2,7 @@
 
 ghost use Rattle.bq_package.specs.Laws.{CallsOutsideAreRefused, WhatIsDeclaredStays, RulesDeclareAlike, InBuildIsSaid, DefaultsAreReadInThePackage};
 
-/// While no BUILD file is evaluated every call is F70, of whatever rule.
+/// While no BUILD file is evaluated, every call is F70, of whatever rule.
 #[tactic(auto, using(crate::proofs::Staying::calls_outside_are_refused))]
 pub fn calls_outside_are_refused()
     ensures { CallsOutsideAreRefused }
@@ -14,19 +14,19 @@ pub fn what_is_declared_stays()
     ensures { WhatIsDeclaredStays }
 {}
 
-/// A rule that a .bzl file declares and a rule of the schema declare alike, where the one has the other's name as its kind, and its
-/// attributes.
+/// A rule that a .bzl file declares and a rule of the schema declare the same targets, if the one has the other's name
+/// as its kind, and its attributes.
 pub fn rules_declare_alike()
     ensures { RulesDeclareAlike }
 {}
 
-/// What `in_build` says is whether a BUILD file is evaluated.
+/// `in_build` returns whether a BUILD file is evaluated.
 #[tactic(auto, using(crate::proofs::Alike::in_build_is_said))]
 pub fn in_build_is_said()
     ensures { InBuildIsSaid }
 {}
 
-/// The labels of a default are read as labels that a file of the package writes whose file is evaluated.
+/// The labels of a default are read as labels that a file writes which is in the package of the evaluated one.
 pub fn defaults_are_read_in_the_package()
     ensures { DefaultsAreReadInThePackage }
 {}

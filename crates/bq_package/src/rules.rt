@@ -17,7 +17,7 @@ use bq_value::{EvalErr, Store};
 use std::alloc::Global;
 
 impl<'a> Place<'a> {
-    /// The target that a call of a rule declares, by the rule's kind and its class.
+    /// Returns the target that a call of a rule declares, by the rule's kind and its class.
     #[tactic(auto, unfolding(crate::specs::Rules::declared_target))]
     pub fn declared_target(
         &self,
@@ -39,7 +39,7 @@ impl<'a> Place<'a> {
         declaration(alloc, callee, line, args)
     }
 
-    /// The target that a call of the schema's rule of this number declares.
+    /// Returns the target that a call of the schema's rule of this number declares.
     #[tactic(auto, unfolding(crate::specs::Rules::rule_target))]
     pub fn rule_target(
         &self,

@@ -24,7 +24,8 @@ pub fn arguments_are_refused_in_order()
     ensures name { (own : PackageParts) (packages : List BuildFile) (store : StoreView) (class : Class) (g : Given) (argument : Datum × Datum) → bytes_eq (keyword argument.0) (codes "name") ≡ true → FailsForFirst (with_argument own packages store class g argument) (naming own packages argument.1) }
 {}
 
-/// A call of a rule is refused for the first of what is listed, and for nothing else: F72 comes after each fault of an argument.
+/// A call of a rule is refused for the first of the reasons that are listed, and for nothing else: F72 comes after each
+/// fault of an argument.
 #[tactic(auto, using(crate::proofs::Orders::declared_in_order))]
 pub fn calls_of_rules_are_refused_in_order()
     ensures { (own : PackageParts) (packages : List BuildFile) (store : StoreView) (class : Class) (rule : List ℕ) (line : ℕ) (passed : Passed) → FailsForFirst (declaration own packages store class rule line passed) (declaring own packages store class passed) }

@@ -1,4 +1,4 @@
-//! What the arguments of a call of a rule give.
+//! The arguments of a call of a rule.
 
 ghost use Rattle.std.specs.Prelude.{◌≡◌, IfOk, OnOk};
 ghost use Rattle.bq_base.specs.Gives.{Gives};
@@ -14,7 +14,7 @@ use bq_value::{Dict, EvalErr, Key, Node, Store, Value};
 use sqlite_items::Items;
 use std::alloc::{AllocError, Global};
 
-/// What the arguments give so far.
+/// What the arguments have given so far.
 #[derive(Drop)]
 pub struct Given {
     /// The target's label, once its name is read.
@@ -23,7 +23,7 @@ pub struct Given {
     pub attributes: Items<GivenAttribute>,
 }
 
-/// The rule that is called, from where, and what its values are read in.
+/// The rule that is called, where, and in what its values are read.
 #[derive(Clone, Copy)]
 pub struct Callee<'a> {
     pub scope: Scope<'a>,
@@ -34,7 +34,7 @@ pub struct Callee<'a> {
     pub kind: &'a Bytes,
 }
 
-/// The name of a keyword argument.
+/// Returns the name of a keyword argument.
 fn keyword(key: &Key) -> Result<Bytes, AllocError>
     ensures { IfOk result (λ name. name ≡ keyword key.now) }
 {
@@ -44,7 +44,7 @@ fn keyword(key: &Key) -> Result<Bytes, AllocError>
     }
 }
 
-/// Whether the value is `None`, which gives nothing.
+/// Returns whether the value is `None`, which gives nothing.
 pub(crate) fn is_none(value: &Value) -> bool
     ensures { result ≡ is_none value.now }
 {
@@ -52,7 +52,7 @@ pub(crate) fn is_none(value: &Value) -> bool
 }
 
 impl Given {
-    /// Nothing yet, with room for so many attributes.
+    /// Makes an empty list, with room for `room` attributes.
     pub fn nothing(alloc: Global, room: usize) -> Result<Given, AllocError>
         ensures { IfOk result (λ given. given ≡ nothing_given) }
     {
@@ -63,7 +63,7 @@ impl Given {
         })
     }
 
-    /// One attribute more.
+    /// Appends an attribute.
     fn push(&mut self, name: Bytes, value: AttributeValue) -> Result<(), AllocError>
         ensures { OnOk result (self.new ≡ with_value name value self.old) }
     {
@@ -71,7 +71,7 @@ impl Given {
         Ok(())
     }
 
-    /// The name of the target, which is an attribute too.
+    /// Sets the name of the target, which is an attribute too.
     fn set_name(&mut self, alloc: Global, label: Label, text: Bytes) -> Result<(), AllocError>
         ensures { OnOk result (self.new ≡ with_label text label self.old) }
     {

@@ -20,7 +20,7 @@ use bq_value_seed::Seed;
 use sqlite_items::Items;
 use std::alloc::{AllocError, Global};
 
-/// The arguments of a call that has keyword arguments alone, or F52.
+/// Returns the arguments of a call that has keyword arguments alone, or F52.
 fn keywords(alloc: Global, seed: Seed, args: Args) -> Result<Dict, EvalErr>
     ensures { Gives (λ keywords. keywords) Bad result (and_then (bind keywords_alone args) (λ b. Ok b.keywords)) }
 {
@@ -34,7 +34,7 @@ fn keywords(alloc: Global, seed: Seed, args: Args) -> Result<Dict, EvalErr>
     Ok(bound.keywords)
 }
 
-/// Whether a keyword argument of that name is there, and isn't `None`.
+/// Returns whether there is a keyword argument of that name, and it isn't `None`.
 fn gives(alloc: Global, keywords: &Dict, name: &[u8]) -> Result<bool, AllocError>
     ensures { IfOk result (λ given. given ≡ gives keywords.now name.now) }
 {
@@ -45,7 +45,7 @@ fn gives(alloc: Global, keywords: &Dict, name: &[u8]) -> Result<bool, AllocError
     }
 }
 
-/// Whether the attribute is given, if it has to be.
+/// Returns whether the attribute is given, if it has to be.
 fn is_met(
     alloc: Global,
     keywords: &Dict,
@@ -60,7 +60,7 @@ fn is_met(
     gives(alloc, keywords, name)
 }
 
-/// Which of the attributes are given or need not be.
+/// Returns for each of the attributes whether it is given or need not be.
 #[tactic(auto, using(crate::proofs::Entries::entry_end))]
 fn are_met(alloc: Global, class: &RuleClass, keywords: &Dict) -> Result<Vec<bool>, AllocError>
     ensures { IfOk result (λ met. met.items ≡ map (is_met keywords.now) class.now) }
@@ -80,7 +80,7 @@ fn are_all(met: &[bool]) -> bool
     met.iter().all(|met| *met)
 }
 
-/// Whether each attribute that has to be given is.
+/// Returns whether each attribute that has to be given is.
 fn gives_mandatory(alloc: Global, class: &RuleClass, keywords: &Dict) -> Result<bool, AllocError>
     ensures { IfOk result (λ all. all ≡ gives_mandatory class.now keywords.now) }
 {
@@ -88,7 +88,7 @@ fn gives_mandatory(alloc: Global, class: &RuleClass, keywords: &Dict) -> Result<
     Ok(are_all(&met))
 }
 
-/// The default of an attribute. The names of outputs have none.
+/// Returns the default of an attribute. The names of outputs have none.
 fn default_of(attribute: &Attribute) -> Option<&AttributeValue>
     ensures { option_copied result ≡ default_of attribute.now.default }
 {
@@ -102,7 +102,7 @@ fn default_of(attribute: &Attribute) -> Option<&AttributeValue>
     }
 }
 
-/// Adds the default of an attribute that the keyword arguments don't give.
+/// Appends the default of an attribute that the keyword arguments don't give.
 #[tactic(auto, unfolding(crate::specs::Declarations::default_for))]
 fn add_default(
     alloc: Global,
@@ -125,7 +125,7 @@ fn add_default(
     Ok(())
 }
 
-/// Adds the defaults of the attributes that the keyword arguments don't give, in the order of the class.
+/// Appends the defaults of the attributes that the keyword arguments don't give, in the order of the class.
 fn add_defaults(
     alloc: Global,
     class: &RuleClass,
@@ -143,7 +143,7 @@ fn add_defaults(
     Ok(())
 }
 
-/// What keyword arguments give.
+/// Returns what keyword arguments give.
 fn given(alloc: Global, callee: Callee<'_>, keywords: &Dict) -> Result<Given, EvalErr>
     ensures { Gives (λ g. g) Bad result (with_arguments callee.entry.scope.own.now callee.entry.scope.packages.now callee.entry.store.now callee.entry.class.now nothing_given keywords.now) }
 {
@@ -154,7 +154,7 @@ fn given(alloc: Global, callee: Callee<'_>, keywords: &Dict) -> Result<Given, Ev
     }
 }
 
-/// The target of what is given: F72 where its name isn't given, or another attribute that has to be.
+/// Makes the target of what is given: F72 if its name isn't given, or another attribute that has to be.
 fn whole(
     alloc: Global,
     callee: Callee<'_>,
@@ -184,7 +184,7 @@ fn whole(
     })
 }
 
-/// The target of these keyword arguments.
+/// Makes the target of these keyword arguments.
 #[tactic(auto, unfolding(crate::specs::Declarations::target))]
 fn target(alloc: Global, callee: Callee<'_>, line: u32, keywords: &Dict) -> Result<Target, EvalErr>
     ensures { Gives (λ t. t) Bad result (target callee.entry.scope.own.now callee.entry.scope.packages.now callee.entry.store.now callee.entry.class.now callee.entry.kind.now line keywords.now) }
@@ -194,7 +194,8 @@ fn target(alloc: Global, callee: Callee<'_>, line: u32, keywords: &Dict) -> Resu
     whole(alloc, callee, line, keywords, is_whole, given)
 }
 
-/// The target that a call of a rule declares, with the line of the call; or F52, the faults of the arguments, F72.
+/// Returns the target that a call of a rule declares, with the line of the call; or F52, the faults of the arguments,
+/// F72.
 #[tactic(auto, unfolding(crate::specs::Declarations::declaration))]
 pub fn declaration(
     alloc: Global,

@@ -23,7 +23,7 @@ pub fn keywords_keep_their_order()
     ensures { KeywordsKeepTheirOrder }
 {}
 
-/// Arguments are refused for what the first faulty one of them is refused for, once those before it are read.
+/// Arguments are refused for the fault of the first faulty one of them, once those before it are read.
 #[tactic(auto, using(crate::proofs::Keywords::the_first_faulty_argument_decides))]
 pub fn the_first_faulty_argument_decides()
     ensures { TheFirstFaultyArgumentDecides }

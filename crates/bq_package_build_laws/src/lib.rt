@@ -4,8 +4,8 @@
 //! outcome of its own, which no limit changes; a cell of another module holds at its end what it held at its start; and a rule holds the
 //! same attributes after each call.
 //!
-//! `bq_eval_laws` says so beside each host whose calls don't look at the steps that are left. Here the calls of build functions and
-//! of rules are shown to be such ones (`proofs/Calls.antt`).
+//! `bq_eval_laws` says so beside each host whose calls don't depend on the steps that are left. Here the calls of build
+//! functions and of rules are shown to be such calls (`proofs/Calls.antt`).
 #![tactic(auto)]
 
 mod laws;

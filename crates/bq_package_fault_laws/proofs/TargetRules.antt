@@ -60,7 +60,7 @@ module _ {S : Type 0} (m : Primitives S) (L : Lawful m) where
   bound_rule None = stop_of m Datum f.Unbound refl
   bound_rule (Some v) = value_of Datum v
 
-  -- ---- binding: where there are as many places as are needed, and so many after them, these are left
+  -- ---- binding: where there are as many places as are needed, and more after them, these are left
 
   abbrev Leaves : ℕ → Frame × Places → Type 0
   Leaves rest r = rest ≤ length r.1

@@ -7,14 +7,14 @@ ghost use Rattle.bq_package_fault_laws.specs.Faults.{HostRefuses, FilesFailAsEva
 
 use bq_eval_host::Host;
 
-/// What a file fails with is a fault of evaluation (F40 to F60), one of the calls of build functions and rules (F70 to F78), or a name
-/// of the own package whose file lies in another one (F37).
+/// What a file fails with is a fault of evaluation (F40 to F60), one of the calls of build functions and rules (F70 to
+/// F78), or a name of the own package whose file is in another one (F37).
 pub fn files_fail_as_evaluated<H: Host>()
     ensures { (names : List Name) → HostRefuses H.means → FilesFailAsEvaluated names H.means }
 {}
 
-/// A call of a build function, of a rule of the schema or of one that a .bzl file declares, and the label of a default are refused for one
-/// of these alone.
+/// A call of a build function, of a rule of the schema or of one that a .bzl file declares, and the label of a default
+/// are refused with one of these alone.
 pub fn build_calls_are_refused_as_evaluated()
     ensures { HostRefuses meaning }
 {}

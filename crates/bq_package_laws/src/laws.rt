@@ -21,7 +21,7 @@ ghost use Rattle.bq_package_laws.specs.Defaults.{DefaultsAreTakenAsValues};
 ghost use Rattle.bq_package_laws.specs.Nothing.{GivesNothing};
 ghost use Rattle.bq_package_laws.specs.Orders.{taken, globbing, naming_files};
 
-/// `glob` and `exports_files` are refused for the first of what is listed, and for nothing else.
+/// `glob` and `exports_files` are refused for the first of the reasons that are listed, and for nothing else.
 pub fn build_functions_are_refused_in_order()
     ensures glob { (p : PlaceView) (store : StoreView) (passed : Passed) → FailsForFirst (globbed p store passed) (globbing p store passed) }
     ensures exports_files { (p : PlaceView) (store : StoreView) (passed : Passed) → FailsForFirst (files_named p store passed) (naming_files p store passed) }
@@ -36,15 +36,15 @@ pub fn declarations_are_refused_in_order()
     ensures exports_files { (d : Declaring) (s : State) (passed : Passed) → IsRefusedForFirst (call_in d s f.ExportsFiles passed) (fault_in (files_named d.place s.store passed) ∷ fault_then (files_named d.place s.store passed) (λ ls. taken (exported d.package ls s.line)) ∷ []) }
 {}
 
-/// Where nothing may not be given, a call of `glob` is F76 exactly where one of its patterns alone matches no file of the package, or
-/// no name is left of all. Where it may, no call is F76.
+/// If its result may not be empty, a call of `glob` is F76 exactly if one of its patterns alone matches no file of the
+/// package, or no name is left of all. If it may be empty, no call is F76.
 pub fn globs_that_give_nothing_are_refused()
     ensures refused { (p : PlaceView) (r : GlobRequest) → r.allows_empty ≡ false → GivesNothing p r → found p r ≡ Err GlobEmpty }
     ensures only { (p : PlaceView) (r : GlobRequest) (why : FaultKind) → found p r ≡ Err why → (why ≡ GlobEmpty) × (r.allows_empty ≡ false) × GivesNothing p r }
 {}
 
-/// What `attr.NAME(default = v)` keeps is what the call of a rule in a file of that package keeps of `v`; and one is refused where the
-/// other is.
+/// What `attr.NAME(default = v)` keeps is what the call of a rule in a file of that package keeps of `v`; and one is
+/// refused if the other is.
 pub fn defaults_are_taken_as_values()
     ensures { DefaultsAreTakenAsValues }
 {}

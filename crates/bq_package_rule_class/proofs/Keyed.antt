@@ -30,7 +30,7 @@ module _ {K N V : Type 0} (f : K → N) where
   entry_mapped eq [] k v h = refl
   entry_mapped eq (e ∷ es) k v h = entry_by (eq (f k) (f e.0)) e v es (insert_entry (λ a b. eq (f a) (f b)) es k v) (lookup (eq (f k)) (named es)) (named es ++ (f k, v) ∷ []) h (entry_mapped eq es k v)
 
--- whether a reference is there, and what is behind it
+-- whether a reference is there, and what it refers to
 pub copied_there : {A : Type 0} (o : Option (Bor A)) → is_some (option_copied o) ≡ is_some o
 copied_there None = refl
 copied_there (Some x) = refl

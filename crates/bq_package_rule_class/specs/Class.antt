@@ -14,6 +14,6 @@ has_attribute class name = is_some (lookup (bytes_eq name) class)
 unfoldable pub with_attribute : Class → List ℕ → Attribute → Class
 with_attribute class name attribute = if has_attribute class name then class else class ++ (name, attribute) ∷ []
 
--- the attribute as the last; none where there is one of its name
+-- the attribute appended; `None` if there is one of its name
 unfoldable pub extended : Class → List ℕ → Attribute → Option Class
 extended class name attribute = if has_attribute class name then None else Some (class ++ (name, attribute) ∷ [])

@@ -10,14 +10,14 @@ use std::alloc::{AllocError, Global};
 #[derive(Drop)]
 pub struct Attribute {
     pub kind: AttributeType,
-    /// Whether a call has to give it.
+    /// Whether a call has to give it a value.
     pub is_mandatory: bool,
-    /// What it is where a call doesn't give it.
+    /// Its value if a call doesn't give one.
     pub default: Option<AttributeValue>,
 }
 
 impl Attribute {
-    /// The same once more. No text is copied that is longer than 22 bytes.
+    /// Shares the attribute. Only texts of up to 22 bytes are copied.
     pub fn share(&self, alloc: Global) -> Result<Attribute, AllocError>
         ensures { IfOk result (λ a. a ≡ self.now) }
     {

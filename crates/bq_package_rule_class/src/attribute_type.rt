@@ -41,7 +41,7 @@ const COMMON_ATTRIBUTES: [(&[u8], AttributeType); 6] = [
 ];
 
 impl AttributeType {
-    /// Its name, in a schema and after `attr.`
+    /// Returns its name, in a schema and after `attr.`.
     pub fn name(self) -> &'static [u8]
         ensures { result.now ≡ type_name self }
     {
@@ -58,7 +58,7 @@ impl AttributeType {
     }
 }
 
-/// The type that has this name in a table.
+/// Returns the type that has this name in a table.
 fn find(mut table: &[(&[u8], AttributeType)], name: &[u8]) -> Option<AttributeType>
     ensures { result ≡ lookup (bytes_eq name.now) (map (λ e. (e.0.now, e.1)) table.entry.now) }
 {
@@ -71,14 +71,14 @@ fn find(mut table: &[(&[u8], AttributeType)], name: &[u8]) -> Option<AttributeTy
     None
 }
 
-/// The type of this name.
+/// Returns the type of this name.
 pub fn type_named(name: &[u8]) -> Option<AttributeType>
     ensures { result ≡ type_named name.now }
 {
     find(&TYPES, name)
 }
 
-/// The type of the attribute of this name that all rules have.
+/// Returns the type of the attribute of this name that all rules have.
 pub fn common_attribute(name: &[u8]) -> Option<AttributeType>
     ensures { result ≡ common_attribute name.now }
 {

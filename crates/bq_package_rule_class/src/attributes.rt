@@ -9,7 +9,7 @@ use indexmap::IndexMap;
 use std::alloc::{AllocError, Global};
 use std::marker::Model;
 
-/// Attributes in the order in which they came. Contracts see the list of them, each with its name.
+/// Attributes in the order in which they were added. Contracts see the list of them, each with its name.
 #[derive(Drop)]
 pub struct Attributes {
     entries: IndexMap<Vec<u8>, Attribute>,
@@ -42,14 +42,14 @@ impl Attributes {
         self.entries.len()
     }
 
-    /// The attribute of this name.
+    /// Returns the attribute of this name.
     pub(crate) fn get(&self, name: &[u8]) -> Option<&Attribute>
         ensures { option_copied result ≡ lookup (bytes_eq name.now) self.now }
     {
         self.entries.get(name)
     }
 
-    /// The attribute at a place, with its name.
+    /// Returns the attribute at a place, with its name.
     pub(crate) fn entry(&self, place: usize) -> Option<(&[u8], &Attribute)>
         ensures { option_map (λ e. (e.0.now, e.1.now)) result ≡ slice_get self.now place }
     {
@@ -59,7 +59,7 @@ impl Attributes {
         }
     }
 
-    /// Adds an attribute as the last, and answers whether there was none of its name.
+    /// Appends an attribute; true if there was none of its name.
     #[tactic(auto, unfolding(crate::specs::Class::with_attribute))]
     pub(crate) fn add(
         &mut self,
@@ -78,7 +78,7 @@ impl Attributes {
         Ok(true)
     }
 
-    /// Adds a share of an attribute as the last, where there is none of its name.
+    /// Appends a share of an attribute, if there is none of its name.
     fn add_share(
         &mut self,
         alloc: Global,
@@ -92,7 +92,7 @@ impl Attributes {
         Ok(())
     }
 
-    /// The same attributes once more, in time linear in what they hold.
+    /// Copies the attributes, in time linear in what they hold.
     pub(crate) fn copy(&self, alloc: Global) -> Result<Attributes, AllocError>
         ensures { IfOk result (λ c. c ≡ self.now) }
     {

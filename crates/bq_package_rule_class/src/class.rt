@@ -28,7 +28,7 @@ impl Model for RuleClass {
 }
 
 impl RuleClass {
-    /// Of a rule that has none of its own.
+    /// Makes the class of a rule that has none of its own.
     pub fn empty(alloc: Global) -> Result<RuleClass, AllocError>
         ensures { IfOk result (λ c. c ≡ []) }
     {
@@ -37,7 +37,7 @@ impl RuleClass {
         })
     }
 
-    /// The same class. Nothing is copied.
+    /// Returns another owner of the class. Nothing is copied.
     pub fn share(&self) -> Result<RuleClass, AllocError>
         ensures { IfOk result (λ c. c ≡ self.now) }
     {
@@ -46,28 +46,28 @@ impl RuleClass {
         })
     }
 
-    /// How many attributes.
+    /// Returns the number of attributes.
     pub fn len(&self) -> usize
         ensures { result ≡ length self.now }
     {
         self.attributes.len()
     }
 
-    /// The attribute of this name.
+    /// Returns the attribute of this name.
     pub fn get(&self, name: &[u8]) -> Option<&Attribute>
         ensures { option_copied result ≡ lookup (bytes_eq name.now) self.now }
     {
         self.attributes.get(name)
     }
 
-    /// The attribute at a place, with its name.
+    /// Returns the attribute at a place, with its name.
     pub fn entry(&self, place: usize) -> Option<(&[u8], &Attribute)>
         ensures { option_map (λ e. (e.0.now, e.1.now)) result ≡ slice_get self.now place }
     {
         self.attributes.entry(place)
     }
 
-    /// The attributes themselves where this is their only owner, else the same ones once more.
+    /// Returns the attributes themselves if this is their only owner, else a copy.
     fn into_attributes(self, alloc: Global) -> Result<Attributes, AllocError>
         ensures { IfOk result (λ a. a ≡ self) }
     {
@@ -78,8 +78,8 @@ impl RuleClass {
         }
     }
 
-    /// With one attribute more, as the last; none where one has the name. The attributes are moved where nothing else owns them,
-    /// else copied.
+    /// Appends an attribute; `None` if one has the name. The attributes are moved if nothing else owns them, else
+    /// copied.
     #[tactic(auto, unfolding(crate::specs::Class::extended, crate::specs::Class::with_attribute))]
     pub fn with(
         self,

@@ -2,7 +2,7 @@
 
 ghost use Rattle.bq_package_rule_class.specs.Laws.{EachTypeIsNamed, SameAttributesAreEqual};
 
-/// Each type is the one of its name, and no other has that name.
+/// Each type is the one that its name means, and no other name means it.
 pub fn each_type_is_named()
     ensures { EachTypeIsNamed }
 {}

@@ -108,7 +108,7 @@ fn is_output_list(xs: &[Label], b: &AttributeValue) -> bool
 }
 
 impl AttributeValue {
-    /// Whether both are of one type, and equal in each part.
+    /// Returns whether both are of one type, and equal in each part.
     pub fn is_same(&self, other: &AttributeValue) -> bool
         ensures { result ≡ same_value self.now other.now }
     {
@@ -138,7 +138,7 @@ fn is_same_default(a: &Option<AttributeValue>, b: &Option<AttributeValue>) -> bo
 }
 
 impl Attribute {
-    /// Whether both have one type and one default, and both or neither has to be given.
+    /// Returns whether both have one type and one default, and both are mandatory or neither is.
     pub fn is_same(&self, other: &Attribute) -> bool
         ensures { result ≡ same_attribute self.now other.now }
     {

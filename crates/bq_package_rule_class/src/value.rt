@@ -44,7 +44,7 @@ fn labels(alloc: Global, labels: &[Label]) -> Result<Items<Label>, AllocError>
 }
 
 impl AttributeValue {
-    /// The type of attributes that take this value.
+    /// Returns the type of attributes that take this value.
     pub fn type_of(&self) -> AttributeType
         ensures { result ≡ type_of self.now }
     {
@@ -60,7 +60,7 @@ impl AttributeValue {
         }
     }
 
-    /// The same value. No text is copied that is longer than 22 bytes.
+    /// Shares the value. Only texts of up to 22 bytes are copied.
     pub fn share(&self, alloc: Global) -> Result<AttributeValue, AllocError>
         ensures { IfOk result (λ v. v ≡ self.now) }
     {

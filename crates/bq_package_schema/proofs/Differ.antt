@@ -87,7 +87,7 @@ ends_by : {A : Type 0} (o : Option (List A × A)) (x : A) (xs : List A) (p : Lis
 ends_by None x xs p e inner h = ap (λ ys. x ∷ ys) (none_before xs e) ∙ ap (λ q. q.0 ++ q.1 ∷ []) (some_same ([], x) p h)
 ends_by (Some q) x xs p e inner h = ap (λ ys. x ∷ ys) (inner q e) ∙ ap (λ r. r.0 ++ r.1 ∷ []) (some_same (x ∷ q.0, q.1) p h)
 
--- what the last stands behind
+-- what the last comes after
 ends : {A : Type 0} (xs : List A) (p : List A × A) → last_of xs ≡ Some p → xs ≡ p.0 ++ p.1 ∷ []
 unfolding last_of
 ends [] p h = absurd (let no : ⊥ = cc in no)

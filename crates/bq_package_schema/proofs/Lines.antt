@@ -19,7 +19,7 @@ pub nothing_left : (rules : Rules) (n : ℕ) → declared_by rules n [] ≡ Ok r
 unfolding declared_by
 nothing_left rules n = refl
 
--- where reading stops: the lines before, the bad one, and those behind it
+-- where reading stops: the lines before, the bad one, and those after it
 pub record Stops (rules : Rules) (n : ℕ) (ls : List (List ℕ)) (fault : Fault) : Type 0 where
   pub before : List (List ℕ)
   pub line : List ℕ

@@ -11,7 +11,7 @@ use Rattle.bq_package_schema.specs.Schema.{Rules, no_rules, after}
 abbrev pub lines : List ℕ → List (List ℕ)
 lines text = slice_split (λ b. b == 10) text
 
--- The number of the line after so many, from 1. A line past 2 ^ 32 - 1 has that number.
+-- The number of the line after this many others, from 1. A line past 2 ^ 32 - 1 has that number.
 abbrev pub line_number : ℕ → ℕ
 line_number before = if nat_lt before 4294967295 then before + 1 else 4294967295
 
@@ -22,7 +22,8 @@ abbrev pub go_on : (Rules → Result Rules Fault) → ℕ → Option Rules → R
 go_on further before None = Err (bad_line before)
 go_on further before (Some rules) = further rules
 
--- what these lines make of the rules so far, or the fault of the first bad one; so many lines precede them
+-- what these lines declare after the rules so far, or the fault of the first bad one; the number is that of the lines
+-- before
 unfoldable pub declared_by : Rules → ℕ → List (List ℕ) → Result Rules Fault
 declared_by rules before [] = Ok rules
 declared_by rules before (line ∷ lines) = go_on (λ next. declared_by next (before + 1) lines) before (after rules (line_of line))

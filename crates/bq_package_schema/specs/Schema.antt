@@ -21,7 +21,7 @@ has names name = list_any (bytes_eq name) names
 unfoldable pub with_name : List (List ℕ) → List ℕ → List (List ℕ)
 with_name names name = if has names name then names else names ++ name ∷ []
 
--- one more rule, without attributes of its own; none where one has the name
+-- one more rule, without attributes of its own; `None` if one has the name
 unfoldable pub with_rule : Rules → List ℕ → Option Rules
 with_rule rules name = if has rules.names name then None else Some (record { names = rules.names ++ name ∷ []; classes = rules.classes ++ [] ∷ [] })
 
@@ -42,11 +42,11 @@ abbrev pub onto : Rules → List ℕ → Attribute → Option (List Class × Cla
 onto rules name attribute None = None
 onto rules name attribute (Some p) = with_last rules p.0 (extended p.1 name attribute)
 
--- one more attribute of the last rule; none where there is no rule, or it has one of the name
+-- one more attribute of the last rule; `None` if there is no rule, or it has one of the name
 unfoldable pub with_attribute_of_last : Rules → List ℕ → Attribute → Option Rules
 with_attribute_of_last rules name attribute = onto rules name attribute (last_of rules.classes)
 
--- what a line makes of the rules before it; none where it is a bad one
+-- the rules after a further line; `None` if it is a bad one
 unfoldable pub after : Rules → Line → Option Rules
 after rules line.Skipped = Some rules
 after rules (line.Rule name) = with_rule rules name

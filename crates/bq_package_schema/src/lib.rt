@@ -1,16 +1,17 @@
 //! The text of a schema comes in; the rules that it declares go out, with their typed attributes, or its first bad line.
 //!
-//! The promise: [`read_schema`] gives exactly what the lines of the text declare (`specs/Reading.antt`). A text that is no schema
-//! has fault F80 at its first bad line, and that one is returned. A name is found in the time of its length.
+//! The promise: [`read_schema`] returns exactly what the lines of the text declare (`specs/Reading.antt`). A text that
+//! is no schema has fault F80 at its first bad line, and that one is returned. A name is looked up in time proportional
+//! to its length.
 //!
 //! In reading order:
 //!
 //! - `line`: what one line of a schema says;
 //! - `names`: names with their places;
-//! - `schema`: the rules declared so far, and what a further line makes of them;
+//! - `schema`: the rules declared so far, and what a further line adds to them;
 //! - `read`: the lines of a whole text;
 //! - `standard`: the schema of a workspace without a file of its own;
-//! - `laws`: what holds of every schema, in words of its lines and names.
+//! - `laws`: what holds of every schema, said of its lines and names.
 #![tactic(auto)]
 
 mod laws;

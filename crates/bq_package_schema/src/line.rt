@@ -20,7 +20,7 @@ pub enum Line {
     Rule(Bytes),
     /// `attr NAME TYPE`, and perhaps `mandatory`
     Attribute(Bytes, Attribute),
-    /// It is none of these.
+    /// It is anything else.
     Other,
 }
 
@@ -30,14 +30,14 @@ fn is_blank(byte: u8) -> bool
     byte == b' ' || byte == b'\t'
 }
 
-/// Whether the line has blanks alone.
+/// Returns whether the line consists of blanks alone.
 fn are_blanks(line: &[u8]) -> bool
     ensures { result ≡ list_all is_blank line.now }
 {
     line.iter().all(|byte| is_blank(*byte))
 }
 
-/// Whether the line is blank or a comment.
+/// Returns whether the line is blank or a comment.
 #[tactic(auto, unfolding(crate::specs::Line::is_skipped))]
 fn is_skipped(line: &[u8]) -> bool
     ensures { result ≡ is_skipped line.now }
@@ -49,7 +49,7 @@ fn is_skipped(line: &[u8]) -> bool
     }
 }
 
-/// Whether files have this name without a schema.
+/// Returns whether files have this name without a schema.
 #[tactic(auto, unfolding(crate::specs::Line::is_predeclared))]
 fn is_predeclared(name: &[u8]) -> bool
     ensures { result ≡ is_predeclared name.now }
@@ -71,14 +71,14 @@ fn names_attribute(name: &[u8]) -> bool
     is_identifier(name) && common_attribute(name).is_none()
 }
 
-/// The words of a line, parted by single spaces.
+/// Returns the words of a line, which single spaces separate.
 fn words(alloc: Global, line: &[u8]) -> Result<Vec<&[u8]>, AllocError>
     ensures { IfOk result (λ v. map (λ w. w.now) v.items ≡ words line.now) }
 {
     line.split(|byte| *byte == b' ').collect(alloc)
 }
 
-/// `rule NAME`
+/// Reads `rule NAME`.
 #[tactic(auto, unfolding(crate::specs::Line::rule_line))]
 fn rule_line(alloc: Global, name: &[u8]) -> Result<Line, AllocError>
     ensures { IfOk result (λ line. line ≡ rule_line name.now) }
@@ -90,7 +90,7 @@ fn rule_line(alloc: Global, name: &[u8]) -> Result<Line, AllocError>
     Ok(Line::Rule(name))
 }
 
-/// `attr NAME TYPE`
+/// Reads `attr NAME TYPE`.
 #[tactic(auto, unfolding(crate::specs::Line::attribute_line))]
 fn attribute_line(
     alloc: Global,
@@ -121,7 +121,7 @@ fn is_word(word: &[u8], other: &[u8]) -> bool
     word == other
 }
 
-/// What a line of an attribute says that begins with this word.
+/// Reads the line of an attribute that begins with this word.
 fn begun_attribute(
     alloc: Global,
     key: &[u8],
@@ -137,7 +137,7 @@ fn begun_attribute(
     attribute_line(alloc, name, kind, is_mandatory)
 }
 
-/// What these words say.
+/// Reads a line of these words.
 #[tactic(auto, unfolding(crate::specs::Line::words_line))]
 fn words_line(alloc: Global, words: &[&[u8]]) -> Result<Line, AllocError>
     ensures { IfOk result (λ line. line ≡ words_line (map (λ w. w.now) words.now)) }
@@ -152,7 +152,7 @@ fn words_line(alloc: Global, words: &[&[u8]]) -> Result<Line, AllocError>
     }
 }
 
-/// What the line says.
+/// Reads a line.
 #[tactic(auto, unfolding(crate::specs::Line::line_of))]
 pub fn line_of(alloc: Global, line: &[u8]) -> Result<Line, AllocError>
     ensures { IfOk result (λ l. l ≡ line_of line.now) }

@@ -7,7 +7,7 @@ use indexmap::IndexSet;
 use std::alloc::{AllocError, Global};
 use std::marker::Model;
 
-/// Names, none of them twice, in the order in which they came. Contracts see the list of them.
+/// Names, none of them twice, in the order in which they were added. Contracts see the list of them.
 #[derive(Drop)]
 pub struct RuleNames {
     keys: IndexSet<Vec<u8>>,
@@ -33,7 +33,7 @@ impl RuleNames {
         }
     }
 
-    /// Adds a name as the last, and answers whether it wasn't there.
+    /// Appends a name; true if it is new.
     #[tactic(auto, unfolding(crate::specs::Schema::with_name))]
     pub fn add(&mut self, alloc: Global, name: &[u8]) -> Result<bool, AllocError>
         ensures added { IfOk result (λ added. added ≡ not (has self.old name.now)) }
@@ -43,7 +43,7 @@ impl RuleNames {
         Ok(self.keys.insert(key)?)
     }
 
-    /// The place of a name.
+    /// Returns the place of a name.
     pub fn place(&self, name: &[u8]) -> Option<usize>
         ensures { result ≡ position (bytes_eq name.now) self.now }
     {

@@ -13,14 +13,14 @@ use crate::schema::Schema;
 use bq_base::{Fault, FaultKind, SourceErr};
 use std::alloc::{AllocError, Global};
 
-/// The lines of a text.
+/// Returns the lines of a text.
 fn lines(alloc: Global, text: &[u8]) -> Result<Vec<&[u8]>, AllocError>
     ensures { IfOk result (λ v. map (λ l. l.now) v.items ≡ lines text.now) }
 {
     text.split(|byte| *byte == b'\n').collect(alloc)
 }
 
-/// The number of the line after so many.
+/// Returns the number of the line after `before` others.
 fn line_number(before: usize) -> u32
     ensures { result ≡ line_number before }
 {
@@ -31,7 +31,7 @@ fn line_number(before: usize) -> u32
     }
 }
 
-/// What a schema is with one more line; none where the line is a bad one.
+/// Returns the schema with one more line, or `None` if it is a bad one.
 fn read_line(alloc: Global, schema: Schema, line: &[u8]) -> Result<Option<Schema>, AllocError>
     ensures { IfOk result (λ s. s ≡ after schema (line_of line.now)) }
 {
@@ -39,7 +39,7 @@ fn read_line(alloc: Global, schema: Schema, line: &[u8]) -> Result<Option<Schema
     schema.after(alloc, line)
 }
 
-/// What the lines declare.
+/// Returns the schema that the lines declare.
 #[tactic(auto, unfolding(crate::specs::Reading::declared_by))]
 pub(crate) fn read_lines(alloc: Global, lines: &[&[u8]]) -> Result<Schema, SourceErr>
     ensures { Gives (λ s. s) Bad result (declared_by no_rules 0 (map (λ l. l.now) lines.now)) }
@@ -56,9 +56,9 @@ pub(crate) fn read_lines(alloc: Global, lines: &[&[u8]]) -> Result<Schema, Sourc
     Ok(schema)
 }
 
-/// The schema that a text is. A text that is none has fault F80 at its first bad line: one that declares nothing and is neither
-/// blank nor a comment, an attribute before any rule, a name that comes twice, that is no identifier, that is an attribute of all
-/// rules, or that is predeclared and would be a rule's. It takes time linear in the text.
+/// Reads a text as a schema. A text that is none has fault F80 at its first bad line: one that declares nothing and is
+/// neither blank nor a comment, an attribute before any rule, a name that comes twice, that is no identifier, that is
+/// an attribute of all rules, or that is predeclared and would be a rule's. It takes time linear in the text.
 #[tactic(auto, unfolding(crate::specs::Reading::schema_of))]
 pub fn read_schema(alloc: Global, text: &[u8]) -> Result<Schema, SourceErr>
     ensures { Gives (λ s. s) Bad result (schema_of text.now) }

@@ -1,4 +1,4 @@
-//! The rules that the lines of a schema have declared so far, and what a further line makes of them.
+//! The rules that the lines of a schema have declared so far, and what a further line adds to them.
 
 ghost use Rattle.std.specs.Prelude.{◌≡◌, ℕ, List, Some, None, position, slice_get, option_copied, bytes_eq, if◌then◌else◌, IfOk, OnOk};
 ghost use Rattle.bq_package_schema.specs.Schema.{no_rules, with_rule, with_attribute_of_last, after};
@@ -16,7 +16,7 @@ use std::marker::Model;
 #[derive(Drop)]
 pub struct Schema {
     names: Vec<Bytes>,
-    /// The same names, where each is found.
+    /// The same names, in which a name is looked up.
     places: RuleNames,
     classes: Items<RuleClass>,
 }
@@ -32,14 +32,14 @@ impl Model for Schema {
     ghost invariant = { λ s. s.places ≡ s.names.items };
 }
 
-/// The names of the rules, in the order in which they are declared.
+/// Returns the names of the rules, in the order in which they are declared.
 pub fn rule_names(schema: &Schema) -> &[Bytes]
     ensures { result.now ≡ schema.now.names }
 {
     &schema.names
 }
 
-/// Adds a rule without attributes, where none has the name. Says whether it did.
+/// Appends a rule without attributes; true if none has the name.
 #[tactic(auto, unfolding(crate::specs::Schema::with_rule, crate::specs::Schema::with_name))]
 fn add_rule(
     alloc: Global,
@@ -60,8 +60,8 @@ fn add_rule(
     Ok(true)
 }
 
-/// Adds an attribute to the last rule, where there is one, and it has none of the name. Says whether it did; where it didn't, the
-/// classes are given up.
+/// Appends an attribute to the last rule; true if there is a rule, and it has none of the name. If not, the classes are
+/// dropped.
 #[tactic(auto, using(crate::proofs::Lasts::no_last, crate::proofs::Lasts::none_more, crate::proofs::Lasts::one_more))]
 fn add_attribute(
     alloc: Global,
@@ -94,21 +94,21 @@ impl Schema {
         }
     }
 
-    /// The number of the rule of this name: its place in the order of declaration.
+    /// Returns the number of the rule of this name: its place in the order of declaration.
     pub fn rule(&self, name: &[u8]) -> Option<usize>
         ensures { result ≡ position (bytes_eq name.now) self.now.names }
     {
         self.places.place(name)
     }
 
-    /// The attributes that the rule of this number has of its own.
+    /// Returns the attributes that the rule of this number has of its own.
     pub fn class(&self, rule: usize) -> Option<&RuleClass>
         ensures { option_copied result ≡ slice_get self.now.classes rule }
     {
         self.classes.get(rule)
     }
 
-    /// One more rule; none where one has the name.
+    /// Adds a rule; `None` if one has the name.
     fn with_rule(self, alloc: Global, name: Bytes) -> Result<Option<Schema>, AllocError>
         ensures { IfOk result (λ s. s ≡ with_rule self name) }
     {
@@ -123,7 +123,7 @@ impl Schema {
         Ok(is_new.then_some(rules))
     }
 
-    /// One more attribute of the last rule; none where there is no rule, or it has one of the name.
+    /// Adds an attribute to the last rule; `None` if there is no rule, or it has one of the name.
     fn with_attribute(
         self,
         alloc: Global,
@@ -137,7 +137,7 @@ impl Schema {
         Ok(is_new.then_some(rules))
     }
 
-    /// With what a line declares; none where the line is a bad one.
+    /// Adds what a line declares; `None` if the line is a bad one.
     #[tactic(auto, unfolding(crate::specs::Schema::after))]
     pub(crate) fn after(self, alloc: Global, line: Line) -> Result<Option<Schema>, AllocError>
         ensures { IfOk result (λ s. s ≡ after self line) }

@@ -9,7 +9,7 @@ use crate::schema::Schema;
 use bq_base::SourceErr;
 use std::alloc::Global;
 
-/// Its lines (ours: a part of Bazel's rules).
+/// Its lines: a part of Bazel's rules.
 const STANDARD: [&[u8]; 20] = [
     b"rule filegroup",
     b"attr srcs label_list",
@@ -34,7 +34,7 @@ const STANDARD: [&[u8]; 20] = [
 ];
 
 impl Schema {
-    /// The schema of a workspace without a file of its own. Only memory can be refused.
+    /// Returns the schema of a workspace without a file of its own. It can only fail by running out of memory.
     pub fn standard(alloc: Global) -> Result<Schema, SourceErr>
         ensures rules { IfOk result (λ s. s ≡ standard_rules) }
         ensures refused { IfErr result (λ e. e ≡ Memory) }

@@ -13,7 +13,7 @@ use bq_package_rule_class::AttributeValue;
 use sqlite_items::Items;
 use std::alloc::{AllocError, Global};
 
-/// Adds files that the rule makes.
+/// Appends files that the rule makes.
 fn add_generated(
     alloc: Global,
     rule: &Target,
@@ -28,7 +28,7 @@ fn add_generated(
     Ok(())
 }
 
-/// Adds the outputs that the value of an attribute names.
+/// Appends the outputs that the value of an attribute names.
 fn add_outputs(
     alloc: Global,
     rule: &Target,
@@ -49,7 +49,7 @@ fn add_outputs(
     }
 }
 
-/// The files that the rule makes.
+/// Returns the files that the rule makes.
 fn outputs(alloc: Global, rule: &Target) -> Result<Items<Target>, AllocError>
     ensures { IfOk result (λ ts. ts ≡ map (generated rule.now) (outputs_in rule.now.attributes)) }
 {
@@ -60,7 +60,7 @@ fn outputs(alloc: Global, rule: &Target) -> Result<Items<Target>, AllocError>
     Ok(made)
 }
 
-/// Takes the names of targets, up to the first that is taken. Says whether all were new.
+/// Takes the names of targets, up to the first that is taken already. Returns whether all were new.
 fn take_each(names: &mut TargetNames, targets: &[Target]) -> Result<bool, AllocError>
     ensures new { IfOk result (λ new. new ≡ are_new names.old (names_of targets.now)) }
     ensures all { IfOk result (λ new. new ≡ true → names.new ≡ names.old ++ names_of targets.now) }
@@ -74,7 +74,7 @@ fn take_each(names: &mut TargetNames, targets: &[Target]) -> Result<bool, AllocE
     Ok(true)
 }
 
-/// Takes the names of targets, where all are new. Else it takes none. Says which.
+/// Takes the names of targets if all are new, and else none. Returns which.
 fn take_names(names: &mut TargetNames, targets: &[Target]) -> Result<bool, AllocError>
     ensures new { IfOk result (λ new. new ≡ are_new names.old (names_of targets.now)) }
     ensures after { IfOk result (λ new. names.new ≡ (if new then names.old ++ names_of targets.now else names.old)) }
@@ -87,7 +87,7 @@ fn take_names(names: &mut TargetNames, targets: &[Target]) -> Result<bool, Alloc
     Ok(false)
 }
 
-/// The targets that a call declares: its own, and the files that the rule makes.
+/// Returns the targets that a call declares: its own, and the files that the rule makes.
 #[tactic(auto, unfolding(crate::specs::Target::declares))]
 fn declares(alloc: Global, target: Target) -> Result<Items<Target>, AllocError>
     ensures { IfOk result (λ ts. ts ≡ declares target) }
@@ -99,7 +99,7 @@ fn declares(alloc: Global, target: Target) -> Result<Items<Target>, AllocError>
     Ok(declared)
 }
 
-/// Adds the targets that a call declares, where all their names are new. Says whether they are.
+/// Appends the targets that a call declares, if all their names are new. Returns whether they are.
 fn add_target(
     alloc: Global,
     targets: &mut Items<Target>,
@@ -123,8 +123,8 @@ impl PackageState {
     ghost use Rattle.bq_package_target.specs.Package.{IsOwnCall};
     ghost use Rattle.bq_package_target.specs.Calls.{declared};
 
-    /// Declares the target of a call of a rule or of `package_group`, and the files that the rule makes. The call is refused, F74, where
-    /// a target has one of the names, or two of them are equal.
+    /// Declares the target of a call of a rule or of `package_group`, and the files that the rule makes. The call is
+    /// refused, F74, if a target has one of the names, or two of them are equal.
     pub fn declare(self, alloc: Global, target: Target) -> Result<Declared, AllocError>
         requires { IsOwnCall (package_of self.build_file) target }
         ensures { IfOk result (λ d. d ≡ declared self target) }

@@ -13,14 +13,14 @@ use bq_package_rule_class::AttributeValue;
 use sqlite_items::Items;
 use std::alloc::{AllocError, Global};
 
-/// Files that are found one after another, and the names that are taken by them and by others.
+/// Files found so far, and the names that are taken by them and by others.
 #[derive(Drop)]
 pub struct Files {
     pub names: TargetNames,
     pub found: Items<Target>,
 }
 
-/// Whether the label is of the package.
+/// Returns whether the label is of the package.
 #[tactic(auto, unfolding(crate::specs::Target::is_of))]
 pub fn is_of(own: &PackageId, label: &Label) -> bool
     ensures { result ≡ is_of own.now label.now }
@@ -31,7 +31,7 @@ pub fn is_of(own: &PackageId, label: &Label) -> bool
 impl Files {
     ghost use Rattle.bq_package_target.specs.Files.{Finds, FindsOwn};
 
-    /// Adds the file of a label, where its name is not taken.
+    /// Adds the file of a label, if its name isn't taken.
     pub fn add(&mut self, alloc: Global, label: &Label, line: u32) -> Result<(), AllocError>
         ensures { OnOk result (Finds line (label.now ∷ []) self.old self.new) }
     {
@@ -52,7 +52,7 @@ impl Files {
         Ok(())
     }
 
-    /// Adds the file of a label, where it is of the package.
+    /// Adds the file of a label, if it is of the package.
     fn add_own(&mut self, alloc: Global, own: &PackageId, label: &Label) -> Result<(), AllocError>
         ensures { OnOk result (FindsOwn own.now (label.now ∷ []) self.old self.new) }
     {

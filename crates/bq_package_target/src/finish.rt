@@ -15,7 +15,7 @@ use bq_label::Label;
 use sqlite_items::{Items, at};
 use std::alloc::{AllocError, Global};
 
-/// Whether a rule, an output or a group has the label's name.
+/// Returns whether a rule, an output or a group has the label's name.
 #[tactic(auto, unfolding(crate::specs::Package::is_taken))]
 fn is_taken(targets: &[Target], names: &TargetNames, label: &Label) -> Result<bool, AllocError>
     requires { names.now ≡ names_of targets.now }
@@ -30,7 +30,7 @@ fn is_taken(targets: &[Target], names: &TargetNames, label: &Label) -> Result<bo
     }
 }
 
-/// Whether this is so of one of the labels.
+/// Returns whether a rule, an output or a group has the name of one of the labels.
 fn any_is_taken(
     targets: &[Target],
     names: &TargetNames,
@@ -47,7 +47,7 @@ fn any_is_taken(
     Ok(false)
 }
 
-/// Adds the files of labels, where their names aren't taken. Gives the names that are taken then.
+/// Adds the files of labels whose names aren't taken. Returns the names that are taken then.
 fn add_files(
     alloc: Global,
     targets: &mut Items<Target>,
@@ -68,7 +68,7 @@ fn add_files(
     Ok(names)
 }
 
-/// Adds the BUILD file and the files of the package that targets name, where their names aren't taken.
+/// Adds the BUILD file and the files of the package that targets name, unless their names are taken.
 fn add_rest(
     alloc: Global,
     targets: &mut Items<Target>,
@@ -93,14 +93,14 @@ impl PackageState {
     ghost use Rattle.bq_package_target.specs.Calls.{exported};
     ghost use Rattle.bq_package_target.specs.declared.state.Declared.TheVariants.{Accepted};
 
-    /// Whether a rule, an output or a group has one of the names.
+    /// Returns whether a rule, an output or a group has one of the names.
     fn is_any_taken(&self, labels: &[Label]) -> Result<bool, AllocError>
         ensures { IfOk result (λ taken. taken ≡ list_any (is_taken self.now.targets) labels.now) }
     {
         any_is_taken(self.targets.as_slice(), &self.names, labels)
     }
 
-    /// With the source files of labels, where their names aren't taken.
+    /// Adds the source files of labels whose names aren't taken.
     fn accept(self, alloc: Global, labels: &[Label], line: u32) -> Result<Declared, AllocError>
         requires { list_all (is_of (package_of self.build_file)) labels.now ≡ true }
         ensures { IfOk result (λ d. d ≡ Accepted (record { build_file = self.build_file; targets = self.targets ++ files line self.targets labels.now })) }
@@ -118,8 +118,8 @@ impl PackageState {
         }))
     }
 
-    /// Declares source files. A file may be declared again; the call is refused, F74, where a rule, an output or a group has one of
-    /// the names.
+    /// Declares source files. A file may be declared again; the call is refused, F74, if a rule, an output or a group
+    /// has one of the names.
     #[tactic(auto, unfolding(crate::specs::Calls::exported))]
     pub fn export(self, alloc: Global, labels: &[Label], line: u32) -> Result<Declared, AllocError>
         requires { list_all (is_of (package_of self.build_file)) labels.now ≡ true }
@@ -131,8 +131,8 @@ impl PackageState {
         self.accept(alloc, labels, line)
     }
 
-    /// The package once its BUILD file is evaluated: what the accepted calls declare, then the BUILD file and the files of the package
-    /// that these targets name, where nothing declares them.
+    /// Returns the package once its BUILD file is evaluated: what the accepted calls declare, then the BUILD file and
+    /// the files of the package that these targets name and nothing declares.
     pub fn finish(self, alloc: Global) -> Result<Package, AllocError>
         ensures { IfOk result (λ p. p ≡ finished self) }
     {

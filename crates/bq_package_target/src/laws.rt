@@ -6,7 +6,7 @@ ghost use Rattle.bq_package_target.specs.declared.target.Target.{Target};
 ghost use Rattle.bq_package_target.specs.Package.{PackageTargets, no_targets, finished};
 ghost use Rattle.bq_package_target.specs.Laws.{Call, after_calls, AreRulesOrGroups, EachIsMade, KeepsOrder, AcceptsDistinct};
 
-/// The targets of a call come after those of the calls before it; a call that is refused leaves the package as it was.
+/// The targets of a call come after those of earlier calls; a refused call leaves the package as it was.
 pub fn calls_keep_their_order()
     ensures { (p : PackageTargets) (t : Target) (q : PackageTargets) → KeepsOrder p t q }
 {}

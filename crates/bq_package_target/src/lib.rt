@@ -1,9 +1,9 @@
 //! What the accepted calls of a BUILD file declare comes in; a package and its targets go out.
 //!
-//! The promise: a call that is refused leaves the package as it was ([`PackageState::declare`], [`PackageState::export`]), and
-//! [`PackageState::finish`] gives the targets that the accepted calls declare, in their order, and after them the BUILD file and each
-//! file of the package that one of them names and none declares (`specs/Package.antt`). Every call takes time linear in what it
-//! declares; no text is copied that is longer than 22 bytes.
+//! The promise: a refused call leaves the package as it was ([`PackageState::declare`], [`PackageState::export`]), and
+//! [`PackageState::finish`] returns the targets that the accepted calls declare, in their order, and after them the
+//! BUILD file and each file of the package that one of them names and none declares (`specs/Package.antt`). Every call
+//! takes time linear in what it declares; only texts of up to 22 bytes are copied.
 //!
 //! In reading order:
 //!
@@ -15,7 +15,7 @@
 //! - `declare`: the calls of rules and of `package_group`;
 //! - `files`: the files that labels name and nothing declares;
 //! - `finish`: exported files, and the package once its BUILD file is evaluated;
-//! - `share`: the same targets once more;
+//! - `share`: shares of targets;
 //! - `laws`: what holds of every package.
 #![tactic(auto)]
 

@@ -12,7 +12,7 @@ use std::alloc::{AllocError, Global};
 use std::hash::{Hash, Hasher};
 use std::marker::Model;
 
-/// A name that is found by its hash.
+/// A name that is looked up by its hash.
 #[derive(Drop)]
 struct Name {
     name: Bytes,
@@ -53,7 +53,7 @@ impl Hash for Name {
     }
 }
 
-/// Names, none of them twice, in the order in which they came. Contracts see the list of them.
+/// Names, none of them twice, in the order in which they were added. Contracts see the list of them.
 #[derive(Drop)]
 pub struct TargetNames {
     keys: IndexSet<Name>,
@@ -85,7 +85,7 @@ impl TargetNames {
         self.keys.len()
     }
 
-    /// Adds a name as the last, and answers whether it wasn't there.
+    /// Appends a name; true if it is new.
     #[tactic(auto, unfolding(crate::specs::Names::with_name))]
     pub fn add(&mut self, name: &Bytes) -> Result<bool, AllocError>
         ensures added { IfOk result (λ added. added ≡ not (has self.old name.now)) }
@@ -95,7 +95,7 @@ impl TargetNames {
         Ok(self.keys.insert(Name { name })?)
     }
 
-    /// The place of a name.
+    /// Returns the place of a name. It fails where 2^63 owners of the name are alive: the look-up shares it.
     pub fn place(&self, name: &Bytes) -> Result<Option<usize>, AllocError>
         ensures { IfOk result (λ place. place ≡ position (bytes_eq name.now) self.now) }
     {
@@ -103,7 +103,7 @@ impl TargetNames {
         Ok(self.keys.get_index_of(&Name { name }))
     }
 
-    /// Keeps so many of the names, from the first on.
+    /// Keeps the first `len` names.
     pub fn truncate(&mut self, len: usize)
         ensures { self.new ≡ take len self.old }
     {

@@ -32,14 +32,14 @@ impl Package {
     ghost use Rattle.bq_label.specs.Label.{package_of};
     ghost use Rattle.bq_package_target.specs.Package.{AreTargetsOf, no_targets};
 
-    /// The package of a BUILD file that has a fault. It has no targets.
+    /// Makes the package of a BUILD file that has a fault. It has no targets.
     pub fn failed(alloc: Global, build_file: Label) -> Result<Package, AllocError>
         ensures { IfOk result (λ p. p ≡ no_targets build_file) }
     {
         Package::of(alloc, build_file, Items::new(alloc))
     }
 
-    /// The package of a BUILD file with these targets.
+    /// Makes the package of a BUILD file with these targets.
     pub(crate) fn of(
         alloc: Global,
         build_file: Label,
@@ -54,7 +54,7 @@ impl Package {
         })
     }
 
-    /// The same package. No target is copied.
+    /// Returns another owner of the package. No target is copied.
     pub fn share(&self) -> Result<Package, AllocError>
         ensures { IfOk result (λ p. p ≡ self.now) }
     {
@@ -64,7 +64,7 @@ impl Package {
         })
     }
 
-    /// The label of the BUILD file.
+    /// Returns the label of the BUILD file.
     pub fn build_file(&self) -> &Label
         ensures { result.now ≡ self.now.build_file }
     {
@@ -77,7 +77,8 @@ impl Package {
         self.build_file.package_id()
     }
 
-    /// The targets themselves where this is their only owner, else the same ones once more, in time linear in what they name.
+    /// Returns the targets themselves if this is their only owner, else shares of them, in time linear in what they
+    /// name.
     pub fn into_targets(self, alloc: Global) -> Result<Items<Target>, AllocError>
         ensures value { IfOk result (λ ts. ts ≡ self.targets) }
         ensures valid { AreTargetsOf (package_of self.build_file) self.targets }
@@ -92,7 +93,7 @@ impl Package {
         }
     }
 
-    /// The targets. No two of them have one name.
+    /// Returns the targets. No two of them have one name.
     pub fn targets(&self) -> &[Target]
         ensures value { result.now ≡ self.now.targets }
         ensures valid { AreTargetsOf (package_of self.now.build_file) self.now.targets }

@@ -1,4 +1,4 @@
-//! Shares of targets: their texts are not copied, where these are longer than 22 bytes.
+//! Shares of targets: only their texts of up to 22 bytes are copied.
 
 ghost use Rattle.std.specs.Prelude.{◌≡◌, IfOk};
 
@@ -20,7 +20,7 @@ fn attributes(
     Ok(Items::from_vec(shared))
 }
 
-/// The same targets.
+/// Shares targets.
 pub(crate) fn targets(alloc: Global, targets: &[Target]) -> Result<Items<Target>, AllocError>
     ensures { IfOk result (λ shared. shared ≡ targets.now) }
 {
@@ -32,7 +32,7 @@ pub(crate) fn targets(alloc: Global, targets: &[Target]) -> Result<Items<Target>
 }
 
 impl GivenAttribute {
-    /// The same attribute with the same value.
+    /// Shares the attribute with its value.
     pub fn share(&self, alloc: Global) -> Result<GivenAttribute, AllocError>
         ensures { IfOk result (λ a. a ≡ self.now) }
     {
@@ -44,7 +44,7 @@ impl GivenAttribute {
 }
 
 impl TargetKind {
-    /// The same kind.
+    /// Shares the kind.
     pub fn share(&self) -> Result<TargetKind, AllocError>
         ensures { IfOk result (λ k. k ≡ self.now) }
     {
@@ -58,7 +58,7 @@ impl TargetKind {
 }
 
 impl Target {
-    /// The same target.
+    /// Shares the target.
     pub fn share(&self, alloc: Global) -> Result<Target, AllocError>
         ensures { IfOk result (λ t. t ≡ self.now) }
     {

@@ -11,7 +11,7 @@ use std::marker::Model;
 
 /// What the accepted calls of a BUILD file declare. Contracts see it as a package.
 ///
-/// A call takes the state and gives it back. Where memory is refused the state is given up.
+/// A call takes the state and returns it. If memory is refused, the state is dropped.
 #[derive(Drop)]
 pub struct PackageState {
     pub(crate) build_file: Label,
@@ -32,7 +32,7 @@ impl Model for PackageState {
     ghost invariant = { λ s. IsState (package_of s.build_file) s.targets s.names };
 }
 
-/// What a call gives: the package with what it declares, or as it was where the call is refused (F74).
+/// The result of a call: the package with what it declares, or as it was if the call is refused (F74).
 #[derive(Drop)]
 pub enum Declared {
     Accepted(PackageState),
@@ -56,7 +56,7 @@ impl Declared {
 impl PackageState {
     ghost use Rattle.bq_package_target.specs.Package.{no_targets};
 
-    /// The package of a BUILD file that has declared nothing yet.
+    /// Makes the package of a BUILD file that has declared nothing yet.
     pub fn new(alloc: Global, build_file: Label) -> PackageState
         ensures { result ≡ no_targets build_file }
     {

@@ -28,9 +28,9 @@ pub enum TargetKind {
 pub struct Target {
     pub label: Label,
     pub kind: TargetKind,
-    /// What its call gives, and the defaults of what it doesn't give; of a file nothing.
+    /// What its call gives, and the defaults of what it doesn't give; a file has none.
     pub attributes: Items<GivenAttribute>,
-    /// The line of the call that declares it; 0 where none does.
+    /// The line of the call that declares it, or 0 if none does.
     pub line: u32,
 }
 
@@ -46,7 +46,7 @@ impl TargetKind {
 }
 
 impl Target {
-    /// A source file.
+    /// Makes a source file.
     pub(crate) fn source(alloc: Global, label: &Label, line: u32) -> Result<Target, AllocError>
         ensures { IfOk result (λ t. t ≡ source label.now line) }
     {
@@ -58,7 +58,7 @@ impl Target {
         })
     }
 
-    /// A file that a rule makes.
+    /// Makes a file that a rule makes.
     pub(crate) fn generated(
         alloc: Global,
         rule: &Target,

@@ -13,7 +13,7 @@ pub struct GivenAttribute {
     pub value: AttributeValue,
 }
 
-/// The type of an attribute that a rule has of its own.
+/// Returns the type of an attribute that a rule has of its own.
 fn own_type(class: &RuleClass, name: &[u8]) -> Option<AttributeType>
     ensures { result ≡ own_type class.now name.now }
 {
@@ -23,7 +23,7 @@ fn own_type(class: &RuleClass, name: &[u8]) -> Option<AttributeType>
     }
 }
 
-/// The type of an attribute of a rule: one that all rules have, or one of its own. There is none where the rule has no such
+/// Returns the type of an attribute of a rule: one that all rules have, or one of its own, if the rule has such an
 /// attribute.
 #[tactic(auto, unfolding(crate::specs::Value::attribute_type))]
 pub fn attribute_type(class: &RuleClass, name: &[u8]) -> Option<AttributeType>

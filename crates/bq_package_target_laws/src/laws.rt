@@ -12,8 +12,8 @@ ghost use Rattle.bq_package_target.specs.Target.{dependencies, names_of, source}
 ghost use Rattle.bq_package_target_laws.specs.Names.{Depends};
 ghost use Rattle.bq_package_target_laws.specs.Files.{IsWanted, IsImplicit, HasTargetNamed, HasOtherNamed};
 
-/// A file that a rule makes depends on the rule alone. Any other target depends on just the labels that its attributes of types label
-/// and label_list have, a group on those that it includes.
+/// A file that a rule makes depends on the rule alone. Any other target depends on exactly the labels that its
+/// attributes of types label and label_list have, a group on those that it includes.
 #[tactic(auto, using(crate::proofs::Writing::only_written, crate::proofs::Writing::all_written))]
 pub fn targets_depend_on_what_they_write()
     ensures only { (t : Target) (l : LabelParts) → Contains (dependencies t) l → Depends t l }
@@ -28,7 +28,7 @@ pub fn files_without_a_call_are_wanted()
     ensures all { (p : PackageTargets) (l : LabelParts) → IsWanted p l → HasTargetNamed (finished p).targets l.name }
 {}
 
-/// Where no call declares the BUILD file, it is the first target after those that the calls declare.
+/// If no call declares the BUILD file, it is the first target after those that the calls declare.
 #[tactic(auto, using(crate::proofs::Implicit::build_file_first))]
 pub fn build_files_come_first()
     ensures { (p : PackageTargets) → has (names_of p.targets) p.build_file.name ≡ false → (more : List Target) × ((finished p).targets ≡ p.targets ++ source p.build_file 0 ∷ more) }

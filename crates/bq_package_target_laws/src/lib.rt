@@ -1,8 +1,9 @@
 //! Laws of packages and their targets, by the definitions of `bq_package_target`.
 //!
-//! In: nothing; the functions do nothing, and their contracts are the laws. The promise: a target depends on its rule, or on just the
-//! labels that it writes; the source files of a package without a call are its BUILD file and the files that its targets write; and
-//! files may be exported exactly where no rule, generated file or group has one of their names.
+//! In: nothing; the functions do nothing, and their contracts are the laws. The promise: a target depends on its rule,
+//! or on exactly the labels that it writes; the source files of a package without a call are its BUILD file and the
+//! files that its targets write; and files may be exported exactly where no rule, generated file or group has one of
+//! their names.
 #![tactic(auto)]
 
 mod laws;

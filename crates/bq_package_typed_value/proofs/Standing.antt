@@ -234,7 +234,7 @@ module _ (own : PackageParts) (packages : List BuildFile) where
         some_nothing (any_weaker (λ s. read own kind s ≡ Err w.0) (StandsForNone own kind) (λ s e. (stands_for_none own kind s w.0 e).0) ss w.1) (rw (w.2) (ap Err refused.1))
   ]
 
-  -- the other way round
+  -- the other way around
   pub label_so : (kind : TextKind) (s : List ℕ) (l : LabelParts) → StandsFor own kind s l → StaysInside own packages l → label own packages kind s ≡ Ok l
   unfolding label inside
   label_so kind s l h stays = rw (reads own kind s l h, stays_so l stays) refl

@@ -24,7 +24,7 @@ pub enum TextKind {
     Output,
 }
 
-/// The label that a text reads as, or F78.
+/// Reads a text as a label, or fails with F78.
 #[tactic(auto, using(bq_label::proofs::BadLabels::or_bad_label_ok, bq_label::proofs::BadLabels::or_bad_label_err))]
 fn label_found(alloc: Global, own: &PackageId, text: &Bytes) -> Result<Label, EvalErr>
     ensures { Gives (λ l. l) Bad result (label_found (label_of own.now text.now)) }
@@ -36,7 +36,7 @@ fn label_found(alloc: Global, own: &PackageId, text: &Bytes) -> Result<Label, Ev
     }
 }
 
-/// A target of the package by its name, or F75.
+/// Returns the target of the package with this name, or F75.
 fn named(own: &PackageId, name: &Bytes) -> Result<Label, EvalErr>
     ensures { Gives (λ l. l) Bad result (named own.now name.now) }
 {
@@ -56,7 +56,7 @@ fn without_colon(alloc: Global, text: &Bytes) -> Result<Bytes, AllocError>
     }
 }
 
-/// The label that a text stands for in a package.
+/// Returns the label that a text stands for in a package.
 #[tactic(auto, unfolding(crate::specs::LabelTexts::read))]
 fn read(alloc: Global, own: &PackageId, kind: TextKind, text: &Bytes) -> Result<Label, EvalErr>
     ensures { Gives (λ l. l) Bad result (read own.now kind text.now) }
@@ -68,7 +68,7 @@ fn read(alloc: Global, own: &PackageId, kind: TextKind, text: &Bytes) -> Result<
     }
 }
 
-/// The labels that texts stand for.
+/// Returns the labels that texts stand for.
 #[tactic(auto, unfolding(crate::specs::LabelTexts::read_all, crate::specs::Steps::in_turn))]
 fn read_all(
     alloc: Global,
@@ -85,7 +85,7 @@ fn read_all(
     Ok(Items::from_vec(labels))
 }
 
-/// The label that a text stands for: F78 or F75, and F37 where it crosses into another package.
+/// Returns the label that a text stands for: F78 or F75, and F37 if it crosses into another package.
 #[tactic(auto, unfolding(crate::specs::LabelTexts::label))]
 pub fn label(
     alloc: Global,
@@ -99,7 +99,8 @@ pub fn label(
     scope.inside(alloc, label)
 }
 
-/// The labels that texts stand for. Each is read, and then it is seen whether one crosses into another package.
+/// Returns the labels that texts stand for. All are read, and then it is checked whether one crosses into another
+/// package.
 #[tactic(auto, unfolding(crate::specs::LabelTexts::labels))]
 pub fn labels(
     alloc: Global,

@@ -1,12 +1,13 @@
-//! A value, the type of an attribute and a package come in; the typed value that it is there goes out, or why it is none.
+//! A value, the type of an attribute and a package come in; the typed value that it is there goes out, or its fault.
 //!
-//! The promise: [`written_as`] and [`typed`] give exactly what the definitions of their names say (`specs/Written.antt`,
-//! `specs/Values.antt`), out of memory aside; [`value_as`] is the one after the other.
+//! The promise: [`written_as`] and [`typed`] return exactly what the definitions of their names say
+//! (`specs/Written.antt`, `specs/Values.antt`), out of memory aside; [`value_as`] is the one after the other.
 //!
-//! The idea. It is one definition for all that take typed values: the call of a rule (F73 where a value is of another type) and the
-//! default of an attribute (F40), so the reader names that fault. What is *written* is of its type; its labels are texts yet. They are
-//! read in the package of the file that is evaluated, which a default leaves to its host: all of them (F78, F75), and then it is seen
-//! whether one crosses into another package (F37). No text is copied that is longer than 22 bytes.
+//! The idea. There is one definition for all that takes typed values: the call of a rule (F73 for a value of another
+//! type) and the default of an attribute (F40), so the caller names that fault. What is *written* is of its type, and
+//! its labels are still texts. They are read in the package of the file that is evaluated, which a default leaves to
+//! its host: all of them (F78, F75), and then it is checked whether one crosses into another package (F37). Only texts
+//! of up to 22 bytes are copied.
 //!
 //! In reading order:
 //!
@@ -14,7 +15,7 @@
 //! - `scope`: a package among the others, and which labels cross into another one;
 //! - `texts`: strings, and lists of strings, in values;
 //! - `label_texts`: the labels that texts stand for;
-//! - `written`: what a value is as a value of a type, before its labels are read;
+//! - `written`: a value as one of a type, before its labels are read;
 //! - `values`: typed values;
 //! - `laws`: which values an attribute of each type takes.
 #![tactic(auto)]

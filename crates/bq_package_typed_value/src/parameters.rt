@@ -5,7 +5,7 @@ ghost use Rattle.bq_package_typed_value.specs.Parameters.{argument};
 
 use bq_value::Value;
 
-/// The argument of the parameter at this place, where it has one.
+/// Returns the argument of the parameter at this place, if it has one.
 pub fn argument(values: &[Option<Value>], index: usize) -> Option<&Value>
     ensures { option_copied result ≡ argument values.now index }
 {

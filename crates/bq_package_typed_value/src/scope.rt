@@ -33,7 +33,7 @@ fn has_slash(name: &[u8]) -> bool
     name.iter().any(|byte| *byte == b'/')
 }
 
-/// The label of a name in a package. No byte is copied.
+/// Makes the label of a name in a package. No byte is copied.
 pub(crate) fn in_package(own: &PackageId, name: &Bytes) -> Result<Label, AllocError>
     requires { is_path name.now ≡ true }
     ensures { IfOk result (λ l. l ≡ label_in own.now name.now) }
@@ -42,7 +42,7 @@ pub(crate) fn in_package(own: &PackageId, name: &Bytes) -> Result<Label, AllocEr
     Ok(Label::new(own.share()?, name))
 }
 
-/// Whether another package than the label's owns the path that the label names.
+/// Returns whether another package than the label's owns the path that the label names.
 #[tactic(auto, unfolding(crate::specs::Scope::crosses))]
 fn crosses(alloc: Global, packages: &Packages, label: &Label) -> Result<bool, AllocError>
     ensures { IfOk result (λ found. found ≡ crosses packages.now label.now) }
@@ -54,7 +54,7 @@ fn crosses(alloc: Global, packages: &Packages, label: &Label) -> Result<bool, Al
     }
 }
 
-/// Whether another package owns the paths of names without a slash.
+/// Returns whether another package owns the paths of names without a slash.
 fn short_names_cross(
     alloc: Global,
     own: &PackageId,
@@ -85,7 +85,7 @@ impl<'a> Scope<'a> {
         })
     }
 
-    /// Whether the label is of this package, and another package owns the path that it names.
+    /// Returns whether the label is of this package, and another package owns the path that it names.
     #[tactic(auto, unfolding(crate::specs::Scope::own_label_crosses))]
     fn own_label_crosses(&self, alloc: Global, label: &Label) -> Result<bool, AllocError>
         ensures { IfOk result (λ found. found ≡ own_label_crosses self.now.own.now self.now.packages.now label.now) }
@@ -110,7 +110,7 @@ impl<'a> Scope<'a> {
         Ok(false)
     }
 
-    /// The label, or F37 where it is of this package and crosses into another.
+    /// Returns the label, or F37 if it is of this package and crosses into another.
     #[tactic(auto, unfolding(crate::specs::Scope::inside))]
     pub(crate) fn inside(&self, alloc: Global, label: Label) -> Result<Label, EvalErr>
         ensures { Gives (λ l. l) Bad result (inside self.now.own.now self.now.packages.now label) }
@@ -121,7 +121,7 @@ impl<'a> Scope<'a> {
         Ok(label)
     }
 
-    /// The labels, or F37 where one of them is of this package and crosses into another.
+    /// Returns the labels, or F37 if one of them is of this package and crosses into another.
     #[tactic(auto, unfolding(crate::specs::Scope::all_inside))]
     pub(crate) fn all_inside(
         &self,

@@ -11,7 +11,7 @@ use bq_value::{Body, Content, EvalErr, Node, Store, Value};
 use sqlite_items::Items;
 use std::alloc::Global;
 
-/// A string; `why` names the fault of another value.
+/// Returns a string; `why` is the fault of another value.
 #[tactic(auto, unfolding(crate::specs::Texts::text_in))]
 pub fn text_in(value: &Value, why: FaultKind) -> Result<Bytes, EvalErr>
     ensures { Gives (λ text. text) Bad result (text_in why value.now) }
@@ -22,7 +22,7 @@ pub fn text_in(value: &Value, why: FaultKind) -> Result<Bytes, EvalErr>
     }
 }
 
-/// The strings that all of the values are.
+/// Returns the strings that all of the values are.
 #[tactic(auto, unfolding(crate::specs::Texts::all_texts, crate::specs::Steps::in_turn))]
 fn all_texts(alloc: Global, values: &[Value], why: FaultKind) -> Result<Items<Bytes>, EvalErr>
     ensures { Gives (λ texts. texts) Bad result (all_texts why values.now) }
@@ -44,7 +44,7 @@ fn content_texts(alloc: Global, content: &Content, why: FaultKind) -> Result<Ite
     }
 }
 
-/// A list or a tuple of strings; `why` names the fault of another value.
+/// Returns the strings of a list or a tuple; `why` is the fault of another value.
 #[tactic(auto, using(bq_value::specs::Datum::list_of_data_of), unfolding(crate::specs::Texts::texts_in))]
 pub fn texts_in(
     alloc: Global,

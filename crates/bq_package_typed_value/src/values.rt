@@ -1,4 +1,4 @@
-//! The typed value that a value is in a package.
+//! Typed values in a package.
 
 ghost use Rattle.std.specs.Prelude.{◌≡◌};
 ghost use Rattle.bq_base.specs.Gives.{Gives};
@@ -13,7 +13,7 @@ use bq_package_rule_class::{AttributeType, AttributeValue};
 use bq_value::{EvalErr, Store, Value};
 use std::alloc::Global;
 
-/// What is written, with its labels read in a package: F78 or F75, then F37.
+/// Returns what is written, with its labels read in a package: F78 or F75, then F37.
 #[tactic(auto, unfolding(crate::specs::Values::typed))]
 pub fn typed(alloc: Global, scope: Scope<'_>, written: Written) -> Result<AttributeValue, EvalErr>
     ensures { Gives (λ v. v) Bad result (typed scope.entry.own.now scope.entry.packages.now written) }
@@ -39,7 +39,7 @@ pub fn typed(alloc: Global, scope: Scope<'_>, written: Written) -> Result<Attrib
     }
 }
 
-/// The value of an attribute of a type that a call gives: F73, then the faults of its labels.
+/// Returns the value of an attribute of a type that a call gives: F73, then the faults of its labels.
 #[tactic(auto, unfolding(crate::specs::Values::value_as))]
 pub fn value_as(
     alloc: Global,

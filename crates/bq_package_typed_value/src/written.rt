@@ -1,4 +1,4 @@
-//! What a value is as a value of a type, before its labels are read.
+//! A value as one of a type, before its labels are read.
 
 ghost use Rattle.std.specs.Prelude.{◌≡◌};
 ghost use Rattle.bq_base.specs.Gives.{Gives};
@@ -25,7 +25,7 @@ pub enum Written {
     OutputList(Items<Bytes>),
 }
 
-/// An integer.
+/// Returns an integer.
 fn int_in(value: &Value, why: FaultKind) -> Result<i64, FaultKind>
     ensures { result ≡ int_in why value.now }
 {
@@ -35,7 +35,7 @@ fn int_in(value: &Value, why: FaultKind) -> Result<i64, FaultKind>
     }
 }
 
-/// `True` or `False`, which may be written 1 and 0.
+/// Returns `True` or `False`, which may be written 1 and 0.
 fn bool_in(value: &Value, why: FaultKind) -> Result<bool, FaultKind>
     ensures { result ≡ bool_in why value.now }
 {
@@ -47,7 +47,7 @@ fn bool_in(value: &Value, why: FaultKind) -> Result<bool, FaultKind>
     }
 }
 
-/// A value of a type; `why` names the fault of a value of another type.
+/// Returns a value of a type; `why` is the fault of a value of another type.
 #[tactic(auto, unfolding(crate::specs::Written::written_as))]
 pub fn written_as(
     alloc: Global,

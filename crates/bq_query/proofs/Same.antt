@@ -21,7 +21,7 @@ Within P Q = (y : ℕ) → P y → Q y
 pub set_as : (P Q : ℕ → Type 0) (n : ℕ) (ms : List Bool) → Within P Q → Within Q P → IsSet n ms P → IsSet n ms Q
 set_as P Q n ms f g s = (s.0, λ y. (λ h. f y ((s.1 y).0 h), λ q. (s.1 y).1 (g y q)))
 
--- what is marked is of the set, and the other way round
+-- what is marked is of the set, and the other way around
 pub to_set : (P : ℕ → Type 0) (n : ℕ) (ms : List Bool) → IsSet n ms P → Within (Marked ms) P
 to_set P n ms s y h = (s.1 y).0 h
 

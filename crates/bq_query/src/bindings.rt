@@ -12,7 +12,7 @@ pub fn bind(bound: &mut Items<Items<bool>>, set: Vec<bool>) -> Result<(), AllocE
     bound.push(Items::from_vec(set))
 }
 
-/// The set of this number.
+/// Returns the set of this number.
 pub fn set_bound(
     alloc: Global,
     bound: &[Items<bool>],

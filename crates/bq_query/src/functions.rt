@@ -1,4 +1,4 @@
-//! What functions and operators make of sets.
+//! Functions and operators on sets.
 
 ghost use Rattle.std.specs.Prelude.{◌≡◌, length, IfOk};
 ghost use Rattle.bq_query_graph.specs.Marks.{IsSet, Marked};
@@ -18,7 +18,7 @@ use bq_query_target_sets::labels::labels;
 use bq_query_tree::SetOperator;
 use std::alloc::{AllocError, Global};
 
-/// What a function makes of a set. Not inlined, so that only this call has the frame that a search takes.
+/// Applies a function to a set. Not inlined, so that only this call has the frame that a search takes.
 #[inline(never)]
 pub fn of_one(
     alloc: Global,
@@ -41,7 +41,7 @@ pub fn of_one(
     }
 }
 
-/// What a function makes of two sets.
+/// Applies a function to two sets.
 pub fn of_two(
     alloc: Global,
     graph: &TargetGraph,
@@ -61,7 +61,7 @@ pub fn of_two(
     }
 }
 
-/// What an operator makes of two sets.
+/// Applies an operator to two sets.
 pub fn combined(
     alloc: Global,
     graph: &TargetGraph,

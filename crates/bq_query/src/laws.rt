@@ -16,7 +16,8 @@ pub fn operators_are_of_sets()
     ensures { (w : GraphParts) (a b : Formula) (bound : Bound) (y : ℕ) → AreOfSets w a b bound y }
 {}
 
-/// `deps(x)` holds `x`; `rdeps(u, x)` and `allpaths(u, x)` lie within `deps(u)`; with a number of edges there are no more.
+/// `deps(x)` has `x`; `rdeps(u, x)` and `allpaths(u, x)` are within `deps(u)`; with a number of edges there are no
+/// more.
 pub fn dependents_lie_within_dependencies()
     ensures { (w : GraphParts) (a b : Formula) (n : ℕ) (bound : Bound) (y : ℕ) → LieWithin w a b n bound y }
 {}

@@ -1,13 +1,15 @@
-//! A query that was checked, and the targets of a workspace, come in; the targets that the query stands for go out, and their text.
+//! A checked query and the targets of a workspace come in; the targets that the query stands for go out, and their
+//! text.
 //!
-//! The promise: [`answer`] gives exactly the targets of the set that the definition of queries says (`specs/Stands.antt`), in the order
-//! of their labels, or the first fault of the words in the order of the text: Q5 or Q6 (`specs/Faults.antt`).
+//! The promise: [`answer`] returns exactly the targets of the set that the definition of queries says
+//! (`specs/Stands.antt`), in the order of their labels, or the first fault of the words in the order of the text: Q5 or
+//! Q6 (`specs/Faults.antt`).
 //!
 //! In reading order:
 //!
 //! - `bindings`: the sets that lets bind;
 //! - `named`: the sets of words;
-//! - `functions`: what functions and operators make of sets;
+//! - `functions`: functions and operators on sets;
 //! - `sets`: the sets of queries;
 //! - `whole`: whole queries;
 //! - `print`: the text of an answer;

@@ -11,7 +11,7 @@ use bq_query_target_sets::missing::missing;
 use bq_query_target_sets::words;
 use std::alloc::Global;
 
-/// Q5 or Q6 for the first word that names what is not there.
+/// Fails with Q5 or Q6 for the first word that names what isn't there.
 fn are_there(alloc: Global, graph: &TargetGraph, texts: &[Bytes]) -> Result<(), QueryErr>
     ensures { Meets (first_missing graph.now texts.now) result }
 {
@@ -27,7 +27,7 @@ fn are_there(alloc: Global, graph: &TargetGraph, texts: &[Bytes]) -> Result<(), 
     Ok(())
 }
 
-/// The targets that words name.
+/// Returns the targets that words name.
 pub fn named(alloc: Global, graph: &TargetGraph, texts: &[Bytes]) -> Result<Vec<bool>, QueryErr>
     ensures { (bound : Bound) → Answers (λ v. v.items) graph.now (formula.named texts.now) bound bound result bound }
 {

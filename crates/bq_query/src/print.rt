@@ -1,4 +1,4 @@
-//! The text of an answer: a target a line.
+//! The text of an answer: each target on a line.
 
 ghost use Rattle.std.specs.Prelude.{◌≡◌, ◌++◌, ◌<◌, length, IfOk, OnOk};
 ghost use Rattle.std.specs.List.{All, flat_map};
@@ -8,7 +8,7 @@ use bq_package_target::Target;
 use bq_query_target_sets::{write_kind, write_label};
 use std::alloc::{AllocError, Global};
 
-/// What is printed of a target.
+/// What is printed for a target.
 #[derive(Clone, Copy)]
 pub enum OutputForm {
     /// Its label in full.
@@ -17,7 +17,7 @@ pub enum OutputForm {
     LabelKind,
 }
 
-/// The line of a target.
+/// Writes the line of a target.
 fn write_line(form: OutputForm, target: &Target, text: &mut Vec<u8>) -> Result<(), AllocError>
     ensures { OnOk result (text.new.items ≡ text.old.items ++ line_of form target.now) }
 {
@@ -32,7 +32,7 @@ fn write_line(form: OutputForm, target: &Target, text: &mut Vec<u8>) -> Result<(
     text.extend_from_slice(b"\n")
 }
 
-/// The lines of an answer.
+/// Returns the lines of an answer.
 pub fn print_answer(
     alloc: Global,
     form: OutputForm,

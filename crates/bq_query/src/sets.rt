@@ -16,7 +16,7 @@ use bq_query_target_graph::TargetGraph;
 use sqlite_items::Items;
 use std::alloc::Global;
 
-/// A function of one set.
+/// Returns the set of a function of one set.
 #[cycle(sets)]
 fn one_of(
     alloc: Global,
@@ -32,7 +32,7 @@ fn one_of(
     Ok(of_one(alloc, graph, function, &x)?)
 }
 
-/// `let name = .. in body`, where the value has this set.
+/// Returns the set of `let name = .. in body`, where the value has this set.
 #[cycle(sets)]
 fn let_of(
     alloc: Global,
@@ -50,7 +50,7 @@ fn let_of(
     Ok(found)
 }
 
-/// What is done from left to right to a query that has this set.
+/// Applies the operations of a chain from left to right to a query that has this set.
 #[cycle(sets)]
 fn chain_of(
     alloc: Global,
@@ -72,7 +72,7 @@ fn chain_of(
     Ok(set)
 }
 
-/// The set of a query, where the lets around it bind these sets.
+/// Returns the set of a query, where the lets around it bind these sets.
 #[cycle(sets)]
 pub fn set_of(
     alloc: Global,

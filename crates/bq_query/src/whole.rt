@@ -16,7 +16,7 @@ use bq_query_target_graph::TargetGraph;
 use sqlite_items::Items;
 use std::alloc::Global;
 
-/// The targets that the query stands for, by number, in the order of their labels.
+/// Returns the targets that the query stands for, by number, in the order of their labels.
 pub fn answer(
     alloc: Global,
     graph: &TargetGraph,

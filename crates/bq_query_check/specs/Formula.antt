@@ -51,7 +51,7 @@ formula_of = fold-SetExpr Formula Step query_step step_step
 abbrev pub step_of : ChainStep → Step
 step_of = fold-ChainStep Formula Step query_step step_step
 
--- each variable is bound, where so many lets are around
+-- each variable is bound, where a number of lets are around
 abbrev pub IsClosed : ℕ → Formula → Type 0
 IsClosed n (named words) = Unit {0}
 IsClosed n (variable k) = k < n

@@ -14,7 +14,7 @@ use bq_query_tree::Query;
 use bq_query_verdict::{is_number, no_word};
 use std::alloc::Global;
 
-/// A regular expression: Q4 where it is refused.
+/// Reads a regular expression: Q4 if it is refused.
 pub fn pattern(alloc: Global, names: &[Bytes], query: &Query) -> Result<QueryPattern, QueryErr>
     ensures { Reads (argument (Some kind.Pattern) (part_of query.now) names.now) (IsPattern query.now) result }
 {
@@ -24,7 +24,7 @@ pub fn pattern(alloc: Global, names: &[Bytes], query: &Query) -> Result<QueryPat
     }
 }
 
-/// The name of an attribute.
+/// Reads the name of an attribute.
 pub fn attribute(alloc: Global, names: &[Bytes], query: &Query) -> Result<Bytes, QueryErr>
     ensures { Reads (argument (Some kind.Attribute) (part_of query.now) names.now) (IsName query.now) result }
 {
@@ -34,7 +34,7 @@ pub fn attribute(alloc: Global, names: &[Bytes], query: &Query) -> Result<Bytes,
     }
 }
 
-/// A number of edges: Q8 where it is not 1 to 9 digits.
+/// Reads a number of edges: Q8 if it isn't 1 to 9 digits.
 pub fn limit(alloc: Global, names: &[Bytes], query: &Query) -> Result<usize, QueryErr>
     ensures { Reads (argument None (part_of query.now) names.now) (IsNumber query.now) result }
 {

@@ -1,4 +1,4 @@
-//! Queries that were checked.
+//! Checked queries.
 
 ghost use Rattle.bq_query_check.specs.Formula.{formula_of, IsClosed, IsClosed-prop};
 

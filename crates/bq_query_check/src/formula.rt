@@ -1,4 +1,4 @@
-//! What a query that was checked says, with its variables and functions known, its numbers read and its patterns compiled.
+//! What a checked query says, with its variables and functions known, its numbers read and its patterns compiled.
 
 use crate::pattern::QueryPattern;
 use bq_base::Bytes;
@@ -33,13 +33,14 @@ pub enum Binary {
     Allpaths,
 }
 
-/// A set of targets, made of sets. Chains stand in lists, so that it is no deeper than the tree of its query. Contracts see the formula of it.
+/// A set of targets, made of sets. Chains are lists, so that it is no deeper than the tree of its query. Contracts see
+/// its formula.
 #[cycle(query)]
 #[derive(Drop)]
 pub enum SetExpr {
     /// The targets that words name: a word alone, or those of `set(word ..)`.
     Named(Items<Bytes>),
-    /// `$name`: what the let with this number binds, of those around it, the outermost of which is 0.
+    /// `$name`: what the let with this number binds, of those around it, of which the outermost is 0.
     Variable(usize),
     /// `let name = value in body`
     Let(Boxed<SetExpr>, Boxed<SetExpr>),

@@ -1,15 +1,15 @@
 //! The bytes of a query come in; a query that can be answered goes out, or its error, with no target known yet.
 //!
-//! The promise: [`parse_query`] answers what the one tree of the text says, with its variables and functions known, its numbers read and
-//! its patterns compiled (`specs/FormulaOf.antt`), or the error that comes first: Q1 where the text has no tree, else the first in the order of the
-//! text of Q2, Q3, Q4, Q7 and Q8 (`specs/Checked.antt`). Which patterns are refused says the grammar of `regex`; whether one that the
-//! grammar reads is too big says `regex` alone.
+//! The promise: [`parse_query`] returns what the one tree of the text says, with its variables and functions known, its
+//! numbers read and its patterns compiled (`specs/FormulaOf.antt`), or the error that comes first: Q1 if the text has
+//! no tree, else the first in the order of the text of Q2, Q3, Q4, Q7 and Q8 (`specs/Checked.antt`). Which patterns are
+//! refused says the grammar of `regex`; whether one that the grammar reads is too big, `regex` alone decides.
 //!
 //! In reading order:
 //!
 //! - `pattern`: a pattern of a query, compiled;
-//! - `formula`: what a query that was checked says;
-//! - `checked`: queries that were checked;
+//! - `formula`: what a checked query says;
+//! - `checked`: checked queries;
 //! - `number`: numbers of edges;
 //! - `arguments`: arguments that are one word;
 //! - `names`: the names that lets bind;

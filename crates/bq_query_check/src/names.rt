@@ -8,7 +8,7 @@ use bq_base::Bytes;
 use sqlite_items::Items;
 use std::alloc::{AllocError, Global};
 
-/// The texts, which are shared.
+/// Shares the texts.
 pub fn shared(alloc: Global, texts: &[Bytes]) -> Result<Items<Bytes>, AllocError>
     ensures { IfOk result (λ v. v ≡ texts.now) }
 {
@@ -19,7 +19,7 @@ pub fn shared(alloc: Global, texts: &[Bytes]) -> Result<Items<Bytes>, AllocError
     Ok(all)
 }
 
-/// The names and one more.
+/// Returns the names and one more.
 pub fn with_name(alloc: Global, names: &[Bytes], last: &Bytes) -> Result<Items<Bytes>, AllocError>
     ensures { IfOk result (λ v. v ≡ names.now ++ last.now ∷ []) }
 {
@@ -28,7 +28,7 @@ pub fn with_name(alloc: Global, names: &[Bytes], last: &Bytes) -> Result<Items<B
     Ok(more)
 }
 
-/// The number of the innermost let that binds the name, where there is one.
+/// Returns the number of the innermost let that binds the name, if there is one.
 pub fn innermost(names: &[Bytes], name: &[u8]) -> Option<usize>
     ensures { MatchOption result (list_any (bytes_eq name.now) names.now ≡ false) (λ at. IsInnermost names.now name.now at) }
 {

@@ -6,7 +6,7 @@ ghost use Rattle.bq_query_check.specs.FormulaOf.{number};
 /// More than any number of targets.
 const MAX_NUMBER: usize = 0x1_0000_0000;
 
-/// The number that digits write, as far as the most that is told apart.
+/// Returns the number that digits write, up to the most that is distinguished.
 #[tactic(auto, unfolding(crate::specs::FormulaOf::number))]
 pub fn number(word: &[u8]) -> usize
     ensures { result ≡ number word.now }

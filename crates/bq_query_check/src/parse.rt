@@ -9,7 +9,7 @@ use bq_query_parse::parse_tree;
 use bq_query_tree::QuerySyntaxErr;
 use std::alloc::Global;
 
-/// The query of the text. It takes time linear in the text, and what compiling its patterns takes.
+/// Reads and checks the query of the text. It takes time linear in the text, beside what compiling its patterns takes.
 pub fn parse_query(alloc: Global, text: &[u8]) -> Result<CheckedQuery, QueryErr>
     ensures { Checks text.now result }
 {

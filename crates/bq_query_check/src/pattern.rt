@@ -37,7 +37,8 @@ impl Model for QueryPattern {
 }
 
 impl QueryPattern {
-    /// The pattern of this text: Q4 where it is refused. Not inlined, so that only this call has the frame that compiling takes.
+    /// Compiles the pattern of this text: Q4 if it is refused. Not inlined, so that only this call has the frame that
+    /// compiling takes.
     #[inline(never)]
     pub fn read(alloc: Global, text: &[u8]) -> Result<QueryPattern, QueryErr>
         ensures read { IfOk result (λ p. IsPatternOf text.now p) }
@@ -52,7 +53,7 @@ impl QueryPattern {
         }
     }
 
-    /// What is searched with.
+    /// Returns what is searched with.
     pub fn regex(&self) -> &Regex
         ensures { regex_pattern result.now ≡ self.now }
     {

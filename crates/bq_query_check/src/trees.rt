@@ -1,4 +1,4 @@
-//! Trees: what must hold of them is tested in the order of the text, and what they say is made on the way.
+//! Trees: they are checked in the order of the text, and what they say is made on the way.
 
 ghost use Rattle.std.specs.Prelude.{◌≡◌, ◌++◌, [], ◌∷◌, map, IfOk};
 ghost use Rattle.bq_query_lex.specs.Functions.{function_named};
@@ -21,7 +21,7 @@ use sqlite_items::{Boxed, Items};
 use std::alloc::{AllocError, Global};
 use std::slice::from_ref;
 
-/// Words as target patterns.
+/// Checks words as target patterns.
 fn named(alloc: Global, texts: &[Bytes]) -> Result<SetExpr, QueryErr>
     ensures { Reads (no_fault (spec.words texts.now) ∷ []) (λ r. formula_of r ≡ formula.named texts.now) result }
 {
@@ -29,7 +29,7 @@ fn named(alloc: Global, texts: &[Bytes]) -> Result<SetExpr, QueryErr>
     Ok(SetExpr::Named(shared(alloc, texts)?))
 }
 
-/// `$name`: Q7 where no let around it binds the name.
+/// Reads `$name`: Q7 if no let around it binds the name.
 fn bound(names: &[Bytes], name: &Bytes) -> Result<SetExpr, QueryErr>
     ensures { Reads (no_fault (variable names.now name.now) ∷ []) (λ r. IsBound names.now name.now (formula_of r)) result }
 {
@@ -39,28 +39,28 @@ fn bound(names: &[Bytes], name: &Bytes) -> Result<SetExpr, QueryErr>
     }
 }
 
-/// A function of two sets.
+/// Makes a function of two sets.
 fn two(alloc: Global, function: Binary, x: SetExpr, y: SetExpr) -> Result<SetExpr, AllocError>
     ensures { IfOk result (λ r. formula_of r ≡ formula.two function (formula_of x) (formula_of y)) }
 {
     Ok(SetExpr::Two(function, Boxed::new(alloc, x)?, Boxed::new(alloc, y)?))
 }
 
-/// `let name = value in body`
+/// Makes `let name = value in body`.
 fn let_in(alloc: Global, value: SetExpr, body: SetExpr) -> Result<SetExpr, AllocError>
     ensures { IfOk result (λ r. formula_of r ≡ formula.let_in (formula_of value) (formula_of body)) }
 {
     Ok(SetExpr::Let(Boxed::new(alloc, value)?, Boxed::new(alloc, body)?))
 }
 
-/// A query and the operations on it.
+/// Makes a query with the operations on it.
 fn chain(alloc: Global, first: SetExpr, steps: Items<ChainStep>) -> Result<SetExpr, AllocError>
     ensures { IfOk result (λ r. formula_of r ≡ formula.chained (formula_of first) (map step_of steps)) }
 {
     Ok(SetExpr::Chain(Boxed::new(alloc, first)?, steps))
 }
 
-/// A function of one set.
+/// Makes a function of one set, which is read here.
 #[cycle(query)]
 fn one(alloc: Global, names: &[Bytes], function: Unary, query: &Query) -> Result<SetExpr, QueryErr>
     ensures { Reads ((part_of query.now).all names.now) (λ r. IsOne function names.now query.now (formula_of r)) result }
@@ -69,7 +69,7 @@ fn one(alloc: Global, names: &[Bytes], function: Unary, query: &Query) -> Result
     Ok(SetExpr::One(function, Boxed::new(alloc, x)?))
 }
 
-/// `deps(x)`, `deps(x, n)`
+/// Reads `deps(x)` and `deps(x, n)`.
 #[cycle(query)]
 fn deps(alloc: Global, names: &[Bytes], arguments: &[Query]) -> Result<SetExpr, QueryErr>
     ensures { Reads (call_of f.Deps (map part_of arguments.now) names.now) (λ r. IsCallOf f.Deps names.now arguments.now (formula_of r)) result }
@@ -85,7 +85,7 @@ fn deps(alloc: Global, names: &[Bytes], arguments: &[Query]) -> Result<SetExpr, 
     }
 }
 
-/// `rdeps(u, x)`, `rdeps(u, x, n)`
+/// Reads `rdeps(u, x)` and `rdeps(u, x, n)`.
 #[cycle(query)]
 fn rdeps(alloc: Global, names: &[Bytes], arguments: &[Query]) -> Result<SetExpr, QueryErr>
     ensures { Reads (call_of f.Rdeps (map part_of arguments.now) names.now) (λ r. IsCallOf f.Rdeps names.now arguments.now (formula_of r)) result }
@@ -106,7 +106,7 @@ fn rdeps(alloc: Global, names: &[Bytes], arguments: &[Query]) -> Result<SetExpr,
     }
 }
 
-/// `allpaths(x, y)`
+/// Reads `allpaths(x, y)`.
 #[cycle(query)]
 fn allpaths(alloc: Global, names: &[Bytes], arguments: &[Query]) -> Result<SetExpr, QueryErr>
     ensures { Reads (call_of f.Allpaths (map part_of arguments.now) names.now) (λ r. IsCallOf f.Allpaths names.now arguments.now (formula_of r)) result }
@@ -121,7 +121,7 @@ fn allpaths(alloc: Global, names: &[Bytes], arguments: &[Query]) -> Result<SetEx
     }
 }
 
-/// `kind(pattern, x)`
+/// Reads `kind(pattern, x)`.
 #[cycle(query)]
 fn kind(alloc: Global, names: &[Bytes], arguments: &[Query]) -> Result<SetExpr, QueryErr>
     ensures { Reads (call_of f.Kind (map part_of arguments.now) names.now) (λ r. IsCallOf f.Kind names.now arguments.now (formula_of r)) result }
@@ -135,7 +135,7 @@ fn kind(alloc: Global, names: &[Bytes], arguments: &[Query]) -> Result<SetExpr, 
     }
 }
 
-/// `filter(pattern, x)`
+/// Reads `filter(pattern, x)`.
 #[cycle(query)]
 fn filter(alloc: Global, names: &[Bytes], arguments: &[Query]) -> Result<SetExpr, QueryErr>
     ensures { Reads (call_of f.Filter (map part_of arguments.now) names.now) (λ r. IsCallOf f.Filter names.now arguments.now (formula_of r)) result }
@@ -149,7 +149,7 @@ fn filter(alloc: Global, names: &[Bytes], arguments: &[Query]) -> Result<SetExpr
     }
 }
 
-/// `labels(name, x)`
+/// Reads `labels(name, x)`.
 #[cycle(query)]
 fn labels(alloc: Global, names: &[Bytes], arguments: &[Query]) -> Result<SetExpr, QueryErr>
     ensures { Reads (call_of f.Labels (map part_of arguments.now) names.now) (λ r. IsCallOf f.Labels names.now arguments.now (formula_of r)) result }
@@ -163,7 +163,7 @@ fn labels(alloc: Global, names: &[Bytes], arguments: &[Query]) -> Result<SetExpr
     }
 }
 
-/// `attr(name, pattern, x)`
+/// Reads `attr(name, pattern, x)`.
 #[cycle(query)]
 fn attr(alloc: Global, names: &[Bytes], arguments: &[Query]) -> Result<SetExpr, QueryErr>
     ensures { Reads (call_of f.Attr (map part_of arguments.now) names.now) (λ r. IsCallOf f.Attr names.now arguments.now (formula_of r)) result }
@@ -178,8 +178,8 @@ fn attr(alloc: Global, names: &[Bytes], arguments: &[Query]) -> Result<SetExpr, 
     }
 }
 
-/// A function by its name, with its arguments: Q2 or Q3 where there is none that can be answered, Q8 where the number of arguments is
-/// another.
+/// Reads a function by its name, with its arguments: Q2 or Q3 if there is none that can be answered, Q8 if it takes
+/// another number of arguments.
 #[cycle(query)]
 fn call(
     alloc: Global,
@@ -201,7 +201,7 @@ fn call(
     }
 }
 
-/// The further operands of a chain.
+/// Reads the further operands of a chain.
 #[cycle(query)]
 fn steps(
     alloc: Global,
@@ -221,7 +221,7 @@ fn steps(
     Ok(steps)
 }
 
-/// The body of a let that binds the name.
+/// Reads the body of a let that binds the name.
 #[cycle(query)]
 fn body(alloc: Global, names: &[Bytes], name: &Bytes, query: &Query) -> Result<SetExpr, QueryErr>
     ensures { Reads ((part_of query.now).all (names.now ++ name.now ∷ [])) (λ r. IsFormulaOf (names.now ++ name.now ∷ []) query.now (formula_of r)) result }
@@ -230,7 +230,7 @@ fn body(alloc: Global, names: &[Bytes], name: &Bytes, query: &Query) -> Result<S
     read(alloc, names.as_slice(), query)
 }
 
-/// A tree where the lets around it bind these names.
+/// Reads a tree, where the lets around it bind these names.
 #[cycle(query)]
 fn read(alloc: Global, names: &[Bytes], query: &Query) -> Result<SetExpr, QueryErr>
     ensures { Reads ((part_of query.now).all names.now) (λ r. IsFormulaOf names.now query.now (formula_of r)) result }
@@ -254,7 +254,7 @@ fn read(alloc: Global, names: &[Bytes], query: &Query) -> Result<SetExpr, QueryE
     }
 }
 
-/// What a whole tree says, or its first fault in the order of the text.
+/// Returns what a whole tree says, or its first fault in the order of the text.
 pub fn check(alloc: Global, query: &Query) -> Result<SetExpr, QueryErr>
     ensures { Reads (spec.needs query.now) (λ r. IsFormulaOf [] query.now (formula_of r)) result }
 {

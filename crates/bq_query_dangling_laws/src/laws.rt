@@ -7,8 +7,8 @@ ghost use Rattle.bq_package_target.specs.Package.{PackageTargets};
 ghost use Rattle.bq_query_target_graph.specs.Dangling.{all_dangling};
 ghost use Rattle.bq_query_dangling_laws.specs.Lines.{IsToldAt};
 
-/// The line of a label that names no target (F79) stands at the BUILD file of the package whose target writes it, in the line of the
-/// call that declares the target.
+/// The line of a label that names no target (F79) names the BUILD file of the package whose target has it, and the line
+/// of the call that declares the target.
 pub fn dangling_labels_are_told_where_they_are_written()
     ensures { (ps : List PackageTargets) (x : FaultLine) → Contains (all_dangling ps) x → IsToldAt ps x }
 {}

@@ -7,7 +7,7 @@ use Rattle.std.proofs.lemmas.Bool.{false≢true}
 use Rattle.bq_query_graph.specs.Marks.{Marked, Held, Grew}
 use Rattle.bq_query_graph.proofs.Grows.{grew_none, grew_skip, grew_mark}
 
--- y stands in the row before i, and is allowed
+-- y is in the row before i, and is allowed
 abbrev pub Before : List ℕ → List Bool → ℕ → ℕ → Type 0
 Before row allowed i y = Contains (take i row) y × Marked allowed y
 

@@ -30,7 +30,7 @@ pub path_map : (E F : ℕ → ℕ → Type 0) → ((a b : ℕ) → E a b → F a
 path_map E F f x [] y p = p
 path_map E F f x (u ∷ us) y p = (f x u p.0, path_map E F f u us y p.1)
 
--- an edge turned round, into a target in D
+-- an edge turned around, into a target in D
 abbrev pub Back : (ℕ → ℕ → Type 0) → (ℕ → Type 0) → ℕ → ℕ → Type 0
 Back E D a b = E b a × D b
 

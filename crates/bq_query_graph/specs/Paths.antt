@@ -66,7 +66,7 @@ pub record OnPaths (g : List (List ℕ)) (A B : ℕ → Type 0) (y : ℕ) : Type
 abbrev pub AreBelow : List (List ℕ) → Type 0
 AreBelow g = (a b : ℕ) → Pair g a b → b < length g
 
--- h has the pairs of g, turned round
+-- h has the pairs of g, turned around
 pub record AreTurned (g h : List (List ℕ)) : Type 0 where
   pub long : length h ≡ length g
   pub to : (a b : ℕ) → Pair g a b → Pair h b a

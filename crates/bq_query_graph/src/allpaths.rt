@@ -7,7 +7,8 @@ use crate::graph::DependencyGraph;
 use crate::rdeps::rdeps;
 use std::alloc::{AllocError, Global};
 
-/// `allpaths(a, b)`: the targets on the paths from `a` to `b`. They are those that depend on `b` within what `a` depends on.
+/// Returns `allpaths(a, b)`: the targets on the paths from `a` to `b`. They are those that depend on `b` within what
+/// `a` depends on.
 pub fn allpaths(
     alloc: Global,
     graph: &DependencyGraph,

@@ -1,4 +1,4 @@
-//! `deps(x)`, `deps(x, n)`: what the targets of `x` depend on, themselves among it.
+//! `deps(x)`, `deps(x, n)`: what the targets of `x` depend on, with these targets.
 ghost use Rattle.std.specs.Prelude.{◌≡◌, true, length, replicate, IfOk};
 ghost use Rattle.bq_query_graph.specs.Paths.{Deps, DepsWithin};
 ghost use Rattle.bq_query_graph.specs.Marks.{IsSet, Marked};
@@ -7,7 +7,7 @@ use crate::graph::DependencyGraph;
 use crate::search::{closure, within};
 use std::alloc::{AllocError, Global};
 
-/// `deps(x)`: the ends of the paths that start in `x`.
+/// Returns `deps(x)`: the ends of the paths that start in `x`.
 pub fn deps(alloc: Global, graph: &DependencyGraph, x: &[bool]) -> Result<Vec<bool>, AllocError>
     requires { length x.now ≡ length graph.now }
     ensures { IfOk result (λ r. IsSet (length graph.now) r.items (Deps graph.now (Marked x.now))) }
@@ -16,7 +16,7 @@ pub fn deps(alloc: Global, graph: &DependencyGraph, x: &[bool]) -> Result<Vec<bo
     closure(alloc, graph.forward(), x, &all)
 }
 
-/// `deps(x, n)`: the ends of the paths of at most `limit` edges that start in `x`.
+/// Returns `deps(x, n)`: the ends of the paths of at most `limit` edges that start in `x`.
 pub fn deps_within(
     alloc: Global,
     graph: &DependencyGraph,
@@ -30,7 +30,7 @@ pub fn deps_within(
     within(alloc, graph.forward(), x, &all, limit)
 }
 
-// The set of so many targets, all of them.
+/// Returns the set of all `n` targets.
 fn all(alloc: Global, n: usize) -> Result<Vec<bool>, AllocError>
     ensures { IfOk result (λ r. r.items ≡ replicate n true) }
 {

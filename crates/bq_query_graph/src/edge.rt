@@ -17,7 +17,7 @@ pub enum Direction {
 }
 
 impl Direction {
-    /// The target that the edge leaves.
+    /// Returns the target that the edge leaves.
     pub fn source(self, edge: Edge) -> usize
         ensures { result ≡ source self edge }
     {
@@ -27,7 +27,7 @@ impl Direction {
         }
     }
 
-    /// The target that the edge leads to.
+    /// Returns the target that the edge leads to.
     pub fn head(self, edge: Edge) -> usize
         ensures { result ≡ head self edge }
     {

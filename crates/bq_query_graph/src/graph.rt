@@ -25,7 +25,7 @@ impl Model for DependencyGraph {
 }
 
 impl DependencyGraph {
-    /// The graph of so many targets with the edges.
+    /// Makes the graph of `count` targets with the edges.
     pub fn new(alloc: Global, count: usize, edges: &[Edge]) -> Result<DependencyGraph, AllocError>
         requires { AreBetween count edges.now }
         ensures { IfOk result (λ g. HasPairsOf count edges.now g) }
@@ -35,7 +35,7 @@ impl DependencyGraph {
         Ok(DependencyGraph { forward, back })
     }
 
-    /// The number of targets.
+    /// Returns the number of targets.
     pub fn len(&self) -> usize
         ensures count { result ≡ length self.now }
         ensures below { AreBelow self.now }
@@ -43,14 +43,14 @@ impl DependencyGraph {
         self.forward.len()
     }
 
-    /// For each target those that its edges lead to.
+    /// Returns for each target those that its edges lead to.
     pub(crate) fn forward(&self) -> &Rows
         ensures { result.now ≡ self.now }
     {
         &self.forward
     }
 
-    /// For each target those whose edges lead to it.
+    /// Returns for each target those whose edges lead to it.
     pub(crate) fn back(&self) -> &Rows
         ensures { AreTurned self.now result.now }
     {

@@ -1,4 +1,4 @@
-//! What the definitions of the operators say together, in the words of sets.
+//! What the definitions of the operators say together, in terms of sets.
 ghost use Rattle.std.specs.Prelude.{ℕ, List, Bool};
 ghost use Rattle.bq_query_graph.specs.Laws.{DepsIsLeast, DepsGrows, RdepsIsMeet, PathsAreMeet};
 

@@ -8,8 +8,8 @@ use crate::graph::DependencyGraph;
 use crate::search::{closure, within};
 use std::alloc::{AllocError, Global};
 
-/// `rdeps(u, x)`: the starts of the paths that end in `x`, all of whose targets are in `deps(u)`. The targets of `x` that are not in `deps(u)` are
-/// left out.
+/// Returns `rdeps(u, x)`: the starts of the paths that end in `x`, all of whose targets are in `deps(u)`. The targets
+/// of `x` that aren't in `deps(u)` are left out.
 pub fn rdeps(
     alloc: Global,
     graph: &DependencyGraph,
@@ -24,7 +24,7 @@ pub fn rdeps(
     closure(alloc, graph.back(), x, &inside)
 }
 
-/// `rdeps(u, x, n)`: the same by paths of at most `limit` edges.
+/// Returns `rdeps(u, x, n)`: the starts of such paths of at most `limit` edges.
 pub fn rdeps_within(
     alloc: Global,
     graph: &DependencyGraph,

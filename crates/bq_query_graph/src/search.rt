@@ -8,7 +8,7 @@ use crate::rows::Rows;
 use crate::sets::{intersection, members};
 use std::alloc::{AllocError, Global};
 
-// Marks and lists the targets of the row of `x` that are allowed and not yet marked.
+/// Marks and lists the targets of the row of `x` that are allowed and not yet marked.
 fn visit(
     graph: &Rows,
     allowed: &[bool],
@@ -37,7 +37,7 @@ fn visit(
     Ok(())
 }
 
-// Does so for every target listed at `from` or later. The result is how many were listed before.
+/// Visits every target listed at `from` or later. Returns how many were listed before.
 fn level(
     graph: &Rows,
     allowed: &[bool],
@@ -60,8 +60,8 @@ fn level(
     Ok(end)
 }
 
-/// The ends of the paths of at most `limit` edges that start in the seeds and stay among the allowed targets. Breadth first, so that a target is met
-/// by a shortest path.
+/// Returns the ends of the paths of at most `limit` edges that start in the seeds and stay among the allowed targets.
+/// Breadth first, so that a target is met by a shortest path.
 pub fn within(
     alloc: Global,
     graph: &Rows,
@@ -85,7 +85,7 @@ pub fn within(
     Ok(marks)
 }
 
-/// The ends of the paths that start in the seeds and stay among the allowed targets.
+/// Returns the ends of the paths that start in the seeds and stay among the allowed targets.
 pub fn closure(
     alloc: Global,
     graph: &Rows,

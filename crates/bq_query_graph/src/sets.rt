@@ -5,7 +5,7 @@ ghost use Rattle.bq_query_graph.specs.Marks.{IsSet, Marked, Held, Both};
 
 use std::alloc::{AllocError, Global};
 
-/// `x intersect y`: the targets in both sets.
+/// Returns `x intersect y`: the targets in both sets.
 pub fn intersection(alloc: Global, xs: &[bool], ys: &[bool]) -> Result<Vec<bool>, AllocError>
     requires { length xs.now ≡ length ys.now }
     ensures { IfOk result (λ r. IsSet (length xs.now) r.items (Both xs.now ys.now)) }
@@ -17,7 +17,7 @@ pub fn intersection(alloc: Global, xs: &[bool], ys: &[bool]) -> Result<Vec<bool>
     Ok(r)
 }
 
-/// `x union y`: the targets in either set.
+/// Returns `x union y`: the targets in either set.
 pub fn union(alloc: Global, xs: &[bool], ys: &[bool]) -> Result<Vec<bool>, AllocError>
     requires { length xs.now ≡ length ys.now }
     ensures { IfOk result (λ r. IsSet (length xs.now) r.items (λ y. Marked xs.now y ⊎ Marked ys.now y)) }
@@ -29,7 +29,7 @@ pub fn union(alloc: Global, xs: &[bool], ys: &[bool]) -> Result<Vec<bool>, Alloc
     Ok(r)
 }
 
-/// `x except y`: the targets in the first set that are not in the second.
+/// Returns `x except y`: the targets in the first set that aren't in the second.
 pub fn difference(alloc: Global, xs: &[bool], ys: &[bool]) -> Result<Vec<bool>, AllocError>
     requires { length xs.now ≡ length ys.now }
     ensures { IfOk result (λ r. IsSet (length xs.now) r.items (λ y. Marked xs.now y × (Marked ys.now y → ⊥))) }
@@ -41,7 +41,7 @@ pub fn difference(alloc: Global, xs: &[bool], ys: &[bool]) -> Result<Vec<bool>, 
     Ok(r)
 }
 
-/// The targets of a set, in ascending order.
+/// Returns the targets of a set, in ascending order.
 pub fn members(alloc: Global, marks: &[bool]) -> Result<Vec<usize>, AllocError>
     ensures ascending { IfOk result (λ v. IsStrictlyIncreasing v.items) }
     ensures members { IfOk result (λ v. Held marks.now v.items) }

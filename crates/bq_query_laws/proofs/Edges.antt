@@ -40,7 +40,7 @@ module _ (ps : List PackageTargets) (g : GraphParts) (made : IsGraphOf ps g) whe
   leads x [] z p = p
   leads x (u ∷ us) z p = (u, edge x u p.0, leads u us z p.1)
 
-  -- a path of so many edges
+  -- a path of `n` edges
   record Path (n x z : ℕ) : Type 0 where
     through : List ℕ
     long : length through ≡ n

@@ -20,18 +20,18 @@ pub record IsEdge (ts : List Target) (a b : ℕ) : Type 0 where
   pub to : slice_get ts b ≡ Some target
   pub depends : Depends source target.label
 
--- so many edges, one after another, lead from one target to another
+-- a number of edges, one after another, lead from one target to another
 abbrev pub EdgesLead : List Target → ℕ → ℕ → ℕ → Type 0
 EdgesLead ts zero a c = a ≡ c
 EdgesLead ts (suc n) a c = (b : ℕ) × IsEdge ts a b × EdgesLead ts n b c
 
--- so many edges lead from a target of the set to this one
+-- `n` edges lead from a target of the set to this one
 pub record IsReached (ts : List Target) (n : ℕ) (X : ℕ → Type 0) (y : ℕ) : Type 0 where
   pub from : ℕ
   pub starts : X from
   pub lead : EdgesLead ts n from y
 
--- so many edges lead from this target to one of the set
+-- `n` edges lead from this target to one of the set
 pub record LeadsInto (ts : List Target) (n : ℕ) (X : ℕ → Type 0) (y : ℕ) : Type 0 where
   pub to : ℕ
   pub ends : X to

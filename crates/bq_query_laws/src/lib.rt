@@ -1,9 +1,9 @@
 //! Laws of answers, by the definitions of `bq_query`.
 //!
-//! In: nothing; the functions do nothing, and their contracts are the laws. The promise: what the functions over edges stand for is said
-//! by targets and the labels that they write; `kind`, `filter`, `attr` and `labels` look at the kinds, the labels and the attributes of
-//! targets; a query fails for the first word of its text that names what is not there; numbers are read in decimal digits;
-//! and operators in a row are done from left to right.
+//! In: nothing; the functions do nothing, and their contracts are the laws. The promise: what the functions over edges
+//! stand for is said of targets and the labels that they have; `kind`, `filter`, `attr` and `labels` look at the kinds,
+//! the labels and the attributes of targets; a query fails for the first word of its text that names what isn't there;
+//! numbers are read in decimal digits; and operators in a row are applied from left to right.
 #![tactic(auto)]
 
 mod laws;

@@ -8,7 +8,7 @@ use Rattle.bq_query_lex.specs.Lexis.{piece_of}
 use Rattle.bq_query_lex.specs.Reading.{Reads, ended, blank, token, unknown, before, IsWithin}
 use Rattle.bq_query_lex.proofs.Within.{within}
 
--- by the piece at the front, with at most so many bytes left
+-- by the piece at the front, with at most `fuel` bytes left
 reading_by : (fuel : ℕ) (text : List ℕ) (start : ℕ) (p : QueryPiece) → piece_of text ≡ p → IsWithin p (length text) → length text ≤ fuel → ((rest : List ℕ) (from : ℕ) → length rest < length text → (r : Option (List QueryToken)) × Reads rest from r) → (r : Option (List QueryToken)) × Reads text start r
 reading_by fuel text start End e w l more = (Some [], ended e)
 reading_by fuel text start Blank e w l more = let r = more (drop 1 text) (start + 1) (omega (arith, length-drop 1 text, w)) in (r.0, blank e r.1)

@@ -75,14 +75,14 @@ fn is_among(mut table: &[&[u8]], name: &[u8]) -> bool
     false
 }
 
-/// The function of this name; none for a name that is left out or unknown.
+/// Returns the function of this name, if it is known and not left out.
 pub fn function_named(name: &[u8]) -> Option<QueryFunction>
     ensures { result ≡ function_named name.now }
 {
     find_function(&FUNCTIONS, name)
 }
 
-/// Whether Bazel has a function of this name that is left out here (Q3); any other unknown name is Q2.
+/// Returns whether Bazel has a function of this name that is left out here (Q3); any other unknown name is Q2.
 pub fn is_left_out(name: &[u8]) -> bool
     ensures { result ≡ is_left_out name.now }
 {
@@ -90,7 +90,7 @@ pub fn is_left_out(name: &[u8]) -> bool
 }
 
 impl QueryFunction {
-    /// What its arguments must be, in order.
+    /// Returns what its arguments must be, in order.
     pub fn arguments(self) -> &'static [QueryArgumentKind]
         ensures { result.now ≡ arguments_of self }
     {
@@ -111,7 +111,7 @@ impl QueryFunction {
         }
     }
 
-    /// Whether a number of edges may follow.
+    /// Returns whether a number of edges may follow.
     pub fn takes_number(self) -> bool
         ensures { result ≡ takes_number self }
     {

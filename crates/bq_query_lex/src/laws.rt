@@ -1,10 +1,10 @@
-//! What the tokens of a text are, in words of the text.
+//! What the tokens of a text are, said of the text.
 ghost use Rattle.std.specs.Prelude.{ℕ, List, Some, Option};
 ghost use Rattle.bq_query_lex.specs.declared.token.QueryToken.{QueryToken};
 ghost use Rattle.bq_query_lex.specs.Laws.{OneReading, AreTokensOf};
 ghost use Rattle.bq_query_lex.specs.Reading.{Reads};
 
-/// A text is cut into tokens in one way alone, or not at all.
+/// A text is cut into tokens in only one way, or not at all.
 pub fn one_reading()
     ensures { (text : List ℕ) → OneReading text }
 {}

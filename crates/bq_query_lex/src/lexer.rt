@@ -8,7 +8,7 @@ use crate::query_error::QueryErr;
 use crate::token::QueryToken;
 use std::alloc::Global;
 
-/// The tokens of the text, or Q1 where a byte begins none. It takes time linear in the text.
+/// Returns the tokens of the text, or Q1 if a byte begins none. It takes time linear in the text.
 pub fn lex_query(alloc: Global, text: &[u8]) -> Result<Vec<QueryToken>, QueryErr>
     ensures tokens { IfOk result (λ v. Reads text.now 0 (Some v.items)) }
     ensures refused { IfErr result (λ e. e ≡ Syntax → Reads text.now 0 None) }

@@ -11,9 +11,9 @@ use crate::token::QueryTokenKind;
 pub enum QueryPiece {
     /// The text is empty.
     End,
-    /// A byte that parts tokens.
+    /// A byte that separates tokens.
     Blank,
-    /// A token of so many bytes.
+    /// A token, with its number of bytes.
     Found(QueryTokenKind, usize),
     /// No token begins so.
     Unknown,
@@ -55,7 +55,7 @@ fn are_name_bytes(text: &[u8]) -> bool
     text.iter().all(|b| is_name_byte(*b))
 }
 
-/// Letters, digits and underscores, at least one.
+/// Returns whether the text consists of letters, digits and underscores, at least one.
 pub fn is_variable_name(text: &[u8]) -> bool
     ensures { result ≡ is_variable_name text.now }
 {
@@ -123,7 +123,7 @@ fn plain_kind(word: &[u8]) -> Option<QueryTokenKind>
     }
 }
 
-/// The kind of a word without quotes; none for one that begins with `$` and is no variable.
+/// Returns the kind of a word without quotes; `None` if it begins with `$` and is no variable.
 #[tactic(auto, unfolding(crate::specs::Lexis::word_kind))]
 fn word_kind(word: &[u8]) -> Option<QueryTokenKind>
     ensures { result ≡ word_kind word.now }
@@ -134,7 +134,7 @@ fn word_kind(word: &[u8]) -> Option<QueryTokenKind>
     }
 }
 
-/// How many bytes at the front are those of a word.
+/// Returns how many bytes at the front are those of a word.
 fn word_len(text: &[u8]) -> usize
     ensures len { result ≡ prefix_len is_word_byte text.now }
     ensures within { result ≤ length text.now }
@@ -147,7 +147,7 @@ fn word_len(text: &[u8]) -> usize
     text.len()
 }
 
-/// The longest run of the bytes of words.
+/// Returns the longest run of the bytes of words.
 #[tactic(auto, unfolding(crate::specs::Lexis::word_piece))]
 fn word_piece(text: &[u8]) -> QueryPiece
     ensures { result ≡ word_piece text.now }
@@ -165,7 +165,7 @@ fn next_quote(quote: u8, rest: &[u8]) -> Option<usize>
     rest.iter().position(|b| *b == quote)
 }
 
-/// All bytes up to the next quote of the same kind.
+/// Returns all bytes up to the next quote of the same kind.
 #[tactic(auto, unfolding(crate::specs::Lexis::quoted_piece))]
 fn quoted_piece(quote: u8, rest: &[u8]) -> QueryPiece
     ensures { result ≡ quoted_piece quote rest.now }
@@ -176,7 +176,7 @@ fn quoted_piece(quote: u8, rest: &[u8]) -> QueryPiece
     }
 }
 
-/// What is at the front of the text.
+/// Returns what is at the front of the text.
 #[tactic(auto, unfolding(crate::specs::Lexis::piece_of))]
 pub fn piece_of(text: &[u8]) -> QueryPiece
     ensures { result ≡ piece_of text.now }

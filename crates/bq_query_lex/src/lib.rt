@@ -1,6 +1,7 @@
-//! The bytes of a query come in; its tokens go out. Beside them stand the table of functions and the errors that users see.
+//! The bytes of a query come in; its tokens go out. The table of functions and the errors that users see are here too.
 //!
-//! The promise: `lex_query` gives the tokens that the text is cut into, and Q1 exactly where it can't be cut (`specs/Reading.antt`).
+//! The promise: `lex_query` returns the tokens that the text is cut into, and Q1 exactly if it can't be cut
+//! (`specs/Reading.antt`).
 //!
 //! In reading order:
 //!
@@ -10,7 +11,7 @@
 //! - `lexer`: the tokens of a whole text;
 //! - `function`: the functions, and what their arguments must be;
 //! - `target_pattern`: which form a word has as a target pattern;
-//! - `laws`: what the tokens of a text are, in words of the text.
+//! - `laws`: what the tokens of a text are, said of the text.
 #![tactic(auto)]
 
 mod function;

@@ -1,4 +1,5 @@
-//! The errors of queries, with the numbers and names that users see. They stand here once, and everything else names the variant.
+//! The errors of queries, with the numbers and names that users see. They are written only here; everything else names
+//! the variant.
 ghost use Rattle.std.specs.Prelude.{◌≡◌, Some};
 ghost use Rattle.bq_query_lex.specs.QueryError.{query_title, query_detail};
 ghost use Rattle.bq_query_lex.specs.declared.query_error.QueryErr.TheVariants.{Memory};
@@ -15,7 +16,7 @@ pub enum QueryErr {
     Syntax,
     /// A function that no query language has.
     UnknownFunction(Bytes),
-    /// A function or a word of a form that is left out.
+    /// A function, or a word, of a form that is left out.
     LeftOut(Bytes),
     /// A pattern that is no regular expression.
     BadRegex,
@@ -32,7 +33,7 @@ pub enum QueryErr {
 }
 
 impl QueryErr {
-    /// The number and the name, as `Q5 NoSuchTarget`.
+    /// Returns the number and the name, as `Q5 NoSuchTarget`.
     pub fn title(&self) -> &'static str
         ensures { result.now ≡ query_title self.now }
     {
@@ -49,7 +50,7 @@ impl QueryErr {
         }
     }
 
-    /// What is printed after the name: the function, word, label, pattern or variable; nothing for the others.
+    /// Returns what is printed after the name: the function, word, label, pattern or variable; nothing for the others.
     pub fn detail(&self) -> &[u8]
         ensures { result.now ≡ query_detail self.now }
     {

@@ -3,7 +3,7 @@ ghost use Rattle.std.specs.Prelude.{◌≡◌, None, Some, MatchOption, map};
 ghost use Rattle.std.specs.List.{list_any};
 ghost use Rattle.bq_query_lex.specs.TargetPatterns.{begins_pattern, ending, form_by, is_colon, part_before, word_form};
 
-/// Which targets a word means.
+/// Which targets a word names.
 #[derive(Clone, Copy)]
 pub enum PatternForm {
     /// `//p:n`: one target.
@@ -25,8 +25,8 @@ pub struct WordForm<'a> {
     pub named: &'a [u8],
 }
 
-/// How the words of a form end, and how many bytes of the end are left out of the part that names. The first that fits counts,
-/// where that part names a package.
+/// How the words of a form end, and how many bytes of that end aren't in the part that names. The first that fits
+/// counts, if that part names a package.
 const ENDINGS: [(&[u8], usize, PatternForm); 11] = [
     (b"//...", 3, PatternForm::RulesBeneath),
     (b"/...", 4, PatternForm::RulesBeneath),
@@ -47,7 +47,7 @@ fn has_colon(text: &[u8]) -> bool
     text.iter().any(|byte| *byte == b':')
 }
 
-/// The part of a word before an ending, where the word ends so and the part names a package: it holds no `:`.
+/// Returns the part of a word before an ending, if the word ends so and the part names a package: it has no `:`.
 #[tactic(auto, unfolding(crate::specs::TargetPatterns::part_before))]
 fn part_before<'a>(word: &'a [u8], end: &[u8], dropped: usize) -> Option<&'a [u8]>
     ensures { MatchOption result (part_before end.now dropped word.now ≡ None) (λ part. part_before end.now dropped word.now ≡ Some part.now) }
@@ -81,8 +81,8 @@ fn find_form<'a>(mut table: &[(&[u8], usize, PatternForm)], word: &'a [u8]) -> W
     }
 }
 
-/// The form of a word, read from the word as it is written: those with `...` first, `//p:n` last. So `//p:all` never means a target named
-/// `all`; and `//a:b/...` is `//p:n`, since no package is named `a:b`.
+/// Returns the form of a word, read from the word as it is written: those with `...` first, `//p:n` last. So `//p:all`
+/// never means a target named `all`; and `//a:b/...` is `//p:n`, since no package is named `a:b`.
 pub fn word_form(word: &[u8]) -> WordForm<'_>
     ensures form { result.form ≡ (word_form word.now).0 }
     ensures named { result.named.now ≡ (word_form word.now).1 }
@@ -90,7 +90,8 @@ pub fn word_form(word: &[u8]) -> WordForm<'_>
     find_form(&ENDINGS, word)
 }
 
-/// Whether a word begins as the target patterns do that can be answered: with `//`, or with `@` but not `@@`. Any other is left out (Q3).
+/// Returns whether a word begins as the target patterns do that can be answered: with `//`, or with `@` but not `@@`.
+/// Any other one is left out (Q3).
 pub fn begins_pattern(word: &[u8]) -> bool
     ensures { result ≡ begins_pattern word.now }
 {

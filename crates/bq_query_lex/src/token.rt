@@ -5,7 +5,7 @@
 pub enum QueryTokenKind {
     /// A word without quotes that is no keyword and no variable.
     Word,
-    /// A word in quotes, the quotes among it.
+    /// A word in quotes, with its quotes.
     Quoted,
     /// A word `$name`.
     Variable,

@@ -23,7 +23,7 @@ pub struct QueryGrammar<F> {
     pub query: F,
 }
 
-/// A query and what is done to it; the query alone where nothing is.
+/// Makes a query with the operations on it; the query alone if there is none.
 fn chain_of(first: Boxed<Query>, operations: Items<SetOperation>) -> Query
     ensures { result ≡ grammar.chain_of first operations }
 {
@@ -33,7 +33,7 @@ fn chain_of(first: Boxed<Query>, operations: Items<SetOperation>) -> Query
     Query::Chain(first, operations)
 }
 
-/// One query, as the first of a list.
+/// Makes a list of one query.
 fn alone(alloc: Global, query: Query) -> Result<Items<Query>, AllocError>
     ensures { IfOk result (λ xs. xs ≡ query ∷ []) }
 {
@@ -66,7 +66,7 @@ impl<F: Fn(Global, &mut QueryTokens<'_>, usize) -> Result<Query, QuerySyntaxErr>
         (self.query)(self.alloc, tokens, self.depth)
     }
 
-    /// A query, in a box.
+    /// Reads a query, in a box.
     fn boxed(&self, tokens: &mut QueryTokens<'_>) -> Result<Boxed<Query>, QuerySyntaxErr>
         requires { ReadsQuery self.now.depth (F.pre self.now.query) (F.post self.now.query) }
         ensures { Reads (spec.query_to self.now.depth tokens.old) result tokens.new }
@@ -83,7 +83,7 @@ impl<F: Fn(Global, &mut QueryTokens<'_>, usize) -> Result<Query, QuerySyntaxErr>
         self.nested(tokens)
     }
 
-    /// The arguments found, and all further ones.
+    /// Reads all further arguments, after those found.
     #[tactic(auto, using(crate::proofs::LoopTurns::turns_more, crate::proofs::LoopTurns::turns_over), unfolding(bq_query_tree::specs::Turns::repeat))]
     fn further_arguments(
         &self,
@@ -128,7 +128,7 @@ impl<F: Fn(Global, &mut QueryTokens<'_>, usize) -> Result<Query, QuerySyntaxErr>
         Ok(Query::Call(name, self.arguments(tokens)?))
     }
 
-    /// A word without quotes, or the function that it names before `(`.
+    /// Reads a word without quotes, or the function that it names before `(`.
     fn word_or_call(&self, tokens: &mut QueryTokens<'_>) -> Result<Query, QuerySyntaxErr>
         requires { ReadsQuery self.now.depth (F.pre self.now.query) (F.post self.now.query) }
         ensures { Reads (spec.word_or_call self.now.depth (spec.query_to self.now.depth) (spec.spelling_of tokens.old) (turns.next tokens.old)) result tokens.new }

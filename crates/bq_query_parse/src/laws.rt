@@ -3,7 +3,7 @@
 ghost use Rattle.std.specs.Prelude.{ℕ, List};
 ghost use Rattle.bq_query_parse.specs.Parses.{OneTree};
 
-/// A text has one tree at most.
+/// A text has at most one tree.
 pub fn one_tree_of_a_text()
     ensures { (text : List ℕ) → OneTree text }
 {}

@@ -18,7 +18,7 @@ use std::alloc::Global;
 /// How many parentheses and lets may be open.
 const MAX_OPEN: usize = 64;
 
-/// A query in which so many parentheses and lets less one may be open.
+/// Reads a query in which fewer than `depth` parentheses and lets may be open.
 fn query(alloc: Global, tokens: &mut QueryTokens<'_>, depth: usize) -> Result<Query, QuerySyntaxErr>
     ensures { Reads (spec.query_to depth tokens.old) result tokens.new }
 {
@@ -33,7 +33,7 @@ fn query(alloc: Global, tokens: &mut QueryTokens<'_>, depth: usize) -> Result<Qu
     .query_in(tokens)
 }
 
-/// The tree of all these tokens.
+/// Returns the tree of all these tokens.
 fn whole_query(alloc: Global, text: &[u8], tokens: &[QueryToken]) -> Result<Query, QuerySyntaxErr>
     requires { All (IsInText text.now) tokens.now }
     ensures { Gives (whole_query (lexemes text.now tokens.now)) result }
@@ -46,7 +46,7 @@ fn whole_query(alloc: Global, text: &[u8], tokens: &[QueryToken]) -> Result<Quer
     }
 }
 
-/// Out of memory, but for a text that can't be cut: the lexer refuses for nothing else.
+/// Returns out of memory, or for a text that can't be cut that it is no query: the lexer refuses for nothing else.
 fn refused(error: QueryErr) -> QuerySyntaxErr
     ensures { result ≢ Memory → error ≡ Syntax }
 {
@@ -56,7 +56,7 @@ fn refused(error: QueryErr) -> QuerySyntaxErr
     }
 }
 
-/// The tree of the text, or that it has none. It takes time linear in the text.
+/// Returns the tree of the text, or that it has none. It takes time linear in the text.
 pub fn parse_tree(alloc: Global, text: &[u8]) -> Result<Query, QuerySyntaxErr>
     ensures { Parses text.now result }
 {

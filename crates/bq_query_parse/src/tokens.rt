@@ -41,7 +41,7 @@ fn operator(kind: QueryTokenKind) -> Option<SetOperator>
     }
 }
 
-/// What is between the quotes.
+/// Returns what is between the quotes.
 fn unquoted(spelling: &[u8]) -> &[u8]
     ensures { result.now ≡ lexeme.unquoted spelling.now }
 {
@@ -51,7 +51,7 @@ fn unquoted(spelling: &[u8]) -> &[u8]
     }
 }
 
-/// What comes after `$`.
+/// Returns what comes after `$`.
 fn variable_name(spelling: &[u8]) -> &[u8]
     ensures { result.now ≡ lexeme.variable_name spelling.now }
 {
@@ -88,7 +88,7 @@ impl<'a> QueryTokens<'a> {
         QueryTokens { text, rest }
     }
 
-    /// How many tokens are left.
+    /// Returns how many tokens are left.
     #[tactic(auto, using(crate::proofs::Ahead::as_many))]
     pub fn left(&self) -> usize
         ensures { result ≡ length self.now }
@@ -114,7 +114,7 @@ impl<'a> QueryTokens<'a> {
         }
     }
 
-    /// The bytes of the next token.
+    /// Returns the bytes of the next token.
     fn spelling(&self) -> &'a [u8]
         ensures { result.now ≡ spec.spelling_of self.now }
     {
@@ -133,7 +133,7 @@ impl<'a> QueryTokens<'a> {
         }
     }
 
-    /// After the next token comes `let`.
+    /// Returns whether `let` comes after the next token.
     pub fn sees_let_next(&self) -> bool
         ensures { result ≡ ahead.let_is_next self.now }
     {
@@ -169,7 +169,7 @@ impl<'a> QueryTokens<'a> {
         }
     }
 
-    /// `(`, where one more may be opened
+    /// Passes `(`, if one more may be opened.
     pub fn opening(&mut self, depth: usize) -> Result<(), QuerySyntaxErr>
         ensures { Reads (spec.opening depth self.old) result self.new }
     {
@@ -179,7 +179,7 @@ impl<'a> QueryTokens<'a> {
         self.expect(QueryTokenKind::Open)
     }
 
-    /// The next token, as it is written.
+    /// Takes the next token, as it is written.
     pub fn bare(&mut self, alloc: Global) -> Result<Bytes, AllocError>
         ensures { IfOk result (λ w. (w ≡ spec.spelling_of self.old) × (self.new ≡ turns.next self.old)) }
     {
@@ -188,7 +188,7 @@ impl<'a> QueryTokens<'a> {
         Ok(word)
     }
 
-    /// The next token, without its quotes.
+    /// Takes the next token, without its quotes.
     pub fn quoted(&mut self, alloc: Global) -> Result<Bytes, AllocError>
         ensures { IfOk result (λ w. (w ≡ lexeme.unquoted (spec.spelling_of self.old)) × (self.new ≡ turns.next self.old)) }
     {
@@ -197,7 +197,7 @@ impl<'a> QueryTokens<'a> {
         Ok(word)
     }
 
-    /// The next token, without its `$`.
+    /// Takes the next token, without its `$`.
     pub fn variable(&mut self, alloc: Global) -> Result<Bytes, AllocError>
         ensures { IfOk result (λ w. (w ≡ lexeme.variable_name (spec.spelling_of self.old)) × (self.new ≡ turns.next self.old)) }
     {
@@ -206,7 +206,7 @@ impl<'a> QueryTokens<'a> {
         Ok(name)
     }
 
-    /// A word comes next, in quotes or not.
+    /// Returns whether a word comes next, in quotes or not.
     pub fn sees_word(&self) -> bool
         ensures { result ≡ spec.begins_word self.now }
     {
@@ -228,7 +228,7 @@ impl<'a> QueryTokens<'a> {
         }
     }
 
-    /// The name of a variable, without quotes.
+    /// Reads the name of a variable, without quotes.
     pub fn name(&mut self, alloc: Global) -> Result<Bytes, QuerySyntaxErr>
         ensures { Reads (spec.a_name self.old) result self.new }
     {
@@ -241,7 +241,7 @@ impl<'a> QueryTokens<'a> {
         Ok(self.bare(alloc)?)
     }
 
-    /// An operator comes next.
+    /// Returns whether an operator comes next.
     pub fn sees_operator(&self) -> bool
         ensures { result ≡ spec.begins_operation self.now }
     {

@@ -1,7 +1,8 @@
 //! The bytes of a pattern come in; a compiled regular expression goes out, and which texts it is found in.
 //!
-//! The promise: what is compiled is read from just these bytes, with the default options of `regex` for texts of bytes, and it is found in a text exactly
-//! where the definition that `regex` gives finds a match anywhere in the text (`specs/Patterns.antt`). Searches are unanchored.
+//! The promise: what is compiled is read from exactly these bytes, with the default options of `regex` for texts of
+//! bytes, and it is found in a text exactly if the definition of `regex` finds a match anywhere in the text
+//! (`specs/Patterns.antt`). Searches are unanchored.
 #![tactic(auto)]
 
 ghost use Rattle.std.specs.Prelude.{◌≡◌, map, IfOk, IfErr};
@@ -11,7 +12,7 @@ ghost use Rattle.bq_query_pattern.specs.Patterns.{options, IsCause, is_found, ca
 use regex::bytes::{Matcher, Regex};
 use std::alloc::{AllocError, Global};
 
-/// Why bytes are not taken as a pattern.
+/// Why bytes are refused as a pattern.
 #[derive(Clone, Copy, PartialEq, Eq, Debug, Drop)]
 pub enum PatternErr {
     /// They are not UTF-8, or `regex` refuses them, though there is memory.
@@ -19,7 +20,7 @@ pub enum PatternErr {
     Memory,
 }
 
-/// The pattern of these bytes.
+/// Compiles the pattern of these bytes.
 pub fn read_pattern(alloc: Global, bytes: &[u8]) -> Result<Regex, PatternErr>
     ensures source { IfOk result (λ r. regex_source r ≡ bytes.now) }
     ensures config { IfOk result (λ r. regex_config r ≡ options) }
@@ -44,7 +45,8 @@ fn cause(error: regex::Error) -> PatternErr
     }
 }
 
-/// Of each text, whether the pattern is found in it. The pattern's tables for a search are made once for all texts.
+/// Returns for each text whether the pattern is found in it. The pattern's tables for a search are made once for all
+/// texts.
 pub fn found_in(alloc: Global, pattern: &Regex, texts: &[Vec<u8>]) -> Result<Vec<bool>, AllocError>
     ensures { IfOk result (λ found. found.items ≡ map (λ text. is_found (regex_pattern pattern.now) text.items) texts.now) }
 {
@@ -52,7 +54,7 @@ pub fn found_in(alloc: Global, pattern: &Regex, texts: &[Vec<u8>]) -> Result<Vec
     found_by(alloc, &mut matcher, texts)
 }
 
-// Of each text, whether the matcher's pattern is found in it.
+/// Returns for each text whether the matcher's pattern is found in it.
 fn found_by(
     alloc: Global,
     matcher: &mut Matcher<'_>,

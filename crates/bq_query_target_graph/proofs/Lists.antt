@@ -51,7 +51,7 @@ module _ {X Y : Type 0} (f : X → List Y) where
   permuted_parts xs ys s =
       IsPermutation-keeps xs (λ l. IsPermutation (flat_map f xs) (flat_map f l)) (IsPermutation-refl (flat_map f xs)) (λ l i j p q h. IsPermutation-trans _ _ _ h (swapped l i j p q)) ys s
 
--- a part that was turned round, put in order and appended
+-- a part that was turned around, put in order and appended
 pub appended : {X : Type 0} (all targets part sorted now : List X) → part ≡ reverse targets → IsPermutation part sorted → now ≡ all ++ sorted → IsPermutation (all ++ targets) now
 appended {X} all targets part sorted now e s n =
     let turned : IsPermutation targets part = subst (λ (z : List X). IsPermutation targets z) (sym e) (IsPermutation-reverse targets) in

@@ -13,7 +13,7 @@ use bq_package_target::{Package, Target};
 use bq_query_graph::DependencyGraph;
 use std::alloc::{AllocError, Global};
 
-/// The packages' names and all their targets, both in order.
+/// Returns the packages' names and all their targets, both in order.
 fn in_order(alloc: Global, packages: Vec<Package>) -> Result<Flat, AllocError>
     requires { PackagesAscend packages.items }
     ensures packages { IfOk result (λ f. f.packages ≡ map id_of packages.items) }
@@ -26,7 +26,7 @@ fn in_order(alloc: Global, packages: Vec<Package>) -> Result<Flat, AllocError>
     Ok(Flat { packages, targets })
 }
 
-/// Which of the targets depend on which, by their numbers.
+/// Returns which of the targets depend on which, by their numbers.
 fn graph_of(alloc: Global, targets: &[Target]) -> Result<DependencyGraph, AllocError>
     requires { IsStrictlySortedBy target_cmp targets.now }
     ensures { IfOk result (λ g. HasPairsOf (length targets.now) (edges_from (labels_of targets.now) 0 targets.now) g) }
@@ -37,7 +37,7 @@ fn graph_of(alloc: Global, targets: &[Target]) -> Result<DependencyGraph, AllocE
 }
 
 impl TargetGraph {
-    /// The graph of the targets of packages.
+    /// Makes the graph of the targets of packages.
     pub fn new(alloc: Global, packages: Vec<Package>) -> Result<TargetGraph, AllocError>
         requires { PackagesAscend packages.items }
         ensures { IfOk result (IsGraphOf packages.items) }

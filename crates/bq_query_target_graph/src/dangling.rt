@@ -21,7 +21,7 @@ use bq_package_rule_class::AttributeValue;
 use bq_package_target::{GivenAttribute, Package, Target, TargetKind, is_of};
 use std::alloc::{AllocError, Global};
 
-/// The call that declares a target whose labels are looked at, and the labels of all targets.
+/// The call that declares a target whose labels are checked, and the labels of all targets.
 #[derive(Clone, Copy)]
 struct Call<'a> {
     known: &'a LabelSet,
@@ -29,14 +29,14 @@ struct Call<'a> {
     line: u32,
 }
 
-/// The full form of a label.
+/// Returns the full form of a label.
 fn shown(alloc: Global, label: &Label) -> Result<Bytes, AllocError>
     ensures { IfOk result (λ text. text ≡ full_form label.now) }
 {
     Bytes::from_vec(alloc, print_label(alloc, label)?)
 }
 
-/// The fault's line.
+/// Returns the line of the fault.
 fn dangling_line(alloc: Global, call: Call<'_>, label: &Label) -> Result<FaultLine, AllocError>
     ensures { IfOk result (λ x. x ≡ dangling_line call.entry.build_file.now call.entry.line label.now) }
 {
@@ -49,7 +49,7 @@ fn dangling_line(alloc: Global, call: Call<'_>, label: &Label) -> Result<FaultLi
     })
 }
 
-/// Adds the line of a label, where it is of another package and names no target.
+/// Adds the line of a label, if it is of another package and names no target.
 fn add_label(
     alloc: Global,
     call: Call<'_>,
@@ -158,7 +158,7 @@ fn add_known(known: &mut LabelSet, targets: &[Target]) -> Result<(), AllocError>
     Ok(())
 }
 
-/// The labels of the targets of all packages.
+/// Returns the labels of the targets of all packages.
 fn known_labels(alloc: Global, packages: &[Package]) -> Result<LabelSet, AllocError>
     ensures { IfOk result (λ ls. ls ≡ with_labels [] (labels_of (all_targets packages.now))) }
 {

@@ -15,7 +15,7 @@ use bq_package_target::{GivenAttribute, Target, TargetKind};
 use bq_query_graph::Edge;
 use std::alloc::{AllocError, Global};
 
-/// The labels of targets in order, each with its target's number.
+/// Returns the labels of targets in order, each with its target's number.
 pub fn labels(alloc: Global, targets: &[Target]) -> Result<LabelSet, AllocError>
     requires { IsStrictlySortedBy target_cmp targets.now }
     ensures { IfOk result (λ ls. ls ≡ labels_of targets.now) }
@@ -27,7 +27,7 @@ pub fn labels(alloc: Global, targets: &[Target]) -> Result<LabelSet, AllocError>
     Ok(labels)
 }
 
-/// Adds the edge to the target that a label names, if there is one.
+/// Appends the edge to the target that a label names, if there is one.
 fn add_edge(
     labels: &LabelSet,
     from: usize,
@@ -59,7 +59,7 @@ fn add_edges(
     Ok(())
 }
 
-/// Adds the edges to the targets that the value of an attribute names.
+/// Appends the edges to the targets that the value of an attribute names.
 fn add_value(
     labels: &LabelSet,
     from: usize,
@@ -89,7 +89,7 @@ fn add_attributes(
     Ok(())
 }
 
-/// Adds the edges from a target.
+/// Appends the edges from a target.
 #[tactic(auto, unfolding(bq_package_target::specs::Target::dependencies))]
 fn add_target(
     labels: &LabelSet,
@@ -105,7 +105,7 @@ fn add_target(
     }
 }
 
-/// The edges between targets whose labels have these numbers.
+/// Returns the edges between targets whose labels have these numbers.
 pub fn edges(alloc: Global, labels: &LabelSet, targets: &[Target]) -> Result<Vec<Edge>, AllocError>
     ensures { IfOk result (λ es. es.items ≡ edges_from labels.now 0 targets.now) }
 {

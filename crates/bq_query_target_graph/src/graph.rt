@@ -30,7 +30,7 @@ impl Model for TargetGraph {
 impl TargetGraph {
     ghost use Rattle.bq_query_target_graph.specs.Graph.{GraphParts, IsGraph};
 
-    /// The graph of these parts.
+    /// Makes the graph of these parts.
     pub(crate) fn of(
         targets: Vec<Target>,
         packages: Items<PackageId>,
@@ -46,7 +46,7 @@ impl TargetGraph {
         }
     }
 
-    /// The targets in the order of the bytes of their labels' full forms. A target's number is its place here.
+    /// Returns the targets in the order of the bytes of their labels' full forms. A target's number is its place here.
     pub fn targets(&self) -> &[Target]
         ensures value { result.now ≡ self.now.targets }
         ensures valid { IsGraph self.now }
@@ -55,7 +55,7 @@ impl TargetGraph {
         self.targets.as_slice()
     }
 
-    /// The packages in the order of their repositories and paths, also those whose BUILD file has a fault.
+    /// Returns the packages in the order of their repositories and paths, also those whose BUILD file has a fault.
     pub fn packages(&self) -> &[PackageId]
         ensures value { result.now ≡ self.now.packages }
         ensures valid { IsGraph self.now }
@@ -64,7 +64,7 @@ impl TargetGraph {
         self.packages.as_slice()
     }
 
-    /// The dependencies by the targets' numbers.
+    /// Returns the dependencies by the targets' numbers.
     pub fn graph(&self) -> &DependencyGraph
         ensures value { result.now ≡ self.now.edges }
         ensures valid { IsGraph self.now }

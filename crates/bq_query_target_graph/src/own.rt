@@ -10,7 +10,7 @@ use bq_label::{Label, PackageId};
 use bq_package_rule_class::AttributeValue;
 use bq_package_target::{GivenAttribute, Package, Target, TargetKind, is_of};
 
-/// All the labels are of the package.
+/// Returns whether all the labels are of the package.
 fn are_own(own: &PackageId, labels: &[Label]) -> bool
     ensures { result ≡ list_all (is_of own.now) labels.now }
 {
@@ -22,7 +22,7 @@ fn are_own(own: &PackageId, labels: &[Label]) -> bool
     true
 }
 
-/// All the labels that the value names are of the package.
+/// Returns whether all the labels that the value names are of the package.
 fn is_own_value(own: &PackageId, value: &AttributeValue) -> bool
     ensures { result ≡ list_all (is_of own.now) (labels_of value.now) }
 {
@@ -49,7 +49,7 @@ fn name_own(own: &PackageId, attributes: &[GivenAttribute]) -> bool
     true
 }
 
-/// All that the target depends on is of the package.
+/// Returns whether all that the target depends on is of the package.
 fn keeps_inside(own: &PackageId, target: &Target) -> bool
     ensures { result ≡ keeps_inside own.now target.now }
 {
@@ -61,7 +61,7 @@ fn keeps_inside(own: &PackageId, target: &Target) -> bool
     }
 }
 
-/// So it is with all targets of the package.
+/// Returns whether this is so of all targets of the package.
 fn is_closed(package: &Package) -> bool
     ensures { result ≡ is_closed «package».now }
 {
@@ -75,7 +75,7 @@ fn is_closed(package: &Package) -> bool
     true
 }
 
-/// No target names a label of another package.
+/// Returns whether no target names a label of another package.
 pub fn are_closed(packages: &[Package]) -> bool
     ensures { result ≡ list_all is_closed packages.now }
 {

@@ -79,7 +79,7 @@ attribute_by kind.Group name t = None
 unfoldable pub attribute_text : List ℕ → Target → Option (List ℕ)
 attribute_text name t = attribute_by t.kind name t
 
--- the text of a target that a pattern is looked for in; none where it has no such text
+-- the text of a target that a pattern is looked for in, if it has one
 abbrev pub subject_text : Subject → Target → Option (List ℕ)
 subject_text subject.Kind t = Some (kind_text t.kind)
 subject_text subject.Label t = Some (text_of t)

@@ -1,5 +1,6 @@
-//! `attr(name, pattern, x)`: the rules of `x` that have the attribute, whose text has a match of the pattern. An attribute that isn't
-//! given has its default's text, by the class of the target's own rule. Lists are written `[v1, v2]`, so `[\[ ]v[,\]]` finds the item `v`.
+//! `attr(name, pattern, x)`: the rules of `x` that have the attribute and whose text has a match of the pattern. An
+//! attribute that isn't given has its default's text, by the class of the target's own rule. Lists are written `[v1,
+//! v2]`, so `[\[ ]v[,\]]` finds the item `v`.
 
 ghost use Rattle.std.specs.Prelude.{◌≡◌, length, IfOk};
 ghost use Rattle.regex.specs.Bytes.{regex_pattern};

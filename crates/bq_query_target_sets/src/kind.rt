@@ -1,5 +1,6 @@
-//! `kind(pattern, x)`: the targets of `x` whose kind has a match of the pattern. Kinds are `NAME rule`, `source file`, `generated file`
-//! and `package group`; so `kind(rule, x)` gives rules, and also a file-like kind with `rule` in its name, had it any.
+//! `kind(pattern, x)`: the targets of `x` whose kind has a match of the pattern. Kinds are `NAME rule`, `source file`,
+//! `generated file` and `package group`; so `kind(rule, x)` keeps rules, and would keep another kind with `rule` in its
+//! name.
 
 ghost use Rattle.std.specs.Prelude.{◌≡◌, length, IfOk};
 ghost use Rattle.regex.specs.Bytes.{regex_pattern};

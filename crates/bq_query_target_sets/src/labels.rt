@@ -1,4 +1,5 @@
-//! `labels(name, x)`: the targets that the attribute of rules of `x` names, where it is of type label, label_list, output or output_list.
+//! `labels(name, x)`: the targets that the attribute of rules of `x` names, if it is of type label, label_list, output
+//! or output_list.
 
 ghost use Rattle.std.specs.Prelude.{◌≡◌, length, IfOk, OnOk};
 ghost use Rattle.bq_query_graph.specs.Marks.{IsSet, Marked};

@@ -1,5 +1,5 @@
-//! What words name, in words of packages. The functions do nothing: their contracts are the laws. Each label of a target is valid, since
-//! every `Label` is.
+//! What words name, said of packages. The functions do nothing: their contracts are the laws. Each label of a target is
+//! valid, since every `Label` is.
 
 ghost use Rattle.bq_query_target_sets.specs.Packages.{DotsFollowAPackage, TargetsBeneathAPackage, TargetsOfAPackage, WordsNameLabelsAndPackages};
 
@@ -20,7 +20,8 @@ pub fn words_name_labels_and_packages()
     ensures { WordsNameLabelsAndPackages }
 {}
 
-/// A word with `...` is a pattern over all that is beneath a package exactly where what is before the dots is that package.
+/// A word with `...` is a pattern over all that is beneath a package exactly if what is before the dots is that
+/// package.
 pub fn dots_follow_a_package()
     ensures { DotsFollowAPackage }
 {}

@@ -1,18 +1,18 @@
 //! The targets of a workspace, in the order of their labels, and a part of a query come in; the set of targets that the part names goes
 //! out. A set is a list of marks, one for each target.
 //!
-//! The promise: each set has exactly the targets that the definition of its form names. Words find their targets by binary search:
-//! a word takes time logarithmic in the number of targets, beside the targets that it names.
+//! The promise: each set has exactly the targets that the definition of its form names. Words find their targets by
+//! binary search: a word takes time logarithmic in the number of targets, and linear in those that it names.
 //!
 //! In reading order:
 //!
-//! - `order`: where a text stands among the labels of the targets;
+//! - `order`: the place of a text among the labels of the targets;
 //! - `word`, `set`: the targets that words name;
-//! - `missing`: what a word names that is not there (Q5, Q6);
+//! - `missing`: what a word names that isn't there (Q5, Q6);
 //! - `text`: the texts of kinds, labels and attributes;
 //! - `matching`: the members of a set whose text has a match of a pattern;
 //! - `kind`, `filter`, `attr`, `labels`: the functions of queries;
-//! - `laws`: what words name, in words of packages.
+//! - `laws`: what words name, said of packages.
 #![tactic(auto)]
 
 pub mod attr;

@@ -10,7 +10,7 @@ use bq_package_target::Target;
 use regex::bytes::{Matcher, Regex};
 use std::alloc::{AllocError, Global};
 
-/// Whether the pattern is found in the text of the target.
+/// Returns whether the pattern is found in the text of the target.
 fn is_match(
     matcher: &mut Matcher<'_>,
     subject: Subject<'_>,
@@ -27,7 +27,7 @@ fn is_match(
     Ok(matcher.is_match(text))
 }
 
-/// Whether a target is in the set, and the pattern is found in its text.
+/// Returns whether a target is in the set, and the pattern is found in its text.
 fn keeps(
     matcher: &mut Matcher<'_>,
     subject: Subject<'_>,
@@ -44,7 +44,8 @@ fn keeps(
     is_match(matcher, subject, target, text)
 }
 
-/// Of a set, the targets whose text has a match of the matcher's pattern. The room for the texts is made once.
+/// Returns the targets of a set whose text has a match of the matcher's pattern. The room for the texts is allocated
+/// once.
 fn matching_by(
     alloc: Global,
     matcher: &mut Matcher<'_>,
@@ -64,7 +65,7 @@ fn matching_by(
     Ok(found)
 }
 
-/// Of a set, the targets whose text has a match of the pattern. The pattern's tables are made once.
+/// Returns the targets of a set whose text has a match of the pattern. The pattern's tables are made once.
 pub fn matching(
     alloc: Global,
     targets: &[Target],

@@ -1,4 +1,4 @@
-//! What a word names that is not there (Q5, Q6).
+//! What a word names that isn't there (Q5, Q6).
 
 ghost use Rattle.std.specs.Prelude.{◌≡◌, Some, IfOk};
 ghost use Rattle.std.specs.List.Sorted.{IsStrictlySortedBy};
@@ -17,7 +17,7 @@ use bq_query_lex::{PatternForm, QueryErr, WordForm, word_form};
 use std::alloc::{AllocError, Global};
 use std::cmp::Ordering;
 
-/// By the bytes of the repository, and then of the path.
+/// Compares two packages: by the bytes of the repository, and then of the path.
 fn compare(a: &PackageId, b: &PackageId) -> Ordering
     ensures { result ≡ id_cmp a.now b.now }
 {
@@ -25,7 +25,7 @@ fn compare(a: &PackageId, b: &PackageId) -> Ordering
     by_repo.then(a.package().as_slice().cmp(b.package().as_slice()))
 }
 
-/// Whether there is such a package, by binary search.
+/// Returns whether there is such a package, by binary search.
 fn has_package(packages: &[PackageId], id: &PackageId) -> bool
     requires { IsStrictlySortedBy id_cmp packages.now }
     ensures { result ≡ has_package packages.now id.now }
@@ -42,7 +42,7 @@ fn no_package(alloc: Global, text: Vec<u8>) -> Result<Option<QueryErr>, AllocErr
     Ok(Some(QueryErr::NoSuchPackage(Bytes::from_vec(alloc, text)?)))
 }
 
-/// Of a label: its package (Q6), or the target in it (Q5).
+/// Returns what is missing of a label: its package (Q6), or the target in it (Q5).
 fn missing_label(
     alloc: Global,
     packages: &[PackageId],
@@ -63,7 +63,7 @@ fn missing_label(
     Ok(Some(QueryErr::NoSuchTarget(Bytes::from_vec(alloc, text)?)))
 }
 
-/// Of the targets of a package: the package (Q6).
+/// Returns what is missing of the targets of a package: the package (Q6).
 fn missing_package(
     alloc: Global,
     packages: &[PackageId],
@@ -112,7 +112,7 @@ fn missing_named(
     }
 }
 
-/// What is missing of a word. A word that ends with `/...` is never wrong.
+/// Returns what is missing of a word. A word that ends with `/...` is never wrong.
 #[tactic(auto, unfolding(crate::specs::Missing::missing))]
 pub fn missing(
     alloc: Global,

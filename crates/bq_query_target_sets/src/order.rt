@@ -1,4 +1,4 @@
-//! Where a text stands among the labels of the targets.
+//! The place of a text among the labels of the targets.
 
 ghost use Rattle.std.specs.Prelude.{◌≡◌, ◌<◌, length, slice_index_or, [], None, is_some, IfSome, IfNone};
 ghost use Rattle.std.specs.List.{find, flat_map};
@@ -11,7 +11,7 @@ use bq_label::Label;
 use bq_package_target::Target;
 use std::cmp::Ordering;
 
-/// How the parts, one after another, compare with a text.
+/// Compares parts, one after another, with a text.
 fn cmp_parts(mut parts: &[&[u8]], mut text: &[u8]) -> Ordering
     ensures { result ≡ slice_cmp nat_cmp (flat_map (λ p. p.now) parts.entry.now) text.now }
 {
@@ -28,7 +28,7 @@ fn cmp_parts(mut parts: &[&[u8]], mut text: &[u8]) -> Ordering
     Ordering::Less
 }
 
-/// How the label in full compares with a text. Nothing is written for it.
+/// Compares the label in full with a text. Nothing is written for it.
 #[tactic(auto, unfolding(bq_label::specs::Label::full_form))]
 pub fn cmp_text(label: &Label, text: &[u8]) -> Ordering
     ensures { result ≡ slice_cmp nat_cmp (full_form label.now) text.now }
@@ -44,7 +44,7 @@ pub fn cmp_text(label: &Label, text: &[u8]) -> Ordering
     cmp_parts(&parts, text)
 }
 
-/// How many targets there are before the text, by binary search.
+/// Returns how many targets there are before the text, by binary search.
 pub fn place_of(targets: &[Target], text: &[u8]) -> usize
     requires { AreInOrder targets.now }
     ensures { IsPlaceOf (texts_of targets.now) text.now result }
@@ -62,7 +62,7 @@ pub fn place_of(targets: &[Target], text: &[u8]) -> usize
     low
 }
 
-/// The target whose label this is in full, by binary search.
+/// Returns the target whose label this is in full, by binary search.
 pub fn target_of(targets: &[Target], text: &[u8]) -> Option<usize>
     requires { AreInOrder targets.now }
     ensures found { IfSome result (λ at. (at < length targets.now) × (slice_index_or (texts_of targets.now) at [] ≡ text.now)) }

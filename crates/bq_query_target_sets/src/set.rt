@@ -10,14 +10,14 @@ use bq_base::Bytes;
 use bq_package_target::Target;
 use std::alloc::{AllocError, Global};
 
-/// The set of none of so many targets.
+/// Returns the empty set of `count` targets.
 pub fn no_target(alloc: Global, count: usize) -> Result<Vec<bool>, AllocError>
     ensures { IfOk result (λ r. r.items ≡ replicate count false) }
 {
     vec![in alloc; false; count]
 }
 
-/// The targets that one of the words names.
+/// Returns the targets that one of the words names.
 pub fn words(alloc: Global, targets: &[Target], words: &[Bytes]) -> Result<Vec<bool>, AllocError>
     requires { AreInOrder targets.now }
     ensures { IfOk result (λ r. IsSet (length targets.now) r.items (Those (one_names words.now) targets.now)) }

@@ -24,7 +24,7 @@ pub enum Subject<'a> {
     Attribute(&'a [u8]),
 }
 
-/// `NAME rule`, `source file`, `generated file` or `package group`.
+/// Writes `NAME rule`, `source file`, `generated file` or `package group`.
 #[tactic(auto, unfolding(crate::specs::Texts::kind_text))]
 pub fn write_kind(kind: &TargetKind, text: &mut Vec<u8>) -> Result<(), AllocError>
     ensures { OnOk result (text.new.items ≡ text.old.items ++ kind_text kind.now) }
@@ -40,7 +40,7 @@ pub fn write_kind(kind: &TargetKind, text: &mut Vec<u8>) -> Result<(), AllocErro
     }
 }
 
-/// A label in full.
+/// Writes a label in full.
 #[tactic(auto, unfolding(bq_label::specs::Label::full_form))]
 pub fn write_label(label: &Label, text: &mut Vec<u8>) -> Result<(), AllocError>
     ensures { OnOk result (text.new.items ≡ text.old.items ++ full_form label.now) }
@@ -106,7 +106,7 @@ fn write_int(n: i64, text: &mut Vec<u8>) -> Result<(), AllocError>
     text.extend_from_slice(buffer.format(n).as_bytes())
 }
 
-/// Strings as they are, integers in decimal, 1 for true and 0 for false, labels in full.
+/// Writes strings as they are, integers in decimal, 1 for true and 0 for false, labels in full.
 #[tactic(auto, unfolding(crate::specs::Texts::value_text))]
 fn write_value(value: &AttributeValue, text: &mut Vec<u8>) -> Result<(), AllocError>
     ensures { OnOk result (text.new.items ≡ text.old.items ++ value_text value.now) }
@@ -124,7 +124,7 @@ fn write_value(value: &AttributeValue, text: &mut Vec<u8>) -> Result<(), AllocEr
     }
 }
 
-/// Of an attribute that isn't given and has no default of its own.
+/// Returns the text of an attribute that isn't given and has no default of its own.
 #[tactic(auto, unfolding(crate::specs::Texts::default_text))]
 fn default_text(kind: Option<AttributeType>) -> Option<&'static [u8]>
     ensures { option_copied result ≡ default_text kind }
@@ -142,7 +142,7 @@ fn default_text(kind: Option<AttributeType>) -> Option<&'static [u8]>
     }
 }
 
-/// What an attribute of the target has: what the call gives it, or the default that the rule gives it.
+/// Returns an attribute of the target, with what the call gives it or the default that the rule gives it.
 pub fn given<'a>(name: &[u8], target: &'a Target) -> Option<&'a GivenAttribute>
     ensures { option_copied result ≡ given name.now target.now }
 {
@@ -156,7 +156,7 @@ pub fn given<'a>(name: &[u8], target: &'a Target) -> Option<&'a GivenAttribute>
     None
 }
 
-/// Of an attribute of a rule. Says whether there is one.
+/// Writes an attribute of a rule. Returns whether there is one.
 fn write_attribute(
     class: &RuleClass,
     name: &[u8],
@@ -180,7 +180,7 @@ fn write_attribute(
     }
 }
 
-/// The text of a target that a pattern is looked for in. Says whether there is one.
+/// Writes the text of a target that a pattern is looked for in. Returns whether there is one.
 #[tactic(auto, unfolding(crate::specs::Texts::attribute_text))]
 pub fn write_subject(
     subject: Subject<'_>,

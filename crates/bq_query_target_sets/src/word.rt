@@ -1,5 +1,5 @@
-//! The targets that a word names: `//p:n`, `//p:all`, `//p:*`, `//p/...`, `//p/...:*`. All of a package, or of the packages beneath it,
-//! stand together in the order of labels, since their labels begin alike.
+//! The targets that a word names: `//p:n`, `//p:all`, `//p:*`, `//p/...`, `//p/...:*`. All of a package, or of the
+//! packages beneath it, are together in the order of labels, since their labels begin alike.
 
 ghost use Rattle.std.specs.Prelude.{◌≡◌, ◌++◌, ◌∷◌, [], ◌&&◌, ◌<◌, ◌≤◌, Some, length, codes, IfOk, OnOk};
 ghost use Rattle.bq_query_target_sets.specs.Order.{texts_of, AreInOrder, IsPlaceOf};
@@ -21,14 +21,14 @@ fn is_rule(target: &Target) -> bool
     }
 }
 
-/// Whether the target is a rule, where rules alone are wanted.
+/// Returns whether the target is a rule, or `rules` doesn't ask for one.
 fn is_wanted(rules: bool, target: &Target) -> bool
     ensures { result ≡ is_wanted rules target.now }
 {
     is_rule(target) || !rules
 }
 
-/// What was read, if anything was.
+/// Returns what was read, or `None` if it was refused.
 fn read_or_none<T>(read: Result<T, SourceErr>) -> Result<Option<T>, AllocError>
     ensures { IfOk result (WasRead read) }
 {
@@ -39,7 +39,7 @@ fn read_or_none<T>(read: Result<T, SourceErr>) -> Result<Option<T>, AllocError>
     }
 }
 
-/// The label that a word reads as.
+/// Reads a word as a label.
 pub fn label_named(alloc: Global, word: &[u8]) -> Result<Option<Label>, AllocError>
     ensures { IfOk result (λ l. l ≡ label_named word.now) }
 {
@@ -47,7 +47,7 @@ pub fn label_named(alloc: Global, word: &[u8]) -> Result<Option<Label>, AllocErr
     read_or_none(read_label(alloc, word, &root))
 }
 
-/// The label `part:x`.
+/// Reads the label `part:x`.
 fn label_in(alloc: Global, part: &[u8]) -> Result<Option<Label>, AllocError>
     ensures { IfOk result (λ l. l ≡ label_named (part.now ++ codes ":x")) }
 {
@@ -56,7 +56,7 @@ fn label_in(alloc: Global, part: &[u8]) -> Result<Option<Label>, AllocError>
     label_named(alloc, &word)
 }
 
-/// The package that the part of a word before `:` or `/...` names.
+/// Returns the package that the part of a word before `:` or `/...` names.
 #[tactic(auto, unfolding(crate::specs::Words::package_named))]
 pub fn package_named(alloc: Global, part: &[u8]) -> Result<Option<PackageId>, AllocError>
     ensures { IfOk result (λ p. p ≡ package_named part.now) }
@@ -67,7 +67,7 @@ pub fn package_named(alloc: Global, part: &[u8]) -> Result<Option<PackageId>, Al
     }
 }
 
-/// `//package`, or `@repository//package`.
+/// Returns `//package`, or `@repository//package`.
 pub fn package_text(alloc: Global, id: &PackageId) -> Result<Vec<u8>, AllocError>
     ensures { IfOk result (λ text. text.items ≡ package_text id.now) }
 {
@@ -81,7 +81,7 @@ pub fn package_text(alloc: Global, id: &PackageId) -> Result<Vec<u8>, AllocError
     Ok(text)
 }
 
-/// How the labels of the packages beneath it begin, without the last slash.
+/// Returns how the labels of the packages beneath it begin, without the last slash.
 fn beneath_text(alloc: Global, id: &PackageId) -> Result<Vec<u8>, AllocError>
     ensures { IfOk result (λ text. (text.items, 47) ≡ beneath id.now) }
 {
@@ -97,7 +97,7 @@ fn beneath_text(alloc: Global, id: &PackageId) -> Result<Vec<u8>, AllocError>
     Ok(text)
 }
 
-/// Adds the targets from one place to another, or the rules among them.
+/// Adds the targets from one place to another; with `rules` only the rules among them.
 fn add_range(targets: &[Target], from: usize, to: usize, rules: bool, marks: &mut Vec<bool>)
     requires order { from ≤ to }
     requires to { to ≤ length targets.now }
@@ -113,7 +113,7 @@ fn add_range(targets: &[Target], from: usize, to: usize, rules: bool, marks: &mu
     }
 }
 
-/// The bytes and one more.
+/// Returns the bytes and one more.
 fn with_last(alloc: Global, start: &[u8], last: u8) -> Result<Vec<u8>, AllocError>
     ensures { IfOk result (λ text. text.items ≡ start.now ++ last ∷ []) }
 {
@@ -122,7 +122,7 @@ fn with_last(alloc: Global, start: &[u8], last: u8) -> Result<Vec<u8>, AllocErro
     Ok(text)
 }
 
-/// How many targets there are before these bytes and the last one.
+/// Returns how many targets there are before these bytes and the last one.
 fn place_before(
     alloc: Global,
     targets: &[Target],
@@ -136,7 +136,7 @@ fn place_before(
     Ok(place_of(targets, &text))
 }
 
-/// Adds the targets whose labels begin with these bytes and the last one, or the rules among them.
+/// Adds the targets whose labels begin with these bytes and the last one; with `rules` only the rules among them.
 fn add_beginning(
     alloc: Global,
     targets: &[Target],
@@ -156,7 +156,7 @@ fn add_beginning(
     Ok(())
 }
 
-/// Adds the targets of a package itself.
+/// Adds the targets of a package itself; with `rules` only its rules.
 fn add_own(
     alloc: Global,
     targets: &[Target],
@@ -172,7 +172,7 @@ fn add_own(
     add_beginning(alloc, targets, &text, b':', rules, marks)
 }
 
-/// Adds the targets of the packages beneath a package.
+/// Adds the targets of the packages beneath a package; with `rules` only their rules.
 fn add_beneath(
     alloc: Global,
     targets: &[Target],
@@ -188,7 +188,7 @@ fn add_beneath(
     add_beginning(alloc, targets, &text, b'/', rules, marks)
 }
 
-/// Adds the targets of a package, or also those of the packages beneath it; or the rules among them.
+/// Adds the targets of a package, and with `deep` those of the packages beneath it; with `rules` only the rules.
 fn add_package(
     alloc: Global,
     targets: &[Target],
@@ -208,7 +208,7 @@ fn add_package(
     add_beneath(alloc, targets, id, rules, marks)
 }
 
-/// The same, of the package that the part of a word names.
+/// Adds the targets of the package that the part of a word names, likewise.
 fn add_named(
     alloc: Global,
     targets: &[Target],
@@ -265,7 +265,7 @@ pub fn add_label(
     }
 }
 
-/// `//p:n`
+/// Returns whether the form is `//p:n`.
 fn is_label_form(form: PatternForm) -> bool
     ensures { result ≡ is_label_form form }
 {
@@ -278,7 +278,7 @@ fn is_label_form(form: PatternForm) -> bool
     }
 }
 
-/// `/...`: the packages beneath too.
+/// Returns whether the form has `/...`: the packages beneath too.
 fn is_deep(form: PatternForm) -> bool
     ensures { result ≡ is_deep form }
 {
@@ -291,7 +291,7 @@ fn is_deep(form: PatternForm) -> bool
     }
 }
 
-/// `:all`, or `/...` alone: rules alone.
+/// Returns whether the form is `:all`, or `/...` alone: rules alone.
 fn are_rules(form: PatternForm) -> bool
     ensures { result ≡ are_rules form }
 {

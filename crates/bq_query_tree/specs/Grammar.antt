@@ -71,7 +71,7 @@ pub data IsQueryOver (depth : ℕ) (Inner : Phrase Query) : List Lexeme → List
   chained : {ts mid rest : List Lexeme} {x y : Query} {os : List SetOperation}
       → IsOperand depth Inner ts mid x → AreOperations depth Inner mid rest os → y ≡ chain_of x os → IsQueryOver depth Inner ts rest y
 
--- a query in which so many parentheses and lets may be open
+-- a query in which a number of parentheses and lets may be open
 abbrev pub IsQueryTo : ℕ → Phrase Query
 IsQueryTo zero = IsQueryOver 0 none
 IsQueryTo (suc depth) = IsQueryOver (suc depth) (IsQueryTo depth)

@@ -131,7 +131,7 @@ query_in depth inner ts =
     if sees k.Let ts then let_in depth inner (next ts)
     else (operand depth inner ts >>= λ x mid. operations depth inner [] mid >>= λ os rest. Some (chain_of x os, rest))
 
--- a query in which so many parentheses and lets less one may be open
+-- a query in which fewer than a number of parentheses and lets may be open
 unfoldable pub query_to : ℕ → Parse Query
 query_to zero ts = None
 query_to (suc depth) ts = query_in depth (query_to depth) ts

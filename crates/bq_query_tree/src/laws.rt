@@ -9,12 +9,12 @@ pub fn what_is_read_is_a_query()
     ensures { (depth : ℕ) (ts rest : List Lexeme) → Sound depth ts rest }
 {}
 
-/// A query of the grammar is read whole, where no token follows that goes on with it.
+/// A query of the grammar is read whole, if no token follows that continues it.
 pub fn each_query_is_read()
     ensures { (depth : ℕ) (ts rest : List Lexeme) → Complete depth ts rest }
 {}
 
-/// Tokens have one tree at most.
+/// Tokens have at most one tree.
 pub fn one_tree_of_a_query()
     ensures { (depth : ℕ) (ts rest : List Lexeme) → OneQuery depth ts rest }
 {}

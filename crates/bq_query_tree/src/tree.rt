@@ -11,12 +11,12 @@ pub enum SetOperator {
     Except,
 }
 
-/// What a text says, before it is known whether the names in it mean anything. The parts of each are in the order of the text.
-/// Chains stand in lists, so that a tree is no deeper than the parentheses and lets of its text, times two.
+/// What a text says, before it is known whether its names mean anything. The parts of each are in the order of the
+/// text. Chains are lists, so a tree is at most twice as deep as the parentheses and lets of its text.
 #[cycle(query)]
 #[derive(Drop)]
 pub enum Query {
-    /// A word, without its quotes where it has some.
+    /// A word, without its quotes if it has some.
     Word(Bytes),
     /// `$name`, without `$`.
     Variable(Bytes),

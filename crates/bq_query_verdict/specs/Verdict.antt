@@ -61,7 +61,7 @@ abbrev pub function_by : Option QueryFunction → List ℕ → ℕ → Fault
 function_by None name n = Some (unknown name)
 function_by (Some f) name n = if fits f n then None else Some e.Arguments
 
--- a function with so many arguments
+-- a function with a number of arguments
 abbrev pub function : List ℕ → ℕ → Fault
 function name n = function_by (function_named name) name n
 

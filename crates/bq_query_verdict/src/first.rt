@@ -11,7 +11,7 @@ use bq_query_lex::QueryErr;
 use bq_query_tree::Query;
 use std::alloc::Global;
 
-/// The faults at the first token.
+/// Fails with the fault at the first token, if it has one.
 fn at_first(alloc: Global, names: &[Bytes], query: &Query) -> Result<(), QueryErr>
     ensures { Tells ((part_of query.now).at_first names.now) result }
 {
@@ -26,7 +26,7 @@ fn at_first(alloc: Global, names: &[Bytes], query: &Query) -> Result<(), QueryEr
     }
 }
 
-/// What is wrong with an argument that has to be one word and is not: Q8 at its first token.
+/// Returns what is wrong with an argument that has to be one word and isn't: Q8 at its first token.
 pub fn no_word(alloc: Global, names: &[Bytes], query: &Query) -> QueryErr
     ensures { result ≢ Memory → spec.no_word (part_of query.now) names.now ≡ Some result }
 {

@@ -12,7 +12,7 @@ use bq_label::{PackageId, read_label};
 use bq_query_lex::{QueryErr, QueryFunction, begins_pattern, function_named, is_left_out};
 use std::alloc::{AllocError, Global};
 
-/// Whether something was read.
+/// Returns whether something was read.
 fn is_read<T: Drop>(read: Result<T, SourceErr>) -> Result<bool, AllocError>
     ensures { IfOk result (spec.IsRead read) }
 {
@@ -23,7 +23,7 @@ fn is_read<T: Drop>(read: Result<T, SourceErr>) -> Result<bool, AllocError>
     }
 }
 
-/// Whether the text reads as a label in the root package.
+/// Returns whether the text reads as a label in the root package.
 fn is_label(alloc: Global, text: &[u8]) -> Result<bool, AllocError>
     ensures { IfOk result (λ b. b ≡ is_some (label_of (package_at [] []) text.now)) }
 {
@@ -31,7 +31,7 @@ fn is_label(alloc: Global, text: &[u8]) -> Result<bool, AllocError>
     is_read(read_label(alloc, text, &root))
 }
 
-/// A word as a target pattern: Q3 where it begins as none that can be answered, Q8 where it can't be read.
+/// Checks a word as a target pattern: Q3 if it doesn't begin as one that can be answered, Q8 if it can't be read.
 pub fn word(alloc: Global, word: &Bytes) -> Result<(), QueryErr>
     ensures { Tells (spec.word word.now) result }
 {
@@ -66,7 +66,7 @@ fn is_among(mut names: &[Bytes], name: &[u8]) -> bool
     false
 }
 
-/// Q7 where no `let` around it binds the variable.
+/// Fails with Q7 if no `let` around it binds the variable.
 pub fn variable(names: &[Bytes], name: &Bytes) -> Result<(), QueryErr>
     ensures { Tells (spec.variable names.now name.now) result }
 {
@@ -76,7 +76,8 @@ pub fn variable(names: &[Bytes], name: &Bytes) -> Result<(), QueryErr>
     Err(QueryErr::UnboundVariable(name.share()?))
 }
 
-/// A name that is no function's that can be answered: Q3 where Bazel has a function of this name, Q2 where it has none.
+/// Returns the error of a name that isn't that of a function that can be answered: Q3 if Bazel has a function of this
+/// name, Q2 if not.
 pub fn unknown(name: &Bytes) -> Result<QueryErr, AllocError>
     ensures { IfOk result (λ e. e ≡ spec.unknown name.now) }
 {
@@ -96,7 +97,8 @@ fn fits(function: QueryFunction, count: usize) -> bool
     function.takes_number() && count == wanted + 1
 }
 
-/// Q2 or Q3 where the name is no function's that can be answered, Q8 where the number of its arguments is wrong.
+/// Fails with Q2 or Q3 if the name isn't that of a function that can be answered, with Q8 if the number of its
+/// arguments is wrong.
 pub fn function(name: &Bytes, count: usize) -> Result<(), QueryErr>
     ensures { Tells (spec.function name.now count) result }
 {
@@ -124,7 +126,7 @@ fn are_digits(word: &[u8]) -> bool
     word.iter().all(|b| is_digit(*b))
 }
 
-/// 1 to 9 digits.
+/// Returns whether the word consists of 1 to 9 digits.
 pub fn is_number(word: &[u8]) -> bool
     ensures { result ≡ spec.is_number word.now }
 {
