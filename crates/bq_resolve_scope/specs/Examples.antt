@@ -80,6 +80,10 @@ call line name = e.Primary (named line name) (suffix.Call [] ∷ [])
 abbrev pub member_call : ℕ → List ℕ → List ℕ → Expr
 member_call line space name = e.Primary (named line space) (suffix.Method (word line name) [] ∷ [])
 
+-- `(space).name()`
+abbrev pub parenthesized_call : ℕ → List ℕ → List ℕ → Expr
+parenthesized_call line space name = e.Primary (e.Primary (named line space) []) (suffix.Method (word line name) [] ∷ [])
+
 abbrev pub native_call : ℕ → List ℕ → Expr
 native_call line name = member_call line (codes "native") name
 
@@ -164,12 +168,14 @@ Native =
     (resolved bzl (top 1 (simple 1 (small.Expr (native_call 1 (codes "nope")))) ∷ []) ≡ fault f.UnknownName 1 (codes "nope"))
     × (resolved build (top 1 (simple 1 (small.Expr (native_call 1 (codes "glob")))) ∷ []) ≡ fault f.UnknownName 1 (codes "native"))
 
--- `attr.int()` makes an attribute in a .bzl file; `attr.nope()` is F20 at `nope`; `attr` alone, and `attr.int()` in a BUILD file, at `attr`
+-- `attr.int()` makes an attribute in a .bzl file; `attr.nope()` is F20 at `nope`; `attr` alone, `(attr).int()`, and `attr.int()` in a BUILD
+-- file, at `attr`
 abbrev pub Attr : Type 0
 Attr =
     (resolved bzl (top 1 (simple 1 (small.Expr (attr_call 1 (codes "int")))) ∷ []) ≡ of_lines (line_of 1 (called (code.Member (p.RuleFunction function.AttrInt))) ∷ []) [])
     × (resolved bzl (top 1 (simple 1 (small.Expr (attr_call 1 (codes "nope")))) ∷ []) ≡ fault f.UnknownName 1 (codes "nope"))
     × (resolved bzl (top 1 (simple 1 (small.Expr (named 1 (codes "attr")))) ∷ []) ≡ fault f.UnknownName 1 (codes "attr"))
+    × (resolved bzl (top 1 (simple 1 (small.Expr (parenthesized_call 1 (codes "attr") (codes "int")))) ∷ []) ≡ fault f.UnknownName 1 (codes "attr"))
     × (resolved build (top 1 (simple 1 (small.Expr (attr_call 1 (codes "int")))) ∷ []) ≡ fault f.UnknownName 1 (codes "attr"))
 
 -- `attr = []`, then `attr.int()`: a file's own `attr` is a value like another; so is one that it loads

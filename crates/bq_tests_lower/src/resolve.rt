@@ -624,6 +624,7 @@ attr | line 1: F20 UnknownName attr
 attr() | line 1: F20 UnknownName attr
 attr.int() | line 1: F20 UnknownName attr
 attr.nope() | line 1: F20 UnknownName attr
+(attr).int() | line 1: F20 UnknownName attr
 # A file's own.
 attr = 1\nattr.int() | 1: global0= 1 ; 2: global0 ; globals attr
 rule = 1\nrule | 1: global0= 1 ; 2: global0 ; globals rule
@@ -645,7 +646,7 @@ attr.string_list(default = [1]) | 1: . RuleFunction(AttrStringList) 1 ;
 attr.label(mandatory = True) | 1: . RuleFunction(AttrLabel) True ;
 attr.label_list() | 1: . RuleFunction(AttrLabelList) ;
 attr.int().x(1)[2] | 1: . RuleFunction(AttrInt) 1 2 ;
-(attr).int() | 1: . RuleFunction(AttrInt) ;
+(attr.int()).x() | 1: . RuleFunction(AttrInt) ;
 x = {"a": attr.int(), "b": attr.bool()} | 1: global0= . RuleFunction(AttrInt) . RuleFunction(AttrBool) ; globals x
 def f(x): return attr.int(default = x) | 1: def global0= function0 ; function f 1 ( 0 ) return . RuleFunction(AttrInt) local0 ; globals f
 # What it doesn't hold.
@@ -666,16 +667,24 @@ len(attr) | line 1: F20 UnknownName attr
 len(attr = 1) | 1: Len 1 ;
 attr.int | line 1: F12 LeftOut
 x = attr.int | line 1: F12 LeftOut
+(attr).int() | line 1: F20 UnknownName attr
+((attr)).int() | line 1: F20 UnknownName attr
+(attr).nope(x) | line 1: F20 UnknownName attr
+x = [(\n attr).int()] | line 2: F20 UnknownName attr
+(attr).int | line 1: F12 LeftOut
+(native).glob([]) | line 1: F12 LeftOut
 def f(a = attr): pass | line 1: F20 UnknownName attr
 # A file's own `attr` is a value like another.
 attr = 1\nattr.int() | 1: global0= 1 ; 2: global0 ; globals attr
 attr.nope()\nattr = 1 | 1: global0 ; 2: global0= 1 ; globals attr
+(attr).int()\nattr = 1 | 1: global0 ; 2: global0= 1 ; globals attr
 attr = attr.int() | 1: global0= global0 ; globals attr
 load(":m", "attr")\nattr.int() | 1: load ; 2: loaded0 ; load :m 1 attr=attr
 load(":m", x = "attr")\nattr.int() | 1: load ; 2: . RuleFunction(AttrInt) ; load :m 1 x=attr
 load(":m", "attr")\nattr = 1 | line 2: F21 Rebound attr
 def attr(): return attr.int() | 1: def global0= function0 ; function attr 0 ( ) return global0 ; globals attr
 def f(attr): return attr.int() | 1: def global0= function0 ; function f 1 ( 0 ) return local0 ; globals f
+def f(attr): return (attr).int() | 1: def global0= function0 ; function f 1 ( 0 ) return local0 ; globals f
 def f(attr = attr.int()): return attr | 1: def global0= function0 . RuleFunction(AttrInt) ; function f 1 ( 0= ) return local0 ; globals f
 def f():\n attr.int()\n attr = 1 | 1: def global0= function0 ; function f 1 ( ) local0 ; local0= 1 ; globals f
 def f():\n attr = 1\n[attr.int() for x in [1]] | 1: def global0= function0 ; 3: {1 . RuleFunction(AttrInt) local0= 1 } ; function f 1 ( ) local0= 1 ; globals f
