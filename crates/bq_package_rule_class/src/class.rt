@@ -2,7 +2,6 @@
 
 ghost use Rattle.std.specs.Prelude.{◌≡◌, [], length, bytes_eq, option_copied, option_map, slice_get, IfOk};
 ghost use Rattle.std.specs.Map.{lookup};
-ghost use Rattle.bq_package_rule_class.specs.Class.{extended};
 
 use crate::attribute::Attribute;
 use crate::attributes::Attributes;
@@ -28,13 +27,20 @@ impl Model for RuleClass {
 }
 
 impl RuleClass {
+    /// Of a rule that has these of its own.
+    pub fn of(alloc: Global, attributes: Attributes) -> Result<RuleClass, AllocError>
+        ensures { IfOk result (λ c. c ≡ attributes) }
+    {
+        Ok(RuleClass {
+            attributes: Arc::new(alloc, attributes)?,
+        })
+    }
+
     /// Of a rule that has none of its own.
     pub fn empty(alloc: Global) -> Result<RuleClass, AllocError>
         ensures { IfOk result (λ c. c ≡ []) }
     {
-        Ok(RuleClass {
-            attributes: Arc::new(alloc, Attributes::new(alloc))?,
-        })
+        RuleClass::of(alloc, Attributes::new(alloc))
     }
 
     /// The same class. Nothing is copied.
@@ -65,36 +71,5 @@ impl RuleClass {
         ensures { option_map (λ e. (e.0.now, e.1.now)) result ≡ slice_get self.now place }
     {
         self.attributes.entry(place)
-    }
-
-    /// The attributes themselves where this is their only owner, else the same ones once more.
-    fn into_attributes(self, alloc: Global) -> Result<Attributes, AllocError>
-        ensures { IfOk result (λ a. a ≡ self) }
-    {
-        let RuleClass { attributes } = self;
-        match Arc::try_unwrap(attributes) {
-            Ok(attributes) => Ok(attributes),
-            Err(shared) => shared.copy(alloc),
-        }
-    }
-
-    /// With one attribute more, as the last; none where one has the name. The attributes are moved where nothing else owns them,
-    /// else copied.
-    #[tactic(auto, unfolding(crate::specs::Class::extended, crate::specs::Class::with_attribute))]
-    pub fn with(
-        self,
-        alloc: Global,
-        name: &[u8],
-        attribute: Attribute,
-    ) -> Result<Option<RuleClass>, AllocError>
-        ensures { IfOk result (λ c. c ≡ extended self name.now attribute) }
-    {
-        let mut attributes = self.into_attributes(alloc)?;
-        if !attributes.add(alloc, name, attribute)? {
-            return Ok(None);
-        }
-        Ok(Some(RuleClass {
-            attributes: Arc::new(alloc, attributes)?,
-        }))
     }
 }
