@@ -6,7 +6,7 @@ use Rattle.bq_eval_rule_functions.proofs.Building.{Left, first, more_is, none_mi
 use Rattle.bq_eval_rule_functions.proofs.rule.entries.Goals as goal
 
 pub loop-i-init : goal.loop-i-init
-loop-i-init c = subst (Left c.args.dict.now 0) (sym c.new.ensures) (first c.args.dict.now c.requires)
+loop-i-init c = subst (Left c.args.dict.now 0) (sym c.new-attributes.ensures) (first c.args.dict.now c.requires)
 
 pub returns-in-None : goal.returns-in-None
 returns-in-None c =
