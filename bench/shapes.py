@@ -77,13 +77,13 @@ def fan(modules):
     yield "BUILD", f'{loads}filegroup(name = "t" + str(max([{", ".join(f"v{m}" for m in last)}])))\n'
 
 
-def steps(files=900, packages=1000):
+def steps(files=900, packages=1000, turns=1000):
     yield "chain/BUILD", ""
-    yield "chain/m0.bzl", LOOP + "value = turns(2000)\n"
+    yield "chain/m0.bzl", f"{LOOP}value = turns({2 * turns})\n"
     for m in range(1, files):
-        yield f"chain/m{m}.bzl", f'load("//chain:m{m - 1}.bzl", before = "value")\n{LOOP}value = before + turns(2000)\n'
+        yield f"chain/m{m}.bzl", f'load("//chain:m{m - 1}.bzl", before = "value")\n{LOOP}value = before + turns({2 * turns})\n'
     for p in range(packages):
-        yield f"tree/package_{p}/BUILD", f'load("//chain:m{files - 1}.bzl", "value", "turns")\nfilegroup(name = "t" + str(turns(1000) + value))\n'
+        yield f"tree/package_{p}/BUILD", f'load("//chain:m{files - 1}.bzl", "value", "turns")\nfilegroup(name = "t" + str(turns({turns}) + value))\n'
 
 
 def file(turns=200000):
