@@ -82,7 +82,7 @@ fn evaluate_bzl(rt: &HostRuntime, setting: Setting<'_>, text: &[u8]) -> Result<(
     let Some(code) = alone(setting, FileKind::Bzl, text)? else {
         return Ok(());
     };
-    let own = PackageId::root();
+    let own = PackageId::root(setting.alloc)?;
     let host = BuildHost::outside(setting.alloc, &own, setting.packages)?;
     evaluate(rt, setting, &code, host)
 }

@@ -68,9 +68,14 @@ fn make<T: Threads + Wait + RandomSource + Sync>(
 }
 
 /// Makes the call that a word names.
-fn make_named(rt: &HostRuntime, word: &str, query: &str) -> Result<()> {
+fn make_named<T: Threads + Wait + RandomSource + Sync>(
+    rt: &HostRuntime,
+    threads: &T,
+    word: &str,
+    query: &str,
+) -> Result<()> {
     match Call::named(word) {
-        Some(call) => make(rt, rt, call, query),
+        Some(call) => make(rt, threads, call, query),
         None => Err(anyhow!("unknown call {word}")),
     }
 }
@@ -78,7 +83,7 @@ fn make_named(rt: &HostRuntime, word: &str, query: &str) -> Result<()> {
 fn main(rt: HostRuntime) -> Result<()> {
     let words = env::args(&rt)?.collect::<Vec<String>>(rt.alloc())?;
     match words.as_slice() {
-        [_, word, query] => make_named(&rt, word.as_str(), query.as_str()),
+        [_, word, query] => make_named(&rt, &rt, word.as_str(), query.as_str()),
         _ => Err(anyhow!("usage: bench_refused CALL QUERY < BUNDLE")),
     }
 }
