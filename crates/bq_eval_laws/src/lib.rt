@@ -1,8 +1,8 @@
 //! Laws of the evaluation of files, by the definitions of `bq_eval`.
 //!
 //! In: nothing; the functions do nothing, and their contracts are the laws. The promise: a file has a number of steps and an outcome of
-//! its own, which no limit changes; a cell of another module holds at a file's end what it held at its start; and a rule holds the same
-//! attributes after each call.
+//! its own, which no limit changes; a cell of another module holds at a file's end what it held at its start; a rule holds the same
+//! attributes after each call; and a module that loads another can call the functions that this one could.
 //!
 //! They hold beside each host whose calls don't look at the steps that are left. How the proofs go: `Takes` (bq_builtin_step_laws) says of
 //! an action that it has a number of steps and an outcome of its own. By the laws there it holds of what a machine does, of walks over
@@ -12,4 +12,6 @@
 
 mod laws;
 
-pub use laws::{calls_keep_rules, files_take_their_steps, other_modules_stay};
+pub use laws::{
+    calls_keep_rules, files_take_their_steps, loaders_reach_as_far, other_modules_stay,
+};
