@@ -112,7 +112,7 @@ module _ (file : FileParts) where
 file_by : (file : FileParts) (r : Result (List CodeTopLevel × Passed) Fault) (why : Fault) → IsCalm {A = List CodeTopLevel} r → resolved_by file r ≡ Err why → is_of_names why.kind ≡ true
 file_by file (Err w) why h e =
     let same : w ≡ why = cc in
-    let P : Fault → Type 0 = λ z. z.kind ≢ f.Nesting in subst P same h
+    let P : Fault → Type 0 = λ z. is_of_names z.kind ≡ true in subst P same h
 file_by file (Ok p) why h e = absurd (let no : ⊥ = cc in no)
 
 pub all_of_names : FaultsAreOfNames
