@@ -5,6 +5,6 @@ pub mod Hosts
 -- files
 pub mod Files
 -- modules that are reached
-pub mod Reach
+pub mod Callable
 -- rules
 pub mod Rules

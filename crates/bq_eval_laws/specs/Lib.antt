@@ -1,2 +1,2 @@
 pub mod Files
-pub mod Reach
+pub mod Callable

@@ -3,7 +3,7 @@
 ghost use Rattle.std.specs.Prelude.{List};
 ghost use Rattle.bq_resolve_scope.specs.Names.{Name};
 ghost use Rattle.bq_eval_laws.specs.Files.{HostTakes, FilesTakeTheirSteps, OtherModulesStay, CallsKeepRules};
-ghost use Rattle.bq_eval_laws.specs.Reach.{LoadersReachAsFar};
+ghost use Rattle.bq_eval_laws.specs.Callable.{FunctionsStayCallable};
 
 use bq_eval_host::Host;
 
@@ -24,6 +24,6 @@ pub fn calls_keep_rules<H: Host>()
 {}
 
 /// A module that loads another can call the functions that this one could, its own and those of each module that it reached.
-pub fn loaders_reach_as_far<H: Host>()
-    ensures { (names : List Name) → HostTakes H.means → LoadersReachAsFar names H.means }
+pub fn functions_stay_callable<H: Host>()
+    ensures { (names : List Name) → HostTakes H.means → FunctionsStayCallable names H.means }
 {}

@@ -13,5 +13,5 @@
 mod laws;
 
 pub use laws::{
-    calls_keep_rules, files_take_their_steps, loaders_reach_as_far, other_modules_stay,
+    calls_keep_rules, files_take_their_steps, functions_stay_callable, other_modules_stay,
 };

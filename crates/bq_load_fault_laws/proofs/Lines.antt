@@ -35,7 +35,7 @@ of_module inputs l why (FailsIn.of_statements x tokens is reads parses k) =
 of_module inputs l why (FailsIn.of_names x tokens trees is reads parses names k) =
     right (is_of_tokens why.kind) (is_of_statements why.kind || is_of_names why.kind || is_of_loads why.kind || is_refusal why.kind)
     (right (is_of_statements why.kind) (is_of_names why.kind || is_of_loads why.kind || is_refusal why.kind) (left (is_of_names why.kind) (is_of_loads why.kind || is_refusal why.kind) k))
-of_module inputs l why (FailsIn.of_loads k) =
+of_module inputs l why (FailsIn.of_loads x code is has k) =
     right (is_of_tokens why.kind) (is_of_statements why.kind || is_of_names why.kind || is_of_loads why.kind || is_refusal why.kind)
     (right (is_of_statements why.kind) (is_of_names why.kind || is_of_loads why.kind || is_refusal why.kind)
     (right (is_of_names why.kind) (is_of_loads why.kind || is_refusal why.kind) (left (is_of_loads why.kind) (is_refusal why.kind) k)))
@@ -43,6 +43,7 @@ of_module inputs l why (FailsIn.of_evaluation x code is has k) =
     right (is_of_tokens why.kind) (is_of_statements why.kind || is_of_names why.kind || is_of_loads why.kind || is_refusal why.kind)
     (right (is_of_statements why.kind) (is_of_names why.kind || is_of_loads why.kind || is_refusal why.kind)
     (right (is_of_names why.kind) (is_of_loads why.kind || is_refusal why.kind) (right (is_of_loads why.kind) (is_refusal why.kind) k)))
+of_module inputs l why (FailsIn.no_file none same) = subst (λ (z : Fault). is_of_module z.kind ≡ true) (sym same) refl
 
 none_in : (line : FaultLine) → Contains [] line → ⊥
 none_in line c = omega arith

@@ -1,8 +1,8 @@
 -- The outcome of each module is a value, or a fault of one of its parts.
-use Rattle.std.proofs.Common.{◌≡◌, ◌∙◌, ℕ, suc, ◌+◌, ◌++◌, Bool, true, false, cond, List, [], ◌∷◌, map, Option, Some, None, Result, Ok, Err, slice_get, option_map, refl, sym, ap, subst, arith, IfErr}
+use Rattle.std.proofs.Common.{◌≡◌, ◌∙◌, ℕ, suc, ◌+◌, ◌++◌, ◌&&◌, not, length, Bool, true, false, cond, List, [], ◌∷◌, map, Option, Some, None, Result, Ok, Err, slice_get, option_map, refl, sym, ap, subst, arith, IfErr}
 use Rattle.std.specs.Prelude.{if◌then◌else◌}
-use Rattle.std.specs.List.{AllByRecursion}
-use Rattle.std.proofs.lemmas.Option.{slice_get-map}
+use Rattle.std.specs.List.{AllByRecursion, list_any}
+use Rattle.std.proofs.lemmas.Option.{slice_get-map, get_or_from_slice_get}
 use Rattle.bq_base.specs.declared.fault.Fault.{Fault}
 use Rattle.bq_base.specs.declared.fault.FaultKind.{FaultKind}
 use Rattle.bq_base.specs.declared.fault.FaultKind.TheVariants as f
@@ -36,7 +36,8 @@ use Rattle.bq_load_front.specs.declared.front.Front.{Front}
 use Rattle.bq_load_outcome_spec.specs.Outcome.{first, values, own, evaluated, by_loads, outcome}
 use Rattle.bq_load_outcome_spec.specs.declared.outcome.Outcome.{Outcome}
 use Rattle.bq_load_outcome_spec.specs.declared.outcome.Outcome.TheVariants as o
-use Rattle.bq_load_outcome_spec.proofs.Solution.{outcome_is}
+use Rattle.bq_load_graph_laws.proofs.Nothing.{loads_nothing}
+use Rattle.bq_load_outcome_spec.proofs.Solution.{outcome_is, evaluated_is}
 use Rattle.bq_package.specs.Calls.{HeldPackage, meaning}
 use Rattle.bq_package_fault_laws.specs.Faults.{FailsAsEvaluated, IsResolvedFile, IfAny}
 use Rattle.bq_package_fault_laws.proofs.BuildCalls.{calls_refuse}
@@ -87,6 +88,10 @@ imports_fail x done (s ∷ ss) [] = tt
 imports_fail x done (s ∷ ss) (l ∷ ls) =
     then_only (clause_values x.code (module_named x l) s.line done s.clauses) (λ vs. imports x vs ss ls) (clauses_fail x.code (module_named x l) s.line done s.clauses) (λ vs. imports_fail x vs ss ls)
 
+and_false : (b : Bool) → (b && false) ≡ false
+and_false true = refl
+and_false false = refl
+
 -- ---- a file of a load graph
 
 module _ (inputs : InputParts) where
@@ -121,7 +126,7 @@ module _ (inputs : InputParts) (x : LoadingParts) (all : AllByRecursion IfAny x.
         (files_fail x.names meaning calls_refuse x.code all m front.code is_resolved (map (λ v. v.frozen) modules) values x.limit (kept_first x l))
 
     by_values : (r : Result (List Datum) Fault) → ByLoads r → Fails l (by_imports x m l front.code modules r)
-    by_values (Err why) h = FailsIn.of_loads h
+    by_values (Err why) h = FailsIn.of_loads is.0 front.code is.2.0 is.2.1 h
     by_values (Ok values) h = by_run values
 
   file_fails : (l : LabelParts) (front : Front) → IsFront inputs l (Ok front) → (m : ℕ) (modules : List ModuleView)
@@ -137,9 +142,13 @@ module _ (inputs : InputParts) (x : LoadingParts) (all : AllByRecursion IfAny x.
 
   -- ---- a module in its place
 
-  module _ (p : Loads) (m : ℕ) (l : LabelParts) (at : slice_get x.sources m ≡ Some (source_by l (front_of inputs l))) (there : slice_get x.code m ≡ Some (code_by (front_of inputs l))) where
+  module _ (p : Loads) (m : ℕ) (l : LabelParts) (at : slice_get x.sources m ≡ Some (source_by l (front_of inputs l))) (there : slice_get x.code m ≡ Some (code_by (front_of inputs l)))
+      (none : (why : Fault) → front_of inputs l ≡ Err why → row p m ≡ []) where
     abbrev s : Source
     s = source_by l (front_of inputs l)
+
+    abbrev Holds : Outcome ModuleView FailedView → Type 0
+    Holds one = Fails l (result_of x m s one)
 
     means_fails : (modules : List ModuleView) → Fails l (means x m modules)
     unfolding means
@@ -147,40 +156,62 @@ module _ (inputs : InputParts) (x : LoadingParts) (all : AllByRecursion IfAny x.
         subst (λ z. Fails l (by_source x m modules z)) (sym at)
         (subst (λ z. Fails l (by_code x m s modules (code_in z))) (sym there) (by_front l (front_of inputs l) (fronts_fail inputs l) m modules))
 
-    -- a fault of a load is of this kind
-    of_kind : (kind : FaultKind) (k : ℕ) → is_of_loads kind ≡ true → FailsIn inputs l (load_fault x m s kind k)
-    unfolding load_fault
-    of_kind kind k h = by_loaded (slice_get x.sources k)
-      where
-        by_loaded : (loaded : Option Source) → FailsIn inputs l (load_fault_by kind s (code_in (slice_get x.code m)) loaded)
-        by_loaded None = FailsIn.of_loads h
-        by_loaded (Some source) = FailsIn.of_loads h
-
-    abbrev Holds : Outcome ModuleView FailedView → Type 0
-    Holds one = Fails l (result_of x m s one)
-
     by_result : (r : Result ModuleView FailedView) → Fails l r → Holds (own r)
     by_result (Ok v) h = tt
     by_result (Err why) h = h
 
-    by_loaded_values : (vs : Result (List ModuleView) ℕ) → Holds (evaluated (means x m) vs)
-    by_loaded_values (Ok vs) = by_result (means x m vs) (means_fails vs)
-    by_loaded_values (Err k) = of_kind f.LoadFailed k refl
+    -- a file that has a code may load modules that are cyclic, too deep or failed
+    module _ (front : Front) (is : IsFront inputs l (Ok front)) where
+      of_kind : (kind : FaultKind) (k : ℕ) → is_of_loads kind ≡ true → FailsIn inputs l (load_fault x m s kind k)
+      unfolding load_fault
+      of_kind kind k h = by_loaded (slice_get x.sources k)
+        where
+          by_loaded : (loaded : Option Source) → FailsIn inputs l (load_fault_by kind s (code_in (slice_get x.code m)) loaded)
+          by_loaded None = FailsIn.of_loads is.0 front.code is.2.0 is.2.1 h
+          by_loaded (Some source) = FailsIn.of_loads is.0 front.code is.2.0 is.2.1 h
 
-    by_cases : (cyclic deep : Bool) (k d : ℕ) (vs : Result (List ModuleView) ℕ) → Holds (cond cyclic (o.Cyclic k) (cond deep (o.TooDeep d) (evaluated (means x m) vs)))
-    by_cases true deep k d vs = of_kind f.CycleReached k refl
-    by_cases false true k d vs = of_kind f.LoadDepth d refl
-    by_cases false false k d vs = by_loaded_values vs
+      by_loaded_values : (vs : Result (List ModuleView) ℕ) → Holds (evaluated (means x m) vs)
+      by_loaded_values (Ok vs) = by_result (means x m vs) (means_fails vs)
+      by_loaded_values (Err k) = of_kind f.LoadFailed k refl
+
+      by_cases : (cyclic deep : Bool) (k d : ℕ) (vs : Result (List ModuleView) ℕ) → Holds (cond cyclic (o.Cyclic k) (cond deep (o.TooDeep d) (evaluated (means x m) vs)))
+      by_cases true deep k d vs = of_kind f.CycleReached k refl
+      by_cases false true k d vs = of_kind f.LoadDepth d refl
+      by_cases false false k d vs = by_loaded_values vs
+
+      with_code : Holds (outcome (means x) p m)
+      unfolding by_loads
+      with_code =
+          subst Holds (sym (outcome_is (means x) p m))
+          (by_cases (is_cyclic p m) (is_too_deep p m) (first (is_cyclic p) (row p m)) (first (starts_path p max_load_depth) (row p m)) (values (outcome (means x) p) (row p m)))
+
+    -- one that has none loads nothing, so its outcome is its own
+    module _ (empty : row p m ≡ []) where
+      no_path : (n : ℕ) → starts_path p (suc n) m ≡ false
+      unfolding starts_path
+      no_path n = ap (list_any (starts_path p n)) empty
+
+      not_deep : is_too_deep p m ≡ false
+      unfolding is_too_deep
+      not_deep = ap (λ (z : Bool). not (is_cyclic p m) && z) (no_path max_load_depth) ∙ and_false (not (is_cyclic p m))
+
+      without_code : Holds (outcome (means x) p m)
+      without_code =
+          subst Holds (sym (outcome_is (means x) p m ∙ evaluated_is (means x) p (outcome (means x) p) m (no_path (length p)) not_deep
+          ∙ ap (λ (z : List ℕ). evaluated (means x m) (values (outcome (means x) p) z)) empty))
+          (by_result (means x m []) (means_fails []))
+
+    by_what_is_read : (r : Result Front Fault) → front_of inputs l ≡ r → IsFront inputs l r → Holds (outcome (means x) p m)
+    by_what_is_read (Ok front) e is = with_code front is
+    by_what_is_read (Err why) e is = without_code (none why e)
 
     module_fails : Holds (outcome (means x) p m)
-    unfolding by_loads
-    module_fails =
-        subst Holds (sym (outcome_is (means x) p m))
-        (by_cases (is_cyclic p m) (is_too_deep p m) (first (is_cyclic p) (row p m)) (first (starts_path p max_load_depth) (row p m)) (values (outcome (means x) p) (row p m)))
+    module_fails = by_what_is_read (front_of inputs l) refl (fronts_fail inputs l)
 
 -- ---- all modules
 
-module _ (inputs : InputParts) (x : LoadingParts) (labels : List LabelParts) (sources : x.sources ≡ map source_of (map (module_of inputs) labels)) (codes : x.code ≡ map code_of (map (module_of inputs) labels)) (p : Loads) where
+module _ (inputs : InputParts) (x : LoadingParts) (labels : List LabelParts) (sources : x.sources ≡ map source_of (map (module_of inputs) labels)) (codes : x.code ≡ map code_of (map (module_of inputs) labels)) (p : Loads)
+    (none : (m : ℕ) (l : LabelParts) (why : Fault) → slice_get labels m ≡ Some l → front_of inputs l ≡ Err why → row p m ≡ []) where
   all_code : AllByRecursion IfAny x.code
   all_code = subst (AllByRecursion IfAny) (sym codes) (all_resolved inputs labels)
 
@@ -199,7 +230,7 @@ module _ (inputs : InputParts) (x : LoadingParts) (labels : List LabelParts) (so
   from m (l ∷ ls) same =
       let zero_more : m + 0 ≡ m = omega arith in
       let at : slice_get labels m ≡ Some l = ap (slice_get labels) (sym zero_more) ∙ same 0 in
-      (one l (front_of inputs l) refl (module_fails inputs x all_code p m l (source_at m l at) (code_at m l at)), from (m + 1) ls next)
+      (one l (front_of inputs l) refl (module_fails inputs x all_code p m l (source_at m l at) (code_at m l at) (λ why. none m l why at)), from (m + 1) ls next)
     where
       next : (i : ℕ) → slice_get labels (m + 1 + i) ≡ slice_get ls i
       next i = let more : m + 1 + i ≡ m + suc i = omega arith in ap (slice_get labels) more ∙ same (suc i)
@@ -219,7 +250,7 @@ outcomes_fail files rules limit g is =
     let sources : x.sources ≡ map source_of (map (module_of inputs) g.labels) = ap (map source_of) read in
     let codes : x.code ≡ map code_of (map (module_of inputs) g.labels) = ap (map code_of) read in
     subst (λ ss. AllByRecursion (FailsInItsPart inputs) (outcomes_from x g.edges 0 ss)) (sym sources)
-    (from inputs x g.labels sources codes g.edges 0 g.labels (λ i. refl))
+    (from inputs x g.labels sources codes g.edges (λ m l why at bad. get_or_from_slice_get g.edges m [] [] (loads_nothing inputs g m l why is at bad)) 0 g.labels (λ i. refl))
 
 pub loaded_fail : LoadedModulesFailInTheirParts
 loaded_fail files rules limit l h =

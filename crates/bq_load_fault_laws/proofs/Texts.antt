@@ -150,14 +150,14 @@ module _ (inputs : InputParts) (l : LabelParts) where
   by_labels x is code has (Ok ls) e = (x, is, has)
   by_labels x is code has (Err why) e =
       let bad = ((loads_of_files inputs (package_of l) code.loads).1 why).0 e in
-      FailsIn.of_loads (load_fails inputs.files inputs.packages (package_of l) bad.load.line bad.load.label why bad.bad)
+      FailsIn.of_loads x code is has (load_fails inputs.files inputs.packages (package_of l) bad.load.line bad.load.label why bad.bad)
 
   by_code : (x : File) → label_file inputs.files l ≡ Some x → (r : Result Resolved Fault) → code_of (universe_at inputs l) x.content ≡ r → IsFront (front_with r)
   by_code x is (Ok code) e = by_labels x is code ((codes_of_files (universe_at inputs l) x.content code).0 e) (labels code) refl
   by_code x is (Err why) e = of_text x is why ((faults_of_files (universe_at inputs l) x.content why).0 e)
 
   by_file : (o : Option File) → label_file inputs.files l ≡ o → IsFront (front_at inputs l o)
-  by_file None e = FailsIn.of_loads refl
+  by_file None e = FailsIn.no_file e refl
   by_file (Some x) e = by_code x e (code_of (universe_at inputs l) x.content) refl
 
   pub fronts_fail : IsFront (front_of inputs l)

@@ -1,9 +1,10 @@
 -- What a module of a workspace may fail with: the parts of a module, and the faults that each may have, by their numbers.
-use Rattle.std.specs.Prelude.{◌≡◌, ℕ, Bool, true, ◌||◌, List, map, Option, Some, Result, Ok, Err, IfErr, Contains}
+use Rattle.std.specs.Prelude.{◌≡◌, ℕ, Bool, true, ◌||◌, List, map, Option, Some, None, Result, Ok, Err, IfErr, Contains}
 use Rattle.std.specs.List.{AllByRecursion}
 use Rattle.bq_base.specs.declared.fault.Fault.{Fault}
 use Rattle.bq_base.specs.declared.fault.FaultKind.{FaultKind}
 use Rattle.bq_base.specs.declared.fault.FaultKind.TheVariants as f
+use Rattle.bq_base.specs.Fault.{fault_at}
 use Rattle.bq_source.specs.Reading.{Lexes}
 use Rattle.bq_source.specs.declared.token.Token.{Token}
 use Rattle.bq_parse_grammar.specs.Lexeme.{lexemes}
@@ -54,15 +55,16 @@ abbrev pub universe_at : InputParts → LabelParts → UniverseParts
 universe_at inputs l = universe_of inputs (kind_of l)
 
 -- The module of this label fails with this fault: its text has no tokens; or these are no statements; or the names of these stand for nothing;
--- or it fails by its loads; or it has a code, whose evaluation fails.
+-- or it has a code, and fails by its loads, or in its evaluation. A module without a file is F31, and no workspace has one.
 pub data FailsIn (inputs : InputParts) (l : LabelParts) (why : Fault) : Type 0 where
   of_tokens : (x : File) → label_file inputs.files l ≡ Some x → Lexes x.content (Err why) → is_of_tokens why.kind ≡ true → FailsIn inputs l why
   of_statements : (x : File) (tokens : List Token) → label_file inputs.files l ≡ Some x → Lexes x.content (Ok tokens) → Parses (kind_of l) (lexemes x.content tokens) (Err why)
       → is_of_statements why.kind ≡ true → FailsIn inputs l why
   of_names : (x : File) (tokens : List Token) (trees : List TopLevel) → label_file inputs.files l ≡ Some x → Lexes x.content (Ok tokens) → Parses (kind_of l) (lexemes x.content tokens) (Ok trees)
       → resolved (universe_at inputs l) trees ≡ Err why → is_of_names why.kind ≡ true → FailsIn inputs l why
-  of_loads : is_of_loads why.kind ≡ true → FailsIn inputs l why
+  of_loads : (x : File) (code : Resolved) → label_file inputs.files l ≡ Some x → HasCode (universe_at inputs l) x.content code → is_of_loads why.kind ≡ true → FailsIn inputs l why
   of_evaluation : (x : File) (code : Resolved) → label_file inputs.files l ≡ Some x → HasCode (universe_at inputs l) x.content code → is_refusal why.kind ≡ true → FailsIn inputs l why
+  no_file : label_file inputs.files l ≡ None → why ≡ fault_at f.NoSuchFile 0 → FailsIn inputs l why
 
 -- a module's outcome is a value, or a fault of one of its parts
 abbrev pub FailsInItsPart : InputParts → OutcomeView → Type 0

@@ -10,12 +10,12 @@ use Rattle.bq_eval_laws.specs.Files.{FrozenAre, ends}
 
 -- The functions of the module `home` are there for a file of that number, which loads these modules: they are its own, or those of a
 -- module that it reaches. A call of a function of another module would be F40.
-abbrev pub Reaches : List (Option Resolved) → ℕ → List FrozenView → ℕ → Type 0
-Reaches code number loaded home = (home ≡ number) ⊎ IsSome (frozen_units code loaded home)
+abbrev pub IsCallable : List (Option Resolved) → ℕ → List FrozenView → ℕ → Type 0
+IsCallable code number loaded home = (home ≡ number) ⊎ IsSome (frozen_units code loaded home)
 
 -- Of what a module reached while it was evaluated, each module that loads it reaches all.
-abbrev pub LoadersReachAsFar : {W : Type 0} → List Name → HostCalls W → Type 0
-LoadersReachAsFar {W = W} names host =
+abbrev pub FunctionsStayCallable : {W : Type 0} → List Name → HostCalls W → Type 0
+FunctionsStayCallable {W = W} names host =
     (code : List (Option Resolved)) (number : ℕ) (file : Resolved) → slice_get code number ≡ Some (Some file) → (loaded : List FrozenView) (imports : List Datum) (kept : W) (limit home : ℕ)
-    → Reaches code number loaded home
-    → FrozenAre (ends names host code number file loaded imports kept limit) (λ f. (loader : ℕ) (others : List FrozenView) → Contains others f → Reaches code loader others home)
+    → IsCallable code number loaded home
+    → FrozenAre (ends names host code number file loaded imports kept limit) (λ f. (loader : ℕ) (others : List FrozenView) → Contains others f → IsCallable code loader others home)

@@ -10,7 +10,7 @@ use Rattle.bq_eval_meaning_spec.specs.Module.{frozen_unit, or_else, globals_amon
 use Rattle.bq_eval_operations.specs.Calling.{HostCalls}
 use Rattle.bq_eval.specs.Module.{loading, first_store}
 use Rattle.bq_eval_laws.specs.Files.{HostTakes}
-use Rattle.bq_eval_laws.specs.Reach.{Reaches, LoadersReachAsFar}
+use Rattle.bq_eval_laws.specs.Callable.{IsCallable, FunctionsStayCallable}
 use Rattle.bq_builtin_step_laws.specs.Steps.{Stays}
 use Rattle.bq_eval_laws.proofs.Files.{first_own, freezes}
 
@@ -120,7 +120,7 @@ module _ (n : ℕ) where
   among f h [] c = absurd (none_in f c)
   among f h (g ∷ others) c = elim (Contains-append_cases (g ∷ []) others f c) [
     | inl one ↦ elim (Contains-push_cases [] g f one) [
-      | inl no ↦ absurd (none_in f no)
+      | inl nothing ↦ absurd (none_in f nothing)
       | inr same ↦ some_else (globals_at g n) (globals_among n others) ∙ either (is_some (globals_at g n)) (is_some (globals_among n others)) (inl (subst (λ k. IsSome (globals_at k n)) (sym same) h))
     ]
     | inr later ↦ some_else (globals_at g n) (globals_among n others) ∙ either (is_some (globals_at g n)) (is_some (globals_among n others)) (inr (among f h others later))
@@ -128,7 +128,7 @@ module _ (n : ℕ) where
 
 -- ---- their functions
 
-has_file : Option (Option Resolved) → Bool
+abbrev has_file : Option (Option Resolved) → Bool
 has_file (Some (Some file)) = true
 has_file (Some None) = false
 has_file None = false
@@ -140,7 +140,7 @@ some_unit (Some None) v = refl
 some_unit None v = refl
 
 module _ {W : Type 0} (names : List Name) (host : HostCalls W) (hosts : HostTakes host) where
-  module _ (code : List (Option Resolved)) (number : ℕ) (file : Resolved) (is : slice_get code number ≡ Some (Some file)) (loaded : List FrozenView) (home : ℕ) (reach : Reaches code number loaded home) where
+  module _ (code : List (Option Resolved)) (number : ℕ) (file : Resolved) (is : slice_get code number ≡ Some (Some file)) (loaded : List FrozenView) (home : ℕ) (reach : IsCallable code number loaded home) where
     of_unit : IsSome (frozen_units code loaded home) → (has_file (slice_get code home) && is_some (globals_among home loaded)) ≡ true
     unfolding frozen_units
     of_unit h = sym (some_unit (slice_get code home) (globals_among home loaded)) ∙ h
@@ -161,12 +161,12 @@ module _ {W : Type 0} (names : List Name) (host : HostCalls W) (hosts : HostTake
         has_globals home (frozen s ns gs) ∙ has_first home (s.own, (frozen s ns gs).cells) s.loaded
         ∙ (λ i. own i || reached i) ∙ either (home == number) (has home (first_store number loaded).loaded) (was_there reach)
 
-    loaders_reach : (f : FrozenView) → IsSome (globals_at f home) → (loader : ℕ) (others : List FrozenView) → Contains others f → Reaches code loader others home
+    still_callable : (f : FrozenView) → IsSome (globals_at f home) → (loader : ℕ) (others : List FrozenView) → Contains others f → IsCallable code loader others home
     unfolding frozen_units
-    loaders_reach f h loader others c =
+    still_callable f h loader others c =
         inr (some_unit (slice_get code home) (globals_among home others) ∙ both (has_file (slice_get code home)) (is_some (globals_among home others)) (file_there reach) (among home f h others c))
 
-  pub as_far : LoadersReachAsFar names host
-  as_far code number file is loaded imports kept limit home reach =
-      freezes names host hosts code number file loaded imports kept (λ f. (loader : ℕ) (others : List FrozenView) → Contains others f → Reaches code loader others home)
-      (λ s ns gs stay. loaders_reach code number file is loaded home reach (frozen s ns gs) (is_reached code number file is loaded home reach s ns gs stay)) limit
+  pub stay_callable : FunctionsStayCallable names host
+  stay_callable code number file is loaded imports kept limit home reach =
+      freezes names host hosts code number file loaded imports kept (λ f. (loader : ℕ) (others : List FrozenView) → Contains others f → IsCallable code loader others home)
+      (λ s ns gs stay. still_callable code number file is loaded home reach (frozen s ns gs) (is_reached code number file is loaded home reach s ns gs stay)) limit
