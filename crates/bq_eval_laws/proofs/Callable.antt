@@ -1,7 +1,7 @@
 -- A module that loads another reaches what that one reaches.
 use Rattle.std.proofs.Common.{◌≡◌, ◌∙◌, ◌⊎◌, inl, inr, ℕ, ◌==◌, Bool, true, false, cond, ◌||◌, ◌&&◌, List, [], ◌∷◌, fold, Option, Some, None, is_some, IsSome, slice_get, nat_lt, Contains, refl, sym, ap, subst, arith, eq-eqb, eqb-true}
 use Rattle.std.proofs.lemmas.List.Elements.{Contains-append_cases, Contains-push_cases}
-use Rattle.bq_base.proofs.Choices.{by_bool, left_of, right_of}
+use Rattle.bq_base.proofs.Choices.{left_of, right_of}
 use Rattle.bq_resolve_scope.specs.Names.{Name}
 use Rattle.bq_resolve_scope.specs.declared.code.Resolved.{Resolved}
 use Rattle.bq_value.specs.Cells.{StoreView, FrozenCells, FrozenView, Modules, module_at, globals_of, globals_at, frozen, placed, added, brought}

@@ -1,11 +1,9 @@
 -- What a module of a load graph loads is a .bzl file.
-use Rattle.std.proofs.Common.{◌≡◌, ◌∙◌, ◌<◌, ℕ, zero, suc, ◌⊎◌, inl, inr, List, [], ◌∷◌, map, Option, Some, None, Result, Ok, Err, slice_get, nat_eq, codes, true, false, Contains, refl, sym, ap, subst, arith}
-use Rattle.std.specs.List.{ends_with}
+use Rattle.std.proofs.Common.{◌≡◌, ◌∙◌, ℕ, inl, inr, List, [], ◌∷◌, map, Some, slice_get, Contains, refl, sym, ap, arith}
 use Rattle.std.proofs.lemmas.Option.{get_or_from_slice_get}
 use Rattle.bq_parse_grammar.specs.declared.tree.FileKind.TheVariants as kinds
 use Rattle.bq_label.specs.Label.{LabelParts, package_of}
 use Rattle.bq_label.proofs.Orders.{at_head, in_tail}
-use Rattle.bq_label_set.specs.Labels.{with_labels}
 use Rattle.bq_label_set.proofs.Added.{none_in, the_labels_added}
 use Rattle.bq_board.specs.Counts.{Has}
 use Rattle.bq_board.specs.Graph.{row}
@@ -16,7 +14,7 @@ use Rattle.bq_load_front.specs.Inputs.{InputParts}
 use Rattle.bq_load_front.proofs.Loads.{loaded_files}
 use Rattle.bq_load_discover.specs.LoadGraph.{GraphParts, IsLoadGraph}
 use Rattle.bq_load_discover.specs.Modules.{edges_from}
-use Rattle.bq_load_graph_laws.proofs.Nothing.{At, both}
+use Rattle.bq_load_graph_laws.proofs.Nothing.{both}
 
 -- a load names a .bzl file
 load_is_bzl : (inputs : InputParts) (m l : LabelParts) → Contains (loads_of inputs m) l → kind_of l ≡ kinds.Bzl

@@ -1,23 +1,21 @@
 -- Along loads each module can call the functions of those that it loads, of those that these load, and so on.
-use Rattle.std.proofs.Common.{◌≡◌, ◌∙◌, ℕ, zero, suc, ◌⊎◌, inl, inr, List, [], ◌∷◌, map, Option, Some, None, Result, Ok, Err, slice_get, option_map, Contains, refl, sym, ap, subst}
+use Rattle.std.proofs.Common.{◌≡◌, ◌∙◌, ℕ, zero, suc, inl, inr, List, [], ◌∷◌, map, Option, Some, None, Result, Ok, Err, slice_get, option_map, Contains, refl, sym, ap, subst}
 use Rattle.std.specs.Prelude.{IfOk}
 use Rattle.std.proofs.lemmas.Option.{slice_get-map}
 use Rattle.bq_base.specs.declared.fault.Fault.{Fault}
 use Rattle.bq_parse_grammar.specs.declared.tree.FileKind.{FileKind}
 use Rattle.bq_parse_grammar.specs.declared.tree.FileKind.TheVariants as kinds
 use Rattle.bq_label.specs.Label.{LabelParts}
-use Rattle.bq_label.specs.declared.workspace.File.{File}
 use Rattle.bq_label.proofs.Orders.{at_head, in_tail, head_or_tail}
 use Rattle.bq_label_set.proofs.Added.{none_in}
 use Rattle.bq_resolve_scope.specs.declared.code.Resolved.{Resolved}
 use Rattle.bq_value.specs.Cells.{FrozenView}
 use Rattle.bq_value.specs.Datum.{Datum}
-use Rattle.bq_board.specs.Counts.{Has}
-use Rattle.bq_board.specs.Cycles.{PathTo, Reaches}
-use Rattle.bq_board.specs.Graph.{Loads, row}
+use Rattle.bq_board.specs.Cycles.{PathTo}
+use Rattle.bq_board.specs.Graph.{row}
 use Rattle.bq_eval.specs.Module.{Ended, evaluated, failed, ended, module_run, kept_after}
 use Rattle.bq_eval_laws.specs.Callable.{IsCallable}
-use Rattle.bq_eval_laws.specs.Files.{FrozenAre, ends}
+use Rattle.bq_eval_laws.specs.Files.{FrozenAre}
 use Rattle.bq_eval_laws.proofs.Callable.{stay_callable}
 use Rattle.bq_package.specs.Calls.{meaning}
 use Rattle.bq_package_build_laws.proofs.Calls.{calls_own}
@@ -27,9 +25,9 @@ use Rattle.bq_load_front.specs.Inputs.{InputParts}
 use Rattle.bq_load_front.specs.declared.front.Front.{Front}
 use Rattle.bq_load_discover.specs.LoadGraph.{GraphParts, IsLoadGraph, inputs_of}
 use Rattle.bq_load_discover.specs.Module.{module_of}
-use Rattle.bq_load_outcome_spec.specs.Outcome.{outcome, values}
+use Rattle.bq_load_outcome_spec.specs.Outcome.{outcome}
 use Rattle.bq_load.specs.declared.source.Source.{Source}
-use Rattle.bq_load.specs.Evaluation.{kept_first, evaluation, package_left, stays, module_by, module_after, loaded_parts, by_imports, file_means, or_no_file, code_in, by_code, by_source, means}
+use Rattle.bq_load.specs.Evaluation.{kept_first, evaluation, package_left, module_with, module_by, module_after, loaded_parts, by_imports, file_means, code_in, by_code, by_source, means}
 use Rattle.bq_load.specs.Imports.{imports}
 use Rattle.bq_load.specs.Sources.{LoadingParts, source_by, source_of, code_by, code_of, loading_in}
 use Rattle.bq_load.specs.Views.{ModuleView, FailedView}
@@ -71,13 +69,11 @@ module _ (x : LoadingParts) (k : ℕ) (home : ℕ) where
     where
       by_package : (q : Option PackageTargets) → option_map finished p ≡ q → ForLoaders v.frozen
       by_package None e =
-          let same : module_by (evaluated f prints) p ≡ Ok (record { frozen = f; prints = prints; «package» = None }) = ap (λ (z : Option PackageTargets). Ok (record { frozen = stays f z; prints = prints; «package» = z })) e in
-          let views : record { frozen = f; prints = prints; «package» = None } ≡ v = one_view _ v (sym same ∙ is) in
-          subst (λ (z : ModuleView). ForLoaders z.frozen) views h
+          let same : good (module_with f prints None) ≡ good v = ap (λ (z : Option PackageTargets). good (module_with f prints z)) (sym e) ∙ is in
+          subst (λ (z : ModuleView). ForLoaders z.frozen) (one_view (module_with f prints None) v same) h
       by_package (Some q) e =
-          let same : module_by (evaluated f prints) p ≡ Ok (record { frozen = stays f (Some q); prints = prints; «package» = Some q }) = ap (λ (z : Option PackageTargets). Ok (record { frozen = stays f z; prints = prints; «package» = z })) e in
-          let views : record { frozen = stays f (Some q); prints = prints; «package» = Some q } ≡ v = one_view _ v (sym same ∙ is) in
-          absurd (has_package q (ap (λ (z : ModuleView). z.package) views ∙ none))
+          let same : good (module_with f prints (Some q)) ≡ good v = ap (λ (z : Option PackageTargets). good (module_with f prints z)) (sym e) ∙ is in
+          absurd (has_package q (ap (λ (z : ModuleView). z.package) (one_view (module_with f prints (Some q)) v same) ∙ none))
 
   -- ---- a module by its file
 

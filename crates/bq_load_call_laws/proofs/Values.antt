@@ -1,5 +1,5 @@
 -- A module with a value has one by the values of its loads.
-use Rattle.std.proofs.Common.{◌≡◌, ◌∙◌, ◌<◌, ℕ, ◌⊎◌, inl, inr, Bool, true, false, cond, List, [], ◌∷◌, Result, Ok, Err, Contains, refl, sym, ap, subst, arith}
+use Rattle.std.proofs.Common.{◌≡◌, ◌∙◌, ℕ, inl, inr, Bool, true, false, cond, List, [], ◌∷◌, Result, Ok, Err, Contains, refl, sym, ap, subst, arith}
 use Rattle.bq_label.proofs.Orders.{at_head, in_tail}
 use Rattle.bq_board.specs.Counts.{Has}
 use Rattle.bq_board.specs.Cycles.{is_cyclic, starts_path}
@@ -11,15 +11,16 @@ use Rattle.bq_load_outcome_spec.specs.declared.outcome.Outcome.{Outcome}
 use Rattle.bq_load_outcome_spec.specs.declared.outcome.Outcome.TheVariants as o
 use Rattle.bq_load_outcome_spec.proofs.Solution.{outcome_is}
 
-module _ {V F : Type 0} where
+module _ {V : Type 0} where
   abbrev some_values : List V → Result (List V) ℕ
   some_values vs = Ok vs
 
-  abbrev a_value : V → Outcome V F
-  a_value v = o.Loaded v
-
   same_values : (vs ws : List V) → some_values vs ≡ some_values ws → vs ≡ ws
   same_values vs ws e = cc
+
+module _ {V F : Type 0} where
+  abbrev a_value : V → Outcome V F
+  a_value v = o.Loaded v
 
   same_value : (v w : V) → a_value v ≡ a_value w → v ≡ w
   same_value v w e = cc
@@ -50,7 +51,7 @@ module _ {V F : Type 0} where
 
     pub all_have : (xs : List ℕ) (vs : List V) → values at xs ≡ Ok vs → AllHave xs vs
     all_have [] vs e k h = absurd (omega (arith, h))
-    all_have (x ∷ xs) vs e = one_more x xs vs (at x) refl (values at xs) (all_have xs) e
+    all_have (x ∷ xs) vs e k h = one_more x xs vs (at x) refl (values at xs) (all_have xs) e k h
 
 -- ---- a value
 

@@ -1,5 +1,5 @@
 -- The faults of modules, and their lines, have the numbers of the parts of modules.
-use Rattle.std.proofs.Common.{◌≡◌, ◌⊎◌, inl, inr, Bool, true, false, ◌||◌, List, [], ◌∷◌, ◌++◌, Result, Ok, Err, refl, sym, ap, subst, arith, Contains, IfErr, flat_map}
+use Rattle.std.proofs.Common.{◌≡◌, inl, inr, Bool, true, false, ◌||◌, List, [], ◌∷◌, Result, Ok, Err, refl, sym, subst, arith, Contains, IfErr}
 use Rattle.std.specs.List.{AllByRecursion}
 use Rattle.std.proofs.lemmas.List.Elements.{Contains-append_cases}
 use Rattle.bq_base.specs.declared.fault.Fault.{Fault}

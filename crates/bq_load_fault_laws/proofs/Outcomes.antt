@@ -6,39 +6,31 @@ use Rattle.std.proofs.lemmas.Option.{slice_get-map, get_or_from_slice_get}
 use Rattle.bq_base.specs.declared.fault.Fault.{Fault}
 use Rattle.bq_base.specs.declared.fault.FaultKind.{FaultKind}
 use Rattle.bq_base.specs.declared.fault.FaultKind.TheVariants as f
-use Rattle.bq_base.proofs.Choices.{by_bool}
 use Rattle.bq_board.specs.Cycles.{is_cyclic, starts_path}
 use Rattle.bq_board.specs.Depth.{max_load_depth, is_too_deep}
 use Rattle.bq_board.specs.Graph.{Loads, row}
-use Rattle.bq_builtin_machine.specs.Action.{Run, done, stopped}
-use Rattle.bq_builtin_machine.specs.State.{State}
-use Rattle.bq_eval.specs.Module.{Ended, evaluated as ran, failed, ended, module_run}
-use Rattle.bq_eval_host.specs.Refusals.{is_refusal}
-use Rattle.bq_eval_meaning_spec.specs.Frame.{Frame}
-use Rattle.bq_label.specs.declared.workspace.File.{File}
+use Rattle.bq_builtin_machine.specs.Action.{done}
+use Rattle.bq_eval.specs.Module.{Ended, evaluated as ran, failed, ended, kept_after, module_run}
 use Rattle.bq_label.specs.Label.{LabelParts}
-use Rattle.bq_label.specs.Packages.{label_file}
-use Rattle.bq_load.specs.declared.loaded.Loaded.{Loaded}
 use Rattle.bq_load.specs.declared.source.Source.{Source}
-use Rattle.bq_load.specs.Evaluation.{kept_first, evaluation, package_left, module_by, module_after, loaded_parts, by_imports, file_means, or_no_file, code_in, by_code, by_source, means}
+use Rattle.bq_load.specs.Evaluation.{kept_first, evaluation, package_left, module_by, module_after, loaded_parts, by_imports, file_means, code_in, by_code, by_source, means}
 use Rattle.bq_load.specs.Imports.{is_private, global_by, or_no_symbol, exported, at_symbol, clause_values, module_named, imports, LoadedParts}
 use Rattle.bq_load.specs.Results.{load_fault_by, load_fault, result_of, outcomes_from, outcomes}
 use Rattle.bq_load.specs.Sources.{LoadingParts, source_by, source_of, code_by, code_of, loading_in}
-use Rattle.bq_load.specs.Views.{ModuleView, FailedView, OutcomeView, outcome_view, not_evaluated}
-use Rattle.bq_load_discover.specs.LoadGraph.{GraphParts, IsLoadGraph, inputs_of}
+use Rattle.bq_load.specs.Views.{ModuleView, FailedView}
+use Rattle.bq_load_discover.specs.LoadGraph.{inputs_of}
 use Rattle.bq_load_discover.specs.Module.{module_of}
-use Rattle.bq_load_discover.specs.declared.modules.Module.{Module}
 use Rattle.bq_load_front.specs.Code.{◌>>=◌}
 use Rattle.bq_load_front.specs.Front.{kind_of, front_of}
 use Rattle.bq_load_front.specs.Inputs.{InputParts}
-use Rattle.bq_load_front.specs.Laws.{HasCode}
 use Rattle.bq_load_front.specs.declared.front.Front.{Front}
 use Rattle.bq_load_outcome_spec.specs.Outcome.{first, values, own, evaluated, by_loads, outcome}
 use Rattle.bq_load_outcome_spec.specs.declared.outcome.Outcome.{Outcome}
 use Rattle.bq_load_outcome_spec.specs.declared.outcome.Outcome.TheVariants as o
 use Rattle.bq_load_graph_laws.proofs.Nothing.{loads_nothing}
 use Rattle.bq_load_outcome_spec.proofs.Solution.{outcome_is, evaluated_is}
-use Rattle.bq_package.specs.Calls.{HeldPackage, meaning}
+use Rattle.bq_parse_grammar.specs.Lexeme.{lexemes}
+use Rattle.bq_package.specs.Calls.{meaning}
 use Rattle.bq_package_fault_laws.specs.Faults.{FailsAsEvaluated, IsResolvedFile, IfAny}
 use Rattle.bq_package_fault_laws.proofs.BuildCalls.{calls_refuse}
 use Rattle.bq_package_fault_laws.proofs.Files.{files_fail}
@@ -98,8 +90,8 @@ module _ (inputs : InputParts) where
   resolved_by : (l : LabelParts) (r : Result Front Fault) → IsFront inputs l r → IfAny (code_by r)
   resolved_by l (Err why) h = tt
   resolved_by l (Ok front) h =
-      let has = h.2.1 in
-      record { kind = kind_of l; lexemes = _; statements = has.trees; universe = universe_at inputs l; parses = has.parses; resolves = has.names }
+      let has = h.2 in
+      record { kind = kind_of l; lexemes = lexemes h.0.content has.tokens; statements = has.trees; universe = universe_at inputs l; parses = has.parses; resolves = has.names }
 
   all_resolved : (ls : List LabelParts) → AllByRecursion IfAny (map code_of (map (module_of inputs) ls))
   all_resolved [] = tt
@@ -117,16 +109,17 @@ module _ (inputs : InputParts) (x : LoadingParts) (all : AllByRecursion IfAny x.
 
     by_end : (e : Ended) (p : Option PackageTargets) → FailsAsEvaluated e → Fails l (module_by e p)
     by_end (ran made prints) p h = tt
-    by_end (failed why prints) p h = FailsIn.of_evaluation is.0 front.code is.2.0 is.2.1 h
+    by_end (failed why prints) p h = FailsIn.of_evaluation is.0 front.code is.1 is.2 h
 
     by_run : (values : List Datum) → Fails l (module_after front.code values (evaluation x m l front.code modules values))
     unfolding module_after evaluation
     by_run values =
-        by_end (ended front.code values (module_run x.names meaning x.code m front.code (map (λ v. v.frozen) modules) values x.limit (kept_first x l))) _
+        by_end (ended front.code values (module_run x.names meaning x.code m front.code (map (λ v. v.frozen) modules) values x.limit (kept_first x l)))
+        (package_left (kept_after (module_run x.names meaning x.code m front.code (map (λ v. v.frozen) modules) values x.limit (kept_first x l))))
         (files_fail x.names meaning calls_refuse x.code all m front.code is_resolved (map (λ v. v.frozen) modules) values x.limit (kept_first x l))
 
     by_values : (r : Result (List Datum) Fault) → ByLoads r → Fails l (by_imports x m l front.code modules r)
-    by_values (Err why) h = FailsIn.of_loads is.0 front.code is.2.0 is.2.1 h
+    by_values (Err why) h = FailsIn.of_loads is.0 front.code is.1 is.2 h
     by_values (Ok values) h = by_run values
 
   file_fails : (l : LabelParts) (front : Front) → IsFront inputs l (Ok front) → (m : ℕ) (modules : List ModuleView)
@@ -167,8 +160,8 @@ module _ (inputs : InputParts) (x : LoadingParts) (all : AllByRecursion IfAny x.
       of_kind kind k h = by_loaded (slice_get x.sources k)
         where
           by_loaded : (loaded : Option Source) → FailsIn inputs l (load_fault_by kind s (code_in (slice_get x.code m)) loaded)
-          by_loaded None = FailsIn.of_loads is.0 front.code is.2.0 is.2.1 h
-          by_loaded (Some source) = FailsIn.of_loads is.0 front.code is.2.0 is.2.1 h
+          by_loaded None = FailsIn.of_loads is.0 front.code is.1 is.2 h
+          by_loaded (Some source) = FailsIn.of_loads is.0 front.code is.1 is.2 h
 
       by_loaded_values : (vs : Result (List ModuleView) ℕ) → Holds (evaluated (means x m) vs)
       by_loaded_values (Ok vs) = by_result (means x m vs) (means_fails vs)

@@ -1,31 +1,26 @@
 -- The fault that is read of a file is one of its tokens, its statements, its names or its loads.
-use Rattle.std.proofs.Common.{◌≡◌, ◌∙◌, ℕ, ◌⊎◌, inl, inr, Bool, true, false, List, [], ◌∷◌, Option, Some, None, Result, Ok, Err, refl, sym, ap, subst, is_some}
-use Rattle.std.specs.Prelude.{if◌then◌else◌}
-use Rattle.std.specs.List.{AllByRecursion}
+use Rattle.std.proofs.Common.{◌≡◌, ◌∙◌, ℕ, inl, inr, true, List, [], Option, Some, None, Result, Ok, Err, refl, sym, ap, subst, is_some}
 use Rattle.bq_base.specs.declared.fault.Fault.{Fault}
 use Rattle.bq_base.specs.declared.fault.FaultKind.{FaultKind}
 use Rattle.bq_base.specs.declared.fault.FaultKind.TheVariants as f
 use Rattle.bq_base.specs.Fault.{fault_at}
 use Rattle.bq_base.proofs.Choices.{by_bool}
 use Rattle.bq_source.specs.Layout as layout
-use Rattle.bq_source.specs.Layout.{Before, FaultAfter, IsFaulty}
+use Rattle.bq_source.specs.Layout.{Before, FaultAfter}
 use Rattle.bq_source.specs.Reading.{Lexes}
 use Rattle.bq_source.specs.Spelling as spelling
 use Rattle.bq_source.specs.Spelling.{IsMisspelled}
 use Rattle.bq_source.proofs.LaidOut.{faulty}
 use Rattle.bq_parse_grammar.specs.Lexeme.{Lexeme, lexemes}
 use Rattle.bq_parse_grammar.specs.Parses as P
-use Rattle.bq_parse_grammar.specs.Parses.{Parses, ReadsAll}
+use Rattle.bq_parse_grammar.specs.Parses.{ReadsAll}
 use Rattle.bq_parse_grammar.specs.Pieces.{pieces}
 use Rattle.bq_parse_grammar.specs.Verdict as V
 use Rattle.bq_parse_grammar.specs.Verdict.{ReadsAs}
 use Rattle.bq_parse_grammar.specs.declared.tree.FileKind.{FileKind}
 use Rattle.bq_parse_grammar.specs.declared.tree.TopLevel.{TopLevel}
 use Rattle.bq_parse_tree_laws.proofs.FileDepths.{file_within}
-use Rattle.bq_resolve_scope.specs.Files.{resolved}
-use Rattle.bq_resolve_scope.specs.Universe.{UniverseParts}
 use Rattle.bq_resolve_scope.specs.declared.code.Resolved.{Resolved}
-use Rattle.bq_resolve_depth_laws.specs.Nesting.{is_of_names}
 use Rattle.bq_resolve_depth_laws.proofs.Files.{all_of_names}
 use Rattle.bq_label.specs.declared.workspace.File.{File}
 use Rattle.bq_label.specs.declared.packages.BuildFile.{BuildFile}
@@ -34,8 +29,8 @@ use Rattle.bq_label.specs.Packages.{package_named, label_file}
 use Rattle.bq_load_label.specs.Crossing.{crosses}
 use Rattle.bq_load_label.specs.NamedFile.{bzl_label, fault_of_file, unless_fault, file_named, load_label}
 use Rattle.bq_load_front.specs.Code.{code_of, ◌>>=◌}
-use Rattle.bq_load_front.specs.Front.{load_of, labels_of, kind_of, front_at, front_of}
-use Rattle.bq_load_front.specs.Inputs.{InputParts, universe_of}
+use Rattle.bq_load_front.specs.Front.{labels_of, kind_of, front_at, front_of}
+use Rattle.bq_load_front.specs.Inputs.{InputParts}
 use Rattle.bq_load_front.specs.Laws.{HasCode, HasFault}
 use Rattle.bq_load_front.specs.declared.front.Front.{Front}
 use Rattle.bq_load_front.proofs.Codes.{codes_of_files, faults_of_files}

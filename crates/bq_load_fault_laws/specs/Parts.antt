@@ -1,5 +1,5 @@
 -- What a module of a workspace may fail with: the parts of a module, and the faults that each may have, by their numbers.
-use Rattle.std.specs.Prelude.{◌≡◌, ℕ, Bool, true, ◌||◌, List, map, Option, Some, None, Result, Ok, Err, IfErr, Contains}
+use Rattle.std.specs.Prelude.{◌≡◌, ℕ, Bool, true, ◌||◌, List, map, Some, None, Ok, Err, IfErr, Contains}
 use Rattle.std.specs.List.{AllByRecursion}
 use Rattle.bq_base.specs.declared.fault.Fault.{Fault}
 use Rattle.bq_base.specs.declared.fault.FaultKind.{FaultKind}
