@@ -1,8 +1,7 @@
 -- The faults of modules, and their lines, have the numbers of the parts of modules.
-use Rattle.std.proofs.Common.{◌≡◌, inl, inr, Bool, true, false, ◌||◌, List, [], ◌∷◌, Result, Ok, Err, refl, sym, subst, arith, Contains, IfErr}
+use Rattle.std.proofs.Common.{◌≡◌, inl, inr, Bool, true, false, ◌||◌, List, [], ◌∷◌, Result, Ok, Err, refl, subst, arith, Contains, IfErr}
 use Rattle.std.specs.List.{AllByRecursion}
 use Rattle.std.proofs.lemmas.List.Elements.{Contains-append_cases}
-use Rattle.bq_base.specs.declared.fault.Fault.{Fault}
 use Rattle.bq_label.specs.Label.{LabelParts}
 use Rattle.bq_label.proofs.Orders.{head_or_tail}
 use Rattle.bq_eval_host.specs.Refusals.{is_refusal}
@@ -43,7 +42,6 @@ of_module inputs l why (FailsIn.of_evaluation x code is has k) =
     right (is_of_tokens why.kind) (is_of_statements why.kind || is_of_names why.kind || is_of_loads why.kind || is_refusal why.kind)
     (right (is_of_statements why.kind) (is_of_names why.kind || is_of_loads why.kind || is_refusal why.kind)
     (right (is_of_names why.kind) (is_of_loads why.kind || is_refusal why.kind) (right (is_of_loads why.kind) (is_refusal why.kind) k)))
-of_module inputs l why (FailsIn.no_file none same) = subst (λ (z : Fault). is_of_module z.kind ≡ true) (sym same) refl
 
 none_in : (line : FaultLine) → Contains [] line → ⊥
 none_in line c = omega arith
@@ -64,7 +62,7 @@ module _ (inputs : InputParts) (line : FaultLine) where
   ]
 
 pub lines_of_modules : FaultLinesAreOfModules
-lines_of_modules files rules limit l h line c =
+lines_of_modules files rules limit l w h line c =
     let os = outcomes (loading_in files rules limit h.0) h.0.edges in
-    by_outcomes (inputs_of files rules) line os (outcomes_fail files rules limit h.0 h.1)
+    by_outcomes (inputs_of files rules) line os (outcomes_fail files rules limit h.0 w h.1)
     ((same_lines (fault_lines os) line).0 (subst (λ (z : List FaultLine). Contains z line) h.2.faults c))

@@ -1,5 +1,5 @@
 -- The outcome of each module is a value, or a fault of one of its parts.
-use Rattle.std.proofs.Common.{◌≡◌, ◌∙◌, ℕ, suc, ◌+◌, ◌++◌, ◌&&◌, not, length, Bool, true, false, cond, List, [], ◌∷◌, map, Option, Some, None, Result, Ok, Err, slice_get, option_map, refl, sym, ap, subst, arith, IfErr}
+use Rattle.std.proofs.Common.{◌≡◌, ◌∙◌, ℕ, suc, ◌+◌, ◌++◌, ◌&&◌, not, length, Bool, true, false, cond, List, [], ◌∷◌, map, Option, Some, None, Result, Ok, Err, slice_get, option_map, is_some, Contains, refl, sym, ap, subst, arith, IfErr}
 use Rattle.std.specs.Prelude.{if◌then◌else◌}
 use Rattle.std.specs.List.{AllByRecursion, list_any}
 use Rattle.std.proofs.lemmas.Option.{slice_get-map, get_or_from_slice_get}
@@ -27,6 +27,10 @@ use Rattle.bq_load_front.specs.declared.front.Front.{Front}
 use Rattle.bq_load_outcome_spec.specs.Outcome.{first, values, own, evaluated, by_loads, outcome}
 use Rattle.bq_load_outcome_spec.specs.declared.outcome.Outcome.{Outcome}
 use Rattle.bq_load_outcome_spec.specs.declared.outcome.Outcome.TheVariants as o
+use Rattle.bq_label.specs.Packages.{label_file}
+use Rattle.bq_label.proofs.Orders.{at_head, in_tail}
+use Rattle.bq_load_discover.proofs.Files.{modules_have_files}
+use Rattle.bq_load_label.proofs.Tests.{there_is_file}
 use Rattle.bq_load_graph_laws.proofs.Nothing.{loads_nothing}
 use Rattle.bq_load_outcome_spec.proofs.Solution.{outcome_is, evaluated_is}
 use Rattle.bq_parse_grammar.specs.Lexeme.{lexemes}
@@ -93,9 +97,14 @@ module _ (inputs : InputParts) where
       let has = h.2 in
       record { kind = kind_of l; lexemes = lexemes h.0.content has.tokens; statements = has.trees; universe = universe_at inputs l; parses = has.parses; resolves = has.names }
 
-  all_resolved : (ls : List LabelParts) → AllByRecursion IfAny (map code_of (map (module_of inputs) ls))
-  all_resolved [] = tt
-  all_resolved (l ∷ ls) = (resolved_by l (front_of inputs l) (fronts_fail inputs l), all_resolved ls)
+  -- the files of these labels are there
+  abbrev AreThere : List LabelParts → Type 0
+  AreThere ls = (l : LabelParts) → Contains ls l → is_some (label_file inputs.files l) ≡ true
+
+  all_resolved : (ls : List LabelParts) → AreThere ls → AllByRecursion IfAny (map code_of (map (module_of inputs) ls))
+  all_resolved [] there = tt
+  all_resolved (l ∷ ls) there =
+      (resolved_by l (front_of inputs l) (fronts_fail inputs l (there l (at_head l ls))), all_resolved ls (λ k c. there k (in_tail l ls k c)))
 
 module _ (inputs : InputParts) (x : LoadingParts) (all : AllByRecursion IfAny x.code) where
   abbrev Fails : LabelParts → Result ModuleView FailedView → Type 0
@@ -136,7 +145,7 @@ module _ (inputs : InputParts) (x : LoadingParts) (all : AllByRecursion IfAny x.
   -- ---- a module in its place
 
   module _ (p : Loads) (m : ℕ) (l : LabelParts) (at : slice_get x.sources m ≡ Some (source_by l (front_of inputs l))) (there : slice_get x.code m ≡ Some (code_by (front_of inputs l)))
-      (none : (why : Fault) → front_of inputs l ≡ Err why → row p m ≡ []) where
+      (none : (why : Fault) → front_of inputs l ≡ Err why → row p m ≡ []) (is_file : is_some (label_file inputs.files l) ≡ true) where
     abbrev s : Source
     s = source_by l (front_of inputs l)
 
@@ -147,7 +156,7 @@ module _ (inputs : InputParts) (x : LoadingParts) (all : AllByRecursion IfAny x.
     unfolding means
     means_fails modules =
         subst (λ z. Fails l (by_source x m modules z)) (sym at)
-        (subst (λ z. Fails l (by_code x m s modules (code_in z))) (sym there) (by_front l (front_of inputs l) (fronts_fail inputs l) m modules))
+        (subst (λ z. Fails l (by_code x m s modules (code_in z))) (sym there) (by_front l (front_of inputs l) (fronts_fail inputs l is_file) m modules))
 
     by_result : (r : Result ModuleView FailedView) → Fails l r → Holds (own r)
     by_result (Ok v) h = tt
@@ -199,14 +208,14 @@ module _ (inputs : InputParts) (x : LoadingParts) (all : AllByRecursion IfAny x.
     by_what_is_read (Err why) e is = without_code (none why e)
 
     module_fails : Holds (outcome (means x) p m)
-    module_fails = by_what_is_read (front_of inputs l) refl (fronts_fail inputs l)
+    module_fails = by_what_is_read (front_of inputs l) refl (fronts_fail inputs l is_file)
 
 -- ---- all modules
 
 module _ (inputs : InputParts) (x : LoadingParts) (labels : List LabelParts) (sources : x.sources ≡ map source_of (map (module_of inputs) labels)) (codes : x.code ≡ map code_of (map (module_of inputs) labels)) (p : Loads)
-    (none : (m : ℕ) (l : LabelParts) (why : Fault) → slice_get labels m ≡ Some l → front_of inputs l ≡ Err why → row p m ≡ []) where
+    (none : (m : ℕ) (l : LabelParts) (why : Fault) → slice_get labels m ≡ Some l → front_of inputs l ≡ Err why → row p m ≡ []) (all_there : AreThere inputs labels) where
   all_code : AllByRecursion IfAny x.code
-  all_code = subst (AllByRecursion IfAny) (sym codes) (all_resolved inputs labels)
+  all_code = subst (AllByRecursion IfAny) (sym codes) (all_resolved inputs labels all_there)
 
   source_at : (m : ℕ) (l : LabelParts) → slice_get labels m ≡ Some l → slice_get x.sources m ≡ Some (source_by l (front_of inputs l))
   source_at m l at =
@@ -218,12 +227,12 @@ module _ (inputs : InputParts) (x : LoadingParts) (labels : List LabelParts) (so
       ap (λ (z : List (Option Resolved)). slice_get z m) codes ∙ slice_get-map code_of (map (module_of inputs) labels) m
       ∙ ap (option_map code_of) (slice_get-map (module_of inputs) labels m ∙ ap (option_map (module_of inputs)) at)
 
-  from : (m : ℕ) (ls : List LabelParts) → ((i : ℕ) → slice_get labels (m + i) ≡ slice_get ls i) → AllByRecursion (FailsInItsPart inputs) (outcomes_from x p m (map source_of (map (module_of inputs) ls)))
-  from m [] same = tt
-  from m (l ∷ ls) same =
+  from : (m : ℕ) (ls : List LabelParts) → ((i : ℕ) → slice_get labels (m + i) ≡ slice_get ls i) → AreThere inputs ls → AllByRecursion (FailsInItsPart inputs) (outcomes_from x p m (map source_of (map (module_of inputs) ls)))
+  from m [] same there = tt
+  from m (l ∷ ls) same there =
       let zero_more : m + 0 ≡ m = omega arith in
       let at : slice_get labels m ≡ Some l = ap (slice_get labels) (sym zero_more) ∙ same 0 in
-      (one l (front_of inputs l) refl (module_fails inputs x all_code p m l (source_at m l at) (code_at m l at) (λ why. none m l why at)), from (m + 1) ls next)
+      (one l (front_of inputs l) refl (module_fails inputs x all_code p m l (source_at m l at) (code_at m l at) (λ why. none m l why at) (there l (at_head l ls))), from (m + 1) ls next (λ k c. there k (in_tail l ls k c)))
     where
       next : (i : ℕ) → slice_get labels (m + 1 + i) ≡ slice_get ls i
       next i = let more : m + 1 + i ≡ m + suc i = omega arith in ap (slice_get labels) more ∙ same (suc i)
@@ -236,15 +245,16 @@ module _ (inputs : InputParts) (x : LoadingParts) (labels : List LabelParts) (so
 
 pub outcomes_fail : OutcomesFailInTheirParts
 unfolding outcomes
-outcomes_fail files rules limit g is =
+outcomes_fail files rules limit g w is =
     let inputs = inputs_of files rules in
     let x = loading_in files rules limit g in
     let read : g.modules ≡ map (module_of inputs) g.labels = is.read in
     let sources : x.sources ≡ map source_of (map (module_of inputs) g.labels) = ap (map source_of) read in
     let codes : x.code ≡ map code_of (map (module_of inputs) g.labels) = ap (map code_of) read in
+    let there : AreThere inputs g.labels = λ l c. let h = modules_have_files files rules l w (is.modules.only l c) in there_is_file files l h.0 h.1 in
     subst (λ ss. AllByRecursion (FailsInItsPart inputs) (outcomes_from x g.edges 0 ss)) (sym sources)
-    (from inputs x g.labels sources codes g.edges (λ m l why at bad. get_or_from_slice_get g.edges m [] [] (loads_nothing inputs g m l why is at bad)) 0 g.labels (λ i. refl))
+    (from inputs x g.labels sources codes g.edges (λ m l why at bad. get_or_from_slice_get g.edges m [] [] (loads_nothing inputs g m l why is at bad)) there 0 g.labels (λ i. refl) there)
 
 pub loaded_fail : LoadedModulesFailInTheirParts
-loaded_fail files rules limit l h =
-    subst (AllByRecursion (FailsInItsPart (inputs_of files rules))) (sym h.2.modules) (outcomes_fail files rules limit h.0 h.1)
+loaded_fail files rules limit l w h =
+    subst (AllByRecursion (FailsInItsPart (inputs_of files rules))) (sym h.2.modules) (outcomes_fail files rules limit h.0 w h.1)

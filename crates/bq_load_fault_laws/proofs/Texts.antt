@@ -151,10 +151,11 @@ module _ (inputs : InputParts) (l : LabelParts) where
   by_code x is (Ok code) e = by_labels x is code ((codes_of_files (universe_at inputs l) x.content code).0 e) (labels code) refl
   by_code x is (Err why) e = of_text x is why ((faults_of_files (universe_at inputs l) x.content why).0 e)
 
-  by_file : (o : Option File) → label_file inputs.files l ≡ o → IsFront (front_at inputs l o)
-  by_file None e = FailsIn.no_file e refl
-  by_file (Some x) e = by_code x e (code_of (universe_at inputs l) x.content) refl
+  by_file : (o : Option File) → label_file inputs.files l ≡ o → is_some o ≡ true → IsFront (front_at inputs l o)
+  by_file None e there = absurd (cc)
+  by_file (Some x) e there = by_code x e (code_of (universe_at inputs l) x.content) refl
 
-  pub fronts_fail : IsFront (front_of inputs l)
+  -- where the file is there
+  pub fronts_fail : is_some (label_file inputs.files l) ≡ true → IsFront (front_of inputs l)
   unfolding front_of
-  fronts_fail = by_file (label_file inputs.files l) refl
+  fronts_fail there = by_file (label_file inputs.files l) refl there

@@ -1,10 +1,9 @@
 -- What a module of a workspace may fail with: the parts of a module, and the faults that each may have, by their numbers.
-use Rattle.std.specs.Prelude.{◌≡◌, ℕ, Bool, true, ◌||◌, List, map, Some, None, Ok, Err, IfErr, Contains}
+use Rattle.std.specs.Prelude.{◌≡◌, ℕ, Bool, true, ◌||◌, List, map, Some, Ok, Err, IfErr, Contains}
 use Rattle.std.specs.List.{AllByRecursion}
 use Rattle.bq_base.specs.declared.fault.Fault.{Fault}
 use Rattle.bq_base.specs.declared.fault.FaultKind.{FaultKind}
 use Rattle.bq_base.specs.declared.fault.FaultKind.TheVariants as f
-use Rattle.bq_base.specs.Fault.{fault_at}
 use Rattle.bq_source.specs.Reading.{Lexes}
 use Rattle.bq_source.specs.declared.token.Token.{Token}
 use Rattle.bq_parse_grammar.specs.Lexeme.{lexemes}
@@ -17,6 +16,7 @@ use Rattle.bq_resolve_depth_laws.specs.Nesting.{is_of_names}
 use Rattle.bq_label.specs.declared.workspace.File.{File}
 use Rattle.bq_label.specs.Label.{LabelParts}
 use Rattle.bq_label.specs.Packages.{label_file}
+use Rattle.bq_label.specs.Workspace.{IsWorkspace}
 use Rattle.bq_package_schema.specs.Schema.{Rules}
 use Rattle.bq_eval_host.specs.Refusals.{is_from, is_refusal}
 use Rattle.bq_load_fault_line.specs.declared.fault_line.FaultLine.{FaultLine}
@@ -55,7 +55,7 @@ abbrev pub universe_at : InputParts → LabelParts → UniverseParts
 universe_at inputs l = universe_of inputs (kind_of l)
 
 -- The module of this label fails with this fault: its text has no tokens; or these are no statements; or the names of these stand for nothing;
--- or it has a code, and fails by its loads, or in its evaluation. A module without a file is F31, and no workspace has one.
+-- or it has a code, and fails by its loads, or in its evaluation.
 pub data FailsIn (inputs : InputParts) (l : LabelParts) (why : Fault) : Type 0 where
   of_tokens : (x : File) → label_file inputs.files l ≡ Some x → Lexes x.content (Err why) → is_of_tokens why.kind ≡ true → FailsIn inputs l why
   of_statements : (x : File) (tokens : List Token) → label_file inputs.files l ≡ Some x → Lexes x.content (Ok tokens) → Parses (kind_of l) (lexemes x.content tokens) (Err why)
@@ -64,7 +64,6 @@ pub data FailsIn (inputs : InputParts) (l : LabelParts) (why : Fault) : Type 0 w
       → resolved (universe_at inputs l) trees ≡ Err why → is_of_names why.kind ≡ true → FailsIn inputs l why
   of_loads : (x : File) (code : Resolved) → label_file inputs.files l ≡ Some x → HasCode (universe_at inputs l) x.content code → is_of_loads why.kind ≡ true → FailsIn inputs l why
   of_evaluation : (x : File) (code : Resolved) → label_file inputs.files l ≡ Some x → HasCode (universe_at inputs l) x.content code → is_refusal why.kind ≡ true → FailsIn inputs l why
-  no_file : label_file inputs.files l ≡ None → why ≡ fault_at f.NoSuchFile 0 → FailsIn inputs l why
 
 -- a module's outcome is a value, or a fault of one of its parts
 abbrev pub FailsInItsPart : InputParts → OutcomeView → Type 0
@@ -75,13 +74,13 @@ FailsInItsPart inputs o = IfErr o.result (λ m. FailsIn inputs o.label m.fault)
 -- each outcome of the modules of a load graph
 abbrev pub OutcomesFailInTheirParts : Type 0
 OutcomesFailInTheirParts =
-    (files : List File) (rules : Rules) (limit : ℕ) (g : GraphParts) → IsLoadGraph (inputs_of files rules) g
+    (files : List File) (rules : Rules) (limit : ℕ) (g : GraphParts) → IsWorkspace files → IsLoadGraph (inputs_of files rules) g
     → AllByRecursion (FailsInItsPart (inputs_of files rules)) (outcomes (loading_in files rules limit g) g.edges)
 
 -- each module of a workspace that is loaded
 abbrev pub LoadedModulesFailInTheirParts : Type 0
 LoadedModulesFailInTheirParts =
-    (files : List File) (rules : Rules) (limit : ℕ) (l : Loaded) → LoadsWorkspace files rules limit (Ok l) → AllByRecursion (FailsInItsPart (inputs_of files rules)) (map outcome_view l.modules.items)
+    (files : List File) (rules : Rules) (limit : ℕ) (l : Loaded) → IsWorkspace files → LoadsWorkspace files rules limit (Ok l) → AllByRecursion (FailsInItsPart (inputs_of files rules)) (map outcome_view l.modules.items)
 
 -- whatever part it is, the fault is one of these
 abbrev pub FaultsAreOfModules : Type 0
@@ -90,4 +89,4 @@ FaultsAreOfModules = (inputs : InputParts) (l : LabelParts) (why : Fault) → Fa
 -- each fault line of a workspace that is loaded
 abbrev pub FaultLinesAreOfModules : Type 0
 FaultLinesAreOfModules =
-    (files : List File) (rules : Rules) (limit : ℕ) (l : Loaded) → LoadsWorkspace files rules limit (Ok l) → (line : FaultLine) → Contains l.faults line → is_of_module line.kind ≡ true
+    (files : List File) (rules : Rules) (limit : ℕ) (l : Loaded) → IsWorkspace files → LoadsWorkspace files rules limit (Ok l) → (line : FaultLine) → Contains l.faults line → is_of_module line.kind ≡ true
