@@ -1,6 +1,6 @@
 -- What a module of a load graph loads is a .bzl file.
-use Rattle.std.proofs.Common.{◌≡◌, ◌∙◌, ℕ, inl, inr, List, [], ◌∷◌, map, Some, slice_get, Contains, refl, sym, ap, arith}
-use Rattle.std.proofs.lemmas.Option.{get_or_from_slice_get}
+use Rattle.std.proofs.Common.{◌≡◌, ◌∙◌, ℕ, inl, inr, List, [], ◌∷◌, map, Option, Some, None, option_map, slice_get, Contains, refl, sym, ap, arith}
+use Rattle.std.proofs.lemmas.Option.{slice_get-map, get_or_from_slice_get}
 use Rattle.bq_parse_grammar.specs.declared.tree.FileKind.TheVariants as kinds
 use Rattle.bq_label.specs.Label.{LabelParts, package_of}
 use Rattle.bq_label.proofs.Orders.{at_head, in_tail}
@@ -14,7 +14,6 @@ use Rattle.bq_load_front.specs.Inputs.{InputParts}
 use Rattle.bq_load_front.proofs.Loads.{loaded_files}
 use Rattle.bq_load_discover.specs.LoadGraph.{GraphParts, IsLoadGraph}
 use Rattle.bq_load_discover.specs.Modules.{edges_from}
-use Rattle.bq_load_graph_laws.proofs.Nothing.{both}
 
 -- a load names a .bzl file
 load_is_bzl : (inputs : InputParts) (m l : LabelParts) → Contains (loads_of inputs m) l → kind_of l ≡ kinds.Bzl
@@ -54,10 +53,19 @@ module _ (inputs : InputParts) (g : GraphParts) (is : IsLoadGraph inputs g) wher
     pub at : slice_get g.labels k ≡ Some label
     pub bzl : kind_of label ≡ kinds.Bzl
 
-  row_of : (m : ℕ) (l : LabelParts) → slice_get g.labels m ≡ Some l → map (slice_get g.labels) (row g.edges m) ≡ map Some (edges_from inputs l)
+  abbrev edges_of : LabelParts → List (Option LabelParts)
+  edges_of l = map Some (edges_from inputs l)
+
+  by_row : (m : ℕ) (ls : List (Option LabelParts)) (o : Option (List ℕ)) → slice_get g.edges m ≡ o → option_map (map (slice_get g.labels)) o ≡ Some ls → map (slice_get g.labels) (row g.edges m) ≡ ls
+  by_row m ls None e h = absurd (cc)
+  by_row m ls (Some r) e h =
+      let same : map (slice_get g.labels) r ≡ ls = cc in
+      ap (map (slice_get g.labels)) (get_or_from_slice_get g.edges m r [] e) ∙ same
+
+  row_of : (m : ℕ) (l : LabelParts) → slice_get g.labels m ≡ Some l → map (slice_get g.labels) (row g.edges m) ≡ edges_of l
   row_of m l at =
-      let r = both (map (slice_get g.labels)) (λ k. map Some (edges_from inputs k)) g.edges g.labels m l is.edges at in
-      ap (map (slice_get g.labels)) (get_or_from_slice_get g.edges m r.element [] r.there) ∙ r.holds
+      by_row m (edges_of l) (slice_get g.edges m) refl
+      (sym (slice_get-map (map (slice_get g.labels)) g.edges m) ∙ ap (λ (z : List (List (Option LabelParts))). slice_get z m) is.edges ∙ slice_get-map edges_of g.labels m ∙ ap (option_map edges_of) at)
 
   pub loaded_is_bzl : (m : ℕ) (l : LabelParts) → slice_get g.labels m ≡ Some l → (k : ℕ) → Has (row g.edges m) k → IsBzl k
   loaded_is_bzl m l at k h =
