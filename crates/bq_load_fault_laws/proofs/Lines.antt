@@ -25,23 +25,31 @@ right : (a b : Bool) → b ≡ true → (a || b) ≡ true
 right true b e = refl
 right false b e = e
 
+module _ (t s n l e : Bool) where
+  by_tokens : t ≡ true → (t || s || n || l || e) ≡ true
+  by_tokens k = left (t || s || n || l) e (left (t || s || n) l (left (t || s) n (left t s k)))
+
+  by_statements : s ≡ true → (t || s || n || l || e) ≡ true
+  by_statements k = left (t || s || n || l) e (left (t || s || n) l (left (t || s) n (right t s k)))
+
+  by_names : n ≡ true → (t || s || n || l || e) ≡ true
+  by_names k = left (t || s || n || l) e (left (t || s || n) l (right (t || s) n k))
+
+  by_loads : l ≡ true → (t || s || n || l || e) ≡ true
+  by_loads k = left (t || s || n || l) e (right (t || s || n) l k)
+
+  by_evaluation : e ≡ true → (t || s || n || l || e) ≡ true
+  by_evaluation k = right (t || s || n || l) e k
+
 pub of_module : FaultsAreOfModules
-of_module inputs l why (FailsIn.of_tokens x is reads k) =
-    left (is_of_tokens why.kind) (is_of_statements why.kind || is_of_names why.kind || is_of_loads why.kind || is_refusal why.kind) k
+of_module inputs l why (FailsIn.of_tokens x is reads k) = by_tokens (is_of_tokens why.kind) (is_of_statements why.kind) (is_of_names why.kind) (is_of_loads why.kind) (is_refusal why.kind) k
 of_module inputs l why (FailsIn.of_statements x tokens is reads parses k) =
-    right (is_of_tokens why.kind) (is_of_statements why.kind || is_of_names why.kind || is_of_loads why.kind || is_refusal why.kind)
-    (left (is_of_statements why.kind) (is_of_names why.kind || is_of_loads why.kind || is_refusal why.kind) k)
+    by_statements (is_of_tokens why.kind) (is_of_statements why.kind) (is_of_names why.kind) (is_of_loads why.kind) (is_refusal why.kind) k
 of_module inputs l why (FailsIn.of_names x tokens trees is reads parses names k) =
-    right (is_of_tokens why.kind) (is_of_statements why.kind || is_of_names why.kind || is_of_loads why.kind || is_refusal why.kind)
-    (right (is_of_statements why.kind) (is_of_names why.kind || is_of_loads why.kind || is_refusal why.kind) (left (is_of_names why.kind) (is_of_loads why.kind || is_refusal why.kind) k))
-of_module inputs l why (FailsIn.of_loads x code is has k) =
-    right (is_of_tokens why.kind) (is_of_statements why.kind || is_of_names why.kind || is_of_loads why.kind || is_refusal why.kind)
-    (right (is_of_statements why.kind) (is_of_names why.kind || is_of_loads why.kind || is_refusal why.kind)
-    (right (is_of_names why.kind) (is_of_loads why.kind || is_refusal why.kind) (left (is_of_loads why.kind) (is_refusal why.kind) k)))
+    by_names (is_of_tokens why.kind) (is_of_statements why.kind) (is_of_names why.kind) (is_of_loads why.kind) (is_refusal why.kind) k
+of_module inputs l why (FailsIn.of_loads x code is has k) = by_loads (is_of_tokens why.kind) (is_of_statements why.kind) (is_of_names why.kind) (is_of_loads why.kind) (is_refusal why.kind) k
 of_module inputs l why (FailsIn.of_evaluation x code is has k) =
-    right (is_of_tokens why.kind) (is_of_statements why.kind || is_of_names why.kind || is_of_loads why.kind || is_refusal why.kind)
-    (right (is_of_statements why.kind) (is_of_names why.kind || is_of_loads why.kind || is_refusal why.kind)
-    (right (is_of_names why.kind) (is_of_loads why.kind || is_refusal why.kind) (right (is_of_loads why.kind) (is_refusal why.kind) k)))
+    by_evaluation (is_of_tokens why.kind) (is_of_statements why.kind) (is_of_names why.kind) (is_of_loads why.kind) (is_refusal why.kind) k
 
 none_in : (line : FaultLine) → Contains [] line → ⊥
 none_in line c = omega arith

@@ -9,7 +9,6 @@ use Rattle.bq_base.specs.declared.fault.FaultKind.TheVariants as f
 use Rattle.bq_board.specs.Cycles.{is_cyclic, starts_path}
 use Rattle.bq_board.specs.Depth.{max_load_depth, is_too_deep}
 use Rattle.bq_board.specs.Graph.{Loads, row}
-use Rattle.bq_builtin_machine.specs.Action.{done}
 use Rattle.bq_eval.specs.Module.{Ended, evaluated as ran, failed, ended, kept_after, module_run}
 use Rattle.bq_label.specs.Label.{LabelParts}
 use Rattle.bq_load.specs.declared.source.Source.{Source}
@@ -243,6 +242,9 @@ module _ (inputs : InputParts) (x : LoadingParts) (labels : List LabelParts) (so
       one l (Ok front) e h = h
       one l (Err why) e h = h
 
+from_zero : (i : ℕ) → 0 + i ≡ i
+from_zero i = omega arith
+
 pub outcomes_fail : OutcomesFailInTheirParts
 unfolding outcomes
 outcomes_fail files rules limit g w is =
@@ -253,7 +255,7 @@ outcomes_fail files rules limit g w is =
     let codes : x.code ≡ map code_of (map (module_of inputs) g.labels) = ap (map code_of) read in
     let there : AreThere inputs g.labels = λ l c. let h = modules_have_files files rules l w (is.modules.only l c) in there_is_file files l h.0 h.1 in
     subst (λ ss. AllByRecursion (FailsInItsPart inputs) (outcomes_from x g.edges 0 ss)) (sym sources)
-    (from inputs x g.labels sources codes g.edges (λ m l why at bad. get_or_from_slice_get g.edges m [] [] (loads_nothing inputs g m l why is at bad)) there 0 g.labels (λ i. refl) there)
+    (from inputs x g.labels sources codes g.edges (λ m l why at bad. get_or_from_slice_get g.edges m [] [] (loads_nothing inputs g m l why is at bad)) there 0 g.labels (λ i. ap (slice_get g.labels) (from_zero i)) there)
 
 pub loaded_fail : LoadedModulesFailInTheirParts
 loaded_fail files rules limit l w h =
