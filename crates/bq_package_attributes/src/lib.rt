@@ -8,6 +8,7 @@
 //!
 //! In reading order:
 //!
+//! - `named`: the keyword arguments of a call, as they are held;
 //! - `arguments`: what the arguments of a call give;
 //! - `declarations`: the target that a call declares;
 //! - `laws`: what holds of all calls.
@@ -16,6 +17,7 @@
 mod arguments;
 mod declarations;
 mod laws;
+mod named;
 
 pub use arguments::Callee;
 pub use declarations::declaration;

@@ -1,7 +1,7 @@
 -- the arguments that are left decide
 use Rattle.std.proofs.Common.{◌≡◌, drop}
 use Rattle.bq_package_attributes.specs.Arguments.{with_arguments}
-use Rattle.bq_package_attributes.proofs.arguments.Given.take_arguments.Given as goal
+use Rattle.bq_package_attributes.proofs.arguments.Given.take_many.Given as goal
 
 abbrev pub invariant-loop-i : goal.invariant-loop-i
 invariant-loop-i l =
