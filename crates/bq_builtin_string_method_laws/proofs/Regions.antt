@@ -1,10 +1,9 @@
 -- Places in a region of a string.
-use Rattle.std.proofs.Common.{◌≡◌, ◌∙◌, refl, sym, ap, subst, ℕ, suc, ◌+◌, ◌-◌, ◌<◌, ◌≤◌, ℤ, pos, negsuc, Bool, true, false, cond, List, [], ◌∷◌, ◌++◌, length, take, drop, Option, Some, None, Result, Ok, Err, arith, append_assoc, length-append, length-drop, length-take-le}
-use Rattle.std.specs.Prelude.{nat_lt, ◌^◌, min}
+use Rattle.std.proofs.Common.{◌≡◌, ◌∙◌, refl, sym, ap, subst, ℕ, ◌+◌, ◌-◌, ◌≤◌, ℤ, pos, negsuc, Bool, true, false, cond, List, ◌++◌, length, take, drop, Option, Some, None, Ok, Err, arith, append_assoc, length-append, length-drop, length-take-le}
+use Rattle.std.specs.Prelude.{nat_lt, ◌^◌}
 use Rattle.std.proofs.Math.Nat.{min-le_left}
 use Rattle.std.proofs.Math.Seq.{take-append-add}
 use Rattle.std.proofs.lemmas.List.{take-append-drop, drop-append-le, length-take}
-use Rattle.bq_base.specs.declared.fault.FaultKind.{FaultKind}
 use Rattle.bq_base.specs.declared.fault.FaultKind.TheVariants.{BadValue, Overflow}
 use Rattle.bq_value.specs.Datum.{Datum, int}
 use Rattle.bq_builtin_numbers.specs.Place.{bound}
