@@ -10,3 +10,7 @@ pub mod Same
 pub mod Items
 -- a rule is refused for its type
 pub mod Rules
+-- `get` only looks
+pub mod Getting
+-- the index that `list.index` answers
+pub mod Indices

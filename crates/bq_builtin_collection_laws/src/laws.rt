@@ -1,6 +1,6 @@
 //! What holds of lists and dicts that are changed. The functions do nothing: their contracts are the laws.
 
-ghost use Rattle.std.specs.Prelude.{◌≡◌, ◌∷◌, [], ℕ, List, length, map, Option, None, Some, Ok, Err};
+ghost use Rattle.std.specs.Prelude.{◌≡◌, ◌∷◌, [], ℕ, ℤ, List, length, map, Option, None, Some, Ok, Err};
 ghost use Rattle.bq_base.specs.declared.fault.FaultKind.{FaultKind};
 ghost use Rattle.bq_base.specs.declared.fault.FaultKind.TheVariants.{WrongType};
 ghost use Rattle.bq_parse_grammar.specs.declared.tree.Operator.TheVariants as op;
@@ -12,12 +12,13 @@ ghost use Rattle.bq_builtin_machine.specs.Args.{Passed};
 ghost use Rattle.bq_builtin_machine.specs.Iteration.{elements_in};
 ghost use Rattle.bq_builtin_machine.specs.State.{State, stop_at};
 ghost use Rattle.bq_builtin_operators.specs.InPlace.{augment, set_index};
-ghost use Rattle.bq_builtin_collections.specs.Arguments.{no_argument, one_argument, two_arguments, optional_argument, one_or_two, or_none};
+ghost use Rattle.bq_builtin_collections.specs.Arguments.{no_argument, one_argument, two_arguments, optional_argument, one_or_two, or_none, one_to_three, optional_integer};
 ghost use Rattle.bq_builtin_collections.specs.Dict as dict;
 ghost use Rattle.bq_builtin_collections.specs.Dict.{first_out, pair_tuple, with_default};
 ghost use Rattle.bq_builtin_collections.specs.List as list;
 ghost use Rattle.bq_builtin_refusal_laws.specs.Refusals.{IsRefusedForFirst};
 ghost use Rattle.bq_builtin_collection_laws.specs.Laws.{IsList, IsDict, IsRule, StaysTheSameList};
+ghost use Rattle.bq_builtin_collection_laws.specs.Looks.{OnlyLooks, IsFirstIndex};
 ghost use Rattle.bq_builtin_collection_laws.specs.Orders.{appending, clearing, extending, inserting, popping, removing, setting_element, taking_out, taking_first, setting_default, updating, setting_pair};
 
 /// A wrong number of arguments (F52) comes before all that is wrong with the list or dict, or with the arguments.
@@ -82,4 +83,18 @@ pub fn the_first_item_is_popped()
 #[tactic(auto, using(crate::proofs::Items::value_stays))]
 pub fn a_value_that_is_there_stays()
     ensures { (k d v : Datum) (ps : List (Datum × Datum)) → found k ps ≡ Some v → with_default k d ps ≡ Ok (v, ps) }
+{}
+
+/// `get` only looks: its answer is a value of the dict, or the value that was given for a key that isn't there, and no list or dict is
+/// changed.
+#[tactic(auto, using(crate::proofs::Getting::looks))]
+pub fn getting_changes_nothing()
+    ensures { (home number : ℕ) (ps : List (Datum × Datum)) (k answer : Datum) (o : Option Datum) (args : List Datum) (s t : State) → one_or_two args ≡ Ok (k, o) → IsDict s home number ps → dict.get home number args s ≡ done answer t → OnlyLooks ps o answer s t }
+{}
+
+/// `list.index(v, start, end)` answers a place of the whole list, from `start` on and before `end`: the element there is equal to `v`,
+/// and none between `start` and it is.
+#[tactic(auto, using(crate::proofs::Indices::first_index))]
+pub fn indices_are_of_the_whole_list()
+    ensures { (home number : ℕ) (xs : List Datum) (v answer : Datum) (o p : Option Datum) (start end : Option ℤ) (args : List Datum) (s t : State) → one_to_three args ≡ Ok (v, (o, p)) → optional_integer o ≡ Ok start → optional_integer p ≡ Ok end → IsList s home number xs → list.index home number args s ≡ done answer t → IsFirstIndex xs v start end answer s }
 {}

@@ -4,3 +4,5 @@ pub mod Malformed
 pub mod Values
 -- fields without text and fields with a number
 pub mod Mixed
+-- percent signs that are written twice
+pub mod Doubled

@@ -6,3 +6,7 @@ pub mod Partitions
 pub mod Words
 -- affixes that are removed
 pub mod Removing
+-- strings whose ends are stripped
+pub mod Stripping
+-- places in a region of a string
+pub mod Regions

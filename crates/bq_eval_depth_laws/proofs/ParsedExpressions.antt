@@ -1,6 +1,7 @@
 -- How many layers the trees of each phrase have: a bracket adds at most one for each level of the grammar, and one for a frame.
-use Rattle.std.proofs.Common.{◌≡◌, ℕ, zero, suc, ◌+◌, ◌*◌, ◌≤◌, max, pos, List, [], ◌∷◌, map, Option, None, ap, ◌∙◌, arith}
+use Rattle.std.proofs.Common.{◌≡◌, ℕ, zero, suc, Bool, true, false, ◌+◌, ◌*◌, ◌≤◌, max, pos, List, [], ◌∷◌, map, Option, None, ap, ◌∙◌, arith}
 use Rattle.bq_source.specs.declared.token.TokenKind.{TokenKind}
+use Rattle.bq_source.specs.declared.token.TokenKind.TheVariants as k
 use Rattle.bq_parse_grammar.specs.Lexeme.{Lexeme}
 use Rattle.bq_parse_grammar.specs.Literals.{identifier}
 use Rattle.bq_parse_grammar.specs.declared.tree.Expr.{Expr}
@@ -13,8 +14,9 @@ use Rattle.bq_parse_grammar.specs.declared.tree.TargetExpr.{TargetExpr}
 use Rattle.bq_parse_grammar.specs.Operators.{sign, negation}
 use Rattle.bq_parse_grammar.specs.Phrases as P
 use Rattle.bq_parse_grammar.specs.Phrases.{Phrase, none, Repeat, Listed, CommaThen}
+use Rattle.bq_parse_grammar.specs.Turns.{sees}
 use Rattle.bq_parse_grammar.specs.Grammar as G
-use Rattle.bq_parse_grammar.specs.Grammar.{choices_of, last_of, targets_of, IsVarOver, IsVar, IsVarsOver, IsVars, IsPair, IsForClause, IsClause, AreClauses, IsOperand, IsArgument, AreArguments, IsOptionalTest, IsExpr, IsSuffix, IsPrimary, IsPrefixed, IsOperation, IsChain, IsBinary, IsComp, IsOr, IsChoice, IsTest, IsPrimaryTo, IsOrTo, IsTestTo, IsExprTo, IsOperandTo, IsSuffixTo, IsIndexTo}
+use Rattle.bq_parse_grammar.specs.Grammar.{parenthesized_of, choices_of, last_of, targets_of, IsVarOver, IsVar, IsVarsOver, IsVars, IsPair, IsForClause, IsClause, AreClauses, IsOperand, IsArgument, AreArguments, IsOptionalTest, IsExpr, IsSuffix, IsPrimary, IsPrefixed, IsOperation, IsChain, IsBinary, IsComp, IsOr, IsChoice, IsTest, IsPrimaryTo, IsOrTo, IsTestTo, IsExprTo, IsOperandTo, IsSuffixTo, IsIndexTo}
 use Rattle.bq_parse_tree_laws.specs.Depth.{deepest}
 use Rattle.bq_parse_tree_laws.proofs.Depths.{Within, none_within, wider, row_within, commas_within, listed_within}
 use Rattle.bq_eval_depth_laws.proofs.Layers.{expr_layers, target_layers, argument_layers, clause_layers, suffix_layers, choice_layers, operation_layers, pair_layers}
@@ -93,7 +95,17 @@ module _ (n : ℕ) (O T : Phrase Expr) (V : Phrase TargetExpr) (ors : Within exp
   operand_within ts rest y (G.an_int {n = m} f g h) = let e : expr_layers y ≡ 1 = ap expr_layers h ∙ D.layers-Int (pos m) in omega arith
   operand_within ts rest y (G.a_string {b = b} f g h) = let e : expr_layers y ≡ 1 = ap expr_layers h ∙ D.layers-String b in omega arith
   operand_within ts rest y (G.empty_tuple f g h) = let e : expr_layers y ≡ 0 + 1 = ap expr_layers h ∙ D.layers-Tuple [] in omega arith
-  operand_within ts rest y (G.parenthesized {c = c} {ts = us} f p g) = let a : expr_layers y ≤ n = tests us (c ∷ rest) y p in omega arith
+  operand_within ts rest y (G.parenthesized {c = c} {ts = us} {x = x} f p g h) = go (sees k.Dot rest) h
+    where
+      go : (b : Bool) → y ≡ parenthesized_of b x → expr_layers y ≤ n + 2
+      go true h =
+          let e : expr_layers y ≡ max (expr_layers x) 0 + 1 = ap expr_layers h ∙ D.layers-Primary x [] in
+          let a : expr_layers x ≤ n = tests us (c ∷ rest) x p in
+          omega arith
+      go false h =
+          let e : expr_layers y ≡ expr_layers x = ap expr_layers h in
+          let a : expr_layers x ≤ n = tests us (c ∷ rest) x p in
+          omega arith
   operand_within ts rest y (G.a_tuple {c = c} {ts = us} {mid = mid} {x = x} {xs = xs} f p g q h) =
       let e : expr_layers y ≡ max (expr_layers x) (deepest (map expr_layers xs)) + 1 = ap expr_layers h ∙ D.layers-Tuple (x ∷ xs) in
       let a : expr_layers x ≤ n = tests us (c ∷ mid) x p in

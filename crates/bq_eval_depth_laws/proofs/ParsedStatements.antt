@@ -41,7 +41,7 @@ indexed_within depth ts rest y (S.indexed {o = o} c {mid = mid} {us = us} x xs i
 item_within : (depth n : ℕ) (X : Phrase TargetExpr) → 15 * depth + 4 ≤ n + 1 → Within target_layers n X → Within target_layers (n + 1) (IsItemOver depth X)
 item_within depth n X wide inner ts rest y (S.name {t = t} f g) = let e : target_layers y ≡ 1 = ap target_layers g ∙ D.layers-target_Name (identifier t) in omega arith
 item_within depth n X wide inner ts rest y (S.index p) = let a : target_layers y ≤ 15 * depth + 4 = indexed_within depth ts rest y p in omega arith
-item_within depth n X wide inner ts rest y (S.parenthesized {c = c} {ts = us} f p g) = let a : target_layers y ≤ n = inner us (c ∷ rest) y p in omega arith
+item_within depth n X wide inner ts rest y (S.parenthesized {c = c} {ts = us} f p g h) = let a : target_layers y ≤ n = inner us (c ∷ rest) y p in omega arith
 item_within depth n X wide inner ts rest y (S.tuple {c = c} {ts = us} {mid = mid} {x = x} {xs = xs} f p g q h) =
     let e : target_layers y ≡ max (target_layers x) (deepest (map target_layers xs)) + 1 = ap target_layers h ∙ D.layers-target_Tuple (x ∷ xs) in
     let a : target_layers x ≤ n = inner us (c ∷ mid) x p in

@@ -1,5 +1,6 @@
 -- What a host makes of calls: of those of its own functions, and of those of rules that .bzl files declare.
 use Rattle.std.specs.Prelude.{ℕ, List, Bool, Result}
+use Rattle.bq_resolve_predeclared.specs.declared.host_function.HostFunction.{HostFunction}
 use Rattle.bq_base.specs.declared.fault.FaultKind.{FaultKind}
 use Rattle.bq_package_rule_class.specs.Class.{Class}
 use Rattle.bq_package_rule_class.specs.declared.value.AttributeValue.{AttributeValue}
@@ -15,8 +16,8 @@ ReadDefault = Written → Result AttributeValue FaultKind
 
 -- `W` is what it keeps
 pub record HostCalls (W : Type 0) : Type 0 where
-  -- a call of its function of that id
-  pub call : ℕ → Passed → Action (State × W) Datum
+  -- a call of one of its functions
+  pub call : HostFunction → Passed → Action (State × W) Datum
   -- whether a BUILD file is evaluated
   pub in_build : W → Bool
   -- the value of a default: its labels are read in the package of the module that is evaluated (F78, F37)

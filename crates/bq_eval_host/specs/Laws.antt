@@ -7,7 +7,7 @@ use Rattle.bq_resolve_scope.specs.Universe.{max_rules}
 use Rattle.bq_value.specs.Datum.{built_in}
 use Rattle.bq_eval_host.specs.BuiltIns.{predeclared_value, function_named}
 
--- the names of a schema's rules: none of them twice, none predeclared, and no more than there are ids
+-- the names of a schema's rules: none of them twice, none predeclared, and no more than are functions
 pub record AreRules (rules : List Name) : Type 0 where
   pub once : (i : ℕ) (name : Name) → slice_get rules i ≡ Some name → place_among name rules ≡ Some i
   pub own : (i : ℕ) (name : Name) → slice_get rules i ≡ Some name → predeclared_named name ≡ None

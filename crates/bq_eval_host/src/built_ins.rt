@@ -1,21 +1,20 @@
 //! The values of predeclared names, and the built-in functions by their names.
 
-ghost use Rattle.std.specs.Prelude.{◌≡◌, [], IfOk, option_copied};
-ghost use Rattle.bq_resolve_predeclared.specs.Predeclared.{name_of};
+ghost use Rattle.std.specs.Prelude.{◌≡◌, [], IfOk, option_copied, slice_get};
 ghost use Rattle.bq_resolve_scope.specs.Names.{with_each, with_name};
 ghost use Rattle.bq_eval_host.specs.BuiltIns.{host_name, function_of, predeclared_value, function_named};
 
 use crate::found::found;
 use bq_base::Bytes;
 use bq_parse_grammar::FileKind;
-use bq_resolve_predeclared::Predeclared;
+use bq_resolve_predeclared::{HostFunction, Predeclared};
 use bq_resolve_scope::{Names, Universe};
 use bq_value::Value;
 use sqlite_items::Items;
 use std::alloc::{AllocError, Global};
 use std::marker::Model;
 
-/// The built-in functions of a workspace. Contracts see the names of the rules, in the order of their ids.
+/// The built-in functions of a workspace. Contracts see the names of the rules, in their order.
 #[derive(Drop)]
 pub struct BuiltIns {
     rules: Items<Bytes>,
@@ -69,16 +68,23 @@ impl BuiltIns {
         })
     }
 
-    /// Returns the function of the host of this id.
-    fn host_function(&self, alloc: Global, id: u32) -> Result<Value, AllocError>
-        ensures { IfOk result (λ v. v ≡ function_of (host_name self.now id (name_of (Predeclared.Host id)))) }
+    /// Returns the rule at this place of the schema.
+    fn rule(&self, place: u32) -> Result<Value, AllocError>
+        ensures { IfOk result (λ v. v ≡ function_of (slice_get self.now place)) }
     {
-        if let Some(name) = Predeclared::Host(id).name() {
-            return function_of(alloc, Some(name));
-        }
-        match self.rules.as_slice().get((id as usize).saturating_sub(6)) {
+        match self.rules.as_slice().get(place as usize) {
             None => Ok(Value::none()),
             Some(name) => Ok(Value::built_in(name.share()?)),
+        }
+    }
+
+    /// Returns a function of the host.
+    fn host_function(&self, alloc: Global, function: HostFunction) -> Result<Value, AllocError>
+        ensures { IfOk result (λ v. v ≡ function_of (host_name self.now function)) }
+    {
+        match function {
+            HostFunction::Rule(place) => self.rule(place),
+            function => function_of(alloc, function.name()),
         }
     }
 
@@ -91,7 +97,7 @@ impl BuiltIns {
             Predeclared::None => Ok(Value::none()),
             Predeclared::True => Ok(Value::bool(true)),
             Predeclared::False => Ok(Value::bool(false)),
-            Predeclared::Host(id) => self.host_function(alloc, id),
+            Predeclared::Host(function) => self.host_function(alloc, function),
             Predeclared::RuleFunction(function) => Ok(Value::rule_function(function)),
             name => function_of(alloc, name.name()),
         }

@@ -3,7 +3,7 @@
 ghost use Rattle.std.specs.Prelude.{◌≡◌, ◌<◌, Some, IfSome};
 ghost use Rattle.bq_resolve_predeclared.specs.Predeclared.{name_of};
 
-use bq_resolve_predeclared::Predeclared;
+use bq_resolve_predeclared::{HostFunction, Predeclared};
 
 /// The functions of the language and the build functions, each at the place of its name; `None` at the other places.
 const PLACES: [Predeclared; 64] = [
@@ -11,18 +11,18 @@ const PLACES: [Predeclared; 64] = [
     Predeclared::None,
     Predeclared::Min,
     Predeclared::Any,
-    Predeclared::Host(0),
-    Predeclared::Host(2),
+    Predeclared::Host(HostFunction::Glob),
+    Predeclared::Host(HostFunction::Package),
     Predeclared::Select,
     Predeclared::None,
     Predeclared::None,
     Predeclared::None,
-    Predeclared::Host(5),
+    Predeclared::Host(HostFunction::PackageGroup),
     Predeclared::None,
     Predeclared::None,
     Predeclared::None,
     Predeclared::None,
-    Predeclared::Host(1),
+    Predeclared::Host(HostFunction::PackageName),
     Predeclared::Reversed,
     Predeclared::None,
     Predeclared::None,
@@ -64,11 +64,11 @@ const PLACES: [Predeclared; 64] = [
     Predeclared::None,
     Predeclared::None,
     Predeclared::Len,
-    Predeclared::Host(3),
+    Predeclared::Host(HostFunction::Licenses),
     Predeclared::None,
     Predeclared::None,
     Predeclared::List,
-    Predeclared::Host(4),
+    Predeclared::Host(HostFunction::ExportsFiles),
     Predeclared::None,
     Predeclared::None,
 ];

@@ -11,6 +11,7 @@ use bq_base::Bytes;
 use bq_builtin_machine::{Args, Machine};
 use bq_package_rule_class::{AttributeValue, RuleClass};
 use bq_package_typed_value::Written;
+use bq_resolve_predeclared::HostFunction;
 use bq_value::{EvalErr, Value};
 use std::alloc::Global;
 
@@ -33,16 +34,15 @@ pub trait Host {
         ensures says { Gives (λ v. v) Bad result (means.read_default (seen self.now) written) }
         ensures refuses { Refuses result };
 
-    /// Calls a function of the host by its id: 0 to 5 are `glob`, `package_name`, `package`, `licenses`,
-    /// `exports_files` and `package_group`, and 6 + r is rule r of the schema.
+    /// Calls a build function, or a rule of the schema.
     fn call(
         &mut self,
         alloc: Global,
-        id: u32,
+        function: HostFunction,
         args: Args,
         machine: &mut Machine,
     ) -> Result<Value, EvalErr>
-        ensures says { HostDoes (λ v. v) result machine.new (seen self.new) (means.call id args (machine.old, seen self.old)) }
+        ensures says { HostDoes (λ v. v) result machine.new (seen self.new) (means.call function args (machine.old, seen self.old)) }
         ensures keeps { KeepsIfRefused result (seen self.old) (seen self.new) }
         ensures refuses { Refuses result };
 

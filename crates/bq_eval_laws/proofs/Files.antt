@@ -36,7 +36,7 @@ loading_own : (s : StoreView) (loaded : List FrozenView) → (fold loading s loa
 loading_own s [] = refl
 loading_own s (f ∷ fs) = loading_own (loading s f) fs
 
-first_own : (number : ℕ) (loaded : List FrozenView) → (first_store number loaded).own ≡ number
+pub first_own : (number : ℕ) (loaded : List FrozenView) → (first_store number loaded).own ≡ number
 first_own number loaded = loading_own (record { own = number; cells = []; loaded = [] }) loaded
 
 frozen_outside : (f : FrozenView) (home number : ℕ) → home ≢ f.own → frozen_at f home number ≡ cell_of number (module_at home f.reached)
@@ -51,10 +51,6 @@ module _ (first : StoreView) (home cell : ℕ) (apart : home ≢ first.own) wher
   stays_in : (s : StoreView) (names : List Name) (gs : List Datum) → Stays first s → frozen_at (frozen s names gs) home cell ≡ content_at first home cell
   stays_in s names gs h =
       frozen_outside (frozen s names gs) home cell (λ is. apart (is ∙ h.own)) ∙ (ap (λ ms. cell_of cell (module_at home ms)) h.modules ∙ sym (content_outside first home cell apart))
-
-  stays : {W : Type 0} (file : Resolved) (imports : List Datum) (r : Run (State × W) Frame) → Leaves hosted first r → FrozenAre (ended file imports r) (λ f. frozen_at f home cell ≡ content_at first home cell)
-  stays file imports (done globals s) h = stays_in s.0.store file.globals (frozen_values file imports globals) h
-  stays file imports (stopped why) h = tt
 
 short_stays : (e : Ended) (prints : List (List ℕ)) (P : FrozenView → Type 0) → EndsShort e prints → FrozenAre e P
 short_stays (evaluated f ps) prints P h = absurd h
@@ -83,17 +79,23 @@ module _ {W : Type 0} (names : List Name) (host : HostCalls W) (hosts : HostTake
   pub file_takes : FileTakes (ends names host code number file loaded imports kept)
   file_takes = record { steps = run_takes.steps; outcome = ended file imports run_takes.outcome; enough = file_enough; short = file_short }
 
-  others_by : (limit home cell : ℕ) → home ≢ number → (limit < run_takes.steps) ⊎ (run_takes.steps ≤ limit)
-      → FrozenAre (ends names host code number file loaded imports kept limit) (λ f. frozen_at f home cell ≡ content_at (first_store number loaded) home cell)
-  others_by limit home cell apart (inl more) =
-      short_stays (ends names host code number file loaded imports kept limit) (prints_of (ended file imports run_takes.outcome))
-      (λ f. frozen_at f home cell ≡ content_at (first_store number loaded) home cell) (file_short limit more)
-  others_by limit home cell apart (inr few) =
-      subst (λ e. FrozenAre e (λ f. frozen_at f home cell ≡ content_at (first_store number loaded) home cell)) (sym (file_enough limit few))
-      (stays (first_store number loaded) home cell (λ is. apart (is ∙ first_own number loaded)) file imports run_takes.outcome run_takes.leaves)
+  -- what holds of each store that no action changes holds of what is frozen
+  module _ (P : FrozenView → Type 0) (so : (s : StoreView) (ns : List Name) (gs : List Datum) → Stays (first_store number loaded) s → P (frozen s ns gs)) where
+    of_run : (r : Run (State × W) Frame) → Leaves hosted (first_store number loaded) r → FrozenAre (ended file imports r) P
+    of_run (done globals s) h = so s.0.store file.globals (frozen_values file imports globals) h
+    of_run (stopped why) h = tt
+
+    freezes_by : (limit : ℕ) → (limit < run_takes.steps) ⊎ (run_takes.steps ≤ limit) → FrozenAre (ends names host code number file loaded imports kept limit) P
+    freezes_by limit (inl more) = short_stays (ends names host code number file loaded imports kept limit) (prints_of (ended file imports run_takes.outcome)) P (file_short limit more)
+    freezes_by limit (inr few) = subst (λ e. FrozenAre e P) (sym (file_enough limit few)) (of_run run_takes.outcome run_takes.leaves)
+
+    pub freezes : (limit : ℕ) → FrozenAre (ends names host code number file loaded imports kept limit) P
+    freezes limit = freezes_by limit (cases_lt limit run_takes.steps)
 
   pub others_stay : (limit home cell : ℕ) → home ≢ number → FrozenAre (ends names host code number file loaded imports kept limit) (λ f. frozen_at f home cell ≡ content_at (first_store number loaded) home cell)
-  others_stay limit home cell apart = others_by limit home cell apart (cases_lt limit run_takes.steps)
+  others_stay limit home cell apart =
+      freezes (λ f. frozen_at f home cell ≡ content_at (first_store number loaded) home cell)
+      (λ s ns gs h. stays_in (first_store number loaded) home cell (λ is. apart (is ∙ first_own number loaded)) s ns gs h) limit
 
 module _ {W : Type 0} (names : List Name) (host : HostCalls W) (hosts : HostTakes host) where
   pub files_take : FilesTakeTheirSteps names host

@@ -81,7 +81,7 @@ module _ {W : Type 0} (names : List Name) (host : HostCalls W) (hosts : HostTake
 
   found_owns : (o : Option Predeclared) (args : Passed) → HostOwns (call_found host o args)
   found_owns None args = lifted Datum (action.stop WrongType) (stop_owns Datum WrongType)
-  found_owns (Some (p.Host id)) args = hosts.0 id args
+  found_owns (Some (p.Host f)) args = hosts.0 f args
   found_owns (Some x) args = lifted Datum (call_function x args) (function_owns x args)
 
   built_in_owns : (name : List ℕ) (args : Passed) → HostOwns (call_built_in names host name args)

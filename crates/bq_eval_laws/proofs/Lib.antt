@@ -4,5 +4,7 @@ pub mod Making
 pub mod Hosts
 -- files
 pub mod Files
+-- modules that are reached
+pub mod Callable
 -- rules
 pub mod Rules

@@ -3,6 +3,7 @@ use Rattle.std.specs.Prelude.{◌≡◌, ◌≢◌, ℕ, ◌<◌, ◌≤◌, Lis
 use Rattle.bq_base.specs.declared.fault.FaultKind.TheVariants.{StepLimit}
 use Rattle.bq_resolve_scope.specs.Names.{Name}
 use Rattle.bq_resolve_scope.specs.declared.code.Resolved.{Resolved}
+use Rattle.bq_resolve_predeclared.specs.declared.host_function.HostFunction.{HostFunction}
 use Rattle.bq_package_rule_class.specs.Class.{Class}
 use Rattle.bq_value.specs.Cells.{FrozenView, content_at, frozen_at}
 use Rattle.bq_value.specs.Contents.{rule}
@@ -20,7 +21,7 @@ use Rattle.bq_builtin_step_laws.specs.Steps.{hosted, Begins, Takes}
 -- functions, and those of rules that .bzl files declare
 abbrev pub HostTakes : {W : Type 0} → HostCalls W → Type 0
 HostTakes {W = W} host =
-    ((id : ℕ) (args : Passed) (s : State × W) → Takes hosted (host.call id args) s)
+    ((function : HostFunction) (args : Passed) (s : State × W) → Takes hosted (host.call function args) s)
     × ((kind : List ℕ) (class : Class) (args : Passed) (s : State × W) → Takes hosted (host.call_rule kind class args) s)
 
 abbrev pub prints_of : Ended → List (List ℕ)

@@ -3,6 +3,7 @@
 ghost use Rattle.std.specs.Prelude.{List};
 ghost use Rattle.bq_resolve_scope.specs.Names.{Name};
 ghost use Rattle.bq_eval_laws.specs.Files.{HostTakes, FilesTakeTheirSteps, OtherModulesStay, CallsKeepRules};
+ghost use Rattle.bq_eval_laws.specs.Callable.{FunctionsStayCallable};
 
 use bq_eval_host::Host;
 
@@ -21,4 +22,9 @@ pub fn other_modules_stay<H: Host>()
 /// A rule that a .bzl file declares holds the same attributes after each call, whatever is called.
 pub fn calls_keep_rules<H: Host>()
     ensures { (names : List Name) → HostTakes H.means → CallsKeepRules names H.means }
+{}
+
+/// A module that loads another can call the functions that this one could, its own and those of each module that it reached.
+pub fn functions_stay_callable<H: Host>()
+    ensures { (names : List Name) → HostTakes H.means → FunctionsStayCallable names H.means }
 {}

@@ -15,7 +15,7 @@ use Rattle.bq_builtin.specs.Call.{call_function}
 -- a host carries out its own functions; what is no function of this workspace, which no program has, can't be called (F40)
 abbrev pub call_found : {W : Type 0} → HostCalls W → Option Predeclared → Passed → Action (State × W) Datum
 call_found host None args = on_machine (stop WrongType)
-call_found host (Some (p.Host id)) args = host.call id args
+call_found host (Some (p.Host f)) args = host.call f args
 call_found host (Some x) args = on_machine (call_function x args)
 
 unfoldable pub call_built_in : {W : Type 0} → List Name → HostCalls W → Name → Passed → Action (State × W) Datum

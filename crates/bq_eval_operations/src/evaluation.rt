@@ -234,7 +234,9 @@ impl<'a, H: Host, K: RuleNames> Runtime for Evaluation<'a, H, K> {
     fn call_built_in(&mut self, alloc: Global, name: &Bytes, args: Args) -> Result<Value, EvalErr> {
         match self.built_ins.function(name)? {
             None => Err(EvalErr::Bad(FaultKind::WrongType)),
-            Some(Predeclared::Host(id)) => self.host.call(alloc, id, args, &mut self.machine),
+            Some(Predeclared::Host(function)) => {
+                self.host.call(alloc, function, args, &mut self.machine)
+            }
             Some(function) => {
                 bq_builtin::call_function(alloc, &mut self.machine, function, args)
             }

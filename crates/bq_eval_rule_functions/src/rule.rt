@@ -10,7 +10,7 @@ ghost use Rattle.bq_eval_rule_functions.specs.Rule.{implemented, attribute_in, e
 use crate::keywords::{bind_rule, documented};
 use bq_base::{Bytes, FaultKind};
 use bq_builtin_machine::Args;
-use bq_package_rule_class::{Attribute, RuleClass, common_attribute};
+use bq_package_rule_class::{Attribute, Attributes, RuleClass, common_attribute};
 use bq_package_typed_value::{argument, text_in};
 use bq_parse_grammar::is_identifier;
 use bq_value::laws::dicts_of_stores_have_distinct_keys;
@@ -30,6 +30,7 @@ fn implemented(value: Option<&Value>) -> Result<(), FaultKind>
     }
 }
 
+/// An attribute, or F40.
 fn attribute_in(alloc: Global, value: &Value) -> Result<Attribute, EvalErr>
     ensures { Gives (λ x. x) Bad result (attribute_in value.now) }
 {
@@ -39,7 +40,7 @@ fn attribute_in(alloc: Global, value: &Value) -> Result<Attribute, EvalErr>
     }
 }
 
-/// Returns an attribute with its name.
+/// Returns the name and the attribute of an entry of `attrs`, or F40.
 fn entry(alloc: Global, key: &Value, value: &Value) -> Result<(Bytes, Attribute), EvalErr>
     ensures { Gives (λ e. e) Bad result (entry (key.now, value.now)) }
 {
@@ -53,17 +54,17 @@ fn entries(alloc: Global, dict: &Dict) -> Result<RuleClass, EvalErr>
     requires { HasNoKeyTwice dict.now }
     ensures { Gives (λ c. c) Bad result (entries dict.now) }
 {
-    let mut class = RuleClass::empty(alloc)?;
+    let mut attributes = Attributes::new(alloc);
     for i in 0..dict.len() {
         let (key, value) = dict.pair(i);
         let (name, attribute) = entry(alloc, key.value(), value)?;
-        match class.with(alloc, name.as_slice(), attribute)? {
-            Some(more) => class = more,
+        match attributes.with(alloc, name.as_slice(), attribute)? {
+            Some(more) => attributes = more,
             // no key is twice
             None => return Err(EvalErr::Bad(FaultKind::BadValue)),
         }
     }
-    Ok(class)
+    Ok(RuleClass::of(alloc, attributes)?)
 }
 
 /// Returns the attributes that a cell holds, if it is a dict.

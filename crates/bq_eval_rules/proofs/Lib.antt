@@ -11,3 +11,5 @@ pub mod Clauses
 pub mod Loops
 pub mod ParameterLists
 pub mod CallSteps
+-- positional arguments go straight into the frame
+pub mod Straight

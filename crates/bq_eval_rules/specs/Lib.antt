@@ -9,3 +9,4 @@ pub mod Flows
 pub mod Runs
 pub mod Fillings
 pub mod CodeUnits
+pub mod Direct

@@ -8,6 +8,7 @@ ghost use Rattle.bq_eval_rules.specs.Slots.{slots_of};
 ghost use Rattle.bq_eval_rules.specs.Round.{inside, units_at, globals_of};
 
 use crate::context::Context;
+use crate::direct::{are_plain, plain_frame};
 use crate::filling::{Filling, filled_frame};
 use crate::flow::answered;
 use crate::frame::Frame;
@@ -22,8 +23,28 @@ use bq_value::{EvalErr, Node, Value};
 use std::alloc::Global;
 
 /// Returns the frame with which a function begins.
-#[tactic(auto, using(crate::proofs::CallSteps::given_acts), unfolding(bq_eval_meaning_spec::specs::Calls::entry))]
+#[tactic(auto, using(crate::proofs::Straight::straight))]
 pub fn entry<'f, R: Runtime>(
+    alloc: Global,
+    runtime: &mut R,
+    function: &CodeFunction,
+    defaults: &[Value],
+    args: Args,
+) -> Result<Frame<'f>, EvalErr>
+    ensures { Acts R.means slots_of result (R.seen runtime.new) (meaning.entry R.means function.now defaults.now args (R.seen runtime.old)) }
+{
+    let parameters = function.parameters.as_slice();
+    let is_straight = args.named.is_empty() && args.positional.len() == parameters.len();
+    if is_straight && are_plain(parameters) {
+        let frame = plain_frame(alloc, function.slots, parameters, args.positional)?;
+        return Ok(frame);
+    }
+    bound_entry(alloc, runtime, function, defaults, args)
+}
+
+/// Returns the frame with which a function begins, by binding the arguments to its parameters.
+#[tactic(auto, using(crate::proofs::CallSteps::given_acts), unfolding(bq_eval_meaning_spec::specs::Calls::entry))]
+fn bound_entry<'f, R: Runtime>(
     alloc: Global,
     runtime: &mut R,
     function: &CodeFunction,

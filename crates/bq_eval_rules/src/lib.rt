@@ -16,13 +16,14 @@
 //! - `evaluator`, `displays`, `operators`, `suffixes`, `comprehensions`, `expressions`: the rules of expressions;
 //! - `places`, `targets`, `reader`: the targets of assignments;
 //! - `flow`, `small`, `statements`: the rules of statements;
-//! - `parameters`, `filling`, `units`, `calls`: calls;
+//! - `parameters`, `filling`, `direct`, `units`, `calls`: calls;
 //! - `file`: the top-level statements of a file.
 #![tactic(auto)]
 
 mod calls;
 mod comprehensions;
 mod context;
+mod direct;
 mod displays;
 mod evaluator;
 mod expressions;

@@ -1,7 +1,8 @@
 -- How much the trees of each phrase weigh: a bracket adds at most one for each level of the grammar, and one for a frame; what is left out
 -- more than all of them.
-use Rattle.std.proofs.Common.{◌≡◌, ℕ, zero, suc, Bool, ◌+◌, ◌*◌, ◌≤◌, max, pos, List, [], ◌∷◌, map, Option, None, ap, ◌∙◌, arith}
+use Rattle.std.proofs.Common.{◌≡◌, ℕ, zero, suc, Bool, true, false, ◌+◌, ◌*◌, ◌≤◌, max, pos, List, [], ◌∷◌, map, Option, None, ap, ◌∙◌, arith}
 use Rattle.bq_source.specs.declared.token.TokenKind.{TokenKind}
+use Rattle.bq_source.specs.declared.token.TokenKind.TheVariants as k
 use Rattle.bq_parse_grammar.specs.Lexeme.{Lexeme}
 use Rattle.bq_parse_grammar.specs.Literals.{identifier}
 use Rattle.bq_parse_grammar.specs.declared.tree.Expr.{Expr}
@@ -14,8 +15,9 @@ use Rattle.bq_parse_grammar.specs.declared.tree.TargetExpr.{TargetExpr}
 use Rattle.bq_parse_grammar.specs.Operators.{sign, negation}
 use Rattle.bq_parse_grammar.specs.Phrases as P
 use Rattle.bq_parse_grammar.specs.Phrases.{Phrase, none, Repeat, Listed, CommaThen}
+use Rattle.bq_parse_grammar.specs.Turns.{sees}
 use Rattle.bq_parse_grammar.specs.Grammar as G
-use Rattle.bq_parse_grammar.specs.Grammar.{choices_of, last_of, targets_of, IsVarOver, IsVar, IsVarsOver, IsVars, IsPair, IsForClause, IsClause, AreClauses, IsOperand, IsArgument, AreArguments, IsOptionalTest, IsExpr, IsSuffix, IsPrimary, IsPrefixed, IsOperation, IsChain, IsBinary, IsComp, IsOr, IsChoice, IsTest, IsPrimaryTo, IsOrTo, IsTestTo, IsExprTo, IsOperandTo, IsSuffixTo, IsIndexTo}
+use Rattle.bq_parse_grammar.specs.Grammar.{parenthesized_of, choices_of, last_of, targets_of, IsVarOver, IsVar, IsVarsOver, IsVars, IsPair, IsForClause, IsClause, AreClauses, IsOperand, IsArgument, AreArguments, IsOptionalTest, IsExpr, IsSuffix, IsPrimary, IsPrefixed, IsOperation, IsChain, IsBinary, IsComp, IsOr, IsChoice, IsTest, IsPrimaryTo, IsOrTo, IsTestTo, IsExprTo, IsOperandTo, IsSuffixTo, IsIndexTo}
 use Rattle.bq_parse_tree_laws.specs.Depth.{deepest}
 use Rattle.bq_parse_tree_laws.proofs.Depths as T
 use Rattle.bq_parse_tree_laws.proofs.Depths.{Within, none_within, listed_within, commas_within}
@@ -103,7 +105,19 @@ module _ (build : Bool) where
     operand_below ts rest y (G.an_int {n = m} f g h) = let e : expr_weight y ≡ 1 = ap expr_weight h ∙ D.weight-Int (pos m) in let c_h = ap (expr_count build) h ∙ C.count-Int build (pos m) in omega arith
     operand_below ts rest y (G.a_string {b = b} f g h) = let e : expr_weight y ≡ 1 = ap expr_weight h ∙ D.weight-String b in let c_h = ap (expr_count build) h ∙ C.count-String build b in omega arith
     operand_below ts rest y (G.empty_tuple f g h) = let e : expr_weight y ≡ 0 + 1 = ap expr_weight h ∙ D.weight-Tuple [] in let c_h = ap (expr_count build) h ∙ C.count-Tuple build [] in omega arith
-    operand_below ts rest y (G.parenthesized {c = c} {ts = us} f p g) = let a : expr_weight y ≤ n + 2000 * expr_count build y = tests us (c ∷ rest) y p in omega arith
+    operand_below ts rest y (G.parenthesized {c = c} {ts = us} {x = x} f p g h) = go (sees k.Dot rest) h
+      where
+        go : (b : Bool) → y ≡ parenthesized_of b x → expr_weight y ≤ n + 2 + 2000 * expr_count build y
+        go true h =
+            let e : expr_weight y ≡ max (expr_weight x) 0 + 1 = ap expr_weight h ∙ D.weight-Primary x [] in
+            let c_h = ap (expr_count build) h ∙ C.count-Primary build x [] in
+            let a : expr_weight x ≤ n + 2000 * expr_count build x = tests us (c ∷ rest) x p in
+            omega arith
+        go false h =
+            let e : expr_weight y ≡ expr_weight x = ap expr_weight h in
+            let c_h : expr_count build y ≡ expr_count build x = ap (expr_count build) h in
+            let a : expr_weight x ≤ n + 2000 * expr_count build x = tests us (c ∷ rest) x p in
+            omega arith
     operand_below ts rest y (G.a_tuple {c = c} {ts = us} {mid = mid} {x = x} {xs = xs} f p g q h) =
         let e : expr_weight y ≡ max (expr_weight x) (deepest (map expr_weight xs)) + 1 = ap expr_weight h ∙ D.weight-Tuple (x ∷ xs) in
         let c_h = ap (expr_count build) h ∙ C.count-Tuple build (x ∷ xs) in

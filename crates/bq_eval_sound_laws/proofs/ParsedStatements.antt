@@ -66,7 +66,7 @@ module _ (build : Bool) where
   item_below : (depth n : ℕ) (X : Phrase TargetExpr) → 15 * depth + 4 ≤ n + 1 → Below place_weight (target_count build) n X → Below place_weight (target_count build) (n + 1) (IsItemOver depth X)
   item_below depth n X wide inner ts rest y (S.name {t = t} f g) = let e : place_weight y ≡ 1 = ap place_weight g ∙ D.weight-place_Name (identifier t) in let c_g = ap (target_count build) g ∙ C.count-target_Name build (identifier t) in omega arith
   item_below depth n X wide inner ts rest y (S.index p) = let a : place_weight y ≤ 15 * depth + 4 + 2000 * target_count build y = indexed_below depth ts rest y p in omega arith
-  item_below depth n X wide inner ts rest y (S.parenthesized {c = c} {ts = us} f p g) = let a : place_weight y ≤ n + 2000 * target_count build y = inner us (c ∷ rest) y p in omega arith
+  item_below depth n X wide inner ts rest y (S.parenthesized {c = c} {ts = us} f p g h) = let a : place_weight y ≤ n + 2000 * target_count build y = inner us (c ∷ rest) y p in omega arith
   item_below depth n X wide inner ts rest y (S.tuple {c = c} {ts = us} {mid = mid} {x = x} {xs = xs} f p g q h) =
       let e : place_weight y ≡ max (place_weight x) (deepest (map place_weight xs)) + 1 = ap place_weight h ∙ D.weight-place_Tuple (x ∷ xs) in
       let c_h = ap (target_count build) h ∙ C.count-target_Tuple build (x ∷ xs) in

@@ -93,7 +93,7 @@ pub record IsGathered (bs : List BuildFile) (os : List OutcomeView) (l : Loaded)
   pub packages : l.packages.items ≡ packages_in bs os
   pub ascend : PackagesAscend l.packages.items
   pub faults : l.faults ≡ sorted_lines (fault_lines os)
-  pub prints : l.prints.items ≡ print_lines os
+  pub prints : l.prints ≡ print_lines os
 
 -- what these sources and loads give
 abbrev pub IsLoaded : LoadingParts → Loads → Loaded → Type 0

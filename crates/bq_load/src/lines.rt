@@ -9,6 +9,7 @@ ghost use Rattle.bq_load.specs.Loaded.{line_of, lines_of, fault_lines, print_lin
 use crate::outcome::{FailedModule, ModuleOutcome};
 use crate::results::shown;
 use bq_base::Bytes;
+use bq_base_rope::Rope;
 use bq_label::Label;
 use bq_load_fault_line::{FaultLine, FaultLines};
 use std::alloc::{AllocError, Global};
@@ -54,36 +55,41 @@ pub(crate) fn fault_lines(
     Ok(lines)
 }
 
-/// Appends `LABEL: TEXT` and a newline for each text.
-fn push_prints(text: &mut Vec<u8>, form: &[u8], prints: &[Bytes]) -> Result<(), AllocError>
-    ensures { OnOk result (text.new.items ≡ text.old.items ++ flat_map (print_line form.now) prints.now) }
+/// Appends `LABEL: TEXT` and a newline for each text. Long texts are shared, not copied.
+fn push_prints(
+    alloc: Global,
+    text: &mut Rope,
+    form: &[u8],
+    prints: &[Bytes],
+) -> Result<(), AllocError>
+    ensures { OnOk result (text.new ≡ text.old ++ flat_map (print_line form.now) prints.now) }
 {
     for print in prints {
-        text.extend_from_slice(form)?;
-        text.extend_from_slice(b": ")?;
-        text.extend_from_slice(print.as_slice())?;
-        text.push(b'\n')?;
+        text.push_slice(form)?;
+        text.push_slice(b": ")?;
+        text.push_bytes(alloc, print)?;
+        text.push_slice(b"\n")?;
     }
     Ok(())
 }
 
 /// Appends what a module printed.
-fn push_module(alloc: Global, text: &mut Vec<u8>, module: &ModuleOutcome) -> Result<(), AllocError>
-    ensures { OnOk result (text.new.items ≡ text.old.items ++ prints_of (outcome_view «module».now)) }
+fn push_module(alloc: Global, text: &mut Rope, module: &ModuleOutcome) -> Result<(), AllocError>
+    ensures { OnOk result (text.new ≡ text.old ++ prints_of (outcome_view «module».now)) }
 {
     let prints = match &module.result {
         Ok(loaded) => loaded.prints.as_slice(),
         Err(failed) => failed.prints.as_slice(),
     };
     let form = shown(alloc, &module.label)?;
-    push_prints(text, form.as_slice(), prints)
+    push_prints(alloc, text, form.as_slice(), prints)
 }
 
-/// Returns the print lines of modules: in the order of their labels, and for each in the order of its calls.
-pub(crate) fn print_lines(alloc: Global, modules: &[ModuleOutcome]) -> Result<Vec<u8>, AllocError>
-    ensures { IfOk result (λ text. text.items ≡ print_lines (map outcome_view modules.now)) }
+/// What is printed of the modules: in the order of their labels, in each in the order of its calls.
+pub(crate) fn print_lines(alloc: Global, modules: &[ModuleOutcome]) -> Result<Rope, AllocError>
+    ensures { IfOk result (λ text. text ≡ print_lines (map outcome_view modules.now)) }
 {
-    let mut text = Vec::new(alloc);
+    let mut text = Rope::new(alloc);
     for each in modules {
         push_module(alloc, &mut text, each)?;
     }

@@ -7,6 +7,7 @@ ghost use Rattle.bq_load.specs.Loaded.{IsGathered};
 use crate::lines::{fault_lines, print_lines};
 use crate::outcome::ModuleOutcome;
 use crate::packages::packages_in;
+use bq_base_rope::Rope;
 use bq_label::Packages;
 use bq_load_fault_line::FaultLines;
 use bq_package_target::Package;
@@ -21,8 +22,8 @@ pub struct Loaded {
     pub packages: Vec<Package>,
     /// A line for each module that failed.
     pub faults: FaultLines,
-    /// `LABEL: TEXT` and a newline for each text that a module printed.
-    pub prints: Vec<u8>,
+    /// `LABEL: TEXT` and a newline for each text that a module printed. Long texts are shared with the modules.
+    pub prints: Rope,
 }
 
 impl Loaded {

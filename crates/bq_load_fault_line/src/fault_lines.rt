@@ -8,6 +8,7 @@ ghost use Rattle.bq_load_fault_line.specs.LineText.{line_text};
 
 use crate::fault_line::FaultLine;
 use crate::line_text::push_line;
+use bq_base_rope::Rope;
 use std::alloc::{AllocError, Global};
 use std::collections::BTreeSet;
 use std::marker::Model;
@@ -54,17 +55,16 @@ impl FaultLines {
     pub fn text(&self, alloc: Global) -> Result<Vec<u8>, AllocError>
         ensures { IfOk result (λ text. text.items ≡ flat_map line_text self.now) }
     {
-        let mut text = Vec::new(alloc);
+        let mut text = Rope::new(alloc);
         for line in &self.lines {
             push_line(alloc, &mut text, line)?;
         }
-        Ok(text)
+        text.to_vec(alloc)
     }
 
-    /// Appends the text of the lines. Each line is dropped once it is appended, so that at most one detail is in memory
-    /// twice.
-    pub fn append_to(self, alloc: Global, text: &mut Vec<u8>) -> Result<(), AllocError>
-        ensures { OnOk result (text.new.items ≡ text.old.items ++ flat_map line_text self) }
+    /// Appends what is printed of the lines. Each line is dropped once it is appended; a long detail is not copied.
+    pub fn append_to(self, alloc: Global, text: &mut Rope) -> Result<(), AllocError>
+        ensures { OnOk result (text.new ≡ text.old ++ flat_map line_text self) }
     {
         for line in self.lines {
             push_line(alloc, text, &line)?;

@@ -7,7 +7,7 @@ use Rattle.bq_parse_grammar.specs.declared.tree.FileKind.{FileKind}
 use Rattle.bq_parse_grammar.specs.declared.tree.FileKind.TheVariants as kinds
 use Rattle.bq_label.specs.Label.{LabelParts}
 use Rattle.bq_package_rule_class.specs.Class.{Class}
-use Rattle.bq_builtin_machine.specs.Action.{Run, given, ◌>>=◌}
+use Rattle.bq_builtin_machine.specs.Action.{given, ◌>>=◌}
 use Rattle.bq_builtin_machine.specs.Args.{Passed}
 use Rattle.bq_builtin_machine.specs.State.{State}
 use Rattle.bq_package_target.specs.declared.state.Declared.{Declared}
@@ -17,13 +17,12 @@ use Rattle.bq_package_target.specs.Target.{names_of, declares as declared_by}
 use Rattle.bq_package_target.specs.Names.{are_new}
 use Rattle.bq_package_target.specs.Package.{PackageTargets, is_taken}
 use Rattle.bq_package_target.specs.Calls.{declared, exported}
-use Rattle.bq_package.specs.declared.function.BuildFunction.{BuildFunction}
-use Rattle.bq_package.specs.declared.function.BuildFunction.TheVariants as b
+use Rattle.bq_resolve_predeclared.specs.declared.host_function.HostFunction.{HostFunction}
+use Rattle.bq_resolve_predeclared.specs.declared.host_function.HostFunction.TheVariants as b
 use Rattle.bq_package.specs.Glob.{globbed}
 use Rattle.bq_package.specs.Files.{files_named}
 use Rattle.bq_package.specs.Groups.{group_named}
 use Rattle.bq_package.specs.Rules.{declared_target, rule_target}
-use Rattle.bq_package.specs.Functions.{function_of}
 use Rattle.bq_package.specs.Calls.{Declaring, HeldPackage, outside, declaring, new_strings, package_name, ignored, settled, declares, call_in, call_by, call_of, rule_by, rule_call}
 use Rattle.bq_load_package_laws.proofs.Keeping.{Left, beside_left}
 
@@ -64,7 +63,7 @@ module _ (l : LabelParts) (s : State) (d : Declaring) (h : d.package.build_file 
   declares_left (Ok a) declare same = settled_left (declare a) (same a)
   declares_left (Err why) declare same = tt
 
-  in_package : (f : BuildFunction) (passed : Passed) → Left (Held kinds.Build l) (call_in d s f passed)
+  in_package : (f : HostFunction) (passed : Passed) → Left (Held kinds.Build l) (call_in d s f passed)
   unfolding call_in
   in_package b.Glob passed = beside_left (Held kinds.Build l) (declaring d) h ((given (globbed d.place s.store passed) >>= new_strings) s)
   in_package b.PackageName passed = beside_left (Held kinds.Build l) (declaring d) h (given (package_name d.place passed) s)
@@ -74,7 +73,7 @@ module _ (l : LabelParts) (s : State) (d : Declaring) (h : d.package.build_file 
   in_package b.PackageGroup passed = declares_left (group_named d.place s.store s.line passed) (declared d.package) (declared_same d.package)
   in_package (b.Rule rule) passed = declares_left (rule_target d.place s.store s.line rule passed) (declared d.package) (declared_same d.package)
 
-by_kept : (k : FileKind) (l : LabelParts) (s : State) (kept : HeldPackage) (f : BuildFunction) (passed : Passed) → Held k l kept → Left (Held k l) (call_by s kept f passed)
+by_kept : (k : FileKind) (l : LabelParts) (s : State) (kept : HeldPackage) (f : HostFunction) (passed : Passed) → Held k l kept → Left (Held k l) (call_by s kept f passed)
 by_kept k l s (outside own packages) f passed h = tt
 by_kept kinds.Build l s (declaring d) f passed h = in_package l s d h f passed
 by_kept kinds.Bzl l s (declaring d) f passed h = absurd h
@@ -88,6 +87,6 @@ pub rules_keep : (k : FileKind) (l : LabelParts) (rule : List ℕ) (class : Clas
 unfolding rule_call
 rules_keep k l rule class passed q h = by_rule k l q.0 q.1 rule class passed h
 
-pub calls_keep : (k : FileKind) (l : LabelParts) (id : ℕ) (passed : Passed) (q : State × HeldPackage) → Held k l q.1 → Left (Held k l) (call_of id passed q)
+pub calls_keep : (k : FileKind) (l : LabelParts) (f : HostFunction) (passed : Passed) (q : State × HeldPackage) → Held k l q.1 → Left (Held k l) (call_of f passed q)
 unfolding call_of
-calls_keep k l id passed q h = by_kept k l q.0 q.1 (function_of id) passed h
+calls_keep k l f passed q h = by_kept k l q.0 q.1 f passed h

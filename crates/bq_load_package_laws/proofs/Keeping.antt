@@ -1,14 +1,14 @@
 -- What a host keeps has a property after all that a program does, if it has it before, and each call of the host leaves it.
 use Rattle.std.proofs.Common.{ℕ, Bool, true, false, List, Option, Some, None}
 use Rattle.std.specs.Prelude.{if◌then◌else◌}
-use Rattle.bq_base.specs.declared.fault.FaultKind.TheVariants.{WrongType, BadValue, NotInPackage}
+use Rattle.bq_base.specs.declared.fault.FaultKind.TheVariants.{NotInPackage}
+use Rattle.bq_resolve_predeclared.specs.declared.host_function.HostFunction.{HostFunction}
 use Rattle.bq_resolve_predeclared.specs.declared.predeclared.Predeclared.{Predeclared}
 use Rattle.bq_resolve_predeclared.specs.declared.predeclared.Predeclared.TheVariants as p
 use Rattle.bq_resolve_predeclared.specs.declared.rule_function.RuleFunction.{RuleFunction}
 use Rattle.bq_package_rule_class.specs.Class.{Class}
 use Rattle.bq_resolve_scope.specs.Names.{Name}
 use Rattle.bq_value.specs.Cells.{content_at, kind_of}
-use Rattle.bq_value.specs.Datum.{Datum}
 use Rattle.bq_value_compare.specs.Truth.{truth_of}
 use Rattle.bq_builtin_machine.specs.Action.{Action, Run, done, stopped, following, beside, look, on_machine}
 use Rattle.bq_builtin_machine.specs.Action as action
@@ -49,11 +49,11 @@ module _ {W : Type 0} (P : W → Type 0) where
   followed (done x s) f h next = next x s h
   followed (stopped why) f h next = tt
 
-  module _ (names : List Name) (host : HostCalls W) (hosts : (id : ℕ) (args : Passed) (s : State × W) → P s.1 → Left (host.call id args s))
+  module _ (names : List Name) (host : HostCalls W) (hosts : (function : HostFunction) (args : Passed) (s : State × W) → P s.1 → Left (host.call function args s))
       (rules : (kind : List ℕ) (class : Class) (args : Passed) (s : State × W) → P s.1 → Left (host.call_rule kind class args s)) where
     found_keeps : (o : Option Predeclared) (args : Passed) (s : State × W) → P s.1 → Left (call_found host o args s)
     found_keeps None args s h = tt
-    found_keeps (Some (p.Host id)) args s h = hosts id args s h
+    found_keeps (Some (p.Host f)) args s h = hosts f args s h
     found_keeps (Some x) args s h = beside_left s.1 h (call_function x args s.0)
 
     built_in_keeps : (name : List ℕ) (args : Passed) (s : State × W) → P s.1 → Left (call_built_in names host name args s)

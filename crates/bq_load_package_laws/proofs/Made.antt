@@ -1,5 +1,5 @@
 -- The package that a file makes is its own.
-use Rattle.std.proofs.Common.{◌≡◌, ◌∙◌, ℕ, Bool, true, false, List, [], map, Option, Some, None, Result, Ok, Err, slice_get, refl, sym, subst}
+use Rattle.std.proofs.Common.{◌≡◌, ℕ, Bool, true, false, List, [], map, Option, Some, None, Result, Ok, Err, slice_get, refl, sym, subst}
 use Rattle.std.specs.Prelude.{IfOk, bytes_eq, option_map, ◌&&◌, if◌then◌else◌}
 use Rattle.std.specs.Cmp.Lexicographic.{bytes_decides}
 use Rattle.bq_base.specs.declared.fault.Fault.{Fault}
@@ -20,11 +20,11 @@ use Rattle.bq_package_target.specs.Package.{PackageTargets, no_targets, finished
 use Rattle.bq_package.specs.Calls.{HeldPackage, outside, declaring, package_in, meaning}
 use Rattle.bq_load_front.specs.Front.{kind_of}
 use Rattle.bq_load.specs.declared.source.Source.{Source}
-use Rattle.bq_load.specs.Views.{ModuleView, FailedView}
+use Rattle.bq_load.specs.Views.{ModuleView}
 use Rattle.bq_load.specs.Sources.{LoadingParts}
 use Rattle.bq_load.specs.Imports.{imports}
 use Rattle.bq_load.specs.Evaluation.{kept_by, kept_first, evaluation, module_after, loaded_parts, by_imports, file_means, code_in, by_code, by_source, means}
-use Rattle.bq_load.specs.Loaded.{package_by, own_package}
+use Rattle.bq_load.specs.Loaded.{own_package}
 use Rattle.bq_load_package_laws.specs.Packages.{IsOwnOf, FilesMakeTheirPackages, PackagesCount}
 use Rattle.bq_load_package_laws.proofs.Keeping.{Left, Keeps, all_keep}
 use Rattle.bq_load_package_laws.proofs.Calls.{Held, calls_keep, rules_keep}

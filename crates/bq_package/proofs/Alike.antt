@@ -1,5 +1,5 @@
 -- A rule that a .bzl file declares and a rule of the schema declare alike; what a host says beside.
-use Rattle.std.proofs.Common.{◌≡◌, ◌∙◌, ◌+◌, ◌-◌, inl, inr, ℕ, suc, List, [], Option, Some, Ok, refl, ap, subst, slice_get, arith}
+use Rattle.std.proofs.Common.{◌≡◌, ◌∙◌, inl, inr, ℕ, List, [], Option, Some, Ok, refl, ap, subst, slice_get}
 use Rattle.std.specs.List.{AllZip}
 use Rattle.bq_label.specs.Label.{PackageParts, LabelParts, ReadsAs}
 use Rattle.bq_package_rule_class.specs.Class.{Class}
@@ -16,19 +16,10 @@ use Rattle.bq_package_typed_value.proofs.Own.{label_read, labels_read}
 use Rattle.bq_package_typed_value.proofs.Standing.{stands}
 use Rattle.bq_package_typed_value.proofs.Steps.{both_ok}
 use Rattle.bq_package_typed_value.proofs.Turns.{turned, zip_weaker}
-use Rattle.bq_package.specs.declared.function.BuildFunction.{BuildFunction}
-use Rattle.bq_package.specs.declared.function.BuildFunction.TheVariants as b
-use Rattle.bq_package.specs.Functions.{function_of}
+use Rattle.bq_resolve_predeclared.specs.declared.host_function.HostFunction.TheVariants as b
 use Rattle.bq_package.specs.Rules.{target_by, rule_target}
 use Rattle.bq_package.specs.Calls.{HeldPackage, Declaring, outside, declaring, own_of, packages_of, declares, call_in, call_of, rule_by, rule_call, default_value}
 use Rattle.bq_package.specs.Laws.{RulesDeclareAlike, InBuildIsSaid, DefaultsAreReadInThePackage}
-
--- the functions after the build functions are the schema's rules
-rule_function : (n : ℕ) → function_of (6 + n) ≡ b.Rule n
-rule_function n =
-    let six : 6 + n ≡ suc (suc (suc (suc (suc (suc n))))) = omega arith in
-    let less : suc (suc (suc (suc (suc (suc n))))) - 6 ≡ n = omega arith in
-    ap function_of six ∙ ap b.Rule less
 
 made : (d : Declaring) (number : ℕ) (rule : List ℕ) (class : Class) (passed : Passed) (s : State) → slice_get d.place.rules.names number ≡ Some rule → slice_get d.place.rules.classes number ≡ Some class
     → call_in d s (b.Rule number) passed ≡ rule_by s (declaring d) rule class passed
@@ -39,8 +30,7 @@ made d number rule class passed s named classed =
 
 pub rules_declare_alike : RulesDeclareAlike
 unfolding call_of rule_call
-rules_declare_alike d number rule class passed s named classed =
-    ap (λ (f : BuildFunction). call_in d s f passed) (rule_function number) ∙ made d number rule class passed s named classed
+rules_declare_alike d number rule class passed s named classed = made d number rule class passed s named classed
 
 pub in_build_is_said : InBuildIsSaid
 in_build_is_said (outside own packages) = (λ e. absurd (cc), λ p. absurd (let no : outside own packages ≡ declaring p.0 = p.1 in cc))

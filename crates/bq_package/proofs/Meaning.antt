@@ -18,8 +18,8 @@ use Rattle.bq_package_target.specs.declared.target.Target.{Target}
 use Rattle.bq_package_target.specs.declared.state.Declared.{Declared}
 use Rattle.bq_package_target.specs.declared.state.Declared.TheVariants.{Accepted, Refused}
 use Rattle.bq_package_target.specs.Calls.{declared, exported}
-use Rattle.bq_package.specs.declared.function.BuildFunction.{BuildFunction}
-use Rattle.bq_package.specs.declared.function.BuildFunction.TheVariants as b
+use Rattle.bq_resolve_predeclared.specs.declared.host_function.HostFunction.{HostFunction}
+use Rattle.bq_resolve_predeclared.specs.declared.host_function.HostFunction.TheVariants as b
 use Rattle.bq_package.specs.Place.{PlaceView}
 use Rattle.bq_package.specs.Bound.{any_parameters, no_parameters}
 use Rattle.bq_package.specs.Glob.{globbed}
@@ -34,7 +34,7 @@ abbrev Answer : Type 0
 Answer = Result Datum EvalErr
 
 -- no BUILD file is evaluated
-pub refused_outside : (s : State) (kept : HeldPackage) (function : BuildFunction) (passed : Passed) (why : FaultKind) → place_in kept ≡ Err why → call_by s kept function passed ≡ stopped (stop_at why s)
+pub refused_outside : (s : State) (kept : HeldPackage) (function : HostFunction) (passed : Passed) (why : FaultKind) → place_in kept ≡ Err why → call_by s kept function passed ≡ stopped (stop_at why s)
 refused_outside s (outside own packages) function passed why h = let e : f.NotInPackage ≡ why = cc in subst (λ (w : FaultKind). call_by s (outside own packages) function passed ≡ stopped (stop_at w s)) e refl
 refused_outside s (declaring d) function passed why h = absurd (cc)
 
@@ -169,7 +169,7 @@ pub of_ignored : (passed : Passed) → IsRefusable (ignored passed)
 unfolding ignored
 of_ignored passed = of_both (bind any_parameters passed) (λ b. Ok none) (of_bind any_parameters passed) (λ b. tt)
 
-of_call : (s : State) (d : Declaring) (function : BuildFunction) (passed : Passed) (why : Stop) → call_in d s function passed ≡ stopped why → is_refusal why.kind ≡ true
+of_call : (s : State) (d : Declaring) (function : HostFunction) (passed : Passed) (why : Stop) → call_in d s function passed ≡ stopped why → is_refusal why.kind ≡ true
 unfolding call_in
 of_call s d b.Glob passed why h = of_names s d (globbed d.place s.store passed) why (of_glob d.place s.store passed) h
 of_call s d b.PackageName passed why h = of_answer s d (package_name d.place passed) why (of_name d.place passed) h
@@ -179,12 +179,12 @@ of_call s d b.ExportsFiles passed why h = of_declares s d (files_named d.place s
 of_call s d b.PackageGroup passed why h = of_declares s d (group_named d.place s.store s.line passed) (declared d.package) why (of_group d.place s.store s.line passed) h
 of_call s d (b.Rule rule) passed why h = of_declares s d (rule_target d.place s.store s.line rule passed) (declared d.package) why (of_rule d.place s.store s.line rule passed) h
 
-of_kept : (s : State) (kept : HeldPackage) (function : BuildFunction) (passed : Passed) (why : Stop) → call_by s kept function passed ≡ stopped why → is_refusal why.kind ≡ true
+of_kept : (s : State) (kept : HeldPackage) (function : HostFunction) (passed : Passed) (why : Stop) → call_by s kept function passed ≡ stopped why → is_refusal why.kind ≡ true
 of_kept s (outside own packages) function passed why h = stops s f.NotInPackage why h refl
 of_kept s (declaring d) function passed why h = of_call s d function passed why h
 
 -- a call is refused for a fault of the table
-pub refuses : (result : Answer) (s m : State) (kept after : HeldPackage) (function : BuildFunction) (passed : Passed) → HostDoes (λ v. v) result m after (call_by s kept function passed) → Refuses result
+pub refuses : (result : Answer) (s m : State) (kept after : HeldPackage) (function : HostFunction) (passed : Passed) → HostDoes (λ v. v) result m after (call_by s kept function passed) → Refuses result
 refuses (Ok v) s m kept after function passed does = tt
 refuses (Err e) s m kept after function passed does = λ kind is. of_kept s kept function passed (stop_at kind m) (does kind is)
 

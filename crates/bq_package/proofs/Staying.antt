@@ -16,13 +16,12 @@ use Rattle.bq_package_target.specs.Target.{names_of, declares as declares_target
 use Rattle.bq_package_target.specs.Names.{are_new}
 use Rattle.bq_package_target.specs.Package.{PackageTargets, is_taken, files}
 use Rattle.bq_package_target.specs.Calls.{declared, exported}
-use Rattle.bq_package.specs.declared.function.BuildFunction.{BuildFunction}
-use Rattle.bq_package.specs.declared.function.BuildFunction.TheVariants as b
+use Rattle.bq_resolve_predeclared.specs.declared.host_function.HostFunction.{HostFunction}
+use Rattle.bq_resolve_predeclared.specs.declared.host_function.HostFunction.TheVariants as b
 use Rattle.bq_package.specs.Glob.{globbed}
 use Rattle.bq_package.specs.Files.{files_named}
 use Rattle.bq_package.specs.Groups.{group_named}
 use Rattle.bq_package.specs.Rules.{declared_target, rule_target}
-use Rattle.bq_package.specs.Functions.{function_of}
 use Rattle.bq_package.specs.Calls.{HeldPackage, declaring, Declaring, new_strings, package_name, ignored, settled, declares, call_in, rule_by, call_of, rule_call}
 use Rattle.bq_package.specs.Laws.{CallsOutsideAreRefused, GoesOn, WhatIsDeclaredStays}
 
@@ -92,7 +91,7 @@ names_stay s t d (Ok names) w after h =
     kept_of : {run : Ending} → run ≡ done w (t, after) → state_of run ≡ after
     kept_of e = ap state_of e
 
-call_stays : (function : BuildFunction) (passed : Passed) (s t : State) (d : Declaring) (w : Datum) (after : HeldPackage) → call_in d s function passed ≡ done w (t, after) → GoesOn d after
+call_stays : (function : HostFunction) (passed : Passed) (s t : State) (d : Declaring) (w : Datum) (after : HeldPackage) → call_in d s function passed ≡ done w (t, after) → GoesOn d after
 unfolding call_in
 call_stays b.Glob passed s t d w after h = names_stay s t d (globbed d.place s.store passed) w after h
 call_stays b.PackageName passed s t d w after h = answer_stays s t d (package_name d.place passed) w after h
@@ -112,6 +111,6 @@ rule_stays rule class passed s t d w after h =
 pub what_is_declared_stays : WhatIsDeclaredStays
 unfolding call_of rule_call
 what_is_declared_stays = record {
-  calls = λ id passed s t d v after h. call_stays (function_of id) passed s t d v after h;
+  calls = λ function passed s t d v after h. call_stays function passed s t d v after h;
   rules = λ rule class passed s t d v after h. rule_stays rule class passed s t d v after h;
 }

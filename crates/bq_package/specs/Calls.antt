@@ -24,15 +24,14 @@ use Rattle.bq_package_typed_value.specs.Steps.{and_then}
 use Rattle.bq_package_typed_value.specs.Values.{typed}
 use Rattle.bq_package.specs.declared.building.BuildHost.{BuildHost}
 use Rattle.bq_package.specs.declared.building.Building.{Building}
-use Rattle.bq_package.specs.declared.function.BuildFunction.{BuildFunction}
-use Rattle.bq_package.specs.declared.function.BuildFunction.TheVariants as b
+use Rattle.bq_resolve_predeclared.specs.declared.host_function.HostFunction.{HostFunction}
+use Rattle.bq_resolve_predeclared.specs.declared.host_function.HostFunction.TheVariants as b
 use Rattle.bq_package.specs.Place.{PlaceView, place_of}
 use Rattle.bq_package.specs.Bound.{no_parameters, any_parameters}
 use Rattle.bq_package.specs.Glob.{globbed}
 use Rattle.bq_package.specs.Files.{files_named}
 use Rattle.bq_package.specs.Groups.{group_named}
 use Rattle.bq_package.specs.Rules.{declared_target, rule_target}
-use Rattle.bq_package.specs.Functions.{function_of}
 
 -- a package whose BUILD file is evaluated: where it is, and what the calls have declared
 pub record Declaring : Type 0 where
@@ -97,7 +96,7 @@ abbrev pub declares : {A : Type 0} → State → Declaring → Result A FaultKin
 declares s d (Ok a) declare = settled s d (declare a)
 declares s d (Err why) declare = stopped (stop_at why s)
 
-unfoldable pub call_in : Declaring → State → BuildFunction → Passed → Run (State × HeldPackage) Datum
+unfoldable pub call_in : Declaring → State → HostFunction → Passed → Run (State × HeldPackage) Datum
 call_in d s b.Glob passed = on_machine (given (globbed d.place s.store passed) >>= new_strings) (s, declaring d)
 call_in d s b.PackageName passed = on_machine (given (package_name d.place passed)) (s, declaring d)
 call_in d s b.Package passed = on_machine (given (ignored passed)) (s, declaring d)
@@ -106,13 +105,13 @@ call_in d s b.ExportsFiles passed = declares s d (files_named d.place s.store pa
 call_in d s b.PackageGroup passed = declares s d (group_named d.place s.store s.line passed) (declared d.package)
 call_in d s (b.Rule rule) passed = declares s d (rule_target d.place s.store s.line rule passed) (declared d.package)
 
-abbrev pub call_by : State → HeldPackage → BuildFunction → Passed → Run (State × HeldPackage) Datum
+abbrev pub call_by : State → HeldPackage → HostFunction → Passed → Run (State × HeldPackage) Datum
 call_by s (outside own packages) function passed = stopped (stop_at NotInPackage s)
 call_by s (declaring d) function passed = call_in d s function passed
 
--- a call of the function of an id
-unfoldable pub call_of : ℕ → Passed → Action (State × HeldPackage) Datum
-call_of id passed q = call_by q.0 q.1 (function_of id) passed
+-- a call of a build function, or of a rule of the schema
+unfoldable pub call_of : HostFunction → Passed → Action (State × HeldPackage) Datum
+call_of function passed q = call_by q.0 q.1 function passed
 
 abbrev pub rule_by : State → HeldPackage → List ℕ → Class → Passed → Run (State × HeldPackage) Datum
 rule_by s (outside own packages) rule class passed = stopped (stop_at NotInPackage s)

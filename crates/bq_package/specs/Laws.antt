@@ -1,9 +1,11 @@
 -- Words of the laws.
-use Rattle.std.specs.Prelude.{◌≡◌, ◌↔◌, ℕ, ◌+◌, List, ◌++◌, true, Some, Ok, slice_get}
+use Rattle.std.specs.Prelude.{◌≡◌, ◌↔◌, ℕ, List, ◌++◌, true, Some, Ok, slice_get}
 use Rattle.std.specs.List.{AllZip}
 use Rattle.bq_base.specs.declared.fault.FaultKind.TheVariants.{NotInPackage}
 use Rattle.bq_label.specs.declared.packages.BuildFile.{BuildFile}
 use Rattle.bq_label.specs.Label.{PackageParts, LabelParts, ReadsAs}
+use Rattle.bq_resolve_predeclared.specs.declared.host_function.HostFunction.{HostFunction}
+use Rattle.bq_resolve_predeclared.specs.declared.host_function.HostFunction.TheVariants as h
 use Rattle.bq_package_rule_class.specs.Class.{Class}
 use Rattle.bq_package_rule_class.specs.declared.value.AttributeValue.TheVariants as a
 use Rattle.bq_value.specs.Datum.{Datum}
@@ -16,7 +18,7 @@ use Rattle.bq_package.specs.Calls.{HeldPackage, outside, declaring, Declaring, o
 
 -- while no BUILD file is evaluated every call is F70, also of a rule that a .bzl file declares
 pub record CallsOutsideAreRefused : Type 0 where
-  pub calls : (id : ℕ) (passed : Passed) (s : State) (own : PackageParts) (packages : List BuildFile) → meaning.call id passed (s, outside own packages) ≡ stopped (stop_at NotInPackage s)
+  pub calls : (function : HostFunction) (passed : Passed) (s : State) (own : PackageParts) (packages : List BuildFile) → meaning.call function passed (s, outside own packages) ≡ stopped (stop_at NotInPackage s)
   pub rules : (rule : List ℕ) (class : Class) (passed : Passed) (s : State) (own : PackageParts) (packages : List BuildFile) → meaning.call_rule rule class passed (s, outside own packages) ≡ stopped (stop_at NotInPackage s)
 
 -- the package goes on: in its place, with the targets that it had, and then others
@@ -29,7 +31,7 @@ pub record GoesOn (d : Declaring) (after : HeldPackage) : Type 0 where
 
 -- what is declared stays, in its order, whatever is called then
 pub record WhatIsDeclaredStays : Type 0 where
-  pub calls : (id : ℕ) (passed : Passed) (s t : State) (d : Declaring) (v : Datum) (after : HeldPackage) → meaning.call id passed (s, declaring d) ≡ done v (t, after) → GoesOn d after
+  pub calls : (function : HostFunction) (passed : Passed) (s t : State) (d : Declaring) (v : Datum) (after : HeldPackage) → meaning.call function passed (s, declaring d) ≡ done v (t, after) → GoesOn d after
   pub rules : (rule : List ℕ) (class : Class) (passed : Passed) (s t : State) (d : Declaring) (v : Datum) (after : HeldPackage) → meaning.call_rule rule class passed (s, declaring d) ≡ done v (t, after) → GoesOn d after
 
 -- A call of a rule that a .bzl file declares does what a call of the schema's rule does that has the kind as its name, and the same
@@ -37,7 +39,7 @@ pub record WhatIsDeclaredStays : Type 0 where
 abbrev pub RulesDeclareAlike : Type 0
 RulesDeclareAlike =
     (d : Declaring) (number : ℕ) (rule : List ℕ) (class : Class) (passed : Passed) (s : State) → slice_get d.place.rules.names number ≡ Some rule → slice_get d.place.rules.classes number ≡ Some class
-    → meaning.call (6 + number) passed (s, declaring d) ≡ meaning.call_rule rule class passed (s, declaring d)
+    → meaning.call (h.Rule number) passed (s, declaring d) ≡ meaning.call_rule rule class passed (s, declaring d)
 
 -- it is said whether a BUILD file is evaluated
 abbrev pub IsInBuild : HeldPackage → Type 0

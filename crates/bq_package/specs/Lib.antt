@@ -4,7 +4,6 @@ pub mod Glob
 pub mod Files
 pub mod Groups
 pub mod Rules
-pub mod Functions
 pub mod Calls
 pub mod Keeping
 pub mod Laws

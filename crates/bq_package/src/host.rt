@@ -15,7 +15,6 @@ ghost use Rattle.bq_package.specs.Calls.{HeldPackage, outside, declaring, held_b
 ghost use Rattle.bq_package.specs.Keeping.{answer, package_after, Settles, IsSettled, OwnsTarget, OwnsFiles};
 
 use crate::building::{BuildHost, Building};
-use crate::function::{BuildFunction, function_of};
 use crate::place::Place;
 use bq_base::{Bytes, FaultKind};
 use bq_builtin_machine::{Args, Machine, Signature, bind};
@@ -25,6 +24,7 @@ use bq_package_rule_class::{AttributeValue, RuleClass};
 use bq_package_schema::Schema;
 use bq_package_target::{Declared, PackageState, Target};
 use bq_package_typed_value::{Scope, Written, typed};
+use bq_resolve_predeclared::HostFunction;
 use bq_value::{EvalErr, Value};
 use bq_value_seed::Seed;
 use std::alloc::{AllocError, Global};
@@ -220,7 +220,7 @@ impl<'a> BuildHost<'a> {
     /// Calls `glob`.
     #[tactic(auto, using(crate::proofs::Meaning::refused_outside, crate::proofs::Meaning::glob_refused, crate::proofs::Meaning::glob_done))]
     fn glob(&self, alloc: Global, args: Args, machine: &mut Machine) -> Result<Value, EvalErr>
-        ensures { HostDoes (λ v. v) result machine.new (held_by self.now) (call_by machine.old (held_by self.now) BuildFunction.Glob args) }
+        ensures { HostDoes (λ v. v) result machine.new (held_by self.now) (call_by machine.old (held_by self.now) HostFunction.Glob args) }
     {
         let place = self.place()?;
         let names = place.globbed(alloc, machine.store(), args)?;
@@ -235,7 +235,7 @@ impl<'a> BuildHost<'a> {
         args: Args,
         machine: &Machine,
     ) -> Result<Value, EvalErr>
-        ensures says { HostDoes (λ v. v) result machine.now (held_by self.new) (call_by machine.now (held_by self.old) BuildFunction.ExportsFiles args) }
+        ensures says { HostDoes (λ v. v) result machine.now (held_by self.new) (call_by machine.now (held_by self.old) HostFunction.ExportsFiles args) }
         ensures keeps { KeepsIfRefused result (held_by self.old) (held_by self.new) }
     {
         let place = self.place()?;
@@ -251,7 +251,7 @@ impl<'a> BuildHost<'a> {
         args: Args,
         machine: &Machine,
     ) -> Result<Value, EvalErr>
-        ensures says { HostDoes (λ v. v) result machine.now (held_by self.new) (call_by machine.now (held_by self.old) BuildFunction.PackageGroup args) }
+        ensures says { HostDoes (λ v. v) result machine.now (held_by self.new) (call_by machine.now (held_by self.old) HostFunction.PackageGroup args) }
         ensures keeps { KeepsIfRefused result (held_by self.old) (held_by self.new) }
     {
         let place = self.place()?;
@@ -268,7 +268,7 @@ impl<'a> BuildHost<'a> {
         args: Args,
         machine: &Machine,
     ) -> Result<Value, EvalErr>
-        ensures says { HostDoes (λ v. v) result machine.now (held_by self.new) (call_by machine.now (held_by self.old) (BuildFunction.Rule rule) args) }
+        ensures says { HostDoes (λ v. v) result machine.now (held_by self.new) (call_by machine.now (held_by self.old) (HostFunction.Rule rule) args) }
         ensures keeps { KeepsIfRefused result (held_by self.old) (held_by self.new) }
     {
         let place = self.place()?;
@@ -299,7 +299,7 @@ impl<'a> BuildHost<'a> {
     /// Calls `package_name`.
     #[tactic(auto, using(crate::proofs::Meaning::refused_outside, crate::proofs::Meaning::name_done))]
     fn name(&self, alloc: Global, args: Args) -> Result<Value, EvalErr>
-        ensures { (s : State) → HostDoes (λ v. v) result s (held_by self.now) (call_by s (held_by self.now) BuildFunction.PackageName args) }
+        ensures { (s : State) → HostDoes (λ v. v) result s (held_by self.now) (call_by s (held_by self.now) HostFunction.PackageName args) }
     {
         let place = self.place()?;
         package_name(alloc, place, args)
@@ -308,8 +308,8 @@ impl<'a> BuildHost<'a> {
     /// Carries out a call that takes any arguments and has no effect.
     #[tactic(auto, using(crate::proofs::Meaning::refused_outside, crate::proofs::Meaning::package_done, crate::proofs::Meaning::licenses_done))]
     fn nothing(&self, alloc: Global, seed: Seed, args: Args) -> Result<Value, EvalErr>
-        ensures as_package { (s : State) → HostDoes (λ v. v) result s (held_by self.now) (call_by s (held_by self.now) BuildFunction.Package args) }
-        ensures as_licenses { (s : State) → HostDoes (λ v. v) result s (held_by self.now) (call_by s (held_by self.now) BuildFunction.Licenses args) }
+        ensures as_package { (s : State) → HostDoes (λ v. v) result s (held_by self.now) (call_by s (held_by self.now) HostFunction.Package args) }
+        ensures as_licenses { (s : State) → HostDoes (λ v. v) result s (held_by self.now) (call_by s (held_by self.now) HostFunction.Licenses args) }
     {
         let _place = self.place()?;
         ignored(alloc, seed, args)
@@ -320,7 +320,7 @@ impl<'a> BuildHost<'a> {
     fn carry_out(
         &mut self,
         alloc: Global,
-        function: BuildFunction,
+        function: HostFunction,
         args: Args,
         machine: &mut Machine,
     ) -> Result<Value, EvalErr>
@@ -328,13 +328,13 @@ impl<'a> BuildHost<'a> {
         ensures keeps { KeepsIfRefused result (held_by self.old) (held_by self.new) }
     {
         match function {
-            BuildFunction::Glob => self.glob(alloc, args, machine),
-            BuildFunction::PackageName => self.name(alloc, args),
-            BuildFunction::Package => self.nothing(alloc, machine.store().seed(), args),
-            BuildFunction::Licenses => self.nothing(alloc, machine.store().seed(), args),
-            BuildFunction::ExportsFiles => self.exports_files(alloc, args, machine),
-            BuildFunction::PackageGroup => self.package_group(alloc, args, machine),
-            BuildFunction::Rule(rule) => self.rule(alloc, rule, args, machine),
+            HostFunction::Glob => self.glob(alloc, args, machine),
+            HostFunction::PackageName => self.name(alloc, args),
+            HostFunction::Package => self.nothing(alloc, machine.store().seed(), args),
+            HostFunction::Licenses => self.nothing(alloc, machine.store().seed(), args),
+            HostFunction::ExportsFiles => self.exports_files(alloc, args, machine),
+            HostFunction::PackageGroup => self.package_group(alloc, args, machine),
+            HostFunction::Rule(rule) => self.rule(alloc, rule, args, machine),
         }
     }
 }
@@ -362,11 +362,11 @@ impl<'a> Host for BuildHost<'a> {
     fn call(
         &mut self,
         alloc: Global,
-        id: u32,
+        function: HostFunction,
         args: Args,
         machine: &mut Machine,
     ) -> Result<Value, EvalErr> {
-        self.carry_out(alloc, function_of(id), args, machine)
+        self.carry_out(alloc, function, args, machine)
     }
 
     #[tactic(auto, using(crate::proofs::Meaning::rule_refuses), unfolding(crate::specs::Calls::rule_call))]

@@ -14,7 +14,6 @@
 //! - `files`: calls of `exports_files`;
 //! - `groups`: calls of `package_group`;
 //! - `rules`: calls of rules;
-//! - `function`: the build functions by their ids;
 //! - `building`: what a host keeps;
 //! - `host`: the host of a BUILD file's evaluation;
 //! - `laws`: what holds of all calls.
@@ -23,7 +22,6 @@
 mod bound;
 mod building;
 mod files;
-mod function;
 mod glob;
 mod groups;
 mod host;

@@ -1,11 +1,14 @@
 //! What holds of calls of rules. The functions do nothing: their contracts are the laws.
 
-ghost use Rattle.std.specs.Prelude.{◌≡◌, ℕ, List, None, Err, codes, bytes_eq, true, false};
+ghost use Rattle.std.specs.Prelude.{◌≡◌, ℕ, List, None, Ok, Err, codes, bytes_eq, true, false};
+ghost use Rattle.std.specs.List.{Contains};
 ghost use Rattle.bq_base.specs.declared.fault.FaultKind.TheVariants.{NoAttribute};
 ghost use Rattle.bq_label.specs.declared.packages.BuildFile.{BuildFile};
 ghost use Rattle.bq_label.specs.Label.{PackageParts};
 ghost use Rattle.bq_package_rule_class.specs.Class.{Class};
+ghost use Rattle.bq_package_rule_class.specs.declared.attribute.Attribute.{Attribute};
 ghost use Rattle.bq_package_target.specs.Value.{attribute_type};
+ghost use Rattle.bq_package_target.specs.declared.target.Target.{Target};
 ghost use Rattle.bq_value.specs.Cells.{StoreView};
 ghost use Rattle.bq_value.specs.Datum.{Datum};
 ghost use Rattle.bq_builtin_machine.specs.Args.{Passed};
@@ -13,6 +16,7 @@ ghost use Rattle.bq_package_attributes.specs.declared.arguments.Given.{Given};
 ghost use Rattle.bq_package_attributes.specs.Arguments.{keyword, with_argument};
 ghost use Rattle.bq_package_attributes.specs.Declarations.{declaration};
 ghost use Rattle.bq_builtin_refusal_laws.specs.Refusals.{FailsForFirst};
+ghost use Rattle.bq_package_attribute_laws.specs.Given.{IsGivenBy};
 ghost use Rattle.bq_package_attribute_laws.specs.Orders.{giving, naming, declaring};
 
 /// An argument that names no attribute of the rule is F71, whatever its value is, also `None`. Any other is refused for its value; and
@@ -29,4 +33,11 @@ pub fn arguments_are_refused_in_order()
 #[tactic(auto, using(crate::proofs::Orders::declared_in_order))]
 pub fn calls_of_rules_are_refused_in_order()
     ensures { (own : PackageParts) (packages : List BuildFile) (store : StoreView) (class : Class) (rule : List ℕ) (line : ℕ) (passed : Passed) → FailsForFirst (declaration own packages store class rule line passed) (declaring own packages store class passed) }
+{}
+
+/// A call that declares a target gives each attribute that has to be given: one of its arguments has the name, and a value that is not
+/// `None`. That the attribute has a default changes nothing.
+#[tactic(auto, using(crate::proofs::Given::each_is_given))]
+pub fn mandatory_attributes_are_given_by_the_call()
+    ensures { (own : PackageParts) (packages : List BuildFile) (store : StoreView) (class : Class) (rule : List ℕ) (line : ℕ) (passed : Passed) (t : Target) → declaration own packages store class rule line passed ≡ Ok t → (e : List ℕ × Attribute) → Contains class e → e.1.is_mandatory ≡ true → IsGivenBy passed.named e.0 }
 {}

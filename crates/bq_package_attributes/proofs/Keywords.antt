@@ -19,7 +19,7 @@ use Rattle.bq_package_attributes.specs.Laws.{KeywordsKeepTheirOrder, IsFirstFaul
 
 -- ---- the order
 
-put_new : (k v : Datum) (ps : List (Datum × Datum)) → found k ps ≡ None → put k v ps ≡ ps ++ (k, v) ∷ []
+pub put_new : (k v : Datum) (ps : List (Datum × Datum)) → found k ps ≡ None → put k v ps ≡ ps ++ (k, v) ∷ []
 put_new k v [] h = refl
 put_new k v (p ∷ ps) h = by (same k p.0) h (put_new k v ps)
   where

@@ -6,5 +6,7 @@ pub mod Own
 pub mod Declared
 -- keyword arguments keep their order, and the first faulty one decides
 pub mod Keywords
+-- few arguments, which no dict holds, are those that a dict would hold
+pub mod Few
 -- the target that a call declares has each attribute that has to be given
 pub mod Mandatory

@@ -1,3 +1,4 @@
 pub mod Arguments
+pub mod Named
 pub mod Declarations
 pub mod Laws

@@ -3,8 +3,11 @@
 ghost use Rattle.std.specs.Prelude.{◌≡◌, IfOk, OnOk};
 ghost use Rattle.bq_base.specs.Gives.{Gives};
 ghost use Rattle.bq_value.specs.declared.error.EvalErr.TheVariants.{Bad};
+ghost use Rattle.bq_value.specs.Datum.{string};
+ghost use Rattle.bq_package_attributes.specs.Named.{pairs};
 ghost use Rattle.bq_package_attributes.specs.Arguments.{nothing_given, is_none, keyword, with_value, with_label, with_name, with_attribute, with_argument, with_arguments};
 
+use crate::named::{Held, Keywords};
 use bq_base::{Bytes, FaultKind};
 use bq_label::Label;
 use bq_package_rule_class::{AttributeValue, RuleClass};
@@ -117,6 +120,24 @@ impl Given {
         Ok(())
     }
 
+    /// Takes an argument by its name.
+    #[tactic(auto, unfolding(crate::specs::Arguments::with_argument))]
+    fn take_named(
+        &mut self,
+        alloc: Global,
+        callee: Callee<'_>,
+        name: &Bytes,
+        value: &Value,
+    ) -> Result<(), EvalErr>
+        ensures { Gives (λ _. self.new) Bad result (with_argument callee.entry.scope.own.now callee.entry.scope.packages.now callee.entry.store.now callee.entry.class.now self.old (string name.now, value.now)) }
+    {
+        if name.as_slice() == b"name".as_slice() {
+            return self.take_name(alloc, callee.scope, value);
+        }
+        self.take_attribute(alloc, callee, name, value)
+    }
+
+    /// Takes an argument that stands in a dict.
     #[tactic(auto, unfolding(crate::specs::Arguments::with_argument))]
     fn take_argument(
         &mut self,
@@ -128,15 +149,26 @@ impl Given {
         ensures { Gives (λ _. self.new) Bad result (with_argument callee.entry.scope.own.now callee.entry.scope.packages.now callee.entry.store.now callee.entry.class.now self.old (key.now, value.now)) }
     {
         let name = keyword(key)?;
-        if name.as_slice() == b"name".as_slice() {
-            return self.take_name(alloc, callee.scope, value);
-        }
-        self.take_attribute(alloc, callee, &name, value)
+        self.take_named(alloc, callee, &name, value)
     }
 
-    /// Takes the arguments in the order in which they are written.
     #[tactic(auto, unfolding(crate::specs::Arguments::with_arguments))]
-    pub fn take_arguments(
+    fn take_few(
+        &mut self,
+        alloc: Global,
+        callee: Callee<'_>,
+        named: &[(Bytes, Value)],
+    ) -> Result<(), EvalErr>
+        ensures { Gives (λ _. self.new) Bad result (with_arguments callee.entry.scope.own.now callee.entry.scope.packages.now callee.entry.store.now callee.entry.class.now self.old (pairs named.now)) }
+    {
+        for argument in named {
+            self.take_named(alloc, callee, &argument.0, &argument.1)?;
+        }
+        Ok(())
+    }
+
+    #[tactic(auto, unfolding(crate::specs::Arguments::with_arguments))]
+    fn take_many(
         &mut self,
         alloc: Global,
         callee: Callee<'_>,
@@ -149,5 +181,20 @@ impl Given {
             self.take_argument(alloc, callee, key, value)?;
         }
         Ok(())
+    }
+
+    /// Takes the arguments in the order in which they are written.
+    pub(crate) fn take_arguments(
+        &mut self,
+        alloc: Global,
+        callee: Callee<'_>,
+        keywords: &Keywords,
+    ) -> Result<(), EvalErr>
+        ensures { Gives (λ _. self.new) Bad result (with_arguments callee.entry.scope.own.now callee.entry.scope.packages.now callee.entry.store.now callee.entry.class.now self.old keywords.now) }
+    {
+        match &keywords.held {
+            Held::Few(named) => self.take_few(alloc, callee, named),
+            Held::Many(dict) => self.take_many(alloc, callee, dict),
+        }
     }
 }

@@ -4,42 +4,24 @@ ghost use Rattle.std.specs.Prelude.{◌≡◌, ◌++◌, map, option_copied, IfO
 ghost use Rattle.std.specs.List.{list_all};
 ghost use Rattle.bq_base.specs.Gives.{Gives};
 ghost use Rattle.bq_value.specs.declared.error.EvalErr.TheVariants.{Bad};
-ghost use Rattle.bq_builtin_machine.specs.Binding.{bind};
-ghost use Rattle.std.specs.Prelude.{Ok};
-ghost use Rattle.bq_package_typed_value.specs.Steps.{and_then};
 ghost use Rattle.bq_package_attributes.specs.Arguments.{nothing_given, with_arguments};
-ghost use Rattle.bq_package_attributes.specs.Declarations.{keywords_alone, gives, is_met, gives_mandatory, default_of, default_for, defaults, if_whole, target, declaration};
+ghost use Rattle.bq_package_attributes.specs.Declarations.{gives, is_met, gives_mandatory, default_of, default_for, defaults, if_whole, target, declaration};
 
 use crate::arguments::{Callee, Given, is_none};
+use crate::named::Keywords;
 use bq_base::{Bytes, FaultKind};
-use bq_builtin_machine::{Args, Signature, bind};
+use bq_builtin_machine::Args;
 use bq_package_rule_class::{Attribute, AttributeValue, RuleClass};
 use bq_package_target::{GivenAttribute, Target, TargetKind};
-use bq_value::{Dict, EvalErr, Key, Value};
-use bq_value_seed::Seed;
+use bq_value::EvalErr;
 use sqlite_items::Items;
 use std::alloc::{AllocError, Global};
 
-/// Returns the arguments of a call that has keyword arguments alone, or F52.
-fn keywords(alloc: Global, seed: Seed, args: Args) -> Result<Dict, EvalErr>
-    ensures { Gives (λ keywords. keywords) Bad result (and_then (bind keywords_alone args) (λ b. Ok b.keywords)) }
-{
-    let signature = Signature {
-        parameters: &[],
-        placed: 0,
-        takes_rest: false,
-        takes_keywords: true,
-    };
-    let bound = bind(alloc, seed, &signature, args)?;
-    Ok(bound.keywords)
-}
-
-/// Returns whether there is a keyword argument of that name, and it isn't `None`.
-fn gives(alloc: Global, keywords: &Dict, name: &[u8]) -> Result<bool, AllocError>
+/// Whether a keyword argument of that name is there, and isn't `None`.
+fn gives(alloc: Global, keywords: &Keywords, name: &[u8]) -> Result<bool, AllocError>
     ensures { IfOk result (λ given. given ≡ gives keywords.now name.now) }
 {
-    let key = Key::new(Value::string(Bytes::from_slice(alloc, name)?));
-    match keywords.get(&key) {
+    match keywords.get(alloc, name)? {
         None => Ok(false),
         Some(value) => Ok(!is_none(value)),
     }
@@ -48,7 +30,7 @@ fn gives(alloc: Global, keywords: &Dict, name: &[u8]) -> Result<bool, AllocError
 /// Returns whether the attribute is given, if it has to be.
 fn is_met(
     alloc: Global,
-    keywords: &Dict,
+    keywords: &Keywords,
     name: &[u8],
     attribute: &Attribute,
 ) -> Result<bool, AllocError>
@@ -62,7 +44,7 @@ fn is_met(
 
 /// Returns for each of the attributes whether it is given or need not be.
 #[tactic(auto, using(crate::proofs::Entries::entry_end))]
-fn are_met(alloc: Global, class: &RuleClass, keywords: &Dict) -> Result<Vec<bool>, AllocError>
+fn are_met(alloc: Global, class: &RuleClass, keywords: &Keywords) -> Result<Vec<bool>, AllocError>
     ensures { IfOk result (λ met. met.items ≡ map (is_met keywords.now) class.now) }
 {
     let mut met = Vec::new(alloc);
@@ -80,8 +62,12 @@ fn are_all(met: &[bool]) -> bool
     met.iter().all(|met| *met)
 }
 
-/// Returns whether each attribute that has to be given is.
-fn gives_mandatory(alloc: Global, class: &RuleClass, keywords: &Dict) -> Result<bool, AllocError>
+/// Whether each attribute that has to be given is.
+fn gives_mandatory(
+    alloc: Global,
+    class: &RuleClass,
+    keywords: &Keywords,
+) -> Result<bool, AllocError>
     ensures { IfOk result (λ all. all ≡ gives_mandatory class.now keywords.now) }
 {
     let met = are_met(alloc, class, keywords)?;
@@ -106,7 +92,7 @@ fn default_of(attribute: &Attribute) -> Option<&AttributeValue>
 #[tactic(auto, unfolding(crate::specs::Declarations::default_for))]
 fn add_default(
     alloc: Global,
-    keywords: &Dict,
+    keywords: &Keywords,
     name: &[u8],
     attribute: &Attribute,
     attributes: &mut Items<GivenAttribute>,
@@ -129,7 +115,7 @@ fn add_default(
 fn add_defaults(
     alloc: Global,
     class: &RuleClass,
-    keywords: &Dict,
+    keywords: &Keywords,
     attributes: &mut Items<GivenAttribute>,
 ) -> Result<(), AllocError>
     ensures { OnOk result (attributes.new ≡ attributes.old ++ defaults keywords.now class.now) }
@@ -143,8 +129,8 @@ fn add_defaults(
     Ok(())
 }
 
-/// Returns what keyword arguments give.
-fn given(alloc: Global, callee: Callee<'_>, keywords: &Dict) -> Result<Given, EvalErr>
+/// What keyword arguments give.
+fn given(alloc: Global, callee: Callee<'_>, keywords: &Keywords) -> Result<Given, EvalErr>
     ensures { Gives (λ g. g) Bad result (with_arguments callee.entry.scope.own.now callee.entry.scope.packages.now callee.entry.store.now callee.entry.class.now nothing_given keywords.now) }
 {
     let mut given = Given::nothing(alloc, keywords.len())?;
@@ -159,7 +145,7 @@ fn whole(
     alloc: Global,
     callee: Callee<'_>,
     line: u32,
-    keywords: &Dict,
+    keywords: &Keywords,
     is_whole: bool,
     given: Given,
 ) -> Result<Target, EvalErr>
@@ -186,7 +172,12 @@ fn whole(
 
 /// Makes the target of these keyword arguments.
 #[tactic(auto, unfolding(crate::specs::Declarations::target))]
-fn target(alloc: Global, callee: Callee<'_>, line: u32, keywords: &Dict) -> Result<Target, EvalErr>
+fn target(
+    alloc: Global,
+    callee: Callee<'_>,
+    line: u32,
+    keywords: &Keywords,
+) -> Result<Target, EvalErr>
     ensures { Gives (λ t. t) Bad result (target callee.entry.scope.own.now callee.entry.scope.packages.now callee.entry.store.now callee.entry.class.now callee.entry.kind.now line keywords.now) }
 {
     let is_whole = gives_mandatory(alloc, callee.class, keywords)?;
@@ -205,6 +196,6 @@ pub fn declaration(
 ) -> Result<Target, EvalErr>
     ensures { Gives (λ t. t) Bad result (declaration callee.entry.scope.own.now callee.entry.scope.packages.now callee.entry.store.now callee.entry.class.now callee.entry.kind.now line args) }
 {
-    let keywords = keywords(alloc, callee.store.seed(), args)?;
+    let keywords = Keywords::of(alloc, callee.store.seed(), args)?;
     target(alloc, callee, line, &keywords)
 }

@@ -8,7 +8,8 @@
 //!
 //! In reading order:
 //!
-//! - `arguments`: the arguments of a call;
+//! - `named`: the keyword arguments of a call, as they are held;
+//! - `arguments`: what the arguments of a call give;
 //! - `declarations`: the target that a call declares;
 //! - `laws`: what holds of all calls.
 #![tactic(auto)]
@@ -16,6 +17,7 @@
 mod arguments;
 mod declarations;
 mod laws;
+mod named;
 
 pub use arguments::Callee;
 pub use declarations::declaration;

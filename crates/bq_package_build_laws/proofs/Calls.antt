@@ -12,13 +12,12 @@ use Rattle.bq_builtin_machine.specs.State.{State, stop_at}
 use Rattle.bq_package_target.specs.declared.state.Declared.{Declared}
 use Rattle.bq_package_target.specs.declared.state.Declared.TheVariants.{Accepted, Refused}
 use Rattle.bq_package_target.specs.Calls.{declared, exported}
-use Rattle.bq_package.specs.declared.function.BuildFunction.{BuildFunction}
-use Rattle.bq_package.specs.declared.function.BuildFunction.TheVariants as b
+use Rattle.bq_resolve_predeclared.specs.declared.host_function.HostFunction.{HostFunction}
+use Rattle.bq_resolve_predeclared.specs.declared.host_function.HostFunction.TheVariants as b
 use Rattle.bq_package.specs.Glob.{globbed}
 use Rattle.bq_package.specs.Files.{files_named}
 use Rattle.bq_package.specs.Groups.{group_named}
 use Rattle.bq_package.specs.Rules.{declared_target, rule_target}
-use Rattle.bq_package.specs.Functions.{function_of}
 use Rattle.bq_package.specs.Calls.{Declaring, HeldPackage, outside, declaring, new_strings, package_name, ignored, settled, declares, call_in, call_by, call_of, rule_call, meaning}
 use Rattle.bq_eval_laws.specs.Files.{HostTakes}
 use Rattle.bq_eval_laws.proofs.Hosts.{beside_owns}
@@ -75,10 +74,10 @@ strings_own texts = new_list_owns _
 -- ---- all calls
 
 -- a call of this function
-abbrev called : BuildFunction → Passed → Action (State × HeldPackage) Datum
+abbrev called : HostFunction → Passed → Action (State × HeldPackage) Datum
 called f passed = λ q. call_by q.0 q.1 f passed
 
-in_package : (s : State) (d : Declaring) (f : BuildFunction) (passed : Passed) → Takes hosted (called f passed) (s, declaring d)
+in_package : (s : State) (d : Declaring) (f : HostFunction) (passed : Passed) → Takes hosted (called f passed) (s, declaring d)
 unfolding call_in
 in_package s d b.Glob passed = machine_owns s d (called b.Glob passed) _ (λ n. refl) (bind_owns (given (globbed d.place s.store passed)) new_strings (given_owns _) strings_own)
 in_package s d b.PackageName passed = machine_owns s d (called b.PackageName passed) (given (package_name d.place passed)) (λ n. refl) (given_owns _)
@@ -88,7 +87,7 @@ in_package s d b.ExportsFiles passed = declares_own s d (λ ls. exported d.packa
 in_package s d b.PackageGroup passed = declares_own s d (declared d.package) (called b.PackageGroup passed) (group_named d.place s.store s.line passed) (λ n. refl)
 in_package s d (b.Rule rule) passed = declares_own s d (declared d.package) (called (b.Rule rule) passed) (rule_target d.place s.store s.line rule passed) (λ n. refl)
 
-by_kept : (s : State) (kept : HeldPackage) (f : BuildFunction) (passed : Passed) → Takes hosted (called f passed) (s, kept)
+by_kept : (s : State) (kept : HeldPackage) (f : HostFunction) (passed : Passed) → Takes hosted (called f passed) (s, kept)
 by_kept s (outside own packages) f passed =
     at_no_cost hosted (called f passed) (s, outside own packages) (stopped (stop_at NotInPackage s)) (λ n. refl) (begins_itself s.prints) tt
 by_kept s (declaring d) f passed = in_package s d f passed
@@ -103,4 +102,4 @@ rule_by_kept s (declaring d) rule class passed =
 
 pub calls_own : HostTakes meaning
 unfolding call_of
-calls_own = ((λ id passed q. by_kept q.0 q.1 (function_of id) passed), (λ rule class passed q. rule_by_kept q.0 q.1 rule class passed))
+calls_own = ((λ function passed q. by_kept q.0 q.1 function passed), (λ rule class passed q. rule_by_kept q.0 q.1 rule class passed))

@@ -1,6 +1,8 @@
 -- The calls of build functions and of rules are refused for a fault that a file may fail with.
 use Rattle.std.proofs.Common.{ℕ, List, Result, Ok, Err, refl}
 use Rattle.bq_base.specs.declared.fault.FaultKind.{FaultKind}
+use Rattle.bq_resolve_predeclared.specs.declared.host_function.HostFunction.{HostFunction}
+use Rattle.bq_resolve_predeclared.specs.declared.host_function.HostFunction.TheVariants as b
 use Rattle.bq_package_rule_class.specs.Class.{Class}
 use Rattle.bq_package_target.specs.Calls.{declared, exported}
 use Rattle.bq_package_target.specs.declared.state.Declared.{Declared}
@@ -12,13 +14,10 @@ use Rattle.bq_builtin_machine.specs.State.{State}
 use Rattle.bq_package_typed_value.specs.declared.written.Written.{Written}
 use Rattle.bq_package.specs.Calls.{Declaring, HeldPackage, outside, declaring, own_of, packages_of, new_strings, settled, declares, call_in, call_by, call_of, rule_by, rule_call, default_value, meaning}
 use Rattle.bq_package.specs.Files.{files_named}
-use Rattle.bq_package.specs.Functions.{function_of}
 use Rattle.bq_package.specs.Glob.{globbed}
 use Rattle.bq_package.specs.Groups.{group_named}
 use Rattle.bq_package.specs.Place.{PlaceView}
 use Rattle.bq_package.specs.Rules.{declared_target, rule_target}
-use Rattle.bq_package.specs.declared.function.BuildFunction.{BuildFunction}
-use Rattle.bq_package.specs.declared.function.BuildFunction.TheVariants as b
 use Rattle.bq_package.proofs.Meaning.{of_name, of_ignored}
 use Rattle.bq_package.proofs.Refusals.{of_glob, of_files, of_group, of_rule, of_declaration, of_typed}
 use Rattle.bq_package_fault_laws.specs.Faults.{IsRefusal, HostRefuses}
@@ -49,7 +48,7 @@ strings_own : (texts : List (List ℕ)) → Own (new_strings texts)
 unfolding new_strings
 strings_own texts = new_list_owns _
 
-in_package : (d : Declaring) (s : State) (function : BuildFunction) (passed : Passed) → IsRefusal (call_in d s function passed)
+in_package : (d : Declaring) (s : State) (function : HostFunction) (passed : Passed) → IsRefusal (call_in d s function passed)
 unfolding call_in
 in_package d s b.Glob passed = beside_so (declaring d) _ (bind_owns (given (globbed d.place s.store passed)) new_strings (given_owns _ (fine_so _ (of_glob d.place s.store passed))) strings_own s)
 in_package d s b.PackageName passed = beside_so (declaring d) _ (given_owns _ (fine_so _ (of_name d.place passed)) s)
@@ -59,7 +58,7 @@ in_package d s b.ExportsFiles passed = declares_so s d (files_named d.place s.st
 in_package d s b.PackageGroup passed = declares_so s d (group_named d.place s.store s.line passed) (declared d.package) (fine_so _ (of_group d.place s.store s.line passed))
 in_package d s (b.Rule number) passed = declares_so s d (rule_target d.place s.store s.line number passed) (declared d.package) (fine_so _ (of_rule d.place s.store s.line number passed))
 
-by_kept : (s : State) (kept : HeldPackage) (function : BuildFunction) (passed : Passed) → IsRefusal (call_by s kept function passed)
+by_kept : (s : State) (kept : HeldPackage) (function : HostFunction) (passed : Passed) → IsRefusal (call_by s kept function passed)
 by_kept s (outside own packages) function passed = refl
 by_kept s (declaring d) function passed = in_package d s function passed
 
@@ -75,4 +74,4 @@ default_fine kept written = fine_so _ (of_typed (own_of kept) (packages_of kept)
 
 pub calls_refuse : HostRefuses meaning
 unfolding call_of rule_call
-calls_refuse = ((λ id passed q. by_kept q.0 q.1 (function_of id) passed), (λ kind class passed q. rule_by_kept q.0 q.1 kind class passed), default_fine)
+calls_refuse = ((λ function passed q. by_kept q.0 q.1 function passed), (λ kind class passed q. rule_by_kept q.0 q.1 kind class passed), default_fine)

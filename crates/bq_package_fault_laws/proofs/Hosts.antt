@@ -33,7 +33,7 @@ module _ {W : Type 0} (names : List Name) (host : HostCalls W) (refuses : HostRe
 
   found_refuses : (o : Option Predeclared) (args : Passed) → Refusing Datum (call_found host o args)
   found_refuses None args = lifted Datum (action.stop WrongType) (stop_owns Datum WrongType refl)
-  found_refuses (Some (p.Host id)) args = refuses.0 id args
+  found_refuses (Some (p.Host f)) args = refuses.0 f args
   found_refuses (Some x) args = lifted Datum (call_function x args) (function_owns x args)
 
   built_in_refuses : (name : List ℕ) (args : Passed) → Refusing Datum (call_built_in names host name args)

@@ -11,6 +11,7 @@ use Rattle.bq_resolve_scope.specs.Files.{resolved}
 use Rattle.bq_resolve_scope.specs.Names.{Name}
 use Rattle.bq_resolve_scope.specs.Universe.{UniverseParts}
 use Rattle.bq_resolve_scope.specs.declared.code.Resolved.{Resolved}
+use Rattle.bq_resolve_predeclared.specs.declared.host_function.HostFunction.{HostFunction}
 use Rattle.bq_package_rule_class.specs.Class.{Class}
 use Rattle.bq_value.specs.Cells.{FrozenView}
 use Rattle.bq_value.specs.Datum.{Datum}
@@ -40,7 +41,7 @@ Fine (Err kind) = is_refusal kind ≡ true
 -- that it reads
 abbrev pub HostRefuses : {W : Type 0} → HostCalls W → Type 0
 HostRefuses {W = W} host =
-    ((id : ℕ) (args : Passed) → Refusing {S = State × W} Datum (host.call id args))
+    ((function : HostFunction) (args : Passed) → Refusing {S = State × W} Datum (host.call function args))
     × ((kind : List ℕ) (class : Class) (args : Passed) → Refusing {S = State × W} Datum (host.call_rule kind class args))
     × ((kept : W) (written : Written) → Fine (host.read_default kept written))
 

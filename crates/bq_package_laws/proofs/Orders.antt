@@ -15,7 +15,7 @@ use Rattle.bq_package_target.specs.Calls.{declared, exported}
 use Rattle.bq_package_typed_value.specs.declared.label_texts.TextKind.TheVariants as k
 use Rattle.bq_package_typed_value.specs.LabelTexts.{labels}
 use Rattle.bq_package_typed_value.specs.Steps.{and_then}
-use Rattle.bq_package.specs.declared.function.BuildFunction.TheVariants as f
+use Rattle.bq_resolve_predeclared.specs.declared.host_function.HostFunction.TheVariants as f
 use Rattle.bq_package.specs.declared.glob.GlobRequest.{GlobRequest}
 use Rattle.bq_package_typed_value.specs.Parameters.{argument}
 use Rattle.bq_package.specs.Bound.{glob_parameters, exports_parameters, texts_of}

@@ -8,7 +8,7 @@ ghost use Rattle.bq_value.specs.Cells.{StoreView};
 ghost use Rattle.bq_builtin_machine.specs.Args.{Passed};
 ghost use Rattle.bq_builtin_machine.specs.State.{State};
 ghost use Rattle.bq_package_target.specs.Calls.{declared, exported};
-ghost use Rattle.bq_package.specs.declared.function.BuildFunction.TheVariants as f;
+ghost use Rattle.bq_resolve_predeclared.specs.declared.host_function.HostFunction.TheVariants as f;
 ghost use Rattle.bq_package.specs.declared.glob.GlobRequest.{GlobRequest};
 ghost use Rattle.bq_package.specs.Calls.{Declaring, declaring, call_in, rule_by};
 ghost use Rattle.bq_package.specs.Files.{files_named};

@@ -1,7 +1,6 @@
 -- Attributes that are the same, and equal ones.
 use Rattle.std.proofs.Common.{◌≡◌, ◌∙◌, ℕ, ◌&&◌, Bool, true, false, List, Option, Some, None, refl, sym, ap}
 use Rattle.std.specs.Prelude.{bytes_eq}
-use Rattle.std.specs.Ordering.{int_eq}
 use Rattle.std.specs.Cmp.{signed_Decides}
 use lib.Pointwise.{bytes_decides, pointwise_decides}
 use Rattle.bq_label.specs.Label.{LabelParts}

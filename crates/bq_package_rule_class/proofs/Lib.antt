@@ -4,5 +4,3 @@ pub mod Keyed
 pub mod Equal
 -- lists of labels that differ in length
 pub mod Lengths
--- attributes that are copied one by one
-pub mod Copies

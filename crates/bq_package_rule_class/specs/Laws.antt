@@ -1,5 +1,5 @@
 -- Words of the laws.
-use Rattle.std.specs.Prelude.{◌≡◌, ℕ, ◌↔◌, List, true, Some}
+use Rattle.std.specs.Prelude.{◌≡◌, ◌↔◌, true, Some}
 use Rattle.bq_package_rule_class.specs.AttributeType.{type_name, type_named}
 use Rattle.bq_package_rule_class.specs.Same.{same_attribute}
 use Rattle.bq_package_rule_class.specs.declared.attribute.Attribute.{Attribute}

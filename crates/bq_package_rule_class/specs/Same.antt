@@ -1,5 +1,5 @@
 -- When two values of attributes, or two attributes, are the same: of one type, and equal in each part.
-use Rattle.std.specs.Prelude.{ℕ, List, [], ◌∷◌, Bool, true, false, ◌&&◌, Option, Some, None, bytes_eq}
+use Rattle.std.specs.Prelude.{ℕ, List, Bool, true, false, ◌&&◌, Option, Some, None, bytes_eq}
 use Rattle.std.specs.Ordering.{int_eq}
 use Rattle.std.specs.Cmp.Lexicographic.{pointwise}
 use Rattle.bq_label.specs.Label.{LabelParts}

@@ -2,14 +2,14 @@
 
 ghost use Rattle.std.specs.Prelude.{◌≡◌, [], not, length, bytes_eq, option_copied, option_map, slice_get, IfOk, OnOk};
 ghost use Rattle.std.specs.Map.{lookup};
-ghost use Rattle.bq_package_rule_class.specs.Class.{has_attribute, with_attribute};
+ghost use Rattle.bq_package_rule_class.specs.Class.{has_attribute, with_attribute, extended};
 
 use crate::attribute::Attribute;
 use indexmap::IndexMap;
 use std::alloc::{AllocError, Global};
 use std::marker::Model;
 
-/// Attributes in the order in which they were added. Contracts see the list of them, each with its name.
+/// Attributes in the order in which they came, with one owner. Contracts see the list of them, each with its name.
 #[derive(Drop)]
 pub struct Attributes {
     entries: IndexMap<Vec<u8>, Attribute>,
@@ -28,7 +28,8 @@ impl Model for Attributes {
 }
 
 impl Attributes {
-    pub(crate) fn new(alloc: Global) -> Attributes
+    /// None.
+    pub fn new(alloc: Global) -> Attributes
         ensures { result ≡ [] }
     {
         Attributes {
@@ -61,12 +62,7 @@ impl Attributes {
 
     /// Appends an attribute; true if there was none of its name.
     #[tactic(auto, unfolding(crate::specs::Class::with_attribute))]
-    pub(crate) fn add(
-        &mut self,
-        alloc: Global,
-        name: &[u8],
-        attribute: Attribute,
-    ) -> Result<bool, AllocError>
+    fn add(&mut self, alloc: Global, name: &[u8], attribute: Attribute) -> Result<bool, AllocError>
         ensures added { IfOk result (λ added. added ≡ not (has_attribute self.old name.now)) }
         ensures after { OnOk result (self.new ≡ with_attribute self.old name.now attribute) }
     {
@@ -78,31 +74,20 @@ impl Attributes {
         Ok(true)
     }
 
-    /// Appends a share of an attribute, if there is none of its name.
-    fn add_share(
-        &mut self,
+    /// With one attribute more, as the last; none where one has the name.
+    #[tactic(auto, unfolding(crate::specs::Class::extended, crate::specs::Class::with_attribute))]
+    pub fn with(
+        self,
         alloc: Global,
         name: &[u8],
-        attribute: &Attribute,
-    ) -> Result<(), AllocError>
-        ensures { OnOk result (self.new ≡ with_attribute self.old name.now attribute.now) }
+        attribute: Attribute,
+    ) -> Result<Option<Attributes>, AllocError>
+        ensures { IfOk result (λ c. c ≡ extended self name.now attribute) }
     {
-        let attribute = attribute.share(alloc)?;
-        self.add(alloc, name, attribute)?;
-        Ok(())
-    }
-
-    /// Copies the attributes, in time linear in what they hold.
-    pub(crate) fn copy(&self, alloc: Global) -> Result<Attributes, AllocError>
-        ensures { IfOk result (λ c. c ≡ self.now) }
-    {
-        let mut copy = Attributes::new(alloc);
-        for place in 0..self.entries.len() {
-            let Some((name, attribute)) = self.entry(place) else {
-                return Ok(copy);
-            };
-            copy.add_share(alloc, name, attribute)?;
+        let mut attributes = self;
+        if !attributes.add(alloc, name, attribute)? {
+            return Ok(None);
         }
-        Ok(copy)
+        Ok(Some(attributes))
     }
 }

@@ -2,7 +2,6 @@
 
 ghost use Rattle.std.specs.Prelude.{◌≡◌, [], length, bytes_eq, option_copied, option_map, slice_get, IfOk};
 ghost use Rattle.std.specs.Map.{lookup};
-ghost use Rattle.bq_package_rule_class.specs.Class.{extended};
 
 use crate::attribute::Attribute;
 use crate::attributes::Attributes;
@@ -28,13 +27,20 @@ impl Model for RuleClass {
 }
 
 impl RuleClass {
-    /// Makes the class of a rule that has none of its own.
+    /// Of a rule that has these of its own.
+    pub fn of(alloc: Global, attributes: Attributes) -> Result<RuleClass, AllocError>
+        ensures { IfOk result (λ c. c ≡ attributes) }
+    {
+        Ok(RuleClass {
+            attributes: Arc::new(alloc, attributes)?,
+        })
+    }
+
+    /// Of a rule that has none of its own.
     pub fn empty(alloc: Global) -> Result<RuleClass, AllocError>
         ensures { IfOk result (λ c. c ≡ []) }
     {
-        Ok(RuleClass {
-            attributes: Arc::new(alloc, Attributes::new(alloc))?,
-        })
+        RuleClass::of(alloc, Attributes::new(alloc))
     }
 
     /// Returns another owner of the class. Nothing is copied.
@@ -65,36 +71,5 @@ impl RuleClass {
         ensures { option_map (λ e. (e.0.now, e.1.now)) result ≡ slice_get self.now place }
     {
         self.attributes.entry(place)
-    }
-
-    /// Returns the attributes themselves if this is their only owner, else a copy.
-    fn into_attributes(self, alloc: Global) -> Result<Attributes, AllocError>
-        ensures { IfOk result (λ a. a ≡ self) }
-    {
-        let RuleClass { attributes } = self;
-        match Arc::try_unwrap(attributes) {
-            Ok(attributes) => Ok(attributes),
-            Err(shared) => shared.copy(alloc),
-        }
-    }
-
-    /// Appends an attribute; `None` if one has the name. The attributes are moved if nothing else owns them, else
-    /// copied.
-    #[tactic(auto, unfolding(crate::specs::Class::extended, crate::specs::Class::with_attribute))]
-    pub fn with(
-        self,
-        alloc: Global,
-        name: &[u8],
-        attribute: Attribute,
-    ) -> Result<Option<RuleClass>, AllocError>
-        ensures { IfOk result (λ c. c ≡ extended self name.now attribute) }
-    {
-        let mut attributes = self.into_attributes(alloc)?;
-        if !attributes.add(alloc, name, attribute)? {
-            return Ok(None);
-        }
-        Ok(Some(RuleClass {
-            attributes: Arc::new(alloc, attributes)?,
-        }))
     }
 }

@@ -1,10 +1,10 @@
 //! What rules say of their attributes: an attribute's type, whether a call has to give it, and its default, typed values of
 //! attributes, and rule classes. ("Rule class" is Bazel's word for what all rules of a kind share.)
 //!
-//! The promise: a [`RuleClass`] is a list of attributes with their names, none of them twice ([`RuleClass::with`]),
-//! each found by its name in time proportional to the name's length ([`RuleClass::get`]); a share of it costs the same
-//! however long it is. It is one type for the rules of a schema and for those that .bzl files declare, so that a call
-//! of either is one piece of code. [`Attribute::is_same`] says of two attributes whether they are equal in each part.
+//! The promise: a [`RuleClass`] is a list of attributes with their names, none of them twice ([`Attributes::with`]), each found by
+//! its name in the time of the name's length ([`RuleClass::get`]); a share of it costs the same however long it is. It is one
+//! type for the rules of a schema and for those that .bzl files declare, so that a call of either is one piece of code.
+//! [`Attribute::is_same`] says of two attributes whether they are equal in each part.
 //!
 //! In reading order:
 //!
@@ -27,6 +27,7 @@ mod value;
 
 pub use attribute::Attribute;
 pub use attribute_type::{AttributeType, common_attribute, type_named};
+pub use attributes::Attributes;
 pub use class::RuleClass;
 pub use laws::{each_type_is_named, same_attributes_are_equal};
 pub use value::AttributeValue;

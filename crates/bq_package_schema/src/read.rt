@@ -8,6 +8,7 @@ ghost use Rattle.bq_package_schema.specs.Schema.{no_rules, after};
 ghost use Rattle.bq_package_schema.specs.Line.{line_of};
 ghost use Rattle.bq_package_schema.specs.Reading.{lines, line_number, declared_by, schema_of};
 
+use crate::draft::Draft;
 use crate::line::line_of;
 use crate::schema::Schema;
 use bq_base::{Fault, FaultKind, SourceErr};
@@ -31,12 +32,12 @@ fn line_number(before: usize) -> u32
     }
 }
 
-/// Returns the schema with one more line, or `None` if it is a bad one.
-fn read_line(alloc: Global, schema: Schema, line: &[u8]) -> Result<Option<Schema>, AllocError>
-    ensures { IfOk result (λ s. s ≡ after schema (line_of line.now)) }
+/// The rules after one more line; none where the line is a bad one.
+fn read_line(alloc: Global, draft: Draft, line: &[u8]) -> Result<Option<Draft>, AllocError>
+    ensures { IfOk result (λ d. d ≡ after draft (line_of line.now)) }
 {
     let line = line_of(alloc, line)?;
-    schema.after(alloc, line)
+    draft.after(alloc, line)
 }
 
 /// Returns the schema that the lines declare.
@@ -44,16 +45,16 @@ fn read_line(alloc: Global, schema: Schema, line: &[u8]) -> Result<Option<Schema
 pub(crate) fn read_lines(alloc: Global, lines: &[&[u8]]) -> Result<Schema, SourceErr>
     ensures { Gives (λ s. s) Bad result (declared_by no_rules 0 (map (λ l. l.now) lines.now)) }
 {
-    let mut schema = Schema::empty(alloc);
+    let mut draft = Draft::empty(alloc);
     for (before, line) in lines.iter().enumerate() {
-        match read_line(alloc, schema, line)? {
-            Some(next) => schema = next,
+        match read_line(alloc, draft, line)? {
+            Some(next) => draft = next,
             None => {
                 return Err(SourceErr::Bad(Fault::at(FaultKind::Schema, line_number(before))));
             }
         }
     }
-    Ok(schema)
+    Ok(draft.finish(alloc)?)
 }
 
 /// Reads a text as a schema. A text that is none has fault F80 at its first bad line: one that declares nothing and is

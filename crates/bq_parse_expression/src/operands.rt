@@ -1,8 +1,9 @@
 //! Operands: names, literals, and what stands in brackets.
 
-ghost use Rattle.std.specs.Prelude.{◌≡◌};
+ghost use Rattle.std.specs.Prelude.{◌≡◌, IfOk};
 ghost use Rattle.bq_parse_grammar.specs.Turns.{Reads};
 ghost use Rattle.bq_parse_grammar.specs.Turns as turns;
+ghost use Rattle.bq_parse_grammar.specs.Grammar as grammar;
 ghost use Rattle.bq_parse_grammar.specs.Reading as spec;
 ghost use Rattle.bq_parse_grammar.specs.declared.tree.Nested.TheVariants.{Test};
 ghost use Rattle.bq_source.specs.declared.token.TokenKind.TheVariants as kind;
@@ -15,13 +16,23 @@ use bq_parse_cursor::Tokens;
 use bq_parse_grammar::{Clause, Expr, Nested, Pair, SyntaxErr};
 use bq_source::TokenKind;
 use sqlite_items::{Boxed, Items};
-use std::alloc::Global;
+use std::alloc::{AllocError, Global};
 
 /// A clause of a comprehension comes next.
 fn sees_clause(tokens: &Tokens<'_>) -> bool
     ensures { result ≡ spec.begins_clause tokens.now }
 {
     tokens.sees(TokenKind::For) || tokens.sees(TokenKind::If)
+}
+
+/// An operand in parentheses. Before a dot its tree keeps them, as an operand to which nothing is done.
+fn parenthesized(alloc: Global, tokens: &Tokens<'_>, operand: Expr) -> Result<Expr, AllocError>
+    ensures { IfOk result (λ x. x ≡ grammar.parenthesized_of (turns.sees kind.Dot tokens.now) operand) }
+{
+    if tokens.sees(TokenKind::Dot) {
+        return Ok(Expr::Primary(Boxed::new(alloc, operand)?, Items::new(alloc)));
+    }
+    Ok(operand)
 }
 
 impl<F: Fn(Global, &mut Tokens<'_>, usize, Nested) -> Result<Expr, SyntaxErr>> Grammar<F> {
@@ -72,7 +83,8 @@ impl<F: Fn(Global, &mut Tokens<'_>, usize, Nested) -> Result<Expr, SyntaxErr>> G
                 .listed(tokens, TokenKind::RightParen, found)
                 .map(Expr::Tuple);
         }
-        closed(tokens, TokenKind::RightParen, first)
+        let operand = closed(tokens, TokenKind::RightParen, first)?;
+        Ok(parenthesized(self.alloc, tokens, operand)?)
     }
 
     /// '(' ')' | '(' Test ')' | '(' Test ',' [ Test { ',' Test } [','] ] ')', after the first bracket

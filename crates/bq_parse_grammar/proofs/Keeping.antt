@@ -29,7 +29,7 @@ use Rattle.bq_source.specs.Number.{int_value}
 use Rattle.bq_source.specs.StringLiteral.{string_value}
 use Rattle.bq_parse_grammar.specs.Literals.{identifier}
 use Rattle.bq_parse_grammar.specs.Operators.{operator_at, sign, negation, comparison}
-use Rattle.bq_parse_grammar.specs.Grammar.{binary_of, unary_of, primary_of, allowed_after}
+use Rattle.bq_parse_grammar.specs.Grammar.{binary_of, unary_of, primary_of, parenthesized_of, allowed_after}
 use Rattle.bq_parse_grammar.specs.Laws.{is_lambda, NoLambda}
 use Rattle.bq_parse_grammar.proofs.NextToken.{is_kind}
 use Rattle.bq_parse_grammar.specs.Turns.{Found, Parse, ◌>>=◌, sees, next, expect, Turn, ended, goes, failed, next_turn, turns, whole, cut_off, repeat, listed_from, goes_with, repeat_turn, with_item, listed_turn}
@@ -197,9 +197,10 @@ module _ (P : List Lexeme → Type 0) (E : Type 0) (tail : (t : Lexeme) (ts : Li
     unfolding in_parens
     parens_kept ts h = if_kept (sees k.RightParen ts) (Ok (e.Tuple [], next ts)) (inner Test ts >>= λ x mid. parens_after inner variables x mid) (next_kept ts h)
         (then_kept (inner Test ts) (λ x mid. parens_after inner variables x mid) (safe Test ts h)
-        (λ x us g. if_kept (sees k.Comma us) (listed_from k.RightParen (inner Test) (x ∷ []) (next us) >>= λ xs rest. Ok (e.Tuple xs, rest)) (expect k.RightParen us >>= λ _ rest. Ok (x, rest))
+        (λ x us g. if_kept (sees k.Comma us) (listed_from k.RightParen (inner Test) (x ∷ []) (next us) >>= λ xs rest. Ok (e.Tuple xs, rest))
+        (expect k.RightParen us >>= λ _ rest. Ok (parenthesized_of (sees k.Dot rest) x, rest))
         (then_kept (listed_from k.RightParen (inner Test) (x ∷ []) (next us)) (λ xs rest. Ok (e.Tuple xs, rest)) (listed_kept k.RightParen (inner Test) (safe Test) (x ∷ []) (next us) (next_kept us g)) (λ xs vs f. f))
-        (then_kept (expect k.RightParen us) (λ _ rest. Ok (x, rest)) (expect_kept k.RightParen us g) (λ u vs f. f))))
+        (then_kept (expect k.RightParen us) (λ _ rest. Ok (parenthesized_of (sees k.Dot rest) x, rest)) (expect_kept k.RightParen us g) (λ u vs f. f))))
 
     brackets_kept : Keeps (in_brackets inner variables)
     unfolding in_brackets

@@ -16,7 +16,7 @@ use Rattle.bq_source.specs.Number.{int_value}
 use Rattle.bq_source.specs.StringLiteral.{string_value}
 use Rattle.bq_parse_grammar.specs.Phrases.{Phrase, Repeat, over, Listed, none_listed, last_listed}
 use Rattle.bq_parse_grammar.specs.Grammar as G
-use Rattle.bq_parse_grammar.specs.Grammar.{IsPair, IsForClause, IsClause, AreClauses, IsOperand}
+use Rattle.bq_parse_grammar.specs.Grammar.{parenthesized_of, IsPair, IsForClause, IsClause, AreClauses, IsOperand}
 use Rattle.bq_parse_grammar.specs.Turns.{Found, Parse, ◌>>=◌, sees, expect, repeat, listed_from}
 use Rattle.bq_parse_grammar.specs.Reading.{items_after, pair, for_clause, clause, begins_clause, clauses, comprehension, parens_after, in_parens, brackets_after, in_brackets, braces_after, in_braces, int_of, string_of, operand_by, operand}
 use Rattle.bq_parse_grammar.proofs.NextToken.{sees_it, sees_other, tok, tok_kind}
@@ -166,12 +166,12 @@ module _ (O T : Phrase Expr) (V : Phrase TargetExpr) (inner : Nested → Parse E
       (λ c us f. G.empty_tuple oe f refl)
       (λ h. seq (T ts) (IsOperand O T V (o ∷ ts)) (inner Test ts) (λ x mid. parens_after inner variables x mid) (tests.sound ts)
       (λ x mid p. sees_owes (λ m. T ts m x) (IsOperand O T V (o ∷ ts)) k.Comma mid
-      (λ us. listed_from k.RightParen (inner Test) (x ∷ []) us >>= λ xs rest. Ok (e.Tuple xs, rest)) (expect k.RightParen mid >>= λ _ rest. Ok (x, rest)) p
+      (λ us. listed_from k.RightParen (inner Test) (x ∷ []) us >>= λ xs rest. Ok (e.Tuple xs, rest)) (expect k.RightParen mid >>= λ _ rest. Ok (parenthesized_of (sees k.Dot rest) x, rest)) p
       (λ c us f w. then_is (λ rest ys. (xs : List Expr) × (ys ≡ (x ∷ []) ++ xs) × Listed k.RightParen T us rest xs) (IsOperand O T V (o ∷ ts))
       (listed_from k.RightParen (inner Test) (x ∷ []) us) e.Tuple (listed_sound T (inner Test) tests k.RightParen (x ∷ []) us)
       (λ ys rest v. G.a_tuple oe w f v.2 (ap e.Tuple v.1)))
-      (λ h. expects (λ m. T ts m x) (IsOperand O T V (o ∷ ts)) k.RightParen mid (λ _ rest. Ok (x, rest)) p (λ c us f w. G.parenthesized oe w f)))
-      (λ h rest. let x = h (tok k.RightParen ∷ rest) in (x.0, G.parenthesized oe x.1 (tok_kind k.RightParen))))
+      (λ h. expects (λ m. T ts m x) (IsOperand O T V (o ∷ ts)) k.RightParen mid (λ _ rest. Ok (parenthesized_of (sees k.Dot rest) x, rest)) p (λ c us f w. G.parenthesized oe w f refl)))
+      (λ h rest. let x = h (tok k.RightParen ∷ rest) in (parenthesized_of (sees k.Dot rest) x.0, G.parenthesized oe x.1 (tok_kind k.RightParen) refl)))
 
   brackets_sound : (o : Lexeme) (ts : List Lexeme) → o.kind ≡ k.LeftBracket → Owes Expr (IsOperand O T V (o ∷ ts)) (in_brackets inner variables ts)
   unfolding in_brackets
@@ -230,7 +230,7 @@ module _ (O T : Phrase Expr) (V : Phrase TargetExpr) (inner : Nested → Parse E
       begins ts rest y (G.an_int f h g) = ap first_operand f
       begins ts rest y (G.a_string f h g) = ap first_operand f
       begins ts rest y (G.empty_tuple f h g) = ap first_operand f
-      begins ts rest y (G.parenthesized f p h) = ap first_operand f
+      begins ts rest y (G.parenthesized f p h g) = ap first_operand f
       begins ts rest y (G.a_tuple f p h ps g) = ap first_operand f
       begins ts rest y (G.a_list f ps g) = ap first_operand f
       begins ts rest y (G.a_list_comprehension f p ps h g) = ap first_operand f
@@ -247,11 +247,11 @@ module _ (O T : Phrase Expr) (V : Phrase TargetExpr) (inner : Nested → Parse E
       complete ts rest y (G.a_string {t = t} {b = b} f h g) st = met_is _ _ (ap (Reading t rest) f ∙ ap (λ o. string_of o rest) h) (met (ap (λ y. Ok (y, rest)) (sym g)) (omega arith))
       complete ts rest y (G.empty_tuple {o = o} {c = c} f h g) st = met_is _ _ (ap (Reading o (c ∷ rest)) f)
           (met_yes (sees k.RightParen (c ∷ rest)) (Ok (e.Tuple [], rest)) _ (sees_it c rest k.RightParen h) (met (ap (λ y. Ok (y, rest)) (sym g)) (omega arith)))
-      complete ts rest y (G.parenthesized {o = o} {c = c} {ts = us} f p h) st = met_is _ _ (ap (Reading o us) f)
-          (met_no (sees k.RightParen us) _ (inner Test us >>= λ x mid. parens_after inner variables x mid) (begins_no first_test us k.RightParen (tests.begins us (c ∷ rest) y p) refl)
-          (met_over o us (met_less (met_then (inner Test us) (λ x mid. parens_after inner variables x mid) (tests.complete us (c ∷ rest) y p (subst (λ q. ends 11 q ≡ true) (sym h) refl))
-          (met_no (sees k.Comma (c ∷ rest)) _ (expect k.RightParen (c ∷ rest) >>= λ _ rest. Ok (y, rest)) (sees_other c rest k.Comma k.RightParen h paren_comma)
-          (met_less (met_expect k.RightParen c rest (λ _ rest. Ok (y, rest)) h (met_done y rest))))))))
+      complete ts rest y (G.parenthesized {o = o} {c = c} {ts = us} {x = x} f p h g) st = met_is _ _ (ap (Reading o us) f)
+          (met_no (sees k.RightParen us) _ (inner Test us >>= λ x mid. parens_after inner variables x mid) (begins_no first_test us k.RightParen (tests.begins us (c ∷ rest) x p) refl)
+          (met_over o us (met_less (met_then (inner Test us) (λ x mid. parens_after inner variables x mid) (tests.complete us (c ∷ rest) x p (subst (λ q. ends 11 q ≡ true) (sym h) refl))
+          (met_no (sees k.Comma (c ∷ rest)) _ (expect k.RightParen (c ∷ rest) >>= λ _ rest. Ok (parenthesized_of (sees k.Dot rest) x, rest)) (sees_other c rest k.Comma k.RightParen h paren_comma)
+          (met_less (met_expect k.RightParen c rest (λ _ rest. Ok (parenthesized_of (sees k.Dot rest) x, rest)) h (met_as (sym g) (met_done (parenthesized_of (sees k.Dot rest) x) rest)))))))))
       complete ts rest y (G.a_tuple {o = o} {c = c} {ts = us} {mid = mid} {x = x} {xs = xs} f p h ps g) st = met_is _ _ (ap (Reading o us) f)
           (met_no (sees k.RightParen us) _ (inner Test us >>= λ x mid. parens_after inner variables x mid) (begins_no first_test us k.RightParen (tests.begins us (c ∷ mid) x p) refl)
           (met_over o us (met_less (met_then (inner Test us) (λ x mid. parens_after inner variables x mid) (tests.complete us (c ∷ mid) x p (subst (λ q. ends 11 q ≡ true) (sym h) refl))

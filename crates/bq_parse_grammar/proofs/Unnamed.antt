@@ -61,7 +61,7 @@ module _ (O T : Phrase Expr) (V : Phrase TargetExpr) where
   operand_alone n u us rest x f g (G.an_int h i j) = refl
   operand_alone n u us rest x f g (G.a_string h i j) = refl
   operand_alone n u us rest x f g (G.empty_tuple h i j) = absurd (no_other is_word k.Identifier k.LeftParen n.kind f h refl refl)
-  operand_alone n u us rest x f g (G.parenthesized h p i) = absurd (no_other is_word k.Identifier k.LeftParen n.kind f h refl refl)
+  operand_alone n u us rest x f g (G.parenthesized h p i j) = absurd (no_other is_word k.Identifier k.LeftParen n.kind f h refl refl)
   operand_alone n u us rest x f g (G.a_tuple h p i ps j) = absurd (no_other is_word k.Identifier k.LeftParen n.kind f h refl refl)
   operand_alone n u us rest x f g (G.a_list h ps i) = absurd (no_other is_word k.Identifier k.LeftBracket n.kind f h refl refl)
   operand_alone n u us rest x f g (G.a_list_comprehension h p cs i j) = absurd (no_other is_word k.Identifier k.LeftBracket n.kind f h refl refl)

@@ -1,7 +1,7 @@
 -- The grammar of expressions, by the Starlark specification, "Grammar reference": a case for each production, under its
 -- production. Brackets alone let a phrase stand in a phrase of its own kind, so the productions come in layers: `Inner` is what may
 -- stand in brackets, with one bracket fewer open.
-use Rattle.std.specs.Prelude.{ℕ, pos, zero, suc, List, [], ◌∷◌, false, ◌≡◌, Option, Some, None}
+use Rattle.std.specs.Prelude.{ℕ, pos, zero, suc, List, [], ◌∷◌, Bool, true, false, ◌≡◌, Option, Some, None}
 use Rattle.bq_source.specs.declared.token.TokenKind.{TokenKind}
 use Rattle.bq_source.specs.declared.token.TokenKind.TheVariants as k
 use Rattle.bq_parse_grammar.specs.Lexeme.{Lexeme}
@@ -50,6 +50,12 @@ unary_of (y ∷ ys) x = e.Unary (y ∷ ys) x
 abbrev pub primary_of : Expr → List Suffix → Expr
 primary_of x [] = x
 primary_of x (y ∷ ys) = e.Primary x (y ∷ ys)
+
+-- An operand in parentheses. Before a dot its tree keeps them, as an operand to which nothing is done: `(attr).int()` isn't
+-- `attr.int()`. Elsewhere the tree is that of the operand without them.
+abbrev pub parenthesized_of : Bool → Expr → Expr
+parenthesized_of true x = e.Primary x []
+parenthesized_of false x = x
 
 -- `x if c else y if d else z`: the choices `x if c` and `y if d`, and the last value
 abbrev pub choices_of : Expr → List (Expr × Expr) → List Choice
@@ -146,8 +152,8 @@ module _ (InnerOr InnerTest : Phrase Expr) (InnerVars : Phrase TargetExpr) where
     a_string : {t : Lexeme} {rest : List Lexeme} {b : List ℕ} {y : Expr} → t.kind ≡ k.String → string_value t.spelling ≡ Some b → y ≡ e.String b
         → IsOperand (t ∷ rest) rest y
     empty_tuple : {o c : Lexeme} {rest : List Lexeme} {y : Expr} → o.kind ≡ k.LeftParen → c.kind ≡ k.RightParen → y ≡ e.Tuple [] → IsOperand (o ∷ c ∷ rest) rest y
-    parenthesized : {o c : Lexeme} {ts rest : List Lexeme} {x : Expr} → o.kind ≡ k.LeftParen → InnerTest ts (c ∷ rest) x → c.kind ≡ k.RightParen
-        → IsOperand (o ∷ ts) rest x
+    parenthesized : {o c : Lexeme} {ts rest : List Lexeme} {x y : Expr} → o.kind ≡ k.LeftParen → InnerTest ts (c ∷ rest) x → c.kind ≡ k.RightParen
+        → y ≡ parenthesized_of (sees k.Dot rest) x → IsOperand (o ∷ ts) rest y
     a_tuple : {o c : Lexeme} {ts mid rest : List Lexeme} {x y : Expr} {xs : List Expr} → o.kind ≡ k.LeftParen → InnerTest ts (c ∷ mid) x → c.kind ≡ k.Comma
         → Listed k.RightParen InnerTest mid rest xs → y ≡ e.Tuple (x ∷ xs) → IsOperand (o ∷ ts) rest y
     a_list : {o : Lexeme} {ts rest : List Lexeme} {y : Expr} {xs : List Expr} → o.kind ≡ k.LeftBracket → Listed k.RightBracket InnerTest ts rest xs

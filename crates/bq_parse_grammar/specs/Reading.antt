@@ -33,7 +33,7 @@ use Rattle.bq_source.specs.Number.{int_value}
 use Rattle.bq_source.specs.StringLiteral.{string_value}
 use Rattle.bq_parse_grammar.specs.Literals.{identifier}
 use Rattle.bq_parse_grammar.specs.Operators.{operator_at, sign, negation, comparison}
-use Rattle.bq_parse_grammar.specs.Grammar.{binary_of, unary_of, primary_of, allowed_after}
+use Rattle.bq_parse_grammar.specs.Grammar.{binary_of, unary_of, primary_of, parenthesized_of, allowed_after}
 use Rattle.bq_parse_grammar.specs.Turns.{Found, Parse, ◌>>=◌, sees, next, expect, Turn, ended, goes, failed, turns, whole, cut_off, repeat, listed_from}
 
 -- a word, and what it names
@@ -177,7 +177,7 @@ module _ (inner : Nested → Parse Expr) (variables : Parse TargetExpr) where
   abbrev pub parens_after : Expr → Parse Expr
   parens_after x ts =
       if sees k.Comma ts then (listed_from k.RightParen (inner Test) (x ∷ []) (next ts) >>= λ xs rest. Ok (e.Tuple xs, rest))
-      else (expect k.RightParen ts >>= λ _ rest. Ok (x, rest))
+      else (expect k.RightParen ts >>= λ _ rest. Ok (parenthesized_of (sees k.Dot rest) x, rest))
 
   -- after '('
   unfoldable pub in_parens : Parse Expr

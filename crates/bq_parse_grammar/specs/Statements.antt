@@ -26,6 +26,7 @@ use Rattle.bq_source.specs.StringLiteral.{string_value}
 use Rattle.bq_parse_grammar.specs.Literals.{identifier, is_identifier}
 use Rattle.bq_parse_grammar.specs.Operators.{augmented}
 use Rattle.bq_parse_grammar.specs.Phrases.{Phrase, none, Repeat, Listed, CommaThen}
+use Rattle.bq_parse_grammar.specs.Turns.{sees}
 use Rattle.bq_parse_grammar.specs.Grammar.{primary_of, targets_of, IsTestTo, IsExprTo, IsOperandTo, IsSuffixTo, IsIndexTo, IsVars}
 
 -- the line of the first token
@@ -45,9 +46,9 @@ pub data IsIndexed (depth : ℕ) : List Lexeme → List Lexeme → TargetExpr �
 pub data IsItemOver (depth : ℕ) (Inner : Phrase TargetExpr) : List Lexeme → List Lexeme → TargetExpr → Type 0 where
   name : {t : Lexeme} {rest : List Lexeme} {x : TargetExpr} → t.kind ≡ k.Identifier → x ≡ target.Name (identifier t) → IsItemOver depth Inner (t ∷ rest) rest x
   index : {ts rest : List Lexeme} {x : TargetExpr} → IsIndexed depth ts rest x → IsItemOver depth Inner ts rest x
-  -- '(' Item ')'
+  -- '(' Item ')', not before a dot, before which it is an operand and no target
   parenthesized : {o c : Lexeme} {ts rest : List Lexeme} {x : TargetExpr} → o.kind ≡ k.LeftParen → Inner ts (c ∷ rest) x → c.kind ≡ k.RightParen
-      → IsItemOver depth Inner (o ∷ ts) rest x
+      → sees k.Dot rest ≡ false → IsItemOver depth Inner (o ∷ ts) rest x
   -- '(' Item ',' [ Item { ',' Item } [','] ] ')'
   tuple : {o c : Lexeme} {ts mid rest : List Lexeme} {x y : TargetExpr} {xs : List TargetExpr} → o.kind ≡ k.LeftParen → Inner ts (c ∷ mid) x → c.kind ≡ k.Comma
       → Listed k.RightParen Inner mid rest xs → y ≡ target.Tuple (x ∷ xs) → IsItemOver depth Inner (o ∷ ts) rest y

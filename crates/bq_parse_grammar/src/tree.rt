@@ -83,7 +83,8 @@ pub enum Expr {
     ListComprehension(Boxed<Expr>, Items<Clause>),
     /// `{key: value for .. in ..}`; the first clause is a `for`.
     DictComprehension(Boxed<Pair>, Items<Clause>),
-    /// An operand and what is done to it, from left to right; at least one suffix.
+    /// An operand and what is done to it, from left to right. Nothing is done to an operand in parentheses before a dot: so `(x).f()`
+    /// has another tree than `x.f()`, and else there is at least one suffix.
     Primary(Boxed<Expr>, Items<Suffix>),
     /// The operators before an operand, from left to right, at least one: all are `not`, or none is.
     Unary(Items<UnaryOperator>, Boxed<Expr>),

@@ -21,7 +21,7 @@ use Rattle.bq_parse_grammar.specs.declared.tree.TargetExpr.TheVariants as target
 use Rattle.bq_parse_grammar.specs.Literals.{identifier}
 use Rattle.bq_parse_grammar.specs.Phrases.{Phrase, none, Repeat, over, again}
 use Rattle.bq_parse_grammar.specs.Grammar as G
-use Rattle.bq_parse_grammar.specs.Grammar.{primary_of, IsOperand, IsVars, IsOrTo, IsPrimaryTo, IsTestTo, IsExprTo, IsOperandTo, IsSuffixTo}
+use Rattle.bq_parse_grammar.specs.Grammar.{primary_of, parenthesized_of, IsOperand, IsVars, IsOrTo, IsPrimaryTo, IsTestTo, IsExprTo, IsOperandTo, IsSuffixTo}
 use Rattle.bq_parse_grammar.specs.Statements as S
 use Rattle.bq_parse_grammar.specs.Statements.{IsIndexed}
 use Rattle.bq_parse_grammar.specs.Targets.{ExprLayer, indexed_from, augmented_by, augmented_target}
@@ -236,7 +236,7 @@ module _ (depth : ℕ) (ts : List Lexeme) (x : Expr) (q : Lexeme) (mid : List Le
   operand_open O T V us rest z a b h paren (G.an_int g j i) = absurd (no_target _ y (ap augmented_target i ∙ augmented-Int _) h)
   operand_open O T V us rest z a b h paren (G.a_string {b = w} g j i) = absurd (no_target _ y (ap augmented_target i ∙ augmented-String w) h)
   operand_open O T V us rest z a b h paren (G.empty_tuple g j i) = absurd (no_target _ y (ap augmented_target i ∙ augmented-Tuple []) h)
-  operand_open O T V us rest z a b h paren (G.parenthesized {o = o} {c = c} {ts = vs} g p j) = absurd (paren o c vs z (sym a) g (subst (λ m. T vs (c ∷ m) z) b p) j)
+  operand_open O T V us rest z a b h paren (G.parenthesized {o = o} {c = c} {ts = vs} {x = v} g p j i) = absurd (paren o c vs v (sym a) g (subst (λ m. T vs (c ∷ m) v) b p) j)
   operand_open O T V us rest z a b h paren (G.a_tuple {x = v} {xs = vs} g p j ps i) = absurd (no_target _ y (ap augmented_target i ∙ augmented-Tuple (v ∷ vs)) h)
   operand_open O T V us rest z a b h paren (G.a_list {xs = vs} g ps i) = absurd (no_target _ y (ap augmented_target i ∙ augmented-List vs) h)
   operand_open O T V us rest z a b h paren (G.a_list_comprehension {x = v} {cs = cs} g p ps j i) = absurd (no_target _ y (ap augmented_target i ∙ augmented-ListComprehension v cs) h)
@@ -253,7 +253,8 @@ in_parens depth ts x q mid y read takes open_ o c vs v f g p h = go ((test_to_ag
     go (met a l) = never_closed (suc depth) ts x q mid y read takes open_ c h (test_later ts (suc depth) vs (c ∷ q ∷ mid) v (o ∷ [], f) a)
     go (cut a) = not_cut (suc depth) ts x q mid read
         (λ rest. let w = owed (suc depth) ts x q mid read (IsTestTo depth vs) (phrase (suc depth) Test vs) ((test_to_agrees depth).sound vs) a (tok k.RightParen ∷ rest) in
-        (w.0, subst (λ m. IsPrimaryTo (suc depth) m rest w.0) (sym f) (G.primary (G.parenthesized g w.1 (tok_kind k.RightParen)) over refl)))
+        let y = parenthesized_of (sees k.Dot rest) w.0 in
+        (y, subst (λ m. IsPrimaryTo (suc depth) m rest y) (sym f) (G.primary (G.parenthesized g w.1 (tok_kind k.RightParen) refl) over refl)))
 
 pub assignable : (depth : ℕ) (ts : List Lexeme) (x : Expr) (q : Lexeme) (mid : List Lexeme) (y : TargetExpr) → expr_to (suc depth) ts ≡ Ok (x, q ∷ mid) → augmented_target x ≡ Ok y
     → ended_by k.RightParen ts (q ∷ mid) ≡ false → IsExprTo depth ts (q ∷ mid) x → IsAssignable depth ts (q ∷ mid) y

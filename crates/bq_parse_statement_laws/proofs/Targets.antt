@@ -1,5 +1,5 @@
 -- Targets are the expressions that `target_to` takes for targets.
-use Rattle.std.proofs.Common.{◌≡◌, ℕ, zero, suc, ◌≤◌, true, List, [], ◌∷◌, ◌++◌, Option, Result, Ok, Err, refl, sym, ap, ◌∙◌, subst, append_assoc, append-nil, arith, rules}
+use Rattle.std.proofs.Common.{◌≡◌, ℕ, zero, suc, ◌≤◌, Bool, true, false, List, [], ◌∷◌, ◌++◌, Option, Result, Ok, Err, refl, sym, ap, ◌∙◌, subst, append_assoc, append-nil, arith, rules}
 use Rattle.bq_source.specs.declared.token.TokenKind.{TokenKind}
 use Rattle.bq_source.specs.declared.token.TokenKind.TheVariants as k
 use Rattle.bq_parse_grammar.specs.Lexeme.{Lexeme}
@@ -19,9 +19,10 @@ use Rattle.bq_parse_grammar.specs.declared.tree.TargetExpr.TheVariants as target
 use Rattle.bq_parse_grammar.specs.Literals.{identifier}
 use Rattle.bq_parse_grammar.specs.Phrases.{Phrase, none, Repeat, over, again, Listed, none_listed, last_listed, more_listed, CommaThen, comma_then}
 use Rattle.bq_parse_grammar.specs.Grammar as G
-use Rattle.bq_parse_grammar.specs.Grammar.{primary_of, IsOperand, IsVars, IsOrTo, IsPrimaryTo, IsTestTo, IsExprTo, IsOperandTo, IsSuffixTo, IsIndexTo}
+use Rattle.bq_parse_grammar.specs.Grammar.{primary_of, parenthesized_of, IsOperand, IsVars, IsOrTo, IsPrimaryTo, IsTestTo, IsExprTo, IsOperandTo, IsSuffixTo, IsIndexTo}
 use Rattle.bq_parse_grammar.specs.Statements as S
 use Rattle.bq_parse_grammar.specs.Statements.{IsIndexed, IsItemOver, IsItem, IsTarget}
+use Rattle.bq_parse_grammar.specs.Turns.{sees}
 use Rattle.bq_parse_grammar.specs.Targets.{ExprLayer, with_target, targets_from, many_of, index_of, indexed_from, target_by, target_to}
 use Rattle.bq_parse_statement_laws.proofs.Expressions.{form_by, has_form, test_down, test_up, Parts, parts, parts_of, primary_with, expr_up}
 
@@ -185,15 +186,15 @@ test_comes depth comes ts rest x p = let w = comes ts rest x p in (w.0, test_up 
 item_comes : (depth : ℕ) (ts rest : List Lexeme) (x : TargetExpr) → IsItem depth ts rest x → Comes (IsPrimaryTo depth) depth ts rest x
 item_comes zero ts rest x (S.name {t = t} g h) = (e.Name (identifier t), G.primary (G.a_name g refl) over refl, λ f le. target-Name f (identifier t) ∙ ap Ok (sym h))
 item_comes zero ts rest x (S.index p) = indexed_comes zero ts rest x p
-item_comes zero ts rest x (S.parenthesized g p h) = absurd p
+item_comes zero ts rest x (S.parenthesized g p h i) = absurd p
 item_comes zero ts rest x (S.tuple g p h ps i) = absurd p
 item_comes zero ts rest x (S.list g (last_listed p i) h) = absurd p
 item_comes zero ts rest x (S.list g (more_listed p i ps) h) = absurd p
 item_comes (suc depth) ts rest x (S.name {t = t} g h) = (e.Name (identifier t), G.primary (G.a_name g refl) over refl, λ f le. target-Name f (identifier t) ∙ ap Ok (sym h))
 item_comes (suc depth) ts rest x (S.index p) = indexed_comes (suc depth) ts rest x p
-item_comes (suc depth) ts rest x (S.parenthesized {c = c} {ts = us} g p h) = let w = item_comes depth us (c ∷ rest) x p in (
+item_comes (suc depth) ts rest x (S.parenthesized {c = c} {ts = us} g p h i) = let w = item_comes depth us (c ∷ rest) x p in (
   w.0,
-  G.primary (G.parenthesized g (test_up (IsPrimaryTo depth) us (c ∷ rest) w.0 w.1) h) over refl,
+  G.primary (G.parenthesized g (test_up (IsPrimaryTo depth) us (c ∷ rest) w.0 w.1) h (sym (ap (λ b. parenthesized_of b w.0) i))) over refl,
   λ f le. w.2 f (omega arith),
 )
 item_comes (suc depth) ts rest x (S.tuple {c = c} {ts = us} {mid = mid} {x = y} {xs = ys} g p h ps i) =
@@ -323,7 +324,11 @@ module _ (depth : ℕ) (O T : Phrase Expr) (V : Phrase TargetExpr) (Inner : Phra
   operand_back f ts rest x y (G.an_int g j i) h = absurd (no_target _ x (ap (target_to (suc f)) i ∙ target-Int f _) h)
   operand_back f ts rest x y (G.a_string {b = b} g j i) h = absurd (no_target _ x (ap (target_to (suc f)) i ∙ target-String f b) h)
   operand_back f ts rest x y (G.empty_tuple g j i) h = absurd (no_target _ x (ap (target_to (suc f)) i ∙ target-Tuple f []) h)
-  operand_back f ts rest x y (G.parenthesized {c = c} {ts = us} g q j) h = S.parenthesized g (up (suc f) us (c ∷ rest) x y q h) j
+  operand_back f ts rest x y (G.parenthesized {o = o} {c = c} {ts = us} {x = z} g q j i) h = go (sees k.Dot rest) refl i
+    where
+      go : (b : Bool) → sees k.Dot rest ≡ b → y ≡ parenthesized_of b z → IsItemOver depth Inner (o ∷ us) rest x
+      go true n i = absurd (no_target _ x (ap (target_to (suc f)) i ∙ target-Primary f z []) h)
+      go false n i = S.parenthesized g (up (suc f) us (c ∷ rest) x z q (ap (target_to (suc f)) (sym i) ∙ h)) j n
   operand_back f ts rest x y (G.a_tuple {c = c} {ts = us} {mid = mid} {x = a} {xs = bs} g q j ps i) h =
       let m = many_given target.Tuple (targets_from (target_to f) [] (a ∷ bs)) x (sym (ap (target_to (suc f)) i ∙ target-Tuple f (a ∷ bs)) ∙ h) in
       let w = target_given (target_to f a) (λ z. targets_from (target_to f) (z ∷ []) bs) (m.0 ∷ m.1) m.2 in

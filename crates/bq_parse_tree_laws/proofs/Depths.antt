@@ -1,6 +1,7 @@
 -- How deep the trees of each phrase are: a bracket adds at most one node of each level of the grammar.
-use Rattle.std.proofs.Common.{◌≡◌, ℕ, zero, suc, ◌+◌, ◌*◌, ◌≤◌, max, pos, List, [], ◌∷◌, map, Option, None, ap, ◌∙◌, arith}
+use Rattle.std.proofs.Common.{◌≡◌, ℕ, zero, suc, ◌+◌, ◌*◌, ◌≤◌, Bool, true, false, max, pos, List, [], ◌∷◌, map, Option, None, ap, ◌∙◌, arith}
 use Rattle.bq_source.specs.declared.token.TokenKind.{TokenKind}
+use Rattle.bq_source.specs.declared.token.TokenKind.TheVariants as k
 use Rattle.bq_parse_grammar.specs.Lexeme.{Lexeme}
 use Rattle.bq_parse_grammar.specs.Literals.{identifier}
 use Rattle.bq_parse_grammar.specs.declared.tree.Expr.{Expr}
@@ -13,8 +14,9 @@ use Rattle.bq_parse_grammar.specs.declared.tree.TargetExpr.{TargetExpr}
 use Rattle.bq_parse_grammar.specs.Operators.{sign, negation}
 use Rattle.bq_parse_grammar.specs.Phrases as P
 use Rattle.bq_parse_grammar.specs.Phrases.{Phrase, none, Repeat, Listed, CommaThen}
+use Rattle.bq_parse_grammar.specs.Turns.{sees}
 use Rattle.bq_parse_grammar.specs.Grammar as G
-use Rattle.bq_parse_grammar.specs.Grammar.{choices_of, last_of, targets_of, IsVarOver, IsVar, IsVarsOver, IsVars, IsPair, IsForClause, IsClause, AreClauses, IsOperand, IsArgument, AreArguments, IsOptionalTest, IsExpr, IsSuffix, IsPrimary, IsPrefixed, IsOperation, IsChain, IsBinary, IsComp, IsOr, IsChoice, IsTest, IsPrimaryTo, IsOrTo, IsTestTo, IsExprTo, IsOperandTo, IsSuffixTo, IsIndexTo}
+use Rattle.bq_parse_grammar.specs.Grammar.{parenthesized_of, choices_of, last_of, targets_of, IsVarOver, IsVar, IsVarsOver, IsVars, IsPair, IsForClause, IsClause, AreClauses, IsOperand, IsArgument, AreArguments, IsOptionalTest, IsExpr, IsSuffix, IsPrimary, IsPrefixed, IsOperation, IsChain, IsBinary, IsComp, IsOr, IsChoice, IsTest, IsPrimaryTo, IsOrTo, IsTestTo, IsExprTo, IsOperandTo, IsSuffixTo, IsIndexTo}
 use Rattle.bq_parse_tree_laws.specs.Depth.{deepest, expr_depth, target_depth, argument_depth, clause_depth, suffix_depth, choice_depth, operation_depth, pair_depth}
 use Rattle.bq_parse_tree_laws.proofs.Steps as D
 use Rattle.bq_parse_tree_laws.proofs.Steps.{part_depth}
@@ -128,7 +130,17 @@ module _ (n : ℕ) (O T : Phrase Expr) (V : Phrase TargetExpr) (ors : Within exp
   operand_within ts rest y (G.an_int {n = m} f g h) = let e : expr_depth y ≡ 1 = ap expr_depth h ∙ D.depth-Int (pos m) in omega arith
   operand_within ts rest y (G.a_string {b = b} f g h) = let e : expr_depth y ≡ 1 = ap expr_depth h ∙ D.depth-String b in omega arith
   operand_within ts rest y (G.empty_tuple f g h) = let e : expr_depth y ≡ 0 + 1 = ap expr_depth h ∙ D.depth-Tuple [] in omega arith
-  operand_within ts rest y (G.parenthesized {c = c} {ts = us} f p g) = let a : expr_depth y ≤ n = tests us (c ∷ rest) y p in omega arith
+  operand_within ts rest y (G.parenthesized {c = c} {ts = us} {x = x} f p g h) = go (sees k.Dot rest) h
+    where
+      go : (b : Bool) → y ≡ parenthesized_of b x → expr_depth y ≤ n + 1
+      go true h =
+          let e : expr_depth y ≡ max (expr_depth x) 0 + 1 = ap expr_depth h ∙ D.depth-Primary x [] in
+          let a : expr_depth x ≤ n = tests us (c ∷ rest) x p in
+          omega arith
+      go false h =
+          let e : expr_depth y ≡ expr_depth x = ap expr_depth h in
+          let a : expr_depth x ≤ n = tests us (c ∷ rest) x p in
+          omega arith
   operand_within ts rest y (G.a_tuple {c = c} {ts = us} {mid = mid} {x = x} {xs = xs} f p g q h) =
       let e : expr_depth y ≡ max (expr_depth x) (deepest (map expr_depth xs)) + 1 = ap expr_depth h ∙ D.depth-Tuple (x ∷ xs) in
       let a : expr_depth x ≤ n = tests us (c ∷ mid) x p in

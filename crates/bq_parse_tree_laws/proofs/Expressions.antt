@@ -19,8 +19,9 @@ use Rattle.bq_parse_grammar.specs.declared.tree.TargetExpr.{TargetExpr, out-Targ
 use Rattle.bq_parse_grammar.specs.Operators.{sign, negation}
 use Rattle.bq_parse_grammar.specs.Phrases as P
 use Rattle.bq_parse_grammar.specs.Phrases.{Phrase, none, Repeat, Listed, CommaThen}
+use Rattle.bq_parse_grammar.specs.Turns.{sees}
 use Rattle.bq_parse_grammar.specs.Grammar as G
-use Rattle.bq_parse_grammar.specs.Grammar.{choices_of, last_of, IsVarOver, IsVar, IsVarsOver, IsVars, IsPair, IsForClause, IsClause, AreClauses, IsOperand, IsArgument, AreArguments, IsOptionalTest, IsExpr, IsSuffix, IsPrimary, IsPrefix, IsPrefixed, IsOperation, IsChain, IsBinary, IsCompOp, IsComp, IsOr, IsChoice, IsTest, IsPrimaryTo, IsOrTo, IsTestTo, IsExprTo, IsOperandTo, IsSuffixTo, IsIndexTo}
+use Rattle.bq_parse_grammar.specs.Grammar.{parenthesized_of, choices_of, last_of, IsVarOver, IsVar, IsVarsOver, IsVars, IsPair, IsForClause, IsClause, AreClauses, IsOperand, IsArgument, AreArguments, IsOptionalTest, IsExpr, IsSuffix, IsPrimary, IsPrefix, IsPrefixed, IsOperation, IsChain, IsBinary, IsCompOp, IsComp, IsOr, IsChoice, IsTest, IsPrimaryTo, IsOrTo, IsTestTo, IsExprTo, IsOperandTo, IsSuffixTo, IsIndexTo}
 use Rattle.bq_parse_grammar.proofs.NextToken.{sees_it}
 use Rattle.bq_parse_tree_laws.specs.Parts as parts
 use Rattle.bq_parse_tree_laws.specs.Parts.{Part, row, listed, commas, unary, operator_kind, comparison, ExprLayer, expr_parts_by, optional_expr, SuffixLayer, suffix_parts_by, arguments, opening, ArgumentLayer, argument_parts_by, ClauseLayer, clause_parts_by, TargetLayer, target_parts_by}
@@ -133,7 +134,14 @@ module _ (O T : Phrase Expr) (V : Phrase TargetExpr) (ors : Tells parts.expr O) 
   operand_tells ts rest y (G.an_int {n = n} f g h) ps w = made_expr (ap out-Expr h ∙ L.out-Int (pos n)) (W.number f g w)
   operand_tells ts rest y (G.a_string {b = b} f g h) ps w = made_expr (ap out-Expr h ∙ L.out-String b) (W.text f g w)
   operand_tells ts rest y (G.empty_tuple f g h) ps w = made_expr (ap out-Expr h ∙ L.out-Tuple []) (W.token f (W.token g w))
-  operand_tells ts rest y (G.parenthesized {c = c} {ts = us} f p g) ps w = W.in_parentheses (W.token f (tests us (c ∷ rest) y p (parts.token k.RightParen ∷ ps) (W.token g w)))
+  operand_tells ts rest y (G.parenthesized {o = o} {c = c} {ts = us} {x = x} f p g h) ps w = go (sees k.Dot rest) h
+    where
+      written : Writes (parts.token k.LeftParen ∷ parts.expr x ∷ parts.token k.RightParen ∷ ps) (o ∷ us)
+      written = W.token f (tests us (c ∷ rest) x p (parts.token k.RightParen ∷ ps) (W.token g w))
+
+      go : (b : Bool) → y ≡ parenthesized_of b x → Writes (parts.expr y ∷ ps) (o ∷ us)
+      go true h = made_expr (ap out-Expr h ∙ L.out-Primary x []) written
+      go false h = same_expr h (W.in_parentheses written)
   operand_tells ts rest y (G.a_tuple {c = c} {ts = us} {mid = mid} {x = x} {xs = xs} f p g q h) ps w = made_expr (ap out-Expr h ∙ L.out-Tuple (x ∷ xs))
       (W.token f (tests us (c ∷ mid) x p (parts.token k.Comma ∷ listed k.Comma parts.expr xs (parts.token k.RightParen ∷ ps)) (W.token g (listed_tells parts.expr T tests k.RightParen mid rest xs q ps w))))
   operand_tells ts rest y (G.a_list {ts = us} {xs = xs} f q h) ps w = made_expr (ap out-Expr h ∙ L.out-List xs) (W.token f (listed_tells parts.expr T tests k.RightBracket us rest xs q ps w))

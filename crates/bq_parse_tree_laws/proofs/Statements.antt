@@ -45,7 +45,7 @@ indexed_tells depth ts rest y (S.indexed {o = o} c {mid = mid} {us = us} x xs i 
 item_tells : (depth : ℕ) (X : Phrase TargetExpr) → Tells parts.target X → Tells parts.target (IsItemOver depth X)
 item_tells depth X inner ts rest y (S.name {t = t} f g) ps w = made_target (ap out-TargetExpr g ∙ L.out-target_Name (identifier t)) (W.word f refl w)
 item_tells depth X inner ts rest y (S.index p) ps w = indexed_tells depth ts rest y p ps w
-item_tells depth X inner ts rest y (S.parenthesized {c = c} {ts = us} f p g) ps w =
+item_tells depth X inner ts rest y (S.parenthesized {c = c} {ts = us} f p g h) ps w =
     W.target_in_parentheses (W.token f (inner us (c ∷ rest) y p (parts.token k.RightParen ∷ ps) (W.token g w)))
 item_tells depth X inner ts rest y (S.tuple {c = c} {ts = us} {mid = mid} {x = x} {xs = xs} f p g q h) ps w = made_target (ap out-TargetExpr h ∙ L.out-target_Tuple (x ∷ xs))
     (W.token f (inner us (c ∷ mid) x p (parts.token k.Comma ∷ listed k.Comma parts.target xs (parts.token k.RightParen ∷ ps)) (W.token g (listed_tells parts.target X inner k.RightParen mid rest xs q ps w))))

@@ -39,7 +39,7 @@ indexed_within depth ts rest y (S.indexed {o = o} c {mid = mid} {us = us} x xs i
 item_within : (depth n : ℕ) (X : Phrase TargetExpr) → 14 * depth + 3 ≤ n + 1 → Within target_depth n X → Within target_depth (n + 1) (IsItemOver depth X)
 item_within depth n X wide inner ts rest y (S.name {t = t} f g) = let e : target_depth y ≡ 1 = ap target_depth g ∙ D.depth-target_Name (identifier t) in omega arith
 item_within depth n X wide inner ts rest y (S.index p) = let a : target_depth y ≤ 14 * depth + 3 = indexed_within depth ts rest y p in omega arith
-item_within depth n X wide inner ts rest y (S.parenthesized {c = c} {ts = us} f p g) = let a : target_depth y ≤ n = inner us (c ∷ rest) y p in omega arith
+item_within depth n X wide inner ts rest y (S.parenthesized {c = c} {ts = us} f p g h) = let a : target_depth y ≤ n = inner us (c ∷ rest) y p in omega arith
 item_within depth n X wide inner ts rest y (S.tuple {c = c} {ts = us} {mid = mid} {x = x} {xs = xs} f p g q h) =
     let e : target_depth y ≡ max (target_depth x) (deepest (map target_depth xs)) + 1 = ap target_depth h ∙ D.depth-target_Tuple (x ∷ xs) in
     let a : target_depth x ≤ n = inner us (c ∷ mid) x p in

@@ -157,7 +157,9 @@ expr_parts_by (Expr-F.Expr::Tuple (x ∷ xs)) more = token k.LeftParen ∷ expr 
 expr_parts_by (Expr-F.Dict ps) more = token k.LeftBrace ∷ listed k.Comma pair ps (token k.RightBrace ∷ more)
 expr_parts_by (Expr-F.ListComprehension x cs) more = token k.LeftBracket ∷ expr x ∷ row clause cs (token k.RightBracket ∷ more)
 expr_parts_by (Expr-F.DictComprehension p cs) more = token k.LeftBrace ∷ pair p ∷ row clause cs (token k.RightBrace ∷ more)
-expr_parts_by (Expr-F.Primary x xs) more = expr x ∷ row suffix xs more
+-- an operand to which nothing is done stands in parentheses
+expr_parts_by (Expr-F.Primary x []) more = token k.LeftParen ∷ expr x ∷ token k.RightParen ∷ more
+expr_parts_by (Expr-F.Primary x (y ∷ ys)) more = expr x ∷ row suffix (y ∷ ys) more
 expr_parts_by (Expr-F.Unary os x) more = row unary os (expr x ∷ more)
 expr_parts_by (Expr-F.Binary x os) more = expr x ∷ row operation os more
 expr_parts_by (Expr-F.Compare x o y) more = expr x ∷ comparison o (expr y ∷ more)

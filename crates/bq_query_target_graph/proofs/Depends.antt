@@ -91,7 +91,7 @@ label_at_number [] b t d e = absurd (no_target t e)
 label_at_number (x ∷ ts) zero t d e = (omega arith, ap (λ (z : Target). z.label) (same_target x t e))
 label_at_number (x ∷ ts) (suc b) t d e = let r = label_at_number ts b t d e in (omega (arith, r.0), r.1)
 
-the_number : (ts : List Target) (b : ℕ) (t : Target) → IsDistinct same_label (labels_of ts) → slice_get ts b ≡ Some t → position (same_label t.label) (labels_of ts) ≡ Some b
+pub the_number : (ts : List Target) (b : ℕ) (t : Target) → IsDistinct same_label (labels_of ts) → slice_get ts b ≡ Some t → position (same_label t.label) (labels_of ts) ≡ Some b
 the_number ts b t d e =
     let ls : List LabelParts = labels_of ts in
     let r = label_at_number ts b t t.label e in

@@ -1,7 +1,7 @@
 -- The list of edges has just the dependencies of targets.
-use Rattle.std.proofs.Common.{◌≡◌, ◌<◌, ◌≤◌, ◌+◌, ◌∙◌, ℕ, false, List, [], ◌∷◌, ◌++◌, Option, length, take, drop, position, get_or, refl, sym, ap, subst, append_assoc, append-nil}
-use Rattle.std.specs.List.{flat_map, IsDistinct}
-use Rattle.std.proofs.lemmas.List.{drop_more, drop_all, take-append-drop, map-append}
+use Rattle.std.proofs.Common.{◌≡◌, ◌<◌, ◌≤◌, ◌+◌, ◌∙◌, ℕ, List, [], ◌∷◌, ◌++◌, Option, length, take, drop, position, get_or, refl, sym, ap, append_assoc, append-nil}
+use Rattle.std.specs.List.{flat_map}
+use Rattle.std.proofs.lemmas.List.{drop_more, drop_all}
 use Rattle.std.proofs.lemmas.List.Concat.{flat_map-append}
 use Rattle.bq_label.specs.Label.{LabelParts}
 use Rattle.bq_query_graph.specs.declared.edge.Edge.{Edge}
@@ -13,23 +13,9 @@ use Rattle.bq_package_target.specs.declared.target.TargetKind.TheVariants as k
 use Rattle.bq_package_target.specs.Value.{labels_in}
 use Rattle.bq_package_target.specs.Value.{labels_of as value_labels}
 use Rattle.bq_package_target.specs.Target.{dependencies, dependencies_by}
-use Rattle.bq_label_set.specs.Labels.{same_label, has_label, with_label}
-use Rattle.bq_label_set.proofs.Added.{new_label, free_before}
-use Rattle.bq_query_target_graph.specs.Order.{labels_of}
+use Rattle.bq_label_set.specs.Labels.{same_label}
 use Rattle.bq_query_target_graph.specs.Edges.{edge_by, edges_to, edges_from}
 use Rattle.bq_query_target_graph.proofs.Lists.{next_taken}
-
--- ---- the labels of targets, numbered
-
-pub label_next : (ts : List Target) (i : ℕ) (t : Target) (ls now : List LabelParts) → i < length ts → t ≡ get_or ts i t → IsDistinct same_label (labels_of ts) → ls ≡ labels_of (take i ts) → now ≡ with_label ls t.label → now ≡ labels_of (take (i + 1) ts)
-label_next ts i t ls now h e d f n =
-    let rest : drop i ts ≡ t ∷ drop (i + 1) ts = drop_more ts i t h ∙ ap (λ (z : Target). z ∷ drop (i + 1) ts) (sym e) in
-    let split : labels_of ts ≡ labels_of (take i ts) ++ (t.label ∷ labels_of (drop (i + 1) ts)) =
-    ap labels_of (sym (take-append-drop i ts)) ∙ (map-append (λ (z : Target). z.label) (take i ts) (drop i ts) ∙ ap (λ (z : List Target). labels_of (take i ts) ++ labels_of z) rest) in
-    let free : has_label ls t.label ≡ false =
-    ap (λ (z : List LabelParts). has_label z t.label) f ∙ free_before (labels_of (take i ts)) (labels_of (drop (i + 1) ts)) t.label (subst (λ (z : List LabelParts). IsDistinct same_label z) split d) in
-    let added : with_label ls t.label ≡ ls ++ t.label ∷ [] = new_label ls t.label free in
-    n ∙ (added ∙ (ap (λ (z : List LabelParts). z ++ t.label ∷ []) f ∙ (sym (map-append (λ (z : Target). z.label) (take i ts) (t ∷ [])) ∙ ap labels_of (sym (next_taken ts i t h e)))))
 
 -- ---- the steps of the walk
 

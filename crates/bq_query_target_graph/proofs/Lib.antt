@@ -2,6 +2,7 @@ pub mod Lists
 pub mod Ascends
 pub mod EdgeWalks
 pub mod Depends
+pub mod Places
 pub mod Whole
 pub mod Danglings
 pub mod Inside

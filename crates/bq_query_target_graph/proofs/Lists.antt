@@ -1,10 +1,10 @@
 -- Lists that are walked along, and lists of which no two elements are equal.
-use Rattle.std.proofs.Common.{◌≡◌, ◌<◌, ◌+◌, ◌∙◌, ℕ, zero, suc, Bool, false, List, [], ◌∷◌, ◌++◌, length, take, map, reverse, get_or, set, sym, ap, subst, arith, append_assoc}
+use Rattle.std.proofs.Common.{◌≡◌, ◌<◌, ◌+◌, ◌∙◌, ℕ, zero, suc, Bool, false, List, [], ◌∷◌, ◌++◌, length, take, get_or, set, sym, ap, subst, arith, append_assoc}
 use Rattle.std.proofs.lemmas.List.Elements.{All-cons}
 use Rattle.std.specs.List.{All, AllByRecursion, IsDistinct, flat_map, swap}
 use Rattle.std.specs.List.Sorted.{IsPermutation}
 use Rattle.std.proofs.lemmas.List.{take_more}
-use Rattle.std.proofs.lemmas.List.Sorted.{IsPermutation-refl, IsPermutation-trans, IsPermutation-keeps, IsPermutation-append_left, IsPermutation-append_right, IsPermutation-append_comm, IsPermutation-reverse}
+use Rattle.std.proofs.lemmas.List.Sorted.{IsPermutation-refl, IsPermutation-trans, IsPermutation-keeps, IsPermutation-append_left, IsPermutation-append_right, IsPermutation-append_comm}
 use Rattle.std.proofs.lemmas.Map.Keys.{IsDistinct-head, IsDistinct-tail, IsDistinct-cons}
 
 pub next_taken : {X : Type 0} (xs : List X) (i : ℕ) (x : X) → i < length xs → x ≡ get_or xs i x → take (i + 1) xs ≡ take i xs ++ x ∷ []
@@ -51,11 +51,11 @@ module _ {X Y : Type 0} (f : X → List Y) where
   permuted_parts xs ys s =
       IsPermutation-keeps xs (λ l. IsPermutation (flat_map f xs) (flat_map f l)) (IsPermutation-refl (flat_map f xs)) (λ l i j p q h. IsPermutation-trans _ _ _ h (swapped l i j p q)) ys s
 
--- a part that was turned around, put in order and appended
-pub appended : {X : Type 0} (all targets part sorted now : List X) → part ≡ reverse targets → IsPermutation part sorted → now ≡ all ++ sorted → IsPermutation (all ++ targets) now
+-- a part that was put in order and appended
+pub appended : {X : Type 0} (all targets part sorted now : List X) → part ≡ targets → IsPermutation part sorted → now ≡ all ++ sorted → IsPermutation (all ++ targets) now
 appended {X} all targets part sorted now e s n =
-    let turned : IsPermutation targets part = subst (λ (z : List X). IsPermutation targets z) (sym e) (IsPermutation-reverse targets) in
-    subst (λ (z : List X). IsPermutation (all ++ targets) z) (sym n) (IsPermutation-append_right all _ _ (IsPermutation-trans _ _ _ turned s))
+    let moved : IsPermutation targets sorted = subst (λ (z : List X). IsPermutation z sorted) e s in
+    subst (λ (z : List X). IsPermutation (all ++ targets) z) (sym n) (IsPermutation-append_right all _ _ moved)
 
 -- ---- one step along a list that is moved out of
 

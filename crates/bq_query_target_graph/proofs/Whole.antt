@@ -1,10 +1,10 @@
 -- The graph of packages is made of their targets in order, and of the edges between them.
-use Rattle.std.proofs.Common.{◌≡◌, ◌∙◌, ℕ, List, [], ◌∷◌, length, map, sym, ap, subst}
+use Rattle.std.proofs.Common.{◌≡◌, ℕ, List, [], ◌∷◌, length, map, sym, subst}
 use Rattle.std.specs.List.{All, AllByRecursion}
 use Rattle.std.specs.declared.cmp.Ordering.TheVariants.{Less}
 use Rattle.std.specs.List.Sorted.{IsPermutation, IsSorted, IsStrictlySortedBy}
 use Rattle.std.proofs.lemmas.List.Sorted.{IsPermutation-trans, IsPermutation-sym, All-permutation}
-use Rattle.bq_label.specs.Label.{PackageParts, LabelParts, IsLabel}
+use Rattle.bq_label.specs.Label.{PackageParts, IsLabel}
 use Rattle.bq_label.specs.Packages.{id_cmp}
 use Rattle.bq_query_graph.specs.declared.edge.Edge.{Edge}
 use Rattle.bq_query_graph.specs.Edges.{AreBetween, HasPairsOf}
@@ -60,6 +60,5 @@ module _ (ps : List PackageTargets) (o : PackagesAscend ps) (ts : List Target) (
         (λ p. edges.0 (pairs.0 p), λ d. pairs.1 (edges.1 d));
   }
 
-pub edges_between : (ts : List Target) → IsStrictlySortedBy target_cmp ts → (ls : List LabelParts) → ls ≡ labels_of ts → (es : List Edge) → es ≡ edges_from ls 0 ts → AreBetween (length ts) es
-edges_between ts s ls l es n =
-    subst (λ (z : List Edge). AreBetween (length ts) z) (sym (n ∙ ap (λ (z : List LabelParts). edges_from z 0 ts) l)) (are_between ts (distinct_from_order ts s))
+pub edges_between : (ts : List Target) → IsStrictlySortedBy target_cmp ts → (es : List Edge) → es ≡ edges_from (labels_of ts) 0 ts → AreBetween (length ts) es
+edges_between ts s es n = subst (λ (z : List Edge). AreBetween (length ts) z) (sym n) (are_between ts (distinct_from_order ts s))

@@ -6,7 +6,7 @@ ghost use Rattle.bq_query_graph.specs.Edges.{HasPairsOf};
 ghost use Rattle.bq_query_target_graph.specs.Order.{target_cmp, id_of, PackagesAscend, targets_of, labels_of};
 ghost use Rattle.bq_query_target_graph.specs.Edges.{edges_from, IsGraphOf};
 
-use crate::edges::{edges, labels};
+use crate::edges::edges;
 use crate::graph::TargetGraph;
 use crate::order::{Flat, flatten, sorted, valid};
 use bq_package_target::{Package, Target};
@@ -31,8 +31,7 @@ fn graph_of(alloc: Global, targets: &[Target]) -> Result<DependencyGraph, AllocE
     requires { IsStrictlySortedBy target_cmp targets.now }
     ensures { IfOk result (λ g. HasPairsOf (length targets.now) (edges_from (labels_of targets.now) 0 targets.now) g) }
 {
-    let labels = labels(alloc, targets)?;
-    let edges = edges(alloc, &labels, targets)?;
+    let edges = edges(alloc, targets)?;
     DependencyGraph::new(alloc, targets.len(), &edges)
 }
 

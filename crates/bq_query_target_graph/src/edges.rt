@@ -8,35 +8,31 @@ ghost use Rattle.bq_package_target.specs.Target.{dependencies};
 ghost use Rattle.bq_query_target_graph.specs.Order.{target_cmp, labels_of};
 ghost use Rattle.bq_query_target_graph.specs.Edges.{edges_to, edges_from};
 
+use crate::numbers::Numbers;
 use bq_label::Label;
-use bq_label_set::LabelSet;
 use bq_package_rule_class::AttributeValue;
 use bq_package_target::{GivenAttribute, Target, TargetKind};
 use bq_query_graph::Edge;
 use std::alloc::{AllocError, Global};
 
-/// Returns the labels of targets in order, each with its target's number.
-pub fn labels(alloc: Global, targets: &[Target]) -> Result<LabelSet, AllocError>
-    requires { IsStrictlySortedBy target_cmp targets.now }
-    ensures { IfOk result (λ ls. ls ≡ labels_of targets.now) }
-{
-    let mut labels = LabelSet::new(alloc);
-    for target in targets {
-        labels.add(&target.label)?;
+/// The number after the one that the last edge leads to: lists of labels are mostly sorted, so it is likely the next one's.
+fn next_number(edges: &[Edge]) -> usize {
+    match edges.last() {
+        Some(edge) => edge.to.saturating_add(1),
+        None => 0,
     }
-    Ok(labels)
 }
 
 /// Appends the edge to the target that a label names, if there is one.
 fn add_edge(
-    labels: &LabelSet,
+    labels: &Numbers<'_>,
     from: usize,
     label: &Label,
     edges: &mut Vec<Edge>,
 ) -> Result<(), AllocError>
     ensures { OnOk result (edges.new.items ≡ edges.old.items ++ edges_to labels.now from (label.now ∷ [])) }
 {
-    match labels.number(label)? {
+    match labels.number(next_number(edges), label) {
         None => Ok(()),
         Some(to) => {
             edges.push(Edge { from, to })?;
@@ -46,7 +42,7 @@ fn add_edge(
 }
 
 fn add_edges(
-    labels: &LabelSet,
+    labels: &Numbers<'_>,
     from: usize,
     named: &[Label],
     edges: &mut Vec<Edge>,
@@ -61,7 +57,7 @@ fn add_edges(
 
 /// Appends the edges to the targets that the value of an attribute names.
 fn add_value(
-    labels: &LabelSet,
+    labels: &Numbers<'_>,
     from: usize,
     value: &AttributeValue,
     edges: &mut Vec<Edge>,
@@ -76,7 +72,7 @@ fn add_value(
 }
 
 fn add_attributes(
-    labels: &LabelSet,
+    labels: &Numbers<'_>,
     from: usize,
     attributes: &[GivenAttribute],
     edges: &mut Vec<Edge>,
@@ -92,7 +88,7 @@ fn add_attributes(
 /// Appends the edges from a target.
 #[tactic(auto, unfolding(bq_package_target::specs::Target::dependencies))]
 fn add_target(
-    labels: &LabelSet,
+    labels: &Numbers<'_>,
     from: usize,
     target: &Target,
     edges: &mut Vec<Edge>,
@@ -105,14 +101,17 @@ fn add_target(
     }
 }
 
-/// Returns the edges between targets whose labels have these numbers.
-pub fn edges(alloc: Global, labels: &LabelSet, targets: &[Target]) -> Result<Vec<Edge>, AllocError>
-    ensures { IfOk result (λ es. es.items ≡ edges_from labels.now 0 targets.now) }
+/// The edges between targets, by their numbers.
+pub fn edges(alloc: Global, targets: &[Target]) -> Result<Vec<Edge>, AllocError>
+    requires { IsStrictlySortedBy target_cmp targets.now }
+    ensures { IfOk result (λ es. es.items ≡ edges_from (labels_of targets.now) 0 targets.now) }
 {
+    let mut labels = Numbers::of(targets);
     let mut edges = Vec::new(alloc);
     let mut from = 0;
     for target in targets {
-        add_target(labels, from, target, &mut edges)?;
+        labels.enter(from);
+        add_target(&labels, from, target, &mut edges)?;
         from += 1;
     }
     Ok(edges)

@@ -1,13 +1,13 @@
 //! The packages of a workspace come in; the graph of their targets goes out, and a fault line for each label that names none.
 //!
-//! The promise: the targets are those of all packages in the order of their labels, so that a target's number orders
-//! it; an edge leads from one to another exactly if the first depends on the second (`specs/Edges.antt`). A label of
-//! another package that names no target there is fault F79 (`specs/Dangling.antt`). It takes time n log n in the
-//! targets and linear in the labels that they name.
+//! The promise: the targets are those of all packages in the order of their labels, so that a target's number orders it; an edge leads
+//! from one to another exactly where the first depends on the second (`specs/Edges.antt`). A label of another package that names no
+//! target there is fault F79 (`specs/Dangling.antt`). It takes time n log n in the targets and in the labels that they name.
 //!
 //! In reading order:
 //!
 //! - `order`: the targets of all packages in order;
+//! - `numbers`: the number of a label;
 //! - `edges`: which targets depend on which;
 //! - `graph`, `build`: the graph, and how it is made of packages;
 //! - `own`: targets that name labels of their own package alone;
@@ -18,6 +18,7 @@ mod build;
 mod dangling;
 mod edges;
 mod graph;
+mod numbers;
 mod order;
 mod own;
 

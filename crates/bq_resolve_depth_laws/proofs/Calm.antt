@@ -1,34 +1,35 @@
--- Walks that never have the fault F11.
-use Rattle.std.proofs.Common.{◌≢◌, ◌≤◌, ℕ, Bool, true, false, List, [], ◌∷◌, ◌++◌, map, Option, Some, None, Result, Ok, Err, arith}
+-- Walks whose faults are of names alone, so none is F11.
+use Rattle.std.proofs.Common.{◌≡◌, ◌≤◌, refl, ℕ, Bool, true, false, List, [], ◌∷◌, ◌++◌, map, Option, Some, None, Result, Ok, Err, arith}
 use Rattle.std.specs.Prelude.{if◌then◌else◌}
 use Rattle.bq_base.specs.declared.fault.Fault.{Fault}
 use Rattle.bq_base.specs.declared.fault.FaultKind.TheVariants as f
 use Rattle.bq_parse_tree_laws.specs.Depth.{deepest}
+use Rattle.bq_resolve_depth_laws.specs.Nesting.{is_of_names}
 use Rattle.bq_resolve_scope.specs.Visit.{Passed, Visit, following, ◌>>=◌, pure, stop, given, each, optional}
 
 abbrev pub IsCalm : {A : Type 0} → Result (A × Passed) Fault → Type 0
 IsCalm (Ok p) = Unit {0}
-IsCalm (Err why) = why.kind ≢ f.Nesting
+IsCalm (Err why) = is_of_names why.kind ≡ true
 
 abbrev pub Calm : {A : Type 0} → Visit A → Type 0
 Calm {A = A} v = (s : Passed) → IsCalm {A = A} (v s)
 
--- ---- faults that are another
+-- ---- faults of names
 
-pub unknown_is_other : f.UnknownName ≢ f.Nesting
-unknown_is_other e = let no : ⊥ = cc in no
+pub unknown_is_named : is_of_names f.UnknownName ≡ true
+unknown_is_named = refl
 
-pub rebound_is_other : f.Rebound ≢ f.Nesting
-rebound_is_other e = let no : ⊥ = cc in no
+pub rebound_is_named : is_of_names f.Rebound ≡ true
+rebound_is_named = refl
 
-pub twice_is_other : f.BoundTwice ≢ f.Nesting
-twice_is_other e = let no : ⊥ = cc in no
+pub twice_is_named : is_of_names f.BoundTwice ≡ true
+twice_is_named = refl
 
-pub flow_is_other : f.BadFlow ≢ f.Nesting
-flow_is_other e = let no : ⊥ = cc in no
+pub flow_is_named : is_of_names f.BadFlow ≡ true
+flow_is_named = refl
 
-pub double_is_other : f.DoubleParameter ≢ f.Nesting
-double_is_other e = let no : ⊥ = cc in no
+pub double_is_named : is_of_names f.DoubleParameter ≡ true
+double_is_named = refl
 
 -- ---- walks
 
@@ -51,16 +52,16 @@ pub calm_three : {A B C D : Type 0} (v : Visit A) (u : Visit B) (w : Visit C) (m
     → Calm {A = D} (v >>= λ x. u >>= λ y. w >>= λ z. pure (make x y z))
 calm_three v u w make first second third = calm_bind v (λ x. u >>= λ y. w >>= λ z. pure (make x y z)) first (λ x. calm_two u w (make x) second third)
 
-pub calm_given : {A : Type 0} (why : Fault) (o : Option A) → why.kind ≢ f.Nesting → Calm {A = A} (given why o)
+pub calm_given : {A : Type 0} (why : Fault) (o : Option A) → is_of_names why.kind ≡ true → Calm {A = A} (given why o)
 calm_given why None h s = h
 calm_given why (Some x) h s = tt
 
 -- a fault, or what is made
-pub calm_if : {A : Type 0} (b : Bool) (why : Fault) (p : A × Passed) → why.kind ≢ f.Nesting → IsCalm {A = A} (if b then Err why else Ok p)
+pub calm_if : {A : Type 0} (b : Bool) (why : Fault) (p : A × Passed) → is_of_names why.kind ≡ true → IsCalm {A = A} (if b then Err why else Ok p)
 calm_if true why p h = h
 calm_if false why p h = tt
 
-pub calm_choice : {A : Type 0} (b : Bool) (why : Fault) (x : A) (u : Passed) → why.kind ≢ f.Nesting → IsCalm {A = A} (let go : Visit A = if b then stop why else pure x in go u)
+pub calm_choice : {A : Type 0} (b : Bool) (why : Fault) (x : A) (u : Passed) → is_of_names why.kind ≡ true → IsCalm {A = A} (let go : Visit A = if b then stop why else pure x in go u)
 calm_choice true why x u h = h
 calm_choice false why x u h = tt
 

@@ -1,4 +1,4 @@
--- Expressions that are not too deep never have the fault F11.
+-- Expressions that are not too deep have faults of names alone.
 use Rattle.std.proofs.Common.{◌≤◌, ℕ, zero, suc, ◌+◌, ◌&&◌, ◌||◌, List, [], ◌∷◌, map, length, Option, Some, None, Result, Ok, Err, arith}
 use Rattle.bq_base.specs.declared.fault.Fault.{Fault}
 use Rattle.bq_base.specs.declared.fault.FaultKind.TheVariants as f
@@ -34,14 +34,14 @@ use Rattle.bq_resolve_scope.specs.Visit.{Passed, Visit, ◌>>=◌, pure, given, 
 use Rattle.bq_resolve_scope.specs.Expressions.{place_of, is_bzl, bind_global, bind_in, framed, in_frame, member_by, member_call, namespace_at, use_at, name_target, target_by, target_to, pair, operation, choice, argument_by, arguments, suffix_by, suffixes, operand, call_member, primary_by, primary, clause_by, clauses, in_block, comprehension, expr_by, expr_to}
 use Rattle.bq_parse_tree_laws.specs.Depth.{deepest, expr_depth, target_depth, argument_depth, clause_depth, suffix_depth, choice_depth, operation_depth, pair_depth}
 use Rattle.bq_resolve_depth_laws.proofs.Layers.{part_depth, argument_layer, clause_layer, suffix_layer, target_layer, expr_layer, opened_argument, opened_clause, opened_suffix, opened_target, target_has_depth, opened_expr, expr_has_depth, opened_pair, opened_operation, opened_choice}
-use Rattle.bq_resolve_depth_laws.proofs.Calm.{IsCalm, Calm, unknown_is_other, rebound_is_other, calm_bind, calm_map, calm_two, calm_three, calm_given, calm_if, calm_each}
+use Rattle.bq_resolve_depth_laws.proofs.Calm.{IsCalm, Calm, unknown_is_named, rebound_is_named, calm_bind, calm_map, calm_two, calm_three, calm_given, calm_if, calm_each}
 
 -- ---- names
 
 global_calm : (kind : FileKind) (m : Identifier) → Calm (bind_global kind m)
 unfolding bind_global
 global_calm kind m u =
-    calm_if (is_bzl kind && (has u.bound m.name || has u.loaded m.name)) (fault_of f.Rebound m) (tt, record u { bound = with_name u.bound m.name }) rebound_is_other
+    calm_if (is_bzl kind && (has u.bound m.name || has u.loaded m.name)) (fault_of f.Rebound m) (tt, record u { bound = with_name u.bound m.name }) rebound_is_named
 
 bind_calm : (kind : FileKind) (blocks : List BlockParts) (m : Identifier) → Calm (bind_in kind blocks m)
 bind_calm kind [] m = global_calm kind m
@@ -51,11 +51,11 @@ pub name_calm : (file : FileParts) (blocks : List BlockParts) (m : Identifier) �
 unfolding name_target
 name_calm file blocks m =
     calm_bind (bind_in file.universe.kind blocks m) (λ _. given (fault_of f.UnknownName m) (place_of (use_of file blocks m.name))) (bind_calm file.universe.kind blocks m)
-    (λ _. calm_given (fault_of f.UnknownName m) (place_of (use_of file blocks m.name)) unknown_is_other)
+    (λ _. calm_given (fault_of f.UnknownName m) (place_of (use_of file blocks m.name)) unknown_is_named)
 
 use_calm : (file : FileParts) (blocks : List BlockParts) (m : Identifier) → Calm (use_at file blocks m)
 unfolding use_at
-use_calm file blocks m = calm_given (fault_of f.UnknownName m) (use_of file blocks m.name) unknown_is_other
+use_calm file blocks m = calm_given (fault_of f.UnknownName m) (use_of file blocks m.name) unknown_is_named
 
 -- ---- frames
 
@@ -150,7 +150,7 @@ module _ (file : FileParts) (n : ℕ) (visit : List BlockParts → Expr → Visi
   member_calm blocks space m xs ss h k =
       calm_bind (given (fault_of f.UnknownName m) (member_named space file.universe.rules m.name))
       (λ p. arguments file visit blocks xs >>= λ ys. suffixes file visit blocks (s.Call ys ∷ []) ss >>= λ ts. pure (c.Primary (c.Member p) ts))
-      (calm_given (fault_of f.UnknownName m) (member_named space file.universe.rules m.name) unknown_is_other)
+      (calm_given (fault_of f.UnknownName m) (member_named space file.universe.rules m.name) unknown_is_named)
       (λ p. calm_bind (arguments file visit blocks xs) (λ ys. suffixes file visit blocks (s.Call ys ∷ []) ss >>= λ ts. pure (c.Primary (c.Member p) ts)) (arguments_calm blocks xs h)
       (λ ys. calm_map (suffixes file visit blocks (s.Call ys ∷ []) ss) (λ ts. c.Primary (c.Member p) ts) (suffixes_calm blocks (s.Call ys ∷ []) ss k)))
 

@@ -1,5 +1,5 @@
--- Files whose statements are not too deep never have the fault F11.
-use Rattle.std.proofs.Common.{◌≡◌, ◌≢◌, ◌≤◌, ℕ, false, List, [], ◌∷◌, ◌++◌, map, length, Result, Ok, Err, subst, arith}
+-- Files whose statements are not too deep have faults of names alone, so none is F11.
+use Rattle.std.proofs.Common.{◌≡◌, ◌≤◌, ℕ, true, false, List, [], ◌∷◌, ◌++◌, map, length, Result, Ok, Err, subst, arith}
 use Rattle.std.specs.List.{AllByRecursion}
 use Rattle.bq_base.specs.declared.fault.Fault.{Fault}
 use Rattle.bq_base.specs.declared.fault.FaultKind.TheVariants as f
@@ -23,9 +23,9 @@ use Rattle.bq_resolve_scope.specs.Expressions.{name_target}
 use Rattle.bq_resolve_scope.specs.Statements.{ParameterParts, no_parameters, expr, small_stmt, stmt_to, named_parameter, default_parameter, next_parameter, parameters, statements_in, with_function, function}
 use Rattle.bq_resolve_scope.specs.Files.{file_names, def_stmt, file_stmt, top_level, resolved_by, resolved}
 use Rattle.bq_parse_tree_laws.specs.Depth.{deepest, max_depth, expr_depth, parameter_depth, small_depth, stmt_depth}
-use Rattle.bq_resolve_depth_laws.specs.Nesting.{NoFileIsTooDeep}
+use Rattle.bq_resolve_depth_laws.specs.Nesting.{is_of_names, FaultsAreOfNames, NoFileIsTooDeep}
 use Rattle.bq_resolve_depth_laws.proofs.Layers.{stmt_layer, opened_stmt}
-use Rattle.bq_resolve_depth_laws.proofs.Calm.{IsCalm, Calm, flow_is_other, double_is_other, calm_bind, calm_map, calm_choice, calm_each}
+use Rattle.bq_resolve_depth_laws.proofs.Calm.{IsCalm, Calm, flow_is_named, double_is_named, calm_bind, calm_map, calm_choice, calm_each}
 use Rattle.bq_resolve_depth_laws.proofs.Expressions.{name_calm}
 use Rattle.bq_resolve_depth_laws.proofs.Statements.{an_expr_calm, small_calm, stmt_calm}
 
@@ -40,7 +40,7 @@ module _ (file : FileParts) where
   named_calm : (l : ParameterParts) (n : Identifier) (x : CodeParameter) → Calm (named_parameter file l n x)
   unfolding named_parameter
   named_calm l n x u =
-      calm_choice (has l.names n.name) (fault_of f.DoubleParameter n) (record l { names = l.names ++ n.name ∷ []; parameters = l.parameters ++ x ∷ [] }) u double_is_other
+      calm_choice (has l.names n.name) (fault_of f.DoubleParameter n) (record l { names = l.names ++ n.name ∷ []; parameters = l.parameters ++ x ∷ [] }) u double_is_named
 
   default_calm : (l : ParameterParts) (n : Identifier) (x : Expr) → expr_depth x ≤ max_layers → Calm (default_parameter file l n x)
   unfolding default_parameter
@@ -92,8 +92,8 @@ module _ (file : FileParts) where
   file_stmt_calm : (line : ℕ) (o : Stmt-F Stmt Branch) → stmt_layer o ≤ max_layers → Calm (file_stmt file line o)
   file_stmt_calm line (Stmt-F.Simple xs) h =
       calm_map (each (small_stmt file [] false) [] xs) (λ ys. s.Simple ys) (calm_each small_depth max_layers (small_stmt file [] false) (small_calm file [] false) [] xs (omega arith))
-  file_stmt_calm line (Stmt-F.If bs zs) h = λ u. flow_is_other
-  file_stmt_calm line (Stmt-F.For t x body) h = λ u. flow_is_other
+  file_stmt_calm line (Stmt-F.If bs zs) h = λ u. flow_is_named
+  file_stmt_calm line (Stmt-F.For t x body) h = λ u. flow_is_named
   file_stmt_calm line (Stmt-F.Def n ps body) h = def_calm n ps body (omega arith) (omega arith)
 
   top_level_calm : (t : TopLevel) → stmt_depth t.statement ≤ max_layers → Calm (top_level file t)
@@ -109,14 +109,19 @@ module _ (file : FileParts) where
       let a : stmt_depth t.statement ≤ max_depth = all.0 in
       calm_bind (top_level file t) (λ y. each (top_level file) (done ++ y ∷ []) ts) (top_level_calm t (omega (arith, enough))) (λ y. all_calm ts (done ++ y ∷ []) all.1)
 
-file_by : (file : FileParts) (r : Result (List CodeTopLevel × Passed) Fault) (why : Fault) → IsCalm {A = List CodeTopLevel} r → resolved_by file r ≡ Err why → why.kind ≢ f.Nesting
+file_by : (file : FileParts) (r : Result (List CodeTopLevel × Passed) Fault) (why : Fault) → IsCalm {A = List CodeTopLevel} r → resolved_by file r ≡ Err why → is_of_names why.kind ≡ true
 file_by file (Err w) why h e =
     let same : w ≡ why = cc in
-    let P : Fault → Type 0 = λ z. z.kind ≢ f.Nesting in subst P same h
+    let P : Fault → Type 0 = λ z. is_of_names z.kind ≡ true in subst P same h
 file_by file (Ok p) why h e = absurd (let no : ⊥ = cc in no)
 
-pub none_too_deep : NoFileIsTooDeep
+pub all_of_names : FaultsAreOfNames
 unfolding resolved
-none_too_deep universe ts why all e =
+all_of_names universe ts why all e =
     let file : FileParts = file_names universe ts in
     file_by file (each (top_level file) [] ts nothing_passed) why (all_calm file ts [] all nothing_passed) e
+
+pub none_too_deep : NoFileIsTooDeep
+none_too_deep universe ts why all e same =
+    let named = subst (λ kind. is_of_names kind ≡ true) same (all_of_names universe ts why all e) in
+    absurd (let no : ⊥ = cc in no)

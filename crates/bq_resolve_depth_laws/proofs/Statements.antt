@@ -1,5 +1,5 @@
--- Statements of functions that are not too deep never have the fault F11.
-use Rattle.std.proofs.Common.{◌≢◌, ◌≤◌, ℕ, zero, suc, ◌+◌, Bool, true, false, ◌&&◌, List, [], ◌∷◌, map, Option, Some, None, Ok, Err, arith}
+-- Statements of functions that are not too deep have faults of names alone.
+use Rattle.std.proofs.Common.{◌≡◌, ◌≤◌, ℕ, zero, suc, ◌+◌, Bool, true, false, ◌&&◌, List, [], ◌∷◌, map, Option, Some, None, Ok, Err, arith}
 use Rattle.std.specs.Prelude.{if◌then◌else◌}
 use Rattle.bq_base.specs.declared.fault.Fault.{Fault}
 use Rattle.bq_base.specs.declared.fault.FaultKind.TheVariants as f
@@ -26,11 +26,12 @@ use Rattle.bq_resolve_scope.specs.Visit.{Passed, Visit, ◌>>=◌, pure, fault_o
 use Rattle.bq_resolve_scope.specs.Expressions.{is_bzl, expr_to}
 use Rattle.bq_resolve_scope.specs.Statements.{expr, target, load_clause, with_load, load, assign, augment, returned, load_in, in_loop, small_by, small_stmt, branch, if_stmt, for_stmt, stmt_by, stmt_to}
 use Rattle.bq_parse_tree_laws.specs.Depth.{deepest, expr_depth, target_depth, kind_depth, small_depth, branch_depth, stmt_depth}
+use Rattle.bq_resolve_depth_laws.specs.Nesting.{is_of_names}
 use Rattle.bq_resolve_depth_laws.proofs.Layers.{stmt_layer, opened_stmt, stmt_has_depth, opened_branch}
-use Rattle.bq_resolve_depth_laws.proofs.Calm.{IsCalm, Calm, rebound_is_other, twice_is_other, flow_is_other, calm_bind, calm_map, calm_two, calm_three, calm_all, calm_each}
+use Rattle.bq_resolve_depth_laws.proofs.Calm.{IsCalm, Calm, rebound_is_named, twice_is_named, flow_is_named, calm_bind, calm_map, calm_two, calm_three, calm_all, calm_each}
 use Rattle.bq_resolve_depth_laws.proofs.Expressions.{expr_calm, target_calm}
 
-clause_by : (b d : Bool) (why rebound : Fault) (p : LoadedSymbol × Passed) → why.kind ≢ f.Nesting → rebound.kind ≢ f.Nesting
+clause_by : (b d : Bool) (why rebound : Fault) (p : LoadedSymbol × Passed) → is_of_names why.kind ≡ true → is_of_names rebound.kind ≡ true
     → IsCalm {A = LoadedSymbol} (if b then Err why else (if d then Err rebound else Ok p))
 clause_by true d why rebound p h k = h
 clause_by false true why rebound p h k = k
@@ -51,7 +52,7 @@ module _ (file : FileParts) where
   unfolding load_clause
   clause_calm x u =
       clause_by (has u.loaded x.local.name) (is_bzl file.universe.kind && has u.bound x.local.name) (fault_of f.BoundTwice x.local) (fault_of f.Rebound x.local)
-      (record { local = x.local.name; symbol = x.symbol; global = place_among x.local.name file.globals }, record u { loaded = with_name u.loaded x.local.name }) twice_is_other rebound_is_other
+      (record { local = x.local.name; symbol = x.symbol; global = place_among x.local.name file.globals }, record u { loaded = with_name u.loaded x.local.name }) twice_is_named rebound_is_named
 
   load_calm : (line : ℕ) (l : Load) → Calm (load file line l)
   unfolding load
@@ -70,7 +71,7 @@ module _ (file : FileParts) where
 
   returned_calm : (blocks : List BlockParts) (line : ℕ) (x : Option Expr) → kind_depth (small.Return x) ≤ max_layers → Calm (returned file blocks line x)
   unfolding returned
-  returned_calm [] line x h = λ u. flow_is_other
+  returned_calm [] line x h = λ u. flow_is_named
   returned_calm (b ∷ bs) line None h = λ u. tt
   returned_calm (b ∷ bs) line (Some x) h =
       calm_map (optional (expr file (b ∷ bs)) (Some x)) (λ y. c.Return y) (calm_map (expr file (b ∷ bs) x) (λ y. Some y) (an_expr_calm (b ∷ bs) x h))
@@ -78,12 +79,12 @@ module _ (file : FileParts) where
   load_in_calm : (blocks : List BlockParts) (line : ℕ) (l : Load) → Calm (load_in file blocks line l)
   unfolding load_in
   load_in_calm [] line l = load_calm line l
-  load_in_calm (b ∷ bs) line l = λ u. flow_is_other
+  load_in_calm (b ∷ bs) line l = λ u. flow_is_named
 
   in_loop_calm : (looping : Bool) (line : ℕ) (x : CodeSmall) → Calm (in_loop file looping line x)
   unfolding in_loop
   in_loop_calm true line x = λ u. tt
-  in_loop_calm false line x = λ u. flow_is_other
+  in_loop_calm false line x = λ u. flow_is_named
 
   small_by_calm : (blocks : List BlockParts) (looping : Bool) (line : ℕ) (k : SmallKind) → kind_depth k ≤ max_layers → Calm (small_by file blocks looping line k)
   small_by_calm blocks looping line (small.Expr x) h = calm_map (expr file blocks x) (λ y. c.Expr y) (an_expr_calm blocks x h)
@@ -128,7 +129,7 @@ module _ (file : FileParts) where
       calm_map (each (small_stmt file blocks looping) [] xs) (λ ys. s.Simple ys) (calm_each small_depth max_layers (small_stmt file blocks looping) (small_calm blocks looping) [] xs (omega arith))
   stmt_by_calm inner blocks looping m few inners (Stmt-F.If bs zs) h = if_calm (inner looping) blocks m few (inners looping) bs zs (omega arith) (omega arith)
   stmt_by_calm inner blocks looping m few inners (Stmt-F.For t x body) h = for_calm (inner true) blocks m few (inners true) t x body (omega arith) (omega arith) (omega arith)
-  stmt_by_calm inner blocks looping m few inners (Stmt-F.Def n ps body) h = λ u. flow_is_other
+  stmt_by_calm inner blocks looping m few inners (Stmt-F.Def n ps body) h = λ u. flow_is_named
 
   pub stmt_calm : (layers : ℕ) → layers ≤ max_layers → (blocks : List BlockParts) (looping : Bool) (x : Stmt) → stmt_depth x ≤ layers → Calm (stmt_to file layers blocks looping x)
   unfolding stmt_to

@@ -1,8 +1,9 @@
 -- A look-up by name finds what has the name, and nothing else.
-use Rattle.std.proofs.Common.{◌≡◌, ℕ, zero, suc, Bool, true, false, List, [], ◌∷◌, Option, Some, None, refl, sym, ap, subst, codes, bytes_eq, cond}
+use Rattle.std.proofs.Common.{◌≡◌, ℕ, Bool, true, false, List, [], ◌∷◌, Option, Some, None, refl, sym, ap, subst, codes, bytes_eq, cond}
 use Rattle.std.proofs.lemmas.Slice.Eq.{bytes_eq-Decides}
 use Rattle.bq_resolve_predeclared.specs.declared.predeclared.Predeclared.{Predeclared}
 use Rattle.bq_resolve_predeclared.specs.declared.predeclared.Predeclared.TheVariants as p
+use Rattle.bq_resolve_predeclared.specs.declared.host_function.HostFunction.TheVariants as host
 use Rattle.bq_resolve_predeclared.specs.Predeclared.{name_of, predeclared_named, first_named, all_predeclared, is_named, has_name}
 use Rattle.bq_resolve_predeclared.specs.Laws.{EachNameIsFound, NothingElseIsFound}
 
@@ -56,11 +57,11 @@ each_name p.Str name h = found_as p.Str (codes "str") name refl h
 each_name p.Tuple name h = found_as p.Tuple (codes "tuple") name refl h
 each_name p.Type name h = found_as p.Type (codes "type") name refl h
 each_name p.Zip name h = found_as p.Zip (codes "zip") name refl h
-each_name (p.Host zero) name h = found_as (p.Host 0) (codes "glob") name refl h
-each_name (p.Host (suc zero)) name h = found_as (p.Host 1) (codes "package_name") name refl h
-each_name (p.Host (suc (suc zero))) name h = found_as (p.Host 2) (codes "package") name refl h
-each_name (p.Host (suc (suc (suc zero)))) name h = found_as (p.Host 3) (codes "licenses") name refl h
-each_name (p.Host (suc (suc (suc (suc zero))))) name h = found_as (p.Host 4) (codes "exports_files") name refl h
-each_name (p.Host (suc (suc (suc (suc (suc zero)))))) name h = found_as (p.Host 5) (codes "package_group") name refl h
-each_name (p.Host (suc (suc (suc (suc (suc (suc n))))))) name h = cc
+each_name (p.Host host.Glob) name h = found_as (p.Host host.Glob) (codes "glob") name refl h
+each_name (p.Host host.PackageName) name h = found_as (p.Host host.PackageName) (codes "package_name") name refl h
+each_name (p.Host host.Package) name h = found_as (p.Host host.Package) (codes "package") name refl h
+each_name (p.Host host.Licenses) name h = found_as (p.Host host.Licenses) (codes "licenses") name refl h
+each_name (p.Host host.ExportsFiles) name h = found_as (p.Host host.ExportsFiles) (codes "exports_files") name refl h
+each_name (p.Host host.PackageGroup) name h = found_as (p.Host host.PackageGroup) (codes "package_group") name refl h
+each_name (p.Host (host.Rule place)) name h = cc
 each_name (p.RuleFunction f) name h = cc

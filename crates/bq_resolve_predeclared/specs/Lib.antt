@@ -1,3 +1,4 @@
 pub mod RuleFunctions
+pub mod HostFunctions
 pub mod Predeclared
 pub mod Laws

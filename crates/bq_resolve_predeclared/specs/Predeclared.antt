@@ -1,14 +1,11 @@
 -- The predeclared names (Starlark specification, "Built-in constants and functions"; Bazel, Build Encyclopedia, "Functions"), but for
 -- those of rules and of the functions that declare rules.
-use Rattle.std.specs.Prelude.{ℕ, List, [], ◌∷◌, length, Bool, false, ◌&&◌, ◌==◌, Option, Some, None, codes, bytes_eq, slice_get, if◌then◌else◌}
+use Rattle.std.specs.Prelude.{ℕ, List, [], ◌∷◌, length, Bool, false, ◌&&◌, ◌==◌, Option, Some, None, codes, bytes_eq, if◌then◌else◌}
 use Rattle.std.specs.List.{list_any}
 use Rattle.bq_resolve_predeclared.specs.declared.predeclared.Predeclared.{Predeclared}
 use Rattle.bq_resolve_predeclared.specs.declared.predeclared.Predeclared.TheVariants as p
-
--- the build functions, in the order of their ids
-abbrev pub build_functions : List (List ℕ)
-build_functions =
-    codes "glob" ∷ codes "package_name" ∷ codes "package" ∷ codes "licenses" ∷ codes "exports_files" ∷ codes "package_group" ∷ []
+use Rattle.bq_resolve_predeclared.specs.declared.host_function.HostFunction.TheVariants as host
+use Rattle.bq_resolve_predeclared.specs.HostFunctions.{host_function_name}
 
 -- the name that it is looked up by, in the language or as a build function; the functions that declare rules aren't looked up so
 abbrev pub name_of : Predeclared → Option (List ℕ)
@@ -36,15 +33,16 @@ name_of p.Str = Some (codes "str")
 name_of p.Tuple = Some (codes "tuple")
 name_of p.Type = Some (codes "type")
 name_of p.Zip = Some (codes "zip")
-name_of (p.Host id) = slice_get build_functions id
+name_of (p.Host f) = host_function_name f
 name_of (p.RuleFunction f) = None
 
 -- all but the rules and the functions that declare rules
 abbrev pub all_predeclared : List Predeclared
 all_predeclared =
     p.None ∷ p.True ∷ p.False ∷ p.All ∷ p.Any ∷ p.Bool ∷ p.Dict ∷ p.Enumerate ∷ p.Fail ∷ p.Int ∷ p.Len ∷ p.List ∷ p.Max ∷ p.Min
-    ∷ p.Print ∷ p.Range ∷ p.Repr ∷ p.Reversed ∷ p.Select ∷ p.Sorted ∷ p.Str ∷ p.Tuple ∷ p.Type ∷ p.Zip ∷ p.Host 0 ∷ p.Host 1
-    ∷ p.Host 2 ∷ p.Host 3 ∷ p.Host 4 ∷ p.Host 5 ∷ []
+    ∷ p.Print ∷ p.Range ∷ p.Repr ∷ p.Reversed ∷ p.Select ∷ p.Sorted ∷ p.Str ∷ p.Tuple ∷ p.Type ∷ p.Zip
+    ∷ p.Host host.Glob ∷ p.Host host.PackageName ∷ p.Host host.Package ∷ p.Host host.Licenses ∷ p.Host host.ExportsFiles
+    ∷ p.Host host.PackageGroup ∷ []
 
 abbrev pub has_name : List ℕ → Option (List ℕ) → Bool
 has_name name None = false

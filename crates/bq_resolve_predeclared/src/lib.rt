@@ -2,15 +2,18 @@
 //! stands for goes out.
 //!
 //! The promise: one table, in `specs/Predeclared.antt` as in code, says which names there are ([`predeclared_named`]) and what
-//! each is called ([`Predeclared::name`]); the laws say that one undoes the other. The functions that declare rules are a second
-//! table ([`RuleFunction`], [`attr_named`]), since their names are other things elsewhere: `int` is not `attr.int`, and a schema may
-//! name a rule `rule`. Which of them a file of a kind has, `native` and `attr` are for the resolver to say.
+//! each is called ([`Predeclared::name`]); the laws say that one undoes the other. What a host carries out is a [`HostFunction`],
+//! from the resolution of its name to its call. The functions that declare rules are a second table ([`RuleFunction`],
+//! [`attr_named`]), since their names are other things elsewhere: `int` is not `attr.int`, and a schema may name a rule `rule`.
+//! Which of them a file of a kind has, `native` and `attr` are for the resolver to say.
 #![tactic(auto)]
 
+mod host_function;
 mod laws;
 mod predeclared;
 mod rule_function;
 
+pub use host_function::HostFunction;
 pub use laws::{
     each_attr_function_is_found, each_name_is_found, no_other_attr_function_is_found,
     nothing_else_is_found,

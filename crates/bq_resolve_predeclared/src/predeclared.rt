@@ -4,6 +4,7 @@ ghost use Rattle.std.specs.Prelude.{◌≡◌, ◌==◌, ◌&&◌, option_copied
 ghost use Rattle.std.specs.List.{list_any};
 ghost use Rattle.bq_resolve_predeclared.specs.Predeclared.{predeclared_named, first_named, is_named, name_of, has_head};
 
+use crate::host_function::HostFunction;
 use crate::rule_function::RuleFunction;
 
 /// What a predeclared name stands for.
@@ -35,21 +36,11 @@ pub enum Predeclared {
     Tuple,
     Type,
     Zip,
-    /// A function that the host carries out, by its id: 0 to 5 are the build functions, and 6 + r is rule r of the schema.
-    Host(u32),
+    /// A build function or a rule of the schema.
+    Host(HostFunction),
     /// A function that declares rules. It is in no table of names: a .bzl file has `rule` and `attr.NAME`, for the resolver to find.
     RuleFunction(RuleFunction),
 }
-
-/// The build functions, in the order of their ids.
-const BUILD_FUNCTIONS: [&[u8]; 6] = [
-    b"glob",
-    b"package_name",
-    b"package",
-    b"licenses",
-    b"exports_files",
-    b"package_group",
-];
 
 /// All but the rules and the functions that declare rules.
 const PREDECLARED: [Predeclared; 30] = [
@@ -77,12 +68,12 @@ const PREDECLARED: [Predeclared; 30] = [
     Predeclared::Tuple,
     Predeclared::Type,
     Predeclared::Zip,
-    Predeclared::Host(0),
-    Predeclared::Host(1),
-    Predeclared::Host(2),
-    Predeclared::Host(3),
-    Predeclared::Host(4),
-    Predeclared::Host(5),
+    Predeclared::Host(HostFunction::Glob),
+    Predeclared::Host(HostFunction::PackageName),
+    Predeclared::Host(HostFunction::Package),
+    Predeclared::Host(HostFunction::Licenses),
+    Predeclared::Host(HostFunction::ExportsFiles),
+    Predeclared::Host(HostFunction::PackageGroup),
 ];
 
 impl Predeclared {
@@ -116,7 +107,7 @@ impl Predeclared {
             Predeclared::Tuple => Some(b"tuple"),
             Predeclared::Type => Some(b"type"),
             Predeclared::Zip => Some(b"zip"),
-            Predeclared::Host(id) => BUILD_FUNCTIONS.get(id as usize).copied(),
+            Predeclared::Host(function) => function.name(),
             Predeclared::RuleFunction(_) => None,
         }
     }

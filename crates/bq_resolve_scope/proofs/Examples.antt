@@ -107,6 +107,13 @@ attr_names =
       rw (open_primary (named 1 a) (suffix.Method (word 1 (codes "int")) [] ∷ []), open_name (word 1 a), open_method (word 1 (codes "int")) []) refl,
       rw (open_primary (named 1 a) (suffix.Method (word 1 (codes "nope")) [] ∷ []), open_name (word 1 a), open_method (word 1 (codes "nope")) []) refl,
       rw (open_name (word 1 a)) refl,
+      rw (
+        open_primary (e.Primary (named 1 a) []) (suffix.Method (word 1 (codes "int")) [] ∷ []),
+        open_primary (named 1 a) [],
+        open_primary (named 1 a) [],
+        open_name (word 1 a),
+        open_name (word 1 a),
+      ) refl,
       rw (open_primary (named 1 a) (suffix.Method (word 1 (codes "int")) [] ∷ []), open_name (word 1 a), open_name (word 1 a)) refl,
     )
 

@@ -17,6 +17,7 @@ use Rattle.bq_parse_grammar.specs.declared.tree.Stmt.TheVariants as stmt
 use Rattle.bq_parse_grammar.specs.declared.tree.Suffix.TheVariants as suffix
 use Rattle.bq_parse_grammar.specs.declared.tree.TargetExpr.TheVariants as target
 use Rattle.bq_parse_grammar.specs.declared.tree.TopLevel.{TopLevel}
+use Rattle.bq_resolve_predeclared.specs.declared.host_function.HostFunction.TheVariants as host
 use Rattle.bq_resolve_predeclared.specs.declared.predeclared.Predeclared.TheVariants as p
 use Rattle.bq_resolve_predeclared.specs.declared.rule_function.RuleFunction.TheVariants as function
 use Rattle.bq_resolve_scope.specs.declared.code.Binding.TheVariants as binding
@@ -79,6 +80,10 @@ call line name = e.Primary (named line name) (suffix.Call [] ∷ [])
 -- `space.name()`
 abbrev pub member_call : ℕ → List ℕ → List ℕ → Expr
 member_call line space name = e.Primary (named line space) (suffix.Method (word line name) [] ∷ [])
+
+-- `(space).name()`
+abbrev pub parenthesized_call : ℕ → List ℕ → List ℕ → Expr
+parenthesized_call line space name = e.Primary (e.Primary (named line space) []) (suffix.Method (word line name) [] ∷ [])
 
 abbrev pub native_call : ℕ → List ℕ → Expr
 native_call line name = member_call line (codes "native") name
@@ -154,9 +159,9 @@ abbrev pub Rules : Type 0
 Rules =
     let n = codes "filegroup" in
     (resolved build (top 1 (simple 1 (small.Expr (call 1 n))) ∷ [])
-    ≡ of_lines (line_of 1 (called (code.Use (binding.Predeclared (p.Host 6)))) ∷ []) [])
+    ≡ of_lines (line_of 1 (called (code.Use (binding.Predeclared (p.Host (host.Rule 0))))) ∷ []) [])
     × (resolved bzl (top 1 (simple 1 (small.Expr (call 1 n))) ∷ []) ≡ fault f.UnknownName 1 n)
-    × (resolved bzl (top 1 (simple 1 (small.Expr (native_call 1 n))) ∷ []) ≡ of_lines (line_of 1 (called (code.Member (p.Host 6))) ∷ []) [])
+    × (resolved bzl (top 1 (simple 1 (small.Expr (native_call 1 n))) ∷ []) ≡ of_lines (line_of 1 (called (code.Member (p.Host (host.Rule 0)))) ∷ []) [])
 
 -- `native.nope()` is F20 at `nope`, and in a BUILD file `native.glob()` at `native`
 abbrev pub Native : Type 0
@@ -164,12 +169,14 @@ Native =
     (resolved bzl (top 1 (simple 1 (small.Expr (native_call 1 (codes "nope")))) ∷ []) ≡ fault f.UnknownName 1 (codes "nope"))
     × (resolved build (top 1 (simple 1 (small.Expr (native_call 1 (codes "glob")))) ∷ []) ≡ fault f.UnknownName 1 (codes "native"))
 
--- `attr.int()` makes an attribute in a .bzl file; `attr.nope()` is F20 at `nope`; `attr` alone, and `attr.int()` in a BUILD file, at `attr`
+-- `attr.int()` makes an attribute in a .bzl file; `attr.nope()` is F20 at `nope`; `attr` alone, `(attr).int()`, and `attr.int()` in a BUILD
+-- file, at `attr`
 abbrev pub Attr : Type 0
 Attr =
     (resolved bzl (top 1 (simple 1 (small.Expr (attr_call 1 (codes "int")))) ∷ []) ≡ of_lines (line_of 1 (called (code.Member (p.RuleFunction function.AttrInt))) ∷ []) [])
     × (resolved bzl (top 1 (simple 1 (small.Expr (attr_call 1 (codes "nope")))) ∷ []) ≡ fault f.UnknownName 1 (codes "nope"))
     × (resolved bzl (top 1 (simple 1 (small.Expr (named 1 (codes "attr")))) ∷ []) ≡ fault f.UnknownName 1 (codes "attr"))
+    × (resolved bzl (top 1 (simple 1 (small.Expr (parenthesized_call 1 (codes "attr") (codes "int")))) ∷ []) ≡ fault f.UnknownName 1 (codes "attr"))
     × (resolved build (top 1 (simple 1 (small.Expr (attr_call 1 (codes "int")))) ∷ []) ≡ fault f.UnknownName 1 (codes "attr"))
 
 -- `attr = []`, then `attr.int()`: a file's own `attr` is a value like another; so is one that it loads
@@ -193,10 +200,10 @@ OfRule =
     let n = codes "rule" in let attr = codes "attr" in
     (resolved bzl (top 1 (simple 1 (small.Expr (call 1 n))) ∷ []) ≡ of_lines (line_of 1 (called (code.Use (binding.Predeclared (p.RuleFunction function.Rule)))) ∷ []) [])
     × (resolved build (top 1 (simple 1 (small.Expr (call 1 n))) ∷ []) ≡ fault f.UnknownName 1 n)
-    × (resolved (build_beside n) (top 1 (simple 1 (small.Expr (call 1 n))) ∷ []) ≡ of_lines (line_of 1 (called (code.Use (binding.Predeclared (p.Host 6)))) ∷ []) [])
-    × (resolved (build_beside attr) (top 1 (simple 1 (small.Expr (call 1 attr))) ∷ []) ≡ of_lines (line_of 1 (called (code.Use (binding.Predeclared (p.Host 6)))) ∷ []) [])
+    × (resolved (build_beside n) (top 1 (simple 1 (small.Expr (call 1 n))) ∷ []) ≡ of_lines (line_of 1 (called (code.Use (binding.Predeclared (p.Host (host.Rule 0))))) ∷ []) [])
+    × (resolved (build_beside attr) (top 1 (simple 1 (small.Expr (call 1 attr))) ∷ []) ≡ of_lines (line_of 1 (called (code.Use (binding.Predeclared (p.Host (host.Rule 0))))) ∷ []) [])
     × (resolved (bzl_beside n) (top 1 (simple 1 (small.Expr (call 1 n))) ∷ []) ≡ of_lines (line_of 1 (called (code.Use (binding.Predeclared (p.RuleFunction function.Rule)))) ∷ []) [])
-    × (resolved (bzl_beside n) (top 1 (simple 1 (small.Expr (native_call 1 n))) ∷ []) ≡ of_lines (line_of 1 (called (code.Member (p.Host 6))) ∷ []) [])
+    × (resolved (bzl_beside n) (top 1 (simple 1 (small.Expr (native_call 1 n))) ∷ []) ≡ of_lines (line_of 1 (called (code.Member (p.Host (host.Rule 0)))) ∷ []) [])
 
 -- ---- faults
 

@@ -1,9 +1,11 @@
 -- The names that a file has without binding them (Bazel, Build Encyclopedia, "Functions": a BUILD file has the build functions and
 -- rules by name, a .bzl file as `native.NAME`; "Rules", "attr": a .bzl file has `rule` and `attr.NAME`, which declare rules).
-use Rattle.std.specs.Prelude.{ℕ, ◌+◌, List, Option, Some, None, codes, bytes_eq, nat_lt, if◌then◌else◌}
+use Rattle.std.specs.Prelude.{ℕ, List, Option, Some, None, codes, bytes_eq, nat_lt, if◌then◌else◌}
 use Rattle.std.specs.Option.{option_map}
 use Rattle.bq_parse_grammar.specs.declared.tree.FileKind.{FileKind}
 use Rattle.bq_parse_grammar.specs.declared.tree.FileKind.TheVariants as file
+use Rattle.bq_resolve_predeclared.specs.declared.host_function.HostFunction.{HostFunction}
+use Rattle.bq_resolve_predeclared.specs.declared.host_function.HostFunction.TheVariants as host
 use Rattle.bq_resolve_predeclared.specs.declared.predeclared.Predeclared.{Predeclared}
 use Rattle.bq_resolve_predeclared.specs.declared.predeclared.Predeclared.TheVariants as p
 use Rattle.bq_resolve_predeclared.specs.declared.rule_function.RuleFunction.TheVariants as f
@@ -32,23 +34,23 @@ pub record UniverseParts : Type 0 where
   pub kind : FileKind
   pub rules : List (List ℕ)
 
--- an id is below 2 ^ 32: rules past that have none, and no workspace has them
+-- a place is below 2 ^ 32 - 1: rules past that are no functions, and no workspace has them
 abbrev pub max_rules : ℕ
-max_rules = 4294967290
+max_rules = 4294967295
 
-abbrev pub rule_at : Option ℕ → Option ℕ
+abbrev pub rule_at : Option ℕ → Option HostFunction
 rule_at None = None
-rule_at (Some r) = if nat_lt r max_rules then Some (6 + r) else None
+rule_at (Some place) = if nat_lt place max_rules then Some (host.Rule place) else None
 
-abbrev pub rule_named : List (List ℕ) → List ℕ → Option ℕ
+abbrev pub rule_named : List (List ℕ) → List ℕ → Option HostFunction
 rule_named rules name = rule_at (place_among name rules)
 
-abbrev pub host_by : List (List ℕ) → List ℕ → Option Predeclared → Option ℕ
+abbrev pub host_by : List (List ℕ) → List ℕ → Option Predeclared → Option HostFunction
 host_by rules name None = rule_named rules name
-host_by rules name (Some (p.Host id)) = Some id
+host_by rules name (Some (p.Host f)) = Some f
 host_by rules name (Some _) = None
 
-unfoldable pub host_named : List (List ℕ) → List ℕ → Option ℕ
+unfoldable pub host_named : List (List ℕ) → List ℕ → Option HostFunction
 host_named rules name = host_by rules name (predeclared_named name)
 
 -- what a namespace holds by this name: `native` a build function or rule, `attr` a function that makes attributes
@@ -62,7 +64,7 @@ in_build rules name (Some x) = Some x
 
 abbrev pub in_bzl : List ℕ → Option Predeclared → Option Predeclared
 in_bzl name None = if bytes_eq name rule then Some (p.RuleFunction f.Rule) else None
-in_bzl name (Some (p.Host id)) = None
+in_bzl name (Some (p.Host f)) = None
 in_bzl name (Some x) = Some x
 
 abbrev pub in_kind : FileKind → List (List ℕ) → List ℕ → Option Predeclared → Option Predeclared

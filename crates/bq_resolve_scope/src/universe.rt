@@ -7,13 +7,15 @@ ghost use Rattle.bq_resolve_scope.specs.Universe.{rule_named, host_by, host_name
 use crate::names::Names;
 use bq_base::Bytes;
 use bq_parse_grammar::FileKind;
-use bq_resolve_predeclared::{Predeclared, RuleFunction, attr_named, predeclared_named};
+use bq_resolve_predeclared::{
+    HostFunction, Predeclared, RuleFunction, attr_named, predeclared_named,
+};
 use std::alloc::{AllocError, Global};
 use std::marker::Model;
 use std::sync::Arc;
 
-/// An id is below 2^32: rules past that have none.
-const MAX_RULES: usize = 4_294_967_290;
+/// A rule's place is below this: rules past that are no functions.
+const MAX_RULES: usize = 4_294_967_295;
 
 /// A name of .bzl files that is no value: only what it holds is called, as `NAME.function(..)`.
 #[derive(Clone, Copy)]
@@ -55,7 +57,7 @@ fn in_bzl(name: &[u8], found: Option<Predeclared>) -> Option<Predeclared>
     }
 }
 
-/// What the files of a kind have. Contracts see the kind, and the names of the rules in the order of their ids.
+/// What the files of a kind have. Contracts see the kind, and the names of the rules in their order.
 #[derive(Drop)]
 pub struct Universe {
     kind: FileKind,
@@ -102,29 +104,29 @@ impl Universe {
         self.kind
     }
 
-    /// The id of the rule of this name.
-    fn rule(&self, name: &Bytes) -> Result<Option<u32>, AllocError>
-        ensures { IfOk result (λ id. id ≡ rule_named self.now.rules name.now) }
+    /// The rule of this name.
+    fn rule(&self, name: &Bytes) -> Result<Option<HostFunction>, AllocError>
+        ensures { IfOk result (λ f. f ≡ rule_named self.now.rules name.now) }
     {
         match self.rules.place(name)? {
             None => Ok(None),
             Some(place) => {
                 if place < MAX_RULES {
-                    return Ok(Some(6 + place as u32));
+                    return Ok(Some(HostFunction::Rule(place as u32)));
                 }
                 Ok(None)
             }
         }
     }
 
-    /// The id of the build function or rule of this name.
+    /// The build function or rule of this name.
     #[tactic(auto, unfolding(crate::specs::Universe::host_named))]
-    fn host(&self, name: &Bytes) -> Result<Option<u32>, AllocError>
-        ensures { IfOk result (λ id. id ≡ host_named self.now.rules name.now) }
+    fn host(&self, name: &Bytes) -> Result<Option<HostFunction>, AllocError>
+        ensures { IfOk result (λ f. f ≡ host_named self.now.rules name.now) }
     {
         match predeclared_named(name.as_slice()) {
             None => self.rule(name),
-            Some(Predeclared::Host(id)) => Ok(Some(id)),
+            Some(Predeclared::Host(function)) => Ok(Some(function)),
             Some(_) => Ok(None),
         }
     }
@@ -137,7 +139,7 @@ impl Universe {
         match space {
             Namespace::Native => match self.host(name)? {
                 None => Ok(None),
-                Some(id) => Ok(Some(Predeclared::Host(id))),
+                Some(function) => Ok(Some(Predeclared::Host(function))),
             },
             Namespace::Attr => match attr_named(name.as_slice()) {
                 None => Ok(None),
@@ -157,7 +159,7 @@ impl Universe {
         match found {
             None => match self.rule(name)? {
                 None => Ok(None),
-                Some(id) => Ok(Some(Predeclared::Host(id))),
+                Some(function) => Ok(Some(Predeclared::Host(function))),
             },
             Some(found) => Ok(Some(found)),
         }

@@ -1,8 +1,9 @@
 -- Which names a file of each kind has without binding them: what declares rules, and namespaces.
-use Rattle.std.proofs.Common.{◌≡◌, ℕ, Bool, true, false, List, Option, Some, None, ◌⊎◌, inl, inr, refl, subst, bytes_eq}
+use Rattle.std.proofs.Common.{◌≡◌, Bool, true, false, List, Option, Some, None, ◌⊎◌, inl, inr, refl, subst, bytes_eq}
 use Rattle.std.specs.Prelude.{if◌then◌else◌}
 use Rattle.std.specs.Option.{option_map}
 use Rattle.bq_parse_grammar.specs.declared.tree.FileKind.TheVariants as kinds
+use Rattle.bq_resolve_predeclared.specs.declared.host_function.HostFunction.{HostFunction}
 use Rattle.bq_resolve_predeclared.specs.declared.predeclared.Predeclared.{Predeclared}
 use Rattle.bq_resolve_predeclared.specs.declared.predeclared.Predeclared.TheVariants as pre
 use Rattle.bq_resolve_predeclared.specs.declared.rule_function.RuleFunction.{RuleFunction}
@@ -19,9 +20,9 @@ use Rattle.bq_resolve_scope_laws.specs.Binds.{BuildFilesDeclareNoRules, BzlFiles
 no_rule_function : (name : Name) (f : RuleFunction) → predeclared_named name ≡ Some (pre.RuleFunction f) → ⊥
 no_rule_function name f h = let e : None ≡ Some name = nothing_else (pre.RuleFunction f) name h in cc
 
-no_rule : (o : Option ℕ) (f : RuleFunction) → option_map pre.Host o ≡ Some (pre.RuleFunction f) → ⊥
+no_rule : (o : Option HostFunction) (f : RuleFunction) → option_map pre.Host o ≡ Some (pre.RuleFunction f) → ⊥
 no_rule None f h = cc
-no_rule (Some id) f h = cc
+no_rule (Some g) f h = cc
 
 in_build_by : (rules : List Name) (name : Name) (o : Option Predeclared) (f : RuleFunction) → (o ≡ Some (pre.RuleFunction f) → ⊥) → in_build rules name o ≡ Some (pre.RuleFunction f) → ⊥
 in_build_by rules name None f other h = no_rule (rule_named rules name) f h

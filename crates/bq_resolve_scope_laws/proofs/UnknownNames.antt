@@ -24,6 +24,7 @@ use Rattle.bq_resolve_scope_laws.proofs.Binds.{loads_bind}
 use Rattle.bq_resolve_scope_laws.proofs.Bound.{there, local_at, global_at}
 use Rattle.bq_resolve_scope_laws.proofs.Uses.{place_within}
 use Rattle.bq_resolve_scope_laws.specs.Binds.{LoadedNamesAreLoaded, BzlFilesHaveNoBuildFunctions}
+use Rattle.bq_resolve_predeclared.specs.declared.host_function.HostFunction.{HostFunction}
 use Rattle.bq_resolve_predeclared.specs.declared.predeclared.Predeclared.{Predeclared}
 use Rattle.bq_resolve_predeclared.specs.declared.predeclared.Predeclared.TheVariants as pre
 use Rattle.bq_resolve_predeclared.specs.declared.rule_function.RuleFunction.TheVariants as function
@@ -172,15 +173,15 @@ unfolding file_names
 file_loaded universe ts name bound free =
     let file : FileParts = record { universe = universe; globals = global_names ts; loaded = loaded_names ts } in loaded_at file name free ((loads_bind ts name).1 bound)
 
-of_rule : (t : Bool) (id : ℕ) → (if t then Some (pre.RuleFunction function.Rule) else None) ≡ Some (pre.Host id) → ⊥
-of_rule true id h = cc
-of_rule false id h = cc
+of_rule : (t : Bool) (g : HostFunction) → (if t then Some (pre.RuleFunction function.Rule) else None) ≡ Some (pre.Host g) → ⊥
+of_rule true g h = cc
+of_rule false g h = cc
 
-not_host : (name : Name) (o : Option Predeclared) (id : ℕ) → in_bzl name o ≡ Some (pre.Host id) → ⊥
-not_host name None id h = of_rule (bytes_eq name rule) id h
-not_host name (Some (pre.Host k)) id h = cc
-not_host name (Some x) id h = cc
+not_host : (name : Name) (o : Option Predeclared) (g : HostFunction) → in_bzl name o ≡ Some (pre.Host g) → ⊥
+not_host name None g h = of_rule (bytes_eq name rule) g h
+not_host name (Some (pre.Host k)) g h = cc
+not_host name (Some x) g h = cc
 
 pub no_build_functions : BzlFilesHaveNoBuildFunctions
 unfolding universe_has
-no_build_functions rules name id h = not_host name (predeclared_named name) id h
+no_build_functions rules name g h = not_host name (predeclared_named name) g h

@@ -15,6 +15,7 @@ use Rattle.bq_parse_grammar.specs.declared.tree.TargetExpr.{TargetExpr, out-Targ
 use Rattle.bq_parse_grammar.specs.declared.tree.TopLevel.{TopLevel}
 use Rattle.bq_resolve_scope.specs.declared.code.Binding.TheVariants as b
 use Rattle.bq_parse_grammar.specs.declared.tree.FileKind.TheVariants as kinds
+use Rattle.bq_resolve_predeclared.specs.declared.host_function.HostFunction.{HostFunction}
 use Rattle.bq_resolve_predeclared.specs.declared.predeclared.Predeclared.TheVariants as pre
 use Rattle.bq_resolve_predeclared.specs.declared.rule_function.RuleFunction.{RuleFunction}
 use Rattle.bq_resolve_predeclared.specs.declared.rule_function.RuleFunction.TheVariants as function
@@ -132,7 +133,7 @@ LoadedNamesAreLoaded = (universe : UniverseParts) (ts : List TopLevel) (name : N
 
 -- .. and in a .bzl file no name is a build function or a rule that the file doesn't bind.
 abbrev pub BzlFilesHaveNoBuildFunctions : Type 0
-BzlFilesHaveNoBuildFunctions = (rules : List Name) (name : Name) (id : ℕ) → universe_has (record { kind = kinds.Bzl; rules = rules }) name ≢ Some (pre.Host id)
+BzlFilesHaveNoBuildFunctions = (rules : List Name) (name : Name) (f : HostFunction) → universe_has (record { kind = kinds.Bzl; rules = rules }) name ≢ Some (pre.Host f)
 
 -- ---- names of a kind of files
 

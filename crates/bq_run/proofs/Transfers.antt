@@ -1,9 +1,11 @@
 -- One transfer after another.
-use Rattle.std.proofs.Common.{◌≡◌, ◌+◌, ℕ, zero, suc, ◌-◌, take_all, length-drop, length-append, le_refl, if◌then◌else◌, subst, List, [], ◌++◌, Option, None, Some, Result, Ok, Err, length, take, drop, ap, sym, ◌∙◌, append_assoc, refl, arith, rules, ◌⊎◌, inl, inr}
+use Rattle.std.proofs.Common.{◌≡◌, ◌+◌, ℕ, zero, suc, ◌-◌, take_all, length-drop, length-append, le_refl, if◌then◌else◌, subst, List, [], ◌++◌, Option, None, Some, Result, Ok, Err, ◌∷◌, ◌<◌, ◌≤◌, get_or, length, take, drop, ap, sym, ◌∙◌, append_assoc, append-nil, refl, arith, rules, ◌⊎◌, inl, inr}
 use Rattle.std.specs.Prelude.{OnOk, OnErr}
 use Rattle.std.specs.Io.KnownBytes.{Appends, Consumes, Keeps}
 use Rattle.std.proofs.Math.Seq.{take-add, take-append-add}
-use Rattle.std.proofs.lemmas.List.{take-append-le}
+use Rattle.std.specs.List.{concat}
+use Rattle.std.proofs.lemmas.List.{drop_more, take-append-le}
+use Rattle.std.proofs.Math.ListN.{drop_of_length-le}
 use Rattle.std.proofs.lemmas.Bool.Decides.{nat_tests}
 use Rattle.bq_run.specs.Device.{Begins, one_more, took_none}
 
@@ -64,3 +66,39 @@ Begins-more a b c xs ys h k =
 pub right_or_failed : {A E : Type 0} (r : Result A E) (P Q : Type 0) → OnOk r P → OnErr r Q → P ⊎ Q
 right_or_failed (Ok a) P Q p q = inl p
 right_or_failed (Err e) P Q p q = inr q
+
+-- of the whole text all is written but what is left
+pub record IsSent (a b : Option (List ℕ)) (whole left : List ℕ) : Type 0 where
+  pub sent : List ℕ
+  pub appended : Appends a b sent
+  pub parts : sent ++ left ≡ whole
+
+pub sent_none : (a : Option (List ℕ)) (whole : List ℕ) → IsSent a a whole whole
+sent_none a whole = record { sent = []; appended = Appends-none a; parts = refl }
+
+-- the first part of what was left is written too
+pub sent_more : (a b c : Option (List ℕ)) (whole part left rest : List ℕ) → left ≡ part ++ rest → IsSent a b whole left → Appends b c part → IsSent a c whole rest
+sent_more a b c whole part left rest is s h = record {
+  sent = s.sent ++ part;
+  appended = Appends-more a b c s.sent part s.appended h;
+  parts = append_assoc s.sent part rest ∙ (ap (λ t. s.sent ++ t) (sym is) ∙ s.parts);
+}
+
+-- nothing is left
+pub sent_all : (a b : Option (List ℕ)) (whole left : List ℕ) → left ≡ [] → IsSent a b whole left → Appends a b whole
+sent_all a b whole left none s = subst (Appends a b) (sym (append-nil s.sent) ∙ (ap (λ t. s.sent ++ t) (sym none) ∙ s.parts)) s.appended
+
+-- a beginning of the first part of what was left is written
+pub sent_begins : (a b c : Option (List ℕ)) (whole part left rest : List ℕ) → left ≡ part ++ rest → IsSent a b whole left → Begins b c part → Begins a c whole
+sent_begins a b c whole part left rest is s h =
+    subst (Begins a c) (ap (λ t. s.sent ++ t) (sym is) ∙ s.parts) (Begins-more a b c s.sent (part ++ rest) s.appended (Begins-front b c part rest h))
+
+-- ---- strings in a row
+
+-- a string is the first of those that are left
+pub left_more : (ps : List (List ℕ)) (i : ℕ) (p : List ℕ) → i < length ps → p ≡ get_or ps i p → concat (drop i ps) ≡ p ++ concat (drop (i + 1) ps)
+left_more ps i p h e = ap concat (drop_more ps i p h ∙ ap (λ (z : List ℕ). z ∷ drop (i + 1) ps) (sym e))
+
+-- after the last one none is left
+pub left_none : (ps : List (List ℕ)) (i : ℕ) → length ps ≤ i → concat (drop i ps) ≡ []
+left_none ps i h = ap concat (drop_of_length-le ps h)

@@ -38,4 +38,4 @@ pub use status::{
     ANSWERED, DEVICE_FAILED, NO_MEMORY, REFUSED, WITH_FAULTS, end_run, status_code, status_of,
     write_status_line,
 };
-pub use transfer::{ReadFault, WriteFault, read_all, write_all};
+pub use transfer::{ReadFault, WriteFault, read_all, write_all, write_rope};

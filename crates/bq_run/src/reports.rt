@@ -8,6 +8,7 @@ ghost use Rattle.bq_run.specs.Run.{IsInRange};
 ghost use Rattle.bq_run.specs.WorkspaceRun.{IsReportOn, refused};
 
 use crate::options::Options;
+use bq_base_rope::Rope;
 use bq_label::Workspace;
 use bq_load::{Loaded, OpenGate, load_with};
 use bq_load_discover::{LoadErr, schema_of};
@@ -25,7 +26,7 @@ fn refused(alloc: Global, why: NoAnswer) -> Report
     ensures { report_view result ≡ refused why }
 {
     Report {
-        faults: Vec::new(alloc),
+        faults: Rope::new(alloc),
         answer: Vec::new(alloc),
         end: Err(why),
     }

@@ -11,7 +11,7 @@ use crate::device::{ByteSink, ByteSource};
 use crate::error::RunErr;
 use crate::options::Options;
 use crate::reports::report_workspace;
-use crate::transfer::{WriteFault, write_all};
+use crate::transfer::{WriteFault, write_all, write_rope};
 use bq_label::Workspace;
 use bq_run_report::{NoAnswer, Report, Status};
 use std::alloc::Global;
@@ -35,12 +35,12 @@ fn write_texts<W: ByteSink, F: ByteSink>(
 {
     match &report.end {
         Ok(_) => {
-            write_all(faults_writer, &report.faults)?;
+            write_rope(faults_writer, &report.faults)?;
             write_all(writer, &report.answer)
         }
         Err(refusal) => {
             if refusal.is_unanswered() {
-                write_all(faults_writer, &report.faults)
+                write_rope(faults_writer, &report.faults)
             } else {
                 Ok(())
             }

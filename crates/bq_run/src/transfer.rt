@@ -2,10 +2,13 @@
 
 ghost use Rattle.std.specs.Prelude.{◌≡◌, ◌+◌, ◌-◌, ◌^◌, ◌<◌, ◌≤◌, length, IfOk, OnOk, OnErr, IfSome, IsErrOf};
 ghost use Rattle.std.specs.Io.KnownBytes.{Appends};
+ghost use Rattle.std.specs.List.{concat};
 ghost use Rattle.bq_run.specs.Device.{Begins};
 ghost use Rattle.bq_run.specs.declared.transfer.ReadFault.TheVariants.{Memory};
 
 use crate::device::{ByteSink, ByteSource};
+use bq_base::Bytes;
+use bq_base_rope::Rope;
 use std::alloc::{AllocError, Global};
 
 /// Why a reader was not read to its end.
@@ -75,4 +78,31 @@ pub fn write_all<W: ByteSink>(writer: &mut W, text: &[u8]) -> Result<(), WriteFa
         }
     }
     Ok(())
+}
+
+/// Writes all of these strings, one after another.
+fn write_pieces<W: ByteSink>(writer: &mut W, pieces: &[Bytes]) -> Result<(), WriteFault>
+    requires { W.failed writer.old < 2 ^ 64 - 1 }
+    ensures whole { OnOk result (Appends (W.contents writer.old) (W.contents writer.new) (concat pieces.now)) }
+    ensures begins { Begins (W.contents writer.old) (W.contents writer.new) (concat pieces.now) }
+    ensures device { OnErr result (W.failed writer.new ≡ W.failed writer.old + 1) }
+    ensures quiet { OnOk result (W.failed writer.new ≡ W.failed writer.old) }
+{
+    for piece in pieces {
+        write_all(writer, piece.as_slice())?;
+    }
+    Ok(())
+}
+
+/// Writes all of a text that is held in parts, as [`write_all`] does.
+pub fn write_rope<W: ByteSink>(writer: &mut W, text: &Rope) -> Result<(), WriteFault>
+    requires { W.failed writer.old < 2 ^ 64 - 1 }
+    ensures whole { OnOk result (Appends (W.contents writer.old) (W.contents writer.new) text.now) }
+    ensures begins { Begins (W.contents writer.old) (W.contents writer.new) text.now }
+    ensures device { OnErr result (W.failed writer.new ≡ W.failed writer.old + 1) }
+    ensures quiet { OnOk result (W.failed writer.new ≡ W.failed writer.old) }
+{
+    let parts = text.parts();
+    write_pieces(writer, parts.pieces)?;
+    write_all(writer, parts.rest)
 }

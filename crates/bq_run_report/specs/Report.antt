@@ -37,7 +37,7 @@ pub record Inside : Type 0 where
   pub packages : List PackageTargets
 
 abbrev pub inside : Contents → Inside
-inside c = record { prints = c.prints.items; faults = c.faults; packages = c.packages.items }
+inside c = record { prints = c.prints; faults = c.faults; packages = c.packages.items }
 
 -- the lines of all its faults: a label that names no target is one more
 abbrev pub all_faults : Inside → List FaultLine
@@ -85,7 +85,7 @@ pub record ReportView : Type 0 where
 
 -- a `Report`, without where its texts lie in memory
 abbrev pub report_view : Report → ReportView
-report_view r = record { faults = r.faults.items; answer = r.answer.items; end = r.end }
+report_view r = record { faults = r.faults; answer = r.answer.items; end = r.end }
 
 -- the report on a workspace and on this query
 pub record Reports (i : Inside) (query : CheckedQuery) (form : OutputForm) (r : ReportView) : Type 0 where

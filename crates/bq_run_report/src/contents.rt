@@ -1,5 +1,6 @@
 //! What is in a loaded workspace.
 
+use bq_base_rope::Rope;
 use bq_load_fault_line::FaultLines;
 use bq_package_target::Package;
 
@@ -7,7 +8,7 @@ use bq_package_target::Package;
 #[derive(Drop)]
 pub struct Contents {
     /// The lines of what its modules printed.
-    pub prints: Vec<u8>,
+    pub prints: Rope,
     /// The lines of its modules' faults.
     pub faults: FaultLines,
     /// Its packages in order; a package whose BUILD file has a fault has no targets.

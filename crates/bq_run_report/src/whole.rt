@@ -10,6 +10,7 @@ ghost use Rattle.bq_run_report.specs.Report.{Reports, inside, report_view};
 use crate::contents::Contents;
 use crate::ending::{NoAnswer, Status};
 use crate::reply::{Question, reply_over};
+use bq_base_rope::Rope;
 use bq_load_fault_line::FaultLines;
 use bq_query_target_graph::add_dangling;
 use std::alloc::{AllocError, Global};
@@ -18,7 +19,7 @@ use std::alloc::{AllocError, Global};
 #[derive(Drop)]
 pub struct Report {
     /// The lines for the faults writer.
-    pub faults: Vec<u8>,
+    pub faults: Rope,
     /// The lines for the writer.
     pub answer: Vec<u8>,
     pub end: Result<Status, NoAnswer>,
@@ -35,8 +36,8 @@ fn status_by(lines: &FaultLines) -> Status
 }
 
 /// Returns what the modules printed, and then the lines of all faults, each of which is dropped once it is appended.
-fn fault_text(alloc: Global, mut prints: Vec<u8>, lines: FaultLines) -> Result<Vec<u8>, AllocError>
-    ensures { IfOk result (λ text. text.items ≡ prints.items ++ flat_map line_text lines) }
+fn fault_text(alloc: Global, mut prints: Rope, lines: FaultLines) -> Result<Rope, AllocError>
+    ensures { IfOk result (λ text. text ≡ prints ++ flat_map line_text lines) }
 {
     lines.append_to(alloc, &mut prints)?;
     Ok(prints)

@@ -12,8 +12,8 @@ pub mod Runs
 pub mod Fitting
 pub mod Keeping
 pub mod Reached
--- Long words are no keywords.
-pub mod LongWords
+-- Words of another first byte or length than each keyword are no keywords.
+pub mod Heads
 -- A text has one reading.
 pub mod Unique
 -- Each piece is spelled as its kind says.

@@ -1,6 +1,6 @@
 -- How blanks, line ends and words are spelled, by the Starlark specification, "Lexical elements". "(ours)" marks where `bq`
 -- differs. Bytes by number: 9 is the tab, 10 the newline, 13 the carriage return, 32 the space, 35 `#`, 92 the backslash.
-use Rattle.std.specs.Prelude.{ℕ, ◌+◌, List, [], ◌∷◌, Bool, true, false, ◌&&◌, ◌||◌, ◌==◌, nat_le, count_by, Option, Some, None, codes, if◌then◌else◌}
+use Rattle.std.specs.Prelude.{ℕ, ◌+◌, List, [], ◌∷◌, Bool, true, false, ◌&&◌, ◌||◌, ◌==◌, nat_le, count_by, length, slice_get, Option, Some, None, codes, if◌then◌else◌}
 use Rattle.std.specs.Str.{bytes_eq}
 use Rattle.std.specs.List.{list_any}
 use Rattle.std.specs.Map.{lookup}
@@ -64,6 +64,20 @@ keyword word = lookup (bytes_eq word) keywords
 
 abbrev pub is_reserved : List ℕ → Bool
 is_reserved word = list_any (bytes_eq word) reserved_words
+
+-- the first bytes of the keywords and reserved words of each length, from 0 on
+abbrev pub first_bytes : List (List ℕ)
+first_bytes =
+    [] ∷ [] ∷ codes "aio" ∷ codes "adfnt" ∷ codes "eflpw" ∷ codes "bcrwy" ∷ codes "aegilr" ∷ codes "f" ∷ codes "cn" ∷ []
+
+abbrev pub is_first : ℕ → Option (List ℕ) → Bool
+is_first b None = false
+is_first b (Some bytes) = list_any (λ x. x == b) bytes
+
+-- a word of such a first byte and length
+abbrev pub has_head : List ℕ → Bool
+has_head [] = false
+has_head (b ∷ bs) = is_first b (slice_get first_bytes (length (b ∷ bs)))
 
 abbrev pub other_word : Bool → TokenKind
 other_word true = k.Reserved

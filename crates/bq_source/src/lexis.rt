@@ -1,10 +1,11 @@
 //! How blanks, line ends and words are spelled.
 
-ghost use Rattle.std.specs.Prelude.{◌≡◌, ◌≤◌, ◌-◌, length, map, false};
+ghost use Rattle.std.specs.Prelude.{◌≡◌, ◌≤◌, ◌-◌, ◌==◌, length, map, false, slice_get};
 ghost use Rattle.std.specs.List.{prefix_len, list_any};
 ghost use Rattle.std.specs.Map.{lookup};
+ghost use Rattle.std.specs.Option.{option_copied};
 ghost use Rattle.std.specs.Str.{bytes_eq};
-ghost use Rattle.bq_source.specs.Lexis.{is_blank, is_letter, is_word, has, newlines, newline_len, comment_len, keyword, is_reserved, word_kind};
+ghost use Rattle.bq_source.specs.Lexis.{is_blank, is_letter, is_word, has, newlines, newline_len, comment_len, keyword, is_reserved, first_bytes, has_head, word_kind};
 
 use crate::token::TokenKind;
 
@@ -48,6 +49,7 @@ fn has(class: RunClass, b: u8) -> bool
 }
 
 /// How many bytes at the front are of the class.
+#[inline(always)]
 pub fn run_len(bytes: &[u8], class: RunClass) -> usize
     ensures run { result ≡ prefix_len (has class) bytes.now }
     ensures within { result ≤ length bytes.now }
@@ -127,8 +129,10 @@ const RESERVED_WORDS: [&[u8]; 16] = [
     b"yield",
 ];
 
-/// No keyword and no reserved word is longer.
-const MAX_KEYWORD_BYTES: usize = 8;
+/// The first bytes of the keywords and reserved words of each length, from 0 on.
+const FIRST_BYTES: [&[u8]; 9] = [
+    b"", b"", b"aio", b"adfnt", b"eflpw", b"bcrwy", b"aegilr", b"f", b"cn",
+];
 
 fn find(mut table: &[(&[u8], TokenKind)], word: &[u8]) -> Option<TokenKind>
     ensures { result ≡ lookup (bytes_eq word.now) (map (λ k. (k.0.now, k.1)) table.entry.now) }
@@ -166,12 +170,38 @@ fn is_reserved(word: &[u8]) -> bool
     is_among(&RESERVED_WORDS, word)
 }
 
+/// What keywords and reserved words of this length begin with.
+fn first_bytes(len: usize) -> Option<&'static [u8]>
+    ensures { option_copied result ≡ slice_get first_bytes len }
+{
+    FIRST_BYTES.get(len).copied()
+}
+
+fn contains(bytes: &[u8], b: u8) -> bool
+    ensures { result ≡ list_any (λ x. x == b) bytes.now }
+{
+    bytes.iter().any(|x| *x == b)
+}
+
+/// A keyword or reserved word has this first byte and this length. Most identifiers have neither, and need no walk along all.
+fn has_head(word: &[u8]) -> bool
+    ensures { result ≡ has_head word.now }
+{
+    let [first, ..] = word else {
+        return false;
+    };
+    match first_bytes(word.len()) {
+        Some(bytes) => contains(bytes, *first),
+        None => false,
+    }
+}
+
 /// The kind of a word: a keyword, a reserved word or an identifier.
-#[tactic(auto, using(crate::proofs::LongWords::long_word), unfolding(crate::specs::Lexis::word_kind))]
+#[tactic(auto, using(crate::proofs::Heads::headless), unfolding(crate::specs::Lexis::word_kind))]
 pub fn word_kind(word: &[u8]) -> TokenKind
     ensures { result ≡ word_kind word.now }
 {
-    if word.len() > MAX_KEYWORD_BYTES {
+    if !has_head(word) {
         return TokenKind::Identifier;
     }
     match keyword(word) {

@@ -231,6 +231,10 @@ fn rest_of(text: &[u8], at: usize) -> &[u8]
 fn is_plain(quote: u8, b: u8) -> bool
     ensures { result ≡ spec.is_plain quote b }
 {
+    // Most bytes are above all of these but the backslash.
+    if b > quote && b > b'\r' {
+        return b != b'\\';
+    }
     b != quote && b != b'\\' && b != b'\n' && b != b'\r'
 }
 

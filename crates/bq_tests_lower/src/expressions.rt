@@ -353,6 +353,17 @@ a.b(c, d = e).f | (primary a (method b c (= d e)) (attribute f))
 a.b.c(d) | (primary a (attribute b) (method c d))
 "s".join(a) | (primary "s" (method join a))
 f().g()[0] | (primary f (call) (method g) (index 0))
+# Parentheses before a dot stay in the tree.
+(a).b() | (primary (primary a) (method b))
+((a)).b(c) | (primary (primary a) (method b c))
+((a).b()).c() | (primary (primary (primary (primary a) (method b))) (method c))
+(a).b | (primary (primary a) (attribute b))
+(a + b).c()[d] | (primary (primary (binary a + b)) (method c) (index d))
+(a) .b() | (primary (primary a) (method b))
+(a)(b).c() | (primary a (call b) (method c))
+(a)[b].c() | (primary a (index b) (method c))
+(a, b).c() | (primary (tuple a b) (method c))
+().a() | (primary (tuple) (method a))
 a. | syntax at 2: Newline
 a.if | syntax at 2: If
 a.(b) | syntax at 2: LeftParen

@@ -352,6 +352,7 @@ x, y = y, x | 1 (simple 1:(= (tuple x y) (tuple y x)))
 x[0][1] = y | 1 (simple 1:(= (element (primary x (index 0)) 1) y))
 f(a)[b] = y | 1 (simple 1:(= (element (primary f (call a)) b) y))
 (x) = y | 1 (simple 1:(= x y))
+(x).f()[0] = y | 1 (simple 1:(= (element (primary (primary x) (method f)) 0) y))
 x += 1 | 1 (simple 1:(+= x 1))
 x[0] //= y | 1 (simple 1:(//= (element x 0) y))
 x <<= y, z | 1 (simple 1:(<<= x (tuple y z)))
@@ -422,6 +423,7 @@ for lambda in x: pass | line 1: F10 Syntax
 def lambda(): pass | line 1: F10 Syntax
 # Targets.
 f(x) = 1 | line 1: F10 Syntax
+(x).f() = 1 | line 1: F10 Syntax
 x + y = 1 | line 1: F10 Syntax
 x[1:] = 1 | line 1: F10 Syntax
 () = x | line 1: F10 Syntax

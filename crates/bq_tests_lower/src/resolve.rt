@@ -4,8 +4,8 @@
 //! A file is written as its statements in order, each after its line and a colon, then its functions, its loads and the names that it
 //! binds. Of a tree only what names stand for is written, in its order:
 //!
-//! - a use: `local0`, `global0`, `loaded0`, or what is predeclared, as `Len` or `Host(6)`; `. Host(6)` what a namespace holds; a
-//!   binding: `local0=`, `global0=`;
+//! - a use: `local0`, `global0`, `loaded0`, or what is predeclared, as `Len` or `Host(Rule(0))`; `. Host(Rule(0))` what a namespace
+//!   holds; a binding: `local0=`, `global0=`;
 //! - an integer; `{2 .. }` a comprehension with a frame of its own, of two slots;
 //! - `;` after a small statement, `if .. : .. else .. end`, `for .. : .. end`, `def global0= function0`, then the defaults;
 //! - `function f 3 ( 0 1= * 2 ) ..`: a name, its slots, its parameters, its statements; `load :m 1 a=b>0`: a label, its line, a name,
@@ -544,15 +544,15 @@ x = 1\nx += 2 | 1: global0= 1 ; 2: global0= 2 ; globals x
 load(":m", "a")\na = 1 | 1: load ; 2: global0= 1 ; load :m 1 a=a>0 globals a
 a = 1\nload(":m", "a") | 1: global0= 1 ; 2: load ; load :m 2 a=a>0 globals a
 # The build functions and the rules of the schema.
-glob(["*.c"]) | 1: Host(0) ;
-package_name() | 1: Host(1) ;
-package_group(name = "g") | 1: Host(5) ;
-filegroup(name = "x") | 1: Host(6) ;
-genrule(name = "x") | 1: Host(7) ;
+glob(["*.c"]) | 1: Host(Glob) ;
+package_name() | 1: Host(PackageName) ;
+package_group(name = "g") | 1: Host(PackageGroup) ;
+filegroup(name = "x") | 1: Host(Rule(0)) ;
+genrule(name = "x") | 1: Host(Rule(1)) ;
 nope(name = "x") | line 1: F20 UnknownName nope
 native.glob([]) | line 1: F20 UnknownName native
 filegroup = 1\nfilegroup | 1: global0= 1 ; 2: global0 ; globals filegroup
-[filegroup(name = n) for n in ["a", "b"]] | 1: {1 Host(6) local0 local0= } ;
+[filegroup(name = n) for n in ["a", "b"]] | 1: {1 Host(Rule(0)) local0 local0= } ;
 [n for filegroup in [1] for n in [filegroup]] | 1: {2 local1 local0= 1 local1= local0 } ;
 "#;
 
@@ -570,9 +570,9 @@ x = 1\nx = y | line 2: F21 Rebound x
 # The build functions and the rules of the schema, by `native`.
 filegroup(name = "x") | line 1: F20 UnknownName filegroup
 glob([]) | line 1: F20 UnknownName glob
-native.filegroup(name = "x") | 1: . Host(6) ;
-native.glob([1]) | 1: . Host(0) 1 ;
-native.glob([]).append(1) | 1: . Host(0) 1 ;
+native.filegroup(name = "x") | 1: . Host(Rule(0)) ;
+native.glob([1]) | 1: . Host(Glob) 1 ;
+native.glob([]).append(1) | 1: . Host(Glob) 1 ;
 native.nope() | line 1: F20 UnknownName nope
 native.nope(x) | line 1: F20 UnknownName nope
 native.len(1) | line 1: F20 UnknownName len
@@ -624,6 +624,7 @@ attr | line 1: F20 UnknownName attr
 attr() | line 1: F20 UnknownName attr
 attr.int() | line 1: F20 UnknownName attr
 attr.nope() | line 1: F20 UnknownName attr
+(attr).int() | line 1: F20 UnknownName attr
 # A file's own.
 attr = 1\nattr.int() | 1: global0= 1 ; 2: global0 ; globals attr
 rule = 1\nrule | 1: global0= 1 ; 2: global0 ; globals rule
@@ -645,7 +646,7 @@ attr.string_list(default = [1]) | 1: . RuleFunction(AttrStringList) 1 ;
 attr.label(mandatory = True) | 1: . RuleFunction(AttrLabel) True ;
 attr.label_list() | 1: . RuleFunction(AttrLabelList) ;
 attr.int().x(1)[2] | 1: . RuleFunction(AttrInt) 1 2 ;
-(attr).int() | 1: . RuleFunction(AttrInt) ;
+(attr.int()).x() | 1: . RuleFunction(AttrInt) ;
 x = {"a": attr.int(), "b": attr.bool()} | 1: global0= . RuleFunction(AttrInt) . RuleFunction(AttrBool) ; globals x
 def f(x): return attr.int(default = x) | 1: def global0= function0 ; function f 1 ( 0 ) return . RuleFunction(AttrInt) local0 ; globals f
 # What it doesn't hold.
@@ -666,16 +667,24 @@ len(attr) | line 1: F20 UnknownName attr
 len(attr = 1) | 1: Len 1 ;
 attr.int | line 1: F12 LeftOut
 x = attr.int | line 1: F12 LeftOut
+(attr).int() | line 1: F20 UnknownName attr
+((attr)).int() | line 1: F20 UnknownName attr
+(attr).nope(x) | line 1: F20 UnknownName attr
+x = [(\n attr).int()] | line 2: F20 UnknownName attr
+(attr).int | line 1: F12 LeftOut
+(native).glob([]) | line 1: F12 LeftOut
 def f(a = attr): pass | line 1: F20 UnknownName attr
 # A file's own `attr` is a value like another.
 attr = 1\nattr.int() | 1: global0= 1 ; 2: global0 ; globals attr
 attr.nope()\nattr = 1 | 1: global0 ; 2: global0= 1 ; globals attr
+(attr).int()\nattr = 1 | 1: global0 ; 2: global0= 1 ; globals attr
 attr = attr.int() | 1: global0= global0 ; globals attr
 load(":m", "attr")\nattr.int() | 1: load ; 2: loaded0 ; load :m 1 attr=attr
 load(":m", x = "attr")\nattr.int() | 1: load ; 2: . RuleFunction(AttrInt) ; load :m 1 x=attr
 load(":m", "attr")\nattr = 1 | line 2: F21 Rebound attr
 def attr(): return attr.int() | 1: def global0= function0 ; function attr 0 ( ) return global0 ; globals attr
 def f(attr): return attr.int() | 1: def global0= function0 ; function f 1 ( 0 ) return local0 ; globals f
+def f(attr): return (attr).int() | 1: def global0= function0 ; function f 1 ( 0 ) return local0 ; globals f
 def f(attr = attr.int()): return attr | 1: def global0= function0 . RuleFunction(AttrInt) ; function f 1 ( 0= ) return local0 ; globals f
 def f():\n attr.int()\n attr = 1 | 1: def global0= function0 ; function f 1 ( ) local0 ; local0= 1 ; globals f
 def f():\n attr = 1\n[attr.int() for x in [1]] | 1: def global0= function0 ; 3: {1 . RuleFunction(AttrInt) local0= 1 } ; function f 1 ( ) local0= 1 ; globals f
@@ -694,10 +703,10 @@ def f(a = rule): return a | 1: def global0= function0 RuleFunction(Rule) ; funct
 
 /// A schema's rules that are called `rule` and `attr` are those of BUILD files.
 const BESIDE_IN_BUILD: &str = r#"
-rule(name = "x") | 1: Host(6) ;
-attr(name = "x") | 1: Host(7) ;
-attr.int() | 1: Host(7) ;
-x = attr | 1: global0= Host(7) ; globals x
+rule(name = "x") | 1: Host(Rule(0)) ;
+attr(name = "x") | 1: Host(Rule(1)) ;
+attr.int() | 1: Host(Rule(1)) ;
+x = attr | 1: global0= Host(Rule(1)) ; globals x
 rule = 1\nrule | 1: global0= 1 ; 2: global0 ; globals rule
 "#;
 
@@ -705,6 +714,6 @@ const BESIDE_IN_BZL: &str = r#"
 rule(name = "x") | 1: RuleFunction(Rule) ;
 attr.int() | 1: . RuleFunction(AttrInt) ;
 attr(name = "x") | line 1: F20 UnknownName attr
-native.rule(name = "x") | 1: . Host(6) ;
-native.attr(name = "x") | 1: . Host(7) ;
+native.rule(name = "x") | 1: . Host(Rule(0)) ;
+native.attr(name = "x") | 1: . Host(Rule(1)) ;
 "#;

@@ -1,7 +1,9 @@
--- A host that notes which calls it accepts: those of its own functions by their ids, all but the one of id 3, which is F70, and those of
--- declared rules as 99. A BUILD file is evaluated, and no default is read.
-use Rattle.std.specs.Prelude.{ℕ, List, [], ◌∷◌, ◌++◌, ◌==◌, true, Err, if◌then◌else◌}
+-- A host that notes which calls it accepts: those of its own functions, all but `licenses`, which is F70, and as none those of rules that
+-- .bzl files declare. A BUILD file is evaluated, and no default is read.
+use Rattle.std.specs.Prelude.{ℕ, List, [], ◌∷◌, ◌++◌, Bool, true, false, Option, Some, None, Err, if◌then◌else◌}
 use Rattle.bq_base.specs.declared.fault.FaultKind.TheVariants.{NotInPackage, BadLabel}
+use Rattle.bq_resolve_predeclared.specs.declared.host_function.HostFunction.{HostFunction}
+use Rattle.bq_resolve_predeclared.specs.declared.host_function.HostFunction.TheVariants as h
 use Rattle.bq_package_rule_class.specs.Class.{Class}
 use Rattle.bq_value.specs.Datum.{Datum, none}
 use Rattle.bq_builtin_machine.specs.Args.{Passed}
@@ -9,11 +11,15 @@ use Rattle.bq_builtin_machine.specs.State.{State, stop_at}
 use Rattle.bq_builtin_machine.specs.Action.{Action, done, stopped}
 use Rattle.bq_eval_host.specs.Host.{HostCalls}
 
-unfoldable pub noted_call : ℕ → Passed → Action (State × List ℕ) Datum
-noted_call id passed p = if id == 3 then stopped (stop_at NotInPackage p.0) else done none (p.0, p.1 ++ id ∷ [])
+abbrev pub is_licenses : HostFunction → Bool
+is_licenses h.Licenses = true
+is_licenses _ = false
 
-unfoldable pub noted_rule : List ℕ → Class → Passed → Action (State × List ℕ) Datum
-noted_rule kind class passed p = done none (p.0, p.1 ++ 99 ∷ [])
+unfoldable pub noted_call : HostFunction → Passed → Action (State × List (Option HostFunction)) Datum
+noted_call function passed p = if is_licenses function then stopped (stop_at NotInPackage p.0) else done none (p.0, p.1 ++ Some function ∷ [])
 
-abbrev pub noted : HostCalls (List ℕ)
-noted = record { call = noted_call; in_build = λ ids. true; read_default = λ ids written. Err BadLabel; call_rule = noted_rule }
+unfoldable pub noted_rule : List ℕ → Class → Passed → Action (State × List (Option HostFunction)) Datum
+noted_rule kind class passed p = done none (p.0, p.1 ++ None ∷ [])
+
+abbrev pub noted : HostCalls (List (Option HostFunction))
+noted = record { call = noted_call; in_build = λ calls. true; read_default = λ calls written. Err BadLabel; call_rule = noted_rule }

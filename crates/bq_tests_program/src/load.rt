@@ -42,7 +42,7 @@ pub fn files_of(alloc: Global, text: &[u8]) -> Result<Vec<File>, AllocError> {
 
 /// What is printed of a workspace: the lines of its prints, then those of its faults.
 fn text_of(alloc: Global, loaded: &Loaded) -> Result<Vec<u8>, AllocError> {
-    let mut whole = loaded.prints.clone()?;
+    let mut whole = loaded.prints.to_vec(alloc)?;
     whole.extend_from_slice(&loaded.faults.text(alloc)?)?;
     Ok(whole)
 }

@@ -35,7 +35,7 @@ impl Subject for Below {
 struct Declared;
 
 fn add_loaded(alloc: Global, whole: &mut Vec<u8>, loaded: &Loaded) -> Result<(), AllocError> {
-    whole.extend_from_slice(&loaded.prints)?;
+    whole.extend_from_slice(&loaded.prints.to_vec(alloc)?)?;
     whole.extend_from_slice(&loaded.faults.text(alloc)?)?;
     for package in &loaded.packages {
         add_package(alloc, whole, package)?;

@@ -67,7 +67,7 @@ fn targets(loaded: &Loaded) -> usize {
 
 /// Whether both have the same lines, and as many modules and targets.
 fn are_same(alloc: Global, a: &Loaded, b: &Loaded) -> Result<bool, AllocError> {
-    if a.prints != b.prints {
+    if a.prints.to_vec(alloc)? != b.prints.to_vec(alloc)? {
         return Ok(false);
     }
     if a.faults.text(alloc)? != b.faults.text(alloc)? {
@@ -154,14 +154,16 @@ print(a + b)
 fn meet<R: Threads + Wait + Sync>(rt: &R, tree: Tree<'_>) -> Result<bool, LoadErr> {
     let gate = Meeting::new();
     let loaded = by_workers(rt, tree, 2, &gate)?;
-    let is_whole = loaded.prints.as_slice() == b"//:BUILD: 3\n".as_slice();
+    let prints = loaded.prints.to_vec(tree.alloc)?;
+    let is_whole = prints.as_slice() == b"//:BUILD: 3\n".as_slice();
     Ok(gate.both_met() && gate.entered_once() && is_whole)
 }
 
 fn check_meeting<R: Abort + Threads + Wait + Sync>(rt: &R, tree: Tree<'_>) -> Result<(), LoadErr> {
     assert!(rt; meet(rt, tree)?);
     let loaded = by_workers(rt, tree, 64, &OpenGate)?;
-    assert!(rt; loaded.prints.as_slice() == b"//:BUILD: 3\n".as_slice());
+    let prints = loaded.prints.to_vec(tree.alloc)?;
+    assert!(rt; prints.as_slice() == b"//:BUILD: 3\n".as_slice());
     Ok(())
 }
 

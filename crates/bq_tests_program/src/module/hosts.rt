@@ -1,5 +1,6 @@
 //! Hosts: which calls reach them, in which order, and what becomes of a file whose call is refused.
-ghost use Rattle.bq_tests_program.specs.Noting.{noted};
+ghost use Rattle.std.specs.Prelude.{◌≡◌};
+ghost use Rattle.bq_tests_program.specs.Noting.{is_licenses, noted};
 
 use crate::chunks::{Subject, add_line, check_chunks};
 use crate::program::{Setting, run_chunk};
@@ -11,22 +12,31 @@ use bq_label::PackageId;
 use bq_package_rule_class::{AttributeValue, RuleClass};
 use bq_package_typed_value::Written;
 use bq_parse_grammar::FileKind;
+use bq_resolve_predeclared::HostFunction;
 use bq_value::{EvalErr, Value};
 use std::alloc::{AllocError, Global};
 use std::fmt::Write;
 
-/// Notes the ids of the calls that it accepts: all but those of `licenses`, which are F70; and 99 for a call of a declared rule.
+/// Notes the calls that it accepts: all but those of `licenses`, which are F70.
 #[derive(Drop)]
 struct Noting {
-    ids: Vec<u32>,
+    /// The functions that were called; none for a rule that a .bzl file declares.
+    calls: Vec<Option<HostFunction>>,
+}
+
+fn is_licenses(function: HostFunction) -> bool
+    ensures { result ≡ is_licenses function }
+{
+    matches!(function, HostFunction::Licenses)
 }
 
 impl Host for Noting {
-    ghost use Rattle.std.specs.Prelude.{ℕ, List};
+    ghost use Rattle.std.specs.Prelude.{List, Option};
+    ghost use Rattle.bq_resolve_predeclared.specs.declared.host_function.HostFunction.{HostFunction};
 
-    ghost Kept = { List ℕ };
+    ghost Kept = { List (Option HostFunction) };
 
-    ghost seen = { λ h. h.ids.items };
+    ghost seen = { λ h. h.calls.items };
 
     ghost means = { noted };
 
@@ -42,14 +52,14 @@ impl Host for Noting {
     fn call(
         &mut self,
         _alloc: Global,
-        id: u32,
+        function: HostFunction,
         _args: Args,
         _machine: &mut Machine,
     ) -> Result<Value, EvalErr> {
-        if id == 3 {
+        if is_licenses(function) {
             return Err(EvalErr::Bad(FaultKind::NotInPackage));
         }
-        self.ids.push(id)?;
+        self.calls.push(Some(function))?;
         Ok(Value::none())
     }
 
@@ -62,18 +72,38 @@ impl Host for Noting {
         _args: Args,
         _machine: &mut Machine,
     ) -> Result<Value, EvalErr> {
-        self.ids.push(99)?;
+        self.calls.push(None)?;
         Ok(Value::none())
     }
 }
 
-fn ids_line(alloc: Global, ids: &[u32]) -> Result<Vec<u8>, AllocError> {
-    let mut line = String::new(alloc);
-    line.push_str("calls")?;
-    for id in ids {
-        write!(line, " {id}")?;
+/// Writes the name of a build function, the place of a rule of the schema, or `declared`.
+fn write_call(
+    line: &mut Vec<u8>,
+    alloc: Global,
+    call: Option<HostFunction>,
+) -> Result<(), AllocError> {
+    line.extend_from_slice(b" ")?;
+    match call {
+        None => line.extend_from_slice(b"declared"),
+        Some(HostFunction::Rule(place)) => {
+            let mut text = String::new(alloc);
+            write!(text, "{place}")?;
+            line.extend_from_slice(&text.into_bytes())
+        }
+        Some(function) => match function.name() {
+            None => Ok(()),
+            Some(name) => line.extend_from_slice(name),
+        },
     }
-    Ok(line.into_bytes())
+}
+
+fn calls_line(alloc: Global, calls: &[Option<HostFunction>]) -> Result<Vec<u8>, AllocError> {
+    let mut line = b"calls".to_vec(alloc)?;
+    for call in calls {
+        write_call(&mut line, alloc, *call)?;
+    }
+    Ok(line)
 }
 
 /// The names of two rules.
@@ -84,7 +114,7 @@ fn rules(alloc: Global) -> Result<Vec<Bytes>, AllocError> {
     Ok(rules)
 }
 
-/// What a chunk prints, and the ids of the calls that were accepted.
+/// What a chunk prints, and the calls that were accepted.
 struct Calls;
 
 impl Subject for Calls {
@@ -100,11 +130,11 @@ impl Subject for Calls {
             limit: 1_000_000,
         };
         let host = Noting {
-            ids: Vec::new(alloc),
+            calls: Vec::new(alloc),
         };
         let mut whole = Vec::new(alloc);
         if let Some(evaluated) = run_chunk(setting, FileKind::Build, text, host, &mut whole)? {
-            add_line(&mut whole, &ids_line(alloc, &evaluated.host.ids)?)?;
+            add_line(&mut whole, &calls_line(alloc, &evaluated.host.calls)?)?;
         }
         Ok(whole)
     }
@@ -120,7 +150,7 @@ glob(["*"])
 filegroup(name = "a")
 genrule()
 print(package_name(1, 2), exports_files(x = 3), package_group(), package()) #> None None None None
-#> calls 0 6 7 1 4 5 2
+#> calls glob 0 1 package_name exports_files package_group package
 ---
 x = 1
 #> calls
@@ -130,7 +160,7 @@ package()
 print("kept") #> kept
 licenses(["x"]) #! F70 NotInPackage
 package()
-#> calls 2
+#> calls package
 ---
 # The arguments are evaluated before the host is called.
 #> argument
@@ -146,7 +176,7 @@ load(":m.bzl", "f")
 f("a")
 package_name()
 f("b")
-#> calls 7 0 1 7 0
+#> calls 1 glob package_name 1 glob
 ---
 # While a .bzl file is evaluated, none may be called.
 print("kept") #> kept
@@ -158,7 +188,7 @@ package_name()
 f = filegroup
 f(name = "a")
 print(f, f == filegroup, [glob], type(package)) #> <built-in function filegroup> True [<built-in function glob>] builtin_function_or_method
-#> calls 6
+#> calls 0
 ---
 # A name of the file takes the place of a rule.
 filegroup = len
@@ -177,7 +207,7 @@ load(":m.bzl", "f", "my")
 my(name = "a")
 f("b")
 print(my, type(my), my == my) #> <rule> rule True
-#> calls 99 99 7
+#> calls declared declared 1
 ---
 def _impl(ctx):
     pass
@@ -186,7 +216,7 @@ rules = [rule(_impl)]
 load(":m.bzl", "rules")
 glob([])
 rules[0](name = "a") #! F57 BadValue
-#> calls 0
+#> calls glob
 ---
 # The package of defaults is the host's matter.
 def f():

@@ -11,6 +11,10 @@ attr["int"] #! F20 UnknownName attr
 ---
 attr + attr.int() #! F20 UnknownName attr
 ---
+(attr).int() #! F20 UnknownName attr
+---
+print([((attr)).string(default = "a")]) #! F20 UnknownName attr
+---
 x = attr.none() #! F20 UnknownName none
 ---
 x = attr.output() #! F20 UnknownName output
@@ -29,7 +33,7 @@ attr.int().string() #! F58 NoMethod
 ---
 # The file's own `attr`, in all of it.
 attr = "a"
-print(attr.upper(), attr) #> A a
+print(attr.upper(), (attr).upper(), attr) #> A A a
 ---
 print(attr.int()) #! F49 Unbound
 attr = "a"

@@ -6,13 +6,13 @@ use Rattle.bq_eval_rule_functions.proofs.Building.{Left, first, more_is, none_mi
 use Rattle.bq_eval_rule_functions.proofs.rule.entries.Goals as goal
 
 pub loop-i-init : goal.loop-i-init
-loop-i-init c = subst (Left c.args.dict.now 0) (sym c.in_ok-class.ensures) (first c.args.dict.now c.requires)
+loop-i-init c = subst (Left c.args.dict.now 0) (sym c.new-attributes.ensures) (first c.args.dict.now c.requires)
 
 pub returns-in-None : goal.returns-in-None
 returns-in-None c =
     let w = c.pair.result.1.now in
     let p : Datum × Datum = (c.pair.result.0.now, w) in
-    let x = c.loop-i.class in
+    let x = c.loop-i.attributes in
     let n = c.in_ok-name.name in
     let a = c.in_ok-name.attribute in
     let is : entry p ≡ Ok (n, a) = ap (λ k. entry (k, w)) (sym c.value.ensures.same) ∙ c.in_ok-name.ensures in
@@ -23,7 +23,7 @@ pub loop-i-preserved : goal.loop-i-preserved
 loop-i-preserved c =
     let w = c.pair.result.1.now in
     let p : Datum × Datum = (c.pair.result.0.now, w) in
-    let x = c.loop-i.class in
+    let x = c.loop-i.attributes in
     let n = c.in_ok-name.name in
     let a = c.in_ok-name.attribute in
     let is : entry p ≡ Ok (n, a) = ap (λ k. entry (k, w)) (sym c.value.ensures.same) ∙ c.in_ok-name.ensures in

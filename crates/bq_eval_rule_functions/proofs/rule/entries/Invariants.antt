@@ -3,4 +3,4 @@ use Rattle.bq_eval_rule_functions.proofs.Building.{Left}
 use Rattle.bq_eval_rule_functions.proofs.rule.entries.Given as goal
 
 abbrev pub invariant-loop-i : goal.invariant-loop-i
-invariant-loop-i l = Left l.dict l.i l.class
+invariant-loop-i l = Left l.dict l.i l.attributes

@@ -4,4 +4,4 @@ use Rattle.bq_load.specs.Loaded.{print_lines}
 use Rattle.bq_load.proofs.lines.print_lines.Given as goal
 
 abbrev pub invariant-loop-each : goal.invariant-loop-each
-invariant-loop-each l = l.text.items ++ print_lines (map outcome_view (drop l.each-index l.modules)) ≡ print_lines (map outcome_view l.modules)
+invariant-loop-each l = l.text ++ print_lines (map outcome_view (drop l.each-index l.modules)) ≡ print_lines (map outcome_view l.modules)

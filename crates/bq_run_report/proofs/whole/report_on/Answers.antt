@@ -13,6 +13,6 @@ returns c =
     let query = c.args.question.query.now in
     let form = c.args.question.form in
     let reply = c.in_ok-reply.reply in
-    whole i query form c.add_dangling.new.lines c.in_ok-text.text.items reply.text.items reply.end
+    whole i query form c.add_dangling.new.lines c.in_ok-text.text reply.text.items reply.end
     (c.in_ok-add_dangling.ensures ∙ ap (λ (ps : List PackageTargets). put_lines i.faults (all_dangling ps)) c.deref.ensures.value) c.in_ok-text.ensures
     (subst (λ (status : Status). RepliesOver i.packages query form status (reply_view reply)) c.status_by-status.ensures c.in_ok-reply.ensures)

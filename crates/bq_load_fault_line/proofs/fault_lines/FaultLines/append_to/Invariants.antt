@@ -5,4 +5,4 @@ use Rattle.bq_load_fault_line.proofs.fault_lines.FaultLines.append_to.Given as g
 
 -- what is appended, and what is printed of the lines that are left
 abbrev pub invariant-loop-line : goal.invariant-loop-line
-invariant-loop-line l = l.text.items ++ flat_map line_text l.line-iterator ≡ l.fn.text.items ++ flat_map line_text l.fn.self
+invariant-loop-line l = l.text ++ flat_map line_text l.line-iterator ≡ l.fn.text ++ flat_map line_text l.fn.self

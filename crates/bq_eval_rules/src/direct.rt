@@ -1,0 +1,46 @@
+//! Positional arguments that go straight into the frame: a call with as many of them as there are plain parameters needs no binding.
+
+ghost use Rattle.std.specs.Prelude.{◌≡◌, IfOk};
+ghost use Rattle.bq_eval_meaning_spec.specs.Frame.{empty};
+ghost use Rattle.bq_eval_rules.specs.Direct.{are_plain, filled};
+ghost use Rattle.bq_eval_rules.specs.Slots.{slots_of};
+
+use crate::frame::Frame;
+use bq_resolve_scope::CodeParameter;
+use bq_value::Value;
+use std::alloc::{AllocError, Global};
+
+/// Returns whether no parameter has a default or a star.
+pub fn are_plain(parameters: &[CodeParameter]) -> bool
+    ensures { result ≡ are_plain parameters.now }
+{
+    for parameter in parameters {
+        match parameter {
+            CodeParameter::Plain(_, _) => {}
+            _ => return false,
+        }
+    }
+    true
+}
+
+/// Returns a frame with room for `slots` slots in which these plain parameters hold `values`, one each.
+#[tactic(auto, using(crate::proofs::Slots::none_filled), unfolding(crate::specs::Direct::filled))]
+pub fn plain_frame<'f>(
+    alloc: Global,
+    slots: usize,
+    parameters: &[CodeParameter],
+    values: Vec<Value>,
+) -> Result<Frame<'f>, AllocError>
+    ensures { IfOk result (λ f. slots_of f ≡ filled parameters.now values.items empty) }
+{
+    let mut frame = Frame::with_room(alloc, slots)?;
+    let mut left = parameters;
+    for value in values {
+        let [CodeParameter::Plain(_, slot), rest @ ..] = left else {
+            return Ok(frame);
+        };
+        frame.fill(*slot, value)?;
+        left = rest;
+    }
+    Ok(frame)
+}

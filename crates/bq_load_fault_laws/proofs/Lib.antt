@@ -1,0 +1,6 @@
+-- what is read of a file is its code, or a fault of one of its parts
+pub mod Texts
+-- so is the outcome of each module
+pub mod Outcomes
+-- and each line of a workspace that is loaded
+pub mod Lines

@@ -1,0 +1,138 @@
+//! The keyword arguments of a call. A call has few of them, so they are mostly looked through one by one, and no dict is made.
+
+ghost use Rattle.std.specs.Prelude.{◌≡◌, [], length, option_copied, Ok, IfOk};
+ghost use Rattle.std.specs.Option.{is_some};
+ghost use Rattle.bq_base.specs.Gives.{Gives};
+ghost use Rattle.bq_value.specs.declared.error.EvalErr.TheVariants.{Bad};
+ghost use Rattle.bq_value.specs.Datum.{string};
+ghost use Rattle.bq_value.specs.Pairs.{found};
+ghost use Rattle.bq_builtin_machine.specs.Binding.{bind};
+ghost use Rattle.bq_package_typed_value.specs.Steps.{and_then};
+ghost use Rattle.bq_package_attributes.specs.Declarations.{keywords_alone};
+ghost use Rattle.bq_package_attributes.specs.Named.{pairs, pairs_of, are_new};
+
+use bq_base::{Bytes, FaultKind};
+use bq_builtin_machine::{Args, Signature, bind};
+use bq_value::{Dict, EvalErr, Key, Value};
+use bq_value_seed::Seed;
+use std::alloc::{AllocError, Global};
+use std::marker::Model;
+
+/// So many arguments are looked through one by one. More are in a dict.
+const FEW: usize = 16;
+
+/// How arguments are held.
+#[derive(Drop)]
+pub(crate) enum Held {
+    Few(Vec<(Bytes, Value)>),
+    Many(Dict),
+}
+
+/// The keyword arguments of a call, none of them twice, in the order in which they are written. Contracts see the pairs of a dict.
+#[derive(Drop)]
+pub(crate) struct Keywords {
+    pub(crate) held: Held,
+}
+
+impl Model for Keywords {
+    ghost use Rattle.std.specs.Prelude.{List};
+    ghost use Rattle.bq_value.specs.Datum.{Datum};
+    ghost use Rattle.bq_value.specs.Contents.{coded_pairs};
+    ghost use Rattle.bq_package_attributes.specs.Named.{pairs_of};
+
+    ghost Value = { List (Datum × Datum) };
+
+    ghost coded = { coded_pairs };
+
+    ghost view = { λ k. pairs_of k.held };
+}
+
+/// The value of the argument of this name.
+fn value_of<'a>(mut named: &'a [(Bytes, Value)], name: &[u8]) -> Option<&'a Value>
+    ensures { option_copied result ≡ found (string name.now) (pairs named.entry.now) }
+{
+    while let [argument, rest @ ..] = named {
+        if name == argument.0.as_slice() {
+            return Some(&argument.1);
+        }
+        named = rest;
+    }
+    None
+}
+
+/// No argument has the name of one before it.
+fn are_new(named: &[(Bytes, Value)]) -> bool
+    ensures { result ≡ are_new [] named.now }
+{
+    for at in 0..named.len() {
+        if value_of(&named[..at], named[at].0.as_slice()).is_some() {
+            return false;
+        }
+    }
+    true
+}
+
+/// Few arguments, or F52.
+fn few(args: Args) -> Result<Keywords, EvalErr>
+    ensures { Gives (λ keywords. keywords) Bad result (and_then (bind keywords_alone args) (λ b. Ok b.keywords)) }
+{
+    let Args { positional, named } = args;
+    if positional.len() > 0 {
+        return Err(EvalErr::Bad(FaultKind::Args));
+    }
+    if !are_new(&named) {
+        return Err(EvalErr::Bad(FaultKind::Args));
+    }
+    Ok(Keywords {
+        held: Held::Few(named),
+    })
+}
+
+/// Any number of arguments, or F52.
+fn many(alloc: Global, seed: Seed, args: Args) -> Result<Keywords, EvalErr>
+    ensures { Gives (λ keywords. keywords) Bad result (and_then (bind keywords_alone args) (λ b. Ok b.keywords)) }
+{
+    let signature = Signature {
+        parameters: &[],
+        placed: 0,
+        takes_rest: false,
+        takes_keywords: true,
+    };
+    let bound = bind(alloc, seed, &signature, args)?;
+    Ok(Keywords {
+        held: Held::Many(bound.keywords),
+    })
+}
+
+impl Keywords {
+    /// The arguments of a call that has keyword arguments alone, or F52.
+    pub(crate) fn of(alloc: Global, seed: Seed, args: Args) -> Result<Keywords, EvalErr>
+        ensures { Gives (λ keywords. keywords) Bad result (and_then (bind keywords_alone args) (λ b. Ok b.keywords)) }
+    {
+        if args.named.len() > FEW {
+            return many(alloc, seed, args);
+        }
+        few(args)
+    }
+
+    /// How many arguments.
+    pub(crate) fn len(&self) -> usize {
+        match &self.held {
+            Held::Few(named) => named.len(),
+            Held::Many(dict) => dict.len(),
+        }
+    }
+
+    /// The value of the argument of this name.
+    pub(crate) fn get(&self, alloc: Global, name: &[u8]) -> Result<Option<&Value>, AllocError>
+        ensures { IfOk result (λ value. option_copied value ≡ found (string name.now) self.now) }
+    {
+        match &self.held {
+            Held::Few(named) => Ok(value_of(named, name)),
+            Held::Many(dict) => {
+                let key = Key::new(Value::string(Bytes::from_slice(alloc, name)?));
+                Ok(dict.get(&key))
+            }
+        }
+    }
+}

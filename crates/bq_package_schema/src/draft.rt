@@ -1,0 +1,153 @@
+//! The rules that the lines of a schema have declared so far, and what a further line makes of them.
+
+ghost use Rattle.std.specs.Prelude.{◌≡◌, IfOk};
+ghost use Rattle.bq_package_schema.specs.Schema.{no_rules, with_rule, with_attribute_of_last, after};
+ghost use Rattle.bq_package_schema.specs.Draft.{classes_of};
+
+use crate::line::Line;
+use crate::names::RuleNames;
+use crate::schema::Schema;
+use bq_base::Bytes;
+use bq_package_rule_class::{Attribute, Attributes, RuleClass};
+use sqlite_items::Items;
+use std::alloc::{AllocError, Global};
+use std::marker::Model;
+
+/// The classes of the rules so far.
+#[derive(Drop)]
+pub struct Classes {
+    /// Those of the rules before the last.
+    pub before: Items<RuleClass>,
+    /// The attributes of the last rule, to which lines may add.
+    pub last: Attributes,
+}
+
+/// The rules so far. Contracts see what they see of a schema.
+#[derive(Drop)]
+pub struct Draft {
+    names: Vec<Bytes>,
+    /// The same names, where each is found.
+    places: RuleNames,
+    /// None while there is no rule.
+    classes: Option<Classes>,
+}
+
+impl Model for Draft {
+    ghost use Rattle.std.specs.Prelude.{◌≡◌};
+    ghost use Rattle.bq_package_schema.specs.Schema.{Rules};
+    ghost use Rattle.bq_package_schema.specs.Draft.{classes_of};
+
+    ghost Value = { Rules };
+
+    ghost view = { λ d. record { names = d.names.items; classes = classes_of d.classes } };
+
+    ghost invariant = { λ d. d.places ≡ d.names.items };
+}
+
+/// The classes, each of which is shared from now on.
+fn shared(alloc: Global, classes: Option<Classes>) -> Result<Items<RuleClass>, AllocError>
+    ensures { IfOk result (λ all. all ≡ classes_of classes) }
+{
+    let Some(classes) = classes else {
+        return Ok(Items::new(alloc));
+    };
+    let Classes { before, last } = classes;
+    let mut all = before;
+    all.push(RuleClass::of(alloc, last)?)?;
+    Ok(all)
+}
+
+impl Draft {
+    pub fn empty(alloc: Global) -> Draft
+        ensures { result ≡ no_rules }
+    {
+        Draft {
+            names: Vec::new(alloc),
+            places: RuleNames::new(alloc),
+            classes: None,
+        }
+    }
+
+    /// The schema that declares these rules.
+    pub fn finish(self, alloc: Global) -> Result<Schema, AllocError>
+        ensures { IfOk result (λ s. s ≡ self) }
+    {
+        let Draft {
+            names,
+            places,
+            classes,
+        } = self;
+        Ok(Schema {
+            names,
+            places,
+            classes: shared(alloc, classes)?,
+        })
+    }
+
+    /// One more rule, without attributes; none where one has the name.
+    #[tactic(auto, unfolding(crate::specs::Schema::with_rule, crate::specs::Schema::with_name))]
+    fn with_rule(self, alloc: Global, name: Bytes) -> Result<Option<Draft>, AllocError>
+        ensures { IfOk result (λ d. d ≡ with_rule self name) }
+    {
+        let Draft {
+            mut names,
+            mut places,
+            classes,
+        } = self;
+        if !places.add(alloc, name.as_slice())? {
+            return Ok(None);
+        }
+        names.push(name)?;
+        let classes = Classes {
+            before: shared(alloc, classes)?,
+            last: Attributes::new(alloc),
+        };
+        Ok(Some(Draft {
+            names,
+            places,
+            classes: Some(classes),
+        }))
+    }
+
+    /// One more attribute of the last rule; none where there is no rule, or it has one of the name.
+    #[tactic(auto, using(crate::proofs::Lasts::no_last, crate::proofs::Lasts::none_more, crate::proofs::Lasts::one_more))]
+    fn with_attribute(
+        self,
+        alloc: Global,
+        name: Bytes,
+        attribute: Attribute,
+    ) -> Result<Option<Draft>, AllocError>
+        ensures { IfOk result (λ d. d ≡ with_attribute_of_last self name attribute) }
+    {
+        let Draft {
+            names,
+            places,
+            classes,
+        } = self;
+        let Some(classes) = classes else {
+            return Ok(None);
+        };
+        let Classes { before, last } = classes;
+        match last.with(alloc, name.as_slice(), attribute)? {
+            None => Ok(None),
+            Some(last) => Ok(Some(Draft {
+                names,
+                places,
+                classes: Some(Classes { before, last }),
+            })),
+        }
+    }
+
+    /// With what a line declares; none where the line is a bad one.
+    #[tactic(auto, unfolding(crate::specs::Schema::after))]
+    pub fn after(self, alloc: Global, line: Line) -> Result<Option<Draft>, AllocError>
+        ensures { IfOk result (λ d. d ≡ after self line) }
+    {
+        match line {
+            Line::Skipped => Ok(Some(self)),
+            Line::Rule(name) => self.with_rule(alloc, name),
+            Line::Attribute(name, attribute) => self.with_attribute(alloc, name, attribute),
+            Line::Other => Ok(None),
+        }
+    }
+}

@@ -1,0 +1,152 @@
+//! Which number a label has: the place, among targets in order, of the one that has the label.
+
+ghost use Rattle.std.specs.Prelude.{◌≡◌, Some, position};
+ghost use Rattle.std.specs.Bool.{OnTrue};
+ghost use Rattle.std.specs.List.Sorted.{IsStrictlySortedBy};
+ghost use Rattle.bq_label_set.specs.Labels.{same_label};
+ghost use Rattle.bq_query_target_graph.specs.Order.{target_cmp, labels_of};
+
+use bq_label::Label;
+use bq_package_target::{Target, is_of};
+use sqlite_items::at;
+use std::cell::Cell;
+use std::marker::Model;
+
+/// The labels of targets in order, each with its target's number. Contracts see the list of them.
+///
+/// Most labels are found by few looks: lists of sources are mostly sorted, so the one after the label that was found last comes first;
+/// then the label of another package that was found last, since neighbours often name the same one; and then the targets of the package
+/// that is entered. Only a label that is at no such place is looked for among all.
+#[derive(Drop)]
+pub struct Numbers<'a> {
+    targets: &'a [Target],
+    /// The targets of the package that is entered, and the number of the first of them.
+    own: &'a [Target],
+    first: usize,
+    /// The number of the label of another package that was found last.
+    far: Cell<usize>,
+}
+
+impl<'a> Model for Numbers<'a> {
+    ghost use Rattle.std.specs.Prelude.{List};
+    ghost use Rattle.std.specs.List.Sorted.{IsStrictlySortedBy};
+    ghost use Rattle.bq_label.specs.Label.{LabelParts};
+    ghost use Rattle.bq_query_target_graph.specs.Order.{target_cmp, labels_of};
+
+    ghost Value = { List LabelParts };
+
+    ghost view = { λ n. labels_of n.targets.now };
+
+    ghost invariant = { λ n. IsStrictlySortedBy target_cmp n.targets.now };
+}
+
+/// Whether it is one label. The names are compared first, since they differ most often.
+#[tactic(auto, unfolding(bq_label_set::specs::Labels::same_label))]
+fn is_same(a: &Label, b: &Label) -> bool
+    ensures { result ≡ same_label a.now b.now }
+{
+    a.name() == b.name() && a.package() == b.package() && a.repo() == b.repo()
+}
+
+/// Whether the target of this number has the label.
+fn has_at(targets: &[Target], number: usize, label: &Label) -> bool
+    requires { IsStrictlySortedBy target_cmp targets.now }
+    ensures { OnTrue result (position (same_label label.now) (labels_of targets.now) ≡ Some number) }
+{
+    match at(targets, number) {
+        Some(target) => is_same(label, &target.label),
+        None => false,
+    }
+}
+
+/// The number of the target that has the label, by binary search.
+fn found(targets: &[Target], label: &Label) -> Option<usize>
+    requires { IsStrictlySortedBy target_cmp targets.now }
+    ensures { result ≡ position (same_label label.now) (labels_of targets.now) }
+{
+    match targets.binary_search_by(|target| target.label.cmp(label)) {
+        Ok(place) => {
+            let _other = targets[place].label.name(); // PROOF: both labels are valid
+            let _name = label.name();
+            Some(place)
+        }
+        Err(_) => None,
+    }
+}
+
+/// The number of the target that has the label, which may be this one.
+fn number_of(targets: &[Target], likely: usize, label: &Label) -> Option<usize>
+    requires { IsStrictlySortedBy target_cmp targets.now }
+    ensures { result ≡ position (same_label label.now) (labels_of targets.now) }
+{
+    if has_at(targets, likely, label) {
+        return Some(likely);
+    }
+    found(targets, label)
+}
+
+impl<'a> Numbers<'a> {
+    /// The labels of these targets.
+    pub fn of(targets: &'a [Target]) -> Numbers<'a>
+        requires { IsStrictlySortedBy target_cmp targets.now }
+        ensures { result ≡ labels_of targets.now }
+    {
+        Numbers {
+            targets,
+            own: &targets[..0],
+            first: 0,
+            far: Cell::new(0),
+        }
+    }
+
+    /// Enters the package of the target of this number, unless it is entered already.
+    pub fn enter(&mut self, number: usize)
+        ensures { self.new ≡ self.old }
+    {
+        let targets = self.targets;
+        if number >= targets.len() || number < self.first.saturating_add(self.own.len()) {
+            return;
+        }
+        let own = targets[number].label.package_id();
+        let rest = &targets[number..];
+        let count = rest.partition_point(|target| is_of(own, &target.label));
+        self.own = &rest[..count];
+        self.first = number;
+    }
+
+    /// The number that the label has if its package is the one that is entered.
+    fn number_inside(&self, label: &Label) -> usize {
+        match self
+            .own
+            .binary_search_by(|target| target.label.name().cmp(label.name()))
+        {
+            Ok(at) => self.first.saturating_add(at),
+            Err(_) => self.first,
+        }
+    }
+
+    /// Keeps the number of a label, where that is of another package than the one that is entered.
+    fn keep(&self, number: Option<usize>) {
+        if let Some(number) = number {
+            if number < self.first || number >= self.first.saturating_add(self.own.len()) {
+                self.far.set(number);
+            }
+        }
+    }
+
+    /// The number of a label, which is looked for first at the number `next`.
+    pub fn number(&self, next: usize, label: &Label) -> Option<usize>
+        ensures { result ≡ position (same_label label.now) self.now }
+    {
+        if has_at(self.targets, next, label) {
+            return Some(next);
+        }
+        let far = self.far.get();
+        if has_at(self.targets, far, label) {
+            return Some(far);
+        }
+        let number = number_of(self.targets, self.number_inside(label), label);
+        self.keep(number);
+        number
+    }
+}
