@@ -85,15 +85,15 @@ pub fn a_value_that_is_there_stays()
     ensures { (k d v : Datum) (ps : List (Datum × Datum)) → found k ps ≡ Some v → with_default k d ps ≡ Ok (v, ps) }
 {}
 
-/// `get` only looks: its answer is a value of the dict, or the value that was given for a key that isn't there, and no list or dict is
-/// changed.
+/// `get` changes no list and no dict: it returns a value of the dict, or for a key that isn't there the value that was
+/// given.
 #[tactic(auto, using(crate::proofs::Getting::looks))]
 pub fn getting_changes_nothing()
     ensures { (home number : ℕ) (ps : List (Datum × Datum)) (k answer : Datum) (o : Option Datum) (args : List Datum) (s t : State) → one_or_two args ≡ Ok (k, o) → IsDict s home number ps → dict.get home number args s ≡ done answer t → OnlyLooks ps o answer s t }
 {}
 
-/// `list.index(v, start, end)` answers a place of the whole list, from `start` on and before `end`: the element there is equal to `v`,
-/// and none between `start` and it is.
+/// `list.index(v, start, end)` returns a place of the whole list, from `start` on and before `end`: the element there
+/// is equal to `v`, and none between `start` and it is.
 #[tactic(auto, using(crate::proofs::Indices::first_index))]
 pub fn indices_are_of_the_whole_list()
     ensures { (home number : ℕ) (xs : List Datum) (v answer : Datum) (o p : Option Datum) (start end : Option ℤ) (args : List Datum) (s t : State) → one_to_three args ≡ Ok (v, (o, p)) → optional_integer o ≡ Ok start → optional_integer p ≡ Ok end → IsList s home number xs → list.index home number args s ≡ done answer t → IsFirstIndex xs v start end answer s }

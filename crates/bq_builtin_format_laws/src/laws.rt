@@ -18,7 +18,8 @@ pub fn values_are_just_enough()
     ensures { (s : StoreView) (n : ℕ) (format : List ℕ) (values more : List Datum) (v : Datum) (text : List ℕ × ℕ) → text_filled s n format values ≡ Ok text → text_filled s n format (values ++ v ∷ more) ≡ Err Format }
 {}
 
-/// `%%` takes no value: a text, each percent sign of it written twice, is a format that is filled without any value, and gives the text.
+/// `%%` takes no value: a text with each percent sign written twice is a format that is filled without any value, and
+/// makes the text.
 #[tactic(auto, using(crate::proofs::Doubled::doubled_gives))]
 pub fn doubled_percent_signs_give_the_text()
     ensures { (s : StoreView) (n : ℕ) (text : List ℕ) → length text ≤ max_text → text_filled s n (doubled text) [] ≡ Ok (text, n) }

@@ -46,8 +46,8 @@ pub fn affixes_are_removed_once()
     ensures suffix { (text affix : List ℕ) → strip Removesuffix (text ++ affix) (string affix ∷ []) ≡ Ok text }
 {}
 
-/// `strip` leaves a part of the string as it stands: what it cuts off at the two ends are bytes of the set, and what is left neither
-/// begins nor ends with one. `lstrip` cuts at the start alone, and `rstrip` at the end.
+/// `strip` leaves a part of the string as it is: what it cuts off at the two ends are bytes of the set, and what is
+/// left neither begins nor ends with one. `lstrip` cuts at the start alone, and `rstrip` at the end.
 #[tactic(auto, using(crate::proofs::Stripping::both_ends, crate::proofs::Stripping::the_start, crate::proofs::Stripping::the_end))]
 pub fn stripped_strings_are_parts()
     ensures strip { (text set left : List ℕ) (vs : List Datum) → bytes_in (slice_get vs 0) ≡ Ok set → strip Strip text vs ≡ Ok left → IsCutAtBothEnds set text left }
@@ -55,8 +55,8 @@ pub fn stripped_strings_are_parts()
     ensures rstrip { (text set left : List ℕ) (vs : List Datum) → bytes_in (slice_get vs 0) ≡ Ok set → strip Rstrip text vs ≡ Ok left → IsCutAtEnd set text left }
 {}
 
-/// The place that a search of a region answers is one of the whole string: what is looked for stands there, inside the region, and
-/// `find` and `index` answer the first such place, `rfind` and `rindex` the last.
+/// The place that a search of a region returns is one of the whole string: what is looked for is there, inside the
+/// region, and `find` and `index` return the first such place, `rfind` and `rindex` the last.
 pub fn places_are_of_the_whole_string()
     ensures find { (sub text : List ℕ) (vs : List Datum) (start end : Option ℤ) (at : ℕ) → Asks vs sub start end → search Find text vs ≡ Ok (int (pos at)) → IsFirstInRegion sub text start end at }
     ensures rfind { (sub text : List ℕ) (vs : List Datum) (start end : Option ℤ) (at : ℕ) → Asks vs sub start end → search Rfind text vs ≡ Ok (int (pos at)) → IsLastInRegion sub text start end at }
@@ -64,7 +64,7 @@ pub fn places_are_of_the_whole_string()
     ensures rindex { (sub text : List ℕ) (vs : List Datum) (start end : Option ℤ) (at : ℕ) → Asks vs sub start end → search Rindex text vs ≡ Ok (int (pos at)) → IsLastInRegion sub text start end at }
 {}
 
-/// Where a search answers -1, or is F57, what is looked for stands nowhere in the region.
+/// Where a search returns -1, or is F57, what is looked for is nowhere in the region.
 pub fn what_is_not_found_is_not_there()
     ensures find { (sub text : List ℕ) (vs : List Datum) (start end : Option ℤ) (k : ℕ) → Asks vs sub start end → search Find text vs ≡ Ok (int (negsuc k)) → IsNotInRegion sub text start end }
     ensures rfind { (sub text : List ℕ) (vs : List Datum) (start end : Option ℤ) (k : ℕ) → Asks vs sub start end → search Rfind text vs ≡ Ok (int (negsuc k)) → IsNotInRegion sub text start end }

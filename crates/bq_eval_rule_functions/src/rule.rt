@@ -30,7 +30,7 @@ fn implemented(value: Option<&Value>) -> Result<(), FaultKind>
     }
 }
 
-/// An attribute, or F40.
+/// Returns an attribute, or F40.
 fn attribute_in(alloc: Global, value: &Value) -> Result<Attribute, EvalErr>
     ensures { Gives (λ x. x) Bad result (attribute_in value.now) }
 {

@@ -85,7 +85,7 @@ fn push_module(alloc: Global, text: &mut Rope, module: &ModuleOutcome) -> Result
     push_prints(alloc, text, form.as_slice(), prints)
 }
 
-/// What is printed of the modules: in the order of their labels, in each in the order of its calls.
+/// Returns the print lines of modules: in the order of their labels, and for each in the order of its calls.
 pub(crate) fn print_lines(alloc: Global, modules: &[ModuleOutcome]) -> Result<Rope, AllocError>
     ensures { IfOk result (λ text. text ≡ print_lines (map outcome_view modules.now)) }
 {

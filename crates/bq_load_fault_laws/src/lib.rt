@@ -4,9 +4,9 @@
 //! a module whose outcome is a fault fails in its tokens (F1 to F8), its statements (F10 to F13), its names (F20 to F24), its loads (F30 to
 //! F38), or its evaluation (F37, F40 to F60, F70 to F78).
 //!
-//! How the proofs go: what is read of a file is its code, or the fault of one of its parts, each with its numbers (`proofs/Texts.antt`); a
-//! file that has code was parsed and resolved, so it is evaluated with faults of evaluation alone (bq_package_fault_laws); all others are
-//! of loads (`proofs/Outcomes.antt`).
+//! The proofs: what is read of a file is its code, or the fault of one of its parts, each with its numbers
+//! (`proofs/Texts.antt`); a file that has code was parsed and resolved, so it is evaluated with faults of evaluation
+//! alone (bq_package_fault_laws); all others are of loads (`proofs/Outcomes.antt`).
 #![tactic(auto)]
 
 mod laws;

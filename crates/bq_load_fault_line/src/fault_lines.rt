@@ -62,7 +62,7 @@ impl FaultLines {
         text.to_vec(alloc)
     }
 
-    /// Appends what is printed of the lines. Each line is dropped once it is appended; a long detail is not copied.
+    /// Appends the text of the lines. Each line is dropped once it is appended; a long detail is not copied.
     pub fn append_to(self, alloc: Global, text: &mut Rope) -> Result<(), AllocError>
         ensures { OnOk result (text.new ≡ text.old ++ flat_map line_text self) }
     {

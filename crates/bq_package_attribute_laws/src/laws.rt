@@ -35,8 +35,8 @@ pub fn calls_of_rules_are_refused_in_order()
     ensures { (own : PackageParts) (packages : List BuildFile) (store : StoreView) (class : Class) (rule : List ℕ) (line : ℕ) (passed : Passed) → FailsForFirst (declaration own packages store class rule line passed) (declaring own packages store class passed) }
 {}
 
-/// A call that declares a target gives each attribute that has to be given: one of its arguments has the name, and a value that is not
-/// `None`. That the attribute has a default changes nothing.
+/// A call that declares a target gives each mandatory attribute: one of its arguments has the name, and a value that
+/// isn't `None`. A default of the attribute doesn't change that.
 #[tactic(auto, using(crate::proofs::Given::each_is_given))]
 pub fn mandatory_attributes_are_given_by_the_call()
     ensures { (own : PackageParts) (packages : List BuildFile) (store : StoreView) (class : Class) (rule : List ℕ) (line : ℕ) (passed : Passed) (t : Target) → declaration own packages store class rule line passed ≡ Ok t → (e : List ℕ × Attribute) → Contains class e → e.1.is_mandatory ≡ true → IsGivenBy passed.named e.0 }

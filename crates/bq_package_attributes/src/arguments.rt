@@ -137,7 +137,7 @@ impl Given {
         self.take_attribute(alloc, callee, name, value)
     }
 
-    /// Takes an argument that stands in a dict.
+    /// Takes an argument that is in a dict.
     #[tactic(auto, unfolding(crate::specs::Arguments::with_argument))]
     fn take_argument(
         &mut self,

@@ -17,7 +17,7 @@ use bq_value::EvalErr;
 use sqlite_items::Items;
 use std::alloc::{AllocError, Global};
 
-/// Whether a keyword argument of that name is there, and isn't `None`.
+/// Returns whether a keyword argument of that name is there, and isn't `None`.
 fn gives(alloc: Global, keywords: &Keywords, name: &[u8]) -> Result<bool, AllocError>
     ensures { IfOk result (λ given. given ≡ gives keywords.now name.now) }
 {
@@ -62,7 +62,7 @@ fn are_all(met: &[bool]) -> bool
     met.iter().all(|met| *met)
 }
 
-/// Whether each attribute that has to be given is.
+/// Returns whether each attribute that has to be given is.
 fn gives_mandatory(
     alloc: Global,
     class: &RuleClass,
@@ -129,7 +129,7 @@ fn add_defaults(
     Ok(())
 }
 
-/// What keyword arguments give.
+/// Returns what keyword arguments give.
 fn given(alloc: Global, callee: Callee<'_>, keywords: &Keywords) -> Result<Given, EvalErr>
     ensures { Gives (λ g. g) Bad result (with_arguments callee.entry.scope.own.now callee.entry.scope.packages.now callee.entry.store.now callee.entry.class.now nothing_given keywords.now) }
 {

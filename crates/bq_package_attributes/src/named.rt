@@ -1,4 +1,5 @@
-//! The keyword arguments of a call. A call has few of them, so they are mostly looked through one by one, and no dict is made.
+//! The keyword arguments of a call. A call has few of them, so mostly they are searched one by one, and no dict is
+//! made.
 
 ghost use Rattle.std.specs.Prelude.{◌≡◌, [], length, option_copied, Ok, IfOk};
 ghost use Rattle.std.specs.Option.{is_some};
@@ -18,7 +19,7 @@ use bq_value_seed::Seed;
 use std::alloc::{AllocError, Global};
 use std::marker::Model;
 
-/// So many arguments are looked through one by one. More are in a dict.
+/// Up to this many arguments are searched one by one. More are in a dict.
 const FEW: usize = 16;
 
 /// How arguments are held.
@@ -47,7 +48,7 @@ impl Model for Keywords {
     ghost view = { λ k. pairs_of k.held };
 }
 
-/// The value of the argument of this name.
+/// Returns the value of the argument of this name.
 fn value_of<'a>(mut named: &'a [(Bytes, Value)], name: &[u8]) -> Option<&'a Value>
     ensures { option_copied result ≡ found (string name.now) (pairs named.entry.now) }
 {
@@ -60,7 +61,7 @@ fn value_of<'a>(mut named: &'a [(Bytes, Value)], name: &[u8]) -> Option<&'a Valu
     None
 }
 
-/// No argument has the name of one before it.
+/// Returns whether no argument has the name of an earlier one.
 fn are_new(named: &[(Bytes, Value)]) -> bool
     ensures { result ≡ are_new [] named.now }
 {
@@ -72,7 +73,7 @@ fn are_new(named: &[(Bytes, Value)]) -> bool
     true
 }
 
-/// Few arguments, or F52.
+/// Makes a list of few arguments, or fails with F52.
 fn few(args: Args) -> Result<Keywords, EvalErr>
     ensures { Gives (λ keywords. keywords) Bad result (and_then (bind keywords_alone args) (λ b. Ok b.keywords)) }
 {
@@ -88,7 +89,7 @@ fn few(args: Args) -> Result<Keywords, EvalErr>
     })
 }
 
-/// Any number of arguments, or F52.
+/// Makes a dict of any number of arguments, or fails with F52.
 fn many(alloc: Global, seed: Seed, args: Args) -> Result<Keywords, EvalErr>
     ensures { Gives (λ keywords. keywords) Bad result (and_then (bind keywords_alone args) (λ b. Ok b.keywords)) }
 {
@@ -105,7 +106,7 @@ fn many(alloc: Global, seed: Seed, args: Args) -> Result<Keywords, EvalErr>
 }
 
 impl Keywords {
-    /// The arguments of a call that has keyword arguments alone, or F52.
+    /// Takes the arguments of a call that has keyword arguments alone, or fails with F52.
     pub(crate) fn of(alloc: Global, seed: Seed, args: Args) -> Result<Keywords, EvalErr>
         ensures { Gives (λ keywords. keywords) Bad result (and_then (bind keywords_alone args) (λ b. Ok b.keywords)) }
     {
@@ -115,7 +116,7 @@ impl Keywords {
         few(args)
     }
 
-    /// How many arguments.
+    /// Returns how many arguments there are.
     pub(crate) fn len(&self) -> usize {
         match &self.held {
             Held::Few(named) => named.len(),
@@ -123,7 +124,7 @@ impl Keywords {
         }
     }
 
-    /// The value of the argument of this name.
+    /// Returns the value of the argument of this name.
     pub(crate) fn get(&self, alloc: Global, name: &[u8]) -> Result<Option<&Value>, AllocError>
         ensures { IfOk result (λ value. option_copied value ≡ found (string name.now) self.now) }
     {

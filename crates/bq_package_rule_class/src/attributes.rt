@@ -9,7 +9,8 @@ use indexmap::IndexMap;
 use std::alloc::{AllocError, Global};
 use std::marker::Model;
 
-/// Attributes in the order in which they came, with one owner. Contracts see the list of them, each with its name.
+/// Attributes in the order in which they were added, with one owner. Contracts see the list of them, each with its
+/// name.
 #[derive(Drop)]
 pub struct Attributes {
     entries: IndexMap<Vec<u8>, Attribute>,
@@ -28,7 +29,7 @@ impl Model for Attributes {
 }
 
 impl Attributes {
-    /// None.
+    /// Makes an empty list.
     pub fn new(alloc: Global) -> Attributes
         ensures { result ≡ [] }
     {
@@ -74,7 +75,7 @@ impl Attributes {
         Ok(true)
     }
 
-    /// With one attribute more, as the last; none where one has the name.
+    /// Appends an attribute; `None` if one has the name.
     #[tactic(auto, unfolding(crate::specs::Class::extended, crate::specs::Class::with_attribute))]
     pub fn with(
         self,

@@ -27,7 +27,7 @@ impl Model for RuleClass {
 }
 
 impl RuleClass {
-    /// Of a rule that has these of its own.
+    /// Makes the class of a rule that has these of its own.
     pub fn of(alloc: Global, attributes: Attributes) -> Result<RuleClass, AllocError>
         ensures { IfOk result (λ c. c ≡ attributes) }
     {

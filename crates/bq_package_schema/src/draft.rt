@@ -1,4 +1,4 @@
-//! The rules that the lines of a schema have declared so far, and what a further line makes of them.
+//! The rules that the lines of a schema have declared so far, and what a further line adds to them.
 
 ghost use Rattle.std.specs.Prelude.{◌≡◌, IfOk};
 ghost use Rattle.bq_package_schema.specs.Schema.{no_rules, with_rule, with_attribute_of_last, after};
@@ -16,7 +16,7 @@ use std::marker::Model;
 /// The classes of the rules so far.
 #[derive(Drop)]
 pub struct Classes {
-    /// Those of the rules before the last.
+    /// The classes of the rules before the last.
     pub before: Items<RuleClass>,
     /// The attributes of the last rule, to which lines may add.
     pub last: Attributes,
@@ -26,9 +26,9 @@ pub struct Classes {
 #[derive(Drop)]
 pub struct Draft {
     names: Vec<Bytes>,
-    /// The same names, where each is found.
+    /// The same names, in which a name is looked up.
     places: RuleNames,
-    /// None while there is no rule.
+    /// `None` while there is no rule.
     classes: Option<Classes>,
 }
 
@@ -44,7 +44,7 @@ impl Model for Draft {
     ghost invariant = { λ d. d.places ≡ d.names.items };
 }
 
-/// The classes, each of which is shared from now on.
+/// Returns the classes, each of which is shared from now on.
 fn shared(alloc: Global, classes: Option<Classes>) -> Result<Items<RuleClass>, AllocError>
     ensures { IfOk result (λ all. all ≡ classes_of classes) }
 {
@@ -68,7 +68,7 @@ impl Draft {
         }
     }
 
-    /// The schema that declares these rules.
+    /// Returns the schema that declares these rules.
     pub fn finish(self, alloc: Global) -> Result<Schema, AllocError>
         ensures { IfOk result (λ s. s ≡ self) }
     {
@@ -84,7 +84,7 @@ impl Draft {
         })
     }
 
-    /// One more rule, without attributes; none where one has the name.
+    /// Adds a rule without attributes; `None` if one has the name.
     #[tactic(auto, unfolding(crate::specs::Schema::with_rule, crate::specs::Schema::with_name))]
     fn with_rule(self, alloc: Global, name: Bytes) -> Result<Option<Draft>, AllocError>
         ensures { IfOk result (λ d. d ≡ with_rule self name) }
@@ -109,7 +109,7 @@ impl Draft {
         }))
     }
 
-    /// One more attribute of the last rule; none where there is no rule, or it has one of the name.
+    /// Adds an attribute to the last rule; `None` if there is no rule, or it has one of the name.
     #[tactic(auto, using(crate::proofs::Lasts::no_last, crate::proofs::Lasts::none_more, crate::proofs::Lasts::one_more))]
     fn with_attribute(
         self,
@@ -138,7 +138,7 @@ impl Draft {
         }
     }
 
-    /// With what a line declares; none where the line is a bad one.
+    /// Adds what a line declares; `None` if the line is a bad one.
     #[tactic(auto, unfolding(crate::specs::Schema::after))]
     pub fn after(self, alloc: Global, line: Line) -> Result<Option<Draft>, AllocError>
         ensures { IfOk result (λ d. d ≡ after self line) }

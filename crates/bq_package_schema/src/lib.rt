@@ -9,7 +9,7 @@
 //! - `line`: what one line of a schema says;
 //! - `names`: names with their places;
 //! - `schema`: the rules that a schema declares;
-//! - `draft`: the rules declared so far, and what a further line makes of them;
+//! - `draft`: the rules declared so far, and what a further line adds to them;
 //! - `read`: the lines of a whole text;
 //! - `standard`: the schema of a workspace without a file of its own;
 //! - `laws`: what holds of every schema, said of its lines and names.

@@ -32,7 +32,7 @@ fn line_number(before: usize) -> u32
     }
 }
 
-/// The rules after one more line; none where the line is a bad one.
+/// Returns the rules after one more line; `None` if the line is a bad one.
 fn read_line(alloc: Global, draft: Draft, line: &[u8]) -> Result<Option<Draft>, AllocError>
     ensures { IfOk result (λ d. d ≡ after draft (line_of line.now)) }
 {

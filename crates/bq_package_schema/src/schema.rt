@@ -13,7 +13,7 @@ use std::marker::Model;
 #[derive(Drop)]
 pub struct Schema {
     pub(crate) names: Vec<Bytes>,
-    /// The same names, where each is found.
+    /// The same names, in which a name is looked up.
     pub(crate) places: RuleNames,
     pub(crate) classes: Items<RuleClass>,
 }
@@ -37,7 +37,7 @@ pub fn rule_names(schema: &Schema) -> &[Bytes]
 }
 
 impl Schema {
-    /// The number of the rule of this name: its place in the order of declaration.
+    /// Returns the number of the rule of this name: its place in the order of declaration.
     pub fn rule(&self, name: &[u8]) -> Option<usize>
         ensures { result ≡ position (bytes_eq name.now) self.now.names }
     {

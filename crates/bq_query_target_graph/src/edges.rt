@@ -15,7 +15,8 @@ use bq_package_target::{GivenAttribute, Target, TargetKind};
 use bq_query_graph::Edge;
 use std::alloc::{AllocError, Global};
 
-/// The number after the one that the last edge leads to: lists of labels are mostly sorted, so it is likely the next one's.
+/// Returns the number after the one that the last edge leads to: lists of labels are mostly sorted, so it is likely the
+/// next one's.
 fn next_number(edges: &[Edge]) -> usize {
     match edges.last() {
         Some(edge) => edge.to.saturating_add(1),
@@ -101,7 +102,7 @@ fn add_target(
     }
 }
 
-/// The edges between targets, by their numbers.
+/// Returns the edges between targets, by their numbers.
 pub fn edges(alloc: Global, targets: &[Target]) -> Result<Vec<Edge>, AllocError>
     requires { IsStrictlySortedBy target_cmp targets.now }
     ensures { IfOk result (λ es. es.items ≡ edges_from (labels_of targets.now) 0 targets.now) }

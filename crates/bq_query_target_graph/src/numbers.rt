@@ -40,7 +40,7 @@ impl<'a> Model for Numbers<'a> {
     ghost invariant = { λ n. IsStrictlySortedBy target_cmp n.targets.now };
 }
 
-/// Whether it is one label. The names are compared first, since they differ most often.
+/// Returns whether the labels are one. The names are compared first, since they differ most often.
 #[tactic(auto, unfolding(bq_label_set::specs::Labels::same_label))]
 fn is_same(a: &Label, b: &Label) -> bool
     ensures { result ≡ same_label a.now b.now }
@@ -48,7 +48,7 @@ fn is_same(a: &Label, b: &Label) -> bool
     a.name() == b.name() && a.package() == b.package() && a.repo() == b.repo()
 }
 
-/// Whether the target of this number has the label.
+/// Returns whether the target of this number has the label.
 fn has_at(targets: &[Target], number: usize, label: &Label) -> bool
     requires { IsStrictlySortedBy target_cmp targets.now }
     ensures { OnTrue result (position (same_label label.now) (labels_of targets.now) ≡ Some number) }
@@ -59,7 +59,7 @@ fn has_at(targets: &[Target], number: usize, label: &Label) -> bool
     }
 }
 
-/// The number of the target that has the label, by binary search.
+/// Returns the number of the target that has the label, by binary search.
 fn found(targets: &[Target], label: &Label) -> Option<usize>
     requires { IsStrictlySortedBy target_cmp targets.now }
     ensures { result ≡ position (same_label label.now) (labels_of targets.now) }
@@ -74,7 +74,7 @@ fn found(targets: &[Target], label: &Label) -> Option<usize>
     }
 }
 
-/// The number of the target that has the label, which may be this one.
+/// Returns the number of the target that has the label; `likely` is tried first.
 fn number_of(targets: &[Target], likely: usize, label: &Label) -> Option<usize>
     requires { IsStrictlySortedBy target_cmp targets.now }
     ensures { result ≡ position (same_label label.now) (labels_of targets.now) }
@@ -86,7 +86,7 @@ fn number_of(targets: &[Target], likely: usize, label: &Label) -> Option<usize>
 }
 
 impl<'a> Numbers<'a> {
-    /// The labels of these targets.
+    /// Makes the numbers of the labels of these targets.
     pub fn of(targets: &'a [Target]) -> Numbers<'a>
         requires { IsStrictlySortedBy target_cmp targets.now }
         ensures { result ≡ labels_of targets.now }
@@ -114,7 +114,7 @@ impl<'a> Numbers<'a> {
         self.first = number;
     }
 
-    /// The number that the label has if its package is the one that is entered.
+    /// Returns the number that the label has if its package is the one that is entered.
     fn number_inside(&self, label: &Label) -> usize {
         match self
             .own
@@ -125,7 +125,7 @@ impl<'a> Numbers<'a> {
         }
     }
 
-    /// Keeps the number of a label, where that is of another package than the one that is entered.
+    /// Keeps the number of a label that is of another package than the one that is entered.
     fn keep(&self, number: Option<usize>) {
         if let Some(number) = number {
             if number < self.first || number >= self.first.saturating_add(self.own.len()) {
@@ -134,7 +134,7 @@ impl<'a> Numbers<'a> {
         }
     }
 
-    /// The number of a label, which is looked for first at the number `next`.
+    /// Returns the number of a label, which is looked for first at the number `next`.
     pub fn number(&self, next: usize, label: &Label) -> Option<usize>
         ensures { result ≡ position (same_label label.now) self.now }
     {

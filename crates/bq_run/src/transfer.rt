@@ -80,7 +80,7 @@ pub fn write_all<W: ByteSink>(writer: &mut W, text: &[u8]) -> Result<(), WriteFa
     Ok(())
 }
 
-/// Writes all of these strings, one after another.
+/// Writes all these strings, one after another.
 fn write_pieces<W: ByteSink>(writer: &mut W, pieces: &[Bytes]) -> Result<(), WriteFault>
     requires { W.failed writer.old < 2 ^ 64 - 1 }
     ensures whole { OnOk result (Appends (W.contents writer.old) (W.contents writer.new) (concat pieces.now)) }
