@@ -25,7 +25,7 @@ pub enum Namespace {
 }
 
 impl Namespace {
-    /// The namespace of this name.
+    /// Returns the namespace of this name.
     pub fn named(name: &[u8]) -> Option<Namespace>
         ensures { result ≡ namespace_named name.now }
     {
@@ -39,7 +39,7 @@ impl Namespace {
     }
 }
 
-/// What a name that is predeclared as this in files of all kinds stands for in a .bzl file.
+/// Returns what a name that is predeclared as this in files of all kinds stands for in a .bzl file.
 fn in_bzl(name: &[u8], found: Option<Predeclared>) -> Option<Predeclared>
     ensures { result ≡ in_bzl name.now found }
 {
@@ -71,7 +71,7 @@ impl Model for Universe {
 }
 
 impl Universe {
-    /// A file of this kind in a workspace whose schema has these rules. A name that comes again is one rule.
+    /// Returns a file of this kind in a workspace whose schema has these rules. A name that comes again is one rule.
     pub fn new(alloc: Global, kind: FileKind, rules: &[Bytes]) -> Result<Universe, AllocError>
         ensures kind { IfOk result (λ u. u.kind ≡ kind) }
         ensures rules { IfOk result (λ u. u.rules ≡ with_each with_name [] rules.now) }
@@ -86,7 +86,7 @@ impl Universe {
         })
     }
 
-    /// The same names once more.
+    /// Returns a copy of the names.
     pub fn share(&self) -> Result<Universe, AllocError>
         ensures { IfOk result (λ u. u ≡ self.now) }
     {
@@ -102,7 +102,7 @@ impl Universe {
         self.kind
     }
 
-    /// The id of the rule of this name.
+    /// Returns the id of the rule of this name.
     fn rule(&self, name: &Bytes) -> Result<Option<u32>, AllocError>
         ensures { IfOk result (λ id. id ≡ rule_named self.now.rules name.now) }
     {
@@ -117,7 +117,7 @@ impl Universe {
         }
     }
 
-    /// The id of the build function or rule of this name.
+    /// Returns the id of the build function or rule of this name.
     #[tactic(auto, unfolding(crate::specs::Universe::host_named))]
     fn host(&self, name: &Bytes) -> Result<Option<u32>, AllocError>
         ensures { IfOk result (λ id. id ≡ host_named self.now.rules name.now) }
@@ -129,7 +129,7 @@ impl Universe {
         }
     }
 
-    /// What a namespace holds by this name.
+    /// Returns what a namespace holds by this name.
     #[tactic(auto, unfolding(crate::specs::Universe::member_named))]
     pub fn member(&self, space: Namespace, name: &Bytes) -> Result<Option<Predeclared>, AllocError>
         ensures { IfOk result (λ x. x ≡ member_named space self.now.rules name.now) }
@@ -146,7 +146,7 @@ impl Universe {
         }
     }
 
-    /// What the name stands for in a BUILD file.
+    /// Returns what the name stands for in a BUILD file.
     fn in_build(
         &self,
         name: &Bytes,
@@ -163,7 +163,7 @@ impl Universe {
         }
     }
 
-    /// What the name stands for in a file that doesn't bind it.
+    /// Returns what the name stands for in a file that doesn't bind it.
     #[tactic(auto, unfolding(crate::specs::Universe::universe_has))]
     pub fn has(&self, name: &Bytes) -> Result<Option<Predeclared>, AllocError>
         ensures { IfOk result (λ x. x ≡ universe_has self.now name.now) }
