@@ -31,7 +31,7 @@ unfolding rest_len
 rest_len_over line n [] e = refl
 rest_len_over line n (t ∷ ts) e = let never : ⊥ = omega arith in absurd never
 
--- where the loop is: of all tokens so many are passed
+-- where the loop is: how many of all tokens are passed
 module _ (line : Bool) (n : ℕ) (ts : List Lexeme) (q : TokenKind) (next_is : kind_ahead ts ≡ Some q) (passed all : ℕ) (same : all ≡ passed + rest_len line n ts) where
   abbrev len_if : Bool → ℕ
   len_if b = if b then 0 else suc (rest_len (ends_line q) (indents_after q n) (next ts))
@@ -46,7 +46,7 @@ module _ (line : Bool) (n : ℕ) (ts : List Lexeme) (q : TokenKind) (next_is : k
 
 -- ---- what is cut off
 
--- so many tokens, and what the others are cut into
+-- the first tokens, and what the others are cut into
 abbrev parted : ℕ → List Lexeme → List (List Lexeme)
 parted n ts = take n ts ∷ pieces (drop n ts)
 

@@ -5,7 +5,7 @@ use Rattle.bq_parse_grammar.specs.declared.tree.Stmt.{Stmt}
 use Rattle.bq_parse_grammar.specs.declared.tree.Stmt.TheOpen.{Stmt-F}
 use Rattle.bq_parse_grammar.specs.LeftOut.{nested_def}
 
--- of a statement in a block, where so many indents may still be opened
+-- whether a `def` stands in a `def`, in a statement of a block in which this many indents may still be opened
 abbrev pub nested_within : ℕ → Bool → Stmt → Bool
 nested_within zero inside x = false
 nested_within (suc depth) inside x = nested_def depth inside x

@@ -45,7 +45,7 @@ impl Model for ParsedFile {
 }
 
 impl ParsedFile {
-    /// The statements. None is deeper than `max_depth` of `bq_parse_tree_laws`, so that recursion over one takes bounded stack.
+    /// Returns the statements. None is deeper than `max_depth` of `bq_parse_tree_laws`, so that recursion over one takes bounded stack.
     pub fn statements(&self) -> &[TopLevel]
         ensures all { result.now ≡ self.now }
         ensures shallow { AreShallow self.now }
@@ -54,7 +54,7 @@ impl ParsedFile {
     }
 }
 
-/// The statements, one after another.
+/// Returns the statements, one after another.
 fn statements(
     alloc: Global,
     tokens: &[Token],
@@ -76,7 +76,7 @@ fn statements(
     Ok(statements)
 }
 
-/// The statements, or the fault of the first that is faulty.
+/// Returns the statements, or the fault of the first that is faulty.
 fn read(
     alloc: Global,
     tokens: &[Token],
@@ -95,7 +95,7 @@ fn read(
     statements(alloc, tokens, text, kind)
 }
 
-/// The trees of a file's top-level statements, or the fault of the first that is faulty, at its first line. The tokens are those
+/// Returns the trees of a file's top-level statements, or the fault of the first that is faulty, at its first line. The tokens are those
 /// that `lex` answers for the text. It takes time and memory in proportion to the tokens.
 ///
 /// The grammar is that of the Starlark specification, "Grammar reference", as docs/LANGUAGE.md says.

@@ -7,7 +7,7 @@ ghost use Rattle.bq_parse_grammar.specs.LeftOut as left_out;
 use bq_parse_cursor::Tokens;
 use bq_source::TokenKind;
 
-/// `identifier (` comes next.
+/// Returns whether `identifier (` comes next.
 #[tactic(auto, using(crate::proofs::LeftOut::name_called))]
 fn calls_name(tokens: &Tokens<'_>) -> bool
     ensures { result ≡ left_out.calls_name (left_out.kinds tokens.now) }
@@ -15,7 +15,7 @@ fn calls_name(tokens: &Tokens<'_>) -> bool
     tokens.sees(TokenKind::Identifier) && tokens.following().sees(TokenKind::LeftParen)
 }
 
-/// `. identifier (` comes next.
+/// Returns whether `. identifier (` comes next.
 #[tactic(auto, using(crate::proofs::LeftOut::method_called))]
 fn calls_method(tokens: &Tokens<'_>) -> bool
     ensures { result ≡ left_out.calls_method (left_out.kinds tokens.now) }
@@ -23,14 +23,14 @@ fn calls_method(tokens: &Tokens<'_>) -> bool
     tokens.sees(TokenKind::Dot) && calls_name(&tokens.following())
 }
 
-/// The name `native`, but before `.name(`.
+/// Returns whether the next token, a name, is `native` elsewhere than before `.name(`.
 fn uses_native(tokens: &Tokens<'_>) -> bool
     ensures { result ≡ spec.uses_native tokens.now }
 {
     tokens.spelling() == b"native".as_slice() && !calls_method(&tokens.following())
 }
 
-/// What is left out begins with the next token.
+/// Returns whether what is left out begins with the next token.
 #[tactic(auto, using(crate::proofs::LeftOut::by_kind, crate::proofs::LeftOut::none_next))]
 fn leaves_out_next(tokens: &Tokens<'_>) -> bool
     ensures { result ≡ spec.leaves_out_next tokens.now }
@@ -60,14 +60,14 @@ pub fn leaves_out(tokens: &Tokens<'_>) -> bool
     false
 }
 
-/// `*` or `**` comes next.
+/// Returns whether `*` or `**` comes next.
 fn sees_star(tokens: &Tokens<'_>) -> bool
     ensures { result ≡ spec.sees_star tokens.now }
 {
     tokens.sees(TokenKind::Star) || tokens.sees(TokenKind::StarStar)
 }
 
-/// A star after `(` or `,` comes next: it begins an argument.
+/// Returns whether a star after `(` or `,` comes next: it begins an argument.
 #[tactic(auto, using(crate::proofs::LeftOut::star_begins))]
 fn is_starred(tokens: &Tokens<'_>) -> bool
     ensures { result ≡ left_out.is_starred (left_out.kinds tokens.now) }
@@ -76,7 +76,7 @@ fn is_starred(tokens: &Tokens<'_>) -> bool
         && sees_star(&tokens.following())
 }
 
-/// A `*` or `**` argument is among the tokens.
+/// Returns whether a `*` or `**` argument is among the tokens.
 #[tactic(auto, using(crate::proofs::LeftOut::starred_on, crate::proofs::LeftOut::starred_over, crate::proofs::LeftOut::next_left))]
 fn has_starred(tokens: &Tokens<'_>) -> bool
     ensures { result ≡ left_out.has_starred (left_out.kinds tokens.now) }
@@ -91,7 +91,7 @@ fn has_starred(tokens: &Tokens<'_>) -> bool
     false
 }
 
-/// The statement is a `def`, an `if` or a `for`.
+/// Returns whether the statement is a `def`, an `if` or a `for`.
 #[tactic(auto, using(crate::proofs::LeftOut::compound_by))]
 fn is_compound(tokens: &Tokens<'_>) -> bool
     ensures { result ≡ left_out.is_compound (left_out.kinds tokens.now) }
@@ -99,7 +99,7 @@ fn is_compound(tokens: &Tokens<'_>) -> bool
     tokens.sees(TokenKind::Def) || tokens.sees(TokenKind::If) || tokens.sees(TokenKind::For)
 }
 
-/// The statement may not stand in a BUILD file.
+/// Returns whether the statement may not stand in a BUILD file.
 pub fn barred_in_build(tokens: &Tokens<'_>) -> bool
     ensures { result ≡ left_out.barred_in_build tokens.now }
 {

@@ -6,7 +6,7 @@ ghost use Rattle.bq_parse_grammar.specs.LeftOut as left_out;
 
 use bq_parse_grammar::{Branch, Stmt};
 
-/// Of a statement of a block, where so many indents may still be opened.
+/// Returns whether a `def` stands in a `def`, in a statement of a block in which `depth` indents may still be opened.
 #[cycle(nested_def)]
 #[tactic(auto, using(crate::proofs::Levels::none_within, crate::proofs::Levels::some_within))]
 fn nested_within(depth: usize, inside: bool, statement: &Stmt) -> bool
@@ -18,7 +18,7 @@ fn nested_within(depth: usize, inside: bool, statement: &Stmt) -> bool
     nested_def(depth - 1, inside, statement)
 }
 
-/// Of the statements of a block.
+/// Returns whether a `def` stands in a `def`, in the statements of a block.
 #[cycle(nested_def)]
 #[tactic(auto, unfolding(crate::specs::Nested::in_block))]
 fn in_block(depth: usize, inside: bool, block: &[Stmt]) -> bool
@@ -32,7 +32,7 @@ fn in_block(depth: usize, inside: bool, block: &[Stmt]) -> bool
     false
 }
 
-/// Of the blocks of an `if`.
+/// Returns whether a `def` stands in a `def`, in the blocks of an `if`.
 #[cycle(nested_def)]
 #[tactic(auto, unfolding(crate::specs::Nested::in_branches))]
 fn in_branches(depth: usize, inside: bool, branches: &[Branch]) -> bool
@@ -46,7 +46,7 @@ fn in_branches(depth: usize, inside: bool, branches: &[Branch]) -> bool
     false
 }
 
-/// A `def` stands in a `def`: of statements that are no deeper than so many indents.
+/// Returns whether a `def` stands in a `def`, in a statement that is at most `depth` indents deep.
 #[cycle(nested_def)]
 #[tactic(auto, using(crate::proofs::Levels::by_level))]
 pub fn nested_def(depth: usize, inside: bool, statement: &Stmt) -> bool

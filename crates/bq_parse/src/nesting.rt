@@ -9,7 +9,7 @@ use bq_source::TokenKind;
 /// How many brackets and indents may be in one another.
 pub const MAX_NESTING: usize = 64;
 
-/// How many brackets and indents are open after a token.
+/// Returns how many brackets and indents are open after a token.
 fn open_after(kind: TokenKind, opened: usize) -> usize
     requires { opened ≤ nesting.max_nesting }
     ensures { result ≡ nesting.open_after kind opened }
@@ -27,7 +27,7 @@ fn open_after(kind: TokenKind, opened: usize) -> usize
     }
 }
 
-/// Nowhere are more brackets and indents open than the limit.
+/// Returns whether brackets and indents nowhere nest deeper than the limit.
 #[tactic(auto, using(crate::proofs::Open::nests_ahead, crate::proofs::Open::nests_over, crate::proofs::Open::too_many, crate::proofs::Ahead::one_less))]
 pub fn nests(tokens: &Tokens<'_>) -> bool
     ensures { result ≡ nesting.nests 0 tokens.now }

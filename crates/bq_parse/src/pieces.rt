@@ -7,7 +7,7 @@ ghost use Rattle.bq_parse_grammar.specs.Pieces as pieces;
 use bq_parse_cursor::Tokens;
 use bq_source::TokenKind;
 
-/// A line may begin after this token.
+/// Returns whether a line may begin after this token.
 fn ends_line(kind: TokenKind) -> bool
     ensures { result ≡ pieces.ends_line kind }
 {
@@ -18,7 +18,7 @@ fn ends_line(kind: TokenKind) -> bool
     }
 }
 
-/// A line that begins with this token begins a statement.
+/// Returns whether a line that begins with this token begins a statement.
 fn begins_statement(kind: TokenKind) -> bool
     ensures { result ≡ pieces.begins_statement kind }
 {
@@ -30,7 +30,7 @@ fn begins_statement(kind: TokenKind) -> bool
     }
 }
 
-/// A statement begins with this token; whether a line may begin here, and how many indents are open.
+/// Returns whether a statement begins with this token, given whether a line may begin here and how many indents are open.
 #[tactic(auto, using(crate::proofs::Cutting::none_open, crate::proofs::Cutting::some_open))]
 fn begins(line: bool, indents: usize, kind: TokenKind) -> bool
     ensures { result ≡ line && (pieces.is_zero indents && pieces.begins_statement kind) }
@@ -38,7 +38,7 @@ fn begins(line: bool, indents: usize, kind: TokenKind) -> bool
     line && indents == 0 && begins_statement(kind)
 }
 
-/// How many indents are open after a token.
+/// Returns how many indents are open after a token.
 fn indents_after(kind: TokenKind, indents: usize) -> usize
     requires { indents + 1 < 2 ^ 64 }
     ensures is { result ≡ pieces.indents_after kind indents }
@@ -51,7 +51,7 @@ fn indents_after(kind: TokenKind, indents: usize) -> usize
     }
 }
 
-/// How many tokens the first top-level statement has.
+/// Returns how many tokens the first top-level statement has.
 #[tactic(auto, using(crate::proofs::Cutting::rest_len_ahead, crate::proofs::Cutting::rest_len_over, crate::proofs::Ahead::one_less))]
 pub fn piece_len(tokens: &Tokens<'_>) -> usize
     ensures len { result ≡ spec.piece_len tokens.now }

@@ -25,7 +25,7 @@ fn is_build(kind: FileKind) -> bool
     }
 }
 
-/// Of a statement that has a tree: F12 where the language leaves it out, else F13 where it may not stand in a BUILD file.
+/// Judges a statement that has a tree: F12 where the language leaves it out, else F13 where it may not stand in a BUILD file.
 fn allowed(kind: FileKind, tokens: &Tokens<'_>, statement: &TopLevel) -> Result<(), FaultKind>
     ensures { Gives (λ _. statement.now) itself result (spec.allowed kind tokens.now statement.now) }
 {
@@ -38,7 +38,7 @@ fn allowed(kind: FileKind, tokens: &Tokens<'_>, statement: &TopLevel) -> Result<
     Ok(())
 }
 
-/// A statement, or its fault at its first line. It is a function over any value, since to let go of one is a single step for the proof.
+/// Returns a statement, or its fault at its first line. It is generic, since dropping a `T` is a single step for the proof.
 fn at_line<T: Drop>(judged: Result<(), FaultKind>, statement: T, line: u32) -> Result<T, SourceErr>
     ensures { MatchResult judged (λ _. result ≡ Ok statement) (λ why. result ≡ Err (Bad (fault_at why line))) }
 {
@@ -48,7 +48,7 @@ fn at_line<T: Drop>(judged: Result<(), FaultKind>, statement: T, line: u32) -> R
     }
 }
 
-/// The top-level statement that these tokens are. At its first line: F11 where too many brackets and indents are open, else F10
+/// Returns the top-level statement that these tokens are. At its first line: F11 where too many brackets and indents are open, else F10
 /// where it has no tree, else F12, else F13.
 #[tactic(auto, unfolding(bq_parse_grammar::specs::Parses::verdict))]
 pub fn verdict(alloc: Global, kind: FileKind, tokens: &Tokens<'_>) -> Result<TopLevel, SourceErr>

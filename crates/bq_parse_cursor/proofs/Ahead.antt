@@ -17,13 +17,13 @@ pub as_many : (text : List ℕ) (ts : List Token) → length (lexemes text ts) �
 as_many text [] = refl
 as_many text (t ∷ ts) = ap suc (as_many text ts)
 
--- the tokens after so many of a text
+-- the tokens of a text after the first `n`
 pub later : (text : List ℕ) (n : ℕ) (ts : List Token) → drop n (lexemes text ts) ≡ lexemes text (drop n ts)
 later text zero ts = refl
 later text (suc n) [] = refl
 later text (suc n) (t ∷ ts) = later text n ts
 
--- what the last of so many tokens is, found by the tokens or by their spellings
+-- what the last of the first `n` tokens is, found by the tokens or by their spellings
 pub ended : (text : List ℕ) (q : TokenKind) (ts : List Token) (left n : ℕ) → n ≡ length ts - left - 1
     → sees q (lexemes text (drop n ts)) ≡ sees q (drop (length (lexemes text ts) - left - 1) (lexemes text ts))
 ended text q ts left n e =

@@ -6,7 +6,7 @@ ghost use Rattle.bq_parse_grammar.specs.Operators as spec;
 use bq_parse_grammar::{Comparison, Operator, UnaryOperator};
 use bq_source::TokenKind;
 
-/// The operator between operands that a token is, and its level: 1 binds tightest.
+/// Returns the operator between operands that a token is, and its level: 1 binds tightest.
 pub fn binary_operator(kind: TokenKind) -> Option<(usize, Operator)>
     ensures { result ≡ spec.binary_operator kind }
 {
@@ -28,7 +28,7 @@ pub fn binary_operator(kind: TokenKind) -> Option<(usize, Operator)>
     }
 }
 
-/// The operator of this level that a token is.
+/// Returns the operator of this level that a token is.
 #[inline(always)]
 pub fn operator_at(level: usize, kind: TokenKind) -> Option<Operator>
     ensures { result ≡ spec.operator_at level kind }
@@ -39,7 +39,7 @@ pub fn operator_at(level: usize, kind: TokenKind) -> Option<Operator>
     }
 }
 
-/// The sign that a token is.
+/// Returns the sign that a token is.
 pub fn sign(kind: TokenKind) -> Option<UnaryOperator>
     ensures { result ≡ spec.sign kind }
 {
@@ -60,7 +60,7 @@ pub fn negation(kind: TokenKind) -> Option<UnaryOperator>
     }
 }
 
-/// The comparison that one token is; `not in` is two.
+/// Returns the comparison that one token is; `not in` is two.
 pub fn comparison(kind: TokenKind) -> Option<Comparison>
     ensures { result ≡ spec.comparison kind }
 {
@@ -76,7 +76,7 @@ pub fn comparison(kind: TokenKind) -> Option<Comparison>
     }
 }
 
-/// The operator of an augmented assignment.
+/// Returns the operator of an augmented assignment.
 pub fn augmented(kind: TokenKind) -> Option<Operator>
     ensures { result ≡ spec.augmented kind }
 {

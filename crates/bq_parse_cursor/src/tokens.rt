@@ -48,7 +48,7 @@ impl<'a> Tokens<'a> {
         Tokens { text, rest }
     }
 
-    /// How many tokens are left.
+    /// Returns how many tokens are left.
     pub fn left(&self) -> usize
         ensures { result ≡ length self.now }
     {
@@ -73,7 +73,7 @@ impl<'a> Tokens<'a> {
         }
     }
 
-    /// The line of the next token; 0 where there is none.
+    /// Returns the line of the next token; 0 where there is none.
     pub fn line(&self) -> u32
         ensures { result ≡ grammar.line_of self.now }
     {
@@ -83,7 +83,7 @@ impl<'a> Tokens<'a> {
         }
     }
 
-    /// The same place.
+    /// Returns a copy of the place.
     pub fn here(&self) -> Tokens<'a>
         ensures { result ≡ self.now }
     {
@@ -93,7 +93,7 @@ impl<'a> Tokens<'a> {
         }
     }
 
-    /// The last of the tokens from here to `rest` is of this kind.
+    /// Returns whether the last of the tokens from here to `rest` is of this kind.
     #[tactic(auto, using(crate::proofs::Ahead::ended))]
     pub fn ended_by(&self, kind: TokenKind, rest: &Tokens<'_>) -> bool
         ensures { result ≡ statements.ended_by kind self.now rest.now }
@@ -110,7 +110,7 @@ impl<'a> Tokens<'a> {
         last.sees(kind)
     }
 
-    /// The place after the next token.
+    /// Returns the place after the next token.
     pub fn following(&self) -> Tokens<'a>
         ensures { result ≡ spec.next self.now }
     {
@@ -122,7 +122,7 @@ impl<'a> Tokens<'a> {
         following
     }
 
-    /// A named argument comes next.
+    /// Returns whether a named argument comes next.
     #[tactic(auto, using(crate::proofs::Ahead::named_ahead))]
     pub fn sees_named(&self) -> bool
         ensures { result ≡ reading.is_named self.now }
@@ -130,7 +130,7 @@ impl<'a> Tokens<'a> {
         self.sees(TokenKind::Identifier) && self.following().sees(TokenKind::Assign)
     }
 
-    /// The bytes of the next token.
+    /// Returns the bytes of the next token.
     pub fn spelling(&self) -> &'a [u8]
         ensures { result.now ≡ reading.spelling_of self.now }
     {
@@ -173,7 +173,7 @@ impl<'a> Tokens<'a> {
         }
     }
 
-    /// A word, and what it names.
+    /// Reads a word, and returns what it names.
     pub fn word(&mut self, alloc: Global) -> Result<Identifier, SyntaxErr>
         ensures { Reads (reading.word self.old) result self.new }
     {
@@ -188,7 +188,7 @@ impl<'a> Tokens<'a> {
         }
     }
 
-    /// The number that the next token, an integer literal, stands for.
+    /// Reads an integer literal, and returns its number.
     pub fn int(&mut self) -> Result<Expr, SyntaxErr>
         ensures { Reads (reading.int_of (numbers.int_value (reading.spelling_of self.old)) (spec.next self.old)) result self.new }
     {
@@ -201,7 +201,7 @@ impl<'a> Tokens<'a> {
         }
     }
 
-    /// The bytes that the next token, a string literal, stands for.
+    /// Reads a string literal, and returns the bytes that it stands for.
     pub fn string(&mut self, alloc: Global) -> Result<Expr, SyntaxErr>
         requires { ahead.kind_ahead self.old ≡ Some kind.String }
         ensures { Reads (reading.string_of (strings.string_value (reading.spelling_of self.old)) (spec.next self.old)) result self.new }
@@ -213,7 +213,7 @@ impl<'a> Tokens<'a> {
         Ok(Expr::String(value))
     }
 
-    /// What the next token, a string literal, stands for.
+    /// Reads a string literal, and returns the expression that it is.
     pub fn text(&mut self, alloc: Global) -> Result<Bytes, SyntaxErr>
         requires { ahead.kind_ahead self.old ≡ Some kind.String }
         ensures { Reads (statements.text_of (strings.string_value (reading.spelling_of self.old)) (spec.next self.old)) result self.new }
@@ -225,7 +225,7 @@ impl<'a> Tokens<'a> {
         Ok(value)
     }
 
-    /// A sign comes next.
+    /// Returns whether a sign comes next.
     pub fn sees_sign(&self) -> bool
         ensures { result ≡ reading.has operators.sign self.now }
     {
@@ -250,7 +250,7 @@ impl<'a> Tokens<'a> {
         }
     }
 
-    /// `not` comes next.
+    /// Returns whether `not` comes next.
     pub fn sees_negation(&self) -> bool
         ensures { result ≡ reading.has operators.negation self.now }
     {
@@ -275,7 +275,7 @@ impl<'a> Tokens<'a> {
         }
     }
 
-    /// A comparison of one token comes next.
+    /// Returns whether a comparison of one token comes next.
     pub fn sees_comparison(&self) -> bool
         ensures { result ≡ reading.has operators.comparison self.now }
     {
@@ -300,7 +300,7 @@ impl<'a> Tokens<'a> {
         }
     }
 
-    /// An operator between operands comes next, of whatever level.
+    /// Returns whether an operator between operands comes next, of whatever level.
     pub fn sees_any_operator(&self) -> bool
         ensures { result ≡ reading.has operators.binary_operator self.now }
     {
@@ -310,7 +310,7 @@ impl<'a> Tokens<'a> {
         }
     }
 
-    /// An operator of this level comes next.
+    /// Returns whether an operator of this level comes next.
     pub fn sees_operator(&self, level: usize) -> bool
         ensures { result ≡ reading.has (operators.operator_at level) self.now }
     {
@@ -335,7 +335,7 @@ impl<'a> Tokens<'a> {
         }
     }
 
-    /// The operator of an augmented assignment comes next.
+    /// Returns whether the operator of an augmented assignment comes next.
     pub fn sees_augmented(&self) -> bool
         ensures { result ≡ reading.has operators.augmented self.now }
     {

@@ -1,4 +1,4 @@
--- Function values that read what stands in brackets, with so many brackets still to open.
+-- Function values that read what stands in brackets, where `depth` more brackets may be opened.
 use Rattle.std.specs.Prelude.{ℕ, List, Result}
 use Rattle.std.specs.declared.alloc.Global.{Global}
 use denote.Ref.{MutBor}

@@ -20,7 +20,7 @@ use bq_source::TokenKind;
 use sqlite_items::{Boxed, Items};
 use std::alloc::{AllocError, Global};
 
-/// An operand and what is done to it; the operand alone where nothing is.
+/// Returns an operand and what is done to it; the operand alone where nothing is.
 fn binary_of(first: Boxed<Expr>, operations: Items<Operation>) -> Expr
     ensures { result ≡ grammar.binary_of first operations }
 {
@@ -76,7 +76,7 @@ fn negations(alloc: Global, tokens: &mut Tokens<'_>) -> Result<Items<UnaryOperat
     Ok(found)
 }
 
-/// The choices and the last value; the value alone where there is no choice.
+/// Returns the choices and the last value; the value alone where there is no choice.
 fn chosen_of(choices: Items<Choice>, value: Boxed<Expr>) -> Expr
     ensures { result ≡ spec.chosen_of (choices, value) }
 {
@@ -166,7 +166,7 @@ impl<F: Fn(Global, &mut Tokens<'_>, usize, Nested) -> Result<Expr, SyntaxErr>> G
         })
     }
 
-    /// What operators of up to this level do to an operand.
+    /// Reads what operators of up to this level do to an operand.
     #[tactic(auto, using(crate::proofs::AfterOperand::further_above, crate::proofs::AfterOperand::further_none, crate::proofs::LoopTurns::none_follow))]
     fn further(&self, tokens: &mut Tokens<'_>, first: Expr, level: usize) -> Result<Expr, SyntaxErr>
         requires { ReadsNested self.now.depth (F.pre self.now.phrase) (F.post self.now.phrase) }
@@ -184,7 +184,7 @@ impl<F: Fn(Global, &mut Tokens<'_>, usize, Nested) -> Result<Expr, SyntaxErr>> G
         Ok(binary_of(first, operations))
     }
 
-    /// Bor: most operands have no operator after them, and need no look at each level.
+    /// Reads a Bor: most operands have no operator after them, and need no look at each level.
     fn bor(&self, tokens: &mut Tokens<'_>) -> Result<Expr, SyntaxErr>
         requires { ReadsNested self.now.depth (F.pre self.now.phrase) (F.post self.now.phrase) }
         ensures { Reads (spec.binary (spec.primary (spec.phrase self.now.depth) (spec.variables_to self.now.depth)) 6 tokens.old) result tokens.new }
@@ -250,7 +250,7 @@ impl<F: Fn(Global, &mut Tokens<'_>, usize, Nested) -> Result<Expr, SyntaxErr>> G
         })
     }
 
-    /// The further operands of the chain.
+    /// Reads the further operands of the chain.
     #[tactic(auto, using(crate::proofs::LoopTurns::turns_more, crate::proofs::LoopTurns::turns_over), unfolding(bq_parse_grammar::specs::Turns::repeat))]
     fn and_operations(&self, tokens: &mut Tokens<'_>) -> Result<Items<Operation>, SyntaxErr>
         requires { ReadsNested self.now.depth (F.pre self.now.phrase) (F.post self.now.phrase) }
@@ -296,7 +296,7 @@ impl<F: Fn(Global, &mut Tokens<'_>, usize, Nested) -> Result<Expr, SyntaxErr>> G
         })
     }
 
-    /// The further operands of the chain.
+    /// Reads the further operands of the chain.
     #[tactic(auto, using(crate::proofs::LoopTurns::turns_more, crate::proofs::LoopTurns::turns_over), unfolding(bq_parse_grammar::specs::Turns::repeat))]
     fn or_operations(&self, tokens: &mut Tokens<'_>) -> Result<Items<Operation>, SyntaxErr>
         requires { ReadsNested self.now.depth (F.pre self.now.phrase) (F.post self.now.phrase) }
@@ -390,7 +390,7 @@ impl<F: Fn(Global, &mut Tokens<'_>, usize, Nested) -> Result<Expr, SyntaxErr>> G
         self.conditional(tokens, value)
     }
 
-    /// What stands in brackets.
+    /// Reads what stands in brackets.
     #[tactic(auto, using(crate::proofs::Alone::lone_phrase))]
     pub fn phrase_by(&self, tokens: &mut Tokens<'_>, which: Nested) -> Result<Expr, SyntaxErr>
         requires { ReadsNested self.now.depth (F.pre self.now.phrase) (F.post self.now.phrase) }

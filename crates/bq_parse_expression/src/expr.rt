@@ -9,7 +9,7 @@ use bq_parse_cursor::Tokens;
 use bq_parse_grammar::{Expr, Nested, SyntaxErr};
 use std::alloc::Global;
 
-/// A phrase in which so many brackets less one may be open.
+/// Reads a phrase in which fewer than `depth` brackets may be open.
 pub fn phrase(
     alloc: Global,
     tokens: &mut Tokens<'_>,

@@ -30,7 +30,7 @@ impl<F: Fn(Global, &mut Tokens<'_>, usize, Nested) -> Result<Expr, SyntaxErr>> G
         (self.phrase)(self.alloc, tokens, self.depth, which)
     }
 
-    /// The value, and what stands after a token of this kind.
+    /// Returns the value, and reads what stands after a token of this kind.
     pub fn beside<T: Drop>(
         &self,
         tokens: &mut Tokens<'_>,
@@ -46,7 +46,7 @@ impl<F: Fn(Global, &mut Tokens<'_>, usize, Nested) -> Result<Expr, SyntaxErr>> G
         Ok((value, next))
     }
 
-    /// The tests found, and all further ones up to the closing bracket.
+    /// Reads the further tests up to the closing bracket, and returns them after those found.
     #[tactic(auto, using(crate::proofs::LoopTurns::turns_more, crate::proofs::LoopTurns::turns_over), unfolding(bq_parse_grammar::specs::Turns::listed_from))]
     pub fn listed(
         &self,

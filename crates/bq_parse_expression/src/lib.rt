@@ -15,9 +15,9 @@
 //! How a loop is proved: its invariant says that what is left from here, with what was found so far, gives what all gave from the
 //! start; `proofs/LoopTurns.antt` has the two lemmas that this takes.
 //!
-//! A tree that is held while more is read stands in a box, for the proof: where the rest is refused, to let go of a box is one step,
-//! and to let go of a tree in place is one for each of its variants. So do functions over any value, as those of `steps`: they hold
-//! what was read while they look at a token more.
+//! A tree that is held while more is read stands in a box, for the proof: where the rest is refused, dropping a box is one step, and
+//! dropping a tree in place is one for each of its variants. Generic functions, as those of `steps`, serve the same end: they hold what
+//! was read while they look at one more token.
 //!
 //! In reading order:
 //!

@@ -8,7 +8,7 @@ ghost use Rattle.bq_parse_expression.specs.Lone as spec;
 use bq_parse_cursor::Tokens;
 use bq_source::TokenKind;
 
-/// The token is a name or a literal.
+/// Returns whether the token is a name or a literal.
 fn is_atom(kind: TokenKind) -> bool
     ensures { result ≡ spec.is_atom kind }
 {
@@ -20,7 +20,7 @@ fn is_atom(kind: TokenKind) -> bool
     }
 }
 
-/// Nothing that is done to an operand begins with the token.
+/// Returns whether nothing that is done to an operand begins with the token.
 fn ends_phrase(kind: TokenKind) -> bool
     ensures { result ≡ spec.ends_phrase kind }
 {
@@ -53,7 +53,7 @@ fn begins_with_end(tokens: &Tokens<'_>) -> bool
     }
 }
 
-/// The next token is a phrase of its own.
+/// Returns whether the next token is a phrase of its own.
 pub fn stands_alone(tokens: &Tokens<'_>) -> bool
     ensures { result ≡ spec.stands_alone tokens.now }
 {

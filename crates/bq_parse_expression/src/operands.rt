@@ -18,14 +18,14 @@ use bq_source::TokenKind;
 use sqlite_items::{Boxed, Items};
 use std::alloc::{AllocError, Global};
 
-/// A clause of a comprehension comes next.
+/// Returns whether a clause of a comprehension comes next.
 fn sees_clause(tokens: &Tokens<'_>) -> bool
     ensures { result ≡ spec.begins_clause tokens.now }
 {
     tokens.sees(TokenKind::For) || tokens.sees(TokenKind::If)
 }
 
-/// An operand in parentheses. Before a dot its tree keeps them, as an operand to which nothing is done.
+/// Returns an operand in parentheses. Before a dot its tree keeps them, as an operand to which nothing is done.
 fn parenthesized(alloc: Global, tokens: &Tokens<'_>, operand: Expr) -> Result<Expr, AllocError>
     ensures { IfOk result (λ x. x ≡ grammar.parenthesized_of (turns.sees kind.Dot tokens.now) operand) }
 {
@@ -100,7 +100,7 @@ impl<F: Fn(Global, &mut Tokens<'_>, usize, Nested) -> Result<Expr, SyntaxErr>> G
         self.parens_after(tokens, first)
     }
 
-    /// The clauses found, and all further ones.
+    /// Reads the further clauses, and returns them after those found.
     #[tactic(auto, using(crate::proofs::LoopTurns::turns_more, crate::proofs::LoopTurns::turns_over), unfolding(bq_parse_grammar::specs::Turns::repeat))]
     fn further_clauses(
         &self,
@@ -130,7 +130,7 @@ impl<F: Fn(Global, &mut Tokens<'_>, usize, Nested) -> Result<Expr, SyntaxErr>> G
         self.further_clauses(tokens, only(self.alloc, first)?)
     }
 
-    /// A comprehension's clauses, and its closing bracket.
+    /// Reads a comprehension's clauses, and its closing bracket.
     #[tactic(auto, unfolding(bq_parse_grammar::specs::Reading::comprehension))]
     fn comprehension(
         &self,
@@ -144,7 +144,7 @@ impl<F: Fn(Global, &mut Tokens<'_>, usize, Nested) -> Result<Expr, SyntaxErr>> G
         closed(tokens, close, clauses)
     }
 
-    /// The items of a list in brackets after the first.
+    /// Reads the items of a list in brackets after the first.
     fn tests_after(
         &self,
         tokens: &mut Tokens<'_>,
@@ -161,7 +161,7 @@ impl<F: Fn(Global, &mut Tokens<'_>, usize, Nested) -> Result<Expr, SyntaxErr>> G
         closed(tokens, close, found)
     }
 
-    /// What stands in square brackets after the first test.
+    /// Reads what stands in square brackets after the first test.
     fn brackets_after(&self, tokens: &mut Tokens<'_>, first: Expr) -> Result<Expr, SyntaxErr>
         requires { ReadsNested self.now.depth (F.pre self.now.phrase) (F.post self.now.phrase) }
         ensures { Reads (spec.brackets_after (spec.phrase self.now.depth) (spec.variables_to self.now.depth) first tokens.old) result tokens.new }
@@ -187,7 +187,7 @@ impl<F: Fn(Global, &mut Tokens<'_>, usize, Nested) -> Result<Expr, SyntaxErr>> G
         self.brackets_after(tokens, first)
     }
 
-    /// The pairs found, and all further ones up to the closing brace.
+    /// Reads the further pairs up to the closing brace, and returns them after those found.
     #[tactic(auto, using(crate::proofs::LoopTurns::turns_more, crate::proofs::LoopTurns::turns_over), unfolding(bq_parse_grammar::specs::Turns::listed_from))]
     fn listed_pairs(
         &self,
@@ -210,7 +210,7 @@ impl<F: Fn(Global, &mut Tokens<'_>, usize, Nested) -> Result<Expr, SyntaxErr>> G
         Err(SyntaxErr::Syntax)
     }
 
-    /// The pairs of a dict after the first.
+    /// Reads the pairs of a dict after the first.
     fn pairs_after(&self, tokens: &mut Tokens<'_>, first: Pair) -> Result<Items<Pair>, SyntaxErr>
         requires { ReadsNested self.now.depth (F.pre self.now.phrase) (F.post self.now.phrase) }
         ensures { Reads (spec.items_after kind.RightBrace (spec.pair (spec.phrase self.now.depth) (spec.variables_to self.now.depth)) first tokens.old) result tokens.new }
@@ -222,7 +222,7 @@ impl<F: Fn(Global, &mut Tokens<'_>, usize, Nested) -> Result<Expr, SyntaxErr>> G
         closed(tokens, TokenKind::RightBrace, found)
     }
 
-    /// What stands in braces after the first pair.
+    /// Reads what stands in braces after the first pair.
     fn braces_after(&self, tokens: &mut Tokens<'_>, first: Pair) -> Result<Expr, SyntaxErr>
         requires { ReadsNested self.now.depth (F.pre self.now.phrase) (F.post self.now.phrase) }
         ensures { Reads (spec.braces_after (spec.phrase self.now.depth) (spec.variables_to self.now.depth) first tokens.old) result tokens.new }

@@ -10,7 +10,7 @@ use bq_source::TokenKind;
 use sqlite_items::Items;
 use std::alloc::{AllocError, Global};
 
-/// The list of one item.
+/// Returns the list of one item.
 pub fn only<T: Drop>(alloc: Global, item: T) -> Result<Items<T>, AllocError>
     ensures { IfOk result (λ items. items ≡ item ∷ []) }
 {
@@ -19,7 +19,7 @@ pub fn only<T: Drop>(alloc: Global, item: T) -> Result<Items<T>, AllocError>
     Ok(found)
 }
 
-/// The value, where the token that closes it comes next.
+/// Reads the value, where the token that closes it comes next.
 pub fn closed<T: Drop>(tokens: &mut Tokens<'_>, close: TokenKind, value: T) -> Result<T, SyntaxErr>
     ensures { Reads (and_then (turns.expect close tokens.old) (λ _ rest. Ok (value, rest))) result tokens.new }
 {

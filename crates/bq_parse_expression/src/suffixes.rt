@@ -22,7 +22,7 @@ use bq_source::TokenKind;
 use sqlite_items::{Boxed, Items};
 use std::alloc::Global;
 
-/// What may come after an argument of this kind; none where it may not stand.
+/// Returns what may come after an argument of this kind, or `None` where that argument is not allowed.
 fn allowed_after(allowed: Allowed, kind: ArgumentKind) -> Option<Allowed>
     ensures { result ≡ grammar.allowed_after allowed kind }
 {
@@ -40,7 +40,7 @@ fn allowed_after(allowed: Allowed, kind: ArgumentKind) -> Option<Allowed>
     }
 }
 
-/// Which argument comes next, by its first tokens.
+/// Returns which argument comes next, by its first tokens.
 fn argument_kind(tokens: &Tokens<'_>) -> ArgumentKind
     ensures { result ≡ spec.argument_kind tokens.now }
 {
@@ -55,7 +55,7 @@ fn argument_kind(tokens: &Tokens<'_>) -> ArgumentKind
     }
 }
 
-/// A suffix comes next.
+/// Returns whether a suffix comes next.
 fn sees_suffix(tokens: &Tokens<'_>) -> bool
     ensures { result ≡ spec.begins_suffix tokens.now }
 {
@@ -64,7 +64,7 @@ fn sees_suffix(tokens: &Tokens<'_>) -> bool
         || tokens.sees(TokenKind::LeftBracket)
 }
 
-/// An operand and what is done to it; the operand alone where nothing is.
+/// Returns an operand and what is done to it; the operand alone where nothing is.
 fn primary_of(operand: Boxed<Expr>, suffixes: Items<Suffix>) -> Expr
     ensures { result ≡ grammar.primary_of operand suffixes }
 {
@@ -113,7 +113,7 @@ impl<F: Fn(Global, &mut Tokens<'_>, usize, Nested) -> Result<Expr, SyntaxErr>> G
         }
     }
 
-    /// An argument, where it may stand, and what may still come after it.
+    /// Reads an argument, where it is allowed, and returns what may still come after it.
     #[tactic(auto, unfolding(bq_parse_grammar::specs::Reading::argument))]
     fn argument(
         &self,
@@ -165,7 +165,7 @@ impl<F: Fn(Global, &mut Tokens<'_>, usize, Nested) -> Result<Expr, SyntaxErr>> G
         Ok(Some(Boxed::new(self.alloc, self.nested(tokens, Nested::Test)?)?))
     }
 
-    /// After the second part of a slice.
+    /// Reads the rest of a slice after its second part.
     #[tactic(auto, unfolding(bq_parse_grammar::specs::Reading::slice_end))]
     fn slice_end(
         &self,
@@ -185,7 +185,7 @@ impl<F: Fn(Global, &mut Tokens<'_>, usize, Nested) -> Result<Expr, SyntaxErr>> G
         closed(tokens, TokenKind::RightBracket, slice)
     }
 
-    /// After the first colon of a slice.
+    /// Reads the rest of a slice after its first colon.
     #[tactic(auto, unfolding(bq_parse_grammar::specs::Reading::slice_after))]
     fn slice_after(
         &self,
@@ -208,7 +208,7 @@ impl<F: Fn(Global, &mut Tokens<'_>, usize, Nested) -> Result<Expr, SyntaxErr>> G
         self.nested(tokens, Nested::Test)
     }
 
-    /// The tests found, and all further ones after commas.
+    /// Reads the further tests after commas, and returns them after those found.
     #[tactic(auto, using(crate::proofs::LoopTurns::turns_more, crate::proofs::LoopTurns::turns_over), unfolding(bq_parse_grammar::specs::Turns::repeat))]
     fn further_tests(
         &self,

@@ -31,7 +31,7 @@ impl<F: Fn(Global, &mut Tokens<'_>, usize) -> Result<TargetExpr, SyntaxErr>> Var
         (self.var)(self.alloc, tokens, self.depth)
     }
 
-    /// The variables found, and all further ones up to the closing bracket.
+    /// Reads the further variables up to the closing bracket, and returns them after those found.
     #[tactic(auto, using(crate::proofs::LoopTurns::turns_more, crate::proofs::LoopTurns::turns_over), unfolding(bq_parse_grammar::specs::Turns::listed_from))]
     fn listed(
         &self,
@@ -71,7 +71,7 @@ impl<F: Fn(Global, &mut Tokens<'_>, usize) -> Result<TargetExpr, SyntaxErr>> Var
         closed(tokens, TokenKind::RightParen, first)
     }
 
-    /// The items of a list in brackets after the first.
+    /// Reads the items of a list in brackets after the first.
     fn list_after(
         &self,
         tokens: &mut Tokens<'_>,
@@ -118,7 +118,7 @@ impl<F: Fn(Global, &mut Tokens<'_>, usize) -> Result<TargetExpr, SyntaxErr>> Var
     }
 }
 
-/// A variable in which so many brackets less one may be open.
+/// Reads a variable in which fewer than `depth` brackets may be open.
 pub fn var(alloc: Global, tokens: &mut Tokens<'_>, depth: usize) -> Result<TargetExpr, SyntaxErr>
     ensures { Reads (spec.var_to depth tokens.old) result tokens.new }
 {
@@ -145,7 +145,7 @@ fn var_after_comma(
     var(alloc, tokens, depth)
 }
 
-/// The variables found, and all further ones after commas.
+/// Reads the further variables after commas, and returns them after those found.
 #[tactic(auto, using(crate::proofs::LoopTurns::turns_more, crate::proofs::LoopTurns::turns_over), unfolding(bq_parse_grammar::specs::Turns::repeat))]
 fn further_vars(
     alloc: Global,

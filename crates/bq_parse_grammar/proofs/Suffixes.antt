@@ -261,7 +261,7 @@ module _ (O T : Phrase Expr) (V : Phrase TargetExpr) (inner : Nested → Parse E
   arguments_met ts rest xs p = let r = arguments_from (length ts) [] al.All ts rest xs p (omega arith) in
       met_then (turns (argument_turn inner variables) cut_off (length ts) ([], al.All) ts) (λ p rest. Ok (p.0, rest)) r.1 (met_done xs rest)
 
-  -- ---- parts of a slice, and what stands in brackets behind an operand
+  -- ---- parts of a slice, and what stands in brackets after an operand
 
   optional_sound : (ts : List Lexeme) → Owes (Option Expr) (IsOptionalTest O T V ts) (optional_test inner variables ts)
   unfolding optional_test

@@ -195,7 +195,7 @@ layer_over depth ag = record {
 layer_primary : (O T : Phrase Expr) (V : Phrase TargetExpr) (depth : ℕ) → Layer O T V depth → Agrees first_operand (ends 0) (IsPrimary O T V) (primary_at depth)
 layer_primary O T V depth l = primary_agrees O T V (phrase depth) (vars (var_to depth)) l.ors l.tests l.variables (vars_never (var_to depth) (var_to_never depth)) l.unnamed
 
--- the primaries in which so many brackets may be in one another
+-- the primaries in which at most this many brackets nest
 primary_to_agrees : (depth : ℕ) → Agrees first_operand (ends 0) (IsPrimaryTo depth) (primary_at depth)
 primary_to_agrees zero = layer_primary none none none 0 no_layer
 primary_to_agrees (suc depth) = layer_primary (IsOrTo depth) (IsTestTo depth) (IsVars depth) (suc depth) (layer_over depth (primary_to_agrees depth))

@@ -89,7 +89,7 @@ pub data IsVarOver (Inner : Phrase TargetExpr) : List Lexeme → List Lexeme →
   list : {o : Lexeme} {ts rest : List Lexeme} {x y : TargetExpr} {xs : List TargetExpr} → o.kind ≡ k.LeftBracket → Listed k.RightBracket Inner ts rest (x ∷ xs)
       → y ≡ target.List (x ∷ xs) → IsVarOver Inner (o ∷ ts) rest y
 
--- with so many brackets in one another
+-- in which at most this many brackets nest
 abbrev pub IsVar : ℕ → Phrase TargetExpr
 IsVar zero = IsVarOver none
 IsVar (suc depth) = IsVarOver (IsVar depth)
@@ -284,7 +284,7 @@ module _ (IsPrimary : Phrase Expr) where
     -- which a test stands in its place.
     left_out : {t : Lexeme} {ts rest : List Lexeme} → t.kind ≡ k.Lambda → IsTest (t ∷ ts) rest e.Lambda
 
--- ---- with so many brackets in one another
+-- ---- expressions in which at most this many brackets nest
 
 abbrev pub IsPrimaryTo : ℕ → Phrase Expr
 IsPrimaryTo zero = IsPrimary none none none

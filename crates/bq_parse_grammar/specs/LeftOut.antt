@@ -51,7 +51,7 @@ nested_in inner inside (Stmt-F.If bs zs) = any (λ b. any (inner inside) (out-Br
 nested_in inner inside (Stmt-F.For v x xs) = any (inner inside) xs
 nested_in inner inside (Stmt-F.Def n ps xs) = inside || any (inner true) xs
 
--- a `def` stands in a `def`: of statements that are no deeper than so many indents
+-- whether a `def` stands in a `def`, in a statement that is at most this many indents deep
 abbrev pub nested_def : ℕ → Bool → Stmt → Bool
 nested_def zero inside x = nested_in (λ i y. false) inside (out-Stmt x)
 nested_def (suc depth) inside x = nested_in (nested_def depth) inside (out-Stmt x)

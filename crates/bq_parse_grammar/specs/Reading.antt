@@ -61,7 +61,7 @@ abbrev pub looked_up : {B : Type 0} → (TokenKind → Option B) → Parse B
 looked_up table [] = Err Syntax
 looked_up table (t ∷ ts) = known (table t.kind) ts
 
--- ---- an item, and the further ones behind commas
+-- ---- an item, and the further ones after commas
 
 -- the items of a list in brackets after the first
 abbrev pub items_after : {A : Type 0} → TokenKind → Parse A → A → Parse (List A)
@@ -103,7 +103,7 @@ unfoldable pub var : Parse TargetExpr → Parse TargetExpr
 var inner [] = Err Syntax
 var inner (t ∷ ts) = var_by inner t.kind t ts
 
--- a variable in which so many brackets less one may be open
+-- a variable in which fewer brackets than this number may be open
 unfoldable pub var_to : ℕ → Parse TargetExpr
 var_to zero ts = Err Syntax
 var_to (suc depth) ts = var (var_to depth) ts
@@ -111,7 +111,7 @@ var_to (suc depth) ts = var (var_to depth) ts
 unfoldable pub vars : Parse TargetExpr → Parse TargetExpr
 vars one ts = one ts >>= λ x mid. chained target.Tuple one x mid
 
--- the variables of a `for` in which so many brackets less one may be open
+-- the variables of a `for` in which fewer than `depth` brackets may be open
 abbrev pub variables_to : ℕ → Parse TargetExpr
 variables_to depth = vars (var_to depth)
 
@@ -344,7 +344,7 @@ module _ (base : Parse Expr) where
   phrase_by Or = or_test
   phrase_by Test = test
 
--- a phrase in which so many brackets less one may be open
+-- a phrase in which fewer brackets than this number may be open
 unfoldable pub phrase : ℕ → Nested → Parse Expr
 phrase zero which ts = Err Syntax
 phrase (suc depth) which ts = phrase_by (primary (phrase depth) (vars (var_to depth))) which ts

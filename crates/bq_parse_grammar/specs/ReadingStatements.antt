@@ -231,7 +231,7 @@ module _ (depth : ℕ) (inner : Parse Stmt) where
   stmt [] = Err Syntax
   stmt (t ∷ ts) = stmt_by t.kind t ts
 
--- a statement in which so many brackets and indents less one may be open
+-- a statement in which fewer brackets and indents than this number may be open
 unfoldable pub statement : ℕ → Parse Stmt
 statement zero ts = Err Syntax
 statement (suc depth) ts = stmt (suc depth) (statement depth) ts

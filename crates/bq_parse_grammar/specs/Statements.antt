@@ -200,7 +200,7 @@ module _ (depth : ℕ) (Inner : Phrase Stmt) where
         → o.kind ≡ k.LeftParen → AreParameters (IsTestTo depth) ap.All ts (c ∷ mid) ps → c.kind ≡ k.Colon → IsSuite mid rest xs
         → y ≡ s.Def (identifier n) ps xs → IsStmtOver (t ∷ n ∷ o ∷ ts) rest y
 
--- with so many brackets and indents in one another
+-- in which at most this many brackets and indents nest
 abbrev pub IsStmt : ℕ → Phrase Stmt
 IsStmt zero = IsStmtOver zero none
 IsStmt (suc depth) = IsStmtOver (suc depth) (IsStmt depth)

@@ -55,7 +55,7 @@ target_by inner (Expr-F.Expr::Tuple xs) = many_of target.Tuple (targets_from inn
 target_by inner (Expr-F.Expr::List xs) = many_of target.List (targets_from inner [] xs)
 target_by inner _ = Err Syntax
 
--- the target that an expression is, which holds so many lists and tuples in one another less one
+-- the target that an expression is, in which fewer lists and tuples than this number nest
 unfoldable pub target_to : ℕ → Expr → Result TargetExpr SyntaxErr
 target_to zero x = Err Syntax
 target_to (suc depth) x = target_by (target_to depth) (out-Expr x)

@@ -13,7 +13,7 @@ fn are_word_bytes(bytes: &[u8]) -> bool
     bytes.iter().all(|byte| is_word(*byte))
 }
 
-/// The bytes are a word that may name something: no keyword, and none that is reserved.
+/// Returns whether the bytes are a word that may name something: no keyword, and none that is reserved.
 #[tactic(auto, unfolding(crate::specs::Literals::is_identifier))]
 pub fn is_identifier(bytes: &[u8]) -> bool
     ensures { result ≡ spec.is_identifier bytes.now }

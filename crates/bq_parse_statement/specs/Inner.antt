@@ -8,7 +8,7 @@ use Rattle.bq_parse_grammar.specs.declared.tree.Stmt.{Stmt}
 use Rattle.bq_parse_grammar.specs.Turns.{Reads}
 use Rattle.bq_parse_grammar.specs.ReadingStatements.{statement}
 
--- with so many brackets and indents still to open
+-- where `depth` more brackets and indents may be opened
 pub record ReadsStatement (depth : ℕ) (pre : Global → MutBor (List Lexeme) → ℕ → Type 0)
     (post : Global → MutBor (List Lexeme) → ℕ → Result Stmt SyntaxErr → MutBor (List Lexeme) → Type 0) : Type 0 where
   pub callable : (alloc : Global) (old : MutBor (List Lexeme)) → pre alloc old depth

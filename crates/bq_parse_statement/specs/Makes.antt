@@ -12,7 +12,7 @@ abbrev pub Makes : {A : Type 0} → Result A SyntaxErr → Result A SyntaxErr �
 Makes made (Ok x) = made ≡ Ok x
 Makes made (Err e) = e ≢ Memory → made ≡ Err e
 
--- a function value that makes targets, which hold so many lists and tuples in one another less one
+-- a function value that makes targets, in which lists and tuples nest less than `depth` deep
 pub record MakesTarget (depth : ℕ) (pre : Global → ℕ → Expr → Type 0) (post : Global → ℕ → Expr → Result TargetExpr SyntaxErr → Type 0) : Type 0 where
   pub callable : (alloc : Global) (x : Expr) → pre alloc depth x
   pub makes : (alloc : Global) (x : Expr) (r : Result TargetExpr SyntaxErr) → post alloc depth x r → Makes (target_to depth x) r

@@ -23,7 +23,7 @@ pub struct BlockRules<F> {
     pub alloc: Global,
     /// One more than how many brackets and indents may still be opened.
     pub depth: usize,
-    /// The same, in a block.
+    /// One more than how many brackets and indents may still be opened in a block.
     pub inside: usize,
     pub statement: F,
 }
@@ -36,7 +36,7 @@ impl<F: Fn(Global, &mut Tokens<'_>, usize) -> Result<Stmt, SyntaxErr>> BlockRule
         (self.statement)(self.alloc, tokens, self.inside)
     }
 
-    /// The statements found, and all further ones of the block.
+    /// Reads the further statements of the block, and returns them after those found.
     #[tactic(auto, using(crate::proofs::LoopTurns::turns_more, crate::proofs::LoopTurns::turns_over), unfolding(bq_parse_grammar::specs::Turns::repeat))]
     fn further(
         &self,
@@ -81,7 +81,7 @@ impl<F: Fn(Global, &mut Tokens<'_>, usize) -> Result<Stmt, SyntaxErr>> BlockRule
         Ok(only(self.alloc, Stmt::Simple(line))?)
     }
 
-    /// The value, and ':' Suite
+    /// Returns the value, and reads ':' Suite
     fn beside<T: Drop>(
         &self,
         tokens: &mut Tokens<'_>,
@@ -116,7 +116,7 @@ impl<F: Fn(Global, &mut Tokens<'_>, usize) -> Result<Stmt, SyntaxErr>> BlockRule
         self.branch(tokens)
     }
 
-    /// The branches found, and all further ones.
+    /// Reads the further branches, and returns them after those found.
     #[tactic(auto, using(crate::proofs::LoopTurns::turns_more, crate::proofs::LoopTurns::turns_over), unfolding(bq_parse_grammar::specs::Turns::repeat))]
     fn elifs(
         &self,
@@ -160,7 +160,7 @@ impl<F: Fn(Global, &mut Tokens<'_>, usize) -> Result<Stmt, SyntaxErr>> BlockRule
         Ok(Stmt::If(branches, self.else_suite(tokens)?))
     }
 
-    /// The value, and 'in' Expr
+    /// Returns the value, and reads 'in' Expr
     fn iterated<T: Drop>(&self, tokens: &mut Tokens<'_>, value: T) -> Result<(T, Expr), SyntaxErr>
         ensures { Reads (and_then (turns.expect kind.In tokens.old) (λ _ us. and_then (spec.expr_to self.now.depth us) (λ x rest. Ok ((value, x), rest)))) result tokens.new }
     {
@@ -205,7 +205,7 @@ impl<F: Fn(Global, &mut Tokens<'_>, usize) -> Result<Stmt, SyntaxErr>> BlockRule
         Ok(Stmt::Def(name, parameters, block))
     }
 
-    /// Simple, as a statement
+    /// Reads Simple, as a statement
     #[tactic(auto, unfolding(bq_parse_grammar::specs::ReadingStatements::simple_stmt))]
     fn simple_stmt(&self, tokens: &mut Tokens<'_>) -> Result<Stmt, SyntaxErr>
         requires { ReadsStatement self.now.inside (F.pre self.now.statement) (F.post self.now.statement) }

@@ -14,7 +14,7 @@ use bq_source::TokenKind;
 use sqlite_items::Items;
 use std::alloc::Global;
 
-/// A string, and what it stands for.
+/// Reads a string, and returns what it stands for.
 #[tactic(auto, using(crate::proofs::Strings::string_seen, crate::proofs::Strings::text_seen, crate::proofs::Strings::text_unseen))]
 fn text(alloc: Global, tokens: &mut Tokens<'_>) -> Result<Bytes, SyntaxErr>
     ensures { Reads (spec.text tokens.old) result tokens.new }
@@ -25,7 +25,7 @@ fn text(alloc: Global, tokens: &mut Tokens<'_>) -> Result<Bytes, SyntaxErr>
     tokens.text(alloc)
 }
 
-/// A string that is a name.
+/// Reads a string that is a name.
 #[tactic(auto, unfolding(bq_parse_grammar::specs::ReadingStatements::symbol))]
 fn symbol(alloc: Global, tokens: &mut Tokens<'_>) -> Result<Bytes, SyntaxErr>
     ensures { Reads (spec.symbol tokens.old) result tokens.new }

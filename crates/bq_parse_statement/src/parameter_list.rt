@@ -18,7 +18,7 @@ use bq_source::TokenKind;
 use sqlite_items::Items;
 use std::alloc::Global;
 
-/// What may come after a parameter of this kind; none where it may not stand.
+/// Returns what may come after a parameter of this kind, or `None` where that parameter is not allowed.
 fn parameters_after(allowed: AllowedParameters, kind: ParameterKind) -> Option<AllowedParameters>
     ensures { result ≡ grammar.parameters_after allowed kind }
 {
@@ -57,7 +57,7 @@ fn parameters_after(allowed: AllowedParameters, kind: ParameterKind) -> Option<A
     }
 }
 
-/// The parameters may end here.
+/// Returns whether the parameters may end here.
 fn may_end(allowed: AllowedParameters) -> bool
     ensures { result ≡ grammar.may_end allowed }
 {
@@ -67,7 +67,7 @@ fn may_end(allowed: AllowedParameters) -> bool
     }
 }
 
-/// Which parameter comes next, by its first tokens.
+/// Returns which parameter comes next, by its first tokens.
 fn parameter_kind(tokens: &Tokens<'_>) -> ParameterKind
     ensures { result ≡ spec.parameter_kind tokens.now }
 {
@@ -86,7 +86,7 @@ fn parameter_kind(tokens: &Tokens<'_>) -> ParameterKind
     }
 }
 
-/// The value, and '=' Test. It is a function over any value, since to let go of one is a single step for the proof.
+/// Returns the value, and reads '=' Test. It is generic, since dropping a `T` is a single step for the proof.
 fn with_default<T: Drop>(
     alloc: Global,
     tokens: &mut Tokens<'_>,
@@ -140,7 +140,7 @@ fn parameter_by(
     }
 }
 
-/// A parameter, where it may stand, and what may still come after it.
+/// Reads a parameter, where it is allowed, and returns what may still come after it.
 #[tactic(auto, unfolding(bq_parse_grammar::specs::ReadingStatements::parameter))]
 fn parameter(
     alloc: Global,
@@ -157,7 +157,7 @@ fn parameter(
     }
 }
 
-/// The parameters, where they may end.
+/// Returns the parameters, where they may end.
 fn ended(found: Items<Parameter>, allowed: AllowedParameters) -> Result<Items<Parameter>, SyntaxErr>
     ensures { MatchResult result (λ all. (grammar.may_end allowed ≡ true) × (all ≡ found)) (λ why. (grammar.may_end allowed ≡ false) × (why ≡ Syntax)) }
 {

@@ -102,7 +102,7 @@ fn small_kind(alloc: Global, tokens: &mut Tokens<'_>, depth: usize) -> Result<Sm
     }
 }
 
-/// A small statement, with the line on which it begins.
+/// Reads a small statement, with the line on which it begins.
 #[tactic(auto, unfolding(bq_parse_grammar::specs::ReadingStatements::small_stmt))]
 fn small_stmt(alloc: Global, tokens: &mut Tokens<'_>, depth: usize) -> Result<SmallStmt, SyntaxErr>
     ensures { Reads (spec.small_stmt depth tokens.old) result tokens.new }

@@ -11,7 +11,7 @@ use bq_parse_cursor::Tokens;
 use bq_parse_grammar::{Stmt, SyntaxErr, TopLevel};
 use std::alloc::Global;
 
-/// A statement in which so many brackets and indents less one may be open.
+/// Reads a statement in which fewer than `depth` brackets and indents may be open.
 pub fn statement(alloc: Global, tokens: &mut Tokens<'_>, depth: usize) -> Result<Stmt, SyntaxErr>
     ensures { Reads (spec.statement depth tokens.old) result tokens.new }
 {
@@ -27,7 +27,7 @@ pub fn statement(alloc: Global, tokens: &mut Tokens<'_>, depth: usize) -> Result
     .stmt(tokens)
 }
 
-/// The value, where no token is left.
+/// Returns the value, where no token is left.
 fn whole<T: Drop>(tokens: &Tokens<'_>, value: T) -> Result<T, SyntaxErr>
     ensures { MatchResult result (λ x. (length tokens.now ≡ 0) × (x ≡ value)) (λ why. (0 < length tokens.now) × (why ≡ Syntax)) }
 {
@@ -38,7 +38,7 @@ fn whole<T: Drop>(tokens: &Tokens<'_>, value: T) -> Result<T, SyntaxErr>
     }
 }
 
-/// The top-level statement that all of these tokens are.
+/// Reads the top-level statement that all of these tokens are.
 #[tactic(auto, using(crate::proofs::Taken::none_left, crate::proofs::Taken::some_left), unfolding(bq_parse_grammar::specs::ReadingStatements::top_level))]
 pub fn top_level(
     alloc: Global,

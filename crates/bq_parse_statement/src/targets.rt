@@ -12,7 +12,7 @@ use bq_parse_grammar::{Expr, Suffix, SyntaxErr, TargetExpr};
 use sqlite_items::{Boxed, Items};
 use std::alloc::{AllocError, Global};
 
-/// The items from the last to the first.
+/// Returns the items from the last to the first.
 #[tactic(auto, using(crate::proofs::Reversed::reverse_last))]
 fn reversed(alloc: Global, mut items: Items<Expr>) -> Result<Items<Expr>, AllocError>
     ensures { IfOk result (λ xs. xs ≡ reverse items) }
@@ -24,7 +24,7 @@ fn reversed(alloc: Global, mut items: Items<Expr>) -> Result<Items<Expr>, AllocE
     Ok(found)
 }
 
-/// An operand and what is done to it; the operand alone where nothing is.
+/// Returns an operand and what is done to it; the operand alone where nothing is.
 fn primary_of(
     alloc: Global,
     operand: Boxed<Expr>,
@@ -38,7 +38,7 @@ fn primary_of(
     Boxed::new(alloc, Expr::Primary(operand, suffixes))
 }
 
-/// An operand with these suffixes and the last one, which must be an index.
+/// Returns an operand with these suffixes and the last one, which must be an index.
 fn indexed_by(
     alloc: Global,
     operand: Boxed<Expr>,
@@ -53,7 +53,7 @@ fn indexed_by(
     }
 }
 
-/// An operand whose last suffix is an index.
+/// Returns an operand whose last suffix is an index.
 #[tactic(auto, using(crate::proofs::Reversed::indexed_popped))]
 fn indexed(
     alloc: Global,
@@ -69,14 +69,14 @@ fn indexed(
     }
 }
 
-/// Lets go of what can't be assigned to. It is a function over any value, since to let go of one is a single step for the proof.
+/// Drops what can't be assigned to. It is generic, since dropping a `T` is a single step for the proof.
 pub fn refused<T: Drop, A>(_value: T) -> Result<A, SyntaxErr>
     ensures { result ≡ Err Syntax }
 {
     Err(SyntaxErr::Syntax)
 }
 
-/// The items, at least one.
+/// Returns the items, at least one.
 fn some<T: Drop>(items: Items<T>) -> Result<Items<T>, SyntaxErr>
     ensures { MatchResult result (λ xs. (items ≢ []) × (xs ≡ items)) (λ why. (items ≡ []) × (why ≡ Syntax)) }
 {
@@ -103,7 +103,7 @@ impl<F: Fn(Global, usize, Expr) -> Result<TargetExpr, SyntaxErr>> Targets<F> {
         (self.target)(self.alloc, self.depth, expr)
     }
 
-    /// The targets that the expressions are.
+    /// Returns the targets that the expressions are.
     #[tactic(auto, using(crate::proofs::Reversed::reverse_last, crate::proofs::Reversed::reverse_reversed))]
     fn all(&self, exprs: Items<Expr>) -> Result<Items<TargetExpr>, SyntaxErr>
         requires { MakesTarget self.now.depth (F.pre self.now.target) (F.post self.now.target) }
@@ -131,7 +131,7 @@ impl<F: Fn(Global, usize, Expr) -> Result<TargetExpr, SyntaxErr>> Targets<F> {
     }
 }
 
-/// The target that an expression is, which holds so many lists and tuples in one another less one.
+/// Returns the target that an expression is, in which lists and tuples nest less than `depth` deep.
 fn target_to(alloc: Global, depth: usize, expr: Expr) -> Result<TargetExpr, SyntaxErr>
     ensures { Makes (spec.target_to depth expr) result }
 {
@@ -146,7 +146,7 @@ fn target_to(alloc: Global, depth: usize, expr: Expr) -> Result<TargetExpr, Synt
     .target(expr)
 }
 
-/// The target that an expression is, which holds so many lists and tuples in one another.
+/// Returns the target that an expression is, in which lists and tuples nest at most `depth` deep.
 #[tactic(auto, unfolding(bq_parse_grammar::specs::Targets::target_to))]
 pub fn target(alloc: Global, depth: usize, expr: Expr) -> Result<TargetExpr, SyntaxErr>
     ensures { Makes (spec.target_to (suc depth) expr) result }
@@ -159,7 +159,7 @@ pub fn target(alloc: Global, depth: usize, expr: Expr) -> Result<TargetExpr, Syn
     .target(expr)
 }
 
-/// What an augmented assignment may assign to.
+/// Returns what an augmented assignment may assign to.
 #[tactic(auto, unfolding(bq_parse_grammar::specs::Targets::augmented_target))]
 pub fn augmented_target(alloc: Global, expr: Expr) -> Result<TargetExpr, SyntaxErr>
     ensures { Makes (spec.augmented_target expr) result }

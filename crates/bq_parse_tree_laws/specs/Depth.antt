@@ -136,6 +136,6 @@ stmt_depth = fold-Stmt ℕ ℕ stmt_step branch_step
 abbrev pub branch_depth : Branch → ℕ
 branch_depth = fold-Branch ℕ ℕ stmt_step branch_step
 
--- 64 brackets and indents in one another, 14 levels of expressions in each, and what stands round them
+-- 64 nested brackets and indents, 14 levels of expressions in each, and what is around them
 abbrev pub max_depth : ℕ
 max_depth = 913

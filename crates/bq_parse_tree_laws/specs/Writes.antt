@@ -1,5 +1,5 @@
--- Which tokens parts are written as. Each node is written by its parts, in order; the tree leaves open no more than these: round an
--- expression or a target there may be parentheses, where a list of tests may stand a tuple of two or more needs none, after the last
+-- Which tokens parts are written as. Each node is written by its parts, in order; the tree leaves open no more than these: around
+-- an expression or a target there may be parentheses, where a list of tests may stand a tuple of two or more needs none, after the last
 -- item of a list there may be a comma, after a slice's second part a colon, and after a line's last statement a semicolon; a suite of
 -- one line may stand on the line of its head, and a load may name a symbol once where the name is the same.
 use Rattle.std.specs.Prelude.{ℕ, pos, Bool, true, false, List, [], ◌∷◌, Some, ◌≡◌}

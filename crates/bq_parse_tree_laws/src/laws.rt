@@ -50,7 +50,7 @@ pub fn what_is_left_out_is_in_the_tree()
     ensures { (depth : ℕ) (ts : List Lexeme) (x : TopLevel) → IsTopLevel depth ts x → leaves_out ts ≡ true → (1 ≤ stmt_count false x.statement) ⊎ (lone_native ts ≡ true) }
 {}
 
-/// With so many brackets in one another an expression is at most 14 levels deeper; no statement is deeper than `max_depth`.
+/// Each bracket around a part makes an expression at most 14 levels deeper; no statement is deeper than `max_depth`.
 pub fn no_tree_is_deeper()
     ensures expression { (depth : ℕ) (ts rest : List Lexeme) (x : Expr) → IsTestTo depth ts rest x → expr_depth x ≤ 14 * (depth + 1) }
     ensures statement { (kind : FileKind) (ts : List Lexeme) (x : TopLevel) → ReadsAs kind ts (Ok x) → stmt_depth x.statement ≤ max_depth }

@@ -1,8 +1,8 @@
 //! What the trees of `bq_parse_grammar` have to do with the tokens that they are read from: laws above the definitions of
 //! `bq_parse_grammar`.
 //!
-//! In: nothing; the functions do nothing, and their contracts are the laws. The promise: a tree loses none of its tokens and turns
-//! none round; of tokens that the verdict lets pass it holds nothing that the language leaves out, and it is no deeper than 913.
+//! In: nothing; the functions do nothing, and their contracts are the laws. The promise: a tree loses none of its tokens and keeps
+//! their order; of tokens that the verdict lets pass it holds nothing that the language leaves out, and it is no deeper than 913.
 //!
 //! `specs/Parts.antt` says what each node of a tree writes, its own tokens and its children, and `specs/Writes.antt` which tokens
 //! such parts are written as. `specs/LeftOut.antt` and `specs/Depth.antt` are folds over trees. How the proofs go: `Tells f X`

@@ -10,7 +10,7 @@ use Rattle.bq_resolve_scope.specs.Visit.{Passed}
 use Rattle.bq_resolve_scope.specs.Statements.{stmt_to}
 use Rattle.bq_resolve_expression.specs.Walks.{Walks}
 
--- statements that are no deeper than so many layers
+-- statements that are at most `layers` layers deep
 pub record WalksStatement (layers : ℕ) (pre : Global → Bor FileParts → ℕ → Bor (List BlockParts) → Bool → MutBor Passed → Bor Stmt → Type 0)
     (post : Global → Bor FileParts → ℕ → Bor (List BlockParts) → Bool → MutBor Passed → Bor Stmt → Result CodeStmt SourceErr → MutBor Passed → Type 0) : Type 0 where
   pub callable : (alloc : Global) (file : Bor FileParts) (blocks : Bor (List BlockParts)) (looping : Bool) (old : MutBor Passed) (x : Bor Stmt)

@@ -25,7 +25,7 @@ pub struct BlockResolver<F> {
     pub inner: F,
 }
 
-/// What stands before the block of a `for`: its variables, and what it goes over.
+/// Resolves what stands before the block of a `for`: its variables, and what it goes over.
 fn header(
     alloc: Global,
     file: &FileNames,
@@ -53,7 +53,7 @@ impl<
         &Stmt,
     ) -> Result<CodeStmt, SourceErr>,
 > BlockResolver<F> {
-    /// A statement inside; `looping` inside a `for` of the function.
+    /// Resolves a statement inside; `looping` is true inside a `for` of the function.
     fn nested(
         &self,
         file: &FileNames,
@@ -76,7 +76,7 @@ impl<
         )
     }
 
-    /// The statements of a block.
+    /// Resolves the statements of a block.
     #[tactic(auto, unfolding(bq_resolve_scope::specs::Visit::each))]
     pub fn block(
         &self,
@@ -96,7 +96,7 @@ impl<
         Ok(done)
     }
 
-    /// What stands before a block, and the block. It is a function over any value, since to let go of one is a single step for the proof.
+    /// Resolves what stands before a block, and the block. It is generic, since dropping a `T` is a single step for the proof.
     fn beside<T: Drop>(
         &self,
         file: &FileNames,
@@ -151,7 +151,7 @@ impl<
         Ok(done)
     }
 
-    /// The branches of an `if`, and the block of its `else`.
+    /// Resolves the branches of an `if`, and the block of its `else`.
     #[tactic(auto, unfolding(bq_resolve_scope::specs::Statements::if_stmt))]
     fn if_stmt(
         &self,
@@ -170,7 +170,7 @@ impl<
         Ok(CodeStmt::If(branches, otherwise))
     }
 
-    /// A `for`.
+    /// Resolves a `for`.
     #[tactic(auto, unfolding(bq_resolve_scope::specs::Statements::for_stmt))]
     fn for_stmt(
         &self,
@@ -189,7 +189,7 @@ impl<
         Ok(CodeStmt::For(variables, iterable, body))
     }
 
-    /// A statement of a function.
+    /// Resolves a statement of a function.
     pub fn stmt(
         &self,
         file: &FileNames,

@@ -10,7 +10,7 @@ use bq_resolve_expression::{Rules, Walk, expr_to};
 use bq_resolve_scope::{Block, Code, CodeTarget, FileNames, MAX_LAYERS};
 use std::alloc::Global;
 
-/// An expression that is no deeper than so many layers: `expr_to`, which can be passed on from its own crate alone.
+/// Resolves an expression that is at most `depth` layers deep: `expr_to`, which only its own crate can pass on as a function.
 fn nested(
     alloc: Global,
     file: &FileNames,

@@ -16,7 +16,7 @@ use bq_resolve_scope::{CodeTopLevel, FileNames, LoadStmt, Resolved, Universe};
 use sqlite_items::Items;
 use std::alloc::Global;
 
-/// What statements resolve to among the names of their file, and what was passed then.
+/// Returns what statements resolve to among the names of their file, and what was passed then.
 fn walked(
     alloc: Global,
     file: &FileNames,
@@ -28,14 +28,14 @@ fn walked(
     match top_levels(alloc, file, &mut walk, statements) {
         Ok(statements) => Ok((statements, walk)),
         Err(why) => {
-            // PROOF: `drop` lets go of it in a single step.
+            // PROOF: `drop` is a single step.
             drop(walk);
             Err(why)
         }
     }
 }
 
-/// What statements resolve to among the names of their file.
+/// Returns what statements resolve to among the names of their file.
 fn resolve_in(
     alloc: Global,
     file: &FileNames,
@@ -54,7 +54,7 @@ fn resolve_in(
     })
 }
 
-/// What the file resolves to, or the first fault of its names in the order of its text, F20 to F24. It takes time and memory in
+/// Returns what the file resolves to, or the first fault of its names in the order of its text, F20 to F24. It takes time and memory in
 /// proportion to the file.
 #[tactic(auto, unfolding(bq_resolve_scope::specs::Files::resolved))]
 pub fn resolve(alloc: Global, file: &ParsedFile, universe: &Universe) -> Result<Resolved, SourceErr>
@@ -62,12 +62,12 @@ pub fn resolve(alloc: Global, file: &ParsedFile, universe: &Universe) -> Result<
 {
     let names = FileNames::new(alloc, universe, file.statements())?;
     let resolved = resolve_in(alloc, &names, file.statements());
-    // PROOF: `drop` lets go of them in a single step.
+    // PROOF: `drop` is a single step.
     drop(names);
     resolved
 }
 
-/// The loads of a file, in the order in which they are written.
+/// Returns the loads of a file, in the order in which they are written.
 pub fn loads(resolved: &Resolved) -> &[LoadStmt]
     ensures { result.now ≡ resolved.now.loads }
 {

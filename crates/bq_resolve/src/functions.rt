@@ -17,7 +17,7 @@ use bq_resolve_scope::{
 use sqlite_items::{Boxed, Items};
 use std::alloc::Global;
 
-/// A function's statements, among its own names.
+/// Resolves a function's statements, among its own names.
 #[tactic(auto, unfolding(bq_resolve_scope::specs::Names::max_layers))]
 fn statements_in(
     alloc: Global,
@@ -28,7 +28,7 @@ fn statements_in(
 ) -> Result<Items<CodeStmt>, SourceErr>
     ensures { Walks (spec.statements_in file.now names body.now walk.old) result walk.new }
 {
-    // PROOF: so many names there can be.
+    // PROOF: the number of names fits.
     let _fits = names.len();
     let block = Block::new(alloc, 0, names)?;
     let blocks = inside(alloc, block, &[])?;
@@ -40,7 +40,7 @@ fn statements_in(
     statements.block(file, blocks.as_slice(), false, walk, body)
 }
 
-/// A function of the file, which has a frame of its own: its number.
+/// Resolves a function of the file, which has a frame of its own, and returns its number.
 #[tactic(auto, unfolding(bq_resolve_scope::specs::Statements::function))]
 fn function(
     alloc: Global,
@@ -66,7 +66,7 @@ fn function(
     Ok(number)
 }
 
-/// A `def`: its name is bound before its parameters are looked at.
+/// Resolves a `def`: its name is bound before its parameters are looked at.
 #[tactic(auto, unfolding(bq_resolve_scope::specs::Files::def_stmt))]
 pub fn def_stmt(
     alloc: Global,

@@ -13,7 +13,7 @@ use bq_resolve_scope::{CodeSmall, FileNames, LoadStmt, LoadedSymbol};
 use sqlite_items::Items;
 use std::alloc::{AllocError, Global};
 
-/// What a load clause makes of its symbol.
+/// Returns what a load clause makes of its symbol.
 fn symbol_of(file: &FileNames, clause: &LoadClause) -> Result<LoadedSymbol, AllocError>
     ensures { IfOk result (λ s. s ≡ record { local = clause.now.local.name; symbol = clause.now.symbol; global = place_among clause.now.local.name file.now.globals }) }
 {
@@ -26,7 +26,7 @@ fn symbol_of(file: &FileNames, clause: &LoadClause) -> Result<LoadedSymbol, Allo
     })
 }
 
-/// A load clause: F22 where another clause before it has its name, F21 where a statement of a .bzl file bound it.
+/// Resolves a load clause: F22 where another clause before it has its name, F21 where a statement of a .bzl file bound it.
 #[tactic(auto, unfolding(bq_resolve_scope::specs::Statements::load_clause))]
 fn load_clause(
     file: &FileNames,
@@ -62,7 +62,7 @@ fn load_clauses(
     Ok(done)
 }
 
-/// A load, which is carried along.
+/// Resolves a load, which is carried along.
 #[tactic(auto, unfolding(bq_resolve_scope::specs::Statements::load))]
 pub fn load(
     alloc: Global,

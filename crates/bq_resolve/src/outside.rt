@@ -15,7 +15,7 @@ use bq_resolve_scope::{CodeTopLevel, FileNames, FileStmt};
 use sqlite_items::Items;
 use std::alloc::Global;
 
-/// A statement outside functions, where `if` and `for` are not allowed.
+/// Resolves a statement outside functions, where `if` and `for` are not allowed.
 fn file_stmt(
     alloc: Global,
     file: &FileNames,
@@ -58,7 +58,7 @@ fn top_level(
     Ok(CodeTopLevel { line, statement })
 }
 
-/// The top-level statements of a file.
+/// Resolves the top-level statements of a file.
 #[tactic(auto, unfolding(bq_resolve_scope::specs::Visit::each))]
 pub fn top_levels(
     alloc: Global,

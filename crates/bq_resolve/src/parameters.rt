@@ -48,7 +48,7 @@ impl ParameterList {
         }
     }
 
-    /// What the parameters resolve to, and their defaults.
+    /// Returns what the parameters resolve to, and their defaults.
     pub fn into_parts(self) -> (Items<CodeParameter>, Items<Code>)
         ensures parameters { result.0 ≡ self.parameters }
         ensures defaults { result.1 ≡ self.defaults }
@@ -138,7 +138,7 @@ impl ParameterList {
     }
 }
 
-/// The parameters of a function.
+/// Resolves the parameters of a function.
 pub fn parameters(
     alloc: Global,
     file: &FileNames,

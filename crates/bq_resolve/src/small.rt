@@ -17,14 +17,14 @@ use bq_resolve_scope::{Block, CodeSmall, FileNames};
 use sqlite_items::{Boxed, Items};
 use std::alloc::Global;
 
-/// What stands where it may not: F23.
+/// Returns F23, the fault of what stands where it may not.
 pub fn misplaced<T>(line: u32) -> Result<T, SourceErr>
     ensures { (s : Passed) → Walks (spec.misplaced line s) result s }
 {
     Err(SourceErr::Bad(Fault::at(FaultKind::BadFlow, line)))
 }
 
-/// `break`, which is allowed in loops alone.
+/// Resolves `break`, which is allowed in loops alone.
 #[tactic(auto, unfolding(bq_resolve_scope::specs::Statements::in_loop))]
 fn break_stmt(looping: bool, line: u32) -> Result<CodeSmall, SourceErr>
     ensures { (file : FileParts) (s : Passed) → Walks (spec.in_loop file looping line code.Break s) result s }
@@ -35,7 +35,7 @@ fn break_stmt(looping: bool, line: u32) -> Result<CodeSmall, SourceErr>
     misplaced(line)
 }
 
-/// `continue`, which is allowed in loops alone.
+/// Resolves `continue`, which is allowed in loops alone.
 #[tactic(auto, unfolding(bq_resolve_scope::specs::Statements::in_loop))]
 fn continue_stmt(looping: bool, line: u32) -> Result<CodeSmall, SourceErr>
     ensures { (file : FileParts) (s : Passed) → Walks (spec.in_loop file looping line code.Continue s) result s }
@@ -46,7 +46,7 @@ fn continue_stmt(looping: bool, line: u32) -> Result<CodeSmall, SourceErr>
     misplaced(line)
 }
 
-/// A `load`, which is allowed outside functions alone.
+/// Resolves a `load`, which is allowed outside functions alone.
 #[tactic(auto, unfolding(bq_resolve_scope::specs::Statements::load_in))]
 fn load_in(
     alloc: Global,
@@ -101,7 +101,7 @@ fn augment(
     Ok(CodeSmall::Augment(left.into_inner(), operator, value))
 }
 
-/// `return`, which is allowed in functions alone.
+/// Resolves `return`, which is allowed in functions alone.
 #[tactic(auto, unfolding(bq_resolve_scope::specs::Statements::returned))]
 fn returned(
     alloc: Global,
@@ -122,7 +122,7 @@ fn returned(
     }
 }
 
-/// A small statement; `looping` inside a `for` of the function.
+/// Resolves a small statement; `looping` is true inside a `for` of the function.
 #[tactic(auto, unfolding(bq_resolve_scope::specs::Statements::small_stmt))]
 pub fn small_stmt(
     alloc: Global,
@@ -149,7 +149,7 @@ pub fn small_stmt(
     }
 }
 
-/// The small statements of one logical line.
+/// Resolves the small statements of one logical line.
 #[tactic(auto, unfolding(bq_resolve_scope::specs::Visit::each))]
 pub fn line(
     alloc: Global,

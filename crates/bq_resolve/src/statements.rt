@@ -10,7 +10,7 @@ use bq_resolve_expression::Walk;
 use bq_resolve_scope::{Block, CodeStmt, FileNames};
 use std::alloc::Global;
 
-/// A statement of a function that is no deeper than so many layers; `looping` inside a `for` of the function.
+/// Resolves a statement of a function that is at most `layers` layers deep; `looping` is true inside a `for` of the function.
 pub fn stmt_to(
     alloc: Global,
     file: &FileNames,

@@ -16,7 +16,7 @@ use Rattle.bq_resolve_scope.specs.Expressions.{expr_to}
 abbrev pub Walks : {A : Type 0} → Result (A × Passed) Fault → Result A SourceErr → Passed → Type 0
 Walks found result new = Gives (λ x. (x, new)) Bad result found
 
--- expressions that are no deeper than so many layers
+-- expressions that are at most `depth` layers deep
 pub record WalksNested (depth : ℕ) (pre : Global → Bor FileParts → ℕ → Bor (List BlockParts) → MutBor Passed → Bor Expr → Type 0)
     (post : Global → Bor FileParts → ℕ → Bor (List BlockParts) → MutBor Passed → Bor Expr → Result Code SourceErr → MutBor Passed → Type 0) : Type 0 where
   pub callable : (alloc : Global) (file : Bor FileParts) (blocks : Bor (List BlockParts)) (old : MutBor Passed) (x : Bor Expr) → pre alloc file depth blocks old x

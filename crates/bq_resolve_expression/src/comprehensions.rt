@@ -15,7 +15,7 @@ use bq_resolve_scope::{Block, Code, CodeClause, FileNames, MAX_LAYERS, comprehen
 use sqlite_items::{Boxed, Items};
 use std::alloc::Global;
 
-/// A frame that was opened ends, and the one round it goes on, which had so many slots.
+/// Ends a frame that was opened, and goes on with the enclosing one, which had `had` slots.
 fn framed(alloc: Global, walk: &mut Walk, had: usize, code: Code) -> Result<Code, SourceErr>
     ensures { Walks (spec.framed had (Ok (code, walk.old))) result walk.new }
 {
@@ -26,7 +26,7 @@ fn framed(alloc: Global, walk: &mut Walk, had: usize, code: Code) -> Result<Code
 impl<F: Fn(Global, &FileNames, usize, &[Block], &mut Walk, &Expr) -> Result<Code, SourceErr>> Rules<
     F,
 > {
-    /// A clause: its iterable is resolved among the blocks `round`, all else among `blocks`.
+    /// Resolves a clause: its iterable among the blocks `round`, all else among `blocks`.
     #[tactic(auto, unfolding(bq_resolve_scope::specs::Names::max_layers))]
     fn clause(
         &self,
@@ -50,7 +50,7 @@ impl<F: Fn(Global, &FileNames, usize, &[Block], &mut Walk, &Expr) -> Result<Code
         }
     }
 
-    /// The clauses done, and all of these, which lie inside.
+    /// Resolves clauses that lie inside, and appends them to those done.
     #[tactic(auto, unfolding(bq_resolve_scope::specs::Visit::each))]
     fn further_clauses(
         &self,
@@ -69,7 +69,7 @@ impl<F: Fn(Global, &FileNames, usize, &[Block], &mut Walk, &Expr) -> Result<Code
         Ok(done)
     }
 
-    /// The clauses of a comprehension: its first iterable lies outside it.
+    /// Resolves the clauses of a comprehension: its first iterable lies outside it.
     #[tactic(auto, unfolding(bq_resolve_scope::specs::Expressions::clauses))]
     fn clauses(
         &self,

@@ -17,7 +17,7 @@ use std::alloc::Global;
 impl<F: Fn(Global, &FileNames, usize, &[Block], &mut Walk, &Expr) -> Result<Code, SourceErr>> Rules<
     F,
 > {
-    /// The operators before an operand, and it.
+    /// Resolves an operand, with the operators before it.
     fn unary(
         &self,
         file: &FileNames,
@@ -33,7 +33,7 @@ impl<F: Fn(Global, &FileNames, usize, &[Block], &mut Walk, &Expr) -> Result<Code
         Ok(Code::Unary(Items::from_slice(self.alloc, operators)?, operand))
     }
 
-    /// An operand, and the operations on it.
+    /// Resolves an operand, and the operations on it.
     fn binary(
         &self,
         file: &FileNames,
@@ -66,7 +66,7 @@ impl<F: Fn(Global, &FileNames, usize, &[Block], &mut Walk, &Expr) -> Result<Code
         Ok(Code::Compare(left, comparison, right))
     }
 
-    /// Choices, and the last value.
+    /// Resolves choices, and the last value.
     fn conditional(
         &self,
         file: &FileNames,
@@ -83,7 +83,7 @@ impl<F: Fn(Global, &FileNames, usize, &[Block], &mut Walk, &Expr) -> Result<Code
         Ok(Code::Conditional(choices, last))
     }
 
-    /// An expression, of any form.
+    /// Resolves an expression, of any form.
     fn expr_by(
         &self,
         file: &FileNames,
@@ -133,7 +133,7 @@ impl<F: Fn(Global, &FileNames, usize, &[Block], &mut Walk, &Expr) -> Result<Code
     }
 }
 
-/// An expression that is no deeper than so many layers.
+/// Resolves an expression that is at most `depth` layers deep.
 #[tactic(auto, using(crate::proofs::Layers::expr_layer), unfolding(bq_resolve_scope::specs::Expressions::expr_to))]
 pub fn expr_to(
     alloc: Global,

@@ -13,7 +13,7 @@ use bq_parse_grammar::{FileKind, Identifier};
 use bq_resolve_scope::{Binding, Block, CodeTarget, FileNames};
 use std::alloc::AllocError;
 
-/// A fault at a name.
+/// Returns a fault at a name.
 pub fn fault_of(kind: FaultKind, name: &Identifier) -> Result<Fault, AllocError>
     ensures { IfOk result (λ f. f ≡ fault_of kind name.now) }
 {
@@ -24,7 +24,7 @@ pub fn fault_of(kind: FaultKind, name: &Identifier) -> Result<Fault, AllocError>
     })
 }
 
-/// The use of a name: of the innermost block that holds it, else F20.
+/// Returns the use of a name: of the innermost block that holds it, else F20.
 #[tactic(auto, unfolding(bq_resolve_scope::specs::Expressions::use_at))]
 pub fn use_at(file: &FileNames, blocks: &[Block], name: &Identifier) -> Result<Binding, SourceErr>
     ensures { (s : Passed) → Walks (spec.use_at file.now blocks.now name.now s) result s }
@@ -35,7 +35,7 @@ pub fn use_at(file: &FileNames, blocks: &[Block], name: &Identifier) -> Result<B
     }
 }
 
-/// Where a name is bound.
+/// Returns where a name is bound.
 fn place_of(binding: Option<Binding>) -> Option<CodeTarget>
     ensures { result ≡ spec.place_of binding }
 {
@@ -58,7 +58,7 @@ fn bind_global(kind: FileKind, walk: &mut Walk, name: &Identifier) -> Result<(),
     Ok(())
 }
 
-/// Binds a name: outside functions and comprehensions, where no block is round, it is the file's.
+/// Binds a name: outside functions and comprehensions, where there is no enclosing block, it is the file's.
 fn bind_in(
     kind: FileKind,
     blocks: &[Block],
@@ -73,7 +73,7 @@ fn bind_in(
     Ok(())
 }
 
-/// A name that is bound: its block holds it.
+/// Resolves a name that is bound: its block holds it.
 #[tactic(auto, unfolding(bq_resolve_scope::specs::Expressions::name_target))]
 pub fn name_target(
     file: &FileNames,

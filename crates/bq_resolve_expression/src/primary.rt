@@ -16,7 +16,7 @@ use bq_resolve_scope::{Block, Code, CodeArgument, CodeSuffix, FileNames, Namespa
 use sqlite_items::{Boxed, Items};
 use std::alloc::{AllocError, Global};
 
-/// The namespace that the operand is: of a .bzl file that binds no such name.
+/// Returns the namespace that the operand is, in a .bzl file that binds no such name.
 fn namespace_at(
     file: &FileNames,
     blocks: &[Block],
@@ -42,7 +42,7 @@ fn namespace_at(
     }
 }
 
-/// A call, as the first of suffixes.
+/// Returns a call, as the first of suffixes.
 fn called(alloc: Global, arguments: Items<CodeArgument>) -> Result<Items<CodeSuffix>, AllocError>
     ensures { IfOk result (λ ss. ss ≡ suffix.Call arguments ∷ []) }
 {
@@ -54,7 +54,7 @@ fn called(alloc: Global, arguments: Items<CodeArgument>) -> Result<Items<CodeSuf
 impl<F: Fn(Global, &FileNames, usize, &[Block], &mut Walk, &Expr) -> Result<Code, SourceErr>> Rules<
     F,
 > {
-    /// `native.name(arguments)` or `attr.name(arguments)`, and what is done to its result.
+    /// Resolves `native.name(arguments)` or `attr.name(arguments)`, and what is done to its result.
     #[tactic(auto, unfolding(bq_resolve_scope::specs::Expressions::call_member))]
     fn call_member(
         &self,
@@ -78,7 +78,7 @@ impl<F: Fn(Global, &FileNames, usize, &[Block], &mut Walk, &Expr) -> Result<Code
         Ok(Code::Primary(Boxed::new(self.alloc, Code::Member(member))?, suffixes))
     }
 
-    /// An operand, and what is done to it.
+    /// Resolves an operand, and what is done to it.
     #[tactic(auto, unfolding(bq_resolve_scope::specs::Expressions::operand))]
     fn operand(
         &self,
@@ -96,8 +96,8 @@ impl<F: Fn(Global, &FileNames, usize, &[Block], &mut Walk, &Expr) -> Result<Code
         Ok(Code::Primary(operand, self.suffixes(file, blocks, walk, done, suffixes)?))
     }
 
-    /// An operand, and what is done to it: `native.name(..)` is the build function or rule `name`, `attr.name(..)` the function that
-    /// makes an attribute, else F20 at `name`.
+    /// Resolves an operand, and what is done to it: `native.name(..)` is the build function or rule `name`, `attr.name(..)` the function
+    /// that makes an attribute, else F20 at `name`.
     #[tactic(auto, unfolding(bq_resolve_scope::specs::Expressions::primary))]
     pub fn primary(
         &self,

@@ -24,7 +24,7 @@ pub struct Rules<F> {
 impl<F: Fn(Global, &FileNames, usize, &[Block], &mut Walk, &Expr) -> Result<Code, SourceErr>> Rules<
     F,
 > {
-    /// An expression inside.
+    /// Resolves an expression inside.
     pub fn expr(
         &self,
         file: &FileNames,
@@ -38,7 +38,7 @@ impl<F: Fn(Global, &FileNames, usize, &[Block], &mut Walk, &Expr) -> Result<Code
         (self.visit)(self.alloc, file, self.depth, blocks, walk, expr)
     }
 
-    /// An expression inside, in a box.
+    /// Resolves an expression inside, in a box.
     pub fn boxed(
         &self,
         file: &FileNames,
@@ -53,7 +53,7 @@ impl<F: Fn(Global, &FileNames, usize, &[Block], &mut Walk, &Expr) -> Result<Code
         Ok(Boxed::new(self.alloc, code)?)
     }
 
-    /// Expressions, one after another.
+    /// Resolves expressions, one after another.
     #[tactic(auto, unfolding(bq_resolve_scope::specs::Visit::each))]
     pub fn exprs(
         &self,
@@ -92,7 +92,7 @@ impl<F: Fn(Global, &FileNames, usize, &[Block], &mut Walk, &Expr) -> Result<Code
         })
     }
 
-    /// A further operand of a chain.
+    /// Resolves a further operand of a chain.
     #[tactic(auto, unfolding(bq_resolve_scope::specs::Expressions::operation))]
     fn operation(
         &self,

@@ -155,7 +155,7 @@ impl<F: Fn(Global, &FileNames, usize, &[Block], &mut Walk, &Expr) -> Result<Code
         }
     }
 
-    /// The suffixes done, and all of these.
+    /// Resolves the suffixes, and appends them to those done.
     #[tactic(auto, unfolding(bq_resolve_scope::specs::Expressions::suffixes, bq_resolve_scope::specs::Visit::each))]
     pub fn suffixes(
         &self,

@@ -57,7 +57,7 @@ impl<F: Fn(Global, &FileNames, usize, &[Block], &mut Walk, &Expr) -> Result<Code
         Ok(done)
     }
 
-    /// A target that is no deeper than so many layers.
+    /// Resolves a target that is at most `layers` layers deep.
     #[cycle(targets)]
     #[tactic(auto, using(crate::proofs::Layers::code_target_layer), unfolding(bq_resolve_scope::specs::Expressions::target_to))]
     pub fn target_to(

@@ -36,7 +36,7 @@ impl Model for Walk {
 }
 
 impl Walk {
-    /// Before the first statement.
+    /// Returns what is carried along before the first statement.
     pub fn new(alloc: Global) -> Walk
         ensures { result ≡ nothing_passed }
     {
@@ -49,7 +49,7 @@ impl Walk {
         }
     }
 
-    /// The functions and the loads.
+    /// Returns the functions and the loads.
     pub fn into_parts(self) -> (Items<CodeFunction>, Items<LoadStmt>)
         ensures functions { result.0 ≡ self.functions }
         ensures loads { result.1 ≡ self.loads }
@@ -64,7 +64,7 @@ impl Walk {
         (functions, loads)
     }
 
-    /// The frame has so many slots from here on; how many it had.
+    /// Sets the number of slots of the frame, and returns how many it had.
     pub fn frame(&mut self, slots: usize) -> usize
         ensures had { result ≡ self.old.slots }
         ensures has { self.new ≡ record self.old { slots = slots } }
@@ -74,7 +74,7 @@ impl Walk {
         had
     }
 
-    /// The name is bound in a .bzl file.
+    /// Returns whether the name is bound or loaded already, in a .bzl file.
     pub fn is_rebound(&self, kind: FileKind, name: &Bytes) -> Result<bool, AllocError>
         ensures { IfOk result (λ b. b ≡ (is_bzl kind && (has self.now.bound name.now || has self.now.loaded name.now))) }
     {
@@ -91,14 +91,14 @@ impl Walk {
         self.bound.add(name)
     }
 
-    /// A load clause before has the name.
+    /// Returns whether an earlier load clause has the name.
     pub fn is_loaded(&self, name: &Bytes) -> Result<bool, AllocError>
         ensures { IfOk result (λ b. b ≡ has self.now.loaded name.now) }
     {
         self.loaded.has(name)
     }
 
-    /// A statement of a .bzl file bound the name.
+    /// Returns whether a statement of a .bzl file bound the name.
     pub fn is_bound(&self, kind: FileKind, name: &Bytes) -> Result<bool, AllocError>
         ensures { IfOk result (λ b. b ≡ (is_bzl kind && has self.now.bound name.now)) }
     {
@@ -143,7 +143,7 @@ impl Walk {
         ensures slots { OnOk result (self.new ≡ record self.old { slots = self.old.slots + length names }) }
     {
         let base = self.slots;
-        // No frame has so many slots: their names would not fit into memory.
+        // No frame has that many slots: their names would not fit into memory.
         let Some(slots) = base.checked_add(names.len()) else {
             return Err(AllocError);
         };

@@ -77,8 +77,8 @@ const PREDECLARED: [Predeclared; 30] = [
 ];
 
 impl Predeclared {
-    /// The name that it is looked up by. None for a rule, whose name is the schema's, and for a function that declares rules: `int` is
-    /// not `attr.int`, and a schema may name a rule `rule`.
+    /// Returns the name that it is looked up by: `None` for a rule, whose name is the schema's, and for a function that declares rules,
+    /// since `int` is not `attr.int`, and a schema may name a rule `rule`.
     pub fn name(self) -> Option<&'static [u8]>
         ensures { option_copied result ≡ name_of self }
     {
@@ -113,7 +113,7 @@ impl Predeclared {
     }
 }
 
-/// Whether it has this name.
+/// Returns whether it has this name.
 fn is_named(predeclared: Predeclared, name: &[u8]) -> bool
     ensures { result ≡ is_named name.now predeclared }
 {
@@ -154,7 +154,7 @@ const HEADS: [(u8, usize); 27] = [
     (b'p', 13),
 ];
 
-/// One of these is of that first byte and length.
+/// Returns whether one of these is of that first byte and length.
 fn is_head(mut table: &[(u8, usize)], first: u8, len: usize) -> bool
     ensures { result ≡ list_any (λ h. h.0 == first && h.1 == len) table.entry.now }
 {
@@ -167,7 +167,7 @@ fn is_head(mut table: &[(u8, usize)], first: u8, len: usize) -> bool
     false
 }
 
-/// A predeclared name has this first byte and this length. Most names have neither, and need no walk along all.
+/// Returns whether a predeclared name has this first byte and this length. Most names have neither, and need no walk along all.
 fn has_head(name: &[u8]) -> bool
     ensures { result ≡ has_head name.now }
 {
@@ -190,7 +190,7 @@ fn first_named(mut table: &[Predeclared], name: &[u8]) -> Option<Predeclared>
     None
 }
 
-/// What the name stands for; none for the name of a rule, and for one that nothing has.
+/// Returns what the name stands for, or `None` for the name of a rule and for one that nothing has.
 #[tactic(auto, using(crate::proofs::Heads::headless), unfolding(crate::specs::Predeclared::predeclared_named))]
 pub fn predeclared_named(name: &[u8]) -> Option<Predeclared>
     ensures { result ≡ predeclared_named name.now }

@@ -44,7 +44,7 @@ impl RuleFunction {
     }
 }
 
-/// The first of these that has the name.
+/// Returns the first of these that has the name.
 #[tactic(auto, unfolding(crate::specs::RuleFunctions::first_called))]
 fn first_called(mut table: &[RuleFunction], name: &[u8]) -> Option<RuleFunction>
     ensures { result ≡ first_called name.now table.entry.now }
@@ -58,7 +58,7 @@ fn first_called(mut table: &[RuleFunction], name: &[u8]) -> Option<RuleFunction>
     None
 }
 
-/// The function `attr.NAME` of this name.
+/// Returns the function `attr.NAME` of this name.
 #[tactic(auto, unfolding(crate::specs::RuleFunctions::attr_named))]
 pub fn attr_named(name: &[u8]) -> Option<RuleFunction>
     ensures { result ≡ attr_named name.now }

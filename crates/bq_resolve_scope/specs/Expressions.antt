@@ -53,7 +53,7 @@ unfoldable pub bind_global : FileKind → Identifier → Visit (Unit {0})
 bind_global kind n s =
     if is_bzl kind && (has s.bound n.name || has s.loaded n.name) then Err (fault_of f.Rebound n) else Ok (tt, record s { bound = with_name s.bound n.name })
 
--- outside functions and comprehensions, where no block is round, a name that is bound is a global
+-- outside functions and comprehensions, where there is no enclosing block, a name that is bound is a global
 abbrev pub bind_in : FileKind → List BlockParts → Identifier → Visit (Unit {0})
 bind_in kind [] n = bind_global kind n
 bind_in kind (block ∷ blocks) n = pure tt
@@ -115,7 +115,7 @@ module _ (file : FileParts) (visit : List BlockParts → Expr → Visit Code) wh
   target_by inner blocks (TargetExpr-F.TargetExpr::Tuple ts) = each inner [] ts >>= λ us. pure (target.Tuple us)
   target_by inner blocks (TargetExpr-F.TargetExpr::List ts) = each inner [] ts >>= λ us. pure (target.List us)
 
-  -- of targets that are no deeper than so many layers; no tree that is parsed holds a deeper one
+  -- a target that is at most this many layers deep; no tree that is parsed holds a deeper one
   unfoldable pub target_to : ℕ → List BlockParts → TargetExpr → Visit CodeTarget
   target_to zero blocks t = stop (fault_at f.Nesting 0)
   target_to (suc n) blocks t = target_by (target_to n blocks) blocks (out-TargetExpr t)
@@ -207,7 +207,7 @@ module _ (file : FileParts) (visit : List BlockParts → Expr → Visit Code) wh
   expr_by blocks (Expr-F.Conditional xs z) = each (choice blocks) [] xs >>= λ ys. visit blocks z >>= λ w. pure (c.Conditional ys w)
   expr_by blocks Expr-F.Lambda = pure c.Lambda
 
--- of expressions that are no deeper than so many layers; no tree that is parsed holds a deeper one
+-- an expression that is at most this many layers deep; no tree that is parsed holds a deeper one
 unfoldable pub expr_to : ℕ → FileParts → List BlockParts → Expr → Visit Code
 expr_to zero file blocks x = stop (fault_at f.Nesting 0)
 expr_to (suc depth) file blocks x = expr_by file (expr_to depth file) blocks (out-Expr x)

@@ -7,7 +7,7 @@ use Rattle.bq_resolve_scope.specs.Universe.{universe_has}
 use Rattle.bq_resolve_scope.specs.Names.{Name, has, place_among}
 use Rattle.bq_resolve_scope.specs.Scope.{BlockParts, FileParts, slot_in, use_of}
 
--- What a use of the name stands for: "a use belongs to the innermost block round it whose set holds the name", else to what the file
+-- What a use of the name stands for: "a use belongs to the innermost enclosing block whose set holds the name", else to what the file
 -- binds, else to what its loads bind, else to what every file of its kind has.
 pub data StandsFor (file : FileParts) (name : Name) : List BlockParts → Option Binding → Type 0 where
   held : {block : BlockParts} {blocks : List BlockParts} {i : ℕ} → place_among name block.names ≡ Some i → StandsFor file name (block ∷ blocks) (Some (b.Local (block.base + i)))
@@ -22,7 +22,7 @@ abbrev pub EachUseStandsForOne : Type 0
 EachUseStandsForOne = (file : FileParts) (blocks : List BlockParts) (name : Name) (x : Option Binding)
     → (StandsFor file name blocks x → use_of file blocks name ≡ x) × (use_of file blocks name ≡ x → StandsFor file name blocks x)
 
--- A name that the block holds is Local, whatever else is round it.
+-- A name that the block holds is Local, whatever else encloses it.
 abbrev pub HeldNamesAreLocal : Type 0
 HeldNamesAreLocal = (file : FileParts) (block : BlockParts) (blocks : List BlockParts) (name : Name) → has block.names name ≡ true
     → (i : ℕ) × (use_of file (block ∷ blocks) name ≡ Some (b.Local (block.base + i))) × (slice_get block.names i ≡ Some name)

@@ -1,4 +1,4 @@
--- What a name stands for: "a use belongs to the innermost block round it whose set holds the name" (Starlark specification, "Name
+-- What a name stands for: "a use belongs to the innermost enclosing block whose set holds the name" (Starlark specification, "Name
 -- binding and variables"), else to the file, else to the names that every file has.
 use Rattle.std.specs.Prelude.{ℕ, ◌+◌, List, [], ◌∷◌, Option, Some, None}
 use Rattle.std.specs.Option.{option_map}

@@ -123,7 +123,7 @@ module _ (file : FileParts) where
   stmt_by inner blocks looping (Stmt-F.For t x body) = for_stmt (inner true) blocks t x body
   stmt_by inner blocks looping (Stmt-F.Def n ps body) = misplaced n.line
 
-  -- of statements that are no deeper than so many layers; no tree that is parsed holds a deeper one
+  -- a statement that is at most this many layers deep; no tree that is parsed holds a deeper one
   unfoldable pub stmt_to : ℕ → List BlockParts → Bool → Stmt → Visit CodeStmt
   stmt_to zero blocks looping x = stop (fault_at f.Nesting 0)
   stmt_to (suc depth) blocks looping x = stmt_by (stmt_to depth blocks) blocks looping (out-Stmt x)

@@ -12,7 +12,7 @@ use std::alloc::{AllocError, Global};
 /// How many layers of a tree are looked at; a tree that is parsed has fewer.
 pub const MAX_LAYERS: usize = 1024;
 
-/// Adds the names of targets that are no deeper than so many layers.
+/// Adds the names of targets that are at most `depth` layers deep.
 #[cycle(targets)]
 fn add_targets_to(names: &mut Names, depth: usize, targets: &[TargetExpr]) -> Result<(), AllocError>
     ensures { OnOk result (names.new ≡ spec.with_each (spec.with_target_to depth) names.old targets.now) }
@@ -23,7 +23,7 @@ fn add_targets_to(names: &mut Names, depth: usize, targets: &[TargetExpr]) -> Re
     Ok(())
 }
 
-/// Adds the names of a target that is no deeper than so many layers.
+/// Adds the names of a target that is at most `depth` layers deep.
 #[cycle(targets)]
 #[tactic(auto, using(crate::proofs::Layers::target_layer), unfolding(crate::specs::Names::with_target_to))]
 fn add_target_to(names: &mut Names, depth: usize, target: &TargetExpr) -> Result<(), AllocError>
@@ -59,7 +59,7 @@ fn add_clause(names: &mut Names, clause: &Clause) -> Result<(), AllocError>
     }
 }
 
-/// What a comprehension with these clauses binds.
+/// Returns what a comprehension with these clauses binds.
 #[tactic(auto, unfolding(crate::specs::Names::comprehension_names))]
 pub fn comprehension_names(alloc: Global, clauses: &[Clause]) -> Result<Names, AllocError>
     ensures { IfOk result (λ names. names ≡ spec.comprehension_names clauses.now) }
@@ -126,7 +126,7 @@ fn add_if_to(
     add_block_to(names, depth, otherwise)
 }
 
-/// Adds what a statement that is no deeper than so many layers binds in its block.
+/// Adds what a statement that is at most `depth` layers deep binds in its block.
 #[cycle(statements)]
 #[tactic(auto, using(crate::proofs::Layers::stmt_layer), unfolding(crate::specs::Names::with_stmt_to))]
 fn add_stmt_to(names: &mut Names, depth: usize, statement: &Stmt) -> Result<(), AllocError>
@@ -168,7 +168,7 @@ fn add_parameter(names: &mut Names, parameter: &Parameter) -> Result<(), AllocEr
     }
 }
 
-/// What a function with these parameters and statements binds.
+/// Returns what a function with these parameters and statements binds.
 #[tactic(auto, unfolding(crate::specs::Names::function_names))]
 pub fn function_names(
     alloc: Global,
@@ -187,7 +187,7 @@ pub fn function_names(
     Ok(names)
 }
 
-/// What a file binds, but for its loads.
+/// Returns what a file binds, but for its loads.
 #[tactic(auto, unfolding(crate::specs::Names::global_names))]
 pub fn global_names(alloc: Global, file: &[TopLevel]) -> Result<Names, AllocError>
     ensures { IfOk result (λ names. names ≡ spec.global_names file.now) }
@@ -239,7 +239,7 @@ fn add_loads(names: &mut Names, top_level: &TopLevel) -> Result<(), AllocError>
     }
 }
 
-/// What a file's loads bind.
+/// Returns what a file's loads bind.
 #[tactic(auto, unfolding(crate::specs::Names::loaded_names))]
 pub fn loaded_names(alloc: Global, file: &[TopLevel]) -> Result<Names, AllocError>
     ensures { IfOk result (λ names. names ≡ spec.loaded_names file.now) }

@@ -6,7 +6,7 @@
 //!
 //! The idea. A *block* is what binds names: a function, a comprehension, the file. Which names a block binds is known before any
 //! use is looked at, since a name that is bound anywhere in a function or file is bound in all of it (`specs/Names.antt`). A use
-//! belongs to the innermost block round it whose set holds the name, then to the file, then to what every file of its kind has
+//! belongs to the innermost enclosing block whose set holds the name, then to the file, then to what every file of its kind has
 //! (`specs/Scope.antt`, `specs/Universe.antt`). A function and the comprehensions in it share one *frame*: each block's names take
 //! the next slots when it opens, so a slot is one name of one block. A comprehension outside functions, in a default too, has a
 //! frame of its own.

@@ -80,7 +80,7 @@ impl Names {
         }
     }
 
-    /// How many.
+    /// Returns how many names there are.
     pub fn len(&self) -> usize
         ensures { result ≡ length self.now }
     {
@@ -99,7 +99,7 @@ impl Names {
         Ok(())
     }
 
-    /// The name is one of them.
+    /// Returns whether the name is one of them.
     #[tactic(auto, using(crate::proofs::Places::has_place))]
     pub fn has(&self, name: &Bytes) -> Result<bool, AllocError>
         ensures { IfOk result (λ there. there ≡ has self.now name.now) }
@@ -107,7 +107,7 @@ impl Names {
         Ok(self.place(name)?.is_some())
     }
 
-    /// The place of a name.
+    /// Returns the place of a name.
     #[tactic(auto, using(crate::proofs::Places::place_position, crate::proofs::Places::among_none))]
     pub fn place(&self, name: &Bytes) -> Result<Option<usize>, AllocError>
         ensures place { IfOk result (λ place. place ≡ place_among name.now self.now) }
@@ -123,7 +123,7 @@ impl Names {
         Ok(self.keys.get_index_of(&key))
     }
 
-    /// The names, in this order.
+    /// Returns the names, in this order.
     pub fn list(&self, alloc: Global) -> Result<Items<Bytes>, AllocError>
         ensures { IfOk result (λ names. names ≡ self.now) }
     {

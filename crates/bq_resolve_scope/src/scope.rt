@@ -1,4 +1,4 @@
-//! What a name stands for, among the blocks round it and in its file.
+//! What a name stands for, among the blocks around it and in its file.
 
 ghost use Rattle.std.specs.Prelude.{◌≡◌, ◌+◌, ◌<◌, ◌^◌, ◌∷◌, length, IfOk};
 ghost use Rattle.bq_resolve_scope.specs.Names.{place_among};
@@ -37,7 +37,7 @@ impl Model for Block {
 }
 
 impl Block {
-    /// A block whose names have the slots from `base` on.
+    /// Returns a block whose names have the slots from `base` on.
     pub fn new(alloc: Global, base: usize, names: Names) -> Result<Block, AllocError>
         requires { base + length names < 2 ^ 64 }
         ensures base { IfOk result (λ b. b.base ≡ base) }
@@ -49,7 +49,7 @@ impl Block {
         })
     }
 
-    /// The same block once more.
+    /// Returns a copy of the block.
     fn share(&self) -> Result<Block, AllocError>
         ensures { IfOk result (λ b. b ≡ self.now) }
     {
@@ -59,7 +59,7 @@ impl Block {
         })
     }
 
-    /// The slot of a name that the block holds.
+    /// Returns the slot of a name that the block holds.
     #[tactic(auto, unfolding(crate::specs::Scope::slot_in))]
     fn slot(&self, name: &Bytes) -> Result<Option<usize>, AllocError>
         ensures { IfOk result (λ slot. slot ≡ slot_in self.now name.now) }
@@ -71,7 +71,7 @@ impl Block {
     }
 }
 
-/// These blocks, and one inside them.
+/// Returns these blocks, with one inside them.
 pub fn inside(alloc: Global, block: Block, blocks: &[Block]) -> Result<Vec<Block>, AllocError>
     ensures { IfOk result (λ all. all.items ≡ block ∷ blocks.now) }
 {
@@ -83,7 +83,7 @@ pub fn inside(alloc: Global, block: Block, blocks: &[Block]) -> Result<Vec<Block
     Ok(all)
 }
 
-/// The slot of a name in the innermost block that holds it; the blocks stand innermost first.
+/// Returns the slot of a name in the innermost block that holds it; the blocks stand innermost first.
 #[tactic(auto, unfolding(crate::specs::Scope::slot_of))]
 fn slot_of(blocks: &[Block], name: &Bytes) -> Result<Option<usize>, AllocError>
     ensures { IfOk result (λ slot. slot ≡ slot_of blocks.now name.now) }
@@ -113,7 +113,7 @@ impl Model for FileNames {
 }
 
 impl FileNames {
-    /// The names of the file with these top-level statements.
+    /// Returns the names of the file with these top-level statements.
     #[tactic(auto, unfolding(crate::specs::Files::file_names))]
     pub fn new(
         alloc: Global,
@@ -135,28 +135,28 @@ impl FileNames {
         self.universe.kind()
     }
 
-    /// What a namespace holds by this name.
+    /// Returns what a namespace holds by this name.
     pub fn member(&self, space: Namespace, name: &Bytes) -> Result<Option<Predeclared>, AllocError>
         ensures { IfOk result (λ x. x ≡ member_named space self.now.universe.rules name.now) }
     {
         self.universe.member(space, name)
     }
 
-    /// The names that the file binds, but for its loads, in order of first binding.
+    /// Returns the names that the file binds, but for its loads, in order of first binding.
     pub fn globals(&self, alloc: Global) -> Result<Items<Bytes>, AllocError>
         ensures { IfOk result (λ names. names ≡ self.now.globals) }
     {
         self.globals.list(alloc)
     }
 
-    /// The place of a name among these.
+    /// Returns the place of a name among these.
     pub fn global(&self, name: &Bytes) -> Result<Option<usize>, AllocError>
         ensures { IfOk result (λ place. place ≡ place_among name.now self.now.globals) }
     {
         self.globals.place(name)
     }
 
-    /// What the name stands for outside all blocks.
+    /// Returns what the name stands for outside all blocks.
     #[tactic(auto, unfolding(crate::specs::Scope::file_has))]
     fn has(&self, name: &Bytes) -> Result<Option<Binding>, AllocError>
         ensures { IfOk result (λ x. x ≡ file_has self.now name.now) }
@@ -173,7 +173,7 @@ impl FileNames {
         }
     }
 
-    /// What a use of the name among these blocks stands for.
+    /// Returns what a use of the name among these blocks stands for.
     #[tactic(auto, unfolding(crate::specs::Scope::use_of))]
     pub fn use_of(&self, blocks: &[Block], name: &Bytes) -> Result<Option<Binding>, AllocError>
         ensures { IfOk result (λ x. x ≡ use_of self.now blocks.now name.now) }

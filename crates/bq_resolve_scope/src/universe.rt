@@ -27,7 +27,7 @@ pub enum Namespace {
 }
 
 impl Namespace {
-    /// The namespace of this name.
+    /// Returns the namespace of this name.
     pub fn named(name: &[u8]) -> Option<Namespace>
         ensures { result ≡ namespace_named name.now }
     {
@@ -41,7 +41,7 @@ impl Namespace {
     }
 }
 
-/// What a name that is predeclared as this in files of all kinds stands for in a .bzl file.
+/// Returns what a name that is predeclared as this in files of all kinds stands for in a .bzl file.
 fn in_bzl(name: &[u8], found: Option<Predeclared>) -> Option<Predeclared>
     ensures { result ≡ in_bzl name.now found }
 {
@@ -73,7 +73,7 @@ impl Model for Universe {
 }
 
 impl Universe {
-    /// A file of this kind in a workspace whose schema has these rules. A name that comes again is one rule.
+    /// Returns a file of this kind in a workspace whose schema has these rules. A name that comes again is one rule.
     pub fn new(alloc: Global, kind: FileKind, rules: &[Bytes]) -> Result<Universe, AllocError>
         ensures kind { IfOk result (λ u. u.kind ≡ kind) }
         ensures rules { IfOk result (λ u. u.rules ≡ with_each with_name [] rules.now) }
@@ -88,7 +88,7 @@ impl Universe {
         })
     }
 
-    /// The same names once more.
+    /// Returns a copy of the names.
     pub fn share(&self) -> Result<Universe, AllocError>
         ensures { IfOk result (λ u. u ≡ self.now) }
     {
@@ -104,7 +104,7 @@ impl Universe {
         self.kind
     }
 
-    /// The rule of this name.
+    /// Returns the rule of this name.
     fn rule(&self, name: &Bytes) -> Result<Option<HostFunction>, AllocError>
         ensures { IfOk result (λ f. f ≡ rule_named self.now.rules name.now) }
     {
@@ -119,7 +119,7 @@ impl Universe {
         }
     }
 
-    /// The build function or rule of this name.
+    /// Returns the build function or rule of this name.
     #[tactic(auto, unfolding(crate::specs::Universe::host_named))]
     fn host(&self, name: &Bytes) -> Result<Option<HostFunction>, AllocError>
         ensures { IfOk result (λ f. f ≡ host_named self.now.rules name.now) }
@@ -131,7 +131,7 @@ impl Universe {
         }
     }
 
-    /// What a namespace holds by this name.
+    /// Returns what a namespace holds by this name.
     #[tactic(auto, unfolding(crate::specs::Universe::member_named))]
     pub fn member(&self, space: Namespace, name: &Bytes) -> Result<Option<Predeclared>, AllocError>
         ensures { IfOk result (λ x. x ≡ member_named space self.now.rules name.now) }
@@ -148,7 +148,7 @@ impl Universe {
         }
     }
 
-    /// What the name stands for in a BUILD file.
+    /// Returns what the name stands for in a BUILD file.
     fn in_build(
         &self,
         name: &Bytes,
@@ -165,7 +165,7 @@ impl Universe {
         }
     }
 
-    /// What the name stands for in a file that doesn't bind it.
+    /// Returns what the name stands for in a file that doesn't bind it.
     #[tactic(auto, unfolding(crate::specs::Universe::universe_has))]
     pub fn has(&self, name: &Bytes) -> Result<Option<Predeclared>, AllocError>
         ensures { IfOk result (λ x. x ≡ universe_has self.now name.now) }

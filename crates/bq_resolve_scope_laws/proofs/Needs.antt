@@ -5,12 +5,12 @@ use Rattle.bq_resolve_scope.specs.Scope.{BlockParts}
 use Rattle.bq_resolve_scope.specs.Visit.{Passed, Visit, following, ◌>>=◌, pure, stop, given, each, optional}
 use Rattle.bq_resolve_scope_laws.specs.Slots.{most}
 
--- the slots of the blocks are among the first so many
+-- the slots of the blocks are among the first `n`
 abbrev pub Within : List BlockParts → ℕ → Type 0
 Within [] n = Unit {0}
 Within (b ∷ bs) n = (b.base + length b.names ≤ n) × Within bs n
 
--- what code among these blocks may need of a frame with so many slots: outside all blocks there is none
+-- what code among these blocks may need of a frame with this many slots: nothing outside all blocks
 abbrev pub room : List BlockParts → ℕ → ℕ
 room [] n = 0
 room (b ∷ bs) n = n
@@ -137,7 +137,7 @@ needs_optional blocks f one ones (Some x) = needs_map blocks 0 f (part f) (one x
 
 -- ---- blocks
 
--- what is made among the blocks round a block needs no more inside it
+-- what is made among the blocks around a block needs no more inside it
 pub needs_inside : {A : Type 0} (block : BlockParts) (blocks : List BlockParts) (f : A → ℕ) (v : Visit A) → Needs blocks 0 f v → Needs (block ∷ blocks) 0 f v
 needs_inside block [] f v n s t x w h e =
     let m : Made f [] s t x = n s t x tt (omega arith) e in let a : f x ≤ 0 = m.fits in record { kept = m.kept; same = m.same; fits = omega arith }

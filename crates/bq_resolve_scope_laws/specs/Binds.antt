@@ -1,5 +1,5 @@
 -- Which names a block binds, in words (Starlark specification, "Name binding and variables"): whether a name is bound by a target, a
--- clause, a statement, a parameter or a load. Of a tree so many layers are looked at as `bq_resolve_scope` does (`max_layers`).
+-- clause, a statement, a parameter or a load. As many layers of a tree are looked at as in `bq_resolve_scope` (`max_layers`).
 use Rattle.std.specs.Prelude.{◌≡◌, ◌≢◌, ◌<◌, ℕ, zero, suc, ◌+◌, List, [], ◌∷◌, length, true, false, Some, None, codes, ◌⊎◌, ◌↔◌}
 use Rattle.bq_parse_grammar.specs.declared.tree.Argument.TheOpen.{Clause-F, TargetExpr-F}
 use Rattle.bq_parse_grammar.specs.declared.tree.Branch.{Branch, out-Branch}
@@ -116,7 +116,7 @@ abbrev pub FunctionNamesAreLocal : Type 0
 FunctionNamesAreLocal = (file : FileParts) (ps : List Parameter) (body : List Stmt) (name : Name) → AnyOf (ParameterBinds name) ps ⊎ AnyOf (StmtBinds name) body
     → (slot : ℕ) × (slot < length (function_names ps body)) × (use_of file (record { base = 0; names = function_names ps body } ∷ []) name ≡ Some (b.Local slot))
 
--- .. in a comprehension, outside those in it, one of a variable of its clauses, whatever is round it ..
+-- .. in a comprehension, outside those in it, one of a variable of its clauses, whatever encloses it ..
 abbrev pub ComprehensionNamesAreLocal : Type 0
 ComprehensionNamesAreLocal = (file : FileParts) (base : ℕ) (blocks : List BlockParts) (cs : List Clause) (name : Name) → AnyOf (ClauseBinds name) cs
     → (i : ℕ) × (i < length (comprehension_names cs)) × (use_of file (record { base = base; names = comprehension_names cs } ∷ blocks) name ≡ Some (b.Local (base + i)))

@@ -1,5 +1,5 @@
 -- What a tree resolves to, as a relation between it and the resolved tree: a case for each form. A use of a name is what the name
--- stands for among the blocks round it (`use_of`; `StandsFor` of bq_resolve_scope says it in words); all else of the resolved tree is that
+-- stands for among the blocks around it (`use_of`; `StandsFor` of bq_resolve_scope says it in words); all else of the resolved tree is that
 -- of the tree, in its order. The slots of a block begin anywhere; that they fit, and are a block's own, is said by other laws.
 use Rattle.std.specs.Prelude.{◌≡◌, ℕ, zero, suc, ◌+◌, List, [], ◌∷◌, ◌++◌, length, Option, Some, None, Ok}
 use Rattle.bq_parse_grammar.specs.declared.tree.Argument.TheOpen.{Expr-F, Suffix-F, Argument-F, Clause-F, TargetExpr-F}

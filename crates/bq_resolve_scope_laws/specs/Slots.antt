@@ -43,11 +43,11 @@ abbrev pub binding_slots : Binding → ℕ
 binding_slots (b.Local slot) = slot + 1
 binding_slots _ = 0
 
--- Slots are counted by 64 bits: no frame has so many.
+-- Slots are counted by 64 bits: no frame has that many.
 abbrev pub too_many : ℕ
 too_many = 2 ^ 64
 
--- A comprehension with a frame of its own needs none of the frame round it. Where its own is too small for it, none is large enough.
+-- A comprehension with a frame of its own needs no slot of the enclosing frame. Where its own is too small for it, none is large enough.
 abbrev pub framed_slots : ℕ → ℕ → ℕ
 framed_slots slots n = if nat_lt slots n then too_many else 0
 

@@ -1,6 +1,6 @@
 -- The rules of names and of flow that a file breaks, in the order of its text: each as the fault that names the token at which it is
--- broken. Nothing is resolved here, and nothing ends at the first one. A block is the set of its names; of a tree so many layers are
--- looked at as `bq_resolve_scope` does (`max_layers`).
+-- broken. Nothing is resolved here, and nothing ends at the first one. A block is the set of its names; as many layers of a tree
+-- are looked at as in `bq_resolve_scope` (`max_layers`).
 use Rattle.std.specs.Prelude.{◌≡◌, ◌↔◌, ℕ, zero, suc, List, [], ◌∷◌, ◌++◌, Bool, true, false, ◌||◌, ◌&&◌, not, Option, Some, None, is_some, Ok, Err, if◌then◌else◌}
 use Rattle.std.specs.List.{list_any}
 use Rattle.bq_base.specs.declared.fault.Fault.{Fault}
@@ -74,7 +74,7 @@ abbrev pub no_double : FileKind → Bool
 no_double kinds.Bzl = true
 no_double kinds.Build = false
 
--- the names of the blocks round a place, innermost first
+-- the names of the blocks around a place, innermost first
 abbrev pub Around : Type 0
 Around = List (List Name)
 
@@ -101,7 +101,7 @@ after before t = after_by before (out-Stmt t.statement)
 module _ (file : FileParts) where
   -- ---- F20: a name that nothing binds
 
-  -- a block round it holds the name, or the file binds it, or loads it, or every file of its kind has it
+  -- a block around it holds the name, or the file binds it, or loads it, or every file of its kind has it
   unfoldable pub is_known : Around → Name → Bool
   is_known around name = list_any (λ names. has names name) around || (has file.globals name || (has file.loaded name || is_some (universe_has file.universe name)))
 

@@ -48,7 +48,7 @@ use Rattle.bq_resolve_slot_laws.proofs.Steps.{part_slots}
 abbrev codes_slots : List Code → List ℕ
 codes_slots xs = all (map code_slots xs)
 
--- what lists among the blocks round a block does so inside it
+-- what lists among the blocks around a block does so inside it
 lists_inside : {A : Type 0} (r : Block) (rs : List Block) (b : BlockParts) (bs : List BlockParts) (f : A → List ℕ) (part : Part) (v : Visit A) → Inside bs → Lists {A = A} rs bs [] f part v → Lists {A = A} (r ∷ rs) (b ∷ bs) [] f part v
 lists_inside r rs b bs f part v there lists opened s t x inside fits h = lists opened s t x there (record { stacked = fits.stacked; round = fits.round.2 }) h
 

@@ -15,12 +15,12 @@ abbrev pub Inside : List BlockParts → Type 0
 Inside [] = ⊥
 Inside (b ∷ bs) = Unit {0}
 
--- the frame has just the slots of the blocks that were opened, and these blocks are round
+-- the frame has just the slots of the blocks that were opened, and these blocks enclose the place
 pub record Fits (opened : List BlockParts) (s : Passed) (rs : List Block) (bs : List BlockParts) : Type 0 where
   pub stacked : Stacked 0 opened s.slots
   pub round : AreRound opened rs bs
 
--- the slots of something that was made: those of its uses, where it opened more blocks; so many are opened then, with so many slots
+-- the slots of something that was made: those of its uses, where it opened more blocks; `count` blocks are open then, with `to` slots
 pub record Listed (opened : List BlockParts) (slots : List ℕ) (us : List Use) (count to : ℕ) : Type 0 where
   pub more : List BlockParts
   pub stacked : Stacked 0 (opened ++ more) to

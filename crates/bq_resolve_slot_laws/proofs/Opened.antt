@@ -73,7 +73,7 @@ in_order_append R [] us (y ∷ ys) vs h k = absurd h
 in_order_append R (x ∷ xs) us [] vs h k = absurd h
 in_order_append R (x ∷ xs) us (y ∷ ys) vs h k = (h.0, in_order_append R xs us ys vs h.1 k)
 
--- ---- the blocks round a place
+-- ---- the blocks around a place
 
 -- the numbered blocks are these, of those that were opened
 abbrev pub AreRound : List BlockParts → List Block → List BlockParts → Type 0

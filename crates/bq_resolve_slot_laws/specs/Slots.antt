@@ -32,7 +32,7 @@ abbrev pub binding_slots : Binding → List ℕ
 binding_slots (b.Local slot) = slot ∷ []
 binding_slots _ = []
 
--- ---- one node, with the slots of each child in its place; a comprehension with a frame of its own has none of the frame round it
+-- ---- one node, with the slots of each child in its place; a comprehension with a frame of its own has no slot of the enclosing frame
 
 abbrev pub code_step : Code-F (List ℕ) (List ℕ) (List ℕ) (List ℕ) (List ℕ) (List ℕ) (List ℕ) (List ℕ) → List ℕ
 code_step (Code-F.Use x) = binding_slots x

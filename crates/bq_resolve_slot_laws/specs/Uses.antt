@@ -34,7 +34,7 @@ unfoldable pub use_among : List Block → Name → List Use
 use_among [] name = []
 use_among (b ∷ bs) name = if has b.names name then record { block = b.number; name = name } ∷ [] else use_among bs name
 
--- the uses of a part of the function, before which so many blocks have begun, and how many have begun after it
+-- the uses of a part of the function, given how many blocks have begun before it, and how many have begun after it
 abbrev pub Part : Type 0
 Part = ℕ → List Use × ℕ
 
@@ -127,7 +127,7 @@ module _ (visit : List Block → Expr → Part) where
   expr_by blocks (Expr-F.Conditional xs z) = both (all (choice blocks) xs) (visit blocks z)
   expr_by blocks Expr-F.Lambda = nothing
 
--- of expressions that are no deeper than so many layers; no tree that is parsed holds a deeper one
+-- an expression that is at most this many layers deep; no tree that is parsed holds a deeper one
 unfoldable pub expr_to : ℕ → List Block → Expr → Part
 expr_to zero blocks x = nothing
 expr_to (suc layers) blocks x = expr_by (expr_to layers) blocks (out-Expr x)

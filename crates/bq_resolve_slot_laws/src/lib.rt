@@ -3,7 +3,7 @@
 //! In: nothing; the function does nothing, and its contract is the law. The promise: in each function of a file that resolves, two uses
 //! share a slot exactly where they share name and block.
 //!
-//! A use belongs to the innermost block round it whose set holds its name; the blocks of a function are its own and those of its
+//! A use belongs to the innermost enclosing block whose set holds its name; the blocks of a function are its own and those of its
 //! comprehensions, each of which counts as another, also where two bind the same names.
 //!
 //! `specs/Uses.antt` lists the uses of a function in the order of its text, from the tree as it is parsed, by block and name alone.

@@ -47,7 +47,7 @@ after_zero (b ∷ digits) =
     if b == 120 || b == 88 then numeral_value 16 digits else (if b == 111 || b == 79 then numeral_value 8 digits else None)
 
 -- The value of an integer literal: `0`, decimal digits without a leading zero, `0x` or `0X` before hexadecimal digits, `0o` or `0O`
--- before octal ones, and none where the spelling is not one.
+-- before octal ones; `None` where the spelling is not one.
 unfoldable pub int_value : List ℕ → Option ℕ
 int_value [] = None
 int_value (b ∷ bs) = if b == 48 then after_zero bs else numeral_value 10 (b ∷ bs)

@@ -62,7 +62,7 @@ escape_by (Some b) = Byte b
 abbrev pub escape : ℕ → ItemValue
 escape c = escape_by (lookup (nat_eq c) escapes)
 
--- What a backslash and what comes after it are, a newline of so many bytes or a byte. In a raw literal both stay, a newline as `\n`.
+-- What a backslash and what comes after it are: a newline, whose length the number is, or a byte. In a raw literal both stay, a newline as `\n`.
 abbrev pub after_backslash_by : Bool → ℕ → List ℕ → BodyPart
 after_backslash_by raw (suc n) bs = Item (suc n) (if raw then BackslashAnd 10 else Empty)
 after_backslash_by raw zero [] = Unclosed
@@ -86,7 +86,7 @@ body_part q [] = Unclosed
 body_part q (b ∷ bs) =
     if b == 92 then after_backslash q.raw bs else (if closes q (b ∷ bs) then Closing else plain_by q b (newline_len (b ∷ bs)))
 
--- what is next is within so many bytes, the closing quotes being this many
+-- what is next is within `n` bytes, where the closing quotes take `quotes`
 abbrev pub IsWithin : BodyPart → ℕ → ℕ → Type 0
 IsWithin Closing n quotes = quotes ≤ n
 IsWithin Unclosed n quotes = Unit {0}
@@ -108,7 +108,7 @@ items_by Closing b bs later = Some []
 items_by Unclosed b bs later = None
 items_by (Item more value) b bs later = option_map (λ is. record { spelled = b ∷ take more bs; value = item_value value } ∷ is) (later more)
 
--- The items up to the closing quotes, none where they never come. The number says how many bytes of the last item are still to come.
+-- The items up to the closing quotes, or `None` where they never come. The number says how many bytes of the last item are still to come.
 unfoldable pub items : Quoting → ℕ → List ℕ → Option (List BodyItem)
 items q skip [] = None
 items q (suc skip) (b ∷ bs) = items q skip bs
@@ -138,7 +138,7 @@ abbrev pub scan_string_by : Option Quoting → List ℕ → Option StringLiteral
 scan_string_by None text = None
 scan_string_by (Some q) text = literal_from q (opening_len q) None (items q 0 (drop (opening_len q) text))
 
--- The literal that begins here: its length and the place of its first bad escape (F5), none where it does not end (F4).
+-- The literal that begins here: its length and the place of its first bad escape (F5), or `None` where it does not end (F4).
 unfoldable pub scan_string : List ℕ → Option StringLiteral
 scan_string text = scan_string_by (opening text) text
 
@@ -150,7 +150,7 @@ abbrev pub is_whole : Option StringLiteral → ℕ → Bool
 is_whole None n = false
 is_whole (Some l) n = l.len == n && is_none l.bad_escape
 
--- The value of a string literal, from its whole spelling, and none where that is not one literal.
+-- The value of a string literal, from its whole spelling, or `None` where that is not one literal.
 unfoldable pub string_value : List ℕ → Option (List ℕ)
 string_value spelled = if is_whole (scan_string spelled) (length spelled) then string_value_by (opening spelled) spelled else None
 

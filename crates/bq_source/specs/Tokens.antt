@@ -14,7 +14,7 @@ abbrev pub by_rest : (State → Result (List Token) Fault) → List ℕ → Stat
 by_rest on [] s = finish s
 by_rest on (b ∷ bs) s = by_step on (step s)
 
--- at most so many pieces
+-- at most this many pieces
 unfoldable pub pieces : ℕ → State → Result (List Token) Fault
 pieces zero s = Ok []
 pieces (suc n) s = by_rest (pieces n) s.rest s

@@ -19,7 +19,7 @@ use std::alloc::{AllocError, Global};
 /// A token with the blanks before it mostly takes more: so much room is taken at once, and of a text with more tokens the list grows.
 const BYTES_OF_TOKEN: usize = 6;
 
-/// The start of a logical line that begins with this text.
+/// Returns the start of a logical line that begins with this text.
 fn margin_of(text: &[u8], line: u32) -> Margin
     ensures { result ≡ spec.margin_of text.now line }
 {
@@ -60,7 +60,7 @@ impl<'a> Lexer<'a> {
         Ok(())
     }
 
-    /// A token of the next bytes.
+    /// Appends a token of the next bytes.
     #[inline(always)]
     fn push_token(&mut self, kind: TokenKind, extent: Extent) -> Result<(), AllocError>
         requires { IsPart self.old.rest extent }
@@ -113,7 +113,7 @@ impl<'a> Lexer<'a> {
         Ok(())
     }
 
-    /// The width of the lines that are open.
+    /// Returns the width of the lines that are open.
     fn width(&self) -> usize
         ensures { result ≡ spec.width_of self.now.widths }
     {
@@ -139,7 +139,7 @@ impl<'a> Lexer<'a> {
         Ok(())
     }
 
-    /// The indentation of a line that has this margin, where its first token is next.
+    /// Returns the indentation of a line that has this margin, where its first token is next.
     fn indent_by(&mut self, margin: Margin) -> Result<(), SourceErr>
         ensures { Gives (λ _. self.new) SourceErr.Bad result (spec.indent_by (Some margin) self.old) }
     {
@@ -150,7 +150,7 @@ impl<'a> Lexer<'a> {
         self.set_width(margin.width, margin.line)
     }
 
-    /// The indentation of the line, where its first token is next.
+    /// Returns the indentation of the line, where its first token is next.
     #[inline(always)]
     #[tactic(auto, unfolding(crate::specs::Reading::indent))]
     fn indent(&mut self) -> Result<(), SourceErr>
@@ -162,7 +162,7 @@ impl<'a> Lexer<'a> {
         }
     }
 
-    /// What a token does to the brackets.
+    /// Opens or closes a bracket, as the token does.
     #[tactic(auto, unfolding(crate::specs::Reading::nest))]
     fn nest(&mut self, lexeme: Lexeme) -> Result<(), SourceErr>
         ensures { Gives (λ _. self.new) SourceErr.Bad result (spec.nest lexeme self.old) }
@@ -233,7 +233,7 @@ impl<'a> Lexer<'a> {
         }
     }
 
-    /// The end of the text.
+    /// Ends the text.
     #[tactic(auto, unfolding(crate::specs::Reading::finish))]
     fn finish(mut self) -> Result<Vec<Token>, SourceErr>
         ensures { Gives the_tokens SourceErr.Bad result (spec.finish self.entry) }
@@ -249,7 +249,7 @@ impl<'a> Lexer<'a> {
     }
 }
 
-/// The line of the first byte past the limit.
+/// Returns the line of the first byte past the limit.
 fn line_past_limit(text: &[u8]) -> u32
     requires { max_file_bytes < length text.now }
     ensures { result ≡ spec.line_behind (take max_file_bytes text.now) }
@@ -258,7 +258,7 @@ fn line_past_limit(text: &[u8]) -> u32
     1 + newlines(valid) as u32
 }
 
-/// The tokens of a file's text, or its first fault, F1 to F8. Lines count from 1, places in bytes from 0. It takes time and
+/// Returns the tokens of a file's text, or its first fault, F1 to F8. Lines count from 1, places in bytes from 0. It takes time and
 /// memory in proportion to the text.
 ///
 /// The lexis is that of the Starlark specification, "Lexical elements"; docs/LANGUAGE.md says where `bq` differs.

@@ -15,14 +15,14 @@ pub fn is_blank(b: u8) -> bool
     b == b' ' || b == b'\t'
 }
 
-/// What a word may begin with.
+/// Returns whether a word may begin with the byte.
 pub fn is_letter(b: u8) -> bool
     ensures { result ≡ is_letter b }
 {
     b.is_ascii_lowercase() || b.is_ascii_uppercase() || b == b'_'
 }
 
-/// What a word is made of.
+/// Returns whether the byte may stand in a word.
 pub fn is_word(b: u8) -> bool
     ensures { result ≡ is_word b }
 {
@@ -48,7 +48,7 @@ fn has(class: RunClass, b: u8) -> bool
     }
 }
 
-/// How many bytes at the front are of the class.
+/// Returns how many bytes at the front are of the class.
 #[inline(always)]
 pub fn run_len(bytes: &[u8], class: RunClass) -> usize
     ensures run { result ≡ prefix_len (has class) bytes.now }
@@ -68,7 +68,7 @@ pub fn newlines(bytes: &[u8]) -> usize
     bytes.iter().filter(|b| **b == b'\n').count()
 }
 
-/// How many bytes the line end at the front takes, 0 where there is none.
+/// Returns how many bytes the line end at the front takes, 0 where there is none.
 pub fn newline_len(text: &[u8]) -> usize
     ensures len { result ≡ newline_len text.now }
     ensures within { result ≤ length text.now }
@@ -80,7 +80,7 @@ pub fn newline_len(text: &[u8]) -> usize
     }
 }
 
-/// How many bytes the comment at the front takes, up to the end of the line.
+/// Returns how many bytes the comment at the front takes, up to the end of the line.
 pub fn comment_len(text: &[u8]) -> usize
     ensures len { result ≡ comment_len text.now }
     ensures within { result ≤ length text.now }
@@ -170,7 +170,7 @@ fn is_reserved(word: &[u8]) -> bool
     is_among(&RESERVED_WORDS, word)
 }
 
-/// What keywords and reserved words of this length begin with.
+/// Returns the first bytes of the keywords and reserved words of this length.
 fn first_bytes(len: usize) -> Option<&'static [u8]>
     ensures { option_copied result ≡ slice_get first_bytes len }
 {
@@ -183,7 +183,7 @@ fn contains(bytes: &[u8], b: u8) -> bool
     bytes.iter().any(|x| *x == b)
 }
 
-/// A keyword or reserved word has this first byte and this length. Most identifiers have neither, and need no walk along all.
+/// Returns whether some keyword or reserved word has this first byte and length. Most identifiers have neither, and need no walk along all.
 fn has_head(word: &[u8]) -> bool
     ensures { result ≡ has_head word.now }
 {
@@ -196,7 +196,7 @@ fn has_head(word: &[u8]) -> bool
     }
 }
 
-/// The kind of a word: a keyword, a reserved word or an identifier.
+/// Returns the kind of a word: a keyword, a reserved word or an identifier.
 #[tactic(auto, using(crate::proofs::Heads::headless), unfolding(crate::specs::Lexis::word_kind))]
 pub fn word_kind(word: &[u8]) -> TokenKind
     ensures { result ≡ word_kind word.now }

@@ -11,7 +11,7 @@ use crate::lexis::is_letter;
 /// The largest integer.
 const MAX_INT: u64 = 9_223_372_036_854_775_807;
 
-/// Whether a number begins here: with a digit, or with a dot before a digit.
+/// Returns whether a number begins here: with a digit, or with a dot before a digit.
 pub fn begins_number(text: &[u8]) -> bool
     ensures { result ≡ spec.begins_number text.now }
 {
@@ -28,7 +28,7 @@ fn is_number_byte(b: u8) -> bool
     is_letter(b) || b.is_ascii_digit() || b == b'.'
 }
 
-/// How many bytes a number takes: all that look like a part of one, so that what is no valid number is one fault.
+/// Returns how many bytes a number takes: all that look like a part of one, so that what is no valid number is one fault.
 pub fn number_len(text: &[u8]) -> usize
     ensures run { result ≡ spec.number_len text.now }
     ensures within { result ≤ length text.now }
@@ -40,7 +40,7 @@ pub fn number_len(text: &[u8]) -> usize
     n
 }
 
-/// The value with one more digit, where it is a digit of the base and the value is not too large.
+/// Returns the value with one more digit, where it is a digit of the base and the value is not too large.
 fn with_digit(base: u32, value: u64, digit: u8) -> Option<u64>
     requires low { 2 ≤ base }
     requires high { base ≤ 16 }
@@ -51,7 +51,7 @@ fn with_digit(base: u32, value: u64, digit: u8) -> Option<u64>
     if value <= MAX_INT { Some(value) } else { None }
 }
 
-/// What digits of a base stand for.
+/// Returns what digits of a base stand for.
 #[tactic(auto, unfolding(crate::specs::Number::numeral_value))]
 fn numeral_value(base: u32, digits: &[u8]) -> Option<i64>
     requires low { 2 ≤ base }
@@ -68,7 +68,7 @@ fn numeral_value(base: u32, digits: &[u8]) -> Option<i64>
     Some(value as i64)
 }
 
-/// What comes after a leading 0: nothing, or the base and its digits.
+/// Returns what comes after a leading 0: nothing, or the base and its digits.
 fn after_zero(text: &[u8]) -> Option<i64>
     ensures { result ≡ option_map pos (spec.after_zero text.now) }
 {
@@ -80,7 +80,7 @@ fn after_zero(text: &[u8]) -> Option<i64>
     }
 }
 
-/// The value of an integer literal, none where the spelling is not a valid one.
+/// Returns the value of an integer literal, or `None` where the spelling is not a valid one.
 #[tactic(auto, unfolding(crate::specs::Number::int_value, crate::specs::Number::numeral_value))]
 pub fn int_value(spelling: &[u8]) -> Option<i64>
     ensures { result ≡ option_map pos (spec.int_value spelling.now) }

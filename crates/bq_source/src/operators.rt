@@ -84,7 +84,7 @@ const OPERATORS: [(u8, &[u8], Lexeme); 41] = [
     (b';', b"", Lexeme::Plain(TokenKind::Semicolon)),
 ];
 
-/// The first of these that the text begins with, with the number of its bytes.
+/// Returns the first of these that the text begins with, with the number of its bytes.
 fn first_spelled(
     mut table: &[(u8, &[u8], Lexeme)],
     first: u8,
@@ -101,7 +101,7 @@ fn first_spelled(
     None
 }
 
-/// The operator at the front, in its longest spelling, with the number of its bytes.
+/// Returns the operator at the front, in its longest spelling, with the number of its bytes.
 #[tactic(auto, unfolding(crate::specs::Operators::operator))]
 pub fn operator(first: u8, behind: &[u8]) -> Option<(usize, Lexeme)>
     ensures { result ≡ option_map spec.with_len (spec.operator (first ∷ behind.now)) }

@@ -30,7 +30,7 @@ pub enum Piece {
     Gap(Extent),
     LineEnd(Extent),
     Lexed(Lexeme, Extent),
-    /// No piece begins here; the fault is so many lines further on.
+    /// No piece begins here; the fault is this many lines further on.
     Bad(FaultKind, usize),
 }
 
@@ -95,7 +95,7 @@ fn mark(first: u8, behind: &[u8]) -> Piece
     }
 }
 
-/// What a backslash begins that comes before these bytes.
+/// Returns what a backslash before these bytes begins.
 #[tactic(auto, unfolding(crate::specs::Piece::joined))]
 fn joined(behind: &[u8]) -> Piece
     ensures piece { result ≡ spec.joined behind.now }
@@ -111,7 +111,7 @@ fn joined(behind: &[u8]) -> Piece
     })
 }
 
-/// What the text begins with.
+/// Returns what the text begins with.
 #[tactic(auto, unfolding(crate::specs::Piece::next_piece))]
 pub fn next_piece(text: &[u8]) -> Piece
     ensures piece { result ≡ spec.next_piece text.now }

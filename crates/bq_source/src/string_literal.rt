@@ -76,7 +76,7 @@ fn is_quote(b: u8) -> bool
     b == b'"' || b == b'\''
 }
 
-/// Whether two of this byte come next.
+/// Returns whether two of this byte come next.
 fn begins_pair(b: u8, text: &[u8]) -> bool
     ensures { result ≡ spec.begins_pair b text.now }
 {
@@ -86,7 +86,7 @@ fn begins_pair(b: u8, text: &[u8]) -> bool
     }
 }
 
-/// The quotes that open a literal, after its prefix.
+/// Returns the quotes that open a literal, after its prefix.
 fn opening_quotes(raw: bool, text: &[u8]) -> Option<Quoting>
     ensures quoting { result ≡ spec.opening_quotes raw text.now }
     ensures within { IfSome result (λ q. spec.quotes_len q ≤ length text.now) }
@@ -101,7 +101,7 @@ fn opening_quotes(raw: bool, text: &[u8]) -> Option<Quoting>
     }
 }
 
-/// How the string literal that begins here is quoted, if one does.
+/// Returns how the string literal that begins here is quoted, if one does.
 #[tactic(auto, unfolding(crate::specs::StringLiteral::opening))]
 fn opening(text: &[u8]) -> Option<Quoting>
     ensures quoting { result ≡ spec.opening text.now }
@@ -113,14 +113,14 @@ fn opening(text: &[u8]) -> Option<Quoting>
     }
 }
 
-/// Whether a string literal begins here: a quote, or `r` before one.
+/// Returns whether a string literal begins here: a quote, or `r` before one.
 pub fn begins_string(text: &[u8]) -> bool
     ensures { result ≡ spec.begins_string text.now }
 {
     opening(text).is_some()
 }
 
-/// Whether the closing quotes come next.
+/// Returns whether the closing quotes come next.
 fn closes(quoting: Quoting, text: &[u8]) -> bool
     ensures { result ≡ spec.closes quoting text.now }
 {
@@ -131,7 +131,7 @@ fn closes(quoting: Quoting, text: &[u8]) -> bool
     }
 }
 
-/// How many bytes the newline takes that comes next, 0 where none does.
+/// Returns how many bytes the newline takes that comes next, 0 where none does.
 fn newline_len(text: &[u8]) -> usize
     ensures len { result ≡ spec.newline_len text.now }
     ensures within { result ≤ length text.now }
@@ -143,7 +143,7 @@ fn newline_len(text: &[u8]) -> usize
     }
 }
 
-/// What a backslash and this byte stand for.
+/// Returns what a backslash and this byte stand for.
 fn escape(c: u8) -> ItemValue
     ensures { result ≡ spec.escape c }
 {
@@ -156,7 +156,7 @@ fn escape(c: u8) -> ItemValue
     }
 }
 
-/// The item that a backslash begins, by what comes after it.
+/// Returns the item that a backslash begins, by what comes after it.
 fn after_backslash(raw: bool, after: &[u8]) -> BodyPart
     ensures part { result ≡ spec.after_backslash raw after.now }
     ensures within { spec.IsWithin result (length after.now + 1) 1 }
@@ -177,7 +177,7 @@ fn after_backslash(raw: bool, after: &[u8]) -> BodyPart
     }
 }
 
-/// What a byte other than a backslash and the closing quotes is, given the length of the newline that begins with it, or 0.
+/// Returns what a byte other than a backslash and the closing quotes is, given the length of the newline that begins with it, or 0.
 fn plain(quoting: Quoting, b: u8, newline: usize) -> BodyPart
     ensures { result ≡ spec.plain_by quoting b newline }
 {
@@ -190,7 +190,7 @@ fn plain(quoting: Quoting, b: u8, newline: usize) -> BodyPart
     }
 }
 
-/// What is at a place of a body, by the text from there.
+/// Returns what is at a place of a body, by the text from there.
 #[tactic(auto, unfolding(crate::specs::StringLiteral::body_part))]
 fn body_part(quoting: Quoting, text: &[u8]) -> BodyPart
     ensures part { result ≡ spec.body_part quoting text.now }
@@ -209,7 +209,7 @@ fn body_part(quoting: Quoting, text: &[u8]) -> BodyPart
     }
 }
 
-/// The first bad escape of those before this item and this item.
+/// Returns the first bad escape of those before this item and this item.
 fn first_bad(earlier: Option<usize>, at: usize, value: ItemValue) -> Option<usize>
     ensures { result ≡ option_or earlier (if is_none (spec.item_value value) then Some at else None) }
 {
@@ -219,7 +219,7 @@ fn first_bad(earlier: Option<usize>, at: usize, value: ItemValue) -> Option<usiz
     }
 }
 
-/// The text from a place on.
+/// Returns the text from a place on.
 fn rest_of(text: &[u8], at: usize) -> &[u8]
     requires { at ≤ length text.now }
     ensures { result.now ≡ drop at text.now }
@@ -227,7 +227,7 @@ fn rest_of(text: &[u8], at: usize) -> &[u8]
     &text[at..]
 }
 
-/// The byte stands for itself wherever it is in a body with this quote.
+/// Returns whether the byte stands for itself wherever it is in a body with this quote.
 fn is_plain(quote: u8, b: u8) -> bool
     ensures { result ≡ spec.is_plain quote b }
 {
@@ -238,7 +238,7 @@ fn is_plain(quote: u8, b: u8) -> bool
     b != quote && b != b'\\' && b != b'\n' && b != b'\r'
 }
 
-/// The place of the first byte from here on that need not stand for itself, or the end.
+/// Returns the place of the first byte from here on that need not stand for itself, or the end.
 fn past_plain(quote: u8, text: &[u8], at: usize) -> usize
     requires { at ≤ length text.now }
     ensures run { result ≡ at + prefix_len (spec.is_plain quote) (drop at text.now) }
@@ -251,7 +251,7 @@ fn past_plain(quote: u8, text: &[u8], at: usize) -> usize
     end
 }
 
-/// The string literal that begins here, none where it does not end.
+/// Returns the string literal that begins here, or `None` where it does not end.
 pub fn scan_string(text: &[u8]) -> Option<StringLiteral>
     ensures literal { result ≡ spec.scan_string text.now }
     ensures within { IfSome result (λ l. l.len ≤ length text.now) }
@@ -276,7 +276,7 @@ pub fn scan_string(text: &[u8]) -> Option<StringLiteral>
     }
 }
 
-/// Whether each byte stands for itself: no backslash means anything, and no newline is CR LF.
+/// Returns whether each byte stands for itself: no backslash means anything, and no newline is CR LF.
 fn is_verbatim(raw: bool, body: &[u8]) -> bool
     ensures { result ≡ list_all (spec.stays raw) body.now }
 {
@@ -296,7 +296,7 @@ fn push_item(value: &mut Vec<u8>, item: ItemValue) -> Result<(), AllocError>
     Ok(())
 }
 
-/// What the items of a body stand for, which the closing quotes follow.
+/// Returns what the items of a body stand for, which the closing quotes follow.
 fn unescaped(alloc: Global, quoting: Quoting, body: &[u8]) -> Result<Vec<u8>, AllocError>
     requires { IsSome (spec.items quoting 0 body.now) }
     ensures { IfOk result (λ value. option_map spec.values (spec.items quoting 0 body.now) ≡ Some value.items) }
@@ -310,7 +310,7 @@ fn unescaped(alloc: Global, quoting: Quoting, body: &[u8]) -> Result<Vec<u8>, Al
     Ok(value)
 }
 
-/// The value of a string literal, from its whole spelling. Where each byte stands for itself nothing is built beside it.
+/// Returns the value of a string literal, from its whole spelling. Where each byte stands for itself nothing is built beside it.
 pub fn string_value(alloc: Global, literal: &[u8]) -> Result<Bytes, AllocError>
     requires { IsSome (spec.string_value literal.now) }
     ensures { IfOk result (λ value. spec.string_value literal.now ≡ Some value) }

@@ -11,7 +11,7 @@ pub record IsString (bs rest : List ℕ) : Type 0 where
   pub literal : IsLiteral quoting (bs ++ rest) is rest
   pub stand : AllStand is
 
--- The text begins with a literal that has a bad escape: the first one comes after so many newlines.
+-- The text begins with a literal that has a bad escape: the first one comes after `lines` newlines.
 pub record HasBadEscape (text : List ℕ) (lines : ℕ) : Type 0 where
   pub quoting : Quoting
   pub before : List BodyItem

@@ -7,7 +7,7 @@ ghost use Rattle.bq_base.specs.declared.fault.Fault.{Fault};
 ghost use Rattle.bq_source.specs.declared.token.Token.{Token};
 ghost use Rattle.bq_source_laws.specs.InWords.{InWords};
 
-/// A text is cut into tokens in one way at most, and into none where it can be cut up to a fault; and it can be cut up to one
+/// A text is cut into tokens in one way at most, and in no way where it can be cut up to a fault; and it can be cut up to one
 /// fault at most.
 pub fn one_reading_in_words()
     ensures tokens { (text : List ℕ) (ts us : List Token) → Reads text ts → Reads text us → ts ≡ us }
