@@ -61,6 +61,7 @@ impl<'a> Lexer<'a> {
     }
 
     /// A token of the next bytes.
+    #[inline(always)]
     fn push_token(&mut self, kind: TokenKind, extent: Extent) -> Result<(), AllocError>
         requires { IsPart self.old.rest extent }
         ensures { IfOk result (λ _. self.new ≡ spec.push_token kind extent self.old) }
@@ -180,8 +181,9 @@ impl<'a> Lexer<'a> {
         }
     }
 
+    /// A token that may be the first of its line, or a bracket.
     #[tactic(auto, unfolding(crate::specs::Reading::take_token))]
-    fn take_token(&mut self, lexeme: Lexeme, extent: Extent) -> Result<(), SourceErr>
+    fn take_any_token(&mut self, lexeme: Lexeme, extent: Extent) -> Result<(), SourceErr>
         requires { IsPart self.old.rest extent }
         ensures { Gives (λ _. self.new) SourceErr.Bad result (spec.take_token lexeme extent self.old) }
     {
@@ -189,6 +191,18 @@ impl<'a> Lexer<'a> {
         self.nest(lexeme)?;
         self.push_token(lexeme.kind(), extent)?;
         Ok(())
+    }
+
+    /// A token. Most are neither: to look at the line and at the brackets would cost more than the rest.
+    #[tactic(auto, unfolding(crate::specs::Reading::take_token, crate::specs::Reading::indent, crate::specs::Reading::nest))]
+    fn take_token(&mut self, lexeme: Lexeme, extent: Extent) -> Result<(), SourceErr>
+        requires { IsPart self.old.rest extent }
+        ensures { Gives (λ _. self.new) SourceErr.Bad result (spec.take_token lexeme extent self.old) }
+    {
+        match (self.margin, lexeme) {
+            (None, Lexeme::Plain(kind)) => Ok(self.push_token(kind, extent)?),
+            _ => self.take_any_token(lexeme, extent),
+        }
     }
 
     #[tactic(auto, unfolding(crate::specs::Reading::refuse))]

@@ -1,7 +1,7 @@
 use Rattle.std.proofs.Common.{sym, ◌∙◌, subst, List, ℕ}
 use Rattle.bq_source.specs.Piece.{IsPart}
 use Rattle.bq_source.proofs.Keeping.{indent_rest, nest_rest}
-use Rattle.bq_source.proofs.place.Lexer.take_token.Goals as goal
+use Rattle.bq_source.proofs.place.Lexer.take_any_token.Goals as goal
 
 pub push_token-requires : goal.push_token-requires
 push_token-requires c =
