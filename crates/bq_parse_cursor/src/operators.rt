@@ -7,6 +7,7 @@ use bq_parse_grammar::{Comparison, Operator, UnaryOperator};
 use bq_source::TokenKind;
 
 /// The operator between operands that a token is, and its level: 1 binds tightest.
+#[inline(always)]
 pub fn binary_operator(kind: TokenKind) -> Option<(usize, Operator)>
     ensures { result ≡ spec.binary_operator kind }
 {
@@ -61,6 +62,7 @@ pub fn negation(kind: TokenKind) -> Option<UnaryOperator>
 }
 
 /// The comparison that one token is; `not in` is two.
+#[inline(always)]
 pub fn comparison(kind: TokenKind) -> Option<Comparison>
     ensures { result ≡ spec.comparison kind }
 {
