@@ -1,12 +1,12 @@
 -- A literal whose bytes all stand for themselves up to its closing quote is in one line.
-use Rattle.std.proofs.Common.{◌≡◌, ℕ, zero, suc, ◌+◌, inl, inr, List, [], ◌∷◌, Bool, true, false, cond, Option, Some, None, length, take, drop, refl, sym, ap, ◌∙◌, arith}
-use Rattle.std.specs.Prelude.{◌==◌, not, ◌&&◌}
+use Rattle.std.proofs.Common.{◌≡◌, ℕ, suc, ◌+◌, inl, inr, List, [], ◌∷◌, true, false, Some, None, take, drop, refl, ap, ◌∙◌, arith}
+use Rattle.std.specs.Prelude.{◌==◌}
 use Rattle.std.specs.List.{prefix_len}
 use Rattle.std.proofs.lemmas.Bool.{eqb-true}
 use Rattle.bq_source.specs.declared.string_literal.Quoting.{Quoting}
 use Rattle.bq_source.specs.declared.string_literal.BodyPart.TheVariants.{Closing}
 use Rattle.bq_source.specs.Lexis.{newlines}
-use Rattle.bq_source.specs.StringLiteral.{opening, opening_len, quotes_len, begins, begins_pair, is_plain, body_part, items, literal_from, scan_string}
+use Rattle.bq_source.specs.StringLiteral.{opening, begins, begins_pair, is_plain, body_part}
 use Rattle.bq_source.specs.PlainString.{IsPlainString}
 use Rattle.bq_base.proofs.Choices.{by_bool}
 use Rattle.bq_source.proofs.Items.{scanned, past_plain, at_closing}

@@ -1,4 +1,4 @@
-use Rattle.std.proofs.Common.{sym, arith, Some}
+use Rattle.std.proofs.Common.{sym, arith}
 use Rattle.bq_source.proofs.Fitting.{scanned_within, take_short}
 use Rattle.bq_source.proofs.piece.any_string.Goals as goal
 
