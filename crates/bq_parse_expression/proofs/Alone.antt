@@ -22,22 +22,22 @@ use Rattle.bq_parse_expression.specs.Lone.{is_atom, ends_phrase, is_so, stands_a
 use Rattle.bq_parse_expression.proofs.LoopTurns.{none_follow, no_choice}
 
 -- what is read leaves these tokens
-abbrev Leaves : {A : Type 0} → Found A → List Lexeme → Type 0
+abbrev pub Leaves : {A : Type 0} → Found A → List Lexeme → Type 0
 Leaves (Err e) rest = Unit {0}
 Leaves (Ok p) rest = p.1 ≡ rest
 
 -- no production goes on with these tokens
-record Quiet (ts : List Lexeme) : Type 0 where
-  no_suffix : begins_suffix ts ≡ false
-  no_operator : (l : ℕ) → has (operator_at l) ts ≡ false
-  no_comparison : begins_comparison ts ≡ false
-  no_choice_next : sees k.If ts ≡ false
+pub record Quiet (ts : List Lexeme) : Type 0 where
+  pub no_suffix : begins_suffix ts ≡ false
+  pub no_operator : (l : ℕ) → has (operator_at l) ts ≡ false
+  pub no_comparison : begins_comparison ts ≡ false
+  pub no_choice_next : sees k.If ts ≡ false
 
 -- a first operand comes next without signs
-record Bare (ts : List Lexeme) : Type 0 where
-  no_sign : has sign ts ≡ false
-  no_negation : has negation ts ≡ false
-  no_lambda : sees k.Lambda ts ≡ false
+pub record Bare (ts : List Lexeme) : Type 0 where
+  pub no_sign : has sign ts ≡ false
+  pub no_negation : has negation ts ≡ false
+  pub no_lambda : sees k.Lambda ts ≡ false
 
 -- ---- one token
 
@@ -80,7 +80,7 @@ no_if_by k.Colon e = refl
 no_if_by k.Newline e = refl
 no_if_by _ e = absurd (cc)
 
-quiet : (ts : List Lexeme) → is_so ends_phrase (kind_ahead ts) ≡ true → Quiet ts
+pub quiet : (ts : List Lexeme) → is_so ends_phrase (kind_ahead ts) ≡ true → Quiet ts
 quiet [] e = absurd (cc)
 quiet (t ∷ ts) e = record {
   no_suffix = no_suffix_by t.kind e;
@@ -134,7 +134,7 @@ as_read : {A : Type 0} (r : Found A) → (r >>= λ x rest. Ok (x, rest)) ≡ r
 as_read (Err e) = refl
 as_read (Ok p) = refl
 
-unsigned : (table : TokenKind → Option UnaryOperator) (one : Parse Expr) (ts : List Lexeme) → has table ts ≡ false → prefixed table one ts ≡ one ts
+pub unsigned : (table : TokenKind → Option UnaryOperator) (one : Parse Expr) (ts : List Lexeme) → has table ts ≡ false → prefixed table one ts ≡ one ts
 unfolding prefixed
 unsigned table one ts none =
     ap (λ f. f >>= λ os mid. one mid >>= λ x rest. Ok (unary_of os x, rest)) (none_follow (has table) (looked_up table) [] ts none) ∙ as_read (one ts)
@@ -181,7 +181,7 @@ module _ (base : Parse Expr) where
       ap (λ b. if b then Err Lambda else (or_test base ts >>= λ x mid. conditional base x mid)) plain.no_lambda
       ∙ (ap (λ f. f >>= λ x mid. conditional base x mid) (or_alone ts r rest reads plain leaves calm) ∙ chosen_by r rest leaves calm)
 
-  phrase_alone : (which : Nested) (ts : List Lexeme) (r : Found Expr) (rest : List Lexeme) → base ts ≡ r → Bare ts → Leaves r rest → Quiet rest
+  pub phrase_alone : (which : Nested) (ts : List Lexeme) (r : Found Expr) (rest : List Lexeme) → base ts ≡ r → Bare ts → Leaves r rest → Quiet rest
       → phrase_by base which ts ≡ r
   phrase_alone Or ts r rest reads plain leaves calm = or_alone ts r rest reads plain leaves calm
   phrase_alone Test ts r rest reads plain leaves calm = test_alone ts r rest reads plain leaves calm

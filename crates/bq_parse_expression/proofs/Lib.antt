@@ -2,3 +2,4 @@ pub mod LoopTurns
 pub mod Ahead
 pub mod Alone
 pub mod AfterOperand
+pub mod AfterPrimary

@@ -27,6 +27,16 @@ abbrev pub is_so : (TokenKind → Bool) → Option TokenKind → Bool
 is_so test None = false
 is_so test (Some q) = test q
 
+-- an operand begins with it
+abbrev pub begins_operand : TokenKind → Bool
+begins_operand k.LeftParen = true
+begins_operand k.LeftBracket = true
+begins_operand k.LeftBrace = true
+begins_operand q = is_atom q
+
+abbrev pub begins_with_operand : List Lexeme → Bool
+begins_with_operand ts = is_so begins_operand (kind_ahead ts)
+
 -- the next token is a phrase of its own
 abbrev pub stands_alone : List Lexeme → Bool
 stands_alone ts = is_so is_atom (kind_ahead ts) && is_so ends_phrase (kind_ahead (next ts))

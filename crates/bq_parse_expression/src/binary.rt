@@ -8,10 +8,9 @@ ghost use Rattle.bq_parse_grammar.specs.Grammar as grammar;
 ghost use Rattle.bq_parse_grammar.specs.Reading as spec;
 ghost use Rattle.bq_parse_grammar.specs.declared.tree.Choice.{roll-Choice};
 ghost use Rattle.bq_parse_expression.specs.Nested.{ReadsNested};
-ghost use Rattle.bq_parse_expression.specs.Further.{further};
+ghost use Rattle.bq_parse_expression.specs.Further.{further, chained_by};
 
 use crate::grammar::Grammar;
-use crate::lone::stands_alone;
 use bq_parse_cursor::Tokens;
 use bq_parse_grammar::{
     Choice, Comparison, Expr, Nested, Operation, Operator, SyntaxErr, UnaryOperator,
@@ -168,7 +167,12 @@ impl<F: Fn(Global, &mut Tokens<'_>, usize, Nested) -> Result<Expr, SyntaxErr>> G
 
     /// Reads what operators of up to this level do to an operand.
     #[tactic(auto, using(crate::proofs::AfterOperand::further_above, crate::proofs::AfterOperand::further_none, crate::proofs::LoopTurns::none_follow))]
-    fn further(&self, tokens: &mut Tokens<'_>, first: Expr, level: usize) -> Result<Expr, SyntaxErr>
+    pub fn further(
+        &self,
+        tokens: &mut Tokens<'_>,
+        first: Expr,
+        level: usize,
+    ) -> Result<Expr, SyntaxErr>
         requires { ReadsNested self.now.depth (F.pre self.now.phrase) (F.post self.now.phrase) }
         ensures { Reads (further (spec.primary (spec.phrase self.now.depth) (spec.variables_to self.now.depth)) level first tokens.old) result tokens.new }
     {
@@ -208,6 +212,20 @@ impl<F: Fn(Global, &mut Tokens<'_>, usize, Nested) -> Result<Expr, SyntaxErr>> G
         tokens.comparison()
     }
 
+    /// [ CompOp Bor ], after the first Bor
+    pub fn comp_after(&self, tokens: &mut Tokens<'_>, left: Expr) -> Result<Expr, SyntaxErr>
+        requires { ReadsNested self.now.depth (F.pre self.now.phrase) (F.post self.now.phrase) }
+        ensures { Reads (spec.comp_after (spec.primary (spec.phrase self.now.depth) (spec.variables_to self.now.depth)) left tokens.old) result tokens.new }
+    {
+        if !(tokens.sees_comparison() || tokens.sees(TokenKind::Not)) {
+            return Ok(left);
+        }
+        let left = Boxed::new(self.alloc, left)?;
+        let comparison = self.comp_op(tokens)?;
+        let right = self.bor(tokens)?;
+        Ok(Expr::Compare(left, comparison, Boxed::new(self.alloc, right)?))
+    }
+
     /// Comp = Bor [ CompOp Bor ]
     #[inline(always)]
     #[tactic(auto, unfolding(bq_parse_grammar::specs::Reading::comp))]
@@ -216,13 +234,7 @@ impl<F: Fn(Global, &mut Tokens<'_>, usize, Nested) -> Result<Expr, SyntaxErr>> G
         ensures { Reads (spec.comp (spec.primary (spec.phrase self.now.depth) (spec.variables_to self.now.depth)) tokens.old) result tokens.new }
     {
         let left = self.bor(tokens)?;
-        if !(tokens.sees_comparison() || tokens.sees(TokenKind::Not)) {
-            return Ok(left);
-        }
-        let left = Boxed::new(self.alloc, left)?;
-        let comparison = self.comp_op(tokens)?;
-        let right = self.bor(tokens)?;
-        Ok(Expr::Compare(left, comparison, Boxed::new(self.alloc, right)?))
+        self.comp_after(tokens, left)
     }
 
     /// Not = { 'not' } Comp
@@ -267,20 +279,29 @@ impl<F: Fn(Global, &mut Tokens<'_>, usize, Nested) -> Result<Expr, SyntaxErr>> G
         Ok(found)
     }
 
-    /// And = not_test { 'and' not_test }
-    #[inline(always)]
-    #[tactic(auto, using(crate::proofs::LoopTurns::none_follow), unfolding(bq_parse_grammar::specs::Reading::chain))]
-    fn and_test(&self, tokens: &mut Tokens<'_>) -> Result<Expr, SyntaxErr>
+    /// { 'and' not_test }, after the first test
+    #[tactic(auto, using(crate::proofs::LoopTurns::none_follow))]
+    pub fn and_after(&self, tokens: &mut Tokens<'_>, first: Expr) -> Result<Expr, SyntaxErr>
         requires { ReadsNested self.now.depth (F.pre self.now.phrase) (F.post self.now.phrase) }
-        ensures { Reads (spec.and_test (spec.primary (spec.phrase self.now.depth) (spec.variables_to self.now.depth)) tokens.old) result tokens.new }
+        ensures { Reads (chained_by 9 (spec.not_test (spec.primary (spec.phrase self.now.depth) (spec.variables_to self.now.depth))) first tokens.old) result tokens.new }
     {
-        let first = self.not_test(tokens)?;
         if !tokens.sees_operator(9) {
             return Ok(first);
         }
         let first = Boxed::new(self.alloc, first)?;
         let operations = self.and_operations(tokens)?;
         Ok(binary_of(first, operations))
+    }
+
+    /// And = not_test { 'and' not_test }
+    #[inline(always)]
+    #[tactic(auto, unfolding(bq_parse_grammar::specs::Reading::chain))]
+    fn and_test(&self, tokens: &mut Tokens<'_>) -> Result<Expr, SyntaxErr>
+        requires { ReadsNested self.now.depth (F.pre self.now.phrase) (F.post self.now.phrase) }
+        ensures { Reads (spec.and_test (spec.primary (spec.phrase self.now.depth) (spec.variables_to self.now.depth)) tokens.old) result tokens.new }
+    {
+        let first = self.not_test(tokens)?;
+        self.and_after(tokens, first)
     }
 
     /// 'or' and_test
@@ -313,19 +334,28 @@ impl<F: Fn(Global, &mut Tokens<'_>, usize, Nested) -> Result<Expr, SyntaxErr>> G
         Ok(found)
     }
 
-    /// Or = and_test { 'or' and_test }
-    #[tactic(auto, using(crate::proofs::LoopTurns::none_follow), unfolding(bq_parse_grammar::specs::Reading::chain))]
-    fn or_test(&self, tokens: &mut Tokens<'_>) -> Result<Expr, SyntaxErr>
+    /// { 'or' and_test }, after the first test
+    #[tactic(auto, using(crate::proofs::LoopTurns::none_follow))]
+    pub fn or_after(&self, tokens: &mut Tokens<'_>, first: Expr) -> Result<Expr, SyntaxErr>
         requires { ReadsNested self.now.depth (F.pre self.now.phrase) (F.post self.now.phrase) }
-        ensures { Reads (spec.or_test (spec.primary (spec.phrase self.now.depth) (spec.variables_to self.now.depth)) tokens.old) result tokens.new }
+        ensures { Reads (chained_by 10 (spec.and_test (spec.primary (spec.phrase self.now.depth) (spec.variables_to self.now.depth))) first tokens.old) result tokens.new }
     {
-        let first = self.and_test(tokens)?;
         if !tokens.sees_operator(10) {
             return Ok(first);
         }
         let first = Boxed::new(self.alloc, first)?;
         let operations = self.or_operations(tokens)?;
         Ok(binary_of(first, operations))
+    }
+
+    /// Or = and_test { 'or' and_test }
+    #[tactic(auto, unfolding(bq_parse_grammar::specs::Reading::chain))]
+    pub fn or_test(&self, tokens: &mut Tokens<'_>) -> Result<Expr, SyntaxErr>
+        requires { ReadsNested self.now.depth (F.pre self.now.phrase) (F.post self.now.phrase) }
+        ensures { Reads (spec.or_test (spec.primary (spec.phrase self.now.depth) (spec.variables_to self.now.depth)) tokens.old) result tokens.new }
+    {
+        let first = self.and_test(tokens)?;
+        self.or_after(tokens, first)
     }
 
     /// Choice = 'if' Or 'else' Or
@@ -366,7 +396,7 @@ impl<F: Fn(Global, &mut Tokens<'_>, usize, Nested) -> Result<Expr, SyntaxErr>> G
 
     /// { Choice }, after a first value
     #[tactic(auto, using(crate::proofs::LoopTurns::no_choice), unfolding(bq_parse_grammar::specs::Reading::conditional))]
-    fn conditional(&self, tokens: &mut Tokens<'_>, value: Expr) -> Result<Expr, SyntaxErr>
+    pub fn conditional(&self, tokens: &mut Tokens<'_>, value: Expr) -> Result<Expr, SyntaxErr>
         requires { ReadsNested self.now.depth (F.pre self.now.phrase) (F.post self.now.phrase) }
         ensures { Reads (spec.conditional (spec.primary (spec.phrase self.now.depth) (spec.variables_to self.now.depth)) value tokens.old) result tokens.new }
     {
@@ -379,7 +409,7 @@ impl<F: Fn(Global, &mut Tokens<'_>, usize, Nested) -> Result<Expr, SyntaxErr>> G
     }
 
     /// Test = Or { Choice } | 'lambda' ..
-    fn test(&self, tokens: &mut Tokens<'_>) -> Result<Expr, SyntaxErr>
+    pub fn test(&self, tokens: &mut Tokens<'_>) -> Result<Expr, SyntaxErr>
         requires { ReadsNested self.now.depth (F.pre self.now.phrase) (F.post self.now.phrase) }
         ensures { Reads (spec.test (spec.primary (spec.phrase self.now.depth) (spec.variables_to self.now.depth)) tokens.old) result tokens.new }
     {
@@ -388,20 +418,5 @@ impl<F: Fn(Global, &mut Tokens<'_>, usize, Nested) -> Result<Expr, SyntaxErr>> G
         }
         let value = self.or_test(tokens)?;
         self.conditional(tokens, value)
-    }
-
-    /// Reads what stands in brackets.
-    #[tactic(auto, using(crate::proofs::Alone::lone_phrase))]
-    pub fn phrase_by(&self, tokens: &mut Tokens<'_>, which: Nested) -> Result<Expr, SyntaxErr>
-        requires { ReadsNested self.now.depth (F.pre self.now.phrase) (F.post self.now.phrase) }
-        ensures { Reads (spec.phrase_by (spec.primary (spec.phrase self.now.depth) (spec.variables_to self.now.depth)) which tokens.old) result tokens.new }
-    {
-        if stands_alone(tokens) {
-            return self.operand(tokens);
-        }
-        match which {
-            Nested::Or => self.or_test(tokens),
-            Nested::Test => self.test(tokens),
-        }
     }
 }

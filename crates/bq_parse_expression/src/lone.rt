@@ -44,11 +44,34 @@ fn begins_with_atom(tokens: &Tokens<'_>) -> bool
     }
 }
 
-fn begins_with_end(tokens: &Tokens<'_>) -> bool
+/// Returns whether the next token ends a phrase that is read up to here.
+pub fn begins_with_end(tokens: &Tokens<'_>) -> bool
     ensures { result ≡ spec.is_so spec.ends_phrase (kind_ahead tokens.now) }
 {
     match tokens.peek() {
         Some(kind) => ends_phrase(kind),
+        None => false,
+    }
+}
+
+/// Returns whether an operand begins with the token.
+fn begins_operand(kind: TokenKind) -> bool
+    ensures { result ≡ spec.begins_operand kind }
+{
+    match kind {
+        TokenKind::LeftParen => true,
+        TokenKind::LeftBracket => true,
+        TokenKind::LeftBrace => true,
+        _ => is_atom(kind),
+    }
+}
+
+/// Returns whether an operand comes next: no sign, `not` or `lambda` stands before it.
+pub fn begins_with_operand(tokens: &Tokens<'_>) -> bool
+    ensures { result ≡ spec.begins_with_operand tokens.now }
+{
+    match tokens.peek() {
+        Some(kind) => begins_operand(kind),
         None => false,
     }
 }

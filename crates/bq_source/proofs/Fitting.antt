@@ -11,6 +11,9 @@ use Rattle.std.proofs.lemmas.Slice.Eq.{starts_is}
 use Rattle.bq_source.specs.declared.lexis.RunClass.TheVariants.{Blank, Word}
 use Rattle.bq_source.specs.declared.operators.Lexeme.{Lexeme}
 use Rattle.bq_source.specs.declared.piece.Piece.{Piece}
+use Rattle.bq_source.specs.declared.piece.Piece.TheVariants.{Lexed}
+use Rattle.bq_source.specs.declared.operators.Lexeme.TheVariants.{Plain}
+use Rattle.bq_source.specs.declared.token.TokenKind.TheVariants as k
 use Rattle.bq_source.specs.declared.string_literal.Quoting.{Quoting}
 use Rattle.bq_source.specs.declared.string_literal.StringLiteral.{StringLiteral}
 use Rattle.bq_source.specs.declared.string_literal.BodyPart.{BodyPart}
@@ -19,6 +22,7 @@ use Rattle.bq_source.specs.Lexis.{has, is_blank, is_letter, is_word, is_digit, n
 use Rattle.bq_source.specs.Operators.{operators, first_spelled, with_len, operator}
 use Rattle.bq_source.specs.Number.{begins_number, begins_decimal, number_len, is_number_byte, int_value}
 use Rattle.bq_source.specs.StringLiteral.{opening, quotes_len, opening_len, closes, begins, begins_pair, after_backslash_by, plain_by, body_part, BodyItem, item_value, items, items_by, spelling, literal_from, begins_string, scan_string}
+use Rattle.bq_source.specs.PlainString.{IsPlainString}
 use Rattle.bq_source.specs.Piece.{bytes, word, number, string, string_by, escapes_by, mark, mark_by, joined, next_piece, IsPart, Fits}
 use Rattle.bq_base.proofs.Choices.{by_test, by_bool, above_zero, left_of, right_of}
 use Rattle.bq_source.proofs.Items.{scanned, not_opened}
@@ -206,6 +210,14 @@ string_fits text = by_scan (scan_string text) refl
     by_scan : (o : Option StringLiteral) → scan_string text ≡ o → Fits text (string_by o text)
     by_scan None h = omega arith
     by_scan (Some l) h = by_escape l.bad_escape l (scanned_within text l h)
+
+-- a literal that is read at once
+pub plain_piece : (text : List ℕ) (n : ℕ) → IsPlainString text n → Lexed (Plain k.String) (bytes n) ≡ string text
+unfolding string
+plain_piece text n p = rw (p.literal) (λ i. Lexed (Plain k.String) (record { len = n; lines = sym p.lines i }))
+
+pub plain_fits : (text : List ℕ) (n : ℕ) → IsPlainString text n → Fits text (Lexed (Plain k.String) (bytes n))
+plain_fits text n p = let w = scanned_within text (record { len = n; bad_escape = None }) p.literal in record { some = w.0; within = w.1; lines = omega arith }
 
 -- ---- the rest
 

@@ -2,7 +2,9 @@
 pub mod Numerals
 pub mod Items
 pub mod Bodies
+pub mod Verbatim
 pub mod Values
+pub mod OneLine
 pub mod Cutting
 pub mod LiteralLaws
 pub mod Quoted

@@ -3,6 +3,7 @@ pub mod Lexis
 pub mod Operators
 pub mod Number
 pub mod StringLiteral
+pub mod PlainString
 pub mod Piece
 pub mod Reading
 pub mod Tokens

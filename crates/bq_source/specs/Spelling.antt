@@ -1,6 +1,6 @@
 -- How each piece of a text is spelled, in words of its bytes and of those that come after it. `tokens_cut_the_text` says that
 -- the readings of a text are made of these pieces.
-use Rattle.std.specs.Prelude.{ℕ, ◌+◌, ◌<◌, ◌≤◌, ◌≡◌, ◌⊎◌, List, [], ◌∷◌, ◌++◌, length, take, Bool, true, false, ◌==◌, ◌||◌, nat_eq, Some, None, IsSome, slice_range}
+use Rattle.std.specs.Prelude.{ℕ, ◌<◌, ◌≤◌, ◌≡◌, ◌⊎◌, List, [], ◌∷◌, ◌++◌, length, take, Bool, true, false, ◌==◌, ◌||◌, nat_eq, Some, None, IsSome, slice_range}
 use Rattle.std.specs.List.{AllByRecursion, starts_with}
 use Rattle.bq_source.specs.declared.token.Token.{Token}
 use Rattle.bq_source.specs.declared.token.TokenKind.TheVariants as k

@@ -1,12 +1,13 @@
 //! The lexer: one pass over the bytes, a piece at a time, with the line, the brackets and the widths that are open.
 
-ghost use Rattle.std.specs.Prelude.{◌≡◌, ◌≤◌, ◌<◌, ◌+◌, ◌-◌, ◌*◌, [], Some, length, take, IfOk};
+ghost use Rattle.std.specs.Prelude.{◌≡◌, ◌≤◌, ◌<◌, ◌+◌, ◌-◌, ◌*◌, [], Some, Ok, length, take, IfOk};
 ghost use Rattle.bq_source.specs.Reading as spec;
 ghost use Rattle.bq_source.specs.Reading.{Lexes, max_file_bytes};
 ghost use Rattle.bq_base.specs.Fault.{fault_at};
 ghost use Rattle.bq_base.specs.Gives.{Gives, GivesOneOf};
 ghost use Rattle.bq_source.specs.Lexing.{the_tokens};
 ghost use Rattle.bq_source.specs.Piece.{IsPart, Fits};
+ghost use Rattle.bq_source.specs.Operators.{kind_of};
 
 use crate::lexis::{RunClass, newlines, run_len};
 use crate::operators::Lexeme;
@@ -181,19 +182,27 @@ impl<'a> Lexer<'a> {
         }
     }
 
-    /// A token that may be the first of its line, or a bracket.
+    /// A token that isn't the first of its line.
+    fn take_within_line(&mut self, lexeme: Lexeme, extent: Extent) -> Result<(), SourceErr>
+        requires { IsPart self.old.rest extent }
+        ensures { Gives (λ _. self.new) SourceErr.Bad result (spec.and_then (spec.nest lexeme self.old) (λ s. Ok (spec.push_token (kind_of lexeme) extent s))) }
+    {
+        self.nest(lexeme)?;
+        self.push_token(lexeme.kind(), extent)?;
+        Ok(())
+    }
+
+    /// A token that may be the first of its line.
     #[tactic(auto, unfolding(crate::specs::Reading::take_token))]
     fn take_any_token(&mut self, lexeme: Lexeme, extent: Extent) -> Result<(), SourceErr>
         requires { IsPart self.old.rest extent }
         ensures { Gives (λ _. self.new) SourceErr.Bad result (spec.take_token lexeme extent self.old) }
     {
         self.indent()?;
-        self.nest(lexeme)?;
-        self.push_token(lexeme.kind(), extent)?;
-        Ok(())
+        self.take_within_line(lexeme, extent)
     }
 
-    /// A token. Most are neither: to look at the line and at the brackets would cost more than the rest.
+    /// A token. Most begin no line and are no brackets: to look at both would cost more than the rest.
     #[tactic(auto, unfolding(crate::specs::Reading::take_token, crate::specs::Reading::indent, crate::specs::Reading::nest))]
     fn take_token(&mut self, lexeme: Lexeme, extent: Extent) -> Result<(), SourceErr>
         requires { IsPart self.old.rest extent }
@@ -201,6 +210,7 @@ impl<'a> Lexer<'a> {
     {
         match (self.margin, lexeme) {
             (None, Lexeme::Plain(kind)) => Ok(self.push_token(kind, extent)?),
+            (None, _) => self.take_within_line(lexeme, extent),
             _ => self.take_any_token(lexeme, extent),
         }
     }

@@ -11,7 +11,7 @@ use crate::lexis::{
 };
 use crate::number::{begins_number, int_value, number_len};
 use crate::operators::{Lexeme, operator};
-use crate::string_literal::{begins_string, scan_string};
+use crate::string_literal::{begins_string, plain_string_len, scan_string};
 use crate::token::TokenKind;
 use bq_base::FaultKind;
 
@@ -64,8 +64,9 @@ fn number(text: &[u8]) -> Piece
     }
 }
 
+/// Returns the piece that begins with a string literal of whatever form.
 #[tactic(auto, unfolding(crate::specs::Piece::string))]
-fn string(text: &[u8]) -> Piece
+fn any_string(text: &[u8]) -> Piece
     ensures piece { result ≡ spec.string text.now }
     ensures fits { spec.Fits text.now result }
 {
@@ -81,6 +82,18 @@ fn string(text: &[u8]) -> Piece
             };
             Piece::Lexed(Lexeme::Plain(TokenKind::String), extent)
         }
+    }
+}
+
+/// Returns the piece that begins with a string literal.
+#[tactic(auto, using(crate::proofs::Fitting::plain_piece, crate::proofs::Fitting::plain_fits))]
+fn string(text: &[u8]) -> Piece
+    ensures piece { result ≡ spec.string text.now }
+    ensures fits { spec.Fits text.now result }
+{
+    match plain_string_len(text) {
+        Some(len) => Piece::Lexed(Lexeme::Plain(TokenKind::String), bytes(len)),
+        None => any_string(text),
     }
 }
 

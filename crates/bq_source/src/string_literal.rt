@@ -8,6 +8,7 @@ ghost use Rattle.std.specs.Option.{option_or};
 ghost use Rattle.std.specs.List.{list_all, prefix_len};
 ghost use Rattle.bq_source.specs.StringLiteral as spec;
 ghost use Rattle.bq_source.specs.StringLiteral.{BodyItem, values, FoundLiteral, SameCut, ValuedLiteral, IsLiteral, IsOpenLiteral, literal_of, AllStand, quoted};
+ghost use Rattle.bq_source.specs.PlainString.{IsPlainString};
 ghost use Rattle.bq_source.specs.declared.string_literal.Quoting.{Quoting};
 ghost use Rattle.bq_source.specs.declared.string_literal.StringLiteral.{StringLiteral};
 
@@ -251,6 +252,25 @@ fn past_plain(quote: u8, text: &[u8], at: usize) -> usize
     end
 }
 
+/// Returns the length of the literal that begins here, where it stands in two double quotes and each of its bytes stands for itself. Most
+/// are so, and need no look at each item.
+#[tactic(auto, using(crate::proofs::OneLine::plain_string))]
+pub fn plain_string_len(text: &[u8]) -> Option<usize>
+    ensures { IfSome result (λ n. IsPlainString text.now n) }
+{
+    let [b'"', after @ ..] = text else {
+        return None;
+    };
+    if begins_pair(b'"', after) {
+        return None;
+    }
+    let end = past_plain(b'"', after, 0);
+    match rest_of(after, end) {
+        [b'"', ..] => Some(end + 2),
+        _ => None,
+    }
+}
+
 /// Returns the string literal that begins here, or `None` where it does not end.
 pub fn scan_string(text: &[u8]) -> Option<StringLiteral>
     ensures literal { result ≡ spec.scan_string text.now }
@@ -277,10 +297,11 @@ pub fn scan_string(text: &[u8]) -> Option<StringLiteral>
 }
 
 /// Returns whether each byte stands for itself: no backslash means anything, and no newline is CR LF.
+#[tactic(auto, using(crate::proofs::Verbatim::verbatim))]
 fn is_verbatim(raw: bool, body: &[u8]) -> bool
     ensures { result ≡ list_all (spec.stays raw) body.now }
 {
-    body.iter().all(|b| *b != b'\r' && (raw || *b != b'\\'))
+    !body.contains(&b'\r') && (raw || !body.contains(&b'\\'))
 }
 
 /// Appends what an item stands for.

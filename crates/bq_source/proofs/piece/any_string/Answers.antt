@@ -1,6 +1,6 @@
-use Rattle.std.proofs.Common.{sym, arith, Some}
+use Rattle.std.proofs.Common.{sym, arith}
 use Rattle.bq_source.proofs.Fitting.{scanned_within, take_short}
-use Rattle.bq_source.proofs.piece.string.Goals as goal
+use Rattle.bq_source.proofs.piece.any_string.Goals as goal
 
 pub returns-in-None-clause-fits : goal.returns-in-None-clause-fits
 returns-in-None-clause-fits c =

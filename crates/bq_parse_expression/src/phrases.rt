@@ -1,0 +1,89 @@
+//! Phrases, which stand in brackets: most are a primary alone, and need no look at each level of operators.
+
+ghost use Rattle.std.specs.Prelude.{◌≡◌, true};
+ghost use Rattle.bq_parse_cursor.specs.Tokens.{kind_ahead};
+ghost use Rattle.bq_parse_grammar.specs.Turns.{Reads};
+ghost use Rattle.bq_parse_grammar.specs.Reading as spec;
+ghost use Rattle.bq_parse_expression.specs.Nested.{ReadsNested};
+ghost use Rattle.bq_parse_expression.specs.Lone as lone;
+ghost use Rattle.bq_parse_expression.specs.Further.{further, or_after_primary, phrase_after};
+
+use crate::grammar::Grammar;
+use crate::lone::{begins_with_end, begins_with_operand, stands_alone};
+use bq_parse_cursor::Tokens;
+use bq_parse_grammar::{Expr, Nested, SyntaxErr};
+use std::alloc::Global;
+
+impl<F: Fn(Global, &mut Tokens<'_>, usize, Nested) -> Result<Expr, SyntaxErr>> Grammar<F> {
+    /// Reads what operators of all levels of a Bor do to its first operand.
+    #[tactic(auto, using(crate::proofs::AfterOperand::nothing_further))]
+    fn bor_after(&self, tokens: &mut Tokens<'_>, first: Expr) -> Result<Expr, SyntaxErr>
+        requires { ReadsNested self.now.depth (F.pre self.now.phrase) (F.post self.now.phrase) }
+        ensures { Reads (further (spec.primary (spec.phrase self.now.depth) (spec.variables_to self.now.depth)) 6 first tokens.old) result tokens.new }
+    {
+        if !tokens.sees_any_operator() {
+            return Ok(first);
+        }
+        self.further(tokens, first, 6)
+    }
+
+    /// Reads the rest of an Or after its first primary.
+    fn or_after_primary(&self, tokens: &mut Tokens<'_>, first: Expr) -> Result<Expr, SyntaxErr>
+        requires { ReadsNested self.now.depth (F.pre self.now.phrase) (F.post self.now.phrase) }
+        ensures { Reads (or_after_primary (spec.primary (spec.phrase self.now.depth) (spec.variables_to self.now.depth)) first tokens.old) result tokens.new }
+    {
+        let operand = self.bor_after(tokens, first)?;
+        let comparison = self.comp_after(tokens, operand)?;
+        let both = self.and_after(tokens, comparison)?;
+        self.or_after(tokens, both)
+    }
+
+    /// Reads the rest of a phrase after its first primary.
+    fn phrase_after(
+        &self,
+        tokens: &mut Tokens<'_>,
+        first: Expr,
+        which: Nested,
+    ) -> Result<Expr, SyntaxErr>
+        requires { ReadsNested self.now.depth (F.pre self.now.phrase) (F.post self.now.phrase) }
+        ensures { Reads (phrase_after (spec.primary (spec.phrase self.now.depth) (spec.variables_to self.now.depth)) which first tokens.old) result tokens.new }
+    {
+        let value = self.or_after_primary(tokens, first)?;
+        match which {
+            Nested::Or => Ok(value),
+            Nested::Test => self.conditional(tokens, value),
+        }
+    }
+
+    /// Reads a phrase that begins with a primary.
+    #[tactic(auto, using(crate::proofs::AfterPrimary::primary_alone, crate::proofs::AfterPrimary::primary_first, crate::proofs::AfterPrimary::no_primary))]
+    fn phrase_of_primary(&self, tokens: &mut Tokens<'_>, which: Nested) -> Result<Expr, SyntaxErr>
+        requires bare { lone.begins_with_operand tokens.old ≡ true }
+        requires nested { ReadsNested self.now.depth (F.pre self.now.phrase) (F.post self.now.phrase) }
+        ensures { Reads (spec.phrase_by (spec.primary (spec.phrase self.now.depth) (spec.variables_to self.now.depth)) which tokens.old) result tokens.new }
+    {
+        let first = self.primary(tokens)?;
+        if begins_with_end(tokens) {
+            return Ok(first);
+        }
+        self.phrase_after(tokens, first, which)
+    }
+
+    /// Reads what stands in brackets.
+    #[tactic(auto, using(crate::proofs::Alone::lone_phrase))]
+    pub fn phrase_by(&self, tokens: &mut Tokens<'_>, which: Nested) -> Result<Expr, SyntaxErr>
+        requires { ReadsNested self.now.depth (F.pre self.now.phrase) (F.post self.now.phrase) }
+        ensures { Reads (spec.phrase_by (spec.primary (spec.phrase self.now.depth) (spec.variables_to self.now.depth)) which tokens.old) result tokens.new }
+    {
+        if stands_alone(tokens) {
+            return self.operand(tokens);
+        }
+        if begins_with_operand(tokens) {
+            return self.phrase_of_primary(tokens, which);
+        }
+        match which {
+            Nested::Or => self.or_test(tokens),
+            Nested::Test => self.test(tokens),
+        }
+    }
+}
