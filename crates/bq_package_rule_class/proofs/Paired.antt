@@ -3,7 +3,7 @@ use Rattle.std.proofs.Common.{◌≡◌, ◌∙◌, ◌||◌, ℕ, zero, suc, Bo
 use Rattle.std.specs.List.{list_any, zip}
 use Rattle.std.specs.Map.{lookup}
 use Rattle.std.specs.Option.{option_and_then, option_map}
-use Rattle.bq_base_names.proofs.Positions.{position_cons}
+use Rattle.bq_base_names.proofs.Positions.{some_is, position_cons}
 use Rattle.bq_package_rule_class.specs.declared.attribute.Attribute.{Attribute}
 use Rattle.bq_package_rule_class.specs.Class.{Class, has_attribute}
 
@@ -53,10 +53,13 @@ no_attribute_at (n ∷ ns) [] i h = refl
 no_attribute_at (n ∷ ns) (v ∷ vs) zero h = absurd (let no : ⊥ = cc in no)
 no_attribute_at (n ∷ ns) (v ∷ vs) (suc i) h = no_attribute_at ns vs i h
 
-paired : (n m : List ℕ) (v u : Attribute) → Some n ≡ Some m → Some v ≡ Some u → Some (n, v) ≡ Some (m, u)
-paired n m v u h e = let a : n ≡ m = cc in let b : v ≡ u = cc in rw (a, b) refl
+abbrev entry_of : List ℕ → Attribute → Option (List ℕ × Attribute)
+entry_of n v = Some (n, v)
 
-pub both_at : (ns : Names) (vs : List Attribute) (i : ℕ) (n : List ℕ) (v : Attribute) → slice_get ns i ≡ Some n → slice_get vs i ≡ Some v → slice_get (zip ns vs) i ≡ Some (n, v)
+paired : (n m : List ℕ) (v u : Attribute) → Some n ≡ Some m → Some v ≡ Some u → entry_of n v ≡ entry_of m u
+paired n m v u h e = ap (λ k. entry_of k v) (some_is n m h) ∙ ap (entry_of m) (some_is v u e)
+
+pub both_at : (ns : Names) (vs : List Attribute) (i : ℕ) (n : List ℕ) (v : Attribute) → slice_get ns i ≡ Some n → slice_get vs i ≡ Some v → slice_get (zip ns vs) i ≡ entry_of n v
 both_at [] vs i n v h e = absurd (let no : ⊥ = cc in no)
 both_at (m ∷ ns) [] i n v h e = absurd (let no : ⊥ = cc in no)
 both_at (m ∷ ns) (u ∷ vs) zero n v h e = paired m n u v h e

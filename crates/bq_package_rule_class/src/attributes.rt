@@ -7,6 +7,7 @@ ghost use Rattle.bq_package_rule_class.specs.Class.{extended};
 use crate::attribute::Attribute;
 use bq_base::Bytes;
 use bq_base_names::NameSet;
+use sqlite_items::at;
 use std::alloc::{AllocError, Global};
 use std::marker::Model;
 
@@ -59,7 +60,7 @@ impl Attributes {
     {
         match self.names.place(name) {
             None => None,
-            Some(place) => self.attributes.get(place),
+            Some(place) => at(&self.attributes, place),
         }
     }
 
@@ -68,8 +69,8 @@ impl Attributes {
     pub(crate) fn entry(&self, place: usize) -> Option<(&[u8], &Attribute)>
         ensures { option_map (λ e. (e.0.now, e.1.now)) result ≡ slice_get self.now place }
     {
-        let name = self.names.as_slice().get(place)?;
-        let attribute = self.attributes.get(place)?;
+        let name = at(self.names.as_slice(), place)?;
+        let attribute = at(&self.attributes, place)?;
         Some((name.as_slice(), attribute))
     }
 
