@@ -1,5 +1,6 @@
 -- What a look-up of a name answers, and that the names that are added are found.
 use Rattle.std.proofs.Common.{◌≡◌, ◌≢◌, ◌∙◌, ◌⊎◌, ℕ, Bool, true, false, List, [], ◌∷◌, ◌++◌, length, take, Option, Some, None, Vec, is_some, slice_get, position, bytes_eq, refl, sym, ap, subst, inl, inr, arith}
+use Rattle.std.specs.Prelude.{IfSome, IfNone}
 use Rattle.std.specs.BTreeMap.{BTreeMap}
 use Rattle.std.specs.declared.alloc.Global.{Global}
 use Rattle.std.proofs.lemmas.Slice.Eq.{bytes_eq-Decides}
@@ -51,7 +52,7 @@ none_of_none (n ∷ ns) name h = absurd (omega (arith, h))
 pub at_place : (names : Names) (p : Hashes) (q : Keys) (name : Name) (i : ℕ) → ArePlaced names p q → slice_get names i ≡ Some name → position (bytes_eq name) names ≡ Some i
 at_place names p q name i are at = position_at bytes_eq bytes_eq-Decides names name i are.differ at
 
-pub nowhere : (names : Names) (p : Hashes) (q : Keys) (name : Name) → ArePlaced names p q → Lacks names (first_place p name) name → Lacks names (colliding_place q name) name → position (bytes_eq name) names ≡ None
+nowhere : (names : Names) (p : Hashes) (q : Keys) (name : Name) → ArePlaced names p q → Lacks names (first_place p name) name → Lacks names (colliding_place q name) name → position (bytes_eq name) names ≡ None
 nowhere names p q name are first late =
     position_nowhere bytes_eq bytes_eq-Decides names name
     (λ i at.
@@ -59,6 +60,12 @@ nowhere names p q name are first late =
       | inl h ↦ first i h at
       | inr h ↦ late i h at
     ])
+
+-- what a second look-up answers, where the first finds nothing
+pub late_place : (names : Names) (p : Hashes) (q : Keys) (name : Name) (first late o : Option ℕ) → ArePlaced names p q → first ≡ first_place p name → late ≡ colliding_place q name → Lacks names first name → IfSome o (λ i. (late ≡ Some i) × (slice_get names i ≡ Some name)) → IfNone o (Lacks names late name) → o ≡ position (bytes_eq name) names
+late_place names p q name first late None are e f none there nothing =
+    sym (nowhere names p q name are (λ i h at. none i (e ∙ h) at) (λ i h at. nothing i (f ∙ h) at))
+late_place names p q name first late (Some i) are e f none there nothing = sym (at_place names p q name i are there.1)
 
 -- ---- more names, and fewer
 

@@ -69,7 +69,7 @@ impl NameSet {
     }
 
     /// Returns the place of a name.
-    #[tactic(auto, using(crate::proofs::Placed::none_of_none, crate::proofs::Placed::at_place, crate::proofs::Placed::nowhere))]
+    #[tactic(auto, using(crate::proofs::Placed::none_of_none, crate::proofs::Placed::at_place, crate::proofs::Placed::late_place))]
     pub fn place(&self, name: &[u8]) -> Option<usize>
         ensures { result ≡ position (bytes_eq name.now) self.now }
     {
@@ -77,12 +77,9 @@ impl NameSet {
         if self.names.is_empty() {
             return None;
         }
-        if let Some(place) = self.checked(self.places.first(name), name) {
-            return Some(place);
-        }
-        match self.checked(self.places.colliding(name), name) {
+        match self.checked(self.places.first(name), name) {
             Some(place) => Some(place),
-            None => None,
+            None => self.checked(self.places.colliding(name), name),
         }
     }
 
