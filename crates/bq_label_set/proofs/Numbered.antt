@@ -1,7 +1,9 @@
 -- What a look-up of a label answers, and that the labels that are added are found.
 use Rattle.std.proofs.Common.{◌≡◌, ◌≢◌, ◌∙◌, ◌⊎◌, ◌<◌, ℕ, true, false, List, [], ◌∷◌, ◌++◌, length, Option, Some, None, is_some, slice_get, position, sym, ap, subst, inl, inr}
+use Rattle.std.specs.Prelude.{IfSome, IfNone}
 use Rattle.std.specs.BTreeMap.{BTreeMap}
 use Rattle.std.proofs.lemmas.List.Quantifiers.{position-Some}
+use Rattle.std.proofs.lemmas.Option.{slice_get_within}
 use Rattle.bq_base_names.proofs.Positions.{true_false, some_is, none_some, pushed_cases, position_at, position_nowhere, absent_at, one_more_differs, has_place}
 use Rattle.bq_label.specs.Label.{LabelParts}
 use Rattle.bq_label_set.specs.Labels.{same_label, same_label-Decides, has_label}
@@ -47,7 +49,7 @@ number_within ls l i h = (position-Some (same_label l) ls i l h).0
 pub at_number : (ls : Labels) (p : Hashes) (q : Keys) (l : LabelParts) (i : ℕ) → AreNumbered ls p q → slice_get ls i ≡ Some l → position (same_label l) ls ≡ Some i
 at_number ls p q l i are at = position_at same_label same_label-Decides ls l i are.differ at
 
-pub nowhere : (ls : Labels) (p : Hashes) (q : Keys) (l : LabelParts) → AreNumbered ls p q → Lacks ls (first_number p l) l → Lacks ls (colliding_number q l) l → position (same_label l) ls ≡ None
+nowhere : (ls : Labels) (p : Hashes) (q : Keys) (l : LabelParts) → AreNumbered ls p q → Lacks ls (first_number p l) l → Lacks ls (colliding_number q l) l → position (same_label l) ls ≡ None
 nowhere ls p q l are first late =
     position_nowhere same_label same_label-Decides ls l
     (λ i at.
@@ -55,6 +57,16 @@ nowhere ls p q l are first late =
       | inl h ↦ first i h at
       | inr h ↦ late i h at
     ])
+
+-- what a second look-up answers, where the first finds nothing
+pub late_number : (ls : Labels) (p : Hashes) (q : Keys) (l : LabelParts) (first late o : Option ℕ) → AreNumbered ls p q → first ≡ first_number p l → late ≡ colliding_number q l → Lacks ls first l → IfSome o (λ i. (late ≡ Some i) × (slice_get ls i ≡ Some l)) → IfNone o (Lacks ls late l) → o ≡ position (same_label l) ls
+late_number ls p q l first late None are e f none there nothing =
+    sym (nowhere ls p q l are (λ i h at. none i (e ∙ h) at) (λ i h at. nothing i (f ∙ h) at))
+late_number ls p q l first late (Some i) are e f none there nothing = sym (at_number ls p q l i are there.1)
+
+pub late_within : (ls : Labels) (l : LabelParts) (late o : Option ℕ) → IfSome o (λ i. (late ≡ Some i) × (slice_get ls i ≡ Some l)) → IfSome o (λ i. i < length ls)
+late_within ls l late None there = tt
+late_within ls l late (Some i) there = slice_get_within ls i l there.1
 
 -- ---- more labels
 

@@ -101,17 +101,14 @@ impl LabelSet {
     }
 
     /// Returns the number of a label: its place in the order in which they were added. It fails as `has` does.
-    #[tactic(auto, using(crate::proofs::Numbered::number_within, crate::proofs::Numbered::at_number, crate::proofs::Numbered::nowhere))]
+    #[tactic(auto, using(crate::proofs::Numbered::number_within, crate::proofs::Numbered::at_number, crate::proofs::Numbered::late_number, crate::proofs::Numbered::late_within))]
     pub fn number(&self, label: &Label) -> Result<Option<usize>, AllocError>
         ensures number { IfOk result (λ number. number ≡ position (same_label label.now) self.now) }
         ensures within { IfOk result (λ number. IfSome number (λ n. n < length self.now)) }
     {
-        if let Some(number) = self.checked(self.numbers.first(label), label) {
-            return Ok(Some(number));
-        }
-        match self.checked(self.numbers.colliding(label)?, label) {
+        match self.checked(self.numbers.first(label), label) {
             Some(number) => Ok(Some(number)),
-            None => Ok(None),
+            None => Ok(self.checked(self.numbers.colliding(label)?, label)),
         }
     }
 }
