@@ -10,7 +10,7 @@ use crate::functions::def_stmt;
 use crate::small::{line, misplaced};
 use bq_base::SourceErr;
 use bq_parse_grammar::{Stmt, TopLevel};
-use bq_resolve_expression::Walk;
+use bq_resolve_expression::{Scope, Walk};
 use bq_resolve_scope::{CodeTopLevel, FileNames, FileStmt};
 use sqlite_items::Items;
 use std::alloc::Global;
@@ -27,7 +27,7 @@ fn file_stmt(
 {
     match statement {
         Stmt::Simple(small) => {
-            line(alloc, file, &[], false, walk, small.as_slice()).map(FileStmt::Simple)
+            line(&Scope::outside(alloc, file), false, walk, small.as_slice()).map(FileStmt::Simple)
         }
         Stmt::If(_, _) => misplaced(first_line),
         Stmt::For(_, _, _) => misplaced(first_line),

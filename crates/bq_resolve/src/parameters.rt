@@ -11,7 +11,7 @@ ghost use Rattle.bq_resolve_expression.specs.Walks.{Walks};
 use crate::expressions::expr;
 use bq_base::{FaultKind, SourceErr};
 use bq_parse_grammar::{Expr, Identifier, Parameter};
-use bq_resolve_expression::{Walk, fault_of};
+use bq_resolve_expression::{Scope, Walk, fault_of};
 use bq_resolve_scope::{Code, CodeParameter, FileNames, Names};
 use sqlite_items::Items;
 use std::alloc::Global;
@@ -88,7 +88,7 @@ impl ParameterList {
     {
         let slot = self.names.len();
         self.add_named(name, CodeParameter::Default(name.name.share()?, slot))?;
-        let default = expr(alloc, file, &[], walk, default)?;
+        let default = expr(&Scope::outside(alloc, file), walk, default)?;
         self.defaults.push(default)?;
         Ok(())
     }

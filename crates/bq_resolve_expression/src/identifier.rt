@@ -7,10 +7,11 @@ ghost use Rattle.bq_resolve_scope.specs.Visit.{Passed, fault_of};
 ghost use Rattle.bq_resolve_scope.specs.Expressions as spec;
 ghost use Rattle.bq_resolve_expression.specs.Walks.{Walks};
 
+use crate::scope::Scope;
 use crate::walk::Walk;
 use bq_base::{Fault, FaultKind, SourceErr};
 use bq_parse_grammar::{FileKind, Identifier};
-use bq_resolve_scope::{Binding, Block, CodeTarget, FileNames};
+use bq_resolve_scope::{Binding, Block, CodeTarget};
 use std::alloc::AllocError;
 
 /// Returns a fault at a name.
@@ -26,10 +27,10 @@ pub fn fault_of(kind: FaultKind, name: &Identifier) -> Result<Fault, AllocError>
 
 /// Returns the use of a name: of the innermost block that holds it, else F20.
 #[tactic(auto, unfolding(bq_resolve_scope::specs::Expressions::use_at))]
-pub fn use_at(file: &FileNames, blocks: &[Block], name: &Identifier) -> Result<Binding, SourceErr>
-    ensures { (s : Passed) → Walks (spec.use_at file.now blocks.now name.now s) result s }
+pub fn use_at(scope: &Scope<'_>, name: &Identifier) -> Result<Binding, SourceErr>
+    ensures { (s : Passed) → Walks (spec.use_at scope.now.file.now scope.now.blocks.now name.now s) result s }
 {
-    match file.use_of(blocks, &name.name)? {
+    match scope.file.use_of(scope.blocks, &name.name)? {
         Some(binding) => Ok(binding),
         None => Err(SourceErr::Bad(fault_of(FaultKind::UnknownName, name)?)),
     }
@@ -76,15 +77,14 @@ fn bind_in(
 /// Resolves a name that is bound: its block holds it.
 #[tactic(auto, unfolding(bq_resolve_scope::specs::Expressions::name_target))]
 pub fn name_target(
-    file: &FileNames,
-    blocks: &[Block],
+    scope: &Scope<'_>,
     walk: &mut Walk,
     name: &Identifier,
 ) -> Result<CodeTarget, SourceErr>
-    ensures { Walks (spec.name_target file.now blocks.now name.now walk.old) result walk.new }
+    ensures { Walks (spec.name_target scope.now.file.now scope.now.blocks.now name.now walk.old) result walk.new }
 {
-    bind_in(file.kind(), blocks, walk, name)?;
-    match place_of(file.use_of(blocks, &name.name)?) {
+    bind_in(scope.file.kind(), scope.blocks, walk, name)?;
+    match place_of(scope.file.use_of(scope.blocks, &name.name)?) {
         Some(target) => Ok(target),
         None => Err(SourceErr::Bad(fault_of(FaultKind::UnknownName, name)?)),
     }
