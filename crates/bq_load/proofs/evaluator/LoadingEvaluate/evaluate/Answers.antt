@@ -16,37 +16,3 @@ returns-in_default g c =
     let x = loading_of c.args.self.now in
     let none : slice_get x.sources c.args.m ≡ None = ap (λ (l : List Source). slice_get l c.args.m) (sym c.deref.ensures.value) ∙ slice_get_past c.deref.result.now c.args.m c.in_default.ensures.lookup.3 in
     c.not_evaluated.ensures ∙ ap (λ (f : Fault). Err (not_evaluated f)) c.at.ensures ∙ sym (means_no_source x c.args.m (module_views c.args.imports.now) none)
-
-pub returns-in_default-code_of : goal.returns-in_default-code_of
-returns-in_default-code_of g c =
-    let x = loading_of c.args.self.now in
-    let s = c.in-Some.source.now in
-    let read = c.in-Some.ensures.lookup in
-    let there : slice_get x.sources c.args.m ≡ Some s = ap (λ (l : List Source). slice_get l c.args.m) (sym c.deref.ensures.value) ∙ slice_get_read c.deref.result.now (length c.deref.result.now) c.args.m s refl read.3.0 read.1 in
-    c.not_evaluated-in_default-code_of.ensures ∙ ap (λ (f : Fault). Err (not_evaluated f)) c.in_ok-own_fault.ensures
-    ∙ sym (means_no_code x c.args.m (module_views c.args.imports.now) s there (sym c.in_default-code_of.ensures))
-
-pub returns-in-Err-Bad : goal.returns-in-Err-Bad
-returns-in-Err-Bad g c =
-    let x = loading_of c.args.self.now in
-    let s = c.in-Some.source.now in
-    let file = c.in-Some-code_of.file.now in
-    let why = c.in-Err-Bad.fault in
-    let ms = module_views c.args.imports.now in
-    let read = c.in-Some.ensures.lookup in
-    let there : slice_get x.sources c.args.m ≡ Some s = ap (λ (l : List Source). slice_get l c.args.m) (sym c.deref.ensures.value) ∙ slice_get_read c.deref.result.now (length c.deref.result.now) c.args.m s refl read.3.0 read.1 in
-    let is : told module_view failed_view c.not_evaluated-in-Err-Bad.result ≡ Err (not_evaluated why) = rw c.in-Err-Bad.field-0-is at c.not_evaluated-in-Err-Bad.ensures in
-    is ∙ sym (means_file x c.args.m ms s file there (sym c.in-Some-code_of.ensures) (Err why) (c.in-Err-Bad.ensures why c.in-Err-Bad.field-0-is))
-
-pub returns-in_ok-evaluated-in-Ok : goal.returns-in_ok-evaluated-in-Ok
-returns-in_ok-evaluated-in-Ok g c =
-    let x = loading_of c.args.self.now in
-    let s = c.in-Some.source.now in
-    let file = c.in-Some-code_of.file.now in
-    let ms = module_views c.args.imports.now in
-    let values = c.in-Ok.values.items in
-    let read = c.in-Some.ensures.lookup in
-    let there : slice_get x.sources c.args.m ≡ Some s = ap (λ (l : List Source). slice_get l c.args.m) (sym c.deref.ensures.value) ∙ slice_get_read c.deref.result.now (length c.deref.result.now) c.args.m s refl read.3.0 read.1 in
-    let is : told module_view failed_view c.in_ok-evaluated-in-Ok.field-0 ≡ module_after file values (evaluation x c.args.m s.label file ms values) =
-    subst (λ (vs : List Datum). told module_view failed_view c.in_ok-evaluated-in-Ok.field-0 ≡ module_after file vs (evaluation x c.args.m s.label file ms vs)) c.deref-in-Ok.ensures.value c.in_ok-evaluated-in-Ok.ensures in
-    is ∙ sym (means_file x c.args.m ms s file there (sym c.in-Some-code_of.ensures) (Ok values) c.in-Ok.ensures)
