@@ -111,6 +111,7 @@ fn module_by(
 }
 
 /// A module that has code.
+#[derive(Drop)]
 pub(crate) struct FileModule<'a> {
     pub number: u32,
     pub source: &'a Source,
