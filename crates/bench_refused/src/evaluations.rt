@@ -121,16 +121,17 @@ pub fn evaluate_each(rt: &HostRuntime, workspace: &Workspace) -> Result<()> {
     let graph = discover(alloc, workspace, &schema)?;
     let code = code_of(alloc, discover(alloc, workspace, &schema)?)?;
     let loaded = load_one_thread(alloc, workspace, &schema, LIMIT, Seed::fixed())?;
+    let modules = Modules {
+        code: &code,
+        outcomes: &loaded.modules,
+    };
     let setting = Setting {
         alloc,
         workspace,
         packages: &packages,
         schema: &schema,
         built_ins: &built_ins,
-        modules: Modules {
-            code: &code,
-            outcomes: &loaded.modules,
-        },
+        modules,
     };
     evaluate_in(rt, setting, graph.modules())
 }

@@ -32,10 +32,18 @@ pub fn code_of(alloc: Global, graph: LoadGraph) -> Result<Vec<Option<Resolved>>,
     let (modules, _edges) = graph.into_parts();
     let mut all = Vec::new(alloc);
     for module in modules {
-        let Module { label: _, front } = module;
+        let Module {
+            label: _label,
+            front,
+        } = module;
         match front {
-            Ok(Front { code, loads: _ }) => all.push(Some(code))?,
-            Err(_) => all.push(None)?,
+            Ok(
+                Front {
+                    code,
+                    loads: _loads,
+                },
+            ) => all.push(Some(code))?,
+            Err(_fault) => all.push(None)?,
         }
     }
     Ok(all)
