@@ -1,5 +1,5 @@
 //! Measures crates of the pipeline, outside it. With no word it measures all of [`SUBJECTS`], in their order; with words, as
-//! `bench_crates lex parse`, just the subjects that they name.
+//! `bench_crates lex parse`, just the subjects that they name. With `--call CALL QUERY` it makes one call over a bundle, and measures nothing.
 //!
 //! Standard output says what was done, which doesn't change between runs; standard error says the times.
 //!
@@ -7,6 +7,7 @@
 //! - `rounds`: files that are measured again and again
 //! - `text`, `workspace`, `strings`: what several subjects are given
 //! - `lex`, `parse`, `resolve`, `owners`, `value`, `builtin`, `discover`, `graph`: the subjects
+//! - `single`: single calls, whose allocations can be refused in turn
 #![tactic(auto)]
 
 mod builtin;
@@ -18,6 +19,7 @@ mod owners;
 mod parse;
 mod resolve;
 mod rounds;
+mod single;
 mod strings;
 mod text;
 mod value;
@@ -90,20 +92,13 @@ fn subjects_of(rt: &HostRuntime, words: &[String]) -> Result<Vec<Subject>> {
 
 /// Lists the words on standard error.
 fn show_words(rt: &HostRuntime) -> Result<()> {
-    eprintln!(rt; "usage: bench_crates [WORD..], of these words:")?;
+    eprintln!(rt;
+        "usage: bench_crates --call CALL QUERY < BUNDLE, or bench_crates [WORD..], of these words:"
+    )?;
     for subject in SUBJECTS {
         eprintln!(rt; "  {}", word_of(subject))?;
     }
     Ok(())
-}
-
-/// The subjects that the arguments ask for.
-fn asked_subjects(rt: &HostRuntime) -> Result<Vec<Subject>> {
-    let words = env::args(rt)?.collect::<Vec<String>>(rt.alloc())?;
-    match words.as_slice() {
-        [] | [_] => Ok(SUBJECTS.to_vec(rt.alloc())?),
-        [_, words @ ..] => subjects_of(rt, words),
-    }
 }
 
 /// Measures a subject, with threads of that handle.
@@ -135,12 +130,24 @@ fn measure_each<T: Threads + Sync>(
     Ok(())
 }
 
-fn main(rt: HostRuntime) -> Result<()> {
-    match asked_subjects(&rt) {
-        Ok(subjects) => measure_each(&rt, &rt, &subjects),
+/// Measures the subjects that words name.
+fn measure_named<T: Threads + Sync>(rt: &HostRuntime, threads: &T, words: &[String]) -> Result<()> {
+    match subjects_of(rt, words) {
+        Ok(subjects) => measure_each(rt, threads, &subjects),
         Err(error) => {
-            show_words(&rt)?;
+            show_words(rt)?;
             Err(error)
         }
+    }
+}
+
+fn main(rt: HostRuntime) -> Result<()> {
+    let words = env::args(&rt)?.collect::<Vec<String>>(rt.alloc())?;
+    match words.as_slice() {
+        [] | [_] => measure_each(&rt, &rt, &SUBJECTS),
+        [_, option, call, query] if option.as_str() == "--call" => {
+            single::make_named(&rt, &rt, call.as_str(), query.as_str())
+        }
+        [_, words @ ..] => measure_named(&rt, &rt, words),
     }
 }

@@ -66,12 +66,6 @@ impl Short {
             bytes: held,
         })
     }
-
-    fn as_slice(&self) -> &[u8]
-        ensures { result.now ≡ take self.now.len self.now.bytes }
-    {
-        &self.bytes[..self.len as usize]
-    }
 }
 
 impl Bytes {
@@ -125,7 +119,7 @@ impl Bytes {
         ensures { result.now ≡ self.now }
     {
         match &self.repr {
-            Repr::Short(short) => short.as_slice(),
+            Repr::Short(short) => &short.bytes[..short.len as usize],
             Repr::Shared(shared) => shared.as_slice(),
         }
     }
@@ -150,7 +144,7 @@ impl Bytes {
     {
         let Bytes { repr } = self;
         match repr {
-            Repr::Short(short) => short.as_slice().to_vec(alloc),
+            Repr::Short(short) => short.bytes[..short.len as usize].to_vec(alloc),
             Repr::Shared(shared) => match Arc::try_unwrap(shared) {
                 Ok(bytes) => Ok(bytes),
                 Err(shared) => shared.as_slice().to_vec(alloc),

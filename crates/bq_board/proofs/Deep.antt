@@ -69,7 +69,7 @@ module _ (p : Loads) (m : ℕ) (f : ℕ → ℕ) (each : (l : ℕ) → Has (row 
 
 -- ---- one pass along a topological order
 
-get_or-zeros : (n m : ℕ) → ◌≡◌ {A = ℕ} (get_or (replicate n 0) m 0) 0
+pub get_or-zeros : (n m : ℕ) → ◌≡◌ {A = ℕ} (get_or (replicate n 0) m 0) 0
 get_or-zeros zero m = refl
 get_or-zeros (suc n) zero = refl
 get_or-zeros (suc n) (suc m) = get_or-zeros n m

@@ -36,11 +36,6 @@ pub into_once : (p : Loads) (i j e : ℕ) → Into p i e → Into p j e → i �
 into_once p i j e a c = dite (dec_le (i + 1) j) (λ h. let m = start_mono p (i + 1) j h in absurd (omega arith))
     (λ n. dite (dec_le (j + 1) i) (λ h. let m = start_mono p (j + 1) i h in absurd (omega arith)) (λ l. omega arith))
 
-pub zeros : (xs : List ℕ) → ((k d : ℕ) → k < length xs → get_or xs k d ≡ 0) → (j : ℕ) → get_or xs j 0 ≡ 0
-zeros [] h j = refl
-zeros (x ∷ xs) h zero = h 0 0 (omega arith)
-zeros (x ∷ xs) h (suc j) = zeros xs (λ k d l. h (suc k) d (omega arith)) j
-
 source_below : (p : Loads) (n : ℕ) → ((m l : ℕ) → Has (row p m) l → l < n) → (e : ℕ) → e < edges p → source p e < n
 source_below [] n known e h = absurd (omega arith)
 source_below (r ∷ rs) n known e h = dite (dec_lt e (length r))

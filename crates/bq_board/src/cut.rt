@@ -2,7 +2,7 @@
 ghost use Rattle.std.specs.Prelude.{◌<◌, length, IfOk};
 ghost use Rattle.bq_board.specs.Cut.{IsCut, IsCutRow, CutsToPlan};
 ghost use Rattle.bq_board.specs.Depth.{HasDepths};
-ghost use Rattle.bq_board.specs.Graph.{Loads, lists};
+ghost use Rattle.bq_board.specs.Graph.{Loads};
 ghost use Rattle.bq_board.specs.Topological.{MarksCycles};
 
 use crate::cycles::cyclic_is_a_path;
@@ -19,10 +19,12 @@ impl Plan {
         requires depths { HasDepths graph.now order.now.depths.items }
         ensures { IfOk result (λ p. IsCut graph.now p) }
     {
-        let rows = cut_rows(alloc, graph, order)?;
-        let _ = graph.len(); // PROOF: the graph is valid
-        cut_is_plan();
-        Plan::of(alloc, Graph::from_rows(rows))
+        let mut rows = Vec::new(alloc);
+        for m in 0..graph.len() {
+            rows.push(cut_row(alloc, graph, order, m)?)?;
+        }
+        let loads = Graph { rows };
+        Plan::of(alloc, loads)
     }
 }
 
@@ -33,18 +35,7 @@ pub fn cut_is_plan()
     cyclic_is_a_path();
 }
 
-fn cut_rows(alloc: Global, graph: &Graph, order: &Order) -> Result<Vec<Vec<u32>>, AllocError>
-    requires cyclic { MarksCycles graph.now order.now.pending.items }
-    requires depths { HasDepths graph.now order.now.depths.items }
-    ensures { IfOk result (λ v. IsCut graph.now (lists v.items)) }
-{
-    let mut rows = Vec::new(alloc);
-    for m in 0..graph.len() {
-        rows.push(cut_row(alloc, graph, order, m)?)?;
-    }
-    Ok(rows)
-}
-
+/// Returns what a module loads in the plan.
 fn cut_row(alloc: Global, graph: &Graph, order: &Order, m: usize) -> Result<Vec<u32>, AllocError>
     requires cyclic { MarksCycles graph.now order.now.pending.items }
     requires depths { HasDepths graph.now order.now.depths.items }

@@ -17,7 +17,7 @@ pub const MAX_EDGES: usize = 262_144;
 /// For each module the modules that it loads. A contract sees it as the list of these lists.
 #[derive(Drop)]
 pub struct Graph {
-    rows: Vec<Vec<u32>>,
+    pub(crate) rows: Vec<Vec<u32>>,
 }
 
 impl Model for Graph {
@@ -43,14 +43,6 @@ impl Graph {
             return Err(PlanErr::BadIndex);
         }
         Ok(Graph { rows })
-    }
-
-    /// Makes the graph of rows that are known to make one.
-    pub(crate) fn from_rows(rows: Vec<Vec<u32>>) -> Graph
-        requires { IsGraph (lists rows.items) }
-        ensures { result ≡ lists rows.items }
-    {
-        Graph { rows }
     }
 
     /// Returns the number of modules.

@@ -1,5 +1,5 @@
 //! How a board begins, and its seats.
-ghost use Rattle.std.specs.Prelude.{◌≡◌, ◌+◌, ◌-◌, ◌<◌, ◌≤◌, [], length, All, IfOk, vec_len};
+ghost use Rattle.std.specs.Prelude.{◌≡◌, ◌-◌, ◌<◌, ◌≤◌, [], All, IfOk, vec_len};
 ghost use Rattle.bq_board.specs.Board.{blank, blank_with, edge_word};
 ghost use Rattle.bq_board.specs.Graph.{edges};
 ghost use Rattle.bq_board.specs.Seats.{IsSeatOf, base_of, seats_of, view_of};
@@ -38,25 +38,10 @@ impl<V: Parcel> Board<V> {
         ensures all { IfOk result (λ r. seats_of r.0 ≡ seats) }
         ensures fresh { IfOk result (λ r. All (λ s. IsSeatOf r.0 s × (view_of s ≡ blank base.now plan)) r.1.items) }
     {
-        let (board, first) = Board::with_one(alloc, plan, seats, base)?;
-        let all = board.cut(alloc, first, seats)?;
-        Ok((board, all))
-    }
-
-    /// Makes the board with one seat, from which the others are split off.
-    fn with_one(
-        alloc: Global,
-        plan: Plan,
-        seats: usize,
-        base: &V::Base,
-    ) -> Result<(Board<V>, Seat<V>), AllocError>
-        requires { 0 < seats }
-        ensures plan { IfOk result (λ r. (r.0.plan ≡ plan) × (base_of r.0 ≡ base.now)) }
-        ensures all { IfOk result (λ r. seats_of r.0 ≡ seats) }
-        ensures fresh { IfOk result (λ r. IsSeatOf r.0 r.1 × (view_of r.1 ≡ blank_with base.now plan (seats - 1))) }
-    {
         let (table, place) = free_table(alloc, &plan, seats, base)?;
-        Ok((Board { plan, table }, Seat { place }))
+        let board = Board { plan, table };
+        let all = board.cut(alloc, Seat { place }, seats)?;
+        Ok((board, all))
     }
 
     /// Returns the seats: `first`, and all that may be split off from it.
@@ -93,24 +78,12 @@ fn free_table<V: Parcel>(
     ensures size { IfOk result (λ t. (t.0.shared.table_id.words ≡ edge_word plan.now (edges plan.now)) × (t.0.shared.table_id.slots ≡ edges plan.now)) }
     ensures place { IfOk result (λ t. (t.1.table_id ≡ t.0.shared.table_id) × (t.1.me ≡ (blank_with base.now plan.now (seats - 1), []))) }
 {
-    let words = free_words(alloc, plan)?;
     let edges = plan.edges();
+    let words = vec![in alloc; 0; 1 + plan.modules() + edges]?;
     let key = RuleContext {
         plan: Snapshot::of(plan),
         base: Snapshot::of(base),
         seats: Snapshot::of(&seats),
     };
     Table::vacant(alloc, words.as_slice(), edges, &key)
-}
-
-fn free_words(alloc: Global, plan: &Plan) -> Result<Vec<u64>, AllocError>
-    ensures { IfOk result (λ v. (vec_len v ≡ edge_word plan.now (edges plan.now)) × All (λ x. x ≡ 0) v.items) }
-{
-    let modules = plan.modules();
-    let count = 1 + modules + plan.edges();
-    let mut words = Vec::new(alloc);
-    for _ in 0..count {
-        words.push(0)?;
-    }
-    Ok(words)
 }

@@ -1,5 +1,5 @@
 //! Plans: load graphs without cyclic modules, with their edges numbered.
-ghost use Rattle.std.specs.Prelude.{◌≡◌, ℕ, ◌+◌, ◌<◌, ◌≤◌, ◌^◌, ◌++◌, List, length, replicate, vec_len, IfOk, OnOk, IfErr};
+ghost use Rattle.std.specs.Prelude.{◌≡◌, ℕ, ◌+◌, ◌<◌, ◌≤◌, ◌^◌, List, length, IfOk, OnOk, IfErr};
 ghost use Rattle.bq_board.specs.Counts.{Has};
 ghost use Rattle.bq_board.specs.Cycles.{IsAcyclic};
 ghost use Rattle.bq_board.specs.Graph.{Loads, sources, edges, lists};
@@ -15,8 +15,11 @@ use std::marker::Model;
 #[derive(Drop)]
 pub struct Plan {
     graph: Graph,
+    /// Where the edges into each module begin, and at last the number of edges.
     starts: Vec<usize>,
+    /// For each edge the module that it runs into.
     targets: Vec<u32>,
+    /// For each module the edges out of it.
     outs: Vec<Vec<u32>>,
 }
 
@@ -51,9 +54,18 @@ impl Plan {
         requires { IsAcyclic graph }
         ensures { IfOk result (λ p. p ≡ graph) }
     {
-        let starts = starts(alloc, &graph)?;
-        let targets = targets(alloc, &graph)?;
-        let outs = outs(alloc, &graph)?;
+        let mut starts = Vec::new(alloc);
+        let mut targets = Vec::new(alloc);
+        let mut outs = empty_rows(alloc, graph.len())?;
+        let mut next = 0;
+        starts.push(next)?;
+        for m in 0..graph.len() {
+            let loaded = graph.row(m);
+            add_outs(&mut outs, next as u32, loaded)?;
+            next += loaded.len();
+            starts.push(next)?;
+            targets.resize(next, m as u32)?;
+        }
         Ok(Plan {
             graph,
             starts,
@@ -116,54 +128,6 @@ pub fn edges_are_loads()
 pub fn starts_are_sums()
     ensures { (p : Loads) → StartsAreSums p }
 {}
-
-/// Returns where the edges into each module begin, and at last the number of edges.
-fn starts(alloc: Global, graph: &Graph) -> Result<Vec<usize>, AllocError>
-    ensures { IfOk result (λ v. HasStarts graph.now v.items) }
-{
-    let mut starts = Vec::new(alloc);
-    let mut next = 0;
-    starts.push(next)?;
-    for m in 0..graph.len() {
-        next += graph.row(m).len();
-        starts.push(next)?;
-    }
-    Ok(starts)
-}
-
-/// Returns for each edge the module that it runs into.
-fn targets(alloc: Global, graph: &Graph) -> Result<Vec<u32>, AllocError>
-    ensures { IfOk result (λ v. HasTargets graph.now v.items) }
-{
-    let mut targets = Vec::new(alloc);
-    for m in 0..graph.len() {
-        push_times(&mut targets, m as u32, graph.row(m).len())?;
-    }
-    Ok(targets)
-}
-
-fn push_times(targets: &mut Vec<u32>, m: u32, count: usize) -> Result<(), AllocError>
-    ensures { OnOk result (targets.new.items ≡ targets.old.items ++ replicate count m) }
-{
-    for _ in 0..count {
-        targets.push(m)?;
-    }
-    Ok(())
-}
-
-/// Returns for each module the edges out of it.
-fn outs(alloc: Global, graph: &Graph) -> Result<Vec<Vec<u32>>, AllocError>
-    ensures { IfOk result (λ v. OutsOf (sources graph.now) (length graph.now) (lists v.items)) }
-{
-    let mut outs = empty_rows(alloc, graph.len())?;
-    let mut next = 0;
-    for m in 0..graph.len() {
-        let loaded = graph.row(m);
-        add_outs(&mut outs, next, loaded)?;
-        next += loaded.len() as u32;
-    }
-    Ok(outs)
-}
 
 /// Adds the edges into one more module, numbered from `first` on, each among those out of its source.
 fn add_outs(outs: &mut Vec<Vec<u32>>, first: u32, loaded: &[u32]) -> Result<(), AllocError>

@@ -49,8 +49,7 @@ impl Graph {
         ensures order { IfOk result (λ o. IsTopologicalOrder self.now o.modules.items o.pending.items) }
         ensures cyclic { IfOk result (λ o. MarksCycles self.now o.pending.items) }
     {
-        let dependents = self.dependents(alloc)?;
-        let mut order = self.begin(alloc)?;
+        let (mut order, dependents) = self.begin(alloc)?;
         let _ = self.len();
         let mut at = 0;
         while at < order.modules.len() {
@@ -71,33 +70,27 @@ impl Graph {
         Ok(order.pending.iter().all(|n| *n == 0))
     }
 
-    /// Returns for each module the modules that load it, each as often as it loads it.
-    fn dependents(&self, alloc: Global) -> Result<Vec<Vec<u32>>, AllocError>
-        ensures { IfOk result (λ v. IsDependents self.now (lists v.items)) }
-    {
-        let mut dependents = empty_rows(alloc, self.len())?;
-        for u in 0..self.len() {
-            add_dependent(&mut dependents, u as u32, self.row(u))?;
-        }
-        Ok(dependents)
-    }
-
-    /// Counts the loads of each module. Those without any are the first of the order.
-    fn begin(&self, alloc: Global) -> Result<Sorted, AllocError>
-        ensures { IfOk result (λ o. Sorting self.now 0 o.modules.items o.pending.items) }
+    /// Counts the loads of each module; those without any are the first of the order. And returns for each module the
+    /// modules that load it, each as often as it loads it.
+    fn begin(&self, alloc: Global) -> Result<(Sorted, Vec<Vec<u32>>), AllocError>
+        ensures order { IfOk result (λ r. Sorting self.now 0 r.0.modules.items r.0.pending.items) }
+        ensures dependents { IfOk result (λ r. IsDependents self.now (lists r.1.items)) }
     {
         let mut order = Sorted {
             modules: Vec::new(alloc),
             pending: Vec::new(alloc),
         };
+        let mut dependents = empty_rows(alloc, self.len())?;
         for m in 0..self.len() {
-            let count = self.row(m).len();
+            let loaded = self.row(m);
+            add_dependent(&mut dependents, m as u32, loaded)?;
+            let count = loaded.len();
             order.pending.push(count)?;
             if count == 0 {
                 order.modules.push(m as u32)?;
             }
         }
-        Ok(order)
+        Ok((order, dependents))
     }
 }
 

@@ -59,7 +59,7 @@ counts s (boolean b) xs n e l = absurd (cc)
 counts s (int i) xs n e l = absurd (cc)
 counts s (string t) xs n e l = absurd (cc)
 counts s (function home place name ds) xs n e l = absurd (cc)
-counts s (built_in name) xs n e l = absurd (cc)
+counts s (built_in b) xs n e l = absurd (cc)
 counts s (rule_function f) xs n e l = absurd (cc)
 counts s (attribute a) xs n e l = absurd (cc)
 

@@ -175,7 +175,7 @@ long_range_is_too_long s (string t) reverse h = absurd (cc)
 long_range_is_too_long s (tuple xs) reverse h = absurd (cc)
 long_range_is_too_long s (cell home number) reverse h = absurd (cc)
 long_range_is_too_long s (function home place name xs) reverse h = absurd (cc)
-long_range_is_too_long s (built_in name) reverse h = absurd (cc)
+long_range_is_too_long s (built_in b) reverse h = absurd (cc)
 long_range_is_too_long s (rule_function f) reverse h = absurd (cc)
 long_range_is_too_long s (attribute a) reverse h = absurd (cc)
 

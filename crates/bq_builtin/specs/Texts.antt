@@ -35,7 +35,7 @@ type_name s (tuple xs) = Ok (codes "tuple")
 type_name s (range start stop step) = Ok (codes "range")
 type_name s (cell home number) = content_type (content_at s home number)
 type_name s (function home place name defaults) = Ok (codes "function")
-type_name s (built_in name) = Ok (codes "builtin_function_or_method")
+type_name s (built_in b) = Ok (codes "builtin_function_or_method")
 type_name s (rule_function f) = Ok (codes "builtin_function_or_method")
 type_name s (attribute a) = Ok (codes "Attribute")
 

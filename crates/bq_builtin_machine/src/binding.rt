@@ -5,7 +5,7 @@ ghost use Rattle.std.specs.List.{position_from};
 ghost use Rattle.bq_base.specs.Gives.{Gives};
 ghost use Rattle.bq_value.specs.declared.error.EvalErr.TheVariants.{Bad};
 ghost use Rattle.bq_builtin_machine.specs.Parameters.{parameter_of, signature_of, places, is_called, HasPlaces};
-ghost use Rattle.bq_builtin_machine.specs.Binding.{placed_values, placed, has_value, fill, take_keyword, take_named, take_all_named, is_complete, bind};
+ghost use Rattle.bq_builtin_machine.specs.Binding.{placed_values, placed, has_value, take_keyword, take_named, take_all_named, is_complete, bind};
 
 use crate::args::Args;
 use crate::iteration::Elements;
@@ -154,6 +154,7 @@ impl Bound {
     }
 
     /// Gives each named argument to the parameter of its name, or else to `**`.
+    #[tactic(auto, unfolding(crate::specs::Binding::take_all_named))]
     fn take_all_named(
         &mut self,
         alloc: Global,
@@ -162,22 +163,10 @@ impl Bound {
     ) -> Result<(), EvalErr>
         ensures { Gives (λ _. self.new) Bad result (take_all_named (signature_of signature.now) named.items self.old) }
     {
-        if named.len().min(signature.parameters.len()) <= FEW {
-            return self.take_few_named(signature, named);
+        if named.len().min(signature.parameters.len()) > FEW {
+            let by_name = places_by_name(alloc, signature.parameters)?;
+            return self.take_many_named(&by_name, signature, named);
         }
-        let by_name = places_by_name(alloc, signature.parameters)?;
-        self.take_many_named(&by_name, signature, named)
-    }
-
-    /// Gives each named argument to its parameter, which is searched among all.
-    #[tactic(auto, unfolding(crate::specs::Binding::take_all_named))]
-    fn take_few_named(
-        &mut self,
-        signature: &Signature<'_>,
-        named: Vec<(Bytes, Value)>,
-    ) -> Result<(), EvalErr>
-        ensures { Gives (λ _. self.new) Bad result (take_all_named (signature_of signature.now) named.items self.old) }
-    {
         for (name, value) in named {
             let place = parameter_called(signature.parameters, name.as_slice());
             self.take_named(place, signature, name, value)?;
@@ -204,7 +193,7 @@ impl Bound {
     }
 
     /// Gives a named argument to the parameter at the place of its name, or else to `**`.
-    #[tactic(auto, unfolding(crate::specs::Binding::take_named))]
+    #[tactic(auto, unfolding(crate::specs::Binding::take_named, crate::specs::Binding::fill))]
     fn take_named(
         &mut self,
         place: Option<usize>,
@@ -216,20 +205,15 @@ impl Bound {
         ensures { Gives (λ _. self.new) Bad result (take_named (signature_of signature.now) name value self.old) }
     {
         match place {
-            Some(i) => self.fill(i, value),
+            Some(i) => {
+                if i >= self.values.len() || self.values[i].is_some() {
+                    return Err(EvalErr::Bad(FaultKind::Args));
+                }
+                self.values[i] = Some(value);
+                Ok(())
+            }
             None => self.take_keyword(signature.takes_keywords, name, value),
         }
-    }
-
-    #[tactic(auto, unfolding(crate::specs::Binding::fill))]
-    fn fill(&mut self, i: usize, value: Value) -> Result<(), EvalErr>
-        ensures { Gives (λ _. self.new) Bad result (fill i value self.old) }
-    {
-        if i >= self.values.len() || self.values[i].is_some() {
-            return Err(EvalErr::Bad(FaultKind::Args));
-        }
-        self.values[i] = Some(value);
-        Ok(())
     }
 
     #[tactic(auto, unfolding(crate::specs::Binding::take_keyword))]

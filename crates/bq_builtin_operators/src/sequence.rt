@@ -1,7 +1,7 @@
 //! Lists, tuples and strings that are joined, repeated and sliced (Starlark, "String concatenation", "String
 //! repetition", "Slice expressions"). The length of a result is known before memory is asked for (F54).
 
-ghost use Rattle.std.specs.Prelude.{◌≡◌, ◌≢◌, ◌++◌, ◌∷◌, [], OnOk, IfOk, cond, ◌==◌, pos};
+ghost use Rattle.std.specs.Prelude.{◌≡◌, ◌≢◌, ◌++◌, OnOk, IfOk, cond, ◌==◌, pos};
 ghost use Rattle.bq_base.specs.Gives.{Gives};
 ghost use Rattle.bq_value.specs.declared.error.EvalErr.TheVariants.{Bad};
 ghost use Rattle.bq_builtin_numbers.specs.Slice.{taken_by, slice_of};
@@ -12,18 +12,6 @@ use bq_base::Bytes;
 use bq_builtin_numbers::{element, joined_len, repeated_len, slice_places};
 use bq_value::{EvalErr, Range, Value};
 use std::alloc::{AllocError, Global};
-
-/// Returns `xs + ys` of strings.
-#[tactic(auto, unfolding(crate::specs::Sequence::joined))]
-pub(crate) fn join_bytes(alloc: Global, xs: &[u8], ys: &[u8]) -> Result<Bytes, EvalErr>
-    ensures { Gives (λ text. text) Bad result (joined xs.now ys.now) }
-{
-    let len = joined_len(xs.len(), ys.len())?;
-    let mut text = Vec::with_capacity(alloc, len)?;
-    text.extend_from_slice(xs)?;
-    text.extend_from_slice(ys)?;
-    Ok(Bytes::from_vec(alloc, text)?)
-}
 
 /// Returns `xs + ys` of lists or tuples.
 #[tactic(auto, unfolding(crate::specs::Sequence::joined))]
@@ -42,15 +30,9 @@ pub(crate) fn push_shares(values: &mut Vec<Value>, more: &[Value]) -> Result<(),
     ensures { OnOk result (values.new.items ≡ values.old.items ++ more.now) }
 {
     for value in more {
-        push_share(values, value)?;
+        values.push(value.share()?)?;
     }
     Ok(())
-}
-
-fn push_share(values: &mut Vec<Value>, value: &Value) -> Result<(), AllocError>
-    ensures { OnOk result (values.new.items ≡ values.old.items ++ value.now ∷ []) }
-{
-    Ok(values.push(value.share()?)?)
 }
 
 /// Returns `xs * times` of strings.
@@ -156,7 +138,7 @@ fn take_values(alloc: Global, values: &[Value], places: Range) -> Result<Vec<Val
     let mut taken = Vec::with_capacity(alloc, count as usize)?;
     for number in 0..count {
         let at = element(places, number) as usize;
-        push_share(&mut taken, &values[at])?;
+        taken.push(values[at].share()?)?;
     }
     Ok(taken)
 }

@@ -97,7 +97,7 @@ contained_takes s v none = err_takes f.WrongType
 contained_takes s v (boolean b) = err_takes f.WrongType
 contained_takes s v (int n) = err_takes f.WrongType
 contained_takes s v (function home place name ds) = err_takes f.WrongType
-contained_takes s v (built_in name) = err_takes f.WrongType
+contained_takes s v (built_in b) = err_takes f.WrongType
 contained_takes s v (rule_function g) = err_takes f.WrongType
 contained_takes s v (attribute a) = err_takes f.WrongType
 
@@ -137,7 +137,7 @@ item_takes s none at = err_takes f.WrongType
 item_takes s (boolean b) at = err_takes f.WrongType
 item_takes s (int n) at = err_takes f.WrongType
 item_takes s (function home place name ds) at = err_takes f.WrongType
-item_takes s (built_in name) at = err_takes f.WrongType
+item_takes s (built_in b) at = err_takes f.WrongType
 item_takes s (rule_function g) at = err_takes f.WrongType
 item_takes s (attribute a) at = err_takes f.WrongType
 

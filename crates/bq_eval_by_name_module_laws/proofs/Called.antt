@@ -4,7 +4,7 @@ use Rattle.std.specs.List.{AllByRecursion}
 use Rattle.bq_resolve_scope.specs.declared.code.CodeFunction.{CodeFunction}
 use Rattle.bq_resolve_scope.specs.Scope.{FileParts}
 use Rattle.bq_resolve_scope_laws.specs.Resolution.{InOrder, Maybe}
-use Rattle.bq_value.specs.Datum.{Datum, none, boolean, int, string, tuple, range, cell, function, built_in, rule_function, attribute, list_of}
+use Rattle.bq_value.specs.Datum.{Datum, none, boolean, int, string, tuple, range, cell, function, function_of, built_in, rule_function, attribute, list_of}
 use Rattle.bq_builtin_machine.specs.Args.{Passed}
 use Rattle.bq_eval_depth_laws.specs.Fits.{FunctionFits}
 use Rattle.bq_eval_meaning_spec.specs.Calls as slots
@@ -79,7 +79,7 @@ module _ {S : Type 0} (m : Primitives S) where
     apply_alike : (i j : Option (Calls S)) → Maybe CallsAgree i j → (v : Datum) (p : Passed) (s : S) → Alike Same (names.apply m named i v p s) (slots.apply m units j v p s)
     unfolding names.apply slots.apply names.call_at slots.call_at
     apply_alike i j h (function home place name ds) p s = unit_alike i j h home place (list_of ds) p (named home) (units home) (agree home) s
-    apply_alike i j h (built_in name) p s = itself (m.call_built_in name p s)
+    apply_alike i j h (built_in b) p s = itself (m.call_built_in (function_of b) p s)
     apply_alike i j h (rule_function f) p s = itself (m.call_rule_function f p s)
     apply_alike i j h (cell home number) p s = itself (m.call_cell home number p s)
     apply_alike i j h none p s = refl

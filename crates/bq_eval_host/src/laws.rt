@@ -1,10 +1,10 @@
 //! What holds of built-in functions. The functions do nothing: their contracts are the laws.
 
-ghost use Rattle.bq_eval_host.specs.Laws.{EachIsCalledByItsName};
+ghost use Rattle.bq_eval_host.specs.Laws.{EachIsWhatItIsCalled};
 
-/// A built-in function is called by the name that it prints as.
-pub fn each_is_called_by_its_name()
-    ensures { EachIsCalledByItsName }
+/// The value of a predeclared name calls what the name stands for, and prints that name.
+pub fn each_is_what_it_is_called()
+    ensures { EachIsWhatItIsCalled }
 {
     bq_resolve_predeclared::each_name_is_found();
 }

@@ -1,5 +1,4 @@
-//! What carries out the functions that the language leaves to the tool around it, and the built-in functions by their
-//! names.
+//! What carries out the functions that the language leaves to the tool around it, and the values of predeclared names.
 //!
 //! The promise: a [`Host`] carries out a call of a build function or of a rule, of the schema or of a .bzl file, as its meaning says
 //! (`specs/Host.antt`); a call that it refuses leaves what it keeps as it was. Which faults it may refuse a call for is a table
@@ -12,16 +11,14 @@
 //! In reading order:
 //!
 //! - `host`: what carries out the functions;
-//! - `found`: predeclared names that are looked up at once;
-//! - `built_ins`: the values of predeclared names, and which function a name calls;
+//! - `built_ins`: the values of predeclared names;
 //! - `laws`: what holds of built-in functions.
 #![tactic(auto)]
 
 mod built_ins;
-mod found;
 mod host;
 mod laws;
 
 pub use built_ins::BuiltIns;
 pub use host::Host;
-pub use laws::each_is_called_by_its_name;
+pub use laws::each_is_what_it_is_called;

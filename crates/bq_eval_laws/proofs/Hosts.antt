@@ -1,7 +1,7 @@
 -- What the rules ask for has numbers of steps and outcomes of its own, beside what a host keeps: a relation that respects the rules.
 use Rattle.std.proofs.Common.{◌≡◌, ◌∙◌, ℕ, Bool, true, false, List, Option, Some, None, refl, ap, subst}
 use Rattle.std.specs.Prelude.{if◌then◌else◌}
-use Rattle.bq_base.specs.declared.fault.FaultKind.TheVariants.{WrongType, BadValue, NotInPackage}
+use Rattle.bq_base.specs.declared.fault.FaultKind.TheVariants.{BadValue, NotInPackage}
 use Rattle.bq_resolve_predeclared.specs.declared.predeclared.Predeclared.{Predeclared}
 use Rattle.bq_resolve_predeclared.specs.declared.predeclared.Predeclared.TheVariants as p
 use Rattle.bq_resolve_predeclared.specs.declared.rule_function.RuleFunction.{RuleFunction}
@@ -19,13 +19,12 @@ use Rattle.bq_builtin_machine.specs.Args.{Passed}
 use Rattle.bq_builtin_machine.specs.Cells.{new_content}
 use Rattle.bq_builtin_machine.specs.Machine.{with_steps}
 use Rattle.bq_builtin_machine.specs.State.{State}
-use Rattle.bq_eval_host.specs.BuiltIns.{function_named}
 use Rattle.bq_builtin.specs.Call.{call_function}
 use Rattle.bq_eval_rule_functions.specs.Attribute.{attribute}
 use Rattle.bq_eval_host.specs.Host.{ReadDefault}
 use Rattle.bq_eval_rule_functions.specs.Call.{new_attribute, new_rule, declare, type_of, call_rule_function, class_in, call_kind, call_class, call_cell}
 use Rattle.bq_eval_rule_functions.specs.Rule.{class}
-use Rattle.bq_eval_operations.specs.Calling.{HostCalls, call_found, call_built_in}
+use Rattle.bq_eval_operations.specs.Calling.{HostCalls, call_built_in}
 use Rattle.bq_eval_operations.specs.Runtime.{primitives}
 use Rattle.bq_eval_meaning_laws.proofs.Respects.{Relation, Respects}
 use Rattle.bq_eval_laws.specs.Files.{HostTakes}
@@ -79,14 +78,10 @@ module _ {W : Type 0} (names : List Name) (host : HostCalls W) (hosts : HostTake
   lifted : (A : Type 0) (a : Action State A) → Own a → HostOwns {W = W} {A = A} (on_machine a)
   lifted A a h s = beside_owns s.1 a s.0 (h s.0)
 
-  found_owns : (o : Option Predeclared) (args : Passed) → HostOwns (call_found host o args)
-  found_owns None args = lifted Datum (action.stop WrongType) (stop_owns Datum WrongType)
-  found_owns (Some (p.Host f)) args = hosts.0 f args
-  found_owns (Some x) args = lifted Datum (call_function x args) (function_owns x args)
-
-  built_in_owns : (name : List ℕ) (args : Passed) → HostOwns (call_built_in names host name args)
+  built_in_owns : (x : Predeclared) (args : Passed) → HostOwns (call_built_in host x args)
   unfolding call_built_in
-  built_in_owns name args = found_owns (function_named names name) args
+  built_in_owns (p.Host f) args = hosts.0 f args
+  built_in_owns x args = lifted Datum (call_function x args) (function_owns x args)
 
   -- ---- what declares rules, and rules
 
@@ -151,7 +146,7 @@ module _ {W : Type 0} (names : List Name) (host : HostCalls W) (hosts : HostTake
     of_pass_named = λ q name v. lifted Passed _ (pass_named_owns q name v);
     of_pass_all = λ q v. lifted Passed _ (pass_all_owns q v);
     of_pass_all_named = λ q v. lifted Passed _ (pass_all_named_owns q v);
-    of_built_in = λ name q. built_in_owns name q;
+    of_built_in = λ x q. built_in_owns x q;
     of_rule_function = λ function q. rule_function_owns function q;
     of_cell = λ home number q. cell_owns home number q;
     of_method = λ name v q. lifted Datum _ (method_owns name v q);

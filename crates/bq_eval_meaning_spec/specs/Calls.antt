@@ -6,7 +6,7 @@ use Rattle.bq_resolve_scope.specs.declared.code.CodeFunction.{CodeFunction}
 use Rattle.bq_resolve_scope.specs.declared.code.CodeParameter.{CodeParameter}
 use Rattle.bq_resolve_scope.specs.declared.code.CodeParameter.TheVariants as parameter
 use Rattle.bq_value.specs.Contents.{pairs}
-use Rattle.bq_value.specs.Datum.{Datum, none, tuple, cell, function, built_in, rule_function, data_of, list_of}
+use Rattle.bq_value.specs.Datum.{Datum, none, tuple, cell, function, function_of, built_in, rule_function, data_of, list_of}
 use Rattle.bq_builtin_machine.specs.Action.{Action, ◌>>=◌, pure}
 use Rattle.bq_builtin_machine.specs.Args.{Passed}
 use Rattle.bq_builtin_machine.specs.Binding.{bind}
@@ -135,7 +135,7 @@ module _ {S : Type 0} (m : Primitives S) where
   -- what is no function can't be called (F40)
   abbrev pub apply_by : Units → Option (Calls S) → Datum → Passed → Action S Datum
   apply_by units inner (function home place name ds) p = call_at units inner home place (list_of ds) p
-  apply_by units inner (built_in name) p = m.call_built_in name p
+  apply_by units inner (built_in b) p = m.call_built_in (function_of b) p
   apply_by units inner (rule_function f) p = m.call_rule_function f p
   apply_by units inner (cell home number) p = m.call_cell home number p
   apply_by units inner v p = stop m f.WrongType

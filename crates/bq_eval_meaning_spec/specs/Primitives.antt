@@ -55,8 +55,8 @@ pub record Primitives (S : Type 0) : Type 0 where
   pub pass_named : Passed → List ℕ → Datum → Action S Passed
   pub pass_all : Passed → Datum → Action S Passed
   pub pass_all_named : Passed → Datum → Action S Passed
-  -- the built-in function of that name
-  pub call_built_in : List ℕ → Passed → Action S Datum
+  -- a built-in function
+  pub call_built_in : Predeclared → Passed → Action S Datum
   -- a function that declares rules
   pub call_rule_function : RuleFunction → Passed → Action S Datum
   -- what a cell holds, which is a rule, or can't be called (F40)

@@ -7,7 +7,7 @@ ghost use Rattle.bq_eval_operations.specs.Runtime.{primitives};
 use crate::making::{with_element, with_new_pair, with_pair};
 use crate::passing;
 use crate::unpacking::parts_of;
-use bq_base::{Bytes, FaultKind};
+use bq_base::Bytes;
 use bq_builtin_machine::{Args, Elements, Machine};
 use bq_eval_host::{BuiltIns, Host};
 use bq_eval_rules::Runtime;
@@ -92,7 +92,7 @@ impl<'a, H: Host, K: RuleNames> Runtime for Evaluation<'a, H, K> {
 
     #[tactic(auto, unfolding(crate::specs::Runtime::primitives))]
     fn predeclared(&self, name: Predeclared) -> Result<Value, AllocError> {
-        self.built_ins.value(self.alloc, name)
+        self.built_ins.value(name)
     }
 
     #[tactic(auto, using(crate::proofs::Lifting::lifted), unfolding(crate::specs::Runtime::primitives))]
@@ -231,15 +231,17 @@ impl<'a, H: Host, K: RuleNames> Runtime for Evaluation<'a, H, K> {
     }
 
     #[tactic(auto, unfolding(crate::specs::Runtime::primitives, crate::specs::Calling::call_built_in))]
-    fn call_built_in(&mut self, alloc: Global, name: &Bytes, args: Args) -> Result<Value, EvalErr> {
-        match self.built_ins.function(name)? {
-            None => Err(EvalErr::Bad(FaultKind::WrongType)),
-            Some(Predeclared::Host(function)) => {
+    fn call_built_in(
+        &mut self,
+        alloc: Global,
+        function: Predeclared,
+        args: Args,
+    ) -> Result<Value, EvalErr> {
+        match function {
+            Predeclared::Host(function) => {
                 self.host.call(alloc, function, args, &mut self.machine)
             }
-            Some(function) => {
-                bq_builtin::call_function(alloc, &mut self.machine, function, args)
-            }
+            function => bq_builtin::call_function(alloc, &mut self.machine, function, args),
         }
     }
 

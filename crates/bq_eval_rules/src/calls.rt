@@ -18,8 +18,9 @@ use crate::statements::run_block;
 use crate::units::{CodeUnit, unit_at};
 use bq_base::FaultKind;
 use bq_builtin_machine::{Args, Bound};
+use bq_resolve_predeclared::{HostFunction, Predeclared};
 use bq_resolve_scope::CodeFunction;
-use bq_value::{EvalErr, Node, Value};
+use bq_value::{EvalErr, Function, Node, Value};
 use std::alloc::Global;
 
 /// Returns the frame with which a function begins.
@@ -104,17 +105,21 @@ pub fn run_body<R: Runtime>(
 pub fn call_function<R: Runtime>(
     context: &Context<'_>,
     runtime: &mut R,
-    home: u32,
-    place: u32,
+    called: &Function,
     unit: &CodeUnit<'_>,
     function: &CodeFunction,
-    defaults: &[Value],
     args: Args,
 ) -> Result<Value, EvalErr>
-    ensures { Acts R.means (λ v. v) result (R.seen runtime.new) (meaning.call_function R.means (meaning.inner_calls context.now.left R.means (units_at context.now.program.now (globals_of context.now.own))) home place (unit_of unit.now) function.now defaults.now args (R.seen runtime.old)) }
+    ensures { Acts R.means (λ v. v) result (R.seen runtime.new) (meaning.call_function R.means (meaning.inner_calls context.now.left R.means (units_at context.now.program.now (globals_of context.now.own))) called.now.«module» called.now.place (unit_of unit.now) function.now called.now.defaults.items args (R.seen runtime.old)) }
 {
-    let mut frame = entry(context.alloc, runtime, function, defaults, args)?;
-    runtime.enter(home, place)?;
+    let mut frame = entry(
+        context.alloc,
+        runtime,
+        function,
+        called.defaults.as_slice(),
+        args,
+    )?;
+    runtime.enter(called.module, called.place)?;
     let value = run_body(context, runtime, unit, function, &mut frame)?;
     runtime.leave();
     Ok(value)
@@ -126,22 +131,16 @@ pub fn call_function<R: Runtime>(
 pub fn call_at<R: Runtime>(
     context: &Context<'_>,
     runtime: &mut R,
-    home: u32,
-    place: u32,
-    defaults: &[Value],
+    called: &Function,
     args: Args,
 ) -> Result<Value, EvalErr>
-    ensures { Acts R.means (λ v. v) result (R.seen runtime.new) (meaning.call_at R.means (units_at context.now.program.now (globals_of context.now.own)) (meaning.inner_calls context.now.left R.means (units_at context.now.program.now (globals_of context.now.own))) home place defaults.now args (R.seen runtime.old)) }
+    ensures { Acts R.means (λ v. v) result (R.seen runtime.new) (meaning.call_at R.means (units_at context.now.program.now (globals_of context.now.own)) (meaning.inner_calls context.now.left R.means (units_at context.now.program.now (globals_of context.now.own))) called.now.«module» called.now.place called.now.defaults.items args (R.seen runtime.old)) }
 {
-    match unit_at(context.program, context.own, home) {
+    match unit_at(context.program, context.own, called.module) {
         None => Err(EvalErr::Bad(FaultKind::WrongType)),
-        Some(unit) => match unit.functions.get(place as usize) {
+        Some(unit) => match unit.functions.get(called.place as usize) {
             None => Err(EvalErr::Bad(FaultKind::WrongType)),
-            Some(function) => {
-                call_function(
-                    context, runtime, home, place, &unit, function, defaults, args,
-                )
-            }
+            Some(function) => { call_function(context, runtime, called, &unit, function, args) }
         },
     }
 }
@@ -158,15 +157,12 @@ pub fn apply<R: Runtime>(
     ensures { Acts R.means (λ v. v) result (R.seen runtime.new) (meaning.apply R.means (units_at context.now.program.now (globals_of context.now.own)) (meaning.inner_calls context.now.left R.means (units_at context.now.program.now (globals_of context.now.own))) value.now args (R.seen runtime.old)) }
 {
     match &value.node {
-        Node::Function(function) => call_at(
-            context,
-            runtime,
-            function.module,
-            function.place,
-            function.defaults.as_slice(),
-            args,
-        ),
-        Node::BuiltIn(name) => runtime.call_built_in(context.alloc, name, args),
+        Node::Function(function) => call_at(context, runtime, function, args),
+        Node::BuiltIn(function) => runtime.call_built_in(context.alloc, *function, args),
+        Node::SchemaRule(place, _) => {
+            let rule = Predeclared::Host(HostFunction::Rule(*place));
+            runtime.call_built_in(context.alloc, rule, args)
+        }
         Node::RuleFunction(function) => runtime.call_rule_function(context.alloc, *function, args),
         Node::Cell(cell) => runtime.call_cell(context.alloc, *cell, args),
         _ => Err(EvalErr::Bad(FaultKind::WrongType)),

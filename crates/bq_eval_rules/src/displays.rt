@@ -14,25 +14,20 @@ use bq_resolve_scope::{Code, CodePair};
 use bq_value::{Content, Dict, EvalErr, Value};
 
 impl<
+    'a,
     R: Runtime,
     C: Copy,
-    F: Fn(&Context<'_>, usize, C, &Frame<'_>, &mut R, &Code) -> Result<Value, EvalErr>,
-> Evaluator<R, C, F> {
+    F: Copy + Fn(&Context<'_>, usize, C, &Frame<'_>, &mut R, &Code) -> Result<Value, EvalErr>,
+> Evaluator<'a, R, C, F> {
     /// Evaluates expressions, one after another.
     #[tactic(auto, unfolding(bq_eval_meaning_spec::specs::Expressions::values))]
-    pub fn values(
-        &self,
-        context: &Context<'_>,
-        frame: &Frame<'_>,
-        runtime: &mut R,
-        codes: &[Code],
-    ) -> Result<Vec<Value>, EvalErr>
-        requires { Nests R.means R.seen context.now.left self.now.depth self.now.call (F.pre self.now.eval) (F.post self.now.eval) }
-        ensures { Acts R.means (λ vs. vs.items) result (R.seen runtime.new) (meaning.values R.means (nested R.means self.now.depth context.now) codes.now (slots_of frame.now) [] (R.seen runtime.old)) }
+    pub fn values(&self, runtime: &mut R, codes: &[Code]) -> Result<Vec<Value>, EvalErr>
+        requires { Nests R.means R.seen self.now.context.now.left self.now.depth self.now.call (F.pre self.now.eval) (F.post self.now.eval) }
+        ensures { Acts R.means (λ vs. vs.items) result (R.seen runtime.new) (meaning.values R.means (nested R.means self.now.depth self.now.context.now) codes.now (slots_of self.now.frame.now) [] (R.seen runtime.old)) }
     {
-        let mut all = Vec::with_capacity(context.alloc, codes.len())?;
+        let mut all = Vec::with_capacity(self.context.alloc, codes.len())?;
         for code in codes {
-            all.push(self.value(context, frame, runtime, code)?)?;
+            all.push(self.value(runtime, code)?)?;
         }
         Ok(all)
     }
@@ -40,71 +35,50 @@ impl<
     /// Evaluates `[x, ..]`.
     #[inline(never)]
     #[tactic(auto, unfolding(bq_eval_meaning_spec::specs::Expressions::list_display))]
-    pub fn list_display(
-        &self,
-        context: &Context<'_>,
-        frame: &Frame<'_>,
-        runtime: &mut R,
-        codes: &[Code],
-    ) -> Result<Value, EvalErr>
-        requires { Nests R.means R.seen context.now.left self.now.depth self.now.call (F.pre self.now.eval) (F.post self.now.eval) }
-        ensures { Acts R.means (λ v. v) result (R.seen runtime.new) (meaning.list_display R.means (nested R.means self.now.depth context.now) codes.now (slots_of frame.now) (R.seen runtime.old)) }
+    pub fn list_display(&self, runtime: &mut R, codes: &[Code]) -> Result<Value, EvalErr>
+        requires { Nests R.means R.seen self.now.context.now.left self.now.depth self.now.call (F.pre self.now.eval) (F.post self.now.eval) }
+        ensures { Acts R.means (λ v. v) result (R.seen runtime.new) (meaning.list_display R.means (nested R.means self.now.depth self.now.context.now) codes.now (slots_of self.now.frame.now) (R.seen runtime.old)) }
     {
         runtime.step(1)?;
-        let values = self.values(context, frame, runtime, codes)?;
+        let values = self.values(runtime, codes)?;
         runtime.make(Content::list(values))
     }
 
     /// Evaluates `(x, ..)`.
     #[inline(never)]
     #[tactic(auto, unfolding(bq_eval_meaning_spec::specs::Expressions::tuple_display))]
-    pub fn tuple_display(
-        &self,
-        context: &Context<'_>,
-        frame: &Frame<'_>,
-        runtime: &mut R,
-        codes: &[Code],
-    ) -> Result<Value, EvalErr>
-        requires { Nests R.means R.seen context.now.left self.now.depth self.now.call (F.pre self.now.eval) (F.post self.now.eval) }
-        ensures { Acts R.means (λ v. v) result (R.seen runtime.new) (meaning.tuple_display R.means (nested R.means self.now.depth context.now) codes.now (slots_of frame.now) (R.seen runtime.old)) }
+    pub fn tuple_display(&self, runtime: &mut R, codes: &[Code]) -> Result<Value, EvalErr>
+        requires { Nests R.means R.seen self.now.context.now.left self.now.depth self.now.call (F.pre self.now.eval) (F.post self.now.eval) }
+        ensures { Acts R.means (λ v. v) result (R.seen runtime.new) (meaning.tuple_display R.means (nested R.means self.now.depth self.now.context.now) codes.now (slots_of self.now.frame.now) (R.seen runtime.old)) }
     {
         runtime.step(1)?;
-        let values = self.values(context, frame, runtime, codes)?;
-        Ok(Value::tuple(context.alloc, values)?)
+        let values = self.values(runtime, codes)?;
+        Ok(Value::tuple(self.context.alloc, values)?)
     }
 
     /// Evaluates `key: value` of a display, and adds it.
     #[tactic(auto, unfolding(bq_eval_meaning_spec::specs::Expressions::pair))]
-    fn pair(
-        &self,
-        context: &Context<'_>,
-        frame: &Frame<'_>,
-        runtime: &mut R,
-        content: &mut Content,
-        pair: &CodePair,
-    ) -> Result<(), EvalErr>
-        requires { Nests R.means R.seen context.now.left self.now.depth self.now.call (F.pre self.now.eval) (F.post self.now.eval) }
-        ensures { Acts R.means (λ _. content.new) result (R.seen runtime.new) (meaning.pair R.means (nested R.means self.now.depth context.now) pair.now (slots_of frame.now) content.old (R.seen runtime.old)) }
+    fn pair(&self, runtime: &mut R, content: &mut Content, pair: &CodePair) -> Result<(), EvalErr>
+        requires { Nests R.means R.seen self.now.context.now.left self.now.depth self.now.call (F.pre self.now.eval) (F.post self.now.eval) }
+        ensures { Acts R.means (λ _. content.new) result (R.seen runtime.new) (meaning.pair R.means (nested R.means self.now.depth self.now.context.now) pair.now (slots_of self.now.frame.now) content.old (R.seen runtime.old)) }
     {
-        let key = self.value(context, frame, runtime, &pair.key)?;
-        let value = self.value(context, frame, runtime, &pair.value)?;
+        let key = self.value(runtime, &pair.key)?;
+        let value = self.value(runtime, &pair.value)?;
         runtime.add_pair(content, &key, value)
     }
 
     #[tactic(auto, unfolding(bq_eval_meaning_spec::specs::Expressions::pairs_each))]
     fn pairs_each(
         &self,
-        context: &Context<'_>,
-        frame: &Frame<'_>,
         runtime: &mut R,
         content: &mut Content,
         pairs: &[CodePair],
     ) -> Result<(), EvalErr>
-        requires { Nests R.means R.seen context.now.left self.now.depth self.now.call (F.pre self.now.eval) (F.post self.now.eval) }
-        ensures { Acts R.means (λ _. content.new) result (R.seen runtime.new) (meaning.pairs_each R.means (nested R.means self.now.depth context.now) pairs.now (slots_of frame.now) content.old (R.seen runtime.old)) }
+        requires { Nests R.means R.seen self.now.context.now.left self.now.depth self.now.call (F.pre self.now.eval) (F.post self.now.eval) }
+        ensures { Acts R.means (λ _. content.new) result (R.seen runtime.new) (meaning.pairs_each R.means (nested R.means self.now.depth self.now.context.now) pairs.now (slots_of self.now.frame.now) content.old (R.seen runtime.old)) }
     {
         for pair in pairs {
-            self.pair(context, frame, runtime, content, pair)?;
+            self.pair(runtime, content, pair)?;
         }
         Ok(())
     }
@@ -112,19 +86,13 @@ impl<
     /// Evaluates `{key: value, ..}`.
     #[inline(never)]
     #[tactic(auto, unfolding(bq_eval_meaning_spec::specs::Expressions::dict_display))]
-    pub fn dict_display(
-        &self,
-        context: &Context<'_>,
-        frame: &Frame<'_>,
-        runtime: &mut R,
-        pairs: &[CodePair],
-    ) -> Result<Value, EvalErr>
-        requires { Nests R.means R.seen context.now.left self.now.depth self.now.call (F.pre self.now.eval) (F.post self.now.eval) }
-        ensures { Acts R.means (λ v. v) result (R.seen runtime.new) (meaning.dict_display R.means (nested R.means self.now.depth context.now) pairs.now (slots_of frame.now) (R.seen runtime.old)) }
+    pub fn dict_display(&self, runtime: &mut R, pairs: &[CodePair]) -> Result<Value, EvalErr>
+        requires { Nests R.means R.seen self.now.context.now.left self.now.depth self.now.call (F.pre self.now.eval) (F.post self.now.eval) }
+        ensures { Acts R.means (λ v. v) result (R.seen runtime.new) (meaning.dict_display R.means (nested R.means self.now.depth self.now.context.now) pairs.now (slots_of self.now.frame.now) (R.seen runtime.old)) }
     {
         runtime.step(1)?;
-        let mut content = Content::dict(Dict::new(context.alloc, runtime.seed()));
-        self.pairs_each(context, frame, runtime, &mut content, pairs)?;
+        let mut content = Content::dict(Dict::new(self.context.alloc, runtime.seed()));
+        self.pairs_each(runtime, &mut content, pairs)?;
         runtime.make(content)
     }
 }

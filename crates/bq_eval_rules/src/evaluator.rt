@@ -18,7 +18,10 @@ use bq_value::{EvalErr, Value};
 use std::marker::PhantomData;
 
 #[derive(Clone, Copy)]
-pub struct Evaluator<R, C, F> {
+pub struct Evaluator<'a, R, C, F> {
+    pub context: &'a Context<'a>,
+    /// The values of local names, which expressions only read.
+    pub frame: &'a Frame<'a>,
     /// How many layers further inside are still looked at.
     pub depth: usize,
     pub call: C,
@@ -27,23 +30,25 @@ pub struct Evaluator<R, C, F> {
 }
 
 impl<
+    'a,
     R: Runtime,
     C: Copy,
-    F: Fn(&Context<'_>, usize, C, &Frame<'_>, &mut R, &Code) -> Result<Value, EvalErr>,
-> Evaluator<R, C, F> {
+    F: Copy + Fn(&Context<'_>, usize, C, &Frame<'_>, &mut R, &Code) -> Result<Value, EvalErr>,
+> Evaluator<'a, R, C, F> {
     /// Evaluates an expression inside.
     #[inline(always)]
-    pub fn value(
-        &self,
-        context: &Context<'_>,
-        frame: &Frame<'_>,
-        runtime: &mut R,
-        code: &Code,
-    ) -> Result<Value, EvalErr>
-        requires { Nests R.means R.seen context.now.left self.now.depth self.now.call (F.pre self.now.eval) (F.post self.now.eval) }
-        ensures { Acts R.means (λ v. v) result (R.seen runtime.new) (nested R.means self.now.depth context.now code.now (slots_of frame.now) (R.seen runtime.old)) }
+    pub fn value(&self, runtime: &mut R, code: &Code) -> Result<Value, EvalErr>
+        requires { Nests R.means R.seen self.now.context.now.left self.now.depth self.now.call (F.pre self.now.eval) (F.post self.now.eval) }
+        ensures { Acts R.means (λ v. v) result (R.seen runtime.new) (nested R.means self.now.depth self.now.context.now code.now (slots_of self.now.frame.now) (R.seen runtime.old)) }
     {
-        (self.eval)(context, self.depth, self.call, frame, runtime, code)
+        (self.eval)(
+            self.context,
+            self.depth,
+            self.call,
+            self.frame,
+            runtime,
+            code,
+        )
     }
 
     /// Evaluates a literal.
@@ -67,40 +72,28 @@ impl<
     /// Evaluates an expression inside whose value is only read: its frame lends the value of a name, and an integer is
     /// made here.
     #[inline(always)]
-    pub fn operand<'f>(
-        &self,
-        context: &'f Context<'_>,
-        frame: &'f Frame<'_>,
-        runtime: &mut R,
-        code: &Code,
-    ) -> Result<Operand<'f>, EvalErr>
-        requires { Nests R.means R.seen context.now.left self.now.depth self.now.call (F.pre self.now.eval) (F.post self.now.eval) }
-        ensures { Acts R.means read_of result (R.seen runtime.new) (nested R.means self.now.depth context.now code.now (slots_of frame.now) (R.seen runtime.old)) }
+    pub fn operand(&self, runtime: &mut R, code: &Code) -> Result<Operand<'a>, EvalErr>
+        requires { Nests R.means R.seen self.now.context.now.left self.now.depth self.now.call (F.pre self.now.eval) (F.post self.now.eval) }
+        ensures { Acts R.means read_of result (R.seen runtime.new) (nested R.means self.now.depth self.now.context.now code.now (slots_of self.now.frame.now) (R.seen runtime.old)) }
     {
         if self.depth > 0 {
             if let Code::Use(binding) = code {
-                return use_of(context, frame, runtime, *binding);
+                return use_of(self.context, self.frame, runtime, *binding);
             }
             if let Code::Int(n) = code {
                 return self.int_operand(runtime, *n);
             }
         }
-        Ok(Operand::Own(self.value(context, frame, runtime, code)?))
+        Ok(Operand::Own(self.value(runtime, code)?))
     }
 
     /// Evaluates a condition.
     #[inline(always)]
-    pub fn holds(
-        &self,
-        context: &Context<'_>,
-        frame: &Frame<'_>,
-        runtime: &mut R,
-        condition: &Code,
-    ) -> Result<bool, EvalErr>
-        requires { Nests R.means R.seen context.now.left self.now.depth self.now.call (F.pre self.now.eval) (F.post self.now.eval) }
-        ensures { Acts R.means (λ b. b) result (R.seen runtime.new) (following (nested R.means self.now.depth context.now condition.now (slots_of frame.now) (R.seen runtime.old)) (λ v s. done (R.means.truth v s) s)) }
+    pub fn holds(&self, runtime: &mut R, condition: &Code) -> Result<bool, EvalErr>
+        requires { Nests R.means R.seen self.now.context.now.left self.now.depth self.now.call (F.pre self.now.eval) (F.post self.now.eval) }
+        ensures { Acts R.means (λ b. b) result (R.seen runtime.new) (following (nested R.means self.now.depth self.now.context.now condition.now (slots_of self.now.frame.now) (R.seen runtime.old)) (λ v s. done (R.means.truth v s) s)) }
     {
-        let condition = self.operand(context, frame, runtime, condition)?;
+        let condition = self.operand(runtime, condition)?;
         Ok(runtime.truth(condition.get()))
     }
 }

@@ -40,32 +40,30 @@ pub fn expr_to<
     if depth == 0 {
         return Err(EvalErr::Bad(FaultKind::Nesting));
     }
+    // PROOF: lends both again.
     Evaluator {
+        context: &*context,
+        frame: &*frame,
         depth: depth - 1,
         call,
         eval: expr_to::<R, C>,
         of: PhantomData,
     }
-    .expr(context, frame, runtime, code)
+    .expr(runtime, code)
 }
 
 impl<
+    'a,
     R: Runtime,
     C: Copy + Fn(&Context<'_>, &mut R, &Value, Args) -> Result<Value, EvalErr>,
-    F: Fn(&Context<'_>, usize, C, &Frame<'_>, &mut R, &Code) -> Result<Value, EvalErr>,
-> Evaluator<R, C, F> {
+    F: Copy + Fn(&Context<'_>, usize, C, &Frame<'_>, &mut R, &Code) -> Result<Value, EvalErr>,
+> Evaluator<'a, R, C, F> {
     /// Evaluates the use of a name.
     #[inline(always)]
-    fn use_of(
-        &self,
-        context: &Context<'_>,
-        frame: &Frame<'_>,
-        runtime: &mut R,
-        binding: Binding,
-    ) -> Result<Value, EvalErr>
-        ensures { Acts R.means (λ v. v) result (R.seen runtime.new) (meaning.use_of R.means (round_of context.now) binding (slots_of frame.now) (R.seen runtime.old)) }
+    fn use_of(&self, runtime: &mut R, binding: Binding) -> Result<Value, EvalErr>
+        ensures { Acts R.means (λ v. v) result (R.seen runtime.new) (meaning.use_of R.means (round_of self.now.context.now) binding (slots_of self.now.frame.now) (R.seen runtime.old)) }
     {
-        Ok(use_of(context, frame, runtime, binding)?.own()?)
+        Ok(use_of(self.context, self.frame, runtime, binding)?.own()?)
     }
 
     /// Returns a function of `native` or `attr`, by its name there.
@@ -87,46 +85,40 @@ impl<
 
     /// Evaluates an expression.
     #[tactic(auto, unfolding(bq_eval_meaning_spec::specs::Expressions::expr))]
-    pub fn expr(
-        &self,
-        context: &Context<'_>,
-        frame: &Frame<'_>,
-        runtime: &mut R,
-        code: &Code,
-    ) -> Result<Value, EvalErr>
-        requires nests { Nests R.means R.seen context.now.left self.now.depth self.now.call (F.pre self.now.eval) (F.post self.now.eval) }
-        requires answers { Answers R.means R.seen context.now.left (C.pre self.now.call) (C.post self.now.call) }
-        ensures { Acts R.means (λ v. v) result (R.seen runtime.new) (meaning.expr R.means (nested R.means self.now.depth context.now) (inside R.means context.now) (round_of context.now) code.now (slots_of frame.now) (R.seen runtime.old)) }
+    pub fn expr(&self, runtime: &mut R, code: &Code) -> Result<Value, EvalErr>
+        requires nests { Nests R.means R.seen self.now.context.now.left self.now.depth self.now.call (F.pre self.now.eval) (F.post self.now.eval) }
+        requires answers { Answers R.means R.seen self.now.context.now.left (C.pre self.now.call) (C.post self.now.call) }
+        ensures { Acts R.means (λ v. v) result (R.seen runtime.new) (meaning.expr R.means (nested R.means self.now.depth self.now.context.now) (inside R.means self.now.context.now) (round_of self.now.context.now) code.now (slots_of self.now.frame.now) (R.seen runtime.old)) }
     {
         match code {
-            Code::Use(binding) => self.use_of(context, frame, runtime, *binding),
+            Code::Use(binding) => self.use_of(runtime, *binding),
             Code::Member(function) => self.member(runtime, *function),
             Code::Int(n) => self.literal(runtime, Value::int(*n)),
             Code::String(text) => self.string(runtime, text),
-            Code::List(codes) => self.list_display(context, frame, runtime, codes.as_slice()),
-            Code::Tuple(codes) => self.tuple_display(context, frame, runtime, codes.as_slice()),
-            Code::Dict(pairs) => self.dict_display(context, frame, runtime, pairs.as_slice()),
+            Code::List(codes) => self.list_display(runtime, codes.as_slice()),
+            Code::Tuple(codes) => self.tuple_display(runtime, codes.as_slice()),
+            Code::Dict(pairs) => self.dict_display(runtime, pairs.as_slice()),
             Code::ListComprehension(_, clauses) => {
-                self.list_comprehension(context, frame, runtime, code, clauses.as_slice())
+                self.list_comprehension(runtime, code, clauses.as_slice())
             }
             Code::DictComprehension(_, clauses) => {
-                self.dict_comprehension(context, frame, runtime, code, clauses.as_slice())
+                self.dict_comprehension(runtime, code, clauses.as_slice())
             }
-            Code::Framed(_, code) => self.framed(context, runtime, code.get()),
+            Code::Framed(_, code) => self.framed(runtime, code.get()),
             Code::Primary(code, suffixes) => {
-                self.primary(context, frame, runtime, code.get(), suffixes.as_slice())
+                self.primary(runtime, code.get(), suffixes.as_slice())
             }
             Code::Unary(operators, code) => {
-                self.unary(context, frame, runtime, operators.as_slice(), code.get())
+                self.unary(runtime, operators.as_slice(), code.get())
             }
             Code::Binary(code, operations) => {
-                self.binary(context, frame, runtime, code.get(), operations.as_slice())
+                self.binary(runtime, code.get(), operations.as_slice())
             }
             Code::Compare(left, operator, right) => {
-                self.compare(context, frame, runtime, left.get(), *operator, right.get())
+                self.compare(runtime, left.get(), *operator, right.get())
             }
             Code::Conditional(choices, otherwise) => {
-                self.conditional(context, frame, runtime, choices.as_slice(), otherwise.get())
+                self.conditional(runtime, choices.as_slice(), otherwise.get())
             }
             Code::Lambda => Err(EvalErr::Bad(FaultKind::LeftOut)),
         }
@@ -135,11 +127,11 @@ impl<
     /// Evaluates a comprehension outside functions, in a frame of its own.
     #[inline(never)]
     #[tactic(auto, unfolding(bq_eval_meaning_spec::specs::Expressions::framed), using(crate::proofs::Slots::none_filled))]
-    fn framed(&self, context: &Context<'_>, runtime: &mut R, code: &Code) -> Result<Value, EvalErr>
-        requires { Nests R.means R.seen context.now.left self.now.depth self.now.call (F.pre self.now.eval) (F.post self.now.eval) }
-        ensures { Acts R.means (λ v. v) result (R.seen runtime.new) (meaning.framed R.means (nested R.means self.now.depth context.now) code.now (R.seen runtime.old)) }
+    fn framed(&self, runtime: &mut R, code: &Code) -> Result<Value, EvalErr>
+        requires { Nests R.means R.seen self.now.context.now.left self.now.depth self.now.call (F.pre self.now.eval) (F.post self.now.eval) }
+        ensures { Acts R.means (λ v. v) result (R.seen runtime.new) (meaning.framed R.means (nested R.means self.now.depth self.now.context.now) code.now (R.seen runtime.old)) }
     {
-        let frame = Frame::new(context.alloc);
-        self.value(context, &frame, runtime, code)
+        let frame = Frame::new(self.context.alloc);
+        (self.eval)(self.context, self.depth, self.call, &frame, runtime, code)
     }
 }

@@ -32,25 +32,25 @@ fn name_of(functions: &[CodeFunction], place: usize) -> Result<Bytes, AllocError
     }
 }
 
-impl<R: Runtime, C: Copy + Fn(&Context<'_>, &mut R, &Value, Args) -> Result<Value, EvalErr>> Reader<
-    R,
-    C,
-> {
+impl<
+    'a,
+    R: Runtime,
+    C: Copy + Fn(&Context<'_>, &mut R, &Value, Args) -> Result<Value, EvalErr>,
+> Reader<'a, R, C> {
     /// Evaluates expressions, one after another.
     #[tactic(auto, unfolding(bq_eval_meaning_spec::specs::Expressions::values))]
     fn values(
         &self,
-        context: &Context<'_>,
         frame: &Frame<'_>,
         runtime: &mut R,
         codes: &[Code],
     ) -> Result<Vec<Value>, EvalErr>
-        requires { Answers R.means R.seen context.now.left (C.pre self.now.call) (C.post self.now.call) }
-        ensures { Acts R.means (λ vs. vs.items) result (R.seen runtime.new) (expressions.values R.means (evals R.means context.now) codes.now (slots_of frame.now) [] (R.seen runtime.old)) }
+        requires { Answers R.means R.seen self.now.context.now.left (C.pre self.now.call) (C.post self.now.call) }
+        ensures { Acts R.means (λ vs. vs.items) result (R.seen runtime.new) (expressions.values R.means (evals R.means self.now.context.now) codes.now (slots_of frame.now) [] (R.seen runtime.old)) }
     {
-        let mut all = Vec::with_capacity(context.alloc, codes.len())?;
+        let mut all = Vec::with_capacity(self.context.alloc, codes.len())?;
         for code in codes {
-            all.push(self.value(context, frame, runtime, code)?)?;
+            all.push(self.value(frame, runtime, code)?)?;
         }
         Ok(all)
     }
@@ -59,47 +59,45 @@ impl<R: Runtime, C: Copy + Fn(&Context<'_>, &mut R, &Value, Args) -> Result<Valu
     #[tactic(auto, unfolding(bq_eval_meaning_spec::specs::Module::def_stmt))]
     fn def_stmt(
         &self,
-        context: &Context<'_>,
         frame: &mut Frame<'_>,
         runtime: &mut R,
         def: &CodeDef,
     ) -> Result<Flow, EvalErr>
-        requires { Answers R.means R.seen context.now.left (C.pre self.now.call) (C.post self.now.call) }
-        ensures { Acts R.means (λ f. (flow_of f, slots_of frame.new)) result (R.seen runtime.new) (meaning.def_stmt R.means (own_of context.now.program.now) (evals R.means context.now) def.now (slots_of frame.old) (R.seen runtime.old)) }
+        requires { Answers R.means R.seen self.now.context.now.left (C.pre self.now.call) (C.post self.now.call) }
+        ensures { Acts R.means (λ f. (flow_of f, slots_of frame.new)) result (R.seen runtime.new) (meaning.def_stmt R.means (own_of self.now.context.now.program.now) (evals R.means self.now.context.now) def.now (slots_of frame.old) (R.seen runtime.old)) }
     {
         runtime.step(1)?;
-        let defaults = self.values(context, frame, runtime, def.defaults.as_slice())?;
+        let defaults = self.values(frame, runtime, def.defaults.as_slice())?;
         // No file has so many functions: they wouldn't fit into memory.
         if def.function > u32::MAX as usize {
             return Err(EvalErr::Memory);
         }
         let place = def.function as u32;
-        let name = name_of(context.program.functions, def.function)?;
+        let name = name_of(self.context.program.functions, def.function)?;
         let function = Function {
-            module: context.program.number,
+            module: self.context.program.number,
             place,
             name,
             defaults,
         };
-        let value = Value::function(context.alloc, function)?;
-        self.assign(context, frame, runtime, &def.target, value)?;
+        let value = Value::function(self.context.alloc, function)?;
+        self.assign(frame, runtime, &def.target, value)?;
         Ok(Flow::Next)
     }
 
     #[tactic(auto, unfolding(bq_eval_meaning_spec::specs::Module::file_stmt))]
     fn file_stmt(
         &self,
-        context: &Context<'_>,
         frame: &mut Frame<'_>,
         runtime: &mut R,
         stmt: &FileStmt,
     ) -> Result<Flow, EvalErr>
-        requires { Answers R.means R.seen context.now.left (C.pre self.now.call) (C.post self.now.call) }
-        ensures { Acts R.means (λ f. (flow_of f, slots_of frame.new)) result (R.seen runtime.new) (meaning.file_stmt R.means (own_of context.now.program.now) (evals R.means context.now) stmt.now (slots_of frame.old) (R.seen runtime.old)) }
+        requires { Answers R.means R.seen self.now.context.now.left (C.pre self.now.call) (C.post self.now.call) }
+        ensures { Acts R.means (λ f. (flow_of f, slots_of frame.new)) result (R.seen runtime.new) (meaning.file_stmt R.means (own_of self.now.context.now.program.now) (evals R.means self.now.context.now) stmt.now (slots_of frame.old) (R.seen runtime.old)) }
     {
         match stmt {
-            FileStmt::Simple(stmts) => self.line(context, frame, runtime, stmts.as_slice()),
-            FileStmt::Def(def) => self.def_stmt(context, frame, runtime, def),
+            FileStmt::Simple(stmts) => self.line(frame, runtime, stmts.as_slice()),
+            FileStmt::Def(def) => self.def_stmt(frame, runtime, def),
         }
     }
 
@@ -107,32 +105,30 @@ impl<R: Runtime, C: Copy + Fn(&Context<'_>, &mut R, &Value, Args) -> Result<Valu
     #[tactic(auto, unfolding(bq_eval_meaning_spec::specs::Module::top_level))]
     fn top_level(
         &self,
-        context: &Context<'_>,
         frame: &mut Frame<'_>,
         runtime: &mut R,
         stmt: &CodeTopLevel,
     ) -> Result<Flow, EvalErr>
-        requires { Answers R.means R.seen context.now.left (C.pre self.now.call) (C.post self.now.call) }
-        ensures { Acts R.means (λ f. (flow_of f, slots_of frame.new)) result (R.seen runtime.new) (meaning.top_level R.means (own_of context.now.program.now) (evals R.means context.now) stmt.now (slots_of frame.old) (R.seen runtime.old)) }
+        requires { Answers R.means R.seen self.now.context.now.left (C.pre self.now.call) (C.post self.now.call) }
+        ensures { Acts R.means (λ f. (flow_of f, slots_of frame.new)) result (R.seen runtime.new) (meaning.top_level R.means (own_of self.now.context.now.program.now) (evals R.means self.now.context.now) stmt.now (slots_of frame.old) (R.seen runtime.old)) }
     {
         runtime.at_line(stmt.line);
-        self.file_stmt(context, frame, runtime, &stmt.statement)
+        self.file_stmt(frame, runtime, &stmt.statement)
     }
 
     /// Carries out the statements of a file.
     #[tactic(auto, unfolding(bq_eval_meaning_spec::specs::Module::top_levels))]
     pub fn top_levels(
         &self,
-        context: &Context<'_>,
         frame: &mut Frame<'_>,
         runtime: &mut R,
         stmts: &[CodeTopLevel],
     ) -> Result<Flow, EvalErr>
-        requires { Answers R.means R.seen context.now.left (C.pre self.now.call) (C.post self.now.call) }
-        ensures { Acts R.means (λ f. (flow_of f, slots_of frame.new)) result (R.seen runtime.new) (meaning.top_levels R.means (own_of context.now.program.now) (evals R.means context.now) stmts.now (slots_of frame.old) (R.seen runtime.old)) }
+        requires { Answers R.means R.seen self.now.context.now.left (C.pre self.now.call) (C.post self.now.call) }
+        ensures { Acts R.means (λ f. (flow_of f, slots_of frame.new)) result (R.seen runtime.new) (meaning.top_levels R.means (own_of self.now.context.now.program.now) (evals R.means self.now.context.now) stmts.now (slots_of frame.old) (R.seen runtime.old)) }
     {
         for stmt in stmts {
-            match self.top_level(context, frame, runtime, stmt)? {
+            match self.top_level(frame, runtime, stmt)? {
                 Flow::Next => {}
                 Flow::Leave => return Ok(Flow::Leave),
                 Flow::Again => return Ok(Flow::Again),
@@ -153,8 +149,9 @@ pub fn run_file<R: Runtime>(
     ensures { Acts R.means (λ f. (flow_of f, slots_of frame.new)) result (R.seen runtime.new) (meaning.top_levels R.means (own_of context.now.program.now) (evals R.means context.now) stmts.now (slots_of frame.old) (R.seen runtime.old)) }
 {
     let reader = Reader {
+        context,
         call: call::<R>,
         of: PhantomData,
     };
-    reader.top_levels(context, frame, runtime, stmts)
+    reader.top_levels(frame, runtime, stmts)
 }

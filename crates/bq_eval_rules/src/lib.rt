@@ -5,9 +5,10 @@
 //!
 //! The form. A rule takes what evaluates the expressions inside as a function value, a field of `Evaluator`, and what
 //! runs the statements inside as one of `Runner`; `specs/Nests.antt` and `specs/Runs.antt` say what these promise. So
-//! each rule is proved by itself, and only `expr_to`, `run_to` and `call` pass themselves on. Operators, lists, walks
-//! and built-in functions are a `Runtime`, of which a rule knows no more than its meaning. Expressions read a frame and
-//! change none; an operand that is only read is lent by the frame (`operand`).
+//! each rule is proved by itself, and only `expr_to`, `run_to` and `call` pass themselves on. The environment is a field
+//! too: an `Evaluator` has a context and a frame, since expressions read a frame and change none; a `Reader`, the rules
+//! of statements, has a context alone. An operand that is only read is lent by the frame (`operand`). Operators, lists,
+//! walks and built-in functions are a `Runtime`, of which a rule knows no more than its meaning.
 //!
 //! In reading order:
 //!

@@ -37,26 +37,25 @@ fn unary_each<R: Runtime>(
 }
 
 impl<
+    'a,
     R: Runtime,
     C: Copy,
-    F: Fn(&Context<'_>, usize, C, &Frame<'_>, &mut R, &Code) -> Result<Value, EvalErr>,
-> Evaluator<R, C, F> {
+    F: Copy + Fn(&Context<'_>, usize, C, &Frame<'_>, &mut R, &Code) -> Result<Value, EvalErr>,
+> Evaluator<'a, R, C, F> {
     /// Evaluates operators before an operand.
     #[inline(never)]
     #[tactic(auto, unfolding(bq_eval_meaning_spec::specs::Expressions::unary))]
     pub fn unary(
         &self,
-        context: &Context<'_>,
-        frame: &Frame<'_>,
         runtime: &mut R,
         operators: &[UnaryOperator],
         code: &Code,
     ) -> Result<Value, EvalErr>
-        requires { Nests R.means R.seen context.now.left self.now.depth self.now.call (F.pre self.now.eval) (F.post self.now.eval) }
-        ensures { Acts R.means (λ v. v) result (R.seen runtime.new) (meaning.unary R.means (nested R.means self.now.depth context.now) operators.now code.now (slots_of frame.now) (R.seen runtime.old)) }
+        requires { Nests R.means R.seen self.now.context.now.left self.now.depth self.now.call (F.pre self.now.eval) (F.post self.now.eval) }
+        ensures { Acts R.means (λ v. v) result (R.seen runtime.new) (meaning.unary R.means (nested R.means self.now.depth self.now.context.now) operators.now code.now (slots_of self.now.frame.now) (R.seen runtime.old)) }
     {
         runtime.step(operators.len() as u64)?;
-        let value = self.value(context, frame, runtime, code)?;
+        let value = self.value(runtime, code)?;
         unary_each(runtime, operators, value)
     }
 
@@ -65,19 +64,17 @@ impl<
     #[tactic(auto, unfolding(bq_eval_meaning_spec::specs::Expressions::operation))]
     fn operation(
         &self,
-        context: &Context<'_>,
-        frame: &Frame<'_>,
         runtime: &mut R,
         operation: &CodeOperation,
         left: &Value,
     ) -> Result<Value, EvalErr>
-        requires { Nests R.means R.seen context.now.left self.now.depth self.now.call (F.pre self.now.eval) (F.post self.now.eval) }
-        ensures { Acts R.means (λ v. v) result (R.seen runtime.new) (meaning.operation R.means (nested R.means self.now.depth context.now) operation.now (slots_of frame.now) left.now (R.seen runtime.old)) }
+        requires { Nests R.means R.seen self.now.context.now.left self.now.depth self.now.call (F.pre self.now.eval) (F.post self.now.eval) }
+        ensures { Acts R.means (λ v. v) result (R.seen runtime.new) (meaning.operation R.means (nested R.means self.now.depth self.now.context.now) operation.now (slots_of self.now.frame.now) left.now (R.seen runtime.old)) }
     {
         match operation.operator {
             Operator::And => {
                 if runtime.truth(left) {
-                    return self.value(context, frame, runtime, &operation.operand);
+                    return self.value(runtime, &operation.operand);
                 }
                 Ok(left.share()?)
             }
@@ -85,9 +82,9 @@ impl<
                 if runtime.truth(left) {
                     return Ok(left.share()?);
                 }
-                self.value(context, frame, runtime, &operation.operand)
+                self.value(runtime, &operation.operand)
             }
-            operator => self.apply(context, frame, runtime, operator, left, &operation.operand),
+            operator => self.apply(runtime, operator, left, &operation.operand),
         }
     }
 
@@ -95,15 +92,14 @@ impl<
     #[inline(always)]
     fn apply_local(
         &self,
-        frame: &Frame<'_>,
         runtime: &mut R,
         operator: Operator,
         left: &Value,
         slot: usize,
     ) -> Result<Value, EvalErr>
-        ensures { Acts R.means (λ v. v) result (R.seen runtime.new) (following (local_use R.means (slots_of frame.now) slot (R.seen runtime.old)) (R.means.binary operator left.now)) }
+        ensures { Acts R.means (λ v. v) result (R.seen runtime.new) (following (local_use R.means (slots_of self.now.frame.now) slot (R.seen runtime.old)) (R.means.binary operator left.now)) }
     {
-        let right = frame.local(runtime, slot)?;
+        let right = self.frame.local(runtime, slot)?;
         runtime.binary(operator, left, right)
     }
 
@@ -126,43 +122,39 @@ impl<
     #[inline(always)]
     fn apply(
         &self,
-        context: &Context<'_>,
-        frame: &Frame<'_>,
         runtime: &mut R,
         operator: Operator,
         left: &Value,
         operand: &Code,
     ) -> Result<Value, EvalErr>
-        requires { Nests R.means R.seen context.now.left self.now.depth self.now.call (F.pre self.now.eval) (F.post self.now.eval) }
-        ensures { Acts R.means (λ v. v) result (R.seen runtime.new) (following (nested R.means self.now.depth context.now operand.now (slots_of frame.now) (R.seen runtime.old)) (R.means.binary operator left.now)) }
+        requires { Nests R.means R.seen self.now.context.now.left self.now.depth self.now.call (F.pre self.now.eval) (F.post self.now.eval) }
+        ensures { Acts R.means (λ v. v) result (R.seen runtime.new) (following (nested R.means self.now.depth self.now.context.now operand.now (slots_of self.now.frame.now) (R.seen runtime.old)) (R.means.binary operator left.now)) }
     {
         if self.depth > 0 {
             if let Some(slot) = local_in(operand) {
-                return self.apply_local(frame, runtime, operator, left, slot);
+                return self.apply_local(runtime, operator, left, slot);
             }
             if let Some(n) = int_in(operand) {
                 return self.apply_int(runtime, operator, left, n);
             }
         }
-        let right = self.value(context, frame, runtime, operand)?;
+        let right = self.value(runtime, operand)?;
         runtime.binary(operator, left, &right)
     }
 
     #[tactic(auto, unfolding(bq_eval_meaning_spec::specs::Expressions::operations))]
     fn operations(
         &self,
-        context: &Context<'_>,
-        frame: &Frame<'_>,
         runtime: &mut R,
         operations: &[CodeOperation],
         first: Value,
     ) -> Result<Value, EvalErr>
-        requires { Nests R.means R.seen context.now.left self.now.depth self.now.call (F.pre self.now.eval) (F.post self.now.eval) }
-        ensures { Acts R.means (λ v. v) result (R.seen runtime.new) (meaning.operations R.means (nested R.means self.now.depth context.now) operations.now (slots_of frame.now) first (R.seen runtime.old)) }
+        requires { Nests R.means R.seen self.now.context.now.left self.now.depth self.now.call (F.pre self.now.eval) (F.post self.now.eval) }
+        ensures { Acts R.means (λ v. v) result (R.seen runtime.new) (meaning.operations R.means (nested R.means self.now.depth self.now.context.now) operations.now (slots_of self.now.frame.now) first (R.seen runtime.old)) }
     {
         let mut value = first;
         for operation in operations {
-            value = self.operation(context, frame, runtime, operation, &value)?;
+            value = self.operation(runtime, operation, &value)?;
         }
         Ok(value)
     }
@@ -172,18 +164,16 @@ impl<
     #[inline(always)]
     fn chain(
         &self,
-        context: &Context<'_>,
-        frame: &Frame<'_>,
         runtime: &mut R,
         operations: &[CodeOperation],
         first: &Value,
     ) -> Result<Value, EvalErr>
-        requires { Nests R.means R.seen context.now.left self.now.depth self.now.call (F.pre self.now.eval) (F.post self.now.eval) }
-        ensures { Acts R.means (λ v. v) result (R.seen runtime.new) (meaning.operations R.means (nested R.means self.now.depth context.now) operations.now (slots_of frame.now) first.now (R.seen runtime.old)) }
+        requires { Nests R.means R.seen self.now.context.now.left self.now.depth self.now.call (F.pre self.now.eval) (F.post self.now.eval) }
+        ensures { Acts R.means (λ v. v) result (R.seen runtime.new) (meaning.operations R.means (nested R.means self.now.depth self.now.context.now) operations.now (slots_of self.now.frame.now) first.now (R.seen runtime.old)) }
     {
         match operations {
-            [operation] => self.operation(context, frame, runtime, operation, first),
-            _ => self.long_chain(context, frame, runtime, operations, first),
+            [operation] => self.operation(runtime, operation, first),
+            _ => self.long_chain(runtime, operations, first),
         }
     }
 
@@ -192,20 +182,18 @@ impl<
     #[inline(never)]
     fn long_chain(
         &self,
-        context: &Context<'_>,
-        frame: &Frame<'_>,
         runtime: &mut R,
         operations: &[CodeOperation],
         first: &Value,
     ) -> Result<Value, EvalErr>
-        requires { Nests R.means R.seen context.now.left self.now.depth self.now.call (F.pre self.now.eval) (F.post self.now.eval) }
-        ensures { Acts R.means (λ v. v) result (R.seen runtime.new) (meaning.operations R.means (nested R.means self.now.depth context.now) operations.now (slots_of frame.now) first.now (R.seen runtime.old)) }
+        requires { Nests R.means R.seen self.now.context.now.left self.now.depth self.now.call (F.pre self.now.eval) (F.post self.now.eval) }
+        ensures { Acts R.means (λ v. v) result (R.seen runtime.new) (meaning.operations R.means (nested R.means self.now.depth self.now.context.now) operations.now (slots_of self.now.frame.now) first.now (R.seen runtime.old)) }
     {
         match operations {
             [] => Ok(first.share()?),
             [operation, rest @ ..] => {
-                let value = self.operation(context, frame, runtime, operation, first)?;
-                self.operations(context, frame, runtime, rest, value)
+                let value = self.operation(runtime, operation, first)?;
+                self.operations(runtime, rest, value)
             }
         }
     }
@@ -214,92 +202,78 @@ impl<
     #[inline(always)]
     fn chain_of_local(
         &self,
-        context: &Context<'_>,
-        frame: &Frame<'_>,
         runtime: &mut R,
         operations: &[CodeOperation],
         slot: usize,
     ) -> Result<Value, EvalErr>
-        requires { Nests R.means R.seen context.now.left self.now.depth self.now.call (F.pre self.now.eval) (F.post self.now.eval) }
-        ensures { Acts R.means (λ v. v) result (R.seen runtime.new) (following (local_use R.means (slots_of frame.now) slot (R.seen runtime.old)) (meaning.operations R.means (nested R.means self.now.depth context.now) operations.now (slots_of frame.now))) }
+        requires { Nests R.means R.seen self.now.context.now.left self.now.depth self.now.call (F.pre self.now.eval) (F.post self.now.eval) }
+        ensures { Acts R.means (λ v. v) result (R.seen runtime.new) (following (local_use R.means (slots_of self.now.frame.now) slot (R.seen runtime.old)) (meaning.operations R.means (nested R.means self.now.depth self.now.context.now) operations.now (slots_of self.now.frame.now))) }
     {
-        let first = frame.local(runtime, slot)?;
-        self.chain(context, frame, runtime, operations, first)
+        let first = self.frame.local(runtime, slot)?;
+        self.chain(runtime, operations, first)
     }
 
     /// Evaluates the first operand, which is only read, and the operations on it.
     #[inline(always)]
     fn chain_of(
         &self,
-        context: &Context<'_>,
-        frame: &Frame<'_>,
         runtime: &mut R,
         code: &Code,
         operations: &[CodeOperation],
     ) -> Result<Value, EvalErr>
-        requires { Nests R.means R.seen context.now.left self.now.depth self.now.call (F.pre self.now.eval) (F.post self.now.eval) }
-        ensures { Acts R.means (λ v. v) result (R.seen runtime.new) (following (nested R.means self.now.depth context.now code.now (slots_of frame.now) (R.seen runtime.old)) (meaning.operations R.means (nested R.means self.now.depth context.now) operations.now (slots_of frame.now))) }
+        requires { Nests R.means R.seen self.now.context.now.left self.now.depth self.now.call (F.pre self.now.eval) (F.post self.now.eval) }
+        ensures { Acts R.means (λ v. v) result (R.seen runtime.new) (following (nested R.means self.now.depth self.now.context.now code.now (slots_of self.now.frame.now) (R.seen runtime.old)) (meaning.operations R.means (nested R.means self.now.depth self.now.context.now) operations.now (slots_of self.now.frame.now))) }
     {
         if self.depth > 0 {
             if let Some(slot) = local_in(code) {
-                return self.chain_of_local(context, frame, runtime, operations, slot);
+                return self.chain_of_local(runtime, operations, slot);
             }
         }
-        let first = self.value(context, frame, runtime, code)?;
-        self.chain(context, frame, runtime, operations, &first)
+        let first = self.value(runtime, code)?;
+        self.chain(runtime, operations, &first)
     }
 
     /// Evaluates a chain of operators.
     #[tactic(auto, unfolding(bq_eval_meaning_spec::specs::Expressions::binary))]
     pub fn binary(
         &self,
-        context: &Context<'_>,
-        frame: &Frame<'_>,
         runtime: &mut R,
         code: &Code,
         operations: &[CodeOperation],
     ) -> Result<Value, EvalErr>
-        requires { Nests R.means R.seen context.now.left self.now.depth self.now.call (F.pre self.now.eval) (F.post self.now.eval) }
-        ensures { Acts R.means (λ v. v) result (R.seen runtime.new) (meaning.binary R.means (nested R.means self.now.depth context.now) code.now operations.now (slots_of frame.now) (R.seen runtime.old)) }
+        requires { Nests R.means R.seen self.now.context.now.left self.now.depth self.now.call (F.pre self.now.eval) (F.post self.now.eval) }
+        ensures { Acts R.means (λ v. v) result (R.seen runtime.new) (meaning.binary R.means (nested R.means self.now.depth self.now.context.now) code.now operations.now (slots_of self.now.frame.now) (R.seen runtime.old)) }
     {
         runtime.step(operations.len() as u64)?;
-        self.chain_of(context, frame, runtime, code, operations)
+        self.chain_of(runtime, code, operations)
     }
 
     #[tactic(auto, unfolding(bq_eval_meaning_spec::specs::Expressions::compare))]
     pub fn compare(
         &self,
-        context: &Context<'_>,
-        frame: &Frame<'_>,
         runtime: &mut R,
         left: &Code,
         operator: Comparison,
         right: &Code,
     ) -> Result<Value, EvalErr>
-        requires { Nests R.means R.seen context.now.left self.now.depth self.now.call (F.pre self.now.eval) (F.post self.now.eval) }
-        ensures { Acts R.means (λ v. v) result (R.seen runtime.new) (meaning.compare R.means (nested R.means self.now.depth context.now) left.now operator right.now (slots_of frame.now) (R.seen runtime.old)) }
+        requires { Nests R.means R.seen self.now.context.now.left self.now.depth self.now.call (F.pre self.now.eval) (F.post self.now.eval) }
+        ensures { Acts R.means (λ v. v) result (R.seen runtime.new) (meaning.compare R.means (nested R.means self.now.depth self.now.context.now) left.now operator right.now (slots_of self.now.frame.now) (R.seen runtime.old)) }
     {
         runtime.step(1)?;
-        let left = self.operand(context, frame, runtime, left)?;
-        let right = self.operand(context, frame, runtime, right)?;
+        let left = self.operand(runtime, left)?;
+        let right = self.operand(runtime, right)?;
         runtime.compare(operator, left.get(), right.get())
     }
 
     /// Returns the value of a choice, if its condition holds.
     #[tactic(auto, unfolding(bq_eval_meaning_spec::specs::Expressions::choice))]
-    fn choice(
-        &self,
-        context: &Context<'_>,
-        frame: &Frame<'_>,
-        runtime: &mut R,
-        choice: &CodeChoice,
-    ) -> Result<Option<Value>, EvalErr>
-        requires { Nests R.means R.seen context.now.left self.now.depth self.now.call (F.pre self.now.eval) (F.post self.now.eval) }
-        ensures { Acts R.means (λ o. o) result (R.seen runtime.new) (meaning.choice R.means (nested R.means self.now.depth context.now) choice.now (slots_of frame.now) (R.seen runtime.old)) }
+    fn choice(&self, runtime: &mut R, choice: &CodeChoice) -> Result<Option<Value>, EvalErr>
+        requires { Nests R.means R.seen self.now.context.now.left self.now.depth self.now.call (F.pre self.now.eval) (F.post self.now.eval) }
+        ensures { Acts R.means (λ o. o) result (R.seen runtime.new) (meaning.choice R.means (nested R.means self.now.depth self.now.context.now) choice.now (slots_of self.now.frame.now) (R.seen runtime.old)) }
     {
         runtime.step(1)?;
-        if self.holds(context, frame, runtime, &choice.condition)? {
-            let value = self.value(context, frame, runtime, &choice.value)?;
+        if self.holds(runtime, &choice.condition)? {
+            let value = self.value(runtime, &choice.value)?;
             return Ok(Some(value));
         }
         Ok(None)
@@ -310,20 +284,18 @@ impl<
     #[tactic(auto, unfolding(bq_eval_meaning_spec::specs::Expressions::conditional))]
     pub fn conditional(
         &self,
-        context: &Context<'_>,
-        frame: &Frame<'_>,
         runtime: &mut R,
         choices: &[CodeChoice],
         otherwise: &Code,
     ) -> Result<Value, EvalErr>
-        requires { Nests R.means R.seen context.now.left self.now.depth self.now.call (F.pre self.now.eval) (F.post self.now.eval) }
-        ensures { Acts R.means (λ v. v) result (R.seen runtime.new) (meaning.conditional R.means (nested R.means self.now.depth context.now) choices.now otherwise.now (slots_of frame.now) (R.seen runtime.old)) }
+        requires { Nests R.means R.seen self.now.context.now.left self.now.depth self.now.call (F.pre self.now.eval) (F.post self.now.eval) }
+        ensures { Acts R.means (λ v. v) result (R.seen runtime.new) (meaning.conditional R.means (nested R.means self.now.depth self.now.context.now) choices.now otherwise.now (slots_of self.now.frame.now) (R.seen runtime.old)) }
     {
         for choice in choices {
-            if let Some(value) = self.choice(context, frame, runtime, choice)? {
+            if let Some(value) = self.choice(runtime, choice)? {
                 return Ok(value);
             }
         }
-        self.value(context, frame, runtime, otherwise)
+        self.value(runtime, otherwise)
     }
 }

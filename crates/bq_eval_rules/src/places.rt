@@ -10,6 +10,7 @@ use std::marker::Model;
 /// Operands and indices, the next one last. Contracts see their list from the next one on.
 #[derive(Drop)]
 pub struct IndexedOperands {
+    alloc: Global,
     left: Vec<(Value, Value)>,
 }
 
@@ -32,17 +33,26 @@ impl IndexedOperands {
         ensures { result ≡ [] }
     {
         IndexedOperands {
+            alloc,
             left: Vec::new(alloc),
         }
     }
 
     /// Makes these, in order.
     #[tactic(auto, using(crate::proofs::Reversed::reversed_twice))]
-    pub fn of(mut places: Vec<(Value, Value)>) -> IndexedOperands
+    pub fn of(alloc: Global, mut places: Vec<(Value, Value)>) -> IndexedOperands
         ensures { result ≡ places.items }
     {
         places.reverse();
-        IndexedOperands { left: places }
+        IndexedOperands {
+            alloc,
+            left: places,
+        }
+    }
+
+    /// Returns the allocator, which unpacking takes.
+    pub fn alloc(&self) -> Global {
+        self.alloc
     }
 
     /// Takes the next one.

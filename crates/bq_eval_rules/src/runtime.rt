@@ -128,9 +128,14 @@ pub trait Runtime {
     ) -> Result<Value, EvalErr>
         ensures { Acts means (λ v. v) result (seen self.new) (means.call_method name.now value.now args (seen self.old)) };
 
-    /// Calls a built-in function by its name.
-    fn call_built_in(&mut self, alloc: Global, name: &Bytes, args: Args) -> Result<Value, EvalErr>
-        ensures { Acts means (λ v. v) result (seen self.new) (means.call_built_in name.now args (seen self.old)) };
+    /// Calls a built-in function.
+    fn call_built_in(
+        &mut self,
+        alloc: Global,
+        function: Predeclared,
+        args: Args,
+    ) -> Result<Value, EvalErr>
+        ensures { Acts means (λ v. v) result (seen self.new) (means.call_built_in function args (seen self.old)) };
 
     /// Calls a function that declares rules.
     fn call_rule_function(

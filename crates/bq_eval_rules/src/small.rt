@@ -34,23 +34,18 @@ fn steps_of(stmt: &CodeSmall) -> u64
     }
 }
 
-impl<R: Runtime, C: Copy + Fn(&Context<'_>, &mut R, &Value, Args) -> Result<Value, EvalErr>> Reader<
-    R,
-    C,
-> {
+impl<
+    'a,
+    R: Runtime,
+    C: Copy + Fn(&Context<'_>, &mut R, &Value, Args) -> Result<Value, EvalErr>,
+> Reader<'a, R, C> {
     /// Carries out an expression as a statement.
     #[tactic(auto, unfolding(bq_eval_meaning_spec::specs::Statements::expr_stmt))]
-    fn expr_stmt(
-        &self,
-        context: &Context<'_>,
-        frame: &Frame<'_>,
-        runtime: &mut R,
-        code: &Code,
-    ) -> Result<Flow, EvalErr>
-        requires { Answers R.means R.seen context.now.left (C.pre self.now.call) (C.post self.now.call) }
-        ensures { Acts R.means (λ f. (flow_of f, slots_of frame.now)) result (R.seen runtime.new) (meaning.expr_stmt R.means (evals R.means context.now) code.now (slots_of frame.now) (R.seen runtime.old)) }
+    fn expr_stmt(&self, frame: &Frame<'_>, runtime: &mut R, code: &Code) -> Result<Flow, EvalErr>
+        requires { Answers R.means R.seen self.now.context.now.left (C.pre self.now.call) (C.post self.now.call) }
+        ensures { Acts R.means (λ f. (flow_of f, slots_of frame.now)) result (R.seen runtime.new) (meaning.expr_stmt R.means (evals R.means self.now.context.now) code.now (slots_of frame.now) (R.seen runtime.old)) }
     {
-        let _value = self.value(context, frame, runtime, code)?;
+        let _value = self.value(frame, runtime, code)?;
         Ok(Flow::Next)
     }
 
@@ -58,17 +53,16 @@ impl<R: Runtime, C: Copy + Fn(&Context<'_>, &mut R, &Value, Args) -> Result<Valu
     #[tactic(auto, unfolding(bq_eval_meaning_spec::specs::Statements::assign_stmt))]
     fn assign_stmt(
         &self,
-        context: &Context<'_>,
         frame: &mut Frame<'_>,
         runtime: &mut R,
         target: &CodeTarget,
         code: &Code,
     ) -> Result<Flow, EvalErr>
-        requires { Answers R.means R.seen context.now.left (C.pre self.now.call) (C.post self.now.call) }
-        ensures { Acts R.means (λ f. (flow_of f, slots_of frame.new)) result (R.seen runtime.new) (meaning.assign_stmt R.means (evals R.means context.now) target.now code.now (slots_of frame.old) (R.seen runtime.old)) }
+        requires { Answers R.means R.seen self.now.context.now.left (C.pre self.now.call) (C.post self.now.call) }
+        ensures { Acts R.means (λ f. (flow_of f, slots_of frame.new)) result (R.seen runtime.new) (meaning.assign_stmt R.means (evals R.means self.now.context.now) target.now code.now (slots_of frame.old) (R.seen runtime.old)) }
     {
-        let value = self.value(context, frame, runtime, code)?;
-        self.assign(context, frame, runtime, target, value)?;
+        let value = self.value(frame, runtime, code)?;
+        self.assign(frame, runtime, target, value)?;
         Ok(Flow::Next)
     }
 
@@ -76,18 +70,17 @@ impl<R: Runtime, C: Copy + Fn(&Context<'_>, &mut R, &Value, Args) -> Result<Valu
     #[tactic(auto, unfolding(bq_eval_meaning_spec::specs::Statements::return_stmt))]
     fn return_stmt(
         &self,
-        context: &Context<'_>,
         frame: &Frame<'_>,
         runtime: &mut R,
         code: &Option<Code>,
     ) -> Result<Flow, EvalErr>
-        requires { Answers R.means R.seen context.now.left (C.pre self.now.call) (C.post self.now.call) }
-        ensures { Acts R.means (λ f. (flow_of f, slots_of frame.now)) result (R.seen runtime.new) (meaning.return_stmt R.means (evals R.means context.now) code.now (slots_of frame.now) (R.seen runtime.old)) }
+        requires { Answers R.means R.seen self.now.context.now.left (C.pre self.now.call) (C.post self.now.call) }
+        ensures { Acts R.means (λ f. (flow_of f, slots_of frame.now)) result (R.seen runtime.new) (meaning.return_stmt R.means (evals R.means self.now.context.now) code.now (slots_of frame.now) (R.seen runtime.old)) }
     {
         match code {
             None => Ok(Flow::Answer(Value::none())),
             Some(code) => {
-                let value = self.value(context, frame, runtime, code)?;
+                let value = self.value(frame, runtime, code)?;
                 Ok(Flow::Answer(value))
             }
         }
@@ -97,24 +90,21 @@ impl<R: Runtime, C: Copy + Fn(&Context<'_>, &mut R, &Value, Args) -> Result<Valu
     #[tactic(auto, unfolding(bq_eval_meaning_spec::specs::Statements::small_effect))]
     fn small_effect(
         &self,
-        context: &Context<'_>,
         frame: &mut Frame<'_>,
         runtime: &mut R,
         stmt: &CodeSmall,
     ) -> Result<Flow, EvalErr>
-        requires { Answers R.means R.seen context.now.left (C.pre self.now.call) (C.post self.now.call) }
-        ensures { Acts R.means (λ f. (flow_of f, slots_of frame.new)) result (R.seen runtime.new) (meaning.small_effect R.means (evals R.means context.now) stmt.now (slots_of frame.old) (R.seen runtime.old)) }
+        requires { Answers R.means R.seen self.now.context.now.left (C.pre self.now.call) (C.post self.now.call) }
+        ensures { Acts R.means (λ f. (flow_of f, slots_of frame.new)) result (R.seen runtime.new) (meaning.small_effect R.means (evals R.means self.now.context.now) stmt.now (slots_of frame.old) (R.seen runtime.old)) }
     {
         match stmt {
-            CodeSmall::Expr(code) => self.expr_stmt(context, frame, runtime, code),
-            CodeSmall::Assign(target, code) => {
-                self.assign_stmt(context, frame, runtime, target, code)
-            }
+            CodeSmall::Expr(code) => self.expr_stmt(frame, runtime, code),
+            CodeSmall::Assign(target, code) => self.assign_stmt(frame, runtime, target, code),
             CodeSmall::Augment(target, operator, code) => {
-                self.augment(context, frame, runtime, target, *operator, code)?;
+                self.augment(frame, runtime, target, *operator, code)?;
                 Ok(Flow::Next)
             }
-            CodeSmall::Return(code) => self.return_stmt(context, frame, runtime, code),
+            CodeSmall::Return(code) => self.return_stmt(frame, runtime, code),
             CodeSmall::Break => Ok(Flow::Leave),
             CodeSmall::Continue => Ok(Flow::Again),
             CodeSmall::Pass => Ok(Flow::Next),
@@ -126,32 +116,30 @@ impl<R: Runtime, C: Copy + Fn(&Context<'_>, &mut R, &Value, Args) -> Result<Valu
     #[tactic(auto, unfolding(bq_eval_meaning_spec::specs::Statements::small_stmt))]
     fn small_stmt(
         &self,
-        context: &Context<'_>,
         frame: &mut Frame<'_>,
         runtime: &mut R,
         stmt: &CodeSmall,
     ) -> Result<Flow, EvalErr>
-        requires { Answers R.means R.seen context.now.left (C.pre self.now.call) (C.post self.now.call) }
-        ensures { Acts R.means (λ f. (flow_of f, slots_of frame.new)) result (R.seen runtime.new) (meaning.small_stmt R.means (evals R.means context.now) stmt.now (slots_of frame.old) (R.seen runtime.old)) }
+        requires { Answers R.means R.seen self.now.context.now.left (C.pre self.now.call) (C.post self.now.call) }
+        ensures { Acts R.means (λ f. (flow_of f, slots_of frame.new)) result (R.seen runtime.new) (meaning.small_stmt R.means (evals R.means self.now.context.now) stmt.now (slots_of frame.old) (R.seen runtime.old)) }
     {
         runtime.step(steps_of(stmt))?;
-        self.small_effect(context, frame, runtime, stmt)
+        self.small_effect(frame, runtime, stmt)
     }
 
     /// Carries out the statements of one line.
     #[tactic(auto, unfolding(bq_eval_meaning_spec::specs::Statements::line))]
     pub fn line(
         &self,
-        context: &Context<'_>,
         frame: &mut Frame<'_>,
         runtime: &mut R,
         stmts: &[CodeSmall],
     ) -> Result<Flow, EvalErr>
-        requires { Answers R.means R.seen context.now.left (C.pre self.now.call) (C.post self.now.call) }
-        ensures { Acts R.means (λ f. (flow_of f, slots_of frame.new)) result (R.seen runtime.new) (meaning.line R.means (evals R.means context.now) stmts.now (slots_of frame.old) (R.seen runtime.old)) }
+        requires { Answers R.means R.seen self.now.context.now.left (C.pre self.now.call) (C.post self.now.call) }
+        ensures { Acts R.means (λ f. (flow_of f, slots_of frame.new)) result (R.seen runtime.new) (meaning.line R.means (evals R.means self.now.context.now) stmts.now (slots_of frame.old) (R.seen runtime.old)) }
     {
         for stmt in stmts {
-            match self.small_stmt(context, frame, runtime, stmt)? {
+            match self.small_stmt(frame, runtime, stmt)? {
                 Flow::Next => {}
                 Flow::Leave => return Ok(Flow::Leave),
                 Flow::Again => return Ok(Flow::Again),

@@ -23,10 +23,10 @@ use bq_value::{EvalErr, Value};
 use std::marker::PhantomData;
 
 #[derive(Clone, Copy)]
-pub struct Runner<R, C, G> {
+pub struct Runner<'a, R, C, G> {
     /// How many layers further inside are still looked at.
     pub depth: usize,
-    pub reader: Reader<R, C>,
+    pub reader: Reader<'a, R, C>,
     pub run: G,
 }
 
@@ -46,15 +46,17 @@ fn run_to<R: Runtime, C: Copy + Fn(&Context<'_>, &mut R, &Value, Args) -> Result
     if depth == 0 {
         return Err(EvalErr::Bad(FaultKind::Nesting));
     }
+    // PROOF: lends the context again.
     Runner {
         depth: depth - 1,
         reader: Reader {
+            context: &*context,
             call,
             of: PhantomData,
         },
         run: run_to::<R, C>,
     }
-    .stmt(context, frame, runtime, stmt)
+    .stmt(frame, runtime, stmt)
 }
 
 /// Runs the statements of a function.
@@ -75,48 +77,55 @@ pub fn run_block<
     Runner {
         depth: MAX_LAYERS,
         reader: Reader {
+            context,
             call,
             of: PhantomData,
         },
         run: run_to::<R, C>,
     }
-    .block(context, frame, runtime, stmts)
+    .block(frame, runtime, stmts)
 }
 
 impl<
+    'a,
     R: Runtime,
     C: Copy + Fn(&Context<'_>, &mut R, &Value, Args) -> Result<Value, EvalErr>,
     G: Fn(&Context<'_>, usize, C, &mut Frame<'_>, &mut R, &CodeStmt) -> Result<Flow, EvalErr>,
-> Runner<R, C, G> {
+> Runner<'a, R, C, G> {
     /// Runs a statement inside.
     #[inline(always)]
     fn run_inside(
         &self,
-        context: &Context<'_>,
         frame: &mut Frame<'_>,
         runtime: &mut R,
         stmt: &CodeStmt,
     ) -> Result<Flow, EvalErr>
-        requires { Runs R.means R.seen context.now.left self.now.depth self.now.reader.call (G.pre self.now.run) (G.post self.now.run) }
-        ensures { Acts R.means (λ f. (flow_of f, slots_of frame.new)) result (R.seen runtime.new) (meaning.run_to self.now.depth R.means (evals R.means context.now) stmt.now (slots_of frame.old) (R.seen runtime.old)) }
+        requires { Runs R.means R.seen self.now.reader.context.now.left self.now.depth self.now.reader.call (G.pre self.now.run) (G.post self.now.run) }
+        ensures { Acts R.means (λ f. (flow_of f, slots_of frame.new)) result (R.seen runtime.new) (meaning.run_to self.now.depth R.means (evals R.means self.now.reader.context.now) stmt.now (slots_of frame.old) (R.seen runtime.old)) }
     {
-        (self.run)(context, self.depth, self.reader.call, frame, runtime, stmt)
+        (self.run)(
+            self.reader.context,
+            self.depth,
+            self.reader.call,
+            frame,
+            runtime,
+            stmt,
+        )
     }
 
     /// Runs statements in order.
     #[tactic(auto, unfolding(bq_eval_meaning_spec::specs::Statements::block))]
     fn block(
         &self,
-        context: &Context<'_>,
         frame: &mut Frame<'_>,
         runtime: &mut R,
         stmts: &[CodeStmt],
     ) -> Result<Flow, EvalErr>
-        requires { Runs R.means R.seen context.now.left self.now.depth self.now.reader.call (G.pre self.now.run) (G.post self.now.run) }
-        ensures { Acts R.means (λ f. (flow_of f, slots_of frame.new)) result (R.seen runtime.new) (meaning.block R.means (evals R.means context.now) (meaning.run_to self.now.depth R.means (evals R.means context.now)) stmts.now (slots_of frame.old) (R.seen runtime.old)) }
+        requires { Runs R.means R.seen self.now.reader.context.now.left self.now.depth self.now.reader.call (G.pre self.now.run) (G.post self.now.run) }
+        ensures { Acts R.means (λ f. (flow_of f, slots_of frame.new)) result (R.seen runtime.new) (meaning.block R.means (evals R.means self.now.reader.context.now) (meaning.run_to self.now.depth R.means (evals R.means self.now.reader.context.now)) stmts.now (slots_of frame.old) (R.seen runtime.old)) }
     {
         for stmt in stmts {
-            match self.run_inside(context, frame, runtime, stmt)? {
+            match self.run_inside(frame, runtime, stmt)? {
                 Flow::Next => {}
                 Flow::Leave => return Ok(Flow::Leave),
                 Flow::Again => return Ok(Flow::Again),
@@ -130,59 +139,53 @@ impl<
     #[tactic(auto, unfolding(bq_eval_meaning_spec::specs::Statements::branches))]
     fn branches(
         &self,
-        context: &Context<'_>,
         frame: &mut Frame<'_>,
         runtime: &mut R,
         branches: &[CodeBranch],
         otherwise: &[CodeStmt],
     ) -> Result<Flow, EvalErr>
-        requires runs { Runs R.means R.seen context.now.left self.now.depth self.now.reader.call (G.pre self.now.run) (G.post self.now.run) }
-        requires answers { Answers R.means R.seen context.now.left (C.pre self.now.reader.call) (C.post self.now.reader.call) }
-        ensures { Acts R.means (λ f. (flow_of f, slots_of frame.new)) result (R.seen runtime.new) (meaning.branches R.means (evals R.means context.now) (meaning.run_to self.now.depth R.means (evals R.means context.now)) branches.now otherwise.now (slots_of frame.old) (R.seen runtime.old)) }
+        requires runs { Runs R.means R.seen self.now.reader.context.now.left self.now.depth self.now.reader.call (G.pre self.now.run) (G.post self.now.run) }
+        requires answers { Answers R.means R.seen self.now.reader.context.now.left (C.pre self.now.reader.call) (C.post self.now.reader.call) }
+        ensures { Acts R.means (λ f. (flow_of f, slots_of frame.new)) result (R.seen runtime.new) (meaning.branches R.means (evals R.means self.now.reader.context.now) (meaning.run_to self.now.depth R.means (evals R.means self.now.reader.context.now)) branches.now otherwise.now (slots_of frame.old) (R.seen runtime.old)) }
     {
         for branch in branches {
-            if self
-                .reader
-                .holds(context, frame, runtime, &branch.condition)?
-            {
-                return self.block(context, frame, runtime, branch.block.as_slice());
+            if self.reader.holds(frame, runtime, &branch.condition)? {
+                return self.block(frame, runtime, branch.block.as_slice());
             }
         }
-        self.block(context, frame, runtime, otherwise)
+        self.block(frame, runtime, otherwise)
     }
 
     #[tactic(auto, unfolding(bq_eval_meaning_spec::specs::Statements::turn))]
     fn turn(
         &self,
-        context: &Context<'_>,
         frame: &mut Frame<'_>,
         runtime: &mut R,
         target: &CodeTarget,
         body: &[CodeStmt],
         value: Value,
     ) -> Result<Flow, EvalErr>
-        requires { Runs R.means R.seen context.now.left self.now.depth self.now.reader.call (G.pre self.now.run) (G.post self.now.run) }
-        ensures { Acts R.means (λ f. (flow_of f, slots_of frame.new)) result (R.seen runtime.new) (meaning.turn R.means (evals R.means context.now) (meaning.run_to self.now.depth R.means (evals R.means context.now)) target.now body.now value (slots_of frame.old) (R.seen runtime.old)) }
+        requires { Runs R.means R.seen self.now.reader.context.now.left self.now.depth self.now.reader.call (G.pre self.now.run) (G.post self.now.run) }
+        ensures { Acts R.means (λ f. (flow_of f, slots_of frame.new)) result (R.seen runtime.new) (meaning.turn R.means (evals R.means self.now.reader.context.now) (meaning.run_to self.now.depth R.means (evals R.means self.now.reader.context.now)) target.now body.now value (slots_of frame.old) (R.seen runtime.old)) }
     {
-        begin_turn(context.alloc, runtime, frame, target, value)?;
-        self.block(context, frame, runtime, body)
+        begin_turn(self.reader.context.alloc, runtime, frame, target, value)?;
+        self.block(frame, runtime, body)
     }
 
     #[tactic(auto, unfolding(bq_eval_meaning_spec::specs::Statements::turns))]
     fn turns(
         &self,
-        context: &Context<'_>,
         frame: &mut Frame<'_>,
         runtime: &mut R,
         target: &CodeTarget,
         body: &[CodeStmt],
         elements: &mut Elements,
     ) -> Result<Flow, EvalErr>
-        requires { Runs R.means R.seen context.now.left self.now.depth self.now.reader.call (G.pre self.now.run) (G.post self.now.run) }
-        ensures { Acts R.means (λ f. (flow_of f, slots_of frame.new)) result (R.seen runtime.new) (meaning.turns R.means (evals R.means context.now) (meaning.run_to self.now.depth R.means (evals R.means context.now)) target.now body.now elements.old (slots_of frame.old) (R.seen runtime.old)) }
+        requires { Runs R.means R.seen self.now.reader.context.now.left self.now.depth self.now.reader.call (G.pre self.now.run) (G.post self.now.run) }
+        ensures { Acts R.means (λ f. (flow_of f, slots_of frame.new)) result (R.seen runtime.new) (meaning.turns R.means (evals R.means self.now.reader.context.now) (meaning.run_to self.now.depth R.means (evals R.means self.now.reader.context.now)) target.now body.now elements.old (slots_of frame.old) (R.seen runtime.old)) }
     {
         while let Some(value) = elements.next() {
-            match self.turn(context, frame, runtime, target, body, value)? {
+            match self.turn(frame, runtime, target, body, value)? {
                 Flow::Next => {}
                 Flow::Again => {}
                 Flow::Leave => return Ok(Flow::Next),
@@ -195,18 +198,17 @@ impl<
     /// Goes over the elements of an iterable.
     fn walk(
         &self,
-        context: &Context<'_>,
         frame: &mut Frame<'_>,
         runtime: &mut R,
         target: &CodeTarget,
         iterable: &Value,
         body: &[CodeStmt],
     ) -> Result<Flow, EvalErr>
-        requires { Runs R.means R.seen context.now.left self.now.depth self.now.reader.call (G.pre self.now.run) (G.post self.now.run) }
-        ensures { Acts R.means (λ f. (flow_of f, slots_of frame.new)) result (R.seen runtime.new) (following (R.means.begin_walk iterable.now (R.seen runtime.old)) (λ xs s. following (meaning.turns R.means (evals R.means context.now) (meaning.run_to self.now.depth R.means (evals R.means context.now)) target.now body.now xs (slots_of frame.old) s) (λ r t. done r (R.means.end_walk iterable.now t)))) }
+        requires { Runs R.means R.seen self.now.reader.context.now.left self.now.depth self.now.reader.call (G.pre self.now.run) (G.post self.now.run) }
+        ensures { Acts R.means (λ f. (flow_of f, slots_of frame.new)) result (R.seen runtime.new) (following (R.means.begin_walk iterable.now (R.seen runtime.old)) (λ xs s. following (meaning.turns R.means (evals R.means self.now.reader.context.now) (meaning.run_to self.now.depth R.means (evals R.means self.now.reader.context.now)) target.now body.now xs (slots_of frame.old) s) (λ r t. done r (R.means.end_walk iterable.now t)))) }
     {
-        let mut elements = runtime.begin_walk(context.alloc, iterable)?;
-        let flow = self.turns(context, frame, runtime, target, body, &mut elements)?;
+        let mut elements = runtime.begin_walk(self.reader.context.alloc, iterable)?;
+        let flow = self.turns(frame, runtime, target, body, &mut elements)?;
         runtime.end_walk(iterable);
         Ok(flow)
     }
@@ -216,51 +218,36 @@ impl<
     #[tactic(auto, unfolding(bq_eval_meaning_spec::specs::Statements::for_loop))]
     fn for_loop(
         &self,
-        context: &Context<'_>,
         frame: &mut Frame<'_>,
         runtime: &mut R,
         target: &CodeTarget,
         iterable: &Code,
         body: &[CodeStmt],
     ) -> Result<Flow, EvalErr>
-        requires runs { Runs R.means R.seen context.now.left self.now.depth self.now.reader.call (G.pre self.now.run) (G.post self.now.run) }
-        requires answers { Answers R.means R.seen context.now.left (C.pre self.now.reader.call) (C.post self.now.reader.call) }
-        ensures { Acts R.means (λ f. (flow_of f, slots_of frame.new)) result (R.seen runtime.new) (meaning.for_loop R.means (evals R.means context.now) (meaning.run_to self.now.depth R.means (evals R.means context.now)) target.now iterable.now body.now (slots_of frame.old) (R.seen runtime.old)) }
+        requires runs { Runs R.means R.seen self.now.reader.context.now.left self.now.depth self.now.reader.call (G.pre self.now.run) (G.post self.now.run) }
+        requires answers { Answers R.means R.seen self.now.reader.context.now.left (C.pre self.now.reader.call) (C.post self.now.reader.call) }
+        ensures { Acts R.means (λ f. (flow_of f, slots_of frame.new)) result (R.seen runtime.new) (meaning.for_loop R.means (evals R.means self.now.reader.context.now) (meaning.run_to self.now.depth R.means (evals R.means self.now.reader.context.now)) target.now iterable.now body.now (slots_of frame.old) (R.seen runtime.old)) }
     {
-        let iterable = self.reader.value(context, frame, runtime, iterable)?;
-        self.walk(context, frame, runtime, target, &iterable, body)
+        let iterable = self.reader.value(frame, runtime, iterable)?;
+        self.walk(frame, runtime, target, &iterable, body)
     }
 
     /// Carries out a statement.
     #[tactic(auto, unfolding(bq_eval_meaning_spec::specs::Statements::stmt))]
-    fn stmt(
-        &self,
-        context: &Context<'_>,
-        frame: &mut Frame<'_>,
-        runtime: &mut R,
-        stmt: &CodeStmt,
-    ) -> Result<Flow, EvalErr>
-        requires runs { Runs R.means R.seen context.now.left self.now.depth self.now.reader.call (G.pre self.now.run) (G.post self.now.run) }
-        requires answers { Answers R.means R.seen context.now.left (C.pre self.now.reader.call) (C.post self.now.reader.call) }
-        ensures { Acts R.means (λ f. (flow_of f, slots_of frame.new)) result (R.seen runtime.new) (meaning.stmt R.means (evals R.means context.now) (meaning.run_to self.now.depth R.means (evals R.means context.now)) stmt.now (slots_of frame.old) (R.seen runtime.old)) }
+    fn stmt(&self, frame: &mut Frame<'_>, runtime: &mut R, stmt: &CodeStmt) -> Result<Flow, EvalErr>
+        requires runs { Runs R.means R.seen self.now.reader.context.now.left self.now.depth self.now.reader.call (G.pre self.now.run) (G.post self.now.run) }
+        requires answers { Answers R.means R.seen self.now.reader.context.now.left (C.pre self.now.reader.call) (C.post self.now.reader.call) }
+        ensures { Acts R.means (λ f. (flow_of f, slots_of frame.new)) result (R.seen runtime.new) (meaning.stmt R.means (evals R.means self.now.reader.context.now) (meaning.run_to self.now.depth R.means (evals R.means self.now.reader.context.now)) stmt.now (slots_of frame.old) (R.seen runtime.old)) }
     {
         match stmt {
-            CodeStmt::Simple(stmts) => {
-                self.reader.line(context, frame, runtime, stmts.as_slice())
-            }
+            CodeStmt::Simple(stmts) => self.reader.line(frame, runtime, stmts.as_slice()),
             CodeStmt::If(branches, otherwise) => {
                 runtime.step(1)?;
-                self.branches(
-                    context,
-                    frame,
-                    runtime,
-                    branches.as_slice(),
-                    otherwise.as_slice(),
-                )
+                self.branches(frame, runtime, branches.as_slice(), otherwise.as_slice())
             }
             CodeStmt::For(target, iterable, body) => {
                 runtime.step(1)?;
-                self.for_loop(context, frame, runtime, target, iterable, body.as_slice())
+                self.for_loop(frame, runtime, target, iterable, body.as_slice())
             }
         }
     }

@@ -18,42 +18,30 @@ use bq_value::{EvalErr, Value};
 use sqlite_items::Boxed;
 
 impl<
+    'a,
     R: Runtime,
     C: Copy,
-    F: Fn(&Context<'_>, usize, C, &Frame<'_>, &mut R, &Code) -> Result<Value, EvalErr>,
-> Evaluator<R, C, F> {
+    F: Copy + Fn(&Context<'_>, usize, C, &Frame<'_>, &mut R, &Code) -> Result<Value, EvalErr>,
+> Evaluator<'a, R, C, F> {
     /// Applies `value[index]`.
     #[tactic(auto, unfolding(bq_eval_meaning_spec::specs::Expressions::index))]
-    pub fn index(
-        &self,
-        context: &Context<'_>,
-        frame: &Frame<'_>,
-        runtime: &mut R,
-        index: &Code,
-        value: &Value,
-    ) -> Result<Value, EvalErr>
-        requires { Nests R.means R.seen context.now.left self.now.depth self.now.call (F.pre self.now.eval) (F.post self.now.eval) }
-        ensures { Acts R.means (λ v. v) result (R.seen runtime.new) (meaning.index R.means (nested R.means self.now.depth context.now) index.now (slots_of frame.now) value.now (R.seen runtime.old)) }
+    pub fn index(&self, runtime: &mut R, index: &Code, value: &Value) -> Result<Value, EvalErr>
+        requires { Nests R.means R.seen self.now.context.now.left self.now.depth self.now.call (F.pre self.now.eval) (F.post self.now.eval) }
+        ensures { Acts R.means (λ v. v) result (R.seen runtime.new) (meaning.index R.means (nested R.means self.now.depth self.now.context.now) index.now (slots_of self.now.frame.now) value.now (R.seen runtime.old)) }
     {
-        let index = self.operand(context, frame, runtime, index)?;
+        let index = self.operand(runtime, index)?;
         runtime.index(value, index.get())
     }
 
     /// Evaluates a part of a slice.
     #[tactic(auto, unfolding(bq_eval_meaning_spec::specs::Expressions::part))]
-    fn part(
-        &self,
-        context: &Context<'_>,
-        frame: &Frame<'_>,
-        runtime: &mut R,
-        part: &Option<Boxed<Code>>,
-    ) -> Result<Value, EvalErr>
-        requires { Nests R.means R.seen context.now.left self.now.depth self.now.call (F.pre self.now.eval) (F.post self.now.eval) }
-        ensures { Acts R.means (λ v. v) result (R.seen runtime.new) (meaning.part R.means (nested R.means self.now.depth context.now) part.now (slots_of frame.now) (R.seen runtime.old)) }
+    fn part(&self, runtime: &mut R, part: &Option<Boxed<Code>>) -> Result<Value, EvalErr>
+        requires { Nests R.means R.seen self.now.context.now.left self.now.depth self.now.call (F.pre self.now.eval) (F.post self.now.eval) }
+        ensures { Acts R.means (λ v. v) result (R.seen runtime.new) (meaning.part R.means (nested R.means self.now.depth self.now.context.now) part.now (slots_of self.now.frame.now) (R.seen runtime.old)) }
     {
         match part {
             None => Ok(Value::none()),
-            Some(code) => self.value(context, frame, runtime, code.get()),
+            Some(code) => self.value(runtime, code.get()),
         }
     }
 
@@ -62,20 +50,18 @@ impl<
     #[tactic(auto, unfolding(bq_eval_meaning_spec::specs::Expressions::slice))]
     pub fn slice(
         &self,
-        context: &Context<'_>,
-        frame: &Frame<'_>,
         runtime: &mut R,
         start: &Option<Boxed<Code>>,
         stop: &Option<Boxed<Code>>,
         step: &Option<Boxed<Code>>,
         value: &Value,
     ) -> Result<Value, EvalErr>
-        requires { Nests R.means R.seen context.now.left self.now.depth self.now.call (F.pre self.now.eval) (F.post self.now.eval) }
-        ensures { Acts R.means (λ v. v) result (R.seen runtime.new) (meaning.slice R.means (nested R.means self.now.depth context.now) start.now stop.now step.now (slots_of frame.now) value.now (R.seen runtime.old)) }
+        requires { Nests R.means R.seen self.now.context.now.left self.now.depth self.now.call (F.pre self.now.eval) (F.post self.now.eval) }
+        ensures { Acts R.means (λ v. v) result (R.seen runtime.new) (meaning.slice R.means (nested R.means self.now.depth self.now.context.now) start.now stop.now step.now (slots_of self.now.frame.now) value.now (R.seen runtime.old)) }
     {
-        let start = self.part(context, frame, runtime, start)?;
-        let stop = self.part(context, frame, runtime, stop)?;
-        let step = self.part(context, frame, runtime, step)?;
+        let start = self.part(runtime, start)?;
+        let stop = self.part(runtime, stop)?;
+        let step = self.part(runtime, step)?;
         runtime.slice(value, &start, &stop, &step)
     }
 
@@ -83,30 +69,28 @@ impl<
     #[tactic(auto, unfolding(bq_eval_meaning_spec::specs::Expressions::argument))]
     fn argument(
         &self,
-        context: &Context<'_>,
-        frame: &Frame<'_>,
         runtime: &mut R,
         args: &mut Args,
         argument: &CodeArgument,
     ) -> Result<(), EvalErr>
-        requires { Nests R.means R.seen context.now.left self.now.depth self.now.call (F.pre self.now.eval) (F.post self.now.eval) }
-        ensures { Acts R.means (λ _. args.new) result (R.seen runtime.new) (meaning.argument R.means (nested R.means self.now.depth context.now) argument.now (slots_of frame.now) args.old (R.seen runtime.old)) }
+        requires { Nests R.means R.seen self.now.context.now.left self.now.depth self.now.call (F.pre self.now.eval) (F.post self.now.eval) }
+        ensures { Acts R.means (λ _. args.new) result (R.seen runtime.new) (meaning.argument R.means (nested R.means self.now.depth self.now.context.now) argument.now (slots_of self.now.frame.now) args.old (R.seen runtime.old)) }
     {
         match argument {
             CodeArgument::Positional(code) => {
-                let value = self.value(context, frame, runtime, code)?;
+                let value = self.value(runtime, code)?;
                 runtime.pass(args, value)
             }
             CodeArgument::Named(name, code) => {
-                let value = self.value(context, frame, runtime, code)?;
+                let value = self.value(runtime, code)?;
                 runtime.pass_named(args, name, value)
             }
             CodeArgument::Star(code) => {
-                let value = self.value(context, frame, runtime, code)?;
+                let value = self.value(runtime, code)?;
                 runtime.pass_all(args, &value)
             }
             CodeArgument::StarStar(code) => {
-                let value = self.value(context, frame, runtime, code)?;
+                let value = self.value(runtime, code)?;
                 runtime.pass_all_named(args, &value)
             }
         }
@@ -116,17 +100,15 @@ impl<
     #[tactic(auto, unfolding(bq_eval_meaning_spec::specs::Expressions::arguments))]
     fn arguments(
         &self,
-        context: &Context<'_>,
-        frame: &Frame<'_>,
         runtime: &mut R,
         args: &mut Args,
         arguments: &[CodeArgument],
     ) -> Result<(), EvalErr>
-        requires { Nests R.means R.seen context.now.left self.now.depth self.now.call (F.pre self.now.eval) (F.post self.now.eval) }
-        ensures { Acts R.means (λ _. args.new) result (R.seen runtime.new) (meaning.arguments R.means (nested R.means self.now.depth context.now) arguments.now (slots_of frame.now) args.old (R.seen runtime.old)) }
+        requires { Nests R.means R.seen self.now.context.now.left self.now.depth self.now.call (F.pre self.now.eval) (F.post self.now.eval) }
+        ensures { Acts R.means (λ _. args.new) result (R.seen runtime.new) (meaning.arguments R.means (nested R.means self.now.depth self.now.context.now) arguments.now (slots_of self.now.frame.now) args.old (R.seen runtime.old)) }
     {
         for argument in arguments {
-            self.argument(context, frame, runtime, args, argument)?;
+            self.argument(runtime, args, argument)?;
         }
         Ok(())
     }
@@ -136,72 +118,60 @@ impl<
     #[tactic(auto, unfolding(bq_eval_meaning_spec::specs::Expressions::method))]
     fn method(
         &self,
-        context: &Context<'_>,
-        frame: &Frame<'_>,
         runtime: &mut R,
         name: &Bytes,
         arguments: &[CodeArgument],
         value: &Value,
     ) -> Result<Value, EvalErr>
-        requires { Nests R.means R.seen context.now.left self.now.depth self.now.call (F.pre self.now.eval) (F.post self.now.eval) }
-        ensures { Acts R.means (λ v. v) result (R.seen runtime.new) (meaning.method R.means (nested R.means self.now.depth context.now) name.now arguments.now (slots_of frame.now) value.now (R.seen runtime.old)) }
+        requires { Nests R.means R.seen self.now.context.now.left self.now.depth self.now.call (F.pre self.now.eval) (F.post self.now.eval) }
+        ensures { Acts R.means (λ v. v) result (R.seen runtime.new) (meaning.method R.means (nested R.means self.now.depth self.now.context.now) name.now arguments.now (slots_of self.now.frame.now) value.now (R.seen runtime.old)) }
     {
-        let mut args = Args::new(context.alloc);
-        self.arguments(context, frame, runtime, &mut args, arguments)?;
-        runtime.call_method(context.alloc, name, value, args)
+        let mut args = Args::new(self.context.alloc);
+        self.arguments(runtime, &mut args, arguments)?;
+        runtime.call_method(self.context.alloc, name, value, args)
     }
 }
 
 impl<
+    'a,
     R: Runtime,
     C: Copy + Fn(&Context<'_>, &mut R, &Value, Args) -> Result<Value, EvalErr>,
-    F: Fn(&Context<'_>, usize, C, &Frame<'_>, &mut R, &Code) -> Result<Value, EvalErr>,
-> Evaluator<R, C, F> {
+    F: Copy + Fn(&Context<'_>, usize, C, &Frame<'_>, &mut R, &Code) -> Result<Value, EvalErr>,
+> Evaluator<'a, R, C, F> {
     /// Applies `value(..)`.
     #[inline(never)]
     #[tactic(auto, unfolding(bq_eval_meaning_spec::specs::Expressions::call_of))]
     fn call_of(
         &self,
-        context: &Context<'_>,
-        frame: &Frame<'_>,
         runtime: &mut R,
         arguments: &[CodeArgument],
         value: &Value,
     ) -> Result<Value, EvalErr>
-        requires nests { Nests R.means R.seen context.now.left self.now.depth self.now.call (F.pre self.now.eval) (F.post self.now.eval) }
-        requires answers { Answers R.means R.seen context.now.left (C.pre self.now.call) (C.post self.now.call) }
-        ensures { Acts R.means (λ v. v) result (R.seen runtime.new) (meaning.call_of R.means (nested R.means self.now.depth context.now) (inside R.means context.now) arguments.now (slots_of frame.now) value.now (R.seen runtime.old)) }
+        requires nests { Nests R.means R.seen self.now.context.now.left self.now.depth self.now.call (F.pre self.now.eval) (F.post self.now.eval) }
+        requires answers { Answers R.means R.seen self.now.context.now.left (C.pre self.now.call) (C.post self.now.call) }
+        ensures { Acts R.means (λ v. v) result (R.seen runtime.new) (meaning.call_of R.means (nested R.means self.now.depth self.now.context.now) (inside R.means self.now.context.now) arguments.now (slots_of self.now.frame.now) value.now (R.seen runtime.old)) }
     {
-        let mut args = Args::new(context.alloc);
-        self.arguments(context, frame, runtime, &mut args, arguments)?;
-        (self.call)(context, runtime, value, args)
+        let mut args = Args::new(self.context.alloc);
+        self.arguments(runtime, &mut args, arguments)?;
+        (self.call)(self.context, runtime, value, args)
     }
 
     /// Applies a suffix to a value.
     #[tactic(auto, unfolding(bq_eval_meaning_spec::specs::Expressions::suffix))]
-    fn suffix(
-        &self,
-        context: &Context<'_>,
-        frame: &Frame<'_>,
-        runtime: &mut R,
-        suffix: &CodeSuffix,
-        value: &Value,
-    ) -> Result<Value, EvalErr>
-        requires nests { Nests R.means R.seen context.now.left self.now.depth self.now.call (F.pre self.now.eval) (F.post self.now.eval) }
-        requires answers { Answers R.means R.seen context.now.left (C.pre self.now.call) (C.post self.now.call) }
-        ensures { Acts R.means (λ v. v) result (R.seen runtime.new) (meaning.suffix R.means (nested R.means self.now.depth context.now) (inside R.means context.now) suffix.now (slots_of frame.now) value.now (R.seen runtime.old)) }
+    fn suffix(&self, runtime: &mut R, suffix: &CodeSuffix, value: &Value) -> Result<Value, EvalErr>
+        requires nests { Nests R.means R.seen self.now.context.now.left self.now.depth self.now.call (F.pre self.now.eval) (F.post self.now.eval) }
+        requires answers { Answers R.means R.seen self.now.context.now.left (C.pre self.now.call) (C.post self.now.call) }
+        ensures { Acts R.means (λ v. v) result (R.seen runtime.new) (meaning.suffix R.means (nested R.means self.now.depth self.now.context.now) (inside R.means self.now.context.now) suffix.now (slots_of self.now.frame.now) value.now (R.seen runtime.old)) }
     {
         match suffix {
-            CodeSuffix::Call(arguments) => {
-                self.call_of(context, frame, runtime, arguments.as_slice(), value)
-            }
+            CodeSuffix::Call(arguments) => self.call_of(runtime, arguments.as_slice(), value),
             CodeSuffix::Method(name, arguments) => {
-                self.method(context, frame, runtime, name, arguments.as_slice(), value)
+                self.method(runtime, name, arguments.as_slice(), value)
             }
             CodeSuffix::Attribute(_) => Err(EvalErr::Bad(FaultKind::LeftOut)),
-            CodeSuffix::Index(index) => self.index(context, frame, runtime, index.get(), value),
+            CodeSuffix::Index(index) => self.index(runtime, index.get(), value),
             CodeSuffix::Slice(start, stop, step) => {
-                self.slice(context, frame, runtime, start, stop, step, value)
+                self.slice(runtime, start, stop, step, value)
             }
         }
     }
@@ -209,19 +179,17 @@ impl<
     #[tactic(auto, unfolding(bq_eval_meaning_spec::specs::Expressions::suffixes))]
     fn suffixes(
         &self,
-        context: &Context<'_>,
-        frame: &Frame<'_>,
         runtime: &mut R,
         suffixes: &[CodeSuffix],
         first: Value,
     ) -> Result<Value, EvalErr>
-        requires nests { Nests R.means R.seen context.now.left self.now.depth self.now.call (F.pre self.now.eval) (F.post self.now.eval) }
-        requires answers { Answers R.means R.seen context.now.left (C.pre self.now.call) (C.post self.now.call) }
-        ensures { Acts R.means (λ v. v) result (R.seen runtime.new) (meaning.suffixes R.means (nested R.means self.now.depth context.now) (inside R.means context.now) suffixes.now (slots_of frame.now) first (R.seen runtime.old)) }
+        requires nests { Nests R.means R.seen self.now.context.now.left self.now.depth self.now.call (F.pre self.now.eval) (F.post self.now.eval) }
+        requires answers { Answers R.means R.seen self.now.context.now.left (C.pre self.now.call) (C.post self.now.call) }
+        ensures { Acts R.means (λ v. v) result (R.seen runtime.new) (meaning.suffixes R.means (nested R.means self.now.depth self.now.context.now) (inside R.means self.now.context.now) suffixes.now (slots_of self.now.frame.now) first (R.seen runtime.old)) }
     {
         let mut value = first;
         for suffix in suffixes {
-            value = self.suffix(context, frame, runtime, suffix, &value)?;
+            value = self.suffix(runtime, suffix, &value)?;
         }
         Ok(value)
     }
@@ -231,21 +199,19 @@ impl<
     #[tactic(auto, unfolding(bq_eval_meaning_spec::specs::Expressions::suffixes))]
     fn long_suffixed(
         &self,
-        context: &Context<'_>,
-        frame: &Frame<'_>,
         runtime: &mut R,
         suffixes: &[CodeSuffix],
         operand: &Value,
     ) -> Result<Value, EvalErr>
-        requires nests { Nests R.means R.seen context.now.left self.now.depth self.now.call (F.pre self.now.eval) (F.post self.now.eval) }
-        requires answers { Answers R.means R.seen context.now.left (C.pre self.now.call) (C.post self.now.call) }
-        ensures { Acts R.means (λ v. v) result (R.seen runtime.new) (meaning.suffixes R.means (nested R.means self.now.depth context.now) (inside R.means context.now) suffixes.now (slots_of frame.now) operand.now (R.seen runtime.old)) }
+        requires nests { Nests R.means R.seen self.now.context.now.left self.now.depth self.now.call (F.pre self.now.eval) (F.post self.now.eval) }
+        requires answers { Answers R.means R.seen self.now.context.now.left (C.pre self.now.call) (C.post self.now.call) }
+        ensures { Acts R.means (λ v. v) result (R.seen runtime.new) (meaning.suffixes R.means (nested R.means self.now.depth self.now.context.now) (inside R.means self.now.context.now) suffixes.now (slots_of self.now.frame.now) operand.now (R.seen runtime.old)) }
     {
         match suffixes {
             [] => Ok(operand.share()?),
             [suffix, rest @ ..] => {
-                let value = self.suffix(context, frame, runtime, suffix, operand)?;
-                self.suffixes(context, frame, runtime, rest, value)
+                let value = self.suffix(runtime, suffix, operand)?;
+                self.suffixes(runtime, rest, value)
             }
         }
     }
@@ -255,19 +221,17 @@ impl<
     #[tactic(auto, unfolding(bq_eval_meaning_spec::specs::Expressions::suffixes))]
     fn suffixed(
         &self,
-        context: &Context<'_>,
-        frame: &Frame<'_>,
         runtime: &mut R,
         suffixes: &[CodeSuffix],
         operand: &Value,
     ) -> Result<Value, EvalErr>
-        requires nests { Nests R.means R.seen context.now.left self.now.depth self.now.call (F.pre self.now.eval) (F.post self.now.eval) }
-        requires answers { Answers R.means R.seen context.now.left (C.pre self.now.call) (C.post self.now.call) }
-        ensures { Acts R.means (λ v. v) result (R.seen runtime.new) (meaning.suffixes R.means (nested R.means self.now.depth context.now) (inside R.means context.now) suffixes.now (slots_of frame.now) operand.now (R.seen runtime.old)) }
+        requires nests { Nests R.means R.seen self.now.context.now.left self.now.depth self.now.call (F.pre self.now.eval) (F.post self.now.eval) }
+        requires answers { Answers R.means R.seen self.now.context.now.left (C.pre self.now.call) (C.post self.now.call) }
+        ensures { Acts R.means (λ v. v) result (R.seen runtime.new) (meaning.suffixes R.means (nested R.means self.now.depth self.now.context.now) (inside R.means self.now.context.now) suffixes.now (slots_of self.now.frame.now) operand.now (R.seen runtime.old)) }
     {
         match suffixes {
-            [suffix] => self.suffix(context, frame, runtime, suffix, operand),
-            _ => self.long_suffixed(context, frame, runtime, suffixes, operand),
+            [suffix] => self.suffix(runtime, suffix, operand),
+            _ => self.long_suffixed(runtime, suffixes, operand),
         }
     }
 
@@ -275,18 +239,16 @@ impl<
     #[tactic(auto, unfolding(bq_eval_meaning_spec::specs::Expressions::primary))]
     pub fn primary(
         &self,
-        context: &Context<'_>,
-        frame: &Frame<'_>,
         runtime: &mut R,
         code: &Code,
         suffixes: &[CodeSuffix],
     ) -> Result<Value, EvalErr>
-        requires nests { Nests R.means R.seen context.now.left self.now.depth self.now.call (F.pre self.now.eval) (F.post self.now.eval) }
-        requires answers { Answers R.means R.seen context.now.left (C.pre self.now.call) (C.post self.now.call) }
-        ensures { Acts R.means (λ v. v) result (R.seen runtime.new) (meaning.primary R.means (nested R.means self.now.depth context.now) (inside R.means context.now) code.now suffixes.now (slots_of frame.now) (R.seen runtime.old)) }
+        requires nests { Nests R.means R.seen self.now.context.now.left self.now.depth self.now.call (F.pre self.now.eval) (F.post self.now.eval) }
+        requires answers { Answers R.means R.seen self.now.context.now.left (C.pre self.now.call) (C.post self.now.call) }
+        ensures { Acts R.means (λ v. v) result (R.seen runtime.new) (meaning.primary R.means (nested R.means self.now.depth self.now.context.now) (inside R.means self.now.context.now) code.now suffixes.now (slots_of self.now.frame.now) (R.seen runtime.old)) }
     {
         runtime.step(suffixes.len() as u64)?;
-        let operand = self.operand(context, frame, runtime, code)?;
-        self.suffixed(context, frame, runtime, suffixes, operand.get())
+        let operand = self.operand(runtime, code)?;
+        self.suffixed(runtime, suffixes, operand.get())
     }
 }

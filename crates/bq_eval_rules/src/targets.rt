@@ -38,7 +38,6 @@ fn bind_place<R: Runtime>(
 #[cycle(targets)]
 #[tactic(auto, unfolding(bq_eval_meaning_spec::specs::Targets::bind_each))]
 fn bind_each<R: Runtime>(
-    alloc: Global,
     runtime: &mut R,
     frame: &mut Frame<'_>,
     places: &mut IndexedOperands,
@@ -51,7 +50,7 @@ fn bind_each<R: Runtime>(
     for target in targets {
         match elements.next() {
             None => return Ok(()),
-            Some(value) => bind_to(alloc, runtime, frame, places, depth, target, value)?,
+            Some(value) => bind_to(runtime, frame, places, depth, target, value)?,
         }
     }
     Ok(())
@@ -62,7 +61,6 @@ fn bind_each<R: Runtime>(
 #[inline(never)]
 #[tactic(auto, unfolding(bq_eval_meaning_spec::specs::Targets::unpack))]
 fn unpack<R: Runtime>(
-    alloc: Global,
     runtime: &mut R,
     frame: &mut Frame<'_>,
     places: &mut IndexedOperands,
@@ -72,14 +70,13 @@ fn unpack<R: Runtime>(
 ) -> Result<(), EvalErr>
     ensures { Acts R.means (λ _. (slots_of frame.new, places.new)) result (R.seen runtime.new) (meaning.unpack R.means (meaning.bind_to R.means depth) targets.now value (slots_of frame.old) places.old (R.seen runtime.old)) }
 {
-    let mut elements = runtime.parts(alloc, targets.len(), &value)?;
-    bind_each(alloc, runtime, frame, places, depth, targets, &mut elements)
+    let mut elements = runtime.parts(places.alloc(), targets.len(), &value)?;
+    bind_each(runtime, frame, places, depth, targets, &mut elements)
 }
 
 #[cycle(targets)]
 #[tactic(auto, unfolding(bq_eval_meaning_spec::specs::Targets::bind_target))]
 fn bind_target<R: Runtime>(
-    alloc: Global,
     runtime: &mut R,
     frame: &mut Frame<'_>,
     places: &mut IndexedOperands,
@@ -94,26 +91,10 @@ fn bind_target<R: Runtime>(
         CodeTarget::Global(slot) => Ok(frame.fill(*slot, value)?),
         CodeTarget::Index(_, _) => bind_place(runtime, frame, places, value),
         CodeTarget::Tuple(targets) => {
-            unpack(
-                alloc,
-                runtime,
-                frame,
-                places,
-                depth,
-                targets.as_slice(),
-                value,
-            )
+            unpack(runtime, frame, places, depth, targets.as_slice(), value)
         }
         CodeTarget::List(targets) => {
-            unpack(
-                alloc,
-                runtime,
-                frame,
-                places,
-                depth,
-                targets.as_slice(),
-                value,
-            )
+            unpack(runtime, frame, places, depth, targets.as_slice(), value)
         }
     }
 }
@@ -122,7 +103,6 @@ fn bind_target<R: Runtime>(
 #[cycle(targets)]
 #[tactic(auto, unfolding(bq_eval_meaning_spec::specs::Targets::bind_to))]
 pub fn bind_to<R: Runtime>(
-    alloc: Global,
     runtime: &mut R,
     frame: &mut Frame<'_>,
     places: &mut IndexedOperands,
@@ -135,7 +115,7 @@ pub fn bind_to<R: Runtime>(
     if depth == 0 {
         return Err(EvalErr::Bad(FaultKind::Nesting));
     }
-    bind_target(alloc, runtime, frame, places, depth - 1, target, value)
+    bind_target(runtime, frame, places, depth - 1, target, value)
 }
 
 /// Binds the variables of a `for`, most often one name.
@@ -170,15 +150,7 @@ fn bind_parts<R: Runtime>(
     ensures { Acts R.means (λ _. slots_of frame.new) result (R.seen runtime.new) (meaning.bind_variables R.means target.now value (slots_of frame.old) (R.seen runtime.old)) }
 {
     let mut places = IndexedOperands::new(alloc);
-    bind_to(
-        alloc,
-        runtime,
-        frame,
-        &mut places,
-        MAX_LAYERS,
-        target,
-        value,
-    )
+    bind_to(runtime, frame, &mut places, MAX_LAYERS, target, value)
 }
 
 /// Begins a turn of a `for`: takes its step, and binds the variables to the next element.

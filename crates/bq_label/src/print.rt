@@ -6,18 +6,14 @@ ghost use Rattle.bq_label.specs.Label.{full_form};
 use crate::label::Label;
 use std::alloc::{AllocError, Global};
 
-/// Returns the number of bytes of the full form, as far as a `usize` counts.
-fn printed_len(label: &Label) -> usize {
-    let names = label.repo().len().saturating_add(label.package().len());
-    names.saturating_add(label.name().len()).saturating_add(4)
-}
-
 /// Returns the full form: `//package:name`, or `@repository//package:name` outside the main repository.
 #[tactic(auto, unfolding(crate::specs::Label::full_form))]
 pub fn print_label(alloc: Global, label: &Label) -> Result<Vec<u8>, AllocError>
     ensures { IfOk result (λ text. text.items ≡ full_form label.now) }
 {
-    let mut text = Vec::with_capacity(alloc, printed_len(label))?;
+    let names = label.repo().len().saturating_add(label.package().len());
+    let len = names.saturating_add(label.name().len()).saturating_add(4);
+    let mut text = Vec::with_capacity(alloc, len)?;
     if !label.repo().is_empty() {
         text.push(b'@')?;
         text.extend_from_slice(label.repo().as_slice())?;

@@ -2,7 +2,7 @@
 
 ghost use Rattle.std.specs.Prelude.{◌≡◌, Some, None, MatchOption, IfOk};
 ghost use Rattle.std.specs.Option.{option_copied};
-ghost use Rattle.bq_label.specs.Packages.{split_repository, label_path, is_in_repository, label_file};
+ghost use Rattle.bq_label.specs.Packages.{split_repository, label_path, label_file};
 
 use crate::label::Label;
 use crate::path::is_repository;
@@ -60,17 +60,6 @@ pub fn label_path(alloc: Global, label: &Label) -> Result<Vec<u8>, AllocError>
     Ok(path)
 }
 
-/// Returns whether the path lies in the repository.
-#[tactic(auto, unfolding(crate::specs::Packages::is_in_repository))]
-fn is_in_repository(path: &[u8], repo: &[u8]) -> bool
-    ensures { result ≡ is_in_repository repo.now path.now }
-{
-    match split_repository(path) {
-        Some(found) => found.repo == repo,
-        None => false,
-    }
-}
-
 /// Returns the file that a label names: the one at its path, if that is a path of the label's repository. So no label
 /// of the main repository names a file below `external`.
 pub fn label_file<'a>(
@@ -81,7 +70,10 @@ pub fn label_file<'a>(
     ensures { IfOk result (λ file. option_copied file ≡ label_file workspace.now label.now) }
 {
     let path = label_path(alloc, label)?;
-    if !is_in_repository(&path, label.repo().as_slice()) {
+    let Some(found) = split_repository(&path) else {
+        return Ok(None);
+    };
+    if found.repo != label.repo().as_slice() {
         return Ok(None);
     }
     Ok(workspace.file(&path))

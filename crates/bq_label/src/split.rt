@@ -1,23 +1,15 @@
 //! Cutting a text at a byte.
 
-ghost use Rattle.std.specs.Prelude.{◌≡◌, ◌≢◌, ◌<◌, ℕ, Some, None, MatchOption, IfSome, IfNone, length, slice_index};
+ghost use Rattle.std.specs.Prelude.{◌≡◌, Some, None, MatchOption};
 ghost use Rattle.bq_label.specs.Label.{last_segment};
 ghost use Rattle.bq_label.specs.Reading.{split_once};
 ghost use Rattle.bq_label.specs.Packages.{directory_of};
-
-/// Returns the place of the first such byte.
-fn first_place(text: &[u8], byte: u8) -> Option<usize>
-    ensures found { IfSome result (λ at. (at < length text.now) × (slice_index text.now at ≡ byte) × ((k : ℕ) → k < at → slice_index text.now k ≢ byte)) }
-    ensures none { IfNone result ((k : ℕ) → k < length text.now → slice_index text.now k ≢ byte) }
-{
-    text.iter().position(|b| *b == byte)
-}
 
 /// Returns the text before the first such byte, and the text after it.
 pub(crate) fn split_once(text: &[u8], byte: u8) -> Option<(&[u8], &[u8])>
     ensures { MatchOption result (split_once byte text.now ≡ None) (λ p. split_once byte text.now ≡ Some (p.0.now, p.1.now)) }
 {
-    match first_place(text, byte) {
+    match text.iter().position(|b| *b == byte) {
         Some(at) => Some((&text[..at], &text[at + 1..])),
         None => None,
     }

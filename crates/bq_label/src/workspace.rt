@@ -129,7 +129,7 @@ fn are_ascending(files: &[File]) -> bool
     ensures distinct { result ≡ are_distinct (paths_of files.now) }
 {
     for at in 1..files.len() {
-        if files[at - 1].path >= files[at].path {
+        if files[at - 1].path.cmp(&files[at].path).is_ge() {
             return false;
         }
     }

@@ -50,22 +50,8 @@ fn files_beneath<'a>(workspace: &'a Workspace, above: &[u8]) -> &'a [File]
     &rest[..len]
 }
 
-/// Returns whether the package owns the path.
-#[tactic(auto, unfolding(crate::specs::Names::is_owned))]
-fn is_owned(packages: &Packages, id: &PackageId, path: &[u8]) -> bool
-    ensures { result ≡ is_owned packages.now id.now path.now }
-{
-    match packages.owner_of(path) {
-        Some(owner) => {
-            owner.id.repo().as_slice() == id.repo().as_slice()
-                && owner.id.package().as_slice() == id.package().as_slice()
-        }
-        None => false,
-    }
-}
-
 /// Returns the name of a path in the package that owns it.
-#[tactic(auto, unfolding(crate::specs::Names::name_in))]
+#[tactic(auto, unfolding(crate::specs::Names::name_in, crate::specs::Names::is_owned))]
 fn name_in<'a>(
     packages: &Packages,
     id: &PackageId,
@@ -75,7 +61,13 @@ fn name_in<'a>(
     requires { above.now ≡ directory id.now }
     ensures { MatchOption result (name_in packages.now id.now path.now ≡ None) (λ name. name_in packages.now id.now path.now ≡ Some name.now) }
 {
-    if !path.starts_with(above) || !is_owned(packages, id, path) {
+    if !path.starts_with(above) {
+        return None;
+    }
+    let owner = &packages.owner_of(path)?.id;
+    if owner.repo().as_slice() != id.repo().as_slice()
+        || owner.package().as_slice() != id.package().as_slice()
+    {
         return None;
     }
     Some(&path[above.len()..])

@@ -55,18 +55,13 @@ fn is_any_segments(segment: &[u8]) -> bool
     segment == b"**".as_slice()
 }
 
-#[tactic(auto, unfolding(crate::specs::Pattern::is_pattern_segment))]
-fn is_pattern_segment(segment: &[u8]) -> bool
-    ensures { result ≡ is_pattern_segment segment.now }
-{
-    is_segment(segment) && (is_any_segments(segment) || !has_two_stars(segment))
-}
-
-#[tactic(auto, unfolding(crate::specs::Pattern::is_pattern))]
+#[tactic(auto, unfolding(crate::specs::Pattern::is_pattern, crate::specs::Pattern::is_pattern_segment))]
 fn is_pattern(text: &[u8]) -> bool
     ensures { result ≡ is_pattern text.now }
 {
-    text.split(|byte| *byte == b'/').all(is_pattern_segment)
+    text.split(|byte| *byte == b'/').all(|segment| {
+        is_segment(segment) && (segment == b"**".as_slice() || !has_two_stars(segment))
+    })
 }
 
 /// Reads a text as a pattern. A text that isn't one is fault F77, at line 0: it or a segment of it is empty, a segment

@@ -1,2 +1,4 @@
 pub mod Added
 pub mod Numbers
+pub mod Put
+pub mod Numbered

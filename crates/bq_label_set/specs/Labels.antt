@@ -43,13 +43,6 @@ same_label-Decides a b = (
 pub same_label-equiv : IsEquivalence same_label
 same_label-equiv = decided same_label same_label-Decides
 
--- what is hashed of a label
-abbrev pub hashed : LabelParts → List (List ℕ)
-hashed l = l.name ∷ l.package ∷ l.repo ∷ []
-
-pub hashed_alike : (a b : LabelParts) → IsTrue (same_label a b) → hashed a ≡ hashed b
-hashed_alike a b h = ap hashed ((same_label-Decides a b).0 h)
-
 -- one of them is this label
 abbrev pub has_label : List LabelParts → LabelParts → Bool
 has_label ls l = list_any (same_label l) ls

@@ -21,10 +21,10 @@ abbrev parts : List Source → List (Option Resolved) → List File → List Bui
 parts sources code files packages rules names limit = record { sources = sources; code = code; files = files; packages = packages; rules = rules; names = names; limit = limit }
 
 module _ (files : List File) (rules : Rules) (limit : ℕ) where
-  pub decided : (g : GraphParts) (sources : List Source) (code : List (Option Resolved)) (packages : List BuildFile) (names : List Name)
-      → sources ≡ map source_of g.modules → code ≡ map code_of g.modules → packages ≡ packages_of files → names ≡ with_each with_name [] rules.names
+  pub decided : (g : GraphParts) → IsLoadGraph (inputs_of files rules) g → (sources : List Source) (code : List (Option Resolved)) (packages : List BuildFile) (names : List Name)
+      → sources ≡ map source_of g.modules → code ≡ map code_of g.modules → packages ≡ g.packages → names ≡ with_each with_name [] rules.names
       → parts sources code files packages rules names limit ≡ loading_in files rules limit g
-  decided g sources code packages names a b c d = λ i. parts (a i) (b i) files (c i) rules (d i) limit
+  decided g is sources code packages names a b c d = let known : packages ≡ packages_of files = c ∙ is.packages in λ i. parts (a i) (b i) files (known i) rules (d i) limit
 
   pub as_wide : (g : GraphParts) → IsNumbered g → (sources : List Source) (p : Loads) → sources ≡ map source_of g.modules → p ≡ g.edges → length p ≡ length sources
   as_wide g n sources p a e = ap length e ∙ (n.long ∙ (sym (ap length n.named) ∙ (length-map g.modules (λ (m : Module). m.label) ∙ (sym (length-map g.modules source_of) ∙ sym (ap length a)))))

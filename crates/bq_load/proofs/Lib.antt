@@ -2,14 +2,20 @@
 pub mod Ascending
 -- a map of the places of names, and what is found by it
 mod ByName
+-- which modules have code
+pub mod Coding
 -- what may cross threads
 mod Crossing
 -- what an evaluation ends in, where its run is known
 pub mod Endings
 -- what is found for elements, one after another
 pub mod Found
+-- what a file gets of the modules that it loads, one load after another
+mod Imported
 -- what the load graph of a workspace decides
 pub mod Joined
+-- the line of the first load of a file, one load after another
+mod Lined
 -- modules with their outcomes, one after another
 pub mod Listed
 -- what a module evaluates to, by its source, its code and what it gets

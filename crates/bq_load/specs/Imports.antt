@@ -8,6 +8,7 @@ use Rattle.bq_base.specs.declared.fault.Fault.{Fault}
 use Rattle.bq_base.specs.declared.fault.FaultKind.{FaultKind}
 use Rattle.bq_base.specs.declared.fault.FaultKind.TheVariants as f
 use Rattle.bq_label.specs.Label.{LabelParts}
+use Rattle.bq_label_set.specs.Labels.{with_labels}
 use Rattle.bq_resolve_scope.specs.Names.{Name}
 use Rattle.bq_resolve_scope.specs.declared.code.LoadStmt.{LoadStmt}
 use Rattle.bq_resolve_scope.specs.declared.code.LoadedSymbol.{LoadedSymbol}
@@ -27,7 +28,7 @@ pub record LoadedParts : Type 0 where
   pub code : List (Option Resolved)
 
 abbrev pub loaded_of : LoadedFiles → LoadedParts
-loaded_of x = record { files = x.files.now; modules = module_views x.modules.now; code = x.code.now }
+loaded_of x = record { files = with_labels [] x.named.now; modules = module_views x.modules.now; code = x.code.now }
 
 -- the module of a file that a load names
 unfoldable pub module_named : LoadedParts → LabelParts → Option ModuleView

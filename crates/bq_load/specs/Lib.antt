@@ -1,4 +1,5 @@
 pub mod Views
+pub mod Coded
 pub mod Sources
 pub mod Places
 pub mod Imports

@@ -21,7 +21,6 @@ use crate::source::Source;
 use bq_base::{Bytes, SourceErr};
 use bq_eval::{EvaluatedFile, FileOutcome, ResolvedModule, eval_module};
 use bq_label::Label;
-use bq_label_set::LabelSet;
 use bq_load_front::kind_of;
 use bq_package::BuildHost;
 use bq_package_target::PackageState;
@@ -111,6 +110,14 @@ fn module_by(
     }
 }
 
+/// A module that has code.
+#[derive(Drop)]
+pub(crate) struct FileModule<'a> {
+    pub number: u32,
+    pub source: &'a Source,
+    pub file: &'a Resolved,
+}
+
 impl<'a> Loading<'a> {
     /// Returns the host of a file's evaluation, in the package of the file. For a BUILD file its package has no targets
     /// yet.
@@ -153,43 +160,38 @@ impl<'a> Loading<'a> {
     pub(crate) fn evaluated(
         &self,
         alloc: Global,
-        m: u32,
-        source: &Source,
-        file: &Resolved,
+        module: &FileModule<'_>,
         modules: &[Arc<LoadedModule, Global>],
         imports: &[Value],
     ) -> Result<Result<LoadedModule, FailedModule>, AllocError>
-        ensures { IfOk result (λ r. told module_view failed_view r ≡ module_after file.now imports.now (evaluation (loading_of self.now) m source.now.label file.now (module_views modules.now) imports.now)) }
+        ensures { IfOk result (λ r. told module_view failed_view r ≡ module_after «module».now.file.now imports.now (evaluation (loading_of self.now) «module».now.number «module».now.source.now.label «module».now.file.now (module_views modules.now) imports.now)) }
     {
         let loaded = frozen_of(alloc, modules)?;
-        let module = ResolvedModule {
-            number: m,
-            file,
+        let resolved = ResolvedModule {
+            number: module.number,
+            file: module.file,
             loaded: loaded.as_slice(),
             imports,
             code: self.code.as_slice(),
         };
         // PROOF: the file is run as this module
-        Ok(self.run(alloc, &source.label, &module)?)
+        Ok(self.run(alloc, &module.source.label, &resolved)?)
     }
 
     /// Returns what a file gets of the modules that it loads.
     pub(crate) fn imports(
         &self,
         alloc: Global,
-        source: &Source,
-        file: &Resolved,
+        module: &FileModule<'_>,
         modules: &[Arc<LoadedModule, Global>],
     ) -> Result<Vec<Value>, SourceErr>
-        ensures { Gives items Bad result (imports (loaded_parts (loading_of self.now) source.now (module_views modules.now)) [] file.now.loads source.now.loads) }
+        ensures { Gives items Bad result (imports (loaded_parts (loading_of self.now) «module».now.source.now (module_views modules.now)) [] «module».now.file.now.loads «module».now.source.now.loads) }
     {
-        let mut files = LabelSet::new(alloc);
-        files.add_all(source.loads.as_slice())?;
         let loaded = LoadedFiles {
-            files: &files,
+            named: &module.source.loads,
             modules,
             code: self.code.as_slice(),
         };
-        loaded.imports(alloc, file.loads.as_slice(), source.loads.as_slice())
+        loaded.imports(alloc, module.file.loads.as_slice())
     }
 }

@@ -4,11 +4,12 @@ ghost use Rattle.std.specs.Prelude.{◌≡◌, map, IfOk};
 ghost use Rattle.bq_load_order.specs.Shown.{told};
 ghost use Rattle.bq_load.specs.Views.{ModuleView, FailedView, module_view, failed_view, module_views, not_evaluated};
 ghost use Rattle.bq_load.specs.Sources.{loading_of};
-ghost use Rattle.bq_load.specs.Evaluation.{or_no_file, file_means, by_code, means};
+ghost use Rattle.bq_load.specs.Evaluation.{file_means, by_code, means};
 
+use crate::evaluation::FileModule;
 use crate::loading::Loading;
 use crate::outcome::{FailedModule, LoadedModule};
-use crate::source::{Source, share_fault};
+use crate::source::share_fault;
 use bq_base::{Fault, FaultKind, SourceErr};
 use bq_load_order::{Evaluate, Watch};
 use std::alloc::{AllocError, Global};
@@ -41,14 +42,19 @@ impl<'a> Evaluate for Loading<'a> {
         let Some(source) = self.sources.get(m as usize) else {
             return Ok(not_evaluated(alloc, Fault::at(FaultKind::NoSuchFile, 0)));
         };
-        let Some(file) = self.code_of(m) else {
-            return Ok(not_evaluated(alloc, own_fault(source)?));
+        if let Some(fault) = &source.fault {
+            return Ok(not_evaluated(alloc, share_fault(fault)?));
+        }
+        let module = FileModule {
+            number: m,
+            source,
+            file: self.file_of(m, source),
         };
-        match self.imports(alloc, source, file, imports) {
+        match self.imports(alloc, &module, imports) {
             Ok(values) => {
                 watch.begins(m);
                 // PROOF: these are the values
-                Ok(self.evaluated(alloc, m, source, file, imports, &values)?)
+                Ok(self.evaluated(alloc, &module, imports, &values)?)
             }
             Err(SourceErr::Bad(fault)) => Ok(not_evaluated(alloc, fault)),
             Err(SourceErr::Memory) => Err(AllocError),
@@ -61,14 +67,4 @@ fn not_evaluated(alloc: Global, fault: Fault) -> Result<LoadedModule, FailedModu
     ensures { told module_view failed_view result ≡ Err (not_evaluated fault) }
 {
     Err(FailedModule::not_evaluated(alloc, fault))
-}
-
-/// Returns the fault of a module that has no code.
-fn own_fault(source: &Source) -> Result<Fault, AllocError>
-    ensures { IfOk result (λ f. f ≡ or_no_file source.now.fault) }
-{
-    match &source.fault {
-        None => Ok(Fault::at(FaultKind::NoSuchFile, 0)),
-        Some(fault) => share_fault(fault),
-    }
 }

@@ -7,14 +7,13 @@ ghost use Rattle.bq_base.specs.declared.fault.SourceErr.TheVariants.{Bad};
 ghost use Rattle.bq_load_front.specs.Code.{items};
 ghost use Rattle.bq_load.specs.Views.{module_view, module_views};
 ghost use Rattle.bq_load.specs.Places.{HasPlaces, AllPlaced};
-ghost use Rattle.bq_load.specs.Imports.{loaded_of, module_named, names_in, names_of, clause_values, imports};
+ghost use Rattle.bq_load.specs.Imports.{loaded_of, names_in, names_of, clause_values, imports};
 
 use crate::exports::{Exports, globals_of};
 use crate::outcome::LoadedModule;
 use crate::places::{NamePlaces, places_at, places_by_name};
 use bq_base::SourceErr;
-use bq_label::Label;
-use bq_label_set::LabelSet;
+use bq_load_front::NamedFiles;
 use bq_resolve_scope::{LoadStmt, Resolved};
 use bq_value::Value;
 use std::alloc::{AllocError, Global};
@@ -24,35 +23,29 @@ use std::sync::Arc;
 /// hundred searches.
 const FEW: usize = 100;
 
-/// The files that the loads of a file name, each once, with a module for each, and the code of all modules.
+/// The files that the loads of a file name, with a module for each, and the code of all modules.
 #[derive(Clone, Copy)]
 pub struct LoadedFiles<'a> {
-    pub files: &'a LabelSet,
+    pub named: &'a NamedFiles,
     pub modules: &'a [Arc<LoadedModule, Global>],
     pub code: &'a [Option<Resolved>],
 }
 
 impl<'a> LoadedFiles<'a> {
-    /// Counts how many clauses of these loads, which name these files, look into each of the modules. That decides how
-    /// they look, and not what they find.
+    /// Counts how many clauses of these loads look into each of the modules. That decides how they look, and not what
+    /// they find.
     fn clauses_by_module(
         &self,
         alloc: Global,
         loads: &[LoadStmt],
-        labels: &[Label],
     ) -> Result<Vec<usize>, AllocError> {
         let mut clauses = vec![in alloc; 0; self.modules.len()]?;
-        let mut left = labels;
-        for load in loads {
-            let Some((label, rest)) = left.split_first() else {
+        for (number, load) in loads.iter().enumerate() {
+            let Some(place) = self.named.place(number) else {
                 return Ok(clauses);
             };
-            left = rest;
-            let Some(number) = self.files.number(label)? else {
-                continue;
-            };
-            if number < clauses.len() {
-                clauses[number] = clauses[number].saturating_add(load.clauses.len());
+            if place < clauses.len() {
+                clauses[place] = clauses[place].saturating_add(load.clauses.len());
             }
         }
         Ok(clauses)
@@ -117,78 +110,48 @@ impl<'a> LoadedFiles<'a> {
         }
     }
 
-    /// Returns what the module of a file that a load names exports.
-    #[tactic(auto, unfolding(crate::specs::Imports::module_named))]
-    fn exports_of<'t>(
-        &self,
-        places: &'t [Option<NamePlaces<'a>>],
-        label: &Label,
-    ) -> Result<Exports<'t, 'a>, AllocError>
-        requires { AllPlaced (names_of self.now.code.now self.now.modules.now) places.now }
-        ensures code { IfOk result (λ e. e.code.now ≡ self.now.code.now) }
-        ensures named { IfOk result (λ e. option_map module_view (option_copied e.module) ≡ module_named (loaded_of self.now) label.now) }
-    {
-        let Some(number) = self.files.number(label)? else {
-            return Ok(Exports {
-                code: self.code,
-                module: None,
-                places: None,
-            });
-        };
-        Ok(self.exports_in(places, number))
-    }
-
-    /// Appends the values of the clauses of a load, which names this file.
+    /// Appends the values of the clauses of a load, which names the file at this place.
     fn add_load(
         &self,
         places: &[Option<NamePlaces<'a>>],
         load: &LoadStmt,
-        label: &Label,
+        place: usize,
         values: &mut Vec<Value>,
     ) -> Result<(), SourceErr>
         requires { AllPlaced (names_of self.now.code.now self.now.modules.now) places.now }
-        ensures { Gives (λ _. values.new.items) Bad result (clause_values self.now.code.now (module_named (loaded_of self.now) label.now) load.now.line values.old.items load.now.clauses) }
+        ensures { Gives (λ _. values.new.items) Bad result (clause_values self.now.code.now (slice_get (module_views self.now.modules.now) place) load.now.line values.old.items load.now.clauses) }
     {
-        let exports = self.exports_of(places, label)?;
+        let exports = self.exports_in(places, place);
         exports.clause_values(load.line, values, load.clauses.as_slice())
     }
 
-    /// Returns the values of the clauses of loads, which name these files, by the places of the modules' names.
-    #[tactic(auto, unfolding(crate::specs::Imports::imports))]
+    /// Returns the values of the clauses of loads, by the places of the modules' names.
+    #[tactic(auto, using(crate::proofs::Imported::next_load, crate::proofs::Imported::bad_load, crate::proofs::Imported::no_file, crate::proofs::Imported::no_load))]
     fn imports_by(
         &self,
         alloc: Global,
         places: &[Option<NamePlaces<'a>>],
         loads: &[LoadStmt],
-        labels: &[Label],
     ) -> Result<Vec<Value>, SourceErr>
         requires { AllPlaced (names_of self.now.code.now self.now.modules.now) places.now }
-        ensures { Gives items Bad result (imports (loaded_of self.now) [] loads.now labels.now) }
+        ensures { Gives items Bad result (imports (loaded_of self.now) [] loads.now self.now.named.now) }
     {
         let mut values = Vec::new(alloc);
-        let mut left = labels;
-        for load in loads {
-            let Some((label, rest)) = left.split_first() else {
+        for (number, load) in loads.iter().enumerate() {
+            let Some(place) = self.named.place(number) else {
                 return Ok(values);
             };
-            self.add_load(places, load, label, &mut values)?;
-            left = rest;
+            self.add_load(places, load, place, &mut values)?;
         }
         Ok(values)
     }
 
-    /// Returns the values of the clauses of loads, which name these files; or the fault of the first bad clause (F33,
-    /// F34).
-    pub(crate) fn imports(
-        &self,
-        alloc: Global,
-        loads: &[LoadStmt],
-        labels: &[Label],
-    ) -> Result<Vec<Value>, SourceErr>
-        ensures { Gives items Bad result (imports (loaded_of self.now) [] loads.now labels.now) }
+    /// Returns the values of the clauses of loads; or the fault of the first bad clause (F33, F34).
+    pub(crate) fn imports(&self, alloc: Global, loads: &[LoadStmt]) -> Result<Vec<Value>, SourceErr>
+        ensures { Gives items Bad result (imports (loaded_of self.now) [] loads.now self.now.named.now) }
     {
-        let clauses = self.clauses_by_module(alloc, loads, labels)?;
+        let clauses = self.clauses_by_module(alloc, loads)?;
         let places = self.all_places(alloc, &clauses)?;
-        self.imports_by(alloc, &places, loads, labels)
+        self.imports_by(alloc, &places, loads)
     }
 }

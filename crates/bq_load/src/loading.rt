@@ -1,9 +1,6 @@
 //! What decides the outcomes of all modules.
 
-ghost use Rattle.std.specs.Prelude.{◌≡◌, slice_get, length, IfOk};
-ghost use Rattle.std.specs.Option.{option_copied};
-ghost use Rattle.bq_load.specs.Evaluation.{code_in};
-ghost use Rattle.bq_load.specs.Sources.{loading_of, loading_in};
+ghost use Rattle.bq_load.specs.Coded.{AreCoded};
 
 use crate::source::{Source, Sources};
 use bq_board::Graph;
@@ -29,11 +26,18 @@ pub struct Loading<'a> {
     pub limit: u64,
     /// What dicts hash their keys by.
     pub seed: Seed,
+    ghost coded: { AreCoded sources.items code.items },
 }
 
 impl<'a> Loading<'a> {
+    ghost use Rattle.std.specs.Prelude.{◌≡◌, None, Some, slice_get, length, IfOk};
+    ghost use Rattle.std.specs.Option.{option_copied};
+    ghost use Rattle.bq_load_discover.specs.LoadGraph.{IsLoadGraph, inputs_of};
+    ghost use Rattle.bq_load.specs.Evaluation.{code_in};
+    ghost use Rattle.bq_load.specs.Sources.{loading_of, loading_in};
+
     /// Takes what decides the outcomes of the modules from a load graph, and which loads which.
-    #[tactic(auto, using(crate::proofs::Joined::decided, crate::proofs::Joined::as_wide))]
+    #[tactic(auto, using(crate::proofs::Coding::all_coded, crate::proofs::Joined::decided, crate::proofs::Joined::as_wide))]
     pub(crate) fn of(
         alloc: Global,
         workspace: &'a Workspace,
@@ -42,13 +46,13 @@ impl<'a> Loading<'a> {
         seed: Seed,
         graph: LoadGraph,
     ) -> Result<(Loading<'a>, Graph), AllocError>
+        requires { IsLoadGraph (inputs_of workspace.now schema.now) graph }
         ensures decides { IfOk result (λ r. loading_of r.0 ≡ loading_in workspace.now schema.now limit graph) }
         ensures edges { IfOk result (λ r. r.1 ≡ graph.edges) }
         ensures wide { IfOk result (λ r. length r.1 ≡ length r.0.sources.items) }
     {
-        let packages = Packages::of(alloc, workspace)?;
         let built_ins = BuiltIns::new(alloc, rule_names(schema))?;
-        let (modules, edges) = graph.into_parts();
+        let (modules, edges, packages) = graph.into_parts();
         let Sources { sources, code } = Sources::of(alloc, modules)?;
         let loading = Loading {
             workspace,
@@ -79,6 +83,18 @@ impl<'a> Loading<'a> {
             None => None,
             Some(None) => None,
             Some(Some(file)) => Some(file),
+        }
+    }
+    /// Returns the code of a module that has no fault of its own.
+    pub(crate) fn file_of(&self, m: u32, source: &Source) -> &Resolved
+        requires known { slice_get self.now.sources.items m ≡ Some source.now }
+        requires faultless { source.now.fault ≡ None }
+        ensures { code_in (slice_get self.now.code.items m) ≡ Some result.now }
+    {
+        let _ = source; // contracts alone speak of its fault
+        match self.code_of(m) {
+            Some(file) => file,
+            None => unreachable!(),
         }
     }
 }

@@ -17,6 +17,7 @@ use crate::source::{Source, share_fault};
 use bq_base::{Bytes, Fault, FaultKind};
 use bq_board::Graph;
 use bq_label::{Label, print_label};
+use bq_load_front::NamedFiles;
 use bq_load_order::SharedOutcome;
 use bq_load_outcome_spec::Outcome;
 use bq_resolve_scope::{LoadStmt, Resolved};
@@ -24,19 +25,17 @@ use std::alloc::{AllocError, Global};
 use std::sync::Arc;
 
 /// Returns the line of the first of these loads, which name these files, that names this one.
-#[tactic(auto, unfolding(crate::specs::Results::line_of_load))]
-fn line_of_load(label: &Label, loads: &[LoadStmt], files: &[Label]) -> u32
+#[tactic(auto, using(crate::proofs::Lined::is_named, crate::proofs::Lined::is_other, crate::proofs::Lined::no_file, crate::proofs::Lined::no_load))]
+fn line_of_load(label: &Label, loads: &[LoadStmt], files: &NamedFiles) -> u32
     ensures { result ≡ line_of_load label.now loads.now files.now }
 {
-    let mut left = files;
-    for load in loads {
-        let Some((file, rest)) = left.split_first() else {
+    for (number, load) in loads.iter().enumerate() {
+        let Some(file) = files.label(number) else {
             return 0;
         };
         if label == file {
             return load.line;
         }
-        left = rest;
     }
     0
 }
@@ -46,7 +45,7 @@ fn line_by(label: &Label, source: &Source, code: Option<&Resolved>) -> u32
 {
     match code {
         None => 0,
-        Some(file) => line_of_load(label, file.loads.as_slice(), source.loads.as_slice()),
+        Some(file) => line_of_load(label, file.loads.as_slice(), &source.loads),
     }
 }
 

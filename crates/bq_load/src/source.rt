@@ -6,17 +6,16 @@ ghost use Rattle.bq_load.specs.Sources.{source_by, code_by, source_of, code_of};
 use bq_base::Fault;
 use bq_label::Label;
 use bq_load_discover::Module;
-use bq_load_front::Front;
+use bq_load_front::{Front, NamedFiles};
 use bq_resolve_scope::Resolved;
-use sqlite_items::Items;
 use std::alloc::{AllocError, Global};
 
 /// What is read of a module: what its loads name, or its own fault.
 #[derive(Drop)]
 pub struct Source {
     pub label: Label,
-    /// The labels of the files that its loads name, one for each load, in the order in which they are written.
-    pub loads: Items<Label>,
+    /// The files that its loads name.
+    pub loads: NamedFiles,
     /// The first fault of its text or of its loads.
     pub fault: Option<Fault>,
 }
@@ -75,7 +74,7 @@ impl Sources {
             Err(fault) => {
                 let source = Source {
                     label,
-                    loads: Items::new(alloc),
+                    loads: NamedFiles::none(alloc),
                     fault: Some(fault),
                 };
                 self.sources.push(source)?;

@@ -5,6 +5,7 @@ use Rattle.std.specs.List.Sorted.{IsPermutation, IsSorted, IsStrictlySortedBy}
 use Rattle.std.proofs.Math.Nat.{lt_of_not-le}
 use Rattle.std.proofs.lemmas.List.{length-map}
 use Rattle.std.proofs.lemmas.List.Sorted.{length_permutation}
+use Rattle.bq_label.specs.declared.packages.BuildFile.{BuildFile}
 use Rattle.bq_label.specs.Label.{LabelParts}
 use Rattle.bq_label_set.specs.Labels.{same_label, with_labels}
 use Rattle.bq_label_set.proofs.Added.{those_that_differ}
@@ -32,8 +33,8 @@ module _ (found : List Module) (d : IsDistinct same_label (labels_of found)) (sm
   pub numbered : with_labels [] (labels_of ms) ≡ labels_of ms
   numbered = those_that_differ (labels_of ms) (differ (labels_of ms) ascend)
 
-  pub is_numbered : IsGraph (rows_of (labels_of ms) ms) → IsNumbered (record { labels = labels_of ms; modules = ms; edges = rows_of (labels_of ms) ms })
-  is_numbered g = record {
+  pub is_numbered : (bs : List BuildFile) → IsGraph (rows_of (labels_of ms) ms) → IsNumbered (record { labels = labels_of ms; modules = ms; edges = rows_of (labels_of ms) ms; packages = bs })
+  is_numbered bs g = record {
     ascending = ascend;
     named = refl;
     long = length-map ms (λ (m : Module). row_of (labels_of ms) (loads_by m.front)) ∙ sym (length-map ms (λ (m : Module). m.label));
@@ -49,8 +50,8 @@ module _ (inputs : InputParts) (found : List Module) (f : AreFound inputs found)
   rows : map (map (slice_get (labels_of ms))) (rows_of (labels_of ms) ms) ≡ map (λ m. map (λ l. Some l) (edges_from inputs m)) (labels_of ms)
   rows = all_rows inputs (labels_of ms) (differ (labels_of ms) (modules_ascend found f.distinct ms p s v)) ms (still_read inputs found f ms p s v) all_loaded
 
-  pub is_load_graph : IsGraph (rows_of (labels_of ms) ms) → IsLoadGraph inputs (record { labels = labels_of ms; modules = ms; edges = rows_of (labels_of ms) ms })
-  is_load_graph g = record { modules = are_modules inputs found f ms p s v; read = still_read inputs found f ms p s v; edges = rows; valid = g }
+  pub is_load_graph : (bs : List BuildFile) → bs ≡ inputs.packages → IsGraph (rows_of (labels_of ms) ms) → IsLoadGraph inputs (record { labels = labels_of ms; modules = ms; edges = rows_of (labels_of ms) ms; packages = bs })
+  is_load_graph bs b g = record { modules = are_modules inputs found f ms p s v; read = still_read inputs found f ms p s v; edges = rows; valid = g; packages = b }
 
   pub too_many_edges : ¬ Fits (rows_of (labels_of ms) ms) → AreTooMany inputs
   too_many_edges n =
@@ -62,11 +63,12 @@ module _ (inputs : InputParts) (found : List Module) (f : AreFound inputs found)
 
 -- ---- as the code holds these parts
 
-abbrev parts : List LabelParts → List Module → Loads → GraphParts
-parts ls ms p = record { labels = ls; modules = ms; edges = p }
+abbrev parts : List LabelParts → List Module → Loads → List BuildFile → GraphParts
+parts ls ms p bs = record { labels = ls; modules = ms; edges = p; packages = bs }
 
 module _ (found : List Module) (d : IsDistinct same_label (labels_of found)) (small : length found ≤ max_modules) (ms : List Module) (p : IsPermutation found ms) (s : IsSorted module_cmp ms)
-    (held again : List Module) (h : held ≡ ms) (a : again ≡ ms) (v : AreValid held) (ls seen : List LabelParts) (n : ls ≡ labels_of held) (k : seen ≡ ls) (es : Loads) (e : es ≡ rows_of seen again) where
+    (held again : List Module) (h : held ≡ ms) (a : again ≡ ms) (v : AreValid held) (ls seen : List LabelParts) (n : ls ≡ labels_of held) (k : seen ≡ ls) (es : Loads) (e : es ≡ rows_of seen again)
+    (bs : List BuildFile) where
   valid : AreValid ms
   valid = subst (λ (z : List Module). AreValid z) h v
 
@@ -76,14 +78,14 @@ module _ (found : List Module) (d : IsDistinct same_label (labels_of found)) (sm
   same : rows_of seen again ≡ rows_of (labels_of ms) ms
   same = ap (λ (z : List LabelParts). rows_of z again) (k ∙ labels) ∙ ap (λ (z : List Module). rows_of (labels_of ms) z) a
 
-  whole : parts (labels_of ms) ms (rows_of (labels_of ms) ms) ≡ parts ls ms es
-  whole = ap (λ (z : List LabelParts). parts z ms (rows_of (labels_of ms) ms)) (sym labels) ∙ ap (λ (z : Loads). parts ls ms z) (sym (e ∙ same))
+  whole : parts (labels_of ms) ms (rows_of (labels_of ms) ms) bs ≡ parts ls ms es bs
+  whole = ap (λ (z : List LabelParts). parts z ms (rows_of (labels_of ms) ms) bs) (sym labels) ∙ ap (λ (z : Loads). parts ls ms z bs) (sym (e ∙ same))
 
-  pub held_numbered : IsGraph (rows_of seen again) → IsNumbered (record { labels = ls; modules = ms; edges = es })
-  held_numbered g = subst (λ (z : GraphParts). IsNumbered z) whole (is_numbered found d small ms p s valid (subst (λ (z : Loads). IsGraph z) same g))
+  pub held_numbered : IsGraph (rows_of seen again) → IsNumbered (record { labels = ls; modules = ms; edges = es; packages = bs })
+  held_numbered g = subst (λ (z : GraphParts). IsNumbered z) whole (is_numbered found d small ms p s valid bs (subst (λ (z : Loads). IsGraph z) same g))
 
-  pub held_graph : IsGraph (rows_of seen again) → (inputs : InputParts) → AreFound inputs found → IsLoadGraph inputs (record { labels = ls; modules = ms; edges = es })
-  held_graph g inputs f = subst (λ (z : GraphParts). IsLoadGraph inputs z) whole (is_load_graph inputs found f ms p s valid (subst (λ (z : Loads). IsGraph z) same g))
+  pub held_graph : IsGraph (rows_of seen again) → (inputs : InputParts) → AreFound inputs found → bs ≡ inputs.packages → IsLoadGraph inputs (record { labels = ls; modules = ms; edges = es; packages = bs })
+  held_graph g inputs f b = subst (λ (z : GraphParts). IsLoadGraph inputs z) whole (is_load_graph inputs found f ms p s valid bs b (subst (λ (z : Loads). IsGraph z) same g))
 
 module _ (found ms : List Module) (p : IsPermutation found ms) (s : IsSorted module_cmp ms) (held again : List Module) (h : held ≡ ms) (a : again ≡ ms) (v : AreValid held) (ls seen : List LabelParts) (n : ls ≡ labels_of held) (k : seen ≡ ls) where
   pub held_too_many : ¬ Fits (rows_of seen again) → (inputs : InputParts) → AreFound inputs found → AreTooMany inputs

@@ -1,4 +1,5 @@
 pub mod Lists
+pub mod Once
 pub mod Exploring
 pub mod Ordered
 pub mod Rows

@@ -4,6 +4,7 @@ use Rattle.std.specs.List.{Contains, IsDistinct, flat_map}
 use Rattle.std.proofs.lemmas.List.{length-map}
 use Rattle.std.proofs.lemmas.Map.Made.{length-le_from_is_member}
 use Rattle.std.proofs.lemmas.Map.Views.{Contains-from_any, list_any-from_Contains}
+use Rattle.bq_label.specs.declared.packages.BuildFile.{BuildFile}
 use Rattle.bq_label.specs.Label.{LabelParts}
 use Rattle.bq_label.proofs.Orders.{same_ascending}
 use Rattle.bq_label_set.specs.Labels.{same_label, same_label-Decides, same_label-equiv}
@@ -70,8 +71,8 @@ module _ (ls : List LabelParts) (d : IsDistinct same_label ls) where
 
 -- ---- the graph
 
-abbrev parts : List LabelParts → List Module → Loads → GraphParts
-parts ls ms p = record { labels = ls; modules = ms; edges = p }
+abbrev parts : List LabelParts → List Module → Loads → List BuildFile → GraphParts
+parts ls ms p bs = record { labels = ls; modules = ms; edges = p; packages = bs }
 
 pub one_load_graph : OneLoadGraph
 one_load_graph inputs g h a b =
@@ -80,7 +81,10 @@ one_load_graph inputs g h a b =
     let rows : map (map (slice_get h.labels)) g.edges ≡ map (λ l. map (λ k. Some k) (edges_from inputs l)) h.labels =
     subst (λ (z : List LabelParts). map (map (slice_get z)) g.edges ≡ map (λ l. map (λ k. Some k) (edges_from inputs l)) z) labels a.edges in
     let edges : g.edges ≡ h.edges = same_rows h.labels (differ h.labels b.modules.ascending) g.edges h.edges (edges_from inputs) h.labels rows b.edges in
-    ap (λ (z : List LabelParts). parts z g.modules g.edges) labels ∙ (ap (λ (z : List Module). parts h.labels z g.edges) modules ∙ ap (λ (z : Loads). parts h.labels h.modules z) edges)
+    let packages : g.packages ≡ h.packages = a.packages ∙ sym b.packages in
+    ap (λ (z : List LabelParts). parts z g.modules g.edges g.packages) labels
+    ∙ (ap (λ (z : List Module). parts h.labels z g.edges g.packages) modules
+    ∙ (ap (λ (z : Loads). parts h.labels h.modules z g.packages) edges ∙ ap (λ (z : List BuildFile). parts h.labels h.modules h.edges z) packages))
 
 among : (some ls : List LabelParts) → ((l : LabelParts) → Contains some l → Contains ls l) → IsDistinct same_label some → length some ≤ length ls
 among some ls f d = length-le_from_is_member same_label-equiv some ls d (λ q h.

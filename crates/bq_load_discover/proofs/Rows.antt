@@ -1,14 +1,13 @@
 -- The numbers in a row are those of the labels that are loaded.
-use Rattle.std.proofs.Common.{◌≡◌, ◌∙◌, ◌<◌, ◌+◌, ℕ, Bool, true, false, not, List, [], ◌∷◌, ◌++◌, Option, None, Some, length, map, take, get_or, slice_get, refl, sym, ap, inl, inr, length-append}
+use Rattle.std.proofs.Common.{◌≡◌, ◌∙◌, ◌<◌, ◌+◌, ℕ, List, [], ◌∷◌, ◌++◌, Option, None, Some, length, map, take, get_or, slice_get, refl, sym, ap, inl, inr, length-append}
 use Rattle.std.specs.List.{Contains, IsDistinct, filter_map, flat_map, cons_option}
 use Rattle.std.specs.Prelude.{option_to_list}
-use Rattle.std.proofs.lemmas.Bool.{cases_Bool}
 use Rattle.std.proofs.lemmas.List.{length-map}
 use Rattle.std.proofs.lemmas.List.Elements.{filter_map-append}
 use Rattle.bq_label.specs.Label.{LabelParts}
 use Rattle.bq_label.proofs.Orders.{at_head, in_tail}
-use Rattle.bq_label_set.specs.Labels.{same_label, has_label, with_label, with_labels}
-use Rattle.bq_label_set.proofs.Added.{known_label, new_label, with_labels-append, the_labels_added}
+use Rattle.bq_label_set.specs.Labels.{same_label, with_labels}
+use Rattle.bq_label_set.proofs.Added.{the_labels_added}
 use Rattle.bq_label_set.proofs.Numbers.{the_number}
 use Rattle.bq_board.specs.Graph.{Loads, sources, edges}
 use Rattle.bq_load_front.specs.Inputs.{InputParts}
@@ -19,34 +18,17 @@ use Rattle.bq_load_discover.specs.Modules.{edges_from}
 use Rattle.bq_load_discover.specs.Edges.{number_in, row_of, rows_of}
 use Rattle.bq_load_discover.proofs.Lists.{none_in, next_taken, place_of}
 
--- ---- one step along the loads of a module
+-- ---- one step along the files that a module loads
 
-add_one : (ls known : List LabelParts) (row : List ℕ) (l : LabelParts) → row ≡ filter_map (number_in ls) known → row ++ option_to_list (number_in ls l) ≡ filter_map (number_in ls) (known ++ l ∷ [])
-add_one ls known row l e = ap (λ (z : List ℕ). z ++ option_to_list (number_in ls l)) e ∙ (ap (λ (z : List ℕ). filter_map (number_in ls) known ++ z) (one (number_in ls l)) ∙ sym (filter_map-append (number_in ls) known (l ∷ [])))
+pub row_next : (ls files : List LabelParts) (i : ℕ) (l : LabelParts) (row now : List ℕ) → i < length files → l ≡ get_or files i l → row ≡ filter_map (number_in ls) (take i files) → now ≡ row ++ option_to_list (number_in ls l)
+    → now ≡ filter_map (number_in ls) (take (i + 1) files)
+row_next ls files i l row now h is e n =
+    let f : LabelParts → Option ℕ = number_in ls in
+    n ∙ (ap (λ (z : List ℕ). z ++ option_to_list (f l)) e ∙ (ap (λ (z : List ℕ). filter_map f (take i files) ++ z) (one (f l)) ∙ (sym (filter_map-append f (take i files) (l ∷ [])) ∙ ap (filter_map f) (sym (next_taken files i l h is)))))
   where
     one : (o : Option ℕ) → option_to_list o ≡ cons_option o []
     one None = refl
     one (Some n) = refl
-
--- the labels that are loaded so far
-pub loaded_next : (loads : List LabelParts) (i : ℕ) (l : LabelParts) (known now : List LabelParts) → i < length loads → l ≡ get_or loads i l → known ≡ with_labels [] (take i loads) → now ≡ with_label known l
-    → now ≡ with_labels [] (take (i + 1) loads)
-unfolding with_labels
-loaded_next loads i l known now h is k n =
-    n ∙ (ap (λ (z : List LabelParts). with_label z l) k ∙ (sym (with_labels-append [] (take i loads) (l ∷ [])) ∙ ap (with_labels []) (sym (next_taken loads i l h is))))
-
-module _ (ls known : List LabelParts) (l : LabelParts) (added : Bool) (is : added ≡ not (has_label known l)) (after : List LabelParts) (n : after ≡ with_label known l) (row : List ℕ) (e : row ≡ filter_map (number_in ls) known) where
-  pub row_stays : added ≡ false → row ≡ filter_map (number_in ls) after
-  row_stays old = elim (cases_Bool (has_label known l)) [
-    | inl there ↦ e ∙ ap (filter_map (number_in ls)) (sym (n ∙ known_label known l there))
-    | inr lacks ↦ let no : true ≡ false = sym (rw lacks refl) ∙ (sym is ∙ old) in absurd (cc)
-  ]
-
-  pub row_grows : (now : List ℕ) → added ≡ true → now ≡ row ++ option_to_list (number_in ls l) → now ≡ filter_map (number_in ls) after
-  row_grows now new m = elim (cases_Bool (has_label known l)) [
-    | inl there ↦ let no : false ≡ true = sym (rw there refl) ∙ (sym is ∙ new) in absurd (cc)
-    | inr lacks ↦ m ∙ (add_one ls known row l e ∙ ap (filter_map (number_in ls)) (sym (n ∙ new_label known l lacks)))
-  ]
 
 -- ---- the numbers of a row
 

@@ -2,6 +2,7 @@
 use Rattle.std.specs.Prelude.{◌≡◌, ℕ, List, [], length, map, Some, Result, Ok, Err, slice_get}
 use Rattle.std.specs.List.Sorted.{IsStrictlySortedBy}
 use Rattle.bq_label.specs.declared.workspace.File.{File}
+use Rattle.bq_label.specs.declared.packages.BuildFile.{BuildFile}
 use Rattle.bq_label.specs.Label.{LabelParts}
 use Rattle.bq_label.specs.Packages.{packages_of}
 use Rattle.bq_resolve_scope.specs.Names.{with_each, with_name}
@@ -14,11 +15,12 @@ use Rattle.bq_load_discover.specs.declared.load_err.LoadErr.TheVariants as e
 use Rattle.bq_load_discover.specs.Module.{module_of, labels_of, label_cmp}
 use Rattle.bq_load_discover.specs.Modules.{AreModules, AreTooMany, edges_from}
 
--- the labels of the modules, the modules, and for each the numbers of those that it loads
+-- the labels of the modules, the modules, for each the numbers of those that it loads, and the packages of the workspace
 pub record GraphParts : Type 0 where
   pub labels : List LabelParts
   pub modules : List Module
   pub edges : Loads
+  pub packages : List BuildFile
 
 -- a module's number is its place in the order of the labels
 pub record IsNumbered (g : GraphParts) : Type 0 where
@@ -32,12 +34,13 @@ abbrev pub inputs_of : List File → Rules → InputParts
 inputs_of files rules = record { files = files; packages = packages_of files; rules = with_each with_name [] rules.names }
 
 -- the load graph of a workspace: its modules in order, each with what its file gives, and with the numbers of the modules that it
--- loads, each once, in the order in which it first loads them
+-- loads, each once, in the order in which it first loads them; and its packages
 pub record IsLoadGraph (inputs : InputParts) (g : GraphParts) : Type 0 where
   pub modules : AreModules inputs g.labels
   pub read : g.modules ≡ map (module_of inputs) g.labels
   pub edges : map (map (slice_get g.labels)) g.edges ≡ map (λ l. map Some (edges_from inputs l)) g.labels
   pub valid : IsGraph g.edges
+  pub packages : g.packages ≡ inputs.packages
 
 -- the load graph, or there are too many modules or edges; memory aside
 abbrev pub Discovers : InputParts → Result GraphParts LoadErr → Type 0

@@ -1,7 +1,8 @@
 //! The load graph of a workspace.
 
-ghost use Rattle.std.specs.Prelude.{◌<◌, ◌≤◌, length};
+ghost use Rattle.std.specs.Prelude.{◌≡◌, ◌<◌, ◌≤◌, length, IfOk};
 ghost use Rattle.std.specs.List.{IsDistinct};
+ghost use Rattle.bq_label.specs.Packages.{packages_of};
 ghost use Rattle.bq_load_front.specs.Inputs.{InputParts};
 ghost use Rattle.bq_label_set.specs.Labels.{same_label};
 ghost use Rattle.bq_load_discover.specs.Module.{labels_of};
@@ -19,35 +20,70 @@ use bq_board::MAX_MODULES;
 use bq_label::{Packages, Workspace};
 use bq_load_front::Inputs;
 use bq_package_schema::{Schema, rule_names};
-use std::alloc::Global;
+use std::alloc::{AllocError, Global};
 use std::thread::Threads;
 
-/// Makes the load graph of modules that were found.
-fn load_graph(alloc: Global, modules: Vec<Module>) -> Result<LoadGraph, LoadErr>
+/// Makes the load graph of modules that were found, in a workspace with these packages.
+fn load_graph(alloc: Global, packages: Packages, modules: Vec<Module>) -> Result<LoadGraph, LoadErr>
     requires few { length modules.items ≤ MAX_MODULES }
     requires distinct { IsDistinct same_label (labels_of modules.items) }
-    ensures { (inputs : InputParts) → AreFound inputs modules.items → Discovers inputs result }
+    ensures { (inputs : InputParts) → AreFound inputs modules.items → packages ≡ inputs.packages → Discovers inputs result }
 {
     let modules = sorted(modules);
     let labels = labels(alloc, &modules)?;
     let edges = edges(alloc, &labels, &modules)?;
-    Ok(LoadGraph::of(labels, modules, edges))
+    Ok(LoadGraph::of(labels, modules, edges, packages))
 }
 
-/// Makes the load graph of the modules that were found, if they aren't too many.
+/// Makes the load graph of the modules that were found in a workspace, if they aren't too many.
 fn load_graph_of(
     alloc: Global,
-    inputs: &Inputs<'_>,
+    workspace: &Workspace,
+    schema: &Schema,
+    packages: Packages,
     found: Option<Vec<Module>>,
 ) -> Result<LoadGraph, LoadErr>
-    requires { Finds inputs.now found }
-    ensures { Discovers inputs.now result }
+    requires packages { packages ≡ packages_of workspace.now }
+    requires found { Finds (inputs_of workspace.now schema.now) found }
+    ensures { Discovers (inputs_of workspace.now schema.now) result }
 {
-    let _ = inputs; // contracts alone speak of what is read
+    let _ = workspace; // contracts alone speak of what is read
+    let _ = schema;
     match found {
         None => Err(LoadErr::TooManyModules),
-        Some(modules) => load_graph(alloc, modules),
+        Some(modules) => load_graph(alloc, packages, modules),
     }
+}
+
+/// Finds the modules of a workspace with these packages; `None` if there are too many.
+fn modules_of(
+    alloc: Global,
+    workspace: &Workspace,
+    schema: &Schema,
+    packages: &Packages,
+) -> Result<Option<Vec<Module>>, AllocError>
+    requires { packages.now ≡ packages_of workspace.now }
+    ensures { IfOk result (Finds (inputs_of workspace.now schema.now)) }
+{
+    let inputs = Inputs::new(alloc, workspace, packages, rule_names(schema))?;
+    explore(alloc, &inputs)
+}
+
+/// Finds the modules of a workspace with these packages, as [`modules_of`] does, in at most `workers` threads.
+fn modules_by_workers<R: Threads + Sync>(
+    rt: &R,
+    alloc: Global,
+    workspace: &Workspace,
+    schema: &Schema,
+    packages: &Packages,
+    workers: usize,
+) -> Result<Option<Vec<Module>>, AllocError>
+    requires workers { 0 < workers }
+    requires packages { packages.now ≡ packages_of workspace.now }
+    ensures { IfOk result (Finds (inputs_of workspace.now schema.now)) }
+{
+    let inputs = Inputs::new(alloc, workspace, packages, rule_names(schema))?;
+    explore_by_workers(rt, alloc, &inputs, workers)
 }
 
 /// Finds the load graph of a workspace with the rules of the schema. It takes time linear in the files and loads of its
@@ -56,9 +92,8 @@ pub fn discover(alloc: Global, workspace: &Workspace, schema: &Schema) -> Result
     ensures { Discovers (inputs_of workspace.now schema.now) result }
 {
     let packages = Packages::of(alloc, workspace)?;
-    let inputs = Inputs::new(alloc, workspace, &packages, rule_names(schema))?;
-    let found = explore(alloc, &inputs)?;
-    load_graph_of(alloc, &inputs, found)
+    let found = modules_of(alloc, workspace, schema, &packages)?;
+    load_graph_of(alloc, workspace, schema, packages, found)
 }
 
 /// Finds the load graph of a workspace, as [`discover`] does. Its files are read in at most `workers` threads.
@@ -73,7 +108,6 @@ pub fn discover_by_workers<R: Threads + Sync>(
     ensures { Discovers (inputs_of workspace.now schema.now) result }
 {
     let packages = Packages::of(alloc, workspace)?;
-    let inputs = Inputs::new(alloc, workspace, &packages, rule_names(schema))?;
-    let found = explore_by_workers(rt, alloc, &inputs, workers)?;
-    load_graph_of(alloc, &inputs, found)
+    let found = modules_by_workers(rt, alloc, workspace, schema, &packages, workers)?;
+    load_graph_of(alloc, workspace, schema, packages, found)
 }

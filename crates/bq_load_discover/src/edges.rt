@@ -3,8 +3,8 @@
 ghost use Rattle.std.specs.Prelude.{◌≡◌, ◌≤◌, [], ◌++◌, length, map, option_to_list, IfOk, IfErr, OnOk};
 ghost use Rattle.bq_board.specs.Graph.{lists, IsGraph};
 ghost use Rattle.std.specs.List.{filter_map};
-ghost use Rattle.bq_label_set.specs.Labels.{with_label, with_labels};
-ghost use Rattle.bq_load_discover.specs.Edges.{number_in, row_of, rows_of, RefusesEdges};
+ghost use Rattle.bq_label_set.specs.Labels.{with_labels};
+ghost use Rattle.bq_load_discover.specs.Edges.{number_in, rows_of, RefusesEdges};
 
 use crate::load_err::LoadErr;
 use crate::modules::Module;
@@ -27,32 +27,14 @@ fn add_number(numbers: &LabelSet, label: &Label, row: &mut Vec<u32>) -> Result<(
     }
 }
 
-/// Appends the number of the file that a load names, unless an earlier one names that file.
-fn add_load(
-    numbers: &LabelSet,
-    load: &Label,
-    loaded: &mut LabelSet,
-    row: &mut Vec<u32>,
-) -> Result<(), AllocError>
+/// Returns the numbers of labels, in their order.
+fn row(alloc: Global, numbers: &LabelSet, labels: &[Label]) -> Result<Vec<u32>, AllocError>
     requires { length numbers.now ≤ MAX_MODULES }
-    ensures loaded { OnOk result (loaded.new ≡ with_label loaded.old load.now) }
-    ensures row { row.old.items ≡ filter_map (number_in numbers.now) loaded.old → OnOk result (row.new.items ≡ filter_map (number_in numbers.now) loaded.new) }
+    ensures { IfOk result (λ row. row.items ≡ filter_map (number_in numbers.now) labels.now) }
 {
-    if !loaded.add(load)? {
-        return Ok(());
-    }
-    add_number(numbers, load, row)
-}
-
-/// Returns the numbers of the files that loads name, each once, in the order in which they are first named.
-fn row(alloc: Global, numbers: &LabelSet, loads: &[Label]) -> Result<Vec<u32>, AllocError>
-    requires { length numbers.now ≤ MAX_MODULES }
-    ensures { IfOk result (λ row. row.items ≡ row_of numbers.now loads.now) }
-{
-    let mut loaded = LabelSet::new(alloc);
-    let mut row = Vec::new(alloc);
-    for load in loads {
-        add_load(numbers, load, &mut loaded, &mut row)?;
+    let mut row = Vec::with_capacity(alloc, labels.len())?;
+    for label in labels {
+        add_number(numbers, label, &mut row)?;
     }
     Ok(row)
 }

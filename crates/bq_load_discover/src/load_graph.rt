@@ -4,16 +4,17 @@ ghost use Rattle.std.specs.Prelude.{◌≡◌};
 
 use crate::modules::Module;
 use bq_board::Graph;
-use bq_label::Label;
+use bq_label::{Label, Packages};
 use std::marker::Model;
 
-/// The modules of a workspace, and which loads which. Contracts see the labels in order, the modules in the same order, and for each
-/// module the numbers of those that it loads.
+/// The modules of a workspace, and which loads which, with its packages. Contracts see the labels in order, the modules in the same
+/// order, for each module the numbers of those that it loads, and the packages.
 #[derive(Drop)]
 pub struct LoadGraph {
     labels: Vec<Label>,
     modules: Vec<Module>,
     edges: Graph,
+    packages: Packages,
 }
 
 impl Model for LoadGraph {
@@ -27,23 +28,29 @@ impl Model for LoadGraph {
 
     ghost coded = { Prim.hlevel (codes, code.the_row.coded, block.the_row.coded, target.the_row.coded) };
 
-    ghost view = { λ g. record { labels = g.labels.items; modules = g.modules.items; edges = g.edges } };
+    ghost view = { λ g. record { labels = g.labels.items; modules = g.modules.items; edges = g.edges; packages = g.packages } };
 
-    ghost invariant = { λ g. IsNumbered (record { labels = g.labels.items; modules = g.modules.items; edges = g.edges }) };
+    ghost invariant = { λ g. IsNumbered (record { labels = g.labels.items; modules = g.modules.items; edges = g.edges; packages = g.packages }) };
 }
 
 impl LoadGraph {
     ghost use Rattle.bq_load_discover.specs.LoadGraph.{GraphParts, IsNumbered};
 
     /// Makes the load graph of these parts.
-    pub(crate) fn of(labels: Vec<Label>, modules: Vec<Module>, edges: Graph) -> LoadGraph
-        requires { IsNumbered (record { labels = labels.items; modules = modules.items; edges = edges }) }
-        ensures { result ≡ record { labels = labels.items; modules = modules.items; edges = edges } }
+    pub(crate) fn of(
+        labels: Vec<Label>,
+        modules: Vec<Module>,
+        edges: Graph,
+        packages: Packages,
+    ) -> LoadGraph
+        requires { IsNumbered (record { labels = labels.items; modules = modules.items; edges = edges; packages = packages }) }
+        ensures { result ≡ record { labels = labels.items; modules = modules.items; edges = edges; packages = packages } }
     {
         LoadGraph {
             labels,
             modules,
             edges,
+            packages,
         }
     }
 
@@ -76,17 +83,19 @@ impl LoadGraph {
         &self.edges
     }
 
-    /// Returns the modules by their numbers, and the edges.
-    pub fn into_parts(self) -> (Vec<Module>, Graph)
+    /// Returns the modules by their numbers, the edges, and the packages.
+    pub fn into_parts(self) -> (Vec<Module>, Graph, Packages)
         ensures modules { result.0.items ≡ self.modules }
         ensures edges { result.1 ≡ self.edges }
+        ensures packages { result.2 ≡ self.packages }
         ensures valid { IsNumbered self }
     {
         let LoadGraph {
             labels: _,
             modules,
             edges,
+            packages,
         } = self;
-        (modules, edges)
+        (modules, edges, packages)
     }
 }

@@ -1,6 +1,7 @@
 //! A module with the front of its file.
 
-ghost use Rattle.std.specs.Prelude.{◌≡◌, IfOk};
+ghost use Rattle.std.specs.Prelude.{◌≡◌, [], IfOk};
+ghost use Rattle.bq_label_set.specs.Labels.{with_labels};
 ghost use Rattle.bq_load_front.specs.Front.{loads_by};
 ghost use Rattle.bq_load_discover.specs.Module.{module_of};
 
@@ -40,12 +41,14 @@ impl Module {
         }
     }
 
-    /// Returns the labels of the files that it loads, one for each load; none if its file has a fault.
+    /// Returns the labels of the files that it loads, each once, in the order in which it first loads them; none if its
+    /// file has a fault.
+    #[tactic(auto, unfolding(bq_label_set::specs::Labels::with_labels))]
     pub fn loads(&self) -> &[Label]
-        ensures { result.now ≡ loads_by self.now.front }
+        ensures { result.now ≡ with_labels [] (loads_by self.now.front) }
     {
         match &self.front {
-            Ok(front) => front.loads.as_slice(),
+            Ok(front) => front.loads.files(),
             Err(_) => &[],
         }
     }

@@ -1,3 +1,4 @@
 pub mod Tokens
 pub mod Codes
 pub mod Loads
+pub mod Places

@@ -1,4 +1,5 @@
 pub mod Code
 pub mod Inputs
+pub mod NamedFiles
 pub mod Front
 pub mod Laws

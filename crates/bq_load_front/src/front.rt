@@ -8,6 +8,7 @@ ghost use Rattle.bq_load_front.specs.Front.{labels_of, kind_of, front_by, front_
 
 use crate::code::code_of;
 use crate::inputs::Inputs;
+use crate::named_files::NamedFiles;
 use bq_base::{Fault, FaultKind, SourceErr};
 use bq_label::{Label, PackageId, label_file};
 use bq_load_label::load_label;
@@ -16,12 +17,11 @@ use bq_resolve_scope::{LoadStmt, Resolved};
 use sqlite_items::Items;
 use std::alloc::Global;
 
-/// The code of a file, and the labels of the files that it loads: one for each load statement, in the order in which they are
-/// written.
+/// The code of a file, and the files that its loads name.
 #[derive(Drop)]
 pub struct Front {
     pub code: Resolved,
-    pub loads: Items<Label>,
+    pub loads: NamedFiles,
 }
 
 /// Returns the labels of the files that loads in this package name, or the fault of the first bad load (F30, F31, F32,
@@ -71,7 +71,8 @@ fn front_by(
     ensures { Gives itself Bad result (front_by inputs.now label.now text.now) }
 {
     let code = code_of(alloc, inputs.universe(kind_of(label)), text)?;
-    let loads = labels_of(alloc, inputs, label.package_id(), code.loads.as_slice())?;
+    let labels = labels_of(alloc, inputs, label.package_id(), code.loads.as_slice())?;
+    let loads = NamedFiles::of(alloc, labels.as_slice())?;
     Ok(Front { code, loads })
 }
 

@@ -8,6 +8,7 @@
 //!
 //! - `inputs`: what files are read with: the files, the packages, and the names of the schema's rules;
 //! - `code`: the text of a file to its resolved trees;
+//! - `named_files`: the files that the loads of a file name;
 //! - `front`: what the file of a label is on its own;
 //! - `laws`: what that is, said of texts, statements and labels.
 #![tactic(auto)]
@@ -16,8 +17,10 @@ mod code;
 mod front;
 mod inputs;
 mod laws;
+mod named_files;
 
 pub use code::code_of;
 pub use front::{Front, front_of, kind_of};
 pub use inputs::Inputs;
 pub use laws::{codes_of_files, faults_of_files, loaded_files, loads_of_files};
+pub use named_files::NamedFiles;

@@ -46,30 +46,11 @@ pub fn complete<E: Evaluate, W: Watch>(
     requires found { Filling (outcome (E.means evaluator.now) graph.now) (length graph.now) (map (slot E.see E.see_fault) found.items) [] }
     ensures { IfOk result (λ v. Tabulates (length graph.now) (outcome (E.means evaluator.now) graph.now) (map (shown E.see E.see_fault) v.items)) }
 {
-    fill(alloc, evaluator, graph, order, &mut found, watch)?;
+    for m in order.modules.as_slice() {
+        fill_one(alloc, evaluator, graph, order, *m, &mut found, watch)?;
+    }
     // PROOF: the outcomes are those of the settled
     Ok(all_settled::<E>(alloc, graph, order, found.as_slice())?)
-}
-
-/// Finds the outcomes of the modules of the order.
-fn fill<E: Evaluate, W: Watch>(
-    alloc: Global,
-    evaluator: &E,
-    graph: &Graph,
-    order: &Order,
-    found: &mut Vec<Option<SharedOutcome<E::Value, E::Fault>>>,
-    watch: &W,
-) -> Result<(), AllocError>
-    requires order { IsLoadOrder graph.now order.now.modules.items }
-    requires cyclic { MarksCycles graph.now order.now.pending.items }
-    requires depths { HasDepths graph.now order.now.depths.items }
-    requires found { Filling (outcome (E.means evaluator.now) graph.now) (length graph.now) (map (slot E.see E.see_fault) found.old.items) [] }
-    ensures { OnOk result (Filling (outcome (E.means evaluator.now) graph.now) (length graph.now) (map (slot E.see E.see_fault) found.new.items) order.now.modules.items) }
-{
-    for m in order.modules.as_slice() {
-        fill_one(alloc, evaluator, graph, order, *m, found, watch)?;
-    }
-    Ok(())
 }
 
 /// Finds the outcome of a module that isn't cyclic and whose loads have theirs.

@@ -21,10 +21,9 @@ use Rattle.bq_builtin_machine.specs.Calls as calls
 use Rattle.bq_builtin_operators.specs.Operate as operate
 use Rattle.bq_builtin_operators.specs.InPlace as in_place
 use Rattle.bq_builtin_methods.specs.Call as methods
-use Rattle.bq_eval_host.specs.BuiltIns.{function_named}
 use Rattle.bq_builtin.specs.Call.{call_function}
 use Rattle.bq_eval_rule_functions.specs.Call.{class_in, declare, type_of, call_rule_function, call_kind, call_class, call_cell}
-use Rattle.bq_eval_operations.specs.Calling.{HostCalls, call_found, call_built_in}
+use Rattle.bq_eval_operations.specs.Calling.{HostCalls, call_built_in}
 use Rattle.bq_eval_operations.specs.Making as making
 use Rattle.bq_eval_operations.specs.Passing as passing
 use Rattle.bq_eval_operations.specs.Unpacking as unpacking
@@ -51,14 +50,10 @@ module _ {W : Type 0} (P : W → Type 0) where
 
   module _ (names : List Name) (host : HostCalls W) (hosts : (function : HostFunction) (args : Passed) (s : State × W) → P s.1 → Left (host.call function args s))
       (rules : (kind : List ℕ) (class : Class) (args : Passed) (s : State × W) → P s.1 → Left (host.call_rule kind class args s)) where
-    found_keeps : (o : Option Predeclared) (args : Passed) (s : State × W) → P s.1 → Left (call_found host o args s)
-    found_keeps None args s h = tt
-    found_keeps (Some (p.Host f)) args s h = hosts f args s h
-    found_keeps (Some x) args s h = beside_left s.1 h (call_function x args s.0)
-
-    built_in_keeps : (name : List ℕ) (args : Passed) (s : State × W) → P s.1 → Left (call_built_in names host name args s)
+    built_in_keeps : (x : Predeclared) (args : Passed) (s : State × W) → P s.1 → Left (call_built_in host x args s)
     unfolding call_built_in
-    built_in_keeps name args s h = found_keeps (function_named names name) args s h
+    built_in_keeps (p.Host f) args s h = hosts f args s h
+    built_in_keeps x args s h = beside_left s.1 h (call_function x args s.0)
 
     rule_function_keeps : (function : RuleFunction) (args : Passed) (s : State × W) → P s.1 → Left (call_rule_function host function args s)
     unfolding call_rule_function
@@ -107,7 +102,7 @@ module _ {W : Type 0} (P : W → Type 0) where
       of_pass_named = λ q name v s h. beside_left s.1 h (passing.pass_named q name v s.0);
       of_pass_all = λ q v s h. beside_left s.1 h (passing.pass_all q v s.0);
       of_pass_all_named = λ q v s h. beside_left s.1 h (passing.pass_all_named q v s.0);
-      of_built_in = λ name q s h. built_in_keeps name q s h;
+      of_built_in = λ x q s h. built_in_keeps x q s h;
       of_rule_function = λ function q s h. rule_function_keeps function q s h;
       of_cell = λ home number q s h. cell_keeps home number q s h;
       of_method = λ name v q s h. beside_left s.1 h (methods.call_method name v q s.0);

@@ -1,6 +1,6 @@
 //! A module from its claim to its end.
-ghost use Rattle.std.specs.Prelude.{◌≡◌, ℕ, List, ◌+◌, ◌<◌, ◌++◌, ◌∷◌, [], length, vec_len, All, IfOk, IsTrue, OnOk};
-ghost use Rattle.bq_board.specs.Conditions.{Owes, Holds};
+ghost use Rattle.std.specs.Prelude.{◌≡◌, ℕ, List, ◌+◌, ◌<◌, ◌++◌, ◌∷◌, [], length, vec_len, All, IfOk, OnOk};
+ghost use Rattle.bq_board.specs.Conditions.{Owes};
 ghost use Rattle.bq_board.specs.Plan.{IsOut};
 ghost use Rattle.bq_board.specs.Seats.{IsSeatOf, view_of};
 ghost use Rattle.bq_load_outcome_spec.specs.Outcome.{outcome};
@@ -30,8 +30,10 @@ impl<E: Evaluate> WorkerPool<E> {
         ensures brought { (before : List ℕ) → Brought E.see E.see_fault (outcome (E.means self.now.evaluator) self.now.graph) (length self.now.graph) before (view_of seat.old).finished modules.old.items → OnOk result (Brought E.see E.see_fault (outcome (E.means self.now.evaluator) self.now.graph) (length self.now.graph) before (view_of seat.new).finished modules.new.items) }
     {
         let _ = self.graph.len(); // PROOF: the graph is valid
-        if !self.wins(seat, m) {
-            return Ok(());
+        match self.board.claim(seat, m) {
+            Claim::Won => {}
+            Claim::Taken => return Ok(()),
+            Claim::Waiting(_) => return Ok(()),
         }
         let outcome = self.find(alloc, seat, m, watch)?;
         let out = self.board.plan().edges_out(m);
@@ -40,21 +42,6 @@ impl<E: Evaluate> WorkerPool<E> {
         modules.push(FinishedModule { number, outcome })?;
         self.deliver(seat, m, out, copies);
         Ok(())
-    }
-
-    /// Claims a module, and returns whether it was won.
-    fn wins(&self, seat: &mut Seat<Import<E>>, m: usize) -> bool
-        requires seat { IsSeatOf self.now.board seat.old }
-        requires known { m < length self.now.board.plan }
-        ensures seat { IsSeatOf self.now.board seat.new }
-        ensures won { IsTrue result → Holds self.now.board.plan (view_of seat.new) m }
-        ensures finished { (view_of seat.new).finished ≡ (view_of seat.old).finished }
-    {
-        match self.board.claim(seat, m) {
-            Claim::Won => true,
-            Claim::Taken => false,
-            Claim::Waiting(_) => false,
-        }
     }
 
     /// Posts a module's value along all edges out of it, and finishes the module.

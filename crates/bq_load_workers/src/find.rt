@@ -8,7 +8,7 @@ ghost use Rattle.bq_load_order.specs.Shown.{seen, shown};
 
 use crate::import::Import;
 use crate::pool::WorkerPool;
-use bq_board::{Seat, edges_are_loads};
+use bq_board::Seat;
 use bq_load_order::{Evaluate, SharedOutcome, Watch, first_at_limit, first_cyclic, outcome_by};
 use bq_load_outcome_spec::Outcome;
 use std::alloc::{AllocError, Global};
@@ -58,7 +58,6 @@ impl<E: Evaluate> WorkerPool<E> {
         ensures finished { (view_of seat.new).finished ≡ (view_of seat.old).finished }
         ensures values { IfOk result (λ r. seen E.see r ≡ values (outcome (E.means self.now.evaluator) self.now.graph) (row self.now.board.plan m)) }
     {
-        edges_are_loads(); // PROOF: the edges into a module are its loads
         let mut imports = Vec::new(alloc);
         for e in self.board.plan().start(m)..self.board.plan().start(m + 1) {
             let import = self.board.fetch(seat, e);

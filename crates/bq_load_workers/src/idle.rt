@@ -16,7 +16,8 @@ const TURNS_AWAKE: u32 = 32;
 /// Counts what sleeping workers wait for.
 #[derive(Drop)]
 pub(crate) struct Idle {
-    events: AtomicU64,
+    /// How many events there were.
+    pub(crate) events: AtomicU64,
     sleepers: AtomicU64,
 }
 
@@ -28,30 +29,21 @@ impl Idle {
         }
     }
 
-    /// Returns how many events there were.
-    pub(crate) fn events(&self) -> u64 {
-        self.events.load(Ordering::SeqCst)
-    }
-
-    /// Wakes one sleeper for an event.
+    /// Counts an event, and wakes one sleeper if anybody sleeps. A worker that falls asleep just now counts itself first,
+    /// so either it is seen here, or it sees this event.
     pub(crate) fn tell_one(&self) {
-        if self.count() {
+        self.events.fetch_add(1, Ordering::SeqCst);
+        if self.sleepers.load(Ordering::SeqCst) > 0 {
             self.events.wake_one();
         }
     }
 
-    /// Wakes all sleepers for an event.
+    /// Counts an event, and wakes all sleepers, likewise.
     pub(crate) fn tell_all(&self) {
-        if self.count() {
+        self.events.fetch_add(1, Ordering::SeqCst);
+        if self.sleepers.load(Ordering::SeqCst) > 0 {
             self.events.wake_all();
         }
-    }
-
-    /// Counts an event, and returns whether anybody sleeps. A worker that falls asleep just now counts itself first, so
-    /// either it is seen here, or it sees this event.
-    fn count(&self) -> bool {
-        self.events.fetch_add(1, Ordering::SeqCst);
-        self.sleepers.load(Ordering::SeqCst) > 0
     }
 
     /// Lets a worker wait that found nothing for `turns` turns, and knew of `seen` events before it looked: it yields,

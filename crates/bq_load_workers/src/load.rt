@@ -41,28 +41,13 @@ fn found_by<E: Evaluate>(
     ensures found { IfOk result (λ v. Filling (outcome (E.means pool.now.evaluator) pool.now.graph) (length pool.now.graph) (map (slot E.see E.see_fault) v.items) []) }
 {
     let mut found = empty_slots(alloc, pool.graph.len())?;
-    put_back(pool, &mut found, answers)?;
-    Ok(found)
-}
-
-/// Puts what all workers brought into the slots. Fails if a worker ran out of memory.
-fn put_back<E: Evaluate>(
-    pool: &WorkerPool<E>,
-    found: &mut Vec<Option<SharedOutcome<E::Value, E::Fault>>>,
-    answers: &[Answer<E::Value, E::Fault>],
-) -> Result<(), AllocError>
-    requires right { All (IsAnswer E.see E.see_fault (outcome (E.means pool.now.evaluator) pool.now.graph) (length pool.now.graph)) answers.now }
-    requires found { Filling (outcome (E.means pool.now.evaluator) pool.now.graph) (length pool.now.graph) (map (slot E.see E.see_fault) found.old.items) [] }
-    ensures had { OnOk result (All IsOk answers.now) }
-    ensures found { OnOk result (Filling (outcome (E.means pool.now.evaluator) pool.now.graph) (length pool.now.graph) (map (slot E.see E.see_fault) found.new.items) []) }
-{
     for answer in answers {
         match answer {
-            Ok(worked) => put_all(pool, found, worked.modules.as_slice())?,
+            Ok(worked) => put_all(pool, &mut found, worked.modules.as_slice())?,
             Err(_) => return Err(AllocError),
         }
     }
-    Ok(())
+    Ok(found)
 }
 
 /// Puts what one worker brought into the slots.

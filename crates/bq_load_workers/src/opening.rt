@@ -92,50 +92,26 @@ fn list_of(
     Ok(list)
 }
 
-/// Returns each place with its list.
-fn seated<E: Evaluate>(
-    alloc: Global,
-    board: &Board<Import<E>>,
-    stop: &AtomicBool,
-    mut places: Vec<Seat<Import<E>>>,
-) -> Result<Vec<WorkerSeat<E>>, AllocError>
-    requires { All (λ s. IsSeatOf board.now s × (view_of s ≡ blank (base_of board.now) board.now.plan)) places.items }
-    ensures count { IfOk result (λ v. vec_len v ≡ vec_len places) }
-    ensures fresh { IfOk result (λ v. All (λ s. IsSeatOf board.now s.place × (view_of s.place ≡ blank (base_of board.now) board.now.plan)) v.items) }
-{
-    let count = places.len();
-    let mut seats = Vec::new(alloc);
-    for i in 0..count {
-        let place = places.pop().unwrap();
-        let list = list_of(alloc, board.plan(), stop, i, count)?;
-        seats.push(WorkerSeat { place, list })?;
-    }
-    Ok(seats)
-}
-
 /// Returns each place with its list, and what steals from these lists.
 fn seats_and_stealers<E: Evaluate>(
     alloc: Global,
     board: &Board<Import<E>>,
     stop: &AtomicBool,
-    places: Vec<Seat<Import<E>>>,
+    mut places: Vec<Seat<Import<E>>>,
 ) -> Result<(Vec<WorkerSeat<E>>, Vec<Stealer<u32>>), AllocError>
     requires { All (λ s. IsSeatOf board.now s × (view_of s ≡ blank (base_of board.now) board.now.plan)) places.items }
     ensures count { IfOk result (λ r. vec_len r.0 ≡ vec_len places) }
     ensures fresh { IfOk result (λ r. All (λ s. IsSeatOf board.now s.place × (view_of s.place ≡ blank (base_of board.now) board.now.plan)) r.0.items) }
 {
-    let seats = seated(alloc, board, stop, places)?;
-    let stealers = stealers_of(alloc, seats.as_slice())?;
-    Ok((seats, stealers))
-}
-
-fn stealers_of<E: Evaluate>(
-    alloc: Global,
-    seats: &[WorkerSeat<E>],
-) -> Result<Vec<Stealer<u32>>, AllocError> {
+    let count = places.len();
+    let mut seats = Vec::new(alloc);
     let mut stealers = Vec::new(alloc);
-    for seat in seats {
-        stealers.push(seat.list.stealer()?)?;
+    for i in 0..count {
+        let place = places.pop().unwrap();
+        let list = list_of(alloc, board.plan(), stop, i, count)?;
+        let stealer = list.stealer()?;
+        seats.push(WorkerSeat { place, list })?;
+        stealers.push(stealer)?;
     }
-    Ok(stealers)
+    Ok((seats, stealers))
 }

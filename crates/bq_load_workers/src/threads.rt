@@ -92,7 +92,10 @@ fn start<'s, X, R: Threads + Wait + Sync, E: Evaluate, W: Watch>(
     let work = move || -> Answer<E::Value, E::Fault>
         requires { IsSeatOf pool.now.board seat.place }
         ensures { IsAnswer E.see E.see_fault (outcome (E.means pool.entry.now.evaluator) pool.entry.now.graph) (length pool.entry.now.graph) result }
-    { worked(rt, alloc, pool, seat, watch) };
+    {
+        let mut seat = seat;
+        pool.work(rt, alloc, &mut seat, watch)
+    };
     let base = Base::of(&pool.evaluator, &pool.graph);
     match Stack::new()
         .stack_size(EVALUATION_STACK)
@@ -101,20 +104,6 @@ fn start<'s, X, R: Threads + Wait + Sync, E: Evaluate, W: Watch>(
         Ok(worker) => Some(worker),
         Err(_) => None,
     }
-}
-
-/// Returns what a seat brings.
-fn worked<R: Wait, E: Evaluate, W: Watch>(
-    rt: &R,
-    alloc: Global,
-    pool: &WorkerPool<E>,
-    mut seat: WorkerSeat<E>,
-    watch: &W,
-) -> Answer<E::Value, E::Fault>
-    requires seat { IsSeatOf pool.now.board seat.place }
-    ensures { IsAnswer E.see E.see_fault (outcome (E.means pool.now.evaluator) pool.now.graph) (length pool.now.graph) result }
-{
-    pool.work(rt, alloc, &mut seat, watch)
 }
 
 /// Returns what the threads bring: an answer of each of them.

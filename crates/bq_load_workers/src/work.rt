@@ -52,7 +52,7 @@ impl<E: Evaluate> WorkerPool<E> {
         let mut modules = Vec::new(alloc);
         let mut turns: u32 = 0;
         for _ in rt.forever() {
-            let seen = self.idle.events();
+            let seen = self.idle.events.load(Ordering::SeqCst);
             if self.stop.load(Ordering::SeqCst) {
                 return Ok(WorkDone {
                     all: false,

@@ -9,7 +9,7 @@ use Rattle.bq_resolve_scope.specs.declared.code.CodeParameter.{CodeParameter}
 use Rattle.bq_resolve_scope.specs.declared.code.CodeParameter.TheVariants as parameter
 use Rattle.bq_resolve_scope.specs.Names.{max_layers}
 use Rattle.bq_value.specs.Contents.{pairs}
-use Rattle.bq_value.specs.Datum.{Datum, none, tuple, cell, function, built_in, rule_function, data_of, list_of}
+use Rattle.bq_value.specs.Datum.{Datum, none, tuple, cell, function, function_of, built_in, rule_function, data_of, list_of}
 use Rattle.bq_builtin_machine.specs.Action.{Action}
 use Rattle.bq_builtin_machine.specs.Args.{Passed}
 use Rattle.bq_builtin_machine.specs.Binding.{BoundView, bind}
@@ -135,7 +135,7 @@ module _ {S : Type 0} (m : Primitives S) (L : Lawful m) where
 
   apply_by_rule : (units : Units) → UnitsAreSound units → (inner : Option (Calls S)) → EveryInner inner → (v : Datum) (p : Passed) → Itself Datum (apply_by m units inner v p)
   apply_by_rule units sound inner inners (function home place name ds) p = call_at_rule units sound inner inners home place (list_of ds) p
-  apply_by_rule units sound inner inners (built_in name) p = L.of_built_in name p
+  apply_by_rule units sound inner inners (built_in b) p = L.of_built_in (function_of b) p
   apply_by_rule units sound inner inners (rule_function g) p = L.of_rule_function g p
   apply_by_rule units sound inner inners (cell home number) p = L.of_cell home number p
   apply_by_rule units sound inner inners v p = stop_of m Datum f.WrongType refl

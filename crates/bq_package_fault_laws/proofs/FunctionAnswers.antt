@@ -268,7 +268,7 @@ type_name_fine s (datum.tuple xs) = tt
 type_name_fine s (datum.range start stop step) = tt
 type_name_fine s (cell home number) = content_type_fine (content_at s home number)
 type_name_fine s (function home place name defaults) = tt
-type_name_fine s (built_in name) = tt
+type_name_fine s (built_in b) = tt
 type_name_fine s (rule_function g) = tt
 type_name_fine s (attribute a) = tt
 

@@ -1,23 +1,20 @@
 -- What the rules ask for stops for faults of evaluation alone, beside a host whose calls do.
-use Rattle.std.proofs.Common.{ℕ, List, Option, Some, None, refl}
-use Rattle.bq_base.specs.declared.fault.FaultKind.TheVariants.{WrongType}
+use Rattle.std.proofs.Common.{List}
 use Rattle.bq_resolve_predeclared.specs.declared.predeclared.Predeclared.{Predeclared}
 use Rattle.bq_resolve_predeclared.specs.declared.predeclared.Predeclared.TheVariants as p
 use Rattle.bq_resolve_scope.specs.Names.{Name}
 use Rattle.bq_value.specs.Datum.{Datum}
 use Rattle.bq_builtin_machine.specs.Action.{Action, Run, done, stopped, beside, on_machine}
-use Rattle.bq_builtin_machine.specs.Action as action
 use Rattle.bq_builtin_machine.specs.Args.{Passed}
 use Rattle.bq_builtin_machine.specs.State.{State}
-use Rattle.bq_eval_host.specs.BuiltIns.{function_named}
 use Rattle.bq_builtin.specs.Call.{call_function}
-use Rattle.bq_eval_operations.specs.Calling.{HostCalls, call_found, call_built_in}
+use Rattle.bq_eval_operations.specs.Calling.{HostCalls, call_built_in}
 use Rattle.bq_eval_operations.specs.Runtime.{primitives}
 use Rattle.bq_package_fault_laws.specs.Faults.{IsRefusal, Refusing, HostRefuses}
 use Rattle.bq_package_fault_laws.proofs.Collections.{method_owns}
 use Rattle.bq_package_fault_laws.proofs.Functions.{function_owns}
 use Rattle.bq_package_fault_laws.proofs.Lawful.{Lawful}
-use Rattle.bq_package_fault_laws.proofs.Machine.{Own, stop_owns, step_owns, enter_owns, new_owns, begin_owns}
+use Rattle.bq_package_fault_laws.proofs.Machine.{Own, step_owns, enter_owns, new_owns, begin_owns}
 use Rattle.bq_package_fault_laws.proofs.Making.{add_owns, put_pair_owns, add_pair_owns, pass_owns, pass_named_owns, pass_all_owns, pass_all_named_owns, parts_owns}
 use Rattle.bq_package_fault_laws.proofs.RuleFunctions.{function_refuses, cell_refuses}
 use Rattle.bq_package_fault_laws.proofs.Operators.{binary_owns, unary_owns, compare_owns, index_owns, slice_owns, augment_owns, set_index_owns}
@@ -31,14 +28,10 @@ module _ {W : Type 0} (names : List Name) (host : HostCalls W) (refuses : HostRe
   lifted : (A : Type 0) (a : Action State A) → Own a → Refusing {S = State × W} A (on_machine a)
   lifted A a h s = beside_it s.1 (a s.0) (h s.0)
 
-  found_refuses : (o : Option Predeclared) (args : Passed) → Refusing Datum (call_found host o args)
-  found_refuses None args = lifted Datum (action.stop WrongType) (stop_owns Datum WrongType refl)
-  found_refuses (Some (p.Host f)) args = refuses.0 f args
-  found_refuses (Some x) args = lifted Datum (call_function x args) (function_owns x args)
-
-  built_in_refuses : (name : List ℕ) (args : Passed) → Refusing Datum (call_built_in names host name args)
+  built_in_refuses : (x : Predeclared) (args : Passed) → Refusing Datum (call_built_in host x args)
   unfolding call_built_in
-  built_in_refuses name args = found_refuses (function_named names name) args
+  built_in_refuses (p.Host f) args = refuses.0 f args
+  built_in_refuses x args = lifted Datum (call_function x args) (function_owns x args)
 
   pub lawful : Lawful (primitives names host)
   unfolding primitives
@@ -61,7 +54,7 @@ module _ {W : Type 0} (names : List Name) (host : HostCalls W) (refuses : HostRe
     of_pass_named = λ q name v. lifted Passed _ (pass_named_owns q name v);
     of_pass_all = λ q v. lifted Passed _ (pass_all_owns q v);
     of_pass_all_named = λ q v. lifted Passed _ (pass_all_named_owns q v);
-    of_built_in = λ name q. built_in_refuses name q;
+    of_built_in = λ x q. built_in_refuses x q;
     of_rule_function = λ function q. function_refuses host refuses function q;
     of_cell = λ home number q. cell_refuses host refuses home number q;
     of_method = λ name v q. lifted Datum _ (method_owns name v q);

@@ -5,6 +5,7 @@ use Rattle.bq_base.specs.declared.fault.FaultKind.{FaultKind}
 use Rattle.bq_parse_grammar.specs.declared.tree.Comparison.{Comparison}
 use Rattle.bq_parse_grammar.specs.declared.tree.Operator.{Operator}
 use Rattle.bq_parse_grammar.specs.declared.tree.UnaryOperator.{UnaryOperator}
+use Rattle.bq_resolve_predeclared.specs.declared.predeclared.Predeclared.{Predeclared}
 use Rattle.bq_resolve_predeclared.specs.declared.rule_function.RuleFunction.{RuleFunction}
 use Rattle.bq_value.specs.Contents.{Contents}
 use Rattle.bq_value.specs.Datum.{Datum}
@@ -55,7 +56,7 @@ pub record Lawful {S : Type 0} (m : Primitives S) : Type 0 where
   pub of_pass_named : (p : Passed) (name : List ℕ) (v : Datum) → Refusing Passed (m.pass_named p name v)
   pub of_pass_all : (p : Passed) (v : Datum) → Refusing Passed (m.pass_all p v)
   pub of_pass_all_named : (p : Passed) (v : Datum) → Refusing Passed (m.pass_all_named p v)
-  pub of_built_in : (name : List ℕ) (p : Passed) → Refusing Datum (m.call_built_in name p)
+  pub of_built_in : (x : Predeclared) (p : Passed) → Refusing Datum (m.call_built_in x p)
   pub of_rule_function : (function : RuleFunction) (p : Passed) → Refusing Datum (m.call_rule_function function p)
   pub of_cell : (home number : ℕ) (p : Passed) → Refusing Datum (m.call_cell home number p)
   pub of_method : (name : List ℕ) (v : Datum) (p : Passed) → Refusing Datum (m.call_method name v p)

@@ -95,7 +95,7 @@ contained_walks s v none = λ n. refl
 contained_walks s v (boolean b) = λ n. refl
 contained_walks s v (int n) = λ n. refl
 contained_walks s v (function home place name ds) = λ n. refl
-contained_walks s v (built_in name) = λ n. refl
+contained_walks s v (built_in b) = λ n. refl
 contained_walks s v (rule_function g) = λ n. refl
 contained_walks s v (attribute a) = λ n. refl
 
@@ -135,7 +135,7 @@ item_walks s none at = λ n. refl
 item_walks s (boolean b) at = λ n. refl
 item_walks s (int n) at = λ n. refl
 item_walks s (function home place name ds) at = λ n. refl
-item_walks s (built_in name) at = λ n. refl
+item_walks s (built_in b) at = λ n. refl
 item_walks s (rule_function g) at = λ n. refl
 item_walks s (attribute a) at = λ n. refl
 

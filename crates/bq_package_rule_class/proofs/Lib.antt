@@ -1,5 +1,5 @@
--- what a map with keys of bytes says of names
-pub mod Keyed
+-- names beside attributes, and what is looked up in both
+pub mod Paired
 -- attributes that are the same, and equal ones
 pub mod Equal
 -- lists of labels that differ in length

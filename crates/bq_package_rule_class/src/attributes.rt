@@ -1,11 +1,11 @@
 //! Attributes by their names.
 
-ghost use Rattle.std.specs.Prelude.{◌≡◌, [], not, length, bytes_eq, option_copied, option_map, slice_get, IfOk, OnOk};
-ghost use Rattle.std.specs.Map.{lookup};
-ghost use Rattle.bq_package_rule_class.specs.Class.{has_attribute, with_attribute, extended};
+ghost use Rattle.std.specs.Prelude.{◌≡◌, [], IfOk};
+ghost use Rattle.bq_package_rule_class.specs.Class.{extended};
 
 use crate::attribute::Attribute;
-use indexmap::IndexMap;
+use bq_base::Bytes;
+use bq_base_names::NameSet;
 use std::alloc::{AllocError, Global};
 use std::marker::Model;
 
@@ -13,11 +13,14 @@ use std::marker::Model;
 /// name.
 #[derive(Drop)]
 pub struct Attributes {
-    entries: IndexMap<Vec<u8>, Attribute>,
+    pub(crate) names: NameSet,
+    /// The attribute of each name, in the same order.
+    pub(crate) attributes: Vec<Attribute>,
 }
 
 impl Model for Attributes {
-    ghost use Rattle.std.specs.Prelude.{map};
+    ghost use Rattle.std.specs.Prelude.{◌≡◌, length};
+    ghost use Rattle.std.specs.List.{zip};
     ghost use Rattle.bq_package_rule_class.specs.Class.{Class};
     ghost use Rattle.bq_package_rule_class.specs.Codes.{coded_class};
 
@@ -25,7 +28,9 @@ impl Model for Attributes {
 
     ghost coded = { coded_class };
 
-    ghost view = { λ a. map (λ e. (e.0.items, e.1)) a.entries.entries };
+    ghost view = { λ a. zip a.names a.attributes.items };
+
+    ghost invariant = { λ a. length a.names ≡ length a.attributes.items };
 }
 
 impl Attributes {
@@ -34,49 +39,13 @@ impl Attributes {
         ensures { result ≡ [] }
     {
         Attributes {
-            entries: IndexMap::new(alloc),
+            names: NameSet::new(alloc),
+            attributes: Vec::new(alloc),
         }
-    }
-
-    pub(crate) fn len(&self) -> usize
-        ensures { result ≡ length self.now }
-    {
-        self.entries.len()
-    }
-
-    /// Returns the attribute of this name.
-    pub(crate) fn get(&self, name: &[u8]) -> Option<&Attribute>
-        ensures { option_copied result ≡ lookup (bytes_eq name.now) self.now }
-    {
-        self.entries.get(name)
-    }
-
-    /// Returns the attribute at a place, with its name.
-    pub(crate) fn entry(&self, place: usize) -> Option<(&[u8], &Attribute)>
-        ensures { option_map (λ e. (e.0.now, e.1.now)) result ≡ slice_get self.now place }
-    {
-        match self.entries.get_index(place) {
-            Some((name, attribute)) => Some((name.as_slice(), attribute)),
-            None => None,
-        }
-    }
-
-    /// Appends an attribute; true if there was none of its name.
-    #[tactic(auto, unfolding(crate::specs::Class::with_attribute))]
-    fn add(&mut self, alloc: Global, name: &[u8], attribute: Attribute) -> Result<bool, AllocError>
-        ensures added { IfOk result (λ added. added ≡ not (has_attribute self.old name.now)) }
-        ensures after { OnOk result (self.new ≡ with_attribute self.old name.now attribute) }
-    {
-        if self.get(name).is_some() {
-            return Ok(false);
-        }
-        let key = name.to_vec(alloc)?;
-        self.entries.insert(key, attribute)?;
-        Ok(true)
     }
 
     /// Appends an attribute; `None` if one has the name.
-    #[tactic(auto, unfolding(crate::specs::Class::extended, crate::specs::Class::with_attribute))]
+    #[tactic(auto, unfolding(crate::specs::Class::extended), using(crate::proofs::Paired::has_name, crate::proofs::Paired::pushed))]
     pub fn with(
         self,
         alloc: Global,
@@ -85,10 +54,15 @@ impl Attributes {
     ) -> Result<Option<Attributes>, AllocError>
         ensures { IfOk result (λ c. c ≡ extended self name.now attribute) }
     {
-        let mut attributes = self;
-        if !attributes.add(alloc, name, attribute)? {
+        let Attributes {
+            mut names,
+            mut attributes,
+        } = self;
+        let name = Bytes::from_slice(alloc, name)?;
+        if !names.add(&name)? {
             return Ok(None);
         }
-        Ok(Some(attributes))
+        attributes.push(attribute)?;
+        Ok(Some(Attributes { names, attributes }))
     }
 }

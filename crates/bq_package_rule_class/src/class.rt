@@ -5,6 +5,7 @@ ghost use Rattle.std.specs.Map.{lookup};
 
 use crate::attribute::Attribute;
 use crate::attributes::Attributes;
+use sqlite_items::at;
 use std::alloc::{AllocError, Global};
 use std::marker::Model;
 use std::sync::Arc;
@@ -53,23 +54,33 @@ impl RuleClass {
     }
 
     /// Returns the number of attributes.
+    #[tactic(auto, using(crate::proofs::Paired::as_many))]
     pub fn len(&self) -> usize
         ensures { result ≡ length self.now }
     {
-        self.attributes.len()
+        self.attributes.attributes.len()
     }
 
     /// Returns the attribute of this name.
+    #[tactic(auto, using(crate::proofs::Paired::unnamed, crate::proofs::Paired::named))]
     pub fn get(&self, name: &[u8]) -> Option<&Attribute>
         ensures { option_copied result ≡ lookup (bytes_eq name.now) self.now }
     {
-        self.attributes.get(name)
+        let own: &Attributes = &self.attributes;
+        match own.names.place(name) {
+            None => None,
+            Some(place) => at(&own.attributes, place),
+        }
     }
 
     /// Returns the attribute at a place, with its name.
+    #[tactic(auto, using(crate::proofs::Paired::no_name_at, crate::proofs::Paired::no_attribute_at, crate::proofs::Paired::both_at))]
     pub fn entry(&self, place: usize) -> Option<(&[u8], &Attribute)>
         ensures { option_map (λ e. (e.0.now, e.1.now)) result ≡ slice_get self.now place }
     {
-        self.attributes.entry(place)
+        let own: &Attributes = &self.attributes;
+        let name = at(own.names.as_slice(), place)?;
+        let attribute = at(&own.attributes, place)?;
+        Some((name.as_slice(), attribute))
     }
 }

@@ -1,4 +1,3 @@
-pub mod Keyed
 pub mod Lasts
 pub mod Lines
 pub mod Differ

@@ -17,10 +17,6 @@ no_rules = record { names = []; classes = [] }
 abbrev pub has : List (List ℕ) → List ℕ → Bool
 has names name = list_any (bytes_eq name) names
 
--- the name as the last, where it isn't there
-unfoldable pub with_name : List (List ℕ) → List ℕ → List (List ℕ)
-with_name names name = if has names name then names else names ++ name ∷ []
-
 -- one more rule, without attributes of its own; `None` if one has the name
 unfoldable pub with_rule : Rules → List ℕ → Option Rules
 with_rule rules name = if has rules.names name then None else Some (record { names = rules.names ++ name ∷ []; classes = rules.classes ++ [] ∷ [] })

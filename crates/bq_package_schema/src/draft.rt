@@ -5,9 +5,9 @@ ghost use Rattle.bq_package_schema.specs.Schema.{no_rules, with_rule, with_attri
 ghost use Rattle.bq_package_schema.specs.Draft.{classes_of};
 
 use crate::line::Line;
-use crate::names::RuleNames;
 use crate::schema::Schema;
 use bq_base::Bytes;
+use bq_base_names::NameSet;
 use bq_package_rule_class::{Attribute, Attributes, RuleClass};
 use sqlite_items::Items;
 use std::alloc::{AllocError, Global};
@@ -25,23 +25,18 @@ pub struct Classes {
 /// The rules so far. Contracts see what they see of a schema.
 #[derive(Drop)]
 pub struct Draft {
-    names: Vec<Bytes>,
-    /// The same names, in which a name is looked up.
-    places: RuleNames,
+    names: NameSet,
     /// `None` while there is no rule.
     classes: Option<Classes>,
 }
 
 impl Model for Draft {
-    ghost use Rattle.std.specs.Prelude.{◌≡◌};
     ghost use Rattle.bq_package_schema.specs.Schema.{Rules};
     ghost use Rattle.bq_package_schema.specs.Draft.{classes_of};
 
     ghost Value = { Rules };
 
-    ghost view = { λ d. record { names = d.names.items; classes = classes_of d.classes } };
-
-    ghost invariant = { λ d. d.places ≡ d.names.items };
+    ghost view = { λ d. record { names = d.names; classes = classes_of d.classes } };
 }
 
 /// Returns the classes, each of which is shared from now on.
@@ -62,8 +57,7 @@ impl Draft {
         ensures { result ≡ no_rules }
     {
         Draft {
-            names: Vec::new(alloc),
-            places: RuleNames::new(alloc),
+            names: NameSet::new(alloc),
             classes: None,
         }
     }
@@ -72,39 +66,28 @@ impl Draft {
     pub fn finish(self, alloc: Global) -> Result<Schema, AllocError>
         ensures { IfOk result (λ s. s ≡ self) }
     {
-        let Draft {
-            names,
-            places,
-            classes,
-        } = self;
+        let Draft { names, classes } = self;
         Ok(Schema {
             names,
-            places,
             classes: shared(alloc, classes)?,
         })
     }
 
     /// Adds a rule without attributes; `None` if one has the name.
-    #[tactic(auto, unfolding(crate::specs::Schema::with_rule, crate::specs::Schema::with_name))]
+    #[tactic(auto, unfolding(crate::specs::Schema::with_rule))]
     fn with_rule(self, alloc: Global, name: Bytes) -> Result<Option<Draft>, AllocError>
         ensures { IfOk result (λ d. d ≡ with_rule self name) }
     {
-        let Draft {
-            mut names,
-            mut places,
-            classes,
-        } = self;
-        if !places.add(alloc, name.as_slice())? {
+        let Draft { mut names, classes } = self;
+        if !names.add(&name)? {
             return Ok(None);
         }
-        names.push(name)?;
         let classes = Classes {
             before: shared(alloc, classes)?,
             last: Attributes::new(alloc),
         };
         Ok(Some(Draft {
             names,
-            places,
             classes: Some(classes),
         }))
     }
@@ -119,11 +102,7 @@ impl Draft {
     ) -> Result<Option<Draft>, AllocError>
         ensures { IfOk result (λ d. d ≡ with_attribute_of_last self name attribute) }
     {
-        let Draft {
-            names,
-            places,
-            classes,
-        } = self;
+        let Draft { names, classes } = self;
         let Some(classes) = classes else {
             return Ok(None);
         };
@@ -132,7 +111,6 @@ impl Draft {
             None => Ok(None),
             Some(last) => Ok(Some(Draft {
                 names,
-                places,
                 classes: Some(Classes { before, last }),
             })),
         }

@@ -1,13 +1,11 @@
 //! The text of a schema comes in; the rules that it declares go out, with their typed attributes, or its first bad line.
 //!
 //! The promise: [`read_schema`] returns exactly what the lines of the text declare (`specs/Reading.antt`). A text that
-//! is no schema has fault F80 at its first bad line, and that one is returned. A name is looked up in time proportional
-//! to its length.
+//! is no schema has fault F80 at its first bad line, and that one is returned.
 //!
 //! In reading order:
 //!
 //! - `line`: what one line of a schema says;
-//! - `names`: names with their places;
 //! - `schema`: the rules that a schema declares;
 //! - `draft`: the rules declared so far, and what a further line adds to them;
 //! - `read`: the lines of a whole text;
@@ -18,7 +16,6 @@
 mod draft;
 mod laws;
 mod line;
-mod names;
 mod read;
 mod schema;
 mod standard;

@@ -2,7 +2,7 @@
 
 ghost use Rattle.std.specs.Prelude.{◌≡◌, ◌==◌, map, codes, bytes_eq, if◌then◌else◌, IfOk};
 ghost use Rattle.std.specs.List.{list_all, slice_split};
-ghost use Rattle.bq_package_schema.specs.Line.{is_blank, is_skipped, is_predeclared, names_rule, names_attribute, words, rule_line, attribute_line, words_line, line_of};
+ghost use Rattle.bq_package_schema.specs.Line.{is_blank, is_skipped, words, rule_line, attribute_line, words_line, line_of};
 ghost use Rattle.bq_package_schema.specs.declared.line.Line.TheVariants as line;
 
 use bq_base::Bytes;
@@ -49,28 +49,6 @@ fn is_skipped(line: &[u8]) -> bool
     }
 }
 
-/// Returns whether files have this name without a schema.
-#[tactic(auto, unfolding(crate::specs::Line::is_predeclared))]
-fn is_predeclared(name: &[u8]) -> bool
-    ensures { result ≡ is_predeclared name.now }
-{
-    predeclared_named(name).is_some() || name == b"native".as_slice()
-}
-
-#[tactic(auto, unfolding(crate::specs::Line::names_rule))]
-fn names_rule(name: &[u8]) -> bool
-    ensures { result ≡ names_rule name.now }
-{
-    is_identifier(name) && !is_predeclared(name)
-}
-
-#[tactic(auto, unfolding(crate::specs::Line::names_attribute))]
-fn names_attribute(name: &[u8]) -> bool
-    ensures { result ≡ names_attribute name.now }
-{
-    is_identifier(name) && common_attribute(name).is_none()
-}
-
 /// Returns the words of a line, which single spaces separate.
 fn words(alloc: Global, line: &[u8]) -> Result<Vec<&[u8]>, AllocError>
     ensures { IfOk result (λ v. map (λ w. w.now) v.items ≡ words line.now) }
@@ -79,28 +57,33 @@ fn words(alloc: Global, line: &[u8]) -> Result<Vec<&[u8]>, AllocError>
 }
 
 /// Reads `rule NAME`.
-#[tactic(auto, unfolding(crate::specs::Line::rule_line))]
+#[tactic(auto, unfolding(crate::specs::Line::rule_line, crate::specs::Line::names_rule, crate::specs::Line::is_predeclared))]
 fn rule_line(alloc: Global, name: &[u8]) -> Result<Line, AllocError>
     ensures { IfOk result (λ line. line ≡ rule_line name.now) }
 {
-    if !names_rule(name) {
+    // Files have the names of a kind, and `native`, without a schema.
+    if !is_identifier(name) || predeclared_named(name).is_some() || name == b"native".as_slice() {
         return Ok(Line::Other);
     }
     let name = Bytes::from_slice(alloc, name)?;
     Ok(Line::Rule(name))
 }
 
-/// Reads `attr NAME TYPE`.
-#[tactic(auto, unfolding(crate::specs::Line::attribute_line))]
+/// Reads `attr NAME TYPE` from its words.
+#[tactic(auto, unfolding(crate::specs::Line::attribute_line, crate::specs::Line::names_attribute))]
 fn attribute_line(
     alloc: Global,
+    key: &[u8],
     name: &[u8],
     kind: &[u8],
     is_mandatory: bool,
 ) -> Result<Line, AllocError>
-    ensures { IfOk result (λ line. line ≡ attribute_line name.now kind.now is_mandatory) }
+    ensures { IfOk result (λ said. said ≡ (if bytes_eq key.now (codes "attr") then attribute_line name.now kind.now is_mandatory else line.Other)) }
 {
-    if !names_attribute(name) {
+    if key != b"attr".as_slice() {
+        return Ok(Line::Other);
+    }
+    if !is_identifier(name) || common_attribute(name).is_some() {
         return Ok(Line::Other);
     }
     let Some(kind) = type_named(kind) else {
@@ -121,22 +104,6 @@ fn is_word(word: &[u8], other: &[u8]) -> bool
     word == other
 }
 
-/// Reads the line of an attribute that begins with this word.
-fn begun_attribute(
-    alloc: Global,
-    key: &[u8],
-    name: &[u8],
-    kind: &[u8],
-    is_mandatory: bool,
-) -> Result<Line, AllocError>
-    ensures { IfOk result (λ said. said ≡ (if bytes_eq key.now (codes "attr") then attribute_line name.now kind.now is_mandatory else line.Other)) }
-{
-    if !is_word(key, b"attr") {
-        return Ok(Line::Other);
-    }
-    attribute_line(alloc, name, kind, is_mandatory)
-}
-
 /// Reads a line of these words.
 #[tactic(auto, unfolding(crate::specs::Line::words_line))]
 fn words_line(alloc: Global, words: &[&[u8]]) -> Result<Line, AllocError>
@@ -144,9 +111,9 @@ fn words_line(alloc: Global, words: &[&[u8]]) -> Result<Line, AllocError>
 {
     match words {
         [key, name] if is_word(key, b"rule") => rule_line(alloc, name),
-        [key, name, kind] => begun_attribute(alloc, key, name, kind, false),
+        [key, name, kind] => attribute_line(alloc, key, name, kind, false),
         [key, name, kind, mark] if is_word(mark, b"mandatory") => {
-            begun_attribute(alloc, key, name, kind, true)
+            attribute_line(alloc, key, name, kind, true)
         }
         _ => Ok(Line::Other),
     }

@@ -2,8 +2,8 @@
 
 ghost use Rattle.std.specs.Prelude.{◌≡◌, position, slice_get, option_copied, bytes_eq};
 
-use crate::names::RuleNames;
 use bq_base::Bytes;
+use bq_base_names::NameSet;
 use bq_package_rule_class::RuleClass;
 use sqlite_items::Items;
 use std::marker::Model;
@@ -12,28 +12,23 @@ use std::marker::Model;
 /// attributes of each in the same order.
 #[derive(Drop)]
 pub struct Schema {
-    pub(crate) names: Vec<Bytes>,
-    /// The same names, in which a name is looked up.
-    pub(crate) places: RuleNames,
+    pub(crate) names: NameSet,
     pub(crate) classes: Items<RuleClass>,
 }
 
 impl Model for Schema {
-    ghost use Rattle.std.specs.Prelude.{◌≡◌};
     ghost use Rattle.bq_package_schema.specs.Schema.{Rules};
 
     ghost Value = { Rules };
 
-    ghost view = { λ s. record { names = s.names.items; classes = s.classes } };
-
-    ghost invariant = { λ s. s.places ≡ s.names.items };
+    ghost view = { λ s. record { names = s.names; classes = s.classes } };
 }
 
 /// Returns the names of the rules, in the order in which they are declared.
 pub fn rule_names(schema: &Schema) -> &[Bytes]
     ensures { result.now ≡ schema.now.names }
 {
-    &schema.names
+    schema.names.as_slice()
 }
 
 impl Schema {
@@ -41,7 +36,7 @@ impl Schema {
     pub fn rule(&self, name: &[u8]) -> Option<usize>
         ensures { result ≡ position (bytes_eq name.now) self.now.names }
     {
-        self.places.place(name)
+        self.names.place(name)
     }
 
     /// Returns the attributes that the rule of this number has of its own.

@@ -241,3 +241,7 @@ module _ (b : LabelParts) (ts : List Target) (names : List (List ℕ)) (s : IsSt
       let q : PackageTargets → Type 0 = λ z. record { build_file = b; targets = now } ≡ finished z in
       let found : List Target = map (λ l. source l 0) (new_files names (b ∷ filter (is_of (package_of b)) named)) in
       subst q e (ap (λ (z : List Target). record { build_file = b; targets = z }) n ∙ sym (finished_is state names found s.taken refl))
+
+pub no_state : (own : PackageParts) (ts : List Target) (names : List (List ℕ)) → ts ≡ [] → names ≡ [] → IsState own ts names
+unfolding IsDistinct
+no_state own ts names e f = rw (e, f) (record { valid = record { distinct = tt; inside = refl }; taken = refl })

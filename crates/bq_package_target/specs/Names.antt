@@ -1,7 +1,5 @@
 -- The names that are taken in a package.
-use Rattle.std.specs.Prelude.{◌≡◌, ℕ, List, [], ◌∷◌, ◌++◌, Bool, true, not, ◌&&◌, nat_eq, bytes_eq, IsTrue, if◌then◌else◌}
-use Rattle.std.proofs.Common.{ap}
-use Rattle.std.specs.Cmp.Lexicographic.{pointwise, bytes_decides}
+use Rattle.std.specs.Prelude.{ℕ, List, [], ◌∷◌, ◌++◌, Bool, true, not, ◌&&◌, bytes_eq, if◌then◌else◌}
 use Rattle.std.specs.List.{list_any}
 
 abbrev pub has : List (List ℕ) → List ℕ → Bool
@@ -15,10 +13,3 @@ with_name names name = if has names name then names else names ++ name ∷ []
 unfoldable pub are_new : List (List ℕ) → List (List ℕ) → Bool
 are_new taken [] = true
 are_new taken (n ∷ ns) = not (has taken n) && are_new (taken ++ n ∷ []) ns
-
--- what is hashed of a name
-abbrev pub hashed : List ℕ → List (List ℕ)
-hashed name = name ∷ []
-
-pub hashed_alike : (m n : List ℕ) → IsTrue (pointwise nat_eq m n) → hashed m ≡ hashed n
-hashed_alike m n h = ap hashed ((bytes_decides m n).0 h)

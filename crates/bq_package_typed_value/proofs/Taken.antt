@@ -40,7 +40,7 @@ text_cases (tuple vs) = inr refl
 text_cases (range a b c) = inr refl
 text_cases (cell m n) = inr refl
 text_cases (function m n name vs) = inr refl
-text_cases (built_in name) = inr refl
+text_cases (built_in b) = inr refl
 text_cases (rule_function g) = inr refl
 text_cases (attribute x) = inr refl
 
@@ -74,7 +74,7 @@ int_cases (tuple vs) = inr refl
 int_cases (range a b c) = inr refl
 int_cases (cell m n) = inr refl
 int_cases (function m n name vs) = inr refl
-int_cases (built_in name) = inr refl
+int_cases (built_in b) = inr refl
 int_cases (rule_function g) = inr refl
 int_cases (attribute x) = inr refl
 
@@ -105,7 +105,7 @@ bool_cases (tuple vs) = no_boolean refl
 bool_cases (range a b c) = no_boolean refl
 bool_cases (cell m n) = no_boolean refl
 bool_cases (function m n name vs) = no_boolean refl
-bool_cases (built_in name) = no_boolean refl
+bool_cases (built_in b) = no_boolean refl
 bool_cases (rule_function g) = no_boolean refl
 bool_cases (attribute x) = no_boolean refl
 
@@ -133,7 +133,7 @@ module _ (store : StoreView) where
   element_cases (range a b c) = inr refl
   element_cases (cell m n) = cell_cases m n
   element_cases (function m n name vs) = inr refl
-  element_cases (built_in name) = inr refl
+  element_cases (built_in b) = inr refl
   element_cases (rule_function g) = inr refl
   element_cases (attribute x) = inr refl
 

@@ -7,7 +7,7 @@ use Rattle.bq_parse_grammar.specs.Lexeme.{Lexeme}
 use Rattle.bq_parse_grammar.specs.Turns.{sees, next}
 use Rattle.bq_parse_grammar.specs.LeftOut.{calls_name, calls_method, kinds, leaves_out_by, leaves_out, is_compound, is_starred, has_starred}
 use Rattle.bq_parse_cursor.specs.Tokens.{kind_ahead}
-use Rattle.bq_parse.specs.LeftOut.{leaves_out_of, leaves_out_next, sees_star}
+use Rattle.bq_parse.specs.LeftOut.{leaves_out_of, leaves_out_next}
 use Rattle.bq_parse.proofs.Ahead.{same_kind_ahead}
 
 and_false : (b : Bool) → (b && false) ≡ false
@@ -92,7 +92,7 @@ star_alone k.LeftParen = refl
 star_alone k.Comma = refl
 star_alone _ = refl
 
-pub star_begins : (ts : List Lexeme) → is_starred (kinds ts) ≡ ((sees k.LeftParen ts || sees k.Comma ts) && sees_star (next ts))
+pub star_begins : (ts : List Lexeme) → is_starred (kinds ts) ≡ ((sees k.LeftParen ts || sees k.Comma ts) && (sees k.Star (next ts) || sees k.StarStar (next ts)))
 star_begins [] = refl
 star_begins (t ∷ []) = star_alone t.kind ∙ sym (and_false (same_kind t.kind k.LeftParen || same_kind t.kind k.Comma))
 star_begins (t ∷ u ∷ us) = star_by t.kind u.kind (kinds us)

@@ -14,9 +14,7 @@ use crate::verdict::verdict;
 use bq_base::SourceErr;
 use bq_parse_cursor::Tokens;
 use bq_parse_grammar::{FileKind, TopLevel};
-use bq_parse_statement_laws::each_file_has_one_reading;
-use bq_parse_tree_laws::no_tree_is_deeper;
-use bq_source::{Token, tokens_lie_within};
+use bq_source::Token;
 use sqlite_items::Items;
 use std::alloc::Global;
 use std::marker::Model;
@@ -76,25 +74,6 @@ fn statements(
     Ok(statements)
 }
 
-/// Returns the statements, or the fault of the first that is faulty.
-fn read(
-    alloc: Global,
-    tokens: &[Token],
-    text: &[u8],
-    kind: FileKind,
-) -> Result<Items<TopLevel>, SourceErr>
-    requires { Lexes text.now (Ok tokens.now) }
-    ensures gives { Gives itself Bad result (statements_of kind (lexemes text.now tokens.now)) }
-    ensures reads { GivesOneOf itself Bad result (Parses kind (lexemes text.now tokens.now)) }
-    ensures only { (r : _) → Parses kind (lexemes text.now tokens.now) r → Gives itself Bad result r }
-    ensures shallow { IfOk result AreShallow }
-{
-    tokens_lie_within(text, tokens);
-    each_file_has_one_reading();
-    no_tree_is_deeper();
-    statements(alloc, tokens, text, kind)
-}
-
 /// Returns the trees of a file's top-level statements, or the fault of the first that is faulty, at its first line. The tokens are those
 /// that `lex` answers for the text. It takes time and memory in proportion to the tokens.
 ///
@@ -113,7 +92,7 @@ pub fn parse(
     // All that the tokens read as is the answer.
     ensures only { (r : _) → Parses kind (lexemes text.now tokens.now) r → Gives itself Bad result r }
 {
-    match read(alloc, tokens, text, kind) {
+    match statements(alloc, tokens, text, kind) {
         Ok(statements) => Ok(ParsedFile { statements }),
         Err(why) => Err(why),
     }

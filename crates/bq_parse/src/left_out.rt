@@ -15,23 +15,8 @@ fn calls_name(tokens: &Tokens<'_>) -> bool
     tokens.sees(TokenKind::Identifier) && tokens.following().sees(TokenKind::LeftParen)
 }
 
-/// Returns whether `. identifier (` comes next.
-#[tactic(auto, using(crate::proofs::LeftOut::method_called))]
-fn calls_method(tokens: &Tokens<'_>) -> bool
-    ensures { result ≡ left_out.calls_method (left_out.kinds tokens.now) }
-{
-    tokens.sees(TokenKind::Dot) && calls_name(&tokens.following())
-}
-
-/// Returns whether the next token, a name, is `native` elsewhere than before `.name(`.
-fn uses_native(tokens: &Tokens<'_>) -> bool
-    ensures { result ≡ spec.uses_native tokens.now }
-{
-    tokens.spelling() == b"native".as_slice() && !calls_method(&tokens.following())
-}
-
 /// Returns whether what is left out begins with the next token.
-#[tactic(auto, using(crate::proofs::LeftOut::by_kind, crate::proofs::LeftOut::none_next))]
+#[tactic(auto, using(crate::proofs::LeftOut::by_kind, crate::proofs::LeftOut::none_next, crate::proofs::LeftOut::method_called))]
 fn leaves_out_next(tokens: &Tokens<'_>) -> bool
     ensures { result ≡ spec.leaves_out_next tokens.now }
 {
@@ -40,7 +25,11 @@ fn leaves_out_next(tokens: &Tokens<'_>) -> bool
         Some(TokenKind::Slash) => true,
         Some(TokenKind::SlashAssign) => true,
         Some(TokenKind::Dot) => !calls_name(&tokens.following()),
-        Some(TokenKind::Identifier) => uses_native(tokens),
+        Some(TokenKind::Identifier) => {
+            let next = tokens.following();
+            let calls_method = next.sees(TokenKind::Dot) && calls_name(&next.following());
+            tokens.spelling() == b"native".as_slice() && !calls_method
+        }
         _ => false,
     }
 }
@@ -60,48 +49,19 @@ pub fn leaves_out(tokens: &Tokens<'_>) -> bool
     false
 }
 
-/// Returns whether `*` or `**` comes next.
-fn sees_star(tokens: &Tokens<'_>) -> bool
-    ensures { result ≡ spec.sees_star tokens.now }
-{
-    tokens.sees(TokenKind::Star) || tokens.sees(TokenKind::StarStar)
-}
-
-/// Returns whether a star after `(` or `,` comes next: it begins an argument.
-#[tactic(auto, using(crate::proofs::LeftOut::star_begins))]
-fn is_starred(tokens: &Tokens<'_>) -> bool
-    ensures { result ≡ left_out.is_starred (left_out.kinds tokens.now) }
-{
-    (tokens.sees(TokenKind::LeftParen) || tokens.sees(TokenKind::Comma))
-        && sees_star(&tokens.following())
-}
-
 /// Returns whether a `*` or `**` argument is among the tokens.
-#[tactic(auto, using(crate::proofs::LeftOut::starred_on, crate::proofs::LeftOut::starred_over, crate::proofs::LeftOut::next_left))]
-fn has_starred(tokens: &Tokens<'_>) -> bool
+#[tactic(auto, using(crate::proofs::LeftOut::star_begins, crate::proofs::LeftOut::starred_on, crate::proofs::LeftOut::starred_over, crate::proofs::LeftOut::next_left))]
+pub fn has_starred(tokens: &Tokens<'_>) -> bool
     ensures { result ≡ left_out.has_starred (left_out.kinds tokens.now) }
 {
     let mut rest = tokens.here();
     'tokens: while rest.left() > 0 {
-        if is_starred(&rest) {
+        // An argument begins after `(` or `,`.
+        let begins = rest.sees(TokenKind::LeftParen) || rest.sees(TokenKind::Comma);
+        rest.advance();
+        if begins && (rest.sees(TokenKind::Star) || rest.sees(TokenKind::StarStar)) {
             return true;
         }
-        rest.advance();
     }
     false
-}
-
-/// Returns whether the statement is a `def`, an `if` or a `for`.
-#[tactic(auto, using(crate::proofs::LeftOut::compound_by))]
-fn is_compound(tokens: &Tokens<'_>) -> bool
-    ensures { result ≡ left_out.is_compound (left_out.kinds tokens.now) }
-{
-    tokens.sees(TokenKind::Def) || tokens.sees(TokenKind::If) || tokens.sees(TokenKind::For)
-}
-
-/// Returns whether the statement may not stand in a BUILD file.
-pub fn barred_in_build(tokens: &Tokens<'_>) -> bool
-    ensures { result ≡ left_out.barred_in_build tokens.now }
-{
-    is_compound(tokens) || has_starred(tokens)
 }

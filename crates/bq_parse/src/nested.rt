@@ -6,26 +6,14 @@ ghost use Rattle.bq_parse_grammar.specs.LeftOut as left_out;
 
 use bq_parse_grammar::{Branch, Stmt};
 
-/// Returns whether a `def` stands in a `def`, in a statement of a block in which `depth` indents may still be opened.
+/// Returns whether a `def` stands in a `def`, in the statements of a block in which `depth` indents may still be opened.
 #[cycle(nested_def)]
-#[tactic(auto, using(crate::proofs::Levels::none_within, crate::proofs::Levels::some_within))]
-fn nested_within(depth: usize, inside: bool, statement: &Stmt) -> bool
-    ensures { result ≡ spec.nested_within depth inside statement.now }
-{
-    if depth == 0 {
-        return false;
-    }
-    nested_def(depth - 1, inside, statement)
-}
-
-/// Returns whether a `def` stands in a `def`, in the statements of a block.
-#[cycle(nested_def)]
-#[tactic(auto, unfolding(crate::specs::Nested::in_block))]
+#[tactic(auto, using(crate::proofs::Levels::none_within, crate::proofs::Levels::some_within), unfolding(crate::specs::Nested::in_block))]
 fn in_block(depth: usize, inside: bool, block: &[Stmt]) -> bool
     ensures { result ≡ spec.in_block depth inside block.now }
 {
     for statement in block {
-        if nested_within(depth, inside, statement) {
+        if depth > 0 && nested_def(depth - 1, inside, statement) {
             return true;
         }
     }

@@ -9,24 +9,6 @@ use bq_source::TokenKind;
 /// How many brackets and indents may be in one another.
 pub const MAX_NESTING: usize = 64;
 
-/// Returns how many brackets and indents are open after a token.
-fn open_after(kind: TokenKind, opened: usize) -> usize
-    requires { opened ≤ nesting.max_nesting }
-    ensures { result ≡ nesting.open_after kind opened }
-{
-    match kind {
-        TokenKind::LeftParen => opened + 1,
-        TokenKind::LeftBracket => opened + 1,
-        TokenKind::LeftBrace => opened + 1,
-        TokenKind::Indent => opened + 1,
-        TokenKind::RightParen => opened.saturating_sub(1),
-        TokenKind::RightBracket => opened.saturating_sub(1),
-        TokenKind::RightBrace => opened.saturating_sub(1),
-        TokenKind::Outdent => opened.saturating_sub(1),
-        _ => opened,
-    }
-}
-
 /// Returns whether brackets and indents nowhere nest deeper than the limit.
 #[tactic(auto, using(crate::proofs::Open::nests_ahead, crate::proofs::Open::nests_over, crate::proofs::Open::too_many, crate::proofs::Ahead::one_less))]
 pub fn nests(tokens: &Tokens<'_>) -> bool
@@ -38,7 +20,17 @@ pub fn nests(tokens: &Tokens<'_>) -> bool
         if opened > MAX_NESTING {
             return false;
         }
-        opened = open_after(kind, opened);
+        opened = match kind {
+            TokenKind::LeftParen => opened + 1,
+            TokenKind::LeftBracket => opened + 1,
+            TokenKind::LeftBrace => opened + 1,
+            TokenKind::Indent => opened + 1,
+            TokenKind::RightParen => opened.saturating_sub(1),
+            TokenKind::RightBracket => opened.saturating_sub(1),
+            TokenKind::RightBrace => opened.saturating_sub(1),
+            TokenKind::Outdent => opened.saturating_sub(1),
+            _ => opened,
+        };
         rest.advance();
     }
     opened <= MAX_NESTING

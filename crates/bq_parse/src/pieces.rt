@@ -7,21 +7,14 @@ ghost use Rattle.bq_parse_grammar.specs.Pieces as pieces;
 use bq_parse_cursor::Tokens;
 use bq_source::TokenKind;
 
-/// Returns whether a line may begin after this token.
-fn ends_line(kind: TokenKind) -> bool
-    ensures { result ≡ pieces.ends_line kind }
+/// Returns whether a statement begins with this token, given whether a line may begin here and how many indents are open.
+#[tactic(auto, using(crate::proofs::Cutting::none_open, crate::proofs::Cutting::some_open))]
+fn begins(line: bool, indents: usize, kind: TokenKind) -> bool
+    ensures { result ≡ line && (pieces.is_zero indents && pieces.begins_statement kind) }
 {
-    match kind {
-        TokenKind::Newline => true,
-        TokenKind::Outdent => true,
-        _ => false,
+    if !line || indents > 0 {
+        return false;
     }
-}
-
-/// Returns whether a line that begins with this token begins a statement.
-fn begins_statement(kind: TokenKind) -> bool
-    ensures { result ≡ pieces.begins_statement kind }
-{
     match kind {
         TokenKind::Indent => false,
         TokenKind::Elif => false,
@@ -30,24 +23,18 @@ fn begins_statement(kind: TokenKind) -> bool
     }
 }
 
-/// Returns whether a statement begins with this token, given whether a line may begin here and how many indents are open.
-#[tactic(auto, using(crate::proofs::Cutting::none_open, crate::proofs::Cutting::some_open))]
-fn begins(line: bool, indents: usize, kind: TokenKind) -> bool
-    ensures { result ≡ line && (pieces.is_zero indents && pieces.begins_statement kind) }
-{
-    line && indents == 0 && begins_statement(kind)
-}
-
-/// Returns how many indents are open after a token.
-fn indents_after(kind: TokenKind, indents: usize) -> usize
+/// Returns whether a line may begin after a token, and how many indents are open after it.
+fn line_after(kind: TokenKind, indents: usize) -> (bool, usize)
     requires { indents + 1 < 2 ^ 64 }
-    ensures is { result ≡ pieces.indents_after kind indents }
-    ensures within { result ≤ indents + 1 }
+    ensures line { result.0 ≡ pieces.ends_line kind }
+    ensures indents { result.1 ≡ pieces.indents_after kind indents }
+    ensures within { result.1 ≤ indents + 1 }
 {
     match kind {
-        TokenKind::Indent => indents + 1,
-        TokenKind::Outdent => indents.saturating_sub(1),
-        _ => indents,
+        TokenKind::Newline => (true, indents),
+        TokenKind::Indent => (false, indents + 1),
+        TokenKind::Outdent => (true, indents.saturating_sub(1)),
+        _ => (false, indents),
     }
 }
 
@@ -67,8 +54,7 @@ pub fn piece_len(tokens: &Tokens<'_>) -> usize
                 if begins(line, indents, kind) {
                     return len;
                 }
-                line = ends_line(kind);
-                indents = indents_after(kind, indents);
+                (line, indents) = line_after(kind, indents);
                 rest.advance();
             }
             None => return len,

@@ -7,35 +7,31 @@ ghost use Rattle.bq_base.specs.Fault.{fault_at};
 ghost use Rattle.bq_base.specs.Gives.{Gives};
 ghost use Rattle.bq_base.specs.declared.fault.SourceErr.TheVariants.{Bad};
 
-use crate::left_out::{barred_in_build, leaves_out};
+use crate::left_out::{has_starred, leaves_out};
 use crate::nested::nested_def;
 use crate::nesting::{MAX_NESTING, nests};
 use bq_base::{Fault, FaultKind, SourceErr};
 use bq_parse_cursor::Tokens;
 use bq_parse_grammar::{FileKind, SyntaxErr, TopLevel};
 use bq_parse_statement::top_level;
+use bq_source::TokenKind;
 use std::alloc::Global;
 
-fn is_build(kind: FileKind) -> bool
-    ensures { result ≡ spec.is_build kind }
-{
-    match kind {
-        FileKind::Build => true,
-        FileKind::Bzl => false,
-    }
-}
-
 /// Judges a statement that has a tree: F12 where the language leaves it out, else F13 where it may not stand in a BUILD file.
+#[tactic(auto, using(crate::proofs::LeftOut::compound_by))]
 fn allowed(kind: FileKind, tokens: &Tokens<'_>, statement: &TopLevel) -> Result<(), FaultKind>
     ensures { Gives (λ _. statement.now) itself result (spec.allowed kind tokens.now statement.now) }
 {
     if leaves_out(tokens) || nested_def(MAX_NESTING, false, &statement.statement) {
         return Err(FaultKind::LeftOut);
     }
-    if is_build(kind) && barred_in_build(tokens) {
-        return Err(FaultKind::NotInBuild);
+    let is_compound = tokens.sees(TokenKind::Def)
+        || tokens.sees(TokenKind::If)
+        || tokens.sees(TokenKind::For);
+    match kind {
+        FileKind::Build if is_compound || has_starred(tokens) => Err(FaultKind::NotInBuild),
+        _ => Ok(()),
     }
-    Ok(())
 }
 
 /// Returns a statement, or its fault at its first line. It is generic, since dropping a `T` is a single step for the proof.

@@ -10,8 +10,9 @@ use Rattle.bq_source.specs.StringLiteral.{string_value}
 use Rattle.bq_source.specs.Token.{same_kind}
 use Rattle.bq_parse_grammar.specs.Lexeme.{Lexeme, lexemes}
 use Rattle.bq_parse_grammar.specs.Turns.{sees, next}
-use Rattle.bq_parse_grammar.specs.Reading.{spelling_of, is_named}
-use Rattle.bq_parse_cursor.specs.Tokens.{kind_ahead}
+use Rattle.bq_parse_grammar.specs.Operators.{binary_operator, of_level, operator_at}
+use Rattle.bq_parse_grammar.specs.Reading.{has, is_known, known, looked_up, spelling_of, is_named}
+use Rattle.bq_parse_cursor.specs.Tokens.{kind_ahead, known_by}
 
 pub as_many : (text : List ℕ) (ts : List Token) → length (lexemes text ts) ≡ length ts
 as_many text [] = refl
@@ -44,3 +45,12 @@ pub named_ahead : (ts : List Lexeme) → is_named ts ≡ (sees k.Identifier ts &
 named_ahead [] = refl
 named_ahead (t ∷ []) = sym (and_false (same_kind t.kind k.Identifier))
 named_ahead (t ∷ u ∷ us) = refl
+
+-- an operator of one level, by the operator that comes next
+pub level_ahead : (level : ℕ) (ts : List Lexeme) → has (operator_at level) ts ≡ is_known (of_level level (known_by binary_operator (kind_ahead ts)))
+level_ahead level [] = refl
+level_ahead level (t ∷ ts) = refl
+
+pub level_known : (level : ℕ) (ts : List Lexeme) → looked_up (operator_at level) ts ≡ known (of_level level (known_by binary_operator (kind_ahead ts))) (next ts)
+level_known level [] = refl
+level_known level (t ∷ ts) = refl

@@ -15,3 +15,8 @@ IsInText t = All (Lies t.text.now) t.rest.now
 abbrev pub kind_ahead : List Lexeme → Option TokenKind
 kind_ahead [] = None
 kind_ahead (t ∷ ts) = Some t.kind
+
+-- what a table says of the next token
+abbrev pub known_by : {B : Type 0} → (TokenKind → Option B) → Option TokenKind → Option B
+known_by table None = None
+known_by table (Some kind) = table kind

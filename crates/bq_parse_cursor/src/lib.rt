@@ -9,7 +9,7 @@
 //! In reading order:
 //!
 //! - `tokens`: the place, and the steps;
-//! - `operators`: which token is which operator, and how tightly it binds.
+//! - `operators`: the operators of augmented assignments.
 #![tactic(auto)]
 
 mod operators;

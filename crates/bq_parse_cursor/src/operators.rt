@@ -1,80 +1,10 @@
-//! The operators, and how tightly they bind.
+//! The operators of augmented assignments.
 
 ghost use Rattle.std.specs.Prelude.{◌≡◌};
 ghost use Rattle.bq_parse_grammar.specs.Operators as spec;
 
-use bq_parse_grammar::{Comparison, Operator, UnaryOperator};
+use bq_parse_grammar::Operator;
 use bq_source::TokenKind;
-
-/// Returns the operator between operands that a token is, and its level: 1 binds tightest.
-pub fn binary_operator(kind: TokenKind) -> Option<(usize, Operator)>
-    ensures { result ≡ spec.binary_operator kind }
-{
-    match kind {
-        TokenKind::Star => Some((1, Operator::Multiply)),
-        TokenKind::SlashSlash => Some((1, Operator::FloorDivide)),
-        TokenKind::Percent => Some((1, Operator::Modulo)),
-        TokenKind::Slash => Some((1, Operator::Divide)),
-        TokenKind::Plus => Some((2, Operator::Add)),
-        TokenKind::Minus => Some((2, Operator::Subtract)),
-        TokenKind::LessLess => Some((3, Operator::ShiftLeft)),
-        TokenKind::GreaterGreater => Some((3, Operator::ShiftRight)),
-        TokenKind::Ampersand => Some((4, Operator::BitAnd)),
-        TokenKind::Caret => Some((5, Operator::BitXor)),
-        TokenKind::Pipe => Some((6, Operator::BitOr)),
-        TokenKind::And => Some((9, Operator::And)),
-        TokenKind::Or => Some((10, Operator::Or)),
-        _ => None,
-    }
-}
-
-/// Returns the operator of this level that a token is.
-#[inline(always)]
-pub fn operator_at(level: usize, kind: TokenKind) -> Option<Operator>
-    ensures { result ≡ spec.operator_at level kind }
-{
-    match binary_operator(kind) {
-        Some((of, operator)) if of == level => Some(operator),
-        _ => None,
-    }
-}
-
-/// Returns the sign that a token is.
-pub fn sign(kind: TokenKind) -> Option<UnaryOperator>
-    ensures { result ≡ spec.sign kind }
-{
-    match kind {
-        TokenKind::Plus => Some(UnaryOperator::Plus),
-        TokenKind::Minus => Some(UnaryOperator::Minus),
-        TokenKind::Tilde => Some(UnaryOperator::Invert),
-        _ => None,
-    }
-}
-
-pub fn negation(kind: TokenKind) -> Option<UnaryOperator>
-    ensures { result ≡ spec.negation kind }
-{
-    match kind {
-        TokenKind::Not => Some(UnaryOperator::Not),
-        _ => None,
-    }
-}
-
-/// Returns the comparison that one token is; `not in` is two.
-pub fn comparison(kind: TokenKind) -> Option<Comparison>
-    ensures { result ≡ spec.comparison kind }
-{
-    match kind {
-        TokenKind::EqualEqual => Some(Comparison::Equal),
-        TokenKind::NotEqual => Some(Comparison::NotEqual),
-        TokenKind::Less => Some(Comparison::Less),
-        TokenKind::Greater => Some(Comparison::Greater),
-        TokenKind::LessEqual => Some(Comparison::LessEqual),
-        TokenKind::GreaterEqual => Some(Comparison::GreaterEqual),
-        TokenKind::In => Some(Comparison::In),
-        _ => None,
-    }
-}
 
 /// Returns the operator of an augmented assignment.
 pub fn augmented(kind: TokenKind) -> Option<Operator>

@@ -14,7 +14,7 @@ ghost use Rattle.bq_source.specs.StringLiteral as strings;
 ghost use Rattle.bq_source.specs.declared.token.TokenKind.TheVariants as kind;
 ghost use Rattle.bq_parse_cursor.specs.Tokens as ahead;
 
-use crate::operators::{augmented, binary_operator, comparison, negation, operator_at, sign};
+use crate::operators::augmented;
 use bq_base::Bytes;
 use bq_parse_grammar::{Comparison, Expr, Identifier, Operator, SyntaxErr, UnaryOperator};
 use bq_source::{Token, TokenKind, int_value, string_value};
@@ -202,18 +202,6 @@ impl<'a> Tokens<'a> {
     }
 
     /// Reads a string literal, and returns the bytes that it stands for.
-    pub fn string(&mut self, alloc: Global) -> Result<Expr, SyntaxErr>
-        requires { ahead.kind_ahead self.old ≡ Some kind.String }
-        ensures { Reads (reading.string_of (strings.string_value (reading.spelling_of self.old)) (spec.next self.old)) result self.new }
-    {
-        // PROOF: it looks into the place.
-        let _ = self.rest.len();
-        let value = string_value(alloc, self.spelling())?;
-        self.advance();
-        Ok(Expr::String(value))
-    }
-
-    /// Reads a string literal, and returns the expression that it is.
     pub fn text(&mut self, alloc: Global) -> Result<Bytes, SyntaxErr>
         requires { ahead.kind_ahead self.old ≡ Some kind.String }
         ensures { Reads (statements.text_of (strings.string_value (reading.spelling_of self.old)) (spec.next self.old)) result self.new }
@@ -225,113 +213,87 @@ impl<'a> Tokens<'a> {
         Ok(value)
     }
 
-    /// Returns whether a sign comes next.
-    pub fn sees_sign(&self) -> bool
-        ensures { result ≡ reading.has operators.sign self.now }
+    /// Returns the sign that comes next, if one does.
+    pub fn sign(&self) -> Option<UnaryOperator>
+        ensures { result ≡ ahead.known_by operators.sign (ahead.kind_ahead self.now) }
     {
-        match self.rest.first() {
-            Some(token) => sign(token.kind).is_some(),
-            None => false,
+        match self.peek() {
+            Some(TokenKind::Plus) => Some(UnaryOperator::Plus),
+            Some(TokenKind::Minus) => Some(UnaryOperator::Minus),
+            Some(TokenKind::Tilde) => Some(UnaryOperator::Invert),
+            _ => None,
         }
     }
 
-    pub fn sign(&mut self) -> Result<UnaryOperator, SyntaxErr>
-        ensures { Reads (reading.looked_up operators.sign self.old) result self.new }
+    /// Returns the operator `not`, if it comes next.
+    pub fn negation(&self) -> Option<UnaryOperator>
+        ensures { result ≡ ahead.known_by operators.negation (ahead.kind_ahead self.now) }
     {
-        match self.rest.first() {
-            Some(token) => match sign(token.kind) {
-                Some(found) => {
-                    self.advance();
-                    Ok(found)
-                }
-                None => Err(SyntaxErr::Syntax),
-            },
-            None => Err(SyntaxErr::Syntax),
+        match self.peek() {
+            Some(TokenKind::Not) => Some(UnaryOperator::Not),
+            _ => None,
         }
     }
 
-    /// Returns whether `not` comes next.
-    pub fn sees_negation(&self) -> bool
-        ensures { result ≡ reading.has operators.negation self.now }
+    /// Returns the comparison that the next token is; `not in` is two.
+    pub fn comparison(&self) -> Option<Comparison>
+        ensures { result ≡ ahead.known_by operators.comparison (ahead.kind_ahead self.now) }
     {
-        match self.rest.first() {
-            Some(token) => negation(token.kind).is_some(),
-            None => false,
+        match self.peek() {
+            Some(TokenKind::EqualEqual) => Some(Comparison::Equal),
+            Some(TokenKind::NotEqual) => Some(Comparison::NotEqual),
+            Some(TokenKind::Less) => Some(Comparison::Less),
+            Some(TokenKind::Greater) => Some(Comparison::Greater),
+            Some(TokenKind::LessEqual) => Some(Comparison::LessEqual),
+            Some(TokenKind::GreaterEqual) => Some(Comparison::GreaterEqual),
+            Some(TokenKind::In) => Some(Comparison::In),
+            _ => None,
         }
     }
 
-    pub fn negation(&mut self) -> Result<UnaryOperator, SyntaxErr>
-        ensures { Reads (reading.looked_up operators.negation self.old) result self.new }
+    /// Returns the operator between operands that comes next, if one does, and its level: 1 binds tightest.
+    pub fn operator_ahead(&self) -> Option<(usize, Operator)>
+        ensures { result ≡ ahead.known_by operators.binary_operator (ahead.kind_ahead self.now) }
     {
-        match self.rest.first() {
-            Some(token) => match negation(token.kind) {
-                Some(found) => {
-                    self.advance();
-                    Ok(found)
-                }
-                None => Err(SyntaxErr::Syntax),
-            },
-            None => Err(SyntaxErr::Syntax),
-        }
-    }
-
-    /// Returns whether a comparison of one token comes next.
-    pub fn sees_comparison(&self) -> bool
-        ensures { result ≡ reading.has operators.comparison self.now }
-    {
-        match self.rest.first() {
-            Some(token) => comparison(token.kind).is_some(),
-            None => false,
-        }
-    }
-
-    pub fn comparison(&mut self) -> Result<Comparison, SyntaxErr>
-        ensures { Reads (reading.looked_up operators.comparison self.old) result self.new }
-    {
-        match self.rest.first() {
-            Some(token) => match comparison(token.kind) {
-                Some(found) => {
-                    self.advance();
-                    Ok(found)
-                }
-                None => Err(SyntaxErr::Syntax),
-            },
-            None => Err(SyntaxErr::Syntax),
-        }
-    }
-
-    /// Returns whether an operator between operands comes next, of whatever level.
-    pub fn sees_any_operator(&self) -> bool
-        ensures { result ≡ reading.has operators.binary_operator self.now }
-    {
-        match self.rest.first() {
-            Some(token) => binary_operator(token.kind).is_some(),
-            None => false,
+        match self.peek() {
+            Some(TokenKind::Star) => Some((1, Operator::Multiply)),
+            Some(TokenKind::SlashSlash) => Some((1, Operator::FloorDivide)),
+            Some(TokenKind::Percent) => Some((1, Operator::Modulo)),
+            Some(TokenKind::Slash) => Some((1, Operator::Divide)),
+            Some(TokenKind::Plus) => Some((2, Operator::Add)),
+            Some(TokenKind::Minus) => Some((2, Operator::Subtract)),
+            Some(TokenKind::LessLess) => Some((3, Operator::ShiftLeft)),
+            Some(TokenKind::GreaterGreater) => Some((3, Operator::ShiftRight)),
+            Some(TokenKind::Ampersand) => Some((4, Operator::BitAnd)),
+            Some(TokenKind::Caret) => Some((5, Operator::BitXor)),
+            Some(TokenKind::Pipe) => Some((6, Operator::BitOr)),
+            Some(TokenKind::And) => Some((9, Operator::And)),
+            Some(TokenKind::Or) => Some((10, Operator::Or)),
+            _ => None,
         }
     }
 
     /// Returns whether an operator of this level comes next.
+    #[tactic(auto, using(crate::proofs::Ahead::level_ahead))]
     pub fn sees_operator(&self, level: usize) -> bool
         ensures { result ≡ reading.has (operators.operator_at level) self.now }
     {
-        match self.rest.first() {
-            Some(token) => operator_at(level, token.kind).is_some(),
+        match self.operator_ahead() {
+            Some((of, _)) => of == level,
             None => false,
         }
     }
 
+    #[tactic(auto, using(crate::proofs::Ahead::level_known))]
     pub fn operator(&mut self, level: usize) -> Result<Operator, SyntaxErr>
         ensures { Reads (reading.looked_up (operators.operator_at level) self.old) result self.new }
     {
-        match self.rest.first() {
-            Some(token) => match operator_at(level, token.kind) {
-                Some(found) => {
-                    self.advance();
-                    Ok(found)
-                }
-                None => Err(SyntaxErr::Syntax),
-            },
-            None => Err(SyntaxErr::Syntax),
+        match self.operator_ahead() {
+            Some((of, found)) if of == level => {
+                self.advance();
+                Ok(found)
+            }
+            _ => Err(SyntaxErr::Syntax),
         }
     }
 

@@ -59,7 +59,3 @@ nothing_further base (suc l) x ts h =
 
 pub goes_on : (base : Parse Expr) (l : ℕ) (ts : List Lexeme) (x : Expr) (mid : List Lexeme) → unary base ts ≡ Ok (x, mid) → binary base l ts ≡ further base l x mid
 goes_on base l ts x mid h = first_of_all base l ts ∙ ap (λ r. r >>= λ y rest. further base l y rest) h
-
-pub alone : (base : Parse Expr) (l : ℕ) (ts : List Lexeme) (x : Expr) (mid : List Lexeme) → unary base ts ≡ Ok (x, mid) → has binary_operator mid ≡ false
-    → binary base l ts ≡ Ok (x, mid)
-alone base l ts x mid h none = goes_on base l ts x mid h ∙ nothing_further base l x mid none

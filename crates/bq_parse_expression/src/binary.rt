@@ -1,6 +1,6 @@
 //! Operators, from the tightest to conditionals.
 
-ghost use Rattle.std.specs.Prelude.{◌≡◌, ◌-◌, ◌<◌, [], length, IfOk};
+ghost use Rattle.std.specs.Prelude.{◌≡◌, ◌-◌, ◌<◌, [], length};
 ghost use Rattle.bq_parse_grammar.specs.Turns.{Reads};
 ghost use Rattle.bq_parse_grammar.specs.Turns as turns;
 ghost use Rattle.bq_parse_grammar.specs.Operators as operators;
@@ -17,7 +17,7 @@ use bq_parse_grammar::{
 };
 use bq_source::TokenKind;
 use sqlite_items::{Boxed, Items};
-use std::alloc::{AllocError, Global};
+use std::alloc::Global;
 
 /// Returns an operand and what is done to it; the operand alone where nothing is.
 fn binary_of(first: Boxed<Expr>, operations: Items<Operation>) -> Expr
@@ -30,47 +30,36 @@ fn binary_of(first: Boxed<Expr>, operations: Items<Operation>) -> Expr
     Expr::Binary(first, operations)
 }
 
-fn unary_of(
-    alloc: Global,
-    operators: Items<UnaryOperator>,
-    operand: Expr,
-) -> Result<Expr, AllocError>
-    ensures { IfOk result (λ x. x ≡ grammar.unary_of operators operand) }
-{
-    if operators.is_empty() {
-        return Ok(operand);
-    }
-    Ok(Expr::Unary(operators, Boxed::new(alloc, operand)?))
-}
-
 /// { '+' | '-' | '~' }
-#[tactic(auto, using(crate::proofs::LoopTurns::turns_more, crate::proofs::LoopTurns::turns_over), unfolding(bq_parse_grammar::specs::Turns::repeat))]
+#[tactic(auto, using(crate::proofs::LoopTurns::turns_more, crate::proofs::LoopTurns::turns_over, crate::proofs::Ahead::has_by, crate::proofs::Ahead::looked_up_by), unfolding(bq_parse_grammar::specs::Turns::repeat))]
 fn signs(alloc: Global, tokens: &mut Tokens<'_>) -> Result<Items<UnaryOperator>, SyntaxErr>
     ensures { Reads (turns.repeat (spec.has operators.sign) (spec.looked_up operators.sign) [] tokens.old) result tokens.new }
 {
     let mut found = Items::new(alloc);
     // Each turn takes a token.
     for _turn in 0..tokens.left() {
-        if !tokens.sees_sign() {
+        let Some(sign) = tokens.sign() else {
             return Ok(found);
-        }
-        found.push(tokens.sign()?)?;
+        };
+        tokens.advance();
+        found.push(sign)?;
     }
     Ok(found)
 }
 
 /// { 'not' }
-#[tactic(auto, using(crate::proofs::LoopTurns::turns_more, crate::proofs::LoopTurns::turns_over), unfolding(bq_parse_grammar::specs::Turns::repeat))]
+#[tactic(auto, using(crate::proofs::LoopTurns::turns_more, crate::proofs::LoopTurns::turns_over, crate::proofs::Ahead::has_by, crate::proofs::Ahead::looked_up_by), unfolding(bq_parse_grammar::specs::Turns::repeat))]
 fn negations(alloc: Global, tokens: &mut Tokens<'_>) -> Result<Items<UnaryOperator>, SyntaxErr>
     ensures { Reads (turns.repeat (spec.has operators.negation) (spec.looked_up operators.negation) [] tokens.old) result tokens.new }
 {
     let mut found = Items::new(alloc);
     // Each turn takes a token.
     for _turn in 0..tokens.left() {
-        if !tokens.sees_negation() {
+        let Some(negation) = tokens.negation() else {
             return Ok(found);
-        }
-        found.push(tokens.negation()?)?;
+        };
+        tokens.advance();
+        found.push(negation)?;
     }
     Ok(found)
 }
@@ -105,7 +94,10 @@ impl<F: Fn(Global, &mut Tokens<'_>, usize, Nested) -> Result<Expr, SyntaxErr>> G
     {
         let signs = signs(self.alloc, tokens)?;
         let operand = self.primary(tokens)?;
-        Ok(unary_of(self.alloc, signs, operand)?)
+        if signs.is_empty() {
+            return Ok(operand);
+        }
+        Ok(Expr::Unary(signs, Boxed::new(self.alloc, operand)?))
     }
 
     /// Bor = Xor { '|' Xor }, and so on down to Prod = Unary { ('*' | '//' | '%' | '/') Unary }: Prod is level 1, Bor level 6
@@ -165,8 +157,8 @@ impl<F: Fn(Global, &mut Tokens<'_>, usize, Nested) -> Result<Expr, SyntaxErr>> G
         })
     }
 
-    /// Reads what operators of up to this level do to an operand.
-    #[tactic(auto, using(crate::proofs::AfterOperand::further_above, crate::proofs::AfterOperand::further_none, crate::proofs::LoopTurns::none_follow))]
+    /// Reads what operators of up to this level do to an operand. Most operands have no operator after them, and need no look at each level.
+    #[tactic(auto, using(crate::proofs::AfterOperand::further_above, crate::proofs::AfterOperand::further_none, crate::proofs::AfterOperand::nothing_further, crate::proofs::Ahead::has_by, crate::proofs::LoopTurns::none_follow))]
     pub fn further(
         &self,
         tokens: &mut Tokens<'_>,
@@ -176,7 +168,7 @@ impl<F: Fn(Global, &mut Tokens<'_>, usize, Nested) -> Result<Expr, SyntaxErr>> G
         requires { ReadsNested self.now.depth (F.pre self.now.phrase) (F.post self.now.phrase) }
         ensures { Reads (further (spec.primary (spec.phrase self.now.depth) (spec.variables_to self.now.depth)) level first tokens.old) result tokens.new }
     {
-        if level == 0 {
+        if level == 0 || tokens.operator_ahead().is_none() {
             return Ok(first);
         }
         let first = self.further(tokens, first, level - 1)?;
@@ -188,20 +180,17 @@ impl<F: Fn(Global, &mut Tokens<'_>, usize, Nested) -> Result<Expr, SyntaxErr>> G
         Ok(binary_of(first, operations))
     }
 
-    /// Reads a Bor: most operands have no operator after them, and need no look at each level.
+    /// Bor, by its first operand and what operators do to it
     fn bor(&self, tokens: &mut Tokens<'_>) -> Result<Expr, SyntaxErr>
         requires { ReadsNested self.now.depth (F.pre self.now.phrase) (F.post self.now.phrase) }
         ensures { Reads (spec.binary (spec.primary (spec.phrase self.now.depth) (spec.variables_to self.now.depth)) 6 tokens.old) result tokens.new }
     {
         let first = self.unary(tokens)?;
-        if !tokens.sees_any_operator() {
-            return Ok(first);
-        }
         self.further(tokens, first, 6)
     }
 
     /// CompOp = '==' | '!=' | '<' | '>' | '<=' | '>=' | 'in' | 'not' 'in'
-    #[tactic(auto, unfolding(bq_parse_grammar::specs::Reading::comp_op))]
+    #[tactic(auto, using(crate::proofs::Ahead::looked_up_by), unfolding(bq_parse_grammar::specs::Reading::comp_op))]
     fn comp_op(&self, tokens: &mut Tokens<'_>) -> Result<Comparison, SyntaxErr>
         ensures { Reads (spec.comp_op tokens.old) result tokens.new }
     {
@@ -209,15 +198,20 @@ impl<F: Fn(Global, &mut Tokens<'_>, usize, Nested) -> Result<Expr, SyntaxErr>> G
             tokens.expect(TokenKind::In)?;
             return Ok(Comparison::NotIn);
         }
-        tokens.comparison()
+        let Some(comparison) = tokens.comparison() else {
+            return Err(SyntaxErr::Syntax);
+        };
+        tokens.advance();
+        Ok(comparison)
     }
 
     /// [ CompOp Bor ], after the first Bor
+    #[tactic(auto, using(crate::proofs::Ahead::has_by))]
     pub fn comp_after(&self, tokens: &mut Tokens<'_>, left: Expr) -> Result<Expr, SyntaxErr>
         requires { ReadsNested self.now.depth (F.pre self.now.phrase) (F.post self.now.phrase) }
         ensures { Reads (spec.comp_after (spec.primary (spec.phrase self.now.depth) (spec.variables_to self.now.depth)) left tokens.old) result tokens.new }
     {
-        if !(tokens.sees_comparison() || tokens.sees(TokenKind::Not)) {
+        if tokens.comparison().is_none() && !tokens.sees(TokenKind::Not) {
             return Ok(left);
         }
         let left = Boxed::new(self.alloc, left)?;
@@ -246,7 +240,10 @@ impl<F: Fn(Global, &mut Tokens<'_>, usize, Nested) -> Result<Expr, SyntaxErr>> G
     {
         let operators = negations(self.alloc, tokens)?;
         let operand = self.comp(tokens)?;
-        Ok(unary_of(self.alloc, operators, operand)?)
+        if operators.is_empty() {
+            return Ok(operand);
+        }
+        Ok(Expr::Unary(operators, Boxed::new(self.alloc, operand)?))
     }
 
     /// 'and' not_test

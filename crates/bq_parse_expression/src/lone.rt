@@ -8,61 +8,18 @@ ghost use Rattle.bq_parse_expression.specs.Lone as spec;
 use bq_parse_cursor::Tokens;
 use bq_source::TokenKind;
 
-/// Returns whether the token is a name or a literal.
-fn is_atom(kind: TokenKind) -> bool
-    ensures { result ≡ spec.is_atom kind }
-{
-    match kind {
-        TokenKind::Identifier => true,
-        TokenKind::String => true,
-        TokenKind::Int => true,
-        _ => false,
-    }
-}
-
-/// Returns whether nothing that is done to an operand begins with the token.
-fn ends_phrase(kind: TokenKind) -> bool
-    ensures { result ≡ spec.ends_phrase kind }
-{
-    match kind {
-        TokenKind::Comma => true,
-        TokenKind::RightParen => true,
-        TokenKind::RightBracket => true,
-        TokenKind::RightBrace => true,
-        TokenKind::Colon => true,
-        TokenKind::Newline => true,
-        _ => false,
-    }
-}
-
-fn begins_with_atom(tokens: &Tokens<'_>) -> bool
-    ensures { result ≡ spec.is_so spec.is_atom (kind_ahead tokens.now) }
-{
-    match tokens.peek() {
-        Some(kind) => is_atom(kind),
-        None => false,
-    }
-}
-
-/// Returns whether the next token ends a phrase that is read up to here.
+/// Returns whether nothing that is done to an operand begins with the next token, so that it ends a phrase that is read up to here.
 pub fn begins_with_end(tokens: &Tokens<'_>) -> bool
     ensures { result ≡ spec.is_so spec.ends_phrase (kind_ahead tokens.now) }
 {
     match tokens.peek() {
-        Some(kind) => ends_phrase(kind),
-        None => false,
-    }
-}
-
-/// Returns whether an operand begins with the token.
-fn begins_operand(kind: TokenKind) -> bool
-    ensures { result ≡ spec.begins_operand kind }
-{
-    match kind {
-        TokenKind::LeftParen => true,
-        TokenKind::LeftBracket => true,
-        TokenKind::LeftBrace => true,
-        _ => is_atom(kind),
+        Some(TokenKind::Comma) => true,
+        Some(TokenKind::RightParen) => true,
+        Some(TokenKind::RightBracket) => true,
+        Some(TokenKind::RightBrace) => true,
+        Some(TokenKind::Colon) => true,
+        Some(TokenKind::Newline) => true,
+        _ => false,
     }
 }
 
@@ -71,14 +28,24 @@ pub fn begins_with_operand(tokens: &Tokens<'_>) -> bool
     ensures { result ≡ spec.begins_with_operand tokens.now }
 {
     match tokens.peek() {
-        Some(kind) => begins_operand(kind),
-        None => false,
+        Some(TokenKind::Identifier) => true,
+        Some(TokenKind::String) => true,
+        Some(TokenKind::Int) => true,
+        Some(TokenKind::LeftParen) => true,
+        Some(TokenKind::LeftBracket) => true,
+        Some(TokenKind::LeftBrace) => true,
+        _ => false,
     }
 }
 
-/// Returns whether the next token is a phrase of its own.
+/// Returns whether the next token is a phrase of its own: a name or a literal that ends it.
 pub fn stands_alone(tokens: &Tokens<'_>) -> bool
     ensures { result ≡ spec.stands_alone tokens.now }
 {
-    begins_with_atom(tokens) && begins_with_end(&tokens.following())
+    match tokens.peek() {
+        Some(TokenKind::Identifier) => begins_with_end(&tokens.following()),
+        Some(TokenKind::String) => begins_with_end(&tokens.following()),
+        Some(TokenKind::Int) => begins_with_end(&tokens.following()),
+        _ => false,
+    }
 }

@@ -144,36 +144,6 @@ impl<F: Fn(Global, &mut Tokens<'_>, usize, Nested) -> Result<Expr, SyntaxErr>> G
         closed(tokens, close, clauses)
     }
 
-    /// Reads the items of a list in brackets after the first.
-    fn tests_after(
-        &self,
-        tokens: &mut Tokens<'_>,
-        close: TokenKind,
-        first: Expr,
-    ) -> Result<Items<Expr>, SyntaxErr>
-        requires { ReadsNested self.now.depth (F.pre self.now.phrase) (F.post self.now.phrase) }
-        ensures { Reads (spec.items_after close (spec.phrase self.now.depth Test) first tokens.old) result tokens.new }
-    {
-        let found = only(self.alloc, first)?;
-        if tokens.eat(TokenKind::Comma) {
-            return self.listed(tokens, close, found);
-        }
-        closed(tokens, close, found)
-    }
-
-    /// Reads what stands in square brackets after the first test.
-    fn brackets_after(&self, tokens: &mut Tokens<'_>, first: Expr) -> Result<Expr, SyntaxErr>
-        requires { ReadsNested self.now.depth (F.pre self.now.phrase) (F.post self.now.phrase) }
-        ensures { Reads (spec.brackets_after (spec.phrase self.now.depth) (spec.variables_to self.now.depth) first tokens.old) result tokens.new }
-    {
-        if tokens.sees(TokenKind::For) {
-            let element = Boxed::new(self.alloc, first)?;
-            let clauses = self.comprehension(tokens, TokenKind::RightBracket)?;
-            return Ok(Expr::ListComprehension(element, clauses));
-        }
-        Ok(Expr::List(self.tests_after(tokens, TokenKind::RightBracket, first)?))
-    }
-
     /// '[' [ Test { ',' Test } [','] ] ']' | '[' Test Clauses ']', after the first bracket
     #[tactic(auto, unfolding(bq_parse_grammar::specs::Reading::in_brackets))]
     fn in_brackets(&self, tokens: &mut Tokens<'_>) -> Result<Expr, SyntaxErr>
@@ -184,7 +154,16 @@ impl<F: Fn(Global, &mut Tokens<'_>, usize, Nested) -> Result<Expr, SyntaxErr>> G
             return Ok(Expr::List(Items::new(self.alloc)));
         }
         let first = self.nested(tokens, Nested::Test)?;
-        self.brackets_after(tokens, first)
+        if tokens.sees(TokenKind::For) {
+            let element = Boxed::new(self.alloc, first)?;
+            let clauses = self.comprehension(tokens, TokenKind::RightBracket)?;
+            return Ok(Expr::ListComprehension(element, clauses));
+        }
+        let found = only(self.alloc, first)?;
+        if tokens.eat(TokenKind::Comma) {
+            return Ok(Expr::List(self.listed(tokens, TokenKind::RightBracket, found)?));
+        }
+        Ok(Expr::List(closed(tokens, TokenKind::RightBracket, found)?))
     }
 
     /// Reads the further pairs up to the closing brace, and returns them after those found.
@@ -249,7 +228,7 @@ impl<F: Fn(Global, &mut Tokens<'_>, usize, Nested) -> Result<Expr, SyntaxErr>> G
     }
 
     /// Operand = identifier | int | string | what stands in brackets
-    #[tactic(auto, unfolding(bq_parse_grammar::specs::Reading::operand))]
+    #[tactic(auto, using(crate::proofs::Ahead::string_is_operand), unfolding(bq_parse_grammar::specs::Reading::operand))]
     pub fn operand(&self, tokens: &mut Tokens<'_>) -> Result<Expr, SyntaxErr>
         requires { ReadsNested self.now.depth (F.pre self.now.phrase) (F.post self.now.phrase) }
         ensures { Reads (spec.operand (spec.phrase self.now.depth) (spec.variables_to self.now.depth) tokens.old) result tokens.new }
@@ -257,7 +236,7 @@ impl<F: Fn(Global, &mut Tokens<'_>, usize, Nested) -> Result<Expr, SyntaxErr>> G
         match tokens.peek() {
             Some(TokenKind::Identifier) => Ok(Expr::Name(tokens.word(self.alloc)?)),
             Some(TokenKind::Int) => tokens.int(),
-            Some(TokenKind::String) => tokens.string(self.alloc),
+            Some(TokenKind::String) => Ok(Expr::String(tokens.text(self.alloc)?)),
             Some(TokenKind::LeftParen) => {
                 tokens.advance();
                 self.in_parens(tokens)

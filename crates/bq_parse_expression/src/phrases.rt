@@ -6,7 +6,7 @@ ghost use Rattle.bq_parse_grammar.specs.Turns.{Reads};
 ghost use Rattle.bq_parse_grammar.specs.Reading as spec;
 ghost use Rattle.bq_parse_expression.specs.Nested.{ReadsNested};
 ghost use Rattle.bq_parse_expression.specs.Lone as lone;
-ghost use Rattle.bq_parse_expression.specs.Further.{further, or_after_primary, phrase_after};
+ghost use Rattle.bq_parse_expression.specs.Further.{or_after_primary, phrase_after};
 
 use crate::grammar::Grammar;
 use crate::lone::{begins_with_end, begins_with_operand, stands_alone};
@@ -15,24 +15,12 @@ use bq_parse_grammar::{Expr, Nested, SyntaxErr};
 use std::alloc::Global;
 
 impl<F: Fn(Global, &mut Tokens<'_>, usize, Nested) -> Result<Expr, SyntaxErr>> Grammar<F> {
-    /// Reads what operators of all levels of a Bor do to its first operand.
-    #[tactic(auto, using(crate::proofs::AfterOperand::nothing_further))]
-    fn bor_after(&self, tokens: &mut Tokens<'_>, first: Expr) -> Result<Expr, SyntaxErr>
-        requires { ReadsNested self.now.depth (F.pre self.now.phrase) (F.post self.now.phrase) }
-        ensures { Reads (further (spec.primary (spec.phrase self.now.depth) (spec.variables_to self.now.depth)) 6 first tokens.old) result tokens.new }
-    {
-        if !tokens.sees_any_operator() {
-            return Ok(first);
-        }
-        self.further(tokens, first, 6)
-    }
-
     /// Reads the rest of an Or after its first primary.
     fn or_after_primary(&self, tokens: &mut Tokens<'_>, first: Expr) -> Result<Expr, SyntaxErr>
         requires { ReadsNested self.now.depth (F.pre self.now.phrase) (F.post self.now.phrase) }
         ensures { Reads (or_after_primary (spec.primary (spec.phrase self.now.depth) (spec.variables_to self.now.depth)) first tokens.old) result tokens.new }
     {
-        let operand = self.bor_after(tokens, first)?;
+        let operand = self.further(tokens, first, 6)?;
         let comparison = self.comp_after(tokens, operand)?;
         let both = self.and_after(tokens, comparison)?;
         self.or_after(tokens, both)

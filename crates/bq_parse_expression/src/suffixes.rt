@@ -5,7 +5,6 @@ ghost use Rattle.bq_parse_grammar.specs.Turns.{Reads};
 ghost use Rattle.bq_parse_grammar.specs.Turns as turns;
 ghost use Rattle.bq_parse_grammar.specs.Grammar as grammar;
 ghost use Rattle.bq_parse_grammar.specs.Reading as spec;
-ghost use Rattle.bq_parse_grammar.specs.declared.arguments.ArgumentKind.TheVariants as argument_kind;
 ghost use Rattle.bq_parse_grammar.specs.declared.tree.Expr.TheVariants as e;
 ghost use Rattle.bq_parse_grammar.specs.declared.tree.Nested.TheVariants.{Test};
 ghost use Rattle.bq_source.specs.declared.token.TokenKind.TheVariants as kind;
@@ -64,56 +63,8 @@ fn sees_suffix(tokens: &Tokens<'_>) -> bool
         || tokens.sees(TokenKind::LeftBracket)
 }
 
-/// Returns an operand and what is done to it; the operand alone where nothing is.
-fn primary_of(operand: Boxed<Expr>, suffixes: Items<Suffix>) -> Expr
-    ensures { result ≡ grammar.primary_of operand suffixes }
-{
-    // PROOF: it is called where a suffix was seen, so at least one was read.
-    if suffixes.is_empty() {
-        return operand.into_inner();
-    }
-    Expr::Primary(operand, suffixes)
-}
-
 impl<F: Fn(Global, &mut Tokens<'_>, usize, Nested) -> Result<Expr, SyntaxErr>> Grammar<F> {
-    /// identifier '=' Test
-    fn named(&self, tokens: &mut Tokens<'_>) -> Result<Argument, SyntaxErr>
-        requires { ReadsNested self.now.depth (F.pre self.now.phrase) (F.post self.now.phrase) }
-        ensures { Reads (spec.argument_by (spec.phrase self.now.depth) (spec.variables_to self.now.depth) argument_kind.Named tokens.old) result tokens.new }
-    {
-        let name = Bytes::from_slice(self.alloc, tokens.spelling())?;
-        tokens.advance();
-        tokens.advance();
-        Ok(Argument::Named(name, self.nested(tokens, Nested::Test)?))
-    }
-
-    /// Argument = Test | identifier '=' Test | '*' Test | '**' Test
-    fn argument_by(
-        &self,
-        tokens: &mut Tokens<'_>,
-        kind: ArgumentKind,
-    ) -> Result<Argument, SyntaxErr>
-        requires { ReadsNested self.now.depth (F.pre self.now.phrase) (F.post self.now.phrase) }
-        ensures { Reads (spec.argument_by (spec.phrase self.now.depth) (spec.variables_to self.now.depth) kind tokens.old) result tokens.new }
-    {
-        match kind {
-            ArgumentKind::Positional => Ok(Argument::Positional(self.nested(
-                tokens,
-                Nested::Test,
-            )?)),
-            ArgumentKind::Named => self.named(tokens),
-            ArgumentKind::Star => {
-                tokens.advance();
-                Ok(Argument::Star(self.nested(tokens, Nested::Test)?))
-            }
-            ArgumentKind::StarStar => {
-                tokens.advance();
-                Ok(Argument::StarStar(self.nested(tokens, Nested::Test)?))
-            }
-        }
-    }
-
-    /// Reads an argument, where it is allowed, and returns what may still come after it.
+    /// Argument = Test | identifier '=' Test | '*' Test | '**' Test, where it is allowed, and what may still come after it
     #[tactic(auto, unfolding(bq_parse_grammar::specs::Reading::argument))]
     fn argument(
         &self,
@@ -124,9 +75,31 @@ impl<F: Fn(Global, &mut Tokens<'_>, usize, Nested) -> Result<Expr, SyntaxErr>> G
         ensures { Reads (spec.argument (spec.phrase self.now.depth) (spec.variables_to self.now.depth) allowed tokens.old) result tokens.new }
     {
         let kind = argument_kind(tokens);
-        match allowed_after(allowed, kind) {
-            Some(after) => Ok((self.argument_by(tokens, kind)?, after)),
-            None => Err(SyntaxErr::Syntax),
+        let Some(after) = allowed_after(allowed, kind) else {
+            return Err(SyntaxErr::Syntax);
+        };
+        match kind {
+            ArgumentKind::Positional => {
+                let value = self.nested(tokens, Nested::Test)?;
+                Ok((Argument::Positional(value), after))
+            }
+            ArgumentKind::Named => {
+                let name = Bytes::from_slice(self.alloc, tokens.spelling())?;
+                tokens.advance();
+                tokens.advance();
+                let value = self.nested(tokens, Nested::Test)?;
+                Ok((Argument::Named(name, value), after))
+            }
+            ArgumentKind::Star => {
+                tokens.advance();
+                let value = self.nested(tokens, Nested::Test)?;
+                Ok((Argument::Star(value), after))
+            }
+            ArgumentKind::StarStar => {
+                tokens.advance();
+                let value = self.nested(tokens, Nested::Test)?;
+                Ok((Argument::StarStar(value), after))
+            }
         }
     }
 
@@ -259,28 +232,18 @@ impl<F: Fn(Global, &mut Tokens<'_>, usize, Nested) -> Result<Expr, SyntaxErr>> G
         closed(tokens, TokenKind::RightBracket, Suffix::Index(index))
     }
 
-    /// '.' identifier [ '(' Arguments ')' ], after the dot
-    #[tactic(auto, unfolding(bq_parse_grammar::specs::Reading::member))]
-    fn member(&self, tokens: &mut Tokens<'_>) -> Result<Suffix, SyntaxErr>
-        requires { ReadsNested self.now.depth (F.pre self.now.phrase) (F.post self.now.phrase) }
-        ensures { Reads (spec.member (spec.phrase self.now.depth) (spec.variables_to self.now.depth) tokens.old) result tokens.new }
-    {
-        let name = tokens.word(self.alloc)?;
-        if tokens.eat(TokenKind::LeftParen) {
-            Ok(Suffix::Method(name, self.arguments(tokens)?))
-        } else {
-            Ok(Suffix::Attribute(name))
-        }
-    }
-
     /// Suffix = '.' identifier [ '(' Arguments ')' ] | '(' Arguments ')' | '[' Expr ']' | '[' [Test] ':' [Test] [ ':' [Test] ] ']'
-    #[tactic(auto, unfolding(bq_parse_grammar::specs::Reading::suffix))]
+    #[tactic(auto, unfolding(bq_parse_grammar::specs::Reading::suffix, bq_parse_grammar::specs::Reading::member))]
     fn suffix(&self, tokens: &mut Tokens<'_>) -> Result<Suffix, SyntaxErr>
         requires { ReadsNested self.now.depth (F.pre self.now.phrase) (F.post self.now.phrase) }
         ensures { Reads (spec.suffix (spec.phrase self.now.depth) (spec.variables_to self.now.depth) tokens.old) result tokens.new }
     {
         if tokens.eat(TokenKind::Dot) {
-            return self.member(tokens);
+            let name = tokens.word(self.alloc)?;
+            if tokens.eat(TokenKind::LeftParen) {
+                return Ok(Suffix::Method(name, self.arguments(tokens)?));
+            }
+            return Ok(Suffix::Attribute(name));
         }
         if tokens.eat(TokenKind::LeftParen) {
             return Ok(Suffix::Call(self.arguments(tokens)?));
@@ -318,6 +281,10 @@ impl<F: Fn(Global, &mut Tokens<'_>, usize, Nested) -> Result<Expr, SyntaxErr>> G
         }
         let operand = Boxed::new(self.alloc, operand)?;
         let suffixes = self.suffixes(tokens)?;
-        Ok(primary_of(operand, suffixes))
+        // PROOF: a suffix was seen, so at least one was read.
+        if suffixes.is_empty() {
+            return Ok(operand.into_inner());
+        }
+        Ok(Expr::Primary(operand, suffixes))
     }
 }

@@ -3,7 +3,6 @@
 ghost use Rattle.std.specs.Prelude.{Ok};
 ghost use Rattle.bq_parse_grammar.specs.Turns.{Reads, ◌>>=◌ as and_then};
 ghost use Rattle.bq_parse_grammar.specs.Turns as turns;
-ghost use Rattle.bq_parse_grammar.specs.Reading as reading;
 ghost use Rattle.bq_parse_grammar.specs.ReadingStatements as spec;
 ghost use Rattle.bq_source.specs.declared.token.TokenKind.TheVariants as kind;
 ghost use Rattle.bq_parse_statement.specs.Inner.{ReadsStatement};
@@ -12,7 +11,7 @@ use crate::parameter_list::parameters;
 use crate::small::simple;
 use bq_parse_cursor::Tokens;
 use bq_parse_expression::{closed, expr_list, only, phrase, vars};
-use bq_parse_grammar::{Branch, Expr, Identifier, Nested, Parameter, Stmt, SyntaxErr};
+use bq_parse_grammar::{Branch, Expr, Nested, Stmt, SyntaxErr};
 use bq_source::TokenKind;
 use sqlite_items::Items;
 use std::alloc::Global;
@@ -36,49 +35,27 @@ impl<F: Fn(Global, &mut Tokens<'_>, usize) -> Result<Stmt, SyntaxErr>> BlockRule
         (self.statement)(self.alloc, tokens, self.inside)
     }
 
-    /// Reads the further statements of the block, and returns them after those found.
-    #[tactic(auto, using(crate::proofs::LoopTurns::turns_more, crate::proofs::LoopTurns::turns_over), unfolding(bq_parse_grammar::specs::Turns::repeat))]
-    fn further(
-        &self,
-        tokens: &mut Tokens<'_>,
-        mut found: Items<Stmt>,
-    ) -> Result<Items<Stmt>, SyntaxErr>
-        requires { ReadsStatement self.now.inside (F.pre self.now.statement) (F.post self.now.statement) }
-        ensures { Reads (turns.repeat spec.in_block (spec.statement self.now.inside) found tokens.old) result tokens.new }
-    {
-        // Each turn takes a token.
-        for _turn in 0..tokens.left() {
-            if tokens.sees(TokenKind::Outdent) {
-                return Ok(found);
-            }
-            found.push(self.nested(tokens)?)?;
-        }
-        Ok(found)
-    }
-
-    /// newline indent Stmt { Stmt } outdent, after the newline
-    #[tactic(auto, unfolding(bq_parse_grammar::specs::ReadingStatements::block))]
-    fn block(&self, tokens: &mut Tokens<'_>) -> Result<Items<Stmt>, SyntaxErr>
-        requires { ReadsStatement self.now.inside (F.pre self.now.statement) (F.post self.now.statement) }
-        ensures { Reads (spec.block self.now.depth (spec.statement self.now.inside) tokens.old) result tokens.new }
-    {
-        tokens.expect(TokenKind::Indent)?;
-        let first = self.nested(tokens)?;
-        let statements = self.further(tokens, only(self.alloc, first)?)?;
-        closed(tokens, TokenKind::Outdent, statements)
-    }
-
     /// Suite = newline indent Stmt { Stmt } outdent | Simple
-    #[tactic(auto, unfolding(bq_parse_grammar::specs::ReadingStatements::suite))]
+    #[tactic(auto, using(crate::proofs::LoopTurns::turns_more, crate::proofs::LoopTurns::turns_over), unfolding(bq_parse_grammar::specs::Turns::repeat, bq_parse_grammar::specs::ReadingStatements::block, bq_parse_grammar::specs::ReadingStatements::suite))]
     fn suite(&self, tokens: &mut Tokens<'_>) -> Result<Items<Stmt>, SyntaxErr>
         requires { ReadsStatement self.now.inside (F.pre self.now.statement) (F.post self.now.statement) }
         ensures { Reads (spec.suite self.now.depth (spec.statement self.now.inside) tokens.old) result tokens.new }
     {
-        if tokens.eat(TokenKind::Newline) {
-            return self.block(tokens);
+        if !tokens.eat(TokenKind::Newline) {
+            let line = simple(self.alloc, tokens, self.depth)?;
+            return Ok(only(self.alloc, Stmt::Simple(line))?);
         }
-        let line = simple(self.alloc, tokens, self.depth)?;
-        Ok(only(self.alloc, Stmt::Simple(line))?)
+        tokens.expect(TokenKind::Indent)?;
+        let mut found = Items::new(self.alloc);
+        found.push(self.nested(tokens)?)?;
+        // Each turn takes a token.
+        for _turn in 0..tokens.left() {
+            if tokens.sees(TokenKind::Outdent) {
+                break;
+            }
+            found.push(self.nested(tokens)?)?;
+        }
+        closed(tokens, TokenKind::Outdent, found)
     }
 
     /// Returns the value, and reads ':' Suite
@@ -181,41 +158,21 @@ impl<F: Fn(Global, &mut Tokens<'_>, usize) -> Result<Stmt, SyntaxErr>> BlockRule
         Ok(Stmt::For(variables, iterable, block))
     }
 
-    /// identifier '(' Parameters
-    fn signature(
-        &self,
-        tokens: &mut Tokens<'_>,
-    ) -> Result<(Identifier, Items<Parameter>), SyntaxErr>
-        ensures { Reads (and_then (reading.word tokens.old) (λ n mid. and_then (turns.expect kind.LeftParen mid) (λ _ us. and_then (spec.parameters self.now.depth us) (λ ps rest. Ok ((n, ps), rest))))) result tokens.new }
-    {
-        let name = tokens.word(self.alloc)?;
-        tokens.expect(TokenKind::LeftParen)?;
-        let parameters = parameters(self.alloc, tokens, self.depth)?;
-        Ok((name, parameters))
-    }
-
     /// 'def' identifier '(' Parameters ':' Suite, after 'def'
     #[tactic(auto, unfolding(bq_parse_grammar::specs::ReadingStatements::def_stmt))]
     fn def_stmt(&self, tokens: &mut Tokens<'_>) -> Result<Stmt, SyntaxErr>
         requires { ReadsStatement self.now.inside (F.pre self.now.statement) (F.post self.now.statement) }
         ensures { Reads (spec.def_stmt self.now.depth (spec.statement self.now.inside) tokens.old) result tokens.new }
     {
-        let signature = self.signature(tokens)?;
+        let name = tokens.word(self.alloc)?;
+        tokens.expect(TokenKind::LeftParen)?;
+        let signature = (name, parameters(self.alloc, tokens, self.depth)?);
         let ((name, parameters), block) = self.beside(tokens, signature)?;
         Ok(Stmt::Def(name, parameters, block))
     }
 
-    /// Reads Simple, as a statement
-    #[tactic(auto, unfolding(bq_parse_grammar::specs::ReadingStatements::simple_stmt))]
-    fn simple_stmt(&self, tokens: &mut Tokens<'_>) -> Result<Stmt, SyntaxErr>
-        requires { ReadsStatement self.now.inside (F.pre self.now.statement) (F.post self.now.statement) }
-        ensures { Reads (spec.simple_stmt self.now.depth (spec.statement self.now.inside) tokens.old) result tokens.new }
-    {
-        Ok(Stmt::Simple(simple(self.alloc, tokens, self.depth)?))
-    }
-
     /// Stmt = If | For | Def | Simple
-    #[tactic(auto, unfolding(bq_parse_grammar::specs::ReadingStatements::stmt))]
+    #[tactic(auto, unfolding(bq_parse_grammar::specs::ReadingStatements::stmt, bq_parse_grammar::specs::ReadingStatements::simple_stmt))]
     pub fn stmt(&self, tokens: &mut Tokens<'_>) -> Result<Stmt, SyntaxErr>
         requires { ReadsStatement self.now.inside (F.pre self.now.statement) (F.post self.now.statement) }
         ensures { Reads (spec.stmt self.now.depth (spec.statement self.now.inside) tokens.old) result tokens.new }
@@ -233,7 +190,7 @@ impl<F: Fn(Global, &mut Tokens<'_>, usize) -> Result<Stmt, SyntaxErr>> BlockRule
                 tokens.advance();
                 self.def_stmt(tokens)
             }
-            Some(_) => self.simple_stmt(tokens),
+            Some(_) => Ok(Stmt::Simple(simple(self.alloc, tokens, self.depth)?)),
             None => Err(SyntaxErr::Syntax),
         }
     }

@@ -102,20 +102,8 @@ fn small_kind(alloc: Global, tokens: &mut Tokens<'_>, depth: usize) -> Result<Sm
     }
 }
 
-/// Reads a small statement, with the line on which it begins.
-#[tactic(auto, unfolding(bq_parse_grammar::specs::ReadingStatements::small_stmt))]
-fn small_stmt(alloc: Global, tokens: &mut Tokens<'_>, depth: usize) -> Result<SmallStmt, SyntaxErr>
-    ensures { Reads (spec.small_stmt depth tokens.old) result tokens.new }
-{
-    let line = tokens.line();
-    Ok(SmallStmt {
-        line,
-        kind: small_kind(alloc, tokens, depth)?,
-    })
-}
-
 /// Simple = Small { ';' Small } [';'] newline
-#[tactic(auto, using(crate::proofs::LoopTurns::turns_more, crate::proofs::LoopTurns::turns_over), unfolding(bq_parse_grammar::specs::ReadingStatements::simple))]
+#[tactic(auto, using(crate::proofs::LoopTurns::turns_more, crate::proofs::LoopTurns::turns_over), unfolding(bq_parse_grammar::specs::ReadingStatements::simple, bq_parse_grammar::specs::ReadingStatements::small_stmt))]
 pub fn simple(
     alloc: Global,
     tokens: &mut Tokens<'_>,
@@ -126,7 +114,9 @@ pub fn simple(
     let mut found = Items::new(alloc);
     // Each turn takes a token.
     for _turn in 0..tokens.left() {
-        found.push(small_stmt(alloc, tokens, depth)?)?;
+        let line = tokens.line();
+        let kind = small_kind(alloc, tokens, depth)?;
+        found.push(SmallStmt { line, kind })?;
         if !tokens.eat(TokenKind::Semicolon) {
             return closed(tokens, TokenKind::Newline, found);
         }

@@ -1,7 +1,5 @@
 //! Statements, with the reader of those in blocks.
 
-ghost use Rattle.std.specs.Prelude.{◌≡◌, ◌<◌, length, MatchResult};
-ghost use Rattle.bq_parse_grammar.specs.declared.refusal.SyntaxErr.TheVariants.{Syntax};
 ghost use Rattle.bq_parse_grammar.specs.Turns.{Reads};
 ghost use Rattle.bq_parse_grammar.specs.ReadingStatements as spec;
 ghost use Rattle.bq_parse_statement.specs.Makes.{Makes};
@@ -27,17 +25,6 @@ pub fn statement(alloc: Global, tokens: &mut Tokens<'_>, depth: usize) -> Result
     .stmt(tokens)
 }
 
-/// Returns the value, where no token is left.
-fn whole<T: Drop>(tokens: &Tokens<'_>, value: T) -> Result<T, SyntaxErr>
-    ensures { MatchResult result (λ x. (length tokens.now ≡ 0) × (x ≡ value)) (λ why. (0 < length tokens.now) × (why ≡ Syntax)) }
-{
-    if tokens.left() == 0 {
-        Ok(value)
-    } else {
-        Err(SyntaxErr::Syntax)
-    }
-}
-
 /// Reads the top-level statement that all of these tokens are.
 #[tactic(auto, using(crate::proofs::Taken::none_left, crate::proofs::Taken::some_left), unfolding(bq_parse_grammar::specs::ReadingStatements::top_level))]
 pub fn top_level(
@@ -49,5 +36,9 @@ pub fn top_level(
 {
     let line = tokens.line();
     let statement = statement(alloc, tokens, depth)?;
-    whole(tokens, TopLevel { line, statement })
+    if tokens.left() == 0 {
+        Ok(TopLevel { line, statement })
+    } else {
+        Err(SyntaxErr::Syntax)
+    }
 }

@@ -1,5 +1,5 @@
 //! `deps(x)`, `deps(x, n)`: what the targets of `x` depend on, with these targets.
-ghost use Rattle.std.specs.Prelude.{◌≡◌, true, length, replicate, IfOk};
+ghost use Rattle.std.specs.Prelude.{◌≡◌, length, IfOk};
 ghost use Rattle.bq_query_graph.specs.Paths.{Deps, DepsWithin};
 ghost use Rattle.bq_query_graph.specs.Marks.{IsSet, Marked};
 
@@ -12,8 +12,8 @@ pub fn deps(alloc: Global, graph: &DependencyGraph, x: &[bool]) -> Result<Vec<bo
     requires { length x.now ≡ length graph.now }
     ensures { IfOk result (λ r. IsSet (length graph.now) r.items (Deps graph.now (Marked x.now))) }
 {
-    let all = all(alloc, graph.len())?;
-    closure(alloc, graph.forward(), x, &all)
+    let all = vec![in alloc; true; graph.len()]?;
+    closure(alloc, &graph.forward, x, &all)
 }
 
 /// Returns `deps(x, n)`: the ends of the paths of at most `limit` edges that start in `x`.
@@ -26,13 +26,6 @@ pub fn deps_within(
     requires { length x.now ≡ length graph.now }
     ensures { IfOk result (λ r. IsSet (length graph.now) r.items (DepsWithin graph.now (Marked x.now) limit)) }
 {
-    let all = all(alloc, graph.len())?;
-    within(alloc, graph.forward(), x, &all, limit)
-}
-
-/// Returns the set of all `n` targets.
-fn all(alloc: Global, n: usize) -> Result<Vec<bool>, AllocError>
-    ensures { IfOk result (λ r. r.items ≡ replicate n true) }
-{
-    vec![in alloc; true; n]
+    let all = vec![in alloc; true; graph.len()]?;
+    within(alloc, &graph.forward, x, &all, limit)
 }

@@ -12,8 +12,10 @@ use std::marker::Model;
 /// A contract sees it as the list that has, for each target, the targets that its edges lead to.
 #[derive(Drop)]
 pub struct DependencyGraph {
-    forward: Rows,
-    back: Rows,
+    /// For each target those that its edges lead to.
+    pub(crate) forward: Rows,
+    /// For each target those whose edges lead to it.
+    pub(crate) back: Rows,
 }
 
 impl Model for DependencyGraph {
@@ -41,19 +43,5 @@ impl DependencyGraph {
         ensures below { AreBelow self.now }
     {
         self.forward.len()
-    }
-
-    /// Returns for each target those that its edges lead to.
-    pub(crate) fn forward(&self) -> &Rows
-        ensures { result.now ≡ self.now }
-    {
-        &self.forward
-    }
-
-    /// Returns for each target those whose edges lead to it.
-    pub(crate) fn back(&self) -> &Rows
-        ensures { AreTurned self.now result.now }
-    {
-        &self.back
     }
 }

@@ -21,7 +21,7 @@ pub fn rdeps(
     ensures { IfOk result (λ r. IsSet (length graph.now) r.items (Rdeps graph.now (Marked u.now) (Marked x.now))) }
 {
     let inside = deps(alloc, graph, u)?;
-    closure(alloc, graph.back(), x, &inside)
+    closure(alloc, &graph.back, x, &inside)
 }
 
 /// Returns `rdeps(u, x, n)`: the starts of such paths of at most `limit` edges.
@@ -37,5 +37,5 @@ pub fn rdeps_within(
     ensures { IfOk result (λ r. IsSet (length graph.now) r.items (RdepsWithin graph.now (Marked u.now) (Marked x.now) limit)) }
 {
     let inside = deps(alloc, graph, u)?;
-    within(alloc, graph.back(), x, &inside, limit)
+    within(alloc, &graph.back, x, &inside, limit)
 }

@@ -1,7 +1,6 @@
 //! The functions of queries, by name, with what each of their arguments must be.
 ghost use Rattle.std.specs.Prelude.{◌≡◌, map, bytes_eq};
 ghost use Rattle.std.specs.List.{list_any};
-ghost use Rattle.std.specs.Map.{lookup};
 ghost use Rattle.bq_query_lex.specs.Functions.{function_named, is_left_out, arguments_of, takes_number};
 
 /// A function that can be answered.
@@ -51,18 +50,6 @@ const LEFT_OUT: [&[u8]; 10] = [
     b"visible",
 ];
 
-fn find_function(mut table: &[(&[u8], QueryFunction)], name: &[u8]) -> Option<QueryFunction>
-    ensures { result ≡ lookup (bytes_eq name.now) (map (λ e. (e.0.now, e.1)) table.entry.now) }
-{
-    while let [entry, rest @ ..] = table {
-        if name == entry.0 {
-            return Some(entry.1);
-        }
-        table = rest;
-    }
-    None
-}
-
 fn is_among(mut table: &[&[u8]], name: &[u8]) -> bool
     ensures { result ≡ list_any (bytes_eq name.now) (map (λ k. k.now) table.entry.now) }
 {
@@ -79,7 +66,14 @@ fn is_among(mut table: &[&[u8]], name: &[u8]) -> bool
 pub fn function_named(name: &[u8]) -> Option<QueryFunction>
     ensures { result ≡ function_named name.now }
 {
-    find_function(&FUNCTIONS, name)
+    let mut table: &[(&[u8], QueryFunction)] = &FUNCTIONS;
+    while let [entry, rest @ ..] = table {
+        if name == entry.0 {
+            return Some(entry.1);
+        }
+        table = rest;
+    }
+    None
 }
 
 /// Returns whether Bazel has a function of this name that is left out here (Q3); any other unknown name is Q2.

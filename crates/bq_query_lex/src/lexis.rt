@@ -1,8 +1,8 @@
 //! Which bytes are a token at the front of a text (Bazel query reference, "Tokens").
-ghost use Rattle.std.specs.Prelude.{◌≡◌, ◌≤◌, ◌==◌, nat_eq, bytes_eq, map, length, position};
+ghost use Rattle.std.specs.Prelude.{◌≡◌, ◌≤◌, ◌==◌, nat_eq, length, position};
 ghost use Rattle.std.specs.List.{list_all, prefix_len};
 ghost use Rattle.std.specs.Map.{lookup};
-ghost use Rattle.bq_query_lex.specs.Lexis.{is_blank, is_quote, is_letter_or_digit, is_word_byte, is_name_byte, begins_word, is_variable_name, punctuation, keywords, word_kind, plain_kind, word_piece, quoted_piece, other_piece, piece_of};
+ghost use Rattle.bq_query_lex.specs.Lexis.{is_word_byte, is_name_byte, is_variable_name, punctuation, word_kind, quoted_piece, piece_of};
 
 use crate::token::QueryTokenKind;
 
@@ -19,28 +19,10 @@ pub enum QueryPiece {
     Unknown,
 }
 
-fn is_blank(b: u8) -> bool
-    ensures { result ≡ is_blank b }
-{
-    b == b' ' || b == b'\t' || b == b'\n' || b == b'\r'
-}
-
-fn is_quote(b: u8) -> bool
-    ensures { result ≡ is_quote b }
-{
-    b == b'"' || b == b'\''
-}
-
 fn is_word_byte(b: u8) -> bool
     ensures { result ≡ is_word_byte b }
 {
     b.is_ascii_alphanumeric() || b"*/@.-_:$~[]".contains(&b)
-}
-
-fn begins_word(b: u8) -> bool
-    ensures { result ≡ begins_word b }
-{
-    is_word_byte(b) && !(b == b'-' || b == b'*')
 }
 
 fn is_name_byte(b: u8) -> bool
@@ -89,27 +71,18 @@ const KEYWORDS: [(&[u8], QueryTokenKind); 6] = [
     (b"union", QueryTokenKind::Union),
 ];
 
-fn find_keyword(mut table: &[(&[u8], QueryTokenKind)], word: &[u8]) -> Option<QueryTokenKind>
-    ensures { result ≡ lookup (bytes_eq word.now) (map (λ e. (e.0.now, e.1)) table.entry.now) }
+/// Returns the kind of a word without quotes; `None` if it begins with `$` and is no variable.
+#[tactic(auto, unfolding(crate::specs::Lexis::word_kind))]
+fn word_kind(word: &[u8]) -> Option<QueryTokenKind>
+    ensures { result ≡ word_kind word.now }
 {
+    let mut table: &[(&[u8], QueryTokenKind)] = &KEYWORDS;
     while let [entry, rest @ ..] = table {
         if word == entry.0 {
             return Some(entry.1);
         }
         table = rest;
     }
-    None
-}
-
-fn keyword(word: &[u8]) -> Option<QueryTokenKind>
-    ensures { result ≡ lookup (bytes_eq word.now) keywords }
-{
-    find_keyword(&KEYWORDS, word)
-}
-
-fn plain_kind(word: &[u8]) -> Option<QueryTokenKind>
-    ensures { result ≡ plain_kind word.now }
-{
     match word {
         [] => None,
         [b'$', name @ ..] => {
@@ -120,17 +93,6 @@ fn plain_kind(word: &[u8]) -> Option<QueryTokenKind>
             }
         }
         _ => Some(QueryTokenKind::Word),
-    }
-}
-
-/// Returns the kind of a word without quotes; `None` if it begins with `$` and is no variable.
-#[tactic(auto, unfolding(crate::specs::Lexis::word_kind))]
-fn word_kind(word: &[u8]) -> Option<QueryTokenKind>
-    ensures { result ≡ word_kind word.now }
-{
-    match keyword(word) {
-        Some(kind) => Some(kind),
-        None => plain_kind(word),
     }
 }
 
@@ -145,18 +107,6 @@ fn word_len(text: &[u8]) -> usize
         }
     }
     text.len()
-}
-
-/// Returns the longest run of the bytes of words.
-#[tactic(auto, unfolding(crate::specs::Lexis::word_piece))]
-fn word_piece(text: &[u8]) -> QueryPiece
-    ensures { result ≡ word_piece text.now }
-{
-    let n = word_len(text);
-    match word_kind(&text[..n]) {
-        Some(kind) => QueryPiece::Found(kind, n),
-        None => QueryPiece::Unknown,
-    }
 }
 
 fn next_quote(quote: u8, rest: &[u8]) -> Option<usize>
@@ -177,26 +127,31 @@ fn quoted_piece(quote: u8, rest: &[u8]) -> QueryPiece
 }
 
 /// Returns what is at the front of the text.
-#[tactic(auto, unfolding(crate::specs::Lexis::piece_of))]
+#[tactic(auto, unfolding(crate::specs::Lexis::piece_of, crate::specs::Lexis::word_piece))]
 pub fn piece_of(text: &[u8]) -> QueryPiece
     ensures { result ≡ piece_of text.now }
 {
     match text {
         [] => QueryPiece::End,
         [b, rest @ ..] => {
-            if is_blank(*b) {
+            if *b == b' ' || *b == b'\t' || *b == b'\n' || *b == b'\r' {
                 return QueryPiece::Blank;
             }
             if let Some(kind) = punctuation(*b) {
                 return QueryPiece::Found(kind, 1);
             }
-            if is_quote(*b) {
+            if *b == b'"' || *b == b'\'' {
                 return quoted_piece(*b, rest);
             }
-            if begins_word(*b) {
-                return word_piece(text);
+            if !is_word_byte(*b) || *b == b'-' || *b == b'*' {
+                return QueryPiece::Unknown;
             }
-            QueryPiece::Unknown
+            // The longest run of the bytes of words.
+            let n = word_len(text);
+            match word_kind(&text[..n]) {
+                Some(kind) => QueryPiece::Found(kind, n),
+                None => QueryPiece::Unknown,
+            }
         }
     }
 }

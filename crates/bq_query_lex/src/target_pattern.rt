@@ -1,7 +1,7 @@
 //! Target patterns: which form a word has (Bazel, "Target patterns").
-ghost use Rattle.std.specs.Prelude.{◌≡◌, None, Some, MatchOption, map};
+ghost use Rattle.std.specs.Prelude.{◌≡◌, None, Some, MatchOption};
 ghost use Rattle.std.specs.List.{list_any};
-ghost use Rattle.bq_query_lex.specs.TargetPatterns.{begins_pattern, ending, form_by, is_colon, part_before, word_form};
+ghost use Rattle.bq_query_lex.specs.TargetPatterns.{begins_pattern, is_colon, part_before, word_form};
 
 /// Which targets a word names.
 #[derive(Clone, Copy)]
@@ -62,32 +62,24 @@ fn part_before<'a>(word: &'a [u8], end: &[u8], dropped: usize) -> Option<&'a [u8
     Some(part)
 }
 
-fn find_form<'a>(mut table: &[(&[u8], usize, PatternForm)], word: &'a [u8]) -> WordForm<'a>
-    ensures form { result.form ≡ (form_by (map (λ e. ending e.0.now e.1 e.2) table.entry.now) word.now).0 }
-    ensures named { result.named.now ≡ (form_by (map (λ e. ending e.0.now e.1 e.2) table.entry.now) word.now).1 }
-{
-    while let [entry, rest @ ..] = table {
-        match part_before(word, entry.0, entry.1) {
-            Some(named) => return WordForm {
-                form: entry.2,
-                named,
-            },
-            None => table = rest,
-        }
-    }
-    WordForm {
-        form: PatternForm::Target,
-        named: word,
-    }
-}
-
 /// Returns the form of a word, read from the word as it is written: those with `...` first, `//p:n` last. So `//p:all`
 /// never means a target named `all`; and `//a:b/...` is `//p:n`, since no package is named `a:b`.
 pub fn word_form(word: &[u8]) -> WordForm<'_>
     ensures form { result.form ≡ (word_form word.now).0 }
     ensures named { result.named.now ≡ (word_form word.now).1 }
 {
-    find_form(&ENDINGS, word)
+    let mut table: &[(&[u8], usize, PatternForm)] = &ENDINGS;
+    while let [entry, rest @ ..] = table {
+        if let Some(named) = part_before(word, entry.0, entry.1) {
+            let form = entry.2;
+            return WordForm { form, named };
+        }
+        table = rest;
+    }
+    WordForm {
+        form: PatternForm::Target,
+        named: word,
+    }
 }
 
 /// Returns whether a word begins as the target patterns do that can be answered: with `//`, or with `@` but not `@@`.

@@ -1,10 +1,8 @@
 //! The productions, over the reader of the queries inside one more parenthesis or let.
 
-ghost use Rattle.std.specs.Prelude.{◌≡◌, [], ◌∷◌, IfOk};
-ghost use Rattle.bq_query_lex.specs.declared.token.QueryTokenKind.TheVariants as kind;
+ghost use Rattle.std.specs.Prelude.{[]};
 ghost use Rattle.bq_query_tree.specs.Turns.{Reads};
 ghost use Rattle.bq_query_tree.specs.Turns as turns;
-ghost use Rattle.bq_query_tree.specs.Grammar as grammar;
 ghost use Rattle.bq_query_tree.specs.Reading as spec;
 ghost use Rattle.bq_query_parse.specs.Nested.{ReadsQuery};
 
@@ -13,7 +11,7 @@ use bq_base::Bytes;
 use bq_query_lex::QueryTokenKind;
 use bq_query_tree::{Query, QuerySyntaxErr, SetOperation};
 use sqlite_items::{Boxed, Items};
-use std::alloc::{AllocError, Global};
+use std::alloc::Global;
 
 #[derive(Clone, Copy)]
 pub struct QueryGrammar<F> {
@@ -21,25 +19,6 @@ pub struct QueryGrammar<F> {
     /// How many parentheses and lets may still be opened.
     pub depth: usize,
     pub query: F,
-}
-
-/// Makes a query with the operations on it; the query alone if there is none.
-fn chain_of(first: Boxed<Query>, operations: Items<SetOperation>) -> Query
-    ensures { result ≡ grammar.chain_of first operations }
-{
-    if operations.is_empty() {
-        return first.into_inner();
-    }
-    Query::Chain(first, operations)
-}
-
-/// Makes a list of one query.
-fn alone(alloc: Global, query: Query) -> Result<Items<Query>, AllocError>
-    ensures { IfOk result (λ xs. xs ≡ query ∷ []) }
-{
-    let mut found = Items::new(alloc);
-    found.push(query)?;
-    Ok(found)
 }
 
 /// { Word }
@@ -74,70 +53,40 @@ impl<F: Fn(Global, &mut QueryTokens<'_>, usize) -> Result<Query, QuerySyntaxErr>
         Ok(Boxed::new(self.alloc, self.nested(tokens)?)?)
     }
 
-    /// ',' Query
-    fn after_comma(&self, tokens: &mut QueryTokens<'_>) -> Result<Query, QuerySyntaxErr>
-        requires { ReadsQuery self.now.depth (F.pre self.now.query) (F.post self.now.query) }
-        ensures { Reads (spec.after_comma (spec.query_to self.now.depth) tokens.old) result tokens.new }
-    {
-        tokens.expect(QueryTokenKind::Comma)?;
-        self.nested(tokens)
-    }
-
-    /// Reads all further arguments, after those found.
-    #[tactic(auto, using(crate::proofs::LoopTurns::turns_more, crate::proofs::LoopTurns::turns_over), unfolding(bq_query_tree::specs::Turns::repeat))]
-    fn further_arguments(
-        &self,
-        tokens: &mut QueryTokens<'_>,
-        mut found: Items<Query>,
-    ) -> Result<Items<Query>, QuerySyntaxErr>
-        requires { ReadsQuery self.now.depth (F.pre self.now.query) (F.post self.now.query) }
-        ensures { Reads (turns.repeat (turns.sees kind.Comma) (spec.after_comma (spec.query_to self.now.depth)) found tokens.old) result tokens.new }
-    {
-        // Each turn takes a token.
-        for _turn in 0..tokens.left() {
-            if !tokens.sees(QueryTokenKind::Comma) {
-                return Ok(found);
-            }
-            found.push(self.after_comma(tokens)?)?;
-        }
-        Ok(found)
-    }
-
     /// Arguments = [ Query { ',' Query } ] ')'
-    #[tactic(auto, unfolding(bq_query_tree::specs::Reading::arguments))]
+    #[tactic(auto, using(crate::proofs::LoopTurns::turns_more, crate::proofs::LoopTurns::turns_over), unfolding(bq_query_tree::specs::Turns::repeat, bq_query_tree::specs::Reading::arguments))]
     fn arguments(&self, tokens: &mut QueryTokens<'_>) -> Result<Items<Query>, QuerySyntaxErr>
         requires { ReadsQuery self.now.depth (F.pre self.now.query) (F.post self.now.query) }
         ensures { Reads (spec.arguments (spec.query_to self.now.depth) tokens.old) result tokens.new }
     {
+        let mut found = Items::new(self.alloc);
         if tokens.eat(QueryTokenKind::Close) {
-            return Ok(Items::new(self.alloc));
+            return Ok(found);
         }
-        let first = self.nested(tokens)?;
-        let found = self.further_arguments(tokens, alone(self.alloc, first)?)?;
+        found.push(self.nested(tokens)?)?;
+        // Each turn takes a token.
+        for _turn in 0..tokens.left() {
+            if !tokens.eat(QueryTokenKind::Comma) {
+                break;
+            }
+            found.push(self.nested(tokens)?)?;
+        }
         tokens.expect(QueryTokenKind::Close)?;
         Ok(found)
     }
 
-    /// word '(' Arguments, after the word
+    /// word | word '(' Arguments
     #[tactic(auto, unfolding(bq_query_tree::specs::Reading::call))]
-    fn call(&self, tokens: &mut QueryTokens<'_>, name: Bytes) -> Result<Query, QuerySyntaxErr>
-        requires { ReadsQuery self.now.depth (F.pre self.now.query) (F.post self.now.query) }
-        ensures { Reads (spec.call self.now.depth (spec.query_to self.now.depth) name tokens.old) result tokens.new }
-    {
-        tokens.opening(self.depth)?;
-        Ok(Query::Call(name, self.arguments(tokens)?))
-    }
-
-    /// Reads a word without quotes, or the function that it names before `(`.
     fn word_or_call(&self, tokens: &mut QueryTokens<'_>) -> Result<Query, QuerySyntaxErr>
         requires { ReadsQuery self.now.depth (F.pre self.now.query) (F.post self.now.query) }
         ensures { Reads (spec.word_or_call self.now.depth (spec.query_to self.now.depth) (spec.spelling_of tokens.old) (turns.next tokens.old)) result tokens.new }
     {
         let word = tokens.bare(self.alloc)?;
-        if tokens.sees(QueryTokenKind::Open) {
-            return self.call(tokens, word);
+        if !tokens.sees(QueryTokenKind::Open) {
+            return Ok(Query::Word(word));
         }
-        Ok(Query::Word(word))
+        tokens.opening(self.depth)?;
+        Ok(Query::Call(word, self.arguments(tokens)?))
     }
 
     /// '(' Query ')'
@@ -268,6 +217,9 @@ impl<F: Fn(Global, &mut QueryTokens<'_>, usize) -> Result<Query, QuerySyntaxErr>
         }
         let first = Boxed::new(self.alloc, self.operand(tokens)?)?;
         let operations = self.operations(tokens)?;
-        Ok(chain_of(first, operations))
+        if operations.is_empty() {
+            return Ok(first.into_inner());
+        }
+        Ok(Query::Chain(first, operations))
     }
 }

@@ -14,12 +14,6 @@ use bq_query_tree::{QuerySyntaxErr, SetOperator};
 use std::alloc::{AllocError, Global};
 use std::marker::Model;
 
-fn same_kind(kind: QueryTokenKind, other: QueryTokenKind) -> bool
-    ensures { result ≡ lexeme.same_kind kind other }
-{
-    kind == other
-}
-
 fn is_word(kind: QueryTokenKind) -> bool
     ensures { result ≡ spec.is_word kind }
 {
@@ -105,11 +99,12 @@ impl<'a> QueryTokens<'a> {
         }
     }
 
+    #[tactic(auto, unfolding(bq_query_tree::specs::Lexeme::same_kind))]
     pub fn sees(&self, kind: QueryTokenKind) -> bool
         ensures { result ≡ turns.sees kind self.now }
     {
         match self.rest.first() {
-            Some(token) => same_kind(token.kind, kind),
+            Some(token) => token.kind == kind,
             None => false,
         }
     }

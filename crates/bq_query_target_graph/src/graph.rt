@@ -1,11 +1,16 @@
 //! The graph of the targets of a workspace.
 
-ghost use Rattle.std.specs.Prelude.{◌≡◌};
+ghost use Rattle.std.specs.Prelude.{◌≡◌, IfOk};
+ghost use Rattle.bq_query_target_graph.specs.Order.{PackagesAscend};
+ghost use Rattle.bq_query_target_graph.specs.Edges.{IsGraphOf};
 
+use crate::edges::edges;
+use crate::order::{Flat, in_order};
 use bq_label::PackageId;
-use bq_package_target::Target;
+use bq_package_target::{Package, Target};
 use bq_query_graph::DependencyGraph;
 use sqlite_items::Items;
+use std::alloc::{AllocError, Global};
 use std::marker::Model;
 
 /// The targets of a workspace with their dependencies. Contracts see the targets in the order of their labels, the packages in theirs,
@@ -28,22 +33,22 @@ impl Model for TargetGraph {
 }
 
 impl TargetGraph {
-    ghost use Rattle.bq_query_target_graph.specs.Graph.{GraphParts, IsGraph};
+    ghost use Rattle.bq_query_target_graph.specs.Graph.{IsGraph};
 
-    /// Makes the graph of these parts.
-    pub(crate) fn of(
-        targets: Vec<Target>,
-        packages: Items<PackageId>,
-        graph: DependencyGraph,
-    ) -> TargetGraph
-        requires { IsGraph (record { targets = targets.items; packages = packages; edges = graph }) }
-        ensures { result ≡ record { targets = targets.items; packages = packages; edges = graph } }
+    /// Makes the graph of the targets of packages.
+    pub fn new(alloc: Global, packages: Vec<Package>) -> Result<TargetGraph, AllocError>
+        requires { PackagesAscend packages.items }
+        ensures { IfOk result (IsGraphOf packages.items) }
     {
-        TargetGraph {
+        let Flat { packages, targets } = in_order(alloc, packages)?;
+        let all = targets.as_slice();
+        let edges = edges(alloc, all)?;
+        let graph = DependencyGraph::new(alloc, all.len(), &edges)?;
+        Ok(TargetGraph {
             targets,
             packages,
             graph,
-        }
+        })
     }
 
     /// Returns the targets in the order of the bytes of their labels' full forms. A target's number is its place here.

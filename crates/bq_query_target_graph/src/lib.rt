@@ -8,16 +8,17 @@
 //!
 //! - `order`: the targets of all packages in order;
 //! - `numbers`: the number of a label;
+//! - `named`: the labels that a value names;
 //! - `edges`: which targets depend on which;
-//! - `graph`, `build`: the graph, and how it is made of packages;
+//! - `graph`: the graph, and how it is made of packages;
 //! - `own`: targets that name labels of their own package alone;
 //! - `dangling`: the labels of other packages that name no target.
 #![tactic(auto)]
 
-mod build;
 mod dangling;
 mod edges;
 mod graph;
+mod named;
 mod numbers;
 mod order;
 mod own;

@@ -74,17 +74,6 @@ fn found(targets: &[Target], label: &Label) -> Option<usize>
     }
 }
 
-/// Returns the number of the target that has the label; `likely` is tried first.
-fn number_of(targets: &[Target], likely: usize, label: &Label) -> Option<usize>
-    requires { IsStrictlySortedBy target_cmp targets.now }
-    ensures { result ≡ position (same_label label.now) (labels_of targets.now) }
-{
-    if has_at(targets, likely, label) {
-        return Some(likely);
-    }
-    found(targets, label)
-}
-
 impl<'a> Numbers<'a> {
     /// Makes the numbers of the labels of these targets.
     pub fn of(targets: &'a [Target]) -> Numbers<'a>
@@ -114,26 +103,6 @@ impl<'a> Numbers<'a> {
         self.first = number;
     }
 
-    /// Returns the number that the label has if its package is the one that is entered.
-    fn number_inside(&self, label: &Label) -> usize {
-        match self
-            .own
-            .binary_search_by(|target| target.label.name().cmp(label.name()))
-        {
-            Ok(at) => self.first.saturating_add(at),
-            Err(_) => self.first,
-        }
-    }
-
-    /// Keeps the number of a label that is of another package than the one that is entered.
-    fn keep(&self, number: Option<usize>) {
-        if let Some(number) = number {
-            if number < self.first || number >= self.first.saturating_add(self.own.len()) {
-                self.far.set(number);
-            }
-        }
-    }
-
     /// Returns the number of a label, which is looked for first at the number `next`.
     pub fn number(&self, next: usize, label: &Label) -> Option<usize>
         ensures { result ≡ position (same_label label.now) self.now }
@@ -145,8 +114,20 @@ impl<'a> Numbers<'a> {
         if has_at(self.targets, far, label) {
             return Some(far);
         }
-        let number = number_of(self.targets, self.number_inside(label), label);
-        self.keep(number);
+        let inside = match self
+            .own
+            .binary_search_by(|target| target.label.name().cmp(label.name()))
+        {
+            Ok(at) => self.first.saturating_add(at),
+            Err(_) => self.first,
+        };
+        if has_at(self.targets, inside, label) {
+            return Some(inside);
+        }
+        let number = found(self.targets, label);
+        if let Some(other) = number {
+            self.far.set(other);
+        }
         number
     }
 }

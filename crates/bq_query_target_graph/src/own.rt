@@ -2,13 +2,12 @@
 
 ghost use Rattle.std.specs.Prelude.{◌≡◌};
 ghost use Rattle.std.specs.List.{list_all};
-ghost use Rattle.bq_package_target.specs.Value.{labels_of};
 ghost use Rattle.bq_package_target.specs.Target.{is_of};
-ghost use Rattle.bq_query_target_graph.specs.Own.{names_own, keeps_inside, is_closed};
+ghost use Rattle.bq_query_target_graph.specs.Own.{keeps_inside, is_closed};
 
+use crate::named::labels_of;
 use bq_label::{Label, PackageId};
-use bq_package_rule_class::AttributeValue;
-use bq_package_target::{GivenAttribute, Package, Target, TargetKind, is_of};
+use bq_package_target::{Package, Target, TargetKind, is_of};
 
 /// Returns whether all the labels are of the package.
 fn are_own(own: &PackageId, labels: &[Label]) -> bool
@@ -22,43 +21,20 @@ fn are_own(own: &PackageId, labels: &[Label]) -> bool
     true
 }
 
-/// Returns whether all the labels that the value names are of the package.
-fn is_own_value(own: &PackageId, value: &AttributeValue) -> bool
-    ensures { result ≡ list_all (is_of own.now) (labels_of value.now) }
-{
-    match value {
-        AttributeValue::Label(label) => is_of(own, label),
-        AttributeValue::LabelList(labels) => are_own(own, labels.as_slice()),
-        AttributeValue::String(_) => true,
-        AttributeValue::Int(_) => true,
-        AttributeValue::Bool(_) => true,
-        AttributeValue::StringList(_) => true,
-        AttributeValue::Output(_) => true,
-        AttributeValue::OutputList(_) => true,
-    }
-}
-
-fn name_own(own: &PackageId, attributes: &[GivenAttribute]) -> bool
-    ensures { result ≡ list_all (names_own own.now) attributes.now }
-{
-    for given in attributes {
-        if !is_own_value(own, &given.value) {
-            return false;
-        }
-    }
-    true
-}
-
 /// Returns whether all that the target depends on is of the package.
 fn keeps_inside(own: &PackageId, target: &Target) -> bool
     ensures { result ≡ keeps_inside own.now target.now }
 {
-    match &target.kind {
-        TargetKind::Generated(rule) => is_of(own, rule),
-        TargetKind::Rule(_, _) => name_own(own, target.attributes.as_slice()),
-        TargetKind::Source => name_own(own, target.attributes.as_slice()),
-        TargetKind::Group => name_own(own, target.attributes.as_slice()),
+    if let TargetKind::Generated(rule) = &target.kind {
+        return is_of(own, rule);
     }
+    let attributes = target.attributes.as_slice();
+    for given in attributes {
+        if !are_own(own, labels_of(&given.value)) {
+            return false;
+        }
+    }
+    true
 }
 
 /// Returns whether this is so of all targets of the package.

@@ -5,7 +5,7 @@ ghost use Rattle.std.specs.List.Sorted.{IsStrictlySortedBy};
 ghost use Rattle.bq_label.specs.Packages.{id_cmp};
 ghost use Rattle.bq_query_lex.specs.declared.query_error.QueryErr.TheVariants.{NoSuchPackage};
 ghost use Rattle.bq_query_target_sets.specs.Order.{AreInOrder};
-ghost use Rattle.bq_query_target_sets.specs.Words.{package_named, label_named};
+ghost use Rattle.bq_query_target_sets.specs.Words.{package_named};
 ghost use Rattle.bq_query_target_sets.specs.Missing.{has_package, has_target, missing_label, missing_package, missing};
 
 use crate::order::target_of;
@@ -15,22 +15,16 @@ use bq_label::{Label, PackageId, print_label};
 use bq_package_target::Target;
 use bq_query_lex::{PatternForm, QueryErr, WordForm, word_form};
 use std::alloc::{AllocError, Global};
-use std::cmp::Ordering;
-
-/// Compares two packages: by the bytes of the repository, and then of the path.
-fn compare(a: &PackageId, b: &PackageId) -> Ordering
-    ensures { result ≡ id_cmp a.now b.now }
-{
-    let by_repo = a.repo().as_slice().cmp(b.repo().as_slice());
-    by_repo.then(a.package().as_slice().cmp(b.package().as_slice()))
-}
 
 /// Returns whether there is such a package, by binary search.
 fn has_package(packages: &[PackageId], id: &PackageId) -> bool
     requires { IsStrictlySortedBy id_cmp packages.now }
     ensures { result ≡ has_package packages.now id.now }
 {
-    match packages.binary_search_by(|package| compare(package, id)) {
+    match packages.binary_search_by(|package| {
+        let by_repo = package.repo().as_slice().cmp(id.repo().as_slice());
+        by_repo.then(package.package().as_slice().cmp(id.package().as_slice()))
+    }) {
         Ok(_) => true,
         Err(_) => false,
     }
@@ -81,22 +75,6 @@ fn missing_package(
     no_package(alloc, text)
 }
 
-fn missing_target(
-    alloc: Global,
-    packages: &[PackageId],
-    targets: &[Target],
-    word: &[u8],
-) -> Result<Option<QueryErr>, AllocError>
-    requires packages { IsStrictlySortedBy id_cmp packages.now }
-    requires targets { AreInOrder targets.now }
-    ensures { IfOk result (λ r. r ≡ missing_label packages.now targets.now (label_named word.now)) }
-{
-    match label_named(alloc, word)? {
-        Some(label) => missing_label(alloc, packages, targets, &label),
-        None => Ok(None),
-    }
-}
-
 fn missing_named(
     alloc: Global,
     packages: &[PackageId],
@@ -126,7 +104,10 @@ pub fn missing(
 {
     let WordForm { form, named } = word_form(word);
     match form {
-        PatternForm::Target => missing_target(alloc, packages, targets, named),
+        PatternForm::Target => match label_named(alloc, named)? {
+            Some(label) => missing_label(alloc, packages, targets, &label),
+            None => Ok(None),
+        },
         PatternForm::Rules => missing_named(alloc, packages, b":all", named),
         PatternForm::All => missing_named(alloc, packages, b":*", named),
         PatternForm::RulesBeneath => Ok(None),

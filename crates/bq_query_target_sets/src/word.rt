@@ -1,9 +1,9 @@
 //! The targets that a word names: `//p:n`, `//p:all`, `//p:*`, `//p/...`, `//p/...:*`. All of a package, or of the
 //! packages beneath it, are together in the order of labels, since their labels begin alike.
 
-ghost use Rattle.std.specs.Prelude.{◌≡◌, ◌++◌, ◌∷◌, [], ◌&&◌, ◌<◌, ◌≤◌, Some, length, codes, IfOk, OnOk};
+ghost use Rattle.std.specs.Prelude.{◌≡◌, ◌++◌, ◌∷◌, [], ◌&&◌, ◌<◌, ◌≤◌, Some, length, IfOk, OnOk};
 ghost use Rattle.bq_query_target_sets.specs.Order.{texts_of, AreInOrder, IsPlaceOf};
-ghost use Rattle.bq_query_target_sets.specs.Words.{Adds, Range, WasRead, is_rule, is_wanted, begins, own, beneath, package_text, package_named, label_named, has_label, is_label_form, is_deep, are_rules, names, names_in, names_at};
+ghost use Rattle.bq_query_target_sets.specs.Words.{Adds, Range, is_wanted, begins, own, beneath, package_text, package_named, label_named, has_label, is_label_form, is_deep, are_rules, names, names_in, names_at};
 
 use crate::order::{place_of, target_of};
 use bq_base::SourceErr;
@@ -12,30 +12,13 @@ use bq_package_target::{Target, TargetKind};
 use bq_query_lex::{PatternForm, word_form};
 use std::alloc::{AllocError, Global};
 
-fn is_rule(target: &Target) -> bool
-    ensures { result ≡ is_rule target.now }
-{
-    match target.kind {
-        TargetKind::Rule(_, _) => true,
-        _ => false,
-    }
-}
-
 /// Returns whether the target is a rule, or `rules` doesn't ask for one.
 fn is_wanted(rules: bool, target: &Target) -> bool
     ensures { result ≡ is_wanted rules target.now }
 {
-    is_rule(target) || !rules
-}
-
-/// Returns what was read, or `None` if it was refused.
-fn read_or_none<T>(read: Result<T, SourceErr>) -> Result<Option<T>, AllocError>
-    ensures { IfOk result (WasRead read) }
-{
-    match read {
-        Ok(value) => Ok(Some(value)),
-        Err(SourceErr::Bad(_)) => Ok(None),
-        Err(SourceErr::Memory) => Err(AllocError),
+    match target.kind {
+        TargetKind::Rule(_, _) => true,
+        _ => !rules,
     }
 }
 
@@ -44,24 +27,21 @@ pub fn label_named(alloc: Global, word: &[u8]) -> Result<Option<Label>, AllocErr
     ensures { IfOk result (λ l. l ≡ label_named word.now) }
 {
     let root = PackageId::root(alloc)?;
-    read_or_none(read_label(alloc, word, &root))
+    match read_label(alloc, word, &root) {
+        Ok(label) => Ok(Some(label)),
+        Err(SourceErr::Bad(_)) => Ok(None),
+        Err(SourceErr::Memory) => Err(AllocError),
+    }
 }
 
-/// Reads the label `part:x`.
-fn label_in(alloc: Global, part: &[u8]) -> Result<Option<Label>, AllocError>
-    ensures { IfOk result (λ l. l ≡ label_named (part.now ++ codes ":x")) }
-{
-    let mut word = part.to_vec(alloc)?;
-    word.extend_from_slice(b":x")?;
-    label_named(alloc, &word)
-}
-
-/// Returns the package that the part of a word before `:` or `/...` names.
+/// Returns the package that the part of a word before `:` or `/...` names: that of the label `part:x`.
 #[tactic(auto, unfolding(crate::specs::Words::package_named))]
 pub fn package_named(alloc: Global, part: &[u8]) -> Result<Option<PackageId>, AllocError>
     ensures { IfOk result (λ p. p ≡ package_named part.now) }
 {
-    match label_in(alloc, part)? {
+    let mut word = part.to_vec(alloc)?;
+    word.extend_from_slice(b":x")?;
+    match label_named(alloc, &word)? {
         Some(label) => Ok(Some(label.package_id().share()?)),
         None => Ok(None),
     }
@@ -113,15 +93,6 @@ fn add_range(targets: &[Target], from: usize, to: usize, rules: bool, marks: &mu
     }
 }
 
-/// Returns the bytes and one more.
-fn with_last(alloc: Global, start: &[u8], last: u8) -> Result<Vec<u8>, AllocError>
-    ensures { IfOk result (λ text. text.items ≡ start.now ++ last ∷ []) }
-{
-    let mut text = start.to_vec(alloc)?;
-    text.push(last)?;
-    Ok(text)
-}
-
 /// Returns how many targets there are before these bytes and the last one.
 fn place_before(
     alloc: Global,
@@ -132,7 +103,8 @@ fn place_before(
     requires { AreInOrder targets.now }
     ensures { IfOk result (IsPlaceOf (texts_of targets.now) (start.now ++ last ∷ [])) }
 {
-    let text = with_last(alloc, start, last)?;
+    let mut text = start.to_vec(alloc)?;
+    text.push(last)?;
     Ok(place_of(targets, &text))
 }
 

@@ -11,15 +11,14 @@ use crate::expressions::{expr, target};
 use crate::small::{line, misplaced};
 use bq_base::SourceErr;
 use bq_parse_grammar::{Branch, Expr, Stmt, TargetExpr};
-use bq_resolve_expression::Walk;
-use bq_resolve_scope::{Block, Code, CodeBranch, CodeStmt, CodeTarget, FileNames};
+use bq_resolve_expression::{Scope, Walk};
+use bq_resolve_scope::{Code, CodeBranch, CodeStmt, CodeTarget};
 use sqlite_items::{Boxed, Items};
-use std::alloc::Global;
 
 /// The rules of blocks take the resolver of the statements in them as a parameter, so that each rule is proved by itself.
 #[derive(Clone, Copy)]
-pub struct BlockResolver<F> {
-    pub alloc: Global,
+pub struct BlockResolver<'a, F> {
+    pub scope: Scope<'a>,
     /// How many layers of the statements inside are still looked at.
     pub layers: usize,
     pub inner: F,
@@ -27,71 +26,38 @@ pub struct BlockResolver<F> {
 
 /// Resolves what stands before the block of a `for`: its variables, and what it goes over.
 fn header(
-    alloc: Global,
-    file: &FileNames,
-    blocks: &[Block],
+    scope: &Scope<'_>,
     walk: &mut Walk,
     variables: &TargetExpr,
     iterable: &Expr,
 ) -> Result<(CodeTarget, Code), SourceErr>
-    ensures { Walks (visit.following (spec.target file.now blocks.now variables.now walk.old) (λ t p. visit.following (spec.expr file.now blocks.now iterable.now p) (λ x. visit.pure (t, x)))) result walk.new }
+    ensures { Walks (visit.following (spec.target scope.now.file.now scope.now.blocks.now variables.now walk.old) (λ t p. visit.following (spec.expr scope.now.file.now scope.now.blocks.now iterable.now p) (λ x. visit.pure (t, x)))) result walk.new }
 {
-    let variables = target(alloc, file, blocks, walk, variables)?;
-    let variables = Boxed::new(alloc, variables)?;
-    let iterable = expr(alloc, file, blocks, walk, iterable)?;
+    let variables = target(scope, walk, variables)?;
+    let variables = Boxed::new(scope.alloc, variables)?;
+    let iterable = expr(scope, walk, iterable)?;
     Ok((variables.into_inner(), iterable))
 }
 
 impl<
-    F: Fn(
-        Global,
-        &FileNames,
-        usize,
-        &[Block],
-        bool,
-        &mut Walk,
-        &Stmt,
-    ) -> Result<CodeStmt, SourceErr>,
-> BlockResolver<F> {
-    /// Resolves a statement inside; `looping` is true inside a `for` of the function.
-    fn nested(
-        &self,
-        file: &FileNames,
-        blocks: &[Block],
-        looping: bool,
-        walk: &mut Walk,
-        statement: &Stmt,
-    ) -> Result<CodeStmt, SourceErr>
-        requires { WalksStatement self.now.layers (F.pre self.now.inner) (F.post self.now.inner) }
-        ensures { Walks (spec.stmt_to file.now self.now.layers blocks.now looping statement.now walk.old) result walk.new }
-    {
-        (self.inner)(
-            self.alloc,
-            file,
-            self.layers,
-            blocks,
-            looping,
-            walk,
-            statement,
-        )
-    }
-
-    /// Resolves the statements of a block.
+    'a,
+    F: Fn(&Scope<'_>, usize, bool, &mut Walk, &Stmt) -> Result<CodeStmt, SourceErr>,
+> BlockResolver<'a, F> {
+    /// Resolves the statements of a block; `looping` is true inside a `for` of the function.
     #[tactic(auto, unfolding(bq_resolve_scope::specs::Visit::each))]
     pub fn block(
         &self,
-        file: &FileNames,
-        blocks: &[Block],
         looping: bool,
         walk: &mut Walk,
         statements: &[Stmt],
     ) -> Result<Items<CodeStmt>, SourceErr>
         requires { WalksStatement self.now.layers (F.pre self.now.inner) (F.post self.now.inner) }
-        ensures { Walks (visit.each (spec.stmt_to file.now self.now.layers blocks.now looping) [] statements.now walk.old) result walk.new }
+        ensures { Walks (visit.each (spec.stmt_to self.now.scope.file.now self.now.layers self.now.scope.blocks.now looping) [] statements.now walk.old) result walk.new }
     {
-        let mut done = Items::new(self.alloc);
+        let mut done = Items::new(self.scope.alloc);
         for statement in statements {
-            done.push(self.nested(file, blocks, looping, walk, statement)?)?;
+            let resolved = (self.inner)(&self.scope, self.layers, looping, walk, statement)?;
+            done.push(resolved)?;
         }
         Ok(done)
     }
@@ -99,17 +65,15 @@ impl<
     /// Resolves what stands before a block, and the block. It is generic, since dropping a `T` is a single step for the proof.
     fn beside<T: Drop>(
         &self,
-        file: &FileNames,
-        blocks: &[Block],
         looping: bool,
         walk: &mut Walk,
         before: T,
         statements: &[Stmt],
     ) -> Result<(T, Items<CodeStmt>), SourceErr>
         requires { WalksStatement self.now.layers (F.pre self.now.inner) (F.post self.now.inner) }
-        ensures { Walks (visit.following (visit.each (spec.stmt_to file.now self.now.layers blocks.now looping) [] statements.now walk.old) (λ block. visit.pure (before, block))) result walk.new }
+        ensures { Walks (visit.following (visit.each (spec.stmt_to self.now.scope.file.now self.now.layers self.now.scope.blocks.now looping) [] statements.now walk.old) (λ block. visit.pure (before, block))) result walk.new }
     {
-        let block = self.block(file, blocks, looping, walk, statements)?;
+        let block = self.block(looping, walk, statements)?;
         Ok((before, block))
     }
 
@@ -117,36 +81,32 @@ impl<
     #[tactic(auto, unfolding(bq_resolve_scope::specs::Statements::branch))]
     fn branch(
         &self,
-        file: &FileNames,
-        blocks: &[Block],
         looping: bool,
         walk: &mut Walk,
         branch: &Branch,
     ) -> Result<CodeBranch, SourceErr>
         requires { WalksStatement self.now.layers (F.pre self.now.inner) (F.post self.now.inner) }
-        ensures { Walks (spec.branch file.now (spec.stmt_to file.now self.now.layers blocks.now looping) blocks.now branch.now walk.old) result walk.new }
+        ensures { Walks (spec.branch self.now.scope.file.now (spec.stmt_to self.now.scope.file.now self.now.layers self.now.scope.blocks.now looping) self.now.scope.blocks.now branch.now walk.old) result walk.new }
     {
-        let condition = expr(self.alloc, file, blocks, walk, &branch.condition)?;
+        let condition = expr(&self.scope, walk, &branch.condition)?;
         let block = branch.block.as_slice();
-        let (condition, block) = self.beside(file, blocks, looping, walk, condition, block)?;
+        let (condition, block) = self.beside(looping, walk, condition, block)?;
         Ok(CodeBranch { condition, block })
     }
 
     #[tactic(auto, unfolding(bq_resolve_scope::specs::Visit::each))]
     fn branches(
         &self,
-        file: &FileNames,
-        blocks: &[Block],
         looping: bool,
         walk: &mut Walk,
         branches: &[Branch],
     ) -> Result<Items<CodeBranch>, SourceErr>
         requires { WalksStatement self.now.layers (F.pre self.now.inner) (F.post self.now.inner) }
-        ensures { Walks (visit.each (spec.branch file.now (spec.stmt_to file.now self.now.layers blocks.now looping) blocks.now) [] branches.now walk.old) result walk.new }
+        ensures { Walks (visit.each (spec.branch self.now.scope.file.now (spec.stmt_to self.now.scope.file.now self.now.layers self.now.scope.blocks.now looping) self.now.scope.blocks.now) [] branches.now walk.old) result walk.new }
     {
-        let mut done = Items::new(self.alloc);
+        let mut done = Items::new(self.scope.alloc);
         for branch in branches {
-            done.push(self.branch(file, blocks, looping, walk, branch)?)?;
+            done.push(self.branch(looping, walk, branch)?)?;
         }
         Ok(done)
     }
@@ -155,18 +115,16 @@ impl<
     #[tactic(auto, unfolding(bq_resolve_scope::specs::Statements::if_stmt))]
     fn if_stmt(
         &self,
-        file: &FileNames,
-        blocks: &[Block],
         looping: bool,
         walk: &mut Walk,
         branches: &[Branch],
         otherwise: &[Stmt],
     ) -> Result<CodeStmt, SourceErr>
         requires { WalksStatement self.now.layers (F.pre self.now.inner) (F.post self.now.inner) }
-        ensures { Walks (spec.if_stmt file.now (spec.stmt_to file.now self.now.layers blocks.now looping) blocks.now branches.now otherwise.now walk.old) result walk.new }
+        ensures { Walks (spec.if_stmt self.now.scope.file.now (spec.stmt_to self.now.scope.file.now self.now.layers self.now.scope.blocks.now looping) self.now.scope.blocks.now branches.now otherwise.now walk.old) result walk.new }
     {
-        let branches = self.branches(file, blocks, looping, walk, branches)?;
-        let otherwise = self.block(file, blocks, looping, walk, otherwise)?;
+        let branches = self.branches(looping, walk, branches)?;
+        let otherwise = self.block(looping, walk, otherwise)?;
         Ok(CodeStmt::If(branches, otherwise))
     }
 
@@ -174,49 +132,41 @@ impl<
     #[tactic(auto, unfolding(bq_resolve_scope::specs::Statements::for_stmt))]
     fn for_stmt(
         &self,
-        file: &FileNames,
-        blocks: &[Block],
         walk: &mut Walk,
         variables: &TargetExpr,
         iterable: &Expr,
         body: &[Stmt],
     ) -> Result<CodeStmt, SourceErr>
         requires { WalksStatement self.now.layers (F.pre self.now.inner) (F.post self.now.inner) }
-        ensures { Walks (spec.for_stmt file.now (spec.stmt_to file.now self.now.layers blocks.now true) blocks.now variables.now iterable.now body.now walk.old) result walk.new }
+        ensures { Walks (spec.for_stmt self.now.scope.file.now (spec.stmt_to self.now.scope.file.now self.now.layers self.now.scope.blocks.now true) self.now.scope.blocks.now variables.now iterable.now body.now walk.old) result walk.new }
     {
-        let header = header(self.alloc, file, blocks, walk, variables, iterable)?;
-        let ((variables, iterable), body) = self.beside(file, blocks, true, walk, header, body)?;
+        let header = header(&self.scope, walk, variables, iterable)?;
+        let ((variables, iterable), body) = self.beside(true, walk, header, body)?;
         Ok(CodeStmt::For(variables, iterable, body))
     }
 
     /// Resolves a statement of a function.
     pub fn stmt(
         &self,
-        file: &FileNames,
-        blocks: &[Block],
         looping: bool,
         walk: &mut Walk,
         statement: &Stmt,
     ) -> Result<CodeStmt, SourceErr>
         requires { WalksStatement self.now.layers (F.pre self.now.inner) (F.post self.now.inner) }
-        ensures { Walks (spec.stmt_by file.now (spec.stmt_to file.now self.now.layers blocks.now) blocks.now looping (out-Stmt statement.now) walk.old) result walk.new }
+        ensures { Walks (spec.stmt_by self.now.scope.file.now (spec.stmt_to self.now.scope.file.now self.now.layers self.now.scope.blocks.now) self.now.scope.blocks.now looping (out-Stmt statement.now) walk.old) result walk.new }
     {
         match statement {
             Stmt::Simple(small) => {
-                line(self.alloc, file, blocks, looping, walk, small.as_slice()).map(
-                    CodeStmt::Simple,
-                )
+                line(&self.scope, looping, walk, small.as_slice()).map(CodeStmt::Simple)
             }
             Stmt::If(branches, otherwise) => self.if_stmt(
-                file,
-                blocks,
                 looping,
                 walk,
                 branches.as_slice(),
                 otherwise.as_slice(),
             ),
             Stmt::For(variables, iterable, body) => {
-                self.for_stmt(file, blocks, walk, variables, iterable, body.as_slice())
+                self.for_stmt(walk, variables, iterable, body.as_slice())
             }
             Stmt::Def(name, _, _) => misplaced(name.line),
         }

@@ -6,51 +6,35 @@ ghost use Rattle.bq_resolve_expression.specs.Walks.{Walks};
 
 use bq_base::SourceErr;
 use bq_parse_grammar::{Expr, TargetExpr};
-use bq_resolve_expression::{Rules, Walk, expr_to};
-use bq_resolve_scope::{Block, Code, CodeTarget, FileNames, MAX_LAYERS};
-use std::alloc::Global;
+use bq_resolve_expression::{Rules, Scope, Walk, expr_to};
+use bq_resolve_scope::{Code, CodeTarget, MAX_LAYERS};
 
 /// Resolves an expression that is at most `depth` layers deep: `expr_to`, which only its own crate can pass on as a function.
-fn nested(
-    alloc: Global,
-    file: &FileNames,
-    depth: usize,
-    blocks: &[Block],
-    walk: &mut Walk,
-    expr: &Expr,
-) -> Result<Code, SourceErr>
-    ensures { Walks (expressions.expr_to depth file.now blocks.now expr.now walk.old) result walk.new }
+fn nested(scope: &Scope<'_>, depth: usize, walk: &mut Walk, expr: &Expr) -> Result<Code, SourceErr>
+    ensures { Walks (expressions.expr_to depth scope.now.file.now scope.now.blocks.now expr.now walk.old) result walk.new }
 {
-    expr_to(alloc, file, depth, blocks, walk, expr)
+    expr_to(scope, depth, walk, expr)
 }
 
 #[tactic(auto, unfolding(bq_resolve_scope::specs::Statements::expr, bq_resolve_scope::specs::Names::max_layers))]
-pub fn expr(
-    alloc: Global,
-    file: &FileNames,
-    blocks: &[Block],
-    walk: &mut Walk,
-    expr: &Expr,
-) -> Result<Code, SourceErr>
-    ensures { Walks (spec.expr file.now blocks.now expr.now walk.old) result walk.new }
+pub fn expr(scope: &Scope<'_>, walk: &mut Walk, expr: &Expr) -> Result<Code, SourceErr>
+    ensures { Walks (spec.expr scope.now.file.now scope.now.blocks.now expr.now walk.old) result walk.new }
 {
-    expr_to(alloc, file, MAX_LAYERS, blocks, walk, expr)
+    expr_to(scope, MAX_LAYERS, walk, expr)
 }
 
 #[tactic(auto, unfolding(bq_resolve_scope::specs::Statements::target, bq_resolve_scope::specs::Names::max_layers))]
 pub fn target(
-    alloc: Global,
-    file: &FileNames,
-    blocks: &[Block],
+    scope: &Scope<'_>,
     walk: &mut Walk,
     target: &TargetExpr,
 ) -> Result<CodeTarget, SourceErr>
-    ensures { Walks (spec.target file.now blocks.now target.now walk.old) result walk.new }
+    ensures { Walks (spec.target scope.now.file.now scope.now.blocks.now target.now walk.old) result walk.new }
 {
     let rules = Rules {
-        alloc,
+        scope: *scope,
         depth: MAX_LAYERS,
         visit: nested,
     };
-    rules.target_to(file, MAX_LAYERS, blocks, walk, target)
+    rules.target_to(MAX_LAYERS, walk, target)
 }

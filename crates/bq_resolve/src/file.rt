@@ -1,10 +1,9 @@
 //! Files.
 
-ghost use Rattle.std.specs.Prelude.{◌≡◌, []};
+ghost use Rattle.std.specs.Prelude.{◌≡◌};
 ghost use Rattle.bq_base.specs.Gives.{Gives};
 ghost use Rattle.bq_base.specs.declared.fault.SourceErr.TheVariants.{Bad};
-ghost use Rattle.bq_resolve_scope.specs.Files.{resolved, resolved_in, top_level};
-ghost use Rattle.bq_resolve_scope.specs.Visit.{each, nothing_passed};
+ghost use Rattle.bq_resolve_scope.specs.Files.{resolved, resolved_in};
 ghost use Rattle.bq_parse.specs.Answers.{itself};
 
 use crate::outside::top_levels;
@@ -12,28 +11,8 @@ use bq_base::SourceErr;
 use bq_parse::ParsedFile;
 use bq_parse_grammar::TopLevel;
 use bq_resolve_expression::Walk;
-use bq_resolve_scope::{CodeTopLevel, FileNames, LoadStmt, Resolved, Universe};
-use sqlite_items::Items;
+use bq_resolve_scope::{FileNames, LoadStmt, Resolved, Universe};
 use std::alloc::Global;
-
-/// Returns what statements resolve to among the names of their file, and what was passed then.
-fn walked(
-    alloc: Global,
-    file: &FileNames,
-    statements: &[TopLevel],
-) -> Result<(Items<CodeTopLevel>, Walk), SourceErr>
-    ensures { Gives itself Bad result (each (top_level file.now) [] statements.now nothing_passed) }
-{
-    let mut walk = Walk::new(alloc);
-    match top_levels(alloc, file, &mut walk, statements) {
-        Ok(statements) => Ok((statements, walk)),
-        Err(why) => {
-            // PROOF: `drop` is a single step.
-            drop(walk);
-            Err(why)
-        }
-    }
-}
 
 /// Returns what statements resolve to among the names of their file.
 fn resolve_in(
@@ -44,7 +23,15 @@ fn resolve_in(
     ensures { Gives itself Bad result (resolved_in file.now statements.now) }
 {
     let globals = file.globals(alloc)?;
-    let (statements, walk) = walked(alloc, file, statements)?;
+    let mut walk = Walk::new(alloc);
+    let statements = match top_levels(alloc, file, &mut walk, statements) {
+        Ok(statements) => statements,
+        Err(why) => {
+            // PROOF: `drop` is a single step.
+            drop(walk);
+            return Err(why);
+        }
+    };
     let (functions, loads) = walk.into_parts();
     Ok(Resolved {
         statements,

@@ -9,7 +9,7 @@ use crate::parameters::parameters;
 use crate::statements::stmt_to;
 use bq_base::{Bytes, SourceErr};
 use bq_parse_grammar::{Identifier, Parameter, Stmt};
-use bq_resolve_expression::{Walk, name_target};
+use bq_resolve_expression::{Scope, Walk, name_target};
 use bq_resolve_scope::{
     Block, CodeDef, CodeFunction, CodeParameter, CodeStmt, FileNames, FileStmt, MAX_LAYERS, Names,
     function_names, inside,
@@ -20,41 +20,39 @@ use std::alloc::Global;
 /// Resolves a function's statements, among its own names.
 #[tactic(auto, unfolding(bq_resolve_scope::specs::Names::max_layers))]
 fn statements_in(
-    alloc: Global,
-    file: &FileNames,
+    scope: &Scope<'_>,
     walk: &mut Walk,
     names: Names,
     body: &[Stmt],
 ) -> Result<Items<CodeStmt>, SourceErr>
-    ensures { Walks (spec.statements_in file.now names body.now walk.old) result walk.new }
+    ensures { Walks (spec.statements_in scope.now.file.now names body.now walk.old) result walk.new }
 {
     // PROOF: the number of names fits.
     let _fits = names.len();
-    let block = Block::new(alloc, 0, names)?;
-    let blocks = inside(alloc, block, &[])?;
+    let block = Block::new(scope.alloc, 0, names)?;
+    let blocks = inside(scope.alloc, block, &[])?;
     let statements = BlockResolver {
-        alloc,
+        scope: scope.among(blocks.as_slice()),
         layers: MAX_LAYERS,
         inner: stmt_to,
     };
-    statements.block(file, blocks.as_slice(), false, walk, body)
+    statements.block(false, walk, body)
 }
 
 /// Resolves a function of the file, which has a frame of its own, and returns its number.
 #[tactic(auto, unfolding(bq_resolve_scope::specs::Statements::function))]
 fn function(
-    alloc: Global,
-    file: &FileNames,
+    scope: &Scope<'_>,
     walk: &mut Walk,
     name: &Bytes,
     parameters: Items<CodeParameter>,
     names: Names,
     body: &[Stmt],
 ) -> Result<usize, SourceErr>
-    ensures { Walks (spec.function file.now name.now parameters names body.now walk.old) result walk.new }
+    ensures { Walks (spec.function scope.now.file.now name.now parameters names body.now walk.old) result walk.new }
 {
     let outside = walk.frame(names.len());
-    let body = statements_in(alloc, file, walk, names, body)?;
+    let body = statements_in(scope, walk, names, body)?;
     let slots = walk.frame(outside);
     let name = name.share()?;
     let number = walk.add_function(CodeFunction {
@@ -78,10 +76,11 @@ pub fn def_stmt(
 ) -> Result<FileStmt, SourceErr>
     ensures { Walks (files.def_stmt file.now name.now listed.now body.now walk.old) result walk.new }
 {
-    let target = Boxed::new(alloc, name_target(file, &[], walk, name)?)?;
+    let outside = Scope::outside(alloc, file);
+    let target = Boxed::new(alloc, name_target(&outside, walk, name)?)?;
     let (parameters, defaults) = parameters(alloc, file, walk, listed)?.into_parts();
     let names = function_names(alloc, listed, body)?;
-    let function = function(alloc, file, walk, &name.name, parameters, names, body)?;
+    let function = function(&outside, walk, &name.name, parameters, names, body)?;
     Ok(FileStmt::Def(CodeDef {
         target: target.into_inner(),
         function,

@@ -1,7 +1,6 @@
 //! Loads: what a file takes from other files.
 
-ghost use Rattle.std.specs.Prelude.{◌≡◌, [], IfOk};
-ghost use Rattle.bq_resolve_scope.specs.Names.{place_among};
+ghost use Rattle.std.specs.Prelude.{[]};
 ghost use Rattle.bq_resolve_scope.specs.Visit as visit;
 ghost use Rattle.bq_resolve_scope.specs.Statements as spec;
 ghost use Rattle.bq_resolve_expression.specs.Walks.{Walks};
@@ -11,20 +10,7 @@ use bq_parse_grammar::{Load, LoadClause};
 use bq_resolve_expression::{Walk, fault_of};
 use bq_resolve_scope::{CodeSmall, FileNames, LoadStmt, LoadedSymbol};
 use sqlite_items::Items;
-use std::alloc::{AllocError, Global};
-
-/// Returns what a load clause makes of its symbol.
-fn symbol_of(file: &FileNames, clause: &LoadClause) -> Result<LoadedSymbol, AllocError>
-    ensures { IfOk result (λ s. s ≡ record { local = clause.now.local.name; symbol = clause.now.symbol; global = place_among clause.now.local.name file.now.globals }) }
-{
-    let name = &clause.local.name;
-    let global = file.global(name)?;
-    Ok(LoadedSymbol {
-        local: name.share()?,
-        symbol: clause.symbol.share()?,
-        global,
-    })
-}
+use std::alloc::Global;
 
 /// Resolves a load clause: F22 where another clause before it has its name, F21 where a statement of a .bzl file bound it.
 #[tactic(auto, unfolding(bq_resolve_scope::specs::Statements::load_clause))]
@@ -36,14 +22,18 @@ fn load_clause(
     ensures { Walks (spec.load_clause file.now clause.now walk.old) result walk.new }
 {
     let name = &clause.local;
-    if walk.is_loaded(&name.name)? {
+    if walk.is_loaded(&name.name) {
         return Err(SourceErr::Bad(fault_of(FaultKind::BoundTwice, name)?));
     }
-    if walk.is_bound(file.kind(), &name.name)? {
+    if walk.is_bound(file.kind(), &name.name) {
         return Err(SourceErr::Bad(fault_of(FaultKind::Rebound, name)?));
     }
     walk.load(&name.name)?;
-    Ok(symbol_of(file, clause)?)
+    Ok(LoadedSymbol {
+        local: name.name.share()?,
+        symbol: clause.symbol.share()?,
+        global: file.global(&name.name),
+    })
 }
 
 #[tactic(auto, unfolding(bq_resolve_scope::specs::Visit::each))]

@@ -1,7 +1,6 @@
 //! What stands outside functions.
 
 ghost use Rattle.std.specs.Prelude.{[]};
-ghost use Rattle.bq_parse_grammar.specs.declared.tree.Stmt.{out-Stmt};
 ghost use Rattle.bq_resolve_scope.specs.Visit as visit;
 ghost use Rattle.bq_resolve_scope.specs.Files as files;
 ghost use Rattle.bq_resolve_expression.specs.Walks.{Walks};
@@ -10,40 +9,12 @@ use crate::functions::def_stmt;
 use crate::small::{line, misplaced};
 use bq_base::SourceErr;
 use bq_parse_grammar::{Stmt, TopLevel};
-use bq_resolve_expression::Walk;
+use bq_resolve_expression::{Scope, Walk};
 use bq_resolve_scope::{CodeTopLevel, FileNames, FileStmt};
 use sqlite_items::Items;
 use std::alloc::Global;
 
 /// Resolves a statement outside functions, where `if` and `for` are not allowed.
-fn file_stmt(
-    alloc: Global,
-    file: &FileNames,
-    walk: &mut Walk,
-    first_line: u32,
-    statement: &Stmt,
-) -> Result<FileStmt, SourceErr>
-    ensures { Walks (files.file_stmt file.now first_line (out-Stmt statement.now) walk.old) result walk.new }
-{
-    match statement {
-        Stmt::Simple(small) => {
-            line(alloc, file, &[], false, walk, small.as_slice()).map(FileStmt::Simple)
-        }
-        Stmt::If(_, _) => misplaced(first_line),
-        Stmt::For(_, _, _) => misplaced(first_line),
-        Stmt::Def(name, parameters, body) => {
-            def_stmt(
-                alloc,
-                file,
-                walk,
-                name,
-                parameters.as_slice(),
-                body.as_slice(),
-            )
-        }
-    }
-}
-
 #[tactic(auto, unfolding(bq_resolve_scope::specs::Files::top_level))]
 fn top_level(
     alloc: Global,
@@ -53,9 +24,29 @@ fn top_level(
 ) -> Result<CodeTopLevel, SourceErr>
     ensures { Walks (files.top_level file.now top_level.now walk.old) result walk.new }
 {
-    let line = top_level.line;
-    let statement = file_stmt(alloc, file, walk, line, &top_level.statement)?;
-    Ok(CodeTopLevel { line, statement })
+    let first_line = top_level.line;
+    let statement = match &top_level.statement {
+        Stmt::Simple(small) => {
+            let outside = Scope::outside(alloc, file);
+            FileStmt::Simple(line(&outside, false, walk, small.as_slice())?)
+        }
+        Stmt::If(_, _) => return misplaced(first_line),
+        Stmt::For(_, _, _) => return misplaced(first_line),
+        Stmt::Def(name, parameters, body) => {
+            def_stmt(
+                alloc,
+                file,
+                walk,
+                name,
+                parameters.as_slice(),
+                body.as_slice(),
+            )?
+        }
+    };
+    Ok(CodeTopLevel {
+        line: first_line,
+        statement,
+    })
 }
 
 /// Resolves the top-level statements of a file.

@@ -11,7 +11,7 @@ ghost use Rattle.bq_resolve_expression.specs.Walks.{Walks};
 use crate::expressions::expr;
 use bq_base::{FaultKind, SourceErr};
 use bq_parse_grammar::{Expr, Identifier, Parameter};
-use bq_resolve_expression::{Walk, fault_of};
+use bq_resolve_expression::{Scope, Walk, fault_of};
 use bq_resolve_scope::{Code, CodeParameter, FileNames, Names};
 use sqlite_items::Items;
 use std::alloc::Global;
@@ -38,16 +38,6 @@ impl Model for ParameterList {
 }
 
 impl ParameterList {
-    fn new(alloc: Global) -> ParameterList
-        ensures { result ≡ spec.no_parameters }
-    {
-        ParameterList {
-            names: Names::new(alloc),
-            parameters: Items::new(alloc),
-            defaults: Items::new(alloc),
-        }
-    }
-
     /// Returns what the parameters resolve to, and their defaults.
     pub fn into_parts(self) -> (Items<CodeParameter>, Items<Code>)
         ensures parameters { result.0 ≡ self.parameters }
@@ -67,34 +57,15 @@ impl ParameterList {
         ensures { (file : FileParts) (s : Passed) → Gives (λ _. (self.new, s)) Bad result (spec.named_parameter file self.old name.now parameter s) }
     {
         self.parameters.push(parameter)?;
-        if self.names.has(&name.name)? {
+        if self.names.has(&name.name) {
             return Err(SourceErr::Bad(fault_of(FaultKind::DoubleParameter, name)?));
         }
         self.names.add(&name.name)?;
         Ok(())
     }
 
-    /// Adds a parameter that has a default, which lies outside the function.
-    #[tactic(auto, unfolding(bq_resolve_scope::specs::Statements::default_parameter))]
-    fn add_default(
-        &mut self,
-        alloc: Global,
-        file: &FileNames,
-        walk: &mut Walk,
-        name: &Identifier,
-        default: &Expr,
-    ) -> Result<(), SourceErr>
-        ensures { Gives (λ _. (self.new, walk.new)) Bad result (spec.default_parameter file.now self.old name.now default.now walk.old) }
-    {
-        let slot = self.names.len();
-        self.add_named(name, CodeParameter::Default(name.name.share()?, slot))?;
-        let default = expr(alloc, file, &[], walk, default)?;
-        self.defaults.push(default)?;
-        Ok(())
-    }
-
-    /// Adds a parameter.
-    #[tactic(auto, unfolding(bq_resolve_scope::specs::Statements::next_parameter))]
+    /// Adds a parameter. Its default lies outside the function.
+    #[tactic(auto, unfolding(bq_resolve_scope::specs::Statements::next_parameter, bq_resolve_scope::specs::Statements::default_parameter))]
     fn add(
         &mut self,
         alloc: Global,
@@ -110,7 +81,12 @@ impl ParameterList {
                 let plain = CodeParameter::Plain(name.name.share()?, slot);
                 self.add_named(name, plain)
             }
-            Parameter::Default(name, default) => self.add_default(alloc, file, walk, name, default),
+            Parameter::Default(name, default) => {
+                self.add_named(name, CodeParameter::Default(name.name.share()?, slot))?;
+                let default = expr(&Scope::outside(alloc, file), walk, default)?;
+                self.defaults.push(default)?;
+                Ok(())
+            }
             Parameter::BareStar => {
                 self.parameters.push(CodeParameter::BareStar)?;
                 Ok(())
@@ -119,26 +95,10 @@ impl ParameterList {
             Parameter::StarStar(name) => self.add_named(name, CodeParameter::StarStar(slot)),
         }
     }
-
-    /// Adds all of these.
-    #[tactic(auto, unfolding(bq_resolve_scope::specs::Statements::parameters))]
-    fn add_all(
-        &mut self,
-        alloc: Global,
-        file: &FileNames,
-        walk: &mut Walk,
-        parameters: &[Parameter],
-    ) -> Result<(), SourceErr>
-        ensures { Gives (λ _. (self.new, walk.new)) Bad result (spec.parameters file.now self.old parameters.now walk.old) }
-    {
-        for parameter in parameters {
-            self.add(alloc, file, walk, parameter)?;
-        }
-        Ok(())
-    }
 }
 
 /// Resolves the parameters of a function.
+#[tactic(auto, unfolding(bq_resolve_scope::specs::Statements::parameters))]
 pub fn parameters(
     alloc: Global,
     file: &FileNames,
@@ -147,7 +107,13 @@ pub fn parameters(
 ) -> Result<ParameterList, SourceErr>
     ensures { Walks (spec.parameters file.now spec.no_parameters parameters.now walk.old) result walk.new }
 {
-    let mut list = ParameterList::new(alloc);
-    list.add_all(alloc, file, walk, parameters)?;
+    let mut list = ParameterList {
+        names: Names::new(alloc),
+        parameters: Items::new(alloc),
+        defaults: Items::new(alloc),
+    };
+    for parameter in parameters {
+        list.add(alloc, file, walk, parameter)?;
+    }
     Ok(list)
 }

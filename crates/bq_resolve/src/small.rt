@@ -1,7 +1,6 @@
 //! Statements without a block.
 
 ghost use Rattle.std.specs.Prelude.{[]};
-ghost use Rattle.bq_resolve_scope.specs.declared.code.CodeSmall.TheVariants as code;
 ghost use Rattle.bq_resolve_scope.specs.Scope.{FileParts};
 ghost use Rattle.bq_resolve_scope.specs.Visit.{Passed};
 ghost use Rattle.bq_resolve_scope.specs.Visit as visit;
@@ -11,11 +10,10 @@ ghost use Rattle.bq_resolve_expression.specs.Walks.{Walks};
 use crate::expressions::{expr, target};
 use crate::load::load;
 use bq_base::{Fault, FaultKind, SourceErr};
-use bq_parse_grammar::{Expr, Load, Operator, SmallKind, SmallStmt, TargetExpr};
-use bq_resolve_expression::Walk;
-use bq_resolve_scope::{Block, CodeSmall, FileNames};
+use bq_parse_grammar::{Expr, Operator, SmallKind, SmallStmt, TargetExpr};
+use bq_resolve_expression::{Scope, Walk};
+use bq_resolve_scope::CodeSmall;
 use sqlite_items::{Boxed, Items};
-use std::alloc::Global;
 
 /// Returns F23, the fault of what stands where it may not.
 pub fn misplaced<T>(line: u32) -> Result<T, SourceErr>
@@ -24,42 +22,13 @@ pub fn misplaced<T>(line: u32) -> Result<T, SourceErr>
     Err(SourceErr::Bad(Fault::at(FaultKind::BadFlow, line)))
 }
 
-/// Resolves `break`, which is allowed in loops alone.
+/// Returns `break` or `continue`, which are allowed in loops alone.
 #[tactic(auto, unfolding(bq_resolve_scope::specs::Statements::in_loop))]
-fn break_stmt(looping: bool, line: u32) -> Result<CodeSmall, SourceErr>
-    ensures { (file : FileParts) (s : Passed) → Walks (spec.in_loop file looping line code.Break s) result s }
+fn in_loop(looping: bool, line: u32, statement: CodeSmall) -> Result<CodeSmall, SourceErr>
+    ensures { (file : FileParts) (s : Passed) → Walks (spec.in_loop file looping line statement s) result s }
 {
     if looping {
-        return Ok(CodeSmall::Break);
-    }
-    misplaced(line)
-}
-
-/// Resolves `continue`, which is allowed in loops alone.
-#[tactic(auto, unfolding(bq_resolve_scope::specs::Statements::in_loop))]
-fn continue_stmt(looping: bool, line: u32) -> Result<CodeSmall, SourceErr>
-    ensures { (file : FileParts) (s : Passed) → Walks (spec.in_loop file looping line code.Continue s) result s }
-{
-    if looping {
-        return Ok(CodeSmall::Continue);
-    }
-    misplaced(line)
-}
-
-/// Resolves a `load`, which is allowed outside functions alone.
-#[tactic(auto, unfolding(bq_resolve_scope::specs::Statements::load_in))]
-fn load_in(
-    alloc: Global,
-    file: &FileNames,
-    blocks: &[Block],
-    walk: &mut Walk,
-    line: u32,
-    statement: &Load,
-) -> Result<CodeSmall, SourceErr>
-    ensures { Walks (spec.load_in file.now blocks.now line statement.now walk.old) result walk.new }
-{
-    if blocks.is_empty() {
-        return load(alloc, file, walk, line, statement);
+        return Ok(statement);
     }
     misplaced(line)
 }
@@ -67,103 +36,99 @@ fn load_in(
 /// `target = value`: the target comes first.
 #[tactic(auto, unfolding(bq_resolve_scope::specs::Statements::assign))]
 fn assign(
-    alloc: Global,
-    file: &FileNames,
-    blocks: &[Block],
+    scope: &Scope<'_>,
     walk: &mut Walk,
     left: &TargetExpr,
     value: &Expr,
 ) -> Result<CodeSmall, SourceErr>
-    ensures { Walks (spec.assign file.now blocks.now left.now value.now walk.old) result walk.new }
+    ensures { Walks (spec.assign scope.now.file.now scope.now.blocks.now left.now value.now walk.old) result walk.new }
 {
-    let left = target(alloc, file, blocks, walk, left)?;
-    let left = Boxed::new(alloc, left)?;
-    let value = expr(alloc, file, blocks, walk, value)?;
+    let left = target(scope, walk, left)?;
+    let left = Boxed::new(scope.alloc, left)?;
+    let value = expr(scope, walk, value)?;
     Ok(CodeSmall::Assign(left.into_inner(), value))
 }
 
 /// `target += value`
 #[tactic(auto, unfolding(bq_resolve_scope::specs::Statements::augment))]
 fn augment(
-    alloc: Global,
-    file: &FileNames,
-    blocks: &[Block],
+    scope: &Scope<'_>,
     walk: &mut Walk,
     left: &TargetExpr,
     operator: Operator,
     value: &Expr,
 ) -> Result<CodeSmall, SourceErr>
-    ensures { Walks (spec.augment file.now blocks.now left.now operator value.now walk.old) result walk.new }
+    ensures { Walks (spec.augment scope.now.file.now scope.now.blocks.now left.now operator value.now walk.old) result walk.new }
 {
-    let left = target(alloc, file, blocks, walk, left)?;
-    let left = Boxed::new(alloc, left)?;
-    let value = expr(alloc, file, blocks, walk, value)?;
+    let left = target(scope, walk, left)?;
+    let left = Boxed::new(scope.alloc, left)?;
+    let value = expr(scope, walk, value)?;
     Ok(CodeSmall::Augment(left.into_inner(), operator, value))
 }
 
 /// Resolves `return`, which is allowed in functions alone.
 #[tactic(auto, unfolding(bq_resolve_scope::specs::Statements::returned))]
 fn returned(
-    alloc: Global,
-    file: &FileNames,
-    blocks: &[Block],
+    scope: &Scope<'_>,
     walk: &mut Walk,
     line: u32,
     value: &Option<Expr>,
 ) -> Result<CodeSmall, SourceErr>
-    ensures { Walks (spec.returned file.now blocks.now line value.now walk.old) result walk.new }
+    ensures { Walks (spec.returned scope.now.file.now scope.now.blocks.now line value.now walk.old) result walk.new }
 {
-    if blocks.is_empty() {
+    if scope.blocks.is_empty() {
         return misplaced(line);
     }
     match value {
         None => Ok(CodeSmall::Return(None)),
-        Some(value) => Ok(CodeSmall::Return(Some(expr(alloc, file, blocks, walk, value)?))),
+        Some(value) => Ok(CodeSmall::Return(Some(expr(scope, walk, value)?))),
     }
 }
 
 /// Resolves a small statement; `looping` is true inside a `for` of the function.
-#[tactic(auto, unfolding(bq_resolve_scope::specs::Statements::small_stmt))]
+#[tactic(auto, unfolding(bq_resolve_scope::specs::Statements::small_stmt, bq_resolve_scope::specs::Statements::load_in))]
 pub fn small_stmt(
-    alloc: Global,
-    file: &FileNames,
-    blocks: &[Block],
+    scope: &Scope<'_>,
     looping: bool,
     walk: &mut Walk,
     statement: &SmallStmt,
 ) -> Result<CodeSmall, SourceErr>
-    ensures { Walks (spec.small_stmt file.now blocks.now looping statement.now walk.old) result walk.new }
+    ensures { Walks (spec.small_stmt scope.now.file.now scope.now.blocks.now looping statement.now walk.old) result walk.new }
 {
     let line = statement.line;
     match &statement.kind {
-        SmallKind::Expr(x) => expr(alloc, file, blocks, walk, x).map(CodeSmall::Expr),
-        SmallKind::Assign(left, value) => assign(alloc, file, blocks, walk, left, value),
+        SmallKind::Expr(x) => expr(scope, walk, x).map(CodeSmall::Expr),
+        SmallKind::Assign(left, value) => assign(scope, walk, left, value),
         SmallKind::Augment(left, operator, value) => {
-            augment(alloc, file, blocks, walk, left, *operator, value)
+            augment(scope, walk, left, *operator, value)
         }
-        SmallKind::Return(value) => returned(alloc, file, blocks, walk, line, value),
-        SmallKind::Break => break_stmt(looping, line),
-        SmallKind::Continue => continue_stmt(looping, line),
+        SmallKind::Return(value) => returned(scope, walk, line, value),
+        SmallKind::Break => in_loop(looping, line, CodeSmall::Break),
+        SmallKind::Continue => in_loop(looping, line, CodeSmall::Continue),
         SmallKind::Pass => Ok(CodeSmall::Pass),
-        SmallKind::Load(load) => load_in(alloc, file, blocks, walk, line, load),
+        // outside functions alone
+        SmallKind::Load(statement) => {
+            if scope.blocks.is_empty() {
+                return load(scope.alloc, scope.file, walk, line, statement);
+            }
+            misplaced(line)
+        }
     }
 }
 
 /// Resolves the small statements of one logical line.
 #[tactic(auto, unfolding(bq_resolve_scope::specs::Visit::each))]
 pub fn line(
-    alloc: Global,
-    file: &FileNames,
-    blocks: &[Block],
+    scope: &Scope<'_>,
     looping: bool,
     walk: &mut Walk,
     statements: &[SmallStmt],
 ) -> Result<Items<CodeSmall>, SourceErr>
-    ensures { Walks (visit.each (spec.small_stmt file.now blocks.now looping) [] statements.now walk.old) result walk.new }
+    ensures { Walks (visit.each (spec.small_stmt scope.now.file.now scope.now.blocks.now looping) [] statements.now walk.old) result walk.new }
 {
-    let mut done = Items::new(alloc);
+    let mut done = Items::new(scope.alloc);
     for statement in statements {
-        done.push(small_stmt(alloc, file, blocks, looping, walk, statement)?)?;
+        done.push(small_stmt(scope, looping, walk, statement)?)?;
     }
     Ok(done)
 }

@@ -6,29 +6,26 @@ ghost use Rattle.bq_resolve_expression.specs.Walks.{Walks};
 use crate::blocks::BlockResolver;
 use bq_base::{Fault, FaultKind, SourceErr};
 use bq_parse_grammar::Stmt;
-use bq_resolve_expression::Walk;
-use bq_resolve_scope::{Block, CodeStmt, FileNames};
-use std::alloc::Global;
+use bq_resolve_expression::{Scope, Walk};
+use bq_resolve_scope::CodeStmt;
 
 /// Resolves a statement of a function that is at most `layers` layers deep; `looping` is true inside a `for` of the function.
 pub fn stmt_to(
-    alloc: Global,
-    file: &FileNames,
+    scope: &Scope<'_>,
     layers: usize,
-    blocks: &[Block],
     looping: bool,
     walk: &mut Walk,
     statement: &Stmt,
 ) -> Result<CodeStmt, SourceErr>
-    ensures { Walks (spec.stmt_to file.now layers blocks.now looping statement.now walk.old) result walk.new }
+    ensures { Walks (spec.stmt_to scope.now.file.now layers scope.now.blocks.now looping statement.now walk.old) result walk.new }
 {
     if layers == 0 {
         return Err(SourceErr::Bad(Fault::at(FaultKind::Nesting, 0)));
     }
     BlockResolver {
-        alloc,
+        scope: *scope,
         layers: layers - 1,
         inner: stmt_to,
     }
-    .stmt(file, blocks, looping, walk, statement)
+    .stmt(looping, walk, statement)
 }

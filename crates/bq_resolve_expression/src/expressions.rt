@@ -7,126 +7,107 @@ ghost use Rattle.bq_resolve_expression.specs.Walks.{Walks, WalksNested};
 
 use crate::identifier::use_at;
 use crate::rules::Rules;
+use crate::scope::Scope;
 use crate::walk::Walk;
 use bq_base::{Fault, FaultKind, SourceErr};
 use bq_parse_grammar::{Choice, Comparison, Expr, Operation, UnaryOperator};
-use bq_resolve_scope::{Block, Code, FileNames};
+use bq_resolve_scope::Code;
 use sqlite_items::Items;
-use std::alloc::Global;
 
-impl<F: Fn(Global, &FileNames, usize, &[Block], &mut Walk, &Expr) -> Result<Code, SourceErr>> Rules<
+impl<'a, F: Copy + Fn(&Scope<'_>, usize, &mut Walk, &Expr) -> Result<Code, SourceErr>> Rules<
+    'a,
     F,
 > {
     /// Resolves an operand, with the operators before it.
     fn unary(
         &self,
-        file: &FileNames,
-        blocks: &[Block],
         walk: &mut Walk,
         operators: &[UnaryOperator],
         operand: &Expr,
     ) -> Result<Code, SourceErr>
         requires { WalksNested self.now.depth (F.pre self.now.visit) (F.post self.now.visit) }
-        ensures { Walks (spec.expr_by file.now (spec.expr_to self.now.depth file.now) blocks.now (Expr-F.Unary operators.now operand.now) walk.old) result walk.new }
+        ensures { Walks (spec.expr_by self.now.scope.file.now (spec.expr_to self.now.depth self.now.scope.file.now) self.now.scope.blocks.now (Expr-F.Unary operators.now operand.now) walk.old) result walk.new }
     {
-        let operand = self.boxed(file, blocks, walk, operand)?;
-        Ok(Code::Unary(Items::from_slice(self.alloc, operators)?, operand))
+        let operand = self.boxed(walk, operand)?;
+        Ok(Code::Unary(Items::from_slice(self.scope.alloc, operators)?, operand))
     }
 
     /// Resolves an operand, and the operations on it.
     fn binary(
         &self,
-        file: &FileNames,
-        blocks: &[Block],
         walk: &mut Walk,
         first: &Expr,
         operations: &[Operation],
     ) -> Result<Code, SourceErr>
         requires { WalksNested self.now.depth (F.pre self.now.visit) (F.post self.now.visit) }
-        ensures { Walks (spec.expr_by file.now (spec.expr_to self.now.depth file.now) blocks.now (Expr-F.Binary first.now operations.now) walk.old) result walk.new }
+        ensures { Walks (spec.expr_by self.now.scope.file.now (spec.expr_to self.now.depth self.now.scope.file.now) self.now.scope.blocks.now (Expr-F.Binary first.now operations.now) walk.old) result walk.new }
     {
-        let first = self.boxed(file, blocks, walk, first)?;
-        Ok(Code::Binary(first, self.operations(file, blocks, walk, operations)?))
+        let first = self.boxed(walk, first)?;
+        Ok(Code::Binary(first, self.operations(walk, operations)?))
     }
 
     fn compare(
         &self,
-        file: &FileNames,
-        blocks: &[Block],
         walk: &mut Walk,
         left: &Expr,
         comparison: Comparison,
         right: &Expr,
     ) -> Result<Code, SourceErr>
         requires { WalksNested self.now.depth (F.pre self.now.visit) (F.post self.now.visit) }
-        ensures { Walks (spec.expr_by file.now (spec.expr_to self.now.depth file.now) blocks.now (Expr-F.Compare left.now comparison right.now) walk.old) result walk.new }
+        ensures { Walks (spec.expr_by self.now.scope.file.now (spec.expr_to self.now.depth self.now.scope.file.now) self.now.scope.blocks.now (Expr-F.Compare left.now comparison right.now) walk.old) result walk.new }
     {
-        let left = self.boxed(file, blocks, walk, left)?;
-        let right = self.boxed(file, blocks, walk, right)?;
+        let left = self.boxed(walk, left)?;
+        let right = self.boxed(walk, right)?;
         Ok(Code::Compare(left, comparison, right))
     }
 
     /// Resolves choices, and the last value.
     fn conditional(
         &self,
-        file: &FileNames,
-        blocks: &[Block],
         walk: &mut Walk,
         choices: &[Choice],
         last: &Expr,
     ) -> Result<Code, SourceErr>
         requires { WalksNested self.now.depth (F.pre self.now.visit) (F.post self.now.visit) }
-        ensures { Walks (spec.expr_by file.now (spec.expr_to self.now.depth file.now) blocks.now (Expr-F.Conditional choices.now last.now) walk.old) result walk.new }
+        ensures { Walks (spec.expr_by self.now.scope.file.now (spec.expr_to self.now.depth self.now.scope.file.now) self.now.scope.blocks.now (Expr-F.Conditional choices.now last.now) walk.old) result walk.new }
     {
-        let choices = self.choices(file, blocks, walk, choices)?;
-        let last = self.boxed(file, blocks, walk, last)?;
+        let choices = self.choices(walk, choices)?;
+        let last = self.boxed(walk, last)?;
         Ok(Code::Conditional(choices, last))
     }
 
     /// Resolves an expression, of any form.
-    fn expr_by(
-        &self,
-        file: &FileNames,
-        blocks: &[Block],
-        walk: &mut Walk,
-        expr: &Expr,
-    ) -> Result<Code, SourceErr>
+    fn expr_by(&self, walk: &mut Walk, expr: &Expr) -> Result<Code, SourceErr>
         requires { WalksNested self.now.depth (F.pre self.now.visit) (F.post self.now.visit) }
-        ensures { Walks (spec.expr_by file.now (spec.expr_to self.now.depth file.now) blocks.now (out-Expr expr.now) walk.old) result walk.new }
+        ensures { Walks (spec.expr_by self.now.scope.file.now (spec.expr_to self.now.depth self.now.scope.file.now) self.now.scope.blocks.now (out-Expr expr.now) walk.old) result walk.new }
     {
         match expr {
-            Expr::Name(name) => use_at(file, blocks, name).map(Code::Use),
+            Expr::Name(name) => use_at(&self.scope, name).map(Code::Use),
             Expr::Int(value) => Ok(Code::Int(*value)),
             Expr::String(text) => Ok(Code::String(text.share()?)),
-            Expr::List(items) => self
-                .exprs(file, blocks, walk, items.as_slice())
-                .map(Code::List),
-            Expr::Tuple(items) => self
-                .exprs(file, blocks, walk, items.as_slice())
-                .map(Code::Tuple),
-            Expr::Dict(pairs) => self
-                .pairs(file, blocks, walk, pairs.as_slice())
-                .map(Code::Dict),
+            Expr::List(items) => self.exprs(walk, items.as_slice()).map(Code::List),
+            Expr::Tuple(items) => self.exprs(walk, items.as_slice()).map(Code::Tuple),
+            Expr::Dict(pairs) => self.pairs(walk, pairs.as_slice()).map(Code::Dict),
             Expr::ListComprehension(element, clauses) => {
-                self.list_comprehension(file, blocks, walk, element.get(), clauses.as_slice())
+                self.list_comprehension(walk, element.get(), clauses.as_slice())
             }
             Expr::DictComprehension(pair, clauses) => {
-                self.dict_comprehension(file, blocks, walk, pair.get(), clauses.as_slice())
+                self.dict_comprehension(walk, pair.get(), clauses.as_slice())
             }
             Expr::Primary(operand, suffixes) => {
-                self.primary(file, blocks, walk, operand.get(), suffixes.as_slice())
+                self.primary(walk, operand.get(), suffixes.as_slice())
             }
             Expr::Unary(operators, operand) => {
-                self.unary(file, blocks, walk, operators.as_slice(), operand.get())
+                self.unary(walk, operators.as_slice(), operand.get())
             }
             Expr::Binary(first, operations) => {
-                self.binary(file, blocks, walk, first.get(), operations.as_slice())
+                self.binary(walk, first.get(), operations.as_slice())
             }
             Expr::Compare(left, comparison, right) => {
-                self.compare(file, blocks, walk, left.get(), *comparison, right.get())
+                self.compare(walk, left.get(), *comparison, right.get())
             }
             Expr::Conditional(choices, last) => {
-                self.conditional(file, blocks, walk, choices.as_slice(), last.get())
+                self.conditional(walk, choices.as_slice(), last.get())
             }
             Expr::Lambda => Ok(Code::Lambda),
         }
@@ -136,22 +117,20 @@ impl<F: Fn(Global, &FileNames, usize, &[Block], &mut Walk, &Expr) -> Result<Code
 /// Resolves an expression that is at most `depth` layers deep.
 #[tactic(auto, using(crate::proofs::Layers::expr_layer), unfolding(bq_resolve_scope::specs::Expressions::expr_to))]
 pub fn expr_to(
-    alloc: Global,
-    file: &FileNames,
+    scope: &Scope<'_>,
     depth: usize,
-    blocks: &[Block],
     walk: &mut Walk,
     expr: &Expr,
 ) -> Result<Code, SourceErr>
-    ensures { Walks (spec.expr_to depth file.now blocks.now expr.now walk.old) result walk.new }
+    ensures { Walks (spec.expr_to depth scope.now.file.now scope.now.blocks.now expr.now walk.old) result walk.new }
 {
     if depth == 0 {
         return Err(SourceErr::Bad(Fault::at(FaultKind::Nesting, 0)));
     }
     Rules {
-        alloc,
+        scope: *scope,
         depth: depth - 1,
         visit: expr_to,
     }
-    .expr_by(file, blocks, walk, expr)
+    .expr_by(walk, expr)
 }

@@ -7,10 +7,11 @@ ghost use Rattle.bq_resolve_scope.specs.Visit.{Passed, fault_of};
 ghost use Rattle.bq_resolve_scope.specs.Expressions as spec;
 ghost use Rattle.bq_resolve_expression.specs.Walks.{Walks};
 
+use crate::scope::Scope;
 use crate::walk::Walk;
 use bq_base::{Fault, FaultKind, SourceErr};
-use bq_parse_grammar::{FileKind, Identifier};
-use bq_resolve_scope::{Binding, Block, CodeTarget, FileNames};
+use bq_parse_grammar::Identifier;
+use bq_resolve_scope::{Binding, CodeTarget};
 use std::alloc::AllocError;
 
 /// Returns a fault at a name.
@@ -26,66 +27,34 @@ pub fn fault_of(kind: FaultKind, name: &Identifier) -> Result<Fault, AllocError>
 
 /// Returns the use of a name: of the innermost block that holds it, else F20.
 #[tactic(auto, unfolding(bq_resolve_scope::specs::Expressions::use_at))]
-pub fn use_at(file: &FileNames, blocks: &[Block], name: &Identifier) -> Result<Binding, SourceErr>
-    ensures { (s : Passed) → Walks (spec.use_at file.now blocks.now name.now s) result s }
+pub fn use_at(scope: &Scope<'_>, name: &Identifier) -> Result<Binding, SourceErr>
+    ensures { (s : Passed) → Walks (spec.use_at scope.now.file.now scope.now.blocks.now name.now s) result s }
 {
-    match file.use_of(blocks, &name.name)? {
+    match scope.file.use_of(scope.blocks, &name.name) {
         Some(binding) => Ok(binding),
         None => Err(SourceErr::Bad(fault_of(FaultKind::UnknownName, name)?)),
     }
 }
 
-/// Returns where a name is bound.
-fn place_of(binding: Option<Binding>) -> Option<CodeTarget>
-    ensures { result ≡ spec.place_of binding }
-{
-    match binding {
-        Some(Binding::Local(slot)) => Some(CodeTarget::Local(slot)),
-        Some(Binding::Global(k)) => Some(CodeTarget::Global(k)),
-        _ => None,
-    }
-}
-
-/// Binds a name of the file, which in a .bzl file is not bound before.
-#[tactic(auto, unfolding(bq_resolve_scope::specs::Expressions::bind_global))]
-fn bind_global(kind: FileKind, walk: &mut Walk, name: &Identifier) -> Result<(), SourceErr>
-    ensures { Walks (spec.bind_global kind name.now walk.old) result walk.new }
-{
-    if walk.is_rebound(kind, &name.name)? {
-        return Err(SourceErr::Bad(fault_of(FaultKind::Rebound, name)?));
-    }
-    walk.bind(&name.name)?;
-    Ok(())
-}
-
-/// Binds a name: outside functions and comprehensions, where there is no enclosing block, it is the file's.
-fn bind_in(
-    kind: FileKind,
-    blocks: &[Block],
-    walk: &mut Walk,
-    name: &Identifier,
-) -> Result<(), SourceErr>
-    ensures { Walks (spec.bind_in kind blocks.now name.now walk.old) result walk.new }
-{
-    if blocks.is_empty() {
-        return bind_global(kind, walk, name);
-    }
-    Ok(())
-}
-
-/// Resolves a name that is bound: its block holds it.
-#[tactic(auto, unfolding(bq_resolve_scope::specs::Expressions::name_target))]
+/// Resolves a name that is bound: its block holds it. Outside functions and comprehensions, where there is no enclosing block, it is a
+/// name of the file, which a .bzl file binds once.
+#[tactic(auto, unfolding(bq_resolve_scope::specs::Expressions::name_target, bq_resolve_scope::specs::Expressions::bind_global))]
 pub fn name_target(
-    file: &FileNames,
-    blocks: &[Block],
+    scope: &Scope<'_>,
     walk: &mut Walk,
     name: &Identifier,
 ) -> Result<CodeTarget, SourceErr>
-    ensures { Walks (spec.name_target file.now blocks.now name.now walk.old) result walk.new }
+    ensures { Walks (spec.name_target scope.now.file.now scope.now.blocks.now name.now walk.old) result walk.new }
 {
-    bind_in(file.kind(), blocks, walk, name)?;
-    match place_of(file.use_of(blocks, &name.name)?) {
-        Some(target) => Ok(target),
-        None => Err(SourceErr::Bad(fault_of(FaultKind::UnknownName, name)?)),
+    if scope.blocks.is_empty() {
+        if walk.is_rebound(scope.file.kind(), &name.name) {
+            return Err(SourceErr::Bad(fault_of(FaultKind::Rebound, name)?));
+        }
+        walk.bind(&name.name)?;
+    }
+    match scope.file.use_of(scope.blocks, &name.name) {
+        Some(Binding::Local(slot)) => Ok(CodeTarget::Local(slot)),
+        Some(Binding::Global(k)) => Ok(CodeTarget::Global(k)),
+        _ => Err(SourceErr::Bad(fault_of(FaultKind::UnknownName, name)?)),
     }
 }

@@ -13,6 +13,7 @@
 //!
 //! In reading order:
 //!
+//! - `scope`: where names are looked up;
 //! - `walk`: what is carried along a file;
 //! - `identifier`: uses of names, and names that are bound;
 //! - `room`: lists whose length is known;
@@ -27,6 +28,7 @@ mod identifier;
 mod primary;
 mod room;
 mod rules;
+mod scope;
 mod suffixes;
 mod targets;
 mod walk;
@@ -34,4 +36,5 @@ mod walk;
 pub use expressions::expr_to;
 pub use identifier::{fault_of, name_target, use_at};
 pub use rules::Rules;
+pub use scope::Scope;
 pub use walk::Walk;

@@ -9,34 +9,31 @@ ghost use Rattle.bq_resolve_expression.specs.Walks.{Walks, WalksNested};
 use crate::identifier::fault_of;
 use crate::room::with_room;
 use crate::rules::Rules;
+use crate::scope::Scope;
 use crate::walk::Walk;
 use bq_base::{FaultKind, SourceErr};
 use bq_parse_grammar::{Argument, Expr, FileKind, Identifier, Suffix};
-use bq_resolve_scope::{Block, Code, CodeArgument, CodeSuffix, FileNames, Namespace};
+use bq_resolve_scope::{Code, CodeArgument, CodeSuffix, Namespace};
 use sqlite_items::{Boxed, Items};
 use std::alloc::{AllocError, Global};
 
 /// Returns the namespace that the operand is, in a .bzl file that binds no such name.
-fn namespace_at(
-    file: &FileNames,
-    blocks: &[Block],
-    operand: &Expr,
-) -> Result<Option<Namespace>, AllocError>
-    ensures { IfOk result (λ x. x ≡ spec.namespace_at file.now blocks.now (out-Expr operand.now)) }
+fn namespace_at(scope: &Scope<'_>, operand: &Expr) -> Option<Namespace>
+    ensures { result ≡ spec.namespace_at scope.now.file.now scope.now.blocks.now (out-Expr operand.now) }
 {
     let Expr::Name(name) = operand else {
-        return Ok(None);
+        return None;
     };
-    match file.kind() {
-        FileKind::Build => Ok(None),
+    match scope.file.kind() {
+        FileKind::Build => None,
         FileKind::Bzl => {
             let space = Namespace::named(name.name.as_slice());
             if space.is_none() {
-                return Ok(None);
+                return None;
             }
-            match file.use_of(blocks, &name.name)? {
-                None => Ok(space),
-                Some(_) => Ok(None),
+            match scope.file.use_of(scope.blocks, &name.name) {
+                None => space,
+                Some(_) => None,
             }
         }
     }
@@ -51,15 +48,14 @@ fn called(alloc: Global, arguments: Items<CodeArgument>) -> Result<Items<CodeSuf
     Ok(done)
 }
 
-impl<F: Fn(Global, &FileNames, usize, &[Block], &mut Walk, &Expr) -> Result<Code, SourceErr>> Rules<
+impl<'a, F: Copy + Fn(&Scope<'_>, usize, &mut Walk, &Expr) -> Result<Code, SourceErr>> Rules<
+    'a,
     F,
 > {
     /// Resolves `native.name(arguments)` or `attr.name(arguments)`, and what is done to its result.
     #[tactic(auto, unfolding(bq_resolve_scope::specs::Expressions::call_member))]
     fn call_member(
         &self,
-        file: &FileNames,
-        blocks: &[Block],
         walk: &mut Walk,
         space: Namespace,
         name: &Identifier,
@@ -67,57 +63,39 @@ impl<F: Fn(Global, &FileNames, usize, &[Block], &mut Walk, &Expr) -> Result<Code
         suffixes: &[Suffix],
     ) -> Result<Code, SourceErr>
         requires { WalksNested self.now.depth (F.pre self.now.visit) (F.post self.now.visit) }
-        ensures { Walks (spec.call_member file.now (spec.expr_to self.now.depth file.now) blocks.now space name.now arguments.now suffixes.now walk.old) result walk.new }
+        ensures { Walks (spec.call_member self.now.scope.file.now (spec.expr_to self.now.depth self.now.scope.file.now) self.now.scope.blocks.now space name.now arguments.now suffixes.now walk.old) result walk.new }
     {
-        let Some(member) = file.member(space, &name.name)? else {
+        let Some(member) = self.scope.file.member(space, &name.name) else {
             return Err(SourceErr::Bad(fault_of(FaultKind::UnknownName, name)?));
         };
-        let arguments = self.arguments(file, blocks, walk, arguments)?;
-        let done = called(self.alloc, arguments)?;
-        let suffixes = self.suffixes(file, blocks, walk, done, suffixes)?;
-        Ok(Code::Primary(Boxed::new(self.alloc, Code::Member(member))?, suffixes))
-    }
-
-    /// Resolves an operand, and what is done to it.
-    #[tactic(auto, unfolding(bq_resolve_scope::specs::Expressions::operand))]
-    fn operand(
-        &self,
-        file: &FileNames,
-        blocks: &[Block],
-        walk: &mut Walk,
-        operand: &Expr,
-        suffixes: &[Suffix],
-    ) -> Result<Code, SourceErr>
-        requires { WalksNested self.now.depth (F.pre self.now.visit) (F.post self.now.visit) }
-        ensures { Walks (spec.operand file.now (spec.expr_to self.now.depth file.now) blocks.now operand.now suffixes.now walk.old) result walk.new }
-    {
-        let operand = self.boxed(file, blocks, walk, operand)?;
-        let done = with_room(self.alloc, suffixes.len())?;
-        Ok(Code::Primary(operand, self.suffixes(file, blocks, walk, done, suffixes)?))
+        let arguments = self.arguments(walk, arguments)?;
+        let done = called(self.scope.alloc, arguments)?;
+        let suffixes = self.suffixes(walk, done, suffixes)?;
+        Ok(Code::Primary(
+            Boxed::new(self.scope.alloc, Code::Member(member))?,
+            suffixes,
+        ))
     }
 
     /// Resolves an operand, and what is done to it: `native.name(..)` is the build function or rule `name`, `attr.name(..)` the function
     /// that makes an attribute, else F20 at `name`.
-    #[tactic(auto, unfolding(bq_resolve_scope::specs::Expressions::primary))]
+    #[tactic(auto, unfolding(bq_resolve_scope::specs::Expressions::primary, bq_resolve_scope::specs::Expressions::operand))]
     pub fn primary(
         &self,
-        file: &FileNames,
-        blocks: &[Block],
         walk: &mut Walk,
         operand: &Expr,
         suffixes: &[Suffix],
     ) -> Result<Code, SourceErr>
         requires { WalksNested self.now.depth (F.pre self.now.visit) (F.post self.now.visit) }
-        ensures { Walks (spec.primary file.now (spec.expr_to self.now.depth file.now) blocks.now operand.now suffixes.now walk.old) result walk.new }
+        ensures { Walks (spec.primary self.now.scope.file.now (spec.expr_to self.now.depth self.now.scope.file.now) self.now.scope.blocks.now operand.now suffixes.now walk.old) result walk.new }
     {
-        let Some(space) = namespace_at(file, blocks, operand)? else {
-            return self.operand(file, blocks, walk, operand, suffixes);
-        };
-        match suffixes {
-            [Suffix::Method(name, arguments), rest @ ..] => {
-                self.call_member(file, blocks, walk, space, name, arguments.as_slice(), rest)
+        if let Some(space) = namespace_at(&self.scope, operand) {
+            if let [Suffix::Method(name, arguments), rest @ ..] = suffixes {
+                return self.call_member(walk, space, name, arguments.as_slice(), rest);
             }
-            _ => self.operand(file, blocks, walk, operand, suffixes),
         }
+        let operand = self.boxed(walk, operand)?;
+        let done = with_room(self.scope.alloc, suffixes.len())?;
+        Ok(Code::Primary(operand, self.suffixes(walk, done, suffixes)?))
     }
 }

@@ -6,161 +6,110 @@ ghost use Rattle.bq_resolve_scope.specs.Expressions as spec;
 ghost use Rattle.bq_resolve_expression.specs.Walks.{Walks, WalksNested};
 
 use crate::room::with_room;
+use crate::scope::Scope;
 use crate::walk::Walk;
 use bq_base::SourceErr;
 use bq_parse_grammar::{Choice, Expr, Operation, Pair};
-use bq_resolve_scope::{Block, Code, CodeChoice, CodeOperation, CodePair, FileNames};
+use bq_resolve_scope::{Code, CodeChoice, CodeOperation, CodePair};
 use sqlite_items::{Boxed, Items};
-use std::alloc::Global;
 
 #[derive(Clone, Copy)]
-pub struct Rules<F> {
-    pub alloc: Global,
+pub struct Rules<'a, F> {
+    pub scope: Scope<'a>,
     /// How many layers inside are still looked at.
     pub depth: usize,
     pub visit: F,
 }
 
-impl<F: Fn(Global, &FileNames, usize, &[Block], &mut Walk, &Expr) -> Result<Code, SourceErr>> Rules<
+impl<'a, F: Copy + Fn(&Scope<'_>, usize, &mut Walk, &Expr) -> Result<Code, SourceErr>> Rules<
+    'a,
     F,
 > {
     /// Resolves an expression inside.
-    pub fn expr(
-        &self,
-        file: &FileNames,
-        blocks: &[Block],
-        walk: &mut Walk,
-        expr: &Expr,
-    ) -> Result<Code, SourceErr>
+    pub fn expr(&self, walk: &mut Walk, expr: &Expr) -> Result<Code, SourceErr>
         requires { WalksNested self.now.depth (F.pre self.now.visit) (F.post self.now.visit) }
-        ensures { Walks (spec.expr_to self.now.depth file.now blocks.now expr.now walk.old) result walk.new }
+        ensures { Walks (spec.expr_to self.now.depth self.now.scope.file.now self.now.scope.blocks.now expr.now walk.old) result walk.new }
     {
-        (self.visit)(self.alloc, file, self.depth, blocks, walk, expr)
+        (self.visit)(&self.scope, self.depth, walk, expr)
     }
 
     /// Resolves an expression inside, in a box.
-    pub fn boxed(
-        &self,
-        file: &FileNames,
-        blocks: &[Block],
-        walk: &mut Walk,
-        expr: &Expr,
-    ) -> Result<Boxed<Code>, SourceErr>
+    pub fn boxed(&self, walk: &mut Walk, expr: &Expr) -> Result<Boxed<Code>, SourceErr>
         requires { WalksNested self.now.depth (F.pre self.now.visit) (F.post self.now.visit) }
-        ensures { Walks (spec.expr_to self.now.depth file.now blocks.now expr.now walk.old) result walk.new }
+        ensures { Walks (spec.expr_to self.now.depth self.now.scope.file.now self.now.scope.blocks.now expr.now walk.old) result walk.new }
     {
-        let code = self.expr(file, blocks, walk, expr)?;
-        Ok(Boxed::new(self.alloc, code)?)
+        let code = self.expr(walk, expr)?;
+        Ok(Boxed::new(self.scope.alloc, code)?)
     }
 
     /// Resolves expressions, one after another.
     #[tactic(auto, unfolding(bq_resolve_scope::specs::Visit::each))]
-    pub fn exprs(
-        &self,
-        file: &FileNames,
-        blocks: &[Block],
-        walk: &mut Walk,
-        exprs: &[Expr],
-    ) -> Result<Items<Code>, SourceErr>
+    pub fn exprs(&self, walk: &mut Walk, exprs: &[Expr]) -> Result<Items<Code>, SourceErr>
         requires { WalksNested self.now.depth (F.pre self.now.visit) (F.post self.now.visit) }
-        ensures { Walks (visit.each (spec.expr_to self.now.depth file.now blocks.now) [] exprs.now walk.old) result walk.new }
+        ensures { Walks (visit.each (spec.expr_to self.now.depth self.now.scope.file.now self.now.scope.blocks.now) [] exprs.now walk.old) result walk.new }
     {
-        let mut done = with_room(self.alloc, exprs.len())?;
+        let mut done = with_room(self.scope.alloc, exprs.len())?;
         for expr in exprs {
-            done.push(self.expr(file, blocks, walk, expr)?)?;
+            done.push(self.expr(walk, expr)?)?;
         }
         Ok(done)
     }
 
     /// `key: value`
     #[tactic(auto, unfolding(bq_resolve_scope::specs::Expressions::pair))]
-    pub fn pair(
-        &self,
-        file: &FileNames,
-        blocks: &[Block],
-        walk: &mut Walk,
-        pair: &Pair,
-    ) -> Result<CodePair, SourceErr>
+    pub fn pair(&self, walk: &mut Walk, pair: &Pair) -> Result<CodePair, SourceErr>
         requires { WalksNested self.now.depth (F.pre self.now.visit) (F.post self.now.visit) }
-        ensures { Walks (spec.pair file.now (spec.expr_to self.now.depth file.now) blocks.now pair.now walk.old) result walk.new }
+        ensures { Walks (spec.pair self.now.scope.file.now (spec.expr_to self.now.depth self.now.scope.file.now) self.now.scope.blocks.now pair.now walk.old) result walk.new }
     {
-        let key = self.boxed(file, blocks, walk, &pair.key)?;
-        let value = self.expr(file, blocks, walk, &pair.value)?;
+        let key = self.boxed(walk, &pair.key)?;
+        let value = self.expr(walk, &pair.value)?;
         Ok(CodePair {
             key: key.into_inner(),
             value,
         })
     }
 
-    /// Resolves a further operand of a chain.
-    #[tactic(auto, unfolding(bq_resolve_scope::specs::Expressions::operation))]
-    fn operation(
-        &self,
-        file: &FileNames,
-        blocks: &[Block],
-        walk: &mut Walk,
-        operation: &Operation,
-    ) -> Result<CodeOperation, SourceErr>
-        requires { WalksNested self.now.depth (F.pre self.now.visit) (F.post self.now.visit) }
-        ensures { Walks (spec.operation file.now (spec.expr_to self.now.depth file.now) blocks.now operation.now walk.old) result walk.new }
-    {
-        let operand = self.expr(file, blocks, walk, &operation.operand)?;
-        Ok(CodeOperation {
-            operator: operation.operator,
-            operand,
-        })
-    }
-
-    #[tactic(auto, unfolding(bq_resolve_scope::specs::Visit::each))]
+    /// Resolves the further operands of a chain.
+    #[tactic(auto, unfolding(bq_resolve_scope::specs::Visit::each, bq_resolve_scope::specs::Expressions::operation))]
     pub fn operations(
         &self,
-        file: &FileNames,
-        blocks: &[Block],
         walk: &mut Walk,
         operations: &[Operation],
     ) -> Result<Items<CodeOperation>, SourceErr>
         requires { WalksNested self.now.depth (F.pre self.now.visit) (F.post self.now.visit) }
-        ensures { Walks (visit.each (spec.operation file.now (spec.expr_to self.now.depth file.now) blocks.now) [] operations.now walk.old) result walk.new }
+        ensures { Walks (visit.each (spec.operation self.now.scope.file.now (spec.expr_to self.now.depth self.now.scope.file.now) self.now.scope.blocks.now) [] operations.now walk.old) result walk.new }
     {
-        let mut done = with_room(self.alloc, operations.len())?;
+        let mut done = with_room(self.scope.alloc, operations.len())?;
         for operation in operations {
-            done.push(self.operation(file, blocks, walk, operation)?)?;
+            let operand = self.expr(walk, &operation.operand)?;
+            done.push(CodeOperation {
+                operator: operation.operator,
+                operand,
+            })?;
         }
         Ok(done)
     }
 
     #[tactic(auto, unfolding(bq_resolve_scope::specs::Visit::each))]
-    pub fn pairs(
-        &self,
-        file: &FileNames,
-        blocks: &[Block],
-        walk: &mut Walk,
-        pairs: &[Pair],
-    ) -> Result<Items<CodePair>, SourceErr>
+    pub fn pairs(&self, walk: &mut Walk, pairs: &[Pair]) -> Result<Items<CodePair>, SourceErr>
         requires { WalksNested self.now.depth (F.pre self.now.visit) (F.post self.now.visit) }
-        ensures { Walks (visit.each (spec.pair file.now (spec.expr_to self.now.depth file.now) blocks.now) [] pairs.now walk.old) result walk.new }
+        ensures { Walks (visit.each (spec.pair self.now.scope.file.now (spec.expr_to self.now.depth self.now.scope.file.now) self.now.scope.blocks.now) [] pairs.now walk.old) result walk.new }
     {
-        let mut done = with_room(self.alloc, pairs.len())?;
+        let mut done = with_room(self.scope.alloc, pairs.len())?;
         for pair in pairs {
-            done.push(self.pair(file, blocks, walk, pair)?)?;
+            done.push(self.pair(walk, pair)?)?;
         }
         Ok(done)
     }
 
     /// `value if condition`: the value stands before the condition.
     #[tactic(auto, unfolding(bq_resolve_scope::specs::Expressions::choice))]
-    fn choice(
-        &self,
-        file: &FileNames,
-        blocks: &[Block],
-        walk: &mut Walk,
-        choice: &Choice,
-    ) -> Result<CodeChoice, SourceErr>
+    fn choice(&self, walk: &mut Walk, choice: &Choice) -> Result<CodeChoice, SourceErr>
         requires { WalksNested self.now.depth (F.pre self.now.visit) (F.post self.now.visit) }
-        ensures { Walks (spec.choice file.now (spec.expr_to self.now.depth file.now) blocks.now choice.now walk.old) result walk.new }
+        ensures { Walks (spec.choice self.now.scope.file.now (spec.expr_to self.now.depth self.now.scope.file.now) self.now.scope.blocks.now choice.now walk.old) result walk.new }
     {
-        let value = self.boxed(file, blocks, walk, &choice.value)?;
-        let condition = self.expr(file, blocks, walk, &choice.condition)?;
+        let value = self.boxed(walk, &choice.value)?;
+        let condition = self.expr(walk, &choice.condition)?;
         Ok(CodeChoice {
             value: value.into_inner(),
             condition,
@@ -170,17 +119,15 @@ impl<F: Fn(Global, &FileNames, usize, &[Block], &mut Walk, &Expr) -> Result<Code
     #[tactic(auto, unfolding(bq_resolve_scope::specs::Visit::each))]
     pub fn choices(
         &self,
-        file: &FileNames,
-        blocks: &[Block],
         walk: &mut Walk,
         choices: &[Choice],
     ) -> Result<Items<CodeChoice>, SourceErr>
         requires { WalksNested self.now.depth (F.pre self.now.visit) (F.post self.now.visit) }
-        ensures { Walks (visit.each (spec.choice file.now (spec.expr_to self.now.depth file.now) blocks.now) [] choices.now walk.old) result walk.new }
+        ensures { Walks (visit.each (spec.choice self.now.scope.file.now (spec.expr_to self.now.depth self.now.scope.file.now) self.now.scope.blocks.now) [] choices.now walk.old) result walk.new }
     {
-        let mut done = with_room(self.alloc, choices.len())?;
+        let mut done = with_room(self.scope.alloc, choices.len())?;
         for choice in choices {
-            done.push(self.choice(file, blocks, walk, choice)?)?;
+            done.push(self.choice(walk, choice)?)?;
         }
         Ok(done)
     }

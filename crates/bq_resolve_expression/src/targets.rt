@@ -10,30 +10,29 @@ ghost use Rattle.bq_resolve_expression.specs.Walks.{Walks, WalksNested};
 
 use crate::identifier::name_target;
 use crate::rules::Rules;
+use crate::scope::Scope;
 use crate::walk::Walk;
 use bq_base::{Fault, FaultKind, SourceErr};
 use bq_parse_grammar::{Expr, TargetExpr};
-use bq_resolve_scope::{Block, Code, CodeTarget, FileNames};
+use bq_resolve_scope::{Code, CodeTarget};
 use sqlite_items::Items;
-use std::alloc::Global;
 
-impl<F: Fn(Global, &FileNames, usize, &[Block], &mut Walk, &Expr) -> Result<Code, SourceErr>> Rules<
+impl<'a, F: Copy + Fn(&Scope<'_>, usize, &mut Walk, &Expr) -> Result<Code, SourceErr>> Rules<
+    'a,
     F,
 > {
     /// `operand[index]`
     fn index_target(
         &self,
-        file: &FileNames,
-        blocks: &[Block],
         walk: &mut Walk,
         operand: &Expr,
         index: &Expr,
     ) -> Result<CodeTarget, SourceErr>
         requires { WalksNested self.now.depth (F.pre self.now.visit) (F.post self.now.visit) }
-        ensures { (inner : TargetExpr → visit.Visit CodeTarget) → Walks (spec.target_by file.now (spec.expr_to self.now.depth file.now) inner blocks.now (TargetExpr-F.TargetExpr::Index operand.now index.now) walk.old) result walk.new }
+        ensures { (inner : TargetExpr → visit.Visit CodeTarget) → Walks (spec.target_by self.now.scope.file.now (spec.expr_to self.now.depth self.now.scope.file.now) inner self.now.scope.blocks.now (TargetExpr-F.TargetExpr::Index operand.now index.now) walk.old) result walk.new }
     {
-        let operand = self.boxed(file, blocks, walk, operand)?;
-        let index = self.boxed(file, blocks, walk, index)?;
+        let operand = self.boxed(walk, operand)?;
+        let index = self.boxed(walk, index)?;
         Ok(CodeTarget::Index(operand, index))
     }
 
@@ -41,18 +40,16 @@ impl<F: Fn(Global, &FileNames, usize, &[Block], &mut Walk, &Expr) -> Result<Code
     #[tactic(auto, unfolding(bq_resolve_scope::specs::Visit::each))]
     fn targets_to(
         &self,
-        file: &FileNames,
         layers: usize,
-        blocks: &[Block],
         walk: &mut Walk,
         targets: &[TargetExpr],
     ) -> Result<Items<CodeTarget>, SourceErr>
         requires { WalksNested self.now.depth (F.pre self.now.visit) (F.post self.now.visit) }
-        ensures { Walks (visit.each (spec.target_to file.now (spec.expr_to self.now.depth file.now) layers blocks.now) [] targets.now walk.old) result walk.new }
+        ensures { Walks (visit.each (spec.target_to self.now.scope.file.now (spec.expr_to self.now.depth self.now.scope.file.now) layers self.now.scope.blocks.now) [] targets.now walk.old) result walk.new }
     {
-        let mut done = Items::new(self.alloc);
+        let mut done = Items::new(self.scope.alloc);
         for target in targets {
-            done.push(self.target_to(file, layers, blocks, walk, target)?)?;
+            done.push(self.target_to(layers, walk, target)?)?;
         }
         Ok(done)
     }
@@ -62,29 +59,27 @@ impl<F: Fn(Global, &FileNames, usize, &[Block], &mut Walk, &Expr) -> Result<Code
     #[tactic(auto, using(crate::proofs::Layers::code_target_layer), unfolding(bq_resolve_scope::specs::Expressions::target_to))]
     pub fn target_to(
         &self,
-        file: &FileNames,
         layers: usize,
-        blocks: &[Block],
         walk: &mut Walk,
         target: &TargetExpr,
     ) -> Result<CodeTarget, SourceErr>
         requires { WalksNested self.now.depth (F.pre self.now.visit) (F.post self.now.visit) }
-        ensures { Walks (spec.target_to file.now (spec.expr_to self.now.depth file.now) layers blocks.now target.now walk.old) result walk.new }
+        ensures { Walks (spec.target_to self.now.scope.file.now (spec.expr_to self.now.depth self.now.scope.file.now) layers self.now.scope.blocks.now target.now walk.old) result walk.new }
     {
         if layers == 0 {
             return Err(SourceErr::Bad(Fault::at(FaultKind::Nesting, 0)));
         }
         match target {
-            TargetExpr::Name(name) => name_target(file, blocks, walk, name),
+            TargetExpr::Name(name) => name_target(&self.scope, walk, name),
             TargetExpr::Index(operand, index) => {
-                self.index_target(file, blocks, walk, operand.get(), index.get())
+                self.index_target(walk, operand.get(), index.get())
             }
             TargetExpr::Tuple(targets) => {
-                self.targets_to(file, layers - 1, blocks, walk, targets.as_slice())
+                self.targets_to(layers - 1, walk, targets.as_slice())
                     .map(CodeTarget::Tuple)
             }
             TargetExpr::List(targets) => {
-                self.targets_to(file, layers - 1, blocks, walk, targets.as_slice())
+                self.targets_to(layers - 1, walk, targets.as_slice())
                     .map(CodeTarget::List)
             }
         }

@@ -75,12 +75,12 @@ impl Walk {
     }
 
     /// Returns whether the name is bound or loaded already, in a .bzl file.
-    pub fn is_rebound(&self, kind: FileKind, name: &Bytes) -> Result<bool, AllocError>
-        ensures { IfOk result (λ b. b ≡ (is_bzl kind && (has self.now.bound name.now || has self.now.loaded name.now))) }
+    pub fn is_rebound(&self, kind: FileKind, name: &Bytes) -> bool
+        ensures { result ≡ (is_bzl kind && (has self.now.bound name.now || has self.now.loaded name.now)) }
     {
         match kind {
-            FileKind::Build => Ok(false),
-            FileKind::Bzl => Ok(self.bound.has(name)? || self.loaded.has(name)?),
+            FileKind::Build => false,
+            FileKind::Bzl => self.bound.has(name) || self.loaded.has(name),
         }
     }
 
@@ -92,18 +92,18 @@ impl Walk {
     }
 
     /// Returns whether an earlier load clause has the name.
-    pub fn is_loaded(&self, name: &Bytes) -> Result<bool, AllocError>
-        ensures { IfOk result (λ b. b ≡ has self.now.loaded name.now) }
+    pub fn is_loaded(&self, name: &Bytes) -> bool
+        ensures { result ≡ has self.now.loaded name.now }
     {
         self.loaded.has(name)
     }
 
     /// Returns whether a statement of a .bzl file bound the name.
-    pub fn is_bound(&self, kind: FileKind, name: &Bytes) -> Result<bool, AllocError>
-        ensures { IfOk result (λ b. b ≡ (is_bzl kind && has self.now.bound name.now)) }
+    pub fn is_bound(&self, kind: FileKind, name: &Bytes) -> bool
+        ensures { result ≡ (is_bzl kind && has self.now.bound name.now) }
     {
         match kind {
-            FileKind::Build => Ok(false),
+            FileKind::Build => false,
             FileKind::Bzl => self.bound.has(name),
         }
     }

@@ -2,7 +2,7 @@
 
 ghost use Rattle.std.specs.Prelude.{◌≡◌, ◌==◌, ◌&&◌, option_copied};
 ghost use Rattle.std.specs.List.{list_any};
-ghost use Rattle.bq_resolve_predeclared.specs.Predeclared.{predeclared_named, first_named, is_named, name_of, has_head};
+ghost use Rattle.bq_resolve_predeclared.specs.Predeclared.{predeclared_named, first_named, name_of};
 
 use crate::host_function::HostFunction;
 use crate::rule_function::RuleFunction;
@@ -113,16 +113,6 @@ impl Predeclared {
     }
 }
 
-/// Returns whether it has this name.
-fn is_named(predeclared: Predeclared, name: &[u8]) -> bool
-    ensures { result ≡ is_named name.now predeclared }
-{
-    match predeclared.name() {
-        Some(own) => name == own,
-        None => false,
-    }
-}
-
 /// The first byte and the length of each name, each pair once.
 const HEADS: [(u8, usize); 27] = [
     (b'N', 4),
@@ -167,25 +157,15 @@ fn is_head(mut table: &[(u8, usize)], first: u8, len: usize) -> bool
     false
 }
 
-/// Returns whether a predeclared name has this first byte and this length. Most names have neither, and need no walk along all.
-fn has_head(name: &[u8]) -> bool
-    ensures { result ≡ has_head name.now }
-{
-    match name {
-        [first, ..] => is_head(&HEADS, *first, name.len()),
-        [] => false,
-    }
-}
-
 #[tactic(auto, unfolding(crate::specs::Predeclared::first_named))]
 fn first_named(mut table: &[Predeclared], name: &[u8]) -> Option<Predeclared>
     ensures { result ≡ first_named name.now table.entry.now }
 {
     while let [entry, rest @ ..] = table {
-        if is_named(*entry, name) {
-            return Some(*entry);
+        match entry.name() {
+            Some(own) if name == own => return Some(*entry),
+            _ => table = rest,
         }
-        table = rest;
     }
     None
 }
@@ -195,8 +175,9 @@ fn first_named(mut table: &[Predeclared], name: &[u8]) -> Option<Predeclared>
 pub fn predeclared_named(name: &[u8]) -> Option<Predeclared>
     ensures { result ≡ predeclared_named name.now }
 {
-    if !has_head(name) {
-        return None;
+    // Most names have neither the first byte nor the length of one, and need no walk along all.
+    match name {
+        [first, ..] if is_head(&HEADS, *first, name.len()) => first_named(&PREDECLARED, name),
+        _ => None,
     }
-    first_named(&PREDECLARED, name)
 }

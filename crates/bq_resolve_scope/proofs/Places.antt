@@ -71,13 +71,7 @@ unfolding place_among
 has_place name [] = refl
 has_place name (x ∷ xs) = has_place_by (bytes_eq name x) (has xs name) (place_among name xs) (has_place name xs)
 
--- where there are no names, none has a place
-pub among_none : (name : Name) (names : List Name) → length names ≡ 0 → place_among name names ≡ None
-unfolding place_among
-among_none name [] h = refl
-among_none name (x ∷ xs) h = absurd (omega arith)
-
--- ---- the place as a hashed set answers it
+-- ---- the place as a set answers it
 
 as_place : ℕ → ℕ → Option ℕ
 as_place k n = cond (nat_lt k n) (Some k) None

@@ -1,5 +1,4 @@
 pub mod Names
-pub mod Keys
 pub mod Universe
 pub mod Scope
 pub mod Visit

@@ -48,46 +48,32 @@ fn add_target(names: &mut Names, target: &TargetExpr) -> Result<(), AllocError>
     add_target_to(names, MAX_LAYERS, target)
 }
 
-/// Adds the variables of a clause.
-#[tactic(auto, unfolding(crate::specs::Names::with_clause))]
-fn add_clause(names: &mut Names, clause: &Clause) -> Result<(), AllocError>
-    ensures { OnOk result (names.new ≡ spec.with_clause names.old clause.now) }
-{
-    match clause {
-        Clause::For(target, _) => add_target(names, target),
-        Clause::If(_) => Ok(()),
-    }
-}
-
 /// Returns what a comprehension with these clauses binds.
-#[tactic(auto, unfolding(crate::specs::Names::comprehension_names))]
+#[tactic(auto, unfolding(crate::specs::Names::comprehension_names, crate::specs::Names::with_clause))]
 pub fn comprehension_names(alloc: Global, clauses: &[Clause]) -> Result<Names, AllocError>
     ensures { IfOk result (λ names. names ≡ spec.comprehension_names clauses.now) }
 {
     let mut names = Names::new(alloc);
     for clause in clauses {
-        add_clause(&mut names, clause)?;
+        match clause {
+            Clause::For(target, _) => add_target(&mut names, target)?,
+            Clause::If(_) => {}
+        }
     }
     Ok(names)
 }
 
-/// Adds what a small statement binds.
+/// Adds what the small statements of a line bind.
 #[tactic(auto, unfolding(crate::specs::Names::with_small))]
-fn add_small(names: &mut Names, statement: &SmallStmt) -> Result<(), AllocError>
-    ensures { OnOk result (names.new ≡ spec.with_small names.old statement.now) }
-{
-    match &statement.kind {
-        SmallKind::Assign(target, _) => add_target(names, target),
-        SmallKind::Augment(target, _, _) => add_target(names, target),
-        _ => Ok(()),
-    }
-}
-
 fn add_line(names: &mut Names, statements: &[SmallStmt]) -> Result<(), AllocError>
     ensures { OnOk result (names.new ≡ spec.with_each spec.with_small names.old statements.now) }
 {
     for statement in statements {
-        add_small(names, statement)?;
+        match &statement.kind {
+            SmallKind::Assign(target, _) => add_target(names, target)?,
+            SmallKind::Augment(target, _, _) => add_target(names, target)?,
+            _ => {}
+        }
     }
     Ok(())
 }
@@ -148,28 +134,8 @@ fn add_stmt_to(names: &mut Names, depth: usize, statement: &Stmt) -> Result<(), 
     }
 }
 
-/// Adds what a statement binds in its block.
-#[tactic(auto, unfolding(crate::specs::Names::with_stmt, crate::specs::Names::max_layers))]
-fn add_stmt(names: &mut Names, statement: &Stmt) -> Result<(), AllocError>
-    ensures { OnOk result (names.new ≡ spec.with_stmt names.old statement.now) }
-{
-    add_stmt_to(names, MAX_LAYERS, statement)
-}
-
-fn add_parameter(names: &mut Names, parameter: &Parameter) -> Result<(), AllocError>
-    ensures { OnOk result (names.new ≡ spec.with_parameter names.old parameter.now) }
-{
-    match parameter {
-        Parameter::Plain(name) => names.add(&name.name),
-        Parameter::Default(name, _) => names.add(&name.name),
-        Parameter::BareStar => Ok(()),
-        Parameter::Star(name) => names.add(&name.name),
-        Parameter::StarStar(name) => names.add(&name.name),
-    }
-}
-
 /// Returns what a function with these parameters and statements binds.
-#[tactic(auto, unfolding(crate::specs::Names::function_names))]
+#[tactic(auto, unfolding(crate::specs::Names::function_names, crate::specs::Names::with_stmt, crate::specs::Names::max_layers))]
 pub fn function_names(
     alloc: Global,
     parameters: &[Parameter],
@@ -179,22 +145,28 @@ pub fn function_names(
 {
     let mut names = Names::new(alloc);
     for parameter in parameters {
-        add_parameter(&mut names, parameter)?;
+        match parameter {
+            Parameter::Plain(name) => names.add(&name.name)?,
+            Parameter::Default(name, _) => names.add(&name.name)?,
+            Parameter::BareStar => {}
+            Parameter::Star(name) => names.add(&name.name)?,
+            Parameter::StarStar(name) => names.add(&name.name)?,
+        }
     }
     for statement in body {
-        add_stmt(&mut names, statement)?;
+        add_stmt_to(&mut names, MAX_LAYERS, statement)?;
     }
     Ok(names)
 }
 
 /// Returns what a file binds, but for its loads.
-#[tactic(auto, unfolding(crate::specs::Names::global_names))]
+#[tactic(auto, unfolding(crate::specs::Names::global_names, crate::specs::Names::with_stmt, crate::specs::Names::max_layers))]
 pub fn global_names(alloc: Global, file: &[TopLevel]) -> Result<Names, AllocError>
     ensures { IfOk result (λ names. names ≡ spec.global_names file.now) }
 {
     let mut names = Names::new(alloc);
     for statement in file {
-        add_stmt(&mut names, &statement.statement)?;
+        add_stmt_to(&mut names, MAX_LAYERS, &statement.statement)?;
     }
     Ok(names)
 }
@@ -208,45 +180,31 @@ fn add_load_clauses(names: &mut Names, clauses: &[LoadClause]) -> Result<(), All
     Ok(())
 }
 
-/// Adds what a small statement loads.
+/// Adds what the small statements of a line load.
 #[tactic(auto, unfolding(crate::specs::Names::with_load))]
-fn add_load(names: &mut Names, statement: &SmallStmt) -> Result<(), AllocError>
-    ensures { OnOk result (names.new ≡ spec.with_load names.old statement.now) }
-{
-    match &statement.kind {
-        SmallKind::Load(load) => add_load_clauses(names, load.clauses.as_slice()),
-        _ => Ok(()),
-    }
-}
-
 fn add_line_loads(names: &mut Names, statements: &[SmallStmt]) -> Result<(), AllocError>
     ensures { OnOk result (names.new ≡ spec.with_each spec.with_load names.old statements.now) }
 {
     for statement in statements {
-        add_load(names, statement)?;
+        match &statement.kind {
+            SmallKind::Load(load) => add_load_clauses(names, load.clauses.as_slice())?,
+            _ => {}
+        }
     }
     Ok(())
 }
 
-/// Adds what a top-level statement loads.
-#[tactic(auto, unfolding(crate::specs::Names::with_loads))]
-fn add_loads(names: &mut Names, top_level: &TopLevel) -> Result<(), AllocError>
-    ensures { OnOk result (names.new ≡ spec.with_loads names.old top_level.now) }
-{
-    match &top_level.statement {
-        Stmt::Simple(line) => add_line_loads(names, line.as_slice()),
-        _ => Ok(()),
-    }
-}
-
 /// Returns what a file's loads bind.
-#[tactic(auto, unfolding(crate::specs::Names::loaded_names))]
+#[tactic(auto, unfolding(crate::specs::Names::loaded_names, crate::specs::Names::with_loads))]
 pub fn loaded_names(alloc: Global, file: &[TopLevel]) -> Result<Names, AllocError>
     ensures { IfOk result (λ names. names ≡ spec.loaded_names file.now) }
 {
     let mut names = Names::new(alloc);
     for top_level in file {
-        add_loads(&mut names, top_level)?;
+        match &top_level.statement {
+            Stmt::Simple(line) => add_line_loads(&mut names, line.as_slice())?,
+            _ => {}
+        }
     }
     Ok(names)
 }

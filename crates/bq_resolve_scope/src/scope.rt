@@ -2,7 +2,7 @@
 
 ghost use Rattle.std.specs.Prelude.{◌≡◌, ◌+◌, ◌<◌, ◌^◌, ◌∷◌, length, IfOk};
 ghost use Rattle.bq_resolve_scope.specs.Names.{place_among};
-ghost use Rattle.bq_resolve_scope.specs.Scope.{slot_in, slot_of, file_has, use_of};
+ghost use Rattle.bq_resolve_scope.specs.Scope.{use_of};
 ghost use Rattle.bq_resolve_scope.specs.Files.{file_names};
 ghost use Rattle.bq_resolve_scope.specs.Universe.{member_named};
 
@@ -58,17 +58,6 @@ impl Block {
             names: self.names.clone()?,
         })
     }
-
-    /// Returns the slot of a name that the block holds.
-    #[tactic(auto, unfolding(crate::specs::Scope::slot_in))]
-    fn slot(&self, name: &Bytes) -> Result<Option<usize>, AllocError>
-        ensures { IfOk result (λ slot. slot ≡ slot_in self.now name.now) }
-    {
-        match self.names.place(name)? {
-            None => Ok(None),
-            Some(place) => Ok(Some(self.base + place)),
-        }
-    }
 }
 
 /// Returns these blocks, with one inside them.
@@ -81,19 +70,6 @@ pub fn inside(alloc: Global, block: Block, blocks: &[Block]) -> Result<Vec<Block
         all.push(outer.share()?)?;
     }
     Ok(all)
-}
-
-/// Returns the slot of a name in the innermost block that holds it; the blocks stand innermost first.
-#[tactic(auto, unfolding(crate::specs::Scope::slot_of))]
-fn slot_of(blocks: &[Block], name: &Bytes) -> Result<Option<usize>, AllocError>
-    ensures { IfOk result (λ slot. slot ≡ slot_of blocks.now name.now) }
-{
-    for block in blocks {
-        if let Some(slot) = block.slot(name)? {
-            return Ok(Some(slot));
-        }
-    }
-    Ok(None)
 }
 
 /// The names of a file. Contracts see what every file of its kind has, what it binds, and what its loads bind.
@@ -136,8 +112,8 @@ impl FileNames {
     }
 
     /// Returns what a namespace holds by this name.
-    pub fn member(&self, space: Namespace, name: &Bytes) -> Result<Option<Predeclared>, AllocError>
-        ensures { IfOk result (λ x. x ≡ member_named space self.now.universe.rules name.now) }
+    pub fn member(&self, space: Namespace, name: &Bytes) -> Option<Predeclared>
+        ensures { result ≡ member_named space self.now.universe.rules name.now }
     {
         self.universe.member(space, name)
     }
@@ -150,37 +126,31 @@ impl FileNames {
     }
 
     /// Returns the place of a name among these.
-    pub fn global(&self, name: &Bytes) -> Result<Option<usize>, AllocError>
-        ensures { IfOk result (λ place. place ≡ place_among name.now self.now.globals) }
+    pub fn global(&self, name: &Bytes) -> Option<usize>
+        ensures { result ≡ place_among name.now self.now.globals }
     {
         self.globals.place(name)
     }
 
-    /// Returns what the name stands for outside all blocks.
-    #[tactic(auto, unfolding(crate::specs::Scope::file_has))]
-    fn has(&self, name: &Bytes) -> Result<Option<Binding>, AllocError>
-        ensures { IfOk result (λ x. x ≡ file_has self.now name.now) }
+    /// Returns what a use of the name among these blocks stands for. The blocks stand innermost first.
+    #[tactic(auto, unfolding(crate::specs::Scope::use_of, crate::specs::Scope::slot_of, crate::specs::Scope::slot_in, crate::specs::Scope::file_has))]
+    pub fn use_of(&self, blocks: &[Block], name: &Bytes) -> Option<Binding>
+        ensures { result ≡ use_of self.now blocks.now name.now }
     {
-        if let Some(place) = self.globals.place(name)? {
-            return Ok(Some(Binding::Global(place)));
+        for block in blocks {
+            if let Some(place) = block.names.place(name) {
+                return Some(Binding::Local(block.base + place));
+            }
         }
-        if let Some(place) = self.loaded.place(name)? {
-            return Ok(Some(Binding::Loaded(place)));
+        if let Some(place) = self.globals.place(name) {
+            return Some(Binding::Global(place));
         }
-        match self.universe.has(name)? {
-            None => Ok(None),
-            Some(predeclared) => Ok(Some(Binding::Predeclared(predeclared))),
+        if let Some(place) = self.loaded.place(name) {
+            return Some(Binding::Loaded(place));
         }
-    }
-
-    /// Returns what a use of the name among these blocks stands for.
-    #[tactic(auto, unfolding(crate::specs::Scope::use_of))]
-    pub fn use_of(&self, blocks: &[Block], name: &Bytes) -> Result<Option<Binding>, AllocError>
-        ensures { IfOk result (λ x. x ≡ use_of self.now blocks.now name.now) }
-    {
-        match slot_of(blocks, name)? {
-            None => self.has(name),
-            Some(slot) => Ok(Some(Binding::Local(slot))),
+        match self.universe.has(name) {
+            None => None,
+            Some(predeclared) => Some(Binding::Predeclared(predeclared)),
         }
     }
 }

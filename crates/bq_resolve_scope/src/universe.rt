@@ -2,7 +2,7 @@
 
 ghost use Rattle.std.specs.Prelude.{◌≡◌, [], map, IfOk};
 ghost use Rattle.bq_resolve_scope.specs.Names.{with_each, with_name};
-ghost use Rattle.bq_resolve_scope.specs.Universe.{rule_named, host_by, host_named, in_build, in_bzl, in_kind, member_named, namespace_named, universe_has};
+ghost use Rattle.bq_resolve_scope.specs.Universe.{rule_named, member_named, namespace_named, universe_has};
 
 use crate::names::Names;
 use bq_base::Bytes;
@@ -38,22 +38,6 @@ impl Namespace {
             return Some(Namespace::Attr);
         }
         None
-    }
-}
-
-/// Returns what a name that is predeclared as this in files of all kinds stands for in a .bzl file.
-fn in_bzl(name: &[u8], found: Option<Predeclared>) -> Option<Predeclared>
-    ensures { result ≡ in_bzl name.now found }
-{
-    match found {
-        None => {
-            if name == b"rule".as_slice() {
-                return Some(Predeclared::RuleFunction(RuleFunction::Rule));
-            }
-            None
-        }
-        Some(Predeclared::Host(_)) => None,
-        Some(found) => Some(found),
     }
 }
 
@@ -105,75 +89,65 @@ impl Universe {
     }
 
     /// Returns the rule of this name.
-    fn rule(&self, name: &Bytes) -> Result<Option<HostFunction>, AllocError>
-        ensures { IfOk result (λ f. f ≡ rule_named self.now.rules name.now) }
+    fn rule(&self, name: &Bytes) -> Option<HostFunction>
+        ensures { result ≡ rule_named self.now.rules name.now }
     {
-        match self.rules.place(name)? {
-            None => Ok(None),
+        match self.rules.place(name) {
+            None => None,
             Some(place) => {
                 if place < MAX_RULES {
-                    return Ok(Some(HostFunction::Rule(place as u32)));
+                    return Some(HostFunction::Rule(place as u32));
                 }
-                Ok(None)
+                None
             }
         }
     }
 
-    /// Returns the build function or rule of this name.
-    #[tactic(auto, unfolding(crate::specs::Universe::host_named))]
-    fn host(&self, name: &Bytes) -> Result<Option<HostFunction>, AllocError>
-        ensures { IfOk result (λ f. f ≡ host_named self.now.rules name.now) }
-    {
-        match predeclared_named(name.as_slice()) {
-            None => self.rule(name),
-            Some(Predeclared::Host(function)) => Ok(Some(function)),
-            Some(_) => Ok(None),
-        }
-    }
-
-    /// Returns what a namespace holds by this name.
-    #[tactic(auto, unfolding(crate::specs::Universe::member_named))]
-    pub fn member(&self, space: Namespace, name: &Bytes) -> Result<Option<Predeclared>, AllocError>
-        ensures { IfOk result (λ x. x ≡ member_named space self.now.rules name.now) }
+    /// Returns what a namespace holds by this name: `native` a build function or rule, `attr` a function that makes attributes.
+    #[tactic(auto, unfolding(crate::specs::Universe::member_named, crate::specs::Universe::host_named))]
+    pub fn member(&self, space: Namespace, name: &Bytes) -> Option<Predeclared>
+        ensures { result ≡ member_named space self.now.rules name.now }
     {
         match space {
-            Namespace::Native => match self.host(name)? {
-                None => Ok(None),
-                Some(function) => Ok(Some(Predeclared::Host(function))),
+            Namespace::Native => match predeclared_named(name.as_slice()) {
+                None => match self.rule(name) {
+                    None => None,
+                    Some(rule) => Some(Predeclared::Host(rule)),
+                },
+                Some(Predeclared::Host(function)) => Some(Predeclared::Host(function)),
+                Some(_) => None,
             },
             Namespace::Attr => match attr_named(name.as_slice()) {
-                None => Ok(None),
-                Some(function) => Ok(Some(Predeclared::RuleFunction(function))),
+                None => None,
+                Some(function) => Some(Predeclared::RuleFunction(function)),
             },
-        }
-    }
-
-    /// Returns what the name stands for in a BUILD file.
-    fn in_build(
-        &self,
-        name: &Bytes,
-        found: Option<Predeclared>,
-    ) -> Result<Option<Predeclared>, AllocError>
-        ensures { IfOk result (λ x. x ≡ in_build self.now.rules name.now found) }
-    {
-        match found {
-            None => match self.rule(name)? {
-                None => Ok(None),
-                Some(function) => Ok(Some(Predeclared::Host(function))),
-            },
-            Some(found) => Ok(Some(found)),
         }
     }
 
     /// Returns what the name stands for in a file that doesn't bind it.
     #[tactic(auto, unfolding(crate::specs::Universe::universe_has))]
-    pub fn has(&self, name: &Bytes) -> Result<Option<Predeclared>, AllocError>
-        ensures { IfOk result (λ x. x ≡ universe_has self.now name.now) }
+    pub fn has(&self, name: &Bytes) -> Option<Predeclared>
+        ensures { result ≡ universe_has self.now name.now }
     {
         let found = predeclared_named(name.as_slice());
         match self.kind {
-            FileKind::Build => self.in_build(name, found),
-            FileKind::Bzl => Ok(in_bzl(name.as_slice(), found)),
+            FileKind::Build => match found {
+                None => match self.rule(name) {
+                    None => None,
+                    Some(rule) => Some(Predeclared::Host(rule)),
+                },
+                Some(found) => Some(found),
+            },
+            FileKind::Bzl => match found {
+                None => {
+                    if name.as_slice() == b"rule".as_slice() {
+                        return Some(Predeclared::RuleFunction(RuleFunction::Rule));
+                    }
+                    None
+                }
+                Some(Predeclared::Host(_)) => None,
+                Some(found) => Some(found),
+            },
         }
     }
 }

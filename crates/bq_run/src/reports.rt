@@ -10,11 +10,11 @@ ghost use Rattle.bq_run.specs.WorkspaceRun.{IsReportOn, refused};
 use crate::options::Options;
 use bq_base_rope::Rope;
 use bq_label::Workspace;
-use bq_load::{Loaded, OpenGate, load_with};
+use bq_load::{OpenGate, load_with};
 use bq_load_discover::{LoadErr, schema_of};
 use bq_package_schema::Schema;
 use bq_query_check::{CheckedQuery, parse_query};
-use bq_run_report::{Contents, NoAnswer, Question, Report, refusal_of, report_on};
+use bq_run_report::{NoAnswer, Question, Report, refusal_of, report_on};
 use bq_value_seed::Seed;
 use std::alloc::{AllocError, Global};
 use std::random::RandomSource;
@@ -58,21 +58,7 @@ fn report_by<T: Threads + Wait + RandomSource + Sync>(
         jobs,
         &OpenGate,
     ) {
-        Ok(loaded) => {
-            let Loaded {
-                modules,
-                packages,
-                faults,
-                prints,
-            } = loaded;
-            drop(modules); // so that the graph gets the memory of their values
-            let contents = Contents {
-                prints,
-                faults,
-                packages,
-            };
-            report_on(alloc, contents, question)
-        }
+        Ok(loaded) => report_on(alloc, loaded, question),
         Err(LoadErr::TooManyModules) => Ok(refused(alloc, NoAnswer::TooManyModules)),
         Err(_) => Err(AllocError),
     }

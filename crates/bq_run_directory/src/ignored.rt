@@ -6,12 +6,6 @@ use std::alloc::{AllocError, Global};
 /// The file at the root that names them, one on each line.
 pub const IGNORE_FILE: &str = ".bazelignore";
 
-/// The directories that `.bazelignore` names, by their paths from the root.
-#[derive(Drop)]
-pub struct Ignored {
-    paths: Vec<Bytes>,
-}
-
 /// Returns the path that a line names: without blanks around it, `./` before it and a slash after it.
 fn path_of(line: &[u8]) -> &[u8] {
     let path = line.trim_ascii();
@@ -19,29 +13,15 @@ fn path_of(line: &[u8]) -> &[u8] {
     path.strip_suffix(b"/").unwrap_or(path)
 }
 
-impl Ignored {
-    /// Returns no directory.
-    pub fn none(alloc: Global) -> Ignored {
-        Ignored {
-            paths: Vec::new(alloc),
+/// Returns the directories that a text names, one on each line, by their paths from the root. Blank lines, and lines that begin with `#`,
+/// name none.
+pub fn ignored_directories(alloc: Global, text: &[u8]) -> Result<Vec<Bytes>, AllocError> {
+    let mut ignored = Vec::new(alloc);
+    for line in text.split(|byte| *byte == b'\n') {
+        let path = path_of(line);
+        if !path.is_empty() && !path.starts_with(b"#") {
+            ignored.push(Bytes::from_slice(alloc, path)?)?;
         }
     }
-
-    /// Returns the directories that a text names, one on each line. Blank lines, and lines that begin with `#`, name
-    /// none.
-    pub fn of(alloc: Global, text: &[u8]) -> Result<Ignored, AllocError> {
-        let mut ignored = Ignored::none(alloc);
-        for line in text.split(|byte| *byte == b'\n') {
-            let path = path_of(line);
-            if !path.is_empty() && !path.starts_with(b"#") {
-                ignored.paths.push(Bytes::from_slice(alloc, path)?)?;
-            }
-        }
-        Ok(ignored)
-    }
-
-    /// Returns whether the directory at this path is one of them.
-    pub fn has(&self, directory: &[u8]) -> bool {
-        self.paths.iter().any(|path| path.as_slice() == directory)
-    }
+    Ok(ignored)
 }

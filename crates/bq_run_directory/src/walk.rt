@@ -1,8 +1,8 @@
 //! A walk through a directory: the directories that are still to be read, and the files so far.
 
-use crate::content::{has_content, is_git, is_output_name};
+use crate::content::has_content;
 use crate::directory_err::DirectoryErr;
-use crate::ignored::{IGNORE_FILE, Ignored};
+use crate::ignored::{IGNORE_FILE, ignored_directories};
 use bq_base::Bytes;
 use bq_label::{File, MAX_FILES, is_path};
 use std::alloc::Global;
@@ -42,26 +42,31 @@ pub struct DirectoryWalk {
     alloc: Global,
     /// How many bytes come before the path of a file in the workspace: those of the root, with a slash.
     root_len: usize,
-    ignored: Ignored,
+    /// The directories that `.bazelignore` at the root names.
+    ignored: Vec<Bytes>,
     /// The directories that are still to be read. The last one is read next.
     pending: Vec<Pending>,
     /// The directories around the one that is read now, the root first, and then that one itself.
     around: Vec<Identity>,
-    files: Vec<File>,
+    /// The files so far.
+    pub files: Vec<File>,
 }
 
 /// Reads which directories `.bazelignore` at the root names.
-fn read_ignored<R: Files + Alloc<A = Global>>(rt: &R, root: &str) -> Result<Ignored, DirectoryErr> {
+fn read_ignored<R: Files + Alloc<A = Global>>(
+    rt: &R,
+    root: &str,
+) -> Result<Vec<Bytes>, DirectoryErr> {
     let alloc = rt.alloc();
     let slash = if root.ends_with('/') { "" } else { "/" };
     let path = format!(in alloc; "{root}{slash}{IGNORE_FILE}")?;
     match fs::metadata(rt, path.as_str()) {
         Ok(metadata) if metadata.is_file() => {
             let text = fs::read(rt, path.as_str())?;
-            Ok(Ignored::of(alloc, text.as_slice())?)
+            Ok(ignored_directories(alloc, text.as_slice())?)
         }
-        Ok(_) => Ok(Ignored::none(alloc)),
-        Err(error) if error.kind() == io::ErrorKind::NotFound => Ok(Ignored::none(alloc)),
+        Ok(_) => Ok(Vec::new(alloc)),
+        Err(error) if error.kind() == io::ErrorKind::NotFound => Ok(Vec::new(alloc)),
         Err(error) => Err(error.into()),
     }
 }
@@ -84,7 +89,11 @@ fn look_at<R: Files>(
 
 /// Returns whether an entry is one of the links at the root by which Bazel shows its output tree.
 fn is_output_link<R: Files>(rt: &R, path: Path<'_>, inner: &[u8]) -> Result<bool, DirectoryErr> {
-    Ok(is_output_name(inner) && fs::symlink_metadata(rt, path)?.is_symlink())
+    Ok(
+        inner.starts_with(b"bazel-")
+            && !inner.contains(&b'/')
+            && fs::symlink_metadata(rt, path)?.is_symlink(),
+    )
 }
 
 impl DirectoryWalk {
@@ -127,7 +136,8 @@ impl DirectoryWalk {
         Ok(Some(next.path))
     }
 
-    /// Looks at an entry of the directory that is read now: a file is kept, and a directory will be read.
+    /// Looks at an entry of the directory that is read now: a file is kept, and a directory will be read, unless it is ignored or is
+    /// inside itself by a link.
     pub fn visit<R: Files + Alloc<A = Global>>(
         &mut self,
         rt: &R,
@@ -135,27 +145,25 @@ impl DirectoryWalk {
     ) -> Result<(), DirectoryErr> {
         let path = entry.path();
         let inner = path.as_str().as_bytes().get(self.root_len..).unwrap_or(b"");
-        if !is_path(inner) || is_git(inner) || is_output_link(rt, path, inner)? {
+        // Git keeps its own files in a folder of this name, or names it in such a file.
+        let is_git = inner == b".git".as_slice() || inner.ends_with(b"/.git");
+        if !is_path(inner) || is_git || is_output_link(rt, path, inner)? {
             return Ok(());
         }
         let Some(metadata) = look_at(rt, path, inner)? else {
             return Ok(());
         };
         if metadata.is_dir() {
-            self.enter(path.as_str(), inner, Identity::of(&metadata))?;
+            let identity = Identity::of(&metadata);
+            let is_ignored = self.ignored.iter().any(|path| path.as_slice() == inner);
+            if !is_ignored && !self.around.contains(&identity) {
+                self.push(path.as_str(), identity)?;
+            }
         }
         if metadata.is_file() {
             self.keep(rt, path, inner)?;
         }
         Ok(())
-    }
-
-    /// Has a directory read later, unless it is ignored or is inside itself by a link.
-    fn enter(&mut self, path: &str, inner: &[u8], identity: Identity) -> Result<(), DirectoryErr> {
-        if self.ignored.has(inner) || self.around.contains(&identity) {
-            return Ok(());
-        }
-        self.push(path, identity)
     }
 
     /// Keeps a file, with its bytes if a run reads them.
@@ -178,10 +186,5 @@ impl DirectoryWalk {
         let path = Bytes::from_slice(self.alloc, inner)?;
         self.files.push(File { path, content })?;
         Ok(())
-    }
-
-    /// Returns the files that were read.
-    pub fn into_files(self) -> Vec<File> {
-        self.files
     }
 }

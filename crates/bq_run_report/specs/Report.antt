@@ -2,6 +2,7 @@
 use Rattle.std.specs.Prelude.{◌≡◌, ℕ, ◌++◌, List, [], None, Some, Result, Ok, Err}
 use Rattle.std.specs.List.{flat_map}
 use Rattle.std.specs.List.Sorted.{IsStrictlyIncreasing}
+use Rattle.bq_load.specs.declared.loaded.Loaded.{Loaded}
 use Rattle.bq_load_fault_line.specs.declared.fault_line.FaultLine.{FaultLine}
 use Rattle.bq_load_fault_line.specs.FaultLine.{put_lines}
 use Rattle.bq_load_fault_line.specs.LineText.{line_text}
@@ -19,7 +20,6 @@ use Rattle.bq_query.specs.Answer.{AreThose}
 use Rattle.bq_query.specs.Printed.{printed}
 use Rattle.bq_query.specs.declared.print.OutputForm.{OutputForm}
 use Rattle.bq_run_report.specs.Ending.{status_by}
-use Rattle.bq_run_report.specs.declared.contents.Contents.{Contents}
 use Rattle.bq_run_report.specs.declared.ending.NoAnswer.{NoAnswer}
 use Rattle.bq_run_report.specs.declared.ending.NoAnswer.TheVariants.{Query}
 use Rattle.bq_run_report.specs.declared.ending.Status.{Status}
@@ -36,8 +36,8 @@ pub record Inside : Type 0 where
   -- its packages in order
   pub packages : List PackageTargets
 
-abbrev pub inside : Contents → Inside
-inside c = record { prints = c.prints; faults = c.faults; packages = c.packages.items }
+abbrev pub inside : Loaded → Inside
+inside l = record { prints = l.prints; faults = l.faults; packages = l.packages.items }
 
 -- the lines of all its faults: a label that names no target is one more
 abbrev pub all_faults : Inside → List FaultLine

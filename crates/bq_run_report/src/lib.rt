@@ -7,19 +7,16 @@
 //! In reading order:
 //!
 //! - `ending`: how a run over a workspace ends;
-//! - `contents`: what is in a loaded workspace;
 //! - `reply`: the answer to the query, over the graph of the targets;
 //! - `whole`: the whole report;
 //! - `laws`: there is one.
 #![tactic(auto)]
 
-mod contents;
 mod ending;
 mod laws;
 mod reply;
 mod whole;
 
-pub use contents::Contents;
 pub use ending::{NoAnswer, Status, refusal_of};
 pub use laws::one_report;
 pub use reply::Question;

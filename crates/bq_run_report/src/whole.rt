@@ -7,10 +7,10 @@ ghost use Rattle.bq_query_target_graph.specs.Order.{PackagesAscend};
 ghost use Rattle.bq_run_report.specs.Ending.{status_by};
 ghost use Rattle.bq_run_report.specs.Report.{Reports, inside, report_view};
 
-use crate::contents::Contents;
 use crate::ending::{NoAnswer, Status};
 use crate::reply::{Question, reply_over};
 use bq_base_rope::Rope;
+use bq_load::Loaded;
 use bq_load_fault_line::FaultLines;
 use bq_query_target_graph::add_dangling;
 use std::alloc::{AllocError, Global};
@@ -43,21 +43,23 @@ fn fault_text(alloc: Global, mut prints: Rope, lines: FaultLines) -> Result<Rope
     Ok(prints)
 }
 
-/// Makes the report on what is in a workspace. A label that names no target is one more fault, F79. Only out of memory
-/// is an error; Q5 and Q6 are in the ending.
+/// Makes the report on a loaded workspace. A label that names no target is one more fault, F79. Only out of memory is an
+/// error; Q5 and Q6 are in the ending.
 pub fn report_on(
     alloc: Global,
-    contents: Contents,
+    loaded: Loaded,
     question: Question<'_>,
 ) -> Result<Report, AllocError>
-    requires { PackagesAscend contents.packages.items }
-    ensures { IfOk result (λ r. Reports (inside contents) question.entry.query.now question.entry.form (report_view r)) }
+    requires { PackagesAscend loaded.packages.items }
+    ensures { IfOk result (λ r. Reports (inside loaded) question.entry.query.now question.entry.form (report_view r)) }
 {
-    let Contents {
-        prints,
-        mut faults,
+    let Loaded {
+        modules,
         packages,
-    } = contents;
+        mut faults,
+        prints,
+    } = loaded;
+    drop(modules); // so that the graph gets the memory of their values
     add_dangling(alloc, &packages, &mut faults)?;
     let status = status_by(&faults);
     let text = fault_text(alloc, prints, faults)?;

@@ -1,19 +1,12 @@
 //! How blanks, line ends and words are spelled.
 
-ghost use Rattle.std.specs.Prelude.{◌≡◌, ◌≤◌, ◌-◌, ◌==◌, length, map, false, slice_get};
-ghost use Rattle.std.specs.List.{prefix_len, list_any};
+ghost use Rattle.std.specs.Prelude.{◌≡◌, ◌≤◌, length, map};
+ghost use Rattle.std.specs.List.{prefix_len};
 ghost use Rattle.std.specs.Map.{lookup};
-ghost use Rattle.std.specs.Option.{option_copied};
 ghost use Rattle.std.specs.Str.{bytes_eq};
-ghost use Rattle.bq_source.specs.Lexis.{is_blank, is_letter, is_word, has, newlines, newline_len, comment_len, keyword, is_reserved, first_bytes, has_head, word_kind};
+ghost use Rattle.bq_source.specs.Lexis.{is_letter, is_word, has, newlines, newline_len, comment_len, has_head, word_kind};
 
 use crate::token::TokenKind;
-
-pub fn is_blank(b: u8) -> bool
-    ensures { result ≡ is_blank b }
-{
-    b == b' ' || b == b'\t'
-}
 
 /// Returns whether a word may begin with the byte.
 pub fn is_letter(b: u8) -> bool
@@ -43,7 +36,7 @@ fn has(class: RunClass, b: u8) -> bool
 {
     match class {
         RunClass::Space => b == b' ',
-        RunClass::Blank => is_blank(b),
+        RunClass::Blank => b == b' ' || b == b'\t',
         RunClass::Word => is_word(b),
     }
 }
@@ -92,7 +85,8 @@ pub fn comment_len(text: &[u8]) -> usize
     n
 }
 
-const KEYWORDS: [(&[u8], TokenKind); 15] = [
+/// The keywords, and after them the reserved words.
+const WORDS: [(&[u8], TokenKind); 31] = [
     (b"and", TokenKind::And),
     (b"break", TokenKind::Break),
     (b"continue", TokenKind::Continue),
@@ -108,25 +102,22 @@ const KEYWORDS: [(&[u8], TokenKind); 15] = [
     (b"or", TokenKind::Or),
     (b"pass", TokenKind::Pass),
     (b"return", TokenKind::Return),
-];
-
-const RESERVED_WORDS: [&[u8]; 16] = [
-    b"as",
-    b"assert",
-    b"class",
-    b"del",
-    b"except",
-    b"finally",
-    b"from",
-    b"global",
-    b"import",
-    b"is",
-    b"nonlocal",
-    b"raise",
-    b"try",
-    b"while",
-    b"with",
-    b"yield",
+    (b"as", TokenKind::Reserved),
+    (b"assert", TokenKind::Reserved),
+    (b"class", TokenKind::Reserved),
+    (b"del", TokenKind::Reserved),
+    (b"except", TokenKind::Reserved),
+    (b"finally", TokenKind::Reserved),
+    (b"from", TokenKind::Reserved),
+    (b"global", TokenKind::Reserved),
+    (b"import", TokenKind::Reserved),
+    (b"is", TokenKind::Reserved),
+    (b"nonlocal", TokenKind::Reserved),
+    (b"raise", TokenKind::Reserved),
+    (b"try", TokenKind::Reserved),
+    (b"while", TokenKind::Reserved),
+    (b"with", TokenKind::Reserved),
+    (b"yield", TokenKind::Reserved),
 ];
 
 /// The first bytes of the keywords and reserved words of each length, from 0 on.
@@ -146,43 +137,6 @@ fn find(mut table: &[(&[u8], TokenKind)], word: &[u8]) -> Option<TokenKind>
     None
 }
 
-fn is_among(mut table: &[&[u8]], word: &[u8]) -> bool
-    ensures { result ≡ list_any (bytes_eq word.now) (map (λ k. k.now) table.entry.now) }
-{
-    while let [entry, rest @ ..] = table {
-        if word == *entry {
-            return true;
-        }
-        table = rest;
-    }
-    false
-}
-
-fn keyword(word: &[u8]) -> Option<TokenKind>
-    ensures { result ≡ keyword word.now }
-{
-    find(&KEYWORDS, word)
-}
-
-fn is_reserved(word: &[u8]) -> bool
-    ensures { result ≡ is_reserved word.now }
-{
-    is_among(&RESERVED_WORDS, word)
-}
-
-/// Returns the first bytes of the keywords and reserved words of this length.
-fn first_bytes(len: usize) -> Option<&'static [u8]>
-    ensures { option_copied result ≡ slice_get first_bytes len }
-{
-    FIRST_BYTES.get(len).copied()
-}
-
-fn contains(bytes: &[u8], b: u8) -> bool
-    ensures { result ≡ list_any (λ x. x == b) bytes.now }
-{
-    bytes.iter().any(|x| *x == b)
-}
-
 /// Returns whether some keyword or reserved word has this first byte and length. Most identifiers have neither, and need no walk along all.
 fn has_head(word: &[u8]) -> bool
     ensures { result ≡ has_head word.now }
@@ -190,28 +144,22 @@ fn has_head(word: &[u8]) -> bool
     let [first, ..] = word else {
         return false;
     };
-    match first_bytes(word.len()) {
-        Some(bytes) => contains(bytes, *first),
+    match FIRST_BYTES.get(word.len()).copied() {
+        Some(bytes) => bytes.contains(first),
         None => false,
     }
 }
 
 /// Returns the kind of a word: a keyword, a reserved word or an identifier.
-#[tactic(auto, using(crate::proofs::Heads::headless), unfolding(crate::specs::Lexis::word_kind))]
+#[tactic(auto, using(crate::proofs::Heads::headless))]
 pub fn word_kind(word: &[u8]) -> TokenKind
     ensures { result ≡ word_kind word.now }
 {
     if !has_head(word) {
         return TokenKind::Identifier;
     }
-    match keyword(word) {
+    match find(&WORDS, word) {
         Some(kind) => kind,
-        None => {
-            if is_reserved(word) {
-                TokenKind::Reserved
-            } else {
-                TokenKind::Identifier
-            }
-        }
+        None => TokenKind::Identifier,
     }
 }

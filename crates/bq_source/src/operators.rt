@@ -1,6 +1,6 @@
 //! Operators and punctuation.
 
-ghost use Rattle.std.specs.Prelude.{◌≡◌, ◌∷◌, ℕ, List, Some, IfSome, map, option_map};
+ghost use Rattle.std.specs.Prelude.{◌≡◌, ◌∷◌, map, option_map};
 ghost use Rattle.bq_source.specs.Operators as spec;
 
 use crate::token::TokenKind;
@@ -101,44 +101,34 @@ fn first_spelled(
     None
 }
 
-/// Returns the operator that this byte is, where no longer one begins with it.
-#[tactic(auto, unfolding(crate::specs::Operators::operator))]
-fn lone(first: u8) -> Option<Lexeme>
-    ensures { IfSome result (λ lexeme. (behind : List ℕ) → Some (1, lexeme) ≡ option_map spec.with_len (spec.operator (first ∷ behind))) }
-{
-    match first {
-        b',' => Some(Lexeme::Plain(TokenKind::Comma)),
-        b'(' => Some(Lexeme::Opens(TokenKind::LeftParen, TokenKind::RightParen)),
-        b')' => Some(Lexeme::Closes(TokenKind::RightParen)),
-        b'[' => Some(Lexeme::Opens(TokenKind::LeftBracket, TokenKind::RightBracket)),
-        b']' => Some(Lexeme::Closes(TokenKind::RightBracket)),
-        b':' => Some(Lexeme::Plain(TokenKind::Colon)),
-        b'{' => Some(Lexeme::Opens(TokenKind::LeftBrace, TokenKind::RightBrace)),
-        b'}' => Some(Lexeme::Closes(TokenKind::RightBrace)),
-        _ => None,
-    }
-}
-
-/// Returns the operator that `=` before these bytes begins.
-#[tactic(auto, unfolding(crate::specs::Operators::operator))]
-fn equals(behind: &[u8]) -> (usize, Lexeme)
-    ensures { Some result ≡ option_map spec.with_len (spec.operator (61 ∷ behind.now)) }
-{
-    match behind {
-        [b'=', ..] => (2, Lexeme::Plain(TokenKind::EqualEqual)),
-        _ => (1, Lexeme::Plain(TokenKind::Assign)),
-    }
-}
-
 /// Returns the operator at the front, in its longest spelling, with the number of its bytes. Most are brackets, commas and `=`: they need
 /// no walk along all.
 #[tactic(auto, unfolding(crate::specs::Operators::operator))]
 pub fn operator(first: u8, behind: &[u8]) -> Option<(usize, Lexeme)>
     ensures { result ≡ option_map spec.with_len (spec.operator (first ∷ behind.now)) }
 {
-    match lone(first) {
-        Some(lexeme) => Some((1, lexeme)),
-        None if first == b'=' => Some(equals(behind)),
-        None => first_spelled(&OPERATORS, first, behind),
+    match first {
+        b',' => Some((1, Lexeme::Plain(TokenKind::Comma))),
+        b'(' => Some((
+            1,
+            Lexeme::Opens(TokenKind::LeftParen, TokenKind::RightParen),
+        )),
+        b')' => Some((1, Lexeme::Closes(TokenKind::RightParen))),
+        b'[' => Some((
+            1,
+            Lexeme::Opens(TokenKind::LeftBracket, TokenKind::RightBracket),
+        )),
+        b']' => Some((1, Lexeme::Closes(TokenKind::RightBracket))),
+        b':' => Some((1, Lexeme::Plain(TokenKind::Colon))),
+        b'{' => Some((
+            1,
+            Lexeme::Opens(TokenKind::LeftBrace, TokenKind::RightBrace),
+        )),
+        b'}' => Some((1, Lexeme::Closes(TokenKind::RightBrace))),
+        b'=' => match behind {
+            [b'=', ..] => Some((2, Lexeme::Plain(TokenKind::EqualEqual))),
+            _ => Some((1, Lexeme::Plain(TokenKind::Assign))),
+        },
+        _ => first_spelled(&OPERATORS, first, behind),
     }
 }

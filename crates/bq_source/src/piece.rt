@@ -1,14 +1,10 @@
 //! What a text begins with: the next piece, by the rule of the lexis that it falls under.
 
-ghost use Rattle.std.specs.Prelude.{◌≡◌, ◌<◌, ◌∷◌, length};
-ghost use Rattle.std.specs.List.{prefix_len};
-ghost use Rattle.bq_source.specs.Lexis.{has, is_letter};
+ghost use Rattle.std.specs.Prelude.{◌≡◌, ◌<◌, ◌∷◌};
 ghost use Rattle.bq_source.specs.Number.{number_len};
 ghost use Rattle.bq_source.specs.Piece as spec;
 
-use crate::lexis::{
-    RunClass, comment_len, is_blank, is_letter, newline_len, newlines, run_len, word_kind,
-};
+use crate::lexis::{RunClass, comment_len, is_letter, newline_len, newlines, run_len, word_kind};
 use crate::number::{begins_number, int_value, number_len};
 use crate::operators::{Lexeme, operator};
 use crate::string_literal::{begins_string, plain_string_len, scan_string};
@@ -34,32 +30,15 @@ pub enum Piece {
     Bad(FaultKind, usize),
 }
 
-/// Bytes of one line.
-fn bytes(len: usize) -> Extent
-    ensures { result ≡ spec.bytes len }
-{
-    Extent { len, lines: 0 }
-}
-
-#[tactic(auto, unfolding(crate::specs::Piece::word))]
-fn word(text: &[u8]) -> Piece
-    requires { 0 < prefix_len (has RunClass.Word) text.now }
-    ensures piece { result ≡ spec.word text.now }
-    ensures fits { spec.Fits text.now result }
-{
-    let n = run_len(text, RunClass::Word);
-    Piece::Lexed(Lexeme::Plain(word_kind(&text[..n])), bytes(n))
-}
-
 #[tactic(auto, unfolding(crate::specs::Piece::number))]
 fn number(text: &[u8]) -> Piece
     requires { 0 < number_len text.now }
     ensures piece { result ≡ spec.number text.now }
     ensures fits { spec.Fits text.now result }
 {
-    let n = number_len(text);
-    match int_value(&text[..n]) {
-        Some(_) => Piece::Lexed(Lexeme::Plain(TokenKind::Int), bytes(n)),
+    let len = number_len(text);
+    match int_value(&text[..len]) {
+        Some(_) => Piece::Lexed(Lexeme::Plain(TokenKind::Int), Extent { len, lines: 0 }),
         None => Piece::Bad(FaultKind::BadInt, 0),
     }
 }
@@ -92,19 +71,8 @@ fn string(text: &[u8]) -> Piece
     ensures fits { spec.Fits text.now result }
 {
     match plain_string_len(text) {
-        Some(len) => Piece::Lexed(Lexeme::Plain(TokenKind::String), bytes(len)),
+        Some(len) => Piece::Lexed(Lexeme::Plain(TokenKind::String), Extent { len, lines: 0 }),
         None => any_string(text),
-    }
-}
-
-#[tactic(auto, unfolding(crate::specs::Piece::mark))]
-fn mark(first: u8, behind: &[u8]) -> Piece
-    ensures piece { result ≡ spec.mark (first ∷ behind.now) }
-    ensures fits { spec.Fits (first ∷ behind.now) result }
-{
-    match operator(first, behind) {
-        Some((len, lexeme)) => Piece::Lexed(lexeme, bytes(len)),
-        None => Piece::Bad(FaultKind::BadByte, 0),
     }
 }
 
@@ -125,7 +93,7 @@ fn joined(behind: &[u8]) -> Piece
 }
 
 /// Returns what the text begins with.
-#[tactic(auto, unfolding(crate::specs::Piece::next_piece))]
+#[tactic(auto, unfolding(crate::specs::Piece::next_piece, crate::specs::Piece::word, crate::specs::Piece::mark))]
 pub fn next_piece(text: &[u8]) -> Piece
     ensures piece { result ≡ spec.next_piece text.now }
     ensures fits { spec.Fits text.now result }
@@ -133,27 +101,36 @@ pub fn next_piece(text: &[u8]) -> Piece
     let [first, behind @ ..] = text else {
         return Piece::Bad(FaultKind::BadByte, 0);
     };
-    if is_blank(*first) {
-        return Piece::Gap(bytes(run_len(text, RunClass::Blank)));
+    if *first == b' ' || *first == b'\t' {
+        let len = run_len(text, RunClass::Blank);
+        return Piece::Gap(Extent { len, lines: 0 });
     }
     if begins_string(text) {
         return string(text);
     }
     if is_letter(*first) {
-        return word(text);
+        let len = run_len(text, RunClass::Word);
+        return Piece::Lexed(
+            Lexeme::Plain(word_kind(&text[..len])),
+            Extent { len, lines: 0 },
+        );
     }
     if begins_number(text) {
         return number(text);
     }
     if *first == b'#' {
-        return Piece::Gap(bytes(comment_len(text)));
+        let len = comment_len(text);
+        return Piece::Gap(Extent { len, lines: 0 });
     }
     if *first == b'\\' {
         return joined(behind);
     }
-    let n = newline_len(text);
-    if n == 0 {
-        return mark(*first, behind);
+    let len = newline_len(text);
+    if len > 0 {
+        return Piece::LineEnd(Extent { len, lines: 1 });
     }
-    Piece::LineEnd(Extent { len: n, lines: 1 })
+    match operator(*first, behind) {
+        Some((len, lexeme)) => Piece::Lexed(lexeme, Extent { len, lines: 0 }),
+        None => Piece::Bad(FaultKind::BadByte, 0),
+    }
 }

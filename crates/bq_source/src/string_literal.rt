@@ -71,12 +71,6 @@ enum BodyPart {
     Item(usize, ItemValue),
 }
 
-fn is_quote(b: u8) -> bool
-    ensures { result ≡ spec.is_quote b }
-{
-    b == b'"' || b == b'\''
-}
-
 /// Returns whether two of this byte come next.
 fn begins_pair(b: u8, text: &[u8]) -> bool
     ensures { result ≡ spec.begins_pair b text.now }
@@ -93,7 +87,7 @@ fn opening_quotes(raw: bool, text: &[u8]) -> Option<Quoting>
     ensures within { IfSome result (λ q. spec.quotes_len q ≤ length text.now) }
 {
     match text {
-        [quote, after @ ..] if is_quote(*quote) => Some(Quoting {
+        [quote, after @ ..] if *quote == b'"' || *quote == b'\'' => Some(Quoting {
             raw,
             quote: *quote,
             triple: begins_pair(*quote, after),

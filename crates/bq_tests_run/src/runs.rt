@@ -116,7 +116,7 @@ pub enum Table {
     Queries,
     FailingWriters,
     FailingReader,
-    FailingFaults,
+    FailingAtEach,
     Plain,
     Examples,
     Generated,
@@ -137,7 +137,7 @@ fn answer<R: Threads + Wait + RandomSource + Sync>(
         Table::Queries => queried(rt, alloc, row),
         Table::FailingWriters => with_failing_writers(rt, alloc, row),
         Table::FailingReader => with_failing_reader(rt, alloc, row),
-        Table::FailingFaults => with_failing_faults(rt, alloc),
+        Table::FailingAtEach => failing_at_each(rt, alloc, row),
         Table::Plain => over_plain_devices(rt, alloc, row),
         Table::Examples => example(rt, alloc, row),
         Table::Generated => generated(rt, alloc, row),
@@ -193,8 +193,6 @@ fn writes_what_is_asked(rt: HostRuntime) -> Result<(), AllocError> {
 /// Two packages, of which one is faulty.
 const BUNDLE: &[u8] =
     b"=== a/BUILD\nfilegroup(name = \"x\", srcs = [\"s.txt\"])\n=== b/BUILD\nnone()\n";
-
-const FAULTS: &[u8] = b"//b:BUILD:1: F20 UnknownName none\n";
 
 /// What a run over that bundle writes of `//a:x`.
 fn faulty<R: Threads + Wait + RandomSource + Sync>(
@@ -270,50 +268,147 @@ fn fails_with_its_reader(rt: HostRuntime) -> Result<(), AllocError> {
     check_runs(&rt, rt.alloc(), Table::FailingReader, FAILING_READER)
 }
 
-fn fails_at<R: Threads + Wait + RandomSource + Sync>(
-    rt: &R,
-    alloc: Global,
-    faults_writer: u64,
-) -> Result<Vec<u8>, AllocError> {
-    let quietly = faults_writer % 2 == 0;
-    faulty(
-        rt,
-        alloc,
-        Failing {
-            faults_writer,
+/// The two texts of a run.
+#[derive(Clone, Copy)]
+struct Texts<'a> {
+    faults: &'a [u8],
+    answer: &'a [u8],
+}
+
+/// The texts in what is shown of a run. Neither has a `>`.
+fn texts_in(whole: &[u8]) -> Texts<'_> {
+    let mut parts = whole.split(|byte| *byte == b'>');
+    let faults = parts.next().unwrap_or(&[]);
+    let answer = parts.next().unwrap_or(&[]);
+    Texts { faults, answer }
+}
+
+/// The first bytes of a text.
+fn beginning(text: &[u8], len: usize) -> &[u8] {
+    match text.split_at_checked(len) {
+        Some((begun, _)) => begun,
+        None => text,
+    }
+}
+
+/// A writer of a run.
+#[derive(Clone, Copy)]
+enum Writer {
+    Faults,
+    Answer,
+}
+
+/// The writer that a cell names.
+fn writer_named(word: &[u8]) -> Writer {
+    if word == b"answer".as_slice() {
+        Writer::Answer
+    } else {
+        Writer::Faults
+    }
+}
+
+impl Writer {
+    /// Fails at this call of this writer.
+    fn failing(self, call: u64, quietly: bool) -> Failing {
+        let failing = Failing {
             quietly,
             ..UNFAILING
-        },
-    )
-}
-
-fn is_beginning(found: &[u8], len: usize) -> bool {
-    match (found.split_at_checked(len), FAULTS.split_at_checked(len)) {
-        (Some((held, rest)), Some((begun, _))) => {
-            held == begun && rest == b">>bq: E3 Write\n>5 1".as_slice()
+        };
+        match self {
+            Writer::Faults => Failing {
+                faults_writer: call,
+                ..failing
+            },
+            Writer::Answer => Failing {
+                writer: call,
+                ..failing
+            },
         }
-        _ => false,
+    }
+
+    /// How many bytes of these texts this writer gets, one a call.
+    fn calls(self, texts: Texts<'_>) -> usize {
+        match self {
+            Writer::Faults => texts.faults.len(),
+            Writer::Answer => texts.answer.len(),
+        }
+    }
+
+    /// What a run shows where this writer fails after so many bytes: it holds these, and the writer of the answer has
+    /// got nothing before the faults are whole.
+    fn shown_after(
+        self,
+        alloc: Global,
+        texts: Texts<'_>,
+        len: usize,
+    ) -> Result<Vec<u8>, AllocError> {
+        let (faults, answer) = match self {
+            Writer::Faults => (beginning(texts.faults, len), b"".as_slice()),
+            Writer::Answer => (texts.faults, beginning(texts.answer, len)),
+        };
+        joined(alloc, &[faults, answer, b"bq: E3 Write\n", b"5 1"])
     }
 }
 
-/// `each` where the writer of the faults may fail at each call, holds the faults up to there, and nothing else is written.
-fn with_failing_faults<R: Threads + Wait + RandomSource + Sync>(
+/// What a run over the bundle of a row writes of its query.
+fn written_of_row<R: Threads + Wait + RandomSource + Sync>(
     rt: &R,
     alloc: Global,
+    row: Row,
+    failing: Failing,
 ) -> Result<Vec<u8>, AllocError> {
-    for len in 0..FAULTS.len() {
-        let found = fails_at(rt, alloc, len as u64 + 1)?;
-        if !is_beginning(&found, len) {
-            return Ok(found);
-        }
-    }
-    b"each".to_vec(alloc)
+    let bundle = row.bytes(alloc, 0)?;
+    let query = row.bytes(alloc, 1)?;
+    let asked = options(alloc, &query, OutputForm::Label, 1, 1_000_000)?;
+    written(rt, alloc, &bundle, &asked, failing)
 }
 
-/// A failed write of the faults ends the run, and the writer holds nothing.
+/// The first call, from 0, at which a run whose writer fails there, with an error or by taking nothing, writes anything
+/// but a beginning of its texts.
+fn first_wrong<R: Threads + Wait + RandomSource + Sync>(
+    rt: &R,
+    alloc: Global,
+    row: Row,
+    writer: Writer,
+    texts: Texts<'_>,
+) -> Result<Option<usize>, AllocError> {
+    for len in 0..writer.calls(texts) {
+        let wanted = writer.shown_after(alloc, texts, len)?;
+        for quietly in [false, true] {
+            let failing = writer.failing(len as u64 + 1, quietly);
+            if written_of_row(rt, alloc, row, failing)? != wanted {
+                return Ok(Some(len));
+            }
+        }
+    }
+    Ok(None)
+}
+
+/// `each of N` where the writer may fail at each of N calls, and there is no call after them.
+fn failing_at_each<R: Threads + Wait + RandomSource + Sync>(
+    rt: &R,
+    alloc: Global,
+    row: Row,
+) -> Result<Vec<u8>, AllocError> {
+    let whole = written_of_row(rt, alloc, row, UNFAILING)?;
+    let texts = texts_in(&whole);
+    let writer = writer_named(row.word(2));
+    let calls = writer.calls(texts);
+    if let Some(call) = first_wrong(rt, alloc, row, writer, texts)? {
+        return Ok(format!(in alloc; "wrong at {call}")?.into_bytes());
+    }
+    let after = writer.failing(calls as u64 + 1, false);
+    if written_of_row(rt, alloc, row, after)? != whole {
+        return b"a call too many".to_vec(alloc);
+    }
+    Ok(format!(in alloc; "each of {calls}")?.into_bytes())
+}
+
+/// Where a writer fails, at whatever call, each writer holds a beginning of its text, and the writer of the answer
+/// nothing before the faults are whole.
 #[test]
-fn fails_with_its_faults_writer(rt: HostRuntime) -> Result<(), AllocError> {
-    check_runs(&rt, rt.alloc(), Table::FailingFaults, "all calls | each")
+fn fails_at_each_write(rt: HostRuntime) -> Result<(), AllocError> {
+    check_runs(&rt, rt.alloc(), Table::FailingAtEach, FAILING_AT_EACH)
 }
 
 /// Over std's own readers and writers. A body that always answers E1 is caught here.
@@ -374,19 +469,21 @@ const RUNS: &str = r#"
 /// A query, the call at which the writer fails, the one at which the writer of the faults does, and what is written.
 const FAILING_WRITERS: &str = r#"
 //a:x | 1 | | | //b:BUILD:1: F20 UnknownName none\n>>bq: E3 Write\n>5 1
-//a:x | 2 | | | //b:BUILD:1: F20 UnknownName none\n>/>bq: E3 Write\n>5 1
-//a:x | 3 | | | //b:BUILD:1: F20 UnknownName none\n>//>bq: E3 Write\n>5 1
-//a:x | 4 | | | //b:BUILD:1: F20 UnknownName none\n>//a>bq: E3 Write\n>5 1
-//a:x | 5 | | | //b:BUILD:1: F20 UnknownName none\n>//a:>bq: E3 Write\n>5 1
 //a:x | 6 | | | //b:BUILD:1: F20 UnknownName none\n>//a:x>bq: E3 Write\n>5 1
-//a:x | 1 | | quietly | //b:BUILD:1: F20 UnknownName none\n>>bq: E3 Write\n>5 1
-//a:x | 2 | | quietly | //b:BUILD:1: F20 UnknownName none\n>/>bq: E3 Write\n>5 1
 //a:x | 3 | | quietly | //b:BUILD:1: F20 UnknownName none\n>//>bq: E3 Write\n>5 1
-//a:x | 4 | | quietly | //b:BUILD:1: F20 UnknownName none\n>//a>bq: E3 Write\n>5 1
-//a:x | 5 | | quietly | //b:BUILD:1: F20 UnknownName none\n>//a:>bq: E3 Write\n>5 1
-//a:x | 6 | | quietly | //b:BUILD:1: F20 UnknownName none\n>//a:x>bq: E3 Write\n>5 1
 //a:none | 1 | | | //b:BUILD:1: F20 UnknownName none\n>>bq: Q5 NoSuchTarget //a:none\n>2 0
 //a:none | | 3 | | //>>bq: E3 Write\n>5 1
+"#;
+
+/// A bundle, a query, the writer that fails, and at how many calls it may. With a query that names no target the faults
+/// are written too; a long text is written in parts.
+const FAILING_AT_EACH: &str = r#"
+=== a/BUILD\nfilegroup(name = "x")\n=== b/BUILD\nnone()\n | //a:x | answer | each of 6
+=== a/BUILD\nfilegroup(name = "x")\n=== b/BUILD\nnone()\n | //a:x | faults | each of 34
+=== a/BUILD\nfilegroup(name = "x")\n=== b/BUILD\nnone()\n | //a:none | answer | each of 0
+=== a/BUILD\nfilegroup(name = "x")\n=== b/BUILD\nnone()\n | //a:none | faults | each of 34
+=== a/BUILD\nfilegroup(name = "x", srcs = ["s"])\nfilegroup(name = "y", srcs = [":x"])\n | deps(//a:y) | answer | each of 18
+=== b/BUILD\nprint("p" * 1024)\nfail("f")\n | //... | faults | each of 1062
 "#;
 
 /// The bundle has 71 bytes.

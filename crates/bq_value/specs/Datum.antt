@@ -1,8 +1,33 @@
 -- What a value is (Starlark, "Data types"), as plain data: nothing of how it is shared or laid out.
-use Rattle.std.specs.Prelude.{◌≡◌, ℕ, ◌+◌, ℤ, Bool, List, [], ◌∷◌, refl}
+use Rattle.std.specs.Prelude.{◌≡◌, ℕ, ◌+◌, ℤ, Bool, List, [], ◌∷◌, Option, Some, None, refl}
 use Rattle.std.proofs.Common.{ap}
+use Rattle.bq_resolve_predeclared.specs.Predeclared.{name_of}
+use Rattle.bq_resolve_predeclared.specs.declared.host_function.HostFunction.TheVariants as host
+use Rattle.bq_resolve_predeclared.specs.declared.predeclared.Predeclared.{Predeclared}
+use Rattle.bq_resolve_predeclared.specs.declared.predeclared.Predeclared.TheVariants as p
 use Rattle.bq_resolve_predeclared.specs.declared.rule_function.RuleFunction.{RuleFunction}
 use Rattle.bq_package_rule_class.specs.declared.attribute.Attribute.{Attribute}
+
+-- a built-in function: one of the language or a build function, which have names of their own, or a rule of the schema, by its place
+-- there and its name
+pub data BuiltIn : Type 0 where
+  predeclared : Predeclared → BuiltIn
+  schema_rule : ℕ → List ℕ → BuiltIn
+
+-- what is called
+abbrev pub function_of : BuiltIn → Predeclared
+function_of (predeclared x) = x
+function_of (schema_rule place name) = p.Host (host.Rule place)
+
+-- what has no name, which no program has, prints none
+abbrev pub text_of_name : Option (List ℕ) → List ℕ
+text_of_name None = []
+text_of_name (Some name) = name
+
+-- the name that it prints
+abbrev pub built_in_name : BuiltIn → List ℕ
+built_in_name (predeclared x) = text_of_name (name_of x)
+built_in_name (schema_rule place name) = name
 
 mutual
   -- a value; a list, a dict or a rule is a cell, whose number is beside that of its module
@@ -15,7 +40,7 @@ mutual
     range : ℤ → ℤ → ℤ → Datum
     cell : ℕ → ℕ → Datum
     function : ℕ → ℕ → List ℕ → Data → Datum
-    built_in : List ℕ → Datum
+    built_in : BuiltIn → Datum
     rule_function : RuleFunction → Datum
     attribute : Attribute → Datum
 
@@ -47,7 +72,7 @@ abbrev mutual
   weight (range a b c) = 1
   weight (cell m n) = 1
   weight (function m n name xs) = weights xs + 1
-  weight (built_in name) = 1
+  weight (built_in f) = 1
   weight (rule_function f) = 1
   weight (attribute a) = 1
 

@@ -5,13 +5,18 @@ use Rattle.std.specs.Ordering.{int_eq}
 use Rattle.std.specs.Cmp.Lexicographic.{pointwise}
 use Rattle.std.specs.Hash as fed
 use Rattle.bq_package_rule_class.specs.Same.{same_attribute}
-use Rattle.bq_value.specs.Codes.{number_of}
-use Rattle.bq_value.specs.Datum.{Datum, none, boolean, int, string, tuple, range, cell, function, built_in, rule_function, attribute, Data, end, datum}
+use Rattle.bq_value.specs.Codes.{number_of, predeclared_number, place_of}
+use Rattle.bq_value.specs.Datum.{BuiltIn, predeclared, schema_rule, Datum, none, boolean, int, string, tuple, range, cell, function, built_in, rule_function, attribute, Data, end, datum}
 
 abbrev pub bool_same : Bool → Bool → Bool
 bool_same true b = b
 bool_same false true = false
 bool_same false false = true
+
+abbrev pub same_built_in : BuiltIn → BuiltIn → Bool
+same_built_in (predeclared x) (predeclared y) = (predeclared_number x == predeclared_number y) && (place_of x == place_of y)
+same_built_in (schema_rule m s) (schema_rule n t) = (m == n) && pointwise ◌==◌ s t
+same_built_in _ _ = false
 
 abbrev mutual
   pub same : Datum → Datum → Bool
@@ -23,7 +28,7 @@ abbrev mutual
   same (range a b c) (range d e f) = int_eq a d && int_eq b e && int_eq c f
   same (cell a i) (cell b j) = (a == b) && (i == j)
   same (function a i s vs) (function b j t ws) = (a == b) && (i == j) && pointwise ◌==◌ s t && same_all vs ws
-  same (built_in a) (built_in b) = pointwise ◌==◌ a b
+  same (built_in a) (built_in b) = same_built_in a b
   same (rule_function f) (rule_function g) = number_of f == number_of g
   same (attribute a) (attribute b) = same_attribute a b
   same _ _ = false

@@ -8,9 +8,9 @@ use lib.Pointwise.{bytes_decides}
 use Rattle.bq_package_rule_class.proofs.Equal.{same_attribute_true, same_attribute_refl}
 use Rattle.bq_package_rule_class.specs.Same.{same_attribute}
 use Rattle.bq_package_rule_class.specs.declared.attribute.Attribute.{Attribute}
-use Rattle.bq_value.specs.Codes.{number_of, numbers_differ}
-use Rattle.bq_value.specs.Datum.{Datum, none, boolean, int, string, tuple, range, cell, function, built_in, rule_function, attribute, Data, end, datum}
-use Rattle.bq_value.specs.Same.{bool_same, same, same_all, feed}
+use Rattle.bq_value.specs.Codes.{number_of, numbers_differ, predeclared_number, place_of, predeclared_differ}
+use Rattle.bq_value.specs.Datum.{BuiltIn, predeclared, schema_rule, Datum, none, boolean, int, string, tuple, range, cell, function, built_in, rule_function, attribute, Data, end, datum}
+use Rattle.bq_value.specs.Same.{bool_same, same_built_in, same, same_all, feed}
 
 both : (a b : Bool) → (a && b) ≡ true → (a ≡ true) × (b ≡ true)
 both true b h = (refl, h)
@@ -46,6 +46,20 @@ text_refl a = (bytes_decides a a).1 refl
 all_true : {a b : Bool} → a ≡ true → b ≡ true → (a && b) ≡ true
 all_true {a} {b} h k = ap (λ c. c && b) h ∙ k
 
+built_in_true : (a b : BuiltIn) → same_built_in a b ≡ true → a ≡ b
+built_in_true (predeclared x) (predeclared y) h =
+    let p = both _ _ h in
+    ap predeclared (predeclared_differ x y (nat_true (predeclared_number x) (predeclared_number y) p.0) (nat_true (place_of x) (place_of y) p.1))
+built_in_true (schema_rule m s) (schema_rule n t) h = let p = both _ _ h in λ k. schema_rule (nat_true m n p.0 k) (text_true s t p.1 k)
+built_in_true _ _ h = cc
+
+built_in_refl : (a : BuiltIn) → same_built_in a a ≡ true
+built_in_refl (predeclared x) = all_true (nat_refl (predeclared_number x)) (nat_refl (place_of x))
+built_in_refl (schema_rule m s) = all_true (nat_refl m) (text_refl s)
+
+pub built_ins_decide : (a b : BuiltIn) → Decides (same_built_in a b) (a ≡ b)
+built_ins_decide a b = (built_in_true a b, λ e. ap (same_built_in a) (sym e) ∙ built_in_refl a)
+
 mutual
   pub same-true : (x y : Datum) → same x y ≡ true → x ≡ y
   same-true none none h = refl
@@ -63,7 +77,7 @@ mutual
       let q = both _ _ p.0 in
       let r = both _ _ q.0 in
       λ k. function (nat_true a b r.0 k) (nat_true i j r.1 k) (text_true s t q.1 k) (same_all-true vs ws p.1 k)
-  same-true (built_in a) (built_in b) h = ap built_in (text_true a b h)
+  same-true (built_in a) (built_in b) h = ap built_in (built_in_true a b h)
   same-true (rule_function f) (rule_function g) h = ap rule_function (numbers_differ f g (nat_true (number_of f) (number_of g) h))
   same-true (attribute a) (attribute b) h = ap attribute (same_attribute_true a b h)
   same-true _ _ h = cc
@@ -83,7 +97,7 @@ mutual
   same-refl (range a b c) = all_true (all_true (int_refl a) (int_refl b)) (int_refl c)
   same-refl (cell a i) = all_true (nat_refl a) (nat_refl i)
   same-refl (function a i s vs) = all_true (all_true (all_true (nat_refl a) (nat_refl i)) (text_refl s)) (same_all-refl vs)
-  same-refl (built_in a) = text_refl a
+  same-refl (built_in a) = built_in_refl a
   same-refl (rule_function f) = nat_refl (number_of f)
   same-refl (attribute a) = same_attribute_refl a
 

@@ -6,12 +6,13 @@ ghost use Rattle.bq_value.specs.Cells.{frozen_at, globals_at, frozen};
 use crate::content::Content;
 use crate::kinds::kinds_of;
 use crate::modules::Modules;
-use crate::shared::Shared;
+use crate::shared::{Cells, Shared};
 use crate::store::Store;
 use crate::value::{Cell, Value};
 use bq_base::Bytes;
 use std::alloc::{AllocError, Global};
 use std::marker::Model;
+use std::sync::Arc;
 
 /// A module whose evaluation has ended, with those that it reaches. Nothing changes it. Contracts see its `FrozenView`.
 #[derive(Drop)]
@@ -56,7 +57,7 @@ impl Frozen {
         if home == self.own {
             return Some(self.cells.globals());
         }
-        self.reached.globals(home)
+        Some(self.reached.get(home)?.globals())
     }
 
     /// Returns what `cell` holds.
@@ -67,7 +68,7 @@ impl Frozen {
         if cell.module == self.own {
             return self.cells.content(cell.number);
         }
-        self.reached.content(cell)
+        self.reached.get(cell.module)?.content(cell.number)
     }
 }
 
@@ -88,10 +89,16 @@ pub fn freeze(
         ..
     } = store;
     let kinds = kinds_of(alloc, own, &cells, names, &globals)?;
-    let cells = Shared::new(alloc, cells, globals, kinds)?;
+    let cells = Cells {
+        contents: cells,
+        globals,
+        kinds,
+    };
     Ok(Frozen {
         own,
-        cells,
+        cells: Shared {
+            cells: Arc::new(alloc, cells)?,
+        },
         reached: loaded,
     })
 }

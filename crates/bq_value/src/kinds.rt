@@ -1,6 +1,6 @@
 //! The kinds of rules (Bazel, "rule"): the name of a rule is that of the first global of its own module that holds it.
 
-ghost use Rattle.std.specs.Prelude.{◌≡◌, [], option_copied, IfOk, OnOk};
+ghost use Rattle.std.specs.Prelude.{◌≡◌, option_copied, IfOk, OnOk};
 ghost use Rattle.bq_value.specs.Kinds.{kind_at, is_rule, rule_number, with_kind, kinds_of};
 
 use crate::content::{Body, Content};
@@ -27,14 +27,6 @@ impl Model for Kinds {
 }
 
 impl Kinds {
-    fn new(alloc: Global) -> Kinds
-        ensures { result ≡ [] }
-    {
-        Kinds {
-            names: IndexMap::new(alloc),
-        }
-    }
-
     /// Returns the kind of the rule in the cell of this number.
     pub(crate) fn get(&self, number: usize) -> Option<&Bytes>
         ensures { option_copied result ≡ kind_at number self.now }
@@ -100,7 +92,9 @@ pub(crate) fn kinds_of(
 ) -> Result<Kinds, AllocError>
     ensures { IfOk result (λ k. k ≡ kinds_of own cells.now names.now values.now) }
 {
-    let mut kinds = Kinds::new(alloc);
+    let mut kinds = Kinds {
+        names: IndexMap::new(alloc),
+    };
     for (i, name) in names.iter().enumerate() {
         if i >= values.len() {
             return Ok(kinds);

@@ -12,7 +12,7 @@
 //!
 //! In reading order:
 //!
-//! - `value`: the eleven kinds of values, how they are shared and dropped;
+//! - `value`: the kinds of values, how they are shared and dropped;
 //! - `range`: how many elements a range has, and when two have the same;
 //! - `same`, `key`: when two keys are one, and what a key feeds to a hasher;
 //! - `dict`: pairs with distinct keys in the order in which the keys were inserted;

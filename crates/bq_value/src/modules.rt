@@ -1,15 +1,12 @@
 //! Frozen modules by their numbers, each shared.
 
-ghost use Rattle.std.specs.Prelude.{◌≡◌, ◌<◌, ◌≤◌, ◌^◌, [], None, Some, MatchOption, IfOk, OnOk, OnErr, fold};
+ghost use Rattle.std.specs.Prelude.{◌≡◌, ◌<◌, ◌≤◌, ◌^◌, [], MatchOption, IfOk, OnOk, OnErr, fold};
 ghost use Rattle.std.specs.Option.{option_copied};
-ghost use Rattle.bq_value.specs.Cells.{module_at, cell_of, kind_in, globals_of, added};
+ghost use Rattle.bq_value.specs.Cells.{module_at, added};
 ghost use Rattle.bq_value.specs.Tries.{IsShaped, entries};
 
-use crate::content::Content;
 use crate::shared::Shared;
 use crate::tree::Tree;
-use crate::value::{Cell, Value};
-use bq_base::Bytes;
 use std::alloc::{AllocError, Global};
 use std::marker::Model;
 
@@ -48,37 +45,8 @@ impl Modules {
         }
     }
 
-    /// Returns what `cell` holds, if it is of one of these modules.
-    pub(crate) fn content(&self, cell: Cell) -> Option<&Content>
-        ensures { MatchOption result (cell_of cell.number (module_at cell.module self.now) ≡ None) (λ c. cell_of cell.number (module_at cell.module self.now) ≡ Some c.now) }
-    {
-        match self.get(cell.module) {
-            None => None,
-            Some(shared) => shared.content(cell.number),
-        }
-    }
-
-    /// Returns the kind of the rule in `cell`, if it is of one of these modules.
-    pub(crate) fn kind(&self, cell: Cell) -> Option<&Bytes>
-        ensures { option_copied result ≡ kind_in cell.number (module_at cell.module self.now) }
-    {
-        match self.get(cell.module) {
-            None => None,
-            Some(shared) => shared.kind(cell.number),
-        }
-    }
-
-    /// Returns the values of the globals of module `home`, if it is here.
-    pub(crate) fn globals(&self, home: u32) -> Option<&[Value]>
-        ensures { MatchOption result (globals_of (module_at home self.now) ≡ None) (λ g. globals_of (module_at home self.now) ≡ Some g.now) }
-    {
-        match self.get(home) {
-            None => None,
-            Some(shared) => Some(shared.globals()),
-        }
-    }
-
-    fn get(&self, home: u32) -> Option<&Shared>
+    /// Returns the module of number `home`, if it is here.
+    pub(crate) fn get(&self, home: u32) -> Option<&Shared>
         ensures { option_copied result ≡ module_at home self.now }
     {
         self.tree.get(self.height, 0, home)

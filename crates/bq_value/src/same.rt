@@ -1,14 +1,14 @@
 //! When two values are the same in each part, and what a value feeds to a hasher. Dicts find their keys by these.
 
 ghost use Rattle.std.specs.Prelude.{◌≡◌, fold};
-ghost use Rattle.bq_value.specs.Datum.{none, boolean, int, string, tuple, range, cell, function, built_in, rule_function, attribute, data_of};
-ghost use Rattle.bq_value.specs.Codes.{number_of};
+ghost use Rattle.bq_value.specs.Datum.{none, boolean, int, string, tuple, range, cell, function, predeclared, schema_rule, built_in, rule_function, attribute, data_of};
+ghost use Rattle.bq_value.specs.Codes.{number_of, host_number, predeclared_number, place_of};
 ghost use Rattle.bq_value.specs.Same.{same, same_all, feed, feed_all};
 
 use crate::range::Range;
 use crate::value::{Cell, Function, Node, Value};
 use bq_package_rule_class::Attribute;
-use bq_resolve_predeclared::RuleFunction;
+use bq_resolve_predeclared::{HostFunction, Predeclared, RuleFunction};
 use std::hash::{Hash, Hasher};
 
 impl Value {
@@ -52,12 +52,25 @@ impl Value {
         }
     }
 
-    /// Returns whether this is the built-in function of that name.
-    pub fn is_built_in(&self, name: &[u8]) -> bool
-        ensures { result ≡ same (built_in name.now) self.now }
+    /// Returns whether this is the built-in function `function`.
+    pub fn is_built_in(&self, function: Predeclared) -> bool
+        ensures { result ≡ same (built_in (predeclared function)) self.now }
     {
         match &self.node {
-            Node::BuiltIn(other) => name == other.as_slice(),
+            Node::BuiltIn(other) => {
+                predeclared_number(function) == predeclared_number(*other)
+                    && place_of(function) == place_of(*other)
+            }
+            _ => false,
+        }
+    }
+
+    /// Returns whether this is the rule of that name at that place of the schema.
+    pub fn is_schema_rule(&self, place: u32, name: &[u8]) -> bool
+        ensures { result ≡ same (built_in (schema_rule place name.now)) self.now }
+    {
+        match &self.node {
+            Node::SchemaRule(other, others) => place == *other && name == others.as_slice(),
             _ => false,
         }
     }
@@ -98,6 +111,65 @@ fn number_of(function: RuleFunction) -> u8
     }
 }
 
+/// Returns a number for each function of a host, but one for all rules.
+fn host_number(function: HostFunction) -> u8
+    ensures { result ≡ host_number function }
+{
+    match function {
+        HostFunction::Glob => 7,
+        HostFunction::PackageName => 8,
+        HostFunction::Package => 9,
+        HostFunction::Licenses => 10,
+        HostFunction::ExportsFiles => 11,
+        HostFunction::PackageGroup => 12,
+        HostFunction::Rule(_) => 13,
+    }
+}
+
+/// Returns a number for what each predeclared name stands for, but one for all rules.
+fn predeclared_number(predeclared: Predeclared) -> u8
+    ensures { result ≡ predeclared_number predeclared }
+{
+    match predeclared {
+        Predeclared::None => 14,
+        Predeclared::True => 15,
+        Predeclared::False => 16,
+        Predeclared::All => 17,
+        Predeclared::Any => 18,
+        Predeclared::Bool => 19,
+        Predeclared::Dict => 20,
+        Predeclared::Enumerate => 21,
+        Predeclared::Fail => 22,
+        Predeclared::Int => 23,
+        Predeclared::Len => 24,
+        Predeclared::List => 25,
+        Predeclared::Max => 26,
+        Predeclared::Min => 27,
+        Predeclared::Print => 28,
+        Predeclared::Range => 29,
+        Predeclared::Repr => 30,
+        Predeclared::Reversed => 31,
+        Predeclared::Select => 32,
+        Predeclared::Sorted => 33,
+        Predeclared::Str => 34,
+        Predeclared::Tuple => 35,
+        Predeclared::Type => 36,
+        Predeclared::Zip => 37,
+        Predeclared::Host(function) => host_number(function),
+        Predeclared::RuleFunction(function) => number_of(function),
+    }
+}
+
+/// Returns the place of a rule in the schema, and 0 of all else.
+fn place_of(predeclared: Predeclared) -> u32
+    ensures { result ≡ place_of predeclared }
+{
+    match predeclared {
+        Predeclared::Host(HostFunction::Rule(place)) => place,
+        _ => 0,
+    }
+}
+
 fn is_same_range(x: Range, b: &Value) -> bool
     ensures { result ≡ same (range x.start x.stop x.step) b.now }
 {
@@ -129,7 +201,8 @@ pub(crate) fn is_same(a: &Value, b: &Value) -> bool
         Node::Range(x) => is_same_range(*x, b),
         Node::Cell(x) => is_same_cell(*x, b),
         Node::Function(f) => is_same_function(f, b),
-        Node::BuiltIn(x) => b.is_built_in(x.as_slice()),
+        Node::BuiltIn(x) => b.is_built_in(*x),
+        Node::SchemaRule(place, name) => b.is_schema_rule(*place, name.as_slice()),
         Node::RuleFunction(x) => b.is_rule_function(*x),
         Node::Attribute(x) => b.is_attribute(x),
     }

@@ -7,7 +7,7 @@ use crate::content::Content;
 use crate::kinds::Kinds;
 use crate::value::Value;
 use bq_base::Bytes;
-use std::alloc::{AllocError, Global};
+use std::alloc::AllocError;
 use std::marker::Model;
 use std::sync::Arc;
 
@@ -22,7 +22,7 @@ pub struct Cells {
 /// The cells of a frozen module, which nothing changes.
 #[derive(Drop)]
 pub(crate) struct Shared {
-    cells: Arc<Cells>,
+    pub(crate) cells: Arc<Cells>,
 }
 
 impl Model for Shared {
@@ -38,26 +38,6 @@ impl Model for Shared {
 }
 
 impl Shared {
-    pub(crate) fn new(
-        alloc: Global,
-        contents: Vec<Content>,
-        globals: Vec<Value>,
-        kinds: Kinds,
-    ) -> Result<Shared, AllocError>
-        ensures { IfOk result (λ s. s ≡ record { cells = contents.items; globals = globals.items; kinds = kinds }) }
-    {
-        Ok(Shared {
-            cells: Arc::new(
-                alloc,
-                Cells {
-                    contents,
-                    globals,
-                    kinds,
-                },
-            )?,
-        })
-    }
-
     pub(crate) fn share(&self) -> Result<Shared, AllocError>
         ensures { IfOk result (λ s. s ≡ self.now) }
     {

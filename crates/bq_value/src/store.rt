@@ -94,7 +94,7 @@ impl Store {
         if cell.module == self.own {
             return self.cells.get(cell.number);
         }
-        self.loaded.content(cell)
+        self.loaded.get(cell.module)?.content(cell.number)
     }
 
     /// Returns the kind of the rule in a cell of a frozen module. A rule of the running module has none yet.
@@ -105,7 +105,7 @@ impl Store {
         if self.own == cell.module {
             return None;
         }
-        self.loaded.kind(cell)
+        self.loaded.get(cell.module)?.kind(cell.number)
     }
 
     /// Returns what a cell of the running module holds, to be changed.

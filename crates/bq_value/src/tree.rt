@@ -10,7 +10,7 @@
 ghost use Rattle.std.specs.Prelude.{◌≡◌, ◌+◌, ◌-◌, ◌*◌, ◌^◌, ◌<◌, ◌≤◌, ◌∷◌, [], None, IfOk, MatchOption};
 ghost use Rattle.std.specs.Option.{option_copied, unwrap_or};
 ghost use Rattle.bq_value.specs.Cells.{module_at};
-ghost use Rattle.bq_value.specs.Tries.{bare, leaf, IsShaped, IsFork, Joins, entries, keys};
+ghost use Rattle.bq_value.specs.Tries.{bare, IsShaped, IsFork, Joins, entries, keys};
 
 use crate::shared::Shared;
 use std::alloc::{AllocError, Global};
@@ -67,14 +67,6 @@ impl Tree {
         ensures { result ≡ bare }
     {
         Tree { node: Node::Bare }
-    }
-
-    fn leaf(shared: Shared) -> Tree
-        ensures { result ≡ leaf shared }
-    {
-        Tree {
-            node: Node::Leaf(shared),
-        }
     }
 
     /// Makes a tree of this height of two halves.
@@ -157,7 +149,9 @@ impl Tree {
         ensures module { IfOk result (λ t. entries t height base ≡ (home, shared.now) ∷ []) }
     {
         if height == 0 {
-            return Ok(Tree::leaf(shared.share()?));
+            return Ok(Tree {
+                node: Node::Leaf(shared.share()?),
+            });
         }
         let middle = middle(height, base);
         if home < middle {

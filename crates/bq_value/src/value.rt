@@ -1,12 +1,12 @@
 //! Values (Starlark, "Data types").
 
 ghost use Rattle.std.specs.Prelude.{◌≡◌, ◌+◌, ◌<◌, ◌≤◌, IfOk, IfSome};
-ghost use Rattle.bq_value.specs.Datum.{Datum, none, boolean, int, string, tuple, range, cell, function, built_in, rule_function, attribute, data_of, weight, weights};
+ghost use Rattle.bq_value.specs.Datum.{Datum, none, boolean, int, string, tuple, range, cell, function, predeclared, schema_rule, built_in, rule_function, attribute, data_of, weight, weights};
 
 use crate::range::Range;
 use bq_base::Bytes;
 use bq_package_rule_class::Attribute;
-use bq_resolve_predeclared::RuleFunction;
+use bq_resolve_predeclared::{Predeclared, RuleFunction};
 use std::alloc::{AllocError, Global};
 use std::marker::Model;
 use std::mem;
@@ -20,7 +20,7 @@ pub struct Value {
     pub node: Node,
 }
 
-/// The eleven kinds of values. A list, a dict or a rule is a cell of a store.
+/// The kinds of values. A list, a dict or a rule that a .bzl file declares is a cell of a store.
 #[cycle(value)]
 pub enum Node {
     NoneValue,
@@ -31,8 +31,10 @@ pub enum Node {
     Range(Range),
     Cell(Cell),
     Function(Arc<Function>),
-    /// A built-in function, by its name.
-    BuiltIn(Bytes),
+    /// A built-in function that has a name of its own: one of the language, or a build function.
+    BuiltIn(Predeclared),
+    /// A rule of the schema: its place there, and its name.
+    SchemaRule(u32, Bytes),
     /// A function that declares rules, or their attributes.
     RuleFunction(RuleFunction),
     /// What such a function says of an attribute.
@@ -90,6 +92,7 @@ impl Drop for Value {
             | Node::Cell(_)
             | Node::Text(_)
             | Node::BuiltIn(_)
+            | Node::SchemaRule(_, _)
             | Node::RuleFunction(_)
             | Node::Attribute(_) => {}
             Node::Tuple(shared) => {
@@ -156,6 +159,7 @@ impl Value {
             | Node::Cell(_)
             | Node::Text(_)
             | Node::BuiltIn(_)
+            | Node::SchemaRule(_, _)
             | Node::RuleFunction(_)
             | Node::Attribute(_) => None,
             Node::Tuple(shared) => Arc::into_inner(shared),
@@ -226,11 +230,21 @@ impl Value {
         }
     }
 
-    pub fn built_in(name: Bytes) -> Value
-        ensures { result ≡ built_in name }
+    /// Makes the value of a function of the language, or of a build function.
+    pub fn built_in(function: Predeclared) -> Value
+        ensures { result ≡ built_in (predeclared function) }
     {
         Value {
-            node: Node::BuiltIn(name),
+            node: Node::BuiltIn(function),
+        }
+    }
+
+    /// Makes the value of the rule at this place of the schema, which has this name.
+    pub fn schema_rule(place: u32, name: Bytes) -> Value
+        ensures { result ≡ built_in (schema_rule place name) }
+    {
+        Value {
+            node: Node::SchemaRule(place, name),
         }
     }
 
@@ -271,7 +285,8 @@ impl Value {
             Node::Range(range) => Node::Range(*range),
             Node::Cell(cell) => Node::Cell(*cell),
             Node::Function(function) => Node::Function(function.clone()?),
-            Node::BuiltIn(name) => Node::BuiltIn(name.share()?),
+            Node::BuiltIn(function) => Node::BuiltIn(*function),
+            Node::SchemaRule(place, name) => Node::SchemaRule(*place, name.share()?),
             Node::RuleFunction(function) => Node::RuleFunction(*function),
             Node::Attribute(attribute) => Node::Attribute(attribute.clone()?),
         };

@@ -8,8 +8,8 @@ use Rattle.bq_value.specs.Datum.{Datum, none, boolean, int, string, tuple, range
 use Rattle.bq_value.specs.Range.{ranges_same}
 use Rattle.bq_package_rule_class.specs.Same.{same_attribute}
 use Rattle.bq_value.specs.Codes.{number_of, numbers_differ}
-use Rattle.bq_value.specs.Same.{bool_same}
-use Rattle.bq_value.specs.SameLaws.{attributes_decide}
+use Rattle.bq_value.specs.Same.{bool_same, same_built_in}
+use Rattle.bq_value.specs.SameLaws.{attributes_decide, built_ins_decide}
 use Rattle.bq_value.specs.Contents.{Contents, items, pairs, rule}
 use Rattle.bq_value.specs.Cells.{StoreView, content_at}
 use Rattle.bq_value.specs.Pairs.{found}
@@ -198,7 +198,7 @@ module _ (same : Compares) (r : Relates) (h : (n m : ℕ) (x y : Datum) (b : Boo
   parts_tell s (range a b c) (range d e f) n t m k = tested (ranges_same a b c d e f) (ranges_from a b c d e f) (ranges_test a b c d e f) t (answer_of (ranges_same a b c d e f) t n m k)
   parts_tell s (cell a i) (cell b j) n c m e = cells_tell ((a == b) && (i == j)) ((a ≡ b) × (i ≡ j)) (two_tell a b i j) (content_at s a i) (content_at s b j) n c m e
   parts_tell s (function a i t vs) (function b j u ws) n c m e = two_tell a b i j c (answer_of ((a == b) && (i == j)) c n m e)
-  parts_tell s (built_in a) (built_in b) n c m e = tested (pointwise ◌==◌ a b) (bytes_decides a b).0 (bytes_decides a b).1 c (answer_of (pointwise ◌==◌ a b) c n m e)
+  parts_tell s (built_in a) (built_in b) n c m e = tested (same_built_in a b) (built_ins_decide a b).0 (built_ins_decide a b).1 c (answer_of (same_built_in a b) c n m e)
   parts_tell s (rule_function f) (rule_function g) n c m e =
       tested (number_of f == number_of g) (λ t. numbers_differ f g (nat_true (number_of f) (number_of g) t)) (λ h. nat_test (number_of f) (number_of g) (ap number_of h)) c (answer_of (number_of f == number_of g) c n m e)
   parts_tell s (attribute a) (attribute b) n c m e =

@@ -3,14 +3,14 @@ use Rattle.std.proofs.Common.{◌≡◌, ◌∙◌, ◌==◌, ℕ, zero, suc, �
 use Rattle.std.specs.Cmp.Lexicographic.{pointwise}
 use Rattle.std.specs.Ordering.{int_eq}
 use lib.Pointwise.{bytes_decides}
-use Rattle.bq_value.specs.Datum.{Datum, none, boolean, int, string, tuple, range, cell, function, built_in, rule_function, attribute, Data, list_of}
+use Rattle.bq_value.specs.Datum.{BuiltIn, Datum, none, boolean, int, string, tuple, range, cell, function, built_in, rule_function, attribute, Data, list_of}
 use Rattle.bq_value.specs.Range.{ranges_same}
 use Rattle.bq_resolve_predeclared.specs.declared.rule_function.RuleFunction.{RuleFunction}
 use Rattle.bq_package_rule_class.specs.Same.{same_attribute}
 use Rattle.bq_package_rule_class.specs.declared.attribute.Attribute.{Attribute}
 use Rattle.bq_value.specs.Codes.{number_of}
-use Rattle.bq_value.specs.Same.{bool_same}
-use Rattle.bq_value.specs.SameLaws.{attributes_decide}
+use Rattle.bq_value.specs.Same.{bool_same, same_built_in}
+use Rattle.bq_value.specs.SameLaws.{attributes_decide, built_ins_decide}
 use Rattle.bq_value.specs.Contents.{Contents, items, pairs, rule, KeysDiffer}
 use Rattle.bq_value.specs.Cells.{StoreView, content_at}
 use Rattle.bq_value.specs.Pairs.{found, HasNoKeyTwice}
@@ -137,7 +137,7 @@ module _ (r : Relates) (on : (x y z : Datum) → r x y → r y z → r x z) wher
   parts_on s (range a b c) (range d e f) z h k = range_on s a b c d e f z h k
   parts_on s (cell a i) (cell b j) z h k = cell_on s a i b j z h k
   parts_on s (function a i t vs) (function b j u ws) z h k = function_on s a i b j t u vs ws z h k
-  parts_on s (built_in a) (built_in b) z h k = subst (λ (c : List ℕ). PartsAlike r s (built_in c) z) (sym h) k
+  parts_on s (built_in a) (built_in b) z h k = subst (λ (c : BuiltIn). PartsAlike r s (built_in c) z) (sym h) k
   parts_on s (rule_function f) (rule_function g) z h k = subst (λ (c : RuleFunction). PartsAlike r s (rule_function c) z) (sym h) k
   parts_on s (attribute a) (attribute b) z h k = subst (λ (c : Attribute). PartsAlike r s (attribute c) z) (sym h) k
   parts_on s _ _ z h k = absurd h
@@ -202,7 +202,7 @@ module _ (same : Compares) (h : (n m : ℕ) (x : Datum) (b : Bool) → same n x 
   parts_itself s ds (range a b c) n t m e = sym (answer_of (ranges_same a b c a b c) t n m e) ∙ ranges_itself a b c
   parts_itself s ds (cell a i) n b m e = cells_itself ((a == a) && (i == i)) (one_itself a i) (content_at s a i) (ds a i) n b m e
   parts_itself s ds (function a i t vs) n b m e = sym (answer_of ((a == a) && (i == i)) b n m e) ∙ one_itself a i
-  parts_itself s ds (built_in a) n b m e = sym (answer_of (pointwise ◌==◌ a a) b n m e) ∙ (bytes_decides a a).1 refl
+  parts_itself s ds (built_in a) n b m e = sym (answer_of (same_built_in a a) b n m e) ∙ (built_ins_decide a a).1 refl
   parts_itself s ds (rule_function f) n b m e = sym (answer_of (number_of f == number_of f) b n m e) ∙ nat_test (number_of f) (number_of f) refl
   parts_itself s ds (attribute a) n b m e = sym (answer_of (same_attribute a a) b n m e) ∙ (attributes_decide a a).1 refl
 

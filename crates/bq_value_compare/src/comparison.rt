@@ -57,6 +57,7 @@ fn values_ordered(
         Node::Cell(x) => cells(store, below, steps, store.content(*x), b),
         Node::NoneValue => Err(FaultKind::WrongType),
         Node::Range(_) | Node::Function(_) | Node::BuiltIn(_) => Err(FaultKind::WrongType),
+        Node::SchemaRule(_, _) => Err(FaultKind::WrongType),
         Node::RuleFunction(_) | Node::Attribute(_) => Err(FaultKind::WrongType),
     }
 }

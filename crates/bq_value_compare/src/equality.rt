@@ -44,7 +44,8 @@ pub(crate) fn values_equal(
         Node::Range(x) => Ok((range_equal(*x, b), steps)),
         Node::Cell(x) => cell_equal(store, below, steps, *x, b),
         Node::Function(f) => Ok((function_equal(f, b), steps)),
-        Node::BuiltIn(x) => Ok((b.is_built_in(x.as_slice()), steps)),
+        Node::BuiltIn(x) => Ok((b.is_built_in(*x), steps)),
+        Node::SchemaRule(place, name) => Ok((b.is_schema_rule(*place, name.as_slice()), steps)),
         Node::RuleFunction(x) => Ok((b.is_rule_function(*x), steps)),
         Node::Attribute(x) => Ok((b.is_attribute(x), steps)),
     }

@@ -40,6 +40,7 @@ fn walk(levels: u32, steps: u64, value: &Value) -> Result<u64, FaultKind>
         | Node::Cell(_)
         | Node::Function(_)
         | Node::BuiltIn(_)
+        | Node::SchemaRule(_, _)
         | Node::RuleFunction(_)
         | Node::Attribute(_) => Err(FaultKind::Unhashable),
     }

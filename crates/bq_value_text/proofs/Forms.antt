@@ -6,7 +6,7 @@ use Rattle.std.specs.Fmt.{signed_decimal}
 use Rattle.bq_source.specs.StringLiteral.{quoted}
 use Rattle.bq_resolve_predeclared.specs.RuleFunctions.{rule_function_name}
 use Rattle.bq_package_rule_class.specs.AttributeType.{type_name}
-use Rattle.bq_value.specs.Datum.{Datum, none, boolean, int, string, tuple, range, cell, function, built_in, rule_function, attribute, list_of}
+use Rattle.bq_value.specs.Datum.{Datum, none, boolean, int, string, tuple, range, cell, function, built_in, built_in_name, rule_function, attribute, list_of}
 use Rattle.bq_value.specs.Contents.{Contents, items, pairs, rule}
 use Rattle.bq_value.specs.Cells.{StoreView, content_at}
 use Rattle.bq_value_compare.specs.Looked.{Looked, max_levels}
@@ -200,8 +200,8 @@ module _ (has : HasTexts) (show : Shows) (h : (page : PageView) → IsWritten pa
   form_written s page w n (cell home number) p m e = cell_written (content_at s home number) page w n p m e
   form_written s page w n (function home place name vs) p m e =
       (codes "<function " ++ (name ++ codes ">"), (refl, sym (ap page_in e) ∙ row page (codes "<function ") name (codes ">")))
-  form_written s page w n (built_in name) p m e =
-      (codes "<built-in function " ++ (name ++ codes ">"), (refl, sym (ap page_in e) ∙ row page (codes "<built-in function ") name (codes ">")))
+  form_written s page w n (built_in f) p m e =
+      (codes "<built-in function " ++ (built_in_name f ++ codes ">"), (refl, sym (ap page_in e) ∙ row page (codes "<built-in function ") (built_in_name f) (codes ">")))
   form_written s page w n (rule_function f) p m e =
       (codes "<built-in function " ++ (rule_function_name f ++ codes ">"), (refl, sym (ap page_in e) ∙ row page (codes "<built-in function ") (rule_function_name f) (codes ">")))
   form_written s page w n (attribute a) p m e =

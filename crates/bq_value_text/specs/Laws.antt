@@ -6,7 +6,7 @@ use Rattle.std.specs.Int.Signed.{mag}
 use Rattle.bq_source.specs.StringLiteral.{quoted}
 use Rattle.bq_resolve_predeclared.specs.RuleFunctions.{rule_function_name}
 use Rattle.bq_package_rule_class.specs.AttributeType.{type_name}
-use Rattle.bq_value.specs.Datum.{Datum, none, boolean, int, string, tuple, range, cell, function, built_in, rule_function, attribute, Data, end, datum, list_of}
+use Rattle.bq_value.specs.Datum.{Datum, none, boolean, int, string, tuple, range, cell, function, built_in, built_in_name, rule_function, attribute, Data, end, datum, list_of}
 use Rattle.bq_value.specs.Contents.{Contents, items, pairs, rule}
 use Rattle.bq_value.specs.Cells.{StoreView, content_at}
 
@@ -78,7 +78,7 @@ IsTextOf has s (tuple xs) t = (ts : List (List ℕ)) × (AllHaveText has (list_o
 IsTextOf has s (range start stop step) t = t ≡ codes "range(" ++ (signed_decimal start ++ (codes ", " ++ (signed_decimal stop ++ (step_text step ++ codes ")"))))
 IsTextOf has s (cell home number) t = ContentHasText has (content_at s home number) t
 IsTextOf has s (function home place name defaults) t = t ≡ codes "<function " ++ (name ++ codes ">")
-IsTextOf has s (built_in name) t = t ≡ codes "<built-in function " ++ (name ++ codes ">")
+IsTextOf has s (built_in f) t = t ≡ codes "<built-in function " ++ (built_in_name f ++ codes ">")
 IsTextOf has s (rule_function f) t = t ≡ codes "<built-in function " ++ (rule_function_name f ++ codes ">")
 IsTextOf has s (attribute a) t = t ≡ codes "<attr." ++ (type_name a.kind ++ codes ">")
 

@@ -5,7 +5,7 @@ use Rattle.std.specs.Fmt.{signed_decimal}
 use Rattle.bq_source.specs.StringLiteral.{quoted}
 use Rattle.bq_resolve_predeclared.specs.RuleFunctions.{rule_function_name}
 use Rattle.bq_package_rule_class.specs.AttributeType.{type_name}
-use Rattle.bq_value.specs.Datum.{Datum, none, boolean, int, string, range, function, built_in, rule_function, attribute}
+use Rattle.bq_value.specs.Datum.{Datum, none, boolean, int, string, range, function, built_in, built_in_name, rule_function, attribute}
 use Rattle.bq_value_text.specs.Page.{PageView, written}
 
 -- a step of 1 is left out
@@ -30,7 +30,7 @@ leaf_written page (int n) = written page (signed_decimal n)
 leaf_written page (string bytes) = written page (quoted bytes)
 leaf_written page (range start stop step) = range_written page start stop step
 leaf_written page (function home place name defaults) = named_written (codes "<function ") name page
-leaf_written page (built_in name) = named_written (codes "<built-in function ") name page
+leaf_written page (built_in f) = named_written (codes "<built-in function ") (built_in_name f) page
 leaf_written page (rule_function f) = named_written (codes "<built-in function ") (rule_function_name f) page
 leaf_written page (attribute a) = named_written (codes "<attr.") (type_name a.kind) page
 leaf_written page _ = page

@@ -2,11 +2,14 @@
 
 ghost use Rattle.std.specs.Prelude.{◌≡◌, OnOk};
 ghost use Rattle.std.specs.Fmt.{signed_decimal};
+ghost use Rattle.bq_resolve_predeclared.specs.Predeclared.{name_of};
+ghost use Rattle.bq_value.specs.Datum.{text_of_name};
 ghost use Rattle.bq_value_text.specs.Page.{written};
 ghost use Rattle.bq_value_text.specs.Leaf.{leaf_written, range_written, named_written};
 
 use crate::page::Page;
 use crate::quoted::write_quoted;
+use bq_resolve_predeclared::Predeclared;
 use bq_value::{Node, Range, Value};
 use itoa::Buffer;
 use std::alloc::AllocError;
@@ -24,12 +27,25 @@ pub(crate) fn write_leaf(value: &Value, page: &mut Page) -> Result<(), AllocErro
         Node::Text(bytes) => write_quoted(bytes.as_slice(), page),
         Node::Range(range) => write_range(*range, page),
         Node::Function(function) => write_named(b"<function ", function.name.as_slice(), page),
-        Node::BuiltIn(name) => write_named(b"<built-in function ", name.as_slice(), page),
+        Node::BuiltIn(function) => {
+            write_named(b"<built-in function ", own_name(*function), page)
+        }
+        Node::SchemaRule(_, name) => { write_named(b"<built-in function ", name.as_slice(), page) }
         Node::RuleFunction(function) => {
             write_named(b"<built-in function ", function.name(), page)
         }
         Node::Attribute(attribute) => write_named(b"<attr.", attribute.kind.name(), page),
         Node::Tuple(_) | Node::Cell(_) => Ok(()),
+    }
+}
+
+/// Returns the name of a function of the language, or of a build function.
+fn own_name(function: Predeclared) -> &'static [u8]
+    ensures { result.now ≡ text_of_name (name_of function) }
+{
+    match function.name() {
+        None => b"",
+        Some(name) => name,
     }
 }
 

@@ -13,6 +13,13 @@ use bq_value::{Body, Content, Dict, EvalErr, Node, Store, Value};
 use bq_value_compare::MAX_LEVELS;
 use std::alloc::Global;
 
+/// What is written before and after items.
+#[derive(Clone, Copy)]
+struct Brackets<'a> {
+    open: &'a [u8],
+    close: &'a [u8],
+}
+
 /// Returns the `repr` of a value, and how many of the steps are left.
 pub fn repr(
     alloc: Global,
@@ -72,7 +79,7 @@ fn string_in(value: &Value) -> Option<&Bytes>
     match &value.node {
         Node::Text(bytes) => Some(bytes),
         Node::NoneValue | Node::Bool(_) | Node::Int(_) | Node::Tuple(_) | Node::Range(_) => None,
-        Node::Cell(_) | Node::Function(_) | Node::BuiltIn(_) => None,
+        Node::Cell(_) | Node::Function(_) | Node::BuiltIn(_) | Node::SchemaRule(_, _) => None,
         Node::RuleFunction(_) | Node::Attribute(_) => None,
     }
 }
@@ -99,7 +106,11 @@ fn show(
     let below = levels - 1;
     match &value.node {
         Node::Tuple(items) => {
-            show_items(store, below, steps, b"(", items, tuple_end(items), page)
+            let round = Brackets {
+                open: b"(",
+                close: tuple_end(items),
+            };
+            show_items(store, below, steps, round, items, page)
         }
         Node::Cell(cell) => match store.content(*cell) {
             None => Ok(steps),
@@ -123,7 +134,13 @@ fn show_content(
     ensures { Gives (λ left. (page.new, left)) Bad result (contents_shown (shown_at levels store.now) page.old steps content.now) }
 {
     match &content.body {
-        Body::List(items) => show_items(store, levels, steps, b"[", items, b"]", page),
+        Body::List(items) => {
+            let square = Brackets {
+                open: b"[",
+                close: b"]",
+            };
+            show_items(store, levels, steps, square, items, page)
+        }
         Body::Dict(pairs) => show_pairs(store, levels, steps, pairs, page),
         Body::Rule(_) => {
             page.write(b"<rule>")?;
@@ -137,14 +154,13 @@ fn show_items(
     store: &Store,
     levels: u32,
     steps: u64,
-    begin: &[u8],
+    brackets: Brackets<'_>,
     items: &[Value],
-    end: &[u8],
     page: &mut Page,
 ) -> Result<u64, EvalErr>
-    ensures { Gives (λ left. (page.new, left)) Bad result (list_shown (shown_at levels store.now) begin.now end.now page.old steps items.now) }
+    ensures { Gives (λ left. (page.new, left)) Bad result (list_shown (shown_at levels store.now) brackets.entry.open.now brackets.entry.close.now page.old steps items.now) }
 {
-    page.write(begin)?;
+    page.write(brackets.open)?;
     let mut left = steps;
     let mut separator: &[u8] = b"";
     for item in items {
@@ -152,7 +168,7 @@ fn show_items(
         left = show(store, levels, left, item, page)?;
         separator = b", ";
     }
-    page.write(end)?;
+    page.write(brackets.close)?;
     Ok(left)
 }
 

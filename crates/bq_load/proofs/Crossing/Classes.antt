@@ -1,10 +1,8 @@
 -- Labels may cross threads, and so may what rules say of their attributes.
 use denote.Param.Send.{IsSend, IsSync, sendable}
 use Rattle.std.proofs.Crossing.{crosses}
-use Rattle.std.proofs.hash.BuildHasherDefault.TheSendSync as Builder
-use Rattle.std.proofs.hash.FoldHasher.TheSendSync as Hasher
-use Rattle.indexmap.proofs.map.IndexMap.TheSendSync as Map
 use Rattle.bq_base.proofs.bytes.Bytes.TheSendSync as Bytes
+use Rattle.bq_base_names.proofs.name_set.NameSet.TheSendSync as Names
 use Rattle.bq_label.specs.contracts.label.Label as Label
 use Rattle.bq_package_rule_class.specs.contracts.attribute_type.AttributeType as AttributeType
 use Rattle.bq_package_rule_class.specs.contracts.value.AttributeValue as AttributeValue
@@ -37,10 +35,10 @@ pub attribute_sync : IsSync (Attribute.the_field).row
 attribute_sync = let t = type_sync in let v = value_sync in search (crosses, sendable) depth 60 fits 20000
 
 pub attributes_send : IsSend (Attributes.the_field).row
-attributes_send = let a = attribute_send in search (Map.the_send, Builder.the_send, Hasher.the_send, crosses, sendable) depth 60 fits 20000
+attributes_send = let a = attribute_send in search (Names.the_send, crosses, sendable) depth 60 fits 20000
 
 pub attributes_sync : IsSync (Attributes.the_field).row
-attributes_sync = let a = attribute_sync in search (Map.the_sync, Builder.the_sync, Hasher.the_sync, crosses, sendable) depth 60 fits 20000
+attributes_sync = let a = attribute_sync in search (Names.the_sync, crosses, sendable) depth 60 fits 20000
 
 pub class_send : IsSend (RuleClass.the_field).row
 class_send = let s = attributes_send in let y = attributes_sync in search (crosses, sendable) depth 60 fits 20000

@@ -3,12 +3,12 @@ use denote.Ref.{NamedLft}
 use denote.RattleType.{RattleType}
 use denote.Param.Send.{IsSend, IsSync, sendable}
 use Rattle.std.proofs.Crossing.{crosses}
-use Rattle.std.proofs.hash.BuildHasherDefault.TheSendSync as Builder
-use Rattle.std.proofs.hash.FoldHasher.TheSendSync as Hasher
 use Rattle.bq_value_seed.proofs.seed.Seed.TheSendSync as Seed
 use Rattle.bq_value_seed.proofs.hasher.KeyHasher.TheSendSync as KeyHasher
 use Rattle.bq_base.proofs.fault.Fault.TheSendSync as Fault
+use Rattle.bq_base_names.proofs.name_set.NameSet.TheSendSync as Names
 use Rattle.bq_eval_host.specs.contracts.built_ins.BuiltIns as BuiltIns
+use Rattle.bq_load_front.specs.contracts.named_files.NamedFiles as NamedFiles
 use Rattle.bq_load.specs.contracts.outcome.LoadedModule as LoadedModule
 use Rattle.bq_load.specs.contracts.source.Source as Source
 use Rattle.bq_load.specs.contracts.loading.Loading as Loading
@@ -26,10 +26,13 @@ pub loaded_sync : IsSync (LoadedModule.the_field).row
 loaded_sync = let fs = frozen_send in let fy = frozen_sync in let p = package_sync in search (crosses, sendable) depth 60 fits 20000
 
 pub built_ins_sync : IsSync (BuiltIns.the_field).row
-built_ins_sync = search (Builder.the_sync, Hasher.the_sync, crosses, sendable) depth 60 fits 100000
+built_ins_sync = search (Names.the_send, Names.the_sync, crosses, sendable) depth 60 fits 100000
+
+pub named_files_sync : IsSync (NamedFiles.the_field).row
+named_files_sync = let ls = label_send in let ly = label_sync in search (crosses, sendable) depth 60 fits 20000
 
 pub source_sync : IsSync (Source.the_field).row
-source_sync = let ls = label_send in let ly = label_sync in search (Fault.the_sync, crosses, sendable) depth 60 fits 20000
+source_sync = let ls = label_send in let ly = label_sync in let n = named_files_sync in search (Fault.the_sync, crosses, sendable) depth 60 fits 20000
 
 pub loading_sync : (a : NamedLft) → IsSync (Loading.the_row a)
 loading_sync a =

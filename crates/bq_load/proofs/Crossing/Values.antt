@@ -18,13 +18,13 @@ use Rattle.bq_value.specs.contracts.shared.Shared as Shared
 use Rattle.bq_value.specs.contracts.tree.Tree as Tree
 use Rattle.bq_value.specs.contracts.frozen.Frozen as Frozen
 use Rattle.bq_load.proofs.Crossing.Classes.{attribute_send, attribute_sync, class_send, class_sync}
-use Rattle.bq_load.proofs.Crossing.Trees.{rule_function_send, rule_function_sync}
+use Rattle.bq_load.proofs.Crossing.Trees.{rule_function_send, rule_function_sync, predeclared_send, predeclared_sync}
 
 pub value_send : IsSend (Value.the_field).row
-value_send = let s = attribute_send in let y = attribute_sync in let f = rule_function_send in search (crosses, Knot.crosses, sendable) depth 60 fits 20000
+value_send = let s = attribute_send in let y = attribute_sync in let f = rule_function_send in let p = predeclared_send in let q = predeclared_sync in search (crosses, Knot.crosses, sendable) depth 60 fits 20000
 
 pub value_sync : IsSync (Value.the_field).row
-value_sync = let s = attribute_send in let y = attribute_sync in let f = rule_function_sync in search (crosses, Knot.crosses, sendable) depth 60 fits 20000
+value_sync = let s = attribute_send in let y = attribute_sync in let f = rule_function_sync in let p = predeclared_send in let q = predeclared_sync in search (crosses, Knot.crosses, sendable) depth 60 fits 20000
 
 pub key_send : IsSend (Key.the_field).row
 key_send = let s = value_send in search (crosses, sendable) depth 60 fits 20000

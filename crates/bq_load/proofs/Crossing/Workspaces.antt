@@ -1,10 +1,8 @@
 -- The files of a workspace, its packages and its schema may be shared by threads.
 use denote.Param.Send.{IsSend, IsSync, sendable}
 use Rattle.std.proofs.Crossing.{crosses}
-use Rattle.std.proofs.hash.BuildHasherDefault.TheSendSync as Builder
-use Rattle.std.proofs.hash.FoldHasher.TheSendSync as Hasher
-use Rattle.indexmap.proofs.set.IndexSet.TheSendSync as Set
 use Rattle.bq_base.proofs.bytes.Bytes.TheSendSync as Bytes
+use Rattle.bq_base_names.proofs.name_set.NameSet.TheSendSync as Names
 use Rattle.bq_label.specs.contracts.workspace.File as File
 use Rattle.bq_label.specs.contracts.workspace.Workspace as Workspace
 use Rattle.bq_label.specs.contracts.packages.BuildFile as BuildFile
@@ -25,4 +23,4 @@ pub packages_sync : IsSync (Packages.the_field).row
 packages_sync = let f = build_file_sync in search (crosses, sendable) depth 60 fits 20000
 
 pub schema_sync : IsSync (Schema.the_field).row
-schema_sync = let c = class_sync in search (Bytes.the_sync, Set.the_sync, Builder.the_sync, Hasher.the_sync, crosses, sendable) depth 60 fits 100000
+schema_sync = let c = class_sync in search (Names.the_sync, crosses, sendable) depth 60 fits 100000

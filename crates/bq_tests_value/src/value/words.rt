@@ -12,7 +12,7 @@
 use crate::rows::number_of;
 use bq_base::Bytes;
 use bq_package_rule_class::{Attribute, AttributeType, AttributeValue, RuleClass, type_named};
-use bq_resolve_predeclared::{RuleFunction, attr_named};
+use bq_resolve_predeclared::{RuleFunction, attr_named, predeclared_named};
 use bq_value::{Body, Content, Dict, EvalErr, Function, Range, Store, Value};
 use bq_value_compare::key_of;
 use bq_value_seed::Seed;
@@ -209,6 +209,14 @@ fn rule_function_of(name: &[u8]) -> Value {
     })
 }
 
+/// The built-in function of this name; a name that is not predeclared is that of the first rule of a schema.
+fn built_in_of(alloc: Global, name: &[u8]) -> Result<Value, AllocError> {
+    match predeclared_named(name) {
+        Some(function) => Ok(Value::built_in(function)),
+        None => Ok(Value::schema_rule(0, Bytes::from_slice(alloc, name)?)),
+    }
+}
+
 fn range_of(digits: &[u8]) -> Value {
     Value::range(Range {
         start: i64::from(digit_at(digits, 0)),
@@ -239,6 +247,6 @@ fn plain(alloc: Global, letter: u8, rest: &[u8]) -> Result<Value, AllocError> {
         b'f' => function_of(alloc, rest, Vec::new(alloc)),
         b'p' => Ok(rule_function_of(rest)),
         b'q' => attribute_of(alloc, rest),
-        _ => Ok(Value::built_in(Bytes::from_slice(alloc, rest)?)),
+        _ => built_in_of(alloc, rest),
     }
 }

@@ -1,4 +1,4 @@
-use Rattle.std.proofs.Common.{◌≡◌, ◌∙◌, ◌++◌, ◌-◌, ◌<◌, [], ℕ, ℤ, pos, ap, length, FitsSigned, w64, rules, arith}
+use Rattle.std.proofs.Common.{◌≡◌, ◌∙◌, ◌++◌, ◌∷◌, ◌-◌, ◌<◌, [], ℕ, ℤ, pos, ap, length, FitsSigned, w64, rules, arith}
 use Rattle.std.specs.Prelude.{◌≤ℤ◌, ◌<ℤ◌}
 use Rattle.bq_value.specs.Range.{range_count, range_element}
 use Rattle.bq_builtin_numbers.specs.Slice.{taken, taken_by}
@@ -21,5 +21,5 @@ loop-number-preserved c =
     let lt : i < range_count start c.args.places.stop step = omega (arith, count, c.loop-number-test.true) in
     let within : (pos 0 ≤ℤ at) × (at <ℤ pos (length c.args.values.now)) = c.requires i lt in
     let f : FitsSigned w64 c.element-at.result = search rules in
-    places_go_on c.loop-number.taken.items c.args.values.now (taken_by c.args.values.now start c.args.places.stop step) c.push_share.new.values.items c.count-count.result i start step c.index-values-at.result
-    c.loop-number-test.true (value_found c.args.values.now at c.element-at.result c.index-values-at.result c.element-at.ensures f within c.index-values-at.is) (c.in_ok-push_share.ensures) c.loop-number.invariant
+    places_go_on c.loop-number.taken.items c.args.values.now (taken_by c.args.values.now start c.args.places.stop step) c.push.new.self.items c.count-count.result i start step c.index-values-at.result
+    c.loop-number-test.true (value_found c.args.values.now at c.element-at.result c.index-values-at.result c.element-at.ensures f within c.index-values-at.is) (c.in_ok-push.ensures.items ∙ ap (λ z. c.loop-number.taken.items ++ z ∷ []) c.in_ok-share.ensures) c.loop-number.invariant

@@ -49,6 +49,10 @@ pub apply-returns-in-BuiltIn : goal.apply-returns-in-BuiltIn
 unfolding apply
 apply-returns-in-BuiltIn g t c = grind (arith, common_steps)
 
+pub apply-returns-in-SchemaRule : goal.apply-returns-in-SchemaRule
+unfolding apply
+apply-returns-in-SchemaRule g t c = grind (arith, common_steps)
+
 pub apply-returns-in-RuleFunction : goal.apply-returns-in-RuleFunction
 unfolding apply
 apply-returns-in-RuleFunction g t c = grind (arith, common_steps)
@@ -69,14 +73,14 @@ call_at-returns-in-None g t c =
     let h = g.R.Runtime in
     let x = c.args.context.now in
     let units = units_at x.program.now (globals_of x.own) in
-    no_unit h.means units (inner_calls x.left h.means units) c.args.home c.args.place c.args.defaults.now c.args.args (h.seen c.args.runtime.now) c.in-None.ensures
+    no_unit h.means units (inner_calls x.left h.means units) c.args.called.now.«module» c.args.called.now.place c.args.called.now.defaults.items c.args.args (h.seen c.args.runtime.now) c.in-None.ensures
 
 pub call_at-returns-in-None-get : goal.call_at-returns-in-None-get
 call_at-returns-in-None-get g t c =
     let h = g.R.Runtime in
     let x = c.args.context.now in
     let units = units_at x.program.now (globals_of x.own) in
-    no_function h.means units (inner_calls x.left h.means units) c.args.home c.args.place c.args.defaults.now c.args.args (h.seen c.args.runtime.now) (unit_of c.in-Some.unit) c.in-Some.ensures c.in-None-get.ensures.lookup.3
+    no_function h.means units (inner_calls x.left h.means units) c.args.called.now.«module» c.args.called.now.place c.args.called.now.defaults.items c.args.args (h.seen c.args.runtime.now) (unit_of c.in-Some.unit) c.in-Some.ensures c.in-None-get.ensures.lookup.3
 
 pub call_at-returns-in-Some-get : goal.call_at-returns-in-Some-get
 call_at-returns-in-Some-get g t c =
@@ -84,7 +88,7 @@ call_at-returns-in-Some-get g t c =
     let x = c.args.context.now in
     let units = units_at x.program.now (globals_of x.own) in
     let d = c.in-Some-get.function.now in
-    let at = known_function h.means units (inner_calls x.left h.means units) c.args.home c.args.place c.args.defaults.now c.args.args (h.seen c.args.runtime.now) (unit_of c.in-Some.unit) d c.in-Some.ensures c.in-Some-get.ensures.lookup.3.0 (c.in-Some-get.ensures.lookup.3.1 d) in
+    let at = known_function h.means units (inner_calls x.left h.means units) c.args.called.now.«module» c.args.called.now.place c.args.called.now.defaults.items c.args.args (h.seen c.args.runtime.now) (unit_of c.in-Some.unit) d c.in-Some.ensures c.in-Some-get.ensures.lookup.3.0 (c.in-Some-get.ensures.lookup.3.1 d) in
     let P : Run h.State Datum → Type 0 = λ run. Acts h.means (λ v. v) c.call_function.result (h.seen c.call_function.new.runtime) run in
     subst P (sym at) c.call_function.ensures
 

@@ -1,10 +1,18 @@
-use Rattle.std.proofs.Common.{add-one}
+use Rattle.std.proofs.Common.{◌≡◌, ◌≢◌, ◌<◌, ℕ, List, length, slice_index, add-one, arith}
+use Rattle.std.proofs.lemmas.Grind.{common_steps}
 use Rattle.bq_label.proofs.Cuts.{cut_here, cut_nowhere, rest_of}
 use Rattle.bq_label.proofs.split.split_once.Goals as goal
 
 pub returns-in-Some : goal.returns-in-Some
-returns-in-Some c = let e = c.in-Some.ensures.found in
-    rw (rest_of, add-one) (cut_here c.args.byte c.args.text.now c.in-Some.at e.0 e.1 e.2)
+returns-in-Some c =
+    let text : List ℕ = c.args.text.now in
+    let at : ℕ = c.in-Some.at in
+    let within : at < length text = grind (arith, common_steps) in
+    let there : slice_index text at ≡ c.args.byte = grind (arith, common_steps) in
+    let first : (k : ℕ) → k < at → slice_index text k ≢ c.args.byte = grind (arith, common_steps) in
+    rw (rest_of, add-one) (cut_here c.args.byte text at within there first)
 
 pub returns-in-None : goal.returns-in-None
-returns-in-None c = cut_nowhere _ _ c.in-None.ensures.none
+returns-in-None c =
+    let nowhere : (k : ℕ) → k < length c.args.text.now → slice_index c.args.text.now k ≢ c.args.byte = grind (arith, common_steps) in
+    cut_nowhere _ _ nowhere

@@ -29,16 +29,16 @@ edges-requires-clause-numbered c =
 pub of-requires : goal.of-requires
 of-requires c =
     held_numbered c.args.modules.items c.requires.distinct c.requires.few c.sorted-modules.result.items c.sorted-modules.ensures.moved c.sorted-modules.ensures.ascending c.deref.result.now c.deref-3.result.now c.deref.ensures.value c.deref-3.ensures.value c.in_ok-labels.ensures.valid
-    c.in_ok-labels.labels.items c.deref-2.result.now c.in_ok-labels.ensures.labels c.deref-2.ensures.value c.in_ok-edges.edges c.in_ok-edges.ensures.edges c.in_ok-edges.ensures.valid
+    c.in_ok-labels.labels.items c.deref-2.result.now c.in_ok-labels.ensures.labels c.deref-2.ensures.value c.in_ok-edges.edges c.in_ok-edges.ensures.edges c.args.packages c.in_ok-edges.ensures.valid
 
 pub returns : goal.returns
-returns c = λ inputs f.
+returns c = λ inputs f b.
     subst (λ (z : GraphParts). IsLoadGraph inputs z) (sym c.of.ensures)
     (held_graph c.args.modules.items c.requires.distinct c.requires.few c.sorted-modules.result.items c.sorted-modules.ensures.moved c.sorted-modules.ensures.ascending c.deref.result.now c.deref-3.result.now c.deref.ensures.value c.deref-3.ensures.value c.in_ok-labels.ensures.valid
-    c.in_ok-labels.labels.items c.deref-2.result.now c.in_ok-labels.ensures.labels c.deref-2.ensures.value c.in_ok-edges.edges c.in_ok-edges.ensures.edges c.in_ok-edges.ensures.valid inputs f)
+    c.in_ok-labels.labels.items c.deref-2.result.now c.in_ok-labels.ensures.labels c.deref-2.ensures.value c.in_ok-edges.edges c.in_ok-edges.ensures.edges c.args.packages c.in_ok-edges.ensures.valid inputs f b)
 
 pub returns-in_err-edges : goal.returns-in_err-edges
-returns-in_err-edges c = λ inputs f.
+returns-in_err-edges c = λ inputs f b.
     let p = err_from_is_err_and c.from_residual-in_err-edges.result c.from_residual-in_err-edges.ensures.1 in
     let is : c.from_residual-in_err-edges.result ≡ Err c.in_err-edges.field-0.0 = p.1 ∙ ap (λ (z : LoadErr). Err z) p.2 in
     let refused = c.in_err-edges.ensures.refused in

@@ -3,6 +3,7 @@ use Rattle.std.specs.Global.{Global}
 use Rattle.bq_load_discover.specs.declared.modules.Module.{Module}
 use Rattle.bq_load_discover.specs.declared.load_err.LoadErr.TheVariants.{TooManyModules, Schema}
 use Rattle.bq_load_discover.specs.Exploring.{AreFound, Finds}
+use Rattle.bq_load_discover.specs.LoadGraph.{inputs_of}
 use Rattle.bq_load_discover.specs.Modules.{AreTooMany}
 use Rattle.bq_load_discover.proofs.discovery.load_graph_of.Goals as goal
 
@@ -11,10 +12,10 @@ other_error line e = cc
 
 pub returns-in-None : goal.returns-in-None
 returns-in-None c =
-    let many : AreTooMany c.args.inputs.now = subst (λ (o : Option (Vec Module Global)). Finds c.args.inputs.now o) c.in-None.is c.requires in
+    let many : AreTooMany (inputs_of c.args.workspace.now c.args.schema.now) = subst (λ (o : Option (Vec Module Global)). Finds (inputs_of c.args.workspace.now c.args.schema.now) o) c.in-None.is c.requires.found in
     (λ t. many, other_error)
 
 pub returns-in-Some : goal.returns-in-Some
 returns-in-Some c =
-    let found : AreFound c.args.inputs.now c.in-Some.modules.items = subst (λ (o : Option (Vec Module Global)). Finds c.args.inputs.now o) c.in-Some.is c.requires in
-    c.load_graph.ensures c.args.inputs.now found
+    let found : AreFound (inputs_of c.args.workspace.now c.args.schema.now) c.in-Some.modules.items = subst (λ (o : Option (Vec Module Global)). Finds (inputs_of c.args.workspace.now c.args.schema.now) o) c.in-Some.is c.requires.found in
+    c.load_graph.ensures (inputs_of c.args.workspace.now c.args.schema.now) found c.requires.packages

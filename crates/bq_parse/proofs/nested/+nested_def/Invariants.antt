@@ -3,16 +3,13 @@ use Rattle.bq_parse.specs.Nested.{in_block, in_branches}
 use Rattle.bq_parse.proofs.nested.+nested_def.Given as goal
 
 abbrev pub decreases-nested_def : goal.decreases-nested_def
-decreases-nested_def l = 4 * l.depth + 3
+decreases-nested_def l = 3 * l.depth + 2
 
 abbrev pub decreases-in_branches : goal.decreases-in_branches
-decreases-in_branches l = 4 * l.depth + 2
+decreases-in_branches l = 3 * l.depth + 1
 
 abbrev pub decreases-in_block : goal.decreases-in_block
-decreases-in_block l = 4 * l.depth + 1
-
-abbrev pub decreases-nested_within : goal.decreases-nested_within
-decreases-nested_within l = 4 * l.depth
+decreases-in_block l = 3 * l.depth
 
 abbrev pub invariant-in_block-loop-statement : goal.invariant-in_block-loop-statement
 invariant-in_block-loop-statement l = in_block l.depth l.inside l.block ≡ in_block l.depth l.inside (drop l.statement-index l.block)

@@ -20,8 +20,8 @@ loop-len-preserved c =
     let stays : (l.line && (is_zero l.indents && begins_statement c.in-Some.kind)) ≡ false = first_of (search rules, grind arith, cc) in
     let one = one_less l.rest c.in-Some.kind next_is in
     record {
-      same = rw (c.ends_line-line.ensures, c.indents_after-indents.ensures.is, c.advance.ensures)
+      same = rw (c.line_after.ensures.line, c.line_after.ensures.indents, c.advance.ensures)
           (goes_on l.line l.indents l.rest c.in-Some.kind next_is l.len (piece_len c.args.tokens.now) l.invariant.same stays);
       left = rw c.advance.ensures (omega (arith, one, l.invariant.left));
-      few = omega (arith, c.indents_after-indents.ensures.within, l.invariant.few);
+      few = omega (arith, c.line_after.ensures.within, l.invariant.few);
     }

@@ -13,9 +13,9 @@ returns c =
     let xs = c.args.x.now in
     let all = c.deref.result.now in
     let n = c.args.limit in
-    let e : Everything g all = c.deref.ensures.value ∙ (c.in_ok-all.ensures ∙ ap (λ n. replicate n true) c.len.ensures.count) in
+    let e : Everything g all = c.deref.ensures.value ∙ (c.in_ok-all.ensures.items_if_clones_equal (λ y e. e) ∙ ap (λ n. replicate n true) c.len.ensures.count) in
     IfOk-weaker c.within.result (λ r. IsSet (length g) r.items (EndsWithin (Step g all) (Both xs all) n)) (λ r. IsSet (length g) r.items (DepsWithin g (Marked xs) n))
-    (λ r h. deps_within_as g all xs n c.len.ensures.below c.requires e r.items h) (subst (λ (h : List (List ℕ)). IfOk c.within.result (λ r. IsSet (length h) r.items (EndsWithin (Step h all) (Both xs all) n))) c.forward.ensures c.within.ensures)
+    (λ r h. deps_within_as g all xs n c.len.ensures.below c.requires e r.items h) (subst (λ (h : List (List ℕ)). IfOk c.within.result (λ r. IsSet (length h) r.items (EndsWithin (Step h all) (Both xs all) n))) c.graph.view_is c.within.ensures)
 
 pub within-requires-clause-allowed : goal.within-requires-clause-allowed
 within-requires-clause-allowed c = grind (arith, common_steps)

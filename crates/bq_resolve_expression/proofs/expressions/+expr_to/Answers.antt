@@ -3,4 +3,4 @@ use Rattle.bq_resolve_expression.proofs.Layers.{expr_layer}
 use Rattle.bq_resolve_expression.proofs.expressions.+expr_to.Goals as goal
 
 pub returns : goal.returns
-returns t c = rw (expr_layer c.args.depth c.args.file.now c.args.blocks.now c.args.expr.now c.args.walk.now (omega arith)) c.expr_by.ensures
+returns t c = rw (expr_layer c.args.depth c.args.scope.now.file.now c.args.scope.now.blocks.now c.args.expr.now c.args.walk.now (omega arith)) c.expr_by.ensures

@@ -9,7 +9,7 @@ use Rattle.bq_run_report.proofs.whole.report_on.Goals as goal
 
 pub returns : goal.returns
 returns c =
-    let i = inside c.args.contents in
+    let i = inside c.args.loaded in
     let query = c.args.question.query.now in
     let form = c.args.question.form in
     let reply = c.in_ok-reply.reply in

@@ -12,7 +12,7 @@ use Rattle.bq_value_text.proofs.shown.+show.Goals as goal
 pub show-returns-in-Tuple : goal.show-returns-in-Tuple
 show-returns-in-Tuple t c =
     let e : shown_at c.args.levels c.args.store.now c.args.page.now c.args.steps c.args.value.now
-    ≡ list_shown (shown_at (c.args.levels - 1) c.args.store.now) (codes "(") c.tuple_end.result.now c.args.page.now (c.args.steps - 1) c.deref-in-Tuple.result.now = grind (arith, common_steps, tuple_step) in
+    ≡ list_shown (shown_at (c.args.levels - 1) c.args.store.now) (codes "(") c.tuple_end.result.now c.args.page.now (c.args.steps - 1) c.deref-in-Tuple-3.result.now = grind (arith, common_steps, tuple_step) in
     let P : Looked PageView → Type 0 = λ r. Gives (λ left. (c.show_items.new.page, left)) (λ kind. Bad kind) c.show_items.result r in
     subst P (sym e) c.show_items.ensures
 

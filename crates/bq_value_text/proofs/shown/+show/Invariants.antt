@@ -19,7 +19,7 @@ decreases-show_pairs l = 3 * l.levels + 1
 
 abbrev pub invariant-show_items-loop-item : goal.invariant-show_items-loop-item
 invariant-show_items-loop-item l =
-    all_shown (shown_at l.levels l.store) [] (written l.fn.page l.begin) l.fn.steps l.items
+    all_shown (shown_at l.levels l.store) [] (written l.fn.page l.brackets.open.now) l.fn.steps l.items
     ≡ all_shown (shown_at l.levels l.store) l.separator l.page l.left (drop l.item-index l.items)
 
 abbrev pub invariant-show_pairs-loop-i : goal.invariant-show_pairs-loop-i

@@ -16,85 +16,85 @@ use Rattle.bq_eval_rules.proofs.evaluator.Evaluator.inward.Goals as goal
 pub returns-in_err-open-in-For-clause-leaves : goal.returns-in_err-open-in-For-clause-leaves
 returns-in_err-open-in-For-clause-leaves g c =
     let h = g.R.Runtime in
-    let e = nested h.means c.args.self.now.depth c.args.context.now in
+    let e = nested h.means c.args.self.now.depth c.args.self.now.context.now in
     let b = body h.means e c.args.comprehension.now in
     let layer : out-CodeClause c.clause-item.result ≡ CodeClause-F.For c.in-For.target c.in-For.iterable = ap out-CodeClause c.in-For.is ∙ outs-For c.in-For.target c.in-For.iterable in
-    let bad : (why : FaultKind) → c.in_err-open-in-For.field-0.0 ≡ Bad why → clauses h.means e c.args.clauses.now b (slots_of c.args.frame.now) c.args.content.now (h.seen c.args.runtime.now) ≡ stopped (stop_at why (h.means.machine (h.seen c.open.new.runtime))) =
-    λ why is. sym c.loop-rest.invariant.left ∙ loop_fails h.means e b (slots_of c.args.frame.now) c.args.content.now (h.seen c.loop-rest.runtime) c.loop-rest.rest.now c.clause-item.result c.in-len1-up.len_at_least c.clause-item.is c.in-For.target c.in-For.iterable layer _ (c.in_err-open-in-For.ensures why is) in
+    let bad : (why : FaultKind) → c.in_err-open-in-For.field-0.0 ≡ Bad why → clauses h.means e c.args.clauses.now b (slots_of c.args.self.now.frame.now) c.args.content.now (h.seen c.args.runtime.now) ≡ stopped (stop_at why (h.means.machine (h.seen c.open.new.runtime))) =
+    λ why is. sym c.loop-rest.invariant.left ∙ loop_fails h.means e b (slots_of c.args.self.now.frame.now) c.args.content.now (h.seen c.loop-rest.runtime) c.loop-rest.rest.now c.clause-item.result c.in-len1-up.len_at_least c.clause-item.is c.in-For.target c.in-For.iterable layer _ (c.in_err-open-in-For.ensures why is) in
     search (rules, bad)
 
 pub returns-in-For-clause-leaves : goal.returns-in-For-clause-leaves
 returns-in-For-clause-leaves g c =
     let h = g.R.Runtime in
-    let e = nested h.means c.args.self.now.depth c.args.context.now in
+    let e = nested h.means c.args.self.now.depth c.args.self.now.context.now in
     let b = body h.means e c.args.comprehension.now in
     let layer : out-CodeClause c.clause-item.result ≡ CodeClause-F.For c.in-For.target c.in-For.iterable = ap out-CodeClause c.in-For.is ∙ outs-For c.in-For.target c.in-For.iterable in
-    sym c.loop-rest.invariant.left ∙ loop_opens h.means e b (slots_of c.args.frame.now) c.args.content.now (h.seen c.loop-rest.runtime) c.loop-rest.rest.now c.clause-item.result c.in-len1-up.len_at_least c.clause-item.is c.in-For.target c.in-For.iterable layer (loop_of c.in_ok-open-in-For.field-0) (h.seen c.open.new.runtime) c.in_ok-open-in-For.ensures
+    sym c.loop-rest.invariant.left ∙ loop_opens h.means e b (slots_of c.args.self.now.frame.now) c.args.content.now (h.seen c.loop-rest.runtime) c.loop-rest.rest.now c.clause-item.result c.in-len1-up.len_at_least c.clause-item.is c.in-For.target c.in-For.iterable layer (loop_of c.in_ok-open-in-For.field-0) (h.seen c.open.new.runtime) c.in_ok-open-in-For.ensures
 
 pub returns-in-For-clause-counts : goal.returns-in-For-clause-counts
 returns-in-For-clause-counts g c =
     let h = g.R.Runtime in
-    let e = nested h.means c.args.self.now.depth c.args.context.now in
+    let e = nested h.means c.args.self.now.depth c.args.self.now.context.now in
     let b = body h.means e c.args.comprehension.now in
     let layer : out-CodeClause c.clause-item.result ≡ CodeClause-F.For c.in-For.target c.in-For.iterable = ap out-CodeClause c.in-For.is ∙ outs-For c.in-For.target c.in-For.iterable in
-    sym c.loop-rest.invariant.count ∙ loop_counts h.means e b (slots_of c.args.frame.now) c.args.content.now (h.seen c.loop-rest.runtime) c.loop-rest.rest.now c.clause-item.result c.in-len1-up.len_at_least c.clause-item.is c.in-For.target c.in-For.iterable layer (loop_of c.in_ok-open-in-For.field-0) (h.seen c.open.new.runtime) c.in_ok-open-in-For.ensures
+    sym c.loop-rest.invariant.count ∙ loop_counts h.means e b (slots_of c.args.self.now.frame.now) c.args.content.now (h.seen c.loop-rest.runtime) c.loop-rest.rest.now c.clause-item.result c.in-len1-up.len_at_least c.clause-item.is c.in-For.target c.in-For.iterable layer (loop_of c.in_ok-open-in-For.field-0) (h.seen c.open.new.runtime) c.in_ok-open-in-For.ensures
 
 pub returns-in_err-holds-in-If-clause-leaves : goal.returns-in_err-holds-in-If-clause-leaves
 returns-in_err-holds-in-If-clause-leaves g c =
     let h = g.R.Runtime in
-    let e = nested h.means c.args.self.now.depth c.args.context.now in
+    let e = nested h.means c.args.self.now.depth c.args.self.now.context.now in
     let b = body h.means e c.args.comprehension.now in
     let layer : out-CodeClause c.clause-item.result ≡ CodeClause-F.If c.in-If.condition = ap out-CodeClause c.in-If.is ∙ outs-If c.in-If.condition in
-    let bad : (why : FaultKind) → c.in_err-holds-in-If.field-0.0 ≡ Bad why → clauses h.means e c.args.clauses.now b (slots_of c.args.frame.now) c.args.content.now (h.seen c.args.runtime.now) ≡ stopped (stop_at why (h.means.machine (h.seen c.holds.new.runtime))) =
-    λ why is. sym c.loop-rest.invariant.left ∙ condition_stops h.means e b (slots_of c.args.frame.now) c.args.content.now (h.seen c.loop-rest.runtime) c.loop-rest.rest.now c.clause-item.result c.in-len1-up.len_at_least c.clause-item.is c.in-If.condition layer _ (c.in_err-holds-in-If.ensures why is) in
+    let bad : (why : FaultKind) → c.in_err-holds-in-If.field-0.0 ≡ Bad why → clauses h.means e c.args.clauses.now b (slots_of c.args.self.now.frame.now) c.args.content.now (h.seen c.args.runtime.now) ≡ stopped (stop_at why (h.means.machine (h.seen c.holds.new.runtime))) =
+    λ why is. sym c.loop-rest.invariant.left ∙ condition_stops h.means e b (slots_of c.args.self.now.frame.now) c.args.content.now (h.seen c.loop-rest.runtime) c.loop-rest.rest.now c.clause-item.result c.in-len1-up.len_at_least c.clause-item.is c.in-If.condition layer _ (c.in_err-holds-in-If.ensures why is) in
     search (rules, bad)
 
 pub returns-then-not-branch-clause-leaves : goal.returns-then-not-branch-clause-leaves
 returns-then-not-branch-clause-leaves g c =
     let h = g.R.Runtime in
-    let e = nested h.means c.args.self.now.depth c.args.context.now in
+    let e = nested h.means c.args.self.now.depth c.args.self.now.context.now in
     let b = body h.means e c.args.comprehension.now in
     let layer : out-CodeClause c.clause-item.result ≡ CodeClause-F.If c.in-If.condition = ap out-CodeClause c.in-If.is ∙ outs-If c.in-If.condition in
-    sym c.loop-rest.invariant.left ∙ condition_fails h.means e b (slots_of c.args.frame.now) c.args.content.now (h.seen c.loop-rest.runtime) c.loop-rest.rest.now c.clause-item.result c.in-len1-up.len_at_least c.clause-item.is c.in-If.condition layer c.in_ok-holds-in-If.field-0 (h.seen c.holds.new.runtime) c.in_ok-holds-in-If.ensures c.if-not-branch.true
+    sym c.loop-rest.invariant.left ∙ condition_fails h.means e b (slots_of c.args.self.now.frame.now) c.args.content.now (h.seen c.loop-rest.runtime) c.loop-rest.rest.now c.clause-item.result c.in-len1-up.len_at_least c.clause-item.is c.in-If.condition layer c.in_ok-holds-in-If.field-0 (h.seen c.holds.new.runtime) c.in_ok-holds-in-If.ensures c.if-not-branch.true
 
 pub returns-then-not-branch-clause-counts : goal.returns-then-not-branch-clause-counts
 returns-then-not-branch-clause-counts g c =
     let h = g.R.Runtime in
-    let e = nested h.means c.args.self.now.depth c.args.context.now in
+    let e = nested h.means c.args.self.now.depth c.args.self.now.context.now in
     let b = body h.means e c.args.comprehension.now in
     let layer : out-CodeClause c.clause-item.result ≡ CodeClause-F.If c.in-If.condition = ap out-CodeClause c.in-If.is ∙ outs-If c.in-If.condition in
-    sym c.loop-rest.invariant.count ∙ fails_count h.means e b (slots_of c.args.frame.now) c.args.content.now (h.seen c.loop-rest.runtime) c.loop-rest.rest.now c.clause-item.result c.in-len1-up.len_at_least c.clause-item.is c.in-If.condition layer c.in_ok-holds-in-If.field-0 (h.seen c.holds.new.runtime) c.in_ok-holds-in-If.ensures c.if-not-branch.true
+    sym c.loop-rest.invariant.count ∙ fails_count h.means e b (slots_of c.args.self.now.frame.now) c.args.content.now (h.seen c.loop-rest.runtime) c.loop-rest.rest.now c.clause-item.result c.in-len1-up.len_at_least c.clause-item.is c.in-If.condition layer c.in_ok-holds-in-If.field-0 (h.seen c.holds.new.runtime) c.in_ok-holds-in-If.ensures c.if-not-branch.true
 
 pub loop-rest-preserved : goal.loop-rest-preserved
 loop-rest-preserved g c =
     let h = g.R.Runtime in
-    let e = nested h.means c.args.self.now.depth c.args.context.now in
+    let e = nested h.means c.args.self.now.depth c.args.self.now.context.now in
     let b = body h.means e c.args.comprehension.now in
     let layer : out-CodeClause c.clause-item.result ≡ CodeClause-F.If c.in-If.condition = ap out-CodeClause c.in-If.is ∙ outs-If c.in-If.condition in
     record {
-      left = sym (condition_holds h.means e b (slots_of c.args.frame.now) c.args.content.now (h.seen c.loop-rest.runtime) c.loop-rest.rest.now c.clause-item.result c.in-len1-up.len_at_least c.clause-item.is c.in-If.condition layer c.in_ok-holds-in-If.field-0 (h.seen c.holds.new.runtime) c.in_ok-holds-in-If.ensures c.if-not-branch.false) ∙ c.loop-rest.invariant.left;
-      count = sym (holds_count h.means e b (slots_of c.args.frame.now) c.args.content.now (h.seen c.loop-rest.runtime) c.loop-rest.rest.now c.clause-item.result c.in-len1-up.len_at_least c.clause-item.is c.in-If.condition layer c.in_ok-holds-in-If.field-0 (h.seen c.holds.new.runtime) c.in_ok-holds-in-If.ensures c.if-not-branch.false) ∙ c.loop-rest.invariant.count;
+      left = sym (condition_holds h.means e b (slots_of c.args.self.now.frame.now) c.args.content.now (h.seen c.loop-rest.runtime) c.loop-rest.rest.now c.clause-item.result c.in-len1-up.len_at_least c.clause-item.is c.in-If.condition layer c.in_ok-holds-in-If.field-0 (h.seen c.holds.new.runtime) c.in_ok-holds-in-If.ensures c.if-not-branch.false) ∙ c.loop-rest.invariant.left;
+      count = sym (holds_count h.means e b (slots_of c.args.self.now.frame.now) c.args.content.now (h.seen c.loop-rest.runtime) c.loop-rest.rest.now c.clause-item.result c.in-len1-up.len_at_least c.clause-item.is c.in-If.condition layer c.in_ok-holds-in-If.field-0 (h.seen c.holds.new.runtime) c.in_ok-holds-in-If.ensures c.if-not-branch.false) ∙ c.loop-rest.invariant.count;
     }
 
 pub returns-in_err-body-clause-leaves : goal.returns-in_err-body-clause-leaves
 returns-in_err-body-clause-leaves g c =
     let h = g.R.Runtime in
-    let e = nested h.means c.args.self.now.depth c.args.context.now in
+    let e = nested h.means c.args.self.now.depth c.args.self.now.context.now in
     let b = body h.means e c.args.comprehension.now in
-    let bad : (why : FaultKind) → c.in_err-body.field-0.0 ≡ Bad why → clauses h.means e c.args.clauses.now b (slots_of c.args.frame.now) c.args.content.now (h.seen c.args.runtime.now) ≡ stopped (stop_at why (h.means.machine (h.seen c.body.new.runtime))) =
-    λ why is. sym c.loop-rest.invariant.left ∙ (no_clause h.means e b (slots_of c.args.frame.now) c.args.content.now (h.seen c.loop-rest.runtime) c.loop-rest.rest.now c.in_default.len_below ∙ c.in_err-body.ensures why is) in
+    let bad : (why : FaultKind) → c.in_err-body.field-0.0 ≡ Bad why → clauses h.means e c.args.clauses.now b (slots_of c.args.self.now.frame.now) c.args.content.now (h.seen c.args.runtime.now) ≡ stopped (stop_at why (h.means.machine (h.seen c.body.new.runtime))) =
+    λ why is. sym c.loop-rest.invariant.left ∙ (no_clause h.means e b (slots_of c.args.self.now.frame.now) c.args.content.now (h.seen c.loop-rest.runtime) c.loop-rest.rest.now c.in_default.len_below ∙ c.in_err-body.ensures why is) in
     search (rules, bad)
 
 pub returns-clause-leaves : goal.returns-clause-leaves
 returns-clause-leaves g c =
     let h = g.R.Runtime in
-    let e = nested h.means c.args.self.now.depth c.args.context.now in
+    let e = nested h.means c.args.self.now.depth c.args.self.now.context.now in
     let b = body h.means e c.args.comprehension.now in
-    sym c.loop-rest.invariant.left ∙ (no_clause h.means e b (slots_of c.args.frame.now) c.args.content.now (h.seen c.loop-rest.runtime) c.loop-rest.rest.now c.in_default.len_below ∙ c.in_ok-body.ensures)
+    sym c.loop-rest.invariant.left ∙ (no_clause h.means e b (slots_of c.args.self.now.frame.now) c.args.content.now (h.seen c.loop-rest.runtime) c.loop-rest.rest.now c.in_default.len_below ∙ c.in_ok-body.ensures)
 
 pub returns-clause-counts : goal.returns-clause-counts
 returns-clause-counts g c =
     let h = g.R.Runtime in
-    let e = nested h.means c.args.self.now.depth c.args.context.now in
+    let e = nested h.means c.args.self.now.depth c.args.self.now.context.now in
     let b = body h.means e c.args.comprehension.now in
-    sym c.loop-rest.invariant.count ∙ no_count h.means e b (slots_of c.args.frame.now) c.args.content.now (h.seen c.loop-rest.runtime) c.loop-rest.rest.now c.in_default.len_below
+    sym c.loop-rest.invariant.count ∙ no_count h.means e b (slots_of c.args.self.now.frame.now) c.args.content.now (h.seen c.loop-rest.runtime) c.loop-rest.rest.now c.in_default.len_below

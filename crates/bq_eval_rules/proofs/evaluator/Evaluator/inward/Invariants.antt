@@ -8,11 +8,11 @@ use Rattle.bq_eval_rules.proofs.evaluator.Evaluator.inward.Given as goal
 abbrev pub invariant-loop-rest : goal.invariant-loop-rest
 invariant-loop-rest g l =
     let h = g.R.Runtime in
-    let e = nested h.means l.self.depth l.context in
+    let e = nested h.means l.self.depth l.self.context.now in
     let b = body h.means e l.comprehension in
     record {
-      left : clauses h.means e l.rest b (slots_of l.frame) l.content (h.seen l.runtime) ≡ clauses h.means e l.clauses b (slots_of l.frame) l.fn.content (h.seen l.fn.runtime);
-      count : clauses_count h.means e b l.rest (slots_of l.frame) l.content (h.seen l.runtime) ≡ clauses_count h.means e b l.clauses (slots_of l.frame) l.fn.content (h.seen l.fn.runtime);
+      left : clauses h.means e l.rest b (slots_of l.self.frame.now) l.content (h.seen l.runtime) ≡ clauses h.means e l.clauses b (slots_of l.self.frame.now) l.fn.content (h.seen l.fn.runtime);
+      count : clauses_count h.means e b l.rest (slots_of l.self.frame.now) l.content (h.seen l.runtime) ≡ clauses_count h.means e b l.clauses (slots_of l.self.frame.now) l.fn.content (h.seen l.fn.runtime);
     }
 
 abbrev pub decreases-loop-rest : goal.decreases-loop-rest

@@ -16,7 +16,7 @@ pub returns-in-Use : goal.returns-in-Use
 returns-in-Use g c =
     let h = g.R.Runtime in
     let is : out-Code c.args.code.now ≡ Code-F.Use c.in-Use.binding = ap out-Code c.in-Use.is ∙ outs-Use c.in-Use.binding in
-    let e = use_layer h.means (inside h.means c.args.context.now) (round_of c.args.context.now) c.args.self.now.depth c.args.code.now c.in-Use.binding (slots_of c.args.frame.now) (h.seen c.args.runtime.now) c.if-self-gt0.true is in
+    let e = use_layer h.means (inside h.means c.args.self.now.context.now) (round_of c.args.self.now.context.now) c.args.self.now.depth c.args.code.now c.in-Use.binding (slots_of c.args.self.now.frame.now) (h.seen c.args.runtime.now) c.if-self-gt0.true is in
     let P : Run h.State Datum → Type 0 = λ run. Acts h.means read_of c.use_of.result (h.seen c.use_of.new.runtime) run in
     subst P (sym e) c.use_of.ensures
 
@@ -25,7 +25,7 @@ returns-in-Int g c =
     let h = g.R.Runtime in
     let is : out-Code c.args.code.now ≡ Code-F.Int c.in-Int.n = ap out-Code c.in-Int.is ∙ outs-Int c.in-Int.n in
     let z : to_z w64 (of_z w64 c.in-Int.n) ≡ c.in-Int.n = search rules in
-    let e = int_layer h.means (inside h.means c.args.context.now) (round_of c.args.context.now) c.args.self.now.depth c.args.code.now c.in-Int.n (slots_of c.args.frame.now) (h.seen c.args.runtime.now) c.if-self-gt0.true is in
+    let e = int_layer h.means (inside h.means c.args.self.now.context.now) (round_of c.args.self.now.context.now) c.args.self.now.depth c.args.code.now c.in-Int.n (slots_of c.args.self.now.frame.now) (h.seen c.args.runtime.now) c.if-self-gt0.true is in
     let Q : ℤ → Type 0 = λ n. Acts h.means read_of c.int_operand.result (h.seen c.int_operand.new.runtime) (literal h.means (int n) (h.seen c.args.runtime.now)) in
     let P : Run h.State Datum → Type 0 = λ run. Acts h.means read_of c.int_operand.result (h.seen c.int_operand.new.runtime) run in
     subst P (sym e) (subst Q z c.int_operand.ensures)

@@ -7,5 +7,5 @@ use Rattle.bq_eval_rules.proofs.evaluator.Evaluator.operations.Given as goal
 abbrev pub invariant-loop-operation : goal.invariant-loop-operation
 invariant-loop-operation g l =
     let h = g.R.Runtime in
-    let e = nested h.means l.self.depth l.context in
-    operations h.means e (drop l.operation-index l.operations) (slots_of l.frame) l.value (h.seen l.runtime) ≡ operations h.means e l.operations (slots_of l.frame) l.fn.first (h.seen l.fn.runtime)
+    let e = nested h.means l.self.depth l.self.context.now in
+    operations h.means e (drop l.operation-index l.operations) (slots_of l.self.frame.now) l.value (h.seen l.runtime) ≡ operations h.means e l.operations (slots_of l.self.frame.now) l.fn.first (h.seen l.fn.runtime)

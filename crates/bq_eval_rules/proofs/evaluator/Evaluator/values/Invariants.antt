@@ -7,5 +7,5 @@ use Rattle.bq_eval_rules.proofs.evaluator.Evaluator.values.Given as goal
 abbrev pub invariant-loop-code : goal.invariant-loop-code
 invariant-loop-code g l =
     let h = g.R.Runtime in
-    let e = nested h.means l.self.depth l.context in
-    values h.means e (drop l.code-index l.codes) (slots_of l.frame) l.all.items (h.seen l.runtime) ≡ values h.means e l.codes (slots_of l.frame) [] (h.seen l.fn.runtime)
+    let e = nested h.means l.self.depth l.self.context.now in
+    values h.means e (drop l.code-index l.codes) (slots_of l.self.frame.now) l.all.items (h.seen l.runtime) ≡ values h.means e l.codes (slots_of l.self.frame.now) [] (h.seen l.fn.runtime)

@@ -15,7 +15,7 @@ pub places_to-returns : goal.places_to-returns
 unfolding places_to
 places_to-returns g t c =
     let h = g.R.Runtime in
-    rw (deeper (λ n. places_to h.means (evals h.means c.args.context.now) n c.args.target.now (slots_of c.args.frame.now) c.args.places.now.items (h.seen c.args.runtime.now)) c.args.depth (omega arith)) c.places_of.ensures
+    rw (deeper (λ n. places_to h.means (evals h.means c.args.self.now.context.now) n c.args.target.now (slots_of c.args.frame.now) c.args.places.now.items (h.seen c.args.runtime.now)) c.args.depth (omega arith)) c.places_of.ensures
 
 pub places_each-loop-target-init : goal.places_each-loop-target-init
 unfolding places_each
@@ -40,21 +40,21 @@ places_of-returns-in-Global g t c = grind (arith, common_steps)
 pub places_of-returns-in-Index : goal.places_of-returns-in-Index
 places_of-returns-in-Index g t c =
     let h = g.R.Runtime in
-    let e = evals h.means c.args.context.now in
+    let e = evals h.means c.args.self.now.context.now in
     let P : Run h.State Places → Type 0 = λ run. Acts h.means (λ _. c.place.new.places.items) c.place.result (h.seen c.place.new.runtime) run in
     subst P (sym (index_places h.means e (places_to h.means e c.args.depth) c.args.target.now (slots_of c.args.frame.now) c.args.places.now.items (h.seen c.args.runtime.now) c.in-Index.operand c.in-Index.index c.get.result.now c.get-in-Index.result.now (ap out-CodeTarget c.in-Index.is ∙ outs-Index c.in-Index.operand c.in-Index.index) c.get.ensures c.get-in-Index.ensures)) c.place.ensures
 
 pub places_of-returns-in-Tuple : goal.places_of-returns-in-Tuple
 places_of-returns-in-Tuple g t c =
     let h = g.R.Runtime in
-    let e = evals h.means c.args.context.now in
+    let e = evals h.means c.args.self.now.context.now in
     let P : Run h.State Places → Type 0 = λ run. Acts h.means (λ _. c.places_each.new.places.items) c.places_each.result (h.seen c.places_each.new.runtime) run in
     subst P (sym (tuple_places h.means e (places_to h.means e c.args.depth) c.args.target.now (slots_of c.args.frame.now) c.args.places.now.items (h.seen c.args.runtime.now) c.in-Tuple.targets c.as_slice.result.now (ap out-CodeTarget c.in-Tuple.is ∙ outs-Tuple c.in-Tuple.targets) c.as_slice.ensures)) c.places_each.ensures
 
 pub places_of-returns-in-List : goal.places_of-returns-in-List
 places_of-returns-in-List g t c =
     let h = g.R.Runtime in
-    let e = evals h.means c.args.context.now in
+    let e = evals h.means c.args.self.now.context.now in
     let P : Run h.State Places → Type 0 = λ run. Acts h.means (λ _. c.places_each-in-List.new.places.items) c.places_each-in-List.result (h.seen c.places_each-in-List.new.runtime) run in
     subst P (sym (list_places h.means e (places_to h.means e c.args.depth) c.args.target.now (slots_of c.args.frame.now) c.args.places.now.items (h.seen c.args.runtime.now) c.in-List.targets c.as_slice-in-List.result.now (ap out-CodeTarget c.in-List.is ∙ outs-List c.in-List.targets) c.as_slice-in-List.ensures)) c.places_each-in-List.ensures
 

@@ -7,7 +7,7 @@ use Rattle.bq_eval_rules.proofs.reader.Reader.+places.Given as goal
 abbrev pub invariant-places_each-loop-target : goal.invariant-places_each-loop-target
 invariant-places_each-loop-target g l =
     let h = g.R.Runtime in
-    let e = evals h.means l.context in
+    let e = evals h.means l.self.context.now in
     let f = places_to h.means e l.depth in
     places_each h.means e f (drop l.target-index l.targets) (slots_of l.frame) l.places.items (h.seen l.runtime) ≡ places_each h.means e f l.targets (slots_of l.frame) l.fn.places.items (h.seen l.fn.runtime)
 

@@ -7,5 +7,5 @@ use Rattle.bq_eval_rules.proofs.reader.Reader.line.Given as goal
 abbrev pub invariant-loop-stmt : goal.invariant-loop-stmt
 invariant-loop-stmt g l =
     let h = g.R.Runtime in
-    let e = evals h.means l.context in
+    let e = evals h.means l.self.context.now in
     line h.means e (drop l.stmt-index l.stmts) (slots_of l.frame) (h.seen l.runtime) ≡ line h.means e l.stmts (slots_of l.fn.frame) (h.seen l.fn.runtime)

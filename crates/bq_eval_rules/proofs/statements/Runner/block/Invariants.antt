@@ -7,6 +7,6 @@ use Rattle.bq_eval_rules.proofs.statements.Runner.block.Given as goal
 abbrev pub invariant-loop-stmt : goal.invariant-loop-stmt
 invariant-loop-stmt g l =
     let h = g.R.Runtime in
-    let e = evals h.means l.context in
+    let e = evals h.means l.self.reader.context.now in
     let f = run_to l.self.depth h.means e in
     block h.means e f (drop l.stmt-index l.stmts) (slots_of l.frame) (h.seen l.runtime) ≡ block h.means e f l.stmts (slots_of l.fn.frame) (h.seen l.fn.runtime)

@@ -7,6 +7,6 @@ use Rattle.bq_eval_rules.proofs.statements.Runner.branches.Given as goal
 abbrev pub invariant-loop-branch : goal.invariant-loop-branch
 invariant-loop-branch g l =
     let h = g.R.Runtime in
-    let e = evals h.means l.context in
+    let e = evals h.means l.self.reader.context.now in
     let f = run_to l.self.depth h.means e in
     branches h.means e f (drop l.branch-index l.branches) l.otherwise (slots_of l.frame) (h.seen l.runtime) ≡ branches h.means e f l.branches l.otherwise (slots_of l.fn.frame) (h.seen l.fn.runtime)

@@ -7,7 +7,7 @@ use Rattle.bq_eval_rules.proofs.statements.Runner.turns.Given as goal
 abbrev pub invariant-loop-value : goal.invariant-loop-value
 invariant-loop-value g l =
     let h = g.R.Runtime in
-    let e = evals h.means l.context in
+    let e = evals h.means l.self.reader.context.now in
     let f = run_to l.self.depth h.means e in
     turns h.means e f l.target l.body l.elements (slots_of l.frame) (h.seen l.runtime) ≡ turns h.means e f l.target l.body l.fn.elements (slots_of l.fn.frame) (h.seen l.fn.runtime)
 

@@ -3,6 +3,7 @@ use Rattle.std.proofs.lemmas.List.{map_push}
 use Rattle.bq_board.specs.Graph.{Loads}
 use Rattle.bq_board.specs.Plan.{start, source, Into}
 use Rattle.bq_board.proofs.Conditions.{collects_none, collects_more, collects_all, may_fetch}
+use Rattle.bq_board.proofs.Edges.{are_loads}
 use Rattle.bq_load_outcome_spec.specs.Outcome.{outcome}
 use Rattle.bq_load_order.specs.Shown.{seen_value, value_in}
 use Rattle.bq_load_workers.proofs.Imports.{Came, into_here, came_none, came_next, came_stop, came_all}
@@ -43,7 +44,7 @@ loop-e-preserved g c =
       seat = c.fetch-import.ensures.seat;
       done = collects_more q _ _ _ c.args.m c.loop-e.e c.loop-e.invariant.done into c.fetch-import.ensures.fetched;
       came = subst (λ vs. Came out q c.args.m (c.loop-e.e + 1) vs) (sym (ap (map (λ a. g.E.Evaluate.see a.value)) c.in_ok-push-in-Some.ensures.items ∙ map_push (λ a. g.E.Evaluate.see a.value) c.loop-e.imports.items c.in-Some.value))
-          (came_next out q c.args.m (c.edges_are_loads.ensures q) c.requires.known c.loop-e.e into (map (λ a. g.E.Evaluate.see a.value) c.loop-e.imports.items) c.loop-e.invariant.came (g.E.Evaluate.see c.in-Some.value.value) (sym mine ∙ ap (seen_value g.E.Evaluate.see) c.in-Some.is));
+          (came_next out q c.args.m (are_loads q) c.requires.known c.loop-e.e into (map (λ a. g.E.Evaluate.see a.value) c.loop-e.imports.items) c.loop-e.invariant.came (g.E.Evaluate.see c.in-Some.value.value) (sym mine ∙ ap (seen_value g.E.Evaluate.see) c.in-Some.is));
     }
 
 pub returns-in-None-clause-values : goal.returns-in-None-clause-values
@@ -56,7 +57,7 @@ returns-in-None-clause-values g c =
     let mine : seen_value g.E.Evaluate.see c.fetch-import.result.value ≡ value_in (out (source q c.loop-e.e)) =
     c.fetch-import.ensures.belongs.1 ∙ (λ i. value_in (outcome (g.E.Evaluate.means (c.args.self.now.by i)) (c.args.self.now.of i) (source q c.loop-e.e))) in
     ap Err c.fetch-import.ensures.belongs.0
-    ∙ sym (came_stop out q c.args.m (c.edges_are_loads.ensures q) c.requires.known c.loop-e.e into (map (λ a. g.E.Evaluate.see a.value) c.loop-e.imports.items) c.loop-e.invariant.came (sym mine ∙ ap (seen_value g.E.Evaluate.see) c.in-None.is))
+    ∙ sym (came_stop out q c.args.m (are_loads q) c.requires.known c.loop-e.e into (map (λ a. g.E.Evaluate.see a.value) c.loop-e.imports.items) c.loop-e.invariant.came (sym mine ∙ ap (seen_value g.E.Evaluate.see) c.in-None.is))
 
 pub returns-in-None-clause-owes : goal.returns-in-None-clause-owes
 returns-in-None-clause-owes g c =

@@ -11,9 +11,9 @@ pub loop-statement-preserved : goal.loop-statement-preserved
 unfolding each
 loop-statement-preserved g c = grind (arith, common_steps)
 
-pub returns-in_err-nested : goal.returns-in_err-nested
+pub returns-in_err-resolved : goal.returns-in_err-resolved
 unfolding each
-returns-in_err-nested g c = grind (arith, common_steps)
+returns-in_err-resolved g c = grind (arith, common_steps)
 
 pub returns-in_err-push : goal.returns-in_err-push
 unfolding each

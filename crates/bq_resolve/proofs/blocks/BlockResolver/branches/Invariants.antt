@@ -5,5 +5,5 @@ use Rattle.bq_resolve.proofs.blocks.BlockResolver.branches.Given as goal
 
 abbrev pub invariant-loop-branch : goal.invariant-loop-branch
 invariant-loop-branch g l =
-    each (branch l.file (stmt_to l.file l.self.layers l.blocks l.looping) l.blocks) l.done (drop l.branch-index l.branches) l.walk
-    ≡ each (branch l.file (stmt_to l.file l.self.layers l.blocks l.looping) l.blocks) [] l.branches l.fn.walk
+    each (branch l.self.scope.file.now (stmt_to l.self.scope.file.now l.self.layers l.self.scope.blocks.now l.looping) l.self.scope.blocks.now) l.done (drop l.branch-index l.branches) l.walk
+    ≡ each (branch l.self.scope.file.now (stmt_to l.self.scope.file.now l.self.layers l.self.scope.blocks.now l.looping) l.self.scope.blocks.now) [] l.branches l.fn.walk

@@ -15,36 +15,36 @@ use Rattle.bq_resolve_expression.proofs.rules.Rules.+targets.Goals as goal
 pub target_to-returns-in-Name : goal.target_to-returns-in-Name
 target_to-returns-in-Name g t c =
     let q = c.in-Name in
-    let visit = expr_to c.args.self.now.depth c.args.file.now in
-    let inner = target_to c.args.file.now visit (c.args.layers - 1) c.args.blocks.now in
-    target_form c.args.file.now visit c.args.layers c.args.blocks.now c.args.target.now c.args.walk.now c.name_target.new.walk c.name_target.result c.if-layers-eq0.false
-    (of_one out-TargetExpr (target_by c.args.file.now visit inner c.args.blocks.now) c.args.target.now c.args.walk.now c.name_target.new.walk c.name_target.result form.Name TargetExpr-F.TargetExpr::Name outs-Name q.name q.name q.is refl c.name_target.ensures)
+    let visit = expr_to c.args.self.now.depth c.args.self.now.scope.file.now in
+    let inner = target_to c.args.self.now.scope.file.now visit (c.args.layers - 1) c.args.self.now.scope.blocks.now in
+    target_form c.args.self.now.scope.file.now visit c.args.layers c.args.self.now.scope.blocks.now c.args.target.now c.args.walk.now c.name_target.new.walk c.name_target.result c.if-layers-eq0.false
+    (of_one out-TargetExpr (target_by c.args.self.now.scope.file.now visit inner c.args.self.now.scope.blocks.now) c.args.target.now c.args.walk.now c.name_target.new.walk c.name_target.result form.Name TargetExpr-F.TargetExpr::Name outs-Name q.name q.name q.is refl c.name_target.ensures)
 
 pub target_to-returns-in-Index : goal.target_to-returns-in-Index
 target_to-returns-in-Index g t c =
     let q = c.in-Index in
-    let visit = expr_to c.args.self.now.depth c.args.file.now in
-    let inner = target_to c.args.file.now visit (c.args.layers - 1) c.args.blocks.now in
-    target_form c.args.file.now visit c.args.layers c.args.blocks.now c.args.target.now c.args.walk.now c.index_target.new.walk c.index_target.result c.if-layers-eq0.false
-    (of_two out-TargetExpr (target_by c.args.file.now visit inner c.args.blocks.now) c.args.target.now c.args.walk.now c.index_target.new.walk c.index_target.result form.Index TargetExpr-F.TargetExpr::Index outs-Index q.operand c.get.result.now q.index c.get-in-Index.result.now q.is c.get.ensures c.get-in-Index.ensures
+    let visit = expr_to c.args.self.now.depth c.args.self.now.scope.file.now in
+    let inner = target_to c.args.self.now.scope.file.now visit (c.args.layers - 1) c.args.self.now.scope.blocks.now in
+    target_form c.args.self.now.scope.file.now visit c.args.layers c.args.self.now.scope.blocks.now c.args.target.now c.args.walk.now c.index_target.new.walk c.index_target.result c.if-layers-eq0.false
+    (of_two out-TargetExpr (target_by c.args.self.now.scope.file.now visit inner c.args.self.now.scope.blocks.now) c.args.target.now c.args.walk.now c.index_target.new.walk c.index_target.result form.Index TargetExpr-F.TargetExpr::Index outs-Index q.operand c.get.result.now q.index c.get-in-Index.result.now q.is c.get.ensures c.get-in-Index.ensures
     (c.index_target.ensures inner))
 
 pub target_to-returns-in-Tuple : goal.target_to-returns-in-Tuple
 target_to-returns-in-Tuple g t c =
     let q = c.in-Tuple in
-    let visit = expr_to c.args.self.now.depth c.args.file.now in
-    let inner = target_to c.args.file.now visit (c.args.layers - 1) c.args.blocks.now in
-    target_form c.args.file.now visit c.args.layers c.args.blocks.now c.args.target.now c.args.walk.now c.targets_to.new.walk c.map.result c.if-layers-eq0.false
-    (of_one out-TargetExpr (target_by c.args.file.now visit inner c.args.blocks.now) c.args.target.now c.args.walk.now c.targets_to.new.walk c.map.result form.Tuple TargetExpr-F.TargetExpr::Tuple outs-Tuple q.targets c.as_slice.result.now q.is c.as_slice.ensures
+    let visit = expr_to c.args.self.now.depth c.args.self.now.scope.file.now in
+    let inner = target_to c.args.self.now.scope.file.now visit (c.args.layers - 1) c.args.self.now.scope.blocks.now in
+    target_form c.args.self.now.scope.file.now visit c.args.layers c.args.self.now.scope.blocks.now c.args.target.now c.args.walk.now c.targets_to.new.walk c.map.result c.if-layers-eq0.false
+    (of_one out-TargetExpr (target_by c.args.self.now.scope.file.now visit inner c.args.self.now.scope.blocks.now) c.args.target.now c.args.walk.now c.targets_to.new.walk c.map.result form.Tuple TargetExpr-F.TargetExpr::Tuple outs-Tuple q.targets c.as_slice.result.now q.is c.as_slice.ensures
     (mapped target.Tuple (each inner [] c.as_slice.result.now c.args.walk.now) c.targets_to.new.walk c.targets_to.result c.map.result c.targets_to.ensures c.map.ensures.cases))
 
 pub target_to-returns-in-List : goal.target_to-returns-in-List
 target_to-returns-in-List g t c =
     let q = c.in-List in
-    let visit = expr_to c.args.self.now.depth c.args.file.now in
-    let inner = target_to c.args.file.now visit (c.args.layers - 1) c.args.blocks.now in
-    target_form c.args.file.now visit c.args.layers c.args.blocks.now c.args.target.now c.args.walk.now c.targets_to-in-List.new.walk c.map-in-List.result c.if-layers-eq0.false
-    (of_one out-TargetExpr (target_by c.args.file.now visit inner c.args.blocks.now) c.args.target.now c.args.walk.now c.targets_to-in-List.new.walk c.map-in-List.result form.List TargetExpr-F.TargetExpr::List outs-List q.targets c.as_slice-in-List.result.now q.is c.as_slice-in-List.ensures
+    let visit = expr_to c.args.self.now.depth c.args.self.now.scope.file.now in
+    let inner = target_to c.args.self.now.scope.file.now visit (c.args.layers - 1) c.args.self.now.scope.blocks.now in
+    target_form c.args.self.now.scope.file.now visit c.args.layers c.args.self.now.scope.blocks.now c.args.target.now c.args.walk.now c.targets_to-in-List.new.walk c.map-in-List.result c.if-layers-eq0.false
+    (of_one out-TargetExpr (target_by c.args.self.now.scope.file.now visit inner c.args.self.now.scope.blocks.now) c.args.target.now c.args.walk.now c.targets_to-in-List.new.walk c.map-in-List.result form.List TargetExpr-F.TargetExpr::List outs-List q.targets c.as_slice-in-List.result.now q.is c.as_slice-in-List.ensures
     (mapped target.List (each inner [] c.as_slice-in-List.result.now c.args.walk.now) c.targets_to-in-List.new.walk c.targets_to-in-List.result c.map-in-List.result c.targets_to-in-List.ensures c.map-in-List.ensures.cases))
 
 pub targets_to-loop-target-init : goal.targets_to-loop-target-init

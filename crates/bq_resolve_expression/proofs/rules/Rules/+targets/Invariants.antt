@@ -4,7 +4,7 @@ use Rattle.bq_resolve_scope.specs.Expressions.{target_to, expr_to}
 use Rattle.bq_resolve_expression.proofs.rules.Rules.+targets.Given as goal
 
 abbrev pub invariant-targets_to-loop-target : goal.invariant-targets_to-loop-target
-invariant-targets_to-loop-target g l = each (target_to l.file (expr_to l.self.depth l.file) l.layers l.blocks) l.done (drop l.target-index l.targets) l.walk ≡ each (target_to l.file (expr_to l.self.depth l.file) l.layers l.blocks) [] l.targets l.fn.walk
+invariant-targets_to-loop-target g l = each (target_to l.self.scope.file.now (expr_to l.self.depth l.self.scope.file.now) l.layers l.self.scope.blocks.now) l.done (drop l.target-index l.targets) l.walk ≡ each (target_to l.self.scope.file.now (expr_to l.self.depth l.self.scope.file.now) l.layers l.self.scope.blocks.now) [] l.targets l.fn.walk
 
 abbrev pub decreases-targets_to : goal.decreases-targets_to
 decreases-targets_to g l = 2 * l.layers + 1

@@ -12,26 +12,26 @@ use Rattle.bq_resolve_expression.proofs.rules.Rules.argument.Goals as goal
 pub returns-in-Positional : goal.returns-in-Positional
 returns-in-Positional g c =
     let q = c.in-Positional in
-    of_one out-Argument (argument_by c.args.file.now (expr_to c.args.self.now.depth c.args.file.now) c.args.blocks.now) c.args.argument.now c.args.walk.now c.expr.new.walk c.map.result
+    of_one out-Argument (argument_by c.args.self.now.scope.file.now (expr_to c.args.self.now.depth c.args.self.now.scope.file.now) c.args.self.now.scope.blocks.now) c.args.argument.now c.args.walk.now c.expr.new.walk c.map.result
     form.Positional Argument-F.Positional outs-Positional q.value q.value q.is refl
-    (mapped argument.Positional (expr_to c.args.self.now.depth c.args.file.now c.args.blocks.now q.value c.args.walk.now) c.expr.new.walk c.expr.result c.map.result c.expr.ensures c.map.ensures.cases)
+    (mapped argument.Positional (expr_to c.args.self.now.depth c.args.self.now.scope.file.now c.args.self.now.scope.blocks.now q.value c.args.walk.now) c.expr.new.walk c.expr.result c.map.result c.expr.ensures c.map.ensures.cases)
 
 pub returns-in-Named : goal.returns-in-Named
 returns-in-Named g c =
     let q = c.in-Named in
-    of_two out-Argument (argument_by c.args.file.now (expr_to c.args.self.now.depth c.args.file.now) c.args.blocks.now) c.args.argument.now c.args.walk.now c.named.new.walk c.named.result
+    of_two out-Argument (argument_by c.args.self.now.scope.file.now (expr_to c.args.self.now.depth c.args.self.now.scope.file.now) c.args.self.now.scope.blocks.now) c.args.argument.now c.args.walk.now c.named.new.walk c.named.result
     form.Named Argument-F.Named outs-Named q.name q.name q.value q.value q.is refl refl c.named.ensures
 
 pub returns-in-Star : goal.returns-in-Star
 returns-in-Star g c =
     let q = c.in-Star in
-    of_one out-Argument (argument_by c.args.file.now (expr_to c.args.self.now.depth c.args.file.now) c.args.blocks.now) c.args.argument.now c.args.walk.now c.expr-in-Star.new.walk c.map-in-Star.result
+    of_one out-Argument (argument_by c.args.self.now.scope.file.now (expr_to c.args.self.now.depth c.args.self.now.scope.file.now) c.args.self.now.scope.blocks.now) c.args.argument.now c.args.walk.now c.expr-in-Star.new.walk c.map-in-Star.result
     form.Star Argument-F.Star outs-Star q.value q.value q.is refl
-    (mapped argument.Star (expr_to c.args.self.now.depth c.args.file.now c.args.blocks.now q.value c.args.walk.now) c.expr-in-Star.new.walk c.expr-in-Star.result c.map-in-Star.result c.expr-in-Star.ensures c.map-in-Star.ensures.cases)
+    (mapped argument.Star (expr_to c.args.self.now.depth c.args.self.now.scope.file.now c.args.self.now.scope.blocks.now q.value c.args.walk.now) c.expr-in-Star.new.walk c.expr-in-Star.result c.map-in-Star.result c.expr-in-Star.ensures c.map-in-Star.ensures.cases)
 
 pub returns-in-StarStar : goal.returns-in-StarStar
 returns-in-StarStar g c =
     let q = c.in-StarStar in
-    of_one out-Argument (argument_by c.args.file.now (expr_to c.args.self.now.depth c.args.file.now) c.args.blocks.now) c.args.argument.now c.args.walk.now c.expr-in-StarStar.new.walk c.map-in-StarStar.result
+    of_one out-Argument (argument_by c.args.self.now.scope.file.now (expr_to c.args.self.now.depth c.args.self.now.scope.file.now) c.args.self.now.scope.blocks.now) c.args.argument.now c.args.walk.now c.expr-in-StarStar.new.walk c.map-in-StarStar.result
     form.StarStar Argument-F.StarStar outs-StarStar q.value q.value q.is refl
-    (mapped argument.StarStar (expr_to c.args.self.now.depth c.args.file.now c.args.blocks.now q.value c.args.walk.now) c.expr-in-StarStar.new.walk c.expr-in-StarStar.result c.map-in-StarStar.result c.expr-in-StarStar.ensures c.map-in-StarStar.ensures.cases)
+    (mapped argument.StarStar (expr_to c.args.self.now.depth c.args.self.now.scope.file.now c.args.self.now.scope.blocks.now q.value c.args.walk.now) c.expr-in-StarStar.new.walk c.expr-in-StarStar.result c.map-in-StarStar.result c.expr-in-StarStar.ensures c.map-in-StarStar.ensures.cases)

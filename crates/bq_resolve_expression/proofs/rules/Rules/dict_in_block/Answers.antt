@@ -7,9 +7,9 @@ pub returns-in_err-names : goal.returns-in_err-names
 unfolding in_block
 returns-in_err-names g c = grind (arith, common_steps)
 
-pub returns-in_err-inside : goal.returns-in_err-inside
+pub returns-in_err-blocks : goal.returns-in_err-blocks
 unfolding in_block
-returns-in_err-inside g c = grind (arith, common_steps)
+returns-in_err-blocks g c = grind (arith, common_steps)
 
 pub returns-in_err-pair : goal.returns-in_err-pair
 unfolding in_block

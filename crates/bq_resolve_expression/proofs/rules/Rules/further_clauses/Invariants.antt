@@ -5,4 +5,4 @@ use Rattle.bq_resolve_scope.specs.Expressions.{clause_by, expr_to}
 use Rattle.bq_resolve_expression.proofs.rules.Rules.further_clauses.Given as goal
 
 abbrev pub invariant-loop-clause : goal.invariant-loop-clause
-invariant-loop-clause g l = each (λ x. clause_by l.file (expr_to l.self.depth l.file) l.blocks l.blocks (out-Clause x)) l.done (drop l.clause-index l.clauses) l.walk ≡ each (λ x. clause_by l.file (expr_to l.self.depth l.file) l.blocks l.blocks (out-Clause x)) l.fn.done l.clauses l.fn.walk
+invariant-loop-clause g l = each (λ x. clause_by l.self.scope.file.now (expr_to l.self.depth l.self.scope.file.now) l.self.scope.blocks.now l.self.scope.blocks.now (out-Clause x)) l.done (drop l.clause-index l.clauses) l.walk ≡ each (λ x. clause_by l.self.scope.file.now (expr_to l.self.depth l.self.scope.file.now) l.self.scope.blocks.now l.self.scope.blocks.now (out-Clause x)) l.fn.done l.clauses l.fn.walk

@@ -11,14 +11,14 @@ use Rattle.bq_resolve_expression.proofs.rules.Rules.list_comprehension.Goals as 
 pub returns-then-not-is_empty : goal.returns-then-not-is_empty
 unfolding comprehension
 returns-then-not-is_empty g c =
-    let v : Visit Code = in_block c.args.file.now (expr_to c.args.self.now.depth c.args.file.now) (λ bs. expr_to c.args.self.now.depth c.args.file.now bs c.args.element.now) code.ListComprehension c.args.blocks.now c.args.clauses.now in
-    let some : (length c.args.blocks.now == 0) ≡ false = sym c.is_empty.ensures ∙ c.if-not-is_empty.true in
-    inside_block c.args.blocks.now v c.args.walk.now c.list_in_block.new.walk c.list_in_block.result some c.list_in_block.ensures
+    let v : Visit Code = in_block c.args.self.now.scope.file.now (expr_to c.args.self.now.depth c.args.self.now.scope.file.now) (λ bs. expr_to c.args.self.now.depth c.args.self.now.scope.file.now bs c.args.element.now) code.ListComprehension c.args.self.now.scope.blocks.now c.args.clauses.now in
+    let some : (length c.args.self.now.scope.blocks.now == 0) ≡ false = sym c.is_empty.ensures ∙ c.if-not-is_empty.true in
+    inside_block c.args.self.now.scope.blocks.now v c.args.walk.now c.list_in_block.new.walk c.list_in_block.result some c.list_in_block.ensures
 
 pub returns : goal.returns
 unfolding comprehension
 returns g c =
-    let v : Visit Code = in_block c.args.file.now (expr_to c.args.self.now.depth c.args.file.now) (λ bs. expr_to c.args.self.now.depth c.args.file.now bs c.args.element.now) code.ListComprehension c.args.blocks.now c.args.clauses.now in
-    let none : (length c.args.blocks.now == 0) ≡ true = sym c.is_empty.ensures ∙ c.if-not-is_empty.false in
+    let v : Visit Code = in_block c.args.self.now.scope.file.now (expr_to c.args.self.now.depth c.args.self.now.scope.file.now) (λ bs. expr_to c.args.self.now.depth c.args.self.now.scope.file.now bs c.args.element.now) code.ListComprehension c.args.self.now.scope.blocks.now c.args.clauses.now in
+    let none : (length c.args.self.now.scope.blocks.now == 0) ≡ true = sym c.is_empty.ensures ∙ c.if-not-is_empty.false in
     let inside : v (record c.args.walk.now { slots = 0 }) ≡ Ok (c.in_ok-code.code, c.list_in_block-2.new.walk) = first_of (search rules, grind (arith, common_steps)) in
-    own_frame c.args.blocks.now v c.args.walk.now c.framed.new.walk c.framed.result none (rw (inside, ← c.frame-had.ensures.had) c.framed.ensures)
+    own_frame c.args.self.now.scope.blocks.now v c.args.walk.now c.framed.new.walk c.framed.result none (rw (inside, ← c.frame-had.ensures.had) c.framed.ensures)

@@ -1,24 +1,25 @@
 use Rattle.std.proofs.Common.{arith}
 use Rattle.std.proofs.lemmas.Grind.{common_steps}
 use Rattle.bq_resolve_scope.specs.Visit.{each}
+use Rattle.bq_resolve_scope.specs.Expressions.{operation}
 use Rattle.bq_resolve_expression.proofs.rules.Rules.operations.Goals as goal
 
 pub loop-operation-init : goal.loop-operation-init
-unfolding each
+unfolding each operation
 loop-operation-init g c = grind (arith, common_steps)
 
 pub loop-operation-preserved : goal.loop-operation-preserved
-unfolding each
+unfolding each operation
 loop-operation-preserved g c = grind (arith, common_steps)
 
-pub returns-in_err-operation : goal.returns-in_err-operation
-unfolding each
-returns-in_err-operation g c = grind (arith, common_steps)
+pub returns-in_err-operand : goal.returns-in_err-operand
+unfolding each operation
+returns-in_err-operand g c = grind (arith, common_steps)
 
 pub returns-in_err-push : goal.returns-in_err-push
-unfolding each
+unfolding each operation
 returns-in_err-push g c = grind (arith, common_steps)
 
 pub returns : goal.returns
-unfolding each
+unfolding each operation
 returns g c = grind (arith, common_steps)

@@ -4,4 +4,4 @@ use Rattle.bq_resolve_scope.specs.Expressions.{pair, expr_to}
 use Rattle.bq_resolve_expression.proofs.rules.Rules.pairs.Given as goal
 
 abbrev pub invariant-loop-pair : goal.invariant-loop-pair
-invariant-loop-pair g l = each (pair l.file (expr_to l.self.depth l.file) l.blocks) l.done (drop l.pair-index l.pairs) l.walk ≡ each (pair l.file (expr_to l.self.depth l.file) l.blocks) [] l.pairs l.fn.walk
+invariant-loop-pair g l = each (pair l.self.scope.file.now (expr_to l.self.depth l.self.scope.file.now) l.self.scope.blocks.now) l.done (drop l.pair-index l.pairs) l.walk ≡ each (pair l.self.scope.file.now (expr_to l.self.depth l.self.scope.file.now) l.self.scope.blocks.now) [] l.pairs l.fn.walk

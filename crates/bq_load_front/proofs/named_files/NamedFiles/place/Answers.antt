@@ -1,0 +1,12 @@
+use Rattle.std.proofs.Common.{◌∙◌, ℕ, List, ap, slice_get}
+use Rattle.bq_label.specs.Label.{LabelParts}
+use Rattle.bq_load_front.specs.NamedFiles.{place_named}
+use Rattle.bq_load_front.proofs.Places.{place_kept}
+use Rattle.bq_load_front.proofs.named_files.NamedFiles.place.Goals as goal
+
+pub returns : goal.returns
+returns c =
+    let fs = c.self.inside.files.items in
+    let ps = c.self.inside.places.items in
+    c.place_at.ensures
+    ∙ (ap (λ (z : List ℕ). slice_get z c.args.load) c.deref.ensures.value ∙ (place_kept fs ps c.self.invariant c.args.load ∙ ap (λ (z : List LabelParts). place_named z c.args.load) c.self.view_is))

@@ -1,8 +1,0 @@
-use Rattle.std.proofs.Common.{◌≡◌, ◌-◌}
-use Rattle.bq_query_lex.specs.declared.token.QueryTokenKind.TheVariants as k
-use Rattle.bq_query_tree.specs.Turns.{sees, turns, repeat, repeat_turn}
-use Rattle.bq_query_tree.specs.Reading.{after_comma, query_to}
-use Rattle.bq_query_parse.proofs.grammar.QueryGrammar.further_arguments.Given as goal
-
-abbrev pub invariant-loop-turn : goal.invariant-loop-turn
-invariant-loop-turn g l = repeat (sees k.Comma) (after_comma (query_to l.self.depth)) l.fn.found l.fn.tokens ≡ turns (repeat_turn (sees k.Comma) (after_comma (query_to l.self.depth))) (l._turn-end - l._turn) l.found l.tokens
