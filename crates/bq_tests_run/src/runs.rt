@@ -397,7 +397,7 @@ fn failing_at_each<R: Threads + Wait + RandomSource + Sync>(
     if let Some(call) = first_wrong(rt, alloc, row, writer, texts)? {
         return Ok(format!(in alloc; "wrong at {call}")?.into_bytes());
     }
-    let after = writer.failing(calls as u64 + 1, false);
+    let after = writer.failing((calls as u64).saturating_add(1), false);
     if written_of_row(rt, alloc, row, after)? != whole {
         return b"a call too many".to_vec(alloc);
     }
