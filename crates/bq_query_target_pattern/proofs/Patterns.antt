@@ -16,12 +16,9 @@ use Rattle.bq_label.proofs.Segments.{path_joined}
 use Rattle.bq_query_lex.specs.declared.target_pattern.PatternForm.{PatternForm}
 use Rattle.bq_query_lex.specs.declared.target_pattern.PatternForm.TheVariants as form
 use Rattle.bq_query_lex.specs.TargetPatterns.{Ending, begins_pattern, endings, form_by, form_or, is_colon, package_part, part_before, word_form}
-use Rattle.bq_query_target_sets.specs.Packages.{DotsFollowAPackage, FollowsAPackage, IsDots, IsPattern, Spells, dots_by}
-use Rattle.bq_query_target_sets.specs.Words.{label_named, package_named}
-use Rattle.bq_query_target_sets.proofs.Packages.{heads, label_of_part, same_cut}
-
-some_is : {A : Type 0} {x y : A} → Some x ≡ Some y → x ≡ y
-some_is e = cc
+use Rattle.bq_query_target_pattern.specs.Dots.{DotsFollowAPackage, FollowsAPackage, IsDots, IsPattern, Spells, dots_by}
+use Rattle.bq_query_target_pattern.specs.Reading.{label_named, package_named}
+use Rattle.bq_query_target_pattern.proofs.Names.{label_of_part, same_cut, some_is}
 
 -- ---- last bytes
 
@@ -29,7 +26,7 @@ abbrev last_byte : ℕ → List ℕ → ℕ
 last_byte d [] = d
 last_byte d (x ∷ xs) = last_byte x xs
 
-last_append : (xs : List ℕ) (d y : ℕ) (ys : List ℕ) → last_byte d (xs ++ y ∷ ys) ≡ last_byte y ys
+pub last_append : (xs : List ℕ) (d y : ℕ) (ys : List ℕ) → last_byte d (xs ++ y ∷ ys) ≡ last_byte y ys
 last_append [] d y ys = refl
 last_append (x ∷ xs) d y ys = last_append xs x y ys
 
@@ -41,7 +38,7 @@ last_split : (b : ℕ) (bs : List ℕ) → (front : List ℕ) × (b ∷ bs ≡ f
 last_split b [] = ([], refl)
 last_split b (d ∷ ds) = let more = last_split d ds in (b ∷ more.0, ap (λ xs. b ∷ xs) more.1)
 
-empty_no_path : is_path [] ≡ true → ⊥
+pub empty_no_path : is_path [] ≡ true → ⊥
 unfolding is_path
 empty_no_path h = false≢true h
 
@@ -63,36 +60,35 @@ unfolding is_path
 name_valid = refl
 
 module _ (p : PackageParts) (hp : IsPackage p) where
-  abbrev its_x : LabelParts
-  its_x = label_at p.repo p.package (120 ∷ [])
+  written_in : (text n : List ℕ) → Spells p text → IsWritten (package_at [] []) (text ++ 58 ∷ n) (label_at p.repo p.package n)
+  written_in text n (Spells.main repo is) = absolute (ap (λ (t : List ℕ). t ++ 58 ∷ n) is) repo
+  written_in text n (Spells.other is) = external (ap (λ (t : List ℕ). t ++ 58 ∷ n) is ∙ ap (λ (t : List ℕ). 64 ∷ t) (append_assoc p.repo (47 ∷ 47 ∷ p.package) (58 ∷ n)))
 
-  x_valid : IsLabel its_x
-  x_valid = record { valid_repo = hp.valid_repo; valid_package = hp.valid_package; valid_name = name_valid }
-
-  written_x : (text : List ℕ) → Spells p text → IsWritten (package_at [] []) (text ++ 58 ∷ 120 ∷ []) its_x
-  written_x text (Spells.main repo is) = absolute (ap (λ (t : List ℕ). t ++ 58 ∷ 120 ∷ []) is) repo
-  written_x text (Spells.other is) = external (ap (λ (t : List ℕ). t ++ 58 ∷ 120 ∷ []) is ∙ ap (λ (t : List ℕ). 64 ∷ t) (append_assoc p.repo (47 ∷ 47 ∷ p.package) (58 ∷ 120 ∷ [])))
+  -- what names the package, a colon and a name are a label
+  pub label_in_it : (text n : List ℕ) → Spells p text → is_path n ≡ true → label_named (text ++ 58 ∷ n) ≡ Some (label_at p.repo p.package n)
+  label_in_it text n h valid =
+      let its : IsLabel (label_at p.repo p.package n) = record { valid_repo = hp.valid_repo; valid_package = hp.valid_package; valid_name = valid } in
+      label_from_reading (package_at [] []) (text ++ 58 ∷ n) (label_at p.repo p.package n) (record { written = written_in text n h; valid = its })
 
   pub named : (text : List ℕ) → Spells p text → package_named text ≡ Some p
   unfolding package_named
-  named text h =
-      root_label (text ++ 58 ∷ 120 ∷ []) p its_x (label_from_reading (package_at [] []) (text ++ 58 ∷ 120 ∷ []) its_x (record { written = written_x text h; valid = x_valid })) refl
+  named text h = root_label (text ++ 58 ∷ 120 ∷ []) p (label_at p.repo p.package (120 ∷ [])) (label_in_it text (120 ∷ []) h name_valid) refl
 
-  no_colon_in : (r x : List ℕ) → is_repository r ≡ true → is_package x ≡ true → list_any is_colon (r ++ 47 ∷ 47 ∷ x) ≡ false
+  pub no_colon_in : (r x : List ℕ) → is_repository r ≡ true → is_package x ≡ true → list_any is_colon (r ++ 47 ∷ 47 ∷ x) ≡ false
   unfolding is_repository
   no_colon_in r x hr hx = list_any-append is_colon r (47 ∷ 47 ∷ x) ∙ rw (none_of is_repository_byte 58 refl r hr, no_colon x hx) refl
 
-  plain : (text : List ℕ) → Spells p text → list_any is_colon text ≡ false
+  pub plain : (text : List ℕ) → Spells p text → list_any is_colon text ≡ false
   plain text (Spells.main repo is) = ap (list_any is_colon) is ∙ no_colon p.package hp.valid_package
   plain text (Spells.other is) = ap (list_any is_colon) is ∙ no_colon_in p.repo p.package hp.valid_repo hp.valid_package
 
   -- what is before the package's path
-  front_of : (text : List ℕ) → Spells p text → (front : List ℕ) × (text ≡ front ++ 47 ∷ 47 ∷ p.package)
+  pub front_of : (text : List ℕ) → Spells p text → (front : List ℕ) × (text ≡ front ++ 47 ∷ 47 ∷ p.package)
   front_of text (Spells.main repo is) = ([], is)
   front_of text (Spells.other is) = (64 ∷ p.repo, is)
 
   -- it ends with a slash for the root alone
-  is_root : (text : List ℕ) → Spells p text → (front : List ℕ) → text ≡ front ++ 47 ∷ [] → p.package ≡ []
+  pub is_root : (text : List ℕ) → Spells p text → (front : List ℕ) → text ≡ front ++ 47 ∷ [] → p.package ≡ []
   is_root text h front e = by_path p.package refl
     where
       by_path : (path : List ℕ) → p.package ≡ path → path ≡ []
@@ -102,7 +98,7 @@ module _ (p : PackageParts) (hp : IsPackage p) where
           let whole : (f.0 ++ 47 ∷ 47 ∷ []) ++ b ∷ bs ≡ front ++ 47 ∷ [] = append_assoc f.0 (47 ∷ 47 ∷ []) (b ∷ bs) ∙ (ap (λ (x : List ℕ). f.0 ++ 47 ∷ 47 ∷ x) (sym is) ∙ (sym f.1 ∙ e)) in
           absurd (path_ends b bs (sym (ap is_package is) ∙ hp.valid_package) (last_same (f.0 ++ 47 ∷ 47 ∷ []) front b 47 bs [] whole))
 
-has_colon : (xs rest : List ℕ) → list_any is_colon (xs ++ 58 ∷ rest) ≡ false → ⊥
+pub has_colon : (xs rest : List ℕ) → list_any is_colon (xs ++ 58 ∷ rest) ≡ false → ⊥
 has_colon xs rest h = false≢true (sym h ∙ (list_any-append is_colon xs (58 ∷ rest) ∙ or_true (list_any is_colon xs)))
   where
     or_true : (b : Bool) → (b || true) ≡ true
@@ -111,31 +107,31 @@ has_colon xs rest h = false≢true (sym h ∙ (list_any-append is_colon xs (58 �
 
 -- the part of a word that begins as a pattern, before an end
 module _ (part : List ℕ) (none : list_any is_colon part ≡ false) (some : part ≢ []) where
-  spelled_by : (l : LabelParts) → IsLabel l → IsWritten (package_at [] []) (part ++ 58 ∷ 120 ∷ []) l → Spells (package_of l) part
+  pub spelled_by : (n : List ℕ) (l : LabelParts) → IsLabel l → IsWritten (package_at [] []) (part ++ 58 ∷ n) l → Spells (package_of l) part
   unfolding is_repository
-  spelled_by l h (absolute t r) = Spells.main r (same_cut 58 part (120 ∷ []) (47 ∷ 47 ∷ l.package) l.name none (no_colon l.package h.valid_package) t).0
-  spelled_by l h (short t n r) = absurd (has_colon part (120 ∷ []) (ap (list_any is_colon) t ∙ no_colon l.package h.valid_package))
-  spelled_by l h (own_name t e) = absurd (some (same_cut 58 part (120 ∷ []) [] l.name none refl t).0)
-  spelled_by l h (bare_name t b e) = absurd (has_colon part (120 ∷ []) (ap (list_any is_colon) t ∙ none_of is_path_byte 58 refl l.name (path_bytes l.name h.valid_name)))
-  spelled_by l h (external t) =
-      let whole : part ++ 58 ∷ 120 ∷ [] ≡ (64 ∷ (l.repo ++ 47 ∷ 47 ∷ l.package)) ++ 58 ∷ l.name = t ∙ ap (λ (x : List ℕ). 64 ∷ x) (sym (append_assoc l.repo (47 ∷ 47 ∷ l.package) (58 ∷ l.name))) in
+  spelled_by n l h (absolute t r) = Spells.main r (same_cut 58 part n (47 ∷ 47 ∷ l.package) l.name none (no_colon l.package h.valid_package) t).0
+  spelled_by n l h (short t m r) = absurd (has_colon part n (ap (list_any is_colon) t ∙ no_colon l.package h.valid_package))
+  spelled_by n l h (own_name t e) = absurd (some (same_cut 58 part n [] l.name none refl t).0)
+  spelled_by n l h (bare_name t b e) = absurd (has_colon part n (ap (list_any is_colon) t ∙ none_of is_path_byte 58 refl l.name (path_bytes l.name h.valid_name)))
+  spelled_by n l h (external t) =
+      let whole : part ++ 58 ∷ n ≡ (64 ∷ (l.repo ++ 47 ∷ 47 ∷ l.package)) ++ 58 ∷ l.name = t ∙ ap (λ (x : List ℕ). 64 ∷ x) (sym (append_assoc l.repo (47 ∷ 47 ∷ l.package) (58 ∷ l.name))) in
       let valid : IsPackage (package_of l) = record { valid_repo = h.valid_repo; valid_package = h.valid_package } in
-      Spells.other (same_cut 58 part (120 ∷ []) (64 ∷ (l.repo ++ 47 ∷ 47 ∷ l.package)) l.name none (no_colon_in (package_of l) valid l.repo l.package h.valid_repo h.valid_package) whole).0
-  spelled_by l h (external_short t n) =
+      Spells.other (same_cut 58 part n (64 ∷ (l.repo ++ 47 ∷ 47 ∷ l.package)) l.name none (no_colon_in (package_of l) valid l.repo l.package h.valid_repo h.valid_package) whole).0
+  spelled_by n l h (external_short t m) =
       let valid : IsPackage (package_of l) = record { valid_repo = h.valid_repo; valid_package = h.valid_package } in
-      absurd (has_colon part (120 ∷ []) (ap (list_any is_colon) t ∙ no_colon_in (package_of l) valid l.repo l.package h.valid_repo h.valid_package))
-  spelled_by l h (repository t e n) = absurd (has_colon part (120 ∷ []) (ap (list_any is_colon) t ∙ none_of is_repository_byte 58 refl l.repo h.valid_repo))
+      absurd (has_colon part n (ap (list_any is_colon) t ∙ no_colon_in (package_of l) valid l.repo l.package h.valid_repo h.valid_package))
+  spelled_by n l h (repository t e m) = absurd (has_colon part n (ap (list_any is_colon) t ∙ none_of is_repository_byte 58 refl l.repo h.valid_repo))
 
-  spelled : (p : PackageParts) → package_named part ≡ Some p → Spells p part
+  pub spelled : (p : PackageParts) → package_named part ≡ Some p → Spells p part
   spelled p h =
       let l = label_of_part part p h in
       let r = reading_from_label (package_at [] []) (part ++ 58 ∷ 120 ∷ []) l.0 l.1 in
-      subst (λ (q : PackageParts). Spells q part) l.2 (spelled_by l.0 r.valid r.written)
+      subst (λ (q : PackageParts). Spells q part) l.2 (spelled_by (120 ∷ []) l.0 r.valid r.written)
 
 -- ---- endings
 
 module _ (word : List ℕ) where
-  fits : (end : List ℕ) (dropped : ℕ) (front kept part : List ℕ) → word ≡ front ++ end → length end ≡ length kept + dropped → take (length kept) end ≡ kept → part ≡ front ++ kept → list_any is_colon part ≡ false
+  pub fits : (end : List ℕ) (dropped : ℕ) (front kept part : List ℕ) → word ≡ front ++ end → length end ≡ length kept + dropped → take (length kept) end ≡ kept → part ≡ front ++ kept → list_any is_colon part ≡ false
       → part_before end dropped word ≡ Some part
   unfolding part_before
   fits end dropped front kept part whole long begins is none =
@@ -144,7 +140,7 @@ module _ (word : List ℕ) where
       let taken : take (length word - dropped) word ≡ part = ap (λ n. take n word) count ∙ (ap (take (length front + length kept)) whole ∙ (take-append-add front end (length kept) ∙ (ap (λ (x : List ℕ). front ++ x) begins ∙ sym is))) in
       rw (ends, taken, none) refl
 
-  unfit : (end : List ℕ) (dropped : ℕ) → ((front : List ℕ) → word ≡ front ++ end → ⊥) → part_before end dropped word ≡ None
+  pub unfit : (end : List ℕ) (dropped : ℕ) → ((front : List ℕ) → word ≡ front ++ end → ⊥) → part_before end dropped word ≡ None
   unfolding part_before
   unfit end dropped never = elim (cases_Bool (ends_with nat_eq word end)) [
     | inl y ↦ absurd (never (take (length word - length end) word) ((ends_is Decides-eqb word end (ends_with nat_eq word end) refl).0 y))
@@ -164,7 +160,7 @@ module _ (word : List ℕ) where
     | inr n ↦ let is : found ≡ part = some_is (sym (rw n refl) ∙ h) in (is, sym (ap (list_any is_colon) is) ∙ n)
   ]
 
-  parted : (end : List ℕ) (dropped : ℕ) (kept part : List ℕ) → length end ≡ length kept + dropped → take (length kept) end ≡ kept → part_before end dropped word ≡ Some part → Parted end kept part
+  pub parted : (end : List ℕ) (dropped : ℕ) (kept part : List ℕ) → length end ≡ length kept + dropped → take (length kept) end ≡ kept → part_before end dropped word ≡ Some part → Parted end kept part
   unfolding part_before
   parted end dropped kept part long begins h = elim (cases_Bool (ends_with nat_eq word end)) [
     | inl y ↦
@@ -179,7 +175,7 @@ module _ (word : List ℕ) where
 
   -- ---- the first ending that fits
 
-  abbrev FirstFit : List Ending → PatternForm → List ℕ → Type 0
+  abbrev pub FirstFit : List Ending → PatternForm → List ℕ → Type 0
   FirstFit [] f part = ⊥
   FirstFit (e ∷ es) f part = ((e.form ≡ f) × (part_before e.end e.dropped word ≡ Some part)) ⊎ ((part_before e.end e.dropped word ≡ None) × FirstFit es f part)
 
@@ -188,7 +184,7 @@ module _ (word : List ℕ) where
   fit_by e es f part None is hf hp more = elim (more hf hp) [ inl t ↦ inl t | inr m ↦ inr (inr (is, m)) ]
   fit_by e es f part (Some x) is hf hp more = inr (inl (hf, is ∙ ap Some hp))
 
-  first_fit : (es : List Ending) (f : PatternForm) (part : List ℕ) → (form_by es word).0 ≡ f → (form_by es word).1 ≡ part → (form.Target ≡ f) ⊎ FirstFit es f part
+  pub first_fit : (es : List Ending) (f : PatternForm) (part : List ℕ) → (form_by es word).0 ≡ f → (form_by es word).1 ≡ part → (form.Target ≡ f) ⊎ FirstFit es f part
   first_fit [] f part hf hp = inl hf
   first_fit (e ∷ es) f part hf hp = fit_by e es f part (part_before e.end e.dropped word) refl hf hp (first_fit es f part)
 
@@ -212,16 +208,16 @@ module _ (word : List ℕ) where
   unfit_last : (y : ℕ) (ys : List ℕ) (dropped : ℕ) → (last_byte 0 word ≡ last_byte y ys → ⊥) → part_before (y ∷ ys) dropped word ≡ None
   unfit_last y ys dropped never = unfit (y ∷ ys) dropped (λ front whole. never (ap (last_byte 0) whole ∙ last_append front 0 y ys))
 
-not_empty : (xs : List ℕ) (y : ℕ) (ys : List ℕ) → xs ++ y ∷ ys ≡ [] → ⊥
+pub not_empty : (xs : List ℕ) (y : ℕ) (ys : List ℕ) → xs ++ y ∷ ys ≡ [] → ⊥
 not_empty [] y ys e = cc e
 not_empty (x ∷ xs) y ys e = cc e
 
 -- ---- dots and an end after a package
 
-abbrev root_end : List ℕ → List ℕ
+abbrev pub root_end : List ℕ → List ℕ
 root_end s = 47 ∷ 47 ∷ 46 ∷ 46 ∷ 46 ∷ s
 
-abbrev other_end : List ℕ → List ℕ
+abbrev pub other_end : List ℕ → List ℕ
 other_end s = 47 ∷ 46 ∷ 46 ∷ 46 ∷ s
 
 module _ (word : List ℕ) (p : PackageParts) (hp : IsPackage p) (s : List ℕ) (n m : ℕ) (long : length (root_end s) ≡ 2 + n) (short : length (other_end s) ≡ m) where
@@ -295,17 +291,17 @@ module _ (p : PackageParts) (word : List ℕ) (hp : IsPackage p) where
   past y z ys zs n m g f es text no_first no_second h = inr (unfit_last word y ys n no_first, inr (unfit_last word z zs m no_second, h))
 
   -- no ending of this list has the form
-  abbrev AllOther : List Ending → PatternForm → Type 0
+  abbrev pub AllOther : List Ending → PatternForm → Type 0
   AllOther [] f = Unit {0}
   AllOther (e ∷ es) f = (e.form ≡ f → ⊥) × AllOther es f
 
-  skip_all : (skip es : List Ending) (f : PatternForm) (part : List ℕ) → AllOther skip f → FirstFit word (skip ++ es) f part → FirstFit word es f part
+  pub skip_all : (skip es : List Ending) (f : PatternForm) (part : List ℕ) → AllOther skip f → FirstFit word (skip ++ es) f part → FirstFit word es f part
   skip_all [] es f part others h = h
   skip_all (e ∷ skip) es f part others h = skip_all skip es f part others.1 (skipped word e (skip ++ es) f part others.0 h)
 
   -- ---- rules
 
-  rules_to : IsDots p [] word ⊎ IsDots p (codes ":all") word → IsPattern form.RulesBeneath p word
+  pub rules_to : IsDots p [] word ⊎ IsDots p (codes ":all") word → IsPattern form.RulesBeneath p word
   rules_to (inl d) = pattern_is form.RulesBeneath d.0 d.1 (chosen_dots word p hp [] 3 4 refl refl form.RulesBeneath (drop 2 endings) d.0 d.1 p.package refl d.2)
   rules_to (inr d) =
       let ends : last_byte 0 word ≡ 108 = ap (last_byte 0) d.2 ∙ ends_by d.0 p.package (codes ":all") in
@@ -313,7 +309,7 @@ module _ (p : PackageParts) (word : List ℕ) (hp : IsPackage p) where
       pattern_is form.RulesBeneath d.0 d.1
       (past 47 47 (codes "/...") (codes "...") 3 4 form.RulesBeneath form.RulesBeneath (drop 2 endings) d.0 no no (chosen_dots word p hp (codes ":all") 7 8 refl refl form.RulesBeneath (drop 4 endings) d.0 d.1 p.package refl d.2))
 
-  all_to : IsDots p (codes ":*") word ⊎ IsDots p (codes ":all-targets") word → IsPattern form.AllBeneath p word
+  pub all_to : IsDots p (codes ":*") word ⊎ IsDots p (codes ":all-targets") word → IsPattern form.AllBeneath p word
   all_to (inl d) =
       let ends : last_byte 0 word ≡ 42 = ap (last_byte 0) d.2 ∙ ends_by d.0 p.package (codes ":*") in
       let no_dot : last_byte 0 word ≡ 46 → ⊥ = λ e. omega (arith, ends, e) in
@@ -352,10 +348,10 @@ module _ (p : PackageParts) (word : List ℕ) (hp : IsPackage p) where
     all_by : FirstFit word endings form.AllBeneath part → IsDots p (codes ":*") word ⊎ IsDots p (codes ":all-targets") word
     all_by h = all_after (skip_all (take 4 endings) (drop 4 endings) form.AllBeneath part (λ e. cc e, (λ e. cc e, (λ e. cc e, (λ e. cc e, tt)))) h)
 
-  rules_from : begins_pattern word ≡ true → IsPattern form.RulesBeneath p word → IsDots p [] word ⊎ IsDots p (codes ":all") word
+  pub rules_from : begins_pattern word ≡ true → IsPattern form.RulesBeneath p word → IsDots p [] word ⊎ IsDots p (codes ":all") word
   rules_from begins h = elim (first_fit word endings form.RulesBeneath (word_form word).1 h.0 refl) [ inl t ↦ absurd (cc t) | inr fit ↦ rules_by begins (word_form word).1 h.1 fit ]
 
-  all_from : begins_pattern word ≡ true → IsPattern form.AllBeneath p word → IsDots p (codes ":*") word ⊎ IsDots p (codes ":all-targets") word
+  pub all_from : begins_pattern word ≡ true → IsPattern form.AllBeneath p word → IsDots p (codes ":*") word ⊎ IsDots p (codes ":all-targets") word
   all_from begins h = elim (first_fit word endings form.AllBeneath (word_form word).1 h.0 refl) [ inl t ↦ absurd (cc t) | inr fit ↦ all_by begins (word_form word).1 h.1 fit ]
 
 pub dots_follow_a_package : DotsFollowAPackage
