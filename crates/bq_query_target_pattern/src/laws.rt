@@ -9,8 +9,8 @@ pub fn dots_follow_a_package()
     ensures { DotsFollowAPackage }
 {}
 
-/// A word that begins as a pattern is one exactly if it reads as a label. So `//p:*` can be read since `*` is a name, and
-/// `//p/...` since `p/...` is a package's path.
+/// A word that begins as a pattern is one exactly if it reads as a label: `//p:*` does, with the name `*`, and `//p/...`
+/// with the package `p/...`.
 pub fn patterns_read_as_labels()
     ensures { PatternsReadAsLabels }
 {}

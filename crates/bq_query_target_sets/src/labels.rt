@@ -9,7 +9,7 @@ ghost use Rattle.bq_query_target_sets.specs.Labels.{Labels, labels_in, labels_na
 
 use crate::set::no_target;
 use crate::text::given;
-use crate::word::add_label;
+use crate::pattern::add_label;
 use bq_label::Label;
 use bq_package_rule_class::AttributeValue;
 use bq_package_target::{Target, TargetKind};
