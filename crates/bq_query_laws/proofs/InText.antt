@@ -83,8 +83,6 @@ of_chain x os = search (rules, the_lemmas)
 of_operation : (o : SetOperation) → operation_words o ≡ tree_words o.operand
 of_operation o = search (rules, the_lemmas)
 
-
-
 -- ---- the words of a tree are the patterns of its formula
 
 abbrev Patterns : Type 0
