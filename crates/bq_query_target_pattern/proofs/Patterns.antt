@@ -1,22 +1,22 @@
 -- A word with dots is a pattern exactly where the dots follow a package.
-use Rattle.std.proofs.Common.{◌≡◌, ◌≢◌, ◌↔◌, ◌⊎◌, ◌∙◌, ℕ, ◌+◌, ◌-◌, ◌++◌, ◌==◌, Bool, true, false, List, [], ◌∷◌, Option, Some, None, length, take, drop, codes, nat_eq, refl, sym, ap, subst, append_assoc, arith, length-append, inl, inr}
-use Rattle.std.specs.Prelude.{◌&&◌, ◌||◌}
+use Rattle.std.proofs.Common.{◌≡◌, ◌≢◌, ◌⊎◌, ◌∙◌, ℕ, ◌+◌, ◌-◌, ◌++◌, Bool, true, false, List, [], ◌∷◌, Option, Some, None, length, take, drop, codes, nat_eq, refl, sym, ap, subst, append_assoc, arith, length-append, inl, inr}
+use Rattle.std.specs.Prelude.{◌||◌}
 use Rattle.std.specs.Option.{option_map}
 use Rattle.std.specs.List.{ends_with, list_any}
 use Rattle.std.proofs.Math.Seq.{take-append-add}
 use Rattle.std.proofs.lemmas.Bool.{cases_Bool, false≢true}
-use Rattle.std.proofs.lemmas.Bool.Decides.{Decides-eqb, nat_tests}
-use Rattle.std.proofs.lemmas.List.{append_cancel_right, append-nil, same_from_push}
+use Rattle.std.proofs.lemmas.Bool.Decides.{Decides-eqb}
+use Rattle.std.proofs.lemmas.List.{append_cancel_right, append-nil}
 use Rattle.std.proofs.lemmas.List.Folds.{list_any-append}
 use Rattle.std.proofs.lemmas.Slice.Eq.{ends_is}
 use Rattle.bq_label.specs.Paths.{is_package, is_path, is_path_byte, is_repository, is_repository_byte}
-use Rattle.bq_label.specs.Label.{PackageParts, LabelParts, IsLabel, IsPackage, IsWritten, ReadsAs, absolute, bare_name, external, external_short, label_at, own_name, package_at, package_of, repository, short}
+use Rattle.bq_label.specs.Label.{PackageParts, LabelParts, IsLabel, IsPackage, IsWritten, absolute, bare_name, external, external_short, label_at, own_name, package_at, package_of, repository, short}
 use Rattle.bq_label.proofs.Readings.{label_from_reading, no_colon, none_of, path_bytes, reading_from_label}
 use Rattle.bq_label.proofs.Segments.{path_joined}
 use Rattle.bq_query_lex.specs.declared.target_pattern.PatternForm.{PatternForm}
 use Rattle.bq_query_lex.specs.declared.target_pattern.PatternForm.TheVariants as form
 use Rattle.bq_query_lex.specs.TargetPatterns.{Ending, begins_pattern, endings, form_by, form_or, is_colon, package_part, part_before, word_form}
-use Rattle.bq_query_target_pattern.specs.Dots.{DotsFollowAPackage, FollowsAPackage, IsDots, IsPattern, Spells, dots_by}
+use Rattle.bq_query_target_pattern.specs.Dots.{DotsFollowAPackage, IsDots, IsPattern, Spells, dots_by}
 use Rattle.bq_query_target_pattern.specs.Reading.{label_named, package_named}
 use Rattle.bq_query_target_pattern.proofs.Names.{label_of_part, same_cut, some_is}
 

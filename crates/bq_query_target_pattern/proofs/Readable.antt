@@ -1,9 +1,9 @@
 -- A word that begins as a pattern is one exactly where it reads as a label.
 use Rattle.std.proofs.Common.{◌≡◌, ◌≢◌, ◌⊎◌, ◌∙◌, ℕ, ◌+◌, ◌++◌, ◌==◌, Bool, true, false, List, [], ◌∷◌, Option, Some, None, length, take, drop, codes, refl, sym, ap, subst, append_assoc, arith, inl, inr}
-use Rattle.std.specs.Prelude.{◌&&◌, ◌||◌, is_some}
+use Rattle.std.specs.Prelude.{◌||◌, is_some}
 use Rattle.std.specs.Option.{option_map}
 use Rattle.std.specs.List.{list_all, list_any, slice_split}
-use Rattle.std.proofs.lemmas.Bool.{cases_Bool, false≢true}
+use Rattle.std.proofs.lemmas.Bool.{false≢true}
 use Rattle.std.proofs.lemmas.Bool.Decides.{nat_tests}
 use Rattle.std.proofs.lemmas.List.{append-nil}
 use Rattle.std.proofs.lemmas.List.Folds.{list_all-append, list_any-append}
@@ -11,14 +11,14 @@ use Rattle.bq_label.specs.Paths.{is_package, is_path, is_path_byte, is_repositor
 use Rattle.bq_label.specs.Label.{PackageParts, LabelParts, BeginsOther, IsLabel, IsPackage, IsWritten, absolute, at_sign, bare_name, external, external_short, label_at, last_segment, own_name, package_at, package_of, repository, short}
 use Rattle.bq_label.proofs.Cuts.{last_whole}
 use Rattle.bq_label.proofs.Readings.{first_of_two, label_from_reading, no_slash, path_begins, reading_from_label, second_of_two}
-use Rattle.bq_label.proofs.Segments.{LastCut, last_cut, last_joined, path_joined, split_joined, two_true}
+use Rattle.bq_label.proofs.Segments.{last_cut, last_joined, path_joined, split_joined, two_true}
 use Rattle.bq_query_lex.specs.declared.target_pattern.PatternForm.{PatternForm}
 use Rattle.bq_query_lex.specs.declared.target_pattern.PatternForm.TheVariants as form
 use Rattle.bq_query_lex.specs.TargetPatterns.{Ending, begins_pattern, endings, form_by, form_or, is_colon, part_before, word_form}
 use Rattle.bq_query_target_pattern.specs.declared.pattern.TargetPattern.TheVariants as pattern
 use Rattle.bq_query_target_pattern.specs.Dots.{IsDots, Spells, dots_by}
 use Rattle.bq_query_target_pattern.specs.Reading.{PatternsReadAsLabels, label_named, package_named, pattern_by, pattern_of}
-use Rattle.bq_query_target_pattern.proofs.Names.{label_valid, package_valid}
+use Rattle.bq_query_target_pattern.proofs.Names.{package_valid}
 use Rattle.bq_query_target_pattern.proofs.Patterns.{FirstFit, all_from, all_to, empty_no_path, first_fit, has_colon, label_in_it, named, other_end, parted, root_end, rules_from, rules_to, skip_all, spelled, spelled_by}
 
 abbrev dots : List ℕ

@@ -1,6 +1,6 @@
 //! Words, variables and the names of functions, each by itself.
 
-ghost use Rattle.std.specs.Prelude.{◌≡◌, ◌++◌, [], ◌∷◌, IfOk, bytes_eq, is_some};
+ghost use Rattle.std.specs.Prelude.{◌≡◌, ◌++◌, [], ◌∷◌, IfOk, bytes_eq};
 ghost use Rattle.std.specs.List.{list_any, list_all};
 ghost use Rattle.bq_query_target_pattern.specs.Reading.{word_fault};
 ghost use Rattle.bq_query_verdict.specs.Verdict as spec;

@@ -1,8 +1,6 @@
-use Rattle.std.proofs.Common.{◌≡◌, ◌∙◌, List, ℕ, true, ap, subst, rules, arith}
+use Rattle.std.proofs.Common.{◌≡◌, true, rules, arith}
 use Rattle.std.proofs.lemmas.Grind.{common_steps}
-use Rattle.bq_query_lex.specs.declared.target_pattern.PatternForm.{PatternForm}
 use Rattle.bq_query_lex.specs.TargetPatterns.{begins_pattern, word_form}
-use Rattle.bq_query_target_pattern.specs.Reading.{IsReadAs, pattern_by, pattern_of}
 use Rattle.bq_query_target_pattern.proofs.Words.{as_form, read_known}
 use Rattle.bq_query_target_pattern.proofs.read.read_pattern.Goals as goal
 
