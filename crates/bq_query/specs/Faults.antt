@@ -1,5 +1,5 @@
 -- What the patterns of a formula name that is not there: the first in the order of the text (Q5, Q6).
-use Rattle.std.specs.Prelude.{◌≡◌, ◌≢◌, ℕ, Bool, List, [], ◌∷◌, length, Some, None, Result, Ok, Err}
+use Rattle.std.specs.Prelude.{◌≡◌, ◌≢◌, Bool, List, [], ◌∷◌, length, Some, None, Result, Ok, Err}
 use Rattle.bq_query_lex.specs.declared.query_error.QueryErr.{QueryErr}
 use Rattle.bq_query_lex.specs.declared.query_error.QueryErr.TheVariants as e
 use Rattle.bq_query_target_pattern.specs.declared.pattern.TargetPattern.{TargetPattern}

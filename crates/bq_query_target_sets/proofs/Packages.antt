@@ -1,6 +1,6 @@
 -- Labels that begin as those of a package do have that package, or one beneath it.
 use Rattle.std.proofs.Common.{◌≡◌, ◌≢◌, ◌↔◌, ◌⊎◌, ◌∙◌, ℕ, ◌++◌, ◌==◌, Bool, true, false, List, [], ◌∷◌, Option, Some, None, length, drop, refl, sym, ap, subst, append_assoc, arith, inl, inr}
-use Rattle.std.specs.Prelude.{◌&&◌, ◌||◌}
+use Rattle.std.specs.Prelude.{◌||◌}
 use Rattle.std.specs.Option.{option_map}
 use Rattle.std.specs.List.{list_any}
 use Rattle.std.proofs.lemmas.Bool.{cases_Bool, false≢true}
@@ -20,7 +20,7 @@ use Rattle.bq_query_target_pattern.specs.declared.pattern.TargetPattern.TheVaria
 use Rattle.bq_query_target_pattern.specs.Reading.{label_named, package_named, pattern_by, pattern_of}
 use Rattle.bq_query_target_pattern.proofs.Names.{label_valid, package_valid, same_cut, some_is}
 use Rattle.bq_package_target.specs.declared.target.Target.{Target}
-use Rattle.bq_query_target_sets.specs.Order.{text_of, is_text}
+use Rattle.bq_query_target_sets.specs.Order.{text_of}
 use Rattle.bq_query_target_sets.specs.Packages.{IsWithin, NamesBy, TargetsBeneathAPackage, TargetsOfAPackage, WordsNameLabelsAndPackages}
 use Rattle.bq_query_target_sets.specs.Words.{Beginning, begins, beneath, beneath_by, is_rule, is_wanted, names, names_in, own}
 

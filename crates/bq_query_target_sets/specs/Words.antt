@@ -1,7 +1,6 @@
 -- Which targets a pattern names (Bazel, "Target patterns").
-use Rattle.std.specs.Prelude.{◌≡◌, ℕ, ◌++◌, ◌&&◌, ◌||◌, not, nat_le, nat_lt, length, slice_index_or, Bool, true, false, List, [], ◌∷◌, map, Option, Some, None, Result, Ok, Err, codes, nat_eq, if◌then◌else◌}
+use Rattle.std.specs.Prelude.{◌≡◌, ℕ, ◌++◌, ◌&&◌, ◌||◌, not, nat_le, nat_lt, length, slice_index_or, Bool, true, false, List, [], ◌∷◌, map, codes, nat_eq}
 use Rattle.std.specs.List.{list_any, starts_with}
-use Rattle.std.specs.Option.{option_map}
 use Rattle.bq_label.specs.Label.{PackageParts, LabelParts, repository_prefix, full_form}
 use Rattle.bq_query_graph.specs.Marks.{Marked}
 use Rattle.bq_query_target_pattern.specs.declared.pattern.TargetPattern.{TargetPattern}
