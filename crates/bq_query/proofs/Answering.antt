@@ -6,7 +6,7 @@ use Rattle.bq_query_lex.specs.declared.query_error.QueryErr.{QueryErr}
 use Rattle.bq_query_check.specs.declared.formula.Unary.{Unary}
 use Rattle.bq_query_check.specs.declared.formula.Binary.{Binary}
 use Rattle.bq_query_check.specs.Formula.{Formula, let_in, one, two}
-use Rattle.bq_query_verdict.specs.Verdict.{first_of}
+use Rattle.bq_query_target_pattern.specs.Reading.{first_of}
 use Rattle.bq_query_target_graph.specs.Graph.{GraphParts}
 use Rattle.bq_query.specs.Graph.{count_of}
 use Rattle.bq_query.specs.Stands.{Stands, Bound}

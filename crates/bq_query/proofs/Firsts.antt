@@ -1,7 +1,7 @@
 -- The first fault of a chain is that of its first faulty operand.
 use Rattle.std.proofs.Common.{◌≡◌, List, [], ◌∷◌, Some, ap}
 use Rattle.bq_query_lex.specs.declared.query_error.QueryErr.{QueryErr}
-use Rattle.bq_query_verdict.specs.Verdict.{first_of}
+use Rattle.bq_query_target_pattern.specs.Reading.{first_of}
 use Rattle.bq_query_target_graph.specs.Graph.{GraphParts}
 use Rattle.bq_query_check.specs.Formula.{Formula, combined, Step, chained}
 use Rattle.bq_query.specs.Faults.{fault_in}

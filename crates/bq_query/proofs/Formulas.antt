@@ -5,7 +5,7 @@ use Rattle.bq_query_target_graph.specs.Graph.{GraphParts}
 use Rattle.bq_query.specs.Graph.{count_of}
 use Rattle.bq_query_check.specs.Formula.{Formula, let_in, combined, Step, chained}
 use Rattle.bq_query_lex.specs.declared.query_error.QueryErr.{QueryErr}
-use Rattle.bq_query_verdict.specs.Verdict.{first_of}
+use Rattle.bq_query_target_pattern.specs.Reading.{first_of}
 use Rattle.bq_query.specs.Stands.{Stands, Bound}
 use Rattle.bq_query.specs.Functions.{Combined}
 use Rattle.bq_query.specs.Faults.{fault_in, Has}

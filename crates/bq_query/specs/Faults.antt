@@ -1,8 +1,10 @@
--- What the words of a formula name that is not there: the first in the order of the text (Q5, Q6).
-use Rattle.std.specs.Prelude.{◌≡◌, ◌≢◌, ℕ, Bool, List, [], ◌∷◌, length, Some, None, Result, Ok, Err}
+-- What the patterns of a formula name that is not there: the first in the order of the text (Q5, Q6).
+use Rattle.std.specs.Prelude.{◌≡◌, ◌≢◌, Bool, List, [], ◌∷◌, length, Some, None, Result, Ok, Err}
 use Rattle.bq_query_lex.specs.declared.query_error.QueryErr.{QueryErr}
 use Rattle.bq_query_lex.specs.declared.query_error.QueryErr.TheVariants as e
-use Rattle.bq_query_verdict.specs.Verdict.{Fault, first_of}
+use Rattle.bq_query_target_pattern.specs.declared.pattern.TargetPattern.{TargetPattern}
+use Rattle.bq_query_target_pattern.specs.Reading.{first_of}
+use Rattle.bq_query_verdict.specs.Verdict.{Fault}
 use Rattle.bq_query_check.specs.Formula.{Formula, named, variable, let_in, combined, one, two, IsClosed}
 use Rattle.bq_query_target_sets.specs.Missing.{missing}
 use Rattle.bq_query_graph.specs.Marks.{IsSet}
@@ -10,12 +12,12 @@ use Rattle.bq_query.specs.Stands.{Stands, Bound, AreSets}
 use Rattle.bq_query_target_graph.specs.Graph.{GraphParts}
 use Rattle.bq_query.specs.Graph.{targets_of, packages_of, count_of}
 
-abbrev pub first_missing : GraphParts → List (List ℕ) → Fault
+abbrev pub first_missing : GraphParts → List TargetPattern → Fault
 first_missing w [] = None
-first_missing w (word ∷ words) = first_of (missing (packages_of w) (targets_of w) word) (first_missing w words)
+first_missing w (p ∷ ps) = first_of (missing (packages_of w) (targets_of w) p) (first_missing w ps)
 
 abbrev pub fault_in : GraphParts → Formula → Fault
-fault_in w (named words) = first_missing w words
+fault_in w (named patterns) = first_missing w patterns
 fault_in w (variable k) = None
 fault_in w (let_in a b) = first_of (fault_in w a) (fault_in w b)
 fault_in w (combined o a b) = first_of (fault_in w a) (fault_in w b)

@@ -19,7 +19,7 @@ AreSets w bound = All (λ set. length set ≡ count_of w) bound
 
 -- target y is in the set
 abbrev pub Stands : GraphParts → Formula → Bound → ℕ → Type 0
-Stands w (named words) bound y = Those (one_names words) (targets_of w) y
+Stands w (named patterns) bound y = Those (one_names patterns) (targets_of w) y
 Stands w (variable k) bound y = Marked (slice_index_or bound k []) y
 Stands w (let_in a b) bound y = (set : List Bool) × IsSet (count_of w) set (Stands w a bound) × Stands w b (bound ++ set ∷ []) y
 Stands w (combined o a b) bound y = Combined o (Stands w a bound) (Stands w b bound) y

@@ -8,7 +8,7 @@
 //! In reading order:
 //!
 //! - `bindings`: the sets that lets bind;
-//! - `named`: the sets of words;
+//! - `named`: the sets of patterns;
 //! - `functions`: functions and operators on sets;
 //! - `sets`: the sets of queries;
 //! - `whole`: whole queries;

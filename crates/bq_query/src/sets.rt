@@ -84,9 +84,9 @@ pub fn set_of(
     ensures { Answers (λ v. v.items) graph.now (formula_of query.now) bound.old bound.old result bound.new }
 {
     match query {
-        SetExpr::Named(texts) => {
-            let texts = texts.as_slice();
-            named(alloc, graph, texts)
+        SetExpr::Named(patterns) => {
+            let patterns = patterns.as_slice();
+            named(alloc, graph, patterns)
         }
         SetExpr::Variable(number) => Ok(set_bound(alloc, bound.as_slice(), *number)?),
         SetExpr::Let(value, body) => {

@@ -96,10 +96,10 @@ as_said n x y e h = subst (IsClosed n) (sym e) h
 
 mutual
   pub formula_closed : {ns : List (List ℕ)} {x : Query} {y : Formula} → IsFormulaOf ns x y → IsClosed (length ns) y
-  formula_closed (IsFormulaOf.word {ns = ns} {y = y} {w = w} e f) = as_said (length ns) y (named (w ∷ [])) f tt
+  formula_closed (IsFormulaOf.word {ns = ns} {y = y} e f) = as_said (length ns) y (named f.0) f.2 tt
   formula_closed (IsFormulaOf.bound {ns = ns} {y = y} {n = n} e b) = as_said (length ns) y (variable b.0) b.2 (place_below ns b.0 n b.1.there)
   formula_closed (IsFormulaOf.parenthesized e h) = formula_closed h
-  formula_closed (IsFormulaOf.set_of {ns = ns} {y = y} {ws = ws} e f) = as_said (length ns) y (named ws) f tt
+  formula_closed (IsFormulaOf.set_of {ns = ns} {y = y} e f) = as_said (length ns) y (named f.0) f.2 tt
   formula_closed (IsFormulaOf.call e k c) = call_closed c
   formula_closed (IsFormulaOf.binding {ns = ns} {y = y} {a = a} {b = b} {n = n} e h k f) =
       as_said (length ns) y (let_in a b) f (formula_closed h, subst (λ (m : ℕ). IsClosed m b) (length-append ns (n ∷ [])) (formula_closed k))

@@ -2,7 +2,8 @@
 use Rattle.std.proofs.Common.{◌≡◌, List, [], ◌∷◌, ◌++◌, ℕ, None, Some, Result, Ok, Err, inl, inr, refl, sym, subst}
 use Rattle.std.specs.List.{AllByRecursion}
 use Rattle.bq_query_lex.specs.declared.query_error.QueryErr.{QueryErr}
-use Rattle.bq_query_verdict.specs.Verdict.{Fault, Need, first_of, word, words}
+use Rattle.bq_query_target_pattern.specs.Reading.{first_of, word_fault, words_fault}
+use Rattle.bq_query_verdict.specs.Verdict.{Fault, Need}
 use Rattle.bq_query_check.specs.Checked.{Holds, FirstFails, Reads}
 
 pub all_hold : (xs ys : List Need) → AllByRecursion Holds xs → AllByRecursion Holds ys → AllByRecursion Holds (xs ++ ys)
@@ -27,8 +28,8 @@ module _ {A : Type 0} where
   read_as xs ys P Q (Err why) same f h = λ other. subst (λ (ns : List Need). FirstFails ns why) (sym same) (h other)
 
 -- of one word
-pub one_word : (w : List ℕ) → words (w ∷ []) ≡ word w
-one_word w = first_alone (word w)
+pub one_word : (w : List ℕ) → words_fault (w ∷ []) ≡ word_fault w
+one_word w = first_alone (word_fault w)
   where
     first_alone : (f : Fault) → first_of f None ≡ f
     first_alone None = refl

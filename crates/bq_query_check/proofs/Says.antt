@@ -1,5 +1,6 @@
 -- The formulas of checked queries, a case for each form.
 use Rattle.std.proofs.Common.{◌≡◌, ℕ, List, map, rules}
+use Rattle.bq_query_target_pattern.specs.declared.pattern.TargetPattern.{TargetPattern}
 use Rattle.bq_query_check.specs.declared.formula.Unary.{Unary}
 use Rattle.bq_query_check.specs.declared.formula.Binary.{Binary}
 use Rattle.bq_query_check.specs.declared.formula.SetExpr.{SetExpr}
@@ -8,8 +9,8 @@ use Rattle.bq_query_check.specs.declared.formula.SetExpr.TheVariants as query
 use Rattle.bq_query_check.specs.declared.formula.SetExpr.TheFolds.{the_lemmas}
 use Rattle.bq_query_check.specs.Formula.{formula_of, step_of, chained, named, variable, let_in, one, two}
 
-pub words_say : (words : List (List ℕ)) → formula_of (query.Named words) ≡ named words
-words_say words = search (rules, the_lemmas)
+pub patterns_say : (patterns : List TargetPattern) → formula_of (query.Named patterns) ≡ named patterns
+patterns_say patterns = search (rules, the_lemmas)
 
 pub variable_says : (k : ℕ) → formula_of (query.Variable k) ≡ variable k
 variable_says k = search (rules, the_lemmas)

@@ -2,6 +2,7 @@
 -- right, and a regular expression is what it means.
 use Rattle.std.specs.Prelude.{ℕ, ◌+◌, ◌<◌, List, [], ◌∷◌}
 use Rattle.std.specs.Coded.{×_prop, Unit-prop, le_prop}
+use Rattle.bq_query_target_pattern.specs.declared.pattern.TargetPattern.{TargetPattern}
 use Rattle.bq_query_tree.specs.declared.tree.SetOperator.{SetOperator}
 use Rattle.bq_query_check.specs.declared.formula.Unary.{Unary}
 use Rattle.bq_query_check.specs.declared.formula.Binary.{Binary}
@@ -11,8 +12,8 @@ use Rattle.bq_query_check.specs.declared.formula.SetExpr.TheOpen as query
 use Rattle.bq_query_check.specs.declared.formula.SetExpr.TheOpen.{SetExpr-F, ChainStep-F}
 
 pub data Formula : Type 0 where
-  -- the targets that words name: a word alone, or those of `set(word ..)`
-  named : List (List ℕ) → Formula
+  -- the targets that patterns name: a word alone, or those of `set(word ..)`
+  named : List TargetPattern → Formula
   -- `$name`: what the let of this number binds, of those around it, the outermost of which is 0
   variable : ℕ → Formula
   -- `let name = x in y`
@@ -38,7 +39,7 @@ abbrev pub step_step : ChainStep-F Formula Step → Step
 step_step o = record { operator = o.operator; formula = o.operand }
 
 abbrev pub query_step : SetExpr-F Formula Step → Formula
-query_step (query.Named ws) = named ws
+query_step (query.Named ps) = named ps
 query_step (query.Variable k) = variable k
 query_step (query.Let x y) = let_in x y
 query_step (query.Chain x os) = chained x os
@@ -53,7 +54,7 @@ step_of = fold-ChainStep Formula Step query_step step_step
 
 -- each variable is bound, where a number of lets are around
 abbrev pub IsClosed : ℕ → Formula → Type 0
-IsClosed n (named words) = Unit {0}
+IsClosed n (named patterns) = Unit {0}
 IsClosed n (variable k) = k < n
 IsClosed n (let_in x y) = IsClosed n x × IsClosed (n + 1) y
 IsClosed n (combined o x y) = IsClosed n x × IsClosed n y
@@ -61,7 +62,7 @@ IsClosed n (one f x) = IsClosed n x
 IsClosed n (two f x y) = IsClosed n x × IsClosed n y
 
 pub IsClosed-prop : (n : ℕ) (x : Formula) → IsProp (IsClosed n x)
-IsClosed-prop n (named words) = Unit-prop
+IsClosed-prop n (named patterns) = Unit-prop
 IsClosed-prop n (variable k) = le_prop
 IsClosed-prop n (let_in x y) = ×_prop (IsClosed-prop n x) (IsClosed-prop (n + 1) y)
 IsClosed-prop n (combined o x y) = ×_prop (IsClosed-prop n x) (IsClosed-prop n y)

@@ -4,6 +4,8 @@ use Rattle.regex_hir.specs.Re.{Re}
 use Rattle.bq_query_lex.specs.declared.function.QueryFunction.{QueryFunction}
 use Rattle.bq_query_lex.specs.declared.function.QueryFunction.TheVariants as fn
 use Rattle.bq_query_lex.specs.Functions.{function_named}
+use Rattle.bq_query_target_pattern.specs.declared.pattern.TargetPattern.{TargetPattern}
+use Rattle.bq_query_target_pattern.specs.Reading.{ArePatternsOf}
 use Rattle.bq_query_tree.specs.declared.tree.Query.{Query}
 use Rattle.bq_query_tree.specs.declared.tree.Query.TheVariants as tree
 use Rattle.bq_query_tree.specs.declared.tree.SetOperation.{SetOperation}
@@ -46,18 +48,24 @@ pub record IsInnermost (names : List (List ℕ)) (name : List ℕ) (at : ℕ) : 
 abbrev pub IsBound : List (List ℕ) → List ℕ → Formula → Type 0
 IsBound names name y = (k : ℕ) × IsInnermost names name k × (y ≡ variable k)
 
+-- ---- words
+
+-- the targets that the patterns name as which the words read
+abbrev pub IsNamed : List (List ℕ) → Formula → Type 0
+IsNamed words y = (ps : List TargetPattern) × ArePatternsOf words ps × (y ≡ named ps)
+
 -- ---- trees, where the lets around them bind these names
 
 mutual
   pub data IsFormulaOf : List (List ℕ) → Query → Formula → Type 0 where
     -- `word`
-    word : {ns : List (List ℕ)} {x : Query} {y : Formula} {w : List ℕ} → x ≡ tree.Word w → y ≡ named (w ∷ []) → IsFormulaOf ns x y
+    word : {ns : List (List ℕ)} {x : Query} {y : Formula} {w : List ℕ} → x ≡ tree.Word w → IsNamed (w ∷ []) y → IsFormulaOf ns x y
     -- `$name`
     bound : {ns : List (List ℕ)} {x : Query} {y : Formula} {n : List ℕ} → x ≡ tree.Variable n → IsBound ns n y → IsFormulaOf ns x y
     -- `(x)`
     parenthesized : {ns : List (List ℕ)} {x inner : Query} {y : Formula} → x ≡ tree.Parenthesized inner → IsFormulaOf ns inner y → IsFormulaOf ns x y
     -- `set(word ..)`
-    set_of : {ns : List (List ℕ)} {x : Query} {y : Formula} {ws : List (List ℕ)} → x ≡ tree.Set ws → y ≡ named ws → IsFormulaOf ns x y
+    set_of : {ns : List (List ℕ)} {x : Query} {y : Formula} {ws : List (List ℕ)} → x ≡ tree.Set ws → IsNamed ws y → IsFormulaOf ns x y
     -- `function(argument, ..)`
     call : {ns : List (List ℕ)} {x : Query} {y : Formula} {name : List ℕ} {xs : List Query} {f : QueryFunction} → x ≡ tree.Call name xs
         → function_named name ≡ Some f → IsCallOf f ns xs y → IsFormulaOf ns x y

@@ -1,7 +1,9 @@
-//! What a checked query says, with its variables and functions known, its numbers read and its patterns compiled.
+//! What a checked query says, with its words and numbers read, its variables and functions known and its patterns
+//! compiled.
 
 use crate::pattern::QueryPattern;
 use bq_base::Bytes;
+use bq_query_target_pattern::TargetPattern;
 use bq_query_tree::SetOperator;
 use sqlite_items::{Boxed, Items};
 
@@ -38,8 +40,8 @@ pub enum Binary {
 #[cycle(query)]
 #[derive(Drop)]
 pub enum SetExpr {
-    /// The targets that words name: a word alone, or those of `set(word ..)`.
-    Named(Items<Bytes>),
+    /// The targets that patterns name: a word alone, or those of `set(word ..)`.
+    Named(Items<TargetPattern>),
     /// `$name`: what the let with this number binds, of those around it, of which the outermost is 0.
     Variable(usize),
     /// `let name = value in body`

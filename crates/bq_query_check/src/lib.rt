@@ -1,7 +1,7 @@
 //! The bytes of a query come in; a query that can be answered goes out, or its error, with no target known yet.
 //!
-//! The promise: [`parse_query`] returns what the one tree of the text says, with its variables and functions known, its
-//! numbers read and its patterns compiled (`specs/FormulaOf.antt`), or the error that comes first: Q1 if the text has
+//! The promise: [`parse_query`] returns what the one tree of the text says, with its words and numbers read, its
+//! variables and functions known and its patterns compiled (`specs/FormulaOf.antt`), or the error that comes first: Q1 if the text has
 //! no tree, else the first in the order of the text of Q2, Q3, Q4, Q7 and Q8 (`specs/Checked.antt`). Which patterns are
 //! refused says the grammar of `regex`; whether one that the grammar reads is too big, `regex` alone decides.
 //!

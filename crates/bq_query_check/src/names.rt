@@ -9,7 +9,7 @@ use sqlite_items::Items;
 use std::alloc::{AllocError, Global};
 
 /// Shares the texts.
-pub fn shared(alloc: Global, texts: &[Bytes]) -> Result<Items<Bytes>, AllocError>
+fn shared(alloc: Global, texts: &[Bytes]) -> Result<Items<Bytes>, AllocError>
     ensures { IfOk result (λ v. v ≡ texts.now) }
 {
     let mut all = Items::new(alloc);

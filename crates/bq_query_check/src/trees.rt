@@ -3,30 +3,32 @@
 ghost use Rattle.std.specs.Prelude.{◌≡◌, ◌++◌, [], ◌∷◌, map, IfOk};
 ghost use Rattle.bq_query_lex.specs.Functions.{function_named};
 ghost use Rattle.bq_query_lex.specs.declared.function.QueryFunction.TheVariants as f;
+ghost use Rattle.bq_query_target_pattern.specs.Reading.{words_fault};
 ghost use Rattle.bq_query_verdict.specs.Verdict as spec;
 ghost use Rattle.bq_query_verdict.specs.Verdict.{no_fault, part_of, operation_part, call_of, call_by, variable};
 ghost use Rattle.bq_query_check.specs.Checked.{Reads};
 ghost use Rattle.bq_query_check.specs.Formula as formula;
 ghost use Rattle.bq_query_check.specs.Formula.{formula_of, step_of};
-ghost use Rattle.bq_query_check.specs.FormulaOf.{IsFormulaOf, AreStepsOf, IsCallOf, IsCallNamed, IsOne, IsBound};
+ghost use Rattle.bq_query_check.specs.FormulaOf.{IsFormulaOf, AreStepsOf, IsCallOf, IsCallNamed, IsNamed, IsOne, IsBound};
 
 use crate::arguments::{attribute, limit, pattern};
 use crate::formula::{Binary, ChainStep, SetExpr, Unary};
-use crate::names::{innermost, shared, with_name};
+use crate::names::{innermost, with_name};
 use bq_base::Bytes;
 use bq_query_lex::{QueryErr, QueryFunction, function_named};
+use bq_query_target_pattern::read_patterns;
 use bq_query_tree::{Query, SetOperation};
-use bq_query_verdict::{unknown, words};
+use bq_query_verdict::unknown;
 use sqlite_items::{Boxed, Items};
 use std::alloc::{AllocError, Global};
 use std::slice::from_ref;
 
-/// Checks words as target patterns.
-fn named(alloc: Global, texts: &[Bytes]) -> Result<SetExpr, QueryErr>
-    ensures { Reads (no_fault (spec.words texts.now) ∷ []) (λ r. formula_of r ≡ formula.named texts.now) result }
+/// Reads words as target patterns: Q3 or Q8 for the first that is none.
+fn named(alloc: Global, words: &[Bytes]) -> Result<SetExpr, QueryErr>
+    ensures { Reads (no_fault (words_fault words.now) ∷ []) (λ r. IsNamed words.now (formula_of r)) result }
 {
-    words(alloc, texts)?;
-    Ok(SetExpr::Named(shared(alloc, texts)?))
+    let patterns = read_patterns(alloc, words)?;
+    Ok(SetExpr::Named(patterns))
 }
 
 /// Reads `$name`: Q7 if no let around it binds the name.

@@ -1,9 +1,11 @@
--- The target patterns of a query are words of its text, in its order: by the words of its tree.
+-- The target patterns of a query are read from words of its text, in its order: by the words of its tree.
 use Rattle.std.proofs.Common.{◌≡◌, ◌∙◌, ℕ, zero, suc, List, [], ◌∷◌, ◌++◌, map, Option, Some, None, refl, sym, ap, subst, append-nil, append_assoc, rules}
 use Rattle.bq_query_lex.specs.declared.function.QueryArgumentKind.{QueryArgumentKind}
 use Rattle.bq_query_lex.specs.declared.function.QueryArgumentKind.TheVariants as kind
 use Rattle.bq_query_lex.specs.declared.function.QueryFunction.{QueryFunction}
 use Rattle.bq_query_lex.specs.Functions.{function_named, arguments_of}
+use Rattle.bq_query_target_pattern.specs.declared.pattern.TargetPattern.{TargetPattern}
+use Rattle.bq_query_target_pattern.specs.Reading.{ArePatternsOf, pattern_of}
 use Rattle.bq_query_tree.specs.Grammar.{IsWord, AreArguments, IsOperand, IsLet, AreOperations, IsQueryOver, IsQueryTo, max_open, chain_of, operation}
 use Rattle.bq_query_tree.specs.Lexeme.{Lexeme, lexemes}
 use Rattle.bq_query_tree.specs.Phrases.{Phrase, Repeat, CommaThen, none}
@@ -16,7 +18,7 @@ use Rattle.bq_query_tree.specs.declared.tree.Query.TheVariants as tree
 use Rattle.bq_query_check.specs.Formula.{Formula, Step, combined, chained}
 use Rattle.bq_query_check.specs.FormulaOf.{IsFormulaOf, AreStepsOf, IsCallOf}
 use Rattle.bq_query_laws.specs.InText.{WriteWords, WordsInTextOrder}
-use Rattle.bq_query_laws.specs.Missing.{target_words}
+use Rattle.bq_query_laws.specs.Missing.{target_patterns}
 
 abbrev Words : Type 0
 Words = List (List ℕ)
@@ -81,75 +83,91 @@ of_chain x os = search (rules, the_lemmas)
 of_operation : (o : SetOperation) → operation_words o ≡ tree_words o.operand
 of_operation o = search (rules, the_lemmas)
 
--- ---- the words of a tree are those of its formula
+-- ---- the words of a tree are the patterns of its formula
 
-both : (a b c d : Words) → a ≡ b → c ≡ d → (a ++ c) ≡ (b ++ d)
-both a b c d e f = ap (λ (x : Words). x ++ c) e ∙ ap (λ (x : Words). b ++ x) f
+abbrev Patterns : Type 0
+Patterns = List TargetPattern
 
-alone : (a b : Words) → a ≡ b → a ≡ b ++ []
-alone a b e = e ∙ sym (append-nil b)
+map_joined : {X Y : Type 0} (f : X → Y) (xs ys : List X) → map f (xs ++ ys) ≡ map f xs ++ map f ys
+map_joined f [] ys = refl
+map_joined {Y = Y} f (x ∷ xs) ys = ap (λ (t : List Y). f x ∷ t) (map_joined f xs ys)
 
-two_of : (a b c d : Words) → a ≡ b → c ≡ d → (a ++ c) ≡ b ++ (d ++ [])
-two_of a b c d e f = both a b c (d ++ []) e (alone c d f)
+-- the same words and patterns
+same_words : (ws vs : Words) (ps qs : Patterns) → qs ≡ ps → ws ≡ vs → ArePatternsOf vs ps → ArePatternsOf ws qs
+same_words ws vs ps qs e f h = ap (λ (t : Words). map pattern_of t) f ∙ (h ∙ sym (ap (λ (t : Patterns). map Some t) e))
 
-abbrev step_words : List Step → Words
-step_words [] = []
-step_words (s ∷ ss) = target_words s.formula ++ step_words ss
+both : (ps : Patterns) (ws : Words) (qs : Patterns) (vs : Words) → ArePatternsOf ws ps → ArePatternsOf vs qs → ArePatternsOf (ws ++ vs) (ps ++ qs)
+both ps ws qs vs h k =
+    map_joined pattern_of ws vs
+    ∙ (ap (λ (t : List (Option TargetPattern)). t ++ map pattern_of vs) h ∙ (ap (λ (t : List (Option TargetPattern)). map Some ps ++ t) k ∙ sym (map_joined Some ps qs)))
 
-chained_words : (a : Formula) (ss : List Step) → target_words (chained a ss) ≡ target_words a ++ step_words ss
-chained_words a [] = sym (append-nil (target_words a))
-chained_words a (s ∷ ss) = chained_words (combined s.operator a s.formula) ss ∙ append_assoc (target_words a) (target_words s.formula) (step_words ss)
+alone : (ps : Patterns) (ws : Words) → ArePatternsOf ws ps → ArePatternsOf (ws ++ []) ps
+alone ps ws h = ap (λ (t : Words). map pattern_of t) (append-nil ws) ∙ h
+
+two_of : (ps : Patterns) (ws : Words) (qs : Patterns) (vs : Words) → ArePatternsOf ws ps → ArePatternsOf vs qs → ArePatternsOf (ws ++ (vs ++ [])) (ps ++ qs)
+two_of ps ws qs vs h k = both ps ws qs (vs ++ []) h (alone qs vs k)
+
+abbrev step_patterns : List Step → Patterns
+step_patterns [] = []
+step_patterns (s ∷ ss) = target_patterns s.formula ++ step_patterns ss
+
+chained_patterns : (a : Formula) (ss : List Step) → target_patterns (chained a ss) ≡ target_patterns a ++ step_patterns ss
+chained_patterns a [] = sym (append-nil (target_patterns a))
+chained_patterns a (s ∷ ss) = chained_patterns (combined s.operator a s.formula) ss ∙ append_assoc (target_patterns a) (target_patterns s.formula) (step_patterns ss)
 
 abbrev all_words : List Query → List Words
 all_words xs = map tree_words xs
 
-as_arguments : (ks : List QueryArgumentKind) (xs ys : List Query) (ws : Words) → xs ≡ ys → ws ≡ picked ks (all_words ys) → ws ≡ picked ks (all_words xs)
-as_arguments ks xs ys ws same e = e ∙ ap (λ (zs : List Query). picked ks (all_words zs)) (sym same)
+-- the arguments of a call, and the patterns of its formula
+as_arguments : (ks : List QueryArgumentKind) (xs ys : List Query) (ps qs : Patterns) → xs ≡ ys → qs ≡ ps → ArePatternsOf (picked ks (all_words ys)) ps → ArePatternsOf (picked ks (all_words xs)) qs
+as_arguments ks xs ys ps qs same e h = same_words (picked ks (all_words xs)) (picked ks (all_words ys)) ps qs e (ap (λ (zs : List Query). picked ks (all_words zs)) same) h
 
 mutual
-  formula_words : {ns : List (List ℕ)} {x : Query} {y : Formula} → IsFormulaOf ns x y → target_words y ≡ tree_words x
-  formula_words (IsFormulaOf.word {w = w} e f) = ap target_words f ∙ sym (ap tree_words e ∙ of_word w)
-  formula_words (IsFormulaOf.bound {n = n} e b) = ap target_words b.2 ∙ sym (ap tree_words e ∙ of_variable n)
-  formula_words (IsFormulaOf.parenthesized {inner = x} e h) = formula_words h ∙ sym (ap tree_words e ∙ of_parenthesized x)
-  formula_words (IsFormulaOf.set_of {ws = ws} e f) = ap target_words f ∙ sym (ap tree_words e ∙ of_set ws)
-  formula_words (IsFormulaOf.call {name = name} {xs = xs} {f = f} e known c) =
-      call_formula c ∙ sym (ap tree_words e ∙ (of_call name xs ∙ ap (λ (o : Option QueryFunction). call_words o (map tree_words xs)) known))
-  formula_words (IsFormulaOf.binding {value = v} {body = b} {a = a} {b = c} {n = n} e h k f) =
-      ap target_words f ∙ (both (target_words a) (tree_words v) (target_words c) (tree_words b) (formula_words h) (formula_words k) ∙ sym (ap tree_words e ∙ of_let n v b))
-  formula_words (IsFormulaOf.chain {first = x} {a = a} {os = os} {steps = ss} e h s f) =
-      ap target_words f ∙ (chained_words a ss ∙ (both (target_words a) (tree_words x) (step_words ss) (joined (map operation_words os)) (formula_words h) (steps_formula s) ∙ sym (ap tree_words e ∙ of_chain x os)))
+  formula_words : {ns : List (List ℕ)} {x : Query} {y : Formula} → IsFormulaOf ns x y → ArePatternsOf (tree_words x) (target_patterns y)
+  formula_words (IsFormulaOf.word {x = x} {y = y} {w = w} e f) = same_words (tree_words x) (w ∷ []) f.0 (target_patterns y) (ap target_patterns f.2) (ap tree_words e ∙ of_word w) f.1
+  formula_words (IsFormulaOf.bound {x = x} {y = y} {n = n} e b) = same_words (tree_words x) [] [] (target_patterns y) (ap target_patterns b.2) (ap tree_words e ∙ of_variable n) refl
+  formula_words (IsFormulaOf.parenthesized {x = x} {inner = z} {y = y} e h) =
+      same_words (tree_words x) (tree_words z) (target_patterns y) (target_patterns y) refl (ap tree_words e ∙ of_parenthesized z) (formula_words h)
+  formula_words (IsFormulaOf.set_of {x = x} {y = y} {ws = ws} e f) = same_words (tree_words x) ws f.0 (target_patterns y) (ap target_patterns f.2) (ap tree_words e ∙ of_set ws) f.1
+  formula_words (IsFormulaOf.call {x = x} {y = y} {name = name} {xs = xs} {f = f} e known c) =
+      same_words (tree_words x) (picked (arguments_of f) (all_words xs)) (target_patterns y) (target_patterns y) refl
+      (ap tree_words e ∙ (of_call name xs ∙ ap (λ (o : Option QueryFunction). call_words o (map tree_words xs)) known)) (call_formula c)
+  formula_words (IsFormulaOf.binding {x = x} {value = v} {body = b} {y = y} {a = a} {b = c} {n = n} e h k f) =
+      same_words (tree_words x) (tree_words v ++ tree_words b) (target_patterns a ++ target_patterns c) (target_patterns y) (ap target_patterns f) (ap tree_words e ∙ of_let n v b)
+      (both (target_patterns a) (tree_words v) (target_patterns c) (tree_words b) (formula_words h) (formula_words k))
+  formula_words (IsFormulaOf.chain {x = x} {first = z} {y = y} {a = a} {os = os} {steps = ss} e h s f) =
+      same_words (tree_words x) (tree_words z ++ joined (map operation_words os)) (target_patterns a ++ step_patterns ss) (target_patterns y)
+      (ap target_patterns f ∙ chained_patterns a ss) (ap tree_words e ∙ of_chain z os)
+      (both (target_patterns a) (tree_words z) (step_patterns ss) (joined (map operation_words os)) (formula_words h) (steps_formula s))
 
-  steps_formula : {ns : List (List ℕ)} {os : List SetOperation} {ss : List Step} → AreStepsOf ns os ss → step_words ss ≡ joined (map operation_words os)
+  steps_formula : {ns : List (List ℕ)} {os : List SetOperation} {ss : List Step} → AreStepsOf ns os ss → ArePatternsOf (joined (map operation_words os)) (step_patterns ss)
   steps_formula AreStepsOf.no_more = refl
   steps_formula (AreStepsOf.one_more {o = o} {os = os} {s = s} {ss = ss} e h rest) =
-      both (target_words s.formula) (operation_words o) (step_words ss) (joined (map operation_words os)) (formula_words h ∙ sym (of_operation o)) (steps_formula rest)
+      both (target_patterns s.formula) (operation_words o) (step_patterns ss) (joined (map operation_words os))
+      (same_words (operation_words o) (tree_words o.operand) (target_patterns s.formula) (target_patterns s.formula) refl (of_operation o) (formula_words h)) (steps_formula rest)
 
-  call_formula : {f : QueryFunction} {ns : List (List ℕ)} {xs : List Query} {y : Formula} → IsCallOf f ns xs y → target_words y ≡ picked (arguments_of f) (all_words xs)
-  call_formula (IsCallOf.deps {xs = xs} {x = x} {a = a} e h f) =
-      ap target_words f ∙ as_arguments (kind.Query ∷ []) xs (x ∷ []) (target_words a) e (alone (target_words a) (tree_words x) (formula_words h))
-  call_formula (IsCallOf.deps_within {xs = xs} {x = x} {n = n} {a = a} e h k f) =
-      ap target_words f ∙ as_arguments (kind.Query ∷ []) xs (x ∷ n ∷ []) (target_words a) e (alone (target_words a) (tree_words x) (formula_words h))
-  call_formula (IsCallOf.rdeps {xs = xs} {u = u} {x = x} {a = a} {b = b} e h k f) =
-      ap target_words f
-      ∙ as_arguments (kind.Query ∷ kind.Query ∷ []) xs (u ∷ x ∷ []) (target_words a ++ target_words b) e
-      (two_of (target_words a) (tree_words u) (target_words b) (tree_words x) (formula_words h) (formula_words k))
-  call_formula (IsCallOf.rdeps_within {xs = xs} {u = u} {x = x} {n = n} {a = a} {b = b} e h k l f) =
-      ap target_words f
-      ∙ as_arguments (kind.Query ∷ kind.Query ∷ []) xs (u ∷ x ∷ n ∷ []) (target_words a ++ target_words b) e
-      (two_of (target_words a) (tree_words u) (target_words b) (tree_words x) (formula_words h) (formula_words k))
-  call_formula (IsCallOf.allpaths {xs = xs} {x = u} {z = x} {a = a} {b = b} e h k f) =
-      ap target_words f
-      ∙ as_arguments (kind.Query ∷ kind.Query ∷ []) xs (u ∷ x ∷ []) (target_words a ++ target_words b) e
-      (two_of (target_words a) (tree_words u) (target_words b) (tree_words x) (formula_words h) (formula_words k))
-  call_formula (IsCallOf.kind {xs = xs} {p = p} {x = x} {a = a} e r h f) =
-      ap target_words f ∙ as_arguments (kind.Pattern ∷ kind.Query ∷ []) xs (p ∷ x ∷ []) (target_words a) e (alone (target_words a) (tree_words x) (formula_words h))
-  call_formula (IsCallOf.filter {xs = xs} {p = p} {x = x} {a = a} e r h f) =
-      ap target_words f ∙ as_arguments (kind.Pattern ∷ kind.Query ∷ []) xs (p ∷ x ∷ []) (target_words a) e (alone (target_words a) (tree_words x) (formula_words h))
-  call_formula (IsCallOf.labels {xs = xs} {n = p} {x = x} {a = a} e r h f) =
-      ap target_words f ∙ as_arguments (kind.Attribute ∷ kind.Query ∷ []) xs (p ∷ x ∷ []) (target_words a) e (alone (target_words a) (tree_words x) (formula_words h))
-  call_formula (IsCallOf.attr {xs = xs} {n = n} {p = p} {x = x} {a = a} e q r h f) =
-      ap target_words f
-      ∙ as_arguments (kind.Attribute ∷ kind.Pattern ∷ kind.Query ∷ []) xs (n ∷ p ∷ x ∷ []) (target_words a) e (alone (target_words a) (tree_words x) (formula_words h))
+  call_formula : {f : QueryFunction} {ns : List (List ℕ)} {xs : List Query} {y : Formula} → IsCallOf f ns xs y → ArePatternsOf (picked (arguments_of f) (all_words xs)) (target_patterns y)
+  call_formula (IsCallOf.deps {xs = xs} {x = x} {y = y} {a = a} e h f) =
+      as_arguments (kind.Query ∷ []) xs (x ∷ []) (target_patterns a) (target_patterns y) e (ap target_patterns f) (alone (target_patterns a) (tree_words x) (formula_words h))
+  call_formula (IsCallOf.deps_within {xs = xs} {x = x} {n = n} {y = y} {a = a} e h k f) =
+      as_arguments (kind.Query ∷ []) xs (x ∷ n ∷ []) (target_patterns a) (target_patterns y) e (ap target_patterns f) (alone (target_patterns a) (tree_words x) (formula_words h))
+  call_formula (IsCallOf.rdeps {xs = xs} {u = u} {x = x} {y = y} {a = a} {b = b} e h k f) =
+      as_arguments (kind.Query ∷ kind.Query ∷ []) xs (u ∷ x ∷ []) (target_patterns a ++ target_patterns b) (target_patterns y) e (ap target_patterns f)
+      (two_of (target_patterns a) (tree_words u) (target_patterns b) (tree_words x) (formula_words h) (formula_words k))
+  call_formula (IsCallOf.rdeps_within {xs = xs} {u = u} {x = x} {n = n} {y = y} {a = a} {b = b} e h k l f) =
+      as_arguments (kind.Query ∷ kind.Query ∷ []) xs (u ∷ x ∷ n ∷ []) (target_patterns a ++ target_patterns b) (target_patterns y) e (ap target_patterns f)
+      (two_of (target_patterns a) (tree_words u) (target_patterns b) (tree_words x) (formula_words h) (formula_words k))
+  call_formula (IsCallOf.allpaths {xs = xs} {x = u} {z = x} {y = y} {a = a} {b = b} e h k f) =
+      as_arguments (kind.Query ∷ kind.Query ∷ []) xs (u ∷ x ∷ []) (target_patterns a ++ target_patterns b) (target_patterns y) e (ap target_patterns f)
+      (two_of (target_patterns a) (tree_words u) (target_patterns b) (tree_words x) (formula_words h) (formula_words k))
+  call_formula (IsCallOf.kind {xs = xs} {p = p} {x = x} {y = y} {a = a} e r h f) =
+      as_arguments (kind.Pattern ∷ kind.Query ∷ []) xs (p ∷ x ∷ []) (target_patterns a) (target_patterns y) e (ap target_patterns f) (alone (target_patterns a) (tree_words x) (formula_words h))
+  call_formula (IsCallOf.filter {xs = xs} {p = p} {x = x} {y = y} {a = a} e r h f) =
+      as_arguments (kind.Pattern ∷ kind.Query ∷ []) xs (p ∷ x ∷ []) (target_patterns a) (target_patterns y) e (ap target_patterns f) (alone (target_patterns a) (tree_words x) (formula_words h))
+  call_formula (IsCallOf.labels {xs = xs} {n = p} {x = x} {y = y} {a = a} e r h f) =
+      as_arguments (kind.Attribute ∷ kind.Query ∷ []) xs (p ∷ x ∷ []) (target_patterns a) (target_patterns y) e (ap target_patterns f) (alone (target_patterns a) (tree_words x) (formula_words h))
+  call_formula (IsCallOf.attr {xs = xs} {n = n} {p = p} {x = x} {y = y} {a = a} e q r h f) =
+      as_arguments (kind.Attribute ∷ kind.Pattern ∷ kind.Query ∷ []) xs (n ∷ p ∷ x ∷ []) (target_patterns a) (target_patterns y) e (ap target_patterns f) (alone (target_patterns a) (tree_words x) (formula_words h))
 
 -- ---- the tokens of a tree write its words
 
@@ -239,7 +257,9 @@ queries (suc depth) ts rest x h = query (suc depth) (IsQueryTo depth) (queries d
 
 pub words_in_order : WordsInTextOrder
 words_in_order text x y parsed is = record {
+  words = tree_words x;
+  read = formula_words is;
   cut = parsed.cut;
   reads = parsed.reads;
-  write = in_words (tree_words x) (target_words y) (formula_words is) (queries max_open (lexemes text parsed.cut) [] x parsed.derives);
+  write = queries max_open (lexemes text parsed.cut) [] x parsed.derives;
 }

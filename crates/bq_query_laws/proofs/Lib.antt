@@ -4,7 +4,7 @@ pub mod Edges
 pub mod Chosen
 -- the first word of which something is missing
 pub mod Missing
--- the target patterns of a query are words of its text, in its order
+-- the target patterns of a query are read from words of its text, in its order
 pub mod InText
 -- what is read of decimal digits is their number
 pub mod Numbers

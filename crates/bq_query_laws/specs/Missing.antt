@@ -1,7 +1,8 @@
 -- Which fault a query ends with, in words of its target patterns in the order of the text.
-use Rattle.std.specs.Prelude.{◌≡◌, ℕ, List, [], ◌∷◌, ◌++◌, Option, Some, None}
+use Rattle.std.specs.Prelude.{◌≡◌, List, [], ◌∷◌, ◌++◌, Option, Some, None}
 use Rattle.std.specs.List.{AllByRecursion}
 use Rattle.bq_query_lex.specs.declared.query_error.QueryErr.{QueryErr}
+use Rattle.bq_query_target_pattern.specs.declared.pattern.TargetPattern.{TargetPattern}
 use Rattle.bq_query_check.specs.Formula.{Formula, named, variable, let_in, combined, one, two}
 use Rattle.bq_query_target_sets.specs.Missing.{missing}
 use Rattle.bq_query.specs.Faults.{fault_in}
@@ -9,33 +10,33 @@ use Rattle.bq_query_target_graph.specs.Graph.{GraphParts}
 use Rattle.bq_query.specs.Graph.{targets_of, packages_of}
 
 -- the target patterns of a query, one after another
-abbrev pub target_words : Formula → List (List ℕ)
-target_words (named words) = words
-target_words (variable k) = []
-target_words (let_in a b) = target_words a ++ target_words b
-target_words (combined o a b) = target_words a ++ target_words b
-target_words (one f a) = target_words a
-target_words (two f a b) = target_words a ++ target_words b
+abbrev pub target_patterns : Formula → List TargetPattern
+target_patterns (named patterns) = patterns
+target_patterns (variable k) = []
+target_patterns (let_in a b) = target_patterns a ++ target_patterns b
+target_patterns (combined o a b) = target_patterns a ++ target_patterns b
+target_patterns (one f a) = target_patterns a
+target_patterns (two f a b) = target_patterns a ++ target_patterns b
 
--- what the word names that is not there
-abbrev pub missing_of : GraphParts → List ℕ → Option QueryErr
-missing_of w word = missing (packages_of w) (targets_of w) word
+-- what the pattern names that is not there
+abbrev pub missing_of : GraphParts → TargetPattern → Option QueryErr
+missing_of w p = missing (packages_of w) (targets_of w) p
 
--- nothing is missing of these words
-abbrev pub AreThere : GraphParts → List (List ℕ) → Type 0
-AreThere w words = AllByRecursion (λ word. missing_of w word ≡ None) words
+-- nothing is missing of these patterns
+abbrev pub AreThere : GraphParts → List TargetPattern → Type 0
+AreThere w patterns = AllByRecursion (λ p. missing_of w p ≡ None) patterns
 
--- the first word of which something is missing
+-- the first pattern of which something is missing
 pub record IsFirstMissing (w : GraphParts) (x : Formula) (why : QueryErr) : Type 0 where
-  pub before : List (List ℕ)
-  pub word : List ℕ
-  pub after : List (List ℕ)
-  pub words : target_words x ≡ before ++ word ∷ after
+  pub before : List TargetPattern
+  pub pattern : TargetPattern
+  pub after : List TargetPattern
+  pub patterns : target_patterns x ≡ before ++ pattern ∷ after
   pub there : AreThere w before
-  pub missing : missing_of w word ≡ Some why
+  pub missing : missing_of w pattern ≡ Some why
 
 pub record FailsForFirstMissing (w : GraphParts) (x : Formula) : Type 0 where
   pub first : (why : QueryErr) → fault_in w x ≡ Some why → IsFirstMissing w x why
   pub fails : (why : QueryErr) → IsFirstMissing w x why → fault_in w x ≡ Some why
-  pub answers : fault_in w x ≡ None → AreThere w (target_words x)
-  pub all_there : AreThere w (target_words x) → fault_in w x ≡ None
+  pub answers : fault_in w x ≡ None → AreThere w (target_patterns x)
+  pub all_there : AreThere w (target_patterns x) → fault_in w x ≡ None

@@ -29,7 +29,7 @@ pub fn queries_fail_for_the_first_missing_word()
     ensures { (w : GraphParts) (x : Formula) → FailsForFirstMissing w x }
 {}
 
-/// The target patterns of a query are words of its text, in the text's order.
+/// The target patterns of a query are read from words of its text, in the text's order.
 pub fn words_are_in_the_order_of_the_text()
     ensures { WordsInTextOrder }
 {}

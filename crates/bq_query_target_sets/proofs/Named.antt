@@ -1,5 +1,5 @@
 -- The targets whose labels begin alike stand together.
-use Rattle.std.proofs.Common.{◌≡◌, ◌∙◌, ◌+◌, ◌<◌, ◌≤◌, ℕ, suc, Bool, true, false, List, [], ◌∷◌, ◌++◌, length, get_or, map, nat_le, nat_lt, if◌then◌else◌, refl, sym, ap, arith, inl, inr}
+use Rattle.std.proofs.Common.{◌≡◌, ◌∙◌, ◌+◌, ◌<◌, ◌≤◌, ℕ, suc, Bool, true, false, List, [], ◌∷◌, ◌++◌, length, get_or, map, nat_le, nat_lt, refl, sym, ap, arith, inl, inr}
 use Rattle.std.specs.Prelude.{◌&&◌, ◌||◌, not, nat_eq}
 use Rattle.std.specs.List.{starts_with}
 use Rattle.std.proofs.lemmas.Bool.{cases_lt, false≢true}
@@ -9,10 +9,9 @@ use Rattle.std.specs.Ordering.{nat_cmp, ordering_then}
 use Rattle.std.specs.Cmp.Lexicographic.{slice_cmp}
 use Rattle.std.specs.declared.cmp.Ordering.TheVariants.{Less, Equal}
 use Rattle.bq_label.specs.Label.{PackageParts}
-use Rattle.bq_query_lex.specs.TargetPatterns.{word_form}
 use Rattle.bq_package_target.specs.declared.target.Target.{Target}
 use Rattle.bq_query_target_sets.specs.Order.{texts_of, is_below, IsPlaceOf}
-use Rattle.bq_query_target_sets.specs.Words.{Beginning, begins, own, beneath, is_wanted, names_in, names_at, names, is_label_form, is_deep, are_rules, has_label, label_named, package_named, Adds, Range}
+use Rattle.bq_query_target_sets.specs.Words.{Beginning, begins, own, beneath, is_wanted, names_in, Adds, Range}
 use Rattle.bq_query_target_sets.proofs.Cuts.{begins_between, front_alike}
 use Rattle.bq_query_target_sets.proofs.Ranks.{no_one, text_at, text_is, below_less}
 use Rattle.bq_query_target_sets.proofs.Tests.{passes, passes_and, adds_as, adds_then}
@@ -107,27 +106,3 @@ pub adds_deep : (targets : List Target) (rules : Bool) (p : PackageParts) (befor
 adds_deep targets rules p before middle after first second =
     adds_then (names_in true rules p) (λ t. begins (own p) t && is_wanted rules t) (λ t. begins (beneath p) t && is_wanted rules t) targets before middle after
     (λ t. deep_by (begins (own p) t) (begins (beneath p) t) (is_wanted rules t)) first second
-
--- ---- words
-
-pub names_label : (word : List ℕ) → is_label_form (word_form word).0 ≡ true → (t : Target) → names word t ≡ has_label (label_named (word_form word).1) t
-unfolding names
-names_label word e t =
-    ap (λ (b : Bool). if b then has_label (label_named (word_form word).1) t else names_at (is_deep (word_form word).0) (are_rules (word_form word).0) (package_named (word_form word).1) t) e
-
-pub names_package : (word : List ℕ) → is_label_form (word_form word).0 ≡ false → (t : Target) → names word t ≡ names_at (is_deep (word_form word).0) (are_rules (word_form word).0) (package_named (word_form word).1) t
-unfolding names
-names_package word e t =
-    ap (λ (b : Bool). if b then has_label (label_named (word_form word).1) t else names_at (is_deep (word_form word).0) (are_rules (word_form word).0) (package_named (word_form word).1) t) e
-
-pub adds_by_label : (word part : List ℕ) (targets : List Target) (before after : List Bool) → part ≡ (word_form word).1 → is_label_form (word_form word).0 ≡ true → Adds (has_label (label_named part)) targets before after
-    → Adds (names word) targets before after
-adds_by_label word part targets before after e f adds =
-    adds_as (has_label (label_named part)) (names word) targets before after (λ t. names_label word f t ∙ ap (λ (p : List ℕ). has_label (label_named p) t) (sym e)) adds
-
-pub adds_by_package : (word part : List ℕ) (deep rules : Bool) (targets : List Target) (before after : List Bool) → part ≡ (word_form word).1 → is_label_form (word_form word).0 ≡ false
-    → deep ≡ is_deep (word_form word).0 → rules ≡ are_rules (word_form word).0 → Adds (names_at deep rules (package_named part)) targets before after → Adds (names word) targets before after
-adds_by_package word part deep rules targets before after e f g h adds =
-    adds_as (names_at deep rules (package_named part)) (names word) targets before after
-    (λ t. names_package word f t ∙ (ap (λ (p : List ℕ). names_at (is_deep (word_form word).0) (are_rules (word_form word).0) (package_named p) t) (sym e)
-    ∙ (ap (λ b. names_at b (are_rules (word_form word).0) (package_named part) t) (sym g) ∙ ap (λ b. names_at deep b (package_named part) t) (sym h)))) adds

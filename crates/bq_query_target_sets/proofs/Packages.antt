@@ -1,6 +1,6 @@
 -- Labels that begin as those of a package do have that package, or one beneath it.
 use Rattle.std.proofs.Common.{◌≡◌, ◌≢◌, ◌↔◌, ◌⊎◌, ◌∙◌, ℕ, ◌++◌, ◌==◌, Bool, true, false, List, [], ◌∷◌, Option, Some, None, length, drop, refl, sym, ap, subst, append_assoc, arith, inl, inr}
-use Rattle.std.specs.Prelude.{◌&&◌, ◌||◌}
+use Rattle.std.specs.Prelude.{◌||◌}
 use Rattle.std.specs.Option.{option_map}
 use Rattle.std.specs.List.{list_any}
 use Rattle.std.proofs.lemmas.Bool.{cases_Bool, false≢true}
@@ -9,30 +9,25 @@ use Rattle.std.proofs.lemmas.List.Folds.{list_any-append}
 use Rattle.std.proofs.lemmas.Slice.Eq.{starts_is}
 use Rattle.bq_label.specs.Paths.{is_repository}
 use Rattle.bq_label.specs.Label.{PackageParts, LabelParts, IsPackage, IsLabel, package_at, package_of, repository_prefix, full_form}
-use Rattle.bq_label.specs.Reading.{split_once}
 use Rattle.bq_label.proofs.Above.{equal_bytes, same_bytes}
-use Rattle.bq_label.proofs.Cuts.{cut_joined}
-use Rattle.bq_label.proofs.Readings.{first_of_two, no_colon, no_slash, one_full_form, reading_from_label, second_of_two}
-use Rattle.bq_label.proofs.Repositories.{some_parts}
+use Rattle.bq_label.proofs.Readings.{first_of_two, no_colon, no_slash, one_full_form, second_of_two}
 use Rattle.bq_label.proofs.Segments.{two_true}
 use Rattle.bq_query_lex.specs.declared.target_pattern.PatternForm.{PatternForm}
 use Rattle.bq_query_lex.specs.declared.target_pattern.PatternForm.TheVariants as form
 use Rattle.bq_query_lex.specs.TargetPatterns.{word_form}
+use Rattle.bq_query_target_pattern.specs.declared.pattern.TargetPattern.{TargetPattern}
+use Rattle.bq_query_target_pattern.specs.declared.pattern.TargetPattern.TheVariants as pattern
+use Rattle.bq_query_target_pattern.specs.Reading.{label_named, package_named, pattern_by, pattern_of}
+use Rattle.bq_query_target_pattern.proofs.Names.{label_valid, package_valid, same_cut, some_is}
 use Rattle.bq_package_target.specs.declared.target.Target.{Target}
-use Rattle.bq_query_target_sets.specs.Order.{text_of, is_text}
+use Rattle.bq_query_target_sets.specs.Order.{text_of}
 use Rattle.bq_query_target_sets.specs.Packages.{IsWithin, NamesBy, TargetsBeneathAPackage, TargetsOfAPackage, WordsNameLabelsAndPackages}
-use Rattle.bq_query_target_sets.specs.Words.{Beginning, begins, beneath, beneath_by, has_label, is_rule, is_wanted, label_named, names, names_at, names_by, names_in, own, package_named, package_text}
+use Rattle.bq_query_target_sets.specs.Words.{Beginning, begins, beneath, beneath_by, is_rule, is_wanted, names, names_in, own}
 
 -- ---- texts
 
-pub heads : (x y : ℕ) (xs ys : List ℕ) → x ∷ xs ≡ y ∷ ys → x ≡ y
+heads : (x y : ℕ) (xs ys : List ℕ) → x ∷ xs ≡ y ∷ ys → x ≡ y
 heads x y xs ys e = cc
-
--- two cuts of one text at its first such byte
-pub same_cut : (c : ℕ) (xs ys us vs : List ℕ) → list_any (λ b. b == c) xs ≡ false → list_any (λ b. b == c) us ≡ false → xs ++ c ∷ ys ≡ us ++ c ∷ vs → (xs ≡ us) × (ys ≡ vs)
-same_cut c xs ys us vs n m e =
-    let both : (xs, ys) ≡ (us, vs) = some_parts (sym (cut_joined c xs ys n) ∙ (ap (split_once c) e ∙ cut_joined c us vs m)) in
-    (ap (λ (q : List ℕ × List ℕ). q.0) both, ap (λ (q : List ℕ × List ℕ). q.1) both)
 
 -- a repository and what follows its two slashes are known of the text
 fronts : (r q x y : List ℕ) → is_repository r ≡ true → is_repository q ≡ true → repository_prefix r ++ 47 ∷ 47 ∷ x ≡ repository_prefix q ++ 47 ∷ 47 ∷ y → (r ≡ q) × (x ≡ y)
@@ -169,77 +164,66 @@ targets_beneath_a_package p t rules hp hl = (beneath_it p t rules hp hl, is_bene
 
 -- ---- words
 
-some_is : {A : Type 0} {x y : A} → Some x ≡ Some y → x ≡ y
-some_is e = cc
-
-label_valid : (word : List ℕ) (l : LabelParts) → label_named word ≡ Some l → IsLabel l
-label_valid word l h = (reading_from_label (package_at [] []) word l h).valid
-
-mapped_by : (o : Option LabelParts) (p : PackageParts) → option_map package_of o ≡ Some p → (l : LabelParts) × (o ≡ Some l) × (package_of l ≡ p)
-mapped_by None p h = absurd (cc h)
-mapped_by (Some l) p h = (l, refl, some_is h)
-
--- the label that the part of a word names with `:x`
-pub label_of_part : (part : List ℕ) (p : PackageParts) → package_named part ≡ Some p → (l : LabelParts) × (label_named (part ++ 58 ∷ 120 ∷ []) ≡ Some l) × (package_of l ≡ p)
-unfolding package_named
-label_of_part part p h = mapped_by (label_named (part ++ 58 ∷ 120 ∷ [])) p h
-
-package_valid : (part : List ℕ) (p : PackageParts) → package_named part ≡ Some p → IsPackage p
-package_valid part p h =
-    let l = label_of_part part p h in
-    let valid = label_valid (part ++ 58 ∷ 120 ∷ []) l.0 l.1 in
-    subst IsPackage l.2 (record { valid_repo = valid.valid_repo; valid_package = valid.valid_package })
+-- what a part that names was read as
+read_from : {A : Type 0} (f : A → TargetPattern) (o : Option A) (p : TargetPattern) → option_map f o ≡ Some p → (x : A) × (o ≡ Some x) × (p ≡ f x)
+read_from f None p h = absurd (cc h)
+read_from f (Some x) p h = (x, refl, sym (some_is h))
 
 module _ (part : List ℕ) (t : Target) (hl : IsLabel t.label) where
-  has_by : (o : Option LabelParts) → label_named part ≡ o → (has_label o t ≡ true) ↔ (o ≡ Some t.label)
-  has_by None e = (λ h. absurd (false≢true h), λ h. absurd (cc h))
-  has_by (Some l) e = (
-    λ h. ap Some (sym (one_full_form t.label l hl (label_valid part l e) (same_bytes (full_form t.label) (full_form l) h))),
-    λ h. equal_bytes (full_form t.label) (full_form l) (ap full_form (sym (some_is h))),
+  abbrev IsSaid : PatternForm → TargetPattern → Type 0
+  IsSaid f p = (names p t ≡ true) ↔ NamesBy f part t
+
+  label_said : (l : LabelParts) → label_named part ≡ Some l → IsSaid form.Target (pattern.Target l)
+  label_said l e = (
+    λ h. e ∙ ap Some (sym (one_full_form t.label l hl (label_valid part l e) (same_bytes (full_form t.label) (full_form l) h))),
+    λ h. equal_bytes (full_form t.label) (full_form l) (ap full_form (some_is (sym h ∙ e))),
   )
 
-  abbrev NamesIn : Bool → Bool → Type 0
-  NamesIn deep rules = (p : PackageParts) × (package_named part ≡ Some p) × (names_in deep rules p t ≡ true)
+  module _ (p : PackageParts) (e : package_named part ≡ Some p) where
+    valid : IsPackage p
+    valid = package_valid part p e
 
-  in_by : (deep rules : Bool) (o : Option PackageParts) → package_named part ≡ o → (names_at deep rules o t ≡ true) ↔ NamesIn deep rules
-  in_by deep rules None e = (λ h. absurd (false≢true h), λ h. let no : None ≡ Some h.0 = sym e ∙ h.1 in absurd (cc no))
-  in_by deep rules (Some p) e = (
-    λ h. (p, e, h),
-    λ h. let is : p ≡ h.0 = some_is (sym e ∙ h.1) in subst (λ (q : PackageParts). names_in deep rules q t ≡ true) (sym is) h.2,
-  )
+    -- the part names one package
+    one : (q : PackageParts) → package_named part ≡ Some q → q ≡ p
+    one q h = some_is (sym h ∙ e)
 
-  wanted_rule : is_wanted true t ≡ true → is_rule t ≡ true
-  wanted_rule h = or_no (is_rule t) h
+    rules_said : IsSaid form.Rules (pattern.Rules p)
+    rules_said = (
+      λ h. let g = of_it p t true valid hl h in (p, e, g.0, or_no (is_rule t) g.1),
+      λ h. is_of_it p t true valid hl (h.2 ∙ one h.0 h.1, or_first (is_rule t) false h.3),
+    )
 
-  in_it : (rules : Bool) (h : NamesIn false rules) → (package_of t.label ≡ h.0) × (is_wanted rules t ≡ true)
-  in_it rules h = of_it h.0 t rules (package_valid part h.0 h.1) hl h.2
+    all_said : IsSaid form.All (pattern.All p)
+    all_said = (
+      λ h. (p, e, (of_it p t false valid hl h).0),
+      λ h. is_of_it p t false valid hl (h.2 ∙ one h.0 h.1, or_second (is_rule t) true refl),
+    )
 
-  below_it : (rules : Bool) (h : NamesIn true rules) → IsWithin h.0 (package_of t.label) × (is_wanted rules t ≡ true)
-  below_it rules h = beneath_it h.0 t rules (package_valid part h.0 h.1) hl h.2
+    within_it : (q : PackageParts) → package_named part ≡ Some q → IsWithin q (package_of t.label) → IsWithin p (package_of t.label)
+    within_it q h w = subst (λ (x : PackageParts). IsWithin x (package_of t.label)) (one q h) w
 
-  names_is : (f : PatternForm) → (names_by f part t ≡ true) ↔ NamesBy f part t
-  names_is form.Target = has_by (label_named part) refl
-  names_is form.Rules =
-      let is = in_by false true (package_named part) refl in (
-        λ h. let i = is.0 h in let g = in_it true i in (i.0, i.1, g.0, wanted_rule g.1),
-        λ h. is.1 (h.0, h.1, is_of_it h.0 t true (package_valid part h.0 h.1) hl (h.2, or_first (is_rule t) false h.3)),
-      )
-  names_is form.All =
-      let is = in_by false false (package_named part) refl in (
-        λ h. let i = is.0 h in (i.0, i.1, (in_it false i).0),
-        λ h. is.1 (h.0, h.1, is_of_it h.0 t false (package_valid part h.0 h.1) hl (h.2, or_second (is_rule t) true refl)),
-      )
-  names_is form.RulesBeneath =
-      let is = in_by true true (package_named part) refl in (
-        λ h. let i = is.0 h in let g = below_it true i in (i.0, i.1, g.0, wanted_rule g.1),
-        λ h. is.1 (h.0, h.1, is_beneath_it h.0 t true (package_valid part h.0 h.1) hl (h.2, or_first (is_rule t) false h.3)),
-      )
-  names_is form.AllBeneath =
-      let is = in_by true false (package_named part) refl in (
-        λ h. let i = is.0 h in (i.0, i.1, (below_it false i).0),
-        λ h. is.1 (h.0, h.1, is_beneath_it h.0 t false (package_valid part h.0 h.1) hl (h.2, or_second (is_rule t) true refl)),
-      )
+    rules_beneath_said : IsSaid form.RulesBeneath (pattern.RulesBeneath p)
+    rules_beneath_said = (
+      λ h. let g = beneath_it p t true valid hl h in (p, e, g.0, or_no (is_rule t) g.1),
+      λ h. is_beneath_it p t true valid hl (within_it h.0 h.1 h.2, or_first (is_rule t) false h.3),
+    )
+
+    all_beneath_said : IsSaid form.AllBeneath (pattern.AllBeneath p)
+    all_beneath_said = (
+      λ h. (p, e, (beneath_it p t false valid hl h).0),
+      λ h. is_beneath_it p t false valid hl (within_it h.0 h.1 h.2, or_second (is_rule t) true refl),
+    )
+
+  as_read : {A : Type 0} (f : PatternForm) (make : A → TargetPattern) (o : Option A) (p : TargetPattern) → option_map make o ≡ Some p → ((x : A) → o ≡ Some x → IsSaid f (make x)) → IsSaid f p
+  as_read f make o p h said = let r = read_from make o p h in subst (IsSaid f) (sym r.2) (said r.0 r.1)
+
+  names_is : (f : PatternForm) (p : TargetPattern) → pattern_by f part ≡ Some p → IsSaid f p
+  names_is form.Target p h = as_read form.Target pattern.Target (label_named part) p h label_said
+  names_is form.Rules p h = as_read form.Rules pattern.Rules (package_named part) p h rules_said
+  names_is form.All p h = as_read form.All pattern.All (package_named part) p h all_said
+  names_is form.RulesBeneath p h = as_read form.RulesBeneath pattern.RulesBeneath (package_named part) p h rules_beneath_said
+  names_is form.AllBeneath p h = as_read form.AllBeneath pattern.AllBeneath (package_named part) p h all_beneath_said
 
 pub words_name_labels_and_packages : WordsNameLabelsAndPackages
-unfolding names
-words_name_labels_and_packages word t hl = names_is (word_form word).1 t hl (word_form word).0
+unfolding pattern_of
+words_name_labels_and_packages word p t h hl = names_is (word_form word).1 t hl (word_form word).0 p h

@@ -1,12 +1,14 @@
--- What words name, in words of packages: which targets are of a package or beneath it, and which words are patterns over all that is beneath
--- one (Bazel, "Target patterns"). The laws say that `Words` and the forms of words of bq_query_lex mean just this.
-use Rattle.std.specs.Prelude.{◌≡◌, ◌↔◌, ◌⊎◌, ℕ, ◌++◌, Bool, true, false, List, [], ◌∷◌, Some, codes}
-use Rattle.bq_label.specs.Label.{PackageParts, IsPackage, IsLabel, package_of, at_sign}
+-- What words name, in words of packages: which targets are of a package or beneath it (Bazel, "Target patterns"). The laws say that `Words`
+-- and the patterns as which words are read mean just this.
+use Rattle.std.specs.Prelude.{◌≡◌, ◌↔◌, ℕ, ◌++◌, Bool, true, false, List, [], ◌∷◌, Some}
+use Rattle.bq_label.specs.Label.{PackageParts, IsPackage, IsLabel, package_of}
 use Rattle.bq_query_lex.specs.declared.target_pattern.PatternForm.{PatternForm}
 use Rattle.bq_query_lex.specs.declared.target_pattern.PatternForm.TheVariants as form
-use Rattle.bq_query_lex.specs.TargetPatterns.{begins_pattern, word_form}
+use Rattle.bq_query_lex.specs.TargetPatterns.{word_form}
+use Rattle.bq_query_target_pattern.specs.declared.pattern.TargetPattern.{TargetPattern}
+use Rattle.bq_query_target_pattern.specs.Reading.{label_named, package_named, pattern_of}
 use Rattle.bq_package_target.specs.declared.target.Target.{Target}
-use Rattle.bq_query_target_sets.specs.Words.{is_rule, is_wanted, label_named, package_named, names_in, names}
+use Rattle.bq_query_target_sets.specs.Words.{is_rule, is_wanted, names_in, names}
 
 -- ---- targets
 
@@ -38,32 +40,5 @@ NamesBy form.RulesBeneath part t = (p : PackageParts) × (package_named part ≡
 NamesBy form.AllBeneath part t = (p : PackageParts) × (package_named part ≡ Some p) × IsWithin p (package_of t.label)
 
 abbrev pub WordsNameLabelsAndPackages : Type 0
-WordsNameLabelsAndPackages = (word : List ℕ) (t : Target) → IsLabel t.label → (names word t ≡ true) ↔ NamesBy (word_form word).0 (word_form word).1 t
-
--- ---- patterns
-
--- the text names the package: `//package`, or `@repository//package`; `@//package` is the main repository's
-pub data Spells (p : PackageParts) (text : List ℕ) : Type 0 where
-  main : p.repo ≡ [] → text ≡ codes "//" ++ p.package → Spells p text
-  other : text ≡ at_sign ∷ (p.repo ++ (codes "//" ++ p.package)) → Spells p text
-
--- `/...`, which after the root package's two slashes is `...`
-abbrev pub dots_by : List ℕ → List ℕ
-dots_by [] = codes "..."
-dots_by (b ∷ bs) = codes "/..."
-
--- the word is what names the package, the dots, and this end
-abbrev pub IsDots : PackageParts → List ℕ → List ℕ → Type 0
-IsDots p end word = (text : List ℕ) × Spells p text × (word ≡ text ++ (dots_by p.package ++ end))
-
--- the word is a pattern of this form over the package
-abbrev pub IsPattern : PatternForm → PackageParts → List ℕ → Type 0
-IsPattern f p word = ((word_form word).0 ≡ f) × (package_named (word_form word).1 ≡ Some p)
-
--- A word is a pattern over all that is beneath a package exactly where the dots follow that package.
-pub record FollowsAPackage (p : PackageParts) (word : List ℕ) : Type 0 where
-  pub rules : IsPattern form.RulesBeneath p word ↔ (IsDots p [] word ⊎ IsDots p (codes ":all") word)
-  pub all : IsPattern form.AllBeneath p word ↔ (IsDots p (codes ":*") word ⊎ IsDots p (codes ":all-targets") word)
-
-abbrev pub DotsFollowAPackage : Type 0
-DotsFollowAPackage = (p : PackageParts) (word : List ℕ) → IsPackage p → begins_pattern word ≡ true → FollowsAPackage p word
+WordsNameLabelsAndPackages =
+    (word : List ℕ) (p : TargetPattern) (t : Target) → pattern_of word ≡ Some p → IsLabel t.label → (names p t ≡ true) ↔ NamesBy (word_form word).0 (word_form word).1 t

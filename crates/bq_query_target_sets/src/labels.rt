@@ -7,9 +7,9 @@ ghost use Rattle.bq_query_target_sets.specs.Order.{AreInOrder};
 ghost use Rattle.bq_query_target_sets.specs.Words.{Adds};
 ghost use Rattle.bq_query_target_sets.specs.Labels.{Labels, labels_in, labels_named, is_among};
 
+use crate::pattern::add_label;
 use crate::set::no_target;
 use crate::text::given;
-use crate::word::add_label;
 use bq_label::Label;
 use bq_package_rule_class::AttributeValue;
 use bq_package_target::{Target, TargetKind};

@@ -1,7 +1,7 @@
 //! What words name, said of packages. The functions do nothing: their contracts are the laws. Each label of a target is
 //! valid, since every `Label` is.
 
-ghost use Rattle.bq_query_target_sets.specs.Packages.{DotsFollowAPackage, TargetsBeneathAPackage, TargetsOfAPackage, WordsNameLabelsAndPackages};
+ghost use Rattle.bq_query_target_sets.specs.Packages.{TargetsBeneathAPackage, TargetsOfAPackage, WordsNameLabelsAndPackages};
 
 /// The targets of a package are those whose labels have it as their package: no other label begins as theirs do.
 pub fn targets_of_a_package()
@@ -18,10 +18,4 @@ pub fn targets_beneath_a_package()
 /// the rules among them, or all.
 pub fn words_name_labels_and_packages()
     ensures { WordsNameLabelsAndPackages }
-{}
-
-/// A word with `...` is a pattern over all that is beneath a package exactly if what is before the dots is that
-/// package.
-pub fn dots_follow_a_package()
-    ensures { DotsFollowAPackage }
 {}

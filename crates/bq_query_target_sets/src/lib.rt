@@ -1,14 +1,14 @@
 //! The targets of a workspace, in the order of their labels, and a part of a query come in; the set of targets that the part names goes
 //! out. A set is a list of marks, one for each target.
 //!
-//! The promise: each set has exactly the targets that the definition of its form names. Words find their targets by
-//! binary search: a word takes time logarithmic in the number of targets, and linear in those that it names.
+//! The promise: each set has exactly the targets that the definition of its form names. Patterns find their targets by
+//! binary search: a pattern takes time logarithmic in the number of targets, and linear in those that it names.
 //!
 //! In reading order:
 //!
 //! - `order`: the place of a text among the labels of the targets;
-//! - `word`, `set`: the targets that words name;
-//! - `missing`: what a word names that isn't there (Q5, Q6);
+//! - `pattern`, `set`: the targets that patterns name;
+//! - `missing`: what a pattern names that isn't there (Q5, Q6);
 //! - `text`: the texts of kinds, labels and attributes;
 //! - `matching`: the members of a set whose text has a match of a pattern;
 //! - `kind`, `filter`, `attr`, `labels`: the functions of queries;
@@ -23,9 +23,9 @@ pub mod laws;
 mod matching;
 pub mod missing;
 mod order;
+mod pattern;
 mod set;
 mod text;
-mod word;
 
-pub use set::{no_target, words};
+pub use set::{no_target, targets_named};
 pub use text::{write_kind, write_label};

@@ -1,19 +1,19 @@
-//! What a word names that isn't there (Q5, Q6).
+//! What a pattern names that isn't there (Q5, Q6).
 
 ghost use Rattle.std.specs.Prelude.{◌≡◌, Some, IfOk};
 ghost use Rattle.std.specs.List.Sorted.{IsStrictlySortedBy};
 ghost use Rattle.bq_label.specs.Packages.{id_cmp};
 ghost use Rattle.bq_query_lex.specs.declared.query_error.QueryErr.TheVariants.{NoSuchPackage};
 ghost use Rattle.bq_query_target_sets.specs.Order.{AreInOrder};
-ghost use Rattle.bq_query_target_sets.specs.Words.{package_named};
 ghost use Rattle.bq_query_target_sets.specs.Missing.{has_package, has_target, missing_label, missing_package, missing};
 
 use crate::order::target_of;
-use crate::word::{label_named, package_named, package_text};
+use crate::pattern::package_text;
 use bq_base::Bytes;
 use bq_label::{Label, PackageId, print_label};
 use bq_package_target::Target;
-use bq_query_lex::{PatternForm, QueryErr, WordForm, word_form};
+use bq_query_lex::QueryErr;
+use bq_query_target_pattern::TargetPattern;
 use std::alloc::{AllocError, Global};
 
 /// Returns whether there is such a package, by binary search.
@@ -45,7 +45,7 @@ fn missing_label(
 ) -> Result<Option<QueryErr>, AllocError>
     requires packages { IsStrictlySortedBy id_cmp packages.now }
     requires targets { AreInOrder targets.now }
-    ensures { IfOk result (λ r. r ≡ missing_label packages.now targets.now (Some label.now)) }
+    ensures { IfOk result (λ r. r ≡ missing_label packages.now targets.now label.now) }
 {
     let text = print_label(alloc, label)?;
     if !has_package(packages, label.package_id()) {
@@ -65,7 +65,7 @@ fn missing_package(
     id: &PackageId,
 ) -> Result<Option<QueryErr>, AllocError>
     requires { IsStrictlySortedBy id_cmp packages.now }
-    ensures { IfOk result (λ r. r ≡ missing_package packages.now ending.now (Some id.now)) }
+    ensures { IfOk result (λ r. r ≡ missing_package packages.now ending.now id.now) }
 {
     if has_package(packages, id) {
         return Ok(None);
@@ -75,42 +75,22 @@ fn missing_package(
     no_package(alloc, text)
 }
 
-fn missing_named(
-    alloc: Global,
-    packages: &[PackageId],
-    ending: &[u8],
-    part: &[u8],
-) -> Result<Option<QueryErr>, AllocError>
-    requires { IsStrictlySortedBy id_cmp packages.now }
-    ensures { IfOk result (λ r. r ≡ missing_package packages.now ending.now (package_named part.now)) }
-{
-    match package_named(alloc, part)? {
-        Some(id) => missing_package(alloc, packages, ending, &id),
-        None => Ok(None),
-    }
-}
-
-/// Returns what is missing of a word. A word that ends with `/...` is never wrong.
-#[tactic(auto, unfolding(crate::specs::Missing::missing))]
+/// Returns what is missing of a pattern. One that ends with `/...` is never wrong.
 pub fn missing(
     alloc: Global,
     packages: &[PackageId],
     targets: &[Target],
-    word: &[u8],
+    pattern: &TargetPattern,
 ) -> Result<Option<QueryErr>, AllocError>
     requires packages { IsStrictlySortedBy id_cmp packages.now }
     requires targets { AreInOrder targets.now }
-    ensures { IfOk result (λ r. r ≡ missing packages.now targets.now word.now) }
+    ensures { IfOk result (λ r. r ≡ missing packages.now targets.now pattern.now) }
 {
-    let WordForm { form, named } = word_form(word);
-    match form {
-        PatternForm::Target => match label_named(alloc, named)? {
-            Some(label) => missing_label(alloc, packages, targets, &label),
-            None => Ok(None),
-        },
-        PatternForm::Rules => missing_named(alloc, packages, b":all", named),
-        PatternForm::All => missing_named(alloc, packages, b":*", named),
-        PatternForm::RulesBeneath => Ok(None),
-        PatternForm::AllBeneath => Ok(None),
+    match pattern {
+        TargetPattern::Target(label) => missing_label(alloc, packages, targets, label),
+        TargetPattern::Rules(id) => missing_package(alloc, packages, b":all", id),
+        TargetPattern::All(id) => missing_package(alloc, packages, b":*", id),
+        TargetPattern::RulesBeneath(_) => Ok(None),
+        TargetPattern::AllBeneath(_) => Ok(None),
     }
 }

@@ -1,18 +1,14 @@
 -- What must hold of the tree of a query, in the order of its text: that there is no fault at a place, at one place that of the least number
 -- first, and that a text is a pattern. The first of these that doesn't hold is the query's error.
-use Rattle.std.specs.Prelude.{ℕ, ◌+◌, ◌==◌, ◌&&◌, ◌||◌, nat_le, not, Bool, true, false, List, [], ◌∷◌, ◌++◌, length, Option, Some, None, is_some, Result, Ok, Err, bytes_eq, if◌then◌else◌, ◌≡◌, ◌≢◌}
+use Rattle.std.specs.Prelude.{ℕ, ◌+◌, ◌==◌, ◌&&◌, ◌||◌, nat_le, not, Bool, List, [], ◌∷◌, ◌++◌, length, Option, Some, None, Result, Ok, Err, bytes_eq, if◌then◌else◌, ◌≡◌, ◌≢◌}
 use Rattle.std.specs.List.{list_any, list_all}
-use Rattle.bq_label.specs.Label.{package_at}
-use Rattle.bq_label.specs.Reading.{label_of}
-use Rattle.bq_base.specs.declared.fault.SourceErr.{SourceErr}
-use Rattle.bq_base.specs.declared.fault.SourceErr.TheVariants as source
 use Rattle.bq_query_lex.specs.declared.query_error.QueryErr.{QueryErr}
 use Rattle.bq_query_lex.specs.declared.query_error.QueryErr.TheVariants as e
 use Rattle.bq_query_lex.specs.declared.function.QueryFunction.{QueryFunction}
 use Rattle.bq_query_lex.specs.declared.function.QueryArgumentKind.{QueryArgumentKind}
 use Rattle.bq_query_lex.specs.declared.function.QueryArgumentKind.TheVariants as kind
 use Rattle.bq_query_lex.specs.Functions.{function_named, is_left_out, arguments_of, takes_number}
-use Rattle.bq_query_lex.specs.TargetPatterns.{begins_pattern}
+use Rattle.bq_query_target_pattern.specs.Reading.{first_of, word_fault, words_fault}
 use Rattle.bq_query_tree.specs.declared.tree.Query.{Query, fold-Query}
 use Rattle.bq_query_tree.specs.declared.tree.SetOperation.{SetOperation, fold-SetOperation}
 use Rattle.bq_query_tree.specs.declared.tree.Query.TheOpen as tree
@@ -27,25 +23,7 @@ abbrev pub Tells : Fault → Result (Unit {0}) QueryErr → Type 0
 Tells fault (Ok x) = fault ≡ None
 Tells fault (Err why) = why ≢ e.Memory → fault ≡ Some why
 
--- whether something was read, out of memory aside
-abbrev pub IsRead : {A : Type 0} → Result A SourceErr → Bool → Type 0
-IsRead (Ok x) b = b ≡ true
-IsRead (Err (source.Bad fault)) b = b ≡ false
-IsRead (Err source.Memory) b = ⊥
-
--- ---- words and names
-
--- a word as a target pattern
-abbrev pub word : List ℕ → Fault
-word w = if begins_pattern w then (if is_some (label_of (package_at [] []) w) then None else Some e.Arguments) else Some (e.LeftOut w)
-
-abbrev pub first_of : Fault → Fault → Fault
-first_of None g = g
-first_of (Some why) g = Some why
-
-abbrev pub words : List (List ℕ) → Fault
-words [] = None
-words (w ∷ ws) = first_of (word w) (words ws)
+-- ---- names
 
 -- the names are those that the lets around it bind
 abbrev pub variable : List (List ℕ) → List ℕ → Fault
@@ -141,10 +119,10 @@ abbrev pub operation_step : SetOperation-F Part Part → Part
 operation_step o = o.operand
 
 abbrev pub query_step : Query-F Part Part → Part
-query_step (tree.Word w) = record { word = Some w; at_first = λ names. word w; all = λ names. no_fault (word w) ∷ [] }
+query_step (tree.Word w) = record { word = Some w; at_first = λ names. word_fault w; all = λ names. no_fault (word_fault w) ∷ [] }
 query_step (tree.Variable n) = record { word = None; at_first = λ names. variable names n; all = λ names. no_fault (variable names n) ∷ [] }
 query_step (tree.Parenthesized x) = larger x.all
-query_step (tree.Set ws) = larger (λ names. no_fault (words ws) ∷ [])
+query_step (tree.Set ws) = larger (λ names. no_fault (words_fault ws) ∷ [])
 query_step (tree.Call f xs) = record { word = None; at_first = λ names. function f (length xs); all = λ names. call_by (function_named f) f xs names }
 query_step (tree.Let n x y) = larger (λ names. x.all names ++ y.all (names ++ n ∷ []))
 query_step (tree.Chain x os) = record { word = None; at_first = x.at_first; all = λ names. x.all names ++ parts os names }

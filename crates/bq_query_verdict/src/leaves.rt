@@ -1,56 +1,21 @@
 //! Words, variables and the names of functions, each by itself.
 
-ghost use Rattle.std.specs.Prelude.{◌≡◌, ◌++◌, [], ◌∷◌, IfOk, bytes_eq, is_some};
+ghost use Rattle.std.specs.Prelude.{◌≡◌, ◌++◌, [], ◌∷◌, IfOk, bytes_eq};
 ghost use Rattle.std.specs.List.{list_any, list_all};
-ghost use Rattle.bq_label.specs.Label.{package_at};
-ghost use Rattle.bq_label.specs.Reading.{label_of};
+ghost use Rattle.bq_query_target_pattern.specs.Reading.{word_fault};
 ghost use Rattle.bq_query_verdict.specs.Verdict as spec;
 ghost use Rattle.bq_query_verdict.specs.Verdict.{Tells};
 
-use bq_base::{Bytes, SourceErr};
-use bq_label::{PackageId, read_label};
-use bq_query_lex::{QueryErr, QueryFunction, begins_pattern, function_named, is_left_out};
+use bq_base::Bytes;
+use bq_query_lex::{QueryErr, QueryFunction, function_named, is_left_out};
+use bq_query_target_pattern::read_pattern;
 use std::alloc::{AllocError, Global};
 
-/// Returns whether something was read.
-fn is_read<T: Drop>(read: Result<T, SourceErr>) -> Result<bool, AllocError>
-    ensures { IfOk result (spec.IsRead read) }
-{
-    match read {
-        Ok(_) => Ok(true),
-        Err(SourceErr::Bad(_)) => Ok(false),
-        Err(SourceErr::Memory) => Err(AllocError),
-    }
-}
-
-/// Returns whether the text reads as a label in the root package.
-fn is_label(alloc: Global, text: &[u8]) -> Result<bool, AllocError>
-    ensures { IfOk result (λ b. b ≡ is_some (label_of (package_at [] []) text.now)) }
-{
-    let root = PackageId::root(alloc)?;
-    is_read(read_label(alloc, text, &root))
-}
-
-/// Checks a word as a target pattern: Q3 if it doesn't begin as one that can be answered, Q8 if it can't be read.
+/// Fails with Q3 or Q8 if the word can't be read as a target pattern.
 pub fn word(alloc: Global, word: &Bytes) -> Result<(), QueryErr>
-    ensures { Tells (spec.word word.now) result }
+    ensures { Tells (word_fault word.now) result }
 {
-    if !begins_pattern(word.as_slice()) {
-        return Err(QueryErr::LeftOut(word.share()?));
-    }
-    if !is_label(alloc, word.as_slice())? {
-        return Err(QueryErr::Arguments);
-    }
-    Ok(())
-}
-
-pub fn words(alloc: Global, mut rest: &[Bytes]) -> Result<(), QueryErr>
-    ensures { Tells (spec.words rest.now) result }
-{
-    while let [first, more @ ..] = rest {
-        word(alloc, first)?;
-        rest = more;
-    }
+    let _pattern = read_pattern(alloc, word)?;
     Ok(())
 }
 

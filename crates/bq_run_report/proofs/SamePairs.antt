@@ -69,7 +69,7 @@ graph ts ps edges = record { targets = ts; packages = ps; edges = edges }
 module _ (ts : List Target) (ps : List PackageParts) (g h : List (List ℕ)) where
   -- what is missing hangs on the targets and packages alone
   pub same_fault : (x : Formula) → fault_in (graph ts ps g) x ≡ fault_in (graph ts ps h) x
-  same_fault (named words) = refl
+  same_fault (named patterns) = refl
   same_fault (variable k) = refl
   same_fault (let_in a b) = rw (same_fault a, same_fault b) refl
   same_fault (combined o a b) = rw (same_fault a, same_fault b) refl
@@ -98,7 +98,7 @@ module _ (ts : List Target) (ps : List PackageParts) (g h : List (List ℕ)) (to
   right x bound y = Stands (graph ts ps h) x bound y
 
   pub same_set : (x : Formula) (bound : Bound) → Same (left x bound) (right x bound)
-  same_set (named words) bound = (λ y e. e, λ y e. e)
+  same_set (named patterns) bound = (λ y e. e, λ y e. e)
   same_set (variable k) bound = (λ y e. e, λ y e. e)
   same_set (let_in a b) bound =
       let s = same_set a bound in (

@@ -14,7 +14,7 @@ use Rattle.bq_query.proofs.Bound.{bound_as, one_bound, start_bound, rest_closed}
 use Rattle.bq_query.proofs.Firsts.{fault_stays}
 use Rattle.bq_query.proofs.Formulas.{SoFar, none_done, one_more, fails_there, all_done}
 use Rattle.bq_query_check.proofs.Closed.{operand_closed}
-use Rattle.bq_query_check.proofs.Says.{words_say, variable_says, let_says, chain_says, one_says, two_says, step_says}
+use Rattle.bq_query_check.proofs.Says.{patterns_say, variable_says, let_says, chain_says, one_says, two_says, step_says}
 use Rattle.bq_query.proofs.sets.+sets.Goals as goal
 
 -- ---- functions
@@ -166,8 +166,8 @@ set_of-chain_of-requires t c =
 
 pub set_of-returns-in-Named : goal.set_of-returns-in-Named
 set_of-returns-in-Named t c =
-    let says : formula_of c.args.query.now ≡ named c.as_slice-texts.result.now = first_of (search (rules, the_lemmas), grind (arith, common_steps, words_say), grind (arith, common_steps)) in
-    reworded (λ v. v.items) c.args.graph.now (formula_of c.args.query.now) (named c.as_slice-texts.result.now) c.args.bound.now c.args.bound.now c.named.result c.args.bound.now says (c.named.ensures c.args.bound.now)
+    let says : formula_of c.args.query.now ≡ named c.as_slice-patterns.result.now = first_of (search (rules, the_lemmas), grind (arith, common_steps, patterns_say), grind (arith, common_steps)) in
+    reworded (λ v. v.items) c.args.graph.now (formula_of c.args.query.now) (named c.as_slice-patterns.result.now) c.args.bound.now c.args.bound.now c.named.result c.args.bound.now says (c.named.ensures c.args.bound.now)
 
 pub set_of-returns-in-One : goal.set_of-returns-in-One
 set_of-returns-in-One t c =

@@ -5,19 +5,20 @@ use Rattle.std.proofs.lemmas.Result.{err_from_is_err_and}
 use Rattle.bq_query_lex.specs.Functions.{function_named}
 use Rattle.bq_query_lex.specs.declared.function.QueryArgumentKind.TheVariants as kind
 use Rattle.bq_query_lex.specs.declared.function.QueryFunction.TheVariants as fn
+use Rattle.bq_query_target_pattern.specs.Reading.{word_fault, words_fault}
 use Rattle.bq_query_tree.specs.declared.tree.Query.{Query}
 use Rattle.bq_query_tree.specs.declared.tree.Query.TheVariants as tree
 use Rattle.bq_query_tree.specs.declared.tree.Query.TheFolds.{the_lemmas}
 use Rattle.bq_query_tree.specs.declared.tree.SetOperation.{SetOperation}
 use Rattle.bq_query_verdict.specs.Verdict as spec
-use Rattle.bq_query_verdict.specs.Verdict.{Need, no_fault, part_of, operation_part, argument, parts, word, words, call_by}
+use Rattle.bq_query_verdict.specs.Verdict.{Need, no_fault, part_of, operation_part, argument, parts, call_by}
 use Rattle.bq_query_check.specs.declared.formula.SetExpr.{SetExpr}
 use Rattle.bq_query_check.specs.declared.formula.ChainStep.{ChainStep}
 use Rattle.bq_query_check.specs.declared.formula.SetExpr.TheVariants as query
 use Rattle.bq_query_check.specs.declared.formula.Unary.TheVariants as unary
 use Rattle.bq_query_check.specs.Checked.{Holds, FirstFails, Reads}
-use Rattle.bq_query_check.specs.Formula.{formula_of, step_of, named}
-use Rattle.bq_query_check.specs.FormulaOf.{IsFormulaOf, IsBound, IsCallOf, IsCallNamed, IsOne, AreStepsOf}
+use Rattle.bq_query_check.specs.Formula.{formula_of, step_of}
+use Rattle.bq_query_check.specs.FormulaOf.{IsFormulaOf, IsBound, IsCallOf, IsCallNamed, IsNamed, IsOne, AreStepsOf}
 use Rattle.bq_query_check.proofs.Needs.{all_hold, fails_before, fails_after, read_as, one_word}
 use Rattle.bq_query_check.proofs.Calls.{moved, part_fails, last_part, call_known}
 use Rattle.bq_query_check.proofs.Items.{one_item, two_items, three_items}
@@ -409,9 +410,9 @@ pub read-returns-in-Word : goal.read-returns-in-Word
 read-returns-in-Word t c =
     let ns = c.args.names.now in
     let w = c.in-Word.text in
-    let says : (part_of c.args.query.now).all c.args.names.now ≡ no_fault (word c.in-Word.text) ∷ [] = search (rules, the_lemmas) in
-    let named_word = subst (λ (ws : List (List ℕ)). Reads (no_fault (words ws) ∷ []) (λ r. formula_of r ≡ named ws) c.named.result) c.from_ref.ensures.value c.named.ensures in
-    read_as ((part_of c.args.query.now).all ns) (no_fault (words (w ∷ [])) ∷ []) (λ r. IsFormulaOf c.args.names.now c.args.query.now (formula_of r)) (λ r. formula_of r ≡ named (w ∷ [])) c.named.result
+    let says : (part_of c.args.query.now).all c.args.names.now ≡ no_fault (word_fault c.in-Word.text) ∷ [] = search (rules, the_lemmas) in
+    let named_word = subst (λ (ws : List (List ℕ)). Reads (no_fault (words_fault ws) ∷ []) (λ r. IsNamed ws (formula_of r)) c.named.result) c.from_ref.ensures.value c.named.ensures in
+    read_as ((part_of c.args.query.now).all ns) (no_fault (words_fault (w ∷ [])) ∷ []) (λ r. IsFormulaOf c.args.names.now c.args.query.now (formula_of r)) (λ r. IsNamed (w ∷ []) (formula_of r)) c.named.result
     (says ∙ ap (λ f. no_fault f ∷ []) (sym (one_word w))) (λ r h. IsFormulaOf.word c.in-Word.is h) named_word
 
 pub read-returns-in-Variable : goal.read-returns-in-Variable
@@ -434,9 +435,9 @@ pub read-returns-in-Set : goal.read-returns-in-Set
 read-returns-in-Set t c =
     let ns = c.args.names.now in
     let ws = c.as_slice.result.now in
-    let says : (part_of c.args.query.now).all c.args.names.now ≡ no_fault (words c.as_slice.result.now) ∷ [] = search (rules, the_lemmas) in
+    let says : (part_of c.args.query.now).all c.args.names.now ≡ no_fault (words_fault c.as_slice.result.now) ∷ [] = search (rules, the_lemmas) in
     let is : c.args.query.now ≡ tree.Set c.as_slice.result.now = c.in-Set.is ∙ ap tree.Set (sym c.as_slice.ensures) in
-    read_as ((part_of c.args.query.now).all ns) (no_fault (words ws) ∷ []) (λ r. IsFormulaOf c.args.names.now c.args.query.now (formula_of r)) (λ r. formula_of r ≡ named ws) c.named-in-Set.result
+    read_as ((part_of c.args.query.now).all ns) (no_fault (words_fault ws) ∷ []) (λ r. IsFormulaOf c.args.names.now c.args.query.now (formula_of r)) (λ r. IsNamed ws (formula_of r)) c.named-in-Set.result
     says (λ r h. IsFormulaOf.set_of is h) c.named-in-Set.ensures
 
 pub read-returns-in-Call : goal.read-returns-in-Call

@@ -1,0 +1,30 @@
+use Rattle.std.proofs.Common.{◌≡◌, ◌∙◌, ℕ, sym, subst, true, false, length, ◌<◌, arith}
+use Rattle.std.proofs.lemmas.List.{length-set}
+use Rattle.bq_query_target_sets.specs.Words.{is_wanted, Range}
+use Rattle.bq_query_target_sets.proofs.Tests.{passes, passes_at, range_none, range_take, range_skip}
+use Rattle.bq_query_target_sets.proofs.pattern.add_range.Goals as goal
+
+pub loop-at-init : goal.loop-at-init
+loop-at-init c = record { long = c.requires.long; range = range_none (is_wanted c.args.rules) c.args.targets.now c.args.from c.args.marks.now.items }
+
+pub loop-at-preserved-then-not-is_wanted : goal.loop-at-preserved-then-not-is_wanted
+loop-at-preserved-then-not-is_wanted c =
+    let inside : c.loop-at.at < length c.args.targets.now = omega (arith, c.requires.to) in
+    let out : passes (is_wanted c.args.rules) c.args.targets.now c.loop-at.at ≡ false =
+    passes_at (is_wanted c.args.rules) c.args.targets.now c.loop-at.at c.index-targets-at.result inside c.index-targets-at.is ∙ (sym c.is_wanted.ensures ∙ c.if-not-is_wanted.true) in
+    record { long = c.loop-at.invariant.long; range = range_skip (is_wanted c.args.rules) c.args.targets.now c.args.from c.loop-at.at c.args.marks.now.items c.loop-at.marks.items out c.loop-at.invariant.range }
+
+pub loop-at-preserved : goal.loop-at-preserved
+loop-at-preserved c =
+    let inside : c.loop-at.at < length c.args.targets.now = omega (arith, c.requires.to) in
+    let in_test : passes (is_wanted c.args.rules) c.args.targets.now c.loop-at.at ≡ true =
+    passes_at (is_wanted c.args.rules) c.args.targets.now c.loop-at.at c.index-targets-at.result inside c.index-targets-at.is ∙ (sym c.is_wanted.ensures ∙ c.if-not-is_wanted.false) in
+    record {
+      long = length-set c.loop-at.marks.items c.loop-at.at true ∙ c.loop-at.invariant.long;
+      range = range_take (is_wanted c.args.rules) c.args.targets.now c.args.from c.loop-at.at c.args.marks.now.items c.loop-at.marks.items (omega arith) (omega (arith, inside, c.loop-at.invariant.long)) in_test c.loop-at.invariant.range;
+    }
+
+pub returns-clause-range : goal.returns-clause-range
+returns-clause-range c =
+    let end : c.loop-at.at ≡ c.args.to = omega (arith, c.requires.order) in
+    subst (λ (n : ℕ). Range (is_wanted c.args.rules) c.args.targets.now c.args.from n c.args.marks.now.items c.loop-at.marks.items) end c.loop-at.invariant.range

@@ -1,0 +1,6 @@
+use Rattle.std.proofs.Common.{take}
+use Rattle.bq_query_target_sets.specs.Words.{Adds, one_names}
+use Rattle.bq_query_target_sets.proofs.set.targets_named.Given as goal
+
+abbrev pub invariant-loop-pattern : goal.invariant-loop-pattern
+invariant-loop-pattern l = Adds (one_names (take l.pattern-index l.patterns)) l.targets l.initial.marks.items l.marks.items

@@ -1,6 +1,0 @@
-use Rattle.std.proofs.Common.{◌≡◌, length}
-use Rattle.bq_query_target_sets.specs.Words.{is_wanted, Range}
-use Rattle.bq_query_target_sets.proofs.word.add_range.Given as goal
-
-abbrev pub invariant-loop-at : goal.invariant-loop-at
-invariant-loop-at l = record { long : length l.marks.items ≡ length l.targets; range : Range (is_wanted l.rules) l.targets l.initial.at l.at l.initial.marks.items l.marks.items }

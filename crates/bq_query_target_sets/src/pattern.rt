@@ -1,0 +1,196 @@
+//! The targets that a pattern names: `//p:n`, `//p:all`, `//p:*`, `//p/...`, `//p/...:*`. All of a package, or of the
+//! packages beneath it, are together in the order of labels, since their labels begin alike.
+
+ghost use Rattle.std.specs.Prelude.{◌≡◌, ◌++◌, ◌∷◌, [], ◌&&◌, ◌<◌, ◌≤◌, length, IfOk, OnOk};
+ghost use Rattle.bq_query_target_sets.specs.Order.{texts_of, AreInOrder, IsPlaceOf};
+ghost use Rattle.bq_query_target_sets.specs.Words.{Adds, Range, is_wanted, begins, own, beneath, package_text, has_label, names, names_in};
+
+use crate::order::{place_of, target_of};
+use bq_label::{Label, PackageId, print_label};
+use bq_package_target::{Target, TargetKind};
+use bq_query_target_pattern::TargetPattern;
+use std::alloc::{AllocError, Global};
+
+/// Returns whether the target is a rule, or `rules` doesn't ask for one.
+fn is_wanted(rules: bool, target: &Target) -> bool
+    ensures { result ≡ is_wanted rules target.now }
+{
+    match target.kind {
+        TargetKind::Rule(_, _) => true,
+        _ => !rules,
+    }
+}
+
+/// Returns `//package`, or `@repository//package`.
+pub fn package_text(alloc: Global, id: &PackageId) -> Result<Vec<u8>, AllocError>
+    ensures { IfOk result (λ text. text.items ≡ package_text id.now) }
+{
+    let mut text = Vec::new(alloc);
+    if !id.repo().is_empty() {
+        text.push(b'@')?;
+        text.extend_from_slice(id.repo().as_slice())?;
+    }
+    text.extend_from_slice(b"//")?;
+    text.extend_from_slice(id.package().as_slice())?;
+    Ok(text)
+}
+
+/// Returns how the labels of the packages beneath it begin, without the last slash.
+fn beneath_text(alloc: Global, id: &PackageId) -> Result<Vec<u8>, AllocError>
+    ensures { IfOk result (λ text. (text.items, 47) ≡ beneath id.now) }
+{
+    if !id.package().is_empty() {
+        return package_text(alloc, id);
+    }
+    let mut text = Vec::new(alloc);
+    if !id.repo().is_empty() {
+        text.push(b'@')?;
+        text.extend_from_slice(id.repo().as_slice())?;
+    }
+    text.push(b'/')?;
+    Ok(text)
+}
+
+/// Adds the targets from one place to another; with `rules` only the rules among them.
+fn add_range(targets: &[Target], from: usize, to: usize, rules: bool, marks: &mut Vec<bool>)
+    requires order { from ≤ to }
+    requires to { to ≤ length targets.now }
+    requires long { length marks.old.items ≡ length targets.now }
+    ensures long { length marks.new.items ≡ length marks.old.items }
+    ensures range { Range (is_wanted rules) targets.now from to marks.old.items marks.new.items }
+{
+    for at in from..to {
+        if !is_wanted(rules, &targets[at]) {
+            continue;
+        }
+        marks[at] = true;
+    }
+}
+
+/// Returns how many targets there are before these bytes and the last one.
+fn place_before(
+    alloc: Global,
+    targets: &[Target],
+    start: &[u8],
+    last: u8,
+) -> Result<usize, AllocError>
+    requires { AreInOrder targets.now }
+    ensures { IfOk result (IsPlaceOf (texts_of targets.now) (start.now ++ last ∷ [])) }
+{
+    let mut text = start.to_vec(alloc)?;
+    text.push(last)?;
+    Ok(place_of(targets, &text))
+}
+
+/// Adds the targets whose labels begin with these bytes and the last one; with `rules` only the rules among them.
+fn add_beginning(
+    alloc: Global,
+    targets: &[Target],
+    start: &[u8],
+    last: u8,
+    rules: bool,
+    marks: &mut Vec<bool>,
+) -> Result<(), AllocError>
+    requires order { AreInOrder targets.now }
+    requires long { length marks.old.items ≡ length targets.now }
+    requires last { last < 255 }
+    ensures { OnOk result (Adds (λ t. begins (start.now, last) t && is_wanted rules t) targets.now marks.old.items marks.new.items) }
+{
+    let from = place_before(alloc, targets, start, last)?;
+    let to = place_before(alloc, targets, start, last + 1)?;
+    add_range(targets, from, to, rules, marks);
+    Ok(())
+}
+
+/// Adds the targets of a package itself; with `rules` only its rules.
+fn add_own(
+    alloc: Global,
+    targets: &[Target],
+    id: &PackageId,
+    rules: bool,
+    marks: &mut Vec<bool>,
+) -> Result<(), AllocError>
+    requires order { AreInOrder targets.now }
+    requires long { length marks.old.items ≡ length targets.now }
+    ensures { OnOk result (Adds (λ t. begins (own id.now) t && is_wanted rules t) targets.now marks.old.items marks.new.items) }
+{
+    let text = package_text(alloc, id)?;
+    add_beginning(alloc, targets, &text, b':', rules, marks)
+}
+
+/// Adds the targets of the packages beneath a package; with `rules` only their rules.
+fn add_beneath(
+    alloc: Global,
+    targets: &[Target],
+    id: &PackageId,
+    rules: bool,
+    marks: &mut Vec<bool>,
+) -> Result<(), AllocError>
+    requires order { AreInOrder targets.now }
+    requires long { length marks.old.items ≡ length targets.now }
+    ensures { OnOk result (Adds (λ t. begins (beneath id.now) t && is_wanted rules t) targets.now marks.old.items marks.new.items) }
+{
+    let text = beneath_text(alloc, id)?;
+    add_beginning(alloc, targets, &text, b'/', rules, marks)
+}
+
+/// Adds the targets of a package, and with `deep` those of the packages beneath it; with `rules` only the rules.
+fn add_package(
+    alloc: Global,
+    targets: &[Target],
+    id: &PackageId,
+    deep: bool,
+    rules: bool,
+    marks: &mut Vec<bool>,
+) -> Result<(), AllocError>
+    requires order { AreInOrder targets.now }
+    requires long { length marks.old.items ≡ length targets.now }
+    ensures { OnOk result (Adds (names_in deep rules id.now) targets.now marks.old.items marks.new.items) }
+{
+    add_own(alloc, targets, id, rules, marks)?;
+    if !deep {
+        return Ok(());
+    }
+    add_beneath(alloc, targets, id, rules, marks)
+}
+
+/// Adds the target with this label.
+pub fn add_label(
+    alloc: Global,
+    targets: &[Target],
+    label: &Label,
+    marks: &mut Vec<bool>,
+) -> Result<(), AllocError>
+    requires order { AreInOrder targets.now }
+    requires long { length marks.old.items ≡ length targets.now }
+    ensures { OnOk result (Adds (has_label label.now) targets.now marks.old.items marks.new.items) }
+{
+    let text = print_label(alloc, label)?;
+    match target_of(targets, &text) {
+        Some(at) => {
+            marks[at] = true;
+            Ok(())
+        }
+        None => Ok(()),
+    }
+}
+
+/// Adds the targets that the pattern names.
+pub fn add_pattern(
+    alloc: Global,
+    targets: &[Target],
+    pattern: &TargetPattern,
+    marks: &mut Vec<bool>,
+) -> Result<(), AllocError>
+    requires order { AreInOrder targets.now }
+    requires long { length marks.old.items ≡ length targets.now }
+    ensures { OnOk result (Adds (names pattern.now) targets.now marks.old.items marks.new.items) }
+{
+    match pattern {
+        TargetPattern::Target(label) => add_label(alloc, targets, label, marks),
+        TargetPattern::Rules(id) => add_package(alloc, targets, id, false, true, marks),
+        TargetPattern::All(id) => add_package(alloc, targets, id, false, false, marks),
+        TargetPattern::RulesBeneath(id) => add_package(alloc, targets, id, true, true, marks),
+        TargetPattern::AllBeneath(id) => add_package(alloc, targets, id, true, false, marks),
+    }
+}
