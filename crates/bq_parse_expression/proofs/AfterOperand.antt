@@ -14,7 +14,7 @@ use Rattle.bq_parse_expression.proofs.LoopTurns.{none_follow}
 abbrev chained : Parse Expr → ℕ → ℕ → Expr → Parse Expr
 chained base l m y mid = repeat (has (operator_at l)) (operation l (binary base m)) [] mid >>= λ os rest. Ok (binary_of y os, rest)
 
-as_read : (r : Found Expr) → r ≡ (r >>= λ x rest. Ok (x, rest))
+pub as_read : (r : Found Expr) → r ≡ (r >>= λ x rest. Ok (x, rest))
 as_read (Err e) = refl
 as_read (Ok p) = refl
 

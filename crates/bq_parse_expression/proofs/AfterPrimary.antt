@@ -14,9 +14,9 @@ use Rattle.bq_parse_grammar.specs.Turns.{Parse, ◌>>=◌}
 use Rattle.bq_parse_grammar.specs.Reading.{is_known, binary, chain, comp_after, comp, not_test, and_test, or_test, conditional, test, phrase_by}
 use Rattle.bq_parse_cursor.specs.Tokens.{kind_ahead}
 use Rattle.bq_parse_expression.specs.Lone.{ends_phrase, begins_operand, begins_with_operand, is_so}
-use Rattle.bq_parse_expression.specs.Further.{further, chained_by, or_after_primary, phrase_after}
+use Rattle.bq_parse_expression.specs.Further.{further, chained_by, or_after_primary}
 use Rattle.bq_parse_expression.proofs.Alone.{Quiet, Bare, quiet, unsigned, phrase_alone}
-use Rattle.bq_parse_expression.proofs.AfterOperand.{goes_on}
+use Rattle.bq_parse_expression.proofs.AfterOperand.{goes_on, as_read}
 
 plain_by : (q : TokenKind) → begins_operand q ≡ true → (is_known (sign q) ≡ false) × ((is_known (negation q) ≡ false) × (same_kind q k.Lambda ≡ false))
 unfolding same_kind
@@ -62,8 +62,13 @@ module _ (base : Parse Expr) where
       ap (λ b. if b then Err Lambda else (or_test base ts >>= λ y rest. conditional base y rest)) ((plain ts begins).no_lambda)
       ∙ ap (λ f. f >>= λ y rest. conditional base y rest) (or_first ts x mid begins reads)
 
+  -- what a phrase has after its Or
+  abbrev pub after_or : Nested → Expr → Parse Expr
+  after_or Or y ts = Ok (y, ts)
+  after_or Test y ts = conditional base y ts
+
   -- a phrase is its first primary, and the rest
-  pub primary_first : (which : Nested) (ts : List Lexeme) (x : Expr) (mid : List Lexeme) → begins_with_operand ts ≡ true → base ts ≡ Ok (x, mid)
-      → phrase_by base which ts ≡ phrase_after base which x mid
-  primary_first Or ts x mid begins reads = or_first ts x mid begins reads
-  primary_first Test ts x mid begins reads = test_first ts x mid begins reads
+  pub primary_then : (which : Nested) (ts : List Lexeme) (x : Expr) (mid : List Lexeme) → begins_with_operand ts ≡ true → base ts ≡ Ok (x, mid)
+      → phrase_by base which ts ≡ (or_after_primary base x mid >>= λ y rest. after_or which y rest)
+  primary_then Or ts x mid begins reads = or_first ts x mid begins reads ∙ as_read (or_after_primary base x mid)
+  primary_then Test ts x mid begins reads = test_first ts x mid begins reads

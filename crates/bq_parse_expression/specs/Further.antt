@@ -1,11 +1,9 @@
 -- What comes after a first operand.
 use Rattle.std.specs.Prelude.{ℕ, zero, suc, [], Ok}
-use Rattle.bq_parse_grammar.specs.declared.tree.Nested.{Nested}
-use Rattle.bq_parse_grammar.specs.declared.tree.Nested.TheVariants.{Or, Test}
 use Rattle.bq_parse_grammar.specs.declared.tree.Expr.{Expr}
 use Rattle.bq_parse_grammar.specs.Grammar.{binary_of}
 use Rattle.bq_parse_grammar.specs.Operators.{operator_at}
-use Rattle.bq_parse_grammar.specs.Reading.{has, operation, binary, comp_after, not_test, and_test, conditional}
+use Rattle.bq_parse_grammar.specs.Reading.{has, operation, binary, comp_after, not_test, and_test}
 use Rattle.bq_parse_grammar.specs.Turns.{Parse, ◌>>=◌, repeat}
 
 -- what operators of up to this level do to an operand that is read: level by level, from the tightest
@@ -22,8 +20,3 @@ chained_by l one x ts = repeat (has (operator_at l)) (operation l one) [] ts >>=
 abbrev pub or_after_primary : Parse Expr → Expr → Parse Expr
 or_after_primary base x ts =
     ((further base 6 x ts >>= λ y rest. comp_after base y rest) >>= λ y rest. chained_by 9 (not_test base) y rest) >>= λ y rest. chained_by 10 (and_test base) y rest
-
--- the rest of a phrase after its first primary
-abbrev pub phrase_after : Parse Expr → Nested → Expr → Parse Expr
-phrase_after base Or x ts = or_after_primary base x ts
-phrase_after base Test x ts = or_after_primary base x ts >>= λ y rest. conditional base y rest

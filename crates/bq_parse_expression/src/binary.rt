@@ -30,23 +30,6 @@ fn binary_of(first: Boxed<Expr>, operations: Items<Operation>) -> Expr
     Expr::Binary(first, operations)
 }
 
-/// { '+' | '-' | '~' }
-#[tactic(auto, using(crate::proofs::LoopTurns::turns_more, crate::proofs::LoopTurns::turns_over, crate::proofs::Ahead::has_by, crate::proofs::Ahead::looked_up_by), unfolding(bq_parse_grammar::specs::Turns::repeat))]
-fn signs(alloc: Global, tokens: &mut Tokens<'_>) -> Result<Items<UnaryOperator>, SyntaxErr>
-    ensures { Reads (turns.repeat (spec.has operators.sign) (spec.looked_up operators.sign) [] tokens.old) result tokens.new }
-{
-    let mut found = Items::new(alloc);
-    // Each turn takes a token.
-    for _turn in 0..tokens.left() {
-        let Some(sign) = tokens.sign() else {
-            return Ok(found);
-        };
-        tokens.advance();
-        found.push(sign)?;
-    }
-    Ok(found)
-}
-
 /// { 'not' }
 #[tactic(auto, using(crate::proofs::LoopTurns::turns_more, crate::proofs::LoopTurns::turns_over, crate::proofs::Ahead::has_by, crate::proofs::Ahead::looked_up_by), unfolding(bq_parse_grammar::specs::Turns::repeat))]
 fn negations(alloc: Global, tokens: &mut Tokens<'_>) -> Result<Items<UnaryOperator>, SyntaxErr>
@@ -86,13 +69,20 @@ fn choice_of(value: Boxed<Expr>, condition: Boxed<Expr>) -> Choice
 
 impl<F: Fn(Global, &mut Tokens<'_>, usize, Nested) -> Result<Expr, SyntaxErr>> Grammar<F> {
     /// Unary = { '+' | '-' | '~' } Primary
-    #[inline(always)]
-    #[tactic(auto, unfolding(bq_parse_grammar::specs::Reading::prefixed))]
+    #[tactic(auto, using(crate::proofs::LoopTurns::turns_more, crate::proofs::LoopTurns::turns_over, crate::proofs::Ahead::has_by, crate::proofs::Ahead::looked_up_by), unfolding(bq_parse_grammar::specs::Reading::prefixed, bq_parse_grammar::specs::Turns::repeat))]
     fn unary(&self, tokens: &mut Tokens<'_>) -> Result<Expr, SyntaxErr>
         requires { ReadsNested self.now.depth (F.pre self.now.phrase) (F.post self.now.phrase) }
         ensures { Reads (spec.unary (spec.primary (spec.phrase self.now.depth) (spec.variables_to self.now.depth)) tokens.old) result tokens.new }
     {
-        let signs = signs(self.alloc, tokens)?;
+        let mut signs = Items::new(self.alloc);
+        // Each turn takes a token.
+        for _turn in 0..tokens.left() {
+            let Some(sign) = tokens.sign() else {
+                break;
+            };
+            tokens.advance();
+            signs.push(sign)?;
+        }
         let operand = self.primary(tokens)?;
         if signs.is_empty() {
             return Ok(operand);
@@ -120,7 +110,7 @@ impl<F: Fn(Global, &mut Tokens<'_>, usize, Nested) -> Result<Expr, SyntaxErr>> G
     }
 
     /// { operator Operand }
-    #[tactic(auto, using(crate::proofs::LoopTurns::turns_more, crate::proofs::LoopTurns::turns_over), unfolding(bq_parse_grammar::specs::Turns::repeat))]
+    #[tactic(auto, using(crate::proofs::LoopTurns::turns_more, crate::proofs::LoopTurns::turns_over), unfolding(bq_parse_grammar::specs::Turns::repeat, bq_parse_grammar::specs::Reading::operation))]
     #[cycle(binary)]
     fn operations(
         &self,
@@ -137,24 +127,11 @@ impl<F: Fn(Global, &mut Tokens<'_>, usize, Nested) -> Result<Expr, SyntaxErr>> G
             if !tokens.sees_operator(level) {
                 return Ok(found);
             }
-            found.push(self.operation(tokens, level)?)?;
+            let operator = tokens.operator(level)?;
+            let operand = self.binary(tokens, level - 1)?;
+            found.push(Operation { operator, operand })?;
         }
         Ok(found)
-    }
-
-    /// operator Operand
-    #[cycle(binary)]
-    #[tactic(auto, unfolding(bq_parse_grammar::specs::Reading::operation))]
-    fn operation(&self, tokens: &mut Tokens<'_>, level: usize) -> Result<Operation, SyntaxErr>
-        requires chained { 0 < level }
-        requires nested { ReadsNested self.now.depth (F.pre self.now.phrase) (F.post self.now.phrase) }
-        ensures { Reads (spec.operation level (spec.binary (spec.primary (spec.phrase self.now.depth) (spec.variables_to self.now.depth)) (level - 1)) tokens.old) result tokens.new }
-    {
-        let operator = tokens.operator(level)?;
-        Ok(Operation {
-            operator,
-            operand: self.binary(tokens, level - 1)?,
-        })
     }
 
     /// Reads what operators of up to this level do to an operand. Most operands have no operator after them, and need no look at each level.

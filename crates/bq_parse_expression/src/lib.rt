@@ -24,9 +24,9 @@
 //! - `steps`: steps that several productions share;
 //! - `variables`: the variables of a `for`;
 //! - `grammar`: the reader of what stands in brackets, and lists of it;
-//! - `lone`: phrases of one token, and where a phrase begins and ends;
+//! - `lone`: where a phrase begins and ends;
 //! - `operands`, `suffixes`, `binary`: the productions, from what binds tightest;
-//! - `phrases`: phrases, which most often are a primary alone;
+//! - `phrases`: phrases, which most often are a name, a literal or a primary alone;
 //! - `expr`: expressions.
 #![tactic(auto)]
 

@@ -1,8 +1,8 @@
-//! Phrases of one token, which most of those in BUILD files are: they need no look at each level of operators.
+//! Which tokens begin an operand, and which end a phrase: most phrases of BUILD files are a name, a literal or a primary alone, and need no
+//! look at each level of operators.
 
 ghost use Rattle.std.specs.Prelude.{◌≡◌};
 ghost use Rattle.bq_parse_cursor.specs.Tokens.{kind_ahead};
-ghost use Rattle.bq_parse_grammar.specs.Turns.{next};
 ghost use Rattle.bq_parse_expression.specs.Lone as spec;
 
 use bq_parse_cursor::Tokens;
@@ -34,18 +34,6 @@ pub fn begins_with_operand(tokens: &Tokens<'_>) -> bool
         Some(TokenKind::LeftParen) => true,
         Some(TokenKind::LeftBracket) => true,
         Some(TokenKind::LeftBrace) => true,
-        _ => false,
-    }
-}
-
-/// Returns whether the next token is a phrase of its own: a name or a literal that ends it.
-pub fn stands_alone(tokens: &Tokens<'_>) -> bool
-    ensures { result ≡ spec.stands_alone tokens.now }
-{
-    match tokens.peek() {
-        Some(TokenKind::Identifier) => begins_with_end(&tokens.following()),
-        Some(TokenKind::String) => begins_with_end(&tokens.following()),
-        Some(TokenKind::Int) => begins_with_end(&tokens.following()),
         _ => false,
     }
 }

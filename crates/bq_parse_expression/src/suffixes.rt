@@ -39,21 +39,6 @@ fn allowed_after(allowed: Allowed, kind: ArgumentKind) -> Option<Allowed>
     }
 }
 
-/// Returns which argument comes next, by its first tokens.
-fn argument_kind(tokens: &Tokens<'_>) -> ArgumentKind
-    ensures { result ≡ spec.argument_kind tokens.now }
-{
-    if tokens.sees(TokenKind::Star) {
-        ArgumentKind::Star
-    } else if tokens.sees(TokenKind::StarStar) {
-        ArgumentKind::StarStar
-    } else if tokens.sees_named() {
-        ArgumentKind::Named
-    } else {
-        ArgumentKind::Positional
-    }
-}
-
 /// Returns whether a suffix comes next.
 fn sees_suffix(tokens: &Tokens<'_>) -> bool
     ensures { result ≡ spec.begins_suffix tokens.now }
@@ -74,7 +59,15 @@ impl<F: Fn(Global, &mut Tokens<'_>, usize, Nested) -> Result<Expr, SyntaxErr>> G
         requires { ReadsNested self.now.depth (F.pre self.now.phrase) (F.post self.now.phrase) }
         ensures { Reads (spec.argument (spec.phrase self.now.depth) (spec.variables_to self.now.depth) allowed tokens.old) result tokens.new }
     {
-        let kind = argument_kind(tokens);
+        let kind = if tokens.sees(TokenKind::Star) {
+            ArgumentKind::Star
+        } else if tokens.sees(TokenKind::StarStar) {
+            ArgumentKind::StarStar
+        } else if tokens.sees_named() {
+            ArgumentKind::Named
+        } else {
+            ArgumentKind::Positional
+        };
         let Some(after) = allowed_after(allowed, kind) else {
             return Err(SyntaxErr::Syntax);
         };
@@ -252,25 +245,8 @@ impl<F: Fn(Global, &mut Tokens<'_>, usize, Nested) -> Result<Expr, SyntaxErr>> G
         self.subscript(tokens)
     }
 
-    /// { Suffix }
-    #[tactic(auto, using(crate::proofs::LoopTurns::turns_more, crate::proofs::LoopTurns::turns_over), unfolding(bq_parse_grammar::specs::Turns::repeat))]
-    fn suffixes(&self, tokens: &mut Tokens<'_>) -> Result<Items<Suffix>, SyntaxErr>
-        requires { ReadsNested self.now.depth (F.pre self.now.phrase) (F.post self.now.phrase) }
-        ensures { Reads (turns.repeat spec.begins_suffix (spec.suffix (spec.phrase self.now.depth) (spec.variables_to self.now.depth)) [] tokens.old) result tokens.new }
-    {
-        let mut found = Items::new(self.alloc);
-        // Each turn takes a token.
-        for _turn in 0..tokens.left() {
-            if !sees_suffix(tokens) {
-                return Ok(found);
-            }
-            found.push(self.suffix(tokens)?)?;
-        }
-        Ok(found)
-    }
-
     /// Primary = Operand { Suffix }
-    #[tactic(auto, using(crate::proofs::LoopTurns::none_follow), unfolding(bq_parse_grammar::specs::Reading::primary))]
+    #[tactic(auto, using(crate::proofs::LoopTurns::none_follow, crate::proofs::LoopTurns::turns_more, crate::proofs::LoopTurns::turns_over), unfolding(bq_parse_grammar::specs::Reading::primary, bq_parse_grammar::specs::Turns::repeat))]
     pub fn primary(&self, tokens: &mut Tokens<'_>) -> Result<Expr, SyntaxErr>
         requires { ReadsNested self.now.depth (F.pre self.now.phrase) (F.post self.now.phrase) }
         ensures { Reads (spec.primary (spec.phrase self.now.depth) (spec.variables_to self.now.depth) tokens.old) result tokens.new }
@@ -280,7 +256,14 @@ impl<F: Fn(Global, &mut Tokens<'_>, usize, Nested) -> Result<Expr, SyntaxErr>> G
             return Ok(operand);
         }
         let operand = Boxed::new(self.alloc, operand)?;
-        let suffixes = self.suffixes(tokens)?;
+        let mut suffixes = Items::new(self.alloc);
+        // Each turn takes a token.
+        for _turn in 0..tokens.left() {
+            if !sees_suffix(tokens) {
+                break;
+            }
+            suffixes.push(self.suffix(tokens)?)?;
+        }
         // PROOF: a suffix was seen, so at least one was read.
         if suffixes.is_empty() {
             return Ok(operand.into_inner());

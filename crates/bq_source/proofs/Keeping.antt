@@ -1,5 +1,5 @@
 -- Indentation and brackets leave the rest of the text alone, so each step takes a piece of it.
-use Rattle.std.proofs.Common.{◌≡◌, ℕ, ◌<◌, List, [], ◌∷◌, length, drop, Option, Some, None, Result, Ok, Err, refl, ap, ◌∙◌, subst, arith, nat_lt}
+use Rattle.std.proofs.Common.{◌≡◌, ℕ, ◌<◌, List, [], ◌∷◌, length, drop, Option, Some, None, Result, Ok, Err, refl, sym, ap, ◌∙◌, subst, arith, nat_lt}
 use Rattle.std.specs.Prelude.{◌==◌}
 use Rattle.std.proofs.lemmas.List.{length-drop}
 use Rattle.bq_source.specs.declared.token.TokenKind.{TokenKind}
@@ -56,6 +56,10 @@ nest_keeps lexeme s = nest_by_keeps lexeme s
 
 pub indent_rest : (s t : State) → indent s ≡ Ok t → t.rest ≡ s.rest
 indent_rest s t h = subst (KeepsRest s) h (indent_keeps s)
+
+-- what is a part of the rest is one after the indentation
+pub indent_part : (s t : State) (extent : Extent) → indent s ≡ Ok t → IsPart s.rest extent → IsPart t.rest extent
+indent_part s t extent h part = let P : List ℕ → Type 0 = λ xs. IsPart xs extent in subst P (sym (indent_rest s t h)) part
 
 pub nest_rest : (lexeme : Lexeme) (s t : State) → nest lexeme s ≡ Ok t → t.rest ≡ s.rest
 nest_rest lexeme s t h = subst (KeepsRest s) h (nest_keeps lexeme s)

@@ -1,13 +1,12 @@
 //! The lexer: one pass over the bytes, a piece at a time, with the line, the brackets and the widths that are open.
 
-ghost use Rattle.std.specs.Prelude.{◌≡◌, ◌≤◌, ◌<◌, ◌+◌, ◌-◌, ◌*◌, [], Some, Ok, length, take, IfOk};
+ghost use Rattle.std.specs.Prelude.{◌≡◌, ◌≤◌, ◌<◌, ◌+◌, ◌-◌, ◌*◌, [], Some, length, take, IfOk};
 ghost use Rattle.bq_source.specs.Reading as spec;
 ghost use Rattle.bq_source.specs.Reading.{Lexes, max_file_bytes};
 ghost use Rattle.bq_base.specs.Fault.{fault_at};
 ghost use Rattle.bq_base.specs.Gives.{Gives, GivesOneOf};
 ghost use Rattle.bq_source.specs.Lexing.{the_tokens};
 ghost use Rattle.bq_source.specs.Piece.{IsPart, Fits};
-ghost use Rattle.bq_source.specs.Operators.{kind_of};
 
 use crate::lexis::{RunClass, newlines, run_len};
 use crate::operators::Lexeme;
@@ -77,12 +76,6 @@ impl<'a> Lexer<'a> {
         Ok(())
     }
 
-    fn begin_line(&mut self)
-        ensures { self.new ≡ spec.begin_line self.old }
-    {
-        self.margin = Some(margin_of(self.rest(), self.line));
-    }
-
     #[tactic(auto, unfolding(crate::specs::Reading::end_line))]
     fn end_line(&mut self, extent: Extent) -> Result<(), AllocError>
         requires { IsPart self.old.rest extent }
@@ -96,7 +89,7 @@ impl<'a> Lexer<'a> {
             Some(_) => self.skip(extent),
             None => self.push_token(TokenKind::Newline, extent)?,
         }
-        self.begin_line();
+        self.margin = Some(margin_of(self.rest(), self.line));
         Ok(())
     }
 
@@ -124,95 +117,55 @@ impl<'a> Lexer<'a> {
         }
     }
 
-    #[tactic(auto, unfolding(crate::specs::Reading::set_width))]
-    fn set_width(&mut self, width: usize, line: u32) -> Result<(), SourceErr>
-        ensures { Gives (λ _. self.new) SourceErr.Bad result (spec.set_width width line self.old) }
+    /// Returns the indentation of the line, where its first token is next: a greater width is opened, a smaller one closes those above it,
+    /// and has to be open.
+    #[tactic(auto, unfolding(crate::specs::Reading::indent, crate::specs::Reading::set_width))]
+    fn indent(&mut self) -> Result<(), SourceErr>
+        ensures { Gives (λ _. self.new) SourceErr.Bad result (spec.indent self.old) }
     {
-        if self.width() < width {
-            self.push_empty(TokenKind::Indent)?;
-            self.widths.push(width)?;
+        let Some(margin) = self.margin else {
             return Ok(());
-        }
-        self.close_above(width)?;
-        if self.width() != width {
-            return Err(SourceErr::Bad(Fault::at(FaultKind::Indent, line)));
-        }
-        Ok(())
-    }
-
-    /// Returns the indentation of a line that has this margin, where its first token is next.
-    fn indent_by(&mut self, margin: Margin) -> Result<(), SourceErr>
-        ensures { Gives (λ _. self.new) SourceErr.Bad result (spec.indent_by (Some margin) self.old) }
-    {
+        };
         if margin.tab {
             return Err(SourceErr::Bad(Fault::at(FaultKind::Tab, margin.line)));
         }
         self.margin = None;
-        self.set_width(margin.width, margin.line)
-    }
-
-    /// Returns the indentation of the line, where its first token is next.
-    #[inline(always)]
-    #[tactic(auto, unfolding(crate::specs::Reading::indent))]
-    fn indent(&mut self) -> Result<(), SourceErr>
-        ensures { Gives (λ _. self.new) SourceErr.Bad result (spec.indent self.old) }
-    {
-        match self.margin {
-            None => Ok(()),
-            Some(margin) => self.indent_by(margin),
+        if self.width() < margin.width {
+            self.push_empty(TokenKind::Indent)?;
+            self.widths.push(margin.width)?;
+            return Ok(());
         }
-    }
-
-    /// Opens or closes a bracket, as the token does.
-    #[tactic(auto, unfolding(crate::specs::Reading::nest))]
-    fn nest(&mut self, lexeme: Lexeme) -> Result<(), SourceErr>
-        ensures { Gives (λ _. self.new) SourceErr.Bad result (spec.nest lexeme self.old) }
-    {
-        match lexeme {
-            Lexeme::Plain(_) => Ok(()),
-            Lexeme::Opens(_, closing) => {
-                let line = self.line;
-                self.open_brackets.push(OpenBracket { closing, line })?;
-                Ok(())
-            }
-            Lexeme::Closes(kind) => match self.open_brackets.pop() {
-                Some(open) if open.closing.is(kind) => Ok(()),
-                _ => Err(SourceErr::Bad(Fault::at(FaultKind::Bracket, self.line))),
-            },
+        self.close_above(margin.width)?;
+        if self.width() != margin.width {
+            return Err(SourceErr::Bad(Fault::at(FaultKind::Indent, margin.line)));
         }
-    }
-
-    /// A token that isn't the first of its line.
-    fn take_within_line(&mut self, lexeme: Lexeme, extent: Extent) -> Result<(), SourceErr>
-        requires { IsPart self.old.rest extent }
-        ensures { Gives (λ _. self.new) SourceErr.Bad result (spec.and_then (spec.nest lexeme self.old) (λ s. Ok (spec.push_token (kind_of lexeme) extent s))) }
-    {
-        self.nest(lexeme)?;
-        self.push_token(lexeme.kind(), extent)?;
         Ok(())
     }
 
-    /// A token that may be the first of its line.
-    #[tactic(auto, unfolding(crate::specs::Reading::take_token))]
-    fn take_any_token(&mut self, lexeme: Lexeme, extent: Extent) -> Result<(), SourceErr>
-        requires { IsPart self.old.rest extent }
-        ensures { Gives (λ _. self.new) SourceErr.Bad result (spec.take_token lexeme extent self.old) }
-    {
-        self.indent()?;
-        self.take_within_line(lexeme, extent)
-    }
-
-    /// A token. Most begin no line and are no brackets: to look at both would cost more than the rest.
+    /// Takes a token, and opens or closes a bracket as it does. Most begin no line and are no brackets: to look at both would cost more than
+    /// the rest.
     #[tactic(auto, unfolding(crate::specs::Reading::take_token, crate::specs::Reading::indent, crate::specs::Reading::nest))]
     fn take_token(&mut self, lexeme: Lexeme, extent: Extent) -> Result<(), SourceErr>
         requires { IsPart self.old.rest extent }
         ensures { Gives (λ _. self.new) SourceErr.Bad result (spec.take_token lexeme extent self.old) }
     {
-        match (self.margin, lexeme) {
-            (None, Lexeme::Plain(kind)) => Ok(self.push_token(kind, extent)?),
-            (None, _) => self.take_within_line(lexeme, extent),
-            _ => self.take_any_token(lexeme, extent),
+        if let (None, Lexeme::Plain(kind)) = (self.margin, lexeme) {
+            return Ok(self.push_token(kind, extent)?);
         }
+        self.indent()?;
+        match lexeme {
+            Lexeme::Plain(kind) => self.push_token(kind, extent)?,
+            Lexeme::Opens(kind, closing) => {
+                let line = self.line;
+                self.open_brackets.push(OpenBracket { closing, line })?;
+                self.push_token(kind, extent)?;
+            }
+            Lexeme::Closes(kind) => match self.open_brackets.pop() {
+                Some(open) if open.closing.is(kind) => self.push_token(kind, extent)?,
+                _ => return Err(SourceErr::Bad(Fault::at(FaultKind::Bracket, self.line))),
+            },
+        }
+        Ok(())
     }
 
     #[tactic(auto, unfolding(crate::specs::Reading::refuse))]

@@ -1,10 +1,8 @@
 //! How blanks, line ends and words are spelled.
 
-ghost use Rattle.std.specs.Prelude.{◌≡◌, ◌≤◌, length, map};
+ghost use Rattle.std.specs.Prelude.{◌≡◌, ◌≤◌, length};
 ghost use Rattle.std.specs.List.{prefix_len};
-ghost use Rattle.std.specs.Map.{lookup};
-ghost use Rattle.std.specs.Str.{bytes_eq};
-ghost use Rattle.bq_source.specs.Lexis.{is_letter, is_word, has, newlines, newline_len, comment_len, has_head, word_kind};
+ghost use Rattle.bq_source.specs.Lexis.{is_letter, is_word, has, newlines, newline_len, comment_len, word_kind};
 
 use crate::token::TokenKind;
 
@@ -125,41 +123,25 @@ const FIRST_BYTES: [&[u8]; 9] = [
     b"", b"", b"aio", b"adfnt", b"eflpw", b"bcrwy", b"aegilr", b"f", b"cn",
 ];
 
-fn find(mut table: &[(&[u8], TokenKind)], word: &[u8]) -> Option<TokenKind>
-    ensures { result ≡ lookup (bytes_eq word.now) (map (λ k. (k.0.now, k.1)) table.entry.now) }
-{
-    while let [entry, rest @ ..] = table {
-        if word == entry.0 {
-            return Some(entry.1);
-        }
-        table = rest;
-    }
-    None
-}
-
-/// Returns whether some keyword or reserved word has this first byte and length. Most identifiers have neither, and need no walk along all.
-fn has_head(word: &[u8]) -> bool
-    ensures { result ≡ has_head word.now }
-{
-    let [first, ..] = word else {
-        return false;
-    };
-    match FIRST_BYTES.get(word.len()).copied() {
-        Some(bytes) => bytes.contains(first),
-        None => false,
-    }
-}
-
 /// Returns the kind of a word: a keyword, a reserved word or an identifier.
 #[tactic(auto, using(crate::proofs::Heads::headless))]
 pub fn word_kind(word: &[u8]) -> TokenKind
     ensures { result ≡ word_kind word.now }
 {
-    if !has_head(word) {
+    let [first, ..] = word else {
         return TokenKind::Identifier;
+    };
+    // Most identifiers have another first byte or length than each of the words, and need no walk along all.
+    match FIRST_BYTES.get(word.len()).copied() {
+        Some(bytes) if bytes.contains(first) => {}
+        _ => return TokenKind::Identifier,
     }
-    match find(&WORDS, word) {
-        Some(kind) => kind,
-        None => TokenKind::Identifier,
+    let mut table: &[(&[u8], TokenKind)] = &WORDS;
+    while let [entry, rest @ ..] = table {
+        if word == entry.0 {
+            return entry.1;
+        }
+        table = rest;
     }
+    TokenKind::Identifier
 }

@@ -1,6 +1,6 @@
 //! Operators and punctuation.
 
-ghost use Rattle.std.specs.Prelude.{◌≡◌, ◌∷◌, map, option_map};
+ghost use Rattle.std.specs.Prelude.{◌≡◌, ◌∷◌, option_map};
 ghost use Rattle.bq_source.specs.Operators as spec;
 
 use crate::token::TokenKind;
@@ -14,44 +14,10 @@ pub enum Lexeme {
     Closes(TokenKind),
 }
 
-impl Lexeme {
-    pub fn kind(self) -> TokenKind
-        ensures { result ≡ spec.kind_of self }
-    {
-        match self {
-            Lexeme::Plain(kind) => kind,
-            Lexeme::Opens(kind, _) => kind,
-            Lexeme::Closes(kind) => kind,
-        }
-    }
-}
-
-/// The first byte of each spelling, and what follows it. The frequent ones come early; one that another begins with comes
-/// after it.
-const OPERATORS: [(u8, &[u8], Lexeme); 41] = [
-    (b',', b"", Lexeme::Plain(TokenKind::Comma)),
-    (
-        b'(',
-        b"",
-        Lexeme::Opens(TokenKind::LeftParen, TokenKind::RightParen),
-    ),
-    (b')', b"", Lexeme::Closes(TokenKind::RightParen)),
-    (b'=', b"=", Lexeme::Plain(TokenKind::EqualEqual)),
-    (b'=', b"", Lexeme::Plain(TokenKind::Assign)),
-    (
-        b'[',
-        b"",
-        Lexeme::Opens(TokenKind::LeftBracket, TokenKind::RightBracket),
-    ),
-    (b']', b"", Lexeme::Closes(TokenKind::RightBracket)),
-    (b':', b"", Lexeme::Plain(TokenKind::Colon)),
+/// The first byte of each spelling, and what follows it. One that another begins with comes after it. Brackets, commas, colons and `=`,
+/// which are frequent, are not among them: `operator` knows those.
+const OPERATORS: [(u8, &[u8], Lexeme); 31] = [
     (b'.', b"", Lexeme::Plain(TokenKind::Dot)),
-    (
-        b'{',
-        b"",
-        Lexeme::Opens(TokenKind::LeftBrace, TokenKind::RightBrace),
-    ),
-    (b'}', b"", Lexeme::Closes(TokenKind::RightBrace)),
     (b'+', b"=", Lexeme::Plain(TokenKind::PlusAssign)),
     (b'+', b"", Lexeme::Plain(TokenKind::Plus)),
     (b'%', b"=", Lexeme::Plain(TokenKind::PercentAssign)),
@@ -84,25 +50,8 @@ const OPERATORS: [(u8, &[u8], Lexeme); 41] = [
     (b';', b"", Lexeme::Plain(TokenKind::Semicolon)),
 ];
 
-/// Returns the first of these that the text begins with, with the number of its bytes.
-fn first_spelled(
-    mut table: &[(u8, &[u8], Lexeme)],
-    first: u8,
-    behind: &[u8],
-) -> Option<(usize, Lexeme)>
-    ensures { result ≡ option_map spec.with_len (spec.first_spelled (map (λ k. (k.0 ∷ k.1.now, k.2)) table.entry.now) (first ∷ behind.now)) }
-{
-    while let [entry, rest @ ..] = table {
-        if entry.0 == first && behind.starts_with(entry.1) {
-            return Some((entry.1.len() + 1, entry.2));
-        }
-        table = rest;
-    }
-    None
-}
-
 /// Returns the operator at the front, in its longest spelling, with the number of its bytes. Most are brackets, commas and `=`: they need
-/// no walk along all.
+/// no walk along the others.
 #[tactic(auto, unfolding(crate::specs::Operators::operator))]
 pub fn operator(first: u8, behind: &[u8]) -> Option<(usize, Lexeme)>
     ensures { result ≡ option_map spec.with_len (spec.operator (first ∷ behind.now)) }
@@ -129,6 +78,15 @@ pub fn operator(first: u8, behind: &[u8]) -> Option<(usize, Lexeme)>
             [b'=', ..] => Some((2, Lexeme::Plain(TokenKind::EqualEqual))),
             _ => Some((1, Lexeme::Plain(TokenKind::Assign))),
         },
-        _ => first_spelled(&OPERATORS, first, behind),
+        _ => {
+            let mut table: &[(u8, &[u8], Lexeme)] = &OPERATORS;
+            while let [entry, rest @ ..] = table {
+                if entry.0 == first && behind.starts_with(entry.1) {
+                    return Some((entry.1.len() + 1, entry.2));
+                }
+                table = rest;
+            }
+            None
+        }
     }
 }

@@ -7,7 +7,7 @@ ghost use Rattle.bq_source.specs.Piece as spec;
 use crate::lexis::{RunClass, comment_len, is_letter, newline_len, newlines, run_len, word_kind};
 use crate::number::{begins_number, int_value, number_len};
 use crate::operators::{Lexeme, operator};
-use crate::string_literal::{begins_string, plain_string_len, scan_string};
+use crate::string_literal::{begins_pair, begins_string, past_plain, rest_of, scan_string};
 use crate::token::TokenKind;
 use bq_base::FaultKind;
 
@@ -64,15 +64,25 @@ fn any_string(text: &[u8]) -> Piece
     }
 }
 
-/// Returns the piece that begins with a string literal.
-#[tactic(auto, using(crate::proofs::Fitting::plain_piece, crate::proofs::Fitting::plain_fits))]
+/// Returns the piece that begins with a string literal. Most stand in two double quotes, and each byte in them stands for itself: they need
+/// no look at each item.
 fn string(text: &[u8]) -> Piece
     ensures piece { result ≡ spec.string text.now }
     ensures fits { spec.Fits text.now result }
 {
-    match plain_string_len(text) {
-        Some(len) => Piece::Lexed(Lexeme::Plain(TokenKind::String), Extent { len, lines: 0 }),
-        None => any_string(text),
+    let [b'"', after @ ..] = text else {
+        return any_string(text);
+    };
+    if begins_pair(b'"', after) {
+        return any_string(text);
+    }
+    let end = past_plain(b'"', after, 0);
+    match rest_of(after, end) {
+        [b'"', ..] => {
+            let len = end + 2;
+            Piece::Lexed(Lexeme::Plain(TokenKind::String), Extent { len, lines: 0 })
+        }
+        _ => any_string(text),
     }
 }
 

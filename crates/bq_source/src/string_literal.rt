@@ -5,10 +5,9 @@
 
 ghost use Rattle.std.specs.Prelude.{◌≡◌, ◌<◌, ◌≤◌, ◌+◌, ℕ, length, IfOk, IfSome, IsSome, Some, None, if◌then◌else◌, is_none, unwrap_or, ◌++◌, drop, take, OnOk, option_map, List, []};
 ghost use Rattle.std.specs.Option.{option_or};
-ghost use Rattle.std.specs.List.{list_all, prefix_len};
+ghost use Rattle.std.specs.List.{prefix_len};
 ghost use Rattle.bq_source.specs.StringLiteral as spec;
 ghost use Rattle.bq_source.specs.StringLiteral.{BodyItem, values, FoundLiteral, SameCut, ValuedLiteral, IsLiteral, IsOpenLiteral, literal_of, AllStand, quoted};
-ghost use Rattle.bq_source.specs.PlainString.{IsPlainString};
 ghost use Rattle.bq_source.specs.declared.string_literal.Quoting.{Quoting};
 ghost use Rattle.bq_source.specs.declared.string_literal.StringLiteral.{StringLiteral};
 
@@ -72,27 +71,12 @@ enum BodyPart {
 }
 
 /// Returns whether two of this byte come next.
-fn begins_pair(b: u8, text: &[u8]) -> bool
+pub fn begins_pair(b: u8, text: &[u8]) -> bool
     ensures { result ≡ spec.begins_pair b text.now }
 {
     match text {
         [first, second, ..] => *first == b && *second == b,
         _ => false,
-    }
-}
-
-/// Returns the quotes that open a literal, after its prefix.
-fn opening_quotes(raw: bool, text: &[u8]) -> Option<Quoting>
-    ensures quoting { result ≡ spec.opening_quotes raw text.now }
-    ensures within { IfSome result (λ q. spec.quotes_len q ≤ length text.now) }
-{
-    match text {
-        [quote, after @ ..] if *quote == b'"' || *quote == b'\'' => Some(Quoting {
-            raw,
-            quote: *quote,
-            triple: begins_pair(*quote, after),
-        }),
-        _ => None,
     }
 }
 
@@ -102,9 +86,17 @@ fn opening(text: &[u8]) -> Option<Quoting>
     ensures quoting { result ≡ spec.opening text.now }
     ensures within { IfSome result (λ q. spec.opening_len q ≤ length text.now) }
 {
-    match text {
-        [b'r', after @ ..] => opening_quotes(true, after),
-        _ => opening_quotes(false, text),
+    let (raw, quotes) = match text {
+        [b'r', after @ ..] => (true, after),
+        _ => (false, text),
+    };
+    match quotes {
+        [quote, after @ ..] if *quote == b'"' || *quote == b'\'' => Some(Quoting {
+            raw,
+            quote: *quote,
+            triple: begins_pair(*quote, after),
+        }),
+        _ => None,
     }
 }
 
@@ -215,54 +207,34 @@ fn first_bad(earlier: Option<usize>, at: usize, value: ItemValue) -> Option<usiz
 }
 
 /// Returns the text from a place on.
-fn rest_of(text: &[u8], at: usize) -> &[u8]
+pub fn rest_of(text: &[u8], at: usize) -> &[u8]
     requires { at ≤ length text.now }
     ensures { result.now ≡ drop at text.now }
 {
     &text[at..]
 }
 
-/// Returns whether the byte stands for itself wherever it is in a body with this quote.
-fn is_plain(quote: u8, b: u8) -> bool
-    ensures { result ≡ spec.is_plain quote b }
-{
-    // Most bytes are above all of these but the backslash.
-    if b > quote && b > b'\r' {
-        return b != b'\\';
-    }
-    b != quote && b != b'\\' && b != b'\n' && b != b'\r'
-}
-
 /// Returns the place of the first byte from here on that need not stand for itself, or the end.
-fn past_plain(quote: u8, text: &[u8], at: usize) -> usize
+pub fn past_plain(quote: u8, text: &[u8], at: usize) -> usize
     requires { at ≤ length text.now }
     ensures run { result ≡ at + prefix_len (spec.is_plain quote) (drop at text.now) }
     ensures within { result ≤ length text.now }
 {
     let mut end = at;
-    while end < text.len() && is_plain(quote, text[end]) {
+    while end < text.len() {
+        let b = text[end];
+        // Most bytes are above all of these but the backslash.
+        let is_plain = if b > quote && b > b'\r' {
+            b != b'\\'
+        } else {
+            b != quote && b != b'\\' && b != b'\n' && b != b'\r'
+        };
+        if !is_plain {
+            return end;
+        }
         end += 1;
     }
     end
-}
-
-/// Returns the length of the literal that begins here, where it stands in two double quotes and each of its bytes stands for itself. Most
-/// are so, and need no look at each item.
-#[tactic(auto, using(crate::proofs::OneLine::plain_string))]
-pub fn plain_string_len(text: &[u8]) -> Option<usize>
-    ensures { IfSome result (λ n. IsPlainString text.now n) }
-{
-    let [b'"', after @ ..] = text else {
-        return None;
-    };
-    if begins_pair(b'"', after) {
-        return None;
-    }
-    let end = past_plain(b'"', after, 0);
-    match rest_of(after, end) {
-        [b'"', ..] => Some(end + 2),
-        _ => None,
-    }
 }
 
 /// Returns the string literal that begins here, or `None` where it does not end.
@@ -288,14 +260,6 @@ pub fn scan_string(text: &[u8]) -> Option<StringLiteral>
             }
         }
     }
-}
-
-/// Returns whether each byte stands for itself: no backslash means anything, and no newline is CR LF.
-#[tactic(auto, using(crate::proofs::Verbatim::verbatim))]
-fn is_verbatim(raw: bool, body: &[u8]) -> bool
-    ensures { result ≡ list_all (spec.stays raw) body.now }
-{
-    !body.contains(&b'\r') && (raw || !body.contains(&b'\\'))
 }
 
 /// Appends what an item stands for.
@@ -332,7 +296,8 @@ pub fn string_value(alloc: Global, literal: &[u8]) -> Result<Bytes, AllocError>
 {
     let quoting = opening(literal).unwrap();
     let body = rest_of(literal, quoting.opening_len());
-    if is_verbatim(quoting.raw, body) {
+    // Each byte stands for itself: no backslash means anything, and no newline is CR LF.
+    if !body.contains(&b'\r') && (quoting.raw || !body.contains(&b'\\')) {
         return Bytes::from_slice(alloc, &body[..body.len() - quoting.quotes_len()]);
     }
     Bytes::from_vec(alloc, unescaped(alloc, quoting, body)?)

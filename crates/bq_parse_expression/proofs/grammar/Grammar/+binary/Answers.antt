@@ -6,8 +6,16 @@ use Rattle.bq_parse_grammar.specs.Reading.{chain, operation}
 use Rattle.bq_parse_expression.proofs.grammar.Grammar.+binary.Goals as goal
 
 pub operations-loop-turn-preserved : goal.operations-loop-turn-preserved
-unfolding repeat
+unfolding repeat operation
 operations-loop-turn-preserved g t c = grind (arith, common_steps, turns_more, turns_over)
+
+pub operations-returns-in_err-operator : goal.operations-returns-in_err-operator
+unfolding repeat operation
+operations-returns-in_err-operator g t c = grind (arith, common_steps, turns_more, turns_over)
+
+pub operations-returns-in_err-operand : goal.operations-returns-in_err-operand
+unfolding repeat operation
+operations-returns-in_err-operand g t c = grind (arith, common_steps, turns_more, turns_over)
 
 pub binary-returns : goal.binary-returns
 unfolding chain
@@ -18,15 +26,11 @@ unfolding chain
 binary-returns-in_err-operations g t c = grind (arith, common_steps, level_above)
 
 pub operations-returns-then-not-sees_operator : goal.operations-returns-then-not-sees_operator
-unfolding repeat
+unfolding repeat operation
 operations-returns-then-not-sees_operator g t c = grind (arith, common_steps, turns_more, turns_over)
 
-pub operations-returns-in_err-operation : goal.operations-returns-in_err-operation
-unfolding repeat
-operations-returns-in_err-operation g t c = grind (arith, common_steps, turns_more, turns_over)
-
 pub operations-returns : goal.operations-returns
-unfolding repeat
+unfolding repeat operation
 operations-returns g t c = grind (arith, common_steps, turns_more, turns_over)
 
 pub binary-returns-in_err-first : goal.binary-returns-in_err-first
@@ -40,15 +44,3 @@ binary-returns-in_err-first-2 g t c = first_of (grind (arith, common_steps), sea
 pub binary-returns-then-not-sees_operator : goal.binary-returns-then-not-sees_operator
 unfolding chain
 binary-returns-then-not-sees_operator g t c = first_of (grind (arith, common_steps, level_above, none_follow), search (rules, level_above, none_follow))
-
-pub operation-returns : goal.operation-returns
-unfolding operation
-operation-returns g t c = first_of (grind (arith, common_steps), search rules)
-
-pub operation-returns-in_err-operator : goal.operation-returns-in_err-operator
-unfolding operation
-operation-returns-in_err-operator g t c = first_of (grind (arith, common_steps), search rules)
-
-pub operation-returns-in_err-binary : goal.operation-returns-in_err-binary
-unfolding operation
-operation-returns-in_err-binary g t c = first_of (grind (arith, common_steps), search rules)

@@ -5,13 +5,10 @@ use Rattle.bq_parse_grammar.specs.Operators as operators
 use Rattle.bq_parse_expression.proofs.grammar.Grammar.+binary.Given as goal
 
 abbrev pub decreases-binary : goal.decreases-binary
-decreases-binary g l = 3 * l.level + 2
+decreases-binary g l = 2 * l.level + 1
 
 abbrev pub decreases-operations : goal.decreases-operations
-decreases-operations g l = 3 * l.level + 1
-
-abbrev pub decreases-operation : goal.decreases-operation
-decreases-operation g l = 3 * l.level
+decreases-operations g l = 2 * l.level
 
 abbrev pub invariant-operations-loop-turn : goal.invariant-operations-loop-turn
 invariant-operations-loop-turn g l = repeat (has (operators.operator_at l.level)) (operation l.level (binary (primary (phrase l.self.depth) (variables_to l.self.depth)) (l.level - 1))) [] l.fn.tokens ≡ repeat_from (has (operators.operator_at l.level)) (operation l.level (binary (primary (phrase l.self.depth) (variables_to l.self.depth)) (l.level - 1))) (l._turn-end - l._turn) l.found l.tokens
