@@ -2,7 +2,7 @@
 
 ghost use Rattle.std.specs.Prelude.{◌≡◌, ◌==◌, ◌&&◌, option_copied};
 ghost use Rattle.std.specs.List.{list_any};
-ghost use Rattle.bq_resolve_predeclared.specs.Predeclared.{predeclared_named, first_named, name_of};
+ghost use Rattle.bq_resolve_predeclared.specs.Predeclared.{predeclared_named, name_of};
 
 use crate::host_function::HostFunction;
 use crate::rule_function::RuleFunction;
@@ -157,10 +157,17 @@ fn is_head(mut table: &[(u8, usize)], first: u8, len: usize) -> bool
     false
 }
 
-#[tactic(auto, unfolding(crate::specs::Predeclared::first_named))]
-fn first_named(mut table: &[Predeclared], name: &[u8]) -> Option<Predeclared>
-    ensures { result ≡ first_named name.now table.entry.now }
+/// Returns what the name stands for, or `None` for the name of a rule and for one that nothing has.
+#[tactic(auto, using(crate::proofs::Heads::headless), unfolding(crate::specs::Predeclared::predeclared_named, crate::specs::Predeclared::first_named))]
+pub fn predeclared_named(name: &[u8]) -> Option<Predeclared>
+    ensures { result ≡ predeclared_named name.now }
 {
+    // Most names have neither the first byte nor the length of one, and need no walk along all.
+    match name {
+        [first, ..] if is_head(&HEADS, *first, name.len()) => {}
+        _ => return None,
+    }
+    let mut table = PREDECLARED.as_slice();
     while let [entry, rest @ ..] = table {
         match entry.name() {
             Some(own) if name == own => return Some(*entry),
@@ -168,16 +175,4 @@ fn first_named(mut table: &[Predeclared], name: &[u8]) -> Option<Predeclared>
         }
     }
     None
-}
-
-/// Returns what the name stands for, or `None` for the name of a rule and for one that nothing has.
-#[tactic(auto, using(crate::proofs::Heads::headless), unfolding(crate::specs::Predeclared::predeclared_named))]
-pub fn predeclared_named(name: &[u8]) -> Option<Predeclared>
-    ensures { result ≡ predeclared_named name.now }
-{
-    // Most names have neither the first byte nor the length of one, and need no walk along all.
-    match name {
-        [first, ..] if is_head(&HEADS, *first, name.len()) => first_named(&PREDECLARED, name),
-        _ => None,
-    }
 }
