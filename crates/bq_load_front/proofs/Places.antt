@@ -1,11 +1,12 @@
 -- The files that loads name, and the places of these.
 use Rattle.std.proofs.Common.{◌≡◌, ◌∙◌, ◌<◌, ◌≤◌, ◌+◌, ℕ, zero, suc, Bool, true, false, not, List, [], ◌∷◌, ◌++◌, Option, None, Some, length, map, take, get_or, slice_get, position, refl, sym, ap, subst, inl, inr}
-use Rattle.std.specs.Prelude.{option_and_then}
+use Rattle.std.specs.Prelude.{option_and_then, option_copied, MatchOption}
+use Rattle.std.specs.Borrow.{Bor}
 use Rattle.std.proofs.lemmas.Bool.{cases_Bool}
 use Rattle.std.proofs.lemmas.List.{map_push, take_all, take_more}
 use Rattle.std.proofs.lemmas.Map.Views.{Contains-from_any}
 use Rattle.std.specs.List.{Contains, IsDistinct, filter_map, cons_option}
-use Rattle.std.proofs.lemmas.Option.{slice_get-get_or}
+use Rattle.std.proofs.lemmas.Option.{slice_get-get_or, slice_get_past, slice_get_read}
 use Rattle.bq_label.specs.Label.{LabelParts}
 use Rattle.bq_label_set.specs.Labels.{same_label, same_label-Decides, has_label, with_label, with_labels}
 use Rattle.bq_label_set.proofs.Added.{known_label, new_label, numbers_stay, each_label_once, with_labels-append}
@@ -158,3 +159,8 @@ nothing = record { placed = refl; once = refl }
 
 pub none_named : (fs : List LabelParts) (ps : List ℕ) → fs ≡ [] → ps ≡ [] → AreNamed fs ps
 none_named fs ps f p = subst (λ (z : List LabelParts). AreNamed z ps) (sym f) (subst (λ (z : List ℕ). AreNamed [] z) (sym p) nothing)
+
+-- what `get` lends, copied, is what stands there
+pub copied_at : (places : List ℕ) (r : Option (Bor ℕ)) (load : ℕ) → MatchOption r (length places ≤ load) (λ x. (load < length places) × ((d : ℕ) → x.now ≡ get_or places load d)) → option_copied r ≡ slice_get places load
+copied_at places None load past = sym (slice_get_past places load past)
+copied_at places (Some x) load at = sym (slice_get_read places (length places) load x.now refl (at.0) (at.1 x.now))

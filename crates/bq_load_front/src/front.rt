@@ -4,7 +4,7 @@ ghost use Rattle.std.specs.Prelude.{◌≡◌, []};
 ghost use Rattle.bq_base.specs.Gives.{Gives};
 ghost use Rattle.bq_base.specs.declared.fault.SourceErr.TheVariants.{Bad};
 ghost use Rattle.bq_load_front.specs.Code.{itself};
-ghost use Rattle.bq_load_front.specs.Front.{labels_of, kind_of, front_by, front_of};
+ghost use Rattle.bq_load_front.specs.Front.{labels_of, kind_of, front_of};
 
 use crate::code::code_of;
 use crate::inputs::Inputs;
@@ -61,29 +61,18 @@ pub fn kind_of(label: &Label) -> FileKind
     }
 }
 
-/// Returns the front of a text, as the file of this label.
-fn front_by(
-    alloc: Global,
-    inputs: &Inputs<'_>,
-    label: &Label,
-    text: &[u8],
-) -> Result<Front, SourceErr>
-    ensures { Gives itself Bad result (front_by inputs.now label.now text.now) }
-{
-    let code = code_of(alloc, inputs.universe(kind_of(label)), text)?;
-    let labels = labels_of(alloc, inputs, label.package_id(), code.loads.as_slice())?;
-    let loads = NamedFiles::of(alloc, labels.as_slice())?;
-    Ok(Front { code, loads })
-}
-
 /// Returns the code and the loads of the file of this label, or its first fault: of its text (F1 to F24), then of its
 /// first bad load. A label that names no file is F31; no module has such a label.
 #[tactic(auto, unfolding(crate::specs::Front::front_of))]
 pub fn front_of(alloc: Global, inputs: &Inputs<'_>, label: &Label) -> Result<Front, SourceErr>
     ensures { Gives itself Bad result (front_of inputs.now label.now) }
 {
-    match label_file(alloc, inputs.workspace(), label)? {
-        None => Err(SourceErr::Bad(Fault::at(FaultKind::NoSuchFile, 0))),
-        Some(file) => front_by(alloc, inputs, label, file.content.as_slice()),
-    }
+    let Some(file) = label_file(alloc, inputs.workspace(), label)? else {
+        return Err(SourceErr::Bad(Fault::at(FaultKind::NoSuchFile, 0)));
+    };
+    let universe = inputs.universe(kind_of(label));
+    let code = code_of(alloc, universe, file.content.as_slice())?;
+    let labels = labels_of(alloc, inputs, label.package_id(), code.loads.as_slice())?;
+    let loads = NamedFiles::of(alloc, labels.as_slice())?;
+    Ok(Front { code, loads })
 }

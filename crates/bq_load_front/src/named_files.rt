@@ -55,16 +55,6 @@ fn add_file(
     }
 }
 
-/// Returns the place of the file of a load.
-fn place_at(places: &[usize], load: usize) -> Option<usize>
-    ensures { result ≡ slice_get places.now load }
-{
-    match places.get(load) {
-        None => None,
-        Some(place) => Some(*place),
-    }
-}
-
 /// Returns the file at a place.
 fn file_at(files: &[Label], place: Option<usize>) -> Option<&Label>
     ensures { option_copied result ≡ option_and_then (slice_get files.now) place }
@@ -110,13 +100,13 @@ impl NamedFiles {
     pub fn label(&self, load: usize) -> Option<&Label>
         ensures { option_copied result ≡ slice_get self.now load }
     {
-        file_at(&self.files, place_at(&self.places, load))
+        file_at(&self.files, self.places.get(load).copied())
     }
 
     /// Returns the place of the file that a load names among the files.
     pub fn place(&self, load: usize) -> Option<usize>
         ensures { result ≡ place_named self.now load }
     {
-        place_at(&self.places, load)
+        self.places.get(load).copied()
     }
 }

@@ -3,28 +3,29 @@
 ghost use Rattle.std.specs.Prelude.{◌≡◌};
 ghost use Rattle.bq_base.specs.Gives.{Gives};
 ghost use Rattle.bq_base.specs.declared.fault.SourceErr.TheVariants.{Bad};
-ghost use Rattle.bq_resolve_scope.specs.Files.{resolved, resolved_in};
+ghost use Rattle.bq_resolve_scope.specs.Files.{resolved};
 ghost use Rattle.bq_parse.specs.Answers.{itself};
 
 use crate::outside::top_levels;
 use bq_base::SourceErr;
 use bq_parse::ParsedFile;
-use bq_parse_grammar::TopLevel;
 use bq_resolve_expression::Walk;
 use bq_resolve_scope::{FileNames, LoadStmt, Resolved, Universe};
 use std::alloc::Global;
 
-/// Returns what statements resolve to among the names of their file.
-fn resolve_in(
-    alloc: Global,
-    file: &FileNames,
-    statements: &[TopLevel],
-) -> Result<Resolved, SourceErr>
-    ensures { Gives itself Bad result (resolved_in file.now statements.now) }
+/// Returns what the file resolves to, or the first fault of its names in the order of its text, F20 to F24. It takes time and memory in
+/// proportion to the file.
+#[tactic(auto, unfolding(bq_resolve_scope::specs::Files::resolved))]
+pub fn resolve(alloc: Global, file: &ParsedFile, universe: &Universe) -> Result<Resolved, SourceErr>
+    ensures { Gives itself Bad result (resolved universe.now file.now) }
 {
-    let globals = file.globals(alloc)?;
+    let names = FileNames::new(alloc, universe, file.statements())?;
+    let globals = names.globals(alloc)?;
     let mut walk = Walk::new(alloc);
-    let statements = match top_levels(alloc, file, &mut walk, statements) {
+    let statements = top_levels(alloc, &names, &mut walk, file.statements());
+    // PROOF: `drop` is a single step.
+    drop(names);
+    let statements = match statements {
         Ok(statements) => statements,
         Err(why) => {
             // PROOF: `drop` is a single step.
@@ -39,19 +40,6 @@ fn resolve_in(
         globals,
         loads,
     })
-}
-
-/// Returns what the file resolves to, or the first fault of its names in the order of its text, F20 to F24. It takes time and memory in
-/// proportion to the file.
-#[tactic(auto, unfolding(bq_resolve_scope::specs::Files::resolved))]
-pub fn resolve(alloc: Global, file: &ParsedFile, universe: &Universe) -> Result<Resolved, SourceErr>
-    ensures { Gives itself Bad result (resolved universe.now file.now) }
-{
-    let names = FileNames::new(alloc, universe, file.statements())?;
-    let resolved = resolve_in(alloc, &names, file.statements());
-    // PROOF: `drop` is a single step.
-    drop(names);
-    resolved
 }
 
 /// Returns the loads of a file, in the order in which they are written.

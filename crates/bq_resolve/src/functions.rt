@@ -5,42 +5,20 @@ ghost use Rattle.bq_resolve_scope.specs.Files as files;
 ghost use Rattle.bq_resolve_expression.specs.Walks.{Walks};
 
 use crate::blocks::BlockResolver;
-use crate::parameters::parameters;
+use crate::parameters::{ParameterList, parameters};
 use crate::statements::stmt_to;
 use bq_base::{Bytes, SourceErr};
 use bq_parse_grammar::{Identifier, Parameter, Stmt};
 use bq_resolve_expression::{Scope, Walk, name_target};
 use bq_resolve_scope::{
-    Block, CodeDef, CodeFunction, CodeParameter, CodeStmt, FileNames, FileStmt, MAX_LAYERS, Names,
+    Block, CodeDef, CodeFunction, CodeParameter, FileNames, FileStmt, MAX_LAYERS, Names,
     function_names, inside,
 };
 use sqlite_items::{Boxed, Items};
 use std::alloc::Global;
 
-/// Resolves a function's statements, among its own names.
-#[tactic(auto, unfolding(bq_resolve_scope::specs::Names::max_layers))]
-fn statements_in(
-    scope: &Scope<'_>,
-    walk: &mut Walk,
-    names: Names,
-    body: &[Stmt],
-) -> Result<Items<CodeStmt>, SourceErr>
-    ensures { Walks (spec.statements_in scope.now.file.now names body.now walk.old) result walk.new }
-{
-    // PROOF: the number of names fits.
-    let _fits = names.len();
-    let block = Block::new(scope.alloc, 0, names)?;
-    let blocks = inside(scope.alloc, block, &[])?;
-    let statements = BlockResolver {
-        scope: scope.among(blocks.as_slice()),
-        layers: MAX_LAYERS,
-        inner: stmt_to,
-    };
-    statements.block(false, walk, body)
-}
-
 /// Resolves a function of the file, which has a frame of its own, and returns its number.
-#[tactic(auto, unfolding(bq_resolve_scope::specs::Statements::function))]
+#[tactic(auto, unfolding(bq_resolve_scope::specs::Statements::function, bq_resolve_scope::specs::Names::max_layers))]
 fn function(
     scope: &Scope<'_>,
     walk: &mut Walk,
@@ -52,7 +30,14 @@ fn function(
     ensures { Walks (spec.function scope.now.file.now name.now parameters names body.now walk.old) result walk.new }
 {
     let outside = walk.frame(names.len());
-    let body = statements_in(scope, walk, names, body)?;
+    let block = Block::new(scope.alloc, 0, names)?;
+    let blocks = inside(scope.alloc, block, &[])?;
+    let statements = BlockResolver {
+        scope: scope.among(blocks.as_slice()),
+        layers: MAX_LAYERS,
+        inner: stmt_to,
+    };
+    let body = statements.block(false, walk, body)?;
     let slots = walk.frame(outside);
     let name = name.share()?;
     let number = walk.add_function(CodeFunction {
@@ -78,7 +63,11 @@ pub fn def_stmt(
 {
     let outside = Scope::outside(alloc, file);
     let target = Boxed::new(alloc, name_target(&outside, walk, name)?)?;
-    let (parameters, defaults) = parameters(alloc, file, walk, listed)?.into_parts();
+    let ParameterList {
+        names: _,
+        parameters,
+        defaults,
+    } = parameters(alloc, file, walk, listed)?;
     let names = function_names(alloc, listed, body)?;
     let function = function(&outside, walk, &name.name, parameters, names, body)?;
     Ok(FileStmt::Def(CodeDef {

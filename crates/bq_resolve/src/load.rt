@@ -1,59 +1,18 @@
 //! Loads: what a file takes from other files.
 
-ghost use Rattle.std.specs.Prelude.{[]};
-ghost use Rattle.bq_resolve_scope.specs.Visit as visit;
 ghost use Rattle.bq_resolve_scope.specs.Statements as spec;
 ghost use Rattle.bq_resolve_expression.specs.Walks.{Walks};
 
 use bq_base::{FaultKind, SourceErr};
-use bq_parse_grammar::{Load, LoadClause};
+use bq_parse_grammar::Load;
 use bq_resolve_expression::{Walk, fault_of};
 use bq_resolve_scope::{CodeSmall, FileNames, LoadStmt, LoadedSymbol};
 use sqlite_items::Items;
 use std::alloc::Global;
 
-/// Resolves a load clause: F22 where another clause before it has its name, F21 where a statement of a .bzl file bound it.
-#[tactic(auto, unfolding(bq_resolve_scope::specs::Statements::load_clause))]
-fn load_clause(
-    file: &FileNames,
-    walk: &mut Walk,
-    clause: &LoadClause,
-) -> Result<LoadedSymbol, SourceErr>
-    ensures { Walks (spec.load_clause file.now clause.now walk.old) result walk.new }
-{
-    let name = &clause.local;
-    if walk.is_loaded(&name.name) {
-        return Err(SourceErr::Bad(fault_of(FaultKind::BoundTwice, name)?));
-    }
-    if walk.is_bound(file.kind(), &name.name) {
-        return Err(SourceErr::Bad(fault_of(FaultKind::Rebound, name)?));
-    }
-    walk.load(&name.name)?;
-    Ok(LoadedSymbol {
-        local: name.name.share()?,
-        symbol: clause.symbol.share()?,
-        global: file.global(&name.name),
-    })
-}
-
-#[tactic(auto, unfolding(bq_resolve_scope::specs::Visit::each))]
-fn load_clauses(
-    alloc: Global,
-    file: &FileNames,
-    walk: &mut Walk,
-    clauses: &[LoadClause],
-) -> Result<Items<LoadedSymbol>, SourceErr>
-    ensures { Walks (visit.each (spec.load_clause file.now) [] clauses.now walk.old) result walk.new }
-{
-    let mut done = Items::new(alloc);
-    for clause in clauses {
-        done.push(load_clause(file, walk, clause)?)?;
-    }
-    Ok(done)
-}
-
-/// Resolves a load, which is carried along.
-#[tactic(auto, unfolding(bq_resolve_scope::specs::Statements::load))]
+/// Resolves a load, which is carried along. A clause is F22 where another clause before it has its name, F21 where a statement of a .bzl
+/// file bound it.
+#[tactic(auto, unfolding(bq_resolve_scope::specs::Statements::load, bq_resolve_scope::specs::Statements::load_clause, bq_resolve_scope::specs::Visit::each))]
 pub fn load(
     alloc: Global,
     file: &FileNames,
@@ -63,7 +22,22 @@ pub fn load(
 ) -> Result<CodeSmall, SourceErr>
     ensures { Walks (spec.load file.now line load.now walk.old) result walk.new }
 {
-    let clauses = load_clauses(alloc, file, walk, load.clauses.as_slice())?;
+    let mut clauses = Items::new(alloc);
+    for clause in load.clauses.as_slice() {
+        let name = &clause.local;
+        if walk.is_loaded(&name.name) {
+            return Err(SourceErr::Bad(fault_of(FaultKind::BoundTwice, name)?));
+        }
+        if walk.is_bound(file.kind(), &name.name) {
+            return Err(SourceErr::Bad(fault_of(FaultKind::Rebound, name)?));
+        }
+        walk.load(&name.name)?;
+        clauses.push(LoadedSymbol {
+            local: name.name.share()?,
+            symbol: clause.symbol.share()?,
+            global: file.global(&name.name),
+        })?;
+    }
     let label = load.label.share()?;
     walk.add_load(LoadStmt {
         label,

@@ -14,43 +14,8 @@ use bq_resolve_scope::{CodeTopLevel, FileNames, FileStmt};
 use sqlite_items::Items;
 use std::alloc::Global;
 
-/// Resolves a statement outside functions, where `if` and `for` are not allowed.
-#[tactic(auto, unfolding(bq_resolve_scope::specs::Files::top_level))]
-fn top_level(
-    alloc: Global,
-    file: &FileNames,
-    walk: &mut Walk,
-    top_level: &TopLevel,
-) -> Result<CodeTopLevel, SourceErr>
-    ensures { Walks (files.top_level file.now top_level.now walk.old) result walk.new }
-{
-    let first_line = top_level.line;
-    let statement = match &top_level.statement {
-        Stmt::Simple(small) => {
-            let outside = Scope::outside(alloc, file);
-            FileStmt::Simple(line(&outside, false, walk, small.as_slice())?)
-        }
-        Stmt::If(_, _) => return misplaced(first_line),
-        Stmt::For(_, _, _) => return misplaced(first_line),
-        Stmt::Def(name, parameters, body) => {
-            def_stmt(
-                alloc,
-                file,
-                walk,
-                name,
-                parameters.as_slice(),
-                body.as_slice(),
-            )?
-        }
-    };
-    Ok(CodeTopLevel {
-        line: first_line,
-        statement,
-    })
-}
-
-/// Resolves the top-level statements of a file.
-#[tactic(auto, unfolding(bq_resolve_scope::specs::Visit::each))]
+/// Resolves the top-level statements of a file, where `if` and `for` are not allowed.
+#[tactic(auto, unfolding(bq_resolve_scope::specs::Visit::each, bq_resolve_scope::specs::Files::top_level))]
 pub fn top_levels(
     alloc: Global,
     file: &FileNames,
@@ -60,8 +25,30 @@ pub fn top_levels(
     ensures { Walks (visit.each (files.top_level file.now) [] statements.now walk.old) result walk.new }
 {
     let mut done = Items::new(alloc);
-    for statement in statements {
-        done.push(top_level(alloc, file, walk, statement)?)?;
+    for top_level in statements {
+        let first_line = top_level.line;
+        let statement = match &top_level.statement {
+            Stmt::Simple(small) => {
+                let outside = Scope::outside(alloc, file);
+                FileStmt::Simple(line(&outside, false, walk, small.as_slice())?)
+            }
+            Stmt::If(_, _) => return misplaced(first_line),
+            Stmt::For(_, _, _) => return misplaced(first_line),
+            Stmt::Def(name, parameters, body) => {
+                def_stmt(
+                    alloc,
+                    file,
+                    walk,
+                    name,
+                    parameters.as_slice(),
+                    body.as_slice(),
+                )?
+            }
+        };
+        done.push(CodeTopLevel {
+            line: first_line,
+            statement,
+        })?;
     }
     Ok(done)
 }

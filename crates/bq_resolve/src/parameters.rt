@@ -1,6 +1,5 @@
 //! The parameters of a function, and their defaults.
 
-ghost use Rattle.std.specs.Prelude.{◌≡◌};
 ghost use Rattle.bq_base.specs.Gives.{Gives};
 ghost use Rattle.bq_base.specs.declared.fault.SourceErr.TheVariants.{Bad};
 ghost use Rattle.bq_resolve_scope.specs.Scope.{FileParts};
@@ -20,9 +19,9 @@ use std::marker::Model;
 /// The parameters so far. Contracts see their names, what they resolve to, and their defaults.
 #[derive(Drop)]
 pub struct ParameterList {
-    names: Names,
-    parameters: Items<CodeParameter>,
-    defaults: Items<Code>,
+    pub names: Names,
+    pub parameters: Items<CodeParameter>,
+    pub defaults: Items<Code>,
 }
 
 impl Model for ParameterList {
@@ -38,19 +37,6 @@ impl Model for ParameterList {
 }
 
 impl ParameterList {
-    /// Returns what the parameters resolve to, and their defaults.
-    pub fn into_parts(self) -> (Items<CodeParameter>, Items<Code>)
-        ensures parameters { result.0 ≡ self.parameters }
-        ensures defaults { result.1 ≡ self.defaults }
-    {
-        let ParameterList {
-            names: _,
-            parameters,
-            defaults,
-        } = self;
-        (parameters, defaults)
-    }
-
     /// Adds a parameter of a name, which no other has: else F24.
     #[tactic(auto, unfolding(bq_resolve_scope::specs::Statements::named_parameter, bq_resolve_scope::specs::Names::with_name))]
     fn add_named(&mut self, name: &Identifier, parameter: CodeParameter) -> Result<(), SourceErr>

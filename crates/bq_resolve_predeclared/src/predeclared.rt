@@ -1,8 +1,7 @@
 //! The predeclared names (Starlark specification, "Built-in constants and functions"; Bazel, Build Encyclopedia, "Functions").
 
-ghost use Rattle.std.specs.Prelude.{◌≡◌, ◌==◌, ◌&&◌, option_copied};
-ghost use Rattle.std.specs.List.{list_any};
-ghost use Rattle.bq_resolve_predeclared.specs.Predeclared.{predeclared_named, first_named, name_of};
+ghost use Rattle.std.specs.Prelude.{◌≡◌, option_copied};
+ghost use Rattle.bq_resolve_predeclared.specs.Predeclared.{predeclared_named, name_of};
 
 use crate::host_function::HostFunction;
 use crate::rule_function::RuleFunction;
@@ -144,23 +143,17 @@ const HEADS: [(u8, usize); 27] = [
     (b'p', 13),
 ];
 
-/// Returns whether one of these is of that first byte and length.
-fn is_head(mut table: &[(u8, usize)], first: u8, len: usize) -> bool
-    ensures { result ≡ list_any (λ h. h.0 == first && h.1 == len) table.entry.now }
+/// Returns what the name stands for, or `None` for the name of a rule and for one that nothing has.
+#[tactic(auto, using(crate::proofs::Heads::headless), unfolding(crate::specs::Predeclared::predeclared_named, crate::specs::Predeclared::first_named))]
+pub fn predeclared_named(name: &[u8]) -> Option<Predeclared>
+    ensures { result ≡ predeclared_named name.now }
 {
-    while let [entry, rest @ ..] = table {
-        if entry.0 == first && entry.1 == len {
-            return true;
-        }
-        table = rest;
+    // Most names have neither the first byte nor the length of one, and need no walk along all.
+    match name {
+        [first, ..] if HEADS.contains(&(*first, name.len())) => {}
+        _ => return None,
     }
-    false
-}
-
-#[tactic(auto, unfolding(crate::specs::Predeclared::first_named))]
-fn first_named(mut table: &[Predeclared], name: &[u8]) -> Option<Predeclared>
-    ensures { result ≡ first_named name.now table.entry.now }
-{
+    let mut table = PREDECLARED.as_slice();
     while let [entry, rest @ ..] = table {
         match entry.name() {
             Some(own) if name == own => return Some(*entry),
@@ -168,16 +161,4 @@ fn first_named(mut table: &[Predeclared], name: &[u8]) -> Option<Predeclared>
         }
     }
     None
-}
-
-/// Returns what the name stands for, or `None` for the name of a rule and for one that nothing has.
-#[tactic(auto, using(crate::proofs::Heads::headless), unfolding(crate::specs::Predeclared::predeclared_named))]
-pub fn predeclared_named(name: &[u8]) -> Option<Predeclared>
-    ensures { result ≡ predeclared_named name.now }
-{
-    // Most names have neither the first byte nor the length of one, and need no walk along all.
-    match name {
-        [first, ..] if is_head(&HEADS, *first, name.len()) => first_named(&PREDECLARED, name),
-        _ => None,
-    }
 }
