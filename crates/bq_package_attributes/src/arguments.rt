@@ -1,11 +1,11 @@
 //! The arguments of a call of a rule.
 
-ghost use Rattle.std.specs.Prelude.{◌≡◌, IfOk, OnOk};
+ghost use Rattle.std.specs.Prelude.{◌≡◌, IfOk};
 ghost use Rattle.bq_base.specs.Gives.{Gives};
 ghost use Rattle.bq_value.specs.declared.error.EvalErr.TheVariants.{Bad};
 ghost use Rattle.bq_value.specs.Datum.{string};
 ghost use Rattle.bq_package_attributes.specs.Named.{pairs};
-ghost use Rattle.bq_package_attributes.specs.Arguments.{nothing_given, is_none, keyword, with_value, with_label, with_name, with_attribute, with_argument, with_arguments};
+ghost use Rattle.bq_package_attributes.specs.Arguments.{is_none, keyword, with_name, with_argument, with_arguments};
 
 use crate::named::{Held, Keywords};
 use bq_base::{Bytes, FaultKind};
@@ -55,35 +55,7 @@ pub(crate) fn is_none(value: &Value) -> bool
 }
 
 impl Given {
-    /// Makes an empty list, with room for `room` attributes.
-    pub fn nothing(alloc: Global, room: usize) -> Result<Given, AllocError>
-        ensures { IfOk result (λ given. given ≡ nothing_given) }
-    {
-        let attributes = Vec::with_capacity(alloc, room)?;
-        Ok(Given {
-            name: None,
-            attributes: Items::from_vec(attributes),
-        })
-    }
-
-    /// Appends an attribute.
-    fn push(&mut self, name: Bytes, value: AttributeValue) -> Result<(), AllocError>
-        ensures { OnOk result (self.new ≡ with_value name value self.old) }
-    {
-        self.attributes.push(GivenAttribute { name, value })?;
-        Ok(())
-    }
-
-    /// Sets the name of the target, which is an attribute too.
-    fn set_name(&mut self, alloc: Global, label: Label, text: Bytes) -> Result<(), AllocError>
-        ensures { OnOk result (self.new ≡ with_label text label self.old) }
-    {
-        self.name = Some(label);
-        let name = Bytes::from_slice(alloc, b"name")?;
-        self.push(name, AttributeValue::String(text))
-    }
-
-    /// Takes the argument `name`: F73, F75, F37.
+    /// Takes the argument `name`, which is an attribute too: F73, F75, F37.
     #[tactic(auto, unfolding(crate::specs::Arguments::with_name))]
     fn take_name(&mut self, alloc: Global, scope: Scope<'_>, value: &Value) -> Result<(), EvalErr>
         ensures { Gives (λ _. self.new) Bad result (with_name scope.entry.own.now scope.entry.packages.now value.now self.old) }
@@ -93,35 +65,15 @@ impl Given {
         }
         let text = text_in(value, FaultKind::AttributeType)?;
         let label = label(alloc, scope, TextKind::Name, &text)?;
-        self.set_name(alloc, label, text)?;
+        self.name = Some(label);
+        let name = Bytes::from_slice(alloc, b"name")?;
+        let value = AttributeValue::String(text);
+        self.attributes.push(GivenAttribute { name, value })?;
         Ok(())
     }
 
-    /// Takes any other argument: F71, then the faults of its value.
-    #[tactic(auto, unfolding(crate::specs::Arguments::with_attribute))]
-    fn take_attribute(
-        &mut self,
-        alloc: Global,
-        callee: Callee<'_>,
-        name: &Bytes,
-        value: &Value,
-    ) -> Result<(), EvalErr>
-        ensures { Gives (λ _. self.new) Bad result (with_attribute callee.entry.scope.own.now callee.entry.scope.packages.now callee.entry.store.now callee.entry.class.now name.now value.now self.old) }
-    {
-        let Some(kind) = attribute_type(callee.class, name.as_slice()) else {
-            return Err(EvalErr::Bad(FaultKind::NoAttribute));
-        };
-        if is_none(value) {
-            return Ok(());
-        }
-        let name = name.share()?;
-        let given = value_as(alloc, callee.scope, callee.store, kind, value)?;
-        self.push(name, given)?;
-        Ok(())
-    }
-
-    /// Takes an argument by its name.
-    #[tactic(auto, unfolding(crate::specs::Arguments::with_argument))]
+    /// Takes an argument by its name. One that isn't `name`: F71, then the faults of its value.
+    #[tactic(auto, unfolding(crate::specs::Arguments::with_argument, crate::specs::Arguments::with_attribute))]
     fn take_named(
         &mut self,
         alloc: Global,
@@ -134,7 +86,16 @@ impl Given {
         if name.as_slice() == b"name".as_slice() {
             return self.take_name(alloc, callee.scope, value);
         }
-        self.take_attribute(alloc, callee, name, value)
+        let Some(kind) = attribute_type(callee.class, name.as_slice()) else {
+            return Err(EvalErr::Bad(FaultKind::NoAttribute));
+        };
+        if is_none(value) {
+            return Ok(());
+        }
+        let name = name.share()?;
+        let value = value_as(alloc, callee.scope, callee.store, kind, value)?;
+        self.attributes.push(GivenAttribute { name, value })?;
+        Ok(())
     }
 
     /// Takes an argument that is in a dict.

@@ -1,11 +1,9 @@
 //! The target that a call of a rule declares.
 
-ghost use Rattle.std.specs.Prelude.{◌≡◌, ◌++◌, map, option_copied, IfOk, OnOk};
-ghost use Rattle.std.specs.List.{list_all};
+ghost use Rattle.std.specs.Prelude.{◌≡◌, ◌++◌, IfOk, OnOk};
 ghost use Rattle.bq_base.specs.Gives.{Gives};
 ghost use Rattle.bq_value.specs.declared.error.EvalErr.TheVariants.{Bad};
-ghost use Rattle.bq_package_attributes.specs.Arguments.{nothing_given, with_arguments};
-ghost use Rattle.bq_package_attributes.specs.Declarations.{gives, is_met, gives_mandatory, default_of, default_for, defaults, if_whole, target, declaration};
+ghost use Rattle.bq_package_attributes.specs.Declarations.{gives, gives_mandatory, default_for, defaults, declaration};
 
 use crate::arguments::{Callee, Given, is_none};
 use crate::named::Keywords;
@@ -27,42 +25,8 @@ fn gives(alloc: Global, keywords: &Keywords, name: &[u8]) -> Result<bool, AllocE
     }
 }
 
-/// Returns whether the attribute is given, if it has to be.
-fn is_met(
-    alloc: Global,
-    keywords: &Keywords,
-    name: &[u8],
-    attribute: &Attribute,
-) -> Result<bool, AllocError>
-    ensures { IfOk result (λ met. met ≡ is_met keywords.now (name.now, attribute.now)) }
-{
-    if !attribute.is_mandatory {
-        return Ok(true);
-    }
-    gives(alloc, keywords, name)
-}
-
-/// Returns for each of the attributes whether it is given or need not be.
-#[tactic(auto, using(crate::proofs::Entries::entry_end))]
-fn are_met(alloc: Global, class: &RuleClass, keywords: &Keywords) -> Result<Vec<bool>, AllocError>
-    ensures { IfOk result (λ met. met.items ≡ map (is_met keywords.now) class.now) }
-{
-    let mut met = Vec::new(alloc);
-    'entries: loop {
-        let Some((name, attribute)) = class.entry(met.len()) else {
-            return Ok(met);
-        };
-        met.push(is_met(alloc, keywords, name, attribute)?)?;
-    }
-}
-
-fn are_all(met: &[bool]) -> bool
-    ensures { result ≡ list_all (λ met. met) met.now }
-{
-    met.iter().all(|met| *met)
-}
-
 /// Returns whether each attribute that has to be given is.
+#[tactic(auto, unfolding(crate::specs::Declarations::gives_mandatory))]
 fn gives_mandatory(
     alloc: Global,
     class: &RuleClass,
@@ -70,25 +34,21 @@ fn gives_mandatory(
 ) -> Result<bool, AllocError>
     ensures { IfOk result (λ all. all ≡ gives_mandatory class.now keywords.now) }
 {
-    let met = are_met(alloc, class, keywords)?;
-    Ok(are_all(&met))
-}
-
-/// Returns the default of an attribute. The names of outputs have none.
-fn default_of(attribute: &Attribute) -> Option<&AttributeValue>
-    ensures { option_copied result ≡ default_of attribute.now.default }
-{
-    match &attribute.default {
-        None => None,
-        Some(value) => match value {
-            AttributeValue::Output(_) => None,
-            AttributeValue::OutputList(_) => None,
-            _ => Some(value),
-        },
+    for place in 0..class.len() {
+        let Some((name, attribute)) = class.entry(place) else {
+            return Ok(true);
+        };
+        if !attribute.is_mandatory {
+            continue;
+        }
+        if !gives(alloc, keywords, name)? {
+            return Ok(false);
+        }
     }
+    Ok(true)
 }
 
-/// Appends the default of an attribute that the keyword arguments don't give.
+/// Appends the default of an attribute that the keyword arguments don't give. The names of outputs have none.
 #[tactic(auto, unfolding(crate::specs::Declarations::default_for))]
 fn add_default(
     alloc: Global,
@@ -99,8 +59,11 @@ fn add_default(
 ) -> Result<(), AllocError>
     ensures { OnOk result (attributes.new ≡ attributes.old ++ default_for keywords.now (name.now, attribute.now)) }
 {
-    let Some(value) = default_of(attribute) else {
-        return Ok(());
+    let value = match &attribute.default {
+        None => return Ok(()),
+        Some(AttributeValue::Output(_)) => return Ok(()),
+        Some(AttributeValue::OutputList(_)) => return Ok(()),
+        Some(value) => value,
     };
     if gives(alloc, keywords, name)? {
         return Ok(());
@@ -129,65 +92,9 @@ fn add_defaults(
     Ok(())
 }
 
-/// Returns what keyword arguments give.
-fn given(alloc: Global, callee: Callee<'_>, keywords: &Keywords) -> Result<Given, EvalErr>
-    ensures { Gives (λ g. g) Bad result (with_arguments callee.entry.scope.own.now callee.entry.scope.packages.now callee.entry.store.now callee.entry.class.now nothing_given keywords.now) }
-{
-    let mut given = Given::nothing(alloc, keywords.len())?;
-    match given.take_arguments(alloc, callee, keywords) {
-        Ok(()) => Ok(given),
-        Err(why) => Err(why),
-    }
-}
-
-/// Makes the target of what is given: F72 if its name isn't given, or another attribute that has to be.
-fn whole(
-    alloc: Global,
-    callee: Callee<'_>,
-    line: u32,
-    keywords: &Keywords,
-    is_whole: bool,
-    given: Given,
-) -> Result<Target, EvalErr>
-    ensures { Gives (λ t. t) Bad result (if_whole is_whole callee.entry.kind.now callee.entry.class.now line given.name (given.attributes ++ defaults keywords.now callee.entry.class.now)) }
-{
-    if !is_whole {
-        return Err(EvalErr::Bad(FaultKind::MissingAttribute));
-    }
-    let Given {
-        name,
-        mut attributes,
-    } = given;
-    let Some(label) = name else {
-        return Err(EvalErr::Bad(FaultKind::MissingAttribute));
-    };
-    add_defaults(alloc, callee.class, keywords, &mut attributes)?;
-    Ok(Target {
-        label,
-        kind: TargetKind::Rule(callee.kind.share()?, callee.class.share()?),
-        attributes,
-        line,
-    })
-}
-
-/// Makes the target of these keyword arguments.
-#[tactic(auto, unfolding(crate::specs::Declarations::target))]
-fn target(
-    alloc: Global,
-    callee: Callee<'_>,
-    line: u32,
-    keywords: &Keywords,
-) -> Result<Target, EvalErr>
-    ensures { Gives (λ t. t) Bad result (target callee.entry.scope.own.now callee.entry.scope.packages.now callee.entry.store.now callee.entry.class.now callee.entry.kind.now line keywords.now) }
-{
-    let is_whole = gives_mandatory(alloc, callee.class, keywords)?;
-    let given = given(alloc, callee, keywords)?;
-    whole(alloc, callee, line, keywords, is_whole, given)
-}
-
 /// Returns the target that a call of a rule declares, with the line of the call; or F52, the faults of the arguments,
-/// F72.
-#[tactic(auto, unfolding(crate::specs::Declarations::declaration))]
+/// F72 if its name isn't given, or another attribute that has to be.
+#[tactic(auto, unfolding(crate::specs::Declarations::declaration, crate::specs::Declarations::target))]
 pub fn declaration(
     alloc: Global,
     callee: Callee<'_>,
@@ -196,6 +103,28 @@ pub fn declaration(
 ) -> Result<Target, EvalErr>
     ensures { Gives (λ t. t) Bad result (declaration callee.entry.scope.own.now callee.entry.scope.packages.now callee.entry.store.now callee.entry.class.now callee.entry.kind.now line args) }
 {
+    let attributes = Items::from_vec(Vec::with_capacity(alloc, args.named.len())?);
     let keywords = Keywords::of(alloc, callee.store.seed(), args)?;
-    target(alloc, callee, line, &keywords)
+    let mut given = Given {
+        name: None,
+        attributes,
+    };
+    given.take_arguments(alloc, callee, &keywords)?;
+    let Given {
+        name,
+        mut attributes,
+    } = given;
+    let Some(label) = name else {
+        return Err(EvalErr::Bad(FaultKind::MissingAttribute));
+    };
+    if !gives_mandatory(alloc, callee.class, &keywords)? {
+        return Err(EvalErr::Bad(FaultKind::MissingAttribute));
+    }
+    add_defaults(alloc, callee.class, &keywords, &mut attributes)?;
+    Ok(Target {
+        label,
+        kind: TargetKind::Rule(callee.kind.share()?, callee.class.share()?),
+        attributes,
+        line,
+    })
 }

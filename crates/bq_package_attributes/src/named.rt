@@ -73,22 +73,6 @@ fn are_new(named: &[(Bytes, Value)]) -> bool
     true
 }
 
-/// Makes a list of few arguments, or fails with F52.
-fn few(args: Args) -> Result<Keywords, EvalErr>
-    ensures { Gives (λ keywords. keywords) Bad result (and_then (bind keywords_alone args) (λ b. Ok b.keywords)) }
-{
-    let Args { positional, named } = args;
-    if positional.len() > 0 {
-        return Err(EvalErr::Bad(FaultKind::Args));
-    }
-    if !are_new(&named) {
-        return Err(EvalErr::Bad(FaultKind::Args));
-    }
-    Ok(Keywords {
-        held: Held::Few(named),
-    })
-}
-
 /// Makes a dict of any number of arguments, or fails with F52.
 fn many(alloc: Global, seed: Seed, args: Args) -> Result<Keywords, EvalErr>
     ensures { Gives (λ keywords. keywords) Bad result (and_then (bind keywords_alone args) (λ b. Ok b.keywords)) }
@@ -113,15 +97,16 @@ impl Keywords {
         if args.named.len() > FEW {
             return many(alloc, seed, args);
         }
-        few(args)
-    }
-
-    /// Returns how many arguments there are.
-    pub(crate) fn len(&self) -> usize {
-        match &self.held {
-            Held::Few(named) => named.len(),
-            Held::Many(dict) => dict.len(),
+        let Args { positional, named } = args;
+        if positional.len() > 0 {
+            return Err(EvalErr::Bad(FaultKind::Args));
         }
+        if !are_new(&named) {
+            return Err(EvalErr::Bad(FaultKind::Args));
+        }
+        Ok(Keywords {
+            held: Held::Few(named),
+        })
     }
 
     /// Returns the value of the argument of this name.

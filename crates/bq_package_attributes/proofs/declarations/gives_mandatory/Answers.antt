@@ -1,9 +1,29 @@
-use Rattle.std.proofs.Common.{Bool, ◌∙◌, ap}
-use Rattle.std.specs.List.{list_all}
-use Rattle.bq_package_attributes.specs.Declarations.{is_met, gives_mandatory}
-use Rattle.bq_package_attributes.proofs.Entries.{all_of}
+use Rattle.std.proofs.Common.{◌∙◌, ◌||◌, Bool, not, sym, ap}
+use Rattle.bq_package_attributes.specs.Declarations.{gives, gives_mandatory}
+use Rattle.bq_package_attributes.proofs.Entries.{met_next, met_stops}
 use Rattle.bq_package_attributes.proofs.declarations.gives_mandatory.Goals as goal
 
-pub returns : goal.returns
+pub loop-place-preserved-then-not-attribute : goal.loop-place-preserved-then-not-attribute
+loop-place-preserved-then-not-attribute c =
+    let l = c.loop-place in
+    let keywords = c.args.keywords.now in
+    let name = c.in-Some.name.now in
+    let met = ap (λ (b : Bool). not b || gives keywords name) c.if-not-attribute.true in
+    l.invariant ∙ met_next keywords c.args.class.now l.place (name, c.in-Some.attribute.now) c.in-Some.ensures met
+
+pub returns-then-not-branch : goal.returns-then-not-branch
 unfolding gives_mandatory
-returns c = c.are_all.ensures ∙ (ap (list_all (λ (b : Bool). b)) (c.deref.ensures.value ∙ c.in_ok-met.ensures) ∙ all_of (is_met c.args.keywords.now) c.args.class.now)
+returns-then-not-branch c =
+    let l = c.loop-place in
+    let keywords = c.args.keywords.now in
+    let name = c.in-Some.name.now in
+    let lacks = ap (λ (b : Bool). not b || gives keywords name) c.if-not-attribute.false ∙ (sym c.in_ok-gives.ensures ∙ c.if-not-branch.true) in
+    sym (l.invariant ∙ met_stops keywords c.args.class.now l.place (name, c.in-Some.attribute.now) c.in-Some.ensures lacks)
+
+pub loop-place-preserved : goal.loop-place-preserved
+loop-place-preserved c =
+    let l = c.loop-place in
+    let keywords = c.args.keywords.now in
+    let name = c.in-Some.name.now in
+    let met = ap (λ (b : Bool). not b || gives keywords name) c.if-not-attribute.false ∙ (sym c.in_ok-gives.ensures ∙ c.if-not-branch.false) in
+    l.invariant ∙ met_next keywords c.args.class.now l.place (name, c.in-Some.attribute.now) c.in-Some.ensures met

@@ -7,7 +7,7 @@ use Rattle.bq_package_typed_value.specs.Steps.{and_then}
 use Rattle.bq_package_attributes.specs.Declarations.{keywords_alone}
 use Rattle.bq_package_attributes.specs.Named.{pairs, are_new}
 use Rattle.bq_package_attributes.proofs.Few.{few_bound, positional_refused, double_refused}
-use Rattle.bq_package_attributes.proofs.named.few.Goals as goal
+use Rattle.bq_package_attributes.proofs.named.Keywords.of.Goals as goal
 
 pub returns-then-len-gt0 : goal.returns-then-len-gt0
 returns-then-len-gt0 c why e =
