@@ -1,20 +1,19 @@
 -- The tokens of a text are parts of it, and what they are read as is what the grammar has.
-use Rattle.std.proofs.Common.{◌≡◌, ℕ, ◌+◌, ◌<◌, ◌≤◌, List, [], ◌∷◌, length, drop, sym, ap, ◌∙◌, subst, arith, length-drop, All}
-use Rattle.std.specs.Prelude.{Option, Some, None, Result, Ok, Err}
+use Rattle.std.proofs.Common.{◌≡◌, ℕ, ◌+◌, ◌<◌, ◌≤◌, List, [], ◌∷◌, length, drop, refl, sym, ap, ◌∙◌, subst, arith, length-drop, All}
+use Rattle.std.specs.Prelude.{Option, Some, None}
 use Rattle.std.proofs.lemmas.List.Elements.{All-nil, All-cons}
 use Rattle.bq_query_lex.specs.declared.token.QueryTokenKind.{QueryTokenKind}
 use Rattle.bq_query_lex.specs.declared.token.QueryToken.{QueryToken}
 use Rattle.bq_query_lex.specs.Reading.{Reads, ended, blank, token, unknown, before, IsWithin}
 use Rattle.bq_query_lex.proofs.Within.{within}
 use Rattle.bq_query_lex.proofs.Unique.{unique}
-use Rattle.bq_query_tree.specs.Lexeme.{lexemes}
-use Rattle.bq_query_tree.specs.declared.refusal.QuerySyntaxErr.{QuerySyntaxErr}
+use Rattle.bq_query_tree.specs.Lexeme.{Lexeme, lexemes}
 use Rattle.bq_query_tree.specs.declared.tree.Query.{Query}
 use Rattle.bq_query_tree.specs.Turns as turns
 use Rattle.bq_query_tree.specs.Reading.{query_to}
 use Rattle.bq_query_tree.proofs.Queries.{sound, complete}
-use Rattle.bq_query_parse.specs.Tokens.{IsInText}
-use Rattle.bq_query_parse.specs.Parses.{IsQuery, Parses, Gives, whole, whole_query}
+use Rattle.bq_query_parse.specs.Tokens.{IsInText, kind_ahead}
+use Rattle.bq_query_parse.specs.Parses.{IsQuery, whole, whole_query}
 
 -- ---- tokens are parts of the text
 
@@ -73,10 +72,30 @@ none_read text ts h e x q = let f = found text ts x h q in cc
 pub none_cut : (text : List ℕ) → Reads text 0 None → (x : Query) → IsQuery text x → ⊥
 none_cut text h x q = let e = unique text 0 (Some q.cut) None q.reads h in cc
 
--- what the tokens of a text are read as is what the text has
-pub parses : (text : List ℕ) (ts : List QueryToken) (r : Result Query QuerySyntaxErr) → Reads text 0 (Some ts) → Gives (whole_query (lexemes text ts)) r → Parses text r
-parses text ts (Ok x) h g = read text ts x h g
-parses text ts (Err e) h g = λ n. none_read text ts h (g n)
+-- ---- what is read, and what is left
+
+at_end : (x : Query) (rest : List Lexeme) → kind_ahead rest ≡ None → whole (Some (x, rest)) ≡ Some x
+at_end x [] n = refl
+at_end x (t ∷ ts) n = absurd (cc)
+
+not_at_end : (x : Query) (rest : List Lexeme) (kind : QueryTokenKind) → kind_ahead rest ≡ Some kind → whole (Some (x, rest)) ≡ None
+not_at_end x [] kind k = absurd (cc)
+not_at_end x (t ∷ ts) kind k = refl
+
+module _ (text : List ℕ) (cut ts : List QueryToken) (h : Reads text 0 (Some cut)) (same : ts ≡ cut) (first : List Lexeme) (here : first ≡ lexemes text ts) where
+  read_as : (f : turns.Found Query) → query_to 65 first ≡ f → whole_query (lexemes text cut) ≡ whole f
+  read_as f e = ap (λ us. whole (query_to 65 us)) (sym (here ∙ ap (lexemes text) same)) ∙ ap whole e
+
+  -- nothing is left
+  pub all_read : (x : Query) (rest : List Lexeme) → query_to 65 first ≡ Some (x, rest) → kind_ahead rest ≡ None → IsQuery text x
+  all_read x rest e n = read text cut x h (read_as (Some (x, rest)) e ∙ at_end x rest n)
+
+  -- a token is left
+  pub not_all_read : (y : Query) (rest : List Lexeme) (kind : QueryTokenKind) → query_to 65 first ≡ Some (y, rest) → kind_ahead rest ≡ Some kind → (x : Query) → IsQuery text x → ⊥
+  not_all_read y rest kind e k = none_read text cut h (read_as (Some (y, rest)) e ∙ not_at_end y rest kind k)
+
+  pub nothing_read : query_to 65 first ≡ None → (x : Query) → IsQuery text x → ⊥
+  nothing_read e = none_read text cut h (read_as None e)
 
 -- ---- one tree
 

@@ -32,9 +32,5 @@ whole (Some (x, t ∷ ts)) = None
 abbrev pub whole_query : List Lexeme → Option Query
 whole_query ts = whole (query_to (max_open + 1) ts)
 
-abbrev pub Gives : Option Query → Result Query QuerySyntaxErr → Type 0
-Gives found (Ok x) = found ≡ Some x
-Gives found (Err e) = e ≢ Memory → found ≡ None
-
 abbrev pub OneTree : List ℕ → Type 0
 OneTree text = (x y : Query) → IsQuery text x → IsQuery text y → x ≡ y

@@ -38,19 +38,13 @@ fn words(alloc: Global, tokens: &mut QueryTokens<'_>) -> Result<Items<Bytes>, Qu
 }
 
 impl<F: Fn(Global, &mut QueryTokens<'_>, usize) -> Result<Query, QuerySyntaxErr>> QueryGrammar<F> {
-    fn nested(&self, tokens: &mut QueryTokens<'_>) -> Result<Query, QuerySyntaxErr>
-        requires { ReadsQuery self.now.depth (F.pre self.now.query) (F.post self.now.query) }
-        ensures { Reads (spec.query_to self.now.depth tokens.old) result tokens.new }
-    {
-        (self.query)(self.alloc, tokens, self.depth)
-    }
-
     /// Reads a query, in a box.
     fn boxed(&self, tokens: &mut QueryTokens<'_>) -> Result<Boxed<Query>, QuerySyntaxErr>
         requires { ReadsQuery self.now.depth (F.pre self.now.query) (F.post self.now.query) }
         ensures { Reads (spec.query_to self.now.depth tokens.old) result tokens.new }
     {
-        Ok(Boxed::new(self.alloc, self.nested(tokens)?)?)
+        let query = (self.query)(self.alloc, tokens, self.depth)?;
+        Ok(Boxed::new(self.alloc, query)?)
     }
 
     /// Arguments = [ Query { ',' Query } ] ')'
@@ -63,30 +57,16 @@ impl<F: Fn(Global, &mut QueryTokens<'_>, usize) -> Result<Query, QuerySyntaxErr>
         if tokens.eat(QueryTokenKind::Close) {
             return Ok(found);
         }
-        found.push(self.nested(tokens)?)?;
+        found.push((self.query)(self.alloc, tokens, self.depth)?)?;
         // Each turn takes a token.
         for _turn in 0..tokens.left() {
             if !tokens.eat(QueryTokenKind::Comma) {
                 break;
             }
-            found.push(self.nested(tokens)?)?;
+            found.push((self.query)(self.alloc, tokens, self.depth)?)?;
         }
         tokens.expect(QueryTokenKind::Close)?;
         Ok(found)
-    }
-
-    /// word | word '(' Arguments
-    #[tactic(auto, unfolding(bq_query_tree::specs::Reading::call))]
-    fn word_or_call(&self, tokens: &mut QueryTokens<'_>) -> Result<Query, QuerySyntaxErr>
-        requires { ReadsQuery self.now.depth (F.pre self.now.query) (F.post self.now.query) }
-        ensures { Reads (spec.word_or_call self.now.depth (spec.query_to self.now.depth) (spec.spelling_of tokens.old) (turns.next tokens.old)) result tokens.new }
-    {
-        let word = tokens.bare(self.alloc)?;
-        if !tokens.sees(QueryTokenKind::Open) {
-            return Ok(Query::Word(word));
-        }
-        tokens.opening(self.depth)?;
-        Ok(Query::Call(word, self.arguments(tokens)?))
     }
 
     /// '(' Query ')'
@@ -113,13 +93,22 @@ impl<F: Fn(Global, &mut QueryTokens<'_>, usize) -> Result<Query, QuerySyntaxErr>
     }
 
     /// Operand = Word | variable | '(' Query ')' | 'set' '(' { Word } ')' | word '(' Arguments
-    #[tactic(auto, unfolding(bq_query_tree::specs::Reading::operand))]
+    #[tactic(auto, unfolding(bq_query_tree::specs::Reading::operand, bq_query_tree::specs::Reading::call))]
     fn operand(&self, tokens: &mut QueryTokens<'_>) -> Result<Query, QuerySyntaxErr>
         requires { ReadsQuery self.now.depth (F.pre self.now.query) (F.post self.now.query) }
         ensures { Reads (spec.operand self.now.depth (spec.query_to self.now.depth) tokens.old) result tokens.new }
     {
         match tokens.peek() {
-            Some(QueryTokenKind::Word) => self.word_or_call(tokens),
+            Some(QueryTokenKind::Word) => {
+                let word = tokens.bare(self.alloc)?;
+                if !tokens.eat(QueryTokenKind::Open) {
+                    return Ok(Query::Word(word));
+                }
+                if self.depth == 0 {
+                    return Err(QuerySyntaxErr::Syntax);
+                }
+                Ok(Query::Call(word, self.arguments(tokens)?))
+            }
             Some(QueryTokenKind::Quoted) => Ok(Query::Word(tokens.quoted(self.alloc)?)),
             Some(QueryTokenKind::Variable) => Ok(Query::Variable(tokens.variable(self.alloc)?)),
             Some(QueryTokenKind::Open) => self.parenthesized(tokens),

@@ -1,17 +1,15 @@
 //! Whole texts.
 
-ghost use Rattle.std.specs.Prelude.{◌≡◌, ◌≢◌, All};
+ghost use Rattle.std.specs.Prelude.{◌≡◌, ◌≢◌};
 ghost use Rattle.bq_query_lex.specs.declared.query_error.QueryErr.TheVariants.{Syntax};
-ghost use Rattle.bq_query_tree.specs.Lexeme.{lexemes};
 ghost use Rattle.bq_query_tree.specs.declared.refusal.QuerySyntaxErr.TheVariants.{Memory};
 ghost use Rattle.bq_query_tree.specs.Turns.{Reads};
 ghost use Rattle.bq_query_tree.specs.Reading as spec;
-ghost use Rattle.bq_query_parse.specs.Tokens.{IsInText};
-ghost use Rattle.bq_query_parse.specs.Parses.{Parses, Gives, whole_query};
+ghost use Rattle.bq_query_parse.specs.Parses.{Parses};
 
 use crate::grammar::QueryGrammar;
 use crate::tokens::QueryTokens;
-use bq_query_lex::{QueryErr, QueryToken, lex_query};
+use bq_query_lex::{QueryErr, lex_query};
 use bq_query_tree::{Query, QuerySyntaxErr};
 use std::alloc::Global;
 
@@ -33,19 +31,6 @@ fn query(alloc: Global, tokens: &mut QueryTokens<'_>, depth: usize) -> Result<Qu
     .query_in(tokens)
 }
 
-/// Returns the tree of all these tokens.
-fn whole_query(alloc: Global, text: &[u8], tokens: &[QueryToken]) -> Result<Query, QuerySyntaxErr>
-    requires { All (IsInText text.now) tokens.now }
-    ensures { Gives (whole_query (lexemes text.now tokens.now)) result }
-{
-    let mut rest = QueryTokens::new(text, tokens);
-    let tree = query(alloc, &mut rest, MAX_OPEN + 1)?;
-    match rest.peek() {
-        Some(_) => Err(QuerySyntaxErr::Syntax),
-        None => Ok(tree),
-    }
-}
-
 /// Returns out of memory, or for a text that can't be cut that it is no query: the lexer refuses for nothing else.
 fn refused(error: QueryErr) -> QuerySyntaxErr
     ensures { result ≢ Memory → error ≡ Syntax }
@@ -60,8 +45,14 @@ fn refused(error: QueryErr) -> QuerySyntaxErr
 pub fn parse_tree(alloc: Global, text: &[u8]) -> Result<Query, QuerySyntaxErr>
     ensures { Parses text.now result }
 {
-    match lex_query(alloc, text) {
-        Ok(tokens) => whole_query(alloc, text, &tokens),
-        Err(error) => Err(refused(error)),
+    let tokens = match lex_query(alloc, text) {
+        Ok(tokens) => tokens,
+        Err(error) => return Err(refused(error)),
+    };
+    let mut rest = QueryTokens::new(text, &tokens);
+    let tree = query(alloc, &mut rest, MAX_OPEN + 1)?;
+    match rest.peek() {
+        Some(_) => Err(QuerySyntaxErr::Syntax),
+        None => Ok(tree),
     }
 }

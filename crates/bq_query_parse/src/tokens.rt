@@ -4,7 +4,6 @@ ghost use Rattle.std.specs.Prelude.{◌≡◌, All, length, IfOk};
 ghost use Rattle.bq_query_tree.specs.Lexeme as lexeme;
 ghost use Rattle.bq_query_tree.specs.Turns.{Reads};
 ghost use Rattle.bq_query_tree.specs.Turns as turns;
-ghost use Rattle.bq_query_tree.specs.Grammar as grammar;
 ghost use Rattle.bq_query_tree.specs.Reading as spec;
 ghost use Rattle.bq_query_parse.specs.Tokens as ahead;
 
@@ -21,17 +20,6 @@ fn is_word(kind: QueryTokenKind) -> bool
         QueryTokenKind::Word => true,
         QueryTokenKind::Quoted => true,
         _ => false,
-    }
-}
-
-fn operator(kind: QueryTokenKind) -> Option<SetOperator>
-    ensures { result ≡ grammar.operator kind }
-{
-    match kind {
-        QueryTokenKind::Union => Some(SetOperator::Union),
-        QueryTokenKind::Intersect => Some(SetOperator::Intersect),
-        QueryTokenKind::Except => Some(SetOperator::Except),
-        _ => None,
     }
 }
 
@@ -99,16 +87,6 @@ impl<'a> QueryTokens<'a> {
         }
     }
 
-    #[tactic(auto, unfolding(bq_query_tree::specs::Lexeme::same_kind))]
-    pub fn sees(&self, kind: QueryTokenKind) -> bool
-        ensures { result ≡ turns.sees kind self.now }
-    {
-        match self.rest.first() {
-            Some(token) => token.kind == kind,
-            None => false,
-        }
-    }
-
     /// Returns the bytes of the next token.
     fn spelling(&self) -> &'a [u8]
         ensures { result.now ≡ spec.spelling_of self.now }
@@ -137,15 +115,19 @@ impl<'a> QueryTokens<'a> {
             rest: self.rest,
         };
         next.advance();
-        next.sees(QueryTokenKind::Let)
+        next.eat(QueryTokenKind::Let)
     }
 
     /// Passes the next token if it is of this kind.
+    #[tactic(auto, unfolding(bq_query_tree::specs::Lexeme::same_kind))]
     pub fn eat(&mut self, kind: QueryTokenKind) -> bool
         ensures found { result ≡ turns.sees kind self.old }
         ensures after { self.new ≡ turns.after kind self.old }
     {
-        let found = self.sees(kind);
+        let found = match self.rest.first() {
+            Some(token) => token.kind == kind,
+            None => false,
+        };
         if found {
             self.advance();
         }
@@ -156,8 +138,7 @@ impl<'a> QueryTokens<'a> {
     pub fn expect(&mut self, kind: QueryTokenKind) -> Result<(), QuerySyntaxErr>
         ensures { Reads (turns.expect kind self.old) result self.new }
     {
-        if self.sees(kind) {
-            self.advance();
+        if self.eat(kind) {
             Ok(())
         } else {
             Err(QuerySyntaxErr::Syntax)
@@ -224,11 +205,13 @@ impl<'a> QueryTokens<'a> {
     }
 
     /// Reads the name of a variable, without quotes.
+    #[tactic(auto, unfolding(bq_query_tree::specs::Lexeme::same_kind))]
     pub fn name(&mut self, alloc: Global) -> Result<Bytes, QuerySyntaxErr>
         ensures { Reads (spec.a_name self.old) result self.new }
     {
-        if !self.sees(QueryTokenKind::Word) {
-            return Err(QuerySyntaxErr::Syntax);
+        match self.peek() {
+            Some(QueryTokenKind::Word) => {}
+            _ => return Err(QuerySyntaxErr::Syntax),
         }
         if !is_variable_name(self.spelling()) {
             return Err(QuerySyntaxErr::Syntax);
@@ -240,24 +223,24 @@ impl<'a> QueryTokens<'a> {
     pub fn sees_operator(&self) -> bool
         ensures { result ≡ spec.begins_operation self.now }
     {
-        match self.rest.first() {
-            Some(token) => operator(token.kind).is_some(),
-            None => false,
+        match self.peek() {
+            Some(QueryTokenKind::Union) => true,
+            Some(QueryTokenKind::Intersect) => true,
+            Some(QueryTokenKind::Except) => true,
+            _ => false,
         }
     }
 
     pub fn operator(&mut self) -> Result<SetOperator, QuerySyntaxErr>
         ensures { Reads (spec.an_operator self.old) result self.new }
     {
-        match self.rest.first() {
-            Some(token) => match operator(token.kind) {
-                Some(found) => {
-                    self.advance();
-                    Ok(found)
-                }
-                None => Err(QuerySyntaxErr::Syntax),
-            },
-            None => Err(QuerySyntaxErr::Syntax),
-        }
+        let found = match self.peek() {
+            Some(QueryTokenKind::Union) => SetOperator::Union,
+            Some(QueryTokenKind::Intersect) => SetOperator::Intersect,
+            Some(QueryTokenKind::Except) => SetOperator::Except,
+            _ => return Err(QuerySyntaxErr::Syntax),
+        };
+        self.advance();
+        Ok(found)
     }
 }
