@@ -158,21 +158,8 @@ impl<F: Fn(Global, &mut Tokens<'_>, usize) -> Result<Stmt, SyntaxErr>> BlockRule
         Ok(Stmt::For(variables, iterable, block))
     }
 
-    /// 'def' identifier '(' Parameters ':' Suite, after 'def'
-    #[tactic(auto, unfolding(bq_parse_grammar::specs::ReadingStatements::def_stmt))]
-    fn def_stmt(&self, tokens: &mut Tokens<'_>) -> Result<Stmt, SyntaxErr>
-        requires { ReadsStatement self.now.inside (F.pre self.now.statement) (F.post self.now.statement) }
-        ensures { Reads (spec.def_stmt self.now.depth (spec.statement self.now.inside) tokens.old) result tokens.new }
-    {
-        let name = tokens.word(self.alloc)?;
-        tokens.expect(TokenKind::LeftParen)?;
-        let signature = (name, parameters(self.alloc, tokens, self.depth)?);
-        let ((name, parameters), block) = self.beside(tokens, signature)?;
-        Ok(Stmt::Def(name, parameters, block))
-    }
-
-    /// Stmt = If | For | Def | Simple
-    #[tactic(auto, unfolding(bq_parse_grammar::specs::ReadingStatements::stmt, bq_parse_grammar::specs::ReadingStatements::simple_stmt))]
+    /// Stmt = If | For | 'def' identifier '(' Parameters ':' Suite | Simple
+    #[tactic(auto, unfolding(bq_parse_grammar::specs::ReadingStatements::stmt, bq_parse_grammar::specs::ReadingStatements::def_stmt, bq_parse_grammar::specs::ReadingStatements::simple_stmt))]
     pub fn stmt(&self, tokens: &mut Tokens<'_>) -> Result<Stmt, SyntaxErr>
         requires { ReadsStatement self.now.inside (F.pre self.now.statement) (F.post self.now.statement) }
         ensures { Reads (spec.stmt self.now.depth (spec.statement self.now.inside) tokens.old) result tokens.new }
@@ -188,7 +175,11 @@ impl<F: Fn(Global, &mut Tokens<'_>, usize) -> Result<Stmt, SyntaxErr>> BlockRule
             }
             Some(TokenKind::Def) => {
                 tokens.advance();
-                self.def_stmt(tokens)
+                let name = tokens.word(self.alloc)?;
+                tokens.expect(TokenKind::LeftParen)?;
+                let signature = (name, parameters(self.alloc, tokens, self.depth)?);
+                let ((name, parameters), block) = self.beside(tokens, signature)?;
+                Ok(Stmt::Def(name, parameters, block))
             }
             Some(_) => Ok(Stmt::Simple(simple(self.alloc, tokens, self.depth)?)),
             None => Err(SyntaxErr::Syntax),

@@ -1,10 +1,7 @@
 //! Loads: what a file takes from another one.
 
-ghost use Rattle.std.specs.Prelude.{[]};
 ghost use Rattle.bq_parse_grammar.specs.Turns.{Reads};
-ghost use Rattle.bq_parse_grammar.specs.Turns as turns;
 ghost use Rattle.bq_parse_grammar.specs.ReadingStatements as spec;
-ghost use Rattle.bq_source.specs.declared.token.TokenKind.TheVariants as kind;
 
 use bq_base::Bytes;
 use bq_parse_cursor::Tokens;
@@ -58,37 +55,28 @@ fn load_clause(alloc: Global, tokens: &mut Tokens<'_>) -> Result<LoadClause, Syn
     })
 }
 
-/// [ LoadClause { ',' LoadClause } [','] ] ')'
-#[tactic(auto, using(crate::proofs::LoopTurns::turns_more, crate::proofs::LoopTurns::turns_over), unfolding(bq_parse_grammar::specs::Turns::listed_from))]
-fn load_clauses(alloc: Global, tokens: &mut Tokens<'_>) -> Result<Items<LoadClause>, SyntaxErr>
-    ensures { Reads (turns.listed_from kind.RightParen spec.load_clause [] tokens.old) result tokens.new }
-{
-    let mut found = Items::new(alloc);
-    // Each turn takes a token.
-    for _turn in 0..tokens.left() {
-        if tokens.eat(TokenKind::RightParen) {
-            return Ok(found);
-        }
-        found.push(load_clause(alloc, tokens)?)?;
-        if !tokens.eat(TokenKind::Comma) {
-            return closed(tokens, TokenKind::RightParen, found);
-        }
-    }
-    Err(SyntaxErr::Syntax)
-}
-
 /// Load = 'load' '(' string { ',' LoadClause } [','] ')', after 'load'
-#[tactic(auto, unfolding(bq_parse_grammar::specs::ReadingStatements::load))]
+#[tactic(auto, using(crate::proofs::LoopTurns::turns_more, crate::proofs::LoopTurns::turns_over), unfolding(bq_parse_grammar::specs::ReadingStatements::load, bq_parse_grammar::specs::Turns::listed_from))]
 pub fn load(alloc: Global, tokens: &mut Tokens<'_>) -> Result<SmallKind, SyntaxErr>
     ensures { Reads (spec.load tokens.old) result tokens.new }
 {
     tokens.expect(TokenKind::LeftParen)?;
     let label = text(alloc, tokens)?;
-    if tokens.eat(TokenKind::Comma) {
-        let clauses = load_clauses(alloc, tokens)?;
-        return Ok(SmallKind::Load(Load { label, clauses }));
+    let mut clauses = Items::new(alloc);
+    if !tokens.eat(TokenKind::Comma) {
+        let load = SmallKind::Load(Load { label, clauses });
+        return closed(tokens, TokenKind::RightParen, load);
     }
-    let clauses = Items::new(alloc);
-    let load = SmallKind::Load(Load { label, clauses });
-    closed(tokens, TokenKind::RightParen, load)
+    // Each turn takes a token.
+    for _turn in 0..tokens.left() {
+        if tokens.eat(TokenKind::RightParen) {
+            return Ok(SmallKind::Load(Load { label, clauses }));
+        }
+        clauses.push(load_clause(alloc, tokens)?)?;
+        if !tokens.eat(TokenKind::Comma) {
+            let load = SmallKind::Load(Load { label, clauses });
+            return closed(tokens, TokenKind::RightParen, load);
+        }
+    }
+    Err(SyntaxErr::Syntax)
 }

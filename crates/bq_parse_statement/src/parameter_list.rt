@@ -52,25 +52,6 @@ fn parameters_after(allowed: AllowedParameters, kind: ParameterKind) -> Option<A
     }
 }
 
-/// Returns which parameter comes next, by its first tokens.
-fn parameter_kind(tokens: &Tokens<'_>) -> ParameterKind
-    ensures { result ≡ spec.parameter_kind tokens.now }
-{
-    if tokens.sees(TokenKind::StarStar) {
-        ParameterKind::StarStar
-    } else if tokens.sees(TokenKind::Star) {
-        if tokens.following().sees(TokenKind::Identifier) {
-            ParameterKind::Star
-        } else {
-            ParameterKind::BareStar
-        }
-    } else if tokens.sees_named() {
-        ParameterKind::Default
-    } else {
-        ParameterKind::Plain
-    }
-}
-
 /// Parameter = identifier | identifier '=' Test | '*' [identifier] | '**' identifier
 ///
 /// Where it is allowed; what may still come after it is returned too.
@@ -83,7 +64,19 @@ fn parameter(
 ) -> Result<(Parameter, AllowedParameters), SyntaxErr>
     ensures { Reads (spec.parameter depth allowed tokens.old) result tokens.new }
 {
-    let kind = parameter_kind(tokens);
+    let kind = if tokens.sees(TokenKind::StarStar) {
+        ParameterKind::StarStar
+    } else if tokens.sees(TokenKind::Star) {
+        if tokens.following().sees(TokenKind::Identifier) {
+            ParameterKind::Star
+        } else {
+            ParameterKind::BareStar
+        }
+    } else if tokens.sees_named() {
+        ParameterKind::Default
+    } else {
+        ParameterKind::Plain
+    };
     let Some(after) = parameters_after(allowed, kind) else {
         return Err(SyntaxErr::Syntax);
     };
