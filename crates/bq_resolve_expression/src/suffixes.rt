@@ -7,7 +7,6 @@ ghost use Rattle.bq_resolve_scope.specs.Visit as visit;
 ghost use Rattle.bq_resolve_scope.specs.Expressions as spec;
 ghost use Rattle.bq_resolve_expression.specs.Walks.{Walks, WalksNested};
 
-use crate::room::with_room;
 use crate::rules::Rules;
 use crate::scope::Scope;
 use crate::walk::Walk;
@@ -50,7 +49,7 @@ impl<'a, F: Copy + Fn(&Scope<'_>, usize, &mut Walk, &Expr) -> Result<Code, Sourc
         requires { WalksNested self.now.depth (F.pre self.now.visit) (F.post self.now.visit) }
         ensures { Walks (spec.arguments self.now.scope.file.now (spec.expr_to self.now.depth self.now.scope.file.now) self.now.scope.blocks.now arguments.now walk.old) result walk.new }
     {
-        let mut done = with_room(self.scope.alloc, arguments.len())?;
+        let mut done = Items::from_vec(Vec::with_capacity(self.scope.alloc, arguments.len())?);
         for argument in arguments {
             done.push(self.argument(walk, argument)?)?;
         }
