@@ -11,7 +11,7 @@ use crate::scope::Scope;
 use crate::walk::Walk;
 use bq_base::{Fault, FaultKind, SourceErr};
 use bq_parse_grammar::{Choice, Comparison, Expr, Operation, UnaryOperator};
-use bq_resolve_scope::Code;
+use bq_resolve_scope::{Code, CodeOperation};
 use sqlite_items::Items;
 
 impl<'a, F: Copy + Fn(&Scope<'_>, usize, &mut Walk, &Expr) -> Result<Code, SourceErr>> Rules<
@@ -33,6 +33,7 @@ impl<'a, F: Copy + Fn(&Scope<'_>, usize, &mut Walk, &Expr) -> Result<Code, Sourc
     }
 
     /// Resolves an operand, and the operations on it.
+    #[tactic(auto, unfolding(bq_resolve_scope::specs::Visit::each, bq_resolve_scope::specs::Expressions::operation))]
     fn binary(
         &self,
         walk: &mut Walk,
@@ -43,7 +44,15 @@ impl<'a, F: Copy + Fn(&Scope<'_>, usize, &mut Walk, &Expr) -> Result<Code, Sourc
         ensures { Walks (spec.expr_by self.now.scope.file.now (spec.expr_to self.now.depth self.now.scope.file.now) self.now.scope.blocks.now (Expr-F.Binary first.now operations.now) walk.old) result walk.new }
     {
         let first = self.boxed(walk, first)?;
-        Ok(Code::Binary(first, self.operations(walk, operations)?))
+        let mut done = Items::from_vec(Vec::with_capacity(self.scope.alloc, operations.len())?);
+        for operation in operations {
+            let operand = self.expr(walk, &operation.operand)?;
+            done.push(CodeOperation {
+                operator: operation.operator,
+                operand,
+            })?;
+        }
+        Ok(Code::Binary(first, done))
     }
 
     fn compare(

@@ -10,7 +10,7 @@ ghost use Rattle.bq_resolve_expression.specs.Walks.{Walks};
 use crate::scope::Scope;
 use crate::walk::Walk;
 use bq_base::{Fault, FaultKind, SourceErr};
-use bq_parse_grammar::Identifier;
+use bq_parse_grammar::{FileKind, Identifier};
 use bq_resolve_scope::{Binding, CodeTarget};
 use std::alloc::AllocError;
 
@@ -47,10 +47,14 @@ pub fn name_target(
     ensures { Walks (spec.name_target scope.now.file.now scope.now.blocks.now name.now walk.old) result walk.new }
 {
     if scope.blocks.is_empty() {
-        if walk.is_rebound(scope.file.kind(), &name.name) {
+        let is_rebound = match scope.file.kind() {
+            FileKind::Build => false,
+            FileKind::Bzl => walk.bound.has(&name.name) || walk.loaded.has(&name.name),
+        };
+        if is_rebound {
             return Err(SourceErr::Bad(fault_of(FaultKind::Rebound, name)?));
         }
-        walk.bind(&name.name)?;
+        walk.bound.add(&name.name)?;
     }
     match scope.file.use_of(scope.blocks, &name.name) {
         Some(Binding::Local(slot)) => Ok(CodeTarget::Local(slot)),

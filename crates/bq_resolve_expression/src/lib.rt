@@ -16,7 +16,6 @@
 //! - `scope`: where names are looked up;
 //! - `walk`: what is carried along a file;
 //! - `identifier`: uses of names, and names that are bound;
-//! - `room`: lists whose length is known;
 //! - `rules`: the resolver of what stands inside, and lists of it;
 //! - `suffixes`, `primary`, `targets`, `comprehensions`: the rules;
 //! - `expressions`: all forms of expressions.
@@ -26,7 +25,6 @@ mod comprehensions;
 mod expressions;
 mod identifier;
 mod primary;
-mod room;
 mod rules;
 mod scope;
 mod suffixes;

@@ -1,21 +1,18 @@
 //! An operand with what is done to it, among them `native.NAME(..)` and `attr.NAME(..)`.
 
-ghost use Rattle.std.specs.Prelude.{◌≡◌, [], ◌∷◌, IfOk};
+ghost use Rattle.std.specs.Prelude.{◌≡◌};
 ghost use Rattle.bq_parse_grammar.specs.declared.tree.Expr.{out-Expr};
-ghost use Rattle.bq_resolve_scope.specs.declared.code.CodeSuffix.TheVariants as suffix;
 ghost use Rattle.bq_resolve_scope.specs.Expressions as spec;
 ghost use Rattle.bq_resolve_expression.specs.Walks.{Walks, WalksNested};
 
 use crate::identifier::fault_of;
-use crate::room::with_room;
 use crate::rules::Rules;
 use crate::scope::Scope;
 use crate::walk::Walk;
 use bq_base::{FaultKind, SourceErr};
-use bq_parse_grammar::{Argument, Expr, FileKind, Identifier, Suffix};
-use bq_resolve_scope::{Code, CodeArgument, CodeSuffix, Namespace};
+use bq_parse_grammar::{Expr, FileKind, Suffix};
+use bq_resolve_scope::{Code, CodeSuffix, Namespace};
 use sqlite_items::{Boxed, Items};
-use std::alloc::{AllocError, Global};
 
 /// Returns the namespace that the operand is, in a .bzl file that binds no such name.
 fn namespace_at(scope: &Scope<'_>, operand: &Expr) -> Option<Namespace>
@@ -39,47 +36,13 @@ fn namespace_at(scope: &Scope<'_>, operand: &Expr) -> Option<Namespace>
     }
 }
 
-/// Returns a call, as the first of suffixes.
-fn called(alloc: Global, arguments: Items<CodeArgument>) -> Result<Items<CodeSuffix>, AllocError>
-    ensures { IfOk result (λ ss. ss ≡ suffix.Call arguments ∷ []) }
-{
-    let mut done = Items::new(alloc);
-    done.push(CodeSuffix::Call(arguments))?;
-    Ok(done)
-}
-
 impl<'a, F: Copy + Fn(&Scope<'_>, usize, &mut Walk, &Expr) -> Result<Code, SourceErr>> Rules<
     'a,
     F,
 > {
-    /// Resolves `native.name(arguments)` or `attr.name(arguments)`, and what is done to its result.
-    #[tactic(auto, unfolding(bq_resolve_scope::specs::Expressions::call_member))]
-    fn call_member(
-        &self,
-        walk: &mut Walk,
-        space: Namespace,
-        name: &Identifier,
-        arguments: &[Argument],
-        suffixes: &[Suffix],
-    ) -> Result<Code, SourceErr>
-        requires { WalksNested self.now.depth (F.pre self.now.visit) (F.post self.now.visit) }
-        ensures { Walks (spec.call_member self.now.scope.file.now (spec.expr_to self.now.depth self.now.scope.file.now) self.now.scope.blocks.now space name.now arguments.now suffixes.now walk.old) result walk.new }
-    {
-        let Some(member) = self.scope.file.member(space, &name.name) else {
-            return Err(SourceErr::Bad(fault_of(FaultKind::UnknownName, name)?));
-        };
-        let arguments = self.arguments(walk, arguments)?;
-        let done = called(self.scope.alloc, arguments)?;
-        let suffixes = self.suffixes(walk, done, suffixes)?;
-        Ok(Code::Primary(
-            Boxed::new(self.scope.alloc, Code::Member(member))?,
-            suffixes,
-        ))
-    }
-
     /// Resolves an operand, and what is done to it: `native.name(..)` is the build function or rule `name`, `attr.name(..)` the function
     /// that makes an attribute, else F20 at `name`.
-    #[tactic(auto, unfolding(bq_resolve_scope::specs::Expressions::primary, bq_resolve_scope::specs::Expressions::operand))]
+    #[tactic(auto, unfolding(bq_resolve_scope::specs::Expressions::primary, bq_resolve_scope::specs::Expressions::operand, bq_resolve_scope::specs::Expressions::call_member))]
     pub fn primary(
         &self,
         walk: &mut Walk,
@@ -91,11 +54,19 @@ impl<'a, F: Copy + Fn(&Scope<'_>, usize, &mut Walk, &Expr) -> Result<Code, Sourc
     {
         if let Some(space) = namespace_at(&self.scope, operand) {
             if let [Suffix::Method(name, arguments), rest @ ..] = suffixes {
-                return self.call_member(walk, space, name, arguments.as_slice(), rest);
+                let Some(member) = self.scope.file.member(space, &name.name) else {
+                    return Err(SourceErr::Bad(fault_of(FaultKind::UnknownName, name)?));
+                };
+                let arguments = self.arguments(walk, arguments.as_slice())?;
+                let mut done = Items::new(self.scope.alloc);
+                done.push(CodeSuffix::Call(arguments))?;
+                let suffixes = self.suffixes(walk, done, rest)?;
+                let member = Boxed::new(self.scope.alloc, Code::Member(member))?;
+                return Ok(Code::Primary(member, suffixes));
             }
         }
         let operand = self.boxed(walk, operand)?;
-        let done = with_room(self.scope.alloc, suffixes.len())?;
+        let done = Items::from_vec(Vec::with_capacity(self.scope.alloc, suffixes.len())?);
         Ok(Code::Primary(operand, self.suffixes(walk, done, suffixes)?))
     }
 }

@@ -5,12 +5,11 @@ ghost use Rattle.bq_resolve_scope.specs.Visit as visit;
 ghost use Rattle.bq_resolve_scope.specs.Expressions as spec;
 ghost use Rattle.bq_resolve_expression.specs.Walks.{Walks, WalksNested};
 
-use crate::room::with_room;
 use crate::scope::Scope;
 use crate::walk::Walk;
 use bq_base::SourceErr;
-use bq_parse_grammar::{Choice, Expr, Operation, Pair};
-use bq_resolve_scope::{Code, CodeChoice, CodeOperation, CodePair};
+use bq_parse_grammar::{Choice, Expr, Pair};
+use bq_resolve_scope::{Code, CodeChoice, CodePair};
 use sqlite_items::{Boxed, Items};
 
 #[derive(Clone, Copy)]
@@ -48,7 +47,7 @@ impl<'a, F: Copy + Fn(&Scope<'_>, usize, &mut Walk, &Expr) -> Result<Code, Sourc
         requires { WalksNested self.now.depth (F.pre self.now.visit) (F.post self.now.visit) }
         ensures { Walks (visit.each (spec.expr_to self.now.depth self.now.scope.file.now self.now.scope.blocks.now) [] exprs.now walk.old) result walk.new }
     {
-        let mut done = with_room(self.scope.alloc, exprs.len())?;
+        let mut done = Items::from_vec(Vec::with_capacity(self.scope.alloc, exprs.len())?);
         for expr in exprs {
             done.push(self.expr(walk, expr)?)?;
         }
@@ -69,33 +68,12 @@ impl<'a, F: Copy + Fn(&Scope<'_>, usize, &mut Walk, &Expr) -> Result<Code, Sourc
         })
     }
 
-    /// Resolves the further operands of a chain.
-    #[tactic(auto, unfolding(bq_resolve_scope::specs::Visit::each, bq_resolve_scope::specs::Expressions::operation))]
-    pub fn operations(
-        &self,
-        walk: &mut Walk,
-        operations: &[Operation],
-    ) -> Result<Items<CodeOperation>, SourceErr>
-        requires { WalksNested self.now.depth (F.pre self.now.visit) (F.post self.now.visit) }
-        ensures { Walks (visit.each (spec.operation self.now.scope.file.now (spec.expr_to self.now.depth self.now.scope.file.now) self.now.scope.blocks.now) [] operations.now walk.old) result walk.new }
-    {
-        let mut done = with_room(self.scope.alloc, operations.len())?;
-        for operation in operations {
-            let operand = self.expr(walk, &operation.operand)?;
-            done.push(CodeOperation {
-                operator: operation.operator,
-                operand,
-            })?;
-        }
-        Ok(done)
-    }
-
     #[tactic(auto, unfolding(bq_resolve_scope::specs::Visit::each))]
     pub fn pairs(&self, walk: &mut Walk, pairs: &[Pair]) -> Result<Items<CodePair>, SourceErr>
         requires { WalksNested self.now.depth (F.pre self.now.visit) (F.post self.now.visit) }
         ensures { Walks (visit.each (spec.pair self.now.scope.file.now (spec.expr_to self.now.depth self.now.scope.file.now) self.now.scope.blocks.now) [] pairs.now walk.old) result walk.new }
     {
-        let mut done = with_room(self.scope.alloc, pairs.len())?;
+        let mut done = Items::from_vec(Vec::with_capacity(self.scope.alloc, pairs.len())?);
         for pair in pairs {
             done.push(self.pair(walk, pair)?)?;
         }
@@ -125,7 +103,7 @@ impl<'a, F: Copy + Fn(&Scope<'_>, usize, &mut Walk, &Expr) -> Result<Code, Sourc
         requires { WalksNested self.now.depth (F.pre self.now.visit) (F.post self.now.visit) }
         ensures { Walks (visit.each (spec.choice self.now.scope.file.now (spec.expr_to self.now.depth self.now.scope.file.now) self.now.scope.blocks.now) [] choices.now walk.old) result walk.new }
     {
-        let mut done = with_room(self.scope.alloc, choices.len())?;
+        let mut done = Items::from_vec(Vec::with_capacity(self.scope.alloc, choices.len())?);
         for choice in choices {
             done.push(self.choice(walk, choice)?)?;
         }

@@ -1,17 +1,16 @@
 //! Operands, and what is done to them.
 
 ghost use Rattle.bq_parse_grammar.specs.declared.tree.Argument.{out-Argument};
-ghost use Rattle.bq_parse_grammar.specs.declared.tree.Argument.TheOpen.{Argument-F, Suffix-F};
+ghost use Rattle.bq_parse_grammar.specs.declared.tree.Argument.TheOpen.{Suffix-F};
 ghost use Rattle.bq_parse_grammar.specs.declared.tree.Suffix.{out-Suffix};
 ghost use Rattle.bq_resolve_scope.specs.Visit as visit;
 ghost use Rattle.bq_resolve_scope.specs.Expressions as spec;
 ghost use Rattle.bq_resolve_expression.specs.Walks.{Walks, WalksNested};
 
-use crate::room::with_room;
 use crate::rules::Rules;
 use crate::scope::Scope;
 use crate::walk::Walk;
-use bq_base::{Bytes, SourceErr};
+use bq_base::SourceErr;
 use bq_parse_grammar::{Argument, Expr, Identifier, Suffix};
 use bq_resolve_scope::{Code, CodeArgument, CodeSuffix};
 use sqlite_items::{Boxed, Items};
@@ -20,22 +19,16 @@ impl<'a, F: Copy + Fn(&Scope<'_>, usize, &mut Walk, &Expr) -> Result<Code, Sourc
     'a,
     F,
 > {
-    /// `name = value`
-    fn named(&self, walk: &mut Walk, name: &Bytes, value: &Expr) -> Result<CodeArgument, SourceErr>
-        requires { WalksNested self.now.depth (F.pre self.now.visit) (F.post self.now.visit) }
-        ensures { Walks (spec.argument_by self.now.scope.file.now (spec.expr_to self.now.depth self.now.scope.file.now) self.now.scope.blocks.now (Argument-F.Named name.now value.now) walk.old) result walk.new }
-    {
-        let name = name.share()?;
-        Ok(CodeArgument::Named(name, self.expr(walk, value)?))
-    }
-
     fn argument(&self, walk: &mut Walk, argument: &Argument) -> Result<CodeArgument, SourceErr>
         requires { WalksNested self.now.depth (F.pre self.now.visit) (F.post self.now.visit) }
         ensures { Walks (spec.argument_by self.now.scope.file.now (spec.expr_to self.now.depth self.now.scope.file.now) self.now.scope.blocks.now (out-Argument argument.now) walk.old) result walk.new }
     {
         match argument {
             Argument::Positional(value) => { self.expr(walk, value).map(CodeArgument::Positional) }
-            Argument::Named(name, value) => self.named(walk, name, value),
+            Argument::Named(name, value) => {
+                let name = name.share()?;
+                Ok(CodeArgument::Named(name, self.expr(walk, value)?))
+            }
             Argument::Star(value) => self.expr(walk, value).map(CodeArgument::Star),
             Argument::StarStar(value) => { self.expr(walk, value).map(CodeArgument::StarStar) }
         }
@@ -50,7 +43,7 @@ impl<'a, F: Copy + Fn(&Scope<'_>, usize, &mut Walk, &Expr) -> Result<Code, Sourc
         requires { WalksNested self.now.depth (F.pre self.now.visit) (F.post self.now.visit) }
         ensures { Walks (spec.arguments self.now.scope.file.now (spec.expr_to self.now.depth self.now.scope.file.now) self.now.scope.blocks.now arguments.now walk.old) result walk.new }
     {
-        let mut done = with_room(self.scope.alloc, arguments.len())?;
+        let mut done = Items::from_vec(Vec::with_capacity(self.scope.alloc, arguments.len())?);
         for argument in arguments {
             done.push(self.argument(walk, argument)?)?;
         }

@@ -1,6 +1,6 @@
 //! What is carried along a file.
 
-ghost use Rattle.std.specs.Prelude.{◌≡◌, ◌+◌, ◌++◌, [], ◌∷◌, ◌&&◌, ◌||◌, length, IfOk, OnOk};
+ghost use Rattle.std.specs.Prelude.{◌≡◌, ◌+◌, ◌++◌, [], ◌∷◌, ◌&&◌, length, IfOk, OnOk};
 ghost use Rattle.bq_resolve_scope.specs.Names.{has, with_name};
 ghost use Rattle.bq_resolve_scope.specs.Visit.{nothing_passed};
 ghost use Rattle.bq_resolve_scope.specs.Expressions.{is_bzl};
@@ -17,8 +17,8 @@ use std::marker::Model;
 pub struct Walk {
     /// How many slots the frame has.
     slots: usize,
-    bound: Names,
-    loaded: Names,
+    pub(crate) bound: Names,
+    pub(crate) loaded: Names,
     functions: Items<CodeFunction>,
     loads: Items<LoadStmt>,
 }
@@ -72,23 +72,6 @@ impl Walk {
         let had = self.slots;
         self.slots = slots;
         had
-    }
-
-    /// Returns whether the name is bound or loaded already, in a .bzl file.
-    pub fn is_rebound(&self, kind: FileKind, name: &Bytes) -> bool
-        ensures { result ≡ (is_bzl kind && (has self.now.bound name.now || has self.now.loaded name.now)) }
-    {
-        match kind {
-            FileKind::Build => false,
-            FileKind::Bzl => self.bound.has(name) || self.loaded.has(name),
-        }
-    }
-
-    /// Adds a name that the file binds.
-    pub fn bind(&mut self, name: &Bytes) -> Result<(), AllocError>
-        ensures { OnOk result (self.new ≡ record self.old { bound = with_name self.old.bound name.now }) }
-    {
-        self.bound.add(name)
     }
 
     /// Returns whether an earlier load clause has the name.

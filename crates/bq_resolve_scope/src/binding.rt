@@ -4,9 +4,7 @@ ghost use Rattle.std.specs.Prelude.{◌≡◌, [], IfOk, OnOk};
 ghost use Rattle.bq_resolve_scope.specs.Names as spec;
 
 use crate::names::Names;
-use bq_parse_grammar::{
-    Branch, Clause, LoadClause, Parameter, SmallKind, SmallStmt, Stmt, TargetExpr, TopLevel,
-};
+use bq_parse_grammar::{Branch, Clause, Parameter, SmallKind, Stmt, TargetExpr, TopLevel};
 use std::alloc::{AllocError, Global};
 
 /// How many layers of a tree are looked at; a tree that is parsed has fewer.
@@ -63,21 +61,6 @@ pub fn comprehension_names(alloc: Global, clauses: &[Clause]) -> Result<Names, A
     Ok(names)
 }
 
-/// Adds what the small statements of a line bind.
-#[tactic(auto, unfolding(crate::specs::Names::with_small))]
-fn add_line(names: &mut Names, statements: &[SmallStmt]) -> Result<(), AllocError>
-    ensures { OnOk result (names.new ≡ spec.with_each spec.with_small names.old statements.now) }
-{
-    for statement in statements {
-        match &statement.kind {
-            SmallKind::Assign(target, _) => add_target(names, target)?,
-            SmallKind::Augment(target, _, _) => add_target(names, target)?,
-            _ => {}
-        }
-    }
-    Ok(())
-}
-
 #[cycle(statements)]
 fn add_block_to(names: &mut Names, depth: usize, block: &[Stmt]) -> Result<(), AllocError>
     ensures { OnOk result (names.new ≡ spec.with_each (spec.with_stmt_to depth) names.old block.now) }
@@ -114,7 +97,7 @@ fn add_if_to(
 
 /// Adds what a statement that is at most `depth` layers deep binds in its block.
 #[cycle(statements)]
-#[tactic(auto, using(crate::proofs::Layers::stmt_layer), unfolding(crate::specs::Names::with_stmt_to))]
+#[tactic(auto, using(crate::proofs::Layers::stmt_layer), unfolding(crate::specs::Names::with_stmt_to, crate::specs::Names::with_small))]
 fn add_stmt_to(names: &mut Names, depth: usize, statement: &Stmt) -> Result<(), AllocError>
     ensures { OnOk result (names.new ≡ spec.with_stmt_to depth names.old statement.now) }
 {
@@ -122,7 +105,16 @@ fn add_stmt_to(names: &mut Names, depth: usize, statement: &Stmt) -> Result<(), 
         return Ok(());
     }
     match statement {
-        Stmt::Simple(line) => add_line(names, line.as_slice()),
+        Stmt::Simple(line) => {
+            for small in line.as_slice() {
+                match &small.kind {
+                    SmallKind::Assign(target, _) => add_target(names, target)?,
+                    SmallKind::Augment(target, _, _) => add_target(names, target)?,
+                    _ => {}
+                }
+            }
+            Ok(())
+        }
         Stmt::If(branches, otherwise) => {
             add_if_to(names, depth - 1, branches.as_slice(), otherwise.as_slice())
         }
@@ -171,39 +163,23 @@ pub fn global_names(alloc: Global, file: &[TopLevel]) -> Result<Names, AllocErro
     Ok(names)
 }
 
-fn add_load_clauses(names: &mut Names, clauses: &[LoadClause]) -> Result<(), AllocError>
-    ensures { OnOk result (names.new ≡ spec.with_each spec.with_load_clause names.old clauses.now) }
-{
-    for clause in clauses {
-        names.add(&clause.local.name)?;
-    }
-    Ok(())
-}
-
-/// Adds what the small statements of a line load.
-#[tactic(auto, unfolding(crate::specs::Names::with_load))]
-fn add_line_loads(names: &mut Names, statements: &[SmallStmt]) -> Result<(), AllocError>
-    ensures { OnOk result (names.new ≡ spec.with_each spec.with_load names.old statements.now) }
-{
-    for statement in statements {
-        match &statement.kind {
-            SmallKind::Load(load) => add_load_clauses(names, load.clauses.as_slice())?,
-            _ => {}
-        }
-    }
-    Ok(())
-}
-
 /// Returns what a file's loads bind.
-#[tactic(auto, unfolding(crate::specs::Names::loaded_names, crate::specs::Names::with_loads))]
+#[tactic(auto, unfolding(crate::specs::Names::loaded_names, crate::specs::Names::with_loads, crate::specs::Names::with_load))]
 pub fn loaded_names(alloc: Global, file: &[TopLevel]) -> Result<Names, AllocError>
     ensures { IfOk result (λ names. names ≡ spec.loaded_names file.now) }
 {
     let mut names = Names::new(alloc);
     for top_level in file {
-        match &top_level.statement {
-            Stmt::Simple(line) => add_line_loads(&mut names, line.as_slice())?,
-            _ => {}
+        let Stmt::Simple(line) = &top_level.statement else {
+            continue;
+        };
+        for statement in line.as_slice() {
+            let SmallKind::Load(load) = &statement.kind else {
+                continue;
+            };
+            for clause in load.clauses.as_slice() {
+                names.add(&clause.local.name)?;
+            }
         }
     }
     Ok(names)

@@ -1,11 +1,12 @@
-use Rattle.std.proofs.Common.{refl}
+use Rattle.std.proofs.Common.{◌≡◌, ◌∙◌, refl, ap, arith}
+use Rattle.std.proofs.lemmas.Grind.{common_steps}
 use Rattle.bq_parse_grammar.specs.declared.tree.Argument.{out-Argument}
 use Rattle.bq_parse_grammar.specs.declared.tree.Argument.TheOpen.{Argument-F}
 use Rattle.bq_parse_grammar.specs.declared.tree.Argument.TheVariants as form
 use Rattle.bq_parse_grammar.specs.declared.tree.Argument.TheVariants.{outs-Positional, outs-Named, outs-Star, outs-StarStar}
 use Rattle.bq_resolve_scope.specs.declared.code.CodeArgument.TheVariants as argument
 use Rattle.bq_resolve_scope.specs.Expressions.{argument_by, expr_to}
-use Rattle.bq_resolve_expression.proofs.Forms.{of_one, of_two}
+use Rattle.bq_resolve_expression.proofs.Forms.{of_one}
 use Rattle.bq_resolve_expression.proofs.Walked.{mapped}
 use Rattle.bq_resolve_expression.proofs.rules.Rules.argument.Goals as goal
 
@@ -16,11 +17,17 @@ returns-in-Positional g c =
     form.Positional Argument-F.Positional outs-Positional q.value q.value q.is refl
     (mapped argument.Positional (expr_to c.args.self.now.depth c.args.self.now.scope.file.now c.args.self.now.scope.blocks.now q.value c.args.walk.now) c.expr.new.walk c.expr.result c.map.result c.expr.ensures c.map.ensures.cases)
 
-pub returns-in-Named : goal.returns-in-Named
-returns-in-Named g c =
+pub returns-in_ok-expr-in-Named : goal.returns-in_ok-expr-in-Named
+returns-in_ok-expr-in-Named g c =
     let q = c.in-Named in
-    of_two out-Argument (argument_by c.args.self.now.scope.file.now (expr_to c.args.self.now.depth c.args.self.now.scope.file.now) c.args.self.now.scope.blocks.now) c.args.argument.now c.args.walk.now c.named.new.walk c.named.result
-    form.Named Argument-F.Named outs-Named q.name q.name q.value q.value q.is refl refl c.named.ensures
+    let named : out-Argument c.args.argument.now ≡ Argument-F.Named q.name q.value = ap out-Argument q.is ∙ outs-Named q.name q.value in
+    grind (arith, common_steps, named)
+
+pub returns-in_err-expr-in-Named : goal.returns-in_err-expr-in-Named
+returns-in_err-expr-in-Named g c =
+    let q = c.in-Named in
+    let named : out-Argument c.args.argument.now ≡ Argument-F.Named q.name q.value = ap out-Argument q.is ∙ outs-Named q.name q.value in
+    grind (arith, common_steps, named)
 
 pub returns-in-Star : goal.returns-in-Star
 returns-in-Star g c =

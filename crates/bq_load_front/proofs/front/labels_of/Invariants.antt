@@ -1,6 +1,0 @@
-use Rattle.std.proofs.Common.{◌≡◌, [], drop}
-use Rattle.bq_load_front.specs.Front.{labels_of}
-use Rattle.bq_load_front.proofs.front.labels_of.Given as goal
-
-abbrev pub invariant-loop-load : goal.invariant-loop-load
-invariant-loop-load l = labels_of l.inputs l.own l.labels (drop l.load-index l.loads) ≡ labels_of l.inputs l.own [] l.loads
