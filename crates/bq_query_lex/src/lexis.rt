@@ -19,12 +19,6 @@ pub enum QueryPiece {
     Unknown,
 }
 
-fn is_word_byte(b: u8) -> bool
-    ensures { result ≡ is_word_byte b }
-{
-    b.is_ascii_alphanumeric() || b"*/@.-_:$~[]".contains(&b)
-}
-
 fn is_name_byte(b: u8) -> bool
     ensures { result ≡ is_name_byte b }
 {
@@ -102,7 +96,8 @@ fn word_len(text: &[u8]) -> usize
     ensures within { result ≤ length text.now }
 {
     for (n, b) in text.iter().enumerate() {
-        if !is_word_byte(*b) {
+        let is_of_word = b.is_ascii_alphanumeric() || b"*/@.-_:$~[]".contains(b);
+        if !is_of_word {
             return n;
         }
     }
@@ -143,11 +138,11 @@ pub fn piece_of(text: &[u8]) -> QueryPiece
             if *b == b'"' || *b == b'\'' {
                 return quoted_piece(*b, rest);
             }
-            if !is_word_byte(*b) || *b == b'-' || *b == b'*' {
-                return QueryPiece::Unknown;
-            }
             // The longest run of the bytes of words.
             let n = word_len(text);
+            if n == 0 || *b == b'-' || *b == b'*' {
+                return QueryPiece::Unknown;
+            }
             match word_kind(&text[..n]) {
                 Some(kind) => QueryPiece::Found(kind, n),
                 None => QueryPiece::Unknown,

@@ -59,11 +59,8 @@ has_all ls (m ∷ ms) l = has_all (with_label ls m) ms l ∙ (ap (λ (b : Bool).
 known_is : (ms : List LabelParts) → has_label (with_labels [] ms) ≡ has_label ms
 known_is ms = λ i l. has_all [] ms l i
 
-pub lines_known : (ps : List PackageTargets) (ls : List LabelParts) → ls ≡ with_labels [] (labels_of (all_targets ps)) → flat_map (dangling_of (has_label ls)) ps ≡ all_dangling ps
-unfolding all_dangling
-lines_known ps ls e =
-    let known : has_label ls ≡ has_label (labels_of (all_targets ps)) = ap has_label e ∙ known_is (labels_of (all_targets ps)) in
-    ap (λ (k : LabelParts → Bool). flat_map (dangling_of k) ps) known
+pub all_known : (ps : List PackageTargets) (ls : List LabelParts) → ls ≡ with_labels [] (labels_of (all_targets ps)) → has_label ls ≡ has_label (labels_of (all_targets ps))
+all_known ps ls e = ap has_label e ∙ known_is (labels_of (all_targets ps))
 
 pub known_next : (ts : List Target) (i : ℕ) (t : Target) (first ls now : List LabelParts) → i < length ts → t ≡ get_or ts i t → ls ≡ with_labels first (labels_of (take i ts)) → now ≡ with_label ls t.label
     → now ≡ with_labels first (labels_of (take (i + 1) ts))
@@ -105,9 +102,6 @@ lines_next {X} f xs i x s t u h e g k =
     let last : flat_map f (take (i + 1) xs) ≡ flat_map f (take i xs) ++ f x =
     ap (flat_map f) (next_taken xs i x h e) ∙ (flat_map-append f (take i xs) (x ∷ []) ∙ ap (λ (z : List FaultLine). flat_map f (take i xs) ++ z) (append-nil (f x))) in
     k ∙ (ap (λ (z : List FaultLine). put_lines z (f x)) g ∙ (sym (put_lines-append s (flat_map f (take i xs)) (f x)) ∙ ap (put_lines s) (sym last)))
-
-pub one_label : (f : LabelParts → List FaultLine) (l : LabelParts) → flat_map f (l ∷ []) ≡ f l
-one_label f l = append-nil (f l)
 
 pub put_one : (s : List FaultLine) (x : FaultLine) → put_lines s (x ∷ []) ≡ insert_key line_cmp s x
 unfolding put_lines

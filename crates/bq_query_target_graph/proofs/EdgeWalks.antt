@@ -5,13 +5,10 @@ use Rattle.std.proofs.lemmas.List.{drop_more, drop_all}
 use Rattle.std.proofs.lemmas.List.Concat.{flat_map-append}
 use Rattle.bq_label.specs.Label.{LabelParts}
 use Rattle.bq_query_graph.specs.declared.edge.Edge.{Edge}
-use Rattle.bq_package_rule_class.specs.declared.value.AttributeValue.{AttributeValue}
-use Rattle.bq_package_rule_class.specs.declared.value.AttributeValue.TheVariants as v
 use Rattle.bq_package_target.specs.declared.target.Target.{Target}
 use Rattle.bq_package_target.specs.declared.target.TargetKind.{TargetKind}
 use Rattle.bq_package_target.specs.declared.target.TargetKind.TheVariants as k
 use Rattle.bq_package_target.specs.Value.{labels_in}
-use Rattle.bq_package_target.specs.Value.{labels_of as value_labels}
 use Rattle.bq_package_target.specs.Target.{dependencies, dependencies_by}
 use Rattle.bq_label_set.specs.Labels.{same_label}
 use Rattle.bq_query_target_graph.specs.Edges.{edge_by, edges_to, edges_from}
@@ -60,13 +57,3 @@ by_kind k.Group named f = refl
 pub other_kind : (t : Target) → ((rule : LabelParts) → t.kind ≡ k.Generated rule → ⊥) → dependencies t ≡ labels_in t.attributes
 unfolding dependencies
 other_kind t f = by_kind t.kind (labels_in t.attributes) f
-
-pub other_value : (value : AttributeValue) → ((l : LabelParts) → value ≡ v.Label l → ⊥) → ((ls : List LabelParts) → value ≡ v.LabelList ls → ⊥) → value_labels value ≡ []
-other_value (v.Label l) f g = absurd (f l refl)
-other_value (v.LabelList ls) f g = absurd (g ls refl)
-other_value (v.String s) f g = refl
-other_value (v.Int n) f g = refl
-other_value (v.Bool b) f g = refl
-other_value (v.StringList ss) f g = refl
-other_value (v.Output l) f g = refl
-other_value (v.OutputList ls) f g = refl

@@ -1,25 +1,24 @@
 //! Fault F79: labels of other packages that name no target.
 
-ghost use Rattle.std.specs.Prelude.{◌≡◌, ◌↔◌, List, [], ◌∷◌, IfOk, OnOk};
+ghost use Rattle.std.specs.Prelude.{◌≡◌, ◌↔◌, List, [], IfOk, OnOk};
 ghost use Rattle.std.specs.List.{flat_map, Contains};
 ghost use Rattle.bq_load_fault_line.specs.FaultLine.{put_lines};
 ghost use Rattle.bq_load_fault_line.specs.declared.fault_line.FaultLine.{FaultLine};
 ghost use Rattle.bq_label.specs.Label.{full_form};
-ghost use Rattle.bq_package_target.specs.Value.{labels_of as value_labels, labels_in};
-ghost use Rattle.bq_package_target.specs.Target.{dependencies};
 ghost use Rattle.bq_package_target.specs.Package.{PackageTargets};
 ghost use Rattle.bq_label_set.specs.Labels.{has_label, with_labels};
 ghost use Rattle.bq_query_target_graph.specs.Order.{all_targets, labels_of};
-ghost use Rattle.bq_query_target_graph.specs.Dangling.{dangling, dangling_line, dangling_in, dangling_of, all_dangling, IsDangling};
+ghost use Rattle.bq_query_target_graph.specs.Dangling.{dangling, dangling_line, dangling_in, all_dangling, IsDangling};
 
+use crate::named::labels_of;
 use crate::own::are_closed;
 use bq_base::{Bytes, FaultKind};
 use bq_label::{Label, print_label};
 use bq_label_set::LabelSet;
 use bq_load_fault_line::{FaultLine, FaultLines};
-use bq_package_rule_class::AttributeValue;
-use bq_package_target::{GivenAttribute, Package, Target, TargetKind, is_of};
+use bq_package_target::{Package, Target, TargetKind, is_of};
 use std::alloc::{AllocError, Global};
+use std::slice::from_ref;
 
 /// The call that declares a target whose labels are checked, and the labels of all targets.
 #[derive(Clone, Copy)]
@@ -49,26 +48,7 @@ fn dangling_line(alloc: Global, call: Call<'_>, label: &Label) -> Result<FaultLi
     })
 }
 
-/// Adds the line of a label, if it is of another package and names no target.
-fn add_label(
-    alloc: Global,
-    call: Call<'_>,
-    label: &Label,
-    lines: &mut FaultLines,
-) -> Result<(), AllocError>
-    ensures { OnOk result (lines.new ≡ put_lines lines.old (flat_map (dangling (has_label call.entry.known.now) call.entry.build_file.now call.entry.line) (label.now ∷ []))) }
-{
-    if is_of(call.build_file.package_id(), label) {
-        return Ok(());
-    }
-    if call.known.has(label)? {
-        return Ok(());
-    }
-    let line = dangling_line(alloc, call, label)?;
-    lines.add(line)?;
-    Ok(())
-}
-
+/// Adds the lines of the labels that are of other packages and name no target.
 fn add_labels(
     alloc: Global,
     call: Call<'_>,
@@ -78,40 +58,19 @@ fn add_labels(
     ensures { OnOk result (lines.new ≡ put_lines lines.old (flat_map (dangling (has_label call.entry.known.now) call.entry.build_file.now call.entry.line) labels.now)) }
 {
     for label in labels {
-        add_label(alloc, call, label, lines)?;
+        if is_of(call.build_file.package_id(), label) {
+            continue;
+        }
+        if call.known.has(label)? {
+            continue;
+        }
+        let line = dangling_line(alloc, call, label)?;
+        lines.add(line)?;
     }
     Ok(())
 }
 
-fn add_value(
-    alloc: Global,
-    call: Call<'_>,
-    value: &AttributeValue,
-    lines: &mut FaultLines,
-) -> Result<(), AllocError>
-    ensures { OnOk result (lines.new ≡ put_lines lines.old (flat_map (dangling (has_label call.entry.known.now) call.entry.build_file.now call.entry.line) (value_labels value.now))) }
-{
-    match value {
-        AttributeValue::Label(label) => add_label(alloc, call, label, lines),
-        AttributeValue::LabelList(labels) => add_labels(alloc, call, labels.as_slice(), lines),
-        _ => Ok(()),
-    }
-}
-
-fn add_attributes(
-    alloc: Global,
-    call: Call<'_>,
-    attributes: &[GivenAttribute],
-    lines: &mut FaultLines,
-) -> Result<(), AllocError>
-    ensures { OnOk result (lines.new ≡ put_lines lines.old (flat_map (dangling (has_label call.entry.known.now) call.entry.build_file.now call.entry.line) (labels_in attributes.now))) }
-{
-    for given in attributes {
-        add_value(alloc, call, &given.value, lines)?;
-    }
-    Ok(())
-}
-
+/// Adds the lines of the labels that a target depends on.
 #[tactic(auto, unfolding(bq_package_target::specs::Target::dependencies))]
 fn add_target(
     alloc: Global,
@@ -127,33 +86,12 @@ fn add_target(
         build_file,
         line: target.line,
     };
-    match &target.kind {
-        TargetKind::Generated(rule) => add_label(alloc, call, rule, lines),
-        _ => add_attributes(alloc, call, target.attributes.as_slice(), lines),
+    if let TargetKind::Generated(rule) = &target.kind {
+        return add_labels(alloc, call, from_ref(rule), lines);
     }
-}
-
-fn add_package(
-    alloc: Global,
-    known: &LabelSet,
-    package: &Package,
-    lines: &mut FaultLines,
-) -> Result<(), AllocError>
-    ensures { OnOk result (lines.new ≡ put_lines lines.old (dangling_of (has_label known.now) «package».now)) }
-{
-    let build_file = package.build_file();
-    let targets = package.targets();
-    for target in targets {
-        add_target(alloc, known, build_file, target, lines)?;
-    }
-    Ok(())
-}
-
-fn add_known(known: &mut LabelSet, targets: &[Target]) -> Result<(), AllocError>
-    ensures { OnOk result (known.new ≡ with_labels known.old (labels_of targets.now)) }
-{
-    for target in targets {
-        known.add(&target.label)?;
+    let attributes = target.attributes.as_slice();
+    for given in attributes {
+        add_labels(alloc, call, labels_of(&given.value), lines)?;
     }
     Ok(())
 }
@@ -164,23 +102,12 @@ fn known_labels(alloc: Global, packages: &[Package]) -> Result<LabelSet, AllocEr
 {
     let mut known = LabelSet::new(alloc);
     for package in packages {
-        add_known(&mut known, package.targets())?;
+        let targets = package.targets();
+        for target in targets {
+            known.add(&target.label)?;
+        }
     }
     Ok(known)
-}
-
-fn add_packages(
-    alloc: Global,
-    known: &LabelSet,
-    packages: &[Package],
-    lines: &mut FaultLines,
-) -> Result<(), AllocError>
-    ensures { OnOk result (lines.new ≡ put_lines lines.old (flat_map (dangling_of (has_label known.now)) packages.now)) }
-{
-    for package in packages {
-        add_package(alloc, known, package, lines)?;
-    }
-    Ok(())
 }
 
 /// Adds a line for each label of another package that names no target, each once.
@@ -195,7 +122,14 @@ pub fn add_dangling(
         return Ok(());
     }
     let known = known_labels(alloc, packages)?;
-    add_packages(alloc, &known, packages, lines)
+    for package in packages {
+        let build_file = package.build_file();
+        let targets = package.targets();
+        for target in targets {
+            add_target(alloc, &known, build_file, target, lines)?;
+        }
+    }
+    Ok(())
 }
 
 /// The lines are those of the labels of other packages that a target of a package depends on and no target has.

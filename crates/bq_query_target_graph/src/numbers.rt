@@ -40,37 +40,20 @@ impl<'a> Model for Numbers<'a> {
     ghost invariant = { λ n. IsStrictlySortedBy target_cmp n.targets.now };
 }
 
-/// Returns whether the labels are one. The names are compared first, since they differ most often.
+/// Returns whether the target of this number has the label. The names are compared first, since they differ most often.
 #[tactic(auto, unfolding(bq_label_set::specs::Labels::same_label))]
-fn is_same(a: &Label, b: &Label) -> bool
-    ensures { result ≡ same_label a.now b.now }
-{
-    a.name() == b.name() && a.package() == b.package() && a.repo() == b.repo()
-}
-
-/// Returns whether the target of this number has the label.
 fn has_at(targets: &[Target], number: usize, label: &Label) -> bool
     requires { IsStrictlySortedBy target_cmp targets.now }
     ensures { OnTrue result (position (same_label label.now) (labels_of targets.now) ≡ Some number) }
 {
     match at(targets, number) {
-        Some(target) => is_same(label, &target.label),
-        None => false,
-    }
-}
-
-/// Returns the number of the target that has the label, by binary search.
-fn found(targets: &[Target], label: &Label) -> Option<usize>
-    requires { IsStrictlySortedBy target_cmp targets.now }
-    ensures { result ≡ position (same_label label.now) (labels_of targets.now) }
-{
-    match targets.binary_search_by(|target| target.label.cmp(label)) {
-        Ok(place) => {
-            let _other = targets[place].label.name(); // PROOF: both labels are valid
-            let _name = label.name();
-            Some(place)
+        Some(target) => {
+            let other = &target.label;
+            label.name() == other.name()
+                && label.package() == other.package()
+                && label.repo() == other.repo()
         }
-        Err(_) => None,
+        None => false,
     }
 }
 
@@ -124,10 +107,17 @@ impl<'a> Numbers<'a> {
         if has_at(self.targets, inside, label) {
             return Some(inside);
         }
-        let number = found(self.targets, label);
-        if let Some(other) = number {
-            self.far.set(other);
+        match self
+            .targets
+            .binary_search_by(|target| target.label.cmp(label))
+        {
+            Ok(place) => {
+                let _other = self.targets[place].label.name(); // PROOF: both labels are valid
+                let _name = label.name();
+                self.far.set(place);
+                Some(place)
+            }
+            Err(_) => None,
         }
-        number
     }
 }

@@ -2,24 +2,11 @@
 
 ghost use Rattle.std.specs.Prelude.{◌≡◌};
 ghost use Rattle.std.specs.List.{list_all};
-ghost use Rattle.bq_package_target.specs.Target.{is_of};
 ghost use Rattle.bq_query_target_graph.specs.Own.{keeps_inside, is_closed};
 
 use crate::named::labels_of;
-use bq_label::{Label, PackageId};
+use bq_label::PackageId;
 use bq_package_target::{Package, Target, TargetKind, is_of};
-
-/// Returns whether all the labels are of the package.
-fn are_own(own: &PackageId, labels: &[Label]) -> bool
-    ensures { result ≡ list_all (is_of own.now) labels.now }
-{
-    for label in labels {
-        if !is_of(own, label) {
-            return false;
-        }
-    }
-    true
-}
 
 /// Returns whether all that the target depends on is of the package.
 fn keeps_inside(own: &PackageId, target: &Target) -> bool
@@ -30,21 +17,10 @@ fn keeps_inside(own: &PackageId, target: &Target) -> bool
     }
     let attributes = target.attributes.as_slice();
     for given in attributes {
-        if !are_own(own, labels_of(&given.value)) {
-            return false;
-        }
-    }
-    true
-}
-
-/// Returns whether this is so of all targets of the package.
-fn is_closed(package: &Package) -> bool
-    ensures { result ≡ is_closed «package».now }
-{
-    let own = package.id();
-    let targets = package.targets();
-    for target in targets {
-        if !keeps_inside(own, target) {
+        if !labels_of(&given.value)
+            .iter()
+            .all(|label| is_of(own, label))
+        {
             return false;
         }
     }
@@ -56,7 +32,12 @@ pub fn are_closed(packages: &[Package]) -> bool
     ensures { result ≡ list_all is_closed packages.now }
 {
     for package in packages {
-        if !is_closed(package) {
+        let own = package.id();
+        if !package
+            .targets()
+            .iter()
+            .all(|target| keeps_inside(own, target))
+        {
             return false;
         }
     }
