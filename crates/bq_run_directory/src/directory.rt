@@ -15,10 +15,12 @@ pub fn read_directory<R: Files + Alloc<A = Global> + Clone + Drop>(
 ) -> Result<Workspace, DirectoryErr> {
     let mut walk = DirectoryWalk::new(rt, root)?;
     for _ in 0..u64::MAX {
-        let Some(directory) = walk.next_directory()? else {
+        let Some(directory) = walk.pending.pop() else {
             return Ok(Workspace::new(walk.files)?);
         };
-        for entry in fs::read_dir(rt, directory.as_str())? {
+        walk.around.truncate(directory.depth);
+        walk.around.push(directory.identity)?;
+        for entry in fs::read_dir(rt, directory.path.as_str())? {
             walk.visit(rt, &entry?)?;
         }
     }

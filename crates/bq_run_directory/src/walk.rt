@@ -13,7 +13,7 @@ use std::{fs, io};
 
 /// Which directory of the system this is, by whatever path.
 #[derive(Clone, Copy, PartialEq, Eq)]
-struct Identity {
+pub struct Identity {
     device: u64,
     inode: u64,
 }
@@ -29,11 +29,11 @@ impl Identity {
 
 /// A directory that is still to be read.
 #[derive(Drop)]
-struct Pending {
-    path: String,
-    identity: Identity,
+pub struct Pending {
+    pub path: String,
+    pub identity: Identity,
     /// How many directories it lies in, the root among them.
-    depth: usize,
+    pub depth: usize,
 }
 
 /// A walk through the directory at a root.
@@ -45,69 +45,36 @@ pub struct DirectoryWalk {
     /// The directories that `.bazelignore` at the root names.
     ignored: Vec<Bytes>,
     /// The directories that are still to be read. The last one is read next.
-    pending: Vec<Pending>,
+    pub pending: Vec<Pending>,
     /// The directories around the one that is read now, the root first, and then that one itself.
-    around: Vec<Identity>,
+    pub around: Vec<Identity>,
     /// The files so far.
     pub files: Vec<File>,
 }
 
-/// Reads which directories `.bazelignore` at the root names.
-fn read_ignored<R: Files + Alloc<A = Global>>(
-    rt: &R,
-    root: &str,
-) -> Result<Vec<Bytes>, DirectoryErr> {
-    let alloc = rt.alloc();
-    let slash = if root.ends_with('/') { "" } else { "/" };
-    let path = format!(in alloc; "{root}{slash}{IGNORE_FILE}")?;
-    match fs::metadata(rt, path.as_str()) {
-        Ok(metadata) if metadata.is_file() => {
-            let text = fs::read(rt, path.as_str())?;
-            Ok(ignored_directories(alloc, text.as_slice())?)
-        }
-        Ok(_) => Ok(Vec::new(alloc)),
-        Err(error) if error.kind() == io::ErrorKind::NotFound => Ok(Vec::new(alloc)),
-        Err(error) => Err(error.into()),
-    }
-}
-
-/// Returns what an entry is, links followed; `None` for a link that can't be followed and isn't a file that has to be
-/// read.
-fn look_at<R: Files>(
-    rt: &R,
-    path: Path<'_>,
-    inner: &[u8],
-) -> Result<Option<Metadata>, DirectoryErr> {
-    match fs::metadata(rt, path) {
-        Ok(metadata) => Ok(Some(metadata)),
-        Err(error) if error.kind() == io::ErrorKind::OutOfMemory => Err(DirectoryErr::Memory),
-        Err(error) if has_content(inner) => Err(error.into()),
-        Err(_) if fs::symlink_metadata(rt, path)?.is_symlink() => Ok(None),
-        Err(error) => Err(error.into()),
-    }
-}
-
-/// Returns whether an entry is one of the links at the root by which Bazel shows its output tree.
-fn is_output_link<R: Files>(rt: &R, path: Path<'_>, inner: &[u8]) -> Result<bool, DirectoryErr> {
-    Ok(
-        inner.starts_with(b"bazel-")
-            && !inner.contains(&b'/')
-            && fs::symlink_metadata(rt, path)?.is_symlink(),
-    )
-}
-
 impl DirectoryWalk {
-    /// Begins a walk.
+    /// Begins a walk: the root is to be read, and `.bazelignore` there has been.
     pub fn new<R: Files + Alloc<A = Global>>(
         rt: &R,
         root: &str,
     ) -> Result<DirectoryWalk, DirectoryErr> {
         let alloc = rt.alloc();
         let identity = Identity::of(&fs::metadata(rt, root)?);
+        let slash = if root.ends_with('/') { "" } else { "/" };
+        let path = format!(in alloc; "{root}{slash}{IGNORE_FILE}")?;
+        let ignored = match fs::metadata(rt, path.as_str()) {
+            Ok(metadata) if metadata.is_file() => {
+                let text = fs::read(rt, path.as_str())?;
+                ignored_directories(alloc, text.as_slice())?
+            }
+            Ok(_) => Vec::new(alloc),
+            Err(error) if error.kind() == io::ErrorKind::NotFound => Vec::new(alloc),
+            Err(error) => return Err(error.into()),
+        };
         let mut walk = DirectoryWalk {
             alloc,
-            root_len: root.len().saturating_add(usize::from(!root.ends_with('/'))),
-            ignored: read_ignored(rt, root)?,
+            root_len: root.len().saturating_add(slash.len()),
+            ignored,
             pending: Vec::new(alloc),
             around: Vec::new(alloc),
             files: Vec::new(alloc),
@@ -126,18 +93,8 @@ impl DirectoryWalk {
         Ok(())
     }
 
-    /// Takes the next directory to read.
-    pub fn next_directory(&mut self) -> Result<Option<String>, DirectoryErr> {
-        let Some(next) = self.pending.pop() else {
-            return Ok(None);
-        };
-        self.around.truncate(next.depth);
-        self.around.push(next.identity)?;
-        Ok(Some(next.path))
-    }
-
-    /// Looks at an entry of the directory that is read now: a file is kept, and a directory will be read, unless it is ignored or is
-    /// inside itself by a link.
+    /// Looks at an entry of the directory that is read now, links followed: a file is kept, and a directory will be
+    /// read, unless it is ignored or is inside itself by a link.
     pub fn visit<R: Files + Alloc<A = Global>>(
         &mut self,
         rt: &R,
@@ -147,11 +104,22 @@ impl DirectoryWalk {
         let inner = path.as_str().as_bytes().get(self.root_len..).unwrap_or(b"");
         // Git keeps its own files in a folder of this name, or names it in such a file.
         let is_git = inner == b".git".as_slice() || inner.ends_with(b"/.git");
-        if !is_path(inner) || is_git || is_output_link(rt, path, inner)? {
+        if !is_path(inner) || is_git {
             return Ok(());
         }
-        let Some(metadata) = look_at(rt, path, inner)? else {
+        // Bazel shows its output tree by such links at the root.
+        let may_be_output = inner.starts_with(b"bazel-") && !inner.contains(&b'/');
+        if may_be_output && fs::symlink_metadata(rt, path)?.is_symlink() {
             return Ok(());
+        }
+        let metadata = match fs::metadata(rt, path) {
+            Ok(metadata) => metadata,
+            Err(error) if error.kind() == io::ErrorKind::OutOfMemory || has_content(inner) => {
+                return Err(error.into());
+            }
+            // A link that can't be followed, and isn't a file that has to be read, is passed over.
+            Err(_) if fs::symlink_metadata(rt, path)?.is_symlink() => return Ok(()),
+            Err(error) => return Err(error.into()),
         };
         if metadata.is_dir() {
             let identity = Identity::of(&metadata);
