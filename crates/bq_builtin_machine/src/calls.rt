@@ -2,7 +2,7 @@
 
 ghost use Rattle.std.specs.Prelude.{◌≡◌};
 ghost use Rattle.bq_builtin_machine.specs.Action.{Does};
-ghost use Rattle.bq_builtin_machine.specs.Calls.{is_active, enter, leave};
+ghost use Rattle.bq_builtin_machine.specs.Calls.{enter, leave};
 
 use crate::machine::Machine;
 use bq_base::FaultKind;
@@ -17,8 +17,10 @@ impl Machine {
     pub fn enter(&mut self, module: u32, place: u32) -> Result<(), EvalErr>
         ensures { Does (λ _. tt) result self.new (enter «module» place self.old) }
     {
-        if is_active(&self.active, module, place) {
-            return Err(EvalErr::Bad(FaultKind::Recursion));
+        for function in &self.active {
+            if function.0 == module && function.1 == place {
+                return Err(EvalErr::Bad(FaultKind::Recursion));
+            }
         }
         if self.active.len() >= MAX_ACTIVE {
             return Err(EvalErr::Bad(FaultKind::CallDepth));
@@ -34,15 +36,4 @@ impl Machine {
     {
         let _newest = self.active.pop();
     }
-}
-
-fn is_active(active: &[(u32, u32)], module: u32, place: u32) -> bool
-    ensures { result ≡ is_active «module» place active.now }
-{
-    for function in active {
-        if function.0 == module && function.1 == place {
-            return true;
-        }
-    }
-    false
 }

@@ -200,12 +200,16 @@ impl<'a, H: Host, K: RuleNames> Runtime for Evaluation<'a, H, K> {
 
     #[tactic(auto, using(crate::proofs::Lifting::lifted), unfolding(crate::specs::Runtime::primitives, crate::specs::Passing::pass))]
     fn pass(&mut self, args: &mut Args, value: Value) -> Result<(), EvalErr> {
-        passing::pass(args, value)
+        passing::check_count(args, 1)?;
+        args.positional.push(value)?;
+        Ok(())
     }
 
     #[tactic(auto, using(crate::proofs::Lifting::lifted), unfolding(crate::specs::Runtime::primitives, crate::specs::Passing::pass_named))]
     fn pass_named(&mut self, args: &mut Args, name: &Bytes, value: Value) -> Result<(), EvalErr> {
-        passing::pass_named(args, name, value)
+        passing::check_count(args, 1)?;
+        args.named.push((name.share()?, value))?;
+        Ok(())
     }
 
     #[tactic(auto, unfolding(crate::specs::Runtime::primitives, crate::specs::Passing::pass_all))]

@@ -1,6 +1,6 @@
 //! The arguments of a call, one after another.
 
-ghost use Rattle.std.specs.Prelude.{◌≡◌, ◌+◌, ◌∷◌, ◌++◌, [], length, cond, nat_le, Ok, Err, OnOk};
+ghost use Rattle.std.specs.Prelude.{◌≡◌, ◌+◌, ◌++◌, length, cond, nat_le, Ok, Err, OnOk};
 ghost use Rattle.bq_base.specs.Gives.{Gives};
 ghost use Rattle.bq_base.specs.declared.fault.FaultKind.TheVariants.{TooLong};
 ghost use Rattle.bq_value.specs.declared.error.EvalErr.TheVariants.{Bad};
@@ -8,35 +8,17 @@ ghost use Rattle.bq_builtin_numbers.specs.Length.{max_len};
 ghost use Rattle.bq_builtin_operators.specs.Operand.{and_then, dict_in};
 ghost use Rattle.bq_eval_operations.specs.Passing.{if_few, with_positional, with_named, with_pairs, name_of};
 
-use bq_base::{Bytes, FaultKind};
+use bq_base::FaultKind;
 use bq_builtin_machine::{Args, Elements};
 use bq_builtin_numbers::joined_len;
 use bq_value::{Body, Dict, EvalErr, Node, Store, Value};
 use std::alloc::AllocError;
 
 /// Fails with F54 if `more` further arguments are too many.
-fn check_count(args: &Args, more: usize) -> Result<(), FaultKind>
+pub(crate) fn check_count(args: &Args, more: usize) -> Result<(), FaultKind>
     ensures { result ≡ cond (nat_le (length args.now.positional + length args.now.named + more) max_len) (Ok tt) (Err TooLong) }
 {
     joined_len(args.positional.len() + args.named.len(), more)?;
-    Ok(())
-}
-
-/// Passes `value`.
-pub(crate) fn pass(args: &mut Args, value: Value) -> Result<(), EvalErr>
-    ensures { Gives (λ _. args.new) Bad result (if_few (with_positional args.old (value ∷ []))) }
-{
-    check_count(args, 1)?;
-    args.positional.push(value)?;
-    Ok(())
-}
-
-/// Passes `name = value`.
-pub(crate) fn pass_named(args: &mut Args, name: &Bytes, value: Value) -> Result<(), EvalErr>
-    ensures { Gives (λ _. args.new) Bad result (if_few (with_named args.old name.now value)) }
-{
-    check_count(args, 1)?;
-    args.named.push((name.share()?, value))?;
     Ok(())
 }
 

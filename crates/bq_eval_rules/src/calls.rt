@@ -9,7 +9,7 @@ ghost use Rattle.bq_eval_rules.specs.Round.{inside, units_at, globals_of};
 
 use crate::context::Context;
 use crate::direct::{are_plain, plain_frame};
-use crate::filling::{Filling, filled_frame};
+use crate::filling::{Filling, fill_parameters};
 use crate::flow::answered;
 use crate::frame::Frame;
 use crate::parameters::{bind_args, has_star_star, keywords_of};
@@ -44,7 +44,7 @@ pub fn entry<'f, R: Runtime>(
 }
 
 /// Returns the frame with which a function begins, by binding the arguments to its parameters.
-#[tactic(auto, using(crate::proofs::CallSteps::given_acts), unfolding(bq_eval_meaning_spec::specs::Calls::entry))]
+#[tactic(auto, using(crate::proofs::CallSteps::given_acts, crate::proofs::Slots::none_filled), unfolding(bq_eval_meaning_spec::specs::Calls::entry))]
 fn bound_entry<'f, R: Runtime>(
     alloc: Global,
     runtime: &mut R,
@@ -62,13 +62,15 @@ fn bound_entry<'f, R: Runtime>(
         keywords,
     } = bound;
     let keywords = keywords_of(runtime, has_star_star(parameters), keywords)?;
+    let mut frame = Frame::with_room(alloc, function.slots)?;
     let filling = Filling {
         values: values.as_slice(),
         defaults,
         rest: rest.as_slice(),
         keywords: &keywords,
     };
-    filled_frame(alloc, &*runtime, function.slots, filling, parameters)
+    let _filled = fill_parameters(alloc, &*runtime, filling, &mut frame, parameters)?;
+    Ok(frame)
 }
 
 /// Runs the body of a function.
@@ -147,14 +149,14 @@ pub fn call_at<R: Runtime>(
 
 /// Calls a value.
 #[cycle(calls)]
-#[tactic(auto, using(bq_value::specs::Datum::list_of_data_of), unfolding(bq_eval_meaning_spec::specs::Calls::apply))]
-pub fn apply<R: Runtime>(
+#[tactic(auto, using(crate::proofs::CallSteps::calls_step, bq_value::specs::Datum::list_of_data_of), unfolding(crate::specs::Round::inside, bq_eval_meaning_spec::specs::Calls::apply))]
+pub fn call<R: Runtime>(
     context: &Context<'_>,
     runtime: &mut R,
     value: &Value,
     args: Args,
 ) -> Result<Value, EvalErr>
-    ensures { Acts R.means (λ v. v) result (R.seen runtime.new) (meaning.apply R.means (units_at context.now.program.now (globals_of context.now.own)) (meaning.inner_calls context.now.left R.means (units_at context.now.program.now (globals_of context.now.own))) value.now args (R.seen runtime.old)) }
+    ensures { Acts R.means (λ v. v) result (R.seen runtime.new) (inside R.means context.now value.now args (R.seen runtime.old)) }
 {
     match &value.node {
         Node::Function(function) => call_at(context, runtime, function, args),
@@ -167,18 +169,4 @@ pub fn apply<R: Runtime>(
         Node::Cell(cell) => runtime.call_cell(context.alloc, *cell, args),
         _ => Err(EvalErr::Bad(FaultKind::WrongType)),
     }
-}
-
-/// Returns the result of a call.
-#[cycle(calls)]
-#[tactic(auto, using(crate::proofs::CallSteps::calls_step), unfolding(crate::specs::Round::inside))]
-pub fn call<R: Runtime>(
-    context: &Context<'_>,
-    runtime: &mut R,
-    value: &Value,
-    args: Args,
-) -> Result<Value, EvalErr>
-    ensures { Acts R.means (λ v. v) result (R.seen runtime.new) (inside R.means context.now value.now args (R.seen runtime.old)) }
-{
-    apply(context, runtime, value, args)
 }

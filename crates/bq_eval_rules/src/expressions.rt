@@ -1,8 +1,6 @@
 //! Expressions.
 
 ghost use Rattle.std.specs.Prelude.{◌≡◌};
-ghost use Rattle.bq_value.specs.Datum.{string};
-ghost use Rattle.bq_builtin_machine.specs.Action.{done};
 ghost use Rattle.bq_eval_meaning_spec.specs.Expressions as meaning;
 ghost use Rattle.bq_eval_rules.specs.Acts.{Acts};
 ghost use Rattle.bq_eval_rules.specs.Slots.{slots_of};
@@ -14,10 +12,9 @@ use crate::evaluator::Evaluator;
 use crate::frame::Frame;
 use crate::operand::use_of;
 use crate::runtime::Runtime;
-use bq_base::{Bytes, FaultKind};
+use bq_base::FaultKind;
 use bq_builtin_machine::Args;
-use bq_resolve_predeclared::Predeclared;
-use bq_resolve_scope::{Binding, Code};
+use bq_resolve_scope::Code;
 use bq_value::{EvalErr, Value};
 use std::marker::PhantomData;
 
@@ -58,32 +55,7 @@ impl<
     C: Copy + Fn(&Context<'_>, &mut R, &Value, Args) -> Result<Value, EvalErr>,
     F: Copy + Fn(&Context<'_>, usize, C, &Frame<'_>, &mut R, &Code) -> Result<Value, EvalErr>,
 > Evaluator<'a, R, C, F> {
-    /// Evaluates the use of a name.
-    #[inline(always)]
-    fn use_of(&self, runtime: &mut R, binding: Binding) -> Result<Value, EvalErr>
-        ensures { Acts R.means (λ v. v) result (R.seen runtime.new) (meaning.use_of R.means (round_of self.now.context.now) binding (slots_of self.now.frame.now) (R.seen runtime.old)) }
-    {
-        Ok(use_of(self.context, self.frame, runtime, binding)?.own()?)
-    }
-
-    /// Returns a function of `native` or `attr`, by its name there.
-    #[inline(always)]
-    fn member(&self, runtime: &mut R, function: Predeclared) -> Result<Value, EvalErr>
-        ensures { Acts R.means (λ v. v) result (R.seen runtime.new) (done (R.means.predeclared function) (R.seen runtime.old)) }
-    {
-        Ok(runtime.predeclared(function)?)
-    }
-
-    /// Evaluates a string. No byte is copied.
-    #[inline(always)]
-    fn string(&self, runtime: &mut R, text: &Bytes) -> Result<Value, EvalErr>
-        ensures { Acts R.means (λ v. v) result (R.seen runtime.new) (meaning.literal R.means (string text.now) (R.seen runtime.old)) }
-    {
-        let text = text.share()?;
-        self.literal(runtime, Value::string(text))
-    }
-
-    /// Evaluates an expression.
+    /// Evaluates an expression. No byte of a string is copied.
     #[tactic(auto, unfolding(bq_eval_meaning_spec::specs::Expressions::expr))]
     pub fn expr(&self, runtime: &mut R, code: &Code) -> Result<Value, EvalErr>
         requires nests { Nests R.means R.seen self.now.context.now.left self.now.depth self.now.call (F.pre self.now.eval) (F.post self.now.eval) }
@@ -91,10 +63,10 @@ impl<
         ensures { Acts R.means (λ v. v) result (R.seen runtime.new) (meaning.expr R.means (nested R.means self.now.depth self.now.context.now) (inside R.means self.now.context.now) (round_of self.now.context.now) code.now (slots_of self.now.frame.now) (R.seen runtime.old)) }
     {
         match code {
-            Code::Use(binding) => self.use_of(runtime, *binding),
-            Code::Member(function) => self.member(runtime, *function),
+            Code::Use(binding) => Ok(use_of(self.context, self.frame, runtime, *binding)?.own()?),
+            Code::Member(function) => Ok(runtime.predeclared(*function)?),
             Code::Int(n) => self.literal(runtime, Value::int(*n)),
-            Code::String(text) => self.string(runtime, text),
+            Code::String(text) => self.literal(runtime, Value::string(text.share()?)),
             Code::List(codes) => self.list_display(runtime, codes.as_slice()),
             Code::Tuple(codes) => self.tuple_display(runtime, codes.as_slice()),
             Code::Dict(pairs) => self.dict_display(runtime, pairs.as_slice()),

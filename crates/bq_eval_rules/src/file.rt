@@ -1,6 +1,6 @@
 //! The statements of a file.
 
-ghost use Rattle.std.specs.Prelude.{◌≡◌, [], IfOk, slice_get};
+ghost use Rattle.std.specs.Prelude.{◌≡◌, []};
 ghost use Rattle.bq_eval_meaning_spec.specs.Expressions as expressions;
 ghost use Rattle.bq_eval_meaning_spec.specs.Module as meaning;
 ghost use Rattle.bq_eval_rules.specs.Acts.{Acts};
@@ -17,20 +17,9 @@ use crate::reader::Reader;
 use crate::runtime::Runtime;
 use bq_base::Bytes;
 use bq_builtin_machine::Args;
-use bq_resolve_scope::{Code, CodeDef, CodeFunction, CodeTopLevel, FileStmt};
+use bq_resolve_scope::{Code, CodeDef, CodeTopLevel, FileStmt};
 use bq_value::{EvalErr, Function, Value};
-use std::alloc::AllocError;
 use std::marker::PhantomData;
-
-/// Returns the name of the function of the file whose `def` has this place.
-fn name_of(functions: &[CodeFunction], place: usize) -> Result<Bytes, AllocError>
-    ensures { IfOk result (λ b. b ≡ meaning.name_of (slice_get functions.now place)) }
-{
-    match functions.get(place) {
-        None => Ok(Bytes::empty()),
-        Some(function) => function.name.share(),
-    }
-}
 
 impl<
     'a,
@@ -73,7 +62,10 @@ impl<
             return Err(EvalErr::Memory);
         }
         let place = def.function as u32;
-        let name = name_of(self.context.program.functions, def.function)?;
+        let name = match self.context.program.functions.get(def.function) {
+            None => Bytes::empty(),
+            Some(function) => function.name.share()?,
+        };
         let function = Function {
             module: self.context.program.number,
             place,
@@ -85,24 +77,8 @@ impl<
         Ok(Flow::Next)
     }
 
-    #[tactic(auto, unfolding(bq_eval_meaning_spec::specs::Module::file_stmt))]
-    fn file_stmt(
-        &self,
-        frame: &mut Frame<'_>,
-        runtime: &mut R,
-        stmt: &FileStmt,
-    ) -> Result<Flow, EvalErr>
-        requires { Answers R.means R.seen self.now.context.now.left (C.pre self.now.call) (C.post self.now.call) }
-        ensures { Acts R.means (λ f. (flow_of f, slots_of frame.new)) result (R.seen runtime.new) (meaning.file_stmt R.means (own_of self.now.context.now.program.now) (evals R.means self.now.context.now) stmt.now (slots_of frame.old) (R.seen runtime.old)) }
-    {
-        match stmt {
-            FileStmt::Simple(stmts) => self.line(frame, runtime, stmts.as_slice()),
-            FileStmt::Def(def) => self.def_stmt(frame, runtime, def),
-        }
-    }
-
     /// Carries out a top-level statement, whose line a fault names.
-    #[tactic(auto, unfolding(bq_eval_meaning_spec::specs::Module::top_level))]
+    #[tactic(auto, unfolding(bq_eval_meaning_spec::specs::Module::top_level, bq_eval_meaning_spec::specs::Module::file_stmt))]
     fn top_level(
         &self,
         frame: &mut Frame<'_>,
@@ -113,7 +89,10 @@ impl<
         ensures { Acts R.means (λ f. (flow_of f, slots_of frame.new)) result (R.seen runtime.new) (meaning.top_level R.means (own_of self.now.context.now.program.now) (evals R.means self.now.context.now) stmt.now (slots_of frame.old) (R.seen runtime.old)) }
     {
         runtime.at_line(stmt.line);
-        self.file_stmt(frame, runtime, &stmt.statement)
+        match &stmt.statement {
+            FileStmt::Simple(stmts) => self.line(frame, runtime, stmts.as_slice()),
+            FileStmt::Def(def) => self.def_stmt(frame, runtime, def),
+        }
     }
 
     /// Carries out the statements of a file.

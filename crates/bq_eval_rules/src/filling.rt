@@ -1,9 +1,7 @@
 //! Filling the frame of a function with its parameters.
 
 ghost use Rattle.std.specs.Prelude.{◌≡◌};
-ghost use Rattle.bq_builtin_machine.specs.Action.{following, pure};
 ghost use Rattle.bq_eval_meaning_spec.specs.Calls as meaning;
-ghost use Rattle.bq_eval_meaning_spec.specs.Frame.{empty};
 ghost use Rattle.bq_eval_rules.specs.Acts.{Acts};
 ghost use Rattle.bq_eval_rules.specs.Fillings.{filling_of};
 ghost use Rattle.bq_eval_rules.specs.Slots.{slots_of};
@@ -109,7 +107,7 @@ fn fill_parameter<'a, R: Runtime>(
 
 /// Fills the slots of these parameters.
 #[tactic(auto, unfolding(bq_eval_meaning_spec::specs::Calls::fill_parameters))]
-fn fill_parameters<'a, R: Runtime>(
+pub fn fill_parameters<'a, R: Runtime>(
     alloc: Global,
     runtime: &R,
     filling: Filling<'a>,
@@ -123,20 +121,4 @@ fn fill_parameters<'a, R: Runtime>(
         left = fill_parameter(alloc, runtime, left, frame, parameter)?;
     }
     Ok(left)
-}
-
-/// Makes a frame with room for `slots` slots, and fills those of the parameters.
-#[tactic(auto, using(crate::proofs::Slots::none_filled))]
-pub fn filled_frame<'f, R: Runtime>(
-    alloc: Global,
-    runtime: &R,
-    slots: usize,
-    filling: Filling<'_>,
-    parameters: &[CodeParameter],
-) -> Result<Frame<'f>, EvalErr>
-    ensures { Acts R.means slots_of result (R.seen runtime.now) (following (meaning.fill_parameters R.means parameters.now (filling_of filling.entry empty) (R.seen runtime.now)) (λ x. pure x.frame)) }
-{
-    let mut frame = Frame::with_room(alloc, slots)?;
-    let _filled = fill_parameters(alloc, runtime, filling, &mut frame, parameters)?;
-    Ok(frame)
 }

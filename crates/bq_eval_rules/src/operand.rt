@@ -1,7 +1,6 @@
 //! Values that are only read.
 
-ghost use Rattle.std.specs.Prelude.{◌≡◌, IfOk, IfSome, option_copied};
-ghost use Rattle.bq_eval_meaning_spec.specs.Targets.{bound};
+ghost use Rattle.std.specs.Prelude.{◌≡◌, IfOk, IfSome};
 ghost use Rattle.bq_eval_meaning_spec.specs.Expressions as meaning;
 ghost use Rattle.bq_eval_rules.specs.Acts.{Acts};
 ghost use Rattle.bq_eval_rules.specs.Slots.{slots_of};
@@ -48,20 +47,8 @@ impl<'f> Operand<'f> {
     }
 }
 
-/// Lends the value of a name, or fails with F49.
-#[tactic(auto, unfolding(bq_eval_meaning_spec::specs::Targets::bound))]
-#[inline(always)]
-fn lent<'f, R: Runtime>(runtime: &R, value: Option<&'f Value>) -> Result<Operand<'f>, EvalErr>
-    ensures { Acts R.means read_of result (R.seen runtime.now) (bound R.means (option_copied value.entry) (R.seen runtime.now)) }
-{
-    match value {
-        None => Err(EvalErr::Bad(FaultKind::Unbound)),
-        Some(value) => Ok(Operand::Lent(value)),
-    }
-}
-
-/// Evaluates the use of a name.
-#[tactic(auto, unfolding(bq_eval_meaning_spec::specs::Expressions::use_of, crate::specs::Round::round_of))]
+/// Evaluates the use of a name: lends its value, or fails with F49.
+#[tactic(auto, unfolding(bq_eval_meaning_spec::specs::Expressions::use_of, bq_eval_meaning_spec::specs::Targets::bound, crate::specs::Round::round_of))]
 #[inline(always)]
 pub fn use_of<'f, R: Runtime>(
     context: &'f Context<'_>,
@@ -72,11 +59,15 @@ pub fn use_of<'f, R: Runtime>(
     ensures { Acts R.means read_of result (R.seen runtime.new) (meaning.use_of R.means (round_of context.now) binding (slots_of frame.now) (R.seen runtime.old)) }
 {
     runtime.step(1)?;
-    match binding {
-        Binding::Local(slot) => lent(&*runtime, frame.get(slot)),
-        Binding::Global(k) => lent(&*runtime, context.globals.get(k)),
-        Binding::Loaded(k) => lent(&*runtime, context.loaded.get(k)),
-        Binding::Predeclared(name) => Ok(Operand::Own(runtime.predeclared(name)?)),
+    let value = match binding {
+        Binding::Local(slot) => frame.get(slot),
+        Binding::Global(k) => context.globals.get(k),
+        Binding::Loaded(k) => context.loaded.get(k),
+        Binding::Predeclared(name) => return Ok(Operand::Own(runtime.predeclared(name)?)),
+    };
+    match value {
+        None => Err(EvalErr::Bad(FaultKind::Unbound)),
+        Some(value) => Ok(Operand::Lent(value)),
     }
 }
 

@@ -1,6 +1,6 @@
 //! Lists of slots.
 
-ghost use Rattle.std.specs.Prelude.{◌≡◌, ◌<◌, length, IfOk, OnOk, option_copied};
+ghost use Rattle.std.specs.Prelude.{◌≡◌, IfOk, OnOk, option_copied};
 ghost use Rattle.bq_eval_meaning_spec.specs.Frame.{fill};
 ghost use Rattle.bq_eval_rules.specs.Slots.{list_slots};
 
@@ -42,23 +42,13 @@ fn share(slot: &Option<Value>) -> Result<Option<Value>, AllocError>
 
 /// Puts a value into a slot of a list, for which it makes room.
 #[inline(never)]
-#[tactic(auto, using(crate::proofs::Slots::list_filled))]
+#[tactic(auto, using(crate::proofs::Slots::list_filled, crate::proofs::Slots::padded))]
 pub fn put(slots: &mut Vec<Option<Value>>, slot: usize, value: Value) -> Result<(), AllocError>
     ensures { OnOk result (list_slots slots.new.items ≡ fill (list_slots slots.old.items) slot value) }
-{
-    pad(slots, slot)?;
-    slots[slot] = Some(value);
-    Ok(())
-}
-
-/// Makes room for a slot.
-#[tactic(auto, using(crate::proofs::Slots::padded))]
-fn pad(slots: &mut Vec<Option<Value>>, slot: usize) -> Result<(), AllocError>
-    ensures room { OnOk result (slot < length slots.new.items) }
-    ensures same { OnOk result (list_slots slots.new.items ≡ list_slots slots.old.items) }
 {
     while slots.len() <= slot {
         slots.push(None)?;
     }
+    slots[slot] = Some(value);
     Ok(())
 }

@@ -39,16 +39,6 @@ impl<
     R: Runtime,
     C: Copy + Fn(&Context<'_>, &mut R, &Value, Args) -> Result<Value, EvalErr>,
 > Reader<'a, R, C> {
-    /// Carries out an expression as a statement.
-    #[tactic(auto, unfolding(bq_eval_meaning_spec::specs::Statements::expr_stmt))]
-    fn expr_stmt(&self, frame: &Frame<'_>, runtime: &mut R, code: &Code) -> Result<Flow, EvalErr>
-        requires { Answers R.means R.seen self.now.context.now.left (C.pre self.now.call) (C.post self.now.call) }
-        ensures { Acts R.means (λ f. (flow_of f, slots_of frame.now)) result (R.seen runtime.new) (meaning.expr_stmt R.means (evals R.means self.now.context.now) code.now (slots_of frame.now) (R.seen runtime.old)) }
-    {
-        let _value = self.value(frame, runtime, code)?;
-        Ok(Flow::Next)
-    }
-
     /// Carries out `target = x`: the right side first.
     #[tactic(auto, unfolding(bq_eval_meaning_spec::specs::Statements::assign_stmt))]
     fn assign_stmt(
@@ -86,19 +76,23 @@ impl<
         }
     }
 
-    /// Carries out a small statement, after its step.
-    #[tactic(auto, unfolding(bq_eval_meaning_spec::specs::Statements::small_effect))]
-    fn small_effect(
+    /// Carries out a small statement: all but a load take a step.
+    #[tactic(auto, unfolding(bq_eval_meaning_spec::specs::Statements::small_stmt, bq_eval_meaning_spec::specs::Statements::small_effect, bq_eval_meaning_spec::specs::Statements::expr_stmt))]
+    fn small_stmt(
         &self,
         frame: &mut Frame<'_>,
         runtime: &mut R,
         stmt: &CodeSmall,
     ) -> Result<Flow, EvalErr>
         requires { Answers R.means R.seen self.now.context.now.left (C.pre self.now.call) (C.post self.now.call) }
-        ensures { Acts R.means (λ f. (flow_of f, slots_of frame.new)) result (R.seen runtime.new) (meaning.small_effect R.means (evals R.means self.now.context.now) stmt.now (slots_of frame.old) (R.seen runtime.old)) }
+        ensures { Acts R.means (λ f. (flow_of f, slots_of frame.new)) result (R.seen runtime.new) (meaning.small_stmt R.means (evals R.means self.now.context.now) stmt.now (slots_of frame.old) (R.seen runtime.old)) }
     {
+        runtime.step(steps_of(stmt))?;
         match stmt {
-            CodeSmall::Expr(code) => self.expr_stmt(frame, runtime, code),
+            CodeSmall::Expr(code) => {
+                let _value = self.value(frame, runtime, code)?;
+                Ok(Flow::Next)
+            }
             CodeSmall::Assign(target, code) => self.assign_stmt(frame, runtime, target, code),
             CodeSmall::Augment(target, operator, code) => {
                 self.augment(frame, runtime, target, *operator, code)?;
@@ -110,21 +104,6 @@ impl<
             CodeSmall::Pass => Ok(Flow::Next),
             CodeSmall::Load => Ok(Flow::Next),
         }
-    }
-
-    /// Carries out a small statement: all but a load take a step.
-    #[tactic(auto, unfolding(bq_eval_meaning_spec::specs::Statements::small_stmt))]
-    fn small_stmt(
-        &self,
-        frame: &mut Frame<'_>,
-        runtime: &mut R,
-        stmt: &CodeSmall,
-    ) -> Result<Flow, EvalErr>
-        requires { Answers R.means R.seen self.now.context.now.left (C.pre self.now.call) (C.post self.now.call) }
-        ensures { Acts R.means (λ f. (flow_of f, slots_of frame.new)) result (R.seen runtime.new) (meaning.small_stmt R.means (evals R.means self.now.context.now) stmt.now (slots_of frame.old) (R.seen runtime.old)) }
-    {
-        runtime.step(steps_of(stmt))?;
-        self.small_effect(frame, runtime, stmt)
     }
 
     /// Carries out the statements of one line.

@@ -92,27 +92,6 @@ impl<
     C: Copy + Fn(&Context<'_>, &mut R, &Value, Args) -> Result<Value, EvalErr>,
     G: Fn(&Context<'_>, usize, C, &mut Frame<'_>, &mut R, &CodeStmt) -> Result<Flow, EvalErr>,
 > Runner<'a, R, C, G> {
-    /// Runs a statement inside.
-    #[inline(always)]
-    fn run_inside(
-        &self,
-        frame: &mut Frame<'_>,
-        runtime: &mut R,
-        stmt: &CodeStmt,
-    ) -> Result<Flow, EvalErr>
-        requires { Runs R.means R.seen self.now.reader.context.now.left self.now.depth self.now.reader.call (G.pre self.now.run) (G.post self.now.run) }
-        ensures { Acts R.means (λ f. (flow_of f, slots_of frame.new)) result (R.seen runtime.new) (meaning.run_to self.now.depth R.means (evals R.means self.now.reader.context.now) stmt.now (slots_of frame.old) (R.seen runtime.old)) }
-    {
-        (self.run)(
-            self.reader.context,
-            self.depth,
-            self.reader.call,
-            frame,
-            runtime,
-            stmt,
-        )
-    }
-
     /// Runs statements in order.
     #[tactic(auto, unfolding(bq_eval_meaning_spec::specs::Statements::block))]
     fn block(
@@ -125,7 +104,8 @@ impl<
         ensures { Acts R.means (λ f. (flow_of f, slots_of frame.new)) result (R.seen runtime.new) (meaning.block R.means (evals R.means self.now.reader.context.now) (meaning.run_to self.now.depth R.means (evals R.means self.now.reader.context.now)) stmts.now (slots_of frame.old) (R.seen runtime.old)) }
     {
         for stmt in stmts {
-            match self.run_inside(frame, runtime, stmt)? {
+            let Reader { context, call, .. } = self.reader;
+            match (self.run)(context, self.depth, call, frame, runtime, stmt)? {
                 Flow::Next => {}
                 Flow::Leave => return Ok(Flow::Leave),
                 Flow::Again => return Ok(Flow::Again),

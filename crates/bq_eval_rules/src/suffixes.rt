@@ -216,27 +216,8 @@ impl<
         }
     }
 
-    /// Applies the suffixes of an operand. Most often it is one.
-    #[inline(always)]
-    #[tactic(auto, unfolding(bq_eval_meaning_spec::specs::Expressions::suffixes))]
-    fn suffixed(
-        &self,
-        runtime: &mut R,
-        suffixes: &[CodeSuffix],
-        operand: &Value,
-    ) -> Result<Value, EvalErr>
-        requires nests { Nests R.means R.seen self.now.context.now.left self.now.depth self.now.call (F.pre self.now.eval) (F.post self.now.eval) }
-        requires answers { Answers R.means R.seen self.now.context.now.left (C.pre self.now.call) (C.post self.now.call) }
-        ensures { Acts R.means (λ v. v) result (R.seen runtime.new) (meaning.suffixes R.means (nested R.means self.now.depth self.now.context.now) (inside R.means self.now.context.now) suffixes.now (slots_of self.now.frame.now) operand.now (R.seen runtime.old)) }
-    {
-        match suffixes {
-            [suffix] => self.suffix(runtime, suffix, operand),
-            _ => self.long_suffixed(runtime, suffixes, operand),
-        }
-    }
-
-    /// Evaluates an operand, which is only read, and its suffixes.
-    #[tactic(auto, unfolding(bq_eval_meaning_spec::specs::Expressions::primary))]
+    /// Evaluates an operand, which is only read, and its suffixes. Most often it is one.
+    #[tactic(auto, unfolding(bq_eval_meaning_spec::specs::Expressions::primary, bq_eval_meaning_spec::specs::Expressions::suffixes))]
     pub fn primary(
         &self,
         runtime: &mut R,
@@ -249,6 +230,9 @@ impl<
     {
         runtime.step(suffixes.len() as u64)?;
         let operand = self.operand(runtime, code)?;
-        self.suffixed(runtime, suffixes, operand.get())
+        match suffixes {
+            [suffix] => self.suffix(runtime, suffix, operand.get()),
+            _ => self.long_suffixed(runtime, suffixes, operand.get()),
+        }
     }
 }

@@ -1,6 +1,6 @@
 //! The modules of a program.
 
-ghost use Rattle.std.specs.Prelude.{◌≡◌, None, Some, MatchOption, take, drop};
+ghost use Rattle.std.specs.Prelude.{◌≡◌, None, Some, MatchOption};
 ghost use Rattle.bq_eval_meaning_spec.specs.Module.{frozen_unit, globals_among};
 ghost use Rattle.bq_eval_rules.specs.CodeUnits.{unit_of};
 ghost use Rattle.bq_eval_rules.specs.Round.{units_at, globals_of, views_of};
@@ -55,27 +55,14 @@ fn globals_among<'a>(mut frozen: &'a [Arc<Frozen>], home: u32) -> Option<&'a [Va
 }
 
 /// Returns a frozen module, from its file, and the values of its globals and of what its loads bind.
+#[tactic(auto, using(std::proofs::lemmas::List::take_min, std::proofs::lemmas::List::drop_min), unfolding(crate::specs::Round::globals_of))]
 fn frozen_unit<'a>(file: &'a Resolved, values: &'a [Value]) -> CodeUnit<'a>
     ensures { Some (unit_of result) ≡ frozen_unit (Some (Some file.now)) (Some values.now) }
 {
-    let count = file.globals.len();
+    let count = file.globals.len().min(values.len());
     CodeUnit {
         functions: file.functions.as_slice(),
-        globals: Globals::Frozen(first_values(values, count)),
-        loaded: later_values(values, count),
+        globals: Globals::Frozen(&values[..count]),
+        loaded: &values[count..],
     }
-}
-
-#[tactic(auto, using(std::proofs::lemmas::List::take_min))]
-fn first_values(values: &[Value], count: usize) -> &[Value]
-    ensures { result.now ≡ take count values.now }
-{
-    &values[..count.min(values.len())]
-}
-
-#[tactic(auto, using(std::proofs::lemmas::List::drop_min))]
-fn later_values(values: &[Value], count: usize) -> &[Value]
-    ensures { result.now ≡ drop count values.now }
-{
-    &values[count.min(values.len())..]
 }

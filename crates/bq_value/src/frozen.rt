@@ -46,7 +46,7 @@ impl Frozen {
     pub fn globals(&self) -> &[Value]
         ensures { result.now ≡ self.now.cells.globals }
     {
-        self.cells.globals()
+        &self.cells.cells.globals
     }
 
     /// Returns the values of the globals of module `home`, if it is this one or one that it reaches.
@@ -55,9 +55,9 @@ impl Frozen {
         ensures { MatchOption result (globals_at self.now home ≡ None) (λ g. globals_at self.now home ≡ Some g.now) }
     {
         if home == self.own {
-            return Some(self.cells.globals());
+            return Some(self.globals());
         }
-        Some(self.reached.get(home)?.globals())
+        Some(&self.reached.get(home)?.cells.globals)
     }
 
     /// Returns what `cell` holds.
@@ -66,9 +66,10 @@ impl Frozen {
         ensures { MatchOption result (frozen_at self.now cell.module cell.number ≡ None) (λ c. frozen_at self.now cell.module cell.number ≡ Some c.now) }
     {
         if cell.module == self.own {
-            return self.cells.content(cell.number);
+            return self.cells.cells.contents.get(cell.number);
         }
-        self.reached.get(cell.module)?.content(cell.number)
+        let module = self.reached.get(cell.module)?;
+        module.cells.contents.get(cell.number)
     }
 }
 

@@ -1,6 +1,6 @@
 //! Frozen modules by their numbers, each shared.
 
-ghost use Rattle.std.specs.Prelude.{◌≡◌, ◌<◌, ◌≤◌, ◌^◌, [], MatchOption, IfOk, OnOk, OnErr, fold};
+ghost use Rattle.std.specs.Prelude.{◌≡◌, ◌≤◌, [], MatchOption, IfOk, OnOk, OnErr, fold};
 ghost use Rattle.std.specs.Option.{option_copied};
 ghost use Rattle.bq_value.specs.Cells.{module_at, added};
 ghost use Rattle.bq_value.specs.Tries.{IsShaped, entries};
@@ -52,12 +52,12 @@ impl Modules {
         self.tree.get(self.height, 0, home)
     }
 
-    /// Adds a module, if none of its number is here.
+    /// Adds a module, if none of its number is here. The tree gets the least height that has room for the number.
     pub(crate) fn add(&mut self, home: u32, shared: &Shared) -> Result<(), AllocError>
         ensures ok { OnOk result (self.new ≡ added self.old (home, shared.now)) }
         ensures err { OnErr result (self.new ≡ self.old) }
     {
-        let height = self.height.max(height_of(home));
+        let height = self.height.max(32 - home.leading_zeros());
         let one = Tree::lone(self.alloc, height, 0, home, shared)?;
         match joined(self.alloc, &self.tree, self.height, &one, height)? {
             None => Ok(()),
@@ -116,12 +116,4 @@ fn raised(alloc: Global, tree: &Tree, from: u32, to: u32) -> Result<Tree, AllocE
         longer = Tree::fork(alloc, level + 1, longer, Tree::bare())?;
     }
     Ok(longer)
-}
-
-/// Returns the least height of a tree, for a range from 0 on, that has room for this number.
-fn height_of(home: u32) -> u32
-    ensures fits { result ≤ 32 }
-    ensures within { home < 2 ^ result }
-{
-    32 - home.leading_zeros()
 }

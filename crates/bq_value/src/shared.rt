@@ -1,6 +1,6 @@
 //! The cells of a frozen module, shared.
 
-ghost use Rattle.std.specs.Prelude.{◌≡◌, None, Some, MatchOption, IfOk, slice_get, option_copied};
+ghost use Rattle.std.specs.Prelude.{◌≡◌, IfOk, option_copied};
 ghost use Rattle.bq_value.specs.Kinds.{kind_at};
 
 use crate::content::Content;
@@ -46,22 +46,10 @@ impl Shared {
         })
     }
 
-    pub(crate) fn content(&self, number: usize) -> Option<&Content>
-        ensures { MatchOption result (slice_get self.now.cells number ≡ None) (λ c. slice_get self.now.cells number ≡ Some c.now) }
-    {
-        self.cells.contents.get(number)
-    }
-
     /// Returns the kind of the rule in a cell.
     pub(crate) fn kind(&self, number: usize) -> Option<&Bytes>
         ensures { option_copied result ≡ kind_at number self.now.kinds }
     {
         self.cells.kinds.get(number)
-    }
-
-    pub(crate) fn globals(&self) -> &[Value]
-        ensures { result.now ≡ self.now.globals }
-    {
-        &self.cells.globals
     }
 }

@@ -94,7 +94,8 @@ impl Store {
         if cell.module == self.own {
             return self.cells.get(cell.number);
         }
-        self.loaded.get(cell.module)?.content(cell.number)
+        let module = self.loaded.get(cell.module)?;
+        module.cells.contents.get(cell.number)
     }
 
     /// Returns the kind of the rule in a cell of a frozen module. A rule of the running module has none yet.

@@ -174,7 +174,10 @@ impl Tree {
         ensures { IfOk result (λ t. Joins self.now other.now height (unwrap_or t self.now)) }
     {
         match &self.node {
-            Node::Bare => other.share_of_some(),
+            Node::Bare => match &other.node {
+                Node::Bare => Ok(None),
+                _ => Ok(Some(other.share()?)),
+            },
             Node::Leaf(_) => Ok(None),
             Node::Fork(keys, halves) => match &other.node {
                 Node::Bare => Ok(None),
@@ -188,26 +191,6 @@ impl Tree {
                     halves.changed(alloc, height, left, right)
                 }
             },
-        }
-    }
-
-    /// Returns another owner of the tree, or `None` if it has no module.
-    fn share_of_some(&self) -> Result<Option<Tree>, AllocError>
-        ensures { IfOk result (λ t. unwrap_or t bare ≡ self.now) }
-    {
-        match &self.node {
-            Node::Bare => Ok(None),
-            Node::Leaf(_) => Ok(Some(self.share()?)),
-            Node::Fork(_, _) => Ok(Some(self.share()?)),
-        }
-    }
-
-    fn or_share(&self, changed: Option<Tree>) -> Result<Tree, AllocError>
-        ensures { IfOk result (λ t. t ≡ unwrap_or changed self.now) }
-    {
-        match changed {
-            None => self.share(),
-            Some(tree) => Ok(tree),
         }
     }
 }
@@ -229,8 +212,14 @@ impl Halves {
         if left.is_none() && right.is_none() {
             return Ok(None);
         }
-        let left = self.left.or_share(left)?;
-        let right = self.right.or_share(right)?;
+        let left = match left {
+            None => self.left.share()?,
+            Some(left) => left,
+        };
+        let right = match right {
+            None => self.right.share()?,
+            Some(right) => right,
+        };
         Ok(Some(Tree::fork(alloc, height, left, right)?))
     }
 }

@@ -41,32 +41,47 @@ pub call_function-returns : goal.call_function-returns
 unfolding call_function
 call_function-returns g t c = grind (arith, common_steps)
 
-pub apply-returns-in-Function : goal.apply-returns-in-Function
-unfolding apply
-apply-returns-in-Function g t c = grind (arith, common_steps, list_of_data_of)
-
-pub apply-returns-in-BuiltIn : goal.apply-returns-in-BuiltIn
-unfolding apply
-apply-returns-in-BuiltIn g t c = grind (arith, common_steps)
-
-pub apply-returns-in-SchemaRule : goal.apply-returns-in-SchemaRule
-unfolding apply
-apply-returns-in-SchemaRule g t c = grind (arith, common_steps)
-
-pub apply-returns-in-RuleFunction : goal.apply-returns-in-RuleFunction
-unfolding apply
-apply-returns-in-RuleFunction g t c = grind (arith, common_steps)
-
-pub apply-returns-in-Cell : goal.apply-returns-in-Cell
-unfolding apply
-apply-returns-in-Cell g t c = grind (arith, common_steps)
-
-pub call-returns : goal.call-returns
-unfolding inside
-call-returns g t c =
+pub call-returns-in-Function : goal.call-returns-in-Function
+unfolding inside apply
+call-returns-in-Function g t c =
     let h = g.R.Runtime in
     let x = c.args.context.now in
-    rw (calls_step x.left h.means (units_at x.program.now (globals_of x.own)) c.args.value.now c.args.args (h.seen c.args.runtime.now)) c.apply.ensures
+    rw (calls_step x.left h.means (units_at x.program.now (globals_of x.own)) c.args.value.now c.args.args (h.seen c.args.runtime.now)) (grind (arith, common_steps, list_of_data_of))
+
+pub call-returns-in-BuiltIn : goal.call-returns-in-BuiltIn
+unfolding inside apply
+call-returns-in-BuiltIn g t c =
+    let h = g.R.Runtime in
+    let x = c.args.context.now in
+    rw (calls_step x.left h.means (units_at x.program.now (globals_of x.own)) c.args.value.now c.args.args (h.seen c.args.runtime.now)) (grind (arith, common_steps))
+
+pub call-returns-in-SchemaRule : goal.call-returns-in-SchemaRule
+unfolding inside apply
+call-returns-in-SchemaRule g t c =
+    let h = g.R.Runtime in
+    let x = c.args.context.now in
+    rw (calls_step x.left h.means (units_at x.program.now (globals_of x.own)) c.args.value.now c.args.args (h.seen c.args.runtime.now)) (grind (arith, common_steps))
+
+pub call-returns-in-RuleFunction : goal.call-returns-in-RuleFunction
+unfolding inside apply
+call-returns-in-RuleFunction g t c =
+    let h = g.R.Runtime in
+    let x = c.args.context.now in
+    rw (calls_step x.left h.means (units_at x.program.now (globals_of x.own)) c.args.value.now c.args.args (h.seen c.args.runtime.now)) (grind (arith, common_steps))
+
+pub call-returns-in-Cell : goal.call-returns-in-Cell
+unfolding inside apply
+call-returns-in-Cell g t c =
+    let h = g.R.Runtime in
+    let x = c.args.context.now in
+    rw (calls_step x.left h.means (units_at x.program.now (globals_of x.own)) c.args.value.now c.args.args (h.seen c.args.runtime.now)) (grind (arith, common_steps))
+
+pub call-returns-in_default : goal.call-returns-in_default
+unfolding inside apply
+call-returns-in_default g t c =
+    let h = g.R.Runtime in
+    let x = c.args.context.now in
+    rw (calls_step x.left h.means (units_at x.program.now (globals_of x.own)) c.args.value.now c.args.args (h.seen c.args.runtime.now)) (grind (arith, common_steps))
 
 pub call_at-returns-in-None : goal.call_at-returns-in-None
 call_at-returns-in-None g t c =
@@ -91,7 +106,3 @@ call_at-returns-in-Some-get g t c =
     let at = known_function h.means units (inner_calls x.left h.means units) c.args.called.now.«module» c.args.called.now.place c.args.called.now.defaults.items c.args.args (h.seen c.args.runtime.now) (unit_of c.in-Some.unit) d c.in-Some.ensures c.in-Some-get.ensures.lookup.3.0 (c.in-Some-get.ensures.lookup.3.1 d) in
     let P : Run h.State Datum → Type 0 = λ run. Acts h.means (λ v. v) c.call_function.result (h.seen c.call_function.new.runtime) run in
     subst P (sym at) c.call_function.ensures
-
-pub apply-returns-in_default : goal.apply-returns-in_default
-unfolding apply
-apply-returns-in_default g t c = grind (arith, common_steps)

@@ -11,9 +11,9 @@ pub loop-stmt-preserved : goal.loop-stmt-preserved
 unfolding block
 loop-stmt-preserved g c = grind (arith, common_steps)
 
-pub returns-in_err-run_inside : goal.returns-in_err-run_inside
+pub returns-in_err-run : goal.returns-in_err-run
 unfolding block
-returns-in_err-run_inside g c = grind (arith, common_steps)
+returns-in_err-run g c = grind (arith, common_steps)
 
 pub returns-in-Leave : goal.returns-in-Leave
 unfolding block

@@ -1,4 +1,4 @@
-use Rattle.std.proofs.Common.{◌≡◌, ◌∙◌, ◌-◌, ℕ, Option, None, MatchOption, ap, sym, subst, bit_and}
+use Rattle.std.proofs.Common.{◌≡◌, ◌∙◌, ◌-◌, ℕ, Option, None, Some, MatchOption, ap, sym, subst, bit_and}
 use Rattle.std.specs.Option.{unwrap_or}
 use Rattle.std.proofs.lemmas.Result.{IfOk-weaker}
 use Rattle.bq_value.specs.Tries.{Trie, bare, fork, keys, IsFork, Joins}
@@ -17,13 +17,11 @@ returns-then-more-keys t c =
     ap (λ (x : ℕ). bit_and x (keys a)) m ∙ (ap (λ (y : ℕ). bit_and c.in-Fork-node.more y) k ∙ (c.if-more-keys.true ∙ sym m)) in
     joins_there a b c.args.height c.if-height-le-BLOCK.true c.requires.shaped c.requires.other within
 
-pub returns-in-Bare : goal.returns-in-Bare
-returns-in-Bare t c =
+pub returns-in_ok-share-in_default : goal.returns-in_ok-share-in_default
+returns-in_ok-share-in_default t c =
     let a = c.args.self.now in
-    let b = c.args.other.now in
     let e : a ≡ bare = sym c.self.view_is ∙ ap trie_of c.in-Bare.is in
-    IfOk-weaker c.share_of_some.result (λ (o : Option Trie). unwrap_or o bare ≡ b) (λ (o : Option Trie). Joins a b c.args.height (unwrap_or o a))
-    (λ o f. joins_some o a b c.args.height e f c.requires.other) c.share_of_some.ensures
+    joins_some (Some c.in_ok-share-in_default.field-0) a c.args.other.now c.args.height e c.in_ok-share-in_default.ensures c.requires.other
 
 pub returns-in_ok-right-in-Fork-node : goal.returns-in_ok-right-in-Fork-node
 returns-in_ok-right-in-Fork-node t c =

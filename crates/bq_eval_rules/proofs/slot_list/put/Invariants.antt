@@ -1,6 +1,6 @@
 use Rattle.std.proofs.Common.{◌≡◌, ◌+◌, ◌-◌, length}
 use Rattle.bq_eval_rules.specs.Slots.{list_slots}
-use Rattle.bq_eval_rules.proofs.slot_list.pad.Given as goal
+use Rattle.bq_eval_rules.proofs.slot_list.put.Given as goal
 
 abbrev pub invariant-loop-slots : goal.invariant-loop-slots
 invariant-loop-slots l = list_slots l.slots.items ≡ list_slots l.fn.slots.items
