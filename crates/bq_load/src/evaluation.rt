@@ -45,28 +45,25 @@ fn frozen_of(
     Ok(all)
 }
 
-/// Returns the module of a .bzl file that ran to its end.
-fn bzl_module(alloc: Global, frozen: Frozen, prints: Vec<Bytes>) -> Result<LoadedModule, AllocError>
-    ensures { IfOk result (λ m. module_view m ≡ module_with frozen prints.items None) }
-{
-    Ok(LoadedModule {
-        frozen: Arc::new(alloc, frozen)?,
-        prints,
-        package: None,
-    })
-}
-
-/// Returns the module of the BUILD file of this number, which ran to its end with this package. Nobody loads it, so it
+/// Returns a module that ran to its end, with the package that its host keeps. Nobody loads a BUILD file, so its module
 /// keeps no cell.
-fn build_module(
+fn loaded_module(
     alloc: Global,
-    number: u32,
+    frozen: Frozen,
     prints: Vec<Bytes>,
-    kept: PackageState,
+    kept: Option<PackageState>,
 ) -> Result<LoadedModule, AllocError>
-    ensures { IfOk result (λ m. module_view m ≡ record { frozen = without_cells number; prints = prints.items; «package» = Some (finished kept) }) }
+    ensures { IfOk result (λ m. module_view m ≡ module_with frozen prints.items (option_map finished kept)) }
 {
+    let Some(kept) = kept else {
+        return Ok(LoadedModule {
+            frozen: Arc::new(alloc, frozen)?,
+            prints,
+            package: None,
+        });
+    };
     let package = kept.finish(alloc)?;
+    let number = frozen.module();
     let frozen = freeze(
         alloc,
         Store::new(alloc, number, Seed::fixed()),
@@ -78,21 +75,6 @@ fn build_module(
         prints,
         package: Some(package),
     })
-}
-
-/// Returns a module that ran to its end, with the package that its host keeps.
-fn loaded_module(
-    alloc: Global,
-    frozen: Frozen,
-    prints: Vec<Bytes>,
-    kept: Option<PackageState>,
-) -> Result<LoadedModule, AllocError>
-    ensures { IfOk result (λ m. module_view m ≡ module_with frozen prints.items (option_map finished kept)) }
-{
-    match kept {
-        None => bzl_module(alloc, frozen, prints),
-        Some(package) => build_module(alloc, frozen.module(), prints, package),
-    }
 }
 
 /// Returns the module of an ended evaluation.

@@ -32,25 +32,6 @@ pub struct LoadedFiles<'a> {
 }
 
 impl<'a> LoadedFiles<'a> {
-    /// Counts how many clauses of these loads look into each of the modules. That decides how they look, and not what
-    /// they find.
-    fn clauses_by_module(
-        &self,
-        alloc: Global,
-        loads: &[LoadStmt],
-    ) -> Result<Vec<usize>, AllocError> {
-        let mut clauses = vec![in alloc; 0; self.modules.len()]?;
-        for (number, load) in loads.iter().enumerate() {
-            let Some(place) = self.named.place(number) else {
-                return Ok(clauses);
-            };
-            if place < clauses.len() {
-                clauses[place] = clauses[place].saturating_add(load.clauses.len());
-            }
-        }
-        Ok(clauses)
-    }
-
     /// Returns the places of the names of a module's globals, if enough clauses look for them to pay for a map.
     fn places_of(
         &self,
@@ -97,19 +78,6 @@ impl<'a> LoadedFiles<'a> {
         }
     }
 
-    /// Returns what the module at this place exports, if there is one.
-    fn exports_in<'t>(&self, places: &'t [Option<NamePlaces<'a>>], number: usize) -> Exports<'t, 'a>
-        requires { AllPlaced (names_of self.now.code.now self.now.modules.now) places.now }
-        ensures code { result.code.now ≡ self.now.code.now }
-        ensures module_is { option_map module_view (option_copied result.module) ≡ slice_get (module_views self.now.modules.now) number }
-    {
-        Exports {
-            code: self.code,
-            module: self.module_in(number),
-            places: places_at(places, number),
-        }
-    }
-
     /// Appends the values of the clauses of a load, which names the file at this place.
     fn add_load(
         &self,
@@ -121,7 +89,11 @@ impl<'a> LoadedFiles<'a> {
         requires { AllPlaced (names_of self.now.code.now self.now.modules.now) places.now }
         ensures { Gives (λ _. values.new.items) Bad result (clause_values self.now.code.now (slice_get (module_views self.now.modules.now) place) load.now.line values.old.items load.now.clauses) }
     {
-        let exports = self.exports_in(places, place);
+        let exports = Exports {
+            code: self.code,
+            module: self.module_in(place),
+            places: places_at(places, place),
+        };
         exports.clause_values(load.line, values, load.clauses.as_slice())
     }
 
@@ -150,7 +122,16 @@ impl<'a> LoadedFiles<'a> {
     pub(crate) fn imports(&self, alloc: Global, loads: &[LoadStmt]) -> Result<Vec<Value>, SourceErr>
         ensures { Gives items Bad result (imports (loaded_of self.now) [] loads.now self.now.named.now) }
     {
-        let clauses = self.clauses_by_module(alloc, loads)?;
+        // How many clauses look into each module decides how they look, and not what they find.
+        let mut clauses = vec![in alloc; 0usize; self.modules.len()]?;
+        for (number, load) in loads.iter().enumerate() {
+            let Some(place) = self.named.place(number) else {
+                break;
+            };
+            if place < clauses.len() {
+                clauses[place] = clauses[place].saturating_add(load.clauses.len());
+            }
+        }
         let places = self.all_places(alloc, &clauses)?;
         self.imports_by(alloc, &places, loads)
     }

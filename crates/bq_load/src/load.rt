@@ -12,7 +12,7 @@ use crate::gate::Gate;
 use crate::loaded::Loaded;
 use crate::loading::Loading;
 use crate::outcome::ModuleOutcome;
-use crate::pool::{Pool, PoolSeat};
+use crate::pool::Pool;
 use bq_board::Graph;
 use bq_label::Workspace;
 use bq_load_discover::{LoadErr, discover, discover_by_workers};
@@ -54,24 +54,6 @@ fn loaded_one_thread(
     Ok(Loaded::gathered(alloc, &packages, modules)?)
 }
 
-/// Loads the modules of a pool by its seats. Drops their code before the rest is made, to lower the peak of memory.
-#[tactic(auto, using(crate::proofs::Joined::gathered_is))]
-fn loaded_by_workers<'a, R: Threads + Wait + Sync, G: Gate>(
-    rt: &R,
-    alloc: Global,
-    pool: Pool<'a>,
-    seats: Vec<PoolSeat<'a>>,
-    gate: &G,
-) -> Result<Loaded, AllocError>
-    requires { All (λ s. IsSeatOf pool.shared.board s.place) seats.items }
-    ensures { IfOk result (λ l. IsLoaded (parts_of pool.entry) (loads_of pool.entry) l) }
-{
-    let modules = pool.outcomes(rt, alloc, seats, gate)?;
-    let packages = pool.into_packages();
-    // PROOF: they give this
-    Ok(Loaded::gathered(alloc, &packages, modules)?)
-}
-
 /// Loads a workspace on one thread: each module is evaluated after all that it loads, with `limit` steps of its own. It
 /// is refused if there are too many modules or edges (L2), and if memory is refused (L1). It evaluates on the stack of
 /// its caller, which no call overflows if that is as large as `bq_load_workers::EVALUATION_STACK`.
@@ -96,7 +78,7 @@ pub fn load_one_thread(
 
 /// Loads a workspace by several workers, each in a thread of its own with the stack that evaluation may take, and
 /// notifies a gate of each evaluation. It returns what one thread returns, whatever the order of the workers' steps.
-#[tactic(auto, using(crate::proofs::Joined::loaded_is))]
+#[tactic(auto, using(crate::proofs::Joined::loaded_is, crate::proofs::Joined::gathered_is))]
 pub fn load_with<R: Threads + Wait + Sync, G: Gate>(
     rt: &R,
     alloc: Global,
@@ -116,5 +98,8 @@ pub fn load_with<R: Threads + Wait + Sync, G: Gate>(
         Err(why) => return Err(why),
     };
     let (pool, seats) = Pool::open(alloc, workspace, schema, limit, seed, graph, workers)?;
-    Ok(loaded_by_workers(rt, alloc, pool, seats, gate)?)
+    let modules = pool.outcomes(rt, alloc, seats, gate)?;
+    let packages = pool.into_packages(); // drops the code, to lower the peak of memory
+    // PROOF: they give this
+    Ok(Loaded::gathered(alloc, &packages, modules)?)
 }

@@ -7,7 +7,7 @@ ghost use Rattle.bq_label_set.specs.Labels.{with_labels};
 ghost use Rattle.std.specs.List.Sorted.{IsStrictlySortedBy};
 ghost use Rattle.bq_package_target.specs.Package.{no_targets};
 ghost use Rattle.bq_load.specs.Views.{result_view, outcome_view};
-ghost use Rattle.bq_load.specs.Loaded.{labels_of, own_package, package_by, package_at, package_in, packages_in, PackagesAscend};
+ghost use Rattle.bq_load.specs.Loaded.{labels_of, package_by, package_at, package_in, packages_in, PackagesAscend};
 
 use crate::outcome::{FailedModule, LoadedModule, ModuleOutcome};
 use bq_label::{BuildFile, Label, Packages};
@@ -22,24 +22,7 @@ fn no_targets(alloc: Global, label: &Label) -> Result<Package, AllocError>
     Package::failed(alloc, label.share()?)
 }
 
-/// Returns a BUILD file's package, if it is of the file's directory.
-fn own_package(
-    alloc: Global,
-    label: &Label,
-    package: &Option<Package>,
-) -> Result<Package, AllocError>
-    ensures { IfOk result (λ p. p ≡ own_package label.now «package».now) }
-{
-    let Some(package) = package else {
-        return no_targets(alloc, label);
-    };
-    if is_of(label.package_id(), package.build_file()) {
-        return package.share();
-    }
-    no_targets(alloc, label)
-}
-
-/// Returns the package of a BUILD file: one without targets if it failed.
+/// Returns the package of a BUILD file, which is of the file's directory: one without targets if it failed.
 pub(crate) fn package_by(
     alloc: Global,
     label: &Label,
@@ -47,10 +30,16 @@ pub(crate) fn package_by(
 ) -> Result<Package, AllocError>
     ensures { IfOk result (λ p. p ≡ package_by label.now (result_view outcome.now)) }
 {
-    match outcome {
-        Ok(module) => own_package(alloc, label, &module.package),
-        Err(_) => no_targets(alloc, label),
+    let Ok(module) = outcome else {
+        return no_targets(alloc, label);
+    };
+    let Some(package) = &module.package else {
+        return no_targets(alloc, label);
+    };
+    if is_of(label.package_id(), package.build_file()) {
+        return package.share();
     }
+    no_targets(alloc, label)
 }
 
 /// Returns the labels of modules, each once.
@@ -85,22 +74,6 @@ fn package_at(
     }
 }
 
-/// Returns the package of a BUILD file, if that is one of the modules.
-fn package_in(
-    alloc: Global,
-    labels: &LabelSet,
-    modules: &[ModuleOutcome],
-    build: &BuildFile,
-) -> Result<Option<Package>, AllocError>
-    requires { labels.now ≡ with_labels [] (labels_of (map outcome_view modules.now)) }
-    ensures { IfOk result (λ p. p ≡ package_in (map outcome_view modules.now) build.now) }
-{
-    match build.label(alloc)? {
-        None => Ok(None),
-        Some(label) => package_at(alloc, labels, modules, &label),
-    }
-}
-
 /// Appends a package, if its BUILD file is one of the modules.
 fn add_package(
     alloc: Global,
@@ -112,30 +85,16 @@ fn add_package(
     requires { labels.now ≡ with_labels [] (labels_of (map outcome_view modules.now)) }
     ensures { OnOk result (all.new.items ≡ all.old.items ++ option_to_list (package_in (map outcome_view modules.now) build.now)) }
 {
-    match package_in(alloc, labels, modules, build)? {
+    let Some(label) = build.label(alloc)? else {
+        return Ok(());
+    };
+    match package_at(alloc, labels, modules, &label)? {
         None => Ok(()),
         Some(package) => {
             all.push(package)?;
             Ok(())
         }
     }
-}
-
-/// Returns the packages of these BUILD files in their order, by the labels of the modules.
-fn packages_by_labels(
-    alloc: Global,
-    labels: &LabelSet,
-    modules: &[ModuleOutcome],
-    builds: &[BuildFile],
-) -> Result<Vec<Package>, AllocError>
-    requires { labels.now ≡ with_labels [] (labels_of (map outcome_view modules.now)) }
-    ensures { IfOk result (λ ps. ps.items ≡ packages_in builds.now (map outcome_view modules.now)) }
-{
-    let mut all = Vec::with_capacity(alloc, builds.len())?;
-    for build in builds {
-        add_package(alloc, labels, modules, build, &mut all)?;
-    }
-    Ok(all)
 }
 
 /// Returns the packages of a workspace in their order, by its modules.
@@ -149,5 +108,9 @@ pub(crate) fn packages_in(
 {
     let builds = packages.all();
     let labels = labels_of(alloc, modules)?;
-    packages_by_labels(alloc, &labels, modules, builds)
+    let mut all = Vec::with_capacity(alloc, builds.len())?;
+    for build in builds {
+        add_package(alloc, &labels, modules, build, &mut all)?;
+    }
+    Ok(all)
 }

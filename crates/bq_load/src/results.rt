@@ -100,34 +100,6 @@ impl<'a> Loading<'a> {
         })
     }
 
-    /// Returns the result of a module, by its outcome along loads.
-    fn result_of(
-        &self,
-        alloc: Global,
-        m: u32,
-        source: &Source,
-        outcome: &SharedOutcome<LoadedModule, FailedModule>,
-    ) -> Result<Result<Arc<LoadedModule, Global>, FailedModule>, AllocError>
-        ensures { IfOk result (λ r. result_view r ≡ result_of (loading_of self.now) m source.now (shown_outcome module_view failed_view outcome.now)) }
-    {
-        match outcome {
-            Outcome::Loaded(module) => Ok(Ok(Arc::try_clone(module)?)),
-            Outcome::Faulty(failed) => Ok(Err(share_failed(alloc, failed)?)),
-            Outcome::Cyclic(k) => {
-                let fault = self.load_fault(alloc, m, source, FaultKind::CycleReached, *k)?;
-                Ok(Err(FailedModule::not_evaluated(alloc, fault)))
-            }
-            Outcome::TooDeep(k) => {
-                let fault = self.load_fault(alloc, m, source, FaultKind::LoadDepth, *k)?;
-                Ok(Err(FailedModule::not_evaluated(alloc, fault)))
-            }
-            Outcome::LoadFailed(k) => {
-                let fault = self.load_fault(alloc, m, source, FaultKind::LoadFailed, *k)?;
-                Ok(Err(FailedModule::not_evaluated(alloc, fault)))
-            }
-        }
-    }
-
     /// Returns a module with its outcome, by its outcome along loads.
     pub(crate) fn outcome_at(
         &self,
@@ -139,7 +111,22 @@ impl<'a> Loading<'a> {
         ensures { IfOk result (λ o. outcome_view o ≡ outcome_by (loading_of self.now) m source.now (shown_outcome module_view failed_view outcome.now)) }
     {
         let label = source.label.share()?;
-        let result = self.result_of(alloc, m, source, outcome)?;
+        let result = match outcome {
+            Outcome::Loaded(module) => Ok(Arc::try_clone(module)?),
+            Outcome::Faulty(failed) => Err(share_failed(alloc, failed)?),
+            Outcome::Cyclic(k) => {
+                let fault = self.load_fault(alloc, m, source, FaultKind::CycleReached, *k)?;
+                Err(FailedModule::not_evaluated(alloc, fault))
+            }
+            Outcome::TooDeep(k) => {
+                let fault = self.load_fault(alloc, m, source, FaultKind::LoadDepth, *k)?;
+                Err(FailedModule::not_evaluated(alloc, fault))
+            }
+            Outcome::LoadFailed(k) => {
+                let fault = self.load_fault(alloc, m, source, FaultKind::LoadFailed, *k)?;
+                Err(FailedModule::not_evaluated(alloc, fault))
+            }
+        };
         Ok(ModuleOutcome { label, result })
     }
 

@@ -50,37 +50,26 @@ impl Sources {
             code: Vec::new(alloc),
         };
         for each in modules {
-            all.add(alloc, each)?;
+            let Module { label, front } = each;
+            match front {
+                Ok(Front { code, loads }) => {
+                    all.sources.push(Source {
+                        label,
+                        loads,
+                        fault: None,
+                    })?;
+                    all.code.push(Some(code))?;
+                }
+                Err(fault) => {
+                    all.sources.push(Source {
+                        label,
+                        loads: NamedFiles::none(alloc),
+                        fault: Some(fault),
+                    })?;
+                    all.code.push(None)?;
+                }
+            }
         }
         Ok(all)
-    }
-
-    /// Adds the source of one more module.
-    fn add(&mut self, alloc: Global, module: Module) -> Result<(), AllocError>
-        ensures sources { OnOk result (self.new.sources.items ≡ self.old.sources.items ++ source_of «module» ∷ []) }
-        ensures code { OnOk result (self.new.code.items ≡ self.old.code.items ++ code_of «module» ∷ []) }
-    {
-        let Module { label, front } = module;
-        match front {
-            Ok(Front { code, loads }) => {
-                let source = Source {
-                    label,
-                    loads,
-                    fault: None,
-                };
-                self.sources.push(source)?;
-                self.code.push(Some(code))?;
-            }
-            Err(fault) => {
-                let source = Source {
-                    label,
-                    loads: NamedFiles::none(alloc),
-                    fault: Some(fault),
-                };
-                self.sources.push(source)?;
-                self.code.push(None)?;
-            }
-        }
-        Ok(())
     }
 }

@@ -2,7 +2,7 @@ use Rattle.std.proofs.Common.{◌≡◌, ◌++◌, map, drop}
 use Rattle.std.specs.List.{filter_map}
 use Rattle.bq_load.specs.Views.{outcome_view}
 use Rattle.bq_load.specs.Loaded.{package_in, packages_in}
-use Rattle.bq_load.proofs.packages.packages_by_labels.Given as goal
+use Rattle.bq_load.proofs.packages.packages_in.Given as goal
 
 abbrev pub invariant-loop-build : goal.invariant-loop-build
 invariant-loop-build l = l.all.items ++ filter_map (package_in (map outcome_view l.modules)) (drop l.build-index l.builds) ≡ packages_in l.builds (map outcome_view l.modules)
