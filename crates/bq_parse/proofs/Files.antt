@@ -5,8 +5,7 @@ use Rattle.bq_base.specs.declared.fault.FaultKind.{FaultKind}
 use Rattle.bq_base.specs.declared.fault.FaultKind.TheVariants as f
 use Rattle.bq_base.specs.declared.fault.SourceErr.{SourceErr}
 use Rattle.bq_base.specs.declared.fault.SourceErr.TheVariants.{Bad}
-use Rattle.std.specs.Prelude.{IfOk, MatchResult}
-use Rattle.bq_base.specs.Fault.{fault_at}
+use Rattle.std.specs.Prelude.{IfOk}
 use Rattle.bq_base.specs.Gives.{Gives, GivesOneOf}
 use Rattle.bq_source.specs.declared.token.Token.{Token}
 use Rattle.bq_parse_grammar.specs.Lexeme.{Lexeme, lexeme, lexemes}
@@ -14,7 +13,6 @@ use Rattle.bq_parse_grammar.specs.Nesting.{nests}
 use Rattle.bq_parse_grammar.specs.Parses.{Parses, allowed, judged, verdict, first_and, all_read, statements_of}
 use Rattle.bq_parse_grammar.specs.Pieces.{pieces}
 use Rattle.bq_parse_grammar.specs.ReadingStatements.{top_level}
-use Rattle.bq_parse_grammar.specs.Statements.{line_of}
 use Rattle.bq_parse_grammar.specs.declared.tree.FileKind.{FileKind}
 use Rattle.bq_parse_grammar.specs.declared.tree.TopLevel.{TopLevel}
 use Rattle.bq_parse.specs.Answers.{at_line, itself, AreShallow}
@@ -113,15 +111,6 @@ some_left text rest some = some_taken (lexemes text rest) (rw (as_many text rest
 pub verdict_of : (kind : FileKind) (ts : List Lexeme) (x : TopLevel) → nests 0 ts ≡ true → top_level 65 ts ≡ Ok x → verdict kind ts ≡ allowed kind ts x
 unfolding verdict
 verdict_of kind ts x fits tree = ap (λ b. if b then judged kind ts (top_level 65 ts) else Err f.Nesting) fits ∙ ap (judged kind ts) tree
-
-pub judged_by : (ts : List Lexeme) (found : Result TopLevel FaultKind) (judged : Result (Unit {0}) FaultKind) (x : TopLevel) (line : ℕ) (answer : Result TopLevel SourceErr)
-    → line ≡ line_of ts → Gives (λ _. x) itself judged found → MatchResult judged (λ _. answer ≡ Ok x) (λ why. answer ≡ Err (Bad (fault_at why line)))
-    → Gives itself Bad answer (at_line ts found)
-judged_by ts found (Ok u) x line answer first is made =
-    let P : Result TopLevel SourceErr → Type 0 = λ r. Gives itself Bad r (at_line ts found) in subst P (sym made) (ap (at_line ts) is)
-judged_by ts found (Err why) x line answer first is made =
-    let P : Result TopLevel SourceErr → Type 0 = λ r. Gives itself Bad r (at_line ts found) in
-    subst P (sym made) (λ fault named. let same : fault_at why line ≡ fault = cc in ap (at_line ts) (is why refl) ∙ ap (λ l. Err (fault_at why l)) (sym first) ∙ ap Err same)
 
 -- ---- the answer, and what the tokens read as
 

@@ -1,11 +1,11 @@
 -- What is looked for among the tokens, a token at a time.
-use Rattle.std.specs.Prelude.{List, [], ◌∷◌, true, Bool, false, ◌||◌, ◌&&◌, not}
+use Rattle.std.specs.Prelude.{List, [], ◌∷◌, true, Bool, false, ◌&&◌, not}
 use Rattle.std.specs.Str.{bytes_eq}
 use Rattle.bq_source.specs.declared.token.TokenKind.{TokenKind}
 use Rattle.bq_source.specs.declared.token.TokenKind.TheVariants as k
 use Rattle.bq_parse_grammar.specs.Lexeme.{Lexeme}
 use Rattle.bq_parse_grammar.specs.Reading.{spelling_of}
-use Rattle.bq_parse_grammar.specs.Turns.{sees, next}
+use Rattle.bq_parse_grammar.specs.Turns.{next}
 use Rattle.bq_parse_grammar.specs.LeftOut.{native, calls_name, calls_method, kinds, leaves_out_by}
 
 -- the next token is the name `native`, but not before `.name(`
@@ -25,7 +25,3 @@ leaves_out_of _ ts = false
 abbrev pub leaves_out_next : List Lexeme → Bool
 leaves_out_next [] = false
 leaves_out_next (t ∷ ts) = leaves_out_by t.kind t ts
-
--- `*` or `**` comes next
-abbrev pub sees_star : List Lexeme → Bool
-sees_star ts = sees k.Star ts || sees k.StarStar ts

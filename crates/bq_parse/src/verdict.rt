@@ -1,9 +1,7 @@
 //! What a top-level statement reads as.
 
-ghost use Rattle.std.specs.Prelude.{◌≡◌, Ok, Err, MatchResult};
 ghost use Rattle.bq_parse.specs.Answers.{at_line, itself};
 ghost use Rattle.bq_parse_grammar.specs.Parses as spec;
-ghost use Rattle.bq_base.specs.Fault.{fault_at};
 ghost use Rattle.bq_base.specs.Gives.{Gives};
 ghost use Rattle.bq_base.specs.declared.fault.SourceErr.TheVariants.{Bad};
 
@@ -34,16 +32,6 @@ fn allowed(kind: FileKind, tokens: &Tokens<'_>, statement: &TopLevel) -> Result<
     }
 }
 
-/// Returns a statement, or its fault at its first line. It is generic, since dropping a `T` is a single step for the proof.
-fn at_line<T: Drop>(judged: Result<(), FaultKind>, statement: T, line: u32) -> Result<T, SourceErr>
-    ensures { MatchResult judged (λ _. result ≡ Ok statement) (λ why. result ≡ Err (Bad (fault_at why line))) }
-{
-    match judged {
-        Ok(()) => Ok(statement),
-        Err(why) => Err(SourceErr::Bad(Fault::at(why, line))),
-    }
-}
-
 /// Returns the top-level statement that these tokens are. At its first line: F11 where too many brackets and indents are open, else F10
 /// where it has no tree, else F12, else F13.
 #[tactic(auto, unfolding(bq_parse_grammar::specs::Parses::verdict))]
@@ -56,10 +44,10 @@ pub fn verdict(alloc: Global, kind: FileKind, tokens: &Tokens<'_>) -> Result<Top
     }
     let mut rest = tokens.here();
     match top_level(alloc, &mut rest, MAX_NESTING + 1) {
-        Ok(statement) => {
-            let judged = allowed(kind, tokens, &statement);
-            at_line(judged, statement, line)
-        }
+        Ok(statement) => match allowed(kind, tokens, &statement) {
+            Ok(()) => Ok(statement),
+            Err(why) => Err(SourceErr::Bad(Fault::at(why, line))),
+        },
         Err(SyntaxErr::Memory) => Err(SourceErr::Memory),
         Err(SyntaxErr::Syntax) => Err(SourceErr::Bad(Fault::at(FaultKind::Syntax, line))),
         Err(SyntaxErr::Lambda) => Err(SourceErr::Bad(Fault::at(FaultKind::LeftOut, line))),
