@@ -1,56 +1,22 @@
 //! Functions, and the `def`s that make them.
 
-ghost use Rattle.bq_resolve_scope.specs.Statements as spec;
 ghost use Rattle.bq_resolve_scope.specs.Files as files;
 ghost use Rattle.bq_resolve_expression.specs.Walks.{Walks};
 
 use crate::blocks::BlockResolver;
 use crate::parameters::{ParameterList, parameters};
 use crate::statements::stmt_to;
-use bq_base::{Bytes, SourceErr};
+use bq_base::SourceErr;
 use bq_parse_grammar::{Identifier, Parameter, Stmt};
 use bq_resolve_expression::{Scope, Walk, name_target};
 use bq_resolve_scope::{
-    Block, CodeDef, CodeFunction, CodeParameter, FileNames, FileStmt, MAX_LAYERS, Names,
-    function_names, inside,
+    Block, CodeDef, CodeFunction, FileNames, FileStmt, MAX_LAYERS, function_names, inside,
 };
-use sqlite_items::{Boxed, Items};
+use sqlite_items::Boxed;
 use std::alloc::Global;
 
-/// Resolves a function of the file, which has a frame of its own, and returns its number.
-#[tactic(auto, unfolding(bq_resolve_scope::specs::Statements::function, bq_resolve_scope::specs::Names::max_layers))]
-fn function(
-    scope: &Scope<'_>,
-    walk: &mut Walk,
-    name: &Bytes,
-    parameters: Items<CodeParameter>,
-    names: Names,
-    body: &[Stmt],
-) -> Result<usize, SourceErr>
-    ensures { Walks (spec.function scope.now.file.now name.now parameters names body.now walk.old) result walk.new }
-{
-    let outside = walk.frame(names.len());
-    let block = Block::new(scope.alloc, 0, names)?;
-    let blocks = inside(scope.alloc, block, &[])?;
-    let statements = BlockResolver {
-        scope: scope.among(blocks.as_slice()),
-        layers: MAX_LAYERS,
-        inner: stmt_to,
-    };
-    let body = statements.block(false, walk, body)?;
-    let slots = walk.frame(outside);
-    let name = name.share()?;
-    let number = walk.add_function(CodeFunction {
-        name,
-        parameters,
-        slots,
-        body,
-    })?;
-    Ok(number)
-}
-
-/// Resolves a `def`: its name is bound before its parameters are looked at.
-#[tactic(auto, unfolding(bq_resolve_scope::specs::Files::def_stmt))]
+/// Resolves a `def`: its name is bound before its parameters are looked at. Its function has a frame of its own.
+#[tactic(auto, unfolding(bq_resolve_scope::specs::Files::def_stmt, bq_resolve_scope::specs::Statements::function, bq_resolve_scope::specs::Names::max_layers))]
 pub fn def_stmt(
     alloc: Global,
     file: &FileNames,
@@ -69,7 +35,22 @@ pub fn def_stmt(
         defaults,
     } = parameters(alloc, file, walk, listed)?;
     let names = function_names(alloc, listed, body)?;
-    let function = function(&outside, walk, &name.name, parameters, names, body)?;
+    let slots_outside = walk.frame(names.len());
+    let block = Block::new(alloc, 0, names)?;
+    let blocks = inside(alloc, block, &[])?;
+    let statements = BlockResolver {
+        scope: outside.among(blocks.as_slice()),
+        layers: MAX_LAYERS,
+        inner: stmt_to,
+    };
+    let body = statements.block(false, walk, body)?;
+    let slots = walk.frame(slots_outside);
+    let function = walk.add_function(CodeFunction {
+        name: name.name.share()?,
+        parameters,
+        slots,
+        body,
+    })?;
     Ok(FileStmt::Def(CodeDef {
         target: target.into_inner(),
         function,

@@ -5,7 +5,7 @@ ghost use Rattle.bq_parse_grammar.specs.declared.tree.Expr.{out-Expr};
 ghost use Rattle.bq_resolve_scope.specs.Expressions as spec;
 ghost use Rattle.bq_resolve_expression.specs.Walks.{Walks, WalksNested};
 
-use crate::identifier::use_at;
+use crate::identifier::fault_of;
 use crate::rules::Rules;
 use crate::scope::Scope;
 use crate::walk::Walk;
@@ -85,13 +85,17 @@ impl<'a, F: Copy + Fn(&Scope<'_>, usize, &mut Walk, &Expr) -> Result<Code, Sourc
         Ok(Code::Conditional(choices, last))
     }
 
-    /// Resolves an expression, of any form.
+    /// Resolves an expression, of any form. A use of a name is of the innermost block that holds it, else F20.
+    #[tactic(auto, unfolding(bq_resolve_scope::specs::Expressions::use_at))]
     fn expr_by(&self, walk: &mut Walk, expr: &Expr) -> Result<Code, SourceErr>
         requires { WalksNested self.now.depth (F.pre self.now.visit) (F.post self.now.visit) }
         ensures { Walks (spec.expr_by self.now.scope.file.now (spec.expr_to self.now.depth self.now.scope.file.now) self.now.scope.blocks.now (out-Expr expr.now) walk.old) result walk.new }
     {
         match expr {
-            Expr::Name(name) => use_at(&self.scope, name).map(Code::Use),
+            Expr::Name(name) => match self.scope.file.use_of(self.scope.blocks, &name.name) {
+                Some(binding) => Ok(Code::Use(binding)),
+                None => Err(SourceErr::Bad(fault_of(FaultKind::UnknownName, name)?)),
+            },
             Expr::Int(value) => Ok(Code::Int(*value)),
             Expr::String(text) => Ok(Code::String(text.share()?)),
             Expr::List(items) => self.exprs(walk, items.as_slice()).map(Code::List),

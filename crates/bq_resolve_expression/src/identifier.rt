@@ -1,9 +1,7 @@
-//! Uses of names, and names that are bound.
+//! Names that are bound, and faults at names.
 
 ghost use Rattle.std.specs.Prelude.{◌≡◌, IfOk};
-ghost use Rattle.bq_base.specs.declared.fault.Fault.{Fault};
-ghost use Rattle.bq_base.specs.declared.fault.SourceErr.TheVariants.{Bad};
-ghost use Rattle.bq_resolve_scope.specs.Visit.{Passed, fault_of};
+ghost use Rattle.bq_resolve_scope.specs.Visit.{fault_of};
 ghost use Rattle.bq_resolve_scope.specs.Expressions as spec;
 ghost use Rattle.bq_resolve_expression.specs.Walks.{Walks};
 
@@ -23,17 +21,6 @@ pub fn fault_of(kind: FaultKind, name: &Identifier) -> Result<Fault, AllocError>
         line: name.line,
         detail: name.name.share()?,
     })
-}
-
-/// Returns the use of a name: of the innermost block that holds it, else F20.
-#[tactic(auto, unfolding(bq_resolve_scope::specs::Expressions::use_at))]
-pub fn use_at(scope: &Scope<'_>, name: &Identifier) -> Result<Binding, SourceErr>
-    ensures { (s : Passed) → Walks (spec.use_at scope.now.file.now scope.now.blocks.now name.now s) result s }
-{
-    match scope.file.use_of(scope.blocks, &name.name) {
-        Some(binding) => Ok(binding),
-        None => Err(SourceErr::Bad(fault_of(FaultKind::UnknownName, name)?)),
-    }
 }
 
 /// Resolves a name that is bound: its block holds it. Outside functions and comprehensions, where there is no enclosing block, it is a

@@ -15,7 +15,7 @@
 //!
 //! - `scope`: where names are looked up;
 //! - `walk`: what is carried along a file;
-//! - `identifier`: uses of names, and names that are bound;
+//! - `identifier`: names that are bound;
 //! - `rules`: the resolver of what stands inside, and lists of it;
 //! - `suffixes`, `primary`, `targets`, `comprehensions`: the rules;
 //! - `expressions`: all forms of expressions.
@@ -32,7 +32,7 @@ mod targets;
 mod walk;
 
 pub use expressions::expr_to;
-pub use identifier::{fault_of, name_target, use_at};
+pub use identifier::{fault_of, name_target};
 pub use rules::Rules;
 pub use scope::Scope;
 pub use walk::Walk;

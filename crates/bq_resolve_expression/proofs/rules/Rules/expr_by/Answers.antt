@@ -1,28 +1,21 @@
-use Rattle.std.proofs.Common.{[], refl}
+use Rattle.std.proofs.Common.{[]}
 use Rattle.bq_parse_grammar.specs.declared.tree.Argument.TheOpen.{Expr-F}
 use Rattle.bq_parse_grammar.specs.declared.tree.Expr.{out-Expr}
 use Rattle.bq_parse_grammar.specs.declared.tree.Expr.TheVariants as e
-use Rattle.bq_parse_grammar.specs.declared.tree.Expr.TheVariants.{outs-Name, outs-List, outs-Tuple, outs-Dict, outs-ListComprehension, outs-DictComprehension, outs-Primary, outs-Unary, outs-Binary, outs-Compare, outs-Conditional}
+use Rattle.bq_parse_grammar.specs.declared.tree.Expr.TheVariants.{outs-List, outs-Tuple, outs-Dict, outs-ListComprehension, outs-DictComprehension, outs-Primary, outs-Unary, outs-Binary, outs-Compare, outs-Conditional}
 use Rattle.bq_resolve_scope.specs.declared.code.Code.TheVariants as code
 use Rattle.bq_resolve_scope.specs.Visit.{each}
-use Rattle.bq_resolve_scope.specs.Expressions.{use_at, pair, expr_by, expr_to}
+use Rattle.bq_resolve_scope.specs.Expressions.{pair, expr_by, expr_to}
 use Rattle.bq_resolve_expression.proofs.Forms.{of_one, of_two, of_three}
 use Rattle.bq_resolve_expression.proofs.Walked.{mapped}
 use Rattle.bq_resolve_expression.proofs.rules.Rules.expr_by.Goals as goal
 
-pub returns-in-Name : goal.returns-in-Name
-returns-in-Name g c =
-    let q = c.in-Name in
-    of_one out-Expr (expr_by c.args.self.now.scope.file.now (expr_to c.args.self.now.depth c.args.self.now.scope.file.now) c.args.self.now.scope.blocks.now) c.args.expr.now c.args.walk.now c.args.walk.now c.map.result
-    e.Name Expr-F.Expr::Name outs-Name q.name q.name q.is refl
-    (mapped code.Use (use_at c.args.self.now.scope.file.now c.args.self.now.scope.blocks.now q.name c.args.walk.now) c.args.walk.now c.use_at.result c.map.result (c.use_at.ensures c.args.walk.now) c.map.ensures.cases)
-
 pub returns-in-List : goal.returns-in-List
 returns-in-List g c =
     let q = c.in-List in
-    of_one out-Expr (expr_by c.args.self.now.scope.file.now (expr_to c.args.self.now.depth c.args.self.now.scope.file.now) c.args.self.now.scope.blocks.now) c.args.expr.now c.args.walk.now c.exprs.new.walk c.map-in-List.result
+    of_one out-Expr (expr_by c.args.self.now.scope.file.now (expr_to c.args.self.now.depth c.args.self.now.scope.file.now) c.args.self.now.scope.blocks.now) c.args.expr.now c.args.walk.now c.exprs.new.walk c.map.result
     e.List Expr-F.Expr::List outs-List q.items c.as_slice.result.now q.is c.as_slice.ensures
-    (mapped code.List (each (expr_to c.args.self.now.depth c.args.self.now.scope.file.now c.args.self.now.scope.blocks.now) [] c.as_slice.result.now c.args.walk.now) c.exprs.new.walk c.exprs.result c.map-in-List.result c.exprs.ensures c.map-in-List.ensures.cases)
+    (mapped code.List (each (expr_to c.args.self.now.depth c.args.self.now.scope.file.now c.args.self.now.scope.blocks.now) [] c.as_slice.result.now c.args.walk.now) c.exprs.new.walk c.exprs.result c.map.result c.exprs.ensures c.map.ensures.cases)
 
 pub returns-in-Tuple : goal.returns-in-Tuple
 returns-in-Tuple g c =
