@@ -8,7 +8,7 @@ ghost use Rattle.bq_builtin_machine.specs.Binding.{bind};
 ghost use Rattle.bq_package.specs.Place.{place_of};
 ghost use Rattle.bq_package_typed_value.specs.Parameters.{argument};
 ghost use Rattle.bq_package.specs.Bound.{glob_parameters};
-ghost use Rattle.bq_package.specs.Glob.{pattern, patterns, excludes_directories, allows_empty, request_by, request_of, is_nothing, names_of, is_idle, found, globbed};
+ghost use Rattle.bq_package.specs.Glob.{patterns, excludes_directories, request_of, is_nothing, is_idle, found, globbed};
 
 use crate::bound::texts_of;
 use crate::place::Place;
@@ -63,18 +63,6 @@ fn bind_glob(alloc: Global, args: Args) -> Result<Bound, EvalErr>
     bind(alloc, Seed::fixed(), &GLOB, args)
 }
 
-/// Reads a text as a pattern, or fails with F77.
-#[tactic(auto, using(crate::proofs::Patterns::pattern_ok, crate::proofs::Patterns::pattern_err))]
-fn pattern(alloc: Global, text: &Bytes) -> Result<Pattern, EvalErr>
-    ensures { Gives (λ p. p) Bad result (pattern text.now) }
-{
-    match read_pattern(alloc, text.as_slice()) {
-        Ok(pattern) => Ok(pattern),
-        Err(SourceErr::Memory) => Err(EvalErr::Memory),
-        Err(SourceErr::Bad(_)) => Err(EvalErr::Bad(FaultKind::GlobPattern)),
-    }
-}
-
 /// Reads texts as patterns, or fails with F77.
 #[tactic(auto, unfolding(crate::specs::Glob::patterns, bq_package_typed_value::specs::Steps::in_turn))]
 fn patterns(alloc: Global, texts: &[Bytes]) -> Result<Items<Pattern>, EvalErr>
@@ -82,7 +70,11 @@ fn patterns(alloc: Global, texts: &[Bytes]) -> Result<Items<Pattern>, EvalErr>
 {
     let mut patterns = Items::new(alloc);
     for text in texts {
-        patterns.push(pattern(alloc, text)?)?;
+        match read_pattern(alloc, text.as_slice()) {
+            Ok(pattern) => patterns.push(pattern)?,
+            Err(SourceErr::Memory) => return Err(EvalErr::Memory),
+            Err(SourceErr::Bad(_)) => return Err(EvalErr::Bad(FaultKind::GlobPattern)),
+        }
     }
     Ok(patterns)
 }
@@ -97,15 +89,6 @@ fn excludes_directories(value: Option<&Value>) -> bool
             Node::Bool(b) => *b,
             _ => false,
         },
-    }
-}
-
-fn allows_empty(store: &Store, value: Option<&Value>) -> bool
-    ensures { result ≡ allows_empty store.now (option_copied value.entry) }
-{
-    match value {
-        None => true,
-        Some(value) => truth(store, value),
     }
 }
 
@@ -126,7 +109,10 @@ fn request_of(
     Ok(GlobRequest {
         include: patterns(alloc, include.as_slice())?,
         exclude: patterns(alloc, exclude.as_slice())?,
-        allows_empty: allows_empty(store, argument(values, 3)),
+        allows_empty: match argument(values, 3) {
+            None => true,
+            Some(value) => truth(store, value),
+        },
     })
 }
 
@@ -140,30 +126,18 @@ fn is_nothing(names: &[Bytes]) -> bool
 }
 
 impl<'a> Place<'a> {
-    /// Returns the names of the package's files that some pattern matches and no excluded one.
-    fn names_of(
-        &self,
-        alloc: Global,
-        include: &[Pattern],
-        exclude: &[Pattern],
-    ) -> Result<Vec<Bytes>, AllocError>
-        ensures { IfOk result (λ names. names.items ≡ names_of (place_of self.now) include.now exclude.now) }
-    {
-        glob(
-            alloc,
-            self.workspace,
-            self.scope.packages,
-            self.scope.own,
-            include,
-            exclude,
-        )
-    }
-
     /// Returns whether the pattern matches no file of the package.
     fn is_idle(&self, alloc: Global, pattern: &Pattern) -> Result<bool, AllocError>
         ensures { IfOk result (λ idle. idle ≡ is_idle (place_of self.now) pattern.now) }
     {
-        let names = self.names_of(alloc, slice::from_ref(pattern), &[])?;
+        let names = glob(
+            alloc,
+            self.workspace,
+            self.scope.packages,
+            self.scope.own,
+            slice::from_ref(pattern),
+            &[],
+        )?;
         Ok(is_nothing(&names))
     }
 
@@ -185,8 +159,11 @@ impl<'a> Place<'a> {
     fn found(&self, alloc: Global, request: &GlobRequest) -> Result<Vec<Bytes>, EvalErr>
         ensures { Gives (λ names. names.items) Bad result (found (place_of self.now) request.now) }
     {
-        let names = self.names_of(
+        let names = glob(
             alloc,
+            self.workspace,
+            self.scope.packages,
+            self.scope.own,
             request.include.as_slice(),
             request.exclude.as_slice(),
         )?;

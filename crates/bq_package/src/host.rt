@@ -1,13 +1,12 @@
 //! The host of a BUILD file's evaluation.
 
-ghost use Rattle.std.specs.Prelude.{◌≡◌, map, IfOk};
+ghost use Rattle.std.specs.Prelude.{◌≡◌, IfOk};
 ghost use Rattle.bq_base.specs.Gives.{Gives};
 ghost use Rattle.bq_value.specs.declared.error.EvalErr.TheVariants.{Bad};
 ghost use Rattle.bq_label.specs.Label.{package_of};
 ghost use Rattle.bq_builtin_machine.specs.State.{State};
 ghost use Rattle.bq_builtin_machine.specs.Action.{Does, HostDoes};
 ghost use Rattle.bq_eval_host.specs.Refusals.{KeepsIfRefused};
-ghost use Rattle.bq_value.specs.Datum.{string};
 ghost use Rattle.bq_package_target.specs.Package.{no_targets};
 ghost use Rattle.bq_package_target.specs.Calls.{declared, exported};
 ghost use Rattle.bq_package.specs.Place.{place_of};
@@ -50,18 +49,11 @@ const ANY_PARAMETERS: Signature<'static> = Signature {
 fn new_strings(alloc: Global, machine: &mut Machine, texts: Vec<Bytes>) -> Result<Value, EvalErr>
     ensures { Does (λ v. v) result machine.new (new_strings texts.items machine.old) }
 {
-    let values = strings(alloc, texts)?;
-    machine.new_list(values)
-}
-
-fn strings(alloc: Global, texts: Vec<Bytes>) -> Result<Vec<Value>, AllocError>
-    ensures { IfOk result (λ vs. vs.items ≡ map string texts.items) }
-{
     let mut values = Vec::with_capacity(alloc, texts.len())?;
     for text in texts {
         values.push(Value::string(text))?;
     }
-    Ok(values)
+    machine.new_list(values)
 }
 
 /// Returns the result of `package_name`.
@@ -81,26 +73,6 @@ fn ignored(alloc: Global, seed: Seed, args: Args) -> Result<Value, EvalErr>
 {
     let _any = bind(alloc, seed, &ANY_PARAMETERS, args)?;
     Ok(Value::none())
-}
-
-/// Returns the result of a call that declares targets. A refused one is F74.
-fn answer(declared: &Declared) -> Result<Value, EvalErr>
-    ensures { result ≡ answer declared.now }
-{
-    match declared {
-        Declared::Accepted(_) => Ok(Value::none()),
-        Declared::Refused(_) => Err(EvalErr::Bad(FaultKind::DoubleTarget)),
-    }
-}
-
-/// Returns the package that such a call leaves.
-fn package_after(declared: Declared) -> PackageState
-    ensures { result ≡ package_after declared }
-{
-    match declared {
-        Declared::Accepted(package) => package,
-        Declared::Refused(package) => package,
-    }
 }
 
 impl<'a> BuildHost<'a> {
@@ -181,12 +153,16 @@ impl<'a> BuildHost<'a> {
         requires { package_of (package_after declared).build_file ≡ place.scope.own.now }
         ensures { Settles result (held_by self.new) (place_of place.entry) declared }
     {
-        let answer = answer(&declared);
-        self.building = Some(Building {
-            place,
-            package: package_after(declared),
-        });
-        answer
+        match declared {
+            Declared::Accepted(package) => {
+                self.building = Some(Building { place, package });
+                Ok(Value::none())
+            }
+            Declared::Refused(package) => {
+                self.building = Some(Building { place, package });
+                Err(EvalErr::Bad(FaultKind::DoubleTarget))
+            }
+        }
     }
 
     /// Declares a target, and the files that the rule makes.
@@ -314,29 +290,6 @@ impl<'a> BuildHost<'a> {
         let _place = self.place()?;
         ignored(alloc, seed, args)
     }
-
-    /// Calls a function.
-    #[tactic(auto, using(crate::proofs::Settling::keeps_same))]
-    fn carry_out(
-        &mut self,
-        alloc: Global,
-        function: HostFunction,
-        args: Args,
-        machine: &mut Machine,
-    ) -> Result<Value, EvalErr>
-        ensures says { HostDoes (λ v. v) result machine.new (held_by self.new) (call_by machine.old (held_by self.old) function args) }
-        ensures keeps { KeepsIfRefused result (held_by self.old) (held_by self.new) }
-    {
-        match function {
-            HostFunction::Glob => self.glob(alloc, args, machine),
-            HostFunction::PackageName => self.name(alloc, args),
-            HostFunction::Package => self.nothing(alloc, machine.store().seed(), args),
-            HostFunction::Licenses => self.nothing(alloc, machine.store().seed(), args),
-            HostFunction::ExportsFiles => self.exports_files(alloc, args, machine),
-            HostFunction::PackageGroup => self.package_group(alloc, args, machine),
-            HostFunction::Rule(rule) => self.rule(alloc, rule, args, machine),
-        }
-    }
 }
 
 impl<'a> Host for BuildHost<'a> {
@@ -358,7 +311,7 @@ impl<'a> Host for BuildHost<'a> {
         typed(alloc, self.scope(), written)
     }
 
-    #[tactic(auto, using(crate::proofs::Meaning::refuses), unfolding(crate::specs::Calls::call_of))]
+    #[tactic(auto, using(crate::proofs::Settling::keeps_same, crate::proofs::Meaning::refuses), unfolding(crate::specs::Calls::call_of))]
     fn call(
         &mut self,
         alloc: Global,
@@ -366,7 +319,15 @@ impl<'a> Host for BuildHost<'a> {
         args: Args,
         machine: &mut Machine,
     ) -> Result<Value, EvalErr> {
-        self.carry_out(alloc, function, args, machine)
+        match function {
+            HostFunction::Glob => self.glob(alloc, args, machine),
+            HostFunction::PackageName => self.name(alloc, args),
+            HostFunction::Package => self.nothing(alloc, machine.store().seed(), args),
+            HostFunction::Licenses => self.nothing(alloc, machine.store().seed(), args),
+            HostFunction::ExportsFiles => self.exports_files(alloc, args, machine),
+            HostFunction::PackageGroup => self.package_group(alloc, args, machine),
+            HostFunction::Rule(rule) => self.rule(alloc, rule, args, machine),
+        }
     }
 
     #[tactic(auto, using(crate::proofs::Meaning::rule_refuses), unfolding(crate::specs::Calls::rule_call))]

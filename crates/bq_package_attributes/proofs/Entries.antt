@@ -1,5 +1,5 @@
 -- A table that is read place by place.
-use Rattle.std.proofs.Common.{◌≡◌, ◌∙◌, ℕ, Bool, true, false, ◌&&◌, ◌+◌, inl, inr, List, [], ◌∷◌, ◌++◌, Some, None, sym, ap, drop, append_assoc, append-nil, slice_get}
+use Rattle.std.proofs.Common.{◌≡◌, ◌∙◌, ℕ, Bool, true, false, ◌&&◌, ◌+◌, inl, inr, List, [], ◌++◌, Some, None, sym, ap, drop, append_assoc, append-nil, slice_get}
 use Rattle.std.specs.List.{list_all}
 use Rattle.std.proofs.lemmas.List.{drop_all}
 use Rattle.std.proofs.lemmas.Option.{slice_get_cases}

@@ -185,6 +185,16 @@ rest_found b ts names f g first rest =
     let all = finds_then 0 (b ∷ []) (filter (is_of (package_of b)) (flat_map (λ t. labels_in t.attributes) ts)) (record { names = names; found = [] }) f g first rest in
     all.found
 
+-- what is there once they are added
+pub rest_added : (b : LabelParts) (ts now seen : List Target) (names : List (List ℕ)) (none : List Target) (own : PackageParts) (f g : Files) → none ≡ [] → own ≡ package_of b → seen ≡ ts
+    → Finds 0 (b ∷ []) (record { names = names; found = none }) f → FindsOwn own (flat_map (λ t. labels_in t.attributes) seen) f g → now ≡ ts ++ g.found
+    → now ≡ ts ++ map (λ l. source l 0) (new_files names (b ∷ own_labels (package_of b) ts))
+rest_added b ts now seen names none own f g empty here same first rest is =
+    let start = subst (λ (z : List Target). Finds 0 (b ∷ []) (record { names = names; found = z }) f) empty first in
+    let mine = subst (λ (z : PackageParts). FindsOwn z (flat_map (λ t. labels_in t.attributes) seen) f g) here rest in
+    let all = subst (λ (z : List Target). FindsOwn (package_of b) (flat_map (λ t. labels_in t.attributes) z) f g) same mine in
+    is ∙ ap (λ (z : List Target). ts ++ z) (rest_found b ts names f g start all)
+
 -- ---- what the calls give, of the fields of a state
 
 -- the package with the files of labels

@@ -1,6 +1,6 @@
 //! The calls of rules and of `package_group`.
 
-ghost use Rattle.std.specs.Prelude.{◌≡◌, ◌++◌, true, length, take, map, if◌then◌else◌, IfOk, OnOk};
+ghost use Rattle.std.specs.Prelude.{◌≡◌, ◌++◌, map, if◌then◌else◌, IfOk, OnOk};
 ghost use Rattle.bq_package_target.specs.Value.{outputs_of, outputs_in};
 ghost use Rattle.bq_package_target.specs.Target.{names_of, generated, declares};
 ghost use Rattle.bq_package_target.specs.Names.{are_new};
@@ -60,31 +60,19 @@ fn outputs(alloc: Global, rule: &Target) -> Result<Items<Target>, AllocError>
     Ok(made)
 }
 
-/// Takes the names of targets, up to the first that is taken already. Returns whether all were new.
-fn take_each(names: &mut TargetNames, targets: &[Target]) -> Result<bool, AllocError>
-    ensures new { IfOk result (λ new. new ≡ are_new names.old (names_of targets.now)) }
-    ensures all { IfOk result (λ new. new ≡ true → names.new ≡ names.old ++ names_of targets.now) }
-    ensures front { OnOk result (take (length names.old) names.new ≡ names.old) }
-{
-    for target in targets {
-        if !names.add(target.label.name())? {
-            return Ok(false);
-        }
-    }
-    Ok(true)
-}
-
 /// Takes the names of targets if all are new, and else none. Returns which.
 fn take_names(names: &mut TargetNames, targets: &[Target]) -> Result<bool, AllocError>
     ensures new { IfOk result (λ new. new ≡ are_new names.old (names_of targets.now)) }
     ensures after { IfOk result (λ new. names.new ≡ (if new then names.old ++ names_of targets.now else names.old)) }
 {
     let before = names.len();
-    if take_each(names, targets)? {
-        return Ok(true);
+    for target in targets {
+        if !names.add(target.label.name())? {
+            names.truncate(before);
+            return Ok(false);
+        }
     }
-    names.truncate(before);
-    Ok(false)
+    Ok(true)
 }
 
 /// Returns the targets that a call declares: its own, and the files that the rule makes.
@@ -131,6 +119,9 @@ impl PackageState {
     {
         let mut package = self;
         let is_new = add_target(alloc, &mut package.targets, &mut package.names, target)?;
-        Ok(Declared::of(is_new, package))
+        if !is_new {
+            return Ok(Declared::Refused(package));
+        }
+        Ok(Declared::Accepted(package))
     }
 }

@@ -6,7 +6,7 @@ ghost use Rattle.bq_package_target.specs.Value.{labels_of, labels_in};
 ghost use Rattle.bq_package_target.specs.Target.{is_of};
 
 use crate::names::TargetNames;
-use crate::target::Target;
+use crate::target::{Target, TargetKind};
 use crate::value::GivenAttribute;
 use bq_label::{Label, PackageId};
 use bq_package_rule_class::AttributeValue;
@@ -38,7 +38,14 @@ impl Files {
         if !self.names.add(label.name())? {
             return Ok(());
         }
-        self.found.push(Target::source(alloc, label, line)?)?;
+        let label = label.share()?;
+        let attributes = Items::new(alloc);
+        self.found.push(Target {
+            label,
+            kind: TargetKind::Source,
+            attributes,
+            line,
+        })?;
         Ok(())
     }
 

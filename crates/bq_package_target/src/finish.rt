@@ -1,10 +1,9 @@
 //! Files that a BUILD file exports, and the package once it is evaluated.
 
-ghost use Rattle.std.specs.Prelude.{◌≡◌, ◌∷◌, ◌++◌, true, map, IfOk, OnOk};
+ghost use Rattle.std.specs.Prelude.{◌≡◌, ◌++◌, true, map, IfOk, OnOk};
 ghost use Rattle.std.specs.List.{list_any, list_all};
-ghost use Rattle.bq_label.specs.Label.{package_of};
 ghost use Rattle.bq_package_target.specs.Target.{is_of, names_of, source};
-ghost use Rattle.bq_package_target.specs.Package.{is_taken, new_files, own_labels};
+ghost use Rattle.bq_package_target.specs.Package.{is_taken, new_files};
 
 use crate::files::Files;
 use crate::names::TargetNames;
@@ -68,25 +67,6 @@ fn add_files(
     Ok(names)
 }
 
-/// Adds the BUILD file and the files of the package that targets name, unless their names are taken.
-fn add_rest(
-    alloc: Global,
-    targets: &mut Items<Target>,
-    names: TargetNames,
-    build_file: &Label,
-) -> Result<(), AllocError>
-    ensures { OnOk result (targets.new ≡ targets.old ++ map (λ l. source l 0) (new_files names (build_file.now ∷ own_labels (package_of build_file.now) targets.old))) }
-{
-    let mut files = Files {
-        names,
-        found: Items::new(alloc),
-    };
-    files.add(alloc, build_file, 0)?;
-    files.add_named(alloc, build_file.package_id(), targets.as_slice())?;
-    let Files { names: _, found } = files;
-    targets.append(found)
-}
-
 impl PackageState {
     ghost use Rattle.bq_label.specs.Label.{package_of};
     ghost use Rattle.bq_package_target.specs.Package.{files, finished};
@@ -141,7 +121,14 @@ impl PackageState {
             mut targets,
             names,
         } = self;
-        add_rest(alloc, &mut targets, names, &build_file)?;
+        let mut files = Files {
+            names,
+            found: Items::new(alloc),
+        };
+        files.add(alloc, &build_file, 0)?;
+        files.add_named(alloc, build_file.package_id(), targets.as_slice())?;
+        let Files { names: _, found } = files;
+        targets.append(found)?;
         Package::of(alloc, build_file, targets)
     }
 }

@@ -1,6 +1,6 @@
 //! The package of a BUILD file that is being evaluated: what its accepted calls declare.
 
-ghost use Rattle.std.specs.Prelude.{◌≡◌, if◌then◌else◌};
+ghost use Rattle.std.specs.Prelude.{◌≡◌};
 
 use crate::names::TargetNames;
 use crate::target::Target;
@@ -37,20 +37,6 @@ impl Model for PackageState {
 pub enum Declared {
     Accepted(PackageState),
     Refused(PackageState),
-}
-
-impl Declared {
-    ghost use Rattle.bq_package_target.specs.declared.state.Declared.TheVariants.{Accepted, Refused};
-
-    pub(crate) fn of(is_accepted: bool, package: PackageState) -> Declared
-        ensures { result ≡ (if is_accepted then Accepted «package» else Refused «package») }
-    {
-        if is_accepted {
-            Declared::Accepted(package)
-        } else {
-            Declared::Refused(package)
-        }
-    }
 }
 
 impl PackageState {

@@ -1,7 +1,7 @@
 //! Targets (Bazel, "Repositories, packages, and targets"): rules, files and groups of packages.
 
 ghost use Rattle.std.specs.Prelude.{◌≡◌, IfOk};
-ghost use Rattle.bq_package_target.specs.Target.{is_source, source, generated};
+ghost use Rattle.bq_package_target.specs.Target.{is_source, generated};
 
 use crate::value::GivenAttribute;
 use bq_base::Bytes;
@@ -46,18 +46,6 @@ impl TargetKind {
 }
 
 impl Target {
-    /// Makes a source file.
-    pub(crate) fn source(alloc: Global, label: &Label, line: u32) -> Result<Target, AllocError>
-        ensures { IfOk result (λ t. t ≡ source label.now line) }
-    {
-        Ok(Target {
-            label: label.share()?,
-            kind: TargetKind::Source,
-            attributes: Items::new(alloc),
-            line,
-        })
-    }
-
     /// Makes a file that a rule makes.
     pub(crate) fn generated(
         alloc: Global,

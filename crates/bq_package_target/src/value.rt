@@ -1,7 +1,7 @@
 //! Attributes with the values that calls give them, and the types of the attributes of a rule.
 
 ghost use Rattle.std.specs.Prelude.{◌≡◌};
-ghost use Rattle.bq_package_target.specs.Value.{own_type, attribute_type};
+ghost use Rattle.bq_package_target.specs.Value.{attribute_type};
 
 use bq_base::Bytes;
 use bq_package_rule_class::{AttributeType, AttributeValue, RuleClass, common_attribute};
@@ -13,16 +13,6 @@ pub struct GivenAttribute {
     pub value: AttributeValue,
 }
 
-/// Returns the type of an attribute that a rule has of its own.
-fn own_type(class: &RuleClass, name: &[u8]) -> Option<AttributeType>
-    ensures { result ≡ own_type class.now name.now }
-{
-    match class.get(name) {
-        None => None,
-        Some(attribute) => Some(attribute.kind),
-    }
-}
-
 /// Returns the type of an attribute of a rule: one that all rules have, or one of its own, if the rule has such an
 /// attribute.
 #[tactic(auto, unfolding(crate::specs::Value::attribute_type))]
@@ -31,6 +21,9 @@ pub fn attribute_type(class: &RuleClass, name: &[u8]) -> Option<AttributeType>
 {
     match common_attribute(name) {
         Some(kind) => Some(kind),
-        None => own_type(class, name),
+        None => match class.get(name) {
+            None => None,
+            Some(attribute) => Some(attribute.kind),
+        },
     }
 }

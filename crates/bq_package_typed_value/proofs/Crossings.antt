@@ -1,11 +1,11 @@
 -- Names without a slash cross into another package alike.
-use Rattle.std.proofs.Common.{◌≡◌, ℕ, Bool, true, false, List, Option, Some, None, refl, sym, ap, ◌∙◌}
+use Rattle.std.proofs.Common.{◌≡◌, ℕ, Bool, true, false, List, Option, Some, None, refl, sym, ap, ◌∙◌, codes}
 use Rattle.std.specs.Prelude.{◌&&◌, bytes_eq}
 use Rattle.std.proofs.lemmas.Slice.Eq.{bytes_eq-Decides}
 use Rattle.bq_label.specs.declared.packages.BuildFile.{BuildFile}
 use Rattle.bq_label.specs.Label.{PackageParts, LabelParts, label_in, label_at}
 use Rattle.bq_label.specs.Packages.{label_path, owner_of}
-use Rattle.bq_label.specs.Paths.{HasNoSlash}
+use Rattle.bq_label.specs.Paths.{HasNoSlash, is_path}
 use Rattle.bq_package_target.specs.Target.{is_of}
 use Rattle.bq_package_typed_value.specs.Scope.{is_owned_by_other, crosses, own_label_crosses, ShortNamesCross}
 
@@ -37,3 +37,18 @@ pub short_own : (packages : List BuildFile) (own : PackageParts) (l : LabelParts
     → b ≡ own_label_crosses own packages l
 unfolding own_label_crosses
 short_own packages own l b short h plain = sym (rw h (ap (crosses packages) (own_is own l h) ∙ short l.name plain))
+
+-- ---- the name `BUILD`, which stands for all names without a slash
+
+pub build_is_path : (name : List ℕ) → name ≡ codes "BUILD" → is_path name ≡ true
+unfolding is_path
+build_is_path name is = rw is refl
+
+-- as `short_names_have_one_owner` says
+abbrev OneOwner : Type 0
+OneOwner = (packages : List BuildFile) (own : PackageParts) (n m : List ℕ) → HasNoSlash n → HasNoSlash m → owner_of packages (label_path (label_in own n)) ≡ owner_of packages (label_path (label_in own m))
+
+pub short_by_build : OneOwner → (packages : List BuildFile) (own : PackageParts) (name : List ℕ) (l : LabelParts) (b : Bool) → name ≡ codes "BUILD" → l ≡ label_in own name → b ≡ crosses packages l
+    → ShortNamesCross own packages b
+short_by_build one packages own name l b is at found n plain =
+    cross_alike packages own n (codes "BUILD") (one packages own n (codes "BUILD") plain refl) ∙ sym (found ∙ ap (crosses packages) (at ∙ ap (label_in own) is))

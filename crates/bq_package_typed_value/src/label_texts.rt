@@ -3,10 +3,9 @@
 ghost use Rattle.std.specs.Prelude.{◌≡◌, IfOk};
 ghost use Rattle.bq_base.specs.Gives.{Gives};
 ghost use Rattle.bq_value.specs.declared.error.EvalErr.TheVariants.{Bad};
-ghost use Rattle.bq_label.specs.Reading.{label_of};
-ghost use Rattle.bq_package_typed_value.specs.LabelTexts.{label_found, named, without_colon, read, read_all, label, labels};
+ghost use Rattle.bq_package_typed_value.specs.LabelTexts.{named, without_colon, read, read_all, label, labels};
 
-use crate::scope::{Scope, in_package};
+use crate::scope::Scope;
 use bq_base::{Bytes, FaultKind, SourceErr};
 use bq_label::{Label, PackageId, is_path, read_label};
 use bq_value::EvalErr;
@@ -24,26 +23,15 @@ pub enum TextKind {
     Output,
 }
 
-/// Reads a text as a label, or fails with F78.
-#[tactic(auto, using(bq_label::proofs::BadLabels::or_bad_label_ok, bq_label::proofs::BadLabels::or_bad_label_err))]
-fn label_found(alloc: Global, own: &PackageId, text: &Bytes) -> Result<Label, EvalErr>
-    ensures { Gives (λ l. l) Bad result (label_found (label_of own.now text.now)) }
-{
-    match read_label(alloc, text.as_slice(), own) {
-        Ok(label) => Ok(label),
-        Err(SourceErr::Memory) => Err(EvalErr::Memory),
-        Err(SourceErr::Bad(_)) => Err(EvalErr::Bad(FaultKind::BadLabel)),
-    }
-}
-
-/// Returns the target of the package with this name, or F75.
+/// Returns the target of the package with this name, or F75. No byte is copied.
 fn named(own: &PackageId, name: &Bytes) -> Result<Label, EvalErr>
     ensures { Gives (λ l. l) Bad result (named own.now name.now) }
 {
     if !is_path(name.as_slice()) {
         return Err(EvalErr::Bad(FaultKind::BadName));
     }
-    Ok(in_package(own, name)?)
+    let name = name.share()?;
+    Ok(Label::new(own.share()?, name))
 }
 
 #[tactic(auto, unfolding(crate::specs::LabelTexts::without_colon))]
@@ -56,13 +44,17 @@ fn without_colon(alloc: Global, text: &Bytes) -> Result<Bytes, AllocError>
     }
 }
 
-/// Returns the label that a text stands for in a package.
-#[tactic(auto, unfolding(crate::specs::LabelTexts::read))]
+/// Returns the label that a text stands for in a package: F78 if it is no label, F75 if it is no name.
+#[tactic(auto, using(bq_label::proofs::BadLabels::or_bad_label_ok, bq_label::proofs::BadLabels::or_bad_label_err), unfolding(crate::specs::LabelTexts::read))]
 fn read(alloc: Global, own: &PackageId, kind: TextKind, text: &Bytes) -> Result<Label, EvalErr>
     ensures { Gives (λ l. l) Bad result (read own.now kind text.now) }
 {
     match kind {
-        TextKind::Label => label_found(alloc, own, text),
+        TextKind::Label => match read_label(alloc, text.as_slice(), own) {
+            Ok(label) => Ok(label),
+            Err(SourceErr::Memory) => Err(EvalErr::Memory),
+            Err(SourceErr::Bad(_)) => Err(EvalErr::Bad(FaultKind::BadLabel)),
+        },
         TextKind::Name => named(own, text),
         TextKind::Output => named(own, &without_colon(alloc, text)?),
     }
@@ -86,7 +78,7 @@ fn read_all(
 }
 
 /// Returns the label that a text stands for: F78 or F75, and F37 if it crosses into another package.
-#[tactic(auto, unfolding(crate::specs::LabelTexts::label))]
+#[tactic(auto, unfolding(crate::specs::LabelTexts::label, crate::specs::Scope::inside))]
 pub fn label(
     alloc: Global,
     scope: Scope<'_>,
@@ -96,12 +88,15 @@ pub fn label(
     ensures { Gives (λ l. l) Bad result (label scope.entry.own.now scope.entry.packages.now kind text.now) }
 {
     let label = read(alloc, scope.own, kind, text)?;
-    scope.inside(alloc, label)
+    if scope.own_label_crosses(alloc, &label)? {
+        return Err(EvalErr::Bad(FaultKind::CrossesPackage));
+    }
+    Ok(label)
 }
 
 /// Returns the labels that texts stand for. All are read, and then it is checked whether one crosses into another
 /// package.
-#[tactic(auto, unfolding(crate::specs::LabelTexts::labels))]
+#[tactic(auto, unfolding(crate::specs::LabelTexts::labels, crate::specs::Scope::all_inside))]
 pub fn labels(
     alloc: Global,
     scope: Scope<'_>,
@@ -111,5 +106,8 @@ pub fn labels(
     ensures { Gives (λ ls. ls) Bad result (labels scope.entry.own.now scope.entry.packages.now kind texts.now) }
 {
     let labels = read_all(alloc, scope.own, kind, texts)?;
-    scope.all_inside(alloc, labels)
+    if scope.any_own_label_crosses(alloc, labels.as_slice())? {
+        return Err(EvalErr::Bad(FaultKind::CrossesPackage));
+    }
+    Ok(labels)
 }

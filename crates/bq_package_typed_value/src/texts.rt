@@ -1,13 +1,12 @@
 //! Strings, and lists of strings, in values.
 
-ghost use Rattle.std.specs.Prelude.{◌≡◌, Some};
+ghost use Rattle.std.specs.Prelude.{◌≡◌};
 ghost use Rattle.bq_base.specs.Gives.{Gives};
 ghost use Rattle.bq_value.specs.declared.error.EvalErr.TheVariants.{Bad};
-ghost use Rattle.bq_package_typed_value.specs.Steps.{and_then};
-ghost use Rattle.bq_package_typed_value.specs.Texts.{text_in, listed, all_texts, texts_in};
+ghost use Rattle.bq_package_typed_value.specs.Texts.{text_in, all_texts, texts_in};
 
 use bq_base::{Bytes, FaultKind};
-use bq_value::{Body, Content, EvalErr, Node, Store, Value};
+use bq_value::{Body, EvalErr, Node, Store, Value};
 use sqlite_items::Items;
 use std::alloc::Global;
 
@@ -34,16 +33,6 @@ fn all_texts(alloc: Global, values: &[Value], why: FaultKind) -> Result<Items<By
     Ok(Items::from_vec(texts))
 }
 
-fn content_texts(alloc: Global, content: &Content, why: FaultKind) -> Result<Items<Bytes>, EvalErr>
-    ensures { Gives (λ texts. texts) Bad result (and_then (listed why (Some content.now)) (all_texts why)) }
-{
-    match &content.body {
-        Body::List(values) => all_texts(alloc, values, why),
-        Body::Dict(_) => Err(EvalErr::Bad(why)),
-        Body::Rule(_) => Err(EvalErr::Bad(why)),
-    }
-}
-
 /// Returns the strings of a list or a tuple; `why` is the fault of another value.
 #[tactic(auto, using(bq_value::specs::Datum::list_of_data_of), unfolding(crate::specs::Texts::texts_in))]
 pub fn texts_in(
@@ -57,8 +46,12 @@ pub fn texts_in(
     match &value.node {
         Node::Tuple(values) => all_texts(alloc, values, why),
         Node::Cell(cell) => match store.content(*cell) {
-            Some(content) => content_texts(alloc, content, why),
             None => Err(EvalErr::Bad(why)),
+            Some(content) => match &content.body {
+                Body::List(values) => all_texts(alloc, values, why),
+                Body::Dict(_) => Err(EvalErr::Bad(why)),
+                Body::Rule(_) => Err(EvalErr::Bad(why)),
+            },
         },
         _ => Err(EvalErr::Bad(why)),
     }
