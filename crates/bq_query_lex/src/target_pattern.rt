@@ -1,7 +1,6 @@
 //! Target patterns: which form a word has (Bazel, "Target patterns").
 ghost use Rattle.std.specs.Prelude.{◌≡◌};
-ghost use Rattle.std.specs.List.{list_any};
-ghost use Rattle.bq_query_lex.specs.TargetPatterns.{begins_pattern, is_colon, word_form};
+ghost use Rattle.bq_query_lex.specs.TargetPatterns.{begins_pattern, word_form};
 
 /// Which targets a word names.
 #[derive(Clone, Copy)]
@@ -41,12 +40,6 @@ const ENDINGS: [(&[u8], usize, PatternForm); 11] = [
     (b":all-targets", 12, PatternForm::All),
 ];
 
-fn has_colon(text: &[u8]) -> bool
-    ensures { result ≡ list_any is_colon text.now }
-{
-    text.iter().any(|byte| *byte == b':')
-}
-
 /// Returns the form of a word, read from the word as it is written: those with `...` first, `//p:n` last. So `//p:all`
 /// never means a target named `all`; and `//a:b/...` is `//p:n`, since no package is named `a:b`.
 pub fn word_form(word: &[u8]) -> WordForm<'_>
@@ -61,7 +54,7 @@ pub fn word_form(word: &[u8]) -> WordForm<'_>
         }
         let named = &word[..word.len().saturating_sub(entry.1)];
         // No package has a `:` in its name.
-        if has_colon(named) {
+        if named.iter().any(|byte| *byte == b':') {
             continue;
         }
         let form = entry.2;
