@@ -1,7 +1,6 @@
 //! Target patterns: which form a word has (Bazel, "Target patterns").
-ghost use Rattle.std.specs.Prelude.{◌≡◌, None, Some, MatchOption};
-ghost use Rattle.std.specs.List.{list_any};
-ghost use Rattle.bq_query_lex.specs.TargetPatterns.{begins_pattern, is_colon, part_before, word_form};
+ghost use Rattle.std.specs.Prelude.{◌≡◌};
+ghost use Rattle.bq_query_lex.specs.TargetPatterns.{begins_pattern, word_form};
 
 /// Which targets a word names.
 #[derive(Clone, Copy)]
@@ -41,27 +40,6 @@ const ENDINGS: [(&[u8], usize, PatternForm); 11] = [
     (b":all-targets", 12, PatternForm::All),
 ];
 
-fn has_colon(text: &[u8]) -> bool
-    ensures { result ≡ list_any is_colon text.now }
-{
-    text.iter().any(|byte| *byte == b':')
-}
-
-/// Returns the part of a word before an ending, if the word ends so and the part names a package: it has no `:`.
-#[tactic(auto, unfolding(crate::specs::TargetPatterns::part_before))]
-fn part_before<'a>(word: &'a [u8], end: &[u8], dropped: usize) -> Option<&'a [u8]>
-    ensures { MatchOption result (part_before end.now dropped word.now ≡ None) (λ part. part_before end.now dropped word.now ≡ Some part.now) }
-{
-    if !word.ends_with(end) {
-        return None;
-    }
-    let part = &word[..word.len().saturating_sub(dropped)];
-    if has_colon(part) {
-        return None;
-    }
-    Some(part)
-}
-
 /// Returns the form of a word, read from the word as it is written: those with `...` first, `//p:n` last. So `//p:all`
 /// never means a target named `all`; and `//a:b/...` is `//p:n`, since no package is named `a:b`.
 pub fn word_form(word: &[u8]) -> WordForm<'_>
@@ -70,11 +48,17 @@ pub fn word_form(word: &[u8]) -> WordForm<'_>
 {
     let mut table: &[(&[u8], usize, PatternForm)] = &ENDINGS;
     while let [entry, rest @ ..] = table {
-        if let Some(named) = part_before(word, entry.0, entry.1) {
-            let form = entry.2;
-            return WordForm { form, named };
-        }
         table = rest;
+        if !word.ends_with(entry.0) {
+            continue;
+        }
+        let named = &word[..word.len().saturating_sub(entry.1)];
+        // No package has a `:` in its name.
+        if named.iter().any(|byte| *byte == b':') {
+            continue;
+        }
+        let form = entry.2;
+        return WordForm { form, named };
     }
     WordForm {
         form: PatternForm::Target,
