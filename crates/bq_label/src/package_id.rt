@@ -2,7 +2,7 @@
 
 ghost use Rattle.std.specs.Prelude.{◌≡◌, [], IfOk, MatchOption};
 
-use crate::path::{is_package, is_repository};
+use crate::path::{is_path, is_repository};
 use bq_base::Bytes;
 use std::alloc::{AllocError, Global};
 use std::marker::Model;
@@ -37,10 +37,12 @@ impl PackageId {
 
     /// Makes the package of a repository, whose name is empty for the main one, at a path, which is empty for the root.
     /// Returns `None` if one of them isn't valid.
+    #[tactic(auto, unfolding(crate::specs::Paths::is_package))]
     pub fn new(alloc: Global, repo: Bytes, package: Bytes) -> Result<Option<PackageId>, AllocError>
         ensures { IfOk result (λ found. MatchOption found (IsPackage (package_at repo «package») → ⊥) (λ p. (p ≡ package_at repo «package») × IsPackage p)) }
     {
-        if is_repository(repo.as_slice()) && is_package(package.as_slice()) {
+        let path = package.as_slice();
+        if is_repository(repo.as_slice()) && (path.is_empty() || is_path(path)) {
             Ok(Some(PackageId::from_parts(alloc, repo, package)?))
         } else {
             Ok(None)

@@ -1,13 +1,13 @@
 //! The packages of a workspace.
 
-ghost use Rattle.std.specs.Prelude.{◌≡◌, List, Some, None, IfSome, IfNone, IfOk, slice_get, MatchResult, true, bytes_eq, codes, ◌++◌};
+ghost use Rattle.std.specs.Prelude.{◌≡◌, List, Some, None, IfSome, IfNone, IfOk, slice_get, MatchResult, true};
 ghost use Rattle.std.specs.List.{list_all};
-ghost use Rattle.std.specs.List.Sorted.{IsPermutation, IsSorted, IsStrictlySortedBy};
+ghost use Rattle.std.specs.List.Sorted.{IsStrictlySortedBy};
 ghost use Rattle.std.specs.Option.{option_copied};
 ghost use Rattle.bq_label.specs.Paths.{is_path};
 ghost use Rattle.bq_label.specs.Label.{package_at, last_segment};
-ghost use Rattle.bq_label.specs.Workspace.{paths_of, IsWorkspace};
-ghost use Rattle.bq_label.specs.Packages.{is_build_file, directory_of, package_of_file, build_files, packages_of, build_label};
+ghost use Rattle.bq_label.specs.Workspace.{paths_of};
+ghost use Rattle.bq_label.specs.Packages.{is_build_file, directory_of, package_of_file, packages_of, build_label};
 ghost use Rattle.bq_label.specs.Packages.{package_cmp, id_cmp, package_named, owner_of, nearest_over};
 
 use crate::label::Label;
@@ -67,34 +67,20 @@ impl BuildFile {
     }
 }
 
-/// Returns whether the path's last segment is `name`.
-fn has_name(path: &[u8], name: &[u8]) -> bool
-    ensures { result ≡ bytes_eq (last_segment path.now) name.now }
-{
-    last_segment(path) == name
-}
-
-/// Returns the path of a `BUILD.bazel` beside a `BUILD`.
-fn preferred_path(alloc: Global, path: &[u8]) -> Result<Vec<u8>, AllocError>
-    ensures { IfOk result (λ p. p.items ≡ path.now ++ codes ".bazel") }
-{
-    let mut preferred = path.to_vec(alloc)?;
-    preferred.extend_from_slice(b".bazel")?;
-    Ok(preferred)
-}
-
 /// Returns whether the file at this path is its directory's BUILD file: `BUILD.bazel`, or `BUILD` with no `BUILD.bazel`
 /// beside it.
 fn is_build_file(alloc: Global, workspace: &Workspace, path: &[u8]) -> Result<bool, AllocError>
     ensures { IfOk result (λ w. w ≡ is_build_file (paths_of workspace.now) path.now) }
 {
-    if has_name(path, b"BUILD.bazel") {
+    let name = last_segment(path);
+    if name == b"BUILD.bazel".as_slice() {
         return Ok(true);
     }
-    if !has_name(path, b"BUILD") {
+    if name != b"BUILD".as_slice() {
         return Ok(false);
     }
-    let preferred = preferred_path(alloc, path)?;
+    let mut preferred = path.to_vec(alloc)?;
+    preferred.extend_from_slice(b".bazel")?;
     Ok(workspace.file(&preferred).is_none())
 }
 
@@ -122,22 +108,6 @@ fn package_of_file(
     }))
 }
 
-/// Returns the packages of a workspace, in the order of their BUILD files' paths.
-fn build_files(alloc: Global, workspace: &Workspace) -> Result<Vec<BuildFile>, AllocError>
-    ensures found { IfOk result (λ found. found.items ≡ build_files (paths_of workspace.now) workspace.now) }
-    ensures valid { IsWorkspace workspace.now }
-{
-    let files = workspace.files();
-    let mut found = Vec::new(alloc);
-    for file in files {
-        let Some(package) = package_of_file(alloc, workspace, file)? else {
-            continue;
-        };
-        found.push(package)?;
-    }
-    Ok(found)
-}
-
 /// Compares a package with a name: by the bytes of the repository, and then of the path.
 fn compare(id: &PackageId, repo: &[u8], path: &[u8]) -> Ordering
     ensures { result ≡ id_cmp id.now (package_at repo.now path.now) }
@@ -146,40 +116,14 @@ fn compare(id: &PackageId, repo: &[u8], path: &[u8]) -> Ordering
     by_repo.then(id.package().as_slice().cmp(path))
 }
 
-/// Returns the packages, ascending by their names.
-fn sorted(found: Vec<BuildFile>) -> Vec<BuildFile>
-    ensures moved { IsPermutation found.items result.items }
-    ensures ascending { IsSorted package_cmp result.items }
-{
-    let mut found = found;
-    found.sort_unstable_by(|a, b| compare(
-        &a.id,
-        b.id.repo().as_slice(),
-        b.id.package().as_slice(),
-    ));
-    found
-}
-
-/// Returns the place of the package of this name.
-fn find_place(packages: &[BuildFile], repo: &[u8], path: &[u8]) -> Option<usize>
-    requires { IsStrictlySortedBy package_cmp packages.now }
-    ensures found { IfSome result (λ at. slice_get packages.now at ≡ package_named packages.now (package_at repo.now path.now)) }
-    ensures none { IfNone result (package_named packages.now (package_at repo.now path.now) ≡ None) }
-{
-    match packages.binary_search_by(|package| compare(&package.id, repo, path)) {
-        Ok(at) => Some(at),
-        Err(_) => None,
-    }
-}
-
 /// Returns the package of this name.
 fn find_package<'a>(packages: &'a [BuildFile], repo: &[u8], path: &[u8]) -> Option<&'a BuildFile>
     requires { IsStrictlySortedBy package_cmp packages.now }
     ensures { option_copied result ≡ package_named packages.now (package_at repo.now path.now) }
 {
-    match find_place(packages, repo, path) {
-        Some(at) => packages.get(at),
-        None => None,
+    match packages.binary_search_by(|package| compare(&package.id, repo, path)) {
+        Ok(at) => Some(&packages[at]),
+        Err(_) => None,
     }
 }
 
@@ -227,10 +171,20 @@ impl Packages {
     pub fn of(alloc: Global, workspace: &Workspace) -> Result<Packages, AllocError>
         ensures { IfOk result (λ p. p ≡ packages_of workspace.now) }
     {
-        let found = build_files(alloc, workspace)?;
-        Ok(Packages {
-            packages: sorted(found),
-        })
+        let files = workspace.files();
+        let mut found = Vec::new(alloc);
+        for file in files {
+            let Some(package) = package_of_file(alloc, workspace, file)? else {
+                continue;
+            };
+            found.push(package)?;
+        }
+        found.sort_unstable_by(|a, b| compare(
+            &a.id,
+            b.id.repo().as_slice(),
+            b.id.package().as_slice(),
+        ));
+        Ok(Packages { packages: found })
     }
 
     /// Returns the packages, ascending by the bytes of their repositories and then of their paths.
@@ -246,11 +200,13 @@ impl Packages {
         ensures found { IfSome result (λ at. slice_get self.now at ≡ package_named self.now id.now) }
         ensures none { IfNone result (package_named self.now id.now ≡ None) }
     {
-        find_place(
-            &self.packages,
-            id.repo().as_slice(),
-            id.package().as_slice(),
-        )
+        let packages = self.all();
+        let repo = id.repo().as_slice();
+        let path = id.package().as_slice();
+        match packages.binary_search_by(|package| compare(&package.id, repo, path)) {
+            Ok(at) => Some(at),
+            Err(_) => None,
+        }
     }
 
     /// Returns the package of this name, in time logarithmic in the number of packages.

@@ -1,8 +1,8 @@
 //! Which texts are paths, target names and repository names.
 
 ghost use Rattle.std.specs.Prelude.{◌≡◌};
-ghost use Rattle.std.specs.List.{list_all, slice_split};
-ghost use Rattle.bq_label.specs.Paths.{is_path_byte, is_segment, is_slash, is_package, is_path, is_repository, is_repository_byte};
+ghost use Rattle.std.specs.List.{list_all};
+ghost use Rattle.bq_label.specs.Paths.{is_path_byte, is_segment, is_path, is_repository, is_repository_byte};
 
 fn is_path_byte(byte: u8) -> bool
     ensures { result ≡ is_path_byte byte }
@@ -23,27 +23,13 @@ pub fn is_segment(segment: &[u8]) -> bool
     !segment.is_empty() && segment != b".".as_slice() && segment != b"..".as_slice()
 }
 
-fn are_segments(path: &[u8]) -> bool
-    ensures { result ≡ list_all is_segment (slice_split is_slash path.now) }
-{
-    path.split(|byte| *byte == b'/').all(is_segment)
-}
-
 /// Returns whether a target, a rule or an output may have this name: segments of printable ASCII but for `:` and `\`,
 /// joined by `/`, none of them empty, `.` or `..`. A file's path is valid by the same test.
 #[tactic(auto, unfolding(crate::specs::Paths::is_path))]
 pub fn is_path(text: &[u8]) -> bool
     ensures { result ≡ is_path text.now }
 {
-    are_path_bytes(text) && are_segments(text)
-}
-
-/// Returns whether a package may have this path in its repository: a name's segments, or the empty path of the root.
-#[tactic(auto, unfolding(crate::specs::Paths::is_package))]
-pub(crate) fn is_package(text: &[u8]) -> bool
-    ensures { result ≡ is_package text.now }
-{
-    text.is_empty() || is_path(text)
+    are_path_bytes(text) && text.split(|byte| *byte == b'/').all(is_segment)
 }
 
 fn is_repository_byte(byte: u8) -> bool

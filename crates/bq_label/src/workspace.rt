@@ -149,16 +149,6 @@ fn are_valid(files: &[File]) -> bool
     are_apart(files)
 }
 
-/// Returns the files, ascending by their paths.
-fn sorted(files: Vec<File>) -> Vec<File>
-    ensures moved { IsPermutation files.items result.items }
-    ensures ascending { IsSorted path_cmp result.items }
-{
-    let mut files = files;
-    files.sort_unstable_by(|a, b| a.path.cmp(&b.path));
-    files
-}
-
 impl Workspace {
     /// Makes the workspace of these files, in any order. A path is refused if it isn't valid, is there twice, or is a
     /// directory of another, and so are more than [`MAX_FILES`] files.
@@ -168,7 +158,8 @@ impl Workspace {
         if files.len() > MAX_FILES {
             return Err(PathErr::Bad);
         }
-        let files = sorted(files);
+        let mut files = files;
+        files.sort_unstable_by(|a, b| a.path.cmp(&b.path));
         if !are_valid(&files) {
             return Err(PathErr::Bad);
         }

@@ -1,6 +1,6 @@
 //! The files of a package that some pattern matches and no excluded one.
 
-ghost use Rattle.std.specs.Prelude.{◌≡◌, ◌≤◌, ◌++◌, [], ◌∷◌, true, false, length, None, Some, IfOk, OnOk, MatchOption};
+ghost use Rattle.std.specs.Prelude.{◌≡◌, ◌≤◌, true, false, length, None, Some, IfOk, MatchOption};
 ghost use Rattle.std.specs.List.{filter, list_any};
 ghost use Rattle.std.specs.List.Sorted.{IsPartitionPoint};
 ghost use Rattle.bq_label_glob.specs.Names.{directory, is_before, is_beneath, is_owned, name_in, is_wanted, glob};
@@ -87,13 +87,6 @@ fn is_wanted(include: &[Pattern], exclude: &[Pattern], name: &[u8]) -> bool
     matches_some(include, name) && !matches_some(exclude, name)
 }
 
-fn push_name(alloc: Global, names: &mut Vec<Bytes>, name: &[u8]) -> Result<(), AllocError>
-    ensures { OnOk result (names.new.items ≡ names.old.items ++ name.now ∷ []) }
-{
-    names.push(Bytes::from_slice(alloc, name)?)?;
-    Ok(())
-}
-
 /// Returns the names in the package of its files that some pattern matches and no excluded one does, ascending by their
 /// bytes. Files of the packages beneath it are theirs. The time is that of matching each file beneath the package
 /// against each pattern.
@@ -117,7 +110,7 @@ pub fn glob(
         if !is_wanted(include, exclude, name) {
             continue;
         }
-        push_name(alloc, &mut names, name)?;
+        names.push(Bytes::from_slice(alloc, name)?)?;
     }
     Ok(names)
 }

@@ -7,7 +7,7 @@ ghost use Rattle.bq_base.specs.declared.fault.SourceErr.TheVariants.{Bad};
 ghost use Rattle.bq_label.specs.Paths.{is_slash, is_segment};
 ghost use Rattle.bq_label_glob.specs.Matching.{matches, is_any_segments, fits_segment, segments_from};
 ghost use Rattle.bq_label_glob.specs.Step.{StepIs};
-ghost use Rattle.bq_label_glob.specs.Pattern.{has_two_stars, is_pattern, is_pattern_segment, pattern_of};
+ghost use Rattle.bq_label_glob.specs.Pattern.{has_two_stars, pattern_of};
 
 use crate::segment::{fits_segment, segment_at};
 use crate::step::{Retry, Step};
@@ -48,29 +48,16 @@ fn has_two_stars(segment: &[u8]) -> bool
     false
 }
 
-/// Returns whether this segment takes any number of segments.
-fn is_any_segments(segment: &[u8]) -> bool
-    ensures { result ≡ is_any_segments segment.now }
-{
-    segment == b"**".as_slice()
-}
-
-#[tactic(auto, unfolding(crate::specs::Pattern::is_pattern, crate::specs::Pattern::is_pattern_segment))]
-fn is_pattern(text: &[u8]) -> bool
-    ensures { result ≡ is_pattern text.now }
-{
-    text.split(|byte| *byte == b'/').all(|segment| {
-        is_segment(segment) && (segment == b"**".as_slice() || !has_two_stars(segment))
-    })
-}
-
 /// Reads a text as a pattern. A text that isn't one is fault F77, at line 0: it or a segment of it is empty, a segment
 /// is `.` or `..`, or `**` is a part of a longer segment.
-#[tactic(auto, unfolding(crate::specs::Pattern::pattern_of))]
+#[tactic(auto, unfolding(crate::specs::Pattern::pattern_of, crate::specs::Pattern::is_pattern, crate::specs::Pattern::is_pattern_segment))]
 pub fn read_pattern(alloc: Global, text: &[u8]) -> Result<Pattern, SourceErr>
     ensures { Gives (λ p. p) Bad result (pattern_of text.now) }
 {
-    if !is_pattern(text) {
+    let is_pattern = text.split(|byte| *byte == b'/').all(|segment| {
+        is_segment(segment) && (segment == b"**".as_slice() || !has_two_stars(segment))
+    });
+    if !is_pattern {
         return Err(SourceErr::Bad(Fault::at(FaultKind::GlobPattern, 0)));
     }
     let text = Bytes::from_slice(alloc, text)?;
@@ -87,7 +74,7 @@ fn segment_step(pattern: &[u8], p: usize, path: &[u8], t: usize) -> Step
             Some(_) => Step::Fail,
         };
     };
-    if is_any_segments(wanted) {
+    if wanted == b"**".as_slice() {
         return Step::Many(p + wanted.len() + 1);
     }
     let Some(segment) = segment_at(path, t) else {
@@ -99,53 +86,47 @@ fn segment_step(pattern: &[u8], p: usize, path: &[u8], t: usize) -> Step
     Step::One(p + wanted.len() + 1, t + segment.len() + 1)
 }
 
-/// Returns whether a path matches a pattern. Of several `**` only the last is tried anew: what an earlier one would
-/// take more, the last can take.
-fn matches(pattern: &[u8], path: &[u8]) -> bool
-    ensures { result ≡ matches pattern.now path.now }
-{
-    let mut p = 0;
-    let mut t = 0;
-    let mut retry: Option<Retry> = None;
-    'segments: loop {
-        match segment_step(pattern, p, path, t) {
-            Step::Many(next) => {
-                p = next;
-                retry = Some(Retry {
-                    pattern: p,
-                    text: t,
-                });
-                continue;
-            }
-            Step::One(next, after) => {
-                p = next;
-                t = after;
-                continue;
-            }
-            Step::End => return true,
-            Step::Fail => {}
-        }
-        let Some(last) = retry else {
-            return false;
-        };
-        let Some(skipped) = segment_at(path, last.text) else {
-            return false;
-        };
-        p = last.pattern;
-        t = last.text + skipped.len() + 1;
-        retry = Some(Retry {
-            pattern: p,
-            text: t,
-        });
-    }
-}
-
 impl Pattern {
-    /// Returns whether the pattern matches a path. The time is at most the product of the two lengths.
+    /// Returns whether the pattern matches a path. Of several `**` only the last is tried anew: what an earlier one
+    /// would take more, the last can take. The time is at most the product of the two lengths.
     pub fn matches(&self, path: &[u8]) -> bool
         ensures { result ≡ matches self.now path.now }
     {
-        matches(self.text.as_slice(), path)
+        let pattern = self.text.as_slice();
+        let mut p = 0;
+        let mut t = 0;
+        let mut retry: Option<Retry> = None;
+        'segments: loop {
+            match segment_step(pattern, p, path, t) {
+                Step::Many(next) => {
+                    p = next;
+                    retry = Some(Retry {
+                        pattern: p,
+                        text: t,
+                    });
+                    continue;
+                }
+                Step::One(next, after) => {
+                    p = next;
+                    t = after;
+                    continue;
+                }
+                Step::End => return true,
+                Step::Fail => {}
+            }
+            let Some(last) = retry else {
+                return false;
+            };
+            let Some(skipped) = segment_at(path, last.text) else {
+                return false;
+            };
+            p = last.pattern;
+            t = last.text + skipped.len() + 1;
+            retry = Some(Retry {
+                pattern: p,
+                text: t,
+            });
+        }
     }
 
     /// Returns the pattern's text.

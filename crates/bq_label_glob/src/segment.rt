@@ -2,7 +2,7 @@
 
 ghost use Rattle.std.specs.Prelude.{◌≡◌, ◌+◌, ◌≤◌, [], ◌∷◌, length, false, MatchOption, IfSome};
 ghost use Rattle.std.specs.List.{list_any};
-ghost use Rattle.bq_label_glob.specs.Matching.{any_tail, fits_segment, segments_from, is_star};
+ghost use Rattle.bq_label_glob.specs.Matching.{fits_segment, segments_from, is_star};
 ghost use Rattle.bq_label_glob.specs.Segment.{IsCutAtStar, IsAfterFirst, IsNowhere};
 
 use memchr::{memchr, memmem};
@@ -27,15 +27,21 @@ fn after_first<'t>(piece: &[u8], text: &'t [u8]) -> Option<&'t [u8]>
     }
 }
 
-/// Returns whether some end of a text fits what a pattern has after a star.
+/// Returns whether a segment of a path fits a segment of a pattern: `*` takes any bytes, every other byte itself.
 ///
 /// Each piece between two stars takes the first place at which the text has it: what that leaves has every end of what
 /// a later place would leave. So the time is linear in the two lengths.
-fn fits_some_end(pattern: &[u8], text: &[u8]) -> bool
-    ensures { result ≡ any_tail (fits_segment pattern.now) text.now }
+pub(crate) fn fits_segment(pattern: &[u8], text: &[u8]) -> bool
+    ensures { result ≡ fits_segment pattern.now text.now }
 {
-    let mut pieces = pattern;
-    let mut rest = text;
+    let Some((first, rest_of_pattern)) = cut_at_star(pattern) else {
+        return pattern == text;
+    };
+    if !text.starts_with(first) {
+        return false;
+    }
+    let mut pieces = rest_of_pattern;
+    let mut rest = &text[first.len()..];
     'pieces: while let Some((piece, more)) = cut_at_star(pieces) {
         let Some(after) = after_first(piece, rest) else {
             return false;
@@ -44,20 +50,6 @@ fn fits_some_end(pattern: &[u8], text: &[u8]) -> bool
         rest = after;
     }
     rest.ends_with(pieces)
-}
-
-/// Returns whether a segment of a path fits a segment of a pattern: `*` takes any bytes, every other byte itself. The
-/// time is linear in the two lengths.
-pub(crate) fn fits_segment(pattern: &[u8], text: &[u8]) -> bool
-    ensures { result ≡ fits_segment pattern.now text.now }
-{
-    let Some((first, pieces)) = cut_at_star(pattern) else {
-        return pattern == text;
-    };
-    if !text.starts_with(first) {
-        return false;
-    }
-    fits_some_end(pieces, &text[first.len()..])
 }
 
 /// Returns the segment that begins at a place of a path, if that isn't past the path's end.

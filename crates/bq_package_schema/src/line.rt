@@ -98,21 +98,15 @@ fn attribute_line(
     Ok(Line::Attribute(name, attribute))
 }
 
-fn is_word(word: &[u8], other: &[u8]) -> bool
-    ensures { result ≡ bytes_eq word.now other.now }
-{
-    word == other
-}
-
 /// Reads a line of these words.
 #[tactic(auto, unfolding(crate::specs::Line::words_line))]
 fn words_line(alloc: Global, words: &[&[u8]]) -> Result<Line, AllocError>
     ensures { IfOk result (λ line. line ≡ words_line (map (λ w. w.now) words.now)) }
 {
     match words {
-        [key, name] if is_word(key, b"rule") => rule_line(alloc, name),
+        [key, name] if *key == b"rule".as_slice() => rule_line(alloc, name),
         [key, name, kind] => attribute_line(alloc, key, name, kind, false),
-        [key, name, kind, mark] if is_word(mark, b"mandatory") => {
+        [key, name, kind, mark] if *mark == b"mandatory".as_slice() => {
             attribute_line(alloc, key, name, kind, true)
         }
         _ => Ok(Line::Other),

@@ -4,8 +4,7 @@ ghost use Rattle.std.specs.Prelude.{◌≡◌, ◌==◌, map, drop, IfOk, IfErr}
 ghost use Rattle.std.specs.List.{slice_split};
 ghost use Rattle.bq_base.specs.Gives.{Gives};
 ghost use Rattle.bq_base.specs.declared.fault.SourceErr.TheVariants.{Bad, Memory};
-ghost use Rattle.bq_package_schema.specs.Schema.{no_rules, after};
-ghost use Rattle.bq_package_schema.specs.Line.{line_of};
+ghost use Rattle.bq_package_schema.specs.Schema.{no_rules};
 ghost use Rattle.bq_package_schema.specs.Reading.{lines, line_number, declared_by, schema_of};
 
 use crate::draft::Draft;
@@ -32,14 +31,6 @@ fn line_number(before: usize) -> u32
     }
 }
 
-/// Returns the rules after one more line; `None` if the line is a bad one.
-fn read_line(alloc: Global, draft: Draft, line: &[u8]) -> Result<Option<Draft>, AllocError>
-    ensures { IfOk result (λ d. d ≡ after draft (line_of line.now)) }
-{
-    let line = line_of(alloc, line)?;
-    draft.after(alloc, line)
-}
-
 /// Returns the schema that the lines declare.
 #[tactic(auto, unfolding(crate::specs::Reading::declared_by))]
 pub(crate) fn read_lines(alloc: Global, lines: &[&[u8]]) -> Result<Schema, SourceErr>
@@ -47,7 +38,8 @@ pub(crate) fn read_lines(alloc: Global, lines: &[&[u8]]) -> Result<Schema, Sourc
 {
     let mut draft = Draft::empty(alloc);
     for (before, line) in lines.iter().enumerate() {
-        match read_line(alloc, draft, line)? {
+        let line = line_of(alloc, line)?;
+        match draft.after(alloc, line)? {
             Some(next) => draft = next,
             None => {
                 return Err(SourceErr::Bad(Fault::at(FaultKind::Schema, line_number(before))));

@@ -17,23 +17,17 @@ pub enum Direction {
 }
 
 impl Direction {
-    /// Returns the target that the edge leaves.
-    pub fn source(self, edge: Edge) -> usize
-        ensures { result ≡ source self edge }
+    /// Returns the edge as it is followed in this direction.
+    pub fn along(self, edge: Edge) -> Edge
+        ensures source { result.from ≡ source self edge }
+        ensures head { result.to ≡ head self edge }
     {
         match self {
-            Direction::Forward => edge.from,
-            Direction::Back => edge.to,
-        }
-    }
-
-    /// Returns the target that the edge leads to.
-    pub fn head(self, edge: Edge) -> usize
-        ensures { result ≡ head self edge }
-    {
-        match self {
-            Direction::Forward => edge.to,
-            Direction::Back => edge.from,
+            Direction::Forward => edge,
+            Direction::Back => Edge {
+                from: edge.to,
+                to: edge.from,
+            },
         }
     }
 }

@@ -1,4 +1,4 @@
-use Rattle.std.proofs.Common.{◌≡◌, ◌∙◌, ◌++◌, ℕ, List, None, Some, sym, ap, drop, ◌+◌}
+use Rattle.std.proofs.Common.{◌≡◌, ◌∙◌, ◌++◌, ◌∷◌, [], ℕ, List, None, Some, sym, ap, drop, ◌+◌}
 use Rattle.bq_label.specs.declared.workspace.File.{File}
 use Rattle.std.specs.List.{filter}
 use Rattle.bq_label_glob.specs.Names.{is_beneath, name_in, glob}
@@ -27,7 +27,7 @@ pub loop-file-preserved : goal.loop-file-preserved
 loop-file-preserved c =
     let named : name_in c.args.packages.now c.args.id.now c.file-item.result.path ≡ Some c.in-Some.name.now = ap (name_in c.args.packages.now c.args.id.now) (sym c.as_slice.ensures) ∙ c.in-Some.ensures in
     let left : List (List ℕ) = glob (drop (c.loop-file.file-index + 1) c.files_beneath-files.result.now) c.args.packages.now c.args.id.now c.args.include.now c.args.exclude.now in
-    ap (λ (v : List (List ℕ)). v ++ left) c.in_ok-push_name.ensures
+    ap (λ (v : List (List ℕ)). v ++ left) (c.in_ok-push.ensures.items ∙ ap (λ (b : List ℕ). c.loop-file.names.items ++ b ∷ []) c.in_ok-from_slice.ensures)
     ∙ gives c.args.packages.now c.args.id.now c.args.include.now c.args.exclude.now c.files_beneath-files.result.now c.loop-file.file-index c.file-item.result c.in-Some.name.now c.loop-file.names.items _ c.loop-file-test.true c.file-item.is
     (wanted c.args.packages.now c.args.id.now c.args.include.now c.args.exclude.now c.file-item.result (drop (c.loop-file.file-index + 1) c.files_beneath-files.result.now) c.in-Some.name.now named (sym c.is_wanted.ensures ∙ c.if-not-is_wanted.false)) c.loop-file.invariant
 

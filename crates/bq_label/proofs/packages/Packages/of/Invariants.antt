@@ -1,7 +1,7 @@
 use Rattle.std.proofs.Common.{◌≡◌, take}
 use Rattle.bq_label.specs.Workspace.{paths_of}
 use Rattle.bq_label.specs.Packages.{build_files}
-use Rattle.bq_label.proofs.packages.build_files.Given as goal
+use Rattle.bq_label.proofs.packages.Packages.of.Given as goal
 
 abbrev pub invariant-loop-file : goal.invariant-loop-file
 invariant-loop-file l = l.found.items ≡ build_files (paths_of l.workspace) (take l.file-index l.files)
