@@ -5,7 +5,7 @@ ghost use Rattle.bq_source.specs.StringLiteral.{quoted, quoted_byte};
 ghost use Rattle.bq_value.specs.Cells.{frozen};
 ghost use Rattle.bq_builtin_machine.specs.State.{stop_at};
 ghost use Rattle.bq_eval_rules.specs.Slots.{slots_of};
-ghost use Rattle.bq_eval.specs.Module.{or_none, values_from, frozen_values, evaluated, failed, detail_of, fault_of};
+ghost use Rattle.bq_eval.specs.Module.{values_from, frozen_values, evaluated, failed, detail_of, fault_of};
 ghost use Rattle.bq_eval.specs.Outcomes.{ended_of};
 
 use crate::module::ResolvedModule;
@@ -16,31 +16,7 @@ use bq_eval_rules::Frame;
 use bq_value::{Value, freeze};
 use std::alloc::{AllocError, Global};
 
-/// Returns the value of a global.
-fn value_in(globals: &Frame<'_>, slot: usize) -> Result<Value, AllocError>
-    ensures { IfOk result (λ v. v ≡ or_none (slots_of globals.now slot)) }
-{
-    match globals.get(slot) {
-        None => Ok(Value::none()),
-        Some(value) => value.share(),
-    }
-}
-
-/// Returns the values of a file's globals, and then of what its loads bind.
-#[tactic(auto, unfolding(crate::specs::Module::frozen_values))]
-fn frozen_values(
-    alloc: Global,
-    module: &ResolvedModule<'_>,
-    globals: &Frame<'_>,
-) -> Result<Vec<Value>, AllocError>
-    ensures { IfOk result (λ values. values.items ≡ frozen_values «module».now.file.now «module».now.imports.now (slots_of globals.now)) }
-{
-    let mut values = Vec::new(alloc);
-    push_globals(&mut values, module.file.globals.as_slice(), globals)?;
-    push_shares(&mut values, module.imports)?;
-    Ok(values)
-}
-
+/// Appends the values of a file's globals.
 fn push_globals(
     values: &mut Vec<Value>,
     names: &[Bytes],
@@ -49,7 +25,11 @@ fn push_globals(
     ensures { OnOk result (values.new.items ≡ values.old.items ++ values_from 0 names.now (slots_of globals.now)) }
 {
     for (slot, _name) in names.iter().enumerate() {
-        values.push(value_in(globals, slot)?)?;
+        let value = match globals.get(slot) {
+            None => Value::none(),
+            Some(value) => value.share()?,
+        };
+        values.push(value)?;
     }
     Ok(())
 }
@@ -63,7 +43,8 @@ fn push_shares(values: &mut Vec<Value>, more: &[Value]) -> Result<(), AllocError
     Ok(())
 }
 
-/// Freezes a file that ran to its end.
+/// Freezes a file that ran to its end, with the values of its globals, and then of what its loads bind.
+#[tactic(auto, unfolding(crate::specs::Module::frozen_values))]
 pub(crate) fn module_of(
     alloc: Global,
     module: &ResolvedModule<'_>,
@@ -73,8 +54,11 @@ pub(crate) fn module_of(
     ensures { IfOk result (λ o. ended_of o ≡ evaluated (frozen machine.store «module».now.file.now.globals (frozen_values «module».now.file.now «module».now.imports.now (slots_of globals.now))) machine.prints) }
 {
     let (store, prints) = machine.into_parts();
-    let values = frozen_values(alloc, module, globals)?;
-    let frozen = freeze(alloc, store, module.file.globals.as_slice(), values)?;
+    let names = module.file.globals.as_slice();
+    let mut values = Vec::new(alloc);
+    push_globals(&mut values, names, globals)?;
+    push_shares(&mut values, module.imports)?;
+    let frozen = freeze(alloc, store, names, values)?;
     Ok(FileOutcome::Module(frozen, prints))
 }
 

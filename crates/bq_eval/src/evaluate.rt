@@ -4,10 +4,7 @@ ghost use Rattle.std.specs.Prelude.{◌≡◌, IfOk, OnOk, IfSome};
 ghost use Rattle.bq_builtin_machine.specs.State.{State};
 ghost use Rattle.bq_builtin_machine.specs.Action.{Run, HostDoes};
 ghost use Rattle.bq_eval_meaning_spec.specs.Frame as frames;
-ghost use Rattle.bq_eval_meaning_spec.specs.Module.{module_meaning, frozen_units};
-ghost use Rattle.bq_eval_rules.specs.Round.{views_of};
 ghost use Rattle.bq_eval_rules.specs.Slots.{slots_of};
-ghost use Rattle.bq_eval_operations.specs.Runtime.{primitives};
 ghost use Rattle.bq_eval.specs.Module.{ended, kept_after, module_run};
 ghost use Rattle.bq_eval.specs.Outcomes.{ended_of, run_of};
 
@@ -24,25 +21,6 @@ use bq_value::EvalErr;
 use bq_value_seed::Seed;
 use std::alloc::{AllocError, Global};
 use std::marker::Brand;
-
-/// Runs a file on a machine and a host, where the rules have the names of `K`. Returns its globals, or why it stops,
-/// and both afterwards.
-#[tactic(auto, using(bq_eval_operations::specs::Runtime::machine_of, crate::proofs::Ends::host_does))]
-fn run_on<H: Host, K: RuleNames>(
-    alloc: Global,
-    built_ins: &BuiltIns,
-    module: &ResolvedModule<'_>,
-    machine: Machine,
-    host: H,
-) -> (Result<Frame<'static>, EvalErr>, Machine, H)
-    requires { built_ins.now ≡ K.rules }
-    ensures { HostDoes slots_of result.0 result.1 (H.seen result.2) (module_meaning (primitives K.rules H.means) (frozen_units «module».now.code.now (views_of «module».now.loaded.now)) «module».now.number «module».now.file.now «module».now.imports.now (machine, H.seen host)) }
-{
-    let mut evaluation = Evaluation::<H, K>::new(alloc, built_ins, machine, host);
-    let ran = run_module(alloc, module, &mut evaluation);
-    let (machine, host) = evaluation.into_parts();
-    (ran, machine, host)
-}
 
 /// Returns the outcome of a file from how its run ended.
 fn outcome_of<H: Host>(
@@ -64,7 +42,7 @@ fn outcome_of<H: Host>(
 }
 
 /// Evaluates a file, where the rules have the names of `K`.
-#[tactic(auto, unfolding(crate::specs::Module::module_run))]
+#[tactic(auto, using(bq_eval_operations::specs::Runtime::machine_of, crate::proofs::Ends::host_does), unfolding(crate::specs::Module::module_run))]
 fn evaluate<H: Host + Drop, K: RuleNames>(
     alloc: Global,
     built_ins: &BuiltIns,
@@ -79,7 +57,9 @@ fn evaluate<H: Host + Drop, K: RuleNames>(
 {
     let store = first_store(alloc, module.number, module.loaded, seed)?;
     let machine = Machine::new(alloc, store, limit);
-    let (ran, machine, host) = run_on::<H, K>(alloc, built_ins, module, machine, host);
+    let mut evaluation = Evaluation::<H, K>::new(alloc, built_ins, machine, host);
+    let ran = run_module(alloc, module, &mut evaluation);
+    let (machine, host) = evaluation.into_parts();
     let outcome = outcome_of(alloc, module, ran, machine, &host)?;
     Ok(EvaluatedFile { outcome, host })
 }

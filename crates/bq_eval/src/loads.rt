@@ -58,21 +58,10 @@ fn first_of_clauses<'a>(
         let Some((value, rest)) = left.split_first() else {
             return Ok(left);
         };
-        first_value(globals, clause.global, value)?;
+        if let Some(slot) = clause.global {
+            globals.fill(slot, value.share()?)?;
+        }
         left = rest;
     }
     Ok(left)
-}
-
-fn first_value(
-    globals: &mut Frame<'_>,
-    global: Option<usize>,
-    value: &Value,
-) -> Result<(), AllocError>
-    ensures { OnOk result (slots_of globals.new ≡ meaning.with_first global value.now (slots_of globals.old)) }
-{
-    match global {
-        None => Ok(()),
-        Some(slot) => globals.fill(slot, value.share()?),
-    }
 }

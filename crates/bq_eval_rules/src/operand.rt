@@ -1,20 +1,17 @@
 //! Values that are only read.
 
-ghost use Rattle.std.specs.Prelude.{◌≡◌, IfOk, IfSome};
+ghost use Rattle.std.specs.Prelude.{◌≡◌, IfOk};
 ghost use Rattle.bq_eval_meaning_spec.specs.Expressions as meaning;
 ghost use Rattle.bq_eval_rules.specs.Acts.{Acts};
 ghost use Rattle.bq_eval_rules.specs.Slots.{slots_of};
 ghost use Rattle.bq_eval_rules.specs.Round.{round_of};
 ghost use Rattle.bq_eval_rules.specs.Operands.{read_of};
-ghost use Rattle.bq_resolve_scope.specs.declared.code.Binding.TheVariants as bindings;
-ghost use Rattle.bq_resolve_scope.specs.declared.code.Code.{out-Code};
-ghost use Rattle.bq_resolve_scope.specs.declared.code.Code.TheOpen.{Code-F};
 
 use crate::context::Context;
 use crate::frame::Frame;
 use crate::runtime::Runtime;
 use bq_base::FaultKind;
-use bq_resolve_scope::{Binding, Code};
+use bq_resolve_scope::Binding;
 use bq_value::{EvalErr, Value};
 use std::alloc::AllocError;
 
@@ -68,27 +65,5 @@ pub fn use_of<'f, R: Runtime>(
     match value {
         None => Err(EvalErr::Bad(FaultKind::Unbound)),
         Some(value) => Ok(Operand::Lent(value)),
-    }
-}
-
-/// Returns the slot of the local name that this is, if it is one.
-#[inline(always)]
-pub fn local_in(code: &Code) -> Option<usize>
-    ensures { IfSome result (λ slot. out-Code code.now ≡ Code-F.Use (bindings.Local slot)) }
-{
-    match code {
-        Code::Use(Binding::Local(slot)) => Some(*slot),
-        _ => None,
-    }
-}
-
-/// Returns the integer that this is, if it is one.
-#[inline(always)]
-pub fn int_in(code: &Code) -> Option<i64>
-    ensures { IfSome result (λ n. out-Code code.now ≡ Code-F.Int n) }
-{
-    match code {
-        Code::Int(n) => Some(*n),
-        _ => None,
     }
 }

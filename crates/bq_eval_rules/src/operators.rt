@@ -7,15 +7,13 @@ ghost use Rattle.bq_eval_meaning_spec.specs.Expressions as meaning;
 ghost use Rattle.bq_eval_rules.specs.Acts.{Acts};
 ghost use Rattle.bq_eval_rules.specs.Slots.{slots_of};
 ghost use Rattle.bq_eval_rules.specs.Nests.{Nests, nested};
-ghost use Rattle.bq_eval_rules.specs.Operands.{local_use};
 
 use crate::context::Context;
 use crate::evaluator::Evaluator;
 use crate::frame::Frame;
-use crate::operand::{int_in, local_in};
 use crate::runtime::Runtime;
 use bq_parse_grammar::{Comparison, Operator, UnaryOperator};
-use bq_resolve_scope::{Code, CodeChoice, CodeOperation};
+use bq_resolve_scope::{Binding, Code, CodeChoice, CodeOperation};
 use bq_value::{EvalErr, Value};
 
 /// Applies these operators to a value, the last one first.
@@ -88,21 +86,6 @@ impl<
         }
     }
 
-    /// Applies `left op name`, for a local name.
-    #[inline(always)]
-    fn apply_local(
-        &self,
-        runtime: &mut R,
-        operator: Operator,
-        left: &Value,
-        slot: usize,
-    ) -> Result<Value, EvalErr>
-        ensures { Acts R.means (λ v. v) result (R.seen runtime.new) (following (local_use R.means (slots_of self.now.frame.now) slot (R.seen runtime.old)) (R.means.binary operator left.now)) }
-    {
-        let right = self.frame.local(runtime, slot)?;
-        runtime.binary(operator, left, right)
-    }
-
     /// Applies `left op n`, for an integer literal.
     #[inline(always)]
     fn apply_int(
@@ -131,11 +114,14 @@ impl<
         ensures { Acts R.means (λ v. v) result (R.seen runtime.new) (following (nested R.means self.now.depth self.now.context.now operand.now (slots_of self.now.frame.now) (R.seen runtime.old)) (R.means.binary operator left.now)) }
     {
         if self.depth > 0 {
-            if let Some(slot) = local_in(operand) {
-                return self.apply_local(runtime, operator, left, slot);
+            if let Code::Use(binding) = operand {
+                if let Binding::Local(slot) = binding {
+                    let right = self.frame.local(runtime, *slot)?;
+                    return runtime.binary(operator, left, right);
+                }
             }
-            if let Some(n) = int_in(operand) {
-                return self.apply_int(runtime, operator, left, n);
+            if let Code::Int(n) = operand {
+                return self.apply_int(runtime, operator, left, *n);
             }
         }
         let right = self.value(runtime, operand)?;
@@ -198,21 +184,6 @@ impl<
         }
     }
 
-    /// Evaluates a chain whose first operand is a local name.
-    #[inline(always)]
-    fn chain_of_local(
-        &self,
-        runtime: &mut R,
-        operations: &[CodeOperation],
-        slot: usize,
-    ) -> Result<Value, EvalErr>
-        requires { Nests R.means R.seen self.now.context.now.left self.now.depth self.now.call (F.pre self.now.eval) (F.post self.now.eval) }
-        ensures { Acts R.means (λ v. v) result (R.seen runtime.new) (following (local_use R.means (slots_of self.now.frame.now) slot (R.seen runtime.old)) (meaning.operations R.means (nested R.means self.now.depth self.now.context.now) operations.now (slots_of self.now.frame.now))) }
-    {
-        let first = self.frame.local(runtime, slot)?;
-        self.chain(runtime, operations, first)
-    }
-
     /// Evaluates the first operand, which is only read, and the operations on it.
     #[inline(always)]
     fn chain_of(
@@ -225,8 +196,11 @@ impl<
         ensures { Acts R.means (λ v. v) result (R.seen runtime.new) (following (nested R.means self.now.depth self.now.context.now code.now (slots_of self.now.frame.now) (R.seen runtime.old)) (meaning.operations R.means (nested R.means self.now.depth self.now.context.now) operations.now (slots_of self.now.frame.now))) }
     {
         if self.depth > 0 {
-            if let Some(slot) = local_in(code) {
-                return self.chain_of_local(runtime, operations, slot);
+            if let Code::Use(binding) = code {
+                if let Binding::Local(slot) = binding {
+                    let first = self.frame.local(runtime, *slot)?;
+                    return self.chain(runtime, operations, first);
+                }
             }
         }
         let first = self.value(runtime, code)?;

@@ -1,17 +1,24 @@
-use Rattle.std.proofs.Common.{sym, subst}
-use Rattle.bq_value.specs.Datum.{Datum}
-use Rattle.bq_builtin_machine.specs.Action.{Run, following}
-use Rattle.bq_eval_meaning_spec.specs.Expressions.{operations}
-use Rattle.bq_eval_rules.specs.Acts.{Acts}
-use Rattle.bq_eval_rules.specs.Nests.{nested}
+use Rattle.std.proofs.Common.{◌≡◌, ◌∙◌, ap, arith}
+use Rattle.std.proofs.lemmas.Grind.{common_steps}
+use Rattle.bq_resolve_scope.specs.declared.code.Binding.TheVariants as b
+use Rattle.bq_resolve_scope.specs.declared.code.Code.{out-Code}
+use Rattle.bq_resolve_scope.specs.declared.code.Code.TheVariants.{outs-Use}
+use Rattle.bq_resolve_scope.specs.declared.code.Code.TheOpen.{Code-F}
 use Rattle.bq_eval_rules.specs.Round.{inside, round_of}
 use Rattle.bq_eval_rules.specs.Slots.{slots_of}
 use Rattle.bq_eval_rules.proofs.Layers.{local_layer}
 use Rattle.bq_eval_rules.proofs.evaluator.Evaluator.chain_of.Goals as goal
 
-pub returns-in-Some : goal.returns-in-Some
-returns-in-Some g c =
+pub returns-in_err-first : goal.returns-in_err-first
+returns-in_err-first g c =
     let h = g.R.Runtime in
-    let e = local_layer h.means (inside h.means c.args.self.now.context.now) (round_of c.args.self.now.context.now) c.args.self.now.depth c.args.code.now c.in-Some.slot (slots_of c.args.self.now.frame.now) (h.seen c.args.runtime.now) c.if-self-gt0.true c.in-Some.ensures in
-    let P : Run h.State Datum → Type 0 = λ run. Acts h.means (λ v. v) c.chain_of_local.result (h.seen c.chain_of_local.new.runtime) (following run (operations h.means (nested h.means c.args.self.now.depth c.args.self.now.context.now) c.args.operations.now (slots_of c.args.self.now.frame.now))) in
-    subst P (sym e) c.chain_of_local.ensures
+    let is : out-Code c.args.code.now ≡ Code-F.Use (b.Local c.in-Local.slot) = ap out-Code c.in-Use.is ∙ (outs-Use c.in-Use.binding ∙ ap Code-F.Use c.in-Local.is) in
+    let e = local_layer h.means (inside h.means c.args.self.now.context.now) (round_of c.args.self.now.context.now) c.args.self.now.depth c.args.code.now c.in-Local.slot (slots_of c.args.self.now.frame.now) (h.seen c.args.runtime.now) c.if-self-gt0.true is in
+    rw e (grind (arith, common_steps))
+
+pub returns-in-Local : goal.returns-in-Local
+returns-in-Local g c =
+    let h = g.R.Runtime in
+    let is : out-Code c.args.code.now ≡ Code-F.Use (b.Local c.in-Local.slot) = ap out-Code c.in-Use.is ∙ (outs-Use c.in-Use.binding ∙ ap Code-F.Use c.in-Local.is) in
+    let e = local_layer h.means (inside h.means c.args.self.now.context.now) (round_of c.args.self.now.context.now) c.args.self.now.depth c.args.code.now c.in-Local.slot (slots_of c.args.self.now.frame.now) (h.seen c.args.runtime.now) c.if-self-gt0.true is in
+    rw e (grind (arith, common_steps))
