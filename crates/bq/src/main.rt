@@ -26,7 +26,7 @@ use std::random::RandomSource;
 use std::sync::Wait;
 use std::thread::Threads;
 use std::{env, io};
-use words::{Asked, Words, words_of};
+use words::{Asked, words_of};
 
 /// Writes the error line for out of memory, which takes no memory itself.
 fn report_no_memory(rt: &impl Eprint) -> u8 {
@@ -125,25 +125,6 @@ fn run_on_directory<T: Threads + Wait + RandomSource + Sync>(
 }
 
 /// Runs as the words say. Ends with the error line, if there is one.
-fn run_by_words<T: Threads + Wait + RandomSource + Sync>(
-    rt: &HostRuntime,
-    threads: &T,
-    alloc: Global,
-    words: &Words,
-) -> u8
-    requires { IsInRange words.now.options }
-{
-    let ended = match &words.directory {
-        None => run_on_bundle(rt, threads, alloc, &words.options),
-        Some(directory) => {
-            run_on_directory(rt, threads, alloc, directory.as_str(), &words.options)
-        }
-    };
-    let mut errors = Metered::new(rt.stderr());
-    let _ = write_status_line(&mut errors, &ended);
-    status_code(&ended)
-}
-
 fn main(rt: HostRuntime) -> ExitCode {
     let alloc = rt.alloc();
     let arguments = match env::args(&rt) {
@@ -154,7 +135,17 @@ fn main(rt: HostRuntime) -> ExitCode {
         return ExitCode::from(report_no_memory(&rt));
     };
     match words_of(alloc, &words) {
-        Ok(Asked::Answer(words)) => ExitCode::from(run_by_words(&rt, &rt, alloc, &words)),
+        Ok(Asked::Answer(words)) => {
+            let ended = match &words.directory {
+                None => run_on_bundle(&rt, &rt, alloc, &words.options),
+                Some(directory) => {
+                    run_on_directory(&rt, &rt, alloc, directory.as_str(), &words.options)
+                }
+            };
+            let mut errors = Metered::new(rt.stderr());
+            let _ = write_status_line(&mut errors, &ended);
+            ExitCode::from(status_code(&ended))
+        }
         Ok(Asked::Explanation(explanation)) => ExitCode::from(show_explanation(&rt, &explanation)),
         Err(error) => ExitCode::from(show(&rt, &error)),
     }

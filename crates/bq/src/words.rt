@@ -36,69 +36,54 @@ const MAX_STEPS: u64 = 1_000_000_000;
 
 const DEFAULT_STEPS: u64 = 1_000_000;
 
-fn jobs<'a>(alloc: Global) -> Arg<'a> {
-    Arg::new(alloc, "jobs")
-        .long("jobs")
-        .value_name("N")
-        .help("Number of workers that load modules, 1 to 256")
-        .value_parser(value_parser!(u32).range(1..=MAX_JOBS as i64))
-        .default_value("4")
-}
-
-fn output<'a>(alloc: Global) -> Arg<'a> {
-    Arg::new(alloc, "output")
-        .long("output")
-        .value_name("FORM")
-        .help("Output format of each target")
-        .value_parser(["label", "label_kind"].as_slice())
-        .default_value("label")
-}
-
-fn max_steps<'a>(alloc: Global) -> Arg<'a> {
-    Arg::new(alloc, "max-steps")
-        .long("max-steps")
-        .value_name("N")
-        .help("Step limit for evaluating one module, 1 to 1000000000")
-        .value_parser(value_parser!(u64).range(1..=MAX_STEPS as i64))
-        .default_value("1000000")
-}
-
-fn directory<'a>(alloc: Global) -> Arg<'a> {
-    Arg::new(alloc, "dir")
+/// Makes the command, before it has seen any words.
+fn command<'a>(alloc: Global) -> Result<Command<'a>, AllocError> {
+    let directory = Arg::new(alloc, "dir")
         .long("dir")
         .value_name("DIR")
         .help("Directory that holds the workspace")
-        .action(ArgAction::Set)
-}
-
-fn explain_number<'a>(alloc: Global) -> Arg<'a> {
-    Arg::new(alloc, "explain")
+        .action(ArgAction::Set);
+    let explain = Arg::new(alloc, "explain")
         .long("explain")
         .value_name("NUMBER")
         .help("Explain a fault or error, as F47, Q5 or E4, and exit")
         .action(ArgAction::Set)
-        .exclusive(true)
-}
-
-fn query<'a>(alloc: Global) -> Arg<'a> {
-    Arg::new(alloc, "query")
+        .exclusive(true);
+    let query = Arg::new(alloc, "query")
         .value_name("QUERY")
         .help("The query, as //package:name or deps(//...)")
         .required(true)
-        .action(ArgAction::Set)
+        .action(ArgAction::Set);
+    let command = Command::new(alloc, "bq")
+        .about("Answers a query over the targets of a workspace of BUILD files")
+        .after_help(NOTES);
+    with_options(alloc, command)?
+        .arg(directory)?
+        .arg(explain)?
+        .arg(query)
 }
 
-/// Makes the command, before it has seen any words.
-fn command<'a>(alloc: Global) -> Result<Command<'a>, AllocError> {
-    Command::new(alloc, "bq")
-        .about("Answers a query over the targets of a workspace of BUILD files")
-        .after_help(NOTES)
-        .arg(jobs(alloc))?
-        .arg(output(alloc))?
-        .arg(max_steps(alloc))?
-        .arg(directory(alloc))?
-        .arg(explain_number(alloc))?
-        .arg(query(alloc))
+/// Adds the options with defaults.
+fn with_options<'a>(alloc: Global, command: Command<'a>) -> Result<Command<'a>, AllocError> {
+    let jobs = Arg::new(alloc, "jobs")
+        .long("jobs")
+        .value_name("N")
+        .help("Number of workers that load modules, 1 to 256")
+        .value_parser(value_parser!(u32).range(1..=MAX_JOBS as i64))
+        .default_value("4");
+    let output = Arg::new(alloc, "output")
+        .long("output")
+        .value_name("FORM")
+        .help("Output format of each target")
+        .value_parser(["label", "label_kind"].as_slice())
+        .default_value("label");
+    let max_steps = Arg::new(alloc, "max-steps")
+        .long("max-steps")
+        .value_name("N")
+        .help("Step limit for evaluating one module, 1 to 1000000000")
+        .value_parser(value_parser!(u64).range(1..=MAX_STEPS as i64))
+        .default_value("1000000");
+    command.arg(jobs)?.arg(output)?.arg(max_steps)
 }
 
 /// A query, and where its workspace is.
@@ -116,8 +101,8 @@ pub enum Asked {
     Explanation(Explanation),
 }
 
-fn options_of(alloc: Global, matches: &ArgMatches) -> Result<Options, AllocError>
-    ensures { IfOk result IsInRange }
+fn query_of(alloc: Global, matches: &ArgMatches) -> Result<Words, AllocError>
+    ensures { IfOk result (λ w. IsInRange w.options) }
 {
     let jobs = matches.get_one::<u32>("jobs").unwrap_or(DEFAULT_JOBS);
     let max_steps = matches.get_one::<u64>("max-steps").unwrap_or(DEFAULT_STEPS);
@@ -125,27 +110,18 @@ fn options_of(alloc: Global, matches: &ArgMatches) -> Result<Options, AllocError
         Some("label_kind") => OutputForm::LabelKind,
         _ => OutputForm::Label,
     };
-    Ok(Options {
-        query: matches
-            .get_str("query")
-            .unwrap_or("")
-            .as_bytes()
-            .to_vec(alloc)?,
-        jobs: jobs.clamp(1, MAX_JOBS),
-        output,
-        max_steps: max_steps.clamp(1, MAX_STEPS),
-    })
-}
-
-fn query_of(alloc: Global, matches: &ArgMatches) -> Result<Words, AllocError>
-    ensures { IfOk result (λ w. IsInRange w.options) }
-{
     let directory = match matches.get_str("dir") {
         Some(directory) => Some(String::from_str(alloc, directory)?),
         None => None,
     };
+    let query = matches.get_str("query").unwrap_or("");
     Ok(Words {
-        options: options_of(alloc, matches)?,
+        options: Options {
+            query: query.as_bytes().to_vec(alloc)?,
+            jobs: jobs.clamp(1, MAX_JOBS),
+            output,
+            max_steps: max_steps.clamp(1, MAX_STEPS),
+        },
         directory,
     })
 }

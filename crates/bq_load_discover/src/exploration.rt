@@ -84,22 +84,6 @@ impl Exploration {
         self.put(next)?;
         Ok(true)
     }
-
-    /// Reads all that is found, and what that loads. Returns false if there are too many modules.
-    fn read_all(&mut self, alloc: Global, inputs: &Inputs<'_>) -> Result<bool, AllocError>
-        requires { Explores inputs.now self.old.found self.old.read.items }
-        ensures { IfOk result (λ all. AllAreRead inputs.now all self.new.read.items) }
-    {
-        for _ in 0..MAX_MODULES + 1 {
-            if self.read.len() > MAX_MODULES {
-                return Ok(false);
-            }
-            if !self.read_next(alloc, inputs)? {
-                return Ok(true);
-            }
-        }
-        Ok(false)
-    }
 }
 
 /// Returns all modules of a workspace, some of which have been read; `None` if there are too many.
@@ -111,11 +95,15 @@ pub(crate) fn read_rest(
     requires { Explores inputs.now exploration.found exploration.read.items }
     ensures { IfOk result (Finds inputs.now) }
 {
-    if exploration.read_all(alloc, inputs)? {
-        Ok(Some(exploration.read))
-    } else {
-        Ok(None)
+    for _ in 0..MAX_MODULES + 1 {
+        if exploration.read.len() > MAX_MODULES {
+            return Ok(None);
+        }
+        if !exploration.read_next(alloc, inputs)? {
+            return Ok(Some(exploration.read));
+        }
     }
+    Ok(None)
 }
 
 /// Returns the modules of a workspace in the order in which they are found; `None` if there are too many.

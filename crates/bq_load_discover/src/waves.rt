@@ -55,13 +55,6 @@ fn module_at(
     }
 }
 
-/// Reads the module of the label at its place.
-fn read_one(alloc: Global, inputs: &Inputs<'_>, labels: &LabelSet, reading: &mut Reading)
-    ensures { IsReading inputs.now labels.now reading.new }
-{
-    reading.read = module_at(alloc, inputs, labels, reading.place);
-}
-
 /// Reads the modules of labels, in at most `threads` threads.
 fn read_all<R: Threads + Sync>(
     rt: &R,
@@ -76,38 +69,30 @@ fn read_all<R: Threads + Sync>(
 {
     let each = |_: usize, reading: &mut Reading|
         ensures { IsReading inputs.entry.now labels.entry.now reading.exit.now }
-    { read_one(alloc, inputs, labels, reading) };
+    { reading.read = module_at(alloc, inputs, labels, reading.place) };
     thread::for_each_mut(rt, readings, threads, &each);
 }
 
 impl Exploration {
-    /// Adds the module of the label at this place, if it is the next.
+    /// Adds what was read, if it is the next. If memory was refused to its thread, it fails too.
     #[tactic(auto, using(crate::proofs::Readings::grows, crate::proofs::Readings::grows_none, crate::proofs::Readings::at_next))]
-    fn put_at(&mut self, place: usize, next: Module) -> Result<(), AllocError>
-        ensures explores { (inputs : InputParts) → Explores inputs self.old.found self.old.read.items → IsModuleAt inputs self.old.found place next → OnOk result (Explores inputs self.new.found self.new.read.items) }
+    fn take(&mut self, reading: Option<Reading>) -> Result<(), AllocError>
+        ensures explores { (inputs : InputParts) → Explores inputs self.old.found self.old.read.items → IfSome reading (IsReading inputs self.old.found) → OnOk result (Explores inputs self.new.found self.new.read.items) }
         ensures grows { OnOk result (Grows self.old.found self.new.found) }
     {
+        let Some(Reading { place, read }) = reading else {
+            return Ok(());
+        };
+        let next = match read {
+            Err(_) => return Err(AllocError),
+            Ok(None) => return Ok(()),
+            Ok(Some(next)) => next,
+        };
         if place != self.read.len() {
             return Ok(());
         }
         self.put(next)?; // PROOF: what was added, where memory was there
         Ok(())
-    }
-
-    /// Adds what was read, if it is the next. If memory was refused to its thread, it fails too.
-    #[tactic(auto, using(crate::proofs::Readings::grows_none))]
-    fn take(&mut self, reading: Option<Reading>) -> Result<(), AllocError>
-        ensures explores { (inputs : InputParts) → Explores inputs self.old.found self.old.read.items → IfSome reading (IsReading inputs self.old.found) → OnOk result (Explores inputs self.new.found self.new.read.items) }
-        ensures grows { OnOk result (Grows self.old.found self.new.found) }
-    {
-        match reading {
-            None => Ok(()),
-            Some(Reading { place, read }) => match read {
-                Err(_) => Err(AllocError),
-                Ok(None) => Ok(()),
-                Ok(Some(next)) => self.put_at(place, next),
-            },
-        }
     }
 
     /// Adds the modules that were read.
