@@ -10,6 +10,7 @@ import shutil
 import subprocess
 import tarfile
 import tempfile
+import textwrap
 
 from program import ROOT, Refused, bytes_of, text_of
 
@@ -49,13 +50,14 @@ Upstream-Name: bq
 Files: *
 Copyright: {year} the developers of bq
 License: Apache-2.0
+Comment: {comment}
 
 License: Apache-2.0
  On Debian systems, the text of the Apache License, version 2.0, is in
  /usr/share/common-licenses/Apache-2.0.
 """
 
-# why lintian finds two things that it usually takes for mistakes
+# what lintian takes for a mistake, and why it isn't one
 OVERRIDES = """\
 # The program is the one that the proofs are about, byte for byte (tools/release --check), so nothing strips it.
 bq: unstripped-binary-or-object [usr/bin/bq]
@@ -109,8 +111,8 @@ def changelog(version):
     parts = re.split(r"^## (\S+), (\S+)$", text_of("docs/CHANGELOG.md"), flags=re.M)[1:]
     written = []
     for number, day, text in zip(parts[::3], parts[1::3], parts[2::3]):
-        items = [re.sub(r"\n {2}", "\n    ", it.strip()) for it in re.split(r"^- ", text, flags=re.M)[1:]]
-        lines = "\n".join(f"  * {it}" for it in items)
+        items = re.split(r"^- ", text, flags=re.M)[1:]
+        lines = "\n".join(textwrap.fill(it, 78, initial_indent="  * ", subsequent_indent="    ") for it in items)
         stamp = moment_of(day).strftime("%a, %d %b %Y %H:%M:%S +0000")
         written.append(f"bq ({number}) unstable; urgency=medium\n\n{lines}\n\n -- {MAINTAINER}  {stamp}\n")
     return "\n".join(written).encode()
@@ -118,6 +120,12 @@ def changelog(version):
 
 def packed(content):
     return gzip.compress(content, compresslevel=9, mtime=0)
+
+
+def copyright_of(day):
+    """Debian's copyright file. What the program has of others is the last paragraph of LICENSE."""
+    others = text_of("LICENSE").strip().split("\n\n")[-1].replace("\n", "\n ")
+    return COPYRIGHT.format(year=day[:4], comment=others).encode()
 
 
 def debian_files(program, version, day):
@@ -132,7 +140,7 @@ def debian_files(program, version, day):
         f"{share}/fish/vendor_completions.d/bq.fish": pages.pop("docs/completions/bq.fish"),
         f"{share}/lintian/overrides/bq": OVERRIDES.encode(),
         f"{doc}/changelog.gz": packed(changelog(version)),
-        f"{doc}/copyright": COPYRIGHT.format(year=day[:4]).encode(),
+        f"{doc}/copyright": copyright_of(day),
     }
     del pages["docs/bq.1"], pages["docs/CHANGELOG.md"]
     return {**files, **{f"{doc}/{path}": it for path, it in pages.items()}, **{f"{share}/bq/{path}": it for path, it in tools().items()}}
@@ -170,6 +178,7 @@ def make_package(program, version, day, to):
 
 def make(program, version, day, folder):
     """Writes both packages into the folder, and returns their paths."""
+    os.umask(0o022)
     os.makedirs(folder, exist_ok=True)
     tarball, package = f"{folder}/bq-{version}-x86_64-linux.tar.xz", f"{folder}/bq_{version}_amd64.deb"
     make_tarball(program, version, day, tarball)
