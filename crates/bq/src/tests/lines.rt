@@ -83,13 +83,9 @@ fn are_answered_with_help(rt: HostRuntime) -> Result<(), AllocError> {
 #[test]
 fn are_answered_with_the_version(rt: HostRuntime) -> Result<(), AllocError> {
     let wanted = format!(in rt.alloc(); "bq {VERSION}\n")?;
-    for line in [b"--version".as_slice(), b"-V", b"--jobs 2 --version //a:x"] {
-        let found = answer(rt.alloc(), line)?;
-        assert!(rt;
-            found.as_slice() == wanted.as_bytes(),
-            "{}",
-            line.escape_ascii()
-        );
+    for line in ["--version", "-V"] {
+        let found = answer(rt.alloc(), line.as_bytes())?;
+        assert!(rt; found.as_slice() == wanted.as_bytes(), "{line}");
     }
     Ok(())
 }
