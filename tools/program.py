@@ -69,6 +69,15 @@ def is_there():
     return os.path.isdir(DIST)
 
 
+def stop_on_other_text():
+    """Refuses a dist/ that isn't of the source files as they are."""
+    if not is_there():
+        raise Refused("there is no dist/: run `rt ci`, and then tools/release --dist")
+    changed = differing(text_of("dist/SOURCES"))
+    if changed:
+        raise Refused(f"dist/ isn't of the source files as they are ({changed[0]} differs): run `rt ci`, and then tools/release --dist")
+
+
 def check_sums():
     """Refuses a file of dist/ that isn't as SHA256SUMS says."""
     lines = dict(line.split("  ")[::-1] for line in text_of("dist/SHA256SUMS").splitlines() if "  " in line)
