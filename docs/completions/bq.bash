@@ -20,7 +20,7 @@ _bq() {
             mapfile -t COMPREPLY < <(compgen -W '1000000 10000000 100000000 1000000000' -- "$word")
             ;;
         *)
-            mapfile -t COMPREPLY < <(compgen -W '--jobs --output --max-steps --dir --explain --help' -- "$word")
+            mapfile -t COMPREPLY < <(compgen -W '--jobs --output --max-steps --dir --explain --help --version' -- "$word")
             ;;
     esac
 }

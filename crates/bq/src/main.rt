@@ -43,15 +43,15 @@ fn refuse_arguments(rt: &impl Eprint, error: &io::Error) -> u8 {
     REFUSED
 }
 
-/// Prints help on standard output, or why words are refused on standard error.
+/// Prints help or the version on standard output, or why words are refused on standard error.
 fn show<R: Print + Eprint>(rt: &R, error: &Error) -> u8 {
     if error.kind() == ErrorKind::OutOfMemory {
         return report_no_memory(rt);
     }
     let printed = error.print(rt);
     match error.kind() {
-        ErrorKind::DisplayHelp if printed.is_err() => DEVICE_FAILED,
-        ErrorKind::DisplayHelp => ANSWERED,
+        ErrorKind::DisplayHelp | ErrorKind::DisplayVersion if printed.is_err() => DEVICE_FAILED,
+        ErrorKind::DisplayHelp | ErrorKind::DisplayVersion => ANSWERED,
         _ => REFUSED,
     }
 }

@@ -30,6 +30,9 @@ Exit status:
   4  out of memory
   5  reading the input or writing the output failed"#;
 
+/// The version of the program. The man page and the packages take it from this line (`tools/release`).
+pub const VERSION: &str = "1.0.0";
+
 const DEFAULT_JOBS: u32 = 4;
 
 const MAX_STEPS: u64 = 1_000_000_000;
@@ -55,6 +58,7 @@ fn command<'a>(alloc: Global) -> Result<Command<'a>, AllocError> {
         .required(true)
         .action(ArgAction::Set);
     let command = Command::new(alloc, "bq")
+        .version(VERSION)
         .about("Answers a query over the targets of a workspace of BUILD files")
         .after_help(NOTES);
     with_options(alloc, command)?
@@ -139,7 +143,7 @@ fn explanation_of(alloc: Global, number: &str) -> Result<Explanation, Error> {
     }
 }
 
-/// Reads the words. The error has clap's text, for standard error or, with `--help`, for standard output.
+/// Reads the words. The error has clap's text, for standard error or, with `--help` and `--version`, for standard output.
 pub fn words_of(alloc: Global, words: &[String]) -> Result<Asked, Error>
     ensures { IfOk result (λ a. (w : Words) → a ≡ Answer w → IsInRange w.options) }
 {

@@ -1,7 +1,7 @@
 //! What command lines ask for, and the texts that refuse others.
 
 use crate::show;
-use crate::words::{Asked, Words, words_of};
+use crate::words::{Asked, VERSION, Words, words_of};
 use bq_run::OutputForm;
 use bq_tests_rows::{is_row, row_of, wanted_of};
 use std::alloc::{AllocError, Global};
@@ -80,6 +80,16 @@ fn are_answered_with_help(rt: HostRuntime) -> Result<(), AllocError> {
     check_lines(&rt, rt.alloc(), HELP)
 }
 
+#[test]
+fn are_answered_with_the_version(rt: HostRuntime) -> Result<(), AllocError> {
+    let wanted = format!(in rt.alloc(); "bq {VERSION}\n")?;
+    for line in ["--version", "-V"] {
+        let found = answer(rt.alloc(), line.as_bytes())?;
+        assert!(rt; found.as_slice() == wanted.as_bytes(), "{line}");
+    }
+    Ok(())
+}
+
 /// Returns the exit status of a line that is answered by a text of clap's, which it prints.
 fn status(rt: &HostRuntime, line: &[u8]) -> Result<u8, AllocError> {
     let words = words_in(rt.alloc(), line)?;
@@ -90,8 +100,9 @@ fn status(rt: &HostRuntime, line: &[u8]) -> Result<u8, AllocError> {
 }
 
 #[test]
-fn end_with_help_or_a_refusal(rt: HostRuntime) -> Result<(), AllocError> {
+fn end_with_a_text_or_a_refusal(rt: HostRuntime) -> Result<(), AllocError> {
     assert!(rt; status(&rt, b"--help")? == 0);
+    assert!(rt; status(&rt, b"--version")? == 0);
     assert!(rt; status(&rt, b"--jobs 0 //a:x")? == 2);
     assert!(rt; status(&rt, b"")? == 2);
     Ok(())
@@ -131,5 +142,5 @@ const REFUSED: &str = r#"
 "#;
 
 const HELP: &str = r#"
---help | Answers a query over the targets of a workspace of BUILD files\n\nUsage: bq [OPTIONS] <QUERY>\n\nArguments:\n  <QUERY>  The query, as //package:name or deps(//...)\n\nOptions:\n      --jobs <N>          Number of workers that load modules, 1 to 256 [default: 4]\n      --output <FORM>     Output format of each target [default: label] [possible values: label, label_kind]\n      --max-steps <N>     Step limit for evaluating one module, 1 to 1000000000 [default: 1000000]\n      --dir <DIR>         Directory that holds the workspace\n      --explain <NUMBER>  Explain a fault or error, as F47, Q5 or E4, and exit\n  -h, --help              Print help\n\nWithout --dir the workspace is read from standard input, as a bundle: for each file a line `=== PATH`,\nand then the file's bytes. The answer goes to standard output, a target a line, sorted. What files\nprint, and the faults of files, go to standard error.\n\nExamples:\n  bq --dir . 'deps(//some/package:target)'\n  bq --dir . 'kind("_test rule", rdeps(//..., //some/package:file.c))'\n  printf '=== a/BUILD\\nfilegroup(name = "x", srcs = ["s.txt"])\\n' \x7c bq 'deps(//a:x)'\n  bq --explain F47\n\nExit status:\n  0  the query was answered, and no file has a fault\n  2  the arguments, the bundle, the query or the schema was refused, or there are too many modules\n  3  the query was answered, and standard error lists faults\n  4  out of memory\n  5  reading the input or writing the output failed\n
+--help | Answers a query over the targets of a workspace of BUILD files\n\nUsage: bq [OPTIONS] <QUERY>\n\nArguments:\n  <QUERY>  The query, as //package:name or deps(//...)\n\nOptions:\n      --jobs <N>          Number of workers that load modules, 1 to 256 [default: 4]\n      --output <FORM>     Output format of each target [default: label] [possible values: label, label_kind]\n      --max-steps <N>     Step limit for evaluating one module, 1 to 1000000000 [default: 1000000]\n      --dir <DIR>         Directory that holds the workspace\n      --explain <NUMBER>  Explain a fault or error, as F47, Q5 or E4, and exit\n  -h, --help              Print help\n  -V, --version           Print version\n\nWithout --dir the workspace is read from standard input, as a bundle: for each file a line `=== PATH`,\nand then the file's bytes. The answer goes to standard output, a target a line, sorted. What files\nprint, and the faults of files, go to standard error.\n\nExamples:\n  bq --dir . 'deps(//some/package:target)'\n  bq --dir . 'kind("_test rule", rdeps(//..., //some/package:file.c))'\n  printf '=== a/BUILD\\nfilegroup(name = "x", srcs = ["s.txt"])\\n' \x7c bq 'deps(//a:x)'\n  bq --explain F47\n\nExit status:\n  0  the query was answered, and no file has a fault\n  2  the arguments, the bundle, the query or the schema was refused, or there are too many modules\n  3  the query was answered, and standard error lists faults\n  4  out of memory\n  5  reading the input or writing the output failed\n
 "#;
