@@ -1,8 +1,12 @@
 //! Directories on disk, read as the workspaces of their files.
+//!
+//! A row is a call: `new` makes an empty directory of a path, `dir` one with those around it, `file` a file of these bytes, `link` a
+//! link to where it leads; and `read` gives the files below a path, a line each, or says that they are refused.
 
+use crate::rows::{Row, Subject, check_rows};
 use bq_label::Workspace;
 use bq_run_directory::{DirectoryErr, read_directory};
-use std::alloc::Global;
+use std::alloc::{AllocError, Global};
 use std::fs::Files;
 use std::os::fd::AsRawFd;
 use std::os::unix::fs::symlink;
@@ -10,7 +14,7 @@ use std::process::Abort;
 use std::{fs, io};
 
 /// A file a line: its path, ` = ` and its bytes.
-fn shown(alloc: Global, workspace: &Workspace) -> Result<Vec<u8>, DirectoryErr> {
+fn shown(alloc: Global, workspace: &Workspace) -> Result<Vec<u8>, AllocError> {
     let mut text = Vec::new(alloc);
     for file in workspace.files() {
         text.extend_from_slice(file.path.as_slice())?;
@@ -21,157 +25,203 @@ fn shown(alloc: Global, workspace: &Workspace) -> Result<Vec<u8>, DirectoryErr> 
     Ok(text)
 }
 
-/// An empty directory of this name.
-fn fresh(rt: &HostRuntime, root: &str) -> io::Result<()> {
+/// The files of a directory.
+fn read<R: Files + Alloc<A = Global> + Clone + Drop>(
+    rt: &R,
+    root: &str,
+) -> Result<Vec<u8>, AllocError> {
+    match read_directory(rt, root) {
+        Ok(workspace) => shown(rt.alloc(), &workspace),
+        Err(DirectoryErr::Read) => b"refused".to_vec(rt.alloc()),
+        Err(_) => b"no answer".to_vec(rt.alloc()),
+    }
+}
+
+fn fresh<R: Files>(rt: &R, root: &str) -> io::Result<()> {
     if fs::exists(rt, root)? {
         fs::remove_dir_all(rt, root)?;
     }
     fs::create_dir_all(rt, root)
 }
 
-fn expect_files<R: Files + Alloc<A = Global> + Abort + Clone + Drop>(
+/// Makes what the first letter of a word says.
+fn make<R: Files>(rt: &R, word: &[u8], path: &str, of: &str) -> io::Result<()> {
+    match word {
+        [b'd', ..] => fs::create_dir_all(rt, path),
+        [b'f', ..] => fs::write(rt, path, of.as_bytes()),
+        [b'l', ..] => symlink(rt, of, path),
+        _ => fresh(rt, path),
+    }
+}
+
+fn text_of(bytes: &[u8]) -> &str {
+    str::from_utf8(bytes).unwrap_or("?")
+}
+
+/// Calls on a disk.
+#[derive_where(Clone, Copy)]
+struct Disk<'a, R>(&'a R);
+
+impl<R: Files + Alloc<A = Global> + Clone + Drop> Subject for Disk<'_, R> {
+    fn answer(&self, alloc: Global, text: &[u8], row: Row) -> Result<Vec<u8>, AllocError> {
+        let path = row.bytes(alloc, 1)?;
+        let of = row.bytes(alloc, 2)?;
+        if text == b"read".as_slice() {
+            return read(self.0, text_of(&path));
+        }
+        match make(self.0, text, text_of(&path), text_of(&of)) {
+            Ok(()) => Ok(Vec::new(alloc)),
+            Err(_) => b"failed".to_vec(alloc),
+        }
+    }
+}
+
+#[test]
+fn reads_what_lies_below(rt: HostRuntime) -> Result<(), AllocError> {
+    check_rows(&rt, rt.alloc(), BELOW, &Disk(&rt))
+}
+
+#[test]
+fn reads_only_the_bytes_that_count(rt: HostRuntime) -> Result<(), AllocError> {
+    check_rows(&rt, rt.alloc(), BYTES, &Disk(&rt))
+}
+
+#[test]
+fn follows_links(rt: HostRuntime) -> Result<(), AllocError> {
+    check_rows(&rt, rt.alloc(), LINKS, &Disk(&rt))
+}
+
+#[test]
+fn enters_no_directory_from_within(rt: HostRuntime) -> Result<(), AllocError> {
+    check_rows(&rt, rt.alloc(), CIRCLES, &Disk(&rt))
+}
+
+#[test]
+fn leaves_out_what_is_not_of_the_workspace(rt: HostRuntime) -> Result<(), AllocError> {
+    check_rows(&rt, rt.alloc(), OTHERS, &Disk(&rt))
+}
+
+#[test]
+fn stops_at_what_is_not_there(rt: HostRuntime) -> Result<(), AllocError> {
+    check_rows(&rt, rt.alloc(), LOST, &Disk(&rt))
+}
+
+/// The directory `special` has this file alone.
+fn expect_one_file<R: Files + Alloc<A = Global> + Abort + Clone + Drop>(
     rt: &R,
-    root: &str,
-    wanted: &[u8],
-) -> Result<(), DirectoryErr> {
-    let workspace = read_directory(rt, root)?;
-    let found = shown(rt.alloc(), &workspace)?;
-    assert!(rt; found.as_slice() == wanted, "{}", found.escape_ascii());
+) -> Result<(), AllocError> {
+    let found = read(rt, "special")?;
+    assert!(rt; found.as_slice() == b"x = \n", "{}", found.escape_ascii());
     Ok(())
 }
 
 #[test]
-fn reads_what_lies_below(rt: HostRuntime) -> Result<(), DirectoryErr> {
-    fresh(&rt, "below")?;
-    fs::create_dir_all(&rt, "below/a/b")?;
-    fs::create_dir_all(&rt, "below/empty/.git")?;
-    fs::write(&rt, "below/a/b/BUILD", b"inner")?;
-    fs::write(&rt, "below/BUILD", b"outer")?;
-    fs::write(&rt, "below/a/b.c", b"")?;
-    fs::write(&rt, "below/a/no:path", b"left out")?;
-    fs::write(&rt, "below/a/n\u{e4}me", b"left out")?;
-    let wanted = b"BUILD = outer\na/b.c = \na/b/BUILD = inner\n";
-    expect_files(&rt, "below", wanted.as_slice())?;
-    expect_files(&rt, "below/", wanted.as_slice())?;
-    expect_files(&rt, "./below", wanted.as_slice())?;
-    Ok(())
-}
-
-#[test]
-fn reads_only_the_bytes_that_count(rt: HostRuntime) -> Result<(), DirectoryErr> {
-    fresh(&rt, "bytes")?;
-    fs::create_dir_all(&rt, "bytes/a")?;
-    fs::write(&rt, "bytes/rules.schema", b"rule r")?;
-    fs::write(&rt, "bytes/a/rules.schema", b"another")?;
-    fs::write(&rt, "bytes/a/BUILD", b"b")?;
-    fs::write(&rt, "bytes/a/BUILD.bazel", b"bazel")?;
-    fs::write(&rt, "bytes/a/BUILD.gn", b"another")?;
-    fs::write(&rt, "bytes/a/m.bzl", b"m")?;
-    fs::write(&rt, "bytes/a/main.c", b"int main;")?;
-    // a file that is there, and that no one can read from its start
-    symlink(&rt, "/proc/self/mem", "bytes/core")?;
-    let wanted = b"a/BUILD = b\na/BUILD.bazel = bazel\na/BUILD.gn = \na/m.bzl = m\na/main.c = \n\
-        a/rules.schema = \ncore = \nrules.schema = rule r\n";
-    expect_files(&rt, "bytes", wanted.as_slice())?;
-    symlink(&rt, "/proc/self/mem", "bytes/core.bzl")?;
-    expect_no_files(&rt, "bytes");
-    Ok(())
-}
-
-#[test]
-fn follows_links(rt: HostRuntime) -> Result<(), DirectoryErr> {
-    fresh(&rt, "links")?;
-    fs::create_dir_all(&rt, "links/there")?;
-    fs::write(&rt, "links/there/x.bzl", b"1")?;
-    symlink(&rt, "there/x.bzl", "links/BUILD")?;
-    symlink(&rt, "there", "links/again")?;
-    let wanted = b"BUILD = 1\nagain/x.bzl = 1\nthere/x.bzl = 1\n";
-    expect_files(&rt, "links", wanted.as_slice())
-}
-
-#[test]
-fn enters_no_directory_from_within(rt: HostRuntime) -> Result<(), DirectoryErr> {
-    fresh(&rt, "circle")?;
-    fs::create_dir_all(&rt, "circle/a/b")?;
-    fs::create_dir_all(&rt, "circle/c")?;
-    fs::write(&rt, "circle/a/b/x", b"")?;
-    fs::write(&rt, "circle/c/y", b"")?;
-    symlink(&rt, ".", "circle/round")?;
-    symlink(&rt, "../..", "circle/a/b/up")?;
-    symlink(&rt, "../../circle", "circle/a/again")?;
-    // two that lead into one another: each is seen in the other, once
-    symlink(&rt, "../../c", "circle/a/b/there")?;
-    symlink(&rt, "../a/b", "circle/c/back")?;
-    let wanted = b"a/b/there/y = \na/b/x = \nc/back/x = \nc/y = \n";
-    expect_files(&rt, "circle", wanted.as_slice())?;
-    // from outside through a link: the root itself is one of the directories around
-    fs::create_dir_all(&rt, "circle/outside/root")?;
-    symlink(&rt, "..", "circle/outside/root/out")?;
-    fs::write(&rt, "circle/outside/z", b"")?;
-    expect_files(&rt, "circle/outside/root", b"out/z = \n".as_slice())
-}
-
-#[test]
-fn leaves_out_what_is_no_file(rt: HostRuntime) -> Result<(), DirectoryErr> {
+fn leaves_out_what_is_no_file(rt: HostRuntime) -> io::Result<()> {
     fresh(&rt, "special")?;
     fs::write(&rt, "special/x", b"")?;
     symlink(&rt, "/dev/null", "special/null.bzl")?;
     let (reader, writer) = io::pipe(&rt)?;
     let pipe = format!(in rt.alloc(); "/proc/self/fd/{}", reader.as_raw_fd())?;
     symlink(&rt, pipe.as_str(), "special/BUILD")?;
-    expect_files(&rt, "special", b"x = \n".as_slice())?;
+    expect_one_file(&rt)?;
     drop(writer);
     Ok(())
 }
 
-#[test]
-fn leaves_out_what_is_not_of_the_workspace(rt: HostRuntime) -> Result<(), DirectoryErr> {
-    fresh(&rt, "others")?;
-    fs::create_dir_all(&rt, "others/.git/objects")?;
-    fs::create_dir_all(&rt, "others/a/.git")?;
-    fs::create_dir_all(&rt, "others/a/node_modules/x")?;
-    fs::create_dir_all(&rt, "others/node_modules")?;
-    fs::create_dir_all(&rt, "others/build/out")?;
-    fs::create_dir_all(&rt, "others/bazel-tools")?;
-    fs::write(&rt, "others/.git/objects/BUILD", b"1")?;
-    fs::write(&rt, "others/a/.git/BUILD", b"1")?;
-    fs::write(&rt, "others/a/node_modules/x/BUILD", b"1")?;
-    fs::write(&rt, "others/node_modules/BUILD", b"2")?;
-    fs::write(&rt, "others/build/out/BUILD", b"3")?;
-    fs::write(&rt, "others/build/outer", b"")?;
-    fs::write(&rt, "others/bazel-tools/BUILD", b"4")?;
-    symlink(&rt, "build", "others/bazel-out")?;
-    symlink(&rt, "nothing", "others/bazel-bin")?;
-    symlink(&rt, "../build/out", "others/a/bazel-out")?;
-    let kept = b"a/bazel-out/BUILD = 3\na/node_modules/x/BUILD = 1\nbazel-tools/BUILD = 4\n\
-        build/out/BUILD = 3\nbuild/outer = \nnode_modules/BUILD = 2\n";
-    expect_files(&rt, "others", kept.as_slice())?;
-    let ignored = b"# of other tools\n\nnode_modules/\n./build/out\nbuild/outer\r\n";
-    fs::write(&rt, "others/.bazelignore", ignored.as_slice())?;
-    let kept =
-        b".bazelignore = \na/bazel-out/BUILD = 3\na/node_modules/x/BUILD = 1\nbazel-tools/BUILD = 4\n\
-        build/outer = \n";
-    expect_files(&rt, "others", kept.as_slice())
-}
+const BELOW: &str = r#"
+new | below | |
+dir | below/a/b | |
+dir | below/empty/.git | |
+file | below/a/b/BUILD | inner |
+file | below/BUILD | outer |
+file | below/a/b.c | |
+file | below/a/no:path | left out |
+file | below/a/n\xc3\xa4me | left out |
+read | below | | BUILD = outer\na/b.c = \na/b/BUILD = inner\n
+read | below/ | | BUILD = outer\na/b.c = \na/b/BUILD = inner\n
+read | ./below | | BUILD = outer\na/b.c = \na/b/BUILD = inner\n
+"#;
 
-fn expect_no_files<R: Files + Alloc<A = Global> + Abort + Clone + Drop>(rt: &R, root: &str) {
-    let failed = matches!(read_directory(rt, root), Err(DirectoryErr::Read));
-    assert!(rt; failed, "{root}");
-}
+/// The core is a file that is there, and that no one can read from its start.
+const BYTES: &str = r#"
+new | bytes | |
+dir | bytes/a | |
+file | bytes/rules.schema | rule r |
+file | bytes/a/rules.schema | another |
+file | bytes/a/BUILD | b |
+file | bytes/a/BUILD.bazel | bazel |
+file | bytes/a/BUILD.gn | another |
+file | bytes/a/m.bzl | m |
+file | bytes/a/main.c | int main; |
+link | bytes/core | /proc/self/mem |
+read | bytes | | a/BUILD = b\na/BUILD.bazel = bazel\na/BUILD.gn = \na/m.bzl = m\na/main.c = \na/rules.schema = \ncore = \nrules.schema = rule r\n
+link | bytes/core.bzl | /proc/self/mem |
+read | bytes | | refused
+"#;
 
-#[test]
-fn stops_at_what_is_not_there(rt: HostRuntime) -> Result<(), DirectoryErr> {
-    fresh(&rt, "lost")?;
-    symlink(&rt, "nothing", "lost/link")?;
-    symlink(&rt, "loop", "lost/loop")?;
-    expect_files(&rt, "lost", b"".as_slice())?;
-    symlink(&rt, "nothing", "lost/link.bzl")?;
-    expect_no_files(&rt, "lost");
-    fresh(&rt, "lost")?;
-    symlink(&rt, "BUILD", "lost/BUILD")?;
-    expect_no_files(&rt, "lost");
-    expect_no_files(&rt, "lost/nowhere");
-    expect_no_files(&rt, "lost/BUILD");
-    expect_no_files(&rt, "");
-    Ok(())
-}
+const LINKS: &str = r#"
+new | links | |
+dir | links/there | |
+file | links/there/x.bzl | 1 |
+link | links/BUILD | there/x.bzl |
+link | links/again | there |
+read | links | | BUILD = 1\nagain/x.bzl = 1\nthere/x.bzl = 1\n
+"#;
+
+const CIRCLES: &str = r#"
+new | circle | |
+dir | circle/a/b | |
+dir | circle/c | |
+file | circle/a/b/x | |
+file | circle/c/y | |
+link | circle/round | . |
+link | circle/a/b/up | ../.. |
+link | circle/a/again | ../../circle |
+# Two that lead into one another: each is seen in the other, once.
+link | circle/a/b/there | ../../c |
+link | circle/c/back | ../a/b |
+read | circle | | a/b/there/y = \na/b/x = \nc/back/x = \nc/y = \n
+# From outside through a link: the root itself is one of the directories around.
+dir | circle/outside/root | |
+link | circle/outside/root/out | .. |
+file | circle/outside/z | |
+read | circle/outside/root | | out/z = \n
+"#;
+
+const OTHERS: &str = r#"
+new | others | |
+dir | others/.git/objects | |
+dir | others/a/.git | |
+dir | others/a/node_modules/x | |
+dir | others/node_modules | |
+dir | others/build/out | |
+dir | others/bazel-tools | |
+file | others/.git/objects/BUILD | 1 |
+file | others/a/.git/BUILD | 1 |
+file | others/a/node_modules/x/BUILD | 1 |
+file | others/node_modules/BUILD | 2 |
+file | others/build/out/BUILD | 3 |
+file | others/build/outer | |
+file | others/bazel-tools/BUILD | 4 |
+link | others/bazel-out | build |
+link | others/bazel-bin | nothing |
+link | others/a/bazel-out | ../build/out |
+read | others | | a/bazel-out/BUILD = 3\na/node_modules/x/BUILD = 1\nbazel-tools/BUILD = 4\nbuild/out/BUILD = 3\nbuild/outer = \nnode_modules/BUILD = 2\n
+file | others/.bazelignore | \x23 of other tools\n\nnode_modules/\n./build/out\nbuild/outer\r\n |
+read | others | | .bazelignore = \na/bazel-out/BUILD = 3\na/node_modules/x/BUILD = 1\nbazel-tools/BUILD = 4\nbuild/outer = \n
+"#;
+
+const LOST: &str = r#"
+new | lost | |
+link | lost/link | nothing |
+link | lost/loop | loop |
+read | lost | |
+link | lost/link.bzl | nothing |
+read | lost | | refused
+new | lost | |
+link | lost/BUILD | BUILD |
+read | lost | | refused
+read | lost/nowhere | | refused
+read | lost/BUILD | | refused
+read | | | refused
+"#;

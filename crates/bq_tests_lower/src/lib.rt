@@ -1,31 +1,16 @@
-//! The tests of texts, files, labels, queries and graphs, and of the board: what no clause says, as values from outside, printed texts, and memory that is there.
-//!
-//! They stand at the top, a file for each crate below, since a crate with tests is proved once more for them.
+//! The tests of lower crates for what no program shows: tokens and their places, shares of bytes, values that no program makes, directories
+//! on a disk, and the board. All else is in the rows of bq_tests_data.
 #![tactic(auto)]
 
 #[cfg(test)]
 mod board;
 #[cfg(test)]
+mod bytes;
+#[cfg(test)]
 mod directory;
-#[cfg(test)]
-mod expressions;
-#[cfg(test)]
-mod files;
-#[cfg(test)]
-mod glob;
-#[cfg(test)]
-mod graph;
-#[cfg(test)]
-mod label;
-#[cfg(test)]
-mod literals;
-#[cfg(test)]
-mod query;
-#[cfg(test)]
-mod resolve;
 #[cfg(test)]
 mod rows;
 #[cfg(test)]
-mod source;
+mod tokens;
 #[cfg(test)]
-mod trees;
+mod values;
