@@ -17,7 +17,7 @@ ESCAPES = set("nrt\\'\"\n\r")
 # a line that can't be in a bundle: mostly one of a docstring or a comment
 HEADER = re.compile(rb"^=== ", re.M)
 # what a BUILD file has where something in it is replaced
-MAY_CHANGE = re.compile(rb"select\b|[{\\]|^=== |\b(?:%s|to_list)\b| / |load\(\s*[\"'][^/@:]" % "|".join(NAMES).encode(), re.M)
+MAY_CHANGE = re.compile(rb"select\b|[{\\]|^=== |\b(?:%s|to_list|exclude_directories)\b| / |load\(\s*[\"'][^/@:]" % "|".join(NAMES).encode(), re.M)
 
 
 class Copy:
@@ -207,7 +207,11 @@ class Copy:
         for part in call.args:
             self.visit(part)
         for keyword in call.keywords:
-            if self.is_dropped(call, keyword):
+            if keyword.arg == "exclude_directories" and isinstance(keyword.value, ast.Constant):
+                if keyword.value.value not in (1, True):
+                    self.replace(*self.span(keyword.value), "", "1")
+                    self.counts["directories in a glob"] += 1
+            elif self.is_dropped(call, keyword):
                 self.replace(*self.span(keyword.value), "", "None")
                 self.counts["a dict"] += 1
             elif not keyword.arg and self.has_dicts and self.facts.goes_to_rule(self.file, call, None):

@@ -196,6 +196,8 @@ def package_missing(sources, label):
     """Why a label's package isn't there."""
     repository, package, _ = labels.split(label)
     directory = labels.directory(repository, package)
+    if package == "external" and not repository:
+        return "labels of //external are made by bind in a WORKSPACE file, which isn't read"
     if repository and not any(it.startswith(f"external/{repository}/") for it in sources.paths):
         return f"the repository @{repository} is not in the workspace: tools/stubs writes files that stand in for it"
     if any(it.startswith(directory + "/") for it in sources.paths):

@@ -53,6 +53,8 @@ class Package:
 
     def glob(self, given, named):
         include, exclude = self.texts("glob", "include", given[0] if given else named.get("include")), self.texts("glob", "exclude", named.get("exclude", []))
+        if named.get("exclude_directories", 1) not in (1, True):
+            raise about(Wrong("F57", "glob gives no directories: exclude_directories is 1"), "exclude_directories")
         for pattern in [*include, *exclude]:
             if wrong := bad_pattern(pattern):
                 raise about(Wrong("F77", f"the pattern '{pattern}' {wrong}"), "", pattern)

@@ -43,12 +43,12 @@ class Sources:
         return Sources(found, lambda path: content(found[path], path), place)
 
     @staticmethod
-    def of_bundle(path):
+    def of_bundle(path, place=lambda name: name):
         """The files of a bundle."""
         with open(path, "rb") as file:
             parts = re.split(rb"^=== ([^\n]*)\n", file.read(), flags=re.M)
         found = {name.decode("utf-8", "replace"): text for name, text in zip(parts[1::2], parts[2::2])}
-        return Sources(found, lambda name: found[name], lambda name: name)
+        return Sources(found, lambda name: found[name], place)
 
     def text(self, path):
         """A file's text; a byte that is no ASCII stands as one character."""
