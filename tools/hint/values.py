@@ -29,10 +29,10 @@ class Budget:
         self.renew(0, 0)
 
     def renew(self, parts, seconds):
-        self.left, self.until = parts, time.monotonic() + seconds
+        self.left, self.until = parts, time.process_time() + seconds
 
     def is_over(self):
-        return self.left < 0 or time.monotonic() > self.until
+        return self.left < 0 or time.process_time() > self.until
 
     def spend(self, count=1):
         self.left -= count
