@@ -14,10 +14,10 @@ import textwrap
 
 from program import ROOT, Refused, bytes_of, text_of
 
-# what the tools of a release are: the scripts that users run, and the modules that these read
-SCRIPTS = ("stubs", "bundle")
-MODULES = ("copies.py", "definitions.py", "facts.py", "guesses.py", "reading.py", "skylib.py", "workspace.py")
-PAGE_HEAD = re.compile(r'^\.TH BQ 1 "" "bq"', re.M)
+# the scripts that users run
+SCRIPTS = ("bzlq", "hints", "stubs", "bundle")
+IMPORT = re.compile(r"^\s*from ([\w.]+) import ([\w, ]+)", re.M)
+PAGE_HEAD = re.compile(r'^(\.TH \w+ 1) "" "bq"', re.M)
 # the day of a release is noon in UTC
 NOON = datetime.timedelta(hours=12)
 MAINTAINER = "The developers of bq <bq@users.noreply.invalid>"
@@ -29,7 +29,7 @@ Architecture: amd64
 Maintainer: {maintainer}
 Installed-Size: {size}
 Depends: libc6 (>= {glibc})
-Suggests: python3
+Recommends: python3
 Section: devel
 Priority: optional
 Description: queries over the targets of a workspace of BUILD files
@@ -39,8 +39,8 @@ Description: queries over the targets of a workspace of BUILD files
  It needs no server and no output tree, and fetches and builds nothing.
  .
  That it writes the bytes that its specification defines is proved by
- machine. The scripts in /usr/share/bq/tools, which make stubs for
- repositories that aren't there, need python3; the program doesn't.
+ machine. bzlq asks about the workspace that one stands in. It and the
+ scripts in /usr/share/bq/tools need python3; the program doesn't.
 """
 
 COPYRIGHT = """\
@@ -56,6 +56,8 @@ License: Apache-2.0
  On Debian systems, the text of the Apache License, version 2.0, is in
  /usr/share/common-licenses/Apache-2.0.
 """
+
+LINKS = {"usr/bin/bzlq": "../share/bq/tools/bzlq"}
 
 # what lintian takes for a mistake, and why it isn't one
 OVERRIDES = """\
@@ -78,16 +80,29 @@ def tree(folder):
     return found
 
 
-def manual(version, day):
-    """The man page, with the version and the day in its head."""
-    page, count = PAGE_HEAD.subn(f'.TH BQ 1 "{day}" "bq {version}"', text_of("docs/bq.1"))
+def manual(name, version, day):
+    """A man page, with the version and the day in its head."""
+    page, count = PAGE_HEAD.subn(rf'\1 "{day}" "bq {version}"', text_of(f"docs/{name}"))
     if count != 1:
-        raise Refused("docs/bq.1 doesn't begin with a line `.TH BQ 1 \"\" \"bq\" ..`, in which the version is to be")
+        raise Refused(f"docs/{name} has no line `.TH NAME 1 \"\" \"bq\" ..`, in which the version is to be")
     return page.encode()
 
 
+def manuals(version, day):
+    return {name: manual(name, version, day) for name in ("bq.1", "bzlq.1")}
+
+
 def tools():
-    return {f"tools/{name}": bytes_of(f"{ROOT}/tools/{name}") for name in (*SCRIPTS, *MODULES)}
+    """The scripts that users run, and the modules in tools/ that these import."""
+    found, left = {}, list(SCRIPTS)
+    while left:
+        name = f"tools/{left.pop()}"
+        found[name] = bytes_of(f"{ROOT}/{name}")
+        for module, names in IMPORT.findall(found[name].decode()):
+            paths = [module, *(f"{module}.{it.strip()}" for it in names.split(","))]
+            paths = [f"{it.replace('.', '/')}.py" for it in paths]
+            left += [it for it in paths if os.path.isfile(f"{ROOT}/tools/{it}") and f"tools/{it}" not in found]
+    return found
 
 
 def is_run(path, content):
@@ -97,7 +112,8 @@ def is_run(path, content):
 def make_tarball(program, version, day, to):
     """Writes the tarball: the program at its top, and the pages, examples and tools at their places in the repository."""
     files = {"bq": program, **{name: bytes_of(f"{ROOT}/{name}") for name in ("README.md", "LICENSE")}}
-    files |= {**tree("docs"), **tree("examples"), **tools(), "docs/bq.1": manual(version, day)}
+    files |= {**tree("docs"), **tree("examples"), **tools()}
+    files |= {f"docs/{name}": page for name, page in manuals(version, day).items()}
     with tarfile.open(to, "w:xz", preset=9) as made:
         for path, content in sorted(files.items()):
             entry = tarfile.TarInfo(f"bq-{version}-x86_64-linux/{path}")
@@ -134,7 +150,7 @@ def debian_files(program, version, day):
     pages = {**tree("docs"), **tree("examples"), "README.md": bytes_of(f"{ROOT}/README.md")}
     files = {
         "usr/bin/bq": program,
-        f"{share}/man/man1/bq.1.gz": packed(manual(version, day)),
+        **{f"{share}/man/man1/{name}.gz": packed(page) for name, page in manuals(version, day).items()},
         f"{share}/bash-completion/completions/bq": pages.pop("docs/completions/bq.bash"),
         f"{share}/zsh/vendor-completions/_bq": pages.pop("docs/completions/_bq"),
         f"{share}/fish/vendor_completions.d/bq.fish": pages.pop("docs/completions/bq.fish"),
@@ -142,7 +158,7 @@ def debian_files(program, version, day):
         f"{doc}/changelog.gz": packed(changelog(version)),
         f"{doc}/copyright": copyright_of(day),
     }
-    del pages["docs/bq.1"], pages["docs/CHANGELOG.md"]
+    del pages["docs/bq.1"], pages["docs/bzlq.1"], pages["docs/CHANGELOG.md"]
     return {**files, **{f"{doc}/{path}": it for path, it in pages.items()}, **{f"{share}/bq/{path}": it for path, it in tools().items()}}
 
 
@@ -169,6 +185,8 @@ def make_package(program, version, day, to):
             with open(f"{root}/{path}", "wb") as file:
                 file.write(content)
             os.chmod(f"{root}/{path}", 0o755 if is_run(path, content) else 0o644)
+        for path, target in LINKS.items():
+            os.symlink(target, f"{root}/{path}")
         command = ["dpkg-deb", "--root-owner-group", "-Zxz", "--build", root, to]
         made = {**os.environ, "SOURCE_DATE_EPOCH": str(int(moment_of(day).timestamp()))}
         ran = subprocess.run(command, env=made, capture_output=True, text=True, check=False)
