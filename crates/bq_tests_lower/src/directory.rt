@@ -111,7 +111,11 @@ fn expect_one_file<R: Files + Alloc<A = Global> + Abort + Clone + Drop>(
     rt: &R,
 ) -> Result<(), AllocError> {
     let found = read(rt, "special")?;
-    assert!(rt; found.as_slice() == b"x = \n", "{}", found.escape_ascii());
+    assert!(rt;
+        found.as_slice() == b"x = \n".as_slice(),
+        "{}",
+        found.escape_ascii()
+    );
     Ok(())
 }
 
