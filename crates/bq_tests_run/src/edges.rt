@@ -1,9 +1,8 @@
 //! Workspaces with as many edges of loads as there may be, and with more.
 
-use crate::examples::{Asked, by_jobs};
+use crate::options::options;
 use crate::rows::Row;
-use crate::runs::{Table, check_runs};
-use bq_run::OutputForm;
+use crate::runs::{Table, UNFAILING, check_runs, written};
 use std::alloc::{AllocError, Global};
 use std::random::RandomSource;
 use std::sync::Wait;
@@ -31,12 +30,8 @@ pub fn over_edges<R: Threads + Wait + RandomSource + Sync>(
     row: Row,
 ) -> Result<Vec<u8>, AllocError> {
     let bundle = bundle_of(alloc, row.number(0), row.number(1))?;
-    let asked = Asked {
-        query: b"//p0:*",
-        output: OutputForm::Label,
-        steps: 1_000_000,
-    };
-    by_jobs(rt, alloc, bundle.as_bytes(), asked, &[])
+    let asked = options(alloc, b"//p0:*", 1)?;
+    written(rt, alloc, bundle.as_bytes(), &asked, UNFAILING)
 }
 
 #[test]

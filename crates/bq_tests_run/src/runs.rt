@@ -1,19 +1,12 @@
-//! Whole runs, over devices that give little or fail.
+//! Whole runs over devices that give one byte a call, and over devices that fail.
 
 ghost use Rattle.bq_run.specs.Run.{IsInRange};
 
-use crate::cuts::over_beginnings;
 use crate::devices::{make_drip, make_sip};
 use crate::edges::over_edges;
-use crate::examples::example;
-use crate::generated::generated;
-use crate::options::{corner, options};
+use crate::options::options;
 use crate::rows::{Row, check_answer, is_row, row_of};
-use crate::rules::over_rules;
-use crate::within::{Surroundings, within};
-use bq_run::{
-    Counted, Metered, Options, OutputForm, RunErr, Status, read_bundle, run, run_files, status_of,
-};
+use bq_run::{Counted, Options, RunErr, Status, read_bundle, run, run_files, status_of};
 use std::alloc::{AllocError, Global};
 use std::process::Abort;
 use std::random::RandomSource;
@@ -112,17 +105,10 @@ pub fn written_of_files<R: Threads + Wait + RandomSource + Sync>(
 /// What the rows of a table of runs are about. A function that starts threads is no method of a trait, so this stands for subjects.
 #[derive(Clone, Copy)]
 pub enum Table {
-    Corners,
-    Queries,
+    Files,
     FailingWriters,
     FailingReader,
     FailingAtEach,
-    Plain,
-    Examples,
-    Generated,
-    Within(Surroundings),
-    Beginnings,
-    Rules,
     Edges,
 }
 
@@ -133,17 +119,10 @@ fn answer<R: Threads + Wait + RandomSource + Sync>(
     row: Row,
 ) -> Result<Vec<u8>, AllocError> {
     match table {
-        Table::Corners => corner(rt, alloc, row),
-        Table::Queries => queried(rt, alloc, row),
+        Table::Files => over_files(rt, alloc, row),
         Table::FailingWriters => with_failing_writers(rt, alloc, row),
         Table::FailingReader => with_failing_reader(rt, alloc, row),
         Table::FailingAtEach => failing_at_each(rt, alloc, row),
-        Table::Plain => over_plain_devices(rt, alloc, row),
-        Table::Examples => example(rt, alloc, row),
-        Table::Generated => generated(rt, alloc, row),
-        Table::Within(around) => within(rt, alloc, around, row),
-        Table::Beginnings => over_beginnings(rt, alloc, row),
-        Table::Rules => over_rules(rt, alloc, row),
         Table::Edges => over_edges(rt, alloc, row),
     }
 }
@@ -164,30 +143,27 @@ pub fn check_runs<R: Threads + Wait + RandomSource + Sync + Abort>(
     Ok(())
 }
 
-/// The output that a cell asks for: labels where it is empty, else kinds too.
-pub fn output_named(word: &[u8]) -> OutputForm {
-    if word.is_empty() {
-        OutputForm::Label
-    } else {
-        OutputForm::LabelKind
-    }
-}
-
-/// What a run over a bundle writes of a query.
-fn queried<R: Threads + Wait + RandomSource + Sync>(
+/// What a run over a bundle writes of a query, where a run over its files writes the same.
+fn over_files<R: Threads + Wait + RandomSource + Sync>(
     rt: &R,
     alloc: Global,
     row: Row,
 ) -> Result<Vec<u8>, AllocError> {
     let bundle = row.bytes(alloc, 0)?;
     let query = row.bytes(alloc, 1)?;
-    let asked = options(alloc, &query, output_named(row.word(2)), 4, 1_000_000)?;
-    written(rt, alloc, &bundle, &asked, UNFAILING)
+    let asked = options(alloc, &query, 4)?;
+    let found = written(rt, alloc, &bundle, &asked, UNFAILING)?;
+    let other = written_of_files(rt, alloc, &bundle, &asked)?;
+    if found != other {
+        return Ok(other);
+    }
+    Ok(found)
 }
 
+/// A run over the files of a bundle, as of a directory, writes what one over the bundle does.
 #[test]
-fn writes_what_is_asked(rt: HostRuntime) -> Result<(), AllocError> {
-    check_runs(&rt, rt.alloc(), Table::Queries, RUNS)
+fn runs_over_files(rt: HostRuntime) -> Result<(), AllocError> {
+    check_runs(&rt, rt.alloc(), Table::Files, FILES)
 }
 
 /// Two packages, of which one is faulty.
@@ -200,7 +176,7 @@ fn faulty<R: Threads + Wait + RandomSource + Sync>(
     alloc: Global,
     failing: Failing,
 ) -> Result<Vec<u8>, AllocError> {
-    let asked = options(alloc, b"//a:x", OutputForm::Label, 4, 1_000_000)?;
+    let asked = options(alloc, b"//a:x", 4)?;
     written(rt, alloc, BUNDLE, &asked, failing)
 }
 
@@ -220,7 +196,7 @@ fn with_failing_writers<R: Threads + Wait + RandomSource + Sync>(
     row: Row,
 ) -> Result<Vec<u8>, AllocError> {
     let query = row.bytes(alloc, 0)?;
-    let asked = options(alloc, &query, OutputForm::Label, 4, 1_000_000)?;
+    let asked = options(alloc, &query, 4)?;
     written(rt, alloc, BUNDLE, &asked, failing_writers(row))
 }
 
@@ -359,7 +335,7 @@ fn written_of_row<R: Threads + Wait + RandomSource + Sync>(
 ) -> Result<Vec<u8>, AllocError> {
     let bundle = row.bytes(alloc, 0)?;
     let query = row.bytes(alloc, 1)?;
-    let asked = options(alloc, &query, OutputForm::Label, 1, 1_000_000)?;
+    let asked = options(alloc, &query, 1)?;
     written(rt, alloc, &bundle, &asked, failing)
 }
 
@@ -411,59 +387,15 @@ fn fails_at_each_write(rt: HostRuntime) -> Result<(), AllocError> {
     check_runs(&rt, rt.alloc(), Table::FailingAtEach, FAILING_AT_EACH)
 }
 
-/// Over std's own readers and writers. A body that always answers E1 is caught here.
-fn over_plain_devices<R: Threads + Wait + RandomSource + Sync>(
-    rt: &R,
-    alloc: Global,
-    row: Row,
-) -> Result<Vec<u8>, AllocError> {
-    let query = row.bytes(alloc, 0)?;
-    let asked = options(alloc, &query, OutputForm::Label, 4, 1_000_000)?;
-    let mut reader = Metered::new(BUNDLE);
-    let mut writer = Metered::new(Vec::new(alloc));
-    let mut faults = Metered::new(Vec::new(alloc));
-    let ended = run(rt, alloc, &mut reader, &mut writer, &mut faults, &asked);
-    shown(alloc, &faults.device, &writer.device, &ended, 0)
-}
-
-#[test]
-fn runs_over_slices_and_vectors(rt: HostRuntime) -> Result<(), AllocError> {
-    check_runs(&rt, rt.alloc(), Table::Plain, PLAIN)
-}
-
-/// A bundle, a query, `kind` where kinds are printed, and what is written. The query is read before the schema.
-const RUNS: &str = r#"
-=== a/BUILD\nfilegroup(name = "x", srcs = ["s.txt"])\n | //a:s.txt | kind | >source file //a:s.txt\n>>0 0
-=== a/BUILD\nfilegroup(name = "x")\n=== b/BUILD\nnone()\n | //a:x | | //b:BUILD:1: F20 UnknownName none\n>//a:x\n>>3 0
-# a bundle is read before its query
-=== a/BUILD | deps( | | >>bq: E4 Bundle\n>2 0
-# a cycle of two
-=== a.bzl\nload(":b.bzl")\n=== b.bzl\nload(":a.bzl")\n=== BUILD\nload(":a.bzl")\n=== p/BUILD\nfilegroup(name = "x")\n | //... | | //:BUILD:1: F35 CycleReached //:a.bzl\n//:a.bzl:1: F35 CycleReached //:b.bzl\n//:b.bzl:1: F35 CycleReached //:a.bzl\n>//p:x\n>>3 0
-# the schema
-=== rules.schema\nrule a\nattr x float\n | //... | | >>bq: E6 Schema 2\n>2 0
-=== rules.schema\nrule mine\nattr deps label_list\n=== a/BUILD\nmine(name = "x", deps = ["f"])\n | deps(//a:x) | kind | >source file //a:f\nmine rule //a:x\n>>0 0
-=== rules.schema\nattr x int\n | deps( | | >>bq: Q1 Syntax\n>2 0
-# a word with dots is a pattern where what is before them is a package; else it is a label
-=== a/BUILD\nfilegroup(name = "b/...")\nfilegroup(name = "x")\n | //a:b/... | | >//a:b/...\n>>0 0
-=== a/BUILD\nfilegroup(name = "b/...")\nfilegroup(name = "x")\n | deps("//a:b/...") | kind | >filegroup rule //a:b/...\n>>0 0
-=== a/BUILD\nfilegroup(name = "b/...")\nfilegroup(name = "x")\n | //a/... - //a:b/... | | >//a:x\n>>0 0
-=== BUILD\nfilegroup(name = "b/...")\n | //:b/... | | >//:b/...\n>>0 0
-=== external/r/a/BUILD\nfilegroup(name = "b/...")\n | @r//a:b/... | | >@r//a:b/...\n>>0 0
-=== a/BUILD\nfilegroup(name = "x")\n | //a:b/... | | >>bq: Q5 NoSuchTarget //a:b/...\n>2 0
-=== a/BUILD\nfilegroup(name = "x")\n | //z:b/... | | >>bq: Q6 NoSuchPackage //z:b/...\n>2 0
-# nothing below external is in the main repository
-=== BUILD\nload("//:external/r/m.bzl", "m")\n=== external/r/m.bzl\nm = 1\n | //... | | //:BUILD:1: F31 NoSuchFile //:external/r/m.bzl\n>>>3 0
-=== BUILD\nfilegroup(name = "x", srcs = ["external/r/s", "external/t"])\n=== external/r/s\n=== external/t\n | deps(//:x) | kind | >source file //:external/r/s\nsource file //:external/t\nfilegroup rule //:x\n>>0 0
-=== BUILD\nfilegroup(name = "x", srcs = ["external/r/s"])\n=== external/r/BUILD\n | //... | | //:BUILD:1: F37 CrossesPackage\n>>>3 0
-=== BUILD\nfilegroup(name = "x", srcs = glob(["**"]))\n=== external/r/s\n=== external/t\n=== u\n | labels(srcs, //:x) | | >//:BUILD\n//:u\n>>0 0
-# queries without answers
-=== a/BUILD\nfilegroup(name = "x")\n | somepath(//a:x, //a:x) | | >>bq: Q3 LeftOut somepath\n>2 0
-=== a/BUILD\nfilegroup(name = "x")\n | foo(//a:x) | | >>bq: Q2 UnknownFunction foo\n>2 0
-=== a/BUILD\nfilegroup(name = "x")\n | kind("(", //...) | | >>bq: Q4 BadRegex\n>2 0
-=== a/BUILD\nfilegroup(name = "x")\n | $v | | >>bq: Q7 UnboundVariable v\n>2 0
-=== a/BUILD\nfilegroup(name = "x")\n | //a//b:x | | >>bq: Q8 Arguments\n>2 0
-=== a/BUILD\nfilegroup(name = "x")\n=== b/BUILD\nnone()\n | deps(//a:none) | | //b:BUILD:1: F20 UnknownName none\n>>bq: Q5 NoSuchTarget //a:none\n>2 0
-=== a/BUILD\nfilegroup(name = "x")\n | //zz:all | | >>bq: Q6 NoSuchPackage //zz:all\n>2 0
+/// A bundle, a query, and what is written: a run for each ending.
+const FILES: &str = r#"
+=== a/BUILD\nfilegroup(name = "x", srcs = ["s.txt"])\n=== a/s.txt\n | deps(//a:x) | >//a:s.txt\n//a:x\n>>0 0
+=== a/BUILD\nload(":f.bzl", "f")\nfilegroup(name = "x", srcs = f)\n=== a/f.bzl\nf = glob(["*"])\n | //... | //a:BUILD:1: F36 LoadFailed //a:f.bzl\n//a:f.bzl:1: F20 UnknownName glob\n>>>3 0
+=== rules.schema\nrule mine\nattr deps label_list\n=== a/BUILD\nmine(name = "x", deps = ["f"])\n | deps(//a:x) | >//a:f\n//a:x\n>>0 0
+=== a/BUILD\nfilegroup(name = "x")\n=== b/BUILD\nnone()\n | //a:none | //b:BUILD:1: F20 UnknownName none\n>>bq: Q5 NoSuchTarget //a:none\n>2 0
+=== a/BUILD\nfilegroup(name = "x")\n | deps( | >>bq: Q1 Syntax\n>2 0
+=== rules.schema\nattr x int\n | //... | >>bq: E6 Schema 1\n>2 0
+ | //... | >>>0 0
 "#;
 
 /// A query, the call at which the writer fails, the one at which the writer of the faults does, and what is written.
@@ -490,8 +422,4 @@ const FAILING_AT_EACH: &str = r#"
 const FAILING_READER: &str = r#"
 1 | 72 | >>bq: E2 Read\n>5 1
 73 | 73 | //b:BUILD:1: F20 UnknownName none\n>//a:x\n>>3 0
-"#;
-
-const PLAIN: &str = r#"
-//a:x | //b:BUILD:1: F20 UnknownName none\n>//a:x\n>>3 0
 "#;
