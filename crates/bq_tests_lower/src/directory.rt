@@ -37,7 +37,7 @@ fn read<R: Files + Alloc<A = Global> + Clone + Drop>(
     }
 }
 
-fn fresh<R: Files>(rt: &R, root: &str) -> io::Result<()> {
+fn fresh<R: Files + Alloc<A = Global>>(rt: &R, root: &str) -> io::Result<()> {
     if fs::exists(rt, root)? {
         fs::remove_dir_all(rt, root)?;
     }
@@ -45,7 +45,7 @@ fn fresh<R: Files>(rt: &R, root: &str) -> io::Result<()> {
 }
 
 /// Makes what the first letter of a word says.
-fn make<R: Files>(rt: &R, word: &[u8], path: &str, of: &str) -> io::Result<()> {
+fn make<R: Files + Alloc<A = Global>>(rt: &R, word: &[u8], path: &str, of: &str) -> io::Result<()> {
     match word {
         [b'd', ..] => fs::create_dir_all(rt, path),
         [b'f', ..] => fs::write(rt, path, of.as_bytes()),
@@ -111,7 +111,11 @@ fn expect_one_file<R: Files + Alloc<A = Global> + Abort + Clone + Drop>(
     rt: &R,
 ) -> Result<(), AllocError> {
     let found = read(rt, "special")?;
-    assert!(rt; found.as_slice() == b"x = \n", "{}", found.escape_ascii());
+    assert!(rt;
+        found.as_slice() == b"x = \n".as_slice(),
+        "{}",
+        found.escape_ascii()
+    );
     Ok(())
 }
 

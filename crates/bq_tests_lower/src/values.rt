@@ -137,7 +137,7 @@ fn shown(alloc: Global, value: &Value) -> Result<Bytes, EvalErr> {
 fn text_of_an_output_attribute(rt: HostRuntime) -> Result<(), AllocError> {
     let output = attribute(rt.alloc(), AttributeType::Output, true)?;
     match shown(rt.alloc(), &output) {
-        Ok(found) => assert!(rt; found.as_slice() == b"<attr.output>"),
+        Ok(found) => assert!(rt; found.as_slice() == b"<attr.output>".as_slice()),
         Err(_) => assert!(rt; false, "no text"),
     }
     Ok(())
