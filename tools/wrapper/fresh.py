@@ -46,9 +46,9 @@ def way_in(entry, directory, around):
     """The links on the way into a directory; nothing where it lies around itself, or is a link to Bazel's output."""
     if not entry.is_symlink():
         return around
-    real = os.path.realpath(entry.path)
+    real, here = os.path.realpath(entry.path), os.path.realpath(os.path.dirname(entry.path))
     is_output = not directory and entry.name.startswith("bazel-")
-    is_around = real in around or os.path.realpath(os.path.dirname(entry.path) + "/.").startswith(real)
+    is_around = real in around or f"{here}/".startswith(f"{real.rstrip('/')}/")
     return None if is_output or is_around else (*around, real)
 
 
@@ -58,4 +58,4 @@ def told(directory, entry):
         found = entry.stat()
     except OSError:
         return os.fsencode(f"{directory}/{entry.name}\n")
-    return os.fsencode(f"{directory}/{entry.name} {found.st_size} {found.st_mtime_ns} {found.st_ino}\n")
+    return os.fsencode(f"{directory}/{entry.name} {found.st_size} {found.st_mtime_ns} {found.st_ctime_ns} {found.st_ino}\n")
