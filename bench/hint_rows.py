@@ -72,7 +72,7 @@ ROWS = {
         'and 1 that follows from these',
     ],
     "F52": ['BUILD:1:1: F52 Args: the rule filegroup takes named arguments alone: name = "x"'],
-    "F53": ['BUILD:1:5: F53 StepLimit: the evaluation goes on and on here'],
+    "F53": ['BUILD:1:1: F53 StepLimit: the evaluation goes on and on here'],
     "F54": ['BUILD:1:5: F54 TooLong: 1,048,577 copies of 1 bytes, and 1,048,576 are allowed'],
     "F55": ['BUILD:3:5: F55 TooDeep: values are nested more than 64 deep'],
     "F56": ['BUILD:2:1: F56 Fail: "size must be positive, not 0", at f.bzl:3:9 in check'],

@@ -119,7 +119,8 @@ class Hints:
             return Hint(fault, shown, line, column, f"no target {fault.detail}: the package has a fault of its own ({self.sources.place(build)}:{own.line})", follows=True)
         there = f"{labels.directory(repository, package)}/{name}".lstrip("/") in self.sources.paths
         why = ": the file is there, and its package doesn't export it: use exports_files" if there else did_you_mean(name, queries.target_names(self.sources, build))
-        return Hint(fault, shown, line, column, f"package '{package}' has no target '{name}'{inside}{why}")
+        of = f"@{repository}//{package}" if repository else package
+        return Hint(fault, shown, line, column, f"package '{of}' has no target '{name}'{inside}{why}")
 
     @staticmethod
     def is_label(text, here, wanted):

@@ -265,7 +265,8 @@ class Machine:
         try:
             return self.expression(node, frame)
         except Wrong as wrong:
-            wrong.place = wrong.place or (frame.module.path, node)
+            if wrong.number != "F53":  # (of which the statement is shown: where in it the limit is met, says nothing)
+                wrong.place = wrong.place or (frame.module.path, node)
             raise
 
     def expression(self, node, frame):

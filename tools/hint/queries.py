@@ -153,7 +153,7 @@ def no_target(sources, faults, detail):
     """Why a package has no such target."""
     repository, package, name = labels.split(detail)
     directory = labels.directory(repository, package)
-    build = sources.build_file(directory)
+    build, package = sources.build_file(directory), f"@{repository}//{package}" if repository else package
     own = next((it for it in faults if it.number != "F79" and sources.file_of(it.label) == build), None)
     if own:
         return f": {detail}: package '{package}' has no targets, since its BUILD file has a fault: mend that first"

@@ -1,53 +1,61 @@
-"""What a workspace's answers stand on, so that it is made anew only where that changed: takes a root, gives a `Print` of it.
+"""What a workspace's answers stand on, so that it is made anew only where that changed: takes a root, gives its print.
 
-Contents are told by size and time, all other files by their names alone, as `bq` reads them.
+A print is two sums: of the files whose bytes count, by size and time, and of all names, which is all that counts of the others.
 """
 import hashlib
 import os
 
-from workspace import ROOT_FILES, has_content, ignored, is_path
+from workspace import ROOT_FILES, SCHEMA, ignored
 
-KEPT = (*ROOT_FILES, ".bazelignore")
+# files whose bytes count, besides those that end in .bzl
+COUNTED = frozenset(("BUILD", "BUILD.bazel", SCHEMA, ".bazelignore", *ROOT_FILES))
 
 
-def walked(root):
-    """Each file below a folder, by its path and its entry; links are followed, but not into a folder around them."""
+def print_of(root):
+    contents, names = hashlib.sha256(), hashlib.sha256()
     without = ignored(root)
     pending = [("", root, ())]
     while pending:
         directory, place, around = pending.pop()
         with os.scandir(place) as entries:
             found = sorted(entries, key=lambda entry: entry.name)
+        listed = [directory]
         for entry in found:
-            path = f"{directory}/{entry.name}" if directory else entry.name
-            if entry.name == ".git" or not is_path(path):
+            name = entry.name
+            if is_directory(entry):
+                path = f"{directory}/{name}" if directory else name
+                inner = way_in(entry, directory, around)
+                if name != ".git" and path not in without and inner is not None:
+                    pending.append((path, entry.path, inner))
                 continue
-            if not entry.is_symlink():
-                if entry.is_dir(follow_symlinks=False):
-                    if path not in without:
-                        pending.append((path, entry.path, around))
-                else:
-                    yield path, entry
-                continue
-            if not directory and entry.name.startswith("bazel-"):
-                continue
-            yield path, entry
-            if entry.is_dir() and path not in without:
-                real = os.path.realpath(entry.path)
-                if real not in around and not os.path.realpath(place).startswith(real + "/") and os.path.realpath(place) != real:
-                    pending.append((path, entry.path, (*around, real)))
-
-
-def print_of(root):
-    """Two sums: of the files whose bytes count, and of all names."""
-    contents, names = hashlib.sha256(), hashlib.sha256()
-    for path, entry in walked(root):
-        text = os.fsencode(path)
-        names.update(text + b"\n")
-        if has_content(path) or path in KEPT:
-            try:
-                found = entry.stat()
-            except OSError:
-                continue
-            contents.update(b"%s\0%d %d %d\n" % (text, found.st_size, found.st_mtime_ns, found.st_ino))
+            listed.append(name)
+            if name.endswith(".bzl") or name in COUNTED:
+                contents.update(told(directory, entry))
+        names.update(os.fsencode("\n".join(listed)) + b"\0")
     return {"contents": contents.hexdigest(), "names": names.hexdigest()}
+
+
+def is_directory(entry):
+    try:
+        return entry.is_dir()
+    except OSError:
+        return False
+
+
+def way_in(entry, directory, around):
+    """The links on the way into a directory; nothing where it lies around itself, or is a link to Bazel's output."""
+    if not entry.is_symlink():
+        return around
+    real, here = os.path.realpath(entry.path), os.path.realpath(os.path.dirname(entry.path))
+    is_output = not directory and entry.name.startswith("bazel-")
+    is_around = real in around or f"{here}/".startswith(f"{real.rstrip('/')}/")
+    return None if is_output or is_around else (*around, real)
+
+
+def told(directory, entry):
+    """A file's path, size and time."""
+    try:
+        found = entry.stat()
+    except OSError:
+        return os.fsencode(f"{directory}/{entry.name}\n")
+    return os.fsencode(f"{directory}/{entry.name} {found.st_size} {found.st_mtime_ns} {found.st_ctime_ns} {found.st_ino}\n")

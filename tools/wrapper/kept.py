@@ -80,6 +80,21 @@ class Kept:
         except (OSError, ValueError):
             return {}
 
+    def said(self, key):
+        """What was said of this text of a run before; nothing where it wasn't kept. (Most runs have the fault lines of the one before.)"""
+        try:
+            with open(self.path("said"), encoding="utf-8") as file:
+                found = json.load(file)
+        except (OSError, ValueError):
+            return None
+        return found["lines"] if found.get("key") == key else None
+
+    def keep_said(self, key, lines):
+        with locked(self.folder):
+            with open(self.path("said.new"), "w", encoding="utf-8") as file:
+                json.dump({"key": key, "lines": lines}, file)
+            os.rename(self.path("said.new"), self.path("said"))
+
     def make(self, now, before):
         """Makes what changed: the bundle alone, if only names did."""
         new = self.path("new")
@@ -98,8 +113,9 @@ class Kept:
         with open(f"{new}/state", "w", encoding="utf-8") as file:
             json.dump({**now, "warnings": warnings}, file)
         # (the state goes first and comes last: a run that is ended in between leaves none, and the next one makes all anew)
-        with contextlib.suppress(FileNotFoundError):
-            os.remove(self.path("state"))
+        for name in ("state", "said"):
+            with contextlib.suppress(FileNotFoundError):
+                os.remove(self.path(name))
         shutil.rmtree(self.overlay, ignore_errors=True)
         for name in ("overlay", "bundle", "state"):
             os.rename(f"{new}/{name}", self.path(name))
