@@ -59,6 +59,12 @@ def room(name, known, keeps=False):
         yield f"{folder}/crates/{name}"
 
 
+def processor_seconds():
+    """What the programs took that this one started, and that have ended."""
+    used = resource.getrusage(resource.RUSAGE_CHILDREN)
+    return used.ru_utime + used.ru_stime
+
+
 Run = collections.namedtuple("Run", "clock seconds peak answer")
 
 
@@ -66,14 +72,13 @@ def timed(command, stdin=os.devnull, folder=None):
     """Runs a command: its seconds by the clock, its processor seconds, its bytes at the peak, and what it writes."""
     # GNU time starts the program: a child of this process would be charged with the interpreter's memory
     with open(stdin, "rb") as given, tempfile.NamedTemporaryFile() as report:
-        before, start = resource.getrusage(resource.RUSAGE_CHILDREN), time.monotonic()
+        before, start = processor_seconds(), time.monotonic()
         ended = subprocess.run(
             ["/usr/bin/time", "-q", "-f", "%M", "-o", report.name, *command], stdin=given, capture_output=True, cwd=folder
         )
-        clock, after = time.monotonic() - start, resource.getrusage(resource.RUSAGE_CHILDREN)
+        clock, seconds = time.monotonic() - start, processor_seconds() - before
         if ended.returncode != 0:
             sys.exit(f"{command[0]}: status {ended.returncode}: {ended.stderr.decode()[-300:]}")
-        seconds = after.ru_utime + after.ru_stime - before.ru_utime - before.ru_stime
         return Run(clock, seconds, int(report.read()) * 1024, ended.stdout)
 
 

@@ -1,5 +1,0 @@
-use Rattle.bq_builtin_collection_laws.proofs.Lists.{remove_refused}
-use Rattle.bq_builtin_collection_laws.proofs.laws.lists_are_refused_in_order.Goals as goal
-
-pub returns-clause-remove : goal.returns-clause-remove
-returns-clause-remove c home number xs v s known = remove_refused home number xs s known v

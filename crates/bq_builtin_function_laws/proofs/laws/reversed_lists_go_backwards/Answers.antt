@@ -1,8 +1,0 @@
-use Rattle.bq_builtin_function_laws.proofs.Reversed.{mirrored, twice}
-use Rattle.bq_builtin_function_laws.proofs.laws.reversed_lists_go_backwards.Goals as goal
-
-pub returns-clause-places : goal.returns-clause-places
-returns-clause-places c = mirrored
-
-pub returns-clause-twice : goal.returns-clause-twice
-returns-clause-twice c = twice

@@ -1,0 +1,5 @@
+use Rattle.bq_builtin_laws.proofs.Collections.Same.{stays}
+use Rattle.bq_builtin_laws.proofs.collection.lists_stay_the_same_lists.Goals as goal
+
+pub returns : goal.returns
+returns c = stays
