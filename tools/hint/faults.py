@@ -61,7 +61,7 @@ class Hints:
             if fault.number == "F79":
                 return self.dangling(fault, path, shown)
             found = self.fault(fault, path, shown)
-        except (labels.BadLabel, IndexError, AttributeError, ValueError, RecursionError):
+        except (labels.BadLabel, IndexError, AttributeError, ValueError, RecursionError, MemoryError):
             found = None  # a file of another form than such files have: the line stays as it is
         if isinstance(found, Hint):
             return found

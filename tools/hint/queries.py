@@ -99,7 +99,7 @@ def calls(query):
             name, given, _ = stack.pop()
             found.append((name, given))
             if stack and not stack[-1][1]:
-                stack[-1][1].append((at, text))
+                stack[-1][1].append((at, text))  # (an argument in parentheses)
         elif text == "," and stack:
             stack[-1][1].append((at, ","))
         elif stack:

@@ -137,23 +137,26 @@ def syntax(text, line):
             warnings.simplefilter("ignore")
             ast.parse(part)
     except SyntaxError as error:
-        if error.lineno:
-            return between(part, error)
+        message = error.msg.replace("invalid syntax. Perhaps you forgot a comma?", "a comma is missing")
+        return missing_comma(part) or (error.lineno or line, error.offset or 1, message)
     for it in pieces(text):
         if it.kind == "word" and it.text in RESERVED and it.line >= line:
             return it.line, it.column, f"'{it.text}' is reserved, and no part of Starlark"
-    return trailing(part, line)
+    return missing_comma(part) or trailing(part, line)
 
 
-def between(text, error):
-    """The place of an error of Python's; where a comma is missing, the place where it belongs."""
-    message = error.msg.replace("invalid syntax. Perhaps you forgot a comma?", "a comma is missing")
+def missing_comma(text):
+    """The place in brackets where a comma is missing; nothing where none is."""
     real = [it for it in pieces(text) if it.kind not in ("line", "comment") and it.text not in (" ", "\t")]
+    depth = 0
     for before, after in zip(real, real[1:]):
+        if before.kind == "bracket":
+            depth += 1 if before.text in "([{" else -1
         is_value = before.kind in ("string", "number") or before.text in ")]}" and before.kind == "bracket"
-        if is_value and after.kind == "word" and after.text not in ("if", "else", "for", "in", "and", "or", "not", "is"):
+        is_next = after.kind == "string" or after.kind == "word" and after.text not in ("if", "else", "for", "in", "and", "or", "not", "is")
+        if depth > 0 and is_value and is_next:  # (strings side by side are not joined)
             return before.line, before.column + len(before.text), f"a comma is missing between {shown(before)} and {shown(after)}"
-    return error.lineno, error.offset or 1, message
+    return None
 
 
 def shown(piece):

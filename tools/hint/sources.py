@@ -63,7 +63,7 @@ class Sources:
                 with warnings.catch_warnings():
                     warnings.simplefilter("ignore")
                     self.trees[path] = ast.parse(self.text(path).replace("\x0c", " "))
-            except (SyntaxError, ValueError, RecursionError):
+            except (SyntaxError, ValueError, RecursionError, MemoryError):
                 self.trees[path] = None
         return self.trees[path]
 
