@@ -1,6 +1,6 @@
 //! What a row asks: its options, and the bundle after them.
 
-use crate::mark::{cut_at, marked, number_of};
+use crate::mark::{cut_at, number_of, split_mark};
 use bq_run::OutputForm;
 
 /// What a row asks.
@@ -50,7 +50,7 @@ fn two_numbers(text: &[u8]) -> (u64, u64) {
 
 impl<'a> Asked<'a> {
     /// With the option in a line; `None` where there is no such option.
-    fn with(self, line: &'a [u8]) -> Option<Asked<'a>> {
+    fn given(self, line: &'a [u8]) -> Option<Asked<'a>> {
         let (word, value) = cut_at(line.trim_ascii(), b' ');
         let value = value.trim_ascii();
         match word {
@@ -100,7 +100,7 @@ pub fn asked_in(text: &[u8]) -> Option<Asked<'_>> {
         bundle,
     };
     for line in options.split(|byte| *byte == b'\n') {
-        asked = asked.with(marked(line).text)?;
+        asked = asked.given(split_mark(line).text)?;
     }
     Some(asked)
 }

@@ -10,7 +10,7 @@ pub struct Marked<'a> {
 }
 
 /// A line's text, and its mark.
-pub fn marked(line: &[u8]) -> Marked<'_> {
+pub fn split_mark(line: &[u8]) -> Marked<'_> {
     let unmarked = Marked {
         text: line,
         mark: b"",

@@ -1,6 +1,6 @@
 //! The lines of a file to its rows, each in the head of its section.
 
-use crate::mark::{cut_at, marked};
+use crate::mark::{cut_at, split_mark};
 use memchr::memmem;
 use std::alloc::{AllocError, Global};
 
@@ -83,7 +83,7 @@ impl Reading {
         if matches!(line, [] | [b'#', ..]) {
             return Ok(());
         }
-        let row = marked(line);
+        let row = split_mark(line);
         let text = composed(self.alloc, &self.head, row.text.trim_ascii_end(), row.mark)?;
         self.add_row(self.line, text)
     }

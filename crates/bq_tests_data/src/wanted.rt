@@ -1,6 +1,6 @@
 //! What a row wants, by the marks in its lines.
 
-use crate::mark::marked;
+use crate::mark::split_mark;
 use crate::ran::shown;
 use crate::rows::add_line;
 use std::alloc::{AllocError, Global};
@@ -90,7 +90,7 @@ impl Wanted {
             self.label = label_of(alloc, path)?;
             self.line = 0;
         }
-        match marked(line).mark {
+        match split_mark(line).mark {
             [_, sign, text @ ..] => self.add_mark(alloc, *sign, text.trim_ascii()),
             _ => Ok(()),
         }
