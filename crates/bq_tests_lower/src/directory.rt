@@ -106,11 +106,11 @@ fn stops_at_what_is_not_there(rt: HostRuntime) -> Result<(), AllocError> {
     check_rows(&rt, rt.alloc(), LOST, &Disk(&rt))
 }
 
-/// The directory `special` has this file alone.
+/// The directory `out/special` has this file alone.
 fn expect_one_file<R: Files + Alloc<A = Global> + Abort + Clone + Drop>(
     rt: &R,
 ) -> Result<(), AllocError> {
-    let found = read(rt, "special")?;
+    let found = read(rt, "out/special")?;
     assert!(rt;
         found.as_slice() == b"x = \n".as_slice(),
         "{}",
@@ -121,111 +121,111 @@ fn expect_one_file<R: Files + Alloc<A = Global> + Abort + Clone + Drop>(
 
 #[test]
 fn leaves_out_what_is_no_file(rt: HostRuntime) -> io::Result<()> {
-    fresh(&rt, "special")?;
-    fs::write(&rt, "special/x", b"")?;
-    symlink(&rt, "/dev/null", "special/null.bzl")?;
+    fresh(&rt, "out/special")?;
+    fs::write(&rt, "out/special/x", b"")?;
+    symlink(&rt, "/dev/null", "out/special/null.bzl")?;
     let (reader, writer) = io::pipe(&rt)?;
     let pipe = format!(in rt.alloc(); "/proc/self/fd/{}", reader.as_raw_fd())?;
-    symlink(&rt, pipe.as_str(), "special/BUILD")?;
+    symlink(&rt, pipe.as_str(), "out/special/BUILD")?;
     expect_one_file(&rt)?;
     drop(writer);
     Ok(())
 }
 
 const BELOW: &str = r#"
-new | below | |
-dir | below/a/b | |
-dir | below/empty/.git | |
-file | below/a/b/BUILD | inner |
-file | below/BUILD | outer |
-file | below/a/b.c | |
-file | below/a/no:path | left out |
-file | below/a/n\xc3\xa4me | left out |
-read | below | | BUILD = outer\na/b.c = \na/b/BUILD = inner\n
-read | below/ | | BUILD = outer\na/b.c = \na/b/BUILD = inner\n
-read | ./below | | BUILD = outer\na/b.c = \na/b/BUILD = inner\n
+new | out/below | |
+dir | out/below/a/b | |
+dir | out/below/empty/.git | |
+file | out/below/a/b/BUILD | inner |
+file | out/below/BUILD | outer |
+file | out/below/a/b.c | |
+file | out/below/a/no:path | left out |
+file | out/below/a/n\xc3\xa4me | left out |
+read | out/below | | BUILD = outer\na/b.c = \na/b/BUILD = inner\n
+read | out/below/ | | BUILD = outer\na/b.c = \na/b/BUILD = inner\n
+read | ./out/below | | BUILD = outer\na/b.c = \na/b/BUILD = inner\n
 "#;
 
 /// The core is a file that is there, and that no one can read from its start.
 const BYTES: &str = r#"
-new | bytes | |
-dir | bytes/a | |
-file | bytes/rules.schema | rule r |
-file | bytes/a/rules.schema | another |
-file | bytes/a/BUILD | b |
-file | bytes/a/BUILD.bazel | bazel |
-file | bytes/a/BUILD.gn | another |
-file | bytes/a/m.bzl | m |
-file | bytes/a/main.c | int main; |
-link | bytes/core | /proc/self/mem |
-read | bytes | | a/BUILD = b\na/BUILD.bazel = bazel\na/BUILD.gn = \na/m.bzl = m\na/main.c = \na/rules.schema = \ncore = \nrules.schema = rule r\n
-link | bytes/core.bzl | /proc/self/mem |
-read | bytes | | refused
+new | out/bytes | |
+dir | out/bytes/a | |
+file | out/bytes/rules.schema | rule r |
+file | out/bytes/a/rules.schema | another |
+file | out/bytes/a/BUILD | b |
+file | out/bytes/a/BUILD.bazel | bazel |
+file | out/bytes/a/BUILD.gn | another |
+file | out/bytes/a/m.bzl | m |
+file | out/bytes/a/main.c | int main; |
+link | out/bytes/core | /proc/self/mem |
+read | out/bytes | | a/BUILD = b\na/BUILD.bazel = bazel\na/BUILD.gn = \na/m.bzl = m\na/main.c = \na/rules.schema = \ncore = \nrules.schema = rule r\n
+link | out/bytes/core.bzl | /proc/self/mem |
+read | out/bytes | | refused
 "#;
 
 const LINKS: &str = r#"
-new | links | |
-dir | links/there | |
-file | links/there/x.bzl | 1 |
-link | links/BUILD | there/x.bzl |
-link | links/again | there |
-read | links | | BUILD = 1\nagain/x.bzl = 1\nthere/x.bzl = 1\n
+new | out/links | |
+dir | out/links/there | |
+file | out/links/there/x.bzl | 1 |
+link | out/links/BUILD | there/x.bzl |
+link | out/links/again | there |
+read | out/links | | BUILD = 1\nagain/x.bzl = 1\nthere/x.bzl = 1\n
 "#;
 
 const CIRCLES: &str = r#"
-new | circle | |
-dir | circle/a/b | |
-dir | circle/c | |
-file | circle/a/b/x | |
-file | circle/c/y | |
-link | circle/round | . |
-link | circle/a/b/up | ../.. |
-link | circle/a/again | ../../circle |
+new | out/circle | |
+dir | out/circle/a/b | |
+dir | out/circle/c | |
+file | out/circle/a/b/x | |
+file | out/circle/c/y | |
+link | out/circle/round | . |
+link | out/circle/a/b/up | ../.. |
+link | out/circle/a/again | ../../circle |
 # Two that lead into one another: each is seen in the other, once.
-link | circle/a/b/there | ../../c |
-link | circle/c/back | ../a/b |
-read | circle | | a/b/there/y = \na/b/x = \nc/back/x = \nc/y = \n
+link | out/circle/a/b/there | ../../c |
+link | out/circle/c/back | ../a/b |
+read | out/circle | | a/b/there/y = \na/b/x = \nc/back/x = \nc/y = \n
 # From outside through a link: the root itself is one of the directories around.
-dir | circle/outside/root | |
-link | circle/outside/root/out | .. |
-file | circle/outside/z | |
-read | circle/outside/root | | out/z = \n
+dir | out/circle/outside/root | |
+link | out/circle/outside/root/out | .. |
+file | out/circle/outside/z | |
+read | out/circle/outside/root | | out/z = \n
 "#;
 
 const OTHERS: &str = r#"
-new | others | |
-dir | others/.git/objects | |
-dir | others/a/.git | |
-dir | others/a/node_modules/x | |
-dir | others/node_modules | |
-dir | others/build/out | |
-dir | others/bazel-tools | |
-file | others/.git/objects/BUILD | 1 |
-file | others/a/.git/BUILD | 1 |
-file | others/a/node_modules/x/BUILD | 1 |
-file | others/node_modules/BUILD | 2 |
-file | others/build/out/BUILD | 3 |
-file | others/build/outer | |
-file | others/bazel-tools/BUILD | 4 |
-link | others/bazel-out | build |
-link | others/bazel-bin | nothing |
-link | others/a/bazel-out | ../build/out |
-read | others | | a/bazel-out/BUILD = 3\na/node_modules/x/BUILD = 1\nbazel-tools/BUILD = 4\nbuild/out/BUILD = 3\nbuild/outer = \nnode_modules/BUILD = 2\n
-file | others/.bazelignore | \x23 of other tools\n\nnode_modules/\n./build/out\nbuild/outer\r\n |
-read | others | | .bazelignore = \na/bazel-out/BUILD = 3\na/node_modules/x/BUILD = 1\nbazel-tools/BUILD = 4\nbuild/outer = \n
+new | out/others | |
+dir | out/others/.git/objects | |
+dir | out/others/a/.git | |
+dir | out/others/a/node_modules/x | |
+dir | out/others/node_modules | |
+dir | out/others/build/out | |
+dir | out/others/bazel-tools | |
+file | out/others/.git/objects/BUILD | 1 |
+file | out/others/a/.git/BUILD | 1 |
+file | out/others/a/node_modules/x/BUILD | 1 |
+file | out/others/node_modules/BUILD | 2 |
+file | out/others/build/out/BUILD | 3 |
+file | out/others/build/outer | |
+file | out/others/bazel-tools/BUILD | 4 |
+link | out/others/bazel-out | build |
+link | out/others/bazel-bin | nothing |
+link | out/others/a/bazel-out | ../build/out |
+read | out/others | | a/bazel-out/BUILD = 3\na/node_modules/x/BUILD = 1\nbazel-tools/BUILD = 4\nbuild/out/BUILD = 3\nbuild/outer = \nnode_modules/BUILD = 2\n
+file | out/others/.bazelignore | \x23 of other tools\n\nnode_modules/\n./build/out\nbuild/outer\r\n |
+read | out/others | | .bazelignore = \na/bazel-out/BUILD = 3\na/node_modules/x/BUILD = 1\nbazel-tools/BUILD = 4\nbuild/outer = \n
 "#;
 
 const LOST: &str = r#"
-new | lost | |
-link | lost/link | nothing |
-link | lost/loop | loop |
-read | lost | |
-link | lost/link.bzl | nothing |
-read | lost | | refused
-new | lost | |
-link | lost/BUILD | BUILD |
-read | lost | | refused
-read | lost/nowhere | | refused
-read | lost/BUILD | | refused
-read | | | refused
+new | out/lost | |
+link | out/lost/link | nothing |
+link | out/lost/loop | loop |
+read | out/lost | |
+link | out/lost/link.bzl | nothing |
+read | out/lost | | refused
+new | out/lost | |
+link | out/lost/BUILD | BUILD |
+read | out/lost | | refused
+read | out/lost/nowhere | | refused
+read | out/lost/BUILD | | refused
+read | out/| | refused
 "#;
