@@ -3,10 +3,11 @@ import ast
 import re
 from collections import Counter, defaultdict
 
-from definitions import taken
+from definitions import taken, value_for
 from facts import VALUE_METHODS
-from guesses import DICTS, type_of
-from reading import BUILD_FUNCTIONS, NATIVE_VALUES, has_name, kind_of, label_in, makers_of, parsed
+from guesses import BY_NAME, DICTS, type_of
+from reading import BUILD_FUNCTIONS, NATIVE_VALUES, has_name, kind_of, makers_of, names_bound, parsed
+from replacements import NAMES, label_in, labels_bound, replacement
 
 LISTS = ("labels", "strings", "list")
 DEFAULT = "//conditions:default"
@@ -16,7 +17,7 @@ ESCAPES = set("nrt\\'\"\n\r")
 # a line that can't be in a bundle: mostly one of a docstring or a comment
 HEADER = re.compile(rb"^=== ", re.M)
 # what a BUILD file has where something in it is replaced
-MAY_CHANGE = re.compile(rb"select\b|[{\\]|^=== |\bLabel\b|load\(\s*[\"'][^/@:]", re.M)
+MAY_CHANGE = re.compile(rb"select\b|[{\\]|^=== |\b(?:%s|to_list|exclude_directories)\b| / |load\(\s*[\"'][^/@:]" % "|".join(NAMES).encode(), re.M)
 
 
 class Copy:
@@ -31,7 +32,9 @@ class Copy:
         self.counts = Counter()
         self.has_dicts = False  # whether the function around may pass a dict on
         self.makers = set()  # parameters of the function around whose members declare targets
+        self.locals, self.labels = set(), set()  # the names that it binds, and those of them that are labels
         self.loads_more = defaultdict(set)  # a loaded name -> members that stand as symbols of their own
+        self.empty_texts = empty_texts(facts, file)
 
     def span(self, node):
         """The place of a node in the text: where it begins and ends."""
@@ -56,7 +59,8 @@ class Copy:
         if not self.parts:
             return None
         found, end = b"", 0
-        for start, after, part in sorted(self.parts):
+        # (of parts at one place the outer one was put there first)
+        for start, after, part in sorted(self.parts, key=lambda it: it[:2]):
             found += self.text[end:start] + part
             end = after
         return found + self.text[end:]
@@ -98,6 +102,9 @@ class Copy:
 
     def visit(self, node, wanted=""):
         """Replaces parts of an expression or statement; `wanted` is what its place takes: list, text, unknown, or empty."""
+        if found := replacement(node, self.locals | self.file.globals, self.labels) if isinstance(node, ast.expr) else None:
+            self.put(node, found)
+            return
         match node:
             case ast.Call():
                 self.call(node, wanted)
@@ -109,10 +116,13 @@ class Copy:
                 self.visit(right, wanted)
             case ast.FunctionDef():
                 self.has_dicts, self.makers = self.may_pass_dicts(node), makers_of(node)
+                self.locals, self.labels = names_bound(node), labels_bound(node)
                 for part in ast.iter_child_nodes(node):
                     self.visit(part)
-                self.has_dicts, self.makers = False, set()
+                self.has_dicts, self.makers, self.locals, self.labels = False, set(), set(), set()
             case ast.List(elts=parts):
+                if any(isinstance(part, ast.Name) and part.id in self.empty_texts - self.locals for part in parts):
+                    self.around(node, "[part for part in ", " if part]")
                 for part in parts:
                     self.visit(part, "text")
             case ast.AugAssign(op=ast.Add(), value=value):
@@ -122,6 +132,21 @@ class Copy:
             case _:
                 for part in ast.iter_child_nodes(node):
                     self.visit(part, wanted if isinstance(node, ast.IfExp) else "")
+
+    def put(self, node, found):
+        """Puts a replacement's texts in the place of a node, around those of its parts that stay."""
+        start, end = self.span(node)
+        text = ""
+        for piece in found.pieces:
+            if isinstance(piece, str):
+                text += piece
+                continue
+            inner, after = self.span(piece)
+            self.replace(start, inner, text)
+            self.visit(piece, found.wanted)
+            start, text = after, ""
+        self.replace(start, end, "", text)
+        self.counts[found.what] += 1
 
     def call(self, node, wanted):
         match node.func:
@@ -182,7 +207,11 @@ class Copy:
         for part in call.args:
             self.visit(part)
         for keyword in call.keywords:
-            if self.is_dropped(call, keyword):
+            if keyword.arg == "exclude_directories" and isinstance(keyword.value, ast.Constant):
+                if keyword.value.value not in (1, True):
+                    self.replace(*self.span(keyword.value), "", "1")
+                    self.counts["directories in a glob"] += 1
+            elif self.is_dropped(call, keyword):
                 self.replace(*self.span(keyword.value), "", "None")
                 self.counts["a dict"] += 1
             elif not keyword.arg and self.has_dicts and self.facts.goes_to_rule(self.file, call, None):
@@ -191,7 +220,16 @@ class Copy:
                 self.parts += [(start, start, before.encode()), (end, end, after.encode())]
                 self.counts["a dict"] += 1
             else:
+                name = keyword.value.id if isinstance(keyword.value, ast.Name) else ""
+                if name in self.empty_texts - self.locals and BY_NAME.get(keyword.arg) == "label":
+                    self.around(keyword.value, "(", " or None)")
                 self.visit(keyword.value, self.takes(keyword.arg))
+
+    def around(self, node, before, after):
+        """Puts texts around a node that may be an empty text, which is no label."""
+        start, end = self.span(node)
+        self.parts += [(start, start, before.encode()), (end, end, after.encode())]
+        self.counts["an empty text"] += 1
 
     def may_pass_dicts(self, function):
         """Whether a macro may pass a dict on by `**`: one that it is given, or that it names."""
@@ -275,6 +313,18 @@ class Copy:
             self.counts["an escape"] += 1
 
 
+def empty_texts(facts, file):
+    """The names that a file loads for which an empty text stands."""
+    found = set()
+    for name in {name for _, _, clauses in file.loads for name in clauses}:
+        origin = facts.origin(file, name)
+        if origin and origin[0] == "stub":
+            stub = facts.stub(*origin[1:])
+            if not stub.makes_targets and not stub.is_called and value_for(stub) == '""':
+                found.add(name)
+    return found
+
+
 def copies(facts, content):
     """The copies by their paths, and how many parts of each kind they replace."""
     found, counts = {}, Counter()
@@ -282,7 +332,7 @@ def copies(facts, content):
         if file.broken or path not in facts.reached:
             continue
         text = content(path)
-        if file.is_build and not file.members and not MAY_CHANGE.search(text):
+        if file.is_build and not file.members and not MAY_CHANGE.search(text) and not empty_texts(facts, file):
             continue
         copy = Copy(facts, file, text)
         if copied := copy.result():

@@ -233,7 +233,7 @@ class Facts:
             self.call(file, call)
         for name, wanted, line in file.uses:
             self.use(file, name, wanted, line)
-        for name, member, keywords in file.member_calls:
+        for name, member, keywords, _ in file.member_calls:
             self.member_call(file, name, member, keywords)
         for name, member, line, is_called in file.members:
             self.member(file, name, member, line, is_called)

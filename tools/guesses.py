@@ -1,5 +1,7 @@
-"""Which type an attribute has, told from its name and from the values that it is given."""
+"""Which type an attribute has: by the documents of its rule set, else told from its name and from the values that it is given."""
 from collections import Counter
+
+from rule_sets import TYPES
 
 COMMON = set("name visibility tags features testonly deprecation".split())
 
@@ -58,6 +60,7 @@ FAMILIES = {
 def attributes_of(rule, given):
     """The attributes of a rule: those that it is given, and those that such rules have."""
     known = [name for family, names in FAMILIES.items() if rule.startswith(family) for name in names.split()]
+    known += TYPES.get(rule, ())
     return sorted({*given, *BASE, *known} - COMMON)
 
 
@@ -76,10 +79,10 @@ def by_values(kinds):
     return "int" if kinds["int"] or kinds["bit"] else ""
 
 
-def type_of(name, kinds, everywhere):
-    """The type of an attribute, and where it comes from: its name, its values, its values in other rules, or nothing."""
+def type_of(name, kinds, everywhere, rule=""):
+    """The type of an attribute, and where it comes from: its name (and rule), its values, its values in other rules, or nothing."""
     shapes = {SHAPES[kind] for kind in kinds if kind in SHAPES and kinds[kind]}
-    named = BY_NAME.get(name)
+    named = TYPES.get(rule, {}).get(name) or BY_NAME.get(name)
     if named and (not shapes or shapes & TAKES[named]):
         return named, "name"
     if found := by_values(kinds):

@@ -6,6 +6,8 @@ import ast
 import warnings
 from dataclasses import dataclass, field
 
+from replacements import label_in, labels_bound, replacement
+
 # names that every file knows, besides the rules
 BUILT_INS = set("""None True False all any bool dict enumerate fail int len list max min print range repr reversed select sorted str tuple
     type zip""".split())
@@ -20,15 +22,6 @@ LEFT_OUT = set("""abs analysis_test_transition apple_common apple_support aspect
 
 # what stands for a call of a member of `native` that bq leaves out, as for a workspace in which nothing was declared before
 NATIVE_VALUES = {"repository_name": '"@"', "repo_name": '""', "module_name": "None", "module_version": "None", "existing_rules": "{}", "existing_rule": "None"}
-
-
-def label_in(call):
-    """The text in a call of `Label`, or of `native.package_relative_label`, that is given one."""
-    match call:
-        case ast.Call(func=ast.Name(id="Label") | ast.Attribute(value=ast.Name(id="native"), attr="package_relative_label"), args=[text], keywords=[]):
-            return text
-        case _:
-            return None
 
 
 def passed(value):
@@ -86,7 +79,7 @@ class File:
     calls: list = field(default_factory=list)
     uses: list = field(default_factory=list)  # (name, how it is used, line)
     members: list = field(default_factory=list)  # (name, member, line, whether it is called)
-    member_calls: list = field(default_factory=list)  # (name, member, keywords), of those that are statements
+    member_calls: list = field(default_factory=list)  # (name, member, keywords, line), of those that are statements
     faults: list = field(default_factory=list)  # (line, what bq leaves out)
 
 
@@ -141,6 +134,10 @@ def kind_of(node):
             return "labels"
         case ast.Call() if label_in(node):
             return "label"
+        case ast.Call(func=ast.Attribute(value=of, attr="to_list"), args=[]):
+            return kind_of(of)
+        case ast.Call(func=ast.Name(id="depset"), args=args):
+            return kind_of(args[0]) if args else "list"
         case ast.Call(func=ast.Attribute(value=of, attr="format" | "strip" | "replace" | "lower" | "upper" | "join")):
             return kind_of(of) if isinstance(of, ast.Constant) else "string"
         case _:
@@ -155,6 +152,7 @@ class Reader(ast.NodeVisitor):
         self.inside = ""
         self.locals = set()
         self.makers = set()  # parameters whose members declare targets
+        self.labels = set()  # names that the function around binds to labels
         self.wanted = ""
 
     def left_out(self, node, what):
@@ -168,6 +166,15 @@ class Reader(ast.NodeVisitor):
         self.visit(node)
         self.wanted = before
 
+    def visit(self, node):
+        found = replacement(node, self.locals | self.file.globals, self.labels) if isinstance(node, ast.expr) else None
+        if found:
+            for part in found.pieces:
+                if isinstance(part, ast.AST):
+                    self.wanting(found.wanted, part)
+        else:
+            super().visit(node)
+
     def visit_FunctionDef(self, node):
         if self.inside:
             self.left_out(node, "a function in a function")
@@ -175,19 +182,22 @@ class Reader(ast.NodeVisitor):
         for default in [*node.args.defaults, *node.args.kw_defaults]:
             if default is not None:
                 self.visit(default)
-        self.inside, self.locals, self.makers = node.name, names_bound(node), makers_of(node)
+        self.inside, self.locals, self.makers, self.labels = node.name, names_bound(node), makers_of(node), labels_bound(node)
         for part in node.body:
             self.visit(part)
-        self.inside, self.locals, self.makers = "", set(), set()
+        self.inside, self.locals, self.makers, self.labels = "", set(), set(), set()
 
     def visit_Lambda(self, node):
         self.left_out(node, "lambda")
 
     def visit_Expr(self, node):
-        if isinstance(node.value, ast.Call):
-            self.call(node.value, True)
-        else:
-            self.wanting("", node.value)
+        match node.value:
+            case ast.Call():
+                self.call(node.value, True)
+            case ast.ListComp(elt=ast.Call() as call):
+                self.in_scope(node.value, call)
+            case _:
+                self.wanting("", node.value)
 
     def visit_Call(self, node):
         self.call(node, False)
@@ -209,7 +219,7 @@ class Reader(ast.NodeVisitor):
             case ast.Attribute(value=ast.Name(id=name), attr=member) if name not in self.locals:
                 self.member(node, name, member, True)
                 if is_statement:
-                    self.file.member_calls.append((name, member, {key.arg: kind_of(key.value) for key in node.keywords if key.arg}))
+                    self.file.member_calls.append((name, member, {key.arg: kind_of(key.value) for key in node.keywords if key.arg}, node.lineno))
             case ast.Attribute(value=of):
                 if label_in(of):
                     self.left_out(node, "a member of a label")
@@ -256,8 +266,6 @@ class Reader(ast.NodeVisitor):
 
     def visit_BinOp(self, node):
         sides = (kind_of(node.left), kind_of(node.right))
-        if isinstance(node.op, ast.Div):
-            self.left_out(node, "division by /")
         known = [kind for kind in sides if kind in ("string", "label", "strings", "labels", "list", "dict")]
         wanted = known[0] if known else self.wanted
         self.wanting("string" if wanted == "label" else wanted, node.left)
@@ -274,10 +282,16 @@ class Reader(ast.NodeVisitor):
     def visit_DictComp(self, node):
         self.in_scope(node)
 
-    def in_scope(self, node):
+    def in_scope(self, node, statement=None):
+        """Visits a comprehension; with `statement`, a call whose value nobody takes, as `[rule(..) for ..]` has it."""
         before = self.locals
         self.locals = before | {part.id for clause in node.generators for part in ast.walk(clause.target) if isinstance(part, ast.Name)}
-        self.generic_visit(node)
+        if statement:
+            self.call(statement, True)
+            for clause in node.generators:
+                self.visit(clause)
+        else:
+            self.generic_visit(node)
         self.locals = before
 
     def visit_For(self, node):

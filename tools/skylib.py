@@ -20,6 +20,21 @@ PATHS = {
     name = p.rpartition("/")[-1]
     dot = name.rfind(".")
     return (p, "") if dot <= 0 else (p[:dot - len(name)], p[dot - len(name):])""",
+    "normalize": """(p):
+    found = []
+    for part in p.split("/"):
+        if part == ".." and (found and found[-1] != ".." or p.startswith("/")):
+            found = found[:-1]
+        elif part not in ("", "."):
+            found.append(part)
+    return ("/" if p.startswith("/") else "") + "/".join(found) or "."
+""",
+    "relativize": """(p, start):
+    parts = [part for part in p.split("/") if part not in ("", ".")]
+    first = [part for part in start.split("/") if part not in ("", ".")]
+    if parts[:len(first)] != first:
+        fail("Path '%s' is not beneath '%s'" % (p, start))
+    return "/".join(parts[len(first):])""",
     "replace_extension": """(p, extension):
     name = p.rpartition("/")[-1]
     dot = name.rfind(".")
@@ -40,13 +55,29 @@ COLLECTIONS = {
     "before_each": "(separator, values):\n    return [part for value in values for part in (separator, value)]",
     "after_each": "(separator, values):\n    return [part for value in values for part in (value, separator)]",
 }
+# (a set is a list without what occurs in it before)
+SETS = {
+    "make": "(elements = None):\n    return {part: None for part in elements or []}.keys()",
+    "copy": "(s):\n    return list(s)",
+    "to_list": "(s):\n    return list(s)",
+    "insert": "(s, part):\n    if part not in s:\n        s.append(part)\n    return s",
+    "remove": "(s, part):\n    s.remove(part)\n    return s",
+    "contains": "(s, part):\n    return part in s",
+    "length": "(s):\n    return len(s)",
+    "union": "(*sets):\n    return {part: None for s in sets for part in s}.keys()",
+    "intersection": "(a, b):\n    return [part for part in a if part in b]",
+    "difference": "(a, b):\n    return [part for part in a if part not in b]",
+    "disjoint": "(a, b):\n    return not [part for part in a if part in b]",
+    "is_subset": "(a, b):\n    return not [part for part in a if part not in b]",
+    "is_equal": "(a, b):\n    return len(a) == len(b) and not [part for part in a if part not in b]",
+}
 TYPES = {
     f"is_{name}": f"(v):\n    return type(v) == {kind!r}".replace("'", '"')
     for name, kind in {"list": "list", "string": "string", "bool": "bool", "none": "NoneType", "int": "int", "tuple": "tuple", "dict": "dict"}.items()
 }
 MEMBERS = {
     f"{symbol}__{member}": text
-    for symbol, members in {"paths": PATHS, "dicts": DICTS, "shell": SHELL, "collections": COLLECTIONS, "types": TYPES}.items()
+    for symbol, members in {"paths": PATHS, "dicts": DICTS, "shell": SHELL, "collections": COLLECTIONS, "sets": SETS, "types": TYPES}.items()
     for member, text in members.items()
 }
 REPOSITORY = "bazel_skylib"

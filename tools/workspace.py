@@ -2,13 +2,30 @@
 import os
 import re
 import stat
+import sys
 
 SCHEMA = "rules.schema"
+ROOT_FILES = ("MODULE.bazel", "REPO.bazel", "WORKSPACE", "WORKSPACE.bazel")
 VALID = re.compile(r"[ -9;-\[\]-~]+")
 
 
 class Unreadable(Exception):
     """What `bq` calls E2: a name that is not UTF-8, or a file or directory that is needed and can't be read."""
+
+
+def refused(text):
+    """Ends the program with a sentence and status 2."""
+    print(text, file=sys.stderr)
+    sys.exit(2)
+
+
+def likely_root(paths):
+    """The directory further down that looks like the workspace's root, where the top has none of its files: the one with most BUILD files."""
+    roots = {os.path.dirname(path) for path in paths if os.path.basename(path) in ROOT_FILES}
+    if not roots or "" in roots:
+        return ""
+    packages = [path for path in paths if os.path.basename(path) in ("BUILD", "BUILD.bazel")]
+    return max(sorted(roots), key=lambda root: (sum(path.startswith(root + "/") for path in packages), -root.count("/")))
 
 
 def is_path(path):

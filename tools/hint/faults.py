@@ -1,0 +1,132 @@
+"""What is said of each fault: takes the sources and a run's faults, gives `Hint`s, causes first."""
+import ast
+import time
+from dataclasses import dataclass, field
+
+from hint import labels, names, queries, scan
+from hint.machine import Machine
+from hint.near import did_you_mean
+from hint.package import place_in
+
+# for how many processor seconds files are evaluated again, and how many calls around a place are shown
+SECONDS = 10
+SHOWN = 4
+
+
+@dataclass
+class Hint:
+    fault: object
+    path: str
+    line: int
+    column: int
+    reason: str
+    inner: list = field(default_factory=list)  # where in macros it is: (path, line, column, function), the innermost first
+    follows: bool = False  # whether another fault is its cause
+
+    def text(self):
+        where = "".join(f", {'called ' if at else ''}at {path}:{line}:{column} in {function}"
+                        for at, (path, line, column, function) in enumerate(self.inner[:SHOWN]))
+        where += f", and {len(self.inner) - SHOWN} more calls" if len(self.inner) > SHOWN else ""
+        return f"{self.path}:{self.line}:{self.column}: {self.fault.number} {self.fault.name}" + (f": {self.reason}{where}" if self.reason or where else "")
+
+    def data(self):
+        inner = [dict(zip(("path", "line", "column", "function"), it)) for it in self.inner]
+        return {"path": self.path, "line": self.line, "column": self.column, "number": self.fault.number, "name": self.fault.name,
+                "reason": self.reason, "label": self.fault.label, "inner": inner, "follows": self.follows}
+
+
+class Hints:
+    def __init__(self, sources, faults):
+        self.sources, self.faults = sources, faults
+        self.failed = {it.label for it in faults if it.number != "F79"}
+        self.until = time.process_time() + SECONDS
+
+    def all(self):
+        """The hints of all faults: causes in the order of the lines, then what follows from them."""
+        found = [self.hint(it) for it in self.faults]
+        seen = set()
+        for it in found:
+            if it.fault.number == "F35":
+                around = frozenset(it.reason.partition(": ")[2].split(" -> "))
+                it.follows = it.follows or around in seen or it.fault.label not in around and any(
+                    other.fault.number == "F35" and other.fault.label in around for other in found)
+                seen |= {around} if not it.follows else set()
+        return [it for it in found if not it.follows] + [it for it in found if it.follows]
+
+    def hint(self, fault):
+        path = self.sources.file_of(fault.label)
+        shown = self.sources.place(path)
+        follows = fault.number == "F36" and fault.detail in self.failed
+        try:
+            if fault.number == "F79":
+                return self.dangling(fault, path, shown)
+            found = self.fault(fault, path, shown)
+        except (labels.BadLabel, IndexError, AttributeError, ValueError, RecursionError):
+            found = None  # a file of another form than such files have: the line stays as it is
+        if isinstance(found, Hint):
+            return found
+        line, column, reason = found or (fault.line, 1, fault.detail)
+        return Hint(fault, shown, line, column, reason, follows=follows)
+
+    def fault(self, fault, path, shown):
+        """A hint, or line, column and reason, or nothing."""
+        text, number = self.sources.text(path), fault.number
+        if number in scan.SCANS:
+            return scan.SCANS[number](text, fault.line)
+        if number == "F24":
+            return names.double_parameter(self.sources, fault, text)
+        tree = self.sources.tree(path)
+        if tree is None:
+            return None
+        if number == "F37" and fault.detail:
+            return names.crosses(self.sources, fault, tree)
+        if number in names.NAMES:
+            return names.NAMES[number](self.sources, fault, tree)
+        return self.evaluated(fault, path, shown, tree)
+
+    def evaluated(self, fault, path, shown, tree):
+        """What the evaluation of the file ends with, if it is this fault in this statement."""
+        wrong = Machine(self.sources).run(path) if time.process_time() < self.until else None
+        statement = names.statement_of(tree, fault.line)
+        if not wrong or wrong.number != fault.number or statement is None:
+            return fault.line, statement.col_offset + 1 if statement else 1, fault.detail
+        at, node = wrong.place
+        node = place_in(node, wrong)
+        stack = [(at, node.lineno, node.col_offset + 1)] + [(of, call.lineno, call.col_offset + 1) for of, call, _ in wrong.calls]
+        of, line, column = stack[-1]
+        if of != path or not statement.lineno <= line <= statement.end_lineno:
+            return fault.line, statement.col_offset + 1, fault.detail
+        functions = [name for *_, name in wrong.calls]
+        inner = [(self.sources.place(of), line, column, functions[at]) for at, (of, line, column) in enumerate(stack[:-1])]
+        return Hint(fault, shown, line, column, wrong.reason, inner)
+
+    def dangling(self, fault, path, shown):
+        """A label that names no target: where it is written, and what is wrong with it."""
+        repository, package, name = labels.split(fault.detail)
+        here = labels.split(fault.label)[:2]
+        build = self.sources.build_file(labels.directory(repository, package))
+        tree = self.sources.tree(path)
+        statement = names.statement_of(tree, fault.line) if tree else None
+        node = next((it for it in ast.walk(statement) if isinstance(it, ast.Constant) and self.is_label(it.value, here, (repository, package, name))),
+                    statement) if statement else None
+        line, column = (node.lineno, node.col_offset + 1) if node is not None else (fault.line, 1)
+        inside = "" if node is not statement or not isinstance(statement, ast.Expr) or self.is_rule(statement) else ", which the macro that is called here names"
+        if not build:
+            reason = names.package_missing(self.sources, fault.detail)
+            return Hint(fault, shown, line, column, f"no target {fault.detail}{inside}: {reason}")
+        own = next((it for it in self.faults if it.number != "F79" and self.sources.file_of(it.label) == build), None)
+        if own:
+            return Hint(fault, shown, line, column, f"no target {fault.detail}: the package has a fault of its own ({self.sources.place(build)}:{own.line})", follows=True)
+        there = f"{labels.directory(repository, package)}/{name}".lstrip("/") in self.sources.paths
+        why = ": the file is there, and its package doesn't export it: use exports_files" if there else did_you_mean(name, queries.target_names(self.sources, build))
+        return Hint(fault, shown, line, column, f"package '{package}' has no target '{name}'{inside}{why}")
+
+    @staticmethod
+    def is_label(text, here, wanted):
+        try:
+            return isinstance(text, str) and labels.split(text, *here) == wanted
+        except labels.BadLabel:
+            return False
+
+    def is_rule(self, statement):
+        return isinstance(statement.value, ast.Call) and isinstance(statement.value.func, ast.Name) and statement.value.func.id in self.sources.schema

@@ -1,0 +1,26 @@
+"""All lines of a run: takes what `bq` wrote to standard error, and the sources; gives the lines to write in its place."""
+from hint.faults import Hints
+from hint.lines import Error, Fault, read
+from hint.queries import explained
+
+
+def hinted(texts, sources, query="", is_all=False):
+    """The lines to write, and the same as data."""
+    lines = [read(text) for text in texts]
+    faults = [it for it in lines if isinstance(it, Fault) and sources and sources.file_of(it.label)]
+    found = Hints(sources, faults).all() if faults else []
+    written, data = [], []
+    for text, it in zip(texts, lines):
+        if isinstance(it, Error):
+            about = explained(sources, faults, it, query)
+            errors = (f"bq: {it.number} {it.name}{about}", {"number": it.number, "name": it.name, "reason": about.strip(": \n"), "detail": it.detail})
+            written.append(errors[0])
+            data.append(errors[1])
+        elif it not in faults:
+            written.append(text)
+            data.append({"text": text})
+    following = [it for it in found if it.follows]
+    written = [it.text() for it in found if not it.follows or is_all] + written
+    if following and not is_all:
+        written.append(f"and {len(following)} that follow{'s' * (len(following) == 1)} from these")
+    return written, [it.data() for it in found] + data

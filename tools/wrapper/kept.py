@@ -1,0 +1,133 @@
+"""The overlay and the bundle of a workspace, kept in the cache: takes the root, gives the open bundle and what was said of it.
+
+A folder of its own for each root: `overlay/`, `bundle`, and `state`, which says what they were made of. A run locks the file `lock` while
+it looks and while it makes them anew, which it does beside and then renames; so a run beside it waits, and what it has opened stays whole.
+"""
+import contextlib
+import fcntl
+import hashlib
+import json
+import os
+import re
+import shutil
+import subprocess
+import sys
+
+from wrapper.fresh import print_of
+from workspace import SCHEMA
+
+TOOLS = os.path.dirname(os.path.dirname(os.path.realpath(__file__)))
+
+
+class Failed(Exception):
+    """The overlay or the bundle could not be made; the message says why."""
+
+
+def cache_of(root):
+    base = os.environ.get("XDG_CACHE_HOME") or os.path.join(os.path.expanduser("~"), ".cache")
+    return os.path.join(base, "bzlq", hashlib.sha256(os.fsencode(root)).hexdigest()[:16])
+
+
+def version():
+    """What the scripts are that make an overlay: another version makes it anew."""
+    found = hashlib.sha256()
+    for name in sorted(os.listdir(TOOLS)):
+        if name.endswith(".py") or name in ("stubs", "bundle"):
+            entry = os.stat(os.path.join(TOOLS, name))
+            found.update(f"{name} {entry.st_size} {entry.st_mtime_ns}\n".encode())
+    return found.hexdigest()
+
+
+@contextlib.contextmanager
+def locked(folder):
+    """Holds the lock of a folder of the cache."""
+    os.makedirs(folder, mode=0o700, exist_ok=True)
+    with open(os.path.join(folder, "lock"), "a", encoding="utf-8") as file:
+        fcntl.flock(file, fcntl.LOCK_EX)
+        yield
+
+
+class Kept:
+    def __init__(self, root, program):
+        self.root, self.program, self.folder = root, program, cache_of(root)
+        self.overlay = os.path.join(self.folder, "overlay")
+
+    def open(self):
+        """The bundle, fresh, and the warnings of what it was made of."""
+        with locked(self.folder):
+            now = {**print_of(self.root), "root": self.root, "version": version()}
+            before = self.state()
+            if {key: before.get(key) for key in now} != now or not os.path.exists(self.path("bundle")):
+                self.make(now, before)
+                before = self.state()
+            return open(self.path("bundle"), "rb"), before.get("warnings", [])
+
+    def remove(self):
+        """Removes all that is kept, but for the lock."""
+        with locked(self.folder):
+            for name in os.listdir(self.folder):
+                if name != "lock":
+                    path = self.path(name)
+                    shutil.rmtree(path) if os.path.isdir(path) else os.remove(path)
+
+    def path(self, name):
+        return os.path.join(self.folder, name)
+
+    def state(self):
+        try:
+            with open(self.path("state"), encoding="utf-8") as file:
+                return json.load(file)
+        except (OSError, ValueError):
+            return {}
+
+    def make(self, now, before):
+        """Makes what changed: the bundle alone, if only names did."""
+        new = self.path("new")
+        shutil.rmtree(new, ignore_errors=True)
+        os.makedirs(new)
+        warnings = before.get("warnings", [])
+        is_same = all(before.get(key) == now[key] for key in ("contents", "version")) and os.path.isdir(self.overlay)
+        if os.path.isfile(os.path.join(self.root, SCHEMA)):
+            os.makedirs(f"{new}/overlay")
+            warnings = []
+        elif is_same:
+            shutil.copytree(self.overlay, f"{new}/overlay")
+        else:
+            warnings = self.make_overlay(new)
+        self.bundle(f"{new}/overlay", f"{new}/bundle")
+        with open(f"{new}/state", "w", encoding="utf-8") as file:
+            json.dump({**now, "warnings": warnings}, file)
+        # (the state goes first and comes last: a run that is ended in between leaves none, and the next one makes all anew)
+        with contextlib.suppress(FileNotFoundError):
+            os.remove(self.path("state"))
+        shutil.rmtree(self.overlay, ignore_errors=True)
+        for name in ("overlay", "bundle", "state"):
+            os.rename(f"{new}/{name}", self.path(name))
+        os.rmdir(new)
+
+    def make_overlay(self, new):
+        """The overlay, with a second round where macros name targets of repositories that aren't there; gives the warnings."""
+        print("bzlq: reading the workspace", file=sys.stderr, flush=True)
+        words = [f"{TOOLS}/stubs", self.root, f"{new}/overlay"]
+        warnings = self.run(words).splitlines()
+        self.bundle(f"{new}/overlay", f"{new}/bundle")
+        with open(f"{new}/bundle", "rb") as bundle:
+            faults = subprocess.run([self.program, "//..."], stdin=bundle, stdout=subprocess.DEVNULL, stderr=subprocess.PIPE, check=False).stderr
+        if re.search(rb" F79 DanglingLabel @", faults):
+            with open(f"{new}/faults", "wb") as file:
+                file.write(faults)
+            self.run([*words, "--faults", f"{new}/faults"])
+            os.remove(f"{new}/faults")
+        return warnings
+
+    def bundle(self, overlay, path):
+        with open(path, "wb") as file:
+            self.run([f"{TOOLS}/bundle", self.root, overlay], file)
+
+    def run(self, words, output=subprocess.DEVNULL):
+        """What a script writes to standard error."""
+        ended = subprocess.run([sys.executable, *words], stdout=output, stderr=subprocess.PIPE, check=False)
+        text = ended.stderr.decode("utf-8", "replace")
+        if ended.returncode != 0:
+            raise Failed(text.strip() or f"{words[0]} ended with status {ended.returncode}")
+        return text
