@@ -16,7 +16,7 @@ use std::fmt::Write;
 use std::sync::Arc;
 
 /// A fault as a line: `3: F56 Fail "no"`.
-fn add_fault(alloc: Global, whole: &mut Vec<u8>, fault: &Fault) -> Result<(), AllocError> {
+pub fn add_fault(alloc: Global, whole: &mut Vec<u8>, fault: &Fault) -> Result<(), AllocError> {
     let mut line = String::new(alloc);
     write!(
         line,
@@ -35,7 +35,11 @@ fn add_fault(alloc: Global, whole: &mut Vec<u8>, fault: &Fault) -> Result<(), Al
 }
 
 /// A refusal as a line.
-fn add_refusal(alloc: Global, whole: &mut Vec<u8>, error: &SourceErr) -> Result<(), AllocError> {
+pub fn add_refusal(
+    alloc: Global,
+    whole: &mut Vec<u8>,
+    error: &SourceErr,
+) -> Result<(), AllocError> {
     match error {
         SourceErr::Bad(fault) => add_fault(alloc, whole, fault),
         SourceErr::Memory => add_line(whole, b"out of memory"),
@@ -50,7 +54,7 @@ fn add_prints(whole: &mut Vec<u8>, prints: &[Bytes]) -> Result<(), AllocError> {
 }
 
 /// What is printed of an outcome: its prints, then its fault, if it has one.
-fn add_outcome(
+pub fn add_outcome(
     alloc: Global,
     whole: &mut Vec<u8>,
     outcome: &FileOutcome,
