@@ -108,17 +108,6 @@ fn check_chunk(
     compare(alloc, chunk, &found, report)
 }
 
-fn check_line(
-    alloc: Global,
-    line: &[u8],
-    subject: &impl Subject,
-    report: &mut Vec<u8>,
-) -> Result<(), AllocError> {
-    let (text, _) = split_line(line);
-    let found = subject.answer(alloc, text)?;
-    compare(alloc, line, &found, report)
-}
-
 /// The chunks of a table whose answer isn't the one that is wanted, each before its answer.
 fn report(alloc: Global, table: &str, subject: &impl Subject) -> Result<Vec<u8>, AllocError> {
     let mut report = Vec::new(alloc);
@@ -133,30 +122,6 @@ fn report(alloc: Global, table: &str, subject: &impl Subject) -> Result<Vec<u8>,
     }
     check_chunk(alloc, &chunk, subject, &mut report)?;
     Ok(report)
-}
-
-/// The lines of a table whose part before `#>` hasn't the answer that is wanted, each before its answer.
-fn report_lines(alloc: Global, table: &str, subject: &impl Subject) -> Result<Vec<u8>, AllocError> {
-    let mut report = Vec::new(alloc);
-    for line in table.as_bytes().split(|byte| *byte == b'\n') {
-        match line {
-            [] | [b'#', ..] => {}
-            _ => check_line(alloc, line, subject, &mut report)?,
-        }
-    }
-    Ok(report)
-}
-
-/// Goes through a table in which each line is a chunk, and empty lines and comments are skipped.
-pub fn check_lines(
-    rt: &impl Abort,
-    alloc: Global,
-    table: &str,
-    subject: &impl Subject,
-) -> Result<(), AllocError> {
-    let report = report_lines(alloc, table, subject)?;
-    assert!(rt; report.is_empty(), "{}", report.escape_ascii());
-    Ok(())
 }
 
 /// Goes through a table: each chunk has the answer that is wanted.

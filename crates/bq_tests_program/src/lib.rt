@@ -1,26 +1,26 @@
-//! The tests of whole programs, of packages, of queries and of workers: what no clause says of them, as values from outside.
+//! The tests that need a type of their own: hosts that note their calls, gates that hold modules, and evaluators of load graphs.
 //!
-//! They stand in a crate beside bq_tests_lower, since a crate with tests is proved once more for each change of them.
+//! What a run shows in its bytes is in the rows of bq_tests_data.
+//!
+//! - `chunks`: tables as texts, with what is wanted beside their lines
+//! - `program`: programs of one file, or of two
+//! - `hosts`: which calls reach the host of a program
+//! - `load`: workspaces, and pools of threads
+//! - `workers`, `refused`: random load graphs by several workers, and workers that are refused memory
 #![tactic(auto)]
 
 #[cfg(test)]
-mod answer;
-#[cfg(test)]
 mod chunks;
 #[cfg(test)]
+mod hosts;
+#[cfg(test)]
 mod load;
-#[cfg(test)]
-mod module;
-#[cfg(test)]
-mod package;
 #[cfg(test)]
 mod program;
 #[cfg(test)]
 mod random;
 #[cfg(test)]
 mod refused;
-#[cfg(test)]
-mod rules;
 #[cfg(test)]
 mod workers;
 #[cfg(test)]

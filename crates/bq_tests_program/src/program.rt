@@ -16,7 +16,7 @@ use std::fmt::Write;
 use std::sync::Arc;
 
 /// A fault as a line: `3: F56 Fail "no"`.
-pub fn add_fault(alloc: Global, whole: &mut Vec<u8>, fault: &Fault) -> Result<(), AllocError> {
+fn add_fault(alloc: Global, whole: &mut Vec<u8>, fault: &Fault) -> Result<(), AllocError> {
     let mut line = String::new(alloc);
     write!(
         line,
@@ -35,11 +35,7 @@ pub fn add_fault(alloc: Global, whole: &mut Vec<u8>, fault: &Fault) -> Result<()
 }
 
 /// A refusal as a line.
-pub fn add_refusal(
-    alloc: Global,
-    whole: &mut Vec<u8>,
-    error: &SourceErr,
-) -> Result<(), AllocError> {
+fn add_refusal(alloc: Global, whole: &mut Vec<u8>, error: &SourceErr) -> Result<(), AllocError> {
     match error {
         SourceErr::Bad(fault) => add_fault(alloc, whole, fault),
         SourceErr::Memory => add_line(whole, b"out of memory"),
@@ -54,7 +50,7 @@ fn add_prints(whole: &mut Vec<u8>, prints: &[Bytes]) -> Result<(), AllocError> {
 }
 
 /// What is printed of an outcome: its prints, then its fault, if it has one.
-pub fn add_outcome(
+fn add_outcome(
     alloc: Global,
     whole: &mut Vec<u8>,
     outcome: &FileOutcome,
