@@ -1,0 +1,4 @@
+pub mod Replies
+pub mod Lines
+pub mod Progress
+pub mod Outcomes
