@@ -1,5 +1,5 @@
 -- What a session answers is what is answered over its workspace.
-use Rattle.std.proofs.Common.{◌≡◌, ℕ, Bool, List, Option, Result, Err, subst, sym, refl}
+use Rattle.std.proofs.Common.{◌≡◌, ℕ, Bool, List, Option, None, Some, Result, Err, subst, sym, refl}
 use Rattle.std.specs.Io.KnownBytes.{Appends, Keeps}
 use Rattle.bq_label.specs.declared.workspace.File.{File}
 use Rattle.bq_run.specs.Device.{Begins}
@@ -18,8 +18,8 @@ use Rattle.bq_run_session.specs.declared.session.Session.{Session}
 are_answered : (A B : List ℕ → ReplyView → Type 0) → ((query : List ℕ) (reply : ReplyView) → A query reply → B query reply) → (queries : List (List ℕ)) (text : List ℕ) (refused : Bool)
     → AreAnswered A queries text refused → AreAnswered B queries text refused
 are_answered A B to _ _ _ AreAnswered.none = AreAnswered.none
-are_answered A B to _ _ _ (AreAnswered.more {queries = queries} {text = text} {refused = refused} query reply before is) =
-    AreAnswered.more query reply (are_answered A B to queries text refused before) (to query reply is)
+are_answered A B to _ _ _ (AreAnswered.more query reply before is all whole any) =
+    AreAnswered.more query reply (are_answered A B to _ _ _ before) (to query reply is) all whole any
 
 answers : (A B : List ℕ → ReplyView → Type 0) → ((query : List ℕ) (reply : ReplyView) → A query reply → B query reply) → (status other : Status) → status ≡ other
     → (known : Option (List ℕ)) (result : Result SessionStatus RunErr) (old new : Option (List ℕ)) → Answers A status known result old new → Answers B other known result old new
@@ -32,6 +32,10 @@ answers A B to status other same known result old new a = record {
   ends = subst (λ (s : Status). EndsIn result (session_status s a.refused)) same a.ends;
   written = a.written;
 }
+
+pub keeps_itself : (known : Option (List ℕ)) → Keeps known known
+keeps_itself None = tt
+keeps_itself (Some xs) = refl
 
 module _ (o : Options) (files : List File) (s : Session) (on : IsOn files o.max_steps s) (known : Option (List ℕ)) (f f' a a' : Option (List ℕ)) where
   pub all_written : (result : Result SessionStatus RunErr) → Appends f f' s.faults → Answers (IsAnswerIn s o.output) s.status known result a a' → DoesAnswer o files known result f f' a a'

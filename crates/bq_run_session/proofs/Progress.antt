@@ -1,6 +1,6 @@
 -- The queries that were answered so far, and those that are left.
-use Rattle.std.proofs.Common.{◌≡◌, ◌++◌, ◌||◌, ℕ, Bool, false, List, [], ◌∷◌, Option, None, Some, Result, Ok, Err, take, refl, sym, ap, ◌∙◌, append_assoc, append-nil, subst}
-use Rattle.std.specs.Prelude.{IfSome}
+use Rattle.std.proofs.Common.{◌≡◌, ◌++◌, ◌||◌, ℕ, Bool, false, List, [], ◌∷◌, Option, None, Some, Result, Ok, Err, take, refl, sym, ap, ◌∙◌, append_assoc, append-nil, subst, ◌⊎◌, inl, inr}
+use Rattle.std.specs.Prelude.{IfSome, IsErrOf}
 use Rattle.std.specs.Io.KnownBytes.{Appends, Keeps}
 use Rattle.bq_run.specs.Bundle.{lines}
 use Rattle.bq_run.specs.Device.{Begins}
@@ -14,6 +14,7 @@ use Rattle.bq_run_session.specs.Block.{block, is_refused}
 use Rattle.bq_run_session.specs.Outcome.{Answers, Covers, EndsIn, session_status}
 use Rattle.bq_run_session.specs.Queries.{max_queries_bytes, queries_in, queries_of}
 use Rattle.bq_run_session.specs.Reading.{HasNoQuery, TakesQuery, ahead}
+use Rattle.bq_run_session.specs.Steps.{AnswersOne}
 use Rattle.bq_run_session.specs.declared.ending.SessionStatus.{SessionStatus}
 
 -- these are the first queries of the known text, and those of `now` the others
@@ -51,7 +52,7 @@ pub one_more : (IsAnswer : List ℕ → ReplyView → Type 0) (known now then : 
 one_more IsAnswer known now then refused after old new last query reply p takes is same written = record {
   queries = p.queries ++ query ∷ [];
   text = p.text ++ block query reply;
-  answered = subst (λ b. AreAnswered IsAnswer (p.queries ++ query ∷ []) (p.text ++ block query reply) b) (sym same) (AreAnswered.more query reply p.answered is);
+  answered = AreAnswered.more query reply p.answered is refl refl same;
   leaves = leaves_one known now then p.queries query p.leaves takes;
   written = Appends-more old new last p.text (block query reply) p.written written;
 }
@@ -105,8 +106,36 @@ module _ (IsAnswer : List ℕ → ReplyView → Type 0) (status : Status) (known
     queries = p.queries ++ query ∷ [];
     text = p.text ++ block query reply;
     refused = is_refused reply.end || refused;
-    answered = AreAnswered.more query reply p.answered is;
+    answered = AreAnswered.more query reply p.answered is refl refl refl;
     covers = covers_some known then (p.queries ++ query ∷ []) run.Write (leaves_one known now then p.queries query p.leaves takes);
     ends = tt;
     written = Begins-more old new last p.text (block query reply) p.written begins;
   }
+
+-- ---- one query
+
+same_err : {T : Type 0} (a b : RunErr) → IsErrOf {T = T} (Err a) b → a ≡ b
+same_err a b h = cc
+
+pub not_err : {T : Type 0} (x : T) (e : RunErr) → ¬ (IsErrOf (Ok x) e)
+not_err x e h = cc
+
+-- its block was not written, or not whole
+pub one_failed : (IsAnswer : List ℕ → ReplyView → Type 0) (before : Bool) (query : List ℕ) (reply : ReplyView) (why : RunErr) (old new : Option (List ℕ)) → IsAnswer query reply
+    → (IsErrOf {T = Unit {0}} (Err why) run.Memory → Keeps old new) → (IsErrOf {T = Unit {0}} (Err why) run.Write → Begins old new (block query reply))
+    → IsErrOf {T = Unit {0}} (Err why) run.Memory ⊎ IsErrOf {T = Unit {0}} (Err why) run.Write → AnswersOne IsAnswer before query (Err why) old new
+one_failed IsAnswer before query reply why old new is keeps begins which = elim which [
+  | inl memory ↦ subst (λ (e : RunErr). AnswersOne IsAnswer before query (Err e) old new) (sym (same_err why run.Memory memory)) (keeps memory)
+  | inr write ↦ subst (λ (e : RunErr). AnswersOne IsAnswer before query (Err e) old new) (sym (same_err why run.Write write)) (reply, is, begins write)
+]
+
+-- so the queries after it are not answered
+pub one_not_answered : (IsAnswer : List ℕ → ReplyView → Type 0) (status : Status) (known now then : Option (List ℕ)) (refused : Bool) (old new last : Option (List ℕ)) (query : List ℕ) (why : RunErr)
+    → Progress IsAnswer known now refused old new → TakesQuery now then query → AnswersOne IsAnswer refused query (Err why) new last → Answers IsAnswer status known (Err why) old last
+one_not_answered IsAnswer status known now then refused old new last query run.Memory p takes one = no_memory_for_one IsAnswer status known now refused old new p last one
+one_not_answered IsAnswer status known now then refused old new last query run.Write p takes one = writer_failed IsAnswer status known now refused old new p then last query one.0 takes one.1 one.2
+one_not_answered IsAnswer status known now then refused old new last query run.Read p takes one = absurd one
+one_not_answered IsAnswer status known now then refused old new last query run.Bundle p takes one = absurd one
+one_not_answered IsAnswer status known now then refused old new last query (run.Query e) p takes one = absurd one
+one_not_answered IsAnswer status known now then refused old new last query (run.Schema line) p takes one = absurd one
+one_not_answered IsAnswer status known now then refused old new last query run.TooManyModules p takes one = absurd one

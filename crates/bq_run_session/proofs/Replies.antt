@@ -1,14 +1,14 @@
 -- What a session answers is what a run with the query alone reports.
-use Rattle.std.proofs.Common.{◌≡◌, ◌≤◌, ◌<◌, ℕ, List, [], Err, refl, sym, subst, inl, inr, length}
+use Rattle.std.proofs.Common.{◌≡◌, ◌≤◌, ℕ, List, [], Err, refl, sym, subst, inl, inr, length}
 use Rattle.bq_label.specs.declared.workspace.File.{File}
 use Rattle.bq_query.specs.declared.print.OutputForm.{OutputForm}
 use Rattle.bq_query_check.specs.Checked.{IsChecked, IsWrong}
 use Rattle.bq_query_check.specs.Formula.{formula_of}
 use Rattle.bq_query_check.specs.declared.checked.CheckedQuery.{CheckedQuery}
 use Rattle.bq_query_lex.specs.declared.query_error.QueryErr.{QueryErr}
-use Rattle.bq_query_lex.specs.declared.query_error.QueryErr.TheVariants.{Syntax}
 use Rattle.bq_run_report.specs.Ending.{status_by}
 use Rattle.bq_run_report.specs.Report.{Inside, ReplyView, ReportView, Replies, Reports, all_faults, fault_text}
+use Rattle.bq_run_report.specs.declared.ending.NoAnswer.{NoAnswer}
 use Rattle.bq_run_report.specs.declared.ending.NoAnswer.TheVariants.{Query}
 use Rattle.bq_run_report.specs.declared.ending.Status.{Status}
 use Rattle.bq_run.specs.WorkspaceRun.{IsReportOn, loaded_in}
@@ -33,10 +33,11 @@ answered s form text query reply fits checked replies files limit i loaded over 
     IsReportOn.loaded query loaded.rules loaded.graph (subst (λ t. IsChecked t query) (sym asks.text) checked) loaded.schema loaded.discovered
     (subst (λ (n : ℕ). Reports (loaded_in files loaded.rules n loaded.graph) query o.output report) (sym asks.steps) over_files))
 
+-- the reply to a query that is refused
+abbrev pub refused_view : NoAnswer → ReplyView
+refused_view why = record { text = []; end = Err why }
+
 pub wrong : (s : Session) (form : OutputForm) (text : List ℕ) (why : QueryErr) → length text ≤ max_query_bytes → IsWrong text why
-    → IsAnswerIn s form text (record { text = []; end = Err (Query why) })
+    → IsAnswerIn s form text (refused_view (Query why))
 wrong s form text why fits is files limit i loaded over =
     IsAnswerTo.ran fits [] (inl (why, is, refl)) (λ o asks. IsReportOn.wrong_query why (subst (λ t. IsWrong t why) (sym asks.text) is) refl)
-
-pub too_long : (s : Session) (form : OutputForm) (text : List ℕ) → max_query_bytes < length text → IsAnswerIn s form text (record { text = []; end = Err (Query Syntax) })
-too_long s form text long files limit i loaded over = IsAnswerTo.too_long long refl

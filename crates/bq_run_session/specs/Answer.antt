@@ -44,5 +44,5 @@ pub data IsAnswerTo (files : List File) (limit : ℕ) (i : Inside) (form : Outpu
 -- the text of the blocks of all these queries, in order, and whether one was refused
 pub data AreAnswered (IsAnswer : List ℕ → ReplyView → Type 0) : List (List ℕ) → List ℕ → Bool → Type 0 where
   none : AreAnswered IsAnswer [] [] false
-  more : {queries : List (List ℕ)} {text : List ℕ} {refused : Bool} (query : List ℕ) (reply : ReplyView) → AreAnswered IsAnswer queries text refused → IsAnswer query reply
-      → AreAnswered IsAnswer (queries ++ query ∷ []) (text ++ block query reply) (is_refused reply.end || refused)
+  more : {all queries : List (List ℕ)} {whole text : List ℕ} {any refused : Bool} (query : List ℕ) (reply : ReplyView) → AreAnswered IsAnswer queries text refused → IsAnswer query reply
+      → all ≡ queries ++ query ∷ [] → whole ≡ text ++ block query reply → any ≡ (is_refused reply.end || refused) → AreAnswered IsAnswer all whole any

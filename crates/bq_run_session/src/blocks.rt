@@ -1,11 +1,12 @@
 //! What is written for a query: a header line `=== STATUS LINES QUERY`, and then as many lines: the answer's, or the
 //! line of the error.
 
-ghost use Rattle.std.specs.Prelude.{◌≡◌, ◌⊎◌, ◌+◌, ◌-◌, ◌^◌, ◌<◌, IfOk, IsErr, IsErrOf, OnOk};
+ghost use Rattle.std.specs.Prelude.{◌≡◌, ◌⊎◌, ◌+◌, ◌-◌, ◌^◌, ◌<◌, take, IfOk, IsErr, IsErrOf, OnOk};
 ghost use Rattle.std.specs.Io.KnownBytes.{Appends, Keeps};
 ghost use Rattle.bq_run.specs.Device.{Begins};
 ghost use Rattle.bq_run.specs.Status.{status_code};
 ghost use Rattle.bq_run_session.specs.Block.{block, body, header, line_count, run_end};
+ghost use Rattle.bq_run_session.specs.Queries.{max_query_bytes};
 ghost use Rattle.bq_run_session.specs.Session.{reply_view};
 
 use crate::queries::MAX_QUERY_BYTES;
@@ -26,14 +27,24 @@ fn line_count(text: &[u8]) -> usize
     count
 }
 
-/// Returns the header line. A query that is too long is cut.
+/// Returns what the header line has of a query: all, unless it is too long.
+fn shown(query: &[u8]) -> &[u8]
+    ensures { result.now ≡ take max_query_bytes query.now }
+{
+    if query.len() > MAX_QUERY_BYTES {
+        &query[..MAX_QUERY_BYTES]
+    } else {
+        query
+    }
+}
+
+/// Returns the header line.
 fn header(alloc: Global, status: u8, count: usize, query: &[u8]) -> Result<Vec<u8>, AllocError>
     ensures { IfOk result (λ line. line.items ≡ header status count query.now) }
 {
     let numbers = format!(in alloc; "=== {status} {count} ")?;
-    let kept = query.len().min(MAX_QUERY_BYTES);
-    let mut line = numbers.as_bytes().to_vec(alloc)?;
-    line.extend_from_slice(&query[..kept])?;
+    let mut line = numbers.into_bytes();
+    line.extend_from_slice(shown(query))?;
     line.push(b'\n')?;
     Ok(line)
 }

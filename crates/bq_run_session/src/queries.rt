@@ -1,7 +1,7 @@
 //! The queries of a text: a query a line, which ends with LF or CRLF. Empty lines and lines that begin with `#` are
 //! skipped.
 
-ghost use Rattle.std.specs.Prelude.{◌≡◌, ◌⊎◌, ◌↔◌, ◌+◌, ◌-◌, ◌^◌, ◌<◌, ◌∷◌, [], IfOk, IfSome, IfNone, IsErr, IsErrOf, true};
+ghost use Rattle.std.specs.Prelude.{◌≡◌, ◌⊎◌, ◌+◌, ◌-◌, ◌^◌, ◌<◌, ◌≤◌, ◌∷◌, [], IfOk, IfSome, IfNone, IsErr, IsErrOf};
 ghost use Rattle.std.specs.Io.KnownBytes.{Consumes, IsAtEnd};
 ghost use Rattle.bq_run_session.specs.Queries.{is_skipped, without_last};
 ghost use Rattle.bq_run_session.specs.Reading.{HasNoQuery, TakesLine, TakesQuery, ahead};
@@ -20,6 +20,7 @@ fn read_byte<R: ByteSource>(reader: &mut R, left: &mut u64) -> Result<Option<u8>
     requires { R.failed reader.old < 2 ^ 64 - 1 }
     ensures byte { IfOk result (λ r. IfSome r (λ b. Consumes (ahead left.old (R.remaining reader.old)) (ahead left.new (R.remaining reader.new)) (b ∷ []))) }
     ensures fewer { IfOk result (λ r. IfSome r (λ b. left.new < left.old)) }
+    ensures no_more { left.new ≤ left.old }
     ensures end { IfOk result (λ r. IfNone r (Consumes (ahead left.old (R.remaining reader.old)) (ahead left.new (R.remaining reader.new)) [] × IsAtEnd (ahead left.new (R.remaining reader.new)))) }
     ensures only { IsErr result → IsErrOf result RunErr.Read }
     ensures device { IsErr result → R.failed reader.new ≡ R.failed reader.old + 1 }
@@ -69,11 +70,16 @@ fn read_line<R: ByteSource>(
 }
 
 /// Drops the CR at the end, if there is one.
+#[tactic(auto, using(crate::proofs::Lines::last_dropped, crate::proofs::Lines::last_kept, crate::proofs::Lines::none_kept))]
 fn drop_cr(line: &mut Vec<u8>)
     ensures { line.new.items ≡ without_last 13 line.old.items }
 {
-    if line.ends_with(b"\r") {
-        line.truncate(line.len() - 1);
+    if line.is_empty() {
+        return;
+    }
+    let last = line.len() - 1;
+    if line[last] == b'\r' {
+        line.truncate(last);
     }
 }
 

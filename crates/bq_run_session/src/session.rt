@@ -1,6 +1,6 @@
 //! A workspace that is loaded, and what it answers.
 
-ghost use Rattle.std.specs.Prelude.{◌≡◌, ◌≤◌, Ok, Err, IfOk, length};
+ghost use Rattle.std.specs.Prelude.{◌≡◌, ◌≤◌, [], Ok, Err, IfOk, length};
 ghost use Rattle.bq_load_discover.specs.Schema.{schema_in};
 ghost use Rattle.bq_query_check.specs.Checked.{IsChecked, IsWrong};
 ghost use Rattle.bq_query_target_graph.specs.Order.{PackagesAscend};

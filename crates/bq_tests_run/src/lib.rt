@@ -15,4 +15,6 @@ mod rows;
 #[cfg(test)]
 mod runs;
 #[cfg(test)]
+mod sessions;
+#[cfg(test)]
 mod statuses;
