@@ -143,10 +143,14 @@ pub end_read : (m n : ℕ) (before now then : Option (List ℕ)) (kept : List �
 end_read m n before now then kept r none end empty =
     at_end before then (subst (λ t. Consumes before then (t ++ [])) (none_read 1048577 r.bytes kept r.is empty) (Consumes-more before now then r.bytes [] r.consumed none)) end
 
+pub some_bytes : (n : ℕ) (xs : List ℕ) → false ≡ (n == 0) → n ≡ length xs → 0 < length xs
+some_bytes n [] h long = let none : (n == 0) ≡ true = eq-eqb n 0 long in cc
+some_bytes n (x ∷ xs) h long = omega arith
+
 -- what holds at the end, where nothing was read
 pub at_none : (read : Option ℕ) (P : Type 0) → ((b : ℕ) → ¬ (read ≡ Some b)) → IfNone read P → P
-at_none None P no p = p
-at_none (Some b) P no p = absurd (no b refl)
+at_none None P other p = p
+at_none (Some b) P other p = absurd (other b refl)
 
 -- ---- a query
 

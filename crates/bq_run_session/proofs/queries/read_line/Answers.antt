@@ -1,7 +1,7 @@
 use Rattle.std.proofs.Common.{◌∙◌, ◌∷◌, [], arith, rules, subst, sym}
 use Rattle.std.specs.Io.KnownBytes.{Consumes, IsAtEnd}
 use Rattle.bq_run_session.specs.Reading.{ahead}
-use Rattle.bq_run_session.proofs.Lines.{IsRead, at_none, end_read, fewer_left, line_read, read_kept, read_past, rest_read}
+use Rattle.bq_run_session.proofs.Lines.{IsRead, at_none, end_read, fewer_left, line_read, read_kept, read_past, rest_read, some_bytes}
 use Rattle.bq_run_session.proofs.queries.read_line.Goals as goal
 
 pub returns-then-byte-eq10-clause-line : goal.returns-then-byte-eq10-clause-line
@@ -49,10 +49,10 @@ returns-clause-line g c =
     let now = ahead c.loop-line.left (g.R.ByteSource.remaining c.loop-line.reader) in
     let next = ahead c.read_byte.new.left (g.R.ByteSource.remaining c.read_byte.new.reader) in
     let over : Consumes now next [] × IsAtEnd next = at_none c.in_ok-byte.field-0 _ c.in_default.not-Some c.in_ok-byte.ensures.end in
-    rest_read c.args.left.now c.loop-line.left before now next c.loop-line.line.items c.loop-line.invariant.read over.0 over.1 (search rules)
+    rest_read c.args.left.now c.loop-line.left before now next c.loop-line.line.items c.loop-line.invariant.read over.0 over.1 (some_bytes c.loop-line.line.len c.loop-line.line.items c.if-is_empty.ensures (search rules))
 
 pub returns-clause-fewer : goal.returns-clause-fewer
 returns-clause-fewer g c =
     let before = ahead c.args.left.now (g.R.ByteSource.remaining c.args.reader.now) in
     let now = ahead c.loop-line.left (g.R.ByteSource.remaining c.loop-line.reader) in
-    omega (arith, fewer_left c.args.left.now c.loop-line.left before now c.loop-line.line.items c.loop-line.invariant.read (search rules), c.read_byte.ensures.no_more)
+    omega (arith, fewer_left c.args.left.now c.loop-line.left before now c.loop-line.line.items c.loop-line.invariant.read (some_bytes c.loop-line.line.len c.loop-line.line.items c.if-is_empty.ensures (search rules)), c.read_byte.ensures.no_more)
