@@ -1,5 +1,5 @@
 -- The first line and the first query of a text, and what is left.
-use Rattle.std.proofs.Common.{◌≡◌, ◌≢◌, ◌≤◌, ◌<◌, ◌+◌, ◌-◌, ◌++◌, ◌==◌, ℕ, zero, suc, Bool, true, false, List, [], ◌∷◌, Option, None, Some, length, take, drop, slice_index, refl, sym, ap, subst, ◌∙◌, arith, append_assoc, append-nil, take_all, length-append, eq-eqb, add-one}
+use Rattle.std.proofs.Common.{◌≡◌, ◌≤◌, ◌<◌, ◌+◌, ◌++◌, ◌==◌, ℕ, zero, suc, true, false, List, [], ◌∷◌, Option, None, Some, length, take, slice_index, refl, sym, ap, subst, ◌∙◌, arith, append_assoc, append-nil, length-append, eq-eqb, add-one}
 use Rattle.std.proofs.lemmas.Bool.{eqb-true, false_from_ne_true}
 use Rattle.std.specs.Prelude.{IfNone}
 use Rattle.std.specs.Io.KnownBytes.{Consumes, IsAtEnd}
@@ -8,7 +8,7 @@ use Rattle.bq_run.specs.Written.{HasNoNewline}
 use Rattle.bq_run.proofs.Transfers.{Consumes-more, Consumes-none}
 use Rattle.bq_run.proofs.Writing.{lines_first}
 use Rattle.bq_run_session.specs.Queries.{is_skipped, line_of, max_line_bytes, onto, queries_in, query_of, without_last}
-use Rattle.bq_run_session.specs.Reading.{HasNoQuery, KeepsQueries, TakesLine, TakesQuery, ahead}
+use Rattle.bq_run_session.specs.Reading.{HasNoQuery, KeepsQueries, TakesLine, TakesQuery}
 
 take_nil : (n : ℕ) → take {A = ℕ} n [] ≡ []
 take_nil zero = refl

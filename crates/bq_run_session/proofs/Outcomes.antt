@@ -1,5 +1,5 @@
 -- What a session answers is what is answered over its workspace.
-use Rattle.std.proofs.Common.{◌≡◌, ℕ, Bool, List, Option, None, Some, Result, Err, subst, sym, refl}
+use Rattle.std.proofs.Common.{◌≡◌, ℕ, Bool, List, Option, None, Some, Result, Err, subst, refl}
 use Rattle.std.specs.Io.KnownBytes.{Appends, Keeps}
 use Rattle.bq_label.specs.declared.workspace.File.{File}
 use Rattle.bq_run.specs.Device.{Begins}
@@ -7,11 +7,11 @@ use Rattle.bq_run.specs.declared.error.RunErr.{RunErr}
 use Rattle.bq_run.specs.declared.error.RunErr.TheVariants as run
 use Rattle.bq_run.specs.declared.options.Options.{Options}
 use Rattle.bq_run_report.specs.Ending.{status_by}
-use Rattle.bq_run_report.specs.Report.{Inside, ReplyView, all_faults, fault_text}
+use Rattle.bq_run_report.specs.Report.{ReplyView, all_faults}
 use Rattle.bq_run_report.specs.declared.ending.Status.{Status}
-use Rattle.bq_run_session.specs.Answer.{AreAnswered, IsAnswerTo, IsLoadedAs}
+use Rattle.bq_run_session.specs.Answer.{AreAnswered, IsAnswerTo}
 use Rattle.bq_run_session.specs.Outcome.{Answers, DoesAnswer, EndsIn, session_status}
-use Rattle.bq_run_session.specs.Session.{IsAnswerIn, IsOn, IsOver}
+use Rattle.bq_run_session.specs.Session.{IsAnswerIn, IsOn}
 use Rattle.bq_run_session.specs.declared.ending.SessionStatus.{SessionStatus}
 use Rattle.bq_run_session.specs.declared.session.Session.{Session}
 

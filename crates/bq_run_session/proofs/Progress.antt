@@ -1,5 +1,5 @@
 -- The queries that were answered so far, and those that are left.
-use Rattle.std.proofs.Common.{◌≡◌, ◌++◌, ◌||◌, ℕ, Bool, false, List, [], ◌∷◌, Option, None, Some, Result, Ok, Err, take, refl, sym, ap, ◌∙◌, append_assoc, append-nil, subst, ◌⊎◌, inl, inr}
+use Rattle.std.proofs.Common.{◌≡◌, ◌++◌, ◌||◌, ℕ, Bool, false, List, [], ◌∷◌, Option, None, Some, Ok, Err, refl, sym, ap, ◌∙◌, append_assoc, append-nil, subst, ◌⊎◌, inl, inr}
 use Rattle.std.specs.Prelude.{IfSome, IsErrOf}
 use Rattle.std.specs.Io.KnownBytes.{Appends, Keeps}
 use Rattle.bq_run.specs.Bundle.{lines}
@@ -11,7 +11,7 @@ use Rattle.bq_run_report.specs.Report.{ReplyView}
 use Rattle.bq_run_report.specs.declared.ending.Status.{Status}
 use Rattle.bq_run_session.specs.Answer.{AreAnswered}
 use Rattle.bq_run_session.specs.Block.{block, is_refused}
-use Rattle.bq_run_session.specs.Outcome.{Answers, Covers, EndsIn, session_status}
+use Rattle.bq_run_session.specs.Outcome.{Answers, Covers, session_status}
 use Rattle.bq_run_session.specs.Queries.{max_queries_bytes, queries_in, queries_of}
 use Rattle.bq_run_session.specs.Reading.{HasNoQuery, TakesQuery, ahead}
 use Rattle.bq_run_session.specs.Steps.{AnswersOne}

@@ -1,6 +1,5 @@
 -- What a session answers is what a run with the query alone reports.
-use Rattle.std.proofs.Common.{◌≡◌, ◌≤◌, ℕ, List, [], Err, refl, sym, subst, inl, inr, length}
-use Rattle.bq_label.specs.declared.workspace.File.{File}
+use Rattle.std.proofs.Common.{◌≤◌, ℕ, List, [], Err, refl, sym, subst, inl, inr, length}
 use Rattle.bq_query.specs.declared.print.OutputForm.{OutputForm}
 use Rattle.bq_query_check.specs.Checked.{IsChecked, IsWrong}
 use Rattle.bq_query_check.specs.Formula.{formula_of}
@@ -12,9 +11,9 @@ use Rattle.bq_run_report.specs.declared.ending.NoAnswer.{NoAnswer}
 use Rattle.bq_run_report.specs.declared.ending.NoAnswer.TheVariants.{Query}
 use Rattle.bq_run_report.specs.declared.ending.Status.{Status}
 use Rattle.bq_run.specs.WorkspaceRun.{IsReportOn, loaded_in}
-use Rattle.bq_run_session.specs.Answer.{IsAnswerTo, IsLoadedAs, Asks}
+use Rattle.bq_run_session.specs.Answer.{IsAnswerTo}
 use Rattle.bq_run_session.specs.Queries.{max_query_bytes}
-use Rattle.bq_run_session.specs.Session.{IsAnswerIn, IsOver}
+use Rattle.bq_run_session.specs.Session.{IsAnswerIn}
 use Rattle.bq_run_session.specs.declared.session.Session.{Session}
 
 pub answered : (s : Session) (form : OutputForm) (text : List ℕ) (query : CheckedQuery) (reply : ReplyView) → length text ≤ max_query_bytes → IsChecked text query

@@ -1,5 +1,5 @@
 -- A text of queries: a query a line.
-use Rattle.std.specs.Prelude.{ℕ, ◌+◌, ◌-◌, ◌^◌, ◌==◌, Bool, true, List, [], ◌∷◌, take, if◌then◌else◌}
+use Rattle.std.specs.Prelude.{ℕ, ◌-◌, ◌^◌, ◌==◌, Bool, true, List, [], ◌∷◌, take, if◌then◌else◌}
 use Rattle.bq_run.specs.Bundle.{lines}
 
 -- the text without its last byte, if that is `b`

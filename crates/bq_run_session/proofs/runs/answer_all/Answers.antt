@@ -1,6 +1,5 @@
 use Rattle.std.proofs.Common.{◌∙◌, refl, subst, sym}
 use Rattle.std.proofs.lemmas.Result.{err_from_is_err_and}
-use Rattle.bq_run_session.specs.Block.{block}
 use Rattle.bq_run_session.specs.Reading.{TakesQuery, ahead}
 use Rattle.bq_run_session.specs.Session.{IsAnswerIn}
 use Rattle.bq_run_session.proofs.Progress.{at_first, not_err, one_more, one_not_answered}
