@@ -11,6 +11,9 @@ use clap::error::ErrorKind;
 use clap::{Arg, ArgAction, ArgMatches, Command, Error, value_parser};
 use std::alloc::{AllocError, Global};
 
+/// How the program is called. `--queries` takes the place of a query, which is needed else.
+const USAGE: &str = "bq [OPTIONS] <QUERY>\n       bq [OPTIONS] --queries <FILE>";
+
 /// What `--help` prints after the options.
 const NOTES: &str =
     r#"Without --dir and --bundle the workspace is read from standard input, as a bundle: for each file a line
@@ -72,11 +75,12 @@ fn command<'a>(alloc: Global) -> Result<Command<'a>, AllocError> {
     let query = Arg::new(alloc, "query")
         .value_name("QUERY")
         .help("The query, as //package:name or deps(//...)")
-        .action(ArgAction::Set)
-        .required_unless_present("queries")?;
+        .required(true)
+        .action(ArgAction::Set);
     let command = Command::new(alloc, "bq")
         .version(VERSION)
         .about("Answers a query over the targets of a workspace of BUILD files")
+        .override_usage(USAGE)
         .after_help(NOTES);
     with_options(alloc, command)?
         .arg(directory)?

@@ -48,7 +48,8 @@ abbrev pub WritesUpTo : Result SessionStatus RunErr → List ℕ → Option (Lis
 WritesUpTo (Err run.Write) text old new = Begins old new text
 WritesUpTo result text old new = Appends old new text
 
--- Of the queries in `text`, these were answered, and their blocks written: the writer held `old` before and `new` after.
+-- These queries were answered, and their blocks are the text: `known` is what the reader of queries had, if it is known, and the writer
+-- held `old` before and `new` after.
 pub record Answers (IsAnswer : List ℕ → ReplyView → Type 0) (status : Status) (known : Option (List ℕ)) (result : Result SessionStatus RunErr) (old new : Option (List ℕ)) : Type 0 where
   pub queries : List (List ℕ)
   pub text : List ℕ

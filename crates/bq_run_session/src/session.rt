@@ -2,13 +2,12 @@
 
 ghost use Rattle.std.specs.Prelude.{◌≡◌, ◌≤◌, [], Ok, Err, IfOk, length};
 ghost use Rattle.bq_load_discover.specs.Schema.{schema_in};
-ghost use Rattle.bq_query_check.specs.Checked.{IsChecked, IsWrong};
+ghost use Rattle.bq_query_check.specs.Formula.{formula_of};
 ghost use Rattle.bq_query_target_graph.specs.Order.{PackagesAscend};
 ghost use Rattle.bq_run_report.specs.Ending.{status_by};
 ghost use Rattle.bq_run_report.specs.Report.{Replies, inside};
-ghost use Rattle.bq_run_report.specs.declared.ending.NoAnswer.TheVariants.{Query};
-ghost use Rattle.bq_query_check.specs.Formula.{formula_of};
 ghost use Rattle.bq_run.specs.Run.{IsInRange};
+ghost use Rattle.bq_run_session.specs.Queries.{max_query_bytes};
 ghost use Rattle.bq_run_session.specs.Session.{IsAnswerIn, IsOver, Opens, reply_view};
 
 use crate::queries::MAX_QUERY_BYTES;
@@ -164,7 +163,7 @@ fn reply_to_text(
     query: &[u8],
     form: OutputForm,
 ) -> Result<Reply, AllocError>
-    requires { length query.now ≤ 1048576 }
+    requires { length query.now ≤ max_query_bytes }
     ensures { IfOk result (λ r. IsAnswerIn session.now form query.now (reply_view r)) }
 {
     match parse_query(alloc, query) {
