@@ -3,7 +3,7 @@ use Rattle.std.proofs.Common.{◌≡◌, ◌≢◌, ◌∙◌, ◌<◌, ◌≤�
 use Rattle.std.proofs.lemmas.Bool.{cases_lt}
 use Rattle.bq_resolve_scope.specs.Names.{Name}
 use Rattle.bq_resolve_scope.specs.declared.code.Resolved.{Resolved}
-use Rattle.bq_value.specs.Cells.{StoreView, FrozenView, module_at, cell_of, content_at, frozen_at, frozen}
+use Rattle.bq_value.specs.Cells.{StoreView, FrozenView, module_at, cell_of, content_at, frozen_at, frozen, loading}
 use Rattle.bq_value.specs.Datum.{Datum}
 use Rattle.bq_builtin_machine.specs.Action.{Run, done, stopped}
 use Rattle.bq_builtin_machine.specs.State.{State, started}
@@ -11,7 +11,7 @@ use Rattle.bq_eval_meaning_spec.specs.Frame.{Frame}
 use Rattle.bq_eval_meaning_spec.specs.Module.{module_meaning, frozen_units}
 use Rattle.bq_eval_operations.specs.Calling.{HostCalls}
 use Rattle.bq_eval_operations.specs.Runtime.{primitives}
-use Rattle.bq_eval.specs.Module.{Ended, evaluated, failed, loading, first_store, frozen_values, ended, module_run}
+use Rattle.bq_eval.specs.Module.{Ended, evaluated, failed, first_store, frozen_values, ended, module_run}
 use Rattle.bq_eval_meaning_laws.proofs.ModuleRules.{module_rule}
 use Rattle.bq_eval_laws.specs.Files.{HostTakes, prints_of, EndsShort, FileTakes, FrozenAre, ends, FilesTakeTheirSteps, OtherModulesStay}
 use Rattle.bq_builtin_step_laws.specs.Steps.{hosted, leaving, printed, IsCutShort, Stays, Leaves, Takes}
