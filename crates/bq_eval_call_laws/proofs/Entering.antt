@@ -1,20 +1,16 @@
 -- In which order a function becomes active.
-use Rattle.std.proofs.Common.{◌≡◌, refl, ℕ, inl, inr, List, length, Option}
+use Rattle.std.proofs.Common.{◌≡◌, refl, ℕ, inl, inr, length}
 use Rattle.std.specs.Prelude.{nat_lt}
 use Rattle.bq_base.proofs.Choices.{by_bool}
-use Rattle.bq_resolve_scope.specs.declared.code.CodeFunction.{CodeFunction}
-use Rattle.bq_value.specs.Datum.{Datum}
 use Rattle.bq_builtin_machine.specs.Action.{done, stopped}
-use Rattle.bq_builtin_machine.specs.Args.{Passed}
 use Rattle.bq_builtin_machine.specs.Calls as machine
 use Rattle.bq_builtin_machine.specs.Calls.{is_active, enter}
 use Rattle.bq_builtin_machine.specs.State.{State, Stop}
 use Rattle.bq_eval_meaning_spec.specs.Calls as meaning
-use Rattle.bq_eval_meaning_spec.specs.Calls.{CodeUnit, entry, call_function}
+use Rattle.bq_eval_meaning_spec.specs.Calls.{call_function}
 use Rattle.bq_eval_meaning_spec.specs.Frame.{Frame}
-use Rattle.bq_eval_meaning_spec.specs.Primitives.{Primitives}
-use Rattle.bq_eval_meaning_spec.specs.Trees.{Calls}
 use Rattle.bq_builtin_refusal_laws.specs.Refusals.{IsRefusedForFirst}
+use Rattle.bq_eval_call_laws.specs.Entered.{Call, entered, activated, called}
 use Rattle.bq_eval_call_laws.specs.Orders.{entering}
 
 pub entered_in_order : (home place : ℕ) (s : State) → IsRefusedForFirst (enter home place s) (entering s home place)
@@ -27,12 +23,12 @@ entered_in_order home place s = elim (by_bool (is_active home place s.active)) [
   ]
 ]
 
-module _ (S : Type 0) (m : Primitives S) (inner : Option (Calls S)) (home place : ℕ) (u : CodeUnit) (d : CodeFunction) (ds : List Datum) (p : Passed) where
-  pub arguments_first : (s : S) (why : Stop) → entry m d ds p s ≡ stopped why → call_function m inner home place u d ds p s ≡ stopped why
+module _ (S : Type 0) (x : Call S) where
+  pub arguments_first : (s : S) (why : Stop) → entered x s ≡ stopped why → called x s ≡ stopped why
   unfolding call_function
   arguments_first s why h = rw h refl
 
-  pub activity_second : (s t : S) (env : Frame) (why : Stop) → entry m d ds p s ≡ done env t → m.enter home place t ≡ stopped why → call_function m inner home place u d ds p s ≡ stopped why
+  pub activity_second : (s t : S) (env : Frame) (why : Stop) → entered x s ≡ done env t → activated x t ≡ stopped why → called x s ≡ stopped why
   unfolding call_function
   activity_second s t env why h k = rw (h, k) refl
 

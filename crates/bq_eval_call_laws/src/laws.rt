@@ -1,10 +1,8 @@
 //! What holds of calls. The functions do nothing: their contracts are the laws.
 
-ghost use Rattle.std.specs.Prelude.{◌≡◌, ℕ, List, Option, Err};
+ghost use Rattle.std.specs.Prelude.{◌≡◌, ℕ, Err};
 ghost use Rattle.bq_base.specs.declared.fault.FaultKind.{FaultKind};
 ghost use Rattle.bq_base.specs.declared.fault.FaultKind.TheVariants.{Args};
-ghost use Rattle.bq_resolve_scope.specs.declared.code.CodeFunction.{CodeFunction};
-ghost use Rattle.bq_value.specs.Datum.{Datum};
 ghost use Rattle.bq_builtin_machine.specs.Action.{done, stopped};
 ghost use Rattle.bq_builtin_machine.specs.Args.{Passed};
 ghost use Rattle.bq_builtin_machine.specs.Binding.{bind};
@@ -13,11 +11,9 @@ ghost use Rattle.bq_builtin_machine.specs.Calls.{enter};
 ghost use Rattle.bq_builtin_machine.specs.Parameters.{SignatureView};
 ghost use Rattle.bq_builtin_machine.specs.State.{State, Stop};
 ghost use Rattle.bq_eval_meaning_spec.specs.Calls as meaning;
-ghost use Rattle.bq_eval_meaning_spec.specs.Calls.{CodeUnit, entry, call_function};
 ghost use Rattle.bq_eval_meaning_spec.specs.Frame.{Frame};
-ghost use Rattle.bq_eval_meaning_spec.specs.Primitives.{Primitives};
-ghost use Rattle.bq_eval_meaning_spec.specs.Trees.{Calls};
 ghost use Rattle.bq_builtin_refusal_laws.specs.Refusals.{IsRefusedForFirst};
+ghost use Rattle.bq_eval_call_laws.specs.Entered.{Call, entered, activated, called};
 ghost use Rattle.bq_eval_call_laws.specs.Misfits.{IsMisfit};
 ghost use Rattle.bq_eval_call_laws.specs.Orders.{entering};
 
@@ -39,8 +35,8 @@ pub fn functions_are_entered_in_order()
 /// however many are. A function that may not become active (F50, F51) runs no statement.
 #[tactic(auto, using(crate::proofs::Entering::arguments_first, crate::proofs::Entering::activity_second))]
 pub fn arguments_come_before_activity<S>()
-    ensures arguments { (m : Primitives S) (inner : Option (Calls S)) (home place : ℕ) (u : CodeUnit) (d : CodeFunction) (ds : List Datum) (p : Passed) (s : S) (why : Stop) → entry m d ds p s ≡ stopped why → call_function m inner home place u d ds p s ≡ stopped why }
-    ensures activity { (m : Primitives S) (inner : Option (Calls S)) (home place : ℕ) (u : CodeUnit) (d : CodeFunction) (ds : List Datum) (p : Passed) (s t : S) (env : Frame) (why : Stop) → entry m d ds p s ≡ done env t → m.enter home place t ≡ stopped why → call_function m inner home place u d ds p s ≡ stopped why }
+    ensures arguments { (x : Call S) (s : S) (why : Stop) → entered x s ≡ stopped why → called x s ≡ stopped why }
+    ensures activity { (x : Call S) (s t : S) (env : Frame) (why : Stop) → entered x s ≡ done env t → activated x t ≡ stopped why → called x s ≡ stopped why }
 {}
 
 /// At most 100 functions are active, for the machine and for what programs mean.

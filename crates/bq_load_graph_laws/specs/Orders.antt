@@ -1,5 +1,5 @@
 -- In which order a load is refused for the file that it names (ours: the order).
-use Rattle.std.specs.Prelude.{ℕ, not, List, [], ◌∷◌, Option, Some, None, Result, Ok, Err, is_some}
+use Rattle.std.specs.Prelude.{◌≡◌, ℕ, not, List, [], ◌∷◌, Option, Some, None, Result, Ok, Err, is_some}
 use Rattle.bq_base.specs.declared.fault.Fault.{Fault}
 use Rattle.bq_base.specs.declared.fault.FaultKind.TheVariants.{BadLoadLabel, NoSuchFile, NoPackage, CrossesPackage}
 use Rattle.bq_label.specs.declared.workspace.File.{File}
@@ -27,3 +27,7 @@ loading files packages own text = when (not (is_some (bzl_label own text))) BadL
 abbrev pub fault_of_load : Result LabelParts Fault → Check
 fault_of_load (Ok l) = None
 fault_of_load (Err why) = Some why.kind
+
+-- a load names no file for the first fault that these checks find, and names one where they find none
+abbrev pub LoadFailsForFirst : Result LabelParts Fault → List Check → Type 0
+LoadFailsForFirst load checks = fault_of_load load ≡ first_fault checks

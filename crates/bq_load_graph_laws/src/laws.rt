@@ -9,12 +9,11 @@ ghost use Rattle.bq_load_front.specs.Front.{front_of};
 ghost use Rattle.bq_load_front.specs.Inputs.{InputParts};
 ghost use Rattle.bq_load_discover.specs.LoadGraph.{GraphParts, IsLoadGraph};
 ghost use Rattle.bq_load_label.specs.NamedFile.{load_label};
-ghost use Rattle.bq_builtin_refusal_laws.specs.Refusals.{first_fault};
-ghost use Rattle.bq_load_graph_laws.specs.Orders.{fault_of_load, loading};
+ghost use Rattle.bq_load_graph_laws.specs.Orders.{LoadFailsForFirst, loading};
 
 /// A load is refused for the first of the reasons that are listed, and for nothing else: F30, F32, F37, F31.
 pub fn loads_are_refused_in_order()
-    ensures { (files : List File) (packages : List BuildFile) (own : PackageParts) (line : ℕ) (text : List ℕ) → fault_of_load (load_label files packages own line text) ≡ first_fault (loading files packages own text) }
+    ensures { (files : List File) (packages : List BuildFile) (own : PackageParts) (line : ℕ) (text : List ℕ) → LoadFailsForFirst (load_label files packages own line text) (loading files packages own text) }
 {}
 
 /// In the load graph of a workspace, a module whose file has a fault of its own, or a bad load, loads nothing, not even

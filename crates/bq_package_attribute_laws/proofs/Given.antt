@@ -4,14 +4,11 @@ use Rattle.std.specs.Prelude.{not, ◌||◌, slice_index_or}
 use Rattle.std.specs.List.{Contains, list_all}
 use Rattle.bq_base.specs.declared.fault.FaultKind.TheVariants as f
 use Rattle.bq_base.proofs.Choices.{left_of, right_of}
-use Rattle.bq_label.specs.declared.packages.BuildFile.{BuildFile}
-use Rattle.bq_label.specs.Label.{PackageParts, LabelParts}
+use Rattle.bq_label.specs.Label.{LabelParts}
 use Rattle.bq_label.proofs.Orders.{at_head, in_tail}
 use Rattle.bq_package_rule_class.specs.Class.{Class}
-use Rattle.bq_package_rule_class.specs.declared.attribute.Attribute.{Attribute}
 use Rattle.bq_package_target.specs.declared.target.Target.{Target}
 use Rattle.bq_package_target.specs.declared.value.GivenAttribute.{GivenAttribute}
-use Rattle.bq_value.specs.Cells.{StoreView}
 use Rattle.bq_value.specs.Datum.{Datum, none, string}
 use Rattle.bq_value.specs.Pairs.{found}
 use Rattle.bq_value.specs.Same.{same}
@@ -22,7 +19,8 @@ use Rattle.bq_package_typed_value.proofs.Steps.{both_ok}
 use Rattle.bq_package_attributes.specs.Arguments.{nothing_given, is_none, keyword, with_arguments}
 use Rattle.bq_package_attributes.specs.Declarations.{keywords_alone, is_value, is_met, gives, gives_mandatory, defaults, if_whole, target, declaration}
 use Rattle.bq_package_attributes.proofs.Keywords.{keywords_keep_their_order}
-use Rattle.bq_package_attribute_laws.specs.Given.{IsGivenBy}
+use Rattle.bq_package_attribute_laws.specs.CallPlace.{CallPlace, target_declared}
+use Rattle.bq_package_attribute_laws.specs.Given.{IsGivenBy, EachMandatoryIsGiven}
 
 -- ---- an argument that is there
 
@@ -69,15 +67,14 @@ whole_by whole rule class line None gs t h = absurd (cc)
 whole_by true rule class line (Some l) gs t h = refl
 whole_by false rule class line (Some l) gs t h = absurd (cc)
 
-pub each_is_given : (own : PackageParts) (packages : List BuildFile) (store : StoreView) (class : Class) (rule : List ℕ) (line : ℕ) (passed : Passed) (t : Target) → declaration own packages store class rule line passed ≡ Ok t
-    → (e : List ℕ × Attribute) → Contains class e → e.1.is_mandatory ≡ true → IsGivenBy passed.named e.0
+pub each_is_given : (x : CallPlace) (rule : List ℕ) (line : ℕ) (passed : Passed) (t : Target) → target_declared x rule line passed ≡ Ok t → EachMandatoryIsGiven x.class passed.named
 unfolding declaration target gives_mandatory
-each_is_given own packages store class rule line passed t h e known must =
-    let r = both_ok (bind keywords_alone passed) (λ b. target own packages store class rule line b.keywords) t h in
+each_is_given x rule line passed t h e known must =
+    let r = both_ok (bind keywords_alone passed) (λ b. target x.own x.packages x.store x.class rule line b.keywords) t h in
     let kw = r.0.keywords in
-    let q = both_ok (with_arguments own packages store class nothing_given kw) (λ g. if_whole (gives_mandatory class kw) rule class line g.name (g.attributes ++ defaults kw class)) t r.2 in
-    let whole = whole_by (gives_mandatory class kw) rule class line q.0.name (q.0.attributes ++ defaults kw class) t q.2 in
-    let met = met_at (is_met kw) class e known.0 whole known.1 known.2 in
+    let q = both_ok (with_arguments x.own x.packages x.store x.class nothing_given kw) (λ g. if_whole (gives_mandatory x.class kw) rule x.class line g.name (g.attributes ++ defaults kw x.class)) t r.2 in
+    let whole = whole_by (gives_mandatory x.class kw) rule x.class line q.0.name (q.0.attributes ++ defaults kw x.class) t q.2 in
+    let met = met_at (is_met kw) x.class e known.0 whole known.1 known.2 in
     let is : gives kw e.0 ≡ true = given_if e.1.is_mandatory (gives kw e.0) must met in
     let order : kw ≡ map pair passed.named = keywords_keep_their_order passed r.0 r.1 in
     given_by passed.named e.0 (subst (λ (ks : List (Datum × Datum)). is_value (found (string e.0) ks) ≡ true) order is)

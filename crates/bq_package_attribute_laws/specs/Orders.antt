@@ -18,6 +18,7 @@ use Rattle.bq_package_typed_value.specs.Values.{value_as}
 use Rattle.bq_package_attributes.specs.Arguments.{nothing_given, is_none, keyword, with_arguments}
 use Rattle.bq_package_attributes.specs.Declarations.{keywords_alone, gives_mandatory}
 use Rattle.bq_builtin_refusal_laws.specs.Refusals.{Check, when, fault_in, fault_then}
+use Rattle.bq_package_attribute_laws.specs.CallPlace.{CallPlace}
 
 -- F71: the rule has no attribute of that name
 abbrev pub no_attribute : Class → List ℕ → Check
@@ -29,22 +30,22 @@ bad_value own packages store None v = None
 bad_value own packages store (Some type) v = cond (is_none v) None (fault_in (value_as own packages store type v))
 
 -- an argument of a call of a rule, but for its name
-abbrev pub giving : PackageParts → List BuildFile → StoreView → Class → Datum × Datum → List Check
-giving own packages store class argument =
-    no_attribute class (keyword argument.0) ∷ bad_value own packages store (attribute_type class (keyword argument.0)) argument.1 ∷ []
+abbrev pub giving : CallPlace → Datum × Datum → List Check
+giving x argument =
+    no_attribute x.class (keyword argument.0) ∷ bad_value x.own x.packages x.store (attribute_type x.class (keyword argument.0)) argument.1 ∷ []
 
 -- the name: a string (F73) that names a target of the package (F75, F37)
-abbrev pub naming : PackageParts → List BuildFile → Datum → List Check
-naming own packages v = cond (is_none v) [] (fault_in (text_in f.AttributeType v) ∷ fault_then (text_in f.AttributeType v) (λ text. fault_in (label own packages k.Name text)) ∷ [])
+abbrev pub naming : CallPlace → Datum → List Check
+naming x v = cond (is_none v) [] (fault_in (text_in f.AttributeType v) ∷ fault_then (text_in f.AttributeType v) (λ text. fault_in (label x.own x.packages k.Name text)) ∷ [])
 
 -- F72: neither the name nor an attribute that has to be given is missing
 abbrev pub missing : Class → List (Datum × Datum) → Given → Check
 missing class keywords g = when (not (is_some g.name && gives_mandatory class keywords)) f.MissingAttribute
 
 -- a call of a rule: the form of its arguments (F52), what is wrong with one of them, and what is missing
-abbrev pub declaring : PackageParts → List BuildFile → StoreView → Class → Passed → List Check
-declaring own packages store class passed =
+abbrev pub declaring : CallPlace → Passed → List Check
+declaring x passed =
     fault_in (bind keywords_alone passed)
-    ∷ fault_then (bind keywords_alone passed) (λ b. fault_in (with_arguments own packages store class nothing_given b.keywords))
-    ∷ fault_then (bind keywords_alone passed) (λ b. fault_then (with_arguments own packages store class nothing_given b.keywords) (missing class b.keywords))
+    ∷ fault_then (bind keywords_alone passed) (λ b. fault_in (with_arguments x.own x.packages x.store x.class nothing_given b.keywords))
+    ∷ fault_then (bind keywords_alone passed) (λ b. fault_then (with_arguments x.own x.packages x.store x.class nothing_given b.keywords) (missing x.class b.keywords))
     ∷ []

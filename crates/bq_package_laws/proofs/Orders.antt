@@ -26,7 +26,7 @@ use Rattle.bq_package.specs.Groups.{group_named}
 use Rattle.bq_package.specs.Place.{PlaceView}
 use Rattle.bq_package.specs.Rules.{declared_target, rule_target}
 use Rattle.bq_builtin_refusal_laws.specs.Refusals.{Check, when, first_fault, fault_of, fault_in, fault_then, IsRefusedForFirst, FailsForFirst}
-use Rattle.bq_package_laws.specs.Orders.{taken, requesting, globbing, naming_files}
+use Rattle.bq_package_laws.specs.Orders.{taken, then_taken, adding, target_of, requesting, globbing, naming_files}
 
 -- ---- `glob`
 
@@ -99,7 +99,7 @@ module _ (d : Declaring) (s : State) where
   settled_fault (Accepted q) = refl
   settled_fault (Refused q) = refl
 
-  declared_in_order : {A : Type 0} (r : Result A FaultKind) (declare : A → Declared) → fault_of (declares s d r declare) ≡ first_fault (fault_in r ∷ fault_then r (λ a. taken (declare a)) ∷ [])
+  declared_in_order : {A : Type 0} (r : Result A FaultKind) (declare : A → Declared) → fault_of (declares s d r declare) ≡ first_fault (then_taken r declare)
   declared_in_order (Err why) declare = refl
   declared_in_order (Ok a) declare = settled_fault (declare a) ∙ last (taken (declare a))
     where
@@ -107,18 +107,18 @@ module _ (d : Declaring) (s : State) where
       last None = refl
       last (Some kind) = refl
 
-  pub rule_in_order : (rule : ℕ) (passed : Passed) → IsRefusedForFirst (call_in d s (f.Rule rule) passed) (fault_in (rule_target d.place s.store s.line rule passed) ∷ fault_then (rule_target d.place s.store s.line rule passed) (λ t. taken (declared d.package t)) ∷ [])
+  pub rule_in_order : (rule : ℕ) (passed : Passed) → IsRefusedForFirst (call_in d s (f.Rule rule) passed) (adding d (rule_target d.place s.store s.line rule passed))
   unfolding call_in
   rule_in_order rule passed = declared_in_order (rule_target d.place s.store s.line rule passed) (declared d.package)
 
   pub declared_rule_in_order : (rule : List ℕ) (class : Class) (passed : Passed)
-      → IsRefusedForFirst (rule_by s (declaring d) rule class passed) (fault_in (declared_target d.place s.store s.line rule class passed) ∷ fault_then (declared_target d.place s.store s.line rule class passed) (λ t. taken (declared d.package t)) ∷ [])
+      → IsRefusedForFirst (rule_by s (declaring d) rule class passed) (adding d (target_of d s rule class passed))
   declared_rule_in_order rule class passed = declared_in_order (declared_target d.place s.store s.line rule class passed) (declared d.package)
 
-  pub group_in_order : (passed : Passed) → IsRefusedForFirst (call_in d s f.PackageGroup passed) (fault_in (group_named d.place s.store s.line passed) ∷ fault_then (group_named d.place s.store s.line passed) (λ t. taken (declared d.package t)) ∷ [])
+  pub group_in_order : (passed : Passed) → IsRefusedForFirst (call_in d s f.PackageGroup passed) (adding d (group_named d.place s.store s.line passed))
   unfolding call_in
   group_in_order passed = declared_in_order (group_named d.place s.store s.line passed) (declared d.package)
 
-  pub exports_in_order : (passed : Passed) → IsRefusedForFirst (call_in d s f.ExportsFiles passed) (fault_in (files_named d.place s.store passed) ∷ fault_then (files_named d.place s.store passed) (λ ls. taken (exported d.package ls s.line)) ∷ [])
+  pub exports_in_order : (passed : Passed) → IsRefusedForFirst (call_in d s f.ExportsFiles passed) (then_taken (files_named d.place s.store passed) (λ ls. exported d.package ls s.line))
   unfolding call_in
   exports_in_order passed = declared_in_order (files_named d.place s.store passed) (λ ls. exported d.package ls s.line)

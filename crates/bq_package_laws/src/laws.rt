@@ -1,13 +1,13 @@
 //! What holds of calls of build functions. The functions do nothing: their contracts are the laws.
 
-ghost use Rattle.std.specs.Prelude.{◌≡◌, ◌∷◌, [], ℕ, List, Err, true, false};
+ghost use Rattle.std.specs.Prelude.{◌≡◌, ℕ, List, Err, true, false};
 ghost use Rattle.bq_base.specs.declared.fault.FaultKind.{FaultKind};
 ghost use Rattle.bq_base.specs.declared.fault.FaultKind.TheVariants.{GlobEmpty};
 ghost use Rattle.bq_package_rule_class.specs.Class.{Class};
 ghost use Rattle.bq_value.specs.Cells.{StoreView};
 ghost use Rattle.bq_builtin_machine.specs.Args.{Passed};
 ghost use Rattle.bq_builtin_machine.specs.State.{State};
-ghost use Rattle.bq_package_target.specs.Calls.{declared, exported};
+ghost use Rattle.bq_package_target.specs.Calls.{exported};
 ghost use Rattle.bq_resolve_predeclared.specs.declared.host_function.HostFunction.TheVariants as f;
 ghost use Rattle.bq_package.specs.declared.glob.GlobRequest.{GlobRequest};
 ghost use Rattle.bq_package.specs.Calls.{Declaring, declaring, call_in, rule_by};
@@ -15,11 +15,11 @@ ghost use Rattle.bq_package.specs.Files.{files_named};
 ghost use Rattle.bq_package.specs.Glob.{found, globbed};
 ghost use Rattle.bq_package.specs.Groups.{group_named};
 ghost use Rattle.bq_package.specs.Place.{PlaceView};
-ghost use Rattle.bq_package.specs.Rules.{declared_target, rule_target};
-ghost use Rattle.bq_builtin_refusal_laws.specs.Refusals.{fault_in, fault_then, IsRefusedForFirst, FailsForFirst};
+ghost use Rattle.bq_package.specs.Rules.{rule_target};
+ghost use Rattle.bq_builtin_refusal_laws.specs.Refusals.{IsRefusedForFirst, FailsForFirst};
 ghost use Rattle.bq_package_laws.specs.Defaults.{DefaultsAreTakenAsValues};
 ghost use Rattle.bq_package_laws.specs.Nothing.{GivesNothing};
-ghost use Rattle.bq_package_laws.specs.Orders.{taken, globbing, naming_files};
+ghost use Rattle.bq_package_laws.specs.Orders.{then_taken, adding, target_of, globbing, naming_files};
 
 /// `glob` and `exports_files` are refused for the first of the reasons that are listed, and for nothing else.
 pub fn build_functions_are_refused_in_order()
@@ -30,10 +30,10 @@ pub fn build_functions_are_refused_in_order()
 /// A call that declares targets is refused for its arguments before a name that is taken (F74), also of a rule that a .bzl file
 /// declares.
 pub fn declarations_are_refused_in_order()
-    ensures rule { (d : Declaring) (s : State) (rule : ℕ) (passed : Passed) → IsRefusedForFirst (call_in d s (f.Rule rule) passed) (fault_in (rule_target d.place s.store s.line rule passed) ∷ fault_then (rule_target d.place s.store s.line rule passed) (λ t. taken (declared d.package t)) ∷ []) }
-    ensures declared_rule { (d : Declaring) (s : State) (rule : List ℕ) (class : Class) (passed : Passed) → IsRefusedForFirst (rule_by s (declaring d) rule class passed) (fault_in (declared_target d.place s.store s.line rule class passed) ∷ fault_then (declared_target d.place s.store s.line rule class passed) (λ t. taken (declared d.package t)) ∷ []) }
-    ensures package_group { (d : Declaring) (s : State) (passed : Passed) → IsRefusedForFirst (call_in d s f.PackageGroup passed) (fault_in (group_named d.place s.store s.line passed) ∷ fault_then (group_named d.place s.store s.line passed) (λ t. taken (declared d.package t)) ∷ []) }
-    ensures exports_files { (d : Declaring) (s : State) (passed : Passed) → IsRefusedForFirst (call_in d s f.ExportsFiles passed) (fault_in (files_named d.place s.store passed) ∷ fault_then (files_named d.place s.store passed) (λ ls. taken (exported d.package ls s.line)) ∷ []) }
+    ensures rule { (d : Declaring) (s : State) (rule : ℕ) (passed : Passed) → IsRefusedForFirst (call_in d s (f.Rule rule) passed) (adding d (rule_target d.place s.store s.line rule passed)) }
+    ensures declared_rule { (d : Declaring) (s : State) (rule : List ℕ) (class : Class) (passed : Passed) → IsRefusedForFirst (rule_by s (declaring d) rule class passed) (adding d (target_of d s rule class passed)) }
+    ensures package_group { (d : Declaring) (s : State) (passed : Passed) → IsRefusedForFirst (call_in d s f.PackageGroup passed) (adding d (group_named d.place s.store s.line passed)) }
+    ensures exports_files { (d : Declaring) (s : State) (passed : Passed) → IsRefusedForFirst (call_in d s f.ExportsFiles passed) (then_taken (files_named d.place s.store passed) (λ ls. exported d.package ls s.line)) }
 {}
 
 /// If its result may not be empty, a call of `glob` is F76 exactly if one of its patterns alone matches no file of the
