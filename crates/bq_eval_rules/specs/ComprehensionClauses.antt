@@ -33,13 +33,13 @@ module _ {S R C F : Type 0} (m : Primitives S) (seen : R → S) (e : Evaluator R
   abbrev pub OpensLoop : Turn S → Frame → Contents → R → Result (Option OpenLoop) EvalErr → Frame → Contents → R → Type 0
   OpensLoop whole frame content old result changed filled new =
       Leaves m (λ inner. inner_left m (evals_in m e) (element_in m e comprehension) (inner_of inner) changed filled (seen new))
-          result (seen new) (whole frame content (seen old))
+      result (seen new) (whole frame content (seen old))
 
   -- such a call left as many turns and ends of loops to its loop as there are in the turn
   abbrev pub CountsLoop : Count S → Frame → Contents → R → Result (Option OpenLoop) EvalErr → Frame → Contents → R → Type 0
   CountsLoop whole frame content old result changed filled new =
       IfOk result (λ inner. whole frame content (seen old)
-          ≡ inner_count m (evals_in m e) (element_in m e comprehension) (inner_of inner) changed filled (seen new))
+      ≡ inner_count m (evals_in m e) (element_in m e comprehension) (inner_of inner) changed filled (seen new))
 
   -- these two of a call that runs clauses, which leave the frame as it is
   abbrev pub ClausesOpen : List CodeClause → Frame → Contents → R → Result (Option OpenLoop) EvalErr → Contents → R → Type 0
