@@ -10,7 +10,7 @@ use Rattle.bq_eval_meaning_spec.specs.Calls as meaning
 use Rattle.bq_eval_meaning_spec.specs.Calls.{call_function}
 use Rattle.bq_eval_meaning_spec.specs.Frame.{Frame}
 use Rattle.bq_builtin_refusal_laws.specs.Refusals.{IsRefusedForFirst}
-use Rattle.bq_eval_call_laws.specs.Entered.{Call, entered, activated, called}
+use Rattle.bq_eval_call_laws.specs.Entered.{CodeCall, entered, activated, whole_call}
 use Rattle.bq_eval_call_laws.specs.Orders.{entering}
 
 pub entered_in_order : (home place : ℕ) (s : State) → IsRefusedForFirst (enter home place s) (entering s home place)
@@ -23,12 +23,12 @@ entered_in_order home place s = elim (by_bool (is_active home place s.active)) [
   ]
 ]
 
-module _ (S : Type 0) (x : Call S) where
-  pub arguments_first : (s : S) (why : Stop) → entered x s ≡ stopped why → called x s ≡ stopped why
+module _ (S : Type 0) (x : CodeCall S) where
+  pub arguments_first : (s : S) (why : Stop) → entered x s ≡ stopped why → whole_call x s ≡ stopped why
   unfolding call_function
   arguments_first s why h = rw h refl
 
-  pub activity_second : (s t : S) (env : Frame) (why : Stop) → entered x s ≡ done env t → activated x t ≡ stopped why → called x s ≡ stopped why
+  pub activity_second : (s t : S) (env : Frame) (why : Stop) → entered x s ≡ done env t → activated x t ≡ stopped why → whole_call x s ≡ stopped why
   unfolding call_function
   activity_second s t env why h k = rw (h, k) refl
 

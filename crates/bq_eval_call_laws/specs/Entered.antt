@@ -10,7 +10,7 @@ use Rattle.bq_eval_meaning_spec.specs.Primitives.{Primitives}
 use Rattle.bq_eval_meaning_spec.specs.Trees.{Calls}
 
 -- The function has a module, its place there, its code and the values of its defaults. `inner` are the calls that its body may make.
-pub record Call (S : Type 0) : Type 0 where
+pub record CodeCall (S : Type 0) : Type 0 where
   pub primitives : Primitives S
   pub inner : Option (Calls S)
   pub home : ℕ
@@ -21,13 +21,13 @@ pub record Call (S : Type 0) : Type 0 where
   pub args : Passed
 
 -- the arguments go to the parameters
-abbrev pub entered : {S : Type 0} → Call S → S → Run S Frame
+abbrev pub entered : {S : Type 0} → CodeCall S → S → Run S Frame
 entered x s = entry x.primitives x.code x.defaults x.args s
 
 -- the function becomes active
-abbrev pub activated : {S : Type 0} → Call S → S → Run S (Unit {0})
+abbrev pub activated : {S : Type 0} → CodeCall S → S → Run S (Unit {0})
 activated x s = x.primitives.enter x.home x.place s
 
 -- the whole call
-abbrev pub called : {S : Type 0} → Call S → S → Run S Datum
-called x s = call_function x.primitives x.inner x.home x.place x.unit x.code x.defaults x.args s
+abbrev pub whole_call : {S : Type 0} → CodeCall S → S → Run S Datum
+whole_call x s = call_function x.primitives x.inner x.home x.place x.unit x.code x.defaults x.args s

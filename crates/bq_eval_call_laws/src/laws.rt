@@ -13,7 +13,7 @@ ghost use Rattle.bq_builtin_machine.specs.State.{State, Stop};
 ghost use Rattle.bq_eval_meaning_spec.specs.Calls as meaning;
 ghost use Rattle.bq_eval_meaning_spec.specs.Frame.{Frame};
 ghost use Rattle.bq_builtin_refusal_laws.specs.Refusals.{IsRefusedForFirst};
-ghost use Rattle.bq_eval_call_laws.specs.Entered.{Call, entered, activated, called};
+ghost use Rattle.bq_eval_call_laws.specs.Entered.{CodeCall, entered, activated, whole_call};
 ghost use Rattle.bq_eval_call_laws.specs.Misfits.{IsMisfit};
 ghost use Rattle.bq_eval_call_laws.specs.Orders.{entering};
 
@@ -35,8 +35,8 @@ pub fn functions_are_entered_in_order()
 /// however many are. A function that may not become active (F50, F51) runs no statement.
 #[tactic(auto, using(crate::proofs::Entering::arguments_first, crate::proofs::Entering::activity_second))]
 pub fn arguments_come_before_activity<S>()
-    ensures arguments { (x : Call S) (s : S) (why : Stop) → entered x s ≡ stopped why → called x s ≡ stopped why }
-    ensures activity { (x : Call S) (s t : S) (env : Frame) (why : Stop) → entered x s ≡ done env t → activated x t ≡ stopped why → called x s ≡ stopped why }
+    ensures arguments { (x : CodeCall S) (s : S) (why : Stop) → entered x s ≡ stopped why → whole_call x s ≡ stopped why }
+    ensures activity { (x : CodeCall S) (s t : S) (env : Frame) (why : Stop) → entered x s ≡ done env t → activated x t ≡ stopped why → whole_call x s ≡ stopped why }
 {}
 
 /// At most 100 functions are active, for the machine and for what programs mean.

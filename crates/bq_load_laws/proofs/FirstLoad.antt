@@ -9,7 +9,7 @@ use Rattle.bq_resolve_scope.specs.declared.code.LoadStmt.{LoadStmt}
 use Rattle.bq_load.specs.declared.source.Source.{Source}
 use Rattle.bq_load.specs.Results.{line_of_load, load_fault}
 use Rattle.bq_load.specs.Sources.{LoadingParts}
-use Rattle.bq_load_laws.specs.FirstLoad.{LoadsFirst, fault_of_load}
+use Rattle.bq_load_laws.specs.FirstLoad.{LoadsFirst, fault_at_load}
 
 same_form : (l : LabelParts) → bytes_eq (full_form l) (full_form l) ≡ true
 same_form l = (bytes_eq-Decides (full_form l) (full_form l)).1 refl
@@ -22,7 +22,7 @@ first_line l load [] after (k ∷ ks) later place others = absurd (omega (arith,
 first_line l load (b ∷ bs) after [] later place others = absurd (omega (arith, place))
 first_line l load (b ∷ bs) after (k ∷ ks) later place others = let other_form = others.0 in rw other_form (first_line l load bs after ks later (omega (arith, place)) others.1)
 
-pub names_the_first : (x : LoadingParts) (m k : ℕ) (s loaded : Source) (kind : FaultKind) (load : LoadStmt) → LoadsFirst x m k s loaded load → load_fault x m s kind k ≡ fault_of_load kind load loaded
+pub names_the_first : (x : LoadingParts) (m k : ℕ) (s loaded : Source) (kind : FaultKind) (load : LoadStmt) → LoadsFirst x m k s loaded load → load_fault x m s kind k ≡ fault_at_load kind load loaded
 unfolding load_fault
 names_the_first x m k s loaded kind load l =
     let first = l.first in

@@ -28,5 +28,5 @@ pub record LoadsFirst (x : LoadingParts) (m k : ℕ) (s loaded : Source) (load :
   pub first : IsFirstLoadOf loaded.label load file.loads s.loads
 
 -- the fault at that load, which names what it loads
-abbrev pub fault_of_load : FaultKind → LoadStmt → Source → Fault
-fault_of_load kind load loaded = record { kind = kind; line = load.line; detail = full_form loaded.label }
+abbrev pub fault_at_load : FaultKind → LoadStmt → Source → Fault
+fault_at_load kind load loaded = record { kind = kind; line = load.line; detail = full_form loaded.label }

@@ -26,7 +26,7 @@ use Rattle.bq_package.specs.Groups.{group_named}
 use Rattle.bq_package.specs.Place.{PlaceView}
 use Rattle.bq_package.specs.Rules.{declared_target, rule_target}
 use Rattle.bq_builtin_refusal_laws.specs.Refusals.{Check, when, first_fault, fault_of, fault_in, fault_then, IsRefusedForFirst, FailsForFirst}
-use Rattle.bq_package_laws.specs.Orders.{taken, then_taken, adding, target_of, requesting, globbing, naming_files}
+use Rattle.bq_package_laws.specs.Orders.{taken, then_taken, adding, bzl_target, requesting, globbing, naming_files}
 
 -- ---- `glob`
 
@@ -112,7 +112,7 @@ module _ (d : Declaring) (s : State) where
   rule_in_order rule passed = declared_in_order (rule_target d.place s.store s.line rule passed) (declared d.package)
 
   pub declared_rule_in_order : (rule : List ℕ) (class : Class) (passed : Passed)
-      → IsRefusedForFirst (rule_by s (declaring d) rule class passed) (adding d (target_of d s rule class passed))
+      → IsRefusedForFirst (rule_by s (declaring d) rule class passed) (adding d (bzl_target d s rule class passed))
   declared_rule_in_order rule class passed = declared_in_order (declared_target d.place s.store s.line rule class passed) (declared d.package)
 
   pub group_in_order : (passed : Passed) → IsRefusedForFirst (call_in d s f.PackageGroup passed) (adding d (group_named d.place s.store s.line passed))

@@ -36,8 +36,8 @@ abbrev pub adding : Declaring → Result Target FaultKind → List Check
 adding d read = then_taken read (declared d.package)
 
 -- the target that a call of a rule of a .bzl file declares
-abbrev pub target_of : Declaring → State → List ℕ → Class → Passed → Result Target FaultKind
-target_of d s rule class passed = declared_target d.place s.store s.line rule class passed
+abbrev pub bzl_target : Declaring → State → List ℕ → Class → Passed → Result Target FaultKind
+bzl_target d s rule class passed = declared_target d.place s.store s.line rule class passed
 
 -- ---- `glob`
 

@@ -19,7 +19,7 @@ ghost use Rattle.bq_package.specs.Rules.{rule_target};
 ghost use Rattle.bq_builtin_refusal_laws.specs.Refusals.{IsRefusedForFirst, FailsForFirst};
 ghost use Rattle.bq_package_laws.specs.Defaults.{DefaultsAreTakenAsValues};
 ghost use Rattle.bq_package_laws.specs.Nothing.{GivesNothing};
-ghost use Rattle.bq_package_laws.specs.Orders.{then_taken, adding, target_of, globbing, naming_files};
+ghost use Rattle.bq_package_laws.specs.Orders.{then_taken, adding, bzl_target, globbing, naming_files};
 
 /// `glob` and `exports_files` are refused for the first of the reasons that are listed, and for nothing else.
 pub fn build_functions_are_refused_in_order()
@@ -31,7 +31,7 @@ pub fn build_functions_are_refused_in_order()
 /// declares.
 pub fn declarations_are_refused_in_order()
     ensures rule { (d : Declaring) (s : State) (rule : ℕ) (passed : Passed) → IsRefusedForFirst (call_in d s (f.Rule rule) passed) (adding d (rule_target d.place s.store s.line rule passed)) }
-    ensures declared_rule { (d : Declaring) (s : State) (rule : List ℕ) (class : Class) (passed : Passed) → IsRefusedForFirst (rule_by s (declaring d) rule class passed) (adding d (target_of d s rule class passed)) }
+    ensures declared_rule { (d : Declaring) (s : State) (rule : List ℕ) (class : Class) (passed : Passed) → IsRefusedForFirst (rule_by s (declaring d) rule class passed) (adding d (bzl_target d s rule class passed)) }
     ensures package_group { (d : Declaring) (s : State) (passed : Passed) → IsRefusedForFirst (call_in d s f.PackageGroup passed) (adding d (group_named d.place s.store s.line passed)) }
     ensures exports_files { (d : Declaring) (s : State) (passed : Passed) → IsRefusedForFirst (call_in d s f.ExportsFiles passed) (then_taken (files_named d.place s.store passed) (λ ls. exported d.package ls s.line)) }
 {}
