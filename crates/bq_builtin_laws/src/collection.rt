@@ -1,6 +1,6 @@
 //! What holds of lists and dicts that are changed. The functions do nothing: their contracts are the laws.
 
-ghost use Rattle.std.specs.Prelude.{◌≡◌, ◌∷◌, [], ℕ, ℤ, List, length, map, Option, None, Some, Ok, Err};
+ghost use Rattle.std.specs.Prelude.{◌≡◌, ◌∷◌, [], ℕ, ℤ, List, map, Option, None, Some, Ok, Err};
 ghost use Rattle.bq_base.specs.declared.fault.FaultKind.{FaultKind};
 ghost use Rattle.bq_base.specs.declared.fault.FaultKind.TheVariants.{WrongType};
 ghost use Rattle.bq_parse_grammar.specs.declared.tree.Operator.TheVariants as op;

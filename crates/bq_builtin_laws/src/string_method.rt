@@ -3,7 +3,7 @@
 ghost use Rattle.std.specs.Prelude.{◌≡◌, ◌∷◌, ◌++◌, [], ℕ, ℤ, pos, negsuc, List, Option, Ok, Err, true, false, Any, All, slice_get};
 ghost use Rattle.std.specs.List.{AllByRecursion};
 ghost use Rattle.bq_base.specs.declared.fault.FaultKind.TheVariants.{BadValue};
-ghost use Rattle.bq_builtin_string_methods.specs.Affixes.{ends, texts_of};
+ghost use Rattle.bq_builtin_string_methods.specs.Affixes.{texts_of};
 ghost use Rattle.bq_builtin_string_methods.specs.Argument.{bytes_in};
 ghost use Rattle.bq_builtin_string_methods.specs.Cuts.{partition, words_of};
 ghost use Rattle.bq_builtin_string_methods.specs.Searches.{search};
@@ -13,7 +13,7 @@ ghost use Rattle.bq_builtin_string_methods.specs.declared.cuts.Side.{Side};
 ghost use Rattle.bq_builtin_string_methods.specs.declared.cuts.Side.TheVariants.{Left};
 ghost use Rattle.bq_builtin_string_methods.specs.declared.searches.SearchMethod.TheVariants.{Find, Rfind, Index, Rindex};
 ghost use Rattle.bq_builtin_string_methods.specs.declared.strips.StripMethod.TheVariants.{Strip, Lstrip, Rstrip, Removeprefix, Removesuffix};
-ghost use Rattle.bq_value.specs.Datum.{Datum, boolean, int, string, tuple, data_of};
+ghost use Rattle.bq_value.specs.Datum.{Datum, int, string, tuple, data_of};
 ghost use Rattle.bq_builtin_laws.specs.StringMethods.Affixes.{IsAnswered};
 ghost use Rattle.bq_builtin_laws.specs.StringMethods.Parts.{AreThreeParts, BeginsWithoutSpace};
 ghost use Rattle.bq_builtin_laws.specs.StringMethods.Regions.{Asks, IsFirstInRegion, IsLastInRegion, IsNotInRegion};

@@ -40,7 +40,7 @@ EvalsAgree {S} file blocks R eval other =
     → (env : Env) (frame : Frame) (s : S) → R env frame → eval x env s ≡ other c frame s
 
 -- The blocks that are open in a function, and what expressions mean there by names and by slots: both mean the same.
-pub record Inside (S : Type 0) (file : FileParts) : Type 0 where
+pub record InFunction (S : Type 0) (file : FileParts) : Type 0 where
   pub block : BlockParts
   pub rest : List BlockParts
   pub nested : Nested (block ∷ rest)

@@ -6,11 +6,11 @@ ghost use Rattle.bq_eval_meaning_spec.specs.Primitives.{Primitives};
 ghost use Rattle.bq_eval_meaning_spec.specs.Trees as trees;
 ghost use Rattle.bq_eval_by_name_spec.specs.Trees.{Eval};
 ghost use Rattle.bq_eval_by_name_expression_laws.specs.Agreement.{Context};
-ghost use Rattle.bq_eval_by_name_statement_laws.specs.Agreement.{Inside, EvalsAgree, StatementsAgree, BodiesAgree, GlobalsShow, LinesAgree};
+ghost use Rattle.bq_eval_by_name_statement_laws.specs.Agreement.{InFunction, EvalsAgree, StatementsAgree, BodiesAgree, GlobalsShow, LinesAgree};
 
 /// Where expressions mean the same, a resolved statement of a function does by slots what the tree that it comes from does by names.
 pub fn statements_agree<S>()
-    ensures { (m : Primitives S) (file : FileParts) (x : Inside S file) → StatementsAgree m file x.block x.rest x.eval x.other }
+    ensures { (m : Primitives S) (file : FileParts) (x : InFunction S file) → StatementsAgree m file x.block x.rest x.eval x.other }
 {}
 
 /// The body of a function does the same by slots as by names, where calls mean the same and the context of the function

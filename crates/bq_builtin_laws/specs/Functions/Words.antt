@@ -9,8 +9,8 @@ abbrev pub by_place : List Datum → Passed
 by_place vs = record { positional = vs; named = [] }
 
 -- these arguments by place, and one by name
-abbrev pub with_named : List Datum → List ℕ → Datum → Passed
-with_named vs name v = record { positional = vs; named = (name, v) ∷ [] }
+abbrev pub also_named : List Datum → List ℕ → Datum → Passed
+also_named vs name v = record { positional = vs; named = (name, v) ∷ [] }
 
 -- a number of integers, each `step` after the one before, from `start` on: as many as lie before `stop`
 pub record AreCounted (start stop step : ℤ) (xs : List Datum) : Type 0 where
