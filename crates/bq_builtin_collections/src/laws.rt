@@ -1,17 +1,13 @@
 //! Laws of the definitions: each is the contract of a function that does nothing.
 
 ghost use Rattle.std.specs.Prelude.{◌≡◌, ◌∷◌, [], ℕ, ℤ, negsuc, List, length, reverse, Option, None, Some, Ok};
-ghost use Rattle.bq_value.specs.Cells.{content_at};
-ghost use Rattle.bq_value.specs.Contents.{pairs};
-ghost use Rattle.bq_value.specs.Datum.{Datum, cell, string};
+ghost use Rattle.bq_value.specs.Datum.{Datum, string};
 ghost use Rattle.bq_value.specs.Pairs.{found, put, HasNoKeyTwice};
 ghost use Rattle.bq_builtin_numbers.specs.Place.{clamped};
-ghost use Rattle.bq_builtin_machine.specs.Action.{done};
-ghost use Rattle.bq_builtin_machine.specs.State.{State};
 ghost use Rattle.bq_builtin_operators.specs.Union.{put_all, or_else};
 ghost use Rattle.bq_builtin_collections.specs.List.{appended, inserted, popped, taken};
-ghost use Rattle.bq_builtin_collections.specs.Dict.{with_default, taken_out, update};
-ghost use Rattle.bq_builtin_collections.specs.Laws.{Dict, KeepsPlaces};
+ghost use Rattle.bq_builtin_collections.specs.Dict.{with_default, taken_out};
+ghost use Rattle.bq_builtin_collections.specs.Laws.{Dict, KeepsPlaces, UpdateLeaves};
 
 /// Of the pairs that are inserted into a dict the last one of a key wins; a key without one keeps its value. Keys that
 /// were there keep their places, and new ones go last.
@@ -23,8 +19,8 @@ pub fn pairs_that_are_put()
 /// After `d.update(e)` of two dicts, the pairs of `e` are in `d`, inserted in turn, also where both are the same dict;
 /// after `d.update(e, name = value)` the name is too, as the last one.
 pub fn a_dict_that_is_updated()
-    ensures pairs { (home number other place : ℕ) (dict more : Dict) (answer : Datum) (s t : State) → content_at s.store home number ≡ Some (pairs dict) → content_at s.store other place ≡ Some (pairs more) → update home number (record { positional = cell other place ∷ []; named = [] }) s ≡ done answer t → content_at t.store home number ≡ Some (pairs (put_all dict more)) }
-    ensures name { (home number other place : ℕ) (name : List ℕ) (value : Datum) (dict more : Dict) (answer : Datum) (s t : State) → content_at s.store home number ≡ Some (pairs dict) → content_at s.store other place ≡ Some (pairs more) → update home number (record { positional = cell other place ∷ []; named = (name, value) ∷ [] }) s ≡ done answer t → content_at t.store home number ≡ Some (pairs (put (string name) value (put_all dict more))) }
+    ensures pairs { (dict more : Dict) → UpdateLeaves [] dict more (put_all dict more) }
+    ensures name { (name : List ℕ) (value : Datum) (dict more : Dict) → UpdateLeaves ((name, value) ∷ []) dict more (put (string name) value (put_all dict more)) }
 {}
 
 /// What `setdefault` returns is the value that the key has then.

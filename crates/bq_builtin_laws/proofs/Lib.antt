@@ -8,3 +8,5 @@ pub mod Collections
 pub mod Formats
 -- methods of strings
 pub mod StringMethods
+-- steps
+pub mod Steps

@@ -1,25 +1,24 @@
 //! What holds of lists and dicts that are changed. The functions do nothing: their contracts are the laws.
 
-ghost use Rattle.std.specs.Prelude.{◌≡◌, ◌∷◌, [], ℕ, ℤ, List, length, map, Option, None, Some, Ok, Err};
+ghost use Rattle.std.specs.Prelude.{◌≡◌, ◌∷◌, [], ℕ, ℤ, List, map, Option, None, Some, Ok, Err};
 ghost use Rattle.bq_base.specs.declared.fault.FaultKind.{FaultKind};
 ghost use Rattle.bq_base.specs.declared.fault.FaultKind.TheVariants.{WrongType};
 ghost use Rattle.bq_parse_grammar.specs.declared.tree.Operator.TheVariants as op;
 ghost use Rattle.bq_package_rule_class.specs.Class.{Class};
 ghost use Rattle.bq_value.specs.Datum.{Datum, cell};
 ghost use Rattle.bq_value.specs.Pairs.{found};
-ghost use Rattle.bq_builtin_machine.specs.Action.{done, stopped};
+ghost use Rattle.bq_builtin_machine.specs.Action.{stopped};
 ghost use Rattle.bq_builtin_machine.specs.Args.{Passed};
-ghost use Rattle.bq_builtin_machine.specs.Iteration.{elements_in};
 ghost use Rattle.bq_builtin_machine.specs.State.{State, stop_at};
 ghost use Rattle.bq_builtin_operators.specs.InPlace.{augment, set_index};
-ghost use Rattle.bq_builtin_collections.specs.Arguments.{no_argument, one_argument, two_arguments, optional_argument, one_or_two, or_none, one_to_three, optional_integer};
+ghost use Rattle.bq_builtin_collections.specs.Arguments.{no_argument, one_argument, two_arguments, optional_argument, one_or_two};
 ghost use Rattle.bq_builtin_collections.specs.Dict as dict;
 ghost use Rattle.bq_builtin_collections.specs.Dict.{first_out, pair_tuple, with_default};
 ghost use Rattle.bq_builtin_collections.specs.List as list;
 ghost use Rattle.bq_builtin_refusal_laws.specs.Refusals.{IsRefusedForFirst};
-ghost use Rattle.bq_builtin_laws.specs.Collections.Laws.{IsList, IsDict, IsRule, StaysTheSameList};
-ghost use Rattle.bq_builtin_laws.specs.Collections.Looks.{OnlyLooks, IsFirstIndex};
-ghost use Rattle.bq_builtin_laws.specs.Collections.Orders.{appending, clearing, extending, inserting, popping, removing, setting_element, taking_out, taking_first, setting_default, updating, setting_pair};
+ghost use Rattle.bq_builtin_laws.specs.Collections.Laws.{IsList, IsDict, IsRule, IsAddedInPlace, StaysTheSameList};
+ghost use Rattle.bq_builtin_laws.specs.Collections.Looks.{Gets, OnlyLooks, FindsIndex, IsFirstIndex};
+ghost use Rattle.bq_builtin_laws.specs.Collections.Orders.{appending, clearing, extending, inserting, popping, removing, setting_element, taking_out, taking_first, SetsDefaultInOrder, updating, setting_pair};
 
 /// A wrong number of arguments (F52) comes before all that is wrong with the list or dict, or with the arguments.
 #[tactic(auto, using(crate::proofs::Collections::Lists::no_append, crate::proofs::Collections::Lists::no_extend, crate::proofs::Collections::Lists::no_insert, crate::proofs::Collections::Lists::no_remove, crate::proofs::Collections::Lists::no_pop, crate::proofs::Collections::Lists::no_clear, crate::proofs::Collections::Dicts::no_pop, crate::proofs::Collections::Dicts::no_popitem, crate::proofs::Collections::Dicts::no_setdefault, crate::proofs::Collections::Dicts::no_clear))]
@@ -49,13 +48,13 @@ pub fn lists_are_refused_in_order()
 {}
 
 /// A method, or an assignment, refuses a dict for the first of the reasons that are listed, and for nothing else.
-#[tactic(auto, using(crate::proofs::Collections::Dicts::clear_refused, crate::proofs::Collections::Dicts::pop_refused, crate::proofs::Collections::Dicts::pop_or_refused, crate::proofs::Collections::Dicts::popitem_refused, crate::proofs::Collections::Dicts::setdefault_refused, crate::proofs::Collections::Dicts::update_refused, crate::proofs::Collections::Dicts::set_refused))]
+#[tactic(auto, using(crate::proofs::Collections::Dicts::clear_refused, crate::proofs::Collections::Dicts::pop_refused, crate::proofs::Collections::Dicts::pop_or_refused, crate::proofs::Collections::Dicts::popitem_refused, crate::proofs::Collections::Dicts::update_refused, crate::proofs::Collections::Dicts::set_refused))]
 pub fn dicts_are_refused_in_order()
     ensures clear { (home number : ℕ) (ps : List (Datum × Datum)) (s : State) → IsDict s home number ps → IsRefusedForFirst (dict.clear home number [] s) (clearing s home number) }
     ensures pop { (home number : ℕ) (ps : List (Datum × Datum)) (k : Datum) (s : State) → IsDict s home number ps → IsRefusedForFirst (dict.pop home number (k ∷ []) s) (taking_out s home number ps k None) }
     ensures pop_or { (home number : ℕ) (ps : List (Datum × Datum)) (k d : Datum) (s : State) → IsDict s home number ps → IsRefusedForFirst (dict.pop home number (k ∷ d ∷ []) s) (taking_out s home number ps k (Some d)) }
     ensures popitem { (home number : ℕ) (ps : List (Datum × Datum)) (s : State) → IsDict s home number ps → IsRefusedForFirst (dict.popitem home number [] s) (taking_first s home number ps) }
-    ensures setdefault { (home number : ℕ) (ps : List (Datum × Datum)) (k : Datum) (o : Option Datum) (args : List Datum) (s : State) → one_or_two args ≡ Ok (k, o) → IsDict s home number ps → IsRefusedForFirst (dict.setdefault home number args s) (setting_default s home number ps k (or_none o)) }
+    ensures setdefault { (home number : ℕ) (ps : List (Datum × Datum)) (args : List Datum) (s : State) → IsDict s home number ps → SetsDefaultInOrder home number ps args s }
     ensures update { (home number : ℕ) (args : Passed) (s : State) → IsRefusedForFirst (dict.update home number args s) (updating s home number args) }
     ensures set { (home number : ℕ) (ps : List (Datum × Datum)) (k v : Datum) (s : State) → IsDict s home number ps → IsRefusedForFirst (set_index (cell home number) k v s) (setting_pair s home number ps k v) }
 {}
@@ -70,7 +69,7 @@ pub fn rules_are_no_lists_and_no_dicts()
 
 /// `a += b` keeps the list `a` the same list: it has the elements of `b` after its own, and no new list is made.
 pub fn lists_stay_the_same_lists()
-    ensures { (home number : ℕ) (xs more : List Datum) (b answer : Datum) (s t : State) → IsList s home number xs → elements_in s.store b ≡ Ok more → augment op.Add (cell home number) b s ≡ done answer t → StaysTheSameList home number xs more answer s t }
+    ensures { (home number : ℕ) (xs more : List Datum) (answer : Datum) (s t : State) → IsAddedInPlace home number xs more answer s t → StaysTheSameList home number xs more answer s t }
 {}
 
 /// `popitem` returns the first of the dict's `items()`; the others stay, in their order.
@@ -87,14 +86,12 @@ pub fn a_value_that_is_there_stays()
 
 /// `get` changes no list and no dict: it returns a value of the dict, or for a key that isn't there the value that was
 /// given.
-#[tactic(auto, using(crate::proofs::Collections::Getting::looks))]
 pub fn getting_changes_nothing()
-    ensures { (home number : ℕ) (ps : List (Datum × Datum)) (k answer : Datum) (o : Option Datum) (args : List Datum) (s t : State) → one_or_two args ≡ Ok (k, o) → IsDict s home number ps → dict.get home number args s ≡ done answer t → OnlyLooks ps o answer s t }
+    ensures { (ps : List (Datum × Datum)) (default : Option Datum) (answer : Datum) (s t : State) → Gets ps default answer s t → OnlyLooks ps default answer s t }
 {}
 
 /// `list.index(v, start, end)` returns a place of the whole list, from `start` on and before `end`: the element there
 /// is equal to `v`, and none between `start` and it is.
-#[tactic(auto, using(crate::proofs::Collections::Indices::first_index))]
 pub fn indices_are_of_the_whole_list()
-    ensures { (home number : ℕ) (xs : List Datum) (v answer : Datum) (o p : Option Datum) (start end : Option ℤ) (args : List Datum) (s t : State) → one_to_three args ≡ Ok (v, (o, p)) → optional_integer o ≡ Ok start → optional_integer p ≡ Ok end → IsList s home number xs → list.index home number args s ≡ done answer t → IsFirstIndex xs v start end answer s }
+    ensures { (xs : List Datum) (v answer : Datum) (start end : Option ℤ) (s : State) → FindsIndex xs v start end answer s → IsFirstIndex xs v start end answer s }
 {}

@@ -13,7 +13,7 @@ ghost use Rattle.bq_builtin.specs.Sequences as sequences;
 ghost use Rattle.bq_builtin.specs.Sequences.{reversed};
 ghost use Rattle.bq_builtin.specs.Texts.{print};
 ghost use Rattle.bq_builtin.specs.Truths.{all, any};
-ghost use Rattle.bq_builtin_laws.specs.Functions.Words.{by_place, AreCounted};
+ghost use Rattle.bq_builtin_laws.specs.Functions.Words.{by_place, also_named, AreCounted};
 
 /// `reversed` has each element as far from the end as it was from the start; what is reversed twice is as it was.
 pub fn reversed_lists_go_backwards()
@@ -43,7 +43,7 @@ pub fn ranges_are_counted()
 /// `print` of two strings prints both with a space between, or with the string `sep`, as one text after those before.
 pub fn prints_have_the_separator_between()
     ensures space { (a b : List ℕ) (v : Datum) (s t : State) → print (by_place (string a ∷ string b ∷ [])) s ≡ done v t → t.prints ≡ s.prints ++ ((a ++ codes " ") ++ b) ∷ [] }
-    ensures sep { (a b between : List ℕ) (v : Datum) (s t : State) → print (record { positional = string a ∷ string b ∷ []; named = (codes "sep", string between) ∷ [] }) s ≡ done v t → t.prints ≡ s.prints ++ ((a ++ between) ++ b) ∷ [] }
+    ensures sep { (a b between : List ℕ) (v : Datum) (s t : State) → print (also_named (string a ∷ string b ∷ []) (codes "sep") (string between)) s ≡ done v t → t.prints ≡ s.prints ++ ((a ++ between) ++ b) ∷ [] }
 {}
 
 /// `list` and `tuple` have the elements, each once and in their order.
@@ -54,5 +54,5 @@ pub fn lists_and_tuples_have_the_elements()
 
 /// `sorted(x, reverse = True)` is what `sorted(x)` is, from its end to its start.
 pub fn reverse_turns_what_is_sorted()
-    ensures { (s : StoreView) (x : Datum) (us zs : List Datum) → sorted s (by_place (x ∷ [])) ≡ Ok us → sorted s (record { positional = x ∷ []; named = (codes "reverse", boolean true) ∷ [] }) ≡ Ok zs → zs ≡ reverse us }
+    ensures { (s : StoreView) (x : Datum) (us zs : List Datum) → sorted s (by_place (x ∷ [])) ≡ Ok us → sorted s (also_named (x ∷ []) (codes "reverse") (boolean true)) ≡ Ok zs → zs ≡ reverse us }
 {}

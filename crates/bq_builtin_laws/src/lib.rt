@@ -1,7 +1,8 @@
 //! Laws of built-in functions, operators, formats, and the methods of lists, dicts and strings.
 //!
 //! In: nothing; the functions do nothing, and their contracts are the laws. The promise: what each gives is said in
-//! terms of elements, places, texts and arithmetic, and so is the order in which changes of lists and dicts are refused.
+//! terms of elements, places, texts and arithmetic, and so is the order in which changes of lists and dicts are refused;
+//! and no operator, method or built-in function depends on the steps that are left.
 //!
 //! By subject:
 //!
@@ -20,13 +21,19 @@
 //! - `string_method`, by the definitions of `bq_builtin_string_methods` and `bq_builtin_string_classes`: a tuple of
 //!   affixes stands for one of them; the three parts of a partition are the text, wherever its separator is; no part of
 //!   a text that is split at space begins with space, however few cuts are made; an affix is removed once; what strips
-//!   a string leaves a part of it; and a search of a region returns a place in the whole string.
+//!   a string leaves a part of it; and a search of a region returns a place in the whole string;
+//! - `step`: each operator, method and built-in function takes its own number of steps, keeps what was printed, and changes no other module.
+//!   `Takes` (`specs/Steps/Steps.antt`) says so of an action in a state. The proofs go from parts to wholes: it holds of one action after
+//!   another (`proofs/Steps/Owning.antt`), of what a machine does (`Machine`), and of walks over values and texts (`Texts`, `Walks`), which
+//!   are known to take steps of their own (`bq_value_compare`); so it holds of each definition that consists of these, in the order of the
+//!   crates that have them.
 #![tactic(auto)]
 
 mod collection;
 mod format;
 mod function;
 mod operator;
+mod step;
 mod string_method;
 
 pub use collection::{
@@ -47,6 +54,7 @@ pub use operator::{
     keys_in_a_dict_have_values, members_are_equal_to_an_element, opposite_comparisons_differ,
     steps_that_are_left_out_are_one,
 };
+pub use step::{functions_take_their_steps, methods_take_their_steps, operators_take_their_steps};
 pub use string_method::{
     affixes_are_removed_once, parts_begin_without_space, places_are_of_the_whole_string,
     stripped_strings_are_parts, three_parts_are_the_text, tuples_of_affixes_are_any,

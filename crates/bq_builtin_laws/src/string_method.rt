@@ -3,7 +3,7 @@
 ghost use Rattle.std.specs.Prelude.{◌≡◌, ◌∷◌, ◌++◌, [], ℕ, ℤ, pos, negsuc, List, Option, Ok, Err, true, false, Any, All, slice_get};
 ghost use Rattle.std.specs.List.{AllByRecursion};
 ghost use Rattle.bq_base.specs.declared.fault.FaultKind.TheVariants.{BadValue};
-ghost use Rattle.bq_builtin_string_methods.specs.Affixes.{ends, texts_of};
+ghost use Rattle.bq_builtin_string_methods.specs.Affixes.{texts_of};
 ghost use Rattle.bq_builtin_string_methods.specs.Argument.{bytes_in};
 ghost use Rattle.bq_builtin_string_methods.specs.Cuts.{partition, words_of};
 ghost use Rattle.bq_builtin_string_methods.specs.Searches.{search};
@@ -13,7 +13,8 @@ ghost use Rattle.bq_builtin_string_methods.specs.declared.cuts.Side.{Side};
 ghost use Rattle.bq_builtin_string_methods.specs.declared.cuts.Side.TheVariants.{Left};
 ghost use Rattle.bq_builtin_string_methods.specs.declared.searches.SearchMethod.TheVariants.{Find, Rfind, Index, Rindex};
 ghost use Rattle.bq_builtin_string_methods.specs.declared.strips.StripMethod.TheVariants.{Strip, Lstrip, Rstrip, Removeprefix, Removesuffix};
-ghost use Rattle.bq_value.specs.Datum.{Datum, boolean, int, string, tuple, data_of};
+ghost use Rattle.bq_value.specs.Datum.{Datum, int, string, tuple, data_of};
+ghost use Rattle.bq_builtin_laws.specs.StringMethods.Affixes.{IsAnswered};
 ghost use Rattle.bq_builtin_laws.specs.StringMethods.Parts.{AreThreeParts, BeginsWithoutSpace};
 ghost use Rattle.bq_builtin_laws.specs.StringMethods.Regions.{Asks, IsFirstInRegion, IsLastInRegion, IsNotInRegion};
 ghost use Rattle.bq_builtin_laws.specs.StringMethods.Stripped.{IsCutAtBothEnds, IsCutAtStart, IsCutAtEnd};
@@ -21,8 +22,8 @@ ghost use Rattle.bq_builtin_laws.specs.StringMethods.Stripped.{IsCutAtBothEnds, 
 /// `startswith` and `endswith` of a tuple are true if they are for one of its strings, and false if they are for none.
 #[tactic(auto, using(crate::proofs::StringMethods::Affixes::one_ends, crate::proofs::StringMethods::Affixes::none_ends))]
 pub fn tuples_of_affixes_are_any()
-    ensures one { (m : EndMethod) (text : List ℕ) (vs : List Datum) (texts : List (List ℕ)) → texts_of vs ≡ Ok texts → Any (λ t. ends m text (string t ∷ []) ≡ Ok (boolean true)) texts → ends m text (tuple (data_of vs) ∷ []) ≡ Ok (boolean true) }
-    ensures none { (m : EndMethod) (text : List ℕ) (vs : List Datum) (texts : List (List ℕ)) → texts_of vs ≡ Ok texts → All (λ t. ends m text (string t ∷ []) ≡ Ok (boolean false)) texts → ends m text (tuple (data_of vs) ∷ []) ≡ Ok (boolean false) }
+    ensures one { (m : EndMethod) (text : List ℕ) (vs : List Datum) (texts : List (List ℕ)) → texts_of vs ≡ Ok texts → Any (λ t. IsAnswered m text (string t) true) texts → IsAnswered m text (tuple (data_of vs)) true }
+    ensures none { (m : EndMethod) (text : List ℕ) (vs : List Datum) (texts : List (List ℕ)) → texts_of vs ≡ Ok texts → All (λ t. IsAnswered m text (string t) false) texts → IsAnswered m text (tuple (data_of vs)) false }
 {}
 
 /// The three parts of `partition` and `rpartition` are the text, with the separator in the middle. A text without the

@@ -1,12 +1,16 @@
 -- The definitions of the laws of methods.
-use Rattle.std.specs.Prelude.{◌≡◌, ℕ, Bool, true, false, List, slice_get, Some}
+use Rattle.std.specs.Prelude.{◌≡◌, ℕ, Bool, true, false, List, ◌∷◌, slice_get, Some}
 use Rattle.std.specs.List.{IsDistinct}
 use Rattle.std.specs.Map.{lookup, keys_of}
 use Rattle.std.specs.Str.{bytes_eq}
 use Rattle.bq_base.specs.declared.fault.FaultKind.{FaultKind}
+use Rattle.bq_base.specs.declared.fault.FaultKind.TheVariants.{Args, NoMethod}
 use Rattle.bq_value.specs.Datum.{Datum, string, cell}
+use Rattle.bq_value.specs.Cells.{HoldsList, HoldsDict}
 use Rattle.bq_builtin_machine.specs.State.{State, stop_at}
 use Rattle.bq_builtin_machine.specs.Action.{Run, stopped}
+use Rattle.bq_builtin_machine.specs.Args.{Passed}
+use Rattle.bq_builtin_methods.specs.Call.{call_method}
 
 -- A table has a name for each of its methods, and no name twice.
 pub record NamesItsMethods {M : Type 0} (table : List (List ℕ × M)) : Type 0 where
@@ -22,3 +26,21 @@ has_methods _ = false
 -- an action that is refused in this state
 abbrev pub Refused : FaultKind → State → Run State Datum → Type 0
 Refused kind s run = run ≡ stopped (stop_at kind s)
+
+-- this holds of every list, in every state
+abbrev pub OfEveryList : (State → Datum → Type 0) → Type 0
+OfEveryList P = (home number : ℕ) (values : List Datum) (s : State) → HoldsList s.store home number values → P s (cell home number)
+
+-- this holds of every dict, in every state
+abbrev pub OfEveryDict : (State → Datum → Type 0) → Type 0
+OfEveryDict P = (home number : ℕ) (dict : List (Datum × Datum)) (s : State) → HoldsDict s.store home number dict → P s (cell home number)
+
+-- each call of a method of this name on the receiver is F58
+abbrev pub LacksMethod : List ℕ → State → Datum → Type 0
+LacksMethod name s receiver = (args : Passed) → Refused NoMethod s (call_method name receiver args s)
+
+-- each call of this method of the receiver with a keyword argument is F52
+abbrev pub TakesNoKeywords : List ℕ → State → Datum → Type 0
+TakesNoKeywords name s receiver =
+    (args : Passed) (argument : List ℕ × Datum) (others : List (List ℕ × Datum))
+    → args.named ≡ argument ∷ others → Refused Args s (call_method name receiver args s)

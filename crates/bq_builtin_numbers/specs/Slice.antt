@@ -2,7 +2,7 @@
 -- bound, or down to after it where the step is negative. A negative bound counts from the end.
 use Rattle.std.specs.Prelude.{◌≡◌, ◌<◌, ℕ, zero, suc, cond, ℤ, pos, negsuc, ◌+ℤ◌, ◌-ℤ◌, ◌*ℤ◌, int_lt, List, [], ◌∷◌, slice_get, length, Option, Some, None}
 use Rattle.std.specs.Int.{int_min, int_max}
-use Rattle.bq_value.specs.Range.{range_count}
+use Rattle.bq_value.specs.Range.{range_count, range_element}
 
 -- counted from the start
 abbrev pub from_start : ℤ → ℤ → ℤ
@@ -21,6 +21,14 @@ slice_start len step start = cond (int_lt step (pos 0)) (nearest len (negsuc 0) 
 -- where it stops: going up, after the last element; going down, before the first
 abbrev pub slice_stop : ℤ → ℤ → Option ℤ → ℤ
 slice_stop len step stop = cond (int_lt step (pos 0)) (nearest len (negsuc 0) (len -ℤ pos 1) stop (negsuc 0)) (nearest len (pos 0) len stop len)
+
+-- how many places a slice of a list of this length has
+abbrev pub slice_count : ℕ → Option ℤ → Option ℤ → ℤ → ℕ
+slice_count len start stop step = range_count (slice_start (pos len) step start) (slice_stop (pos len) step stop) step
+
+-- the place of that number, from 0
+abbrev pub slice_place : ℕ → Option ℤ → ℤ → ℕ → ℤ
+slice_place len start step k = range_element (slice_start (pos len) step start) step k
 
 -- the element at a place, where there is one
 abbrev pub element_at : {A : Type 0} → List A → ℤ → Option A

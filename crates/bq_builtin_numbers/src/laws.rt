@@ -2,11 +2,10 @@
 //! nothing.
 
 ghost use Rattle.std.specs.Prelude.{◌≡◌, ◌≢◌, ◌<◌, ◌≤◌, ◌+◌, ℕ, ℤ, pos, negsuc, neg_ℤ, ◌+ℤ◌, ◌*ℤ◌, ◌≤ℤ◌, ◌<ℤ◌, ◌↔◌, true, List, ◌∷◌, ◌++◌, reverse, None, Some, Ok, Err, Option, length};
-ghost use Rattle.bq_value.specs.Range.{range_count, range_element};
 ghost use Rattle.bq_builtin_numbers.specs.RangeItem.{range_has, IsElement};
 ghost use Rattle.bq_base.specs.declared.fault.FaultKind.TheVariants.{Index};
 ghost use Rattle.bq_builtin_numbers.specs.Place.{clamped, indexed};
-ghost use Rattle.bq_builtin_numbers.specs.Slice.{slice_start, slice_stop, slice_of, AreElements};
+ghost use Rattle.bq_builtin_numbers.specs.Slice.{slice_start, slice_count, slice_place, slice_of, AreElements};
 ghost use Rattle.bq_builtin_numbers.specs.Division.{floor_quotient, floor_rest, IsRestOf};
 
 /// The dividend is the divisor times the quotient, plus the rest. The rest is 0 or lies between 0 and the divisor.
@@ -17,12 +16,12 @@ pub fn quotient_and_rest()
 
 /// Each place that a slice takes is the place of an element.
 pub fn places_of_a_slice()
-    ensures { (len : ℕ) (start stop : Option ℤ) (step : ℤ) (k : ℕ) → (step ≢ pos 0) → k < range_count (slice_start (pos len) step start) (slice_stop (pos len) step stop) step → (pos 0 ≤ℤ range_element (slice_start (pos len) step start) step k) × (range_element (slice_start (pos len) step start) step k <ℤ pos len) }
+    ensures { (len : ℕ) (start stop : Option ℤ) (step : ℤ) (k : ℕ) → step ≢ pos 0 → k < slice_count len start stop step → (pos 0 ≤ℤ slice_place len start step k) × (slice_place len start step k <ℤ pos len) }
 {}
 
 /// A slice has as many elements as places, each the one of its place.
 pub fn elements_of_a_slice()
-    ensures { (xs : List ℕ) (start stop : Option ℤ) (step : ℤ) → (step ≢ pos 0) → AreElements xs (range_count (slice_start (pos (length xs)) step start) (slice_stop (pos (length xs)) step stop) step) (slice_start (pos (length xs)) step start) step (slice_of xs start stop step) }
+    ensures { (xs : List ℕ) (start stop : Option ℤ) (step : ℤ) → step ≢ pos 0 → AreElements xs (slice_count (length xs) start stop step) (slice_start (pos (length xs)) step start) step (slice_of xs start stop step) }
 {}
 
 /// A slice without bounds, of step 1, is the whole.

@@ -7,7 +7,7 @@ use Rattle.bq_base.specs.declared.fault.FaultKind.{FaultKind}
 use Rattle.bq_base.specs.declared.fault.FaultKind.TheVariants as f
 use Rattle.bq_resolve_scope.specs.Names.{Name}
 use Rattle.bq_resolve_scope.specs.declared.code.Resolved.{Resolved}
-use Rattle.bq_value.specs.Cells.{StoreView, FrozenView, frozen, added, brought, with_loaded}
+use Rattle.bq_value.specs.Cells.{StoreView, FrozenView, frozen, loading}
 use Rattle.bq_value.specs.Datum.{Datum, none}
 use Rattle.bq_builtin_machine.specs.Action.{Run, done, stopped}
 use Rattle.bq_builtin_machine.specs.State.{State, Stop, started}
@@ -22,9 +22,6 @@ pub data Ended : Type 0 where
   failed : Fault → List (List ℕ) → Ended
 
 -- ---- before
-
-abbrev pub loading : StoreView → FrozenView → StoreView
-loading s f = with_loaded (fold added s.loaded (brought f)) s
 
 -- the store of a module that has made nothing yet, and loads these
 abbrev pub first_store : ℕ → List FrozenView → StoreView

@@ -2,10 +2,8 @@
 
 ghost use Rattle.std.specs.Prelude.{◌≡◌};
 ghost use Rattle.bq_eval_rules.specs.Acts.{Acts};
-ghost use Rattle.bq_eval_rules.specs.Round.{views_of};
 ghost use Rattle.bq_eval_rules.specs.Slots.{slots_of};
-ghost use Rattle.bq_eval_meaning_spec.specs.Module.{module_meaning, frozen_units};
-ghost use Rattle.bq_eval.specs.Outcomes.{program_run};
+ghost use Rattle.bq_eval.specs.Outcomes.{file_run, program_run};
 
 use crate::loads::first_globals;
 use crate::module::ResolvedModule;
@@ -48,7 +46,7 @@ pub(crate) fn run_module<'f, R: Runtime>(
     module: &ResolvedModule<'_>,
     runtime: &mut R,
 ) -> Result<Frame<'f>, EvalErr>
-    ensures { Acts R.means slots_of result (R.seen runtime.new) (module_meaning R.means (frozen_units «module».now.code.now (views_of «module».now.loaded.now)) «module».now.number «module».now.file.now «module».now.imports.now (R.seen runtime.old)) }
+    ensures { Acts R.means slots_of result (R.seen runtime.new) (file_run R.means «module».now (R.seen runtime.old)) }
 {
     let program = Program {
         number: module.number,

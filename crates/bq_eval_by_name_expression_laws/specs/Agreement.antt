@@ -15,11 +15,20 @@ use Rattle.bq_eval_meaning_spec.specs.Trees.{Calls}
 use Rattle.bq_eval_meaning_laws.specs.Layers.{IsWithin}
 use Rattle.bq_eval_by_name_spec.specs.Expressions as names
 use Rattle.bq_eval_by_name_spec.specs.Names.{Env, Round, outside}
-use Rattle.bq_eval_by_name_expression_laws.specs.Shows.{Below, Nested, Shows}
+use Rattle.bq_eval_by_name_expression_laws.specs.Shows.{Below, Nested, Shows, Around}
 
 -- calling a value with arguments means the same
 abbrev pub CallsAgree : {S : Type 0} → Calls S → Calls S → Type 0
 CallsAgree {S} call other = (v : Datum) (p : args.Passed) (s : S) → call v p s ≡ other v p s
+
+-- What is around all blocks of a file, and what calls mean, by names and by slots: both say the same.
+pub record Context (S : Type 0) (file : FileParts) : Type 0 where
+  pub round : Round
+  pub surroundings : Surroundings
+  pub around : Around file round surroundings
+  pub call : Calls S
+  pub other : Calls S
+  pub calls : CallsAgree call other
 
 -- What is around an expression says the same by names and by slots.
 module _ {S : Type 0} (m : Primitives S) (file : FileParts) (round : Round) (surroundings : Surroundings) (call other : Calls S) where

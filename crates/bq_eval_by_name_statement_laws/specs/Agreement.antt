@@ -26,7 +26,7 @@ use Rattle.bq_eval_by_name_spec.specs.Names.{Env, Round}
 use Rattle.bq_eval_by_name_spec.specs.Statements as names
 use Rattle.bq_eval_by_name_spec.specs.Trees.{Eval}
 use Rattle.bq_eval_by_name_expression_laws.specs.Alike.{Alike}
-use Rattle.bq_eval_by_name_expression_laws.specs.Shows.{Below, Reads, Shows}
+use Rattle.bq_eval_by_name_expression_laws.specs.Shows.{Below, Nested, Reads, Shows}
 
 -- what statements end with: the same comes after them, and of the names `R` holds
 abbrev pub Ended : (Env → Frame → Type 0) → Flow × Env → Flow × Frame → Type 0
@@ -38,6 +38,15 @@ abbrev pub EvalsAgree : {S : Type 0} → FileParts → List BlockParts → (Env 
 EvalsAgree {S} file blocks R eval other =
     (x : Expr) (c : Code) (p q : Passed) → Below blocks p.slots → scope.expr file blocks x p ≡ Ok (c, q) → ExprFits c
     → (env : Env) (frame : Frame) (s : S) → R env frame → eval x env s ≡ other c frame s
+
+-- The blocks that are open in a function, and what expressions mean there by names and by slots: both mean the same.
+pub record InFunction (S : Type 0) (file : FileParts) : Type 0 where
+  pub block : BlockParts
+  pub rest : List BlockParts
+  pub nested : Nested (block ∷ rest)
+  pub eval : Eval S
+  pub other : trees.Eval S
+  pub evals : EvalsAgree file (block ∷ rest) (Shows (block ∷ rest)) eval other
 
 -- A statement of a function that resolves, where the innermost block holds the names that the statement binds.
 module _ {S : Type 0} (m : Primitives S) (file : FileParts) (block : BlockParts) (rest : List BlockParts) (eval : Eval S) (other : trees.Eval S) where

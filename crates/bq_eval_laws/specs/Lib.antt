@@ -1,2 +1,4 @@
-pub mod Files
-pub mod Callable
+-- evaluations of files
+pub mod Evaluations
+-- calls
+pub mod Calls

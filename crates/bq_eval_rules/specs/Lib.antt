@@ -4,9 +4,15 @@ pub mod Slots
 pub mod Round
 pub mod Operands
 pub mod Nests
+pub mod Evaluators
 pub mod OpenLoops
+pub mod ComprehensionClauses
 pub mod Flows
+pub mod Effects
 pub mod Runs
+pub mod Readers
+pub mod Runners
 pub mod Fillings
 pub mod CodeUnits
+pub mod ContextCalls
 pub mod Direct

@@ -32,3 +32,9 @@ pub record Answers {R S : Type 0} (m : Primitives S) (seen : R → S) (bound : �
   pub callable : (c : Bor Context) (r : MutBor R) (v : Bor Datum) (p : Passed) → c.now.left ≤ bound → pre c r v p
   pub says : (c : Bor Context) (old new : MutBor R) (v : Bor Datum) (p : Passed) (result : Result Datum EvalErr) → post c old v p result new
       → Acts m (λ x. x) result (seen new.now) (inside m c.now v.now p (seen old.now))
+
+-- a function value answers calls in a context
+abbrev pub AnswersCalls : {R S C : Type 0} → Primitives S → (R → S) → Context → C
+    → (C → Bor Context → MutBor R → Bor Datum → Passed → Type 0)
+    → (C → Bor Context → MutBor R → Bor Datum → Passed → Result Datum EvalErr → MutBor R → Type 0) → Type 0
+AnswersCalls m seen c call pre post = Answers m seen c.left (pre call) (post call)

@@ -3,12 +3,14 @@ use Rattle.std.specs.Prelude.{List, map, slice_get, if◌then◌else◌}
 use Rattle.std.specs.declared.alloc.Global.{Global}
 use Rattle.std.specs.declared.sync.Arc.{Arc}
 use Rattle.bq_resolve_scope.specs.Names.{max_layers}
+use Rattle.bq_resolve_scope.specs.declared.code.CodeStmt.{CodeStmt}
 use Rattle.bq_value.specs.Cells.{FrozenView}
 use Rattle.bq_eval_meaning_spec.specs.Frame.{Frame, Surroundings, empty}
 use Rattle.bq_eval_meaning_spec.specs.Primitives.{Primitives}
 use Rattle.bq_eval_meaning_spec.specs.Trees.{Eval, Calls}
 use Rattle.bq_eval_meaning_spec.specs.Expressions.{expr_to}
 use Rattle.bq_eval_meaning_spec.specs.Calls.{Units, calls}
+use Rattle.bq_eval_meaning_spec.specs.Statements.{Exec, run_in}
 use Rattle.bq_eval_meaning_spec.specs.Module.{Own, own_round, with_own, frozen_units}
 use Rattle.bq_eval_rules.specs.declared.context.Globals.{Globals}
 use Rattle.bq_eval_rules.specs.declared.context.Globals.TheVariants as g
@@ -53,3 +55,7 @@ in_function m c = expr_to max_layers m (inside m c) (round_of c)
 -- what an expression of a statement means
 unfoldable pub evals : {S : Type 0} → Primitives S → Context → Eval S
 evals m c = if c.outside then outside_functions m c else in_function m c
+
+-- what a statement means
+abbrev pub execs : {S : Type 0} → Primitives S → Context → CodeStmt → Exec S
+execs m c = run_in m (evals m c)

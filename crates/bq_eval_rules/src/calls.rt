@@ -5,7 +5,9 @@ ghost use Rattle.bq_eval_meaning_spec.specs.Calls as meaning;
 ghost use Rattle.bq_eval_rules.specs.Acts.{Acts};
 ghost use Rattle.bq_eval_rules.specs.CodeUnits.{unit_of};
 ghost use Rattle.bq_eval_rules.specs.Slots.{slots_of};
-ghost use Rattle.bq_eval_rules.specs.Round.{inside, units_at, globals_of};
+ghost use Rattle.bq_eval_rules.specs.Round.{inside};
+ghost use Rattle.bq_eval_rules.specs.Effects.{Returns};
+ghost use Rattle.bq_eval_rules.specs.ContextCalls.{body_here, call_here, call_place};
 
 use crate::context::Context;
 use crate::direct::{are_plain, plain_frame};
@@ -83,7 +85,7 @@ pub fn run_body<R: Runtime>(
     function: &CodeFunction,
     frame: &mut Frame<'_>,
 ) -> Result<Value, EvalErr>
-    ensures { Acts R.means (λ v. v) result (R.seen runtime.new) (meaning.run_body R.means (meaning.inner_calls context.now.left R.means (units_at context.now.program.now (globals_of context.now.own))) (unit_of unit.now) function.now (slots_of frame.old) (R.seen runtime.old)) }
+    ensures { Returns R.means R.seen (body_here R.means context.now (unit_of unit.now) function.now (slots_of frame.old)) runtime.old result runtime.new }
 {
     if context.left == 0 {
         return Err(EvalErr::Bad(FaultKind::CallDepth));
@@ -112,7 +114,7 @@ pub fn call_function<R: Runtime>(
     function: &CodeFunction,
     args: Args,
 ) -> Result<Value, EvalErr>
-    ensures { Acts R.means (λ v. v) result (R.seen runtime.new) (meaning.call_function R.means (meaning.inner_calls context.now.left R.means (units_at context.now.program.now (globals_of context.now.own))) called.now.«module» called.now.place (unit_of unit.now) function.now called.now.defaults.items args (R.seen runtime.old)) }
+    ensures { Returns R.means R.seen (call_here R.means context.now called.now.«module» called.now.place (unit_of unit.now) function.now called.now.defaults.items args) runtime.old result runtime.new }
 {
     let mut frame = entry(
         context.alloc,
@@ -136,7 +138,7 @@ pub fn call_at<R: Runtime>(
     called: &Function,
     args: Args,
 ) -> Result<Value, EvalErr>
-    ensures { Acts R.means (λ v. v) result (R.seen runtime.new) (meaning.call_at R.means (units_at context.now.program.now (globals_of context.now.own)) (meaning.inner_calls context.now.left R.means (units_at context.now.program.now (globals_of context.now.own))) called.now.«module» called.now.place called.now.defaults.items args (R.seen runtime.old)) }
+    ensures { Returns R.means R.seen (call_place R.means context.now called.now.«module» called.now.place called.now.defaults.items args) runtime.old result runtime.new }
 {
     match unit_at(context.program, context.own, called.module) {
         None => Err(EvalErr::Bad(FaultKind::WrongType)),
@@ -156,7 +158,7 @@ pub fn call<R: Runtime>(
     value: &Value,
     args: Args,
 ) -> Result<Value, EvalErr>
-    ensures { Acts R.means (λ v. v) result (R.seen runtime.new) (inside R.means context.now value.now args (R.seen runtime.old)) }
+    ensures { Returns R.means R.seen (inside R.means context.now value.now args) runtime.old result runtime.new }
 {
     match &value.node {
         Node::Function(function) => call_at(context, runtime, function, args),

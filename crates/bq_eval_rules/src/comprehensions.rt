@@ -1,13 +1,15 @@
 //! Comprehensions.
 
-ghost use Rattle.std.specs.Prelude.{◌≡◌, [], IfOk};
+ghost use Rattle.std.specs.Prelude.{◌≡◌, []};
 ghost use Rattle.bq_value.specs.Contents.{items, pairs};
-ghost use Rattle.bq_builtin_machine.specs.Action.{following, pure};
+ghost use Rattle.bq_builtin_machine.specs.Action.{pure, ◌>>=◌ as and_then};
 ghost use Rattle.bq_eval_meaning_spec.specs.Comprehensions as meaning;
-ghost use Rattle.bq_eval_rules.specs.Acts.{Acts, Leaves};
+ghost use Rattle.bq_eval_rules.specs.Acts.{Acts};
 ghost use Rattle.bq_eval_rules.specs.Slots.{slots_of};
-ghost use Rattle.bq_eval_rules.specs.Nests.{Nests, nested};
-ghost use Rattle.bq_eval_rules.specs.OpenLoops.{loop_of, inner_of, opening, loop_left, inner_left, turn_count, clauses_count, inner_count};
+ghost use Rattle.bq_eval_rules.specs.OpenLoops.{loop_of, opening};
+ghost use Rattle.bq_eval_rules.specs.Effects.{Returns, Produces, Collects};
+ghost use Rattle.bq_eval_rules.specs.Evaluators.{EvaluatesInside, evals_in, frame_of};
+ghost use Rattle.bq_eval_rules.specs.ComprehensionClauses.{element_in, clauses_in, turns_left, ClausesOpen, ClausesCount, TurnOpens, TurnCounts};
 
 use crate::context::Context;
 use crate::evaluator::Evaluator;
@@ -28,8 +30,8 @@ impl<
     /// Appends an element.
     #[tactic(auto, unfolding(bq_eval_meaning_spec::specs::Comprehensions::element))]
     fn element(&self, runtime: &mut R, content: &mut Content, code: &Code) -> Result<(), EvalErr>
-        requires { Nests R.means R.seen self.now.context.now.left self.now.depth self.now.call (F.pre self.now.eval) (F.post self.now.eval) }
-        ensures { Acts R.means (λ _. (content.new, slots_of self.now.frame.now)) result (R.seen runtime.new) (meaning.element R.means (nested R.means self.now.depth self.now.context.now) code.now (slots_of self.now.frame.now) content.old (R.seen runtime.old)) }
+        requires { EvaluatesInside R.means R.seen self.now F.pre F.post }
+        ensures { Collects R.means R.seen (meaning.element R.means (evals_in R.means self.now) code.now) (frame_of self.now) content.old runtime.old result (frame_of self.now) content.new runtime.new }
     {
         let value = self.value(runtime, code)?;
         runtime.add(content, value)
@@ -43,8 +45,8 @@ impl<
         content: &mut Content,
         pair: &CodePair,
     ) -> Result<(), EvalErr>
-        requires { Nests R.means R.seen self.now.context.now.left self.now.depth self.now.call (F.pre self.now.eval) (F.post self.now.eval) }
-        ensures { Acts R.means (λ _. (content.new, slots_of self.now.frame.now)) result (R.seen runtime.new) (meaning.pair_element R.means (nested R.means self.now.depth self.now.context.now) pair.now (slots_of self.now.frame.now) content.old (R.seen runtime.old)) }
+        requires { EvaluatesInside R.means R.seen self.now F.pre F.post }
+        ensures { Collects R.means R.seen (meaning.pair_element R.means (evals_in R.means self.now) pair.now) (frame_of self.now) content.old runtime.old result (frame_of self.now) content.new runtime.new }
     {
         let key = self.value(runtime, &pair.key)?;
         let value = self.value(runtime, &pair.value)?;
@@ -59,8 +61,8 @@ impl<
         content: &mut Content,
         comprehension: &Code,
     ) -> Result<(), EvalErr>
-        requires { Nests R.means R.seen self.now.context.now.left self.now.depth self.now.call (F.pre self.now.eval) (F.post self.now.eval) }
-        ensures { Acts R.means (λ _. (content.new, slots_of self.now.frame.now)) result (R.seen runtime.new) (meaning.body R.means (nested R.means self.now.depth self.now.context.now) comprehension.now (slots_of self.now.frame.now) content.old (R.seen runtime.old)) }
+        requires { EvaluatesInside R.means R.seen self.now F.pre F.post }
+        ensures { Collects R.means R.seen (element_in R.means self.now comprehension.now) (frame_of self.now) content.old runtime.old result (frame_of self.now) content.new runtime.new }
     {
         match comprehension {
             Code::ListComprehension(code, _) => self.element(runtime, content, code.get()),
@@ -78,8 +80,8 @@ impl<
         iterable: &Code,
         after: &'c [CodeClause],
     ) -> Result<OpenLoop<'c>, EvalErr>
-        requires { Nests R.means R.seen self.now.context.now.left self.now.depth self.now.call (F.pre self.now.eval) (F.post self.now.eval) }
-        ensures { Acts R.means loop_of result (R.seen runtime.new) (opening R.means (nested R.means self.now.depth self.now.context.now) target.now iterable.now after.now (slots_of self.now.frame.now) (R.seen runtime.old)) }
+        requires { EvaluatesInside R.means R.seen self.now F.pre F.post }
+        ensures { Acts R.means loop_of result (R.seen runtime.new) (opening R.means (evals_in R.means self.now) target.now iterable.now after.now (frame_of self.now) (R.seen runtime.old)) }
     {
         let walked = self.value(runtime, iterable)?;
         let elements = runtime.begin_walk(self.context.alloc, &walked)?;
@@ -99,9 +101,9 @@ impl<
         clauses: &'c [CodeClause],
         comprehension: &Code,
     ) -> Result<Option<OpenLoop<'c>>, EvalErr>
-        requires { Nests R.means R.seen self.now.context.now.left self.now.depth self.now.call (F.pre self.now.eval) (F.post self.now.eval) }
-        ensures leaves { Leaves R.means (λ inner. inner_left R.means (nested R.means self.now.depth self.now.context.now) (meaning.body R.means (nested R.means self.now.depth self.now.context.now) comprehension.now) (inner_of inner) (slots_of self.now.frame.now) content.new (R.seen runtime.new)) result (R.seen runtime.new) (meaning.clauses R.means (nested R.means self.now.depth self.now.context.now) clauses.now (meaning.body R.means (nested R.means self.now.depth self.now.context.now) comprehension.now) (slots_of self.now.frame.now) content.old (R.seen runtime.old)) }
-        ensures counts { IfOk result (λ inner. clauses_count R.means (nested R.means self.now.depth self.now.context.now) (meaning.body R.means (nested R.means self.now.depth self.now.context.now) comprehension.now) clauses.now (slots_of self.now.frame.now) content.old (R.seen runtime.old) ≡ inner_count R.means (nested R.means self.now.depth self.now.context.now) (meaning.body R.means (nested R.means self.now.depth self.now.context.now) comprehension.now) (inner_of inner) (slots_of self.now.frame.now) content.new (R.seen runtime.new)) }
+        requires { EvaluatesInside R.means R.seen self.now F.pre F.post }
+        ensures leaves { ClausesOpen R.means R.seen self.now comprehension.now clauses.now (frame_of self.now) content.old runtime.old result content.new runtime.new }
+        ensures counts { ClausesCount R.means R.seen self.now comprehension.now clauses.now (frame_of self.now) content.old runtime.old result content.new runtime.new }
     {
         let mut rest = clauses;
         while let [clause, after @ ..] = rest {
@@ -143,9 +145,9 @@ impl<
         content: &mut Content,
         clauses: &'c [CodeClause],
     ) -> Result<Option<OpenLoop<'c>>, EvalErr>
-        requires { Nests R.means R.seen self.now.rules.now.context.now.left self.now.rules.now.depth self.now.rules.now.call (F.pre self.now.rules.now.eval) (F.post self.now.rules.now.eval) }
-        ensures leaves { Leaves R.means (λ inner. inner_left R.means (nested R.means self.now.rules.now.depth self.now.rules.now.context.now) (meaning.body R.means (nested R.means self.now.rules.now.depth self.now.rules.now.context.now) self.now.code.now) (inner_of inner) (slots_of frame.now) content.new (R.seen runtime.new)) result (R.seen runtime.new) (meaning.clauses R.means (nested R.means self.now.rules.now.depth self.now.rules.now.context.now) clauses.now (meaning.body R.means (nested R.means self.now.rules.now.depth self.now.rules.now.context.now) self.now.code.now) (slots_of frame.now) content.old (R.seen runtime.old)) }
-        ensures counts { IfOk result (λ inner. clauses_count R.means (nested R.means self.now.rules.now.depth self.now.rules.now.context.now) (meaning.body R.means (nested R.means self.now.rules.now.depth self.now.rules.now.context.now) self.now.code.now) clauses.now (slots_of frame.now) content.old (R.seen runtime.old) ≡ inner_count R.means (nested R.means self.now.rules.now.depth self.now.rules.now.context.now) (meaning.body R.means (nested R.means self.now.rules.now.depth self.now.rules.now.context.now) self.now.code.now) (inner_of inner) (slots_of frame.now) content.new (R.seen runtime.new)) }
+        requires { EvaluatesInside R.means R.seen self.now.rules.now F.pre F.post }
+        ensures leaves { ClausesOpen R.means R.seen self.now.rules.now self.now.code.now clauses.now (slots_of frame.now) content.old runtime.old result content.new runtime.new }
+        ensures counts { ClausesCount R.means R.seen self.now.rules.now self.now.code.now clauses.now (slots_of frame.now) content.old runtime.old result content.new runtime.new }
     {
         Evaluator {
             context: self.rules.context,
@@ -168,9 +170,9 @@ impl<
         innermost: &OpenLoop<'c>,
         value: Value,
     ) -> Result<Option<OpenLoop<'c>>, EvalErr>
-        requires { Nests R.means R.seen self.now.rules.now.context.now.left self.now.rules.now.depth self.now.rules.now.call (F.pre self.now.rules.now.eval) (F.post self.now.rules.now.eval) }
-        ensures leaves { Leaves R.means (λ inner. inner_left R.means (nested R.means self.now.rules.now.depth self.now.rules.now.context.now) (meaning.body R.means (nested R.means self.now.rules.now.depth self.now.rules.now.context.now) self.now.code.now) (inner_of inner) (slots_of frame.new) content.new (R.seen runtime.new)) result (R.seen runtime.new) (meaning.turn R.means (nested R.means self.now.rules.now.depth self.now.rules.now.context.now) innermost.now.target.now (meaning.clauses R.means (nested R.means self.now.rules.now.depth self.now.rules.now.context.now) innermost.now.after.now (meaning.body R.means (nested R.means self.now.rules.now.depth self.now.rules.now.context.now) self.now.code.now)) value (slots_of frame.old) content.old (R.seen runtime.old)) }
-        ensures counts { IfOk result (λ inner. turn_count R.means (nested R.means self.now.rules.now.depth self.now.rules.now.context.now) (meaning.body R.means (nested R.means self.now.rules.now.depth self.now.rules.now.context.now) self.now.code.now) innermost.now.target.now (clauses_count R.means (nested R.means self.now.rules.now.depth self.now.rules.now.context.now) (meaning.body R.means (nested R.means self.now.rules.now.depth self.now.rules.now.context.now) self.now.code.now) innermost.now.after.now) value (slots_of frame.old) content.old (R.seen runtime.old) ≡ inner_count R.means (nested R.means self.now.rules.now.depth self.now.rules.now.context.now) (meaning.body R.means (nested R.means self.now.rules.now.depth self.now.rules.now.context.now) self.now.code.now) (inner_of inner) (slots_of frame.new) content.new (R.seen runtime.new)) }
+        requires { EvaluatesInside R.means R.seen self.now.rules.now F.pre F.post }
+        ensures leaves { TurnOpens R.means R.seen self.now.rules.now self.now.code.now innermost.now value (slots_of frame.old) content.old runtime.old result (slots_of frame.new) content.new runtime.new }
+        ensures counts { TurnCounts R.means R.seen self.now.rules.now self.now.code.now innermost.now value (slots_of frame.old) content.old runtime.old result (slots_of frame.new) content.new runtime.new }
     {
         begin_turn(
             self.rules.context.alloc,
@@ -190,8 +192,8 @@ impl<
         content: &mut Content,
         first: OpenLoop<'_>,
     ) -> Result<(), EvalErr>
-        requires { Nests R.means R.seen self.now.rules.now.context.now.left self.now.rules.now.depth self.now.rules.now.call (F.pre self.now.rules.now.eval) (F.post self.now.rules.now.eval) }
-        ensures { Acts R.means (λ _. (content.new, slots_of frame.new)) result (R.seen runtime.new) (loop_left R.means (nested R.means self.now.rules.now.depth self.now.rules.now.context.now) (meaning.body R.means (nested R.means self.now.rules.now.depth self.now.rules.now.context.now) self.now.code.now) (loop_of first.entry) (slots_of frame.old) content.old (R.seen runtime.old)) }
+        requires { EvaluatesInside R.means R.seen self.now.rules.now F.pre F.post }
+        ensures { Collects R.means R.seen (turns_left R.means self.now.rules.now self.now.code.now (loop_of first.entry)) (slots_of frame.old) content.old runtime.old result (slots_of frame.new) content.new runtime.new }
     {
         let mut outer = Vec::new(self.rules.context.alloc);
         let mut innermost = first;
@@ -221,8 +223,8 @@ impl<
         content: &mut Content,
         clauses: &[CodeClause],
     ) -> Result<(), EvalErr>
-        requires { Nests R.means R.seen self.now.rules.now.context.now.left self.now.rules.now.depth self.now.rules.now.call (F.pre self.now.rules.now.eval) (F.post self.now.rules.now.eval) }
-        ensures { Acts R.means (λ _. (content.new, slots_of frame.new)) result (R.seen runtime.new) (meaning.clauses R.means (nested R.means self.now.rules.now.depth self.now.rules.now.context.now) clauses.now (meaning.body R.means (nested R.means self.now.rules.now.depth self.now.rules.now.context.now) self.now.code.now) (slots_of frame.old) content.old (R.seen runtime.old)) }
+        requires { EvaluatesInside R.means R.seen self.now.rules.now F.pre F.post }
+        ensures { Collects R.means R.seen (clauses_in R.means self.now.rules.now self.now.code.now clauses.now) (slots_of frame.old) content.old runtime.old result (slots_of frame.new) content.new runtime.new }
     {
         match self.inward(&*frame, runtime, content, clauses)? {
             None => Ok(()),
@@ -245,8 +247,8 @@ impl<
         comprehension: &Code,
         clauses: &[CodeClause],
     ) -> Result<(), EvalErr>
-        requires { Nests R.means R.seen self.now.context.now.left self.now.depth self.now.call (F.pre self.now.eval) (F.post self.now.eval) }
-        ensures { Acts R.means (λ _. content.new) result (R.seen runtime.new) (following (meaning.clauses R.means (nested R.means self.now.depth self.now.context.now) clauses.now (meaning.body R.means (nested R.means self.now.depth self.now.context.now) comprehension.now) (slots_of self.now.frame.now) content.old (R.seen runtime.old)) (λ made. pure made.0)) }
+        requires { EvaluatesInside R.means R.seen self.now F.pre F.post }
+        ensures { Produces R.means R.seen content.new (and_then (clauses_in R.means self.now comprehension.now clauses.now (frame_of self.now) content.old) (λ made. pure made.0)) runtime.old result runtime.new }
     {
         let mut inner = self.frame.inside(self.context.alloc)?;
         Comprehension {
@@ -265,8 +267,8 @@ impl<
         comprehension: &Code,
         clauses: &[CodeClause],
     ) -> Result<Value, EvalErr>
-        requires { Nests R.means R.seen self.now.context.now.left self.now.depth self.now.call (F.pre self.now.eval) (F.post self.now.eval) }
-        ensures { Acts R.means (λ v. v) result (R.seen runtime.new) (meaning.comprehension R.means (nested R.means self.now.depth self.now.context.now) empty comprehension.now clauses.now (slots_of self.now.frame.now) (R.seen runtime.old)) }
+        requires { EvaluatesInside R.means R.seen self.now F.pre F.post }
+        ensures { Returns R.means R.seen (meaning.comprehension R.means (evals_in R.means self.now) empty comprehension.now clauses.now (frame_of self.now)) runtime.old result runtime.new }
     {
         runtime.step(1)?;
         let mut content = empty;
@@ -282,8 +284,8 @@ impl<
         comprehension: &Code,
         clauses: &[CodeClause],
     ) -> Result<Value, EvalErr>
-        requires { Nests R.means R.seen self.now.context.now.left self.now.depth self.now.call (F.pre self.now.eval) (F.post self.now.eval) }
-        ensures { Acts R.means (λ v. v) result (R.seen runtime.new) (meaning.comprehension R.means (nested R.means self.now.depth self.now.context.now) (items []) comprehension.now clauses.now (slots_of self.now.frame.now) (R.seen runtime.old)) }
+        requires { EvaluatesInside R.means R.seen self.now F.pre F.post }
+        ensures { Returns R.means R.seen (meaning.comprehension R.means (evals_in R.means self.now) (items []) comprehension.now clauses.now (frame_of self.now)) runtime.old result runtime.new }
     {
         let empty = Content::list(Vec::new(self.context.alloc));
         self.comprehension(runtime, empty, comprehension, clauses)
@@ -297,8 +299,8 @@ impl<
         comprehension: &Code,
         clauses: &[CodeClause],
     ) -> Result<Value, EvalErr>
-        requires { Nests R.means R.seen self.now.context.now.left self.now.depth self.now.call (F.pre self.now.eval) (F.post self.now.eval) }
-        ensures { Acts R.means (λ v. v) result (R.seen runtime.new) (meaning.comprehension R.means (nested R.means self.now.depth self.now.context.now) (pairs []) comprehension.now clauses.now (slots_of self.now.frame.now) (R.seen runtime.old)) }
+        requires { EvaluatesInside R.means R.seen self.now F.pre F.post }
+        ensures { Returns R.means R.seen (meaning.comprehension R.means (evals_in R.means self.now) (pairs []) comprehension.now clauses.now (frame_of self.now)) runtime.old result runtime.new }
     {
         let empty = Content::dict(Dict::new(self.context.alloc, runtime.seed()));
         self.comprehension(runtime, empty, comprehension, clauses)

@@ -3,8 +3,8 @@
 ghost use Rattle.std.specs.Prelude.{◌≡◌, []};
 ghost use Rattle.bq_eval_meaning_spec.specs.Expressions as meaning;
 ghost use Rattle.bq_eval_rules.specs.Acts.{Acts};
-ghost use Rattle.bq_eval_rules.specs.Slots.{slots_of};
-ghost use Rattle.bq_eval_rules.specs.Nests.{Nests, nested};
+ghost use Rattle.bq_eval_rules.specs.Effects.{Returns, Produces};
+ghost use Rattle.bq_eval_rules.specs.Evaluators.{EvaluatesInside, evals_in, frame_of};
 
 use crate::context::Context;
 use crate::evaluator::Evaluator;
@@ -22,8 +22,8 @@ impl<
     /// Evaluates expressions, one after another.
     #[tactic(auto, unfolding(bq_eval_meaning_spec::specs::Expressions::values))]
     pub fn values(&self, runtime: &mut R, codes: &[Code]) -> Result<Vec<Value>, EvalErr>
-        requires { Nests R.means R.seen self.now.context.now.left self.now.depth self.now.call (F.pre self.now.eval) (F.post self.now.eval) }
-        ensures { Acts R.means (λ vs. vs.items) result (R.seen runtime.new) (meaning.values R.means (nested R.means self.now.depth self.now.context.now) codes.now (slots_of self.now.frame.now) [] (R.seen runtime.old)) }
+        requires { EvaluatesInside R.means R.seen self.now F.pre F.post }
+        ensures { Acts R.means (λ vs. vs.items) result (R.seen runtime.new) (meaning.values R.means (evals_in R.means self.now) codes.now (frame_of self.now) [] (R.seen runtime.old)) }
     {
         let mut all = Vec::with_capacity(self.context.alloc, codes.len())?;
         for code in codes {
@@ -36,8 +36,8 @@ impl<
     #[inline(never)]
     #[tactic(auto, unfolding(bq_eval_meaning_spec::specs::Expressions::list_display))]
     pub fn list_display(&self, runtime: &mut R, codes: &[Code]) -> Result<Value, EvalErr>
-        requires { Nests R.means R.seen self.now.context.now.left self.now.depth self.now.call (F.pre self.now.eval) (F.post self.now.eval) }
-        ensures { Acts R.means (λ v. v) result (R.seen runtime.new) (meaning.list_display R.means (nested R.means self.now.depth self.now.context.now) codes.now (slots_of self.now.frame.now) (R.seen runtime.old)) }
+        requires { EvaluatesInside R.means R.seen self.now F.pre F.post }
+        ensures { Returns R.means R.seen (meaning.list_display R.means (evals_in R.means self.now) codes.now (frame_of self.now)) runtime.old result runtime.new }
     {
         runtime.step(1)?;
         let values = self.values(runtime, codes)?;
@@ -48,8 +48,8 @@ impl<
     #[inline(never)]
     #[tactic(auto, unfolding(bq_eval_meaning_spec::specs::Expressions::tuple_display))]
     pub fn tuple_display(&self, runtime: &mut R, codes: &[Code]) -> Result<Value, EvalErr>
-        requires { Nests R.means R.seen self.now.context.now.left self.now.depth self.now.call (F.pre self.now.eval) (F.post self.now.eval) }
-        ensures { Acts R.means (λ v. v) result (R.seen runtime.new) (meaning.tuple_display R.means (nested R.means self.now.depth self.now.context.now) codes.now (slots_of self.now.frame.now) (R.seen runtime.old)) }
+        requires { EvaluatesInside R.means R.seen self.now F.pre F.post }
+        ensures { Returns R.means R.seen (meaning.tuple_display R.means (evals_in R.means self.now) codes.now (frame_of self.now)) runtime.old result runtime.new }
     {
         runtime.step(1)?;
         let values = self.values(runtime, codes)?;
@@ -59,8 +59,8 @@ impl<
     /// Evaluates `key: value` of a display, and adds it.
     #[tactic(auto, unfolding(bq_eval_meaning_spec::specs::Expressions::pair))]
     fn pair(&self, runtime: &mut R, content: &mut Content, pair: &CodePair) -> Result<(), EvalErr>
-        requires { Nests R.means R.seen self.now.context.now.left self.now.depth self.now.call (F.pre self.now.eval) (F.post self.now.eval) }
-        ensures { Acts R.means (λ _. content.new) result (R.seen runtime.new) (meaning.pair R.means (nested R.means self.now.depth self.now.context.now) pair.now (slots_of self.now.frame.now) content.old (R.seen runtime.old)) }
+        requires { EvaluatesInside R.means R.seen self.now F.pre F.post }
+        ensures { Produces R.means R.seen content.new (meaning.pair R.means (evals_in R.means self.now) pair.now (frame_of self.now) content.old) runtime.old result runtime.new }
     {
         let key = self.value(runtime, &pair.key)?;
         let value = self.value(runtime, &pair.value)?;
@@ -74,8 +74,8 @@ impl<
         content: &mut Content,
         pairs: &[CodePair],
     ) -> Result<(), EvalErr>
-        requires { Nests R.means R.seen self.now.context.now.left self.now.depth self.now.call (F.pre self.now.eval) (F.post self.now.eval) }
-        ensures { Acts R.means (λ _. content.new) result (R.seen runtime.new) (meaning.pairs_each R.means (nested R.means self.now.depth self.now.context.now) pairs.now (slots_of self.now.frame.now) content.old (R.seen runtime.old)) }
+        requires { EvaluatesInside R.means R.seen self.now F.pre F.post }
+        ensures { Produces R.means R.seen content.new (meaning.pairs_each R.means (evals_in R.means self.now) pairs.now (frame_of self.now) content.old) runtime.old result runtime.new }
     {
         for pair in pairs {
             self.pair(runtime, content, pair)?;
@@ -87,8 +87,8 @@ impl<
     #[inline(never)]
     #[tactic(auto, unfolding(bq_eval_meaning_spec::specs::Expressions::dict_display))]
     pub fn dict_display(&self, runtime: &mut R, pairs: &[CodePair]) -> Result<Value, EvalErr>
-        requires { Nests R.means R.seen self.now.context.now.left self.now.depth self.now.call (F.pre self.now.eval) (F.post self.now.eval) }
-        ensures { Acts R.means (λ v. v) result (R.seen runtime.new) (meaning.dict_display R.means (nested R.means self.now.depth self.now.context.now) pairs.now (slots_of self.now.frame.now) (R.seen runtime.old)) }
+        requires { EvaluatesInside R.means R.seen self.now F.pre F.post }
+        ensures { Returns R.means R.seen (meaning.dict_display R.means (evals_in R.means self.now) pairs.now (frame_of self.now)) runtime.old result runtime.new }
     {
         runtime.step(1)?;
         let mut content = Content::dict(Dict::new(self.context.alloc, runtime.seed()));

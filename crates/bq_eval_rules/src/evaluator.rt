@@ -2,12 +2,12 @@
 
 ghost use Rattle.std.specs.Prelude.{◌≡◌};
 ghost use Rattle.bq_value.specs.Datum.{int};
-ghost use Rattle.bq_builtin_machine.specs.Action.{following, done};
+ghost use Rattle.bq_builtin_machine.specs.Action.{done, ◌>>=◌ as and_then};
 ghost use Rattle.bq_eval_meaning_spec.specs.Expressions as meaning;
 ghost use Rattle.bq_eval_rules.specs.Acts.{Acts};
-ghost use Rattle.bq_eval_rules.specs.Slots.{slots_of};
 ghost use Rattle.bq_eval_rules.specs.Operands.{read_of};
-ghost use Rattle.bq_eval_rules.specs.Nests.{Nests, nested};
+ghost use Rattle.bq_eval_rules.specs.Effects.{Returns};
+ghost use Rattle.bq_eval_rules.specs.Evaluators.{EvaluatesInside, value_inside};
 
 use crate::context::Context;
 use crate::frame::Frame;
@@ -38,8 +38,8 @@ impl<
     /// Evaluates an expression inside.
     #[inline(always)]
     pub fn value(&self, runtime: &mut R, code: &Code) -> Result<Value, EvalErr>
-        requires { Nests R.means R.seen self.now.context.now.left self.now.depth self.now.call (F.pre self.now.eval) (F.post self.now.eval) }
-        ensures { Acts R.means (λ v. v) result (R.seen runtime.new) (nested R.means self.now.depth self.now.context.now code.now (slots_of self.now.frame.now) (R.seen runtime.old)) }
+        requires { EvaluatesInside R.means R.seen self.now F.pre F.post }
+        ensures { Returns R.means R.seen (value_inside R.means self.now code.now) runtime.old result runtime.new }
     {
         (self.eval)(
             self.context,
@@ -55,7 +55,7 @@ impl<
     #[tactic(auto, unfolding(bq_eval_meaning_spec::specs::Expressions::literal))]
     #[inline(always)]
     pub fn literal(&self, runtime: &mut R, value: Value) -> Result<Value, EvalErr>
-        ensures { Acts R.means (λ v. v) result (R.seen runtime.new) (meaning.literal R.means value (R.seen runtime.old)) }
+        ensures { Returns R.means R.seen (meaning.literal R.means value) runtime.old result runtime.new }
     {
         runtime.step(1)?;
         Ok(value)
@@ -73,8 +73,8 @@ impl<
     /// made here.
     #[inline(always)]
     pub fn operand(&self, runtime: &mut R, code: &Code) -> Result<Operand<'a>, EvalErr>
-        requires { Nests R.means R.seen self.now.context.now.left self.now.depth self.now.call (F.pre self.now.eval) (F.post self.now.eval) }
-        ensures { Acts R.means read_of result (R.seen runtime.new) (nested R.means self.now.depth self.now.context.now code.now (slots_of self.now.frame.now) (R.seen runtime.old)) }
+        requires { EvaluatesInside R.means R.seen self.now F.pre F.post }
+        ensures { Acts R.means read_of result (R.seen runtime.new) (value_inside R.means self.now code.now (R.seen runtime.old)) }
     {
         if self.depth > 0 {
             if let Code::Use(binding) = code {
@@ -90,8 +90,8 @@ impl<
     /// Evaluates a condition.
     #[inline(always)]
     pub fn holds(&self, runtime: &mut R, condition: &Code) -> Result<bool, EvalErr>
-        requires { Nests R.means R.seen self.now.context.now.left self.now.depth self.now.call (F.pre self.now.eval) (F.post self.now.eval) }
-        ensures { Acts R.means (λ b. b) result (R.seen runtime.new) (following (nested R.means self.now.depth self.now.context.now condition.now (slots_of self.now.frame.now) (R.seen runtime.old)) (λ v s. done (R.means.truth v s) s)) }
+        requires { EvaluatesInside R.means R.seen self.now F.pre F.post }
+        ensures { Returns R.means R.seen (and_then (value_inside R.means self.now condition.now) (λ v s. done (R.means.truth v s) s)) runtime.old result runtime.new }
     {
         let condition = self.operand(runtime, condition)?;
         Ok(runtime.truth(condition.get()))

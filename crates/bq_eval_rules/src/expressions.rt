@@ -2,10 +2,10 @@
 
 ghost use Rattle.std.specs.Prelude.{◌≡◌};
 ghost use Rattle.bq_eval_meaning_spec.specs.Expressions as meaning;
-ghost use Rattle.bq_eval_rules.specs.Acts.{Acts};
 ghost use Rattle.bq_eval_rules.specs.Slots.{slots_of};
-ghost use Rattle.bq_eval_rules.specs.Nests.{Nests, Answers, nested};
-ghost use Rattle.bq_eval_rules.specs.Round.{inside, round_of};
+ghost use Rattle.bq_eval_rules.specs.Nests.{nested, AnswersCalls};
+ghost use Rattle.bq_eval_rules.specs.Effects.{Returns};
+ghost use Rattle.bq_eval_rules.specs.Evaluators.{EvaluatesInside, evals_in, calls_in, round_in, frame_of};
 
 use crate::context::Context;
 use crate::evaluator::Evaluator;
@@ -31,8 +31,8 @@ pub fn expr_to<
     runtime: &mut R,
     code: &Code,
 ) -> Result<Value, EvalErr>
-    requires { Answers R.means R.seen context.now.left (C.pre call) (C.post call) }
-    ensures { Acts R.means (λ v. v) result (R.seen runtime.new) (nested R.means depth context.now code.now (slots_of frame.now) (R.seen runtime.old)) }
+    requires { AnswersCalls R.means R.seen context.now call C.pre C.post }
+    ensures { Returns R.means R.seen (nested R.means depth context.now code.now (slots_of frame.now)) runtime.old result runtime.new }
 {
     if depth == 0 {
         return Err(EvalErr::Bad(FaultKind::Nesting));
@@ -58,9 +58,9 @@ impl<
     /// Evaluates an expression. No byte of a string is copied.
     #[tactic(auto, unfolding(bq_eval_meaning_spec::specs::Expressions::expr))]
     pub fn expr(&self, runtime: &mut R, code: &Code) -> Result<Value, EvalErr>
-        requires nests { Nests R.means R.seen self.now.context.now.left self.now.depth self.now.call (F.pre self.now.eval) (F.post self.now.eval) }
-        requires answers { Answers R.means R.seen self.now.context.now.left (C.pre self.now.call) (C.post self.now.call) }
-        ensures { Acts R.means (λ v. v) result (R.seen runtime.new) (meaning.expr R.means (nested R.means self.now.depth self.now.context.now) (inside R.means self.now.context.now) (round_of self.now.context.now) code.now (slots_of self.now.frame.now) (R.seen runtime.old)) }
+        requires nests { EvaluatesInside R.means R.seen self.now F.pre F.post }
+        requires answers { AnswersCalls R.means R.seen self.now.context.now self.now.call C.pre C.post }
+        ensures { Returns R.means R.seen (meaning.expr R.means (evals_in R.means self.now) (calls_in R.means self.now) (round_in self.now) code.now (frame_of self.now)) runtime.old result runtime.new }
     {
         match code {
             Code::Use(binding) => Ok(use_of(self.context, self.frame, runtime, *binding)?.own()?),
@@ -100,8 +100,8 @@ impl<
     #[inline(never)]
     #[tactic(auto, unfolding(bq_eval_meaning_spec::specs::Expressions::framed), using(crate::proofs::Slots::none_filled))]
     fn framed(&self, runtime: &mut R, code: &Code) -> Result<Value, EvalErr>
-        requires { Nests R.means R.seen self.now.context.now.left self.now.depth self.now.call (F.pre self.now.eval) (F.post self.now.eval) }
-        ensures { Acts R.means (λ v. v) result (R.seen runtime.new) (meaning.framed R.means (nested R.means self.now.depth self.now.context.now) code.now (R.seen runtime.old)) }
+        requires { EvaluatesInside R.means R.seen self.now F.pre F.post }
+        ensures { Returns R.means R.seen (meaning.framed R.means (evals_in R.means self.now) code.now) runtime.old result runtime.new }
     {
         let frame = Frame::new(self.context.alloc);
         (self.eval)(self.context, self.depth, self.call, &frame, runtime, code)

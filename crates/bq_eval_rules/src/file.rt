@@ -4,10 +4,11 @@ ghost use Rattle.std.specs.Prelude.{◌≡◌, []};
 ghost use Rattle.bq_eval_meaning_spec.specs.Expressions as expressions;
 ghost use Rattle.bq_eval_meaning_spec.specs.Module as meaning;
 ghost use Rattle.bq_eval_rules.specs.Acts.{Acts};
-ghost use Rattle.bq_eval_rules.specs.Flows.{flow_of};
 ghost use Rattle.bq_eval_rules.specs.Slots.{slots_of};
-ghost use Rattle.bq_eval_rules.specs.Nests.{Answers};
+ghost use Rattle.bq_eval_rules.specs.Nests.{AnswersCalls};
 ghost use Rattle.bq_eval_rules.specs.Round.{evals, own_of};
+ghost use Rattle.bq_eval_rules.specs.Effects.{Executes};
+ghost use Rattle.bq_eval_rules.specs.Readers.{evals_of};
 
 use crate::calls::call;
 use crate::context::Context;
@@ -34,8 +35,8 @@ impl<
         runtime: &mut R,
         codes: &[Code],
     ) -> Result<Vec<Value>, EvalErr>
-        requires { Answers R.means R.seen self.now.context.now.left (C.pre self.now.call) (C.post self.now.call) }
-        ensures { Acts R.means (λ vs. vs.items) result (R.seen runtime.new) (expressions.values R.means (evals R.means self.now.context.now) codes.now (slots_of frame.now) [] (R.seen runtime.old)) }
+        requires { AnswersCalls R.means R.seen self.now.context.now self.now.call C.pre C.post }
+        ensures { Acts R.means (λ vs. vs.items) result (R.seen runtime.new) (expressions.values R.means (evals_of R.means self.now) codes.now (slots_of frame.now) [] (R.seen runtime.old)) }
     {
         let mut all = Vec::with_capacity(self.context.alloc, codes.len())?;
         for code in codes {
@@ -52,8 +53,8 @@ impl<
         runtime: &mut R,
         def: &CodeDef,
     ) -> Result<Flow, EvalErr>
-        requires { Answers R.means R.seen self.now.context.now.left (C.pre self.now.call) (C.post self.now.call) }
-        ensures { Acts R.means (λ f. (flow_of f, slots_of frame.new)) result (R.seen runtime.new) (meaning.def_stmt R.means (own_of self.now.context.now.program.now) (evals R.means self.now.context.now) def.now (slots_of frame.old) (R.seen runtime.old)) }
+        requires { AnswersCalls R.means R.seen self.now.context.now self.now.call C.pre C.post }
+        ensures { Executes R.means R.seen (meaning.def_stmt R.means (own_of self.now.context.now.program.now) (evals_of R.means self.now) def.now) frame.old runtime.old result frame.new runtime.new }
     {
         runtime.step(1)?;
         let defaults = self.values(frame, runtime, def.defaults.as_slice())?;
@@ -85,8 +86,8 @@ impl<
         runtime: &mut R,
         stmt: &CodeTopLevel,
     ) -> Result<Flow, EvalErr>
-        requires { Answers R.means R.seen self.now.context.now.left (C.pre self.now.call) (C.post self.now.call) }
-        ensures { Acts R.means (λ f. (flow_of f, slots_of frame.new)) result (R.seen runtime.new) (meaning.top_level R.means (own_of self.now.context.now.program.now) (evals R.means self.now.context.now) stmt.now (slots_of frame.old) (R.seen runtime.old)) }
+        requires { AnswersCalls R.means R.seen self.now.context.now self.now.call C.pre C.post }
+        ensures { Executes R.means R.seen (meaning.top_level R.means (own_of self.now.context.now.program.now) (evals_of R.means self.now) stmt.now) frame.old runtime.old result frame.new runtime.new }
     {
         runtime.at_line(stmt.line);
         match &stmt.statement {
@@ -103,8 +104,8 @@ impl<
         runtime: &mut R,
         stmts: &[CodeTopLevel],
     ) -> Result<Flow, EvalErr>
-        requires { Answers R.means R.seen self.now.context.now.left (C.pre self.now.call) (C.post self.now.call) }
-        ensures { Acts R.means (λ f. (flow_of f, slots_of frame.new)) result (R.seen runtime.new) (meaning.top_levels R.means (own_of self.now.context.now.program.now) (evals R.means self.now.context.now) stmts.now (slots_of frame.old) (R.seen runtime.old)) }
+        requires { AnswersCalls R.means R.seen self.now.context.now self.now.call C.pre C.post }
+        ensures { Executes R.means R.seen (meaning.top_levels R.means (own_of self.now.context.now.program.now) (evals_of R.means self.now) stmts.now) frame.old runtime.old result frame.new runtime.new }
     {
         for stmt in stmts {
             match self.top_level(frame, runtime, stmt)? {
@@ -125,7 +126,7 @@ pub fn run_file<R: Runtime>(
     runtime: &mut R,
     stmts: &[CodeTopLevel],
 ) -> Result<Flow, EvalErr>
-    ensures { Acts R.means (λ f. (flow_of f, slots_of frame.new)) result (R.seen runtime.new) (meaning.top_levels R.means (own_of context.now.program.now) (evals R.means context.now) stmts.now (slots_of frame.old) (R.seen runtime.old)) }
+    ensures { Executes R.means R.seen (meaning.top_levels R.means (own_of context.now.program.now) (evals R.means context.now) stmts.now) frame.old runtime.old result frame.new runtime.new }
 {
     let reader = Reader {
         context,

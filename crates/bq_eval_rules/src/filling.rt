@@ -2,8 +2,7 @@
 
 ghost use Rattle.std.specs.Prelude.{◌≡◌};
 ghost use Rattle.bq_eval_meaning_spec.specs.Calls as meaning;
-ghost use Rattle.bq_eval_rules.specs.Acts.{Acts};
-ghost use Rattle.bq_eval_rules.specs.Fillings.{filling_of};
+ghost use Rattle.bq_eval_rules.specs.Fillings.{filling_of, FillsFrame};
 ghost use Rattle.bq_eval_rules.specs.Slots.{slots_of};
 
 use crate::frame::Frame;
@@ -32,7 +31,7 @@ fn fill_plain<'a, R: Runtime>(
     frame: &mut Frame<'_>,
     slot: usize,
 ) -> Result<Filling<'a>, EvalErr>
-    ensures { Acts R.means (λ x. filling_of x (slots_of frame.new)) result (R.seen runtime.now) (meaning.with_value R.means slot filling.entry.values.now (filling_of filling.entry (slots_of frame.old)) (R.seen runtime.now)) }
+    ensures { FillsFrame R.means R.seen (meaning.with_value R.means slot filling.entry.values.now (filling_of filling.entry (slots_of frame.old))) runtime.now result frame.new }
 {
     let _ = runtime;
     match filling.values.split_first() {
@@ -57,7 +56,7 @@ fn fill_default<'a, R: Runtime>(
     frame: &mut Frame<'_>,
     slot: usize,
 ) -> Result<Filling<'a>, EvalErr>
-    ensures { Acts R.means (λ x. filling_of x (slots_of frame.new)) result (R.seen runtime.now) (meaning.with_default R.means slot filling.entry.values.now filling.entry.defaults.now (filling_of filling.entry (slots_of frame.old)) (R.seen runtime.now)) }
+    ensures { FillsFrame R.means R.seen (meaning.with_default R.means slot filling.entry.values.now filling.entry.defaults.now (filling_of filling.entry (slots_of frame.old))) runtime.now result frame.new }
 {
     let _ = runtime;
     let Some((argument, values)) = filling.values.split_first() else {
@@ -87,7 +86,7 @@ fn fill_parameter<'a, R: Runtime>(
     frame: &mut Frame<'_>,
     parameter: &CodeParameter,
 ) -> Result<Filling<'a>, EvalErr>
-    ensures { Acts R.means (λ x. filling_of x (slots_of frame.new)) result (R.seen runtime.now) (meaning.fill_parameter R.means parameter.now (filling_of filling.entry (slots_of frame.old)) (R.seen runtime.now)) }
+    ensures { FillsFrame R.means R.seen (meaning.fill_parameter R.means parameter.now (filling_of filling.entry (slots_of frame.old))) runtime.now result frame.new }
 {
     match parameter {
         CodeParameter::Plain(_, slot) => fill_plain(runtime, filling, frame, *slot),
@@ -114,7 +113,7 @@ pub fn fill_parameters<'a, R: Runtime>(
     frame: &mut Frame<'_>,
     parameters: &[CodeParameter],
 ) -> Result<Filling<'a>, EvalErr>
-    ensures { Acts R.means (λ x. filling_of x (slots_of frame.new)) result (R.seen runtime.now) (meaning.fill_parameters R.means parameters.now (filling_of filling.entry (slots_of frame.old)) (R.seen runtime.now)) }
+    ensures { FillsFrame R.means R.seen (meaning.fill_parameters R.means parameters.now (filling_of filling.entry (slots_of frame.old))) runtime.now result frame.new }
 {
     let mut left = filling;
     for parameter in parameters {

@@ -2,11 +2,10 @@
 
 ghost use Rattle.std.specs.Prelude.{◌≡◌, reverse};
 ghost use Rattle.bq_value.specs.Datum.{int};
-ghost use Rattle.bq_builtin_machine.specs.Action.{following};
+ghost use Rattle.bq_builtin_machine.specs.Action.{◌>>=◌ as and_then};
 ghost use Rattle.bq_eval_meaning_spec.specs.Expressions as meaning;
-ghost use Rattle.bq_eval_rules.specs.Acts.{Acts};
-ghost use Rattle.bq_eval_rules.specs.Slots.{slots_of};
-ghost use Rattle.bq_eval_rules.specs.Nests.{Nests, nested};
+ghost use Rattle.bq_eval_rules.specs.Effects.{Returns};
+ghost use Rattle.bq_eval_rules.specs.Evaluators.{EvaluatesInside, evals_in, frame_of, value_inside};
 
 use crate::context::Context;
 use crate::evaluator::Evaluator;
@@ -23,7 +22,7 @@ fn unary_each<R: Runtime>(
     operators: &[UnaryOperator],
     value: Value,
 ) -> Result<Value, EvalErr>
-    ensures { Acts R.means (λ v. v) result (R.seen runtime.new) (meaning.unary_each R.means (reverse operators.now) value (R.seen runtime.old)) }
+    ensures { Returns R.means R.seen (meaning.unary_each R.means (reverse operators.now) value) runtime.old result runtime.new }
 {
     let mut value = value;
     let mut rest = operators;
@@ -49,8 +48,8 @@ impl<
         operators: &[UnaryOperator],
         code: &Code,
     ) -> Result<Value, EvalErr>
-        requires { Nests R.means R.seen self.now.context.now.left self.now.depth self.now.call (F.pre self.now.eval) (F.post self.now.eval) }
-        ensures { Acts R.means (λ v. v) result (R.seen runtime.new) (meaning.unary R.means (nested R.means self.now.depth self.now.context.now) operators.now code.now (slots_of self.now.frame.now) (R.seen runtime.old)) }
+        requires { EvaluatesInside R.means R.seen self.now F.pre F.post }
+        ensures { Returns R.means R.seen (meaning.unary R.means (evals_in R.means self.now) operators.now code.now (frame_of self.now)) runtime.old result runtime.new }
     {
         runtime.step(operators.len() as u64)?;
         let value = self.value(runtime, code)?;
@@ -66,8 +65,8 @@ impl<
         operation: &CodeOperation,
         left: &Value,
     ) -> Result<Value, EvalErr>
-        requires { Nests R.means R.seen self.now.context.now.left self.now.depth self.now.call (F.pre self.now.eval) (F.post self.now.eval) }
-        ensures { Acts R.means (λ v. v) result (R.seen runtime.new) (meaning.operation R.means (nested R.means self.now.depth self.now.context.now) operation.now (slots_of self.now.frame.now) left.now (R.seen runtime.old)) }
+        requires { EvaluatesInside R.means R.seen self.now F.pre F.post }
+        ensures { Returns R.means R.seen (meaning.operation R.means (evals_in R.means self.now) operation.now (frame_of self.now) left.now) runtime.old result runtime.new }
     {
         match operation.operator {
             Operator::And => {
@@ -95,7 +94,7 @@ impl<
         left: &Value,
         n: i64,
     ) -> Result<Value, EvalErr>
-        ensures { Acts R.means (λ v. v) result (R.seen runtime.new) (following (meaning.literal R.means (int n) (R.seen runtime.old)) (R.means.binary operator left.now)) }
+        ensures { Returns R.means R.seen (and_then (meaning.literal R.means (int n)) (R.means.binary operator left.now)) runtime.old result runtime.new }
     {
         let right = self.literal(runtime, Value::int(n))?;
         runtime.binary(operator, left, &right)
@@ -110,8 +109,8 @@ impl<
         left: &Value,
         operand: &Code,
     ) -> Result<Value, EvalErr>
-        requires { Nests R.means R.seen self.now.context.now.left self.now.depth self.now.call (F.pre self.now.eval) (F.post self.now.eval) }
-        ensures { Acts R.means (λ v. v) result (R.seen runtime.new) (following (nested R.means self.now.depth self.now.context.now operand.now (slots_of self.now.frame.now) (R.seen runtime.old)) (R.means.binary operator left.now)) }
+        requires { EvaluatesInside R.means R.seen self.now F.pre F.post }
+        ensures { Returns R.means R.seen (and_then (value_inside R.means self.now operand.now) (R.means.binary operator left.now)) runtime.old result runtime.new }
     {
         if self.depth > 0 {
             if let Code::Use(binding) = operand {
@@ -135,8 +134,8 @@ impl<
         operations: &[CodeOperation],
         first: Value,
     ) -> Result<Value, EvalErr>
-        requires { Nests R.means R.seen self.now.context.now.left self.now.depth self.now.call (F.pre self.now.eval) (F.post self.now.eval) }
-        ensures { Acts R.means (λ v. v) result (R.seen runtime.new) (meaning.operations R.means (nested R.means self.now.depth self.now.context.now) operations.now (slots_of self.now.frame.now) first (R.seen runtime.old)) }
+        requires { EvaluatesInside R.means R.seen self.now F.pre F.post }
+        ensures { Returns R.means R.seen (meaning.operations R.means (evals_in R.means self.now) operations.now (frame_of self.now) first) runtime.old result runtime.new }
     {
         let mut value = first;
         for operation in operations {
@@ -154,8 +153,8 @@ impl<
         operations: &[CodeOperation],
         first: &Value,
     ) -> Result<Value, EvalErr>
-        requires { Nests R.means R.seen self.now.context.now.left self.now.depth self.now.call (F.pre self.now.eval) (F.post self.now.eval) }
-        ensures { Acts R.means (λ v. v) result (R.seen runtime.new) (meaning.operations R.means (nested R.means self.now.depth self.now.context.now) operations.now (slots_of self.now.frame.now) first.now (R.seen runtime.old)) }
+        requires { EvaluatesInside R.means R.seen self.now F.pre F.post }
+        ensures { Returns R.means R.seen (meaning.operations R.means (evals_in R.means self.now) operations.now (frame_of self.now) first.now) runtime.old result runtime.new }
     {
         match operations {
             [operation] => self.operation(runtime, operation, first),
@@ -172,8 +171,8 @@ impl<
         operations: &[CodeOperation],
         first: &Value,
     ) -> Result<Value, EvalErr>
-        requires { Nests R.means R.seen self.now.context.now.left self.now.depth self.now.call (F.pre self.now.eval) (F.post self.now.eval) }
-        ensures { Acts R.means (λ v. v) result (R.seen runtime.new) (meaning.operations R.means (nested R.means self.now.depth self.now.context.now) operations.now (slots_of self.now.frame.now) first.now (R.seen runtime.old)) }
+        requires { EvaluatesInside R.means R.seen self.now F.pre F.post }
+        ensures { Returns R.means R.seen (meaning.operations R.means (evals_in R.means self.now) operations.now (frame_of self.now) first.now) runtime.old result runtime.new }
     {
         match operations {
             [] => Ok(first.share()?),
@@ -192,8 +191,8 @@ impl<
         code: &Code,
         operations: &[CodeOperation],
     ) -> Result<Value, EvalErr>
-        requires { Nests R.means R.seen self.now.context.now.left self.now.depth self.now.call (F.pre self.now.eval) (F.post self.now.eval) }
-        ensures { Acts R.means (λ v. v) result (R.seen runtime.new) (following (nested R.means self.now.depth self.now.context.now code.now (slots_of self.now.frame.now) (R.seen runtime.old)) (meaning.operations R.means (nested R.means self.now.depth self.now.context.now) operations.now (slots_of self.now.frame.now))) }
+        requires { EvaluatesInside R.means R.seen self.now F.pre F.post }
+        ensures { Returns R.means R.seen (and_then (value_inside R.means self.now code.now) (meaning.operations R.means (evals_in R.means self.now) operations.now (frame_of self.now))) runtime.old result runtime.new }
     {
         if self.depth > 0 {
             if let Code::Use(binding) = code {
@@ -215,8 +214,8 @@ impl<
         code: &Code,
         operations: &[CodeOperation],
     ) -> Result<Value, EvalErr>
-        requires { Nests R.means R.seen self.now.context.now.left self.now.depth self.now.call (F.pre self.now.eval) (F.post self.now.eval) }
-        ensures { Acts R.means (λ v. v) result (R.seen runtime.new) (meaning.binary R.means (nested R.means self.now.depth self.now.context.now) code.now operations.now (slots_of self.now.frame.now) (R.seen runtime.old)) }
+        requires { EvaluatesInside R.means R.seen self.now F.pre F.post }
+        ensures { Returns R.means R.seen (meaning.binary R.means (evals_in R.means self.now) code.now operations.now (frame_of self.now)) runtime.old result runtime.new }
     {
         runtime.step(operations.len() as u64)?;
         self.chain_of(runtime, code, operations)
@@ -230,8 +229,8 @@ impl<
         operator: Comparison,
         right: &Code,
     ) -> Result<Value, EvalErr>
-        requires { Nests R.means R.seen self.now.context.now.left self.now.depth self.now.call (F.pre self.now.eval) (F.post self.now.eval) }
-        ensures { Acts R.means (λ v. v) result (R.seen runtime.new) (meaning.compare R.means (nested R.means self.now.depth self.now.context.now) left.now operator right.now (slots_of self.now.frame.now) (R.seen runtime.old)) }
+        requires { EvaluatesInside R.means R.seen self.now F.pre F.post }
+        ensures { Returns R.means R.seen (meaning.compare R.means (evals_in R.means self.now) left.now operator right.now (frame_of self.now)) runtime.old result runtime.new }
     {
         runtime.step(1)?;
         let left = self.operand(runtime, left)?;
@@ -242,8 +241,8 @@ impl<
     /// Returns the value of a choice, if its condition holds.
     #[tactic(auto, unfolding(bq_eval_meaning_spec::specs::Expressions::choice))]
     fn choice(&self, runtime: &mut R, choice: &CodeChoice) -> Result<Option<Value>, EvalErr>
-        requires { Nests R.means R.seen self.now.context.now.left self.now.depth self.now.call (F.pre self.now.eval) (F.post self.now.eval) }
-        ensures { Acts R.means (λ o. o) result (R.seen runtime.new) (meaning.choice R.means (nested R.means self.now.depth self.now.context.now) choice.now (slots_of self.now.frame.now) (R.seen runtime.old)) }
+        requires { EvaluatesInside R.means R.seen self.now F.pre F.post }
+        ensures { Returns R.means R.seen (meaning.choice R.means (evals_in R.means self.now) choice.now (frame_of self.now)) runtime.old result runtime.new }
     {
         runtime.step(1)?;
         if self.holds(runtime, &choice.condition)? {
@@ -262,8 +261,8 @@ impl<
         choices: &[CodeChoice],
         otherwise: &Code,
     ) -> Result<Value, EvalErr>
-        requires { Nests R.means R.seen self.now.context.now.left self.now.depth self.now.call (F.pre self.now.eval) (F.post self.now.eval) }
-        ensures { Acts R.means (λ v. v) result (R.seen runtime.new) (meaning.conditional R.means (nested R.means self.now.depth self.now.context.now) choices.now otherwise.now (slots_of self.now.frame.now) (R.seen runtime.old)) }
+        requires { EvaluatesInside R.means R.seen self.now F.pre F.post }
+        ensures { Returns R.means R.seen (meaning.conditional R.means (evals_in R.means self.now) choices.now otherwise.now (frame_of self.now)) runtime.old result runtime.new }
     {
         for choice in choices {
             if let Some(value) = self.choice(runtime, choice)? {

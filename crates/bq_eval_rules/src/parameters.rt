@@ -6,7 +6,7 @@ ghost use Rattle.bq_value.specs.declared.error.EvalErr.TheVariants.{Bad};
 ghost use Rattle.bq_builtin_machine.specs.Binding as binding;
 ghost use Rattle.bq_builtin_machine.specs.Parameters.{parameter_of};
 ghost use Rattle.bq_eval_meaning_spec.specs.Calls as meaning;
-ghost use Rattle.bq_eval_rules.specs.Acts.{Acts};
+ghost use Rattle.bq_eval_rules.specs.Effects.{Returns};
 
 use crate::runtime::Runtime;
 use bq_builtin_machine::{Args, Bound, Signature, SingleParameter, bind};
@@ -126,7 +126,7 @@ pub fn keywords_of<R: Runtime>(
     takes: bool,
     keywords: Dict,
 ) -> Result<Value, EvalErr>
-    ensures { Acts R.means (λ v. v) result (R.seen runtime.new) (meaning.keywords_of R.means takes keywords (R.seen runtime.old)) }
+    ensures { Returns R.means R.seen (meaning.keywords_of R.means takes keywords) runtime.old result runtime.new }
 {
     if takes {
         return runtime.make(Content::dict(keywords));

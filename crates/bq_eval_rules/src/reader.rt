@@ -1,12 +1,13 @@
 //! The expressions of statements, and assignments.
 
 ghost use Rattle.std.specs.Prelude.{◌≡◌};
-ghost use Rattle.bq_builtin_machine.specs.Action.{following, done};
+ghost use Rattle.bq_builtin_machine.specs.Action.{done, ◌>>=◌ as and_then};
 ghost use Rattle.bq_eval_meaning_spec.specs.Targets as meaning;
-ghost use Rattle.bq_eval_rules.specs.Acts.{Acts};
 ghost use Rattle.bq_eval_rules.specs.Slots.{slots_of};
-ghost use Rattle.bq_eval_rules.specs.Nests.{Answers};
-ghost use Rattle.bq_eval_rules.specs.Round.{evals, outside_functions};
+ghost use Rattle.bq_eval_rules.specs.Nests.{AnswersCalls};
+ghost use Rattle.bq_eval_rules.specs.Round.{outside_functions};
+ghost use Rattle.bq_eval_rules.specs.Effects.{Returns, Produces, Rebinds};
+ghost use Rattle.bq_eval_rules.specs.Readers.{evals_of, places_in_each, places_in_target, augmented, augment_at};
 
 use crate::context::{Context, Globals};
 use crate::expressions::expr_to;
@@ -44,8 +45,8 @@ impl<
     /// Evaluates an expression. At top level, the frame has the globals.
     #[tactic(auto, unfolding(crate::specs::Round::evals, crate::specs::Round::in_function, bq_resolve_scope::specs::Names::max_layers))]
     pub fn value(&self, frame: &Frame<'_>, runtime: &mut R, code: &Code) -> Result<Value, EvalErr>
-        requires { Answers R.means R.seen self.now.context.now.left (C.pre self.now.call) (C.post self.now.call) }
-        ensures { Acts R.means (λ v. v) result (R.seen runtime.new) (evals R.means self.now.context.now code.now (slots_of frame.now) (R.seen runtime.old)) }
+        requires { AnswersCalls R.means R.seen self.now.context.now self.now.call C.pre C.post }
+        ensures { Returns R.means R.seen (evals_of R.means self.now code.now (slots_of frame.now)) runtime.old result runtime.new }
     {
         if self.context.outside {
             return self.outside(frame, runtime, code);
@@ -57,8 +58,8 @@ impl<
     #[inline(never)]
     #[tactic(auto, using(crate::proofs::Slots::none_filled), unfolding(crate::specs::Round::outside_functions, crate::specs::Round::inside, crate::specs::Round::round_of, crate::specs::Round::globals_of, bq_resolve_scope::specs::Names::max_layers))]
     fn outside(&self, frame: &Frame<'_>, runtime: &mut R, code: &Code) -> Result<Value, EvalErr>
-        requires { Answers R.means R.seen self.now.context.now.left (C.pre self.now.call) (C.post self.now.call) }
-        ensures { Acts R.means (λ v. v) result (R.seen runtime.new) (outside_functions R.means self.now.context.now code.now (slots_of frame.now) (R.seen runtime.old)) }
+        requires { AnswersCalls R.means R.seen self.now.context.now self.now.call C.pre C.post }
+        ensures { Returns R.means R.seen (outside_functions R.means self.now.context.now code.now (slots_of frame.now)) runtime.old result runtime.new }
     {
         let inner = Context {
             alloc: self.context.alloc,
@@ -81,8 +82,8 @@ impl<
         runtime: &mut R,
         condition: &Code,
     ) -> Result<bool, EvalErr>
-        requires { Answers R.means R.seen self.now.context.now.left (C.pre self.now.call) (C.post self.now.call) }
-        ensures { Acts R.means (λ b. b) result (R.seen runtime.new) (following (evals R.means self.now.context.now condition.now (slots_of frame.now) (R.seen runtime.old)) (λ v s. done (R.means.truth v s) s)) }
+        requires { AnswersCalls R.means R.seen self.now.context.now self.now.call C.pre C.post }
+        ensures { Returns R.means R.seen (and_then (evals_of R.means self.now condition.now (slots_of frame.now)) (λ v s. done (R.means.truth v s) s)) runtime.old result runtime.new }
     {
         let condition = self.value(frame, runtime, condition)?;
         Ok(runtime.truth(&condition))
@@ -100,8 +101,8 @@ impl<
         operand: &Code,
         index: &Code,
     ) -> Result<(), EvalErr>
-        requires { Answers R.means R.seen self.now.context.now.left (C.pre self.now.call) (C.post self.now.call) }
-        ensures { Acts R.means (λ _. places.new.items) result (R.seen runtime.new) (meaning.place R.means (evals R.means self.now.context.now) operand.now index.now (slots_of frame.now) places.old.items (R.seen runtime.old)) }
+        requires { AnswersCalls R.means R.seen self.now.context.now self.now.call C.pre C.post }
+        ensures { Produces R.means R.seen places.new.items (meaning.place R.means (evals_of R.means self.now) operand.now index.now (slots_of frame.now) places.old.items) runtime.old result runtime.new }
     {
         let operand = self.value(frame, runtime, operand)?;
         let index = self.value(frame, runtime, index)?;
@@ -119,8 +120,8 @@ impl<
         depth: usize,
         targets: &[CodeTarget],
     ) -> Result<(), EvalErr>
-        requires { Answers R.means R.seen self.now.context.now.left (C.pre self.now.call) (C.post self.now.call) }
-        ensures { Acts R.means (λ _. places.new.items) result (R.seen runtime.new) (meaning.places_each R.means (evals R.means self.now.context.now) (meaning.places_to R.means (evals R.means self.now.context.now) depth) targets.now (slots_of frame.now) places.old.items (R.seen runtime.old)) }
+        requires { AnswersCalls R.means R.seen self.now.context.now self.now.call C.pre C.post }
+        ensures { Produces R.means R.seen places.new.items (places_in_each R.means self.now depth targets.now (slots_of frame.now) places.old.items) runtime.old result runtime.new }
     {
         for target in targets {
             self.places_to(frame, runtime, places, depth, target)?;
@@ -138,8 +139,8 @@ impl<
         depth: usize,
         target: &CodeTarget,
     ) -> Result<(), EvalErr>
-        requires { Answers R.means R.seen self.now.context.now.left (C.pre self.now.call) (C.post self.now.call) }
-        ensures { Acts R.means (λ _. places.new.items) result (R.seen runtime.new) (meaning.places_of R.means (evals R.means self.now.context.now) (meaning.places_to R.means (evals R.means self.now.context.now) depth) target.now (slots_of frame.now) places.old.items (R.seen runtime.old)) }
+        requires { AnswersCalls R.means R.seen self.now.context.now self.now.call C.pre C.post }
+        ensures { Produces R.means R.seen places.new.items (places_in_target R.means self.now depth target.now (slots_of frame.now) places.old.items) runtime.old result runtime.new }
     {
         match target {
             CodeTarget::Local(_) => Ok(()),
@@ -167,8 +168,8 @@ impl<
         depth: usize,
         target: &CodeTarget,
     ) -> Result<(), EvalErr>
-        requires { Answers R.means R.seen self.now.context.now.left (C.pre self.now.call) (C.post self.now.call) }
-        ensures { Acts R.means (λ _. places.new.items) result (R.seen runtime.new) (meaning.places_to R.means (evals R.means self.now.context.now) depth target.now (slots_of frame.now) places.old.items (R.seen runtime.old)) }
+        requires { AnswersCalls R.means R.seen self.now.context.now self.now.call C.pre C.post }
+        ensures { Produces R.means R.seen places.new.items (meaning.places_to R.means (evals_of R.means self.now) depth target.now (slots_of frame.now) places.old.items) runtime.old result runtime.new }
     {
         if depth == 0 {
             return Err(EvalErr::Bad(FaultKind::Nesting));
@@ -187,8 +188,8 @@ impl<
         target: &CodeTarget,
         value: Value,
     ) -> Result<(), EvalErr>
-        requires { Answers R.means R.seen self.now.context.now.left (C.pre self.now.call) (C.post self.now.call) }
-        ensures { Acts R.means (λ _. slots_of frame.new) result (R.seen runtime.new) (meaning.assign R.means (evals R.means self.now.context.now) target.now value (slots_of frame.old) (R.seen runtime.old)) }
+        requires { AnswersCalls R.means R.seen self.now.context.now self.now.call C.pre C.post }
+        ensures { Rebinds R.means R.seen (meaning.assign R.means (evals_of R.means self.now) target.now value) frame.old runtime.old result frame.new runtime.new }
     {
         match target {
             CodeTarget::Local(slot) => Ok(frame.fill(*slot, value)?),
@@ -207,8 +208,8 @@ impl<
         target: &CodeTarget,
         value: Value,
     ) -> Result<(), EvalErr>
-        requires { Answers R.means R.seen self.now.context.now.left (C.pre self.now.call) (C.post self.now.call) }
-        ensures { Acts R.means (λ _. slots_of frame.new) result (R.seen runtime.new) (meaning.assign R.means (evals R.means self.now.context.now) target.now value (slots_of frame.old) (R.seen runtime.old)) }
+        requires { AnswersCalls R.means R.seen self.now.context.now self.now.call C.pre C.post }
+        ensures { Rebinds R.means R.seen (meaning.assign R.means (evals_of R.means self.now) target.now value) frame.old runtime.old result frame.new runtime.new }
     {
         let mut places = Vec::new(self.context.alloc);
         self.places_to(frame, runtime, &mut places, MAX_LAYERS, target)?;
@@ -223,13 +224,13 @@ impl<
         frame: &Frame<'_>,
         runtime: &mut R,
         old: &Value,
-        augmentation: Augmentation<'_>,
+        op: Augmentation<'_>,
     ) -> Result<Value, EvalErr>
-        requires { Answers R.means R.seen self.now.context.now.left (C.pre self.now.call) (C.post self.now.call) }
-        ensures { Acts R.means (λ v. v) result (R.seen runtime.new) (following (evals R.means self.now.context.now augmentation.entry.code.now (slots_of frame.now) (R.seen runtime.old)) (R.means.augment augmentation.entry.operator old.now)) }
+        requires { AnswersCalls R.means R.seen self.now.context.now self.now.call C.pre C.post }
+        ensures { Returns R.means R.seen (augmented R.means self.now op.entry.operator op.entry.code.now (slots_of frame.now) old.now) runtime.old result runtime.new }
     {
-        let value = self.value(frame, runtime, augmentation.code)?;
-        runtime.augment(augmentation.operator, old, &value)
+        let value = self.value(frame, runtime, op.code)?;
+        runtime.augment(op.operator, old, &value)
     }
 
     /// Carries out `name op= x`.
@@ -239,13 +240,13 @@ impl<
         frame: &mut Frame<'_>,
         runtime: &mut R,
         slot: usize,
-        augmentation: Augmentation<'_>,
+        op: Augmentation<'_>,
     ) -> Result<(), EvalErr>
-        requires { Answers R.means R.seen self.now.context.now.left (C.pre self.now.call) (C.post self.now.call) }
-        ensures { Acts R.means (λ _. slots_of frame.new) result (R.seen runtime.new) (meaning.augment_name R.means (evals R.means self.now.context.now) slot augmentation.entry.operator augmentation.entry.code.now (slots_of frame.old) (R.seen runtime.old)) }
+        requires { AnswersCalls R.means R.seen self.now.context.now self.now.call C.pre C.post }
+        ensures { Rebinds R.means R.seen (meaning.augment_name R.means (evals_of R.means self.now) slot op.entry.operator op.entry.code.now) frame.old runtime.old result frame.new runtime.new }
     {
         let old = frame.read(&*runtime, slot)?;
-        let new = self.augmented(frame, runtime, old, augmentation)?;
+        let new = self.augmented(frame, runtime, old, op)?;
         frame.fill(slot, new)?;
         Ok(())
     }
@@ -257,13 +258,13 @@ impl<
         runtime: &mut R,
         operand: &Value,
         index: &Value,
-        augmentation: Augmentation<'_>,
+        op: Augmentation<'_>,
     ) -> Result<(), EvalErr>
-        requires { Answers R.means R.seen self.now.context.now.left (C.pre self.now.call) (C.post self.now.call) }
-        ensures { Acts R.means (λ _. tt) result (R.seen runtime.new) (following (R.means.index operand.now index.now (R.seen runtime.old)) (λ old s. following (following (evals R.means self.now.context.now augmentation.entry.code.now (slots_of frame.now) s) (R.means.augment augmentation.entry.operator old)) (R.means.set_index operand.now index.now))) }
+        requires { AnswersCalls R.means R.seen self.now.context.now self.now.call C.pre C.post }
+        ensures { Produces R.means R.seen tt (augment_at R.means self.now operand.now index.now op.entry.operator op.entry.code.now (slots_of frame.now)) runtime.old result runtime.new }
     {
         let old = runtime.index(operand, index)?;
-        let new = self.augmented(frame, runtime, &old, augmentation)?;
+        let new = self.augmented(frame, runtime, &old, op)?;
         runtime.set_index(operand, index, new)
     }
 
@@ -276,14 +277,14 @@ impl<
         runtime: &mut R,
         operand: &Code,
         index: &Code,
-        augmentation: Augmentation<'_>,
+        op: Augmentation<'_>,
     ) -> Result<(), EvalErr>
-        requires { Answers R.means R.seen self.now.context.now.left (C.pre self.now.call) (C.post self.now.call) }
-        ensures { Acts R.means (λ _. slots_of frame.new) result (R.seen runtime.new) (meaning.augment_index R.means (evals R.means self.now.context.now) operand.now index.now augmentation.entry.operator augmentation.entry.code.now (slots_of frame.old) (R.seen runtime.old)) }
+        requires { AnswersCalls R.means R.seen self.now.context.now self.now.call C.pre C.post }
+        ensures { Rebinds R.means R.seen (meaning.augment_index R.means (evals_of R.means self.now) operand.now index.now op.entry.operator op.entry.code.now) frame.old runtime.old result frame.new runtime.new }
     {
         let operand = self.value(frame, runtime, operand)?;
         let index = self.value(frame, runtime, index)?;
-        self.augment_at(frame, runtime, &operand, &index, augmentation)
+        self.augment_at(frame, runtime, &operand, &index, op)
     }
 
     /// Carries out `target op= x`.
@@ -296,15 +297,15 @@ impl<
         operator: Operator,
         code: &Code,
     ) -> Result<(), EvalErr>
-        requires { Answers R.means R.seen self.now.context.now.left (C.pre self.now.call) (C.post self.now.call) }
-        ensures { Acts R.means (λ _. slots_of frame.new) result (R.seen runtime.new) (meaning.augment R.means (evals R.means self.now.context.now) target.now operator code.now (slots_of frame.old) (R.seen runtime.old)) }
+        requires { AnswersCalls R.means R.seen self.now.context.now self.now.call C.pre C.post }
+        ensures { Rebinds R.means R.seen (meaning.augment R.means (evals_of R.means self.now) target.now operator code.now) frame.old runtime.old result frame.new runtime.new }
     {
-        let augmentation = Augmentation { operator, code };
+        let op = Augmentation { operator, code };
         match target {
-            CodeTarget::Local(slot) => self.augment_name(frame, runtime, *slot, augmentation),
-            CodeTarget::Global(slot) => self.augment_name(frame, runtime, *slot, augmentation),
+            CodeTarget::Local(slot) => self.augment_name(frame, runtime, *slot, op),
+            CodeTarget::Global(slot) => self.augment_name(frame, runtime, *slot, op),
             CodeTarget::Index(operand, index) => {
-                self.augment_index(frame, runtime, operand.get(), index.get(), augmentation)
+                self.augment_index(frame, runtime, operand.get(), index.get(), op)
             }
             CodeTarget::Tuple(_) => Err(EvalErr::Bad(FaultKind::Syntax)),
             CodeTarget::List(_) => Err(EvalErr::Bad(FaultKind::Syntax)),

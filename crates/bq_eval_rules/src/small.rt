@@ -2,11 +2,9 @@
 
 ghost use Rattle.std.specs.Prelude.{◌≡◌};
 ghost use Rattle.bq_eval_meaning_spec.specs.Statements as meaning;
-ghost use Rattle.bq_eval_rules.specs.Acts.{Acts};
-ghost use Rattle.bq_eval_rules.specs.Flows.{flow_of};
-ghost use Rattle.bq_eval_rules.specs.Slots.{slots_of};
-ghost use Rattle.bq_eval_rules.specs.Nests.{Answers};
-ghost use Rattle.bq_eval_rules.specs.Round.{evals};
+ghost use Rattle.bq_eval_rules.specs.Nests.{AnswersCalls};
+ghost use Rattle.bq_eval_rules.specs.Effects.{Executes};
+ghost use Rattle.bq_eval_rules.specs.Readers.{evals_of};
 
 use crate::context::Context;
 use crate::flow::Flow;
@@ -48,8 +46,8 @@ impl<
         target: &CodeTarget,
         code: &Code,
     ) -> Result<Flow, EvalErr>
-        requires { Answers R.means R.seen self.now.context.now.left (C.pre self.now.call) (C.post self.now.call) }
-        ensures { Acts R.means (λ f. (flow_of f, slots_of frame.new)) result (R.seen runtime.new) (meaning.assign_stmt R.means (evals R.means self.now.context.now) target.now code.now (slots_of frame.old) (R.seen runtime.old)) }
+        requires { AnswersCalls R.means R.seen self.now.context.now self.now.call C.pre C.post }
+        ensures { Executes R.means R.seen (meaning.assign_stmt R.means (evals_of R.means self.now) target.now code.now) frame.old runtime.old result frame.new runtime.new }
     {
         let value = self.value(frame, runtime, code)?;
         self.assign(frame, runtime, target, value)?;
@@ -64,8 +62,8 @@ impl<
         runtime: &mut R,
         code: &Option<Code>,
     ) -> Result<Flow, EvalErr>
-        requires { Answers R.means R.seen self.now.context.now.left (C.pre self.now.call) (C.post self.now.call) }
-        ensures { Acts R.means (λ f. (flow_of f, slots_of frame.now)) result (R.seen runtime.new) (meaning.return_stmt R.means (evals R.means self.now.context.now) code.now (slots_of frame.now) (R.seen runtime.old)) }
+        requires { AnswersCalls R.means R.seen self.now.context.now self.now.call C.pre C.post }
+        ensures { Executes R.means R.seen (meaning.return_stmt R.means (evals_of R.means self.now) code.now) frame.now runtime.old result frame.now runtime.new }
     {
         match code {
             None => Ok(Flow::Answer(Value::none())),
@@ -84,8 +82,8 @@ impl<
         runtime: &mut R,
         stmt: &CodeSmall,
     ) -> Result<Flow, EvalErr>
-        requires { Answers R.means R.seen self.now.context.now.left (C.pre self.now.call) (C.post self.now.call) }
-        ensures { Acts R.means (λ f. (flow_of f, slots_of frame.new)) result (R.seen runtime.new) (meaning.small_stmt R.means (evals R.means self.now.context.now) stmt.now (slots_of frame.old) (R.seen runtime.old)) }
+        requires { AnswersCalls R.means R.seen self.now.context.now self.now.call C.pre C.post }
+        ensures { Executes R.means R.seen (meaning.small_stmt R.means (evals_of R.means self.now) stmt.now) frame.old runtime.old result frame.new runtime.new }
     {
         runtime.step(steps_of(stmt))?;
         match stmt {
@@ -114,8 +112,8 @@ impl<
         runtime: &mut R,
         stmts: &[CodeSmall],
     ) -> Result<Flow, EvalErr>
-        requires { Answers R.means R.seen self.now.context.now.left (C.pre self.now.call) (C.post self.now.call) }
-        ensures { Acts R.means (λ f. (flow_of f, slots_of frame.new)) result (R.seen runtime.new) (meaning.line R.means (evals R.means self.now.context.now) stmts.now (slots_of frame.old) (R.seen runtime.old)) }
+        requires { AnswersCalls R.means R.seen self.now.context.now self.now.call C.pre C.post }
+        ensures { Executes R.means R.seen (meaning.line R.means (evals_of R.means self.now) stmts.now) frame.old runtime.old result frame.new runtime.new }
     {
         for stmt in stmts {
             match self.small_stmt(frame, runtime, stmt)? {

@@ -1,14 +1,11 @@
 //! Statements of functions. Each rule takes what runs the statements inside, so that it is proved by itself.
 
 ghost use Rattle.std.specs.Prelude.{◌≡◌};
-ghost use Rattle.bq_builtin_machine.specs.Action.{following, done};
 ghost use Rattle.bq_eval_meaning_spec.specs.Statements as meaning;
-ghost use Rattle.bq_eval_rules.specs.Acts.{Acts};
-ghost use Rattle.bq_eval_rules.specs.Flows.{flow_of};
-ghost use Rattle.bq_eval_rules.specs.Slots.{slots_of};
-ghost use Rattle.bq_eval_rules.specs.Nests.{Answers};
-ghost use Rattle.bq_eval_rules.specs.Runs.{Runs};
-ghost use Rattle.bq_eval_rules.specs.Round.{evals};
+ghost use Rattle.bq_eval_rules.specs.Nests.{AnswersCalls};
+ghost use Rattle.bq_eval_rules.specs.Round.{evals, execs};
+ghost use Rattle.bq_eval_rules.specs.Effects.{Executes};
+ghost use Rattle.bq_eval_rules.specs.Runners.{RunsInside, rule_in, walk};
 
 use crate::context::Context;
 use crate::flow::Flow;
@@ -40,8 +37,8 @@ fn run_to<R: Runtime, C: Copy + Fn(&Context<'_>, &mut R, &Value, Args) -> Result
     runtime: &mut R,
     stmt: &CodeStmt,
 ) -> Result<Flow, EvalErr>
-    requires { Answers R.means R.seen context.now.left (C.pre call) (C.post call) }
-    ensures { Acts R.means (λ f. (flow_of f, slots_of frame.new)) result (R.seen runtime.new) (meaning.run_to depth R.means (evals R.means context.now) stmt.now (slots_of frame.old) (R.seen runtime.old)) }
+    requires { AnswersCalls R.means R.seen context.now call C.pre C.post }
+    ensures { Executes R.means R.seen (meaning.run_to depth R.means (evals R.means context.now) stmt.now) frame.old runtime.old result frame.new runtime.new }
 {
     if depth == 0 {
         return Err(EvalErr::Bad(FaultKind::Nesting));
@@ -71,8 +68,8 @@ pub fn run_block<
     runtime: &mut R,
     stmts: &[CodeStmt],
 ) -> Result<Flow, EvalErr>
-    requires { Answers R.means R.seen context.now.left (C.pre call) (C.post call) }
-    ensures { Acts R.means (λ f. (flow_of f, slots_of frame.new)) result (R.seen runtime.new) (meaning.block R.means (evals R.means context.now) (meaning.run_in R.means (evals R.means context.now)) stmts.now (slots_of frame.old) (R.seen runtime.old)) }
+    requires { AnswersCalls R.means R.seen context.now call C.pre C.post }
+    ensures { Executes R.means R.seen (meaning.block R.means (evals R.means context.now) (execs R.means context.now) stmts.now) frame.old runtime.old result frame.new runtime.new }
 {
     Runner {
         depth: MAX_LAYERS,
@@ -100,8 +97,8 @@ impl<
         runtime: &mut R,
         stmts: &[CodeStmt],
     ) -> Result<Flow, EvalErr>
-        requires { Runs R.means R.seen self.now.reader.context.now.left self.now.depth self.now.reader.call (G.pre self.now.run) (G.post self.now.run) }
-        ensures { Acts R.means (λ f. (flow_of f, slots_of frame.new)) result (R.seen runtime.new) (meaning.block R.means (evals R.means self.now.reader.context.now) (meaning.run_to self.now.depth R.means (evals R.means self.now.reader.context.now)) stmts.now (slots_of frame.old) (R.seen runtime.old)) }
+        requires { RunsInside R.means R.seen self.now G.pre G.post }
+        ensures { Executes R.means R.seen (rule_in R.means self.now meaning.block stmts.now) frame.old runtime.old result frame.new runtime.new }
     {
         for stmt in stmts {
             let Reader { context, call, .. } = self.reader;
@@ -124,9 +121,9 @@ impl<
         branches: &[CodeBranch],
         otherwise: &[CodeStmt],
     ) -> Result<Flow, EvalErr>
-        requires runs { Runs R.means R.seen self.now.reader.context.now.left self.now.depth self.now.reader.call (G.pre self.now.run) (G.post self.now.run) }
-        requires answers { Answers R.means R.seen self.now.reader.context.now.left (C.pre self.now.reader.call) (C.post self.now.reader.call) }
-        ensures { Acts R.means (λ f. (flow_of f, slots_of frame.new)) result (R.seen runtime.new) (meaning.branches R.means (evals R.means self.now.reader.context.now) (meaning.run_to self.now.depth R.means (evals R.means self.now.reader.context.now)) branches.now otherwise.now (slots_of frame.old) (R.seen runtime.old)) }
+        requires runs { RunsInside R.means R.seen self.now G.pre G.post }
+        requires answers { AnswersCalls R.means R.seen self.now.reader.context.now self.now.reader.call C.pre C.post }
+        ensures { Executes R.means R.seen (rule_in R.means self.now meaning.branches branches.now otherwise.now) frame.old runtime.old result frame.new runtime.new }
     {
         for branch in branches {
             if self.reader.holds(frame, runtime, &branch.condition)? {
@@ -145,8 +142,8 @@ impl<
         body: &[CodeStmt],
         value: Value,
     ) -> Result<Flow, EvalErr>
-        requires { Runs R.means R.seen self.now.reader.context.now.left self.now.depth self.now.reader.call (G.pre self.now.run) (G.post self.now.run) }
-        ensures { Acts R.means (λ f. (flow_of f, slots_of frame.new)) result (R.seen runtime.new) (meaning.turn R.means (evals R.means self.now.reader.context.now) (meaning.run_to self.now.depth R.means (evals R.means self.now.reader.context.now)) target.now body.now value (slots_of frame.old) (R.seen runtime.old)) }
+        requires { RunsInside R.means R.seen self.now G.pre G.post }
+        ensures { Executes R.means R.seen (rule_in R.means self.now meaning.turn target.now body.now value) frame.old runtime.old result frame.new runtime.new }
     {
         begin_turn(self.reader.context.alloc, runtime, frame, target, value)?;
         self.block(frame, runtime, body)
@@ -161,8 +158,8 @@ impl<
         body: &[CodeStmt],
         elements: &mut Elements,
     ) -> Result<Flow, EvalErr>
-        requires { Runs R.means R.seen self.now.reader.context.now.left self.now.depth self.now.reader.call (G.pre self.now.run) (G.post self.now.run) }
-        ensures { Acts R.means (λ f. (flow_of f, slots_of frame.new)) result (R.seen runtime.new) (meaning.turns R.means (evals R.means self.now.reader.context.now) (meaning.run_to self.now.depth R.means (evals R.means self.now.reader.context.now)) target.now body.now elements.old (slots_of frame.old) (R.seen runtime.old)) }
+        requires { RunsInside R.means R.seen self.now G.pre G.post }
+        ensures { Executes R.means R.seen (rule_in R.means self.now meaning.turns target.now body.now elements.old) frame.old runtime.old result frame.new runtime.new }
     {
         while let Some(value) = elements.next() {
             match self.turn(frame, runtime, target, body, value)? {
@@ -184,8 +181,8 @@ impl<
         iterable: &Value,
         body: &[CodeStmt],
     ) -> Result<Flow, EvalErr>
-        requires { Runs R.means R.seen self.now.reader.context.now.left self.now.depth self.now.reader.call (G.pre self.now.run) (G.post self.now.run) }
-        ensures { Acts R.means (λ f. (flow_of f, slots_of frame.new)) result (R.seen runtime.new) (following (R.means.begin_walk iterable.now (R.seen runtime.old)) (λ xs s. following (meaning.turns R.means (evals R.means self.now.reader.context.now) (meaning.run_to self.now.depth R.means (evals R.means self.now.reader.context.now)) target.now body.now xs (slots_of frame.old) s) (λ r t. done r (R.means.end_walk iterable.now t)))) }
+        requires { RunsInside R.means R.seen self.now G.pre G.post }
+        ensures { Executes R.means R.seen (walk R.means self.now target.now iterable.now body.now) frame.old runtime.old result frame.new runtime.new }
     {
         let mut elements = runtime.begin_walk(self.reader.context.alloc, iterable)?;
         let flow = self.turns(frame, runtime, target, body, &mut elements)?;
@@ -204,9 +201,9 @@ impl<
         iterable: &Code,
         body: &[CodeStmt],
     ) -> Result<Flow, EvalErr>
-        requires runs { Runs R.means R.seen self.now.reader.context.now.left self.now.depth self.now.reader.call (G.pre self.now.run) (G.post self.now.run) }
-        requires answers { Answers R.means R.seen self.now.reader.context.now.left (C.pre self.now.reader.call) (C.post self.now.reader.call) }
-        ensures { Acts R.means (λ f. (flow_of f, slots_of frame.new)) result (R.seen runtime.new) (meaning.for_loop R.means (evals R.means self.now.reader.context.now) (meaning.run_to self.now.depth R.means (evals R.means self.now.reader.context.now)) target.now iterable.now body.now (slots_of frame.old) (R.seen runtime.old)) }
+        requires runs { RunsInside R.means R.seen self.now G.pre G.post }
+        requires answers { AnswersCalls R.means R.seen self.now.reader.context.now self.now.reader.call C.pre C.post }
+        ensures { Executes R.means R.seen (rule_in R.means self.now meaning.for_loop target.now iterable.now body.now) frame.old runtime.old result frame.new runtime.new }
     {
         let iterable = self.reader.value(frame, runtime, iterable)?;
         self.walk(frame, runtime, target, &iterable, body)
@@ -215,9 +212,9 @@ impl<
     /// Carries out a statement.
     #[tactic(auto, unfolding(bq_eval_meaning_spec::specs::Statements::stmt))]
     fn stmt(&self, frame: &mut Frame<'_>, runtime: &mut R, stmt: &CodeStmt) -> Result<Flow, EvalErr>
-        requires runs { Runs R.means R.seen self.now.reader.context.now.left self.now.depth self.now.reader.call (G.pre self.now.run) (G.post self.now.run) }
-        requires answers { Answers R.means R.seen self.now.reader.context.now.left (C.pre self.now.reader.call) (C.post self.now.reader.call) }
-        ensures { Acts R.means (λ f. (flow_of f, slots_of frame.new)) result (R.seen runtime.new) (meaning.stmt R.means (evals R.means self.now.reader.context.now) (meaning.run_to self.now.depth R.means (evals R.means self.now.reader.context.now)) stmt.now (slots_of frame.old) (R.seen runtime.old)) }
+        requires runs { RunsInside R.means R.seen self.now G.pre G.post }
+        requires answers { AnswersCalls R.means R.seen self.now.reader.context.now self.now.reader.call C.pre C.post }
+        ensures { Executes R.means R.seen (rule_in R.means self.now meaning.stmt stmt.now) frame.old runtime.old result frame.new runtime.new }
     {
         match stmt {
             CodeStmt::Simple(stmts) => self.reader.line(frame, runtime, stmts.as_slice()),

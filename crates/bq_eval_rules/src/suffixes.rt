@@ -2,10 +2,9 @@
 
 ghost use Rattle.std.specs.Prelude.{◌≡◌};
 ghost use Rattle.bq_eval_meaning_spec.specs.Expressions as meaning;
-ghost use Rattle.bq_eval_rules.specs.Acts.{Acts};
-ghost use Rattle.bq_eval_rules.specs.Slots.{slots_of};
-ghost use Rattle.bq_eval_rules.specs.Nests.{Nests, Answers, nested};
-ghost use Rattle.bq_eval_rules.specs.Round.{inside};
+ghost use Rattle.bq_eval_rules.specs.Nests.{AnswersCalls};
+ghost use Rattle.bq_eval_rules.specs.Effects.{Returns, Produces};
+ghost use Rattle.bq_eval_rules.specs.Evaluators.{EvaluatesInside, evals_in, calls_in, frame_of};
 
 use crate::context::Context;
 use crate::evaluator::Evaluator;
@@ -26,8 +25,8 @@ impl<
     /// Applies `value[index]`.
     #[tactic(auto, unfolding(bq_eval_meaning_spec::specs::Expressions::index))]
     pub fn index(&self, runtime: &mut R, index: &Code, value: &Value) -> Result<Value, EvalErr>
-        requires { Nests R.means R.seen self.now.context.now.left self.now.depth self.now.call (F.pre self.now.eval) (F.post self.now.eval) }
-        ensures { Acts R.means (λ v. v) result (R.seen runtime.new) (meaning.index R.means (nested R.means self.now.depth self.now.context.now) index.now (slots_of self.now.frame.now) value.now (R.seen runtime.old)) }
+        requires { EvaluatesInside R.means R.seen self.now F.pre F.post }
+        ensures { Returns R.means R.seen (meaning.index R.means (evals_in R.means self.now) index.now (frame_of self.now) value.now) runtime.old result runtime.new }
     {
         let index = self.operand(runtime, index)?;
         runtime.index(value, index.get())
@@ -36,8 +35,8 @@ impl<
     /// Evaluates a part of a slice.
     #[tactic(auto, unfolding(bq_eval_meaning_spec::specs::Expressions::part))]
     fn part(&self, runtime: &mut R, part: &Option<Boxed<Code>>) -> Result<Value, EvalErr>
-        requires { Nests R.means R.seen self.now.context.now.left self.now.depth self.now.call (F.pre self.now.eval) (F.post self.now.eval) }
-        ensures { Acts R.means (λ v. v) result (R.seen runtime.new) (meaning.part R.means (nested R.means self.now.depth self.now.context.now) part.now (slots_of self.now.frame.now) (R.seen runtime.old)) }
+        requires { EvaluatesInside R.means R.seen self.now F.pre F.post }
+        ensures { Returns R.means R.seen (meaning.part R.means (evals_in R.means self.now) part.now (frame_of self.now)) runtime.old result runtime.new }
     {
         match part {
             None => Ok(Value::none()),
@@ -56,8 +55,8 @@ impl<
         step: &Option<Boxed<Code>>,
         value: &Value,
     ) -> Result<Value, EvalErr>
-        requires { Nests R.means R.seen self.now.context.now.left self.now.depth self.now.call (F.pre self.now.eval) (F.post self.now.eval) }
-        ensures { Acts R.means (λ v. v) result (R.seen runtime.new) (meaning.slice R.means (nested R.means self.now.depth self.now.context.now) start.now stop.now step.now (slots_of self.now.frame.now) value.now (R.seen runtime.old)) }
+        requires { EvaluatesInside R.means R.seen self.now F.pre F.post }
+        ensures { Returns R.means R.seen (meaning.slice R.means (evals_in R.means self.now) start.now stop.now step.now (frame_of self.now) value.now) runtime.old result runtime.new }
     {
         let start = self.part(runtime, start)?;
         let stop = self.part(runtime, stop)?;
@@ -73,8 +72,8 @@ impl<
         args: &mut Args,
         argument: &CodeArgument,
     ) -> Result<(), EvalErr>
-        requires { Nests R.means R.seen self.now.context.now.left self.now.depth self.now.call (F.pre self.now.eval) (F.post self.now.eval) }
-        ensures { Acts R.means (λ _. args.new) result (R.seen runtime.new) (meaning.argument R.means (nested R.means self.now.depth self.now.context.now) argument.now (slots_of self.now.frame.now) args.old (R.seen runtime.old)) }
+        requires { EvaluatesInside R.means R.seen self.now F.pre F.post }
+        ensures { Produces R.means R.seen args.new (meaning.argument R.means (evals_in R.means self.now) argument.now (frame_of self.now) args.old) runtime.old result runtime.new }
     {
         match argument {
             CodeArgument::Positional(code) => {
@@ -104,8 +103,8 @@ impl<
         args: &mut Args,
         arguments: &[CodeArgument],
     ) -> Result<(), EvalErr>
-        requires { Nests R.means R.seen self.now.context.now.left self.now.depth self.now.call (F.pre self.now.eval) (F.post self.now.eval) }
-        ensures { Acts R.means (λ _. args.new) result (R.seen runtime.new) (meaning.arguments R.means (nested R.means self.now.depth self.now.context.now) arguments.now (slots_of self.now.frame.now) args.old (R.seen runtime.old)) }
+        requires { EvaluatesInside R.means R.seen self.now F.pre F.post }
+        ensures { Produces R.means R.seen args.new (meaning.arguments R.means (evals_in R.means self.now) arguments.now (frame_of self.now) args.old) runtime.old result runtime.new }
     {
         for argument in arguments {
             self.argument(runtime, args, argument)?;
@@ -123,8 +122,8 @@ impl<
         arguments: &[CodeArgument],
         value: &Value,
     ) -> Result<Value, EvalErr>
-        requires { Nests R.means R.seen self.now.context.now.left self.now.depth self.now.call (F.pre self.now.eval) (F.post self.now.eval) }
-        ensures { Acts R.means (λ v. v) result (R.seen runtime.new) (meaning.method R.means (nested R.means self.now.depth self.now.context.now) name.now arguments.now (slots_of self.now.frame.now) value.now (R.seen runtime.old)) }
+        requires { EvaluatesInside R.means R.seen self.now F.pre F.post }
+        ensures { Returns R.means R.seen (meaning.method R.means (evals_in R.means self.now) name.now arguments.now (frame_of self.now) value.now) runtime.old result runtime.new }
     {
         let mut args = Args::new(self.context.alloc);
         self.arguments(runtime, &mut args, arguments)?;
@@ -147,9 +146,9 @@ impl<
         arguments: &[CodeArgument],
         value: &Value,
     ) -> Result<Value, EvalErr>
-        requires nests { Nests R.means R.seen self.now.context.now.left self.now.depth self.now.call (F.pre self.now.eval) (F.post self.now.eval) }
-        requires answers { Answers R.means R.seen self.now.context.now.left (C.pre self.now.call) (C.post self.now.call) }
-        ensures { Acts R.means (λ v. v) result (R.seen runtime.new) (meaning.call_of R.means (nested R.means self.now.depth self.now.context.now) (inside R.means self.now.context.now) arguments.now (slots_of self.now.frame.now) value.now (R.seen runtime.old)) }
+        requires nests { EvaluatesInside R.means R.seen self.now F.pre F.post }
+        requires answers { AnswersCalls R.means R.seen self.now.context.now self.now.call C.pre C.post }
+        ensures { Returns R.means R.seen (meaning.call_of R.means (evals_in R.means self.now) (calls_in R.means self.now) arguments.now (frame_of self.now) value.now) runtime.old result runtime.new }
     {
         let mut args = Args::new(self.context.alloc);
         self.arguments(runtime, &mut args, arguments)?;
@@ -159,9 +158,9 @@ impl<
     /// Applies a suffix to a value.
     #[tactic(auto, unfolding(bq_eval_meaning_spec::specs::Expressions::suffix))]
     fn suffix(&self, runtime: &mut R, suffix: &CodeSuffix, value: &Value) -> Result<Value, EvalErr>
-        requires nests { Nests R.means R.seen self.now.context.now.left self.now.depth self.now.call (F.pre self.now.eval) (F.post self.now.eval) }
-        requires answers { Answers R.means R.seen self.now.context.now.left (C.pre self.now.call) (C.post self.now.call) }
-        ensures { Acts R.means (λ v. v) result (R.seen runtime.new) (meaning.suffix R.means (nested R.means self.now.depth self.now.context.now) (inside R.means self.now.context.now) suffix.now (slots_of self.now.frame.now) value.now (R.seen runtime.old)) }
+        requires nests { EvaluatesInside R.means R.seen self.now F.pre F.post }
+        requires answers { AnswersCalls R.means R.seen self.now.context.now self.now.call C.pre C.post }
+        ensures { Returns R.means R.seen (meaning.suffix R.means (evals_in R.means self.now) (calls_in R.means self.now) suffix.now (frame_of self.now) value.now) runtime.old result runtime.new }
     {
         match suffix {
             CodeSuffix::Call(arguments) => self.call_of(runtime, arguments.as_slice(), value),
@@ -183,9 +182,9 @@ impl<
         suffixes: &[CodeSuffix],
         first: Value,
     ) -> Result<Value, EvalErr>
-        requires nests { Nests R.means R.seen self.now.context.now.left self.now.depth self.now.call (F.pre self.now.eval) (F.post self.now.eval) }
-        requires answers { Answers R.means R.seen self.now.context.now.left (C.pre self.now.call) (C.post self.now.call) }
-        ensures { Acts R.means (λ v. v) result (R.seen runtime.new) (meaning.suffixes R.means (nested R.means self.now.depth self.now.context.now) (inside R.means self.now.context.now) suffixes.now (slots_of self.now.frame.now) first (R.seen runtime.old)) }
+        requires nests { EvaluatesInside R.means R.seen self.now F.pre F.post }
+        requires answers { AnswersCalls R.means R.seen self.now.context.now self.now.call C.pre C.post }
+        ensures { Returns R.means R.seen (meaning.suffixes R.means (evals_in R.means self.now) (calls_in R.means self.now) suffixes.now (frame_of self.now) first) runtime.old result runtime.new }
     {
         let mut value = first;
         for suffix in suffixes {
@@ -203,9 +202,9 @@ impl<
         suffixes: &[CodeSuffix],
         operand: &Value,
     ) -> Result<Value, EvalErr>
-        requires nests { Nests R.means R.seen self.now.context.now.left self.now.depth self.now.call (F.pre self.now.eval) (F.post self.now.eval) }
-        requires answers { Answers R.means R.seen self.now.context.now.left (C.pre self.now.call) (C.post self.now.call) }
-        ensures { Acts R.means (λ v. v) result (R.seen runtime.new) (meaning.suffixes R.means (nested R.means self.now.depth self.now.context.now) (inside R.means self.now.context.now) suffixes.now (slots_of self.now.frame.now) operand.now (R.seen runtime.old)) }
+        requires nests { EvaluatesInside R.means R.seen self.now F.pre F.post }
+        requires answers { AnswersCalls R.means R.seen self.now.context.now self.now.call C.pre C.post }
+        ensures { Returns R.means R.seen (meaning.suffixes R.means (evals_in R.means self.now) (calls_in R.means self.now) suffixes.now (frame_of self.now) operand.now) runtime.old result runtime.new }
     {
         match suffixes {
             [] => Ok(operand.share()?),
@@ -224,9 +223,9 @@ impl<
         code: &Code,
         suffixes: &[CodeSuffix],
     ) -> Result<Value, EvalErr>
-        requires nests { Nests R.means R.seen self.now.context.now.left self.now.depth self.now.call (F.pre self.now.eval) (F.post self.now.eval) }
-        requires answers { Answers R.means R.seen self.now.context.now.left (C.pre self.now.call) (C.post self.now.call) }
-        ensures { Acts R.means (λ v. v) result (R.seen runtime.new) (meaning.primary R.means (nested R.means self.now.depth self.now.context.now) (inside R.means self.now.context.now) code.now suffixes.now (slots_of self.now.frame.now) (R.seen runtime.old)) }
+        requires nests { EvaluatesInside R.means R.seen self.now F.pre F.post }
+        requires answers { AnswersCalls R.means R.seen self.now.context.now self.now.call C.pre C.post }
+        ensures { Returns R.means R.seen (meaning.primary R.means (evals_in R.means self.now) (calls_in R.means self.now) code.now suffixes.now (frame_of self.now)) runtime.old result runtime.new }
     {
         runtime.step(suffixes.len() as u64)?;
         let operand = self.operand(runtime, code)?;

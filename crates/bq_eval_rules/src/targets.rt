@@ -1,10 +1,10 @@
 //! Binding the parts of targets.
 
-ghost use Rattle.std.specs.Prelude.{◌≡◌, []};
-ghost use Rattle.bq_builtin_machine.specs.Action.{following};
+ghost use Rattle.std.specs.Prelude.{◌≡◌};
+ghost use Rattle.bq_builtin_machine.specs.Action.{◌>>=◌ as and_then};
 ghost use Rattle.bq_eval_meaning_spec.specs.Targets as meaning;
-ghost use Rattle.bq_eval_rules.specs.Acts.{Acts};
 ghost use Rattle.bq_eval_rules.specs.Slots.{slots_of};
+ghost use Rattle.bq_eval_rules.specs.Effects.{Produces, Rebinds, BindsParts};
 
 use crate::frame::Frame;
 use crate::places::IndexedOperands;
@@ -26,7 +26,7 @@ fn bind_place<R: Runtime>(
     places: &mut IndexedOperands,
     value: Value,
 ) -> Result<(), EvalErr>
-    ensures { Acts R.means (λ _. (slots_of frame.now, places.new)) result (R.seen runtime.new) (meaning.bind_place R.means value (slots_of frame.now) places.old (R.seen runtime.old)) }
+    ensures { BindsParts R.means R.seen (meaning.bind_place R.means value) frame.now places.old runtime.old result frame.now places.new runtime.new }
 {
     match places.next() {
         None => Err(EvalErr::Bad(FaultKind::Syntax)),
@@ -45,7 +45,7 @@ fn bind_each<R: Runtime>(
     targets: &[CodeTarget],
     elements: &mut Elements,
 ) -> Result<(), EvalErr>
-    ensures { Acts R.means (λ _. (slots_of frame.new, places.new)) result (R.seen runtime.new) (meaning.bind_each R.means (meaning.bind_to R.means depth) targets.now elements.old (slots_of frame.old) places.old (R.seen runtime.old)) }
+    ensures { BindsParts R.means R.seen (meaning.bind_each R.means (meaning.bind_to R.means depth) targets.now elements.old) frame.old places.old runtime.old result frame.new places.new runtime.new }
 {
     for target in targets {
         match elements.next() {
@@ -68,7 +68,7 @@ fn unpack<R: Runtime>(
     targets: &[CodeTarget],
     value: Value,
 ) -> Result<(), EvalErr>
-    ensures { Acts R.means (λ _. (slots_of frame.new, places.new)) result (R.seen runtime.new) (meaning.unpack R.means (meaning.bind_to R.means depth) targets.now value (slots_of frame.old) places.old (R.seen runtime.old)) }
+    ensures { BindsParts R.means R.seen (meaning.unpack R.means (meaning.bind_to R.means depth) targets.now value) frame.old places.old runtime.old result frame.new places.new runtime.new }
 {
     let mut elements = runtime.parts(places.alloc(), targets.len(), &value)?;
     bind_each(runtime, frame, places, depth, targets, &mut elements)
@@ -84,7 +84,7 @@ fn bind_target<R: Runtime>(
     target: &CodeTarget,
     value: Value,
 ) -> Result<(), EvalErr>
-    ensures { Acts R.means (λ _. (slots_of frame.new, places.new)) result (R.seen runtime.new) (meaning.bind_target R.means (meaning.bind_to R.means depth) target.now value (slots_of frame.old) places.old (R.seen runtime.old)) }
+    ensures { BindsParts R.means R.seen (meaning.bind_target R.means (meaning.bind_to R.means depth) target.now value) frame.old places.old runtime.old result frame.new places.new runtime.new }
 {
     match target {
         CodeTarget::Local(slot) => Ok(frame.fill(*slot, value)?),
@@ -110,7 +110,7 @@ pub fn bind_to<R: Runtime>(
     target: &CodeTarget,
     value: Value,
 ) -> Result<(), EvalErr>
-    ensures { Acts R.means (λ _. (slots_of frame.new, places.new)) result (R.seen runtime.new) (meaning.bind_to R.means depth target.now value (slots_of frame.old) places.old (R.seen runtime.old)) }
+    ensures { BindsParts R.means R.seen (meaning.bind_to R.means depth target.now value) frame.old places.old runtime.old result frame.new places.new runtime.new }
 {
     if depth == 0 {
         return Err(EvalErr::Bad(FaultKind::Nesting));
@@ -128,7 +128,7 @@ pub fn bind_variables<R: Runtime>(
     target: &CodeTarget,
     value: Value,
 ) -> Result<(), EvalErr>
-    ensures { Acts R.means (λ _. slots_of frame.new) result (R.seen runtime.new) (meaning.bind_variables R.means target.now value (slots_of frame.old) (R.seen runtime.old)) }
+    ensures { Rebinds R.means R.seen (meaning.bind_variables R.means target.now value) frame.old runtime.old result frame.new runtime.new }
 {
     match target {
         CodeTarget::Local(slot) => Ok(frame.fill(*slot, value)?),
@@ -147,7 +147,7 @@ fn bind_parts<R: Runtime>(
     target: &CodeTarget,
     value: Value,
 ) -> Result<(), EvalErr>
-    ensures { Acts R.means (λ _. slots_of frame.new) result (R.seen runtime.new) (meaning.bind_variables R.means target.now value (slots_of frame.old) (R.seen runtime.old)) }
+    ensures { Rebinds R.means R.seen (meaning.bind_variables R.means target.now value) frame.old runtime.old result frame.new runtime.new }
 {
     let mut places = IndexedOperands::new(alloc);
     bind_to(runtime, frame, &mut places, MAX_LAYERS, target, value)
@@ -162,7 +162,7 @@ pub fn begin_turn<R: Runtime>(
     target: &CodeTarget,
     value: Value,
 ) -> Result<(), EvalErr>
-    ensures { Acts R.means (λ _. slots_of frame.new) result (R.seen runtime.new) (following (R.means.step 1 (R.seen runtime.old)) (λ _. meaning.bind_variables R.means target.now value (slots_of frame.old))) }
+    ensures { Produces R.means R.seen (slots_of frame.new) (and_then (R.means.step 1) (λ _. meaning.bind_variables R.means target.now value (slots_of frame.old))) runtime.old result runtime.new }
 {
     runtime.step(1)?;
     bind_variables(alloc, runtime, frame, target, value)

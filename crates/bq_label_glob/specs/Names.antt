@@ -1,7 +1,8 @@
 -- Which files glob gives (Bazel, "Functions", the entry of glob): the package's files, by their names in it, that match some
 -- pattern and no excluded one. A file belongs to the package that owns its path.
-use Rattle.std.specs.Prelude.{◌≡◌, ℕ, ◌&&◌, Bool, false, not, nat_eq, List, [], Option, Some, None, length, drop, if◌then◌else◌}
+use Rattle.std.specs.Prelude.{◌≡◌, ◌↔◌, ℕ, ◌&&◌, Bool, false, not, nat_eq, List, [], Option, Some, None, length, drop, if◌then◌else◌}
 use Rattle.std.specs.List.{list_any, filter, filter_map, starts_with, Contains}
+use Rattle.std.specs.List.Sorted.{IsStrictlySortedBy}
 use Rattle.std.specs.Ordering.{nat_cmp, is_lt}
 use Rattle.std.specs.Cmp.Lexicographic.{slice_cmp}
 use Rattle.bq_label.specs.declared.workspace.File.{File}
@@ -70,6 +71,14 @@ pub record IsGiven (files : List File) (packages : List BuildFile) (p : PackageP
   pub owned : IsOwned packages p file.path
   pub included : IsMatched include name
   pub not_excluded : IsMatched exclude name → ⊥
+
+-- the names are exactly those of which this holds
+abbrev pub AreThose : (List ℕ → Type 0) → List (List ℕ) → Type 0
+AreThose P names = (name : List ℕ) → Contains names name ↔ P name
+
+-- the names ascend by their bytes
+abbrev pub Ascend : List (List ℕ) → Type 0
+Ascend names = IsStrictlySortedBy (slice_cmp nat_cmp) names
 
 -- the path is that of a name in the package
 pub record HasName (p : PackageParts) (path : List ℕ) : Type 0 where

@@ -2,15 +2,12 @@
 //! nothing.
 
 ghost use Rattle.std.specs.Prelude.{◌≡◌, ◌↔◌, List, ℕ, true, false};
-ghost use Rattle.std.specs.List.{list_any, Contains};
-ghost use Rattle.std.specs.List.Sorted.{IsStrictlySortedBy};
-ghost use Rattle.std.specs.Ordering.{nat_cmp};
-ghost use Rattle.std.specs.Cmp.Lexicographic.{slice_cmp};
+ghost use Rattle.std.specs.List.{list_any};
 ghost use Rattle.bq_label.specs.declared.workspace.File.{File};
 ghost use Rattle.bq_label.specs.declared.packages.BuildFile.{BuildFile};
 ghost use Rattle.bq_label.specs.Label.{PackageParts};
 ghost use Rattle.bq_label.specs.Workspace.{IsWorkspace};
-ghost use Rattle.bq_label_glob.specs.Names.{glob, IsGiven, IsOwned, HasName};
+ghost use Rattle.bq_label_glob.specs.Names.{glob, IsGiven, AreThose, Ascend, IsOwned, HasName};
 ghost use Rattle.bq_label_glob.specs.Matching.{matches, is_star, Matches};
 
 /// A path matches a pattern exactly where its segments can be cut as the pattern's segments say.
@@ -27,12 +24,12 @@ pub fn a_plain_pattern_matches_itself_alone()
 
 /// A name is returned exactly if it is that of a file of the package that some pattern includes and none excludes.
 pub fn what_glob_gives()
-    ensures { (files : List File) (packages : List BuildFile) (p : PackageParts) (include exclude : List (List ℕ)) (name : List ℕ) → Contains (glob files packages p include exclude) name ↔ IsGiven files packages p include exclude name }
+    ensures { (files : List File) (packages : List BuildFile) (p : PackageParts) (include exclude : List (List ℕ)) → AreThose (IsGiven files packages p include exclude) (glob files packages p include exclude) }
 {}
 
 /// The names ascend by their bytes, so none is returned twice.
 pub fn names_in_order()
-    ensures { (files : List File) (packages : List BuildFile) (p : PackageParts) (include exclude : List (List ℕ)) → IsWorkspace files → IsStrictlySortedBy (slice_cmp nat_cmp) (glob files packages p include exclude) }
+    ensures { (files : List File) (packages : List BuildFile) (p : PackageParts) (include exclude : List (List ℕ)) → IsWorkspace files → Ascend (glob files packages p include exclude) }
 {}
 
 /// Each path that a package owns has a name in it.

@@ -14,13 +14,16 @@ use Rattle.bq_value.specs.Datum.{Datum}
 use Rattle.bq_builtin_machine.specs.Action.{Run}
 use Rattle.bq_builtin_machine.specs.State.{State}
 use Rattle.bq_eval_meaning_spec.specs.Frame.{Frame}
+use Rattle.bq_eval.specs.declared.module.ResolvedModule.{ResolvedModule}
+use Rattle.bq_eval.specs.Outcomes.{run_of}
 use Rattle.bq_eval.specs.Module.{Ended, evaluated, failed, ended, kept_after, module_run}
 use Rattle.bq_package_target.specs.Package.{PackageTargets, no_targets, finished}
 use Rattle.bq_package.specs.Calls.{HeldPackage, outside, declaring, package_in, meaning}
 use Rattle.bq_load_front.specs.Front.{kind_of}
+use Rattle.bq_load.specs.declared.loading.Loading.{Loading}
 use Rattle.bq_load.specs.declared.source.Source.{Source}
 use Rattle.bq_load.specs.Views.{ModuleView, FailedView, not_evaluated}
-use Rattle.bq_load.specs.Sources.{LoadingParts}
+use Rattle.bq_load.specs.Sources.{LoadingParts, loading_of}
 use Rattle.bq_load.specs.Imports.{LoadedParts, imports}
 
 -- ---- a file that is evaluated
@@ -36,6 +39,10 @@ kept_first x l = kept_by x l (kind_of l)
 -- the statements of a file run as the module of this number, with these modules loaded and a value for each clause of its loads
 unfoldable pub evaluation : LoadingParts → ℕ → LabelParts → Resolved → List ModuleView → List Datum → Run (State × HeldPackage) Frame
 evaluation x m l file modules values = module_run x.names meaning x.code m file (map (λ v. v.frozen) modules) values x.limit (kept_first x l)
+
+-- the statements of this module's file run, where the host begins as for the file of this label
+abbrev pub hosted_run : Loading → LabelParts → ResolvedModule → Run (State × HeldPackage) Frame
+hosted_run l label m = run_of l.built_ins meaning m l.limit (kept_first (loading_of l) label)
 
 -- the frozen module of this number with no cell and no global
 abbrev pub without_cells : ℕ → FrozenView
@@ -62,6 +69,10 @@ package_left (Some kept) = package_in kept
 unfoldable pub module_after : Resolved → List Datum → Run (State × HeldPackage) Frame → Result ModuleView FailedView
 module_after file values run = module_by (ended file values run) (package_left (kept_after run))
 
+-- what a file evaluates to as the module of this number, with these modules loaded and a value for each clause of its loads
+abbrev pub file_after : LoadingParts → ℕ → LabelParts → Resolved → List ModuleView → List Datum → Result ModuleView FailedView
+file_after x m l file modules values = module_after file values (evaluation x m l file modules values)
+
 -- ---- a module
 
 abbrev pub loaded_parts : LoadingParts → Source → List ModuleView → LoadedParts
@@ -69,7 +80,7 @@ loaded_parts x s modules = record { files = with_labels [] s.loads; modules = mo
 
 abbrev pub by_imports : LoadingParts → ℕ → LabelParts → Resolved → List ModuleView → Result (List Datum) Fault → Result ModuleView FailedView
 by_imports x m l file modules (Err why) = Err (not_evaluated why)
-by_imports x m l file modules (Ok values) = module_after file values (evaluation x m l file modules values)
+by_imports x m l file modules (Ok values) = file_after x m l file modules values
 
 unfoldable pub file_means : LoadingParts → ℕ → Source → Resolved → List ModuleView → Result ModuleView FailedView
 file_means x m s file modules = by_imports x m s.label file modules (imports (loaded_parts x s modules) [] file.loads s.loads)

@@ -1,8 +1,8 @@
 //! The evaluation of the statements of a file.
 
 ghost use Rattle.std.specs.Prelude.{◌≡◌, [], map, option_map, IfOk};
-ghost use Rattle.bq_eval.specs.Outcomes.{ended_of, run_of};
-ghost use Rattle.bq_package.specs.Calls.{held_by, package_in, meaning};
+ghost use Rattle.bq_eval.specs.Outcomes.{ended_of};
+ghost use Rattle.bq_package.specs.Calls.{held_by, package_in};
 ghost use Rattle.bq_package_target.specs.Package.{finished};
 ghost use Rattle.bq_eval_rules.specs.Round.{views_of};
 ghost use Rattle.bq_base.specs.Gives.{Gives};
@@ -12,7 +12,7 @@ ghost use Rattle.bq_load_order.specs.Shown.{told};
 ghost use Rattle.bq_load.specs.Views.{module_view, failed_view, module_views};
 ghost use Rattle.bq_load.specs.Sources.{loading_of};
 ghost use Rattle.bq_load.specs.Imports.{imports};
-ghost use Rattle.bq_load.specs.Evaluation.{kept_first, evaluation, without_cells, module_with, module_by, module_after, loaded_parts};
+ghost use Rattle.bq_load.specs.Evaluation.{kept_first, hosted_run, file_after, without_cells, module_with, module_by, module_after, loaded_parts};
 
 use crate::imports::LoadedFiles;
 use crate::loading::Loading;
@@ -130,7 +130,7 @@ impl<'a> Loading<'a> {
         module: &ResolvedModule<'_>,
     ) -> Result<Result<LoadedModule, FailedModule>, AllocError>
         requires { «module».now.code.now ≡ self.now.code.items }
-        ensures { IfOk result (λ r. told module_view failed_view r ≡ module_after «module».now.file.now «module».now.imports.now (run_of self.now.built_ins meaning «module».now self.now.limit (kept_first (loading_of self.now) label.now))) }
+        ensures { IfOk result (λ r. told module_view failed_view r ≡ module_after «module».now.file.now «module».now.imports.now (hosted_run self.now label.now «module».now)) }
     {
         let host = self.host(alloc, label)?;
         let evaluated = eval_module(alloc, &self.built_ins, module, host, self.limit, self.seed)?;
@@ -146,7 +146,7 @@ impl<'a> Loading<'a> {
         modules: &[Arc<LoadedModule, Global>],
         imports: &[Value],
     ) -> Result<Result<LoadedModule, FailedModule>, AllocError>
-        ensures { IfOk result (λ r. told module_view failed_view r ≡ module_after «module».now.file.now imports.now (evaluation (loading_of self.now) «module».now.number «module».now.source.now.label «module».now.file.now (module_views modules.now) imports.now)) }
+        ensures { IfOk result (λ r. told module_view failed_view r ≡ file_after (loading_of self.now) «module».now.number «module».now.source.now.label «module».now.file.now (module_views modules.now) imports.now) }
     {
         let loaded = frozen_of(alloc, modules)?;
         let resolved = ResolvedModule {

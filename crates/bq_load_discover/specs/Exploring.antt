@@ -28,6 +28,10 @@ pub record Explores (inputs : InputParts) (ls : List LabelParts) (ms : List Modu
 abbrev pub IsModuleAt : InputParts → List LabelParts → ℕ → Module → Type 0
 IsModuleAt inputs ls place m = (l : LabelParts) × (slice_get ls place ≡ Some l) × (m ≡ module_of inputs l)
 
+-- the module is the next to be read, that of the first label that is not read yet
+abbrev pub IsNextIn : InputParts → List LabelParts → List Module → Module → Type 0
+IsNextIn inputs ls ms m = IsModuleAt inputs ls (length ms) m
+
 -- one more module is read, after a number of others; or all that was found is read
 abbrev pub AfterReading : Bool → ℕ → List LabelParts → List Module → Type 0
 AfterReading true n ls ms = length ms ≡ n + 1

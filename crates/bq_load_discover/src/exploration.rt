@@ -6,7 +6,7 @@ ghost use Rattle.bq_label_set.specs.Labels.{with_labels};
 ghost use Rattle.bq_load_front.specs.Front.{loads_by};
 ghost use Rattle.bq_load_front.specs.Inputs.{InputParts};
 ghost use Rattle.bq_load_discover.specs.Modules.{build_labels};
-ghost use Rattle.bq_load_discover.specs.Exploring.{Explores, IsModuleAt, AfterReading, AllAreRead, Finds};
+ghost use Rattle.bq_load_discover.specs.Exploring.{Explores, IsNextIn, AfterReading, AllAreRead, Finds};
 
 use crate::modules::Module;
 use bq_board::MAX_MODULES;
@@ -62,7 +62,7 @@ impl Exploration {
 
     /// Adds the next module, which was read, and finds what it loads.
     pub(crate) fn put(&mut self, next: Module) -> Result<(), AllocError>
-        ensures explores { (inputs : InputParts) → Explores inputs self.old.found self.old.read.items → IsModuleAt inputs self.old.found (length self.old.read.items) next → OnOk result (Explores inputs self.new.found self.new.read.items) }
+        ensures explores { (inputs : InputParts) → Explores inputs self.old.found self.old.read.items → IsNextIn inputs self.old.found self.old.read.items next → OnOk result (Explores inputs self.new.found self.new.read.items) }
         ensures more { OnOk result (length self.new.read.items ≡ length self.old.read.items + 1) }
         ensures found { OnOk result (self.new.found ≡ with_labels self.old.found (loads_by next.front)) }
     {

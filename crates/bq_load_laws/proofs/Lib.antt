@@ -1,8 +1,10 @@
--- in which order a module fails
-pub mod Orders
--- the first load of a file
-pub mod FirstLoad
--- what a module exports
-pub mod Exports
--- what a module printed
-pub mod Prints
+-- load graphs
+pub mod Graphs
+-- outcomes of modules
+pub mod Outcomes
+-- packages of modules
+pub mod Packages
+-- faults of modules
+pub mod Faults
+-- calls along loads
+pub mod Calls

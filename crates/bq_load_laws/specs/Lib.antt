@@ -1,4 +1,10 @@
-pub mod Orders
-pub mod FirstLoad
-pub mod Exports
-pub mod Prints
+-- load graphs
+pub mod Graphs
+-- outcomes of modules
+pub mod Outcomes
+-- packages of modules
+pub mod Packages
+-- faults of modules
+pub mod Faults
+-- calls along loads
+pub mod Calls

@@ -1,11 +1,11 @@
 //! A module from its claim to its end.
-ghost use Rattle.std.specs.Prelude.{◌≡◌, ℕ, List, ◌+◌, ◌<◌, ◌++◌, ◌∷◌, [], length, vec_len, All, IfOk, OnOk};
+ghost use Rattle.std.specs.Prelude.{◌≡◌, ◌+◌, ◌<◌, ◌++◌, ◌∷◌, [], length, vec_len, All, IfOk};
 ghost use Rattle.bq_board.specs.Conditions.{Owes};
 ghost use Rattle.bq_board.specs.Plan.{IsOut};
 ghost use Rattle.bq_board.specs.Seats.{IsSeatOf, view_of};
 ghost use Rattle.bq_load_outcome_spec.specs.Outcome.{outcome};
 ghost use Rattle.bq_load_order.specs.Shown.{seen_value, shown, value_in};
-ghost use Rattle.bq_load_workers.specs.Brought.{Brought};
+ghost use Rattle.bq_load_workers.specs.Brought.{BringsMore};
 ghost use Rattle.bq_load_workers.specs.Work.{IsImport};
 
 use crate::import::Import;
@@ -27,7 +27,7 @@ impl<E: Evaluate> WorkerPool<E> {
         requires seat { IsSeatOf self.now.board seat.old }
         requires known { m < length self.now.board.plan }
         ensures seat { IsSeatOf self.now.board seat.new }
-        ensures brought { (before : List ℕ) → Brought E.see E.see_fault (outcome (E.means self.now.evaluator) self.now.graph) (length self.now.graph) before (view_of seat.old).finished modules.old.items → OnOk result (Brought E.see E.see_fault (outcome (E.means self.now.evaluator) self.now.graph) (length self.now.graph) before (view_of seat.new).finished modules.new.items) }
+        ensures brought { BringsMore E.see E.see_fault (E.means self.now.evaluator) self.now.graph result (view_of seat.old).finished modules.old.items (view_of seat.new).finished modules.new.items }
     {
         let _ = self.graph.len(); // PROOF: the graph is valid
         match self.board.claim(seat, m) {

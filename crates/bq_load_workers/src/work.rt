@@ -1,9 +1,8 @@
 //! What a worker does.
-ghost use Rattle.std.specs.Prelude.{◌≡◌, ℕ, List, length, IfOk, OnOk, IsTrue};
+ghost use Rattle.std.specs.Prelude.{◌≡◌, length, IfOk, IsTrue};
 ghost use Rattle.bq_board.specs.Counts.{Has};
 ghost use Rattle.bq_board.specs.Seats.{IsSeatOf, view_of};
-ghost use Rattle.bq_load_outcome_spec.specs.Outcome.{outcome};
-ghost use Rattle.bq_load_workers.specs.Brought.{Brought};
+ghost use Rattle.bq_load_workers.specs.Brought.{BringsMore, BroughtOf};
 
 use crate::candidates::Next;
 use crate::pool::{FinishedModule, WorkDone, WorkerPool, WorkerSeat};
@@ -25,7 +24,7 @@ impl<E: Evaluate> WorkerPool<E> {
     ) -> Result<WorkDone<E::Value, E::Fault>, AllocError>
         requires seat { IsSeatOf self.now.board seat.old.place }
         ensures seat { IsSeatOf self.now.board seat.new.place }
-        ensures brought { IfOk result (λ w. Brought E.see E.see_fault (outcome (E.means self.now.evaluator) self.now.graph) (length self.now.graph) (view_of seat.old.place).finished (view_of seat.new.place).finished w.modules.items) }
+        ensures brought { IfOk result (λ w. BroughtOf E.see E.see_fault (E.means self.now.evaluator) self.now.graph (view_of seat.old.place).finished (view_of seat.new.place).finished w.modules.items) }
         ensures all { IfOk result (λ w. IsTrue w.all → Has (view_of seat.new.place).counts (length self.now.graph)) }
     {
         let worked = self.run(rt, alloc, seat, watch);
@@ -45,7 +44,7 @@ impl<E: Evaluate> WorkerPool<E> {
     ) -> Result<WorkDone<E::Value, E::Fault>, AllocError>
         requires seat { IsSeatOf self.now.board seat.old.place }
         ensures seat { IsSeatOf self.now.board seat.new.place }
-        ensures brought { IfOk result (λ w. Brought E.see E.see_fault (outcome (E.means self.now.evaluator) self.now.graph) (length self.now.graph) (view_of seat.old.place).finished (view_of seat.new.place).finished w.modules.items) }
+        ensures brought { IfOk result (λ w. BroughtOf E.see E.see_fault (E.means self.now.evaluator) self.now.graph (view_of seat.old.place).finished (view_of seat.new.place).finished w.modules.items) }
         ensures all { IfOk result (λ w. IsTrue w.all → Has (view_of seat.new.place).counts (length self.now.graph)) }
     {
         let count = self.graph.len() as u64;
@@ -84,7 +83,7 @@ impl<E: Evaluate> WorkerPool<E> {
     ) -> Result<bool, AllocError>
         requires seat { IsSeatOf self.now.board seat.old.place }
         ensures seat { IsSeatOf self.now.board seat.new.place }
-        ensures brought { (before : List ℕ) → Brought E.see E.see_fault (outcome (E.means self.now.evaluator) self.now.graph) (length self.now.graph) before (view_of seat.old.place).finished modules.old.items → OnOk result (Brought E.see E.see_fault (outcome (E.means self.now.evaluator) self.now.graph) (length self.now.graph) before (view_of seat.new.place).finished modules.new.items) }
+        ensures brought { BringsMore E.see E.see_fault (E.means self.now.evaluator) self.now.graph result (view_of seat.old.place).finished modules.old.items (view_of seat.new.place).finished modules.new.items }
     {
         let m = match self.next(&mut seat.list) {
             Next::Candidate(candidate) => candidate as usize,

@@ -9,6 +9,7 @@ use Rattle.bq_package_rule_class.specs.Class.{Class}
 use Rattle.bq_package_target.specs.declared.target.Target.{Target}
 use Rattle.bq_package_rule_class.specs.declared.value.AttributeValue.{AttributeValue}
 use Rattle.bq_package_target.specs.declared.value.GivenAttribute.{GivenAttribute}
+use Rattle.bq_package_target.specs.Package.{IsOwnCall}
 use Rattle.bq_value.specs.Datum.{Datum, string}
 use Rattle.bq_value.specs.Cells.{StoreView}
 use Rattle.bq_builtin_machine.specs.Args.{Passed}
@@ -16,6 +17,12 @@ use Rattle.bq_builtin_machine.specs.Binding.{BoundView, bind}
 use Rattle.bq_package_attributes.specs.declared.arguments.Given.{Given}
 use Rattle.bq_package_attributes.specs.Arguments.{with_argument, with_arguments}
 use Rattle.bq_package_attributes.specs.Declarations.{keywords_alone, gives, default_of, declaration}
+
+-- the target that a call declares, and the files that its rule makes, are of the package of the BUILD file
+abbrev pub CallsDeclareOwnTargets : Type 0
+CallsDeclareOwnTargets =
+    (own : PackageParts) (packages : List BuildFile) (store : StoreView) (class : Class) (rule : List ℕ) (line : ℕ) (passed : Passed) (t : Target)
+    → declaration own packages store class rule line passed ≡ Ok t → IsOwnCall own t
 
 -- the keyword arguments of a call are its named arguments, in the order in which they are written
 abbrev pub KeywordsKeepTheirOrder : Type 0

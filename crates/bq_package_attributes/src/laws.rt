@@ -1,20 +1,11 @@
 //! Laws of the definitions: each is the contract of a function that does nothing.
 
-ghost use Rattle.std.specs.Prelude.{◌≡◌, ℕ, List, Ok};
-ghost use Rattle.bq_label.specs.declared.packages.BuildFile.{BuildFile};
-ghost use Rattle.bq_label.specs.Label.{PackageParts};
-ghost use Rattle.bq_package_rule_class.specs.Class.{Class};
-ghost use Rattle.bq_value.specs.Cells.{StoreView};
-ghost use Rattle.bq_builtin_machine.specs.Args.{Passed};
-ghost use Rattle.bq_package_target.specs.declared.target.Target.{Target};
-ghost use Rattle.bq_package_target.specs.Package.{IsOwnCall};
-ghost use Rattle.bq_package_attributes.specs.Declarations.{declaration};
-ghost use Rattle.bq_package_attributes.specs.Laws.{KeywordsKeepTheirOrder, TheFirstFaultyArgumentDecides, MandatoryAttributesAreGiven, DefaultsAreGiven};
+ghost use Rattle.bq_package_attributes.specs.Laws.{CallsDeclareOwnTargets, KeywordsKeepTheirOrder, TheFirstFaultyArgumentDecides, MandatoryAttributesAreGiven, DefaultsAreGiven};
 
 /// The target that a call declares is of the package of its BUILD file, and so are the files that the rule makes.
 #[tactic(auto, using(crate::proofs::Declared::declared_own))]
 pub fn calls_declare_targets_of_their_package()
-    ensures { (own : PackageParts) (packages : List BuildFile) (store : StoreView) (class : Class) (rule : List ℕ) (line : ℕ) (passed : Passed) (t : Target) → declaration own packages store class rule line passed ≡ Ok t → IsOwnCall own t }
+    ensures { CallsDeclareOwnTargets }
 {}
 
 /// The keyword arguments of a call are its named arguments, in the order in which they are written.

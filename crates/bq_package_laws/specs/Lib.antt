@@ -1,3 +1,4 @@
-pub mod Orders
-pub mod Nothing
-pub mod Defaults
+-- calls of build functions
+pub mod BuildFunctions
+-- calls of rules
+pub mod RuleCalls

@@ -1,10 +1,15 @@
 -- What comes after a first operand.
-use Rattle.std.specs.Prelude.{ℕ, zero, suc, [], Ok}
+use Rattle.std.specs.Prelude.{ℕ, zero, suc, List, [], Ok}
 use Rattle.bq_parse_grammar.specs.declared.tree.Expr.{Expr}
+use Rattle.bq_parse_grammar.specs.declared.tree.Operation.{Operation}
 use Rattle.bq_parse_grammar.specs.Grammar.{binary_of}
 use Rattle.bq_parse_grammar.specs.Operators.{operator_at}
 use Rattle.bq_parse_grammar.specs.Reading.{has, operation, binary, comp_after, not_test, and_test}
 use Rattle.bq_parse_grammar.specs.Turns.{Parse, ◌>>=◌, repeat}
+
+-- the operators of one level, each with the operand after it
+abbrev pub operations : ℕ → Parse Expr → Parse (List Operation)
+operations l one ts = repeat (has (operator_at l)) (operation l one) [] ts
 
 -- what operators of up to this level do to an operand that is read: level by level, from the tightest
 unfoldable pub further : Parse Expr → ℕ → Expr → Parse Expr

@@ -8,7 +8,7 @@ ghost use Rattle.bq_parse_grammar.specs.Grammar as grammar;
 ghost use Rattle.bq_parse_grammar.specs.Reading as spec;
 ghost use Rattle.bq_parse_grammar.specs.declared.tree.Choice.{roll-Choice};
 ghost use Rattle.bq_parse_expression.specs.Nested.{ReadsNested};
-ghost use Rattle.bq_parse_expression.specs.Further.{further, chained_by};
+ghost use Rattle.bq_parse_expression.specs.Further.{operations, further, chained_by};
 
 use crate::grammar::Grammar;
 use bq_parse_cursor::Tokens;
@@ -119,7 +119,7 @@ impl<F: Fn(Global, &mut Tokens<'_>, usize, Nested) -> Result<Expr, SyntaxErr>> G
     ) -> Result<Items<Operation>, SyntaxErr>
         requires chained { 0 < level }
         requires nested { ReadsNested self.now.depth (F.pre self.now.phrase) (F.post self.now.phrase) }
-        ensures { Reads (turns.repeat (spec.has (operators.operator_at level)) (spec.operation level (spec.binary (spec.primary (spec.phrase self.now.depth) (spec.variables_to self.now.depth)) (level - 1))) [] tokens.old) result tokens.new }
+        ensures { Reads (operations level (spec.binary (spec.primary (spec.phrase self.now.depth) (spec.variables_to self.now.depth)) (level - 1)) tokens.old) result tokens.new }
     {
         let mut found = Items::new(self.alloc);
         // Each turn takes a token.
@@ -240,7 +240,7 @@ impl<F: Fn(Global, &mut Tokens<'_>, usize, Nested) -> Result<Expr, SyntaxErr>> G
     #[tactic(auto, using(crate::proofs::LoopTurns::turns_more, crate::proofs::LoopTurns::turns_over), unfolding(bq_parse_grammar::specs::Turns::repeat))]
     fn and_operations(&self, tokens: &mut Tokens<'_>) -> Result<Items<Operation>, SyntaxErr>
         requires { ReadsNested self.now.depth (F.pre self.now.phrase) (F.post self.now.phrase) }
-        ensures { Reads (turns.repeat (spec.has (operators.operator_at 9)) (spec.operation 9 (spec.not_test (spec.primary (spec.phrase self.now.depth) (spec.variables_to self.now.depth)))) [] tokens.old) result tokens.new }
+        ensures { Reads (operations 9 (spec.not_test (spec.primary (spec.phrase self.now.depth) (spec.variables_to self.now.depth))) tokens.old) result tokens.new }
     {
         let mut found = Items::new(self.alloc);
         // Each turn takes a token.
@@ -295,7 +295,7 @@ impl<F: Fn(Global, &mut Tokens<'_>, usize, Nested) -> Result<Expr, SyntaxErr>> G
     #[tactic(auto, using(crate::proofs::LoopTurns::turns_more, crate::proofs::LoopTurns::turns_over), unfolding(bq_parse_grammar::specs::Turns::repeat))]
     fn or_operations(&self, tokens: &mut Tokens<'_>) -> Result<Items<Operation>, SyntaxErr>
         requires { ReadsNested self.now.depth (F.pre self.now.phrase) (F.post self.now.phrase) }
-        ensures { Reads (turns.repeat (spec.has (operators.operator_at 10)) (spec.operation 10 (spec.and_test (spec.primary (spec.phrase self.now.depth) (spec.variables_to self.now.depth)))) [] tokens.old) result tokens.new }
+        ensures { Reads (operations 10 (spec.and_test (spec.primary (spec.phrase self.now.depth) (spec.variables_to self.now.depth))) tokens.old) result tokens.new }
     {
         let mut found = Items::new(self.alloc);
         // Each turn takes a token.

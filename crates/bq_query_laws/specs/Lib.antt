@@ -1,5 +1,4 @@
-pub mod Edges
-pub mod Chosen
-pub mod Missing
-pub mod InText
-pub mod Numbers
+-- what queries stand for
+pub mod Queries
+-- labels that name no target
+pub mod DanglingLabels

@@ -5,7 +5,7 @@ ghost use Rattle.bq_parse_grammar.specs.declared.tree.Stmt.{out-Stmt};
 ghost use Rattle.bq_resolve_scope.specs.Visit as visit;
 ghost use Rattle.bq_resolve_scope.specs.Statements as spec;
 ghost use Rattle.bq_resolve_expression.specs.Walks.{Walks};
-ghost use Rattle.bq_resolve.specs.Inner.{WalksStatement};
+ghost use Rattle.bq_resolve.specs.Inner.{header, inner, WalksStatement};
 
 use crate::expressions::{expr, target};
 use crate::small::{line, misplaced};
@@ -31,7 +31,7 @@ fn header(
     variables: &TargetExpr,
     iterable: &Expr,
 ) -> Result<(CodeTarget, Code), SourceErr>
-    ensures { Walks (visit.following (spec.target scope.now.file.now scope.now.blocks.now variables.now walk.old) (λ t p. visit.following (spec.expr scope.now.file.now scope.now.blocks.now iterable.now p) (λ x. visit.pure (t, x)))) result walk.new }
+    ensures { Walks (header scope.now variables.now iterable.now walk.old) result walk.new }
 {
     let variables = target(scope, walk, variables)?;
     let variables = Boxed::new(scope.alloc, variables)?;
@@ -52,7 +52,7 @@ impl<
         statements: &[Stmt],
     ) -> Result<Items<CodeStmt>, SourceErr>
         requires { WalksStatement self.now.layers (F.pre self.now.inner) (F.post self.now.inner) }
-        ensures { Walks (visit.each (spec.stmt_to self.now.scope.file.now self.now.layers self.now.scope.blocks.now looping) [] statements.now walk.old) result walk.new }
+        ensures { Walks (visit.each (inner self.now.scope self.now.layers looping) [] statements.now walk.old) result walk.new }
     {
         let mut done = Items::new(self.scope.alloc);
         for statement in statements {
@@ -71,7 +71,7 @@ impl<
         statements: &[Stmt],
     ) -> Result<(T, Items<CodeStmt>), SourceErr>
         requires { WalksStatement self.now.layers (F.pre self.now.inner) (F.post self.now.inner) }
-        ensures { Walks (visit.following (visit.each (spec.stmt_to self.now.scope.file.now self.now.layers self.now.scope.blocks.now looping) [] statements.now walk.old) (λ block. visit.pure (before, block))) result walk.new }
+        ensures { Walks (visit.following (visit.each (inner self.now.scope self.now.layers looping) [] statements.now walk.old) (λ block. visit.pure (before, block))) result walk.new }
     {
         let block = self.block(looping, walk, statements)?;
         Ok((before, block))
@@ -86,7 +86,7 @@ impl<
         branch: &Branch,
     ) -> Result<CodeBranch, SourceErr>
         requires { WalksStatement self.now.layers (F.pre self.now.inner) (F.post self.now.inner) }
-        ensures { Walks (spec.branch self.now.scope.file.now (spec.stmt_to self.now.scope.file.now self.now.layers self.now.scope.blocks.now looping) self.now.scope.blocks.now branch.now walk.old) result walk.new }
+        ensures { Walks (spec.branch self.now.scope.file.now (inner self.now.scope self.now.layers looping) self.now.scope.blocks.now branch.now walk.old) result walk.new }
     {
         let condition = expr(&self.scope, walk, &branch.condition)?;
         let block = branch.block.as_slice();
@@ -102,7 +102,7 @@ impl<
         branches: &[Branch],
     ) -> Result<Items<CodeBranch>, SourceErr>
         requires { WalksStatement self.now.layers (F.pre self.now.inner) (F.post self.now.inner) }
-        ensures { Walks (visit.each (spec.branch self.now.scope.file.now (spec.stmt_to self.now.scope.file.now self.now.layers self.now.scope.blocks.now looping) self.now.scope.blocks.now) [] branches.now walk.old) result walk.new }
+        ensures { Walks (visit.each (spec.branch self.now.scope.file.now (inner self.now.scope self.now.layers looping) self.now.scope.blocks.now) [] branches.now walk.old) result walk.new }
     {
         let mut done = Items::new(self.scope.alloc);
         for branch in branches {
@@ -121,7 +121,7 @@ impl<
         otherwise: &[Stmt],
     ) -> Result<CodeStmt, SourceErr>
         requires { WalksStatement self.now.layers (F.pre self.now.inner) (F.post self.now.inner) }
-        ensures { Walks (spec.if_stmt self.now.scope.file.now (spec.stmt_to self.now.scope.file.now self.now.layers self.now.scope.blocks.now looping) self.now.scope.blocks.now branches.now otherwise.now walk.old) result walk.new }
+        ensures { Walks (spec.if_stmt self.now.scope.file.now (inner self.now.scope self.now.layers looping) self.now.scope.blocks.now branches.now otherwise.now walk.old) result walk.new }
     {
         let branches = self.branches(looping, walk, branches)?;
         let otherwise = self.block(looping, walk, otherwise)?;
@@ -138,7 +138,7 @@ impl<
         body: &[Stmt],
     ) -> Result<CodeStmt, SourceErr>
         requires { WalksStatement self.now.layers (F.pre self.now.inner) (F.post self.now.inner) }
-        ensures { Walks (spec.for_stmt self.now.scope.file.now (spec.stmt_to self.now.scope.file.now self.now.layers self.now.scope.blocks.now true) self.now.scope.blocks.now variables.now iterable.now body.now walk.old) result walk.new }
+        ensures { Walks (spec.for_stmt self.now.scope.file.now (inner self.now.scope self.now.layers true) self.now.scope.blocks.now variables.now iterable.now body.now walk.old) result walk.new }
     {
         let header = header(&self.scope, walk, variables, iterable)?;
         let ((variables, iterable), body) = self.beside(true, walk, header, body)?;
@@ -153,7 +153,7 @@ impl<
         statement: &Stmt,
     ) -> Result<CodeStmt, SourceErr>
         requires { WalksStatement self.now.layers (F.pre self.now.inner) (F.post self.now.inner) }
-        ensures { Walks (spec.stmt_by self.now.scope.file.now (spec.stmt_to self.now.scope.file.now self.now.layers self.now.scope.blocks.now) self.now.scope.blocks.now looping (out-Stmt statement.now) walk.old) result walk.new }
+        ensures { Walks (spec.stmt_by self.now.scope.file.now (inner self.now.scope self.now.layers) self.now.scope.blocks.now looping (out-Stmt statement.now) walk.old) result walk.new }
     {
         match statement {
             Stmt::Simple(small) => {

@@ -1,1 +1,3 @@
 pub mod Walks
+pub mod Comprehensions
+pub mod Targets

@@ -2,10 +2,9 @@
 
 ghost use Rattle.std.specs.Prelude.{◌≡◌, Ok};
 ghost use Rattle.bq_parse_grammar.specs.declared.tree.Clause.{out-Clause};
-ghost use Rattle.bq_resolve_scope.specs.declared.code.Code.TheVariants as code;
-ghost use Rattle.bq_resolve_scope.specs.Visit as visit;
 ghost use Rattle.bq_resolve_scope.specs.Expressions as spec;
 ghost use Rattle.bq_resolve_expression.specs.Walks.{Walks, WalksNested};
+ghost use Rattle.bq_resolve_expression.specs.Comprehensions.{further_clauses, list_in_block, list_comprehension, dict_in_block, dict_comprehension};
 
 use crate::rules::Rules;
 use crate::scope::Scope;
@@ -60,7 +59,7 @@ impl<'a, F: Copy + Fn(&Scope<'_>, usize, &mut Walk, &Expr) -> Result<Code, Sourc
         clauses: &[Clause],
     ) -> Result<Items<CodeClause>, SourceErr>
         requires { WalksNested self.now.depth (F.pre self.now.visit) (F.post self.now.visit) }
-        ensures { Walks (visit.each (λ x. spec.clause_by self.now.scope.file.now (spec.expr_to self.now.depth self.now.scope.file.now) self.now.scope.blocks.now self.now.scope.blocks.now (out-Clause x)) done clauses.now walk.old) result walk.new }
+        ensures { Walks (further_clauses self.now.depth self.now.scope done clauses.now walk.old) result walk.new }
     {
         for clause in clauses {
             done.push(self.clause(self.scope.blocks, walk, clause)?)?;
@@ -96,7 +95,7 @@ impl<'a, F: Copy + Fn(&Scope<'_>, usize, &mut Walk, &Expr) -> Result<Code, Sourc
         clauses: &[Clause],
     ) -> Result<Code, SourceErr>
         requires { WalksNested self.now.depth (F.pre self.now.visit) (F.post self.now.visit) }
-        ensures { Walks (spec.in_block self.now.scope.file.now (spec.expr_to self.now.depth self.now.scope.file.now) (λ bs. spec.expr_to self.now.depth self.now.scope.file.now bs element.now) code.ListComprehension self.now.scope.blocks.now clauses.now walk.old) result walk.new }
+        ensures { Walks (list_in_block self.now.depth self.now.scope element.now clauses.now walk.old) result walk.new }
     {
         let names = comprehension_names(self.scope.alloc, clauses)?;
         let blocks = walk.open(self.scope.alloc, names, self.scope.blocks)?;
@@ -123,7 +122,7 @@ impl<'a, F: Copy + Fn(&Scope<'_>, usize, &mut Walk, &Expr) -> Result<Code, Sourc
         clauses: &[Clause],
     ) -> Result<Code, SourceErr>
         requires { WalksNested self.now.depth (F.pre self.now.visit) (F.post self.now.visit) }
-        ensures { Walks (spec.comprehension self.now.scope.file.now (spec.expr_to self.now.depth self.now.scope.file.now) (λ bs. spec.expr_to self.now.depth self.now.scope.file.now bs element.now) code.ListComprehension self.now.scope.blocks.now clauses.now walk.old) result walk.new }
+        ensures { Walks (list_comprehension self.now.depth self.now.scope element.now clauses.now walk.old) result walk.new }
     {
         if !self.scope.blocks.is_empty() {
             return self.list_in_block(walk, element, clauses);
@@ -142,7 +141,7 @@ impl<'a, F: Copy + Fn(&Scope<'_>, usize, &mut Walk, &Expr) -> Result<Code, Sourc
         clauses: &[Clause],
     ) -> Result<Code, SourceErr>
         requires { WalksNested self.now.depth (F.pre self.now.visit) (F.post self.now.visit) }
-        ensures { Walks (spec.in_block self.now.scope.file.now (spec.expr_to self.now.depth self.now.scope.file.now) (λ bs. spec.pair self.now.scope.file.now (spec.expr_to self.now.depth self.now.scope.file.now) bs pair.now) code.DictComprehension self.now.scope.blocks.now clauses.now walk.old) result walk.new }
+        ensures { Walks (dict_in_block self.now.depth self.now.scope pair.now clauses.now walk.old) result walk.new }
     {
         let names = comprehension_names(self.scope.alloc, clauses)?;
         let blocks = walk.open(self.scope.alloc, names, self.scope.blocks)?;
@@ -170,7 +169,7 @@ impl<'a, F: Copy + Fn(&Scope<'_>, usize, &mut Walk, &Expr) -> Result<Code, Sourc
         clauses: &[Clause],
     ) -> Result<Code, SourceErr>
         requires { WalksNested self.now.depth (F.pre self.now.visit) (F.post self.now.visit) }
-        ensures { Walks (spec.comprehension self.now.scope.file.now (spec.expr_to self.now.depth self.now.scope.file.now) (λ bs. spec.pair self.now.scope.file.now (spec.expr_to self.now.depth self.now.scope.file.now) bs pair.now) code.DictComprehension self.now.scope.blocks.now clauses.now walk.old) result walk.new }
+        ensures { Walks (dict_comprehension self.now.depth self.now.scope pair.now clauses.now walk.old) result walk.new }
     {
         if !self.scope.blocks.is_empty() {
             return self.dict_in_block(walk, pair, clauses);

@@ -1,12 +1,12 @@
 //! Targets of assignments and loops.
 
 ghost use Rattle.std.specs.Prelude.{[]};
-ghost use Rattle.bq_parse_grammar.specs.declared.tree.Argument.TheOpen.{TargetExpr-F};
 ghost use Rattle.bq_parse_grammar.specs.declared.tree.TargetExpr.{TargetExpr};
 ghost use Rattle.bq_resolve_scope.specs.declared.code.CodeTarget.{CodeTarget};
 ghost use Rattle.bq_resolve_scope.specs.Visit as visit;
 ghost use Rattle.bq_resolve_scope.specs.Expressions as spec;
 ghost use Rattle.bq_resolve_expression.specs.Walks.{Walks, WalksNested};
+ghost use Rattle.bq_resolve_expression.specs.Targets.{index_target};
 
 use crate::identifier::name_target;
 use crate::rules::Rules;
@@ -29,7 +29,7 @@ impl<'a, F: Copy + Fn(&Scope<'_>, usize, &mut Walk, &Expr) -> Result<Code, Sourc
         index: &Expr,
     ) -> Result<CodeTarget, SourceErr>
         requires { WalksNested self.now.depth (F.pre self.now.visit) (F.post self.now.visit) }
-        ensures { (inner : TargetExpr → visit.Visit CodeTarget) → Walks (spec.target_by self.now.scope.file.now (spec.expr_to self.now.depth self.now.scope.file.now) inner self.now.scope.blocks.now (TargetExpr-F.TargetExpr::Index operand.now index.now) walk.old) result walk.new }
+        ensures { (inner : TargetExpr → visit.Visit CodeTarget) → Walks (index_target self.now.depth self.now.scope inner operand.now index.now walk.old) result walk.new }
     {
         let operand = self.boxed(walk, operand)?;
         let index = self.boxed(walk, index)?;

@@ -59,6 +59,14 @@ Writes (Err run.Read) faults answer f f' a a' = Keeps f f' × Keeps a a'
 Writes (Err run.Write) faults answer f f' a a' = Begins f f' faults × Begins a a' answer × (Keeps a a' ⊎ Appends f f' faults)
 Writes result faults answer f f' a a' = Appends f f' faults × Appends a a' answer
 
+-- both texts of a run are written whole
+abbrev pub WritesWhole : Run → (f f' a a' : Option (List ℕ)) → Type 0
+WritesWhole what f f' a a' = Appends f f' what.faults × Appends a a' what.answer
+
+-- a beginning of each is written, and of the answer only after the whole of the faults
+abbrev pub WritesBeginnings : Run → (f f' a a' : Option (List ℕ)) → Type 0
+WritesBeginnings what f f' a a' = Begins f f' what.faults × Begins a a' what.answer × (Keeps a a' ⊎ Appends f f' what.faults)
+
 -- The call did what the run is: what the faults writer held before and after it is f and f', the writer a and a'.
 pub record Does (what : Run) (result : Result Status RunErr) (f f' a a' : Option (List ℕ)) : Type 0 where
   pub ends : EndsAs result what.end

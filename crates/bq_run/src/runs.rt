@@ -1,10 +1,10 @@
 //! A run: the bytes of a bundle are read, and the texts of the faults and of the answer are written.
 
-ghost use Rattle.std.specs.Prelude.{◌≡◌, ◌⊎◌, ◌+◌, ◌-◌, ◌^◌, ◌<◌, ℕ, List, IfSome, IsErrOf, OnOk, OnErr};
-ghost use Rattle.std.specs.Io.KnownBytes.{Appends, Keeps};
+ghost use Rattle.std.specs.Prelude.{◌≡◌, ◌+◌, ◌-◌, ◌^◌, ◌<◌, ℕ, List, IfSome, IsErrOf, OnOk, OnErr};
+ghost use Rattle.std.specs.Io.KnownBytes.{Keeps};
 ghost use Rattle.bq_run_report.specs.Report.{report_view};
-ghost use Rattle.bq_run.specs.Device.{Begins, OneFailed};
-ghost use Rattle.bq_run.specs.Run.{Does, DoesOne, IsInRange, IsRunOf, IsRunOver, IsSilent, run_by, run_report};
+ghost use Rattle.bq_run.specs.Device.{OneFailed};
+ghost use Rattle.bq_run.specs.Run.{Does, DoesOne, IsInRange, IsRunOf, IsRunOver, IsSilent, WritesBeginnings, WritesWhole, run_by, run_report};
 
 use crate::bundle::read_bundle;
 use crate::device::{ByteSink, ByteSource};
@@ -28,8 +28,8 @@ fn write_texts<W: ByteSink, F: ByteSink>(
 ) -> Result<(), WriteFault>
     requires writer { W.failed writer.old < 2 ^ 64 - 1 }
     requires faults_writer { F.failed faults_writer.old < 2 ^ 64 - 1 }
-    ensures whole { OnOk result (Appends (F.contents faults_writer.old) (F.contents faults_writer.new) (run_report (report_view report.now)).faults × Appends (W.contents writer.old) (W.contents writer.new) (run_report (report_view report.now)).answer) }
-    ensures begins { OnErr result (Begins (F.contents faults_writer.old) (F.contents faults_writer.new) (run_report (report_view report.now)).faults × Begins (W.contents writer.old) (W.contents writer.new) (run_report (report_view report.now)).answer × (Keeps (W.contents writer.old) (W.contents writer.new) ⊎ Appends (F.contents faults_writer.old) (F.contents faults_writer.new) (run_report (report_view report.now)).faults)) }
+    ensures whole { OnOk result (WritesWhole (run_report (report_view report.now)) (F.contents faults_writer.old) (F.contents faults_writer.new) (W.contents writer.old) (W.contents writer.new)) }
+    ensures begins { OnErr result (WritesBeginnings (run_report (report_view report.now)) (F.contents faults_writer.old) (F.contents faults_writer.new) (W.contents writer.old) (W.contents writer.new)) }
     ensures device { OnErr result (OneFailed (F.failed faults_writer.old) (F.failed faults_writer.new) (W.failed writer.old) (W.failed writer.new)) }
     ensures quiet { OnOk result ((F.failed faults_writer.new ≡ F.failed faults_writer.old) × (W.failed writer.new ≡ W.failed writer.old)) }
 {

@@ -5,16 +5,16 @@ use Rattle.bq_load_fault_line.specs.LineText.{line_text}
 use Rattle.bq_label.specs.declared.workspace.File.{File}
 use Rattle.bq_query_lex.specs.declared.query_error.QueryErr.{QueryErr}
 use Rattle.bq_run_report.specs.Ending.{names_nothing}
-use Rattle.bq_run_report.specs.Report.{Inside, ReportView, all_faults, fault_text}
+use Rattle.bq_run_report.specs.Report.{Inside, all_faults, fault_text}
 use Rattle.bq_run_report.specs.declared.ending.NoAnswer.{NoAnswer}
 use Rattle.bq_run_report.specs.declared.ending.NoAnswer.TheVariants as refusal
 use Rattle.bq_run_report.specs.declared.ending.Status.{Status}
 use Rattle.bq_run.specs.Bundle.{bundle_of}
 use Rattle.bq_run.specs.Run.{Run, run_by, IsRunOver, IsRunFrom, IsRunOf, IsSilent}
-use Rattle.bq_run.specs.WorkspaceRun.{IsReportOn}
 use Rattle.bq_run.specs.declared.error.RunErr.{RunErr}
 use Rattle.bq_run.specs.declared.error.RunErr.TheVariants as run
 use Rattle.bq_run.specs.declared.options.Options.{Options}
+use Rattle.bq_run_laws.specs.Order.{WritesFaultsAlone}
 
 -- ---- bundles
 
@@ -49,8 +49,7 @@ faults_written faults answer (Err (refusal.Query error)) why e h = let t : names
 faults_written faults answer (Err (refusal.Schema line)) why e h = absurd (no_schema line why e)
 faults_written faults answer (Err refusal.TooManyModules) why e h = absurd (no_many why e)
 
-pub unanswered : (o : Options) (files : List File) (what : Run) (why : QueryErr) → IsRunOver o files what → what.end ≡ Err (run.Query why) → names_nothing why ≡ true
-    → (r : ReportView) × IsReportOn o files r × (what.faults ≡ r.faults) × (what.answer ≡ [])
+pub unanswered : (o : Options) (files : List File) (what : Run) (why : QueryErr) → IsRunOver o files what → what.end ≡ Err (run.Query why) → names_nothing why ≡ true → WritesFaultsAlone o files what
 unanswered o files what why over e h =
     let r = over.0 in
     let is = over.2 in

@@ -8,13 +8,12 @@ ghost use Rattle.bq_query_lex.specs.declared.query_error.QueryErr.TheVariants.{B
 ghost use Rattle.bq_query_check.specs.Checked.{IsChecked, IsWrong};
 ghost use Rattle.bq_query_check.specs.declared.checked.CheckedQuery.{CheckedQuery};
 ghost use Rattle.bq_run_report.specs.Ending.{names_nothing};
-ghost use Rattle.bq_run_report.specs.Report.{Inside, ReportView, fault_text};
+ghost use Rattle.bq_run_report.specs.Report.{Inside, fault_text};
 ghost use Rattle.bq_run.specs.declared.options.Options.{Options};
 ghost use Rattle.bq_run.specs.declared.error.RunErr.TheVariants as run;
 ghost use Rattle.bq_run.specs.Bundle.{bundle_of};
 ghost use Rattle.bq_run.specs.Run.{Run, IsRunOver, IsRunOf, IsSilent};
-ghost use Rattle.bq_run.specs.WorkspaceRun.{IsReportOn};
-ghost use Rattle.bq_run_laws.specs.Order.{EndsWithWrongQuery};
+ghost use Rattle.bq_run_laws.specs.Order.{EndsWithWrongQuery, WritesFaultsAlone};
 
 /// A bundle that makes no workspace is E4, whatever the query and the schema are, and nothing is written.
 pub fn bundles_come_first()
@@ -41,6 +40,6 @@ pub fn prints_come_first()
 /// If a query names what isn't there (Q5, Q6), the faults of the workspace are written, and no answer; with every other
 /// error nothing is.
 pub fn errors_write_no_answer()
-    ensures unanswered { (o : Options) (files : List File) (what : Run) (why : QueryErr) → IsRunOver o files what → what.end ≡ Err (run.Query why) → names_nothing why ≡ true → (r : ReportView) × IsReportOn o files r × (what.faults ≡ r.faults) × (what.answer ≡ []) }
+    ensures unanswered { (o : Options) (files : List File) (what : Run) (why : QueryErr) → IsRunOver o files what → what.end ≡ Err (run.Query why) → names_nothing why ≡ true → WritesFaultsAlone o files what }
     ensures silent { (o : Options) (files : List File) (what : Run) → IsRunOver o files what → IsSilent what.end → (what.faults ≡ []) × (what.answer ≡ []) }
 {}

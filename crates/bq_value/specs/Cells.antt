@@ -1,10 +1,11 @@
 -- Stores and frozen modules as finite maps from cells to contents (Starlark, "Freezing a value").
-use Rattle.std.specs.Prelude.{ℕ, cond, List, [], ◌∷◌, slice_get, Option, Some, None, ◌==◌, nat_lt, refl, is_some}
+use Rattle.std.specs.Prelude.{◌≡◌, ℕ, cond, fold, List, [], ◌∷◌, slice_get, Option, Some, None, ◌==◌, nat_lt, refl, is_some}
 use Rattle.std.specs.Coded.{Coded, code_by, coded×, coded_ℕ, coded_list}
-use Rattle.bq_value.specs.Datum.{Datum}
+use Rattle.bq_package_rule_class.specs.Class.{Class}
+use Rattle.bq_value.specs.Datum.{Datum, cell}
 use Rattle.bq_value.specs.Codes.{coded_datum}
-use Rattle.bq_value.specs.Contents.{Contents, coded_contents}
-use Rattle.bq_value.specs.Kinds.{Kinds, coded_kinds, kind_at, kinds_of}
+use Rattle.bq_value.specs.Contents.{Contents, items, pairs, rule, coded_contents}
+use Rattle.bq_value.specs.Kinds.{Kinds, coded_kinds, kind_at, kinds_of, first_holding}
 
 -- the cells of a frozen module, by number, the values of its globals, and the kinds of its rules
 pub record FrozenCells : Type 0 where
@@ -49,6 +50,18 @@ globals_of (Some c) = Some c.globals
 unfoldable pub content_at : StoreView → ℕ → ℕ → Option Contents
 content_at s home number = cond (home == s.own) (slice_get s.cells number) (cell_of number (module_at home s.loaded))
 
+-- the cell of that number holds a list of these values
+abbrev pub HoldsList : StoreView → ℕ → ℕ → List Datum → Type 0
+HoldsList s home number xs = content_at s home number ≡ Some (items xs)
+
+-- the cell of that number holds a dict of these pairs
+abbrev pub HoldsDict : StoreView → ℕ → ℕ → List (Datum × Datum) → Type 0
+HoldsDict s home number ps = content_at s home number ≡ Some (pairs ps)
+
+-- the cell of that number holds a rule with these attributes
+abbrev pub HoldsRule : StoreView → ℕ → ℕ → Class → Type 0
+HoldsRule s home number class = content_at s home number ≡ Some (rule class)
+
 -- the kind of the rule in a cell of a frozen module; a rule of the running module has none yet
 unfoldable pub kind_of : StoreView → ℕ → ℕ → Option (List ℕ)
 kind_of s home number = cond (home == s.own) None (kind_in number (module_at home s.loaded))
@@ -65,6 +78,11 @@ abbrev pub frozen : StoreView → List (List ℕ) → List Datum → FrozenView
 frozen s names gs =
     record { own = s.own; cells = record { cells = s.cells; globals = gs; kinds = kinds_of s.own s.cells names gs }; reached = s.loaded }
 
+-- what `kind` has for each rule of the running module is the name of the first of these globals, in order, that is the rule, and none if
+-- no global is
+abbrev pub KindsAreNames : StoreView → List (List ℕ) → List Datum → (ℕ → Option (List ℕ)) → Type 0
+KindsAreNames s names gs kind = (number : ℕ) (class : Class) → HoldsRule s s.own number class → kind number ≡ first_holding (cell s.own number) names gs
+
 -- a module before the first one with a greater number
 abbrev pub placed : ℕ × FrozenCells → Modules → Modules
 placed m [] = m ∷ []
@@ -80,6 +98,10 @@ brought f = (f.own, f.cells) ∷ f.reached
 
 abbrev pub with_loaded : Modules → StoreView → StoreView
 with_loaded ms s = record s { loaded = ms }
+
+-- the store once it has loaded a module: it reaches all that the module brings along, and keeps those that it reached before
+abbrev pub loading : StoreView → FrozenView → StoreView
+loading s f = with_loaded (fold added s.loaded (brought f)) s
 
 abbrev pub with_cells : List Contents → StoreView → StoreView
 with_cells cs s = record s { cells = cs }

@@ -33,6 +33,10 @@ entries (leaf c) (suc height) base = []
 entries (fork k l r) zero base = []
 entries (fork k l r) (suc height) base = entries l height base ++ entries r height (base + 2 ^ height)
 
+-- the modules of two tries, each with its height; of a number that both have, the module of the first
+abbrev pub all_entries : Trie → ℕ → Trie → ℕ → Modules
+all_entries t from u to = fold added (entries t from 0) (entries u to 0)
+
 -- a trie of a range with these halves
 abbrev pub IsFork : Trie → ℕ → Trie → Trie → Type 0
 IsFork t height l r = IsShaped t height × ((base : ℕ) → entries t height base ≡ entries l (height - 1) base ++ entries r (height - 1) (base + 2 ^ (height - 1)))

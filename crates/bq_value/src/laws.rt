@@ -3,14 +3,13 @@
 
 ghost use Rattle.std.specs.Prelude.{◌≡◌, ◌≢◌, ◌↔◌, ◌<◌, ◌++◌, ◌∷◌, [], List, ℕ, ℤ, pos, Some, None, cond, fold, is_some, true, false, ◌==◌};
 ghost use Rattle.std.specs.Option.{option_or};
-ghost use Rattle.bq_package_rule_class.specs.Class.{Class};
-ghost use Rattle.bq_value.specs.Datum.{Datum, cell};
+ghost use Rattle.bq_value.specs.Datum.{Datum};
 ghost use Rattle.bq_value.specs.Same.{same};
 ghost use Rattle.bq_value.specs.Range.{IsBefore, range_element, range_count};
 ghost use Rattle.bq_value.specs.Pairs.{found, put, without, keys, TakenOut, HasNoKeyTwice};
-ghost use Rattle.bq_value.specs.Contents.{Contents, rule, KeysDiffer};
-ghost use Rattle.bq_value.specs.Kinds.{kind_at, first_holding};
-ghost use Rattle.bq_value.specs.Cells.{StoreView, FrozenView, Modules, module_at, content_at, kind_of, frozen_at, frozen, added, brought, with_loaded};
+ghost use Rattle.bq_value.specs.Contents.{Contents, KeysDiffer};
+ghost use Rattle.bq_value.specs.Kinds.{kind_at};
+ghost use Rattle.bq_value.specs.Cells.{StoreView, FrozenView, Modules, module_at, content_at, kind_of, frozen_at, frozen, added, loading, KindsAreNames};
 ghost use Rattle.bq_value.specs.Lending.{with_cell};
 
 use crate::store::Store;
@@ -68,8 +67,8 @@ pub fn freezing_keeps_every_cell()
 /// rule; it has no kind if no global is. Whoever loads the module finds that kind, whatever name it gives the rule. In
 /// the module itself, which isn't frozen yet, the rule has none.
 pub fn a_kind_is_the_first_name()
-    ensures frozen { (s : StoreView) (names : List (List ℕ)) (globals : List Datum) (number : ℕ) (class : Class) → content_at s s.own number ≡ Some (rule class) → kind_at number (frozen s names globals).cells.kinds ≡ first_holding (cell s.own number) names globals }
-    ensures loaded { (s t : StoreView) (names : List (List ℕ)) (globals : List Datum) (number : ℕ) (class : Class) → t.own ≢ s.own → module_at t.own s.loaded ≡ None → content_at t t.own number ≡ Some (rule class) → kind_of (with_loaded (fold added s.loaded (brought (frozen t names globals))) s) t.own number ≡ first_holding (cell t.own number) names globals }
+    ensures frozen { (s : StoreView) (names : List (List ℕ)) (globals : List Datum) → KindsAreNames s names globals (λ number. kind_at number (frozen s names globals).cells.kinds) }
+    ensures loaded { (s t : StoreView) (names : List (List ℕ)) (globals : List Datum) → t.own ≢ s.own → module_at t.own s.loaded ≡ None → KindsAreNames t names globals (kind_of (loading s (frozen t names globals)) t.own) }
     ensures own { (s : StoreView) (number : ℕ) → kind_of s s.own number ≡ None }
 {}
 
@@ -80,8 +79,8 @@ pub fn modules_after_a_load()
 
 /// Loading keeps the cells of all modules that are there, and brings those of the others as they were frozen.
 pub fn loading_a_module()
-    ensures keeps { (s : StoreView) (f : FrozenView) (home number : ℕ) → (home ≢ s.own → module_at home s.loaded ≢ None) → content_at (with_loaded (fold added s.loaded (brought f)) s) home number ≡ content_at s home number }
-    ensures brings { (s : StoreView) (f : FrozenView) (home number : ℕ) → home ≢ s.own → module_at home s.loaded ≡ None → content_at (with_loaded (fold added s.loaded (brought f)) s) home number ≡ frozen_at f home number }
+    ensures keeps { (s : StoreView) (f : FrozenView) (home number : ℕ) → (home ≢ s.own → module_at home s.loaded ≢ None) → content_at (loading s f) home number ≡ content_at s home number }
+    ensures brings { (s : StoreView) (f : FrozenView) (home number : ℕ) → home ≢ s.own → module_at home s.loaded ≡ None → content_at (loading s f) home number ≡ frozen_at f home number }
 {}
 
 /// Changing a cell of the running module changes no cell of another module, and no other cell of its own.

@@ -3,7 +3,7 @@
 ghost use Rattle.std.specs.Prelude.{◌≡◌, ◌≤◌, [], MatchOption, IfOk, OnOk, OnErr, fold};
 ghost use Rattle.std.specs.Option.{option_copied};
 ghost use Rattle.bq_value.specs.Cells.{module_at, added};
-ghost use Rattle.bq_value.specs.Tries.{IsShaped, entries};
+ghost use Rattle.bq_value.specs.Tries.{IsShaped, entries, all_entries};
 
 use crate::shared::Shared;
 use crate::tree::Tree;
@@ -98,7 +98,7 @@ fn joined(
     requires longer { from ≤ to }
     requires shaped { IsShaped tree.now from }
     requires other { IsShaped other.now to }
-    ensures { IfOk result (λ t. MatchOption t (fold added (entries tree.now from 0) (entries other.now to 0) ≡ entries tree.now from 0) (λ j. IsShaped j to × (entries j to 0 ≡ fold added (entries tree.now from 0) (entries other.now to 0)))) }
+    ensures { IfOk result (λ t. MatchOption t (all_entries tree.now from other.now to ≡ entries tree.now from 0) (λ j. IsShaped j to × (entries j to 0 ≡ all_entries tree.now from other.now to))) }
 {
     let tree = raised(alloc, tree, from, to)?;
     tree.joined(alloc, to, other)

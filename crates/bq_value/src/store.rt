@@ -1,10 +1,10 @@
 //! The store of a running module.
 
-ghost use Rattle.std.specs.Prelude.{◌≡◌, [], ◌∷◌, ◌++◌, None, Some, MatchOption, IfOk, OnOk, OnErr, fold, length};
+ghost use Rattle.std.specs.Prelude.{◌≡◌, [], ◌∷◌, ◌++◌, None, Some, MatchOption, IfOk, OnOk, OnErr, length};
 ghost use Rattle.std.specs.Prelude.{◌<◌, ◌≢◌, slice_get, option_copied, IsOkAnd, IsErrOf};
 ghost use Rattle.std.specs.Borrow.{sem};
 ghost use Rattle.bq_value.specs.Lending.{LendsCell, LendsCellIfOk};
-ghost use Rattle.bq_value.specs.Cells.{content_at, kind_of, with_loaded, with_cells, added, brought};
+ghost use Rattle.bq_value.specs.Cells.{content_at, kind_of, with_cells, loading};
 
 use crate::content::Content;
 use crate::error::EvalErr;
@@ -66,7 +66,7 @@ impl Store {
     /// Makes the cells of a frozen module, and of those that it reaches, readable here: shares each that isn't there
     /// yet.
     pub fn load(&mut self, frozen: &Frozen) -> Result<(), AllocError>
-        ensures { OnOk result (self.new ≡ with_loaded (fold added self.old.loaded (brought frozen.now)) self.old) }
+        ensures { OnOk result (self.new ≡ loading self.old frozen.now) }
     {
         self.loaded.add(frozen.own, &frozen.cells)?;
         self.loaded.add_all(&frozen.reached)

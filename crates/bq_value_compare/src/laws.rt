@@ -1,6 +1,6 @@
 //! Laws of the definitions: each is the contract of a function that does nothing.
 
-ghost use Rattle.std.specs.Prelude.{◌≡◌, ◌≢◌, ◌↔◌, ◌+◌, ℕ, suc, ℤ, Bool, true, false, List, Some, Ok, Err};
+ghost use Rattle.std.specs.Prelude.{◌≡◌, ◌≢◌, ◌↔◌, ◌+◌, ℕ, suc, ℤ, Bool, true, false, List, Ok, Err};
 ghost use Rattle.std.specs.declared.cmp.Ordering.{Ordering};
 ghost use Rattle.std.specs.declared.cmp.Ordering.TheVariants.{Less, Equal};
 ghost use Rattle.std.specs.Ordering.{int_cmp, nat_cmp, bool_cmp, ordering_reverse};
@@ -11,8 +11,7 @@ ghost use Rattle.bq_package_rule_class.specs.Same.{same_attribute};
 ghost use Rattle.bq_package_rule_class.specs.declared.attribute.Attribute.{Attribute};
 ghost use Rattle.bq_value.specs.Datum.{Datum, boolean, int, string, tuple, range, cell, function, attribute, Data, list_of};
 ghost use Rattle.bq_value.specs.Key.{IsKey};
-ghost use Rattle.bq_value.specs.Contents.{items, rule};
-ghost use Rattle.bq_value.specs.Cells.{StoreView, content_at};
+ghost use Rattle.bq_value.specs.Cells.{StoreView, HoldsList, HoldsRule};
 ghost use Rattle.bq_value_compare.specs.Looked.{max_levels};
 ghost use Rattle.bq_value_compare.specs.Equality.{equal_at};
 ghost use Rattle.bq_value_compare.specs.Order.{ordered_at};
@@ -54,7 +53,7 @@ pub fn plain_values_have_an_order()
 /// Tuples and lists are ordered by their first unequal elements; where one ends before these, it is less.
 pub fn first_unequal_place_decides()
     ensures tuples { (s : StoreView) (a b : Data) (so : Ordering) → Ordered s (tuple a) (tuple b) so → Decided s 63 (list_of a) (list_of b) so }
-    ensures lists { (s : StoreView) (a i b j : ℕ) (xs ys : List Datum) (so : Ordering) → content_at s a i ≡ Some (items xs) → content_at s b j ≡ Some (items ys) → Ordered s (cell a i) (cell b j) so → Decided s 63 xs ys so }
+    ensures lists { (s : StoreView) (a i b j : ℕ) (xs ys : List Datum) (so : Ordering) → HoldsList s a i xs → HoldsList s b j ys → Ordered s (cell a i) (cell b j) so → Decided s 63 xs ys so }
 {}
 
 /// A walk has a number of steps and an outcome of its own: with fewer steps it is F53, with more the rest is left.
@@ -76,7 +75,7 @@ pub fn functions_are_equal_by_their_def()
 
 /// A rule is equal to itself alone, whatever attributes another one has.
 pub fn rules_are_equal_by_identity()
-    ensures { (s : StoreView) (a i b j : ℕ) (c d : Class) (so : Bool) → content_at s a i ≡ Some (rule c) → content_at s b j ≡ Some (rule d) → Equals s (cell a i) (cell b j) so → (so ≡ true) ↔ ((a ≡ b) × (i ≡ j)) }
+    ensures { (s : StoreView) (a i b j : ℕ) (c d : Class) (so : Bool) → HoldsRule s a i c → HoldsRule s b j d → Equals s (cell a i) (cell b j) so → (so ≡ true) ↔ ((a ≡ b) × (i ≡ j)) }
 {}
 
 /// Attributes are equal where they have one type and one default, and both or neither has to be given. It takes one step, whatever

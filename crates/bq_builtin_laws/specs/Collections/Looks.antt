@@ -2,15 +2,44 @@
 use Rattle.std.specs.Prelude.{◌≡◌, ◌<◌, ◌≤◌, ◌⊎◌, ℕ, ℤ, pos, Bool, true, false, List, length, map, slice_get, Option, Some, Ok}
 use Rattle.std.specs.List.{Contains}
 use Rattle.bq_value.specs.Datum.{Datum, int}
+use Rattle.bq_builtin_machine.specs.Action.{done}
 use Rattle.bq_builtin_machine.specs.Machine.{looked_equal}
 use Rattle.bq_builtin_machine.specs.State.{State}
 use Rattle.bq_builtin_numbers.specs.Place.{bound}
-use Rattle.bq_builtin_collections.specs.Arguments.{or_none}
+use Rattle.bq_builtin_collections.specs.Arguments.{one_or_two, one_to_three, optional_integer, or_none}
+use Rattle.bq_builtin_collections.specs.Dict as dict
+use Rattle.bq_builtin_collections.specs.List as list
+use Rattle.bq_builtin_collections.specs.PairsGiven.{Pairs}
+use Rattle.bq_builtin_laws.specs.Collections.Laws.{IsList, IsDict}
+
+-- `get` of a dict of these pairs gave the answer; it was called with a key and, if there is one, a value for a key that isn't there
+pub record Gets (ps : Pairs) (default : Option Datum) (answer : Datum) (s t : State) : Type 0 where
+  pub home : ℕ
+  pub number : ℕ
+  pub known : IsDict s home number ps
+  pub key : Datum
+  pub args : List Datum
+  pub asked : one_or_two args ≡ Ok (key, default)
+  pub run : dict.get home number args s ≡ done answer t
 
 -- the answer is the value of one of these pairs, or the value for a key that isn't there; lists and dicts are as they were
 pub record OnlyLooks (ps : List (Datum × Datum)) (default : Option Datum) (answer : Datum) (s t : State) : Type 0 where
   pub value : Contains (map (λ p. p.1) ps) answer ⊎ (answer ≡ or_none default)
   pub same : t.store ≡ s.store
+
+-- `index` of a list of these elements gave the answer; it was called with this value, a start and an end, each of which may be left out
+pub record FindsIndex (xs : List Datum) (v : Datum) (start end : Option ℤ) (answer : Datum) (s : State) : Type 0 where
+  pub home : ℕ
+  pub number : ℕ
+  pub known : IsList s home number xs
+  pub from : Option Datum
+  pub to : Option Datum
+  pub from_is : optional_integer from ≡ Ok start
+  pub to_is : optional_integer to ≡ Ok end
+  pub args : List Datum
+  pub asked : one_to_three args ≡ Ok (v, (from, to))
+  pub after : State
+  pub run : list.index home number args s ≡ done answer after
 
 -- the two were compared, with this answer
 pub record IsCompared (s : State) (a b : Datum) (equal : Bool) : Type 0 where

@@ -1,6 +1,6 @@
 -- In which order what changes a list or dict is refused (Starlark, "Built-in methods", "Assignments"; ours: the order). What the
 -- arguments are comes first, then whether the list or dict may be changed, then what is done with it.
-use Rattle.std.specs.Prelude.{ℕ, ◌+◌, not, nat_le, ◌==◌, List, [], ◌∷◌, length, Option, None}
+use Rattle.std.specs.Prelude.{◌≡◌, ℕ, ◌+◌, not, nat_le, ◌==◌, List, [], ◌∷◌, length, Option, None, Ok}
 use Rattle.bq_base.specs.declared.fault.FaultKind.TheVariants.{Frozen, Iterating, TooLong}
 use Rattle.bq_value.specs.Contents.{items, pairs}
 use Rattle.bq_value.specs.Datum.{Datum}
@@ -13,10 +13,11 @@ use Rattle.bq_builtin_machine.specs.State.{State}
 use Rattle.bq_builtin_numbers.specs.Length.{max_len}
 use Rattle.bq_builtin_operators.specs.InPlace.{element_set, pair_put, dict_united}
 use Rattle.bq_builtin_operators.specs.Operand.{int_of}
-use Rattle.bq_builtin_collections.specs.Dict.{first_out, taken_out, with_default}
+use Rattle.bq_builtin_collections.specs.Arguments.{one_or_two, or_none}
+use Rattle.bq_builtin_collections.specs.Dict.{setdefault, first_out, taken_out, with_default}
 use Rattle.bq_builtin_collections.specs.List.{popped, find, drop_at}
-use Rattle.bq_builtin_collections.specs.PairsGiven.{pairs_given, all_pairs}
-use Rattle.bq_builtin_refusal_laws.specs.Refusals.{Check, when, fault_of, fault_in, fault_then, fault_after}
+use Rattle.bq_builtin_collections.specs.PairsGiven.{Pairs, pairs_given, all_pairs}
+use Rattle.bq_builtin_refusal_laws.specs.Refusals.{Check, when, fault_of, fault_in, fault_then, fault_after, IsRefusedForFirst}
 
 -- ---- checks
 
@@ -83,6 +84,11 @@ taking_first s home number ps = frozen s home ∷ walked s home number ∷ fault
 -- F54 comes last
 abbrev pub setting_default : State → ℕ → ℕ → List (Datum × Datum) → Datum → Datum → List Check
 setting_default s home number ps k d = frozen s home ∷ walked s home number ∷ no_key s k ∷ fault_after (key k s) (λ q. fault_in (with_default q d ps)) ∷ []
+
+-- `setdefault` is refused in this order; its arguments are a key and, if there is a second one, the default, which is else `None`
+abbrev pub SetsDefaultInOrder : ℕ → ℕ → Pairs → List Datum → State → Type 0
+SetsDefaultInOrder home number ps args s =
+    (k : Datum) (o : Option Datum) → one_or_two args ≡ Ok (k, o) → IsRefusedForFirst (setdefault home number args s) (setting_default s home number ps k (or_none o))
 
 -- the arguments are read (F52, F40); that their keys are made, and that each pair has two parts (F57), comes after F47 and F48
 abbrev pub updating : State → ℕ → ℕ → Passed → List Check

@@ -2,7 +2,8 @@
 use Rattle.std.specs.Prelude.{fold}
 use Rattle.std.proofs.Common.{◌≡◌, drop}
 use Rattle.bq_eval_rules.specs.Round.{views_of}
-use Rattle.bq_eval.specs.Module.{loading, first_store}
+use Rattle.bq_value.specs.Cells.{loading}
+use Rattle.bq_eval.specs.Module.{first_store}
 use Rattle.bq_eval.proofs.loads.first_store.Given as goal
 
 abbrev pub invariant-loop-frozen : goal.invariant-loop-frozen

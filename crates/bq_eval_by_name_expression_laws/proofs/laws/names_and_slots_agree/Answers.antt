@@ -2,10 +2,10 @@ use Rattle.bq_eval_by_name_expression_laws.proofs.Agreement.{layers_agree, expre
 use Rattle.bq_eval_by_name_expression_laws.proofs.laws.names_and_slots_agree.Goals as goal
 
 pub returns-clause-layers : goal.returns-clause-layers
-returns-clause-layers c w m file round surroundings call other around called = layers_agree m file round surroundings call other around called
+returns-clause-layers c w m file x = layers_agree m file x.round x.surroundings x.call x.other x.around x.calls
 
 pub returns-clause-expressions : goal.returns-clause-expressions
-returns-clause-expressions c w m file round surroundings call other around called = expressions_agree m file round surroundings call other around called
+returns-clause-expressions c w m file x = expressions_agree m file x.round x.surroundings x.call x.other x.around x.calls
 
 pub returns-clause-outside : goal.returns-clause-outside
-returns-clause-outside c w m file round surroundings call other around called = outside_agree m file round surroundings call other around called
+returns-clause-outside c w m file x = outside_agree m file x.round x.surroundings x.call x.other x.around x.calls

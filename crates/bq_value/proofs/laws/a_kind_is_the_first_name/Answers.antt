@@ -5,7 +5,7 @@ pub returns-clause-frozen : goal.returns-clause-frozen
 returns-clause-frozen c = frozen_kind
 
 pub returns-clause-loaded : goal.returns-clause-loaded
-returns-clause-loaded c = loaded_kind
+returns-clause-loaded c = λ s t names gs apart absent number class holds. loaded_kind s t names gs number class apart absent holds
 
 pub returns-clause-own : goal.returns-clause-own
 returns-clause-own c = own_kind

@@ -1,0 +1,41 @@
+-- The laws of steps.
+use Rattle.std.specs.Prelude.{ℕ, List}
+use Rattle.bq_parse_grammar.specs.declared.tree.Comparison.{Comparison}
+use Rattle.bq_parse_grammar.specs.declared.tree.Operator.{Operator}
+use Rattle.bq_parse_grammar.specs.declared.tree.UnaryOperator.{UnaryOperator}
+use Rattle.bq_resolve_predeclared.specs.declared.predeclared.Predeclared.{Predeclared}
+use Rattle.bq_value.specs.Datum.{Datum}
+use Rattle.bq_builtin_machine.specs.Action.{Action}
+use Rattle.bq_builtin_machine.specs.Args.{Passed}
+use Rattle.bq_builtin_machine.specs.State.{State}
+use Rattle.bq_builtin_operators.specs.Operate as operate
+use Rattle.bq_builtin_operators.specs.InPlace as in_place
+use Rattle.bq_builtin_methods.specs.Call as methods
+use Rattle.bq_builtin.specs.Call as functions
+use Rattle.bq_builtin_laws.specs.Steps.Steps.{machine, Takes}
+
+-- an action of a machine has a number of steps and an outcome of its own, in any state
+abbrev pub Own : {A : Type 0} → Action State A → Type 0
+Own action = (s : State) → Takes machine action s
+
+abbrev pub OperatorsOwn : Type 0
+OperatorsOwn =
+    ((operator : UnaryOperator) (v : Datum) → Own (operate.unary operator v))
+    × ((operator : Operator) (v w : Datum) → Own (operate.binary operator v w))
+    × ((operator : Comparison) (v w : Datum) → Own (operate.compare operator v w))
+
+abbrev pub ItemsOwn : Type 0
+ItemsOwn =
+    ((v at : Datum) → Own (operate.index v at))
+    × ((v start stop step : Datum) → Own (operate.slice v start stop step))
+
+abbrev pub ChangesOwn : Type 0
+ChangesOwn =
+    ((operator : Operator) (v w : Datum) → Own (in_place.augment operator v w))
+    × ((v at w : Datum) → Own (in_place.set_index v at w))
+
+abbrev pub MethodsOwn : Type 0
+MethodsOwn = (name : List ℕ) (v : Datum) (args : Passed) → Own (methods.call_method name v args)
+
+abbrev pub FunctionsOwn : Type 0
+FunctionsOwn = (function : Predeclared) (args : Passed) → Own (functions.call_function function args)

@@ -1,2 +1,0 @@
-pub mod Misfits
-pub mod Orders

@@ -1,5 +1,0 @@
-use Rattle.bq_eval_laws.proofs.Rules.{rules_stay}
-use Rattle.bq_eval_laws.proofs.laws.calls_keep_rules.Goals as goal
-
-pub returns : goal.returns
-returns c k names hosts = rules_stay names _ hosts

@@ -1,0 +1,67 @@
+-- The laws of files: their steps, the frozen modules, and the rules that are declared.
+use Rattle.std.specs.Prelude.{◌≡◌, ◌≢◌, ℕ, ◌<◌, ◌≤◌, List, Option, Some}
+use Rattle.bq_base.specs.declared.fault.FaultKind.TheVariants.{StepLimit}
+use Rattle.bq_resolve_scope.specs.Names.{Name}
+use Rattle.bq_resolve_scope.specs.declared.code.Resolved.{Resolved}
+use Rattle.bq_resolve_predeclared.specs.declared.host_function.HostFunction.{HostFunction}
+use Rattle.bq_package_rule_class.specs.Class.{Class}
+use Rattle.bq_value.specs.Cells.{FrozenView, content_at, frozen_at}
+use Rattle.bq_value.specs.Contents.{rule}
+use Rattle.bq_value.specs.Datum.{Datum}
+use Rattle.bq_builtin_machine.specs.Action.{done}
+use Rattle.bq_builtin_machine.specs.Args.{Passed}
+use Rattle.bq_builtin_machine.specs.State.{State}
+use Rattle.bq_eval_meaning_spec.specs.Calls.{Units, calls}
+use Rattle.bq_eval_operations.specs.Calling.{HostCalls}
+use Rattle.bq_eval_operations.specs.Runtime.{primitives}
+use Rattle.bq_eval.specs.Module.{Ended, evaluated, failed, ended, first_store, module_run}
+use Rattle.bq_builtin_laws.specs.Steps.Steps.{hosted, Begins, Takes}
+
+-- a host whose calls don't look at the steps that are left, nor change what was printed, the frozen modules or a rule: those of its own
+-- functions, and those of rules that .bzl files declare
+abbrev pub HostTakes : {W : Type 0} → HostCalls W → Type 0
+HostTakes {W = W} host =
+    ((function : HostFunction) (args : Passed) (s : State × W) → Takes hosted (host.call function args) s)
+    × ((kind : List ℕ) (class : Class) (args : Passed) (s : State × W) → Takes hosted (host.call_rule kind class args) s)
+
+abbrev pub prints_of : Ended → List (List ℕ)
+prints_of (evaluated frozen prints) = prints
+prints_of (failed fault prints) = prints
+
+-- F53, when a beginning of these was printed
+abbrev pub EndsShort : Ended → List (List ℕ) → Type 0
+EndsShort (evaluated frozen prints) all = ⊥
+EndsShort (failed fault prints) all = (fault.kind ≡ StepLimit) × Begins prints all
+
+-- A file has a number of steps and an outcome of its own: under every limit of at least that many steps it has its
+-- outcome, and under a lower one it is F53 after a beginning of the same prints.
+pub record FileTakes (ends : ℕ → Ended) : Type 0 where
+  pub steps : ℕ
+  pub outcome : Ended
+  pub enough : (limit : ℕ) → steps ≤ limit → ends limit ≡ outcome
+  pub short : (limit : ℕ) → limit < steps → EndsShort (ends limit) (prints_of outcome)
+
+-- what is frozen at a file's end, if it ended well
+abbrev pub FrozenAre : Ended → (FrozenView → Type 0) → Type 0
+FrozenAre (evaluated frozen prints) P = P frozen
+FrozenAre (failed fault prints) P = Unit {0}
+
+module _ {W : Type 0} (names : List Name) (host : HostCalls W) where
+  -- what a file ends in, under that limit
+  abbrev pub ends : List (Option Resolved) → ℕ → Resolved → List FrozenView → List Datum → W → ℕ → Ended
+  ends code number file loaded imports kept limit = ended file imports (module_run names host code number file loaded imports limit kept)
+
+  abbrev pub FilesTakeTheirSteps : Type 0
+  FilesTakeTheirSteps = (code : List (Option Resolved)) (number : ℕ) (file : Resolved) (loaded : List FrozenView) (imports : List Datum) (kept : W) → FileTakes (ends code number file loaded imports kept)
+
+  -- A cell of another module holds at the end what it held at the start, whatever functions of it were called (F47).
+  abbrev pub OtherModulesStay : Type 0
+  OtherModulesStay =
+      (code : List (Option Resolved)) (number : ℕ) (file : Resolved) (loaded : List FrozenView) (imports : List Datum) (kept : W) (limit : ℕ) (home cell : ℕ) → home ≢ number
+      → FrozenAre (ends code number file loaded imports kept limit) (λ f. frozen_at f home cell ≡ content_at (first_store number loaded) home cell)
+
+  -- A rule holds the attributes that it was declared with, whatever is called after that.
+  abbrev pub CallsKeepRules : Type 0
+  CallsKeepRules =
+      (left : ℕ) (units : Units) (v : Datum) (args : Passed) (s : State × W) (result : Datum) (t : State × W) → calls left (primitives names host) units v args s ≡ done result t
+      → (home number : ℕ) (class : Class) → content_at s.0.store home number ≡ Some (rule class) → content_at t.0.store home number ≡ Some (rule class)

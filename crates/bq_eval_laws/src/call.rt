@@ -1,0 +1,47 @@
+//! What holds of calls. The functions do nothing: their contracts are the laws.
+
+ghost use Rattle.std.specs.Prelude.{◌≡◌, ℕ, Err};
+ghost use Rattle.bq_base.specs.declared.fault.FaultKind.{FaultKind};
+ghost use Rattle.bq_base.specs.declared.fault.FaultKind.TheVariants.{Args};
+ghost use Rattle.bq_builtin_machine.specs.Action.{done, stopped};
+ghost use Rattle.bq_builtin_machine.specs.Args.{Passed};
+ghost use Rattle.bq_builtin_machine.specs.Binding.{bind};
+ghost use Rattle.bq_builtin_machine.specs.Calls as machine;
+ghost use Rattle.bq_builtin_machine.specs.Calls.{enter};
+ghost use Rattle.bq_builtin_machine.specs.Parameters.{SignatureView};
+ghost use Rattle.bq_builtin_machine.specs.State.{State, Stop};
+ghost use Rattle.bq_eval_meaning_spec.specs.Calls as meaning;
+ghost use Rattle.bq_eval_meaning_spec.specs.Frame.{Frame};
+ghost use Rattle.bq_builtin_refusal_laws.specs.Refusals.{IsRefusedForFirst};
+ghost use Rattle.bq_eval_laws.specs.Calls.Entered.{CodeCall, entered, activated, whole_call};
+ghost use Rattle.bq_eval_laws.specs.Calls.Misfits.{IsMisfit};
+ghost use Rattle.bq_eval_laws.specs.Calls.Orders.{entering};
+
+/// Arguments are refused, F52, exactly where they don't fit the parameters: one is left over and there is no `*`, a
+/// name is no parameter's and there is no `**`, a parameter has two arguments, a name is passed twice, or a required
+/// parameter has none.
+pub fn misfits_are_refused()
+    ensures refused { (s : SignatureView) (p : Passed) → IsMisfit s p → bind s p ≡ Err Args }
+    ensures only { (s : SignatureView) (p : Passed) (why : FaultKind) → bind s p ≡ Err why → IsMisfit s p }
+{}
+
+/// The check that a function isn't active (F50) comes before the check that fewer than 100 are (F51).
+#[tactic(auto, using(crate::proofs::Calls::Entering::entered_in_order))]
+pub fn functions_are_entered_in_order()
+    ensures { (home place : ℕ) (s : State) → IsRefusedForFirst (enter home place s) (entering s home place) }
+{}
+
+/// A call whose arguments are refused (F52) is refused for nothing else: whether the function is active or not, and
+/// however many are. A function that may not become active (F50, F51) runs no statement.
+#[tactic(auto, using(crate::proofs::Calls::Entering::arguments_first, crate::proofs::Calls::Entering::activity_second))]
+pub fn arguments_come_before_activity<S>()
+    ensures arguments { (x : CodeCall S) (s : S) (why : Stop) → entered x s ≡ stopped why → whole_call x s ≡ stopped why }
+    ensures activity { (x : CodeCall S) (s t : S) (env : Frame) (why : Stop) → entered x s ≡ done env t → activated x t ≡ stopped why → whole_call x s ≡ stopped why }
+{}
+
+/// At most 100 functions are active, for the machine and for what programs mean.
+#[tactic(auto, using(crate::proofs::Calls::Entering::machine_hundred, crate::proofs::Calls::Entering::meaning_hundred))]
+pub fn a_hundred_functions_are_active()
+    ensures machine { machine.max_active ≡ 100 }
+    ensures meaning { meaning.max_active ≡ 100 }
+{}

@@ -1,0 +1,58 @@
+-- What an evaluator does at the clauses of a comprehension: up to the first loop, and in the loops that are open.
+use Rattle.std.specs.Prelude.{◌≡◌, List, Option, Result, IfOk}
+use Rattle.bq_resolve_scope.specs.declared.code.Code.{Code}
+use Rattle.bq_resolve_scope.specs.declared.code.CodeClause.{CodeClause}
+use Rattle.bq_value.specs.declared.error.EvalErr.{EvalErr}
+use Rattle.bq_value.specs.Contents.{Contents}
+use Rattle.bq_value.specs.Datum.{Datum}
+use Rattle.bq_eval_meaning_spec.specs.Comprehensions.{Turn, body, clauses, turn}
+use Rattle.bq_eval_meaning_spec.specs.Frame.{Frame}
+use Rattle.bq_eval_meaning_spec.specs.Primitives.{Primitives}
+use Rattle.bq_eval_rules.specs.declared.evaluator.Evaluator.{Evaluator}
+use Rattle.bq_eval_rules.specs.declared.open_loop.OpenLoop.{OpenLoop}
+use Rattle.bq_eval_rules.specs.Acts.{Leaves}
+use Rattle.bq_eval_rules.specs.Evaluators.{evals_in}
+use Rattle.bq_eval_rules.specs.OpenLoops.{Loop, Count, inner_of, loop_left, inner_left, turn_count, clauses_count, inner_count}
+
+module _ {S R C F : Type 0} (m : Primitives S) (e : Evaluator R C F) (comprehension : Code) where
+  -- what is before the clauses
+  abbrev pub element_in : Turn S
+  element_in = body m (evals_in m e) comprehension
+
+  -- clauses, and at last what is before them
+  abbrev pub clauses_in : List CodeClause → Turn S
+  clauses_in cs = clauses m (evals_in m e) cs element_in
+
+  -- the turns that are left of a loop, and the end of its walk
+  abbrev pub turns_left : Loop → Turn S
+  turns_left l = loop_left m (evals_in m e) element_in l
+
+module _ {S R C F : Type 0} (m : Primitives S) (seen : R → S) (e : Evaluator R C F) (comprehension : Code) where
+  -- A call did the first part of a turn: up to a loop, which it opened, or up to the end of the turn. After the turn come
+  -- the frame, the list or dict and the runtime before the call, its result, and these three after it.
+  abbrev pub OpensLoop : Turn S → Frame → Contents → R → Result (Option OpenLoop) EvalErr → Frame → Contents → R → Type 0
+  OpensLoop whole frame content old result changed filled new =
+      Leaves m (λ inner. inner_left m (evals_in m e) (element_in m e comprehension) (inner_of inner) changed filled (seen new))
+      result (seen new) (whole frame content (seen old))
+
+  -- such a call left as many turns and ends of loops to its loop as there are in the turn
+  abbrev pub CountsLoop : Count S → Frame → Contents → R → Result (Option OpenLoop) EvalErr → Frame → Contents → R → Type 0
+  CountsLoop whole frame content old result changed filled new =
+      IfOk result (λ inner. whole frame content (seen old)
+      ≡ inner_count m (evals_in m e) (element_in m e comprehension) (inner_of inner) changed filled (seen new))
+
+  -- these two of a call that runs clauses, which leave the frame as it is
+  abbrev pub ClausesOpen : List CodeClause → Frame → Contents → R → Result (Option OpenLoop) EvalErr → Contents → R → Type 0
+  ClausesOpen cs frame content old result filled new = OpensLoop (clauses_in m e comprehension cs) frame content old result frame filled new
+
+  abbrev pub ClausesCount : List CodeClause → Frame → Contents → R → Result (Option OpenLoop) EvalErr → Contents → R → Type 0
+  ClausesCount cs frame content old result filled new =
+      CountsLoop (clauses_count m (evals_in m e) (element_in m e comprehension) cs) frame content old result frame filled new
+
+  -- these two of a call that begins a turn of a loop, with an element
+  abbrev pub TurnOpens : OpenLoop → Datum → Frame → Contents → R → Result (Option OpenLoop) EvalErr → Frame → Contents → R → Type 0
+  TurnOpens l v = OpensLoop (turn m (evals_in m e) l.target.now (clauses_in m e comprehension l.after.now) v)
+
+  abbrev pub TurnCounts : OpenLoop → Datum → Frame → Contents → R → Result (Option OpenLoop) EvalErr → Frame → Contents → R → Type 0
+  TurnCounts l v =
+      CountsLoop (turn_count m (evals_in m e) (element_in m e comprehension) l.target.now (clauses_count m (evals_in m e) (element_in m e comprehension) l.after.now) v)

@@ -1,0 +1,38 @@
+-- What a runner has: the meaning of the statements inside, and a function value that runs them.
+use Rattle.std.specs.Prelude.{ℕ, List, Result}
+use denote.Ref.{Bor, MutBor}
+use Rattle.bq_resolve_scope.specs.declared.code.CodeStmt.{CodeStmt}
+use Rattle.bq_resolve_scope.specs.declared.code.CodeTarget.{CodeTarget}
+use Rattle.bq_value.specs.Datum.{Datum}
+use Rattle.bq_value.specs.declared.error.EvalErr.{EvalErr}
+use Rattle.bq_builtin_machine.specs.Action.{done, ◌>>=◌}
+use Rattle.bq_eval_meaning_spec.specs.Primitives.{Primitives}
+use Rattle.bq_eval_meaning_spec.specs.Statements.{Exec, run_to, turns}
+use Rattle.bq_eval_meaning_spec.specs.Trees.{Eval}
+use Rattle.bq_eval_rules.specs.declared.context.Context.{Context}
+use Rattle.bq_eval_rules.specs.declared.flow.Flow as flows
+use Rattle.bq_eval_rules.specs.declared.statements.Runner.{Runner}
+use Rattle.bq_eval_rules.specs.Readers.{evals_of}
+use Rattle.bq_eval_rules.specs.Runs.{Runs}
+use Rattle.bq_eval_rules.specs.Slots.{Slots}
+
+module _ {R C G : Type 0} where
+  -- what a statement inside means
+  abbrev pub execs_in : {S : Type 0} → Primitives S → Runner R C G → CodeStmt → Exec S
+  execs_in m r = run_to r.depth m (evals_of m r.reader)
+
+  -- a rule of the definition, with what the expressions and the statements inside mean
+  abbrev pub rule_in : {S A : Type 0} → Primitives S → Runner R C G → (Primitives S → Eval S → (CodeStmt → Exec S) → A) → A
+  rule_in m r rule = rule m (evals_of m r.reader) (execs_in m r)
+
+  -- the turns of a `for` over the elements that this value has when it begins
+  abbrev pub walk : {S : Type 0} → Primitives S → Runner R C G → CodeTarget → Datum → List CodeStmt → Exec S
+  walk m r t v body env =
+      m.begin_walk v >>= λ vs. rule_in m r turns t body vs env >>= λ flow. λ s. done flow (m.end_walk v s)
+
+  -- its function value runs statements inside
+  abbrev pub RunsInside : {S : Type 0} → Primitives S → (R → S) → Runner R C G
+      → (G → Bor Context → ℕ → C → MutBor Slots → MutBor R → Bor CodeStmt → Type 0)
+      → (G → Bor Context → ℕ → C → MutBor Slots → MutBor R → Bor CodeStmt → Result flows.Flow EvalErr → MutBor Slots → MutBor R → Type 0)
+      → Type 0
+  RunsInside m seen r pre post = Runs m seen r.reader.context.now.left r.depth r.reader.call (pre r.run) (post r.run)

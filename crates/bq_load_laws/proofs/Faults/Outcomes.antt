@@ -1,0 +1,262 @@
+-- The outcome of each module is a value, or a fault of one of its parts.
+use Rattle.std.proofs.Common.{◌≡◌, ◌∙◌, ℕ, suc, ◌+◌, ◌++◌, ◌&&◌, not, length, Bool, true, false, cond, List, [], ◌∷◌, map, Option, Some, None, Result, Ok, Err, slice_get, option_map, is_some, Contains, refl, sym, ap, subst, arith, IfErr}
+use Rattle.std.specs.Prelude.{if◌then◌else◌}
+use Rattle.std.specs.List.{AllByRecursion, list_any}
+use Rattle.std.proofs.lemmas.Option.{slice_get-map, get_or_from_slice_get}
+use Rattle.bq_base.specs.declared.fault.Fault.{Fault}
+use Rattle.bq_base.specs.declared.fault.FaultKind.{FaultKind}
+use Rattle.bq_base.specs.declared.fault.FaultKind.TheVariants as f
+use Rattle.bq_board.specs.Cycles.{is_cyclic, starts_path}
+use Rattle.bq_board.specs.Depth.{max_load_depth, is_too_deep}
+use Rattle.bq_board.specs.Graph.{Loads, row}
+use Rattle.bq_eval.specs.Module.{Ended, evaluated as ran, failed, ended, kept_after, module_run}
+use Rattle.bq_label.specs.Label.{LabelParts}
+use Rattle.bq_load.specs.declared.source.Source.{Source}
+use Rattle.bq_load.specs.Evaluation.{kept_first, evaluation, package_left, module_by, module_after, loaded_parts, by_imports, file_means, code_in, by_code, by_source, means}
+use Rattle.bq_load.specs.Imports.{is_private, global_by, or_no_symbol, exported, at_symbol, clause_values, module_named, imports, LoadedParts}
+use Rattle.bq_load.specs.Results.{load_fault_by, load_fault, result_of, outcomes_from, outcomes}
+use Rattle.bq_load.specs.Sources.{LoadingParts, source_by, source_of, code_by, code_of, loading_in}
+use Rattle.bq_load.specs.Views.{ModuleView, FailedView}
+use Rattle.bq_load_discover.specs.LoadGraph.{inputs_of}
+use Rattle.bq_load_discover.specs.Module.{module_of}
+use Rattle.bq_load_front.specs.Code.{◌>>=◌}
+use Rattle.bq_load_front.specs.Front.{kind_of, front_of}
+use Rattle.bq_load_front.specs.Inputs.{InputParts}
+use Rattle.bq_load_front.specs.declared.front.Front.{Front}
+use Rattle.bq_load_outcome_spec.specs.Outcome.{first, values, own, evaluated, by_loads, outcome}
+use Rattle.bq_load_outcome_spec.specs.declared.outcome.Outcome.{Outcome}
+use Rattle.bq_load_outcome_spec.specs.declared.outcome.Outcome.TheVariants as o
+use Rattle.bq_label.specs.Packages.{label_file}
+use Rattle.bq_label.proofs.Orders.{at_head, in_tail}
+use Rattle.bq_load_discover.proofs.Files.{modules_have_files}
+use Rattle.bq_load_label.proofs.Tests.{there_is_file}
+use Rattle.bq_load_laws.proofs.Graphs.Nothing.{loads_nothing}
+use Rattle.bq_load_outcome_spec.proofs.Solution.{outcome_is, evaluated_is}
+use Rattle.bq_parse_grammar.specs.Lexeme.{lexemes}
+use Rattle.bq_package.specs.Calls.{meaning}
+use Rattle.bq_package_fault_laws.specs.Faults.{FailsAsEvaluated, IsResolvedFile, IfAny}
+use Rattle.bq_package_fault_laws.proofs.BuildCalls.{calls_refuse}
+use Rattle.bq_package_fault_laws.proofs.Files.{files_fail}
+use Rattle.bq_package_target.specs.Package.{PackageTargets}
+use Rattle.bq_resolve_scope.specs.Names.{Name}
+use Rattle.bq_resolve_scope.specs.declared.code.LoadStmt.{LoadStmt}
+use Rattle.bq_resolve_scope.specs.declared.code.LoadedSymbol.{LoadedSymbol}
+use Rattle.bq_resolve_scope.specs.declared.code.Resolved.{Resolved}
+use Rattle.bq_value.specs.Datum.{Datum}
+use Rattle.bq_load_laws.specs.Faults.Parts.{is_of_loads, universe_at, FailsIn, FailsInItsPart, OutcomesFailInTheirParts, LoadedModulesFailInTheirParts}
+use Rattle.bq_load_laws.proofs.Faults.Texts.{IsFront, fronts_fail}
+
+-- ---- symbols
+
+-- a result that fails, if it does, with a fault of loads
+abbrev ByLoads : {A : Type 0} → Result A Fault → Type 0
+ByLoads (Ok x) = Unit {0}
+ByLoads (Err why) = is_of_loads why.kind ≡ true
+
+of_global : (line : ℕ) (name : Name) (v : Option Datum) → ByLoads (at_symbol line name (or_no_symbol v))
+of_global line name None = refl
+of_global line name (Some v) = tt
+
+of_symbol : (code : List (Option Resolved)) (m : Option ModuleView) (line : ℕ) (name : Name) → ByLoads (at_symbol line name (exported code m name))
+unfolding exported
+of_symbol code m line name = by_privacy (is_private name)
+  where
+    by_privacy : (b : Bool) → ByLoads (at_symbol line name (if b then Err f.PrivateSymbol else or_no_symbol (global_by code m name)))
+    by_privacy true = refl
+    by_privacy false = of_global line name (global_by code m name)
+
+then_only : {A B : Type 0} (r : Result A Fault) (go : A → Result B Fault) → ByLoads r → ((x : A) → ByLoads (go x)) → ByLoads (r >>= go)
+then_only (Ok x) go h next = next x
+then_only (Err why) go h next = h
+
+clauses_fail : (code : List (Option Resolved)) (m : Option ModuleView) (line : ℕ) (done : List Datum) (cs : List LoadedSymbol) → ByLoads (clause_values code m line done cs)
+unfolding clause_values
+clauses_fail code m line done [] = tt
+clauses_fail code m line done (c ∷ cs) =
+    then_only (at_symbol line c.symbol (exported code m c.symbol)) (λ v. clause_values code m line (done ++ v ∷ []) cs) (of_symbol code m line c.symbol)
+    (λ v. clauses_fail code m line (done ++ v ∷ []) cs)
+
+imports_fail : (x : LoadedParts) (done : List Datum) (ss : List LoadStmt) (ls : List LabelParts) → ByLoads (imports x done ss ls)
+unfolding imports
+imports_fail x done [] ls = tt
+imports_fail x done (s ∷ ss) [] = tt
+imports_fail x done (s ∷ ss) (l ∷ ls) =
+    then_only (clause_values x.code (module_named x l) s.line done s.clauses) (λ vs. imports x vs ss ls) (clauses_fail x.code (module_named x l) s.line done s.clauses) (λ vs. imports_fail x vs ss ls)
+
+and_false : (b : Bool) → (b && false) ≡ false
+and_false true = refl
+and_false false = refl
+
+-- ---- a file of a load graph
+
+module _ (inputs : InputParts) where
+  resolved_by : (l : LabelParts) (r : Result Front Fault) → IsFront inputs l r → IfAny (code_by r)
+  resolved_by l (Err why) h = tt
+  resolved_by l (Ok front) h =
+      let has = h.2 in
+      record { kind = kind_of l; lexemes = lexemes h.0.content has.tokens; statements = has.trees; universe = universe_at inputs l; parses = has.parses; resolves = has.names }
+
+  -- the files of these labels are there
+  abbrev AreThere : List LabelParts → Type 0
+  AreThere ls = (l : LabelParts) → Contains ls l → is_some (label_file inputs.files l) ≡ true
+
+  all_resolved : (ls : List LabelParts) → AreThere ls → AllByRecursion IfAny (map code_of (map (module_of inputs) ls))
+  all_resolved [] there = tt
+  all_resolved (l ∷ ls) there =
+      (resolved_by l (front_of inputs l) (fronts_fail inputs l (there l (at_head l ls))), all_resolved ls (λ k c. there k (in_tail l ls k c)))
+
+module _ (inputs : InputParts) (x : LoadingParts) (all : AllByRecursion IfAny x.code) where
+  abbrev Fails : LabelParts → Result ModuleView FailedView → Type 0
+  Fails l r = IfErr r (λ m. FailsIn inputs l m.fault)
+
+  -- ---- evaluation
+
+  module _ (l : LabelParts) (front : Front) (is : IsFront inputs l (Ok front)) (m : ℕ) (modules : List ModuleView) where
+    is_resolved : IsResolvedFile front.code
+    is_resolved = resolved_by inputs l (Ok front) is
+
+    by_end : (e : Ended) (p : Option PackageTargets) → FailsAsEvaluated e → Fails l (module_by e p)
+    by_end (ran made prints) p h = tt
+    by_end (failed why prints) p h = FailsIn.of_evaluation is.0 front.code is.1 is.2 h
+
+    by_run : (values : List Datum) → Fails l (module_after front.code values (evaluation x m l front.code modules values))
+    unfolding module_after evaluation
+    by_run values =
+        by_end (ended front.code values (module_run x.names meaning x.code m front.code (map (λ v. v.frozen) modules) values x.limit (kept_first x l)))
+        (package_left (kept_after (module_run x.names meaning x.code m front.code (map (λ v. v.frozen) modules) values x.limit (kept_first x l))))
+        (files_fail x.names meaning calls_refuse x.code all m front.code is_resolved (map (λ v. v.frozen) modules) values x.limit (kept_first x l))
+
+    by_values : (r : Result (List Datum) Fault) → ByLoads r → Fails l (by_imports x m l front.code modules r)
+    by_values (Err why) h = FailsIn.of_loads is.0 front.code is.1 is.2 h
+    by_values (Ok values) h = by_run values
+
+  file_fails : (l : LabelParts) (front : Front) → IsFront inputs l (Ok front) → (m : ℕ) (modules : List ModuleView)
+      → Fails l (file_means x m (record { label = l; loads = front.loads; fault = None }) front.code modules)
+  unfolding file_means
+  file_fails l front is m modules =
+      let s : Source = record { label = l; loads = front.loads; fault = None } in
+      by_values l front is m modules (imports (loaded_parts x s modules) [] front.code.loads front.loads) (imports_fail (loaded_parts x s modules) [] front.code.loads front.loads)
+
+  by_front : (l : LabelParts) (r : Result Front Fault) → IsFront inputs l r → (m : ℕ) (modules : List ModuleView) → Fails l (by_code x m (source_by l r) modules (code_by r))
+  by_front l (Ok front) is m modules = file_fails l front is m modules
+  by_front l (Err why) is m modules = is
+
+  -- ---- a module in its place
+
+  module _ (p : Loads) (m : ℕ) (l : LabelParts) (at : slice_get x.sources m ≡ Some (source_by l (front_of inputs l))) (there : slice_get x.code m ≡ Some (code_by (front_of inputs l)))
+      (none : (why : Fault) → front_of inputs l ≡ Err why → row p m ≡ []) (is_file : is_some (label_file inputs.files l) ≡ true) where
+    abbrev s : Source
+    s = source_by l (front_of inputs l)
+
+    abbrev Holds : Outcome ModuleView FailedView → Type 0
+    Holds one = Fails l (result_of x m s one)
+
+    means_fails : (modules : List ModuleView) → Fails l (means x m modules)
+    unfolding means
+    means_fails modules =
+        subst (λ z. Fails l (by_source x m modules z)) (sym at)
+        (subst (λ z. Fails l (by_code x m s modules (code_in z))) (sym there) (by_front l (front_of inputs l) (fronts_fail inputs l is_file) m modules))
+
+    by_result : (r : Result ModuleView FailedView) → Fails l r → Holds (own r)
+    by_result (Ok v) h = tt
+    by_result (Err why) h = h
+
+    -- a file that has a code may load modules that are cyclic, too deep or failed
+    module _ (front : Front) (is : IsFront inputs l (Ok front)) where
+      of_kind : (kind : FaultKind) (k : ℕ) → is_of_loads kind ≡ true → FailsIn inputs l (load_fault x m s kind k)
+      unfolding load_fault
+      of_kind kind k h = by_loaded (slice_get x.sources k)
+        where
+          by_loaded : (loaded : Option Source) → FailsIn inputs l (load_fault_by kind s (code_in (slice_get x.code m)) loaded)
+          by_loaded None = FailsIn.of_loads is.0 front.code is.1 is.2 h
+          by_loaded (Some source) = FailsIn.of_loads is.0 front.code is.1 is.2 h
+
+      by_loaded_values : (vs : Result (List ModuleView) ℕ) → Holds (evaluated (means x m) vs)
+      by_loaded_values (Ok vs) = by_result (means x m vs) (means_fails vs)
+      by_loaded_values (Err k) = of_kind f.LoadFailed k refl
+
+      by_cases : (cyclic deep : Bool) (k d : ℕ) (vs : Result (List ModuleView) ℕ) → Holds (cond cyclic (o.Cyclic k) (cond deep (o.TooDeep d) (evaluated (means x m) vs)))
+      by_cases true deep k d vs = of_kind f.CycleReached k refl
+      by_cases false true k d vs = of_kind f.LoadDepth d refl
+      by_cases false false k d vs = by_loaded_values vs
+
+      with_code : Holds (outcome (means x) p m)
+      unfolding by_loads
+      with_code =
+          subst Holds (sym (outcome_is (means x) p m))
+          (by_cases (is_cyclic p m) (is_too_deep p m) (first (is_cyclic p) (row p m)) (first (starts_path p max_load_depth) (row p m)) (values (outcome (means x) p) (row p m)))
+
+    -- one that has none loads nothing, so its outcome is its own
+    module _ (empty : row p m ≡ []) where
+      no_path : (n : ℕ) → starts_path p (suc n) m ≡ false
+      unfolding starts_path
+      no_path n = ap (list_any (starts_path p n)) empty
+
+      not_deep : is_too_deep p m ≡ false
+      unfolding is_too_deep
+      not_deep = ap (λ (z : Bool). not (is_cyclic p m) && z) (no_path max_load_depth) ∙ and_false (not (is_cyclic p m))
+
+      without_code : Holds (outcome (means x) p m)
+      without_code =
+          subst Holds (sym (outcome_is (means x) p m ∙ evaluated_is (means x) p (outcome (means x) p) m (no_path (length p)) not_deep
+          ∙ ap (λ (z : List ℕ). evaluated (means x m) (values (outcome (means x) p) z)) empty))
+          (by_result (means x m []) (means_fails []))
+
+    by_what_is_read : (r : Result Front Fault) → front_of inputs l ≡ r → IsFront inputs l r → Holds (outcome (means x) p m)
+    by_what_is_read (Ok front) e is = with_code front is
+    by_what_is_read (Err why) e is = without_code (none why e)
+
+    module_fails : Holds (outcome (means x) p m)
+    module_fails = by_what_is_read (front_of inputs l) refl (fronts_fail inputs l is_file)
+
+-- ---- all modules
+
+module _ (inputs : InputParts) (x : LoadingParts) (labels : List LabelParts) (sources : x.sources ≡ map source_of (map (module_of inputs) labels)) (codes : x.code ≡ map code_of (map (module_of inputs) labels)) (p : Loads)
+    (none : (m : ℕ) (l : LabelParts) (why : Fault) → slice_get labels m ≡ Some l → front_of inputs l ≡ Err why → row p m ≡ []) (all_there : AreThere inputs labels) where
+  all_code : AllByRecursion IfAny x.code
+  all_code = subst (AllByRecursion IfAny) (sym codes) (all_resolved inputs labels all_there)
+
+  source_at : (m : ℕ) (l : LabelParts) → slice_get labels m ≡ Some l → slice_get x.sources m ≡ Some (source_by l (front_of inputs l))
+  source_at m l at =
+      ap (λ (z : List Source). slice_get z m) sources ∙ slice_get-map source_of (map (module_of inputs) labels) m
+      ∙ ap (option_map source_of) (slice_get-map (module_of inputs) labels m ∙ ap (option_map (module_of inputs)) at)
+
+  code_at : (m : ℕ) (l : LabelParts) → slice_get labels m ≡ Some l → slice_get x.code m ≡ Some (code_by (front_of inputs l))
+  code_at m l at =
+      ap (λ (z : List (Option Resolved)). slice_get z m) codes ∙ slice_get-map code_of (map (module_of inputs) labels) m
+      ∙ ap (option_map code_of) (slice_get-map (module_of inputs) labels m ∙ ap (option_map (module_of inputs)) at)
+
+  from : (m : ℕ) (ls : List LabelParts) → ((i : ℕ) → slice_get labels (m + i) ≡ slice_get ls i) → AreThere inputs ls → AllByRecursion (FailsInItsPart inputs) (outcomes_from x p m (map source_of (map (module_of inputs) ls)))
+  from m [] same there = tt
+  from m (l ∷ ls) same there =
+      let zero_more : m + 0 ≡ m = omega arith in
+      let at : slice_get labels m ≡ Some l = ap (slice_get labels) (sym zero_more) ∙ same 0 in
+      (one l (front_of inputs l) refl (module_fails inputs x all_code p m l (source_at m l at) (code_at m l at) (λ why. none m l why at) (there l (at_head l ls))), from (m + 1) ls next (λ k c. there k (in_tail l ls k c)))
+    where
+      next : (i : ℕ) → slice_get labels (m + 1 + i) ≡ slice_get ls i
+      next i = let more : m + 1 + i ≡ m + suc i = omega arith in ap (slice_get labels) more ∙ same (suc i)
+
+      -- whatever is read of the file, the source has its label
+      one : (l : LabelParts) (r : Result Front Fault) → front_of inputs l ≡ r → IfErr (result_of x m (source_by l r) (outcome (means x) p m)) (λ v. FailsIn inputs l v.fault)
+          → IfErr (result_of x m (source_by l r) (outcome (means x) p m)) (λ v. FailsIn inputs (source_by l r).label v.fault)
+      one l (Ok front) e h = h
+      one l (Err why) e h = h
+
+from_zero : (i : ℕ) → 0 + i ≡ i
+from_zero i = omega arith
+
+pub outcomes_fail : OutcomesFailInTheirParts
+unfolding outcomes
+outcomes_fail files rules limit g w is =
+    let inputs = inputs_of files rules in
+    let x = loading_in files rules limit g in
+    let read : g.modules ≡ map (module_of inputs) g.labels = is.read in
+    let sources : x.sources ≡ map source_of (map (module_of inputs) g.labels) = ap (map source_of) read in
+    let codes : x.code ≡ map code_of (map (module_of inputs) g.labels) = ap (map code_of) read in
+    let there : AreThere inputs g.labels = λ l c. let h = modules_have_files files rules l w (is.modules.only l c) in there_is_file files l h.0 h.1 in
+    subst (λ ss. AllByRecursion (FailsInItsPart inputs) (outcomes_from x g.edges 0 ss)) (sym sources)
+    (from inputs x g.labels sources codes g.edges (λ m l why at bad. get_or_from_slice_get g.edges m [] [] (loads_nothing inputs g m l why is at bad)) there 0 g.labels (λ i. ap (slice_get g.labels) (from_zero i)) there)
+
+pub loaded_fail : LoadedModulesFailInTheirParts
+loaded_fail files rules limit l w h =
+    subst (AllByRecursion (FailsInItsPart (inputs_of files rules))) (sym h.2.modules) (outcomes_fail files rules limit h.0 w h.1)

@@ -1,0 +1,8 @@
+-- in which order a module fails
+pub mod Orders
+-- the first load of a file
+pub mod FirstLoad
+-- what a module exports
+pub mod Exports
+-- what a module printed
+pub mod Prints

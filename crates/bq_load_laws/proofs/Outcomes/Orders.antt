@@ -1,0 +1,70 @@
+-- A module fails in its order.
+use Rattle.std.proofs.Common.{◌≡◌, ◌∙◌, ap, refl, ℕ, inl, inr, List, [], ◌∷◌, Option, Some, None, Result, Ok, Err}
+use Rattle.std.specs.Prelude.{not, is_some, slice_get}
+use Rattle.bq_base.specs.declared.fault.FaultKind.{FaultKind}
+use Rattle.bq_base.specs.declared.fault.FaultKind.TheVariants.{NoSymbol, CycleReached, LoadDepth, LoadFailed}
+use Rattle.bq_base.proofs.Choices.{by_bool}
+use Rattle.bq_board.specs.Graph.{Loads, row}
+use Rattle.bq_board.specs.Cycles.{is_cyclic}
+use Rattle.bq_board.specs.Depth.{is_too_deep}
+use Rattle.bq_load_outcome_spec.specs.Outcome.{values, own, evaluated, by_loads, outcome}
+use Rattle.bq_load_outcome_spec.specs.declared.outcome.Outcome.{Outcome}
+use Rattle.bq_load_outcome_spec.proofs.Solution.{solved}
+use Rattle.bq_resolve_scope.specs.Names.{Name}
+use Rattle.bq_resolve_scope.specs.declared.code.Resolved.{Resolved}
+use Rattle.bq_value.specs.Datum.{Datum}
+use Rattle.bq_load.specs.declared.source.Source.{Source}
+use Rattle.bq_load.specs.Evaluation.{means, code_in}
+use Rattle.bq_load.specs.Imports.{is_private, global_by, or_no_symbol, exported}
+use Rattle.bq_load.specs.Results.{load_fault_by, load_fault, result_of}
+use Rattle.bq_load.specs.Sources.{LoadingParts}
+use Rattle.bq_load.specs.Views.{ModuleView, FailedView}
+use Rattle.bq_builtin_refusal_laws.specs.Refusals.{when, fault_in, first_fault, FailsForFirst}
+use Rattle.bq_load_laws.specs.Outcomes.Orders.{exporting, failure, load_failed, own_failure, loading}
+
+-- ---- symbols
+
+by_global : (o : Option Datum) → fault_in (or_no_symbol o) ≡ first_fault (when (not (is_some o)) NoSymbol ∷ [])
+by_global None = refl
+by_global (Some v) = refl
+
+pub exported_in_order : (code : List (Option Resolved)) (m : Option ModuleView) (name : Name) → FailsForFirst (exported code m name) (exporting code m name)
+unfolding exported
+exported_in_order code m name = elim (by_bool (is_private name)) [
+  | inl t ↦ rw t refl
+  | inr t ↦ rw t (by_global (global_by code m name))
+]
+
+-- ---- modules
+
+module _ (x : LoadingParts) (p : Loads) (m : ℕ) (s : Source) where
+  -- a fault of a load is of this kind
+  of_kind : (kind : FaultKind) (k : ℕ) → (load_fault x m s kind k).kind ≡ kind
+  unfolding load_fault
+  of_kind kind k = by_source (slice_get x.sources k)
+    where
+      by_source : (o : Option Source) → (load_fault_by kind s (code_in (slice_get x.code m)) o).kind ≡ kind
+      by_source None = refl
+      by_source (Some loaded) = refl
+
+  by_value : (r : Result ModuleView FailedView) → failure (result_of x m s (own r)) ≡ first_fault (failure r ∷ [])
+  by_value (Ok v) = refl
+  by_value (Err v) = refl
+
+  by_values : (r : Result (List ModuleView) ℕ) → failure (result_of x m s (evaluated (means x m) r)) ≡ first_fault (load_failed r ∷ own_failure x m r ∷ [])
+  by_values (Ok vs) = by_value (means x m vs)
+  by_values (Err l) = ap Some (of_kind LoadFailed l)
+
+  by_graph : (at : ℕ → Outcome ModuleView FailedView)
+      → failure (result_of x m s (by_loads (means x) p at m)) ≡ first_fault (when (is_cyclic p m) CycleReached ∷ when (is_too_deep p m) LoadDepth ∷ load_failed (values at (row p m)) ∷ own_failure x m (values at (row p m)) ∷ [])
+  unfolding by_loads
+  by_graph at = elim (by_bool (is_cyclic p m)) [
+    | inl t ↦ rw t (ap Some (of_kind CycleReached _))
+    | inr t ↦ elim (by_bool (is_too_deep p m)) [
+      | inl u ↦ rw (t, u) (ap Some (of_kind LoadDepth _))
+      | inr u ↦ rw (t, u) (by_values (values at (row p m)))
+    ]
+  ]
+
+  pub failed_in_order : failure (result_of x m s (outcome (means x) p m)) ≡ first_fault (loading x p m)
+  failed_in_order = ap (λ o. failure (result_of x m s o)) ((solved (means x) p).0 m) ∙ by_graph (outcome (means x) p)

@@ -1,5 +1,0 @@
-use Rattle.bq_load_laws.proofs.FirstLoad.{names_the_first}
-use Rattle.bq_load_laws.proofs.laws.faults_of_loads_name_the_first_load.Goals as goal
-
-pub returns : goal.returns
-returns c = names_the_first

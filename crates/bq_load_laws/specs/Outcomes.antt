@@ -1,0 +1,4 @@
+pub mod Orders
+pub mod FirstLoad
+pub mod Exports
+pub mod Prints

@@ -1,0 +1,3 @@
+pub mod CallPlace
+pub mod Orders
+pub mod Given

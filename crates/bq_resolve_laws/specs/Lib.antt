@@ -1,0 +1,4 @@
+-- slots of functions
+pub mod Slots
+-- the depth of trees
+pub mod Depths
