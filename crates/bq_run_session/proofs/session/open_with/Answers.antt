@@ -1,0 +1,5 @@
+use Rattle.std.proofs.Common.{rules}
+use Rattle.bq_run_session.proofs.session.open_with.Goals as goal
+
+pub returns-in-Err-TooManyModules : goal.returns-in-Err-TooManyModules
+returns-in-Err-TooManyModules g c = (c.args.schema.now, c.requires.schema, c.in-Err-TooManyModules.ensures.0 (search rules))
