@@ -7,6 +7,10 @@ _bq() {
             compopt -o filenames 2>/dev/null
             mapfile -t COMPREPLY < <(compgen -d -- "$word")
             ;;
+        --bundle | --queries)
+            compopt -o filenames 2>/dev/null
+            mapfile -t COMPREPLY < <(compgen -f -- "$word")
+            ;;
         --output)
             mapfile -t COMPREPLY < <(compgen -W 'label label_kind' -- "$word")
             ;;
@@ -20,7 +24,7 @@ _bq() {
             mapfile -t COMPREPLY < <(compgen -W '1000000 10000000 100000000 1000000000' -- "$word")
             ;;
         *)
-            mapfile -t COMPREPLY < <(compgen -W '--jobs --output --max-steps --dir --explain --help --version' -- "$word")
+            mapfile -t COMPREPLY < <(compgen -W '--jobs --output --max-steps --dir --bundle --queries --explain --help --version' -- "$word")
             ;;
     esac
 }

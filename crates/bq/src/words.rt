@@ -11,16 +11,24 @@ use clap::error::ErrorKind;
 use clap::{Arg, ArgAction, ArgMatches, Command, Error, value_parser};
 use std::alloc::{AllocError, Global};
 
+/// How the program is called. `--queries` takes the place of a query, which is needed else.
+const USAGE: &str = "bq [OPTIONS] <QUERY>\n       bq [OPTIONS] --queries <FILE>";
+
 /// What `--help` prints after the options.
 const NOTES: &str =
-    r#"Without --dir the workspace is read from standard input, as a bundle: for each file a line `=== PATH`,
-and then the file's bytes. The answer goes to standard output, a target a line, sorted. What files
-print, and the faults of files, go to standard error.
+    r#"Without --dir and --bundle the workspace is read from standard input, as a bundle: for each file a line
+`=== PATH`, and then the file's bytes. The answer goes to standard output, a target a line, sorted.
+What files print, and the faults of files, go to standard error.
+
+With --queries the workspace is loaded once for all the queries of a file, one a line. For each query
+standard output gets a line `=== STATUS LINES QUERY`, at once, and then that many lines: the answer, or
+the error.
 
 Examples:
   bq --dir . 'deps(//some/package:target)'
   bq --dir . 'kind("_test rule", rdeps(//..., //some/package:file.c))'
   printf '=== a/BUILD\nfilegroup(name = "x", srcs = ["s.txt"])\n' | bq 'deps(//a:x)'
+  bq --dir . --queries queries.txt
   bq --explain F47
 
 Exit status:
@@ -46,6 +54,18 @@ fn command<'a>(alloc: Global) -> Result<Command<'a>, AllocError> {
         .value_name("DIR")
         .help("Directory that holds the workspace")
         .action(ArgAction::Set);
+    let bundle = Arg::new(alloc, "bundle")
+        .long("bundle")
+        .value_name("FILE")
+        .help("File that holds the workspace, as a bundle")
+        .action(ArgAction::Set)
+        .conflicts_with("dir")?;
+    let queries = Arg::new(alloc, "queries")
+        .long("queries")
+        .value_name("FILE")
+        .help("Answer the queries of a file, one a line; - is standard input")
+        .action(ArgAction::Set)
+        .conflicts_with("query")?;
     let explain = Arg::new(alloc, "explain")
         .long("explain")
         .value_name("NUMBER")
@@ -60,9 +80,12 @@ fn command<'a>(alloc: Global) -> Result<Command<'a>, AllocError> {
     let command = Command::new(alloc, "bq")
         .version(VERSION)
         .about("Answers a query over the targets of a workspace of BUILD files")
+        .override_usage(USAGE)
         .after_help(NOTES);
     with_options(alloc, command)?
         .arg(directory)?
+        .arg(bundle)?
+        .arg(queries)?
         .arg(explain)?
         .arg(query)
 }
@@ -90,12 +113,23 @@ fn with_options<'a>(alloc: Global, command: Command<'a>) -> Result<Command<'a>, 
     command.arg(jobs)?.arg(output)?.arg(max_steps)
 }
 
-/// A query, and where its workspace is.
+/// Where a workspace is.
+#[derive(Drop)]
+pub enum Place {
+    /// On standard input, as a bundle.
+    Input,
+    /// In a file, as a bundle.
+    Bundle(String),
+    Directory(String),
+}
+
+/// A query, or the file of many, and where the workspace is.
 #[derive(Drop)]
 pub struct Words {
     pub options: Options,
-    /// The directory that holds the workspace; without it the workspace is on standard input.
-    pub directory: Option<String>,
+    pub place: Place,
+    /// The file of queries, `-` for standard input; then the options have no query.
+    pub queries: Option<String>,
 }
 
 /// What the words ask for.
@@ -103,6 +137,24 @@ pub struct Words {
 pub enum Asked {
     Answer(Words),
     Explanation(Explanation),
+}
+
+/// Returns a copy of an argument.
+fn text_of(alloc: Global, text: Option<&str>) -> Result<Option<String>, AllocError> {
+    match text {
+        Some(text) => Ok(Some(String::from_str(alloc, text)?)),
+        None => Ok(None),
+    }
+}
+
+fn place_of(alloc: Global, matches: &ArgMatches) -> Result<Place, AllocError> {
+    if let Some(directory) = text_of(alloc, matches.get_str("dir"))? {
+        return Ok(Place::Directory(directory));
+    }
+    match text_of(alloc, matches.get_str("bundle"))? {
+        Some(file) => Ok(Place::Bundle(file)),
+        None => Ok(Place::Input),
+    }
 }
 
 fn query_of(alloc: Global, matches: &ArgMatches) -> Result<Words, AllocError>
@@ -114,10 +166,6 @@ fn query_of(alloc: Global, matches: &ArgMatches) -> Result<Words, AllocError>
         Some("label_kind") => OutputForm::LabelKind,
         _ => OutputForm::Label,
     };
-    let directory = match matches.get_str("dir") {
-        Some(directory) => Some(String::from_str(alloc, directory)?),
-        None => None,
-    };
     let query = matches.get_str("query").unwrap_or("");
     Ok(Words {
         options: Options {
@@ -126,8 +174,27 @@ fn query_of(alloc: Global, matches: &ArgMatches) -> Result<Words, AllocError>
             output,
             max_steps: max_steps.clamp(1, MAX_STEPS),
         },
-        directory,
+        place: place_of(alloc, matches)?,
+        queries: text_of(alloc, matches.get_str("queries"))?,
     })
+}
+
+/// Returns whether both the workspace and the queries are to be read from standard input.
+fn reads_input_twice(words: &Words) -> bool {
+    let Some(queries) = &words.queries else {
+        return false;
+    };
+    match words.place {
+        Place::Input => queries.as_str() == "-",
+        _ => false,
+    }
+}
+
+/// Refuses queries on standard input without a place for the workspace.
+fn refuse_input(alloc: Global) -> Result<Error, Error> {
+    let message =
+        "'--queries -' reads the queries from standard input: '--dir <DIR>' or '--bundle <FILE>' has to say where the workspace is";
+    Ok(command(alloc)?.error(ErrorKind::MissingRequiredArgument, message)?)
 }
 
 /// Returns the explanation of the number. A word that isn't a number is refused as clap refuses others.
@@ -150,6 +217,12 @@ pub fn words_of(alloc: Global, words: &[String]) -> Result<Asked, Error>
     let matches = command(alloc)?.try_get_matches_from(words)?;
     match matches.get_str("explain") {
         Some(number) => Ok(Asked::Explanation(explanation_of(alloc, number)?)),
-        None => Ok(Asked::Answer(query_of(alloc, &matches)?)),
+        None => {
+            let words = query_of(alloc, &matches)?;
+            if reads_input_twice(&words) {
+                return Err(refuse_input(alloc)?);
+            }
+            Ok(Asked::Answer(words))
+        }
     }
 }

@@ -1,8 +1,8 @@
 //! How runs over directories end.
 
 use super::lines::words_in;
-use crate::run_on_directory;
-use crate::words::{Asked, words_of};
+use crate::runs::run_on_directory;
+use crate::words::{Asked, Place, words_of};
 use bq_run::{RunErr, Status, status_of};
 use bq_tests_rows::{is_row, row_of, wanted_of};
 use std::alloc::{AllocError, Global};
@@ -41,7 +41,7 @@ fn ending<T: Threads + Wait + RandomSource + Sync>(
     let Ok(Asked::Answer(words)) = words_of(alloc, &words) else {
         return b"refused".to_vec(alloc);
     };
-    let Some(directory) = &words.directory else {
+    let Place::Directory(directory) = &words.place else {
         return b"no directory".to_vec(alloc);
     };
     let ended = run_on_directory(rt, threads, alloc, directory.as_str(), &words.options);

@@ -1,0 +1,5 @@
+pub mod Replies
+pub mod Lines
+pub mod Newlines
+pub mod Progress
+pub mod Outcomes

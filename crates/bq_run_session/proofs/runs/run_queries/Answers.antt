@@ -1,0 +1,23 @@
+use Rattle.std.proofs.Common.{refl}
+use Rattle.std.proofs.lemmas.Result.{err_from_is_err_and}
+use Rattle.bq_run_session.specs.Outcome.{DoesAnswer}
+use Rattle.bq_run_session.proofs.Outcomes.{all_written, faults_cut, keeps_itself}
+use Rattle.bq_run_session.proofs.runs.run_queries.Goals as goal
+
+pub returns-in_err-session-clause-does : goal.returns-in_err-session-clause-does
+returns-in_err-session-clause-does g c =
+    let p = err_from_is_err_and c.from_residual.result c.from_residual.ensures.1 in
+    rw (p.1, p.2) (DoesAnswer.not_loaded c.in_err-session.field-0.0 refl c.in_err-session.ensures (keeps_itself (g.F.ByteSink.contents c.args.faults_writer.now)) (keeps_itself (g.W.ByteSink.contents c.args.writer.now)))
+
+pub returns-in_err-write_rope-clause-does : goal.returns-in_err-write_rope-clause-does
+returns-in_err-write_rope-clause-does g c =
+    let p = err_from_is_err_and c.from_residual-in_err-write_rope.result c.from_residual-in_err-write_rope.ensures.1 in
+    rw (p.1, p.2) (faults_cut c.args.options.now c.args.workspace.now c.in_ok-session.session c.in_ok-session.ensures (g.Q.ByteSource.remaining c.args.queries.now)
+    (g.F.ByteSink.contents c.args.faults_writer.now) (g.F.ByteSink.contents c.write_rope.new.writer) (g.W.ByteSink.contents c.args.writer.now) (g.W.ByteSink.contents c.args.writer.now)
+    c.write_rope.ensures.begins (keeps_itself (g.W.ByteSink.contents c.args.writer.now)))
+
+pub returns-clause-does : goal.returns-clause-does
+returns-clause-does g c =
+    all_written c.args.options.now c.args.workspace.now c.in_ok-session.session c.in_ok-session.ensures (g.Q.ByteSource.remaining c.args.queries.now)
+    (g.F.ByteSink.contents c.args.faults_writer.now) (g.F.ByteSink.contents c.write_rope.new.writer) (g.W.ByteSink.contents c.args.writer.now) (g.W.ByteSink.contents c.answer_all.new.writer)
+    c.answer_all.result c.in_ok-write_rope.ensures.whole c.answer_all.ensures.does

@@ -1,0 +1,49 @@
+-- A session: a workspace that is loaded, with the graph of its targets.
+use Rattle.std.specs.Prelude.{◌≡◌, ℕ, List, Ok, Err, Result}
+use Rattle.bq_label.specs.declared.workspace.File.{File}
+use Rattle.bq_package_schema.specs.Schema.{Rules}
+use Rattle.bq_load_discover.specs.LoadGraph.{inputs_of}
+use Rattle.bq_load_discover.specs.Modules.{AreTooMany}
+use Rattle.bq_load_discover.specs.Schema.{schema_in}
+use Rattle.bq_query.specs.declared.print.OutputForm.{OutputForm}
+use Rattle.bq_query_target_graph.specs.Edges.{IsGraphOf}
+use Rattle.bq_run_report.specs.Ending.{status_by}
+use Rattle.bq_run_report.specs.Report.{Inside, ReplyView, all_faults, fault_text}
+use Rattle.bq_run.specs.declared.error.RunErr.{RunErr}
+use Rattle.bq_run.specs.declared.error.RunErr.TheVariants as run
+use Rattle.bq_run_session.specs.declared.session.Reply.{Reply}
+use Rattle.bq_run_session.specs.declared.session.Session.{Session}
+use Rattle.bq_run_session.specs.Answer.{IsAnswerTo, IsLoadedAs}
+
+-- the session is over a workspace with this in it
+pub record IsOver (i : Inside) (s : Session) : Type 0 where
+  pub faults : s.faults ≡ fault_text i
+  pub status : s.status ≡ status_by (all_faults i)
+  pub graph : IsGraphOf i.packages s.graph
+
+-- the session is over these files
+pub record IsOn (files : List File) (limit : ℕ) (s : Session) : Type 0 where
+  pub inside : Inside
+  pub loaded : IsLoadedAs files limit inside
+  pub over : IsOver inside s
+
+-- there is no session over these files: E6, E7; memory aside
+abbrev pub IsRefused : List File → RunErr → Type 0
+IsRefused files run.Memory = Unit {0}
+IsRefused files (run.Schema line) = schema_in files ≡ Err line
+IsRefused files run.TooManyModules = (rules : Rules) × (schema_in files ≡ Ok rules) × AreTooMany (inputs_of files rules)
+IsRefused files run.Read = ⊥
+IsRefused files run.Write = ⊥
+IsRefused files run.Bundle = ⊥
+IsRefused files (run.Query why) = ⊥
+
+abbrev pub Opens : List File → ℕ → Result Session RunErr → Type 0
+Opens files limit (Ok s) = IsOn files limit s
+Opens files limit (Err why) = IsRefused files why
+
+abbrev pub reply_view : Reply → ReplyView
+reply_view r = record { text = r.text.items; end = r.end }
+
+-- over whatever files the session is, this is an answer to the query
+abbrev pub IsAnswerIn : Session → OutputForm → List ℕ → ReplyView → Type 0
+IsAnswerIn s form query reply = (files : List File) (limit : ℕ) (i : Inside) → IsLoadedAs files limit i → IsOver i s → IsAnswerTo files limit i form query reply

@@ -1,0 +1,100 @@
+//! What is written for a query: a header line `=== STATUS LINES QUERY`, and then as many lines: the answer's, or the
+//! line of the error.
+
+ghost use Rattle.std.specs.Prelude.{◌≡◌, ◌⊎◌, ◌+◌, ◌-◌, ◌^◌, ◌<◌, take, IfOk, IsErr, IsErrOf, OnOk};
+ghost use Rattle.std.specs.Io.KnownBytes.{Appends, Keeps};
+ghost use Rattle.bq_run.specs.Device.{Begins};
+ghost use Rattle.bq_run.specs.Status.{status_code};
+ghost use Rattle.bq_run_session.specs.Block.{block, body, header, line_count, run_end};
+ghost use Rattle.bq_run_session.specs.Queries.{max_query_bytes};
+ghost use Rattle.bq_run_session.specs.Session.{reply_view};
+
+use crate::queries::MAX_QUERY_BYTES;
+use crate::session::Reply;
+use bq_run::{ByteSink, RunErr, status_of, write_all};
+use bq_run_report::{NoAnswer, Status};
+use std::alloc::{AllocError, Global};
+
+fn line_count(text: &[u8]) -> usize
+    ensures { result ≡ line_count text.now }
+{
+    let mut count = 0;
+    for byte in text {
+        if *byte == b'\n' {
+            count += 1;
+        }
+    }
+    count
+}
+
+/// Returns what the header line has of a query: all, unless it is too long.
+fn shown(query: &[u8]) -> &[u8]
+    ensures { result.now ≡ take max_query_bytes query.now }
+{
+    if query.len() > MAX_QUERY_BYTES {
+        &query[..MAX_QUERY_BYTES]
+    } else {
+        query
+    }
+}
+
+/// Returns the header line.
+fn header(alloc: Global, status: u8, count: usize, query: &[u8]) -> Result<Vec<u8>, AllocError>
+    ensures { IfOk result (λ line. line.items ≡ header status count query.now) }
+{
+    let numbers = format!(in alloc; "=== {status} {count} ")?;
+    let mut line = numbers.into_bytes();
+    line.extend_from_slice(shown(query))?;
+    line.push(b'\n')?;
+    Ok(line)
+}
+
+/// Returns how a run ends.
+fn run_end(end: Result<Status, NoAnswer>) -> Result<Status, RunErr>
+    ensures { result ≡ run_end end }
+{
+    match end {
+        Ok(status) => Ok(status),
+        Err(refusal) => Err(RunErr::from(refusal)),
+    }
+}
+
+/// The texts of a block.
+#[derive(Drop)]
+struct Block {
+    header: Vec<u8>,
+    body: Vec<u8>,
+}
+
+fn block_of(alloc: Global, query: &[u8], reply: Reply) -> Result<Block, AllocError>
+    ensures header { IfOk result (λ b. b.header.items ≡ header (status_code (run_end reply.end)) (line_count (body (reply_view reply))) query.now) }
+    ensures body { IfOk result (λ b. b.body.items ≡ body (reply_view reply)) }
+{
+    let Reply { text, end } = reply;
+    let (code, line) = status_of(alloc, &run_end(end))?;
+    let mut body = text;
+    body.extend_from_slice(&line)?;
+    let header = header(alloc, code, line_count(&body), query)?;
+    Ok(Block { header, body })
+}
+
+/// Writes the block of a query. No byte is written where memory is refused.
+pub(crate) fn write_block<W: ByteSink>(
+    alloc: Global,
+    writer: &mut W,
+    query: &[u8],
+    reply: Reply,
+) -> Result<(), RunErr>
+    requires { W.failed writer.old < 2 ^ 64 - 1 }
+    ensures whole { OnOk result (Appends (W.contents writer.old) (W.contents writer.new) (block query.now (reply_view reply))) }
+    ensures memory { IsErrOf result RunErr.Memory → Keeps (W.contents writer.old) (W.contents writer.new) }
+    ensures begins { IsErrOf result RunErr.Write → Begins (W.contents writer.old) (W.contents writer.new) (block query.now (reply_view reply)) }
+    ensures only { IsErr result → IsErrOf result RunErr.Memory ⊎ IsErrOf result RunErr.Write }
+    ensures device { IsErrOf result RunErr.Write → W.failed writer.new ≡ W.failed writer.old + 1 }
+    ensures quiet { (IsErrOf result RunErr.Write → ⊥) → W.failed writer.new ≡ W.failed writer.old }
+{
+    let block = block_of(alloc, query, reply)?;
+    write_all(writer, &block.header)?;
+    write_all(writer, &block.body)?;
+    Ok(())
+}

@@ -1,0 +1,193 @@
+//! A workspace that is loaded, and what it answers.
+
+ghost use Rattle.std.specs.Prelude.{◌≡◌, ◌≤◌, [], Ok, Err, IfOk, length};
+ghost use Rattle.bq_load_discover.specs.Schema.{schema_in};
+ghost use Rattle.bq_query_check.specs.Formula.{formula_of};
+ghost use Rattle.bq_query_target_graph.specs.Order.{PackagesAscend};
+ghost use Rattle.bq_run_report.specs.Ending.{status_by};
+ghost use Rattle.bq_run_report.specs.Report.{Replies, inside};
+ghost use Rattle.bq_run.specs.Run.{IsInRange};
+ghost use Rattle.bq_run_session.specs.Queries.{max_query_bytes};
+ghost use Rattle.bq_run_session.specs.Session.{IsAnswerIn, IsOver, Opens, reply_view};
+
+use crate::queries::MAX_QUERY_BYTES;
+use bq_base_rope::Rope;
+use bq_label::Workspace;
+use bq_load::{Loaded, OpenGate, load_with};
+use bq_load_discover::{LoadErr, schema_of};
+use bq_load_fault_line::FaultLines;
+use bq_package_schema::Schema;
+use bq_query::{OutputForm, answer, print_answer};
+use bq_query_check::{CheckedQuery, parse_query};
+use bq_query_lex::QueryErr;
+use bq_query_target_graph::{TargetGraph, add_dangling};
+use bq_run::{Options, RunErr};
+use bq_run_report::{NoAnswer, Status, refusal_of};
+use bq_value_seed::Seed;
+use std::alloc::{AllocError, Global};
+use std::random::RandomSource;
+use std::sync::Wait;
+use std::thread::Threads;
+
+/// A workspace that is loaded.
+#[derive(Drop)]
+pub struct Session {
+    /// What its modules printed, and the lines of its faults.
+    pub faults: Rope,
+    /// How a run ends whose query is answered.
+    pub status: Status,
+    /// Its targets.
+    pub graph: TargetGraph,
+}
+
+/// What a query is answered: the text, and how a run ends with that query alone.
+#[derive(Drop)]
+pub struct Reply {
+    pub text: Vec<u8>,
+    pub end: Result<Status, NoAnswer>,
+}
+
+fn status_by(lines: &FaultLines) -> Status
+    ensures { result ≡ status_by lines.now }
+{
+    if lines.is_empty() {
+        Status::Answered
+    } else {
+        Status::WithFaults
+    }
+}
+
+/// Makes the session over a loaded workspace. A label that names no target is one more fault, F79.
+fn session_over(alloc: Global, loaded: Loaded) -> Result<Session, AllocError>
+    requires { PackagesAscend loaded.packages.items }
+    ensures { IfOk result (IsOver (inside loaded)) }
+{
+    let Loaded {
+        modules,
+        packages,
+        mut faults,
+        prints,
+    } = loaded;
+    drop(modules); // so that the graph gets the memory of their values
+    add_dangling(alloc, &packages, &mut faults)?;
+    let status = status_by(&faults);
+    let mut text = prints;
+    faults.append_to(alloc, &mut text)?;
+    let graph = TargetGraph::new(alloc, packages)?;
+    Ok(Session {
+        faults: text,
+        status,
+        graph,
+    })
+}
+
+/// Makes the session over a workspace whose schema is read.
+fn open_with<T: Threads + Wait + RandomSource + Sync>(
+    rt: &T,
+    alloc: Global,
+    workspace: &Workspace,
+    schema: &Schema,
+    options: &Options,
+) -> Result<Session, RunErr>
+    requires in_range { IsInRange options.now }
+    requires schema { schema_in workspace.now ≡ Ok schema.now }
+    ensures { Opens workspace.now options.now.max_steps result }
+{
+    let jobs = options.jobs as usize;
+    match load_with(
+        rt,
+        alloc,
+        workspace,
+        schema,
+        options.max_steps,
+        Seed::draw(rt),
+        jobs,
+        &OpenGate,
+    ) {
+        Ok(loaded) => Ok(session_over(alloc, loaded)?),
+        Err(LoadErr::TooManyModules) => Err(RunErr::TooManyModules),
+        Err(_) => Err(RunErr::Memory),
+    }
+}
+
+/// Loads the workspace by as many workers as there are jobs. The query of the options isn't looked at. Of the errors E6
+/// takes precedence over E7.
+pub fn open_session<T: Threads + Wait + RandomSource + Sync>(
+    rt: &T,
+    alloc: Global,
+    workspace: &Workspace,
+    options: &Options,
+) -> Result<Session, RunErr>
+    requires { IsInRange options.now }
+    ensures { Opens workspace.now options.now.max_steps result }
+{
+    match schema_of(alloc, workspace) {
+        Ok(schema) => open_with(rt, alloc, workspace, &schema, options),
+        Err(LoadErr::Schema(line)) => Err(RunErr::Schema(line)),
+        Err(_) => Err(RunErr::Memory),
+    }
+}
+
+/// Returns the reply to a query that is refused.
+fn refused(alloc: Global, why: NoAnswer) -> Reply
+    ensures { reply_view result ≡ record { text = []; end = Err why } }
+{
+    Reply {
+        text: Vec::new(alloc),
+        end: Err(why),
+    }
+}
+
+/// Returns the reply to a query that is read.
+fn reply_to(
+    alloc: Global,
+    session: &Session,
+    query: &CheckedQuery,
+    form: OutputForm,
+) -> Result<Reply, AllocError>
+    ensures { IfOk result (λ r. Replies session.now.graph (formula_of query.now.set) form session.now.status (reply_view r)) }
+{
+    match answer(alloc, &session.graph, query) {
+        Ok(numbers) => Ok(Reply {
+            text: print_answer(alloc, form, session.graph.targets(), &numbers)?,
+            end: Ok(session.status),
+        }),
+        Err(why) => Ok(refused(alloc, refusal_of(why)?)),
+    }
+}
+
+/// Returns the reply to a query that isn't too long.
+fn reply_to_text(
+    alloc: Global,
+    session: &Session,
+    query: &[u8],
+    form: OutputForm,
+) -> Result<Reply, AllocError>
+    requires { length query.now ≤ max_query_bytes }
+    ensures { IfOk result (λ r. IsAnswerIn session.now form query.now (reply_view r)) }
+{
+    match parse_query(alloc, query) {
+        Ok(query) => {
+            let reply = reply_to(alloc, session, &query, form);
+            drop(query); // PROOF: one call lets the query go
+            reply
+        }
+        Err(why) => Ok(refused(alloc, refusal_of(why)?)),
+    }
+}
+
+/// Returns what a run with this query, and with this form, answers over the session's workspace. Only out of memory is an
+/// error; Q1 to Q8 are in the reply.
+pub fn ask(
+    alloc: Global,
+    session: &Session,
+    query: &[u8],
+    form: OutputForm,
+) -> Result<Reply, AllocError>
+    ensures { IfOk result (λ r. IsAnswerIn session.now form query.now (reply_view r)) }
+{
+    if query.len() > MAX_QUERY_BYTES {
+        return Ok(refused(alloc, NoAnswer::Query(QueryErr::Syntax)));
+    }
+    reply_to_text(alloc, session, query, form)
+}
