@@ -17,6 +17,8 @@ const NOTES: &str =
 and then the file's bytes. The answer goes to standard output, a target a line, sorted. What files
 print, and the faults of files, go to standard error.
 
+With --dir, .git, directories in .bazelignore and links bazel-* at the root are left out.
+
 Examples:
   bq --dir . 'deps(//some/package:target)'
   bq --dir . 'kind("_test rule", rdeps(//..., //some/package:file.c))'
