@@ -20,6 +20,8 @@ const NOTES: &str =
 `=== PATH`, and then the file's bytes. The answer goes to standard output, a target a line, sorted.
 What files print, and the faults of files, go to standard error.
 
+With --dir, .git, directories in .bazelignore and links bazel-* at the root are left out.
+
 With --queries the workspace is loaded once for all the queries of a file, one a line. For each query
 standard output gets a line `=== STATUS LINES QUERY`, at once, and then that many lines: the answer, or
 the error.
