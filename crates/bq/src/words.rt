@@ -41,7 +41,7 @@ Exit status:
   5  reading the input or writing the output failed"#;
 
 /// The version of the program. The man page and the packages take it from this line (`tools/release`).
-pub const VERSION: &str = "1.0.0";
+pub const VERSION: &str = "1.1.0";
 
 const DEFAULT_JOBS: u32 = 4;
 
