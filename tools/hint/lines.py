@@ -1,9 +1,7 @@
 """A line of what `bq` writes to standard error, taken apart."""
-import re
 from dataclasses import dataclass
 
-FAULT = re.compile(r"(?P<label>(?:@[^/]*)?//[^:]*:.*?):(?P<line>\d+): (?P<number>F\d+) (?P<name>\w+) ?(?P<detail>.*)")
-ERROR = re.compile(r"bq: (?P<number>[QE]\d) (?P<name>\w+) ?(?P<detail>.*)")
+from bq import ERROR, FAULT
 
 
 @dataclass

@@ -20,6 +20,8 @@ const NOTES: &str =
 `=== PATH`, and then the file's bytes. The answer goes to standard output, a target a line, sorted.
 What files print, and the faults of files, go to standard error.
 
+With --dir, .git, directories in .bazelignore and links bazel-* at the root are left out.
+
 With --queries the workspace is loaded once for all the queries of a file, one a line. For each query
 standard output gets a line `=== STATUS LINES QUERY`, at once, and then that many lines: the answer, or
 the error.
@@ -39,7 +41,7 @@ Exit status:
   5  reading the input or writing the output failed"#;
 
 /// The version of the program. The man page and the packages take it from this line (`tools/release`).
-pub const VERSION: &str = "1.0.0";
+pub const VERSION: &str = "1.1.0";
 
 const DEFAULT_JOBS: u32 = 4;
 

@@ -1,22 +1,60 @@
 //! Workers of which one is refused memory.
-ghost use Rattle.std.specs.Prelude.{◌<◌, ◌≤◌, Ok};
+ghost use Rattle.std.specs.Prelude.{◌<◌, ◌≤◌, All, Ok};
+ghost use Rattle.bq_board.specs.Seats.{IsSeatOf};
 
 use bq_board::{Graph, PlanErr};
 use bq_load_order::{Evaluate, Unwatched, Watch};
-use bq_load_workers::{MAX_WORKERS, WorkerPool, outcomes_by_workers};
+use bq_load_workers::{MAX_WORKERS, WorkerPool, WorkerSeat, outcomes_by_workers};
 use std::alloc::{AllocError, Global};
-use std::sync::atomic::{AtomicBool, Ordering};
+use std::sync::atomic::{AtomicBool, AtomicU64, Ordering};
 use std::sync::{Arc, Wait};
+use std::thread;
 use std::thread::Threads;
+
+/// How many values there were, and how many of them were dropped.
+#[derive(Drop)]
+struct Counts {
+    made: AtomicU64,
+    dropped: AtomicU64,
+}
+
+impl Counts {
+    /// Whether there were any, and all were dropped.
+    fn are_same(&self) -> bool {
+        let made = self.made.load(Ordering::SeqCst);
+        made > 0 && made == self.dropped.load(Ordering::SeqCst)
+    }
+}
+
+fn new_counts(alloc: Global) -> Result<Arc<Counts, Global>, AllocError> {
+    let none = Counts {
+        made: AtomicU64::new(0),
+        dropped: AtomicU64::new(0),
+    };
+    Ok(Arc::new(alloc, none)?)
+}
+
+/// A value that counts when it is dropped.
+struct Noted {
+    counts: Arc<Counts, Global>,
+}
+
+impl Drop for Noted {
+    fn drop(self) {
+        let Noted { counts } = self;
+        counts.dropped.fetch_add(1, Ordering::SeqCst);
+    }
+}
 
 /// Is refused memory when it evaluates one module, the first time alone.
 #[derive(Drop)]
 struct Refusing {
     refused: AtomicBool,
+    counts: Arc<Counts, Global>,
 }
 
 impl Evaluate for Refusing {
-    type Value = u32;
+    type Value = Noted;
 
     type Fault = u32;
 
@@ -34,22 +72,34 @@ impl Evaluate for Refusing {
         &self,
         _alloc: Global,
         m: u32,
-        _imports: &[Arc<u32, Global>],
+        _imports: &[Arc<Noted, Global>],
         _watch: &W,
-    ) -> Result<Result<u32, u32>, AllocError> {
+    ) -> Result<Result<Noted, u32>, AllocError> {
         if m == 30 && !self.refused.swap(true, Ordering::SeqCst) {
             return Err(AllocError);
         }
-        Ok(Ok(m))
+        let counts = Arc::try_clone(&self.counts)?;
+        counts.made.fetch_add(1, Ordering::SeqCst);
+        Ok(Ok(Noted { counts }))
     }
 }
 
-/// The loads of so many modules that load nothing.
-fn no_loads(alloc: Global, count: u32) -> Result<Vec<Vec<u32>>, AllocError> {
+fn new_refusing(counts: &Arc<Counts, Global>) -> Result<Refusing, AllocError> {
+    Ok(Refusing {
+        refused: AtomicBool::new(false),
+        counts: Arc::try_clone(counts)?,
+    })
+}
+
+/// The loads of 60 modules, of which the last one loads all others.
+fn rows(alloc: Global) -> Result<Vec<Vec<u32>>, AllocError> {
     let mut rows = Vec::new(alloc);
-    for _ in 0..count {
+    let mut last = Vec::new(alloc);
+    for m in 0..59u32 {
         rows.push(Vec::new(alloc))?;
+        last.push(m)?;
     }
+    rows.push(last)?;
     Ok(rows)
 }
 
@@ -61,10 +111,8 @@ fn are_refused<R: Threads + Wait + Sync>(
 ) -> Result<bool, PlanErr>
     requires { (0 < workers) × (workers ≤ MAX_WORKERS) }
 {
-    let refusing = Refusing {
-        refused: AtomicBool::new(false),
-    };
-    let graph = Graph::new(no_loads(alloc, 60)?)?;
+    let refusing = new_refusing(&new_counts(alloc)?)?;
+    let graph = Graph::new(rows(alloc)?)?;
     let (pool, seats) = WorkerPool::open(alloc, refusing, graph, workers)?;
     let found = outcomes_by_workers(rt, alloc, &pool, seats, &Unwatched);
     Ok(found.is_err())
@@ -76,5 +124,87 @@ fn workers_are_refused_memory(rt: HostRuntime) -> Result<(), PlanErr> {
     assert!(rt; are_refused(&rt, rt.alloc(), 1)?);
     assert!(rt; are_refused(&rt, rt.alloc(), 2)?);
     assert!(rt; are_refused(&rt, rt.alloc(), 8)?);
+    Ok(())
+}
+
+/// How many seats were refused memory, and how many were stopped before all modules were finished.
+#[derive(Drop)]
+struct Ends {
+    refused: AtomicU64,
+    stopped: AtomicU64,
+}
+
+/// Works at a seat, and counts how that ends.
+fn work_at<R: Wait>(
+    rt: &R,
+    alloc: Global,
+    pool: &WorkerPool<Refusing>,
+    seat: &mut WorkerSeat<Refusing>,
+    ends: &Ends,
+)
+    requires { IsSeatOf pool.now.board seat.old.place }
+    ensures { IsSeatOf pool.now.board seat.new.place }
+{
+    match pool.work(rt, alloc, seat, &Unwatched) {
+        Err(_) => {
+            ends.refused.fetch_add(1, Ordering::SeqCst);
+        }
+        Ok(worked) => {
+            if !worked.all {
+                ends.stopped.fetch_add(1, Ordering::SeqCst);
+            }
+        }
+    }
+}
+
+/// Works at all seats, in two threads.
+fn work_at_all<R: Threads + Wait + Sync>(
+    rt: &R,
+    alloc: Global,
+    pool: &WorkerPool<Refusing>,
+    seats: &mut [WorkerSeat<Refusing>],
+    ends: &Ends,
+)
+    requires { All (λ s. IsSeatOf pool.now.board s.place) seats.old }
+    ensures { All (λ s. IsSeatOf pool.now.board s.place) seats.new }
+{
+    thread::for_each_mut(
+        rt,
+        seats,
+        2,
+        &|_, seat| work_at(rt, alloc, pool, seat, ends),
+    );
+}
+
+/// Opens a pool of two seats, works at both, and closes it with what was posted and nobody fetched.
+fn work_and_close<R: Threads + Wait + Sync>(
+    rt: &R,
+    alloc: Global,
+    refusing: Refusing,
+    ends: &Ends,
+) -> Result<(), PlanErr> {
+    let graph = Graph::new(rows(alloc)?)?;
+    let (pool, mut seats) = WorkerPool::open(alloc, refusing, graph, 2)?;
+    work_at_all(rt, alloc, &pool, &mut seats, ends);
+    match seats.pop() {
+        Some(seat) => pool.close(seat),
+        None => {}
+    }
+    Ok(())
+}
+
+/// Of two seats in threads of the test's own, the one that is refused memory says so, the other is stopped, and a closed
+/// pool keeps nothing.
+#[test]
+fn one_seat_of_two_is_refused_memory(rt: HostRuntime) -> Result<(), PlanErr> {
+    let counts = new_counts(rt.alloc())?;
+    let ends = Ends {
+        refused: AtomicU64::new(0),
+        stopped: AtomicU64::new(0),
+    };
+    work_and_close(&rt, rt.alloc(), new_refusing(&counts)?, &ends)?;
+    assert!(rt; ends.refused.load(Ordering::SeqCst) == 1);
+    assert!(rt; ends.stopped.load(Ordering::SeqCst) == 1);
+    assert!(rt; counts.are_same(), "values are left");
     Ok(())
 }

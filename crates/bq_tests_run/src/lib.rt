@@ -9,6 +9,8 @@ mod devices;
 #[cfg(test)]
 mod edges;
 #[cfg(test)]
+mod jobs;
+#[cfg(test)]
 mod options;
 #[cfg(test)]
 mod rows;

@@ -1,7 +1,7 @@
 //! [`lex`], [`parse`] and [`resolve`] of each file.
 
-use crate::single::shown::{show_count, show_error};
-use crate::single::window;
+use crate::shown::{show_count, show_error};
+use crate::window;
 use anyhow::Result;
 use bq_base::Bytes;
 use bq_label::Workspace;

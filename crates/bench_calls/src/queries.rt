@@ -1,8 +1,8 @@
 //! [`answer`] over the targets of a workspace, and [`run`] with three jobs.
 
-use crate::single::loads::LIMIT;
-use crate::single::shown::{show_bytes, show_error};
-use crate::single::window;
+use crate::loads::LIMIT;
+use crate::shown::{show_bytes, show_error};
+use crate::window;
 use anyhow::Result;
 use bq_label::Workspace;
 use bq_load::{Loaded, load_one_thread};

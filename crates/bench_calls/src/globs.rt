@@ -1,7 +1,7 @@
 //! [`glob`] of all files of each package.
 
-use crate::single::shown::{show_lines, show_refused};
-use crate::single::window;
+use crate::shown::{show_lines, show_refused};
+use crate::window;
 use anyhow::Result;
 use bq_label::{Label, Packages, Workspace};
 use bq_label_glob::{Pattern, glob, read_pattern};

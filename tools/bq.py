@@ -1,0 +1,329 @@
+"""Asks bq one query after another over a workspace that it has loaded once:
+
+    from bq import QueryError, Workspace
+
+    with Workspace("examples/macros") as workspace:
+        for label in workspace.query("rdeps(//..., //log:log.c)"):
+            print(label)
+
+A workspace is a directory or the file of a bundle. Its process is `bq --queries -`, which ends with the block, with `close`, or after a
+ProcessError. Several threads may ask; they are answered in turn. This file needs Python 3.10 or later, and no other file: copy it to where
+you want it. docs/TOOLS.md says more.
+"""
+import io
+import os
+import re
+import select
+import signal
+import subprocess
+import threading
+import time
+
+HERE = os.path.dirname(os.path.realpath(__file__))
+# where the program is: built in the repository, unpacked there from dist/, beside the tools in a tarball, or installed with them
+PROGRAMS = (f"{HERE}/../crates/bq/out/bq", f"{HERE}/../crates/bq/out/dist/bq", f"{HERE}/../bq", f"{HERE}/../../../bin/bq", "/usr/bin/bq")
+# lines that bq writes to standard error
+FAULT = re.compile(r"(?P<label>(?:@[^/]*)?//[^:]*:[^:]*):(?P<line>\d+): (?P<number>F\d+) (?P<name>\w+) ?(?P<detail>.*)")
+ERROR = re.compile(r"bq: (?P<number>[QE]\d) (?P<name>\w+) ?(?P<detail>.*)")
+# the line before each answer
+HEADER = re.compile(rb"=== (?P<status>[023]) (?P<count>\d{1,18}) (?P<query>.*)", re.DOTALL)
+# a header has no more of a query
+MAX_QUERY_BYTES = 1 << 20
+# a query that is answered once the workspace is loaded
+NOTHING = b"set()"
+# how many bytes are read at once
+SHARE = 1 << 18
+# how long a process may take to end by itself, in seconds
+PATIENCE = 2.0
+
+
+class BqError(Exception):
+    """What goes wrong with a workspace or a query."""
+
+
+class BadQuery(BqError, ValueError):
+    """A text that can't be asked, since it isn't one line with a query; it wasn't asked."""
+
+
+class NumberedError(BqError):
+    """An error of bq's, as Q5 NoSuchTarget //a:none; `bq --explain NUMBER` says what it means."""
+
+    def __init__(self, number: str, word: str, detail: str = "") -> None:
+        super().__init__(number, word, detail)
+        self.number, self.word, self.detail = number, word, detail
+
+    def __str__(self) -> str:
+        return " ".join(filter(None, (self.number, self.word, self.detail)))
+
+
+class QueryError(NumberedError):
+    """A query was refused. Others can be asked after it."""
+
+
+class ProcessError(BqError):
+    """The process can't be started, has ended, or was ended; the message says why."""
+
+
+class RunError(NumberedError, ProcessError):
+    """The process has ended with an error of the run, as E2 Read or E6 Schema."""
+
+
+class QueryTimeout(ProcessError, TimeoutError):
+    """The workspace wasn't loaded, or a query not answered, in time. The process was ended, if it wasn't busy for other threads."""
+
+
+class NoProgram(ProcessError):
+    """There is no bq."""
+
+
+def program_of(given: str = "") -> str:
+    """The path of bq: the one that is given, else the one that the variable BZLQ_BQ names, else the first that is there."""
+    named = given or os.environ.get("BZLQ_BQ", "")
+    for path in [named] if named else PROGRAMS:
+        if os.path.isfile(path) and os.access(path, os.X_OK) and (named or is_program(path)):
+            return os.path.abspath(path)
+    raise NoProgram(f"no program {named}" if named else "there is no bq: the variable BZLQ_BQ can name it")
+
+
+def is_program(path: str) -> bool:
+    """Whether this is a program, and not the script ./bq, which may prove and build it first."""
+    with open(path, "rb") as file:
+        return file.read(4) == b"\x7fELF"
+
+
+def text_of(line: bytes) -> str:
+    return line.decode("utf-8", "surrogateescape")
+
+
+def bytes_of(query: str) -> bytes:
+    """A query as bq reads it."""
+    if "\n" in query or "\r" in query:
+        raise BadQuery("a query is one line, and this text has a line break")
+    if not query.strip():
+        raise BadQuery("a query can't be empty")
+    if query.startswith("#"):
+        raise BadQuery("a line that begins with # is a comment, and no query")
+    try:
+        return query.encode("utf-8", "surrogateescape")
+    except UnicodeEncodeError as error:
+        raise BadQuery(f"a query is written as UTF-8, which has no bytes for {query[error.start]!r}") from None
+
+
+def unblocked(pipe: object) -> io.FileIO:
+    """A pipe, from now on one whose reads and writes don't wait."""
+    assert isinstance(pipe, io.FileIO)
+    os.set_blocking(pipe.fileno(), False)
+    return pipe
+
+
+def is_ready(pipe: io.FileIO, event: int, seconds: float | None) -> bool:
+    """Waits until something can be read from a pipe, or written to it, or its other end is closed. Without seconds it waits on and on."""
+    poll = select.poll()
+    poll.register(pipe, event)
+    return bool(poll.poll(None if seconds is None else min(seconds * 1000, 2_000_000_000)))
+
+
+def divided(lines: list[str]) -> tuple[list[str], list[str]]:
+    """What files print, and the fault lines, which come after it."""
+    first = len(lines)
+    while first and FAULT.fullmatch(lines[first - 1]):
+        first -= 1
+    return lines[:first], lines[first:]
+
+
+class Deadline:
+    """The moment by which something has to be done."""
+
+    def __init__(self, seconds: float | None, what: str) -> None:
+        self.seconds, self.what = seconds, what
+        self.moment = None if seconds is None else time.monotonic() + seconds
+
+    def left(self) -> float | None:
+        """The seconds until then."""
+        return None if self.moment is None else max(0.0, self.moment - time.monotonic())
+
+    def wait(self, pipe: io.FileIO, event: int) -> None:
+        if not is_ready(pipe, event, self.left()):
+            raise self.error()
+
+    def error(self) -> QueryTimeout:
+        return QueryTimeout(f"bq hasn't {self.what} in {self.seconds:g} s")
+
+
+class Errors:
+    """What a process writes to standard error. A thread reads it, so that the process never waits for a reader."""
+
+    def __init__(self, pipe: io.FileIO) -> None:
+        self._pipe, self._text, self._lock = pipe, bytearray(), threading.Lock()
+        self._thread = threading.Thread(target=self._read, daemon=True)
+        self._thread.start()
+
+    def _read(self) -> None:
+        while self._take():
+            is_ready(self._pipe, select.POLLIN, None)
+
+    def _take(self) -> bool:
+        """Takes what was written by now. Returns whether there may be more to come."""
+        with self._lock:
+            while text := self._pipe.read(SHARE):
+                self._text += text
+            return text is None
+
+    def lines(self) -> list[str]:
+        """The lines that were written since this was asked last."""
+        self._take()
+        with self._lock:
+            text = text_of(bytes(self._text))
+            self._text.clear()
+        return text.removesuffix("\n").split("\n") if text else []
+
+    def close(self) -> None:
+        """Ends the thread, once the process has ended."""
+        self._thread.join(PATIENCE)
+        if not self._thread.is_alive():
+            self._pipe.close()
+
+
+class Workspace:
+    """A workspace that a process of bq has loaded: a directory, or the file of a bundle.
+
+    Options: the program (else program_of says which), those of bq, and how many seconds the loading and each query may take; without a
+    number they may take any time. `faults` are the fault lines, and `printed` the lines that files print.
+    """
+
+    def __init__(self, place: str | os.PathLike[str], *, program: str = "", output: str = "label", jobs: int | None = None,
+                 max_steps: int | None = None, load_timeout: float | None = None, timeout: float | None = None) -> None:
+        self.program, self.timeout = program_of(program), timeout
+        self._lock, self._rest = threading.Lock(), b""
+        self._gone: ProcessError | None = None
+        given = {"--output": output, "--jobs": jobs, "--max-steps": max_steps}
+        self._start([f"{word}={value}" for word, value in given.items() if value is not None], os.fspath(place))
+        status, _ = self._answer(NOTHING, Deadline(load_timeout, "loaded the workspace"))
+        lines = self._errors.lines()
+        self.printed, self.faults = divided(lines) if status == b"3" else (lines, [])
+
+    def __enter__(self) -> "Workspace":
+        return self
+
+    def __exit__(self, *_: object) -> None:
+        self.close()
+
+    def query(self, query: str, timeout: float | None = None) -> list[str]:
+        """The labels that a query stands for, in order; with output="label_kind" the lines with kinds and labels. Bytes that are no UTF-8
+        stand for themselves by surrogateescape, both ways."""
+        text, deadline = bytes_of(query), Deadline(self.timeout if timeout is None else timeout, f"answered {query[:200]}")
+        left = deadline.left()
+        if not self._lock.acquire(timeout=-1 if left is None else min(left, threading.TIMEOUT_MAX)):
+            raise deadline.error()
+        try:
+            if self._gone:
+                raise self._gone.with_traceback(None)
+            _, lines = self._answer(text, deadline)
+        finally:
+            self._lock.release()
+        return [text_of(line) for line in lines]
+
+    def close(self) -> None:
+        """Ends the process. A query that another thread waits for ends with an error."""
+        why = self._gone or ProcessError("the workspace is closed")
+        if not self._lock.acquire(blocking=False):
+            self._gone = why
+            self._process.kill()
+            self._lock.acquire()
+        try:
+            self._end(why, PATIENCE)
+        finally:
+            self._lock.release()
+
+    def _start(self, options: list[str], place: str) -> None:
+        if not os.path.exists(place):
+            raise ProcessError(f"there is no directory or bundle {place}")
+        is_folder, pipe = os.path.isdir(place), subprocess.PIPE
+        where = ["--dir", "."] if is_folder else ["--bundle", os.path.abspath(place)]
+        command = [self.program, *options, *where, "--queries", "-"]
+        try:
+            self._process = subprocess.Popen(command, cwd=place if is_folder else None, bufsize=0, stdin=pipe, stdout=pipe, stderr=pipe)
+        except OSError as error:
+            raise ProcessError(f"{error.filename or self.program}: {error.strerror}") from error
+        self._input, self._output = unblocked(self._process.stdin), unblocked(self._process.stdout)
+        self._errors = Errors(unblocked(self._process.stderr))
+
+    def _answer(self, query: bytes, deadline: Deadline) -> tuple[bytes, list[bytes]]:
+        """The status of a query, and the lines of its answer. If anything but a refusal breaks it off, more of the answer may come, so that
+        the process is of no use any more: it is ended."""
+        try:
+            self._write(query + b"\n", deadline)
+            return self._block(query, deadline)
+        except QueryError:
+            raise
+        except ProcessError as error:
+            self._end(error)
+            raise
+        except BaseException:
+            self._end(ProcessError("the process was ended, since a query was interrupted"))
+            raise
+
+    def _write(self, text: bytes, deadline: Deadline) -> None:
+        left = memoryview(text)
+        while left:
+            deadline.wait(self._input, select.POLLOUT)
+            try:
+                left = left[self._input.write(left) or 0:]
+            except BrokenPipeError:
+                raise self._why() from None
+
+    def _block(self, query: bytes, deadline: Deadline) -> tuple[bytes, list[bytes]]:
+        """Reads a header line, and as many lines as it says."""
+        header = self._lines(1, deadline)[0]
+        found = HEADER.fullmatch(header)
+        if not found or found["query"] != query[:MAX_QUERY_BYTES]:
+            raise ProcessError(f"{self.program} doesn't answer as bq does: {text_of(header[:200])}")
+        lines = self._lines(int(found["count"]), deadline)
+        if found["status"] != b"2":
+            return found["status"], lines
+        error = ERROR.fullmatch(text_of(b"\n".join(lines)))
+        if not error:
+            raise ProcessError(f"{self.program} doesn't refuse a query as bq does")
+        raise QueryError(error["number"], error["name"], error["detail"])
+
+    def _lines(self, count: int, deadline: Deadline) -> list[bytes]:
+        """Reads as many lines."""
+        parts, found = [self._rest], self._rest.count(b"\n")
+        while found < count:
+            deadline.wait(self._output, select.POLLIN)
+            part = self._output.read(SHARE)
+            if part == b"":
+                raise self._why()
+            parts.append(part or b"")
+            found += parts[-1].count(b"\n")
+        *lines, self._rest = b"".join(parts).split(b"\n", count)
+        return lines
+
+    def _why(self) -> ProcessError:
+        """Why the process has ended: by its status, and what it has written since the workspace was loaded."""
+        if self._gone:
+            return self._gone
+        try:
+            status = self._process.wait(PATIENCE)
+        except subprocess.TimeoutExpired:
+            return ProcessError("bq has closed its output")
+        lines = self._errors.lines()
+        error = ERROR.fullmatch(lines[-1]) if lines else None
+        if error:
+            return RunError(error["number"], error["name"], error["detail"])
+        if any("'--queries'" in line for line in lines):
+            return ProcessError(f"{self.program} is too old: it has no --queries")
+        how = f"with status {status}" if status >= 0 else f"by signal {-status} ({signal.strsignal(-status)})"
+        return ProcessError(": ".join([f"bq has ended {how}", *lines[:1]]))
+
+    def _end(self, why: ProcessError, patience: float = 0) -> None:
+        """Ends the process, at once or as soon as it sees that there are no more queries; from then on each query has this error."""
+        self._gone = why
+        self._input.close()
+        try:
+            self._process.wait(patience)
+        except subprocess.TimeoutExpired:
+            self._process.kill()
+            self._process.wait()
+        self._output.close()
+        self._errors.close()
