@@ -1,0 +1,22 @@
+-- The line of a fault.
+use Rattle.std.specs.Prelude.{ℕ, List, [], ◌∷◌, ◌++◌, codes}
+use Rattle.std.specs.Fmt.{decimal}
+use Rattle.bq_base.specs.Fault.{fault_number, fault_name}
+use Rattle.bq_load_fault_line.specs.declared.fault_line.FaultLine.{FaultLine}
+use Rattle.bq_facts_json.specs.Values.{Member, json_object}
+use Rattle.bq_facts.specs.Members.{string_member}
+
+-- `F74`
+abbrev pub fault_code : FaultLine → List ℕ
+fault_code l = codes "F" ++ decimal (fault_number l.kind)
+
+abbrev pub what_members : FaultLine → List Member
+what_members l = string_member (codes "fault") (fault_code l) ∷ string_member (codes "name") (fault_name l.kind) ∷ string_member (codes "label") l.label ∷ []
+
+abbrev pub where_members : FaultLine → List ℕ → List Member
+where_members l file =
+    string_member (codes "file") file ∷ record { key = codes "line"; value = decimal l.line } ∷ string_member (codes "detail") l.detail ∷ []
+
+-- the object of a fault line, by the path of its file, and a newline
+unfoldable pub fault_object : FaultLine → List ℕ → List ℕ
+fault_object l file = json_object (what_members l ++ where_members l file) ++ 10 ∷ []

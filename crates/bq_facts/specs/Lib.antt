@@ -1,0 +1,7 @@
+pub mod Labels
+pub mod Attributes
+pub mod Members
+pub mod Deps
+pub mod TargetLine
+pub mod FaultObject
+pub mod Laws

@@ -1,0 +1,40 @@
+-- The line of a target (`--facts`). A source file has its own path; any other target has the path of its BUILD file, the line of the top-level
+-- statement that declares it, its attributes and what it depends on.
+use Rattle.std.specs.Prelude.{ℕ, List, [], ◌∷◌, ◌++◌, codes, if◌then◌else◌}
+use Rattle.std.specs.Fmt.{decimal}
+use Rattle.bq_label.specs.Label.{LabelParts, full_form}
+use Rattle.bq_label.specs.Packages.{label_path}
+use Rattle.bq_facts_json.specs.Values.{Member, json_object}
+use Rattle.bq_package_target.specs.declared.target.TargetKind.{TargetKind}
+use Rattle.bq_package_target.specs.declared.target.TargetKind.TheVariants as k
+use Rattle.bq_package_target.specs.declared.target.Target.{Target}
+use Rattle.bq_package_target.specs.Target.{is_source}
+use Rattle.bq_query_target_sets.specs.Texts.{kind_text}
+use Rattle.bq_facts.specs.Labels.{json_labels}
+use Rattle.bq_facts.specs.Attributes.{json_attributes}
+use Rattle.bq_facts.specs.Members.{string_member}
+
+-- the path of a target's file, by the label of the BUILD file of its package
+abbrev pub file_of : LabelParts → Target → List ℕ
+file_of build_file t = if is_source t.kind then label_path t.label else label_path build_file
+
+-- the members that every target has
+abbrev pub named : Target → List ℕ → List Member
+named t file = string_member (codes "target") (full_form t.label) ∷ string_member (codes "kind") (kind_text t.kind) ∷ string_member (codes "file") file ∷ []
+
+abbrev pub declared_members : Target → List LabelParts → List Member
+declared_members t deps =
+    record { key = codes "line"; value = decimal t.line }
+    ∷ record { key = codes "attributes"; value = json_attributes t.attributes }
+    ∷ record { key = codes "deps"; value = json_labels deps } ∷ []
+
+-- those of a target that a call declares
+abbrev pub declared_by : TargetKind → Target → List LabelParts → List Member
+declared_by k.Source t deps = []
+declared_by (k.Rule name class) t deps = declared_members t deps
+declared_by (k.Generated rule) t deps = declared_members t deps
+declared_by k.Group t deps = declared_members t deps
+
+-- the object of a target, by the path of its file and the labels of what it depends on, and a newline
+unfoldable pub target_line : Target → List ℕ → List LabelParts → List ℕ
+target_line t file deps = json_object (named t file ++ declared_by t.kind t deps) ++ 10 ∷ []

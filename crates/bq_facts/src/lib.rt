@@ -1,0 +1,29 @@
+//! Targets and fault lines of a run come in; a line of JSON for each goes out, as `bq --facts` prints them.
+//!
+//! The promise: the line of a target and that of a fault are the definitions' (`specs/TargetLine.antt`, `specs/FaultObject.antt`), and the
+//! numbers that [`direct_deps`] returns for a target of the graph are those of `deps(x, 1) - x` ([`direct_deps_are_deps`]).
+//!
+//! In reading order:
+//!
+//! - `labels`: labels in full, and the labels of numbered targets;
+//! - `attributes`: the values of attributes;
+//! - `members`: the parts of objects;
+//! - `deps`: what a target depends on directly;
+//! - `target_line`: targets;
+//! - `fault_object`: faults;
+//! - `laws`: what `deps` has, in the words of queries.
+#![tactic(auto)]
+
+mod attributes;
+mod deps;
+mod fault_object;
+mod labels;
+mod laws;
+mod members;
+mod target_line;
+
+pub use deps::direct_deps;
+pub use fault_object::push_fault;
+pub use labels::labels_at;
+pub use laws::direct_deps_are_deps;
+pub use target_line::{file_of, push_target};

@@ -1,0 +1,97 @@
+//! The lines of targets.
+
+ghost use Rattle.std.specs.Prelude.{◌≡◌, ◌++◌, ◌∷◌, [], IfOk, OnOk};
+ghost use Rattle.std.specs.List.{join_by};
+ghost use Rattle.bq_facts_json.specs.Values.{comma, member_text};
+ghost use Rattle.bq_facts.specs.Members.{further_members};
+ghost use Rattle.bq_facts.specs.TargetLine.{file_of, named, declared_members, declared_by, target_line};
+
+use crate::attributes::push_attributes;
+use crate::labels::push_labels;
+use crate::members::{next_string, open_with_string};
+use bq_facts_json::{close_object, next_key, push_number};
+use bq_label::{Label, label_path};
+use bq_package_target::{Target, TargetKind};
+use bq_query_target_sets::{write_kind, write_label};
+use std::alloc::{AllocError, Global};
+
+/// Returns the path of a target's file: a source file's own, and else that of its package's BUILD file.
+pub fn file_of(alloc: Global, build_file: &Label, target: &Target) -> Result<Vec<u8>, AllocError>
+    ensures { IfOk result (λ path. path.items ≡ file_of build_file.now target.now) }
+{
+    if target.kind.is_source() {
+        label_path(alloc, &target.label)
+    } else {
+        label_path(alloc, build_file)
+    }
+}
+
+/// Begins the object of a target with the members that every target has.
+fn push_named(
+    alloc: Global,
+    text: &mut Vec<u8>,
+    target: &Target,
+    file: &[u8],
+) -> Result<(), AllocError>
+    ensures { OnOk result (text.new.items ≡ text.old.items ++ (123 ∷ join_by member_text comma (named target.now file.now))) }
+{
+    let mut label = Vec::new(alloc);
+    write_label(&target.label, &mut label)?;
+    let mut kind = Vec::new(alloc);
+    write_kind(&target.kind, &mut kind)?;
+    open_with_string(text, b"target", &label)?;
+    next_string(text, b"kind", &kind)?;
+    next_string(text, b"file", file)
+}
+
+/// Appends the line, the attributes and the dependencies of a target.
+fn push_declared(
+    alloc: Global,
+    text: &mut Vec<u8>,
+    target: &Target,
+    deps: &[Label],
+) -> Result<(), AllocError>
+    ensures { OnOk result (text.new.items ≡ text.old.items ++ further_members (declared_members target.now deps.now)) }
+{
+    next_key(text, b"line")?;
+    push_number(text, target.line)?;
+    next_key(text, b"attributes")?;
+    push_attributes(alloc, text, target.attributes.as_slice())?;
+    next_key(text, b"deps")?;
+    push_labels(alloc, text, deps)
+}
+
+/// Appends what a target has that a call declares.
+fn push_rest(
+    alloc: Global,
+    text: &mut Vec<u8>,
+    target: &Target,
+    deps: &[Label],
+) -> Result<(), AllocError>
+    ensures { OnOk result (text.new.items ≡ text.old.items ++ further_members (declared_by target.now.kind target.now deps.now)) }
+{
+    match &target.kind {
+        TargetKind::Source => Ok(()),
+        TargetKind::Rule(_, _) => push_declared(alloc, text, target, deps),
+        TargetKind::Generated(_) => push_declared(alloc, text, target, deps),
+        TargetKind::Group => push_declared(alloc, text, target, deps),
+    }
+}
+
+/// Appends the line of a target: an object with its label, its kind, the path of its file, and, unless it is a source file, the line of
+/// the statement that declares it, its attributes and the labels of what it depends on.
+pub fn push_target(
+    alloc: Global,
+    text: &mut Vec<u8>,
+    target: &Target,
+    file: &[u8],
+    deps: &[Label],
+) -> Result<(), AllocError>
+    ensures { OnOk result (text.new.items ≡ text.old.items ++ target_line target.now file.now deps.now) }
+{
+    push_named(alloc, text, target, file)?;
+    push_rest(alloc, text, target, deps)?;
+    close_object(text)?;
+    text.push(b'\n')?;
+    Ok(())
+}
