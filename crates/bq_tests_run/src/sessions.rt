@@ -50,7 +50,7 @@ fn written<R: Threads + Wait + RandomSource + Sync>(
     );
     let failures = queries.failures().wrapping_add(writer.failures());
     let code = code_of(ended);
-    let mut whole = faults.device.held;
+    let mut whole = faults.device.held.as_slice().to_vec(alloc)?;
     whole.push(b'>')?;
     whole.extend_from_slice(&writer.device.held)?;
     let end = format!(in alloc; ">{code} {failures}")?;
@@ -161,14 +161,14 @@ fn turns<R: Threads + Wait + RandomSource + Sync>(
         &mut faults,
         &asked,
     );
-    Ok(queries.device.seen)
+    queries.device.seen.as_slice().to_vec(alloc)
 }
 
 /// Each block is written before the next query is asked for.
 #[test]
 fn answer_in_turn(rt: HostRuntime) -> Result<(), AllocError> {
     let seen = turns(&rt, rt.alloc(), b"//a:x\n//a:y\n//a:x\n")?;
-    assert!(&rt; seen.as_slice() == [0, 20, 60, 80].as_slice());
+    assert!(rt; seen.as_slice() == [0, 20, 60, 80].as_slice());
     Ok(())
 }
 
