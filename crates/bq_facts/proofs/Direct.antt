@@ -1,9 +1,9 @@
 -- Direct dependencies: what sorting and dropping repeats leave of a row, and that it is deps(x, 1) - x.
-use Rattle.std.proofs.Common.{◌≡◌, ◌≢◌, ℕ, ◌<◌, ◌≤◌, Bool, true, false, List, [], ◌∷◌, length, refl, sym, ap, subst, ◌∙◌, arith}
+use Rattle.std.proofs.Common.{◌≡◌, ◌≢◌, ℕ, ◌≤◌, Bool, true, List, [], ◌∷◌, length, refl, sym, subst, ◌∙◌, arith}
 use Rattle.std.specs.Prelude.{◌==◌, not, nat_eq}
 use Rattle.std.specs.List.{Contains, dedup, filter}
 use Rattle.std.specs.List.Retain.{IsFiltered, DiffersFromLast}
-use Rattle.std.specs.List.Sorted.{IsPermutation, IsSorted, IsStrictlyIncreasing}
+use Rattle.std.specs.List.Sorted.{IsPermutation, IsSorted}
 use Rattle.std.specs.Ordering.{nat_cmp}
 use Rattle.std.proofs.lemmas.Bool.{eqb-false, ne_eqb, not-true, not_from_false}
 use Rattle.std.proofs.lemmas.List.Elements.{All-contains, filter_passes}
@@ -11,7 +11,7 @@ use Rattle.std.proofs.lemmas.List.Filters.{dedup_is}
 use Rattle.std.proofs.lemmas.List.Kept.{Contains-dedup_nat, Contains-from_dedup}
 use Rattle.std.proofs.lemmas.List.Sorted.{Contains-permutation, IsPermutation-sym}
 use Rattle.std.proofs.lemmas.Map.Keys.{IsStrictlyIncreasing-dedup}
-use Rattle.bq_query_graph.specs.Paths.{row, Pair, IsPath, DepsWithin}
+use Rattle.bq_query_graph.specs.Paths.{row, Pair, IsPath}
 use Rattle.bq_facts.specs.Deps.{AreDirect}
 use Rattle.bq_facts.specs.Laws.{DirectAreDeps}
 use Rattle.bq_facts.proofs.Filtered.{into_filter, from_filter}

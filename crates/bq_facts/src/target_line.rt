@@ -1,6 +1,6 @@
 //! The lines of targets.
 
-ghost use Rattle.std.specs.Prelude.{◌≡◌, ◌++◌, ◌∷◌, [], IfOk, OnOk};
+ghost use Rattle.std.specs.Prelude.{◌≡◌, ◌++◌, ◌∷◌, IfOk, OnOk};
 ghost use Rattle.std.specs.List.{join_by};
 ghost use Rattle.bq_facts_json.specs.Values.{comma, member_text};
 ghost use Rattle.bq_facts.specs.Members.{further_members};

@@ -1,13 +1,13 @@
 -- The code points of bytes: they stand for just these bytes, and each has bytes.
-use Rattle.std.proofs.Common.{◌≡◌, ◌⊎◌, ℕ, zero, suc, ◌+◌, ◌-◌, ◌<◌, ◌≤◌, Bool, true, false, List, [], ◌∷◌, ◌++◌, length, take, drop, slice_index, slice_index_or, Option, Some, None, refl, sym, ap, ◌∙◌, ⊎_elim, arith}
+use Rattle.std.proofs.Common.{◌≡◌, ◌⊎◌, ℕ, zero, suc, ◌+◌, ◌-◌, ◌<◌, ◌≤◌, true, false, List, [], ◌∷◌, ◌++◌, drop, Option, Some, None, refl, sym, ap, ◌∙◌, ⊎_elim, arith}
 use Rattle.std.specs.Char.{encode_utf8, IsScalar}
-use Rattle.std.specs.List.{flat_map, list_all}
+use Rattle.std.specs.List.{list_all}
 use Rattle.std.proofs.lemmas.Bool.{and_from, and_left, and_parts, cases_lt, cond-true, cond-false, or_cases, or_left, or_right}
 use Rattle.std.proofs.lemmas.Bool.Decides.{nat_tests}
 use lib.Utf8.{scalar, scalar_cases}
 use Rattle.bstr.specs.Utf8.{Decoded, decoded}
 use Rattle.bstr.proofs.lemmas.PieceLemmas.{piece-bounds}
-use Rattle.bstr.proofs.lemmas.SoundLemmas.{SpellsChar, SpellsChar-decoded}
+use Rattle.bstr.proofs.lemmas.SoundLemmas.{SpellsChar-decoded}
 use Rattle.bq_facts_json.specs.CodePoints.{AreBytes, point_by, further_by, points_after, code_points, is_escaped_byte, point_bytes, bytes_of}
 use Rattle.bq_facts_json.specs.Reading.{is_high, is_low, joined, has_bytes}
 use Rattle.bq_facts_json.proofs.Fronts.{decoded_ascii}

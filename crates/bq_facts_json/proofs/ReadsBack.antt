@@ -1,15 +1,15 @@
 -- The text of a string: it is UTF-8 without controls, and reads as the bytes.
-use Rattle.std.proofs.Common.{◌≡◌, ◌⊎◌, ℕ, ◌+◌, ◌<◌, ◌≤◌, Bool, true, false, ◌&&◌, List, [], ◌∷◌, ◌++◌, length, get_or, slice_index, Option, Some, None, IsUtf8, refl, sym, ap, ◌∙◌, ⊎_elim, arith}
+use Rattle.std.proofs.Common.{◌≡◌, ◌⊎◌, ℕ, ◌+◌, ◌<◌, ◌≤◌, Bool, true, false, ◌&&◌, List, [], ◌∷◌, ◌++◌, slice_index, Some, IsUtf8, refl, ap, ◌∙◌, ⊎_elim, arith}
 use Rattle.std.specs.Prelude.{nat_le, nat_lt, option_and_then, EachIndex}
 use Rattle.std.specs.List.{flat_map, list_all}
-use Rattle.std.specs.Str.{chars, encode_utf8_all, is_utf8, NonePass}
-use Rattle.std.proofs.lemmas.Bool.{and_from, and_parts, cases_Bool, cases_lt, cond-true, le-leb, lt-ltb, le-ltb, or_cases}
+use Rattle.std.specs.Str.{encode_utf8_all, NonePass}
+use Rattle.std.proofs.lemmas.Bool.{and_from, and_parts, cases_Bool, cases_lt, cond-true, le-leb, or_cases}
 use Rattle.std.proofs.lemmas.Bool.Decides.{nat_tests}
 use Rattle.std.proofs.lemmas.Str.{chars-encodes, is_utf8-from_IsUtf8, NoCharPasses-byte}
 use lib.Utf8.{scalar, scalars, low_scalar}
 use Rattle.bq_facts_json.specs.CodePoints.{AreBytes, code_points, is_escaped_byte, bytes_of}
 use Rattle.bq_facts_json.specs.JsonString.{is_unescaped, escape, json_char, json_chars, json_string}
-use Rattle.bq_facts_json.specs.Reading.{between, units, joined, has_bytes, bytes_if_all, quoted_bytes, reads_string}
+use Rattle.bq_facts_json.specs.Reading.{joined, has_bytes, bytes_if_all, quoted_bytes, reads_string}
 use Rattle.bq_facts_json.proofs.Escapes.{is_printable, escape_printable}
 use Rattle.bq_facts_json.proofs.Fronts.{json_char_unescaped, json_char_escaped}
 use Rattle.bq_facts_json.proofs.Points.{bytes_of-code_points, code_points_have_bytes, joined_same}

@@ -1,13 +1,13 @@
 -- What a reader finds in the characters of a string.
-use Rattle.std.proofs.Common.{◌≡◌, ◌⊎◌, ℕ, zero, suc, ◌+◌, ◌-◌, ◌*◌, ◌/◌, ◌%◌, ◌<◌, ◌≤◌, Bool, true, false, cond, List, [], ◌∷◌, ◌++◌, Option, Some, None, refl, sym, ap, ◌∙◌, ⊎_elim, arith, append_assoc}
+use Rattle.std.proofs.Common.{◌≡◌, ◌⊎◌, ℕ, zero, suc, ◌+◌, ◌-◌, ◌*◌, ◌/◌, ◌%◌, ◌<◌, true, false, cond, List, [], ◌∷◌, ◌++◌, Option, Some, None, refl, ap, ◌∙◌, ⊎_elim, arith, append_assoc}
 use Rattle.std.specs.Prelude.{◌==◌, nat_lt, option_and_then}
-use Rattle.std.specs.Char.{digit_char, digit_value}
-use Rattle.std.specs.List.{flat_map, list_all}
-use Rattle.std.proofs.lemmas.Bool.{and_parts, cases_Bool, cond-true, cond-false, lt-ltb}
+use Rattle.std.specs.Char.{digit_char}
+use Rattle.std.specs.List.{flat_map}
+use Rattle.std.proofs.lemmas.Bool.{cases_Bool, cond-true, cond-false, lt-ltb}
 use Rattle.std.proofs.lemmas.Bool.Decides.{nat_tests}
 use Rattle.std.proofs.lemmas.Str.{digit_value-digit_char}
-use Rattle.bq_facts_json.specs.JsonString.{is_unescaped, short_escape, unicode_escape, escape_by, escape, json_char}
-use Rattle.bq_facts_json.specs.Reading.{Place, between, after_escape, digits, letter_meaning, hex_value, onto, onto_some, units, has_bytes}
+use Rattle.bq_facts_json.specs.JsonString.{is_unescaped, short_escape, escape_by, escape, json_char}
+use Rattle.bq_facts_json.specs.Reading.{between, after_escape, digits, hex_value, onto, onto_some, units}
 use Rattle.bq_facts_json.proofs.Escapes.{IsShort, short_letter}
 use Rattle.bq_facts_json.proofs.Fronts.{json_char_unescaped, json_char_escaped}
 

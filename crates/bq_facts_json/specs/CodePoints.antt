@@ -1,5 +1,5 @@
 -- Bytes as code points, and back: UTF-8 (RFC 3629), where each byte of what is no UTF-8 stands as a lone surrogate (PEP 383, `surrogateescape`).
-use Rattle.std.specs.Prelude.{◌==◌, ℕ, zero, suc, ◌+◌, ◌-◌, ◌<◌, Bool, ◌||◌, List, [], ◌∷◌, Option, Some, None, encode_utf8, if◌then◌else◌}
+use Rattle.std.specs.Prelude.{ℕ, zero, suc, ◌+◌, ◌-◌, ◌<◌, Bool, List, [], ◌∷◌, Option, Some, None, encode_utf8, if◌then◌else◌}
 use Rattle.std.specs.Int.{is_in_range}
 use Rattle.std.specs.List.{All, flat_map}
 use Rattle.bstr.specs.Utf8.{decoded}

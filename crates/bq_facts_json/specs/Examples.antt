@@ -1,6 +1,6 @@
 -- The texts of some strings, as Python writes them: `json.dumps(b.decode("utf-8", "surrogateescape"), ensure_ascii=False)`, with each lone
 -- surrogate as `\udcXX`.
-use Rattle.std.specs.Prelude.{◌≡◌, ℕ, List, [], ◌∷◌}
+use Rattle.std.specs.Prelude.{◌≡◌, [], ◌∷◌}
 use Rattle.bq_facts_json.specs.JsonString.{json_string}
 
 pub record Examples : Type 0 where

@@ -1,6 +1,6 @@
 //! Numbers, truth values, lists of strings, and the parts of objects.
 
-ghost use Rattle.std.specs.Prelude.{◌≡◌, ◌++◌, ◌∷◌, [], codes, OnOk};
+ghost use Rattle.std.specs.Prelude.{◌≡◌, ◌++◌, ◌∷◌, [], OnOk};
 ghost use Rattle.std.specs.Fmt.{decimal, signed_decimal};
 ghost use Rattle.std.specs.List.{flat_map, join_by};
 ghost use Rattle.bq_facts_json.specs.JsonString.{json_string};

@@ -1,4 +1,4 @@
-use Rattle.std.proofs.Common.{◌≡◌, ◌<◌, ◌+◌, ◌++◌, ◌∙◌, take, drop, slice_index, append_assoc, length-take-le, ap, sym, arith}
+use Rattle.std.proofs.Common.{◌<◌, ◌+◌, ◌++◌, ◌∙◌, take, drop, slice_index, append_assoc, length-take-le, ap, sym, arith}
 use Rattle.bq_facts_json.specs.JsonString.{escape, escaped}
 use Rattle.bq_facts_json.proofs.Fronts.{front_char, front_lone, front_within}
 use Rattle.bq_facts_json.proofs.json_string.push_further.Goals as goal
