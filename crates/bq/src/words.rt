@@ -51,68 +51,89 @@ const DEFAULT_STEPS: u64 = 1_000_000;
 
 /// Makes the command, before it has seen any words.
 fn command<'a>(alloc: Global) -> Result<Command<'a>, AllocError> {
-    let directory = Arg::new(alloc, "dir")
-        .long("dir")
-        .value_name("DIR")
-        .help("Directory that holds the workspace")
-        .action(ArgAction::Set);
+    let command = Command::new(alloc, "bq")
+        .version(VERSION)
+        .about("Answers a query over the targets of a workspace of BUILD files")
+        .override_usage(USAGE)
+        .after_help(NOTES);
+    // PROOF: an argument is made where it is added, so that a call that fails drops none: they have many parts
+    let command = with_options(alloc, command)?;
+    let command = with_workspace(alloc, command)?;
+    with_query(alloc, command)
+}
+
+/// Adds the options with defaults.
+fn with_options<'a>(alloc: Global, command: Command<'a>) -> Result<Command<'a>, AllocError> {
+    command
+        .arg(
+            Arg::new(alloc, "jobs")
+                .long("jobs")
+                .value_name("N")
+                .help("Number of workers that load modules, 1 to 256")
+                .value_parser(value_parser!(u32).range(1..=MAX_JOBS as i64))
+                .default_value("4"),
+        )?
+        .arg(
+            Arg::new(alloc, "output")
+                .long("output")
+                .value_name("FORM")
+                .help("Output format of each target")
+                .value_parser(["label", "label_kind"].as_slice())
+                .default_value("label"),
+        )?
+        .arg(
+            Arg::new(alloc, "max-steps")
+                .long("max-steps")
+                .value_name("N")
+                .help("Step limit for evaluating one module, 1 to 1000000000")
+                .value_parser(value_parser!(u64).range(1..=MAX_STEPS as i64))
+                .default_value("1000000"),
+        )
+}
+
+/// Adds the options that say where the workspace is.
+fn with_workspace<'a>(alloc: Global, command: Command<'a>) -> Result<Command<'a>, AllocError> {
+    let command = command.arg(
+        Arg::new(alloc, "dir")
+            .long("dir")
+            .value_name("DIR")
+            .help("Directory that holds the workspace")
+            .action(ArgAction::Set),
+    )?;
     let bundle = Arg::new(alloc, "bundle")
         .long("bundle")
         .value_name("FILE")
         .help("File that holds the workspace, as a bundle")
         .action(ArgAction::Set)
         .conflicts_with("dir")?;
+    command.arg(bundle)
+}
+
+/// Adds the query, and the options that take its place.
+fn with_query<'a>(alloc: Global, command: Command<'a>) -> Result<Command<'a>, AllocError> {
     let queries = Arg::new(alloc, "queries")
         .long("queries")
         .value_name("FILE")
         .help("Answer the queries of a file, one a line; - is standard input")
         .action(ArgAction::Set)
         .conflicts_with("query")?;
-    let explain = Arg::new(alloc, "explain")
-        .long("explain")
-        .value_name("NUMBER")
-        .help("Explain a fault or error, as F47, Q5 or E4, and exit")
-        .action(ArgAction::Set)
-        .exclusive(true);
-    let query = Arg::new(alloc, "query")
-        .value_name("QUERY")
-        .help("The query, as //package:name or deps(//...)")
-        .required(true)
-        .action(ArgAction::Set);
-    let command = Command::new(alloc, "bq")
-        .version(VERSION)
-        .about("Answers a query over the targets of a workspace of BUILD files")
-        .override_usage(USAGE)
-        .after_help(NOTES);
-    with_options(alloc, command)?
-        .arg(directory)?
-        .arg(bundle)?
+    command
         .arg(queries)?
-        .arg(explain)?
-        .arg(query)
-}
-
-/// Adds the options with defaults.
-fn with_options<'a>(alloc: Global, command: Command<'a>) -> Result<Command<'a>, AllocError> {
-    let jobs = Arg::new(alloc, "jobs")
-        .long("jobs")
-        .value_name("N")
-        .help("Number of workers that load modules, 1 to 256")
-        .value_parser(value_parser!(u32).range(1..=MAX_JOBS as i64))
-        .default_value("4");
-    let output = Arg::new(alloc, "output")
-        .long("output")
-        .value_name("FORM")
-        .help("Output format of each target")
-        .value_parser(["label", "label_kind"].as_slice())
-        .default_value("label");
-    let max_steps = Arg::new(alloc, "max-steps")
-        .long("max-steps")
-        .value_name("N")
-        .help("Step limit for evaluating one module, 1 to 1000000000")
-        .value_parser(value_parser!(u64).range(1..=MAX_STEPS as i64))
-        .default_value("1000000");
-    command.arg(jobs)?.arg(output)?.arg(max_steps)
+        .arg(
+            Arg::new(alloc, "explain")
+                .long("explain")
+                .value_name("NUMBER")
+                .help("Explain a fault or error, as F47, Q5 or E4, and exit")
+                .action(ArgAction::Set)
+                .exclusive(true),
+        )?
+        .arg(
+            Arg::new(alloc, "query")
+                .value_name("QUERY")
+                .help("The query, as //package:name or deps(//...)")
+                .required(true)
+                .action(ArgAction::Set),
+        )
 }
 
 /// Where a workspace is.
