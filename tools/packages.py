@@ -187,8 +187,13 @@ def make_package(program, version, day, to):
             os.chmod(f"{root}/{path}", 0o755 if is_run(path, content) else 0o644)
         for path, target in LINKS.items():
             os.symlink(target, f"{root}/{path}")
+        moment = int(moment_of(day).timestamp())
+        # dpkg-deb moves back only what is later, and on the day itself noon may be to come
+        for at, folders, names in os.walk(root, topdown=False):
+            for path in (*folders, *names, "."):
+                os.utime(f"{at}/{path}", (moment, moment), follow_symlinks=False)
         command = ["dpkg-deb", "--root-owner-group", "-Zxz", "--build", root, to]
-        made = {**os.environ, "SOURCE_DATE_EPOCH": str(int(moment_of(day).timestamp()))}
+        made = {**os.environ, "SOURCE_DATE_EPOCH": str(moment)}
         ran = subprocess.run(command, env=made, capture_output=True, text=True, check=False)
         if ran.returncode:
             raise Refused(f"dpkg-deb didn't make the package: {ran.stderr.strip()}")
