@@ -12,7 +12,8 @@ from bq import BqError, RunError, facts, program_of
 from hint import labels
 from hint.near import did_you_mean
 from wrapper import words as relative
-from wrapper.kept import Failed, Kept
+from wrapper.kept import Kept
+from wrapper.overlay import Failed
 from wrapper.place import NoRoot, root_of
 from workspace import Unreadable
 
@@ -114,13 +115,21 @@ def write(lines, to):
 
 def run(main, words):
     """Runs a script, which is a function of what is asked, and writes the lines that it gives; gives the status."""
-    name = os.path.basename(sys.argv[0])
-    sys.setrecursionlimit(8000)
-    try:
+    def script(name):
         asked = Asked(words)
         write(main(asked), sys.stdout)
         write([f"{name}: {line}" for line in asked.told()], sys.stderr)
         return 3 if asked.faults else 0
+
+    return ended(script)
+
+
+def ended(script):
+    """Runs a script, and says in a sentence what it can't do; gives the status."""
+    name = os.path.basename(sys.argv[0])
+    sys.setrecursionlimit(8000)
+    try:
+        return script(name)
     except (BqError, Refused, NoRoot, relative.BadWord, Failed, Unreadable) as error:
         write([f"{name}: {error}"], sys.stderr)
         return STATUSES.get(error.number, 2) if isinstance(error, RunError) else 2
