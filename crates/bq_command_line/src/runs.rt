@@ -1,0 +1,186 @@
+//! Runs over bundles and directories, of one query and of many.
+
+ghost use Rattle.bq_run.specs.Run.{IsInRange};
+
+use crate::words::{Place, Words};
+use bq_label::Workspace;
+use bq_run::{
+    Metered, Options, RunErr, Status, read_bundle, run, run_files, status_code, write_status_line,
+};
+use bq_run_directory::{DirectoryErr, read_directory};
+use bq_run_session::{SessionStatus, run_queries, session_code};
+use std::alloc::Global;
+use std::fs::File;
+use std::io;
+use std::io::{BufReader, Read};
+use std::random::RandomSource;
+use std::sync::Wait;
+use std::thread::Threads;
+
+/// Opens a file to read it.
+fn open(rt: &HostRuntime, path: &str) -> Result<File, RunErr> {
+    match File::open(rt, path) {
+        Ok(file) => Ok(file),
+        Err(error) => match error.kind() {
+            io::ErrorKind::OutOfMemory => Err(RunErr::Memory),
+            _ => Err(RunErr::Read),
+        },
+    }
+}
+
+/// Reads the workspace of a directory.
+fn read_files(rt: &HostRuntime, directory: &str) -> Result<Workspace, RunErr> {
+    match read_directory(rt, directory) {
+        Ok(workspace) => Ok(workspace),
+        Err(DirectoryErr::Memory) => Err(RunErr::Memory),
+        Err(DirectoryErr::Read) => Err(RunErr::Read),
+        Err(DirectoryErr::TooManyFiles) => Err(RunErr::Bundle),
+    }
+}
+
+/// Runs over the bundle that a reader has, with threads of this handle.
+fn run_on_bundle<T: Threads + Wait + RandomSource + Sync, R: Read + Drop>(
+    rt: &HostRuntime,
+    threads: &T,
+    alloc: Global,
+    reader: R,
+    options: &Options,
+) -> Result<Status, RunErr>
+    requires { IsInRange options.now }
+{
+    let mut reader = Metered::new(reader);
+    let mut writer = Metered::new(rt.stdout());
+    let mut faults = Metered::new(rt.stderr());
+    run(
+        threads,
+        alloc,
+        &mut reader,
+        &mut writer,
+        &mut faults,
+        options,
+    )
+}
+
+/// Runs over the files of a directory, with threads of this handle.
+pub fn run_on_directory<T: Threads + Wait + RandomSource + Sync>(
+    rt: &HostRuntime,
+    threads: &T,
+    alloc: Global,
+    directory: &str,
+    options: &Options,
+) -> Result<Status, RunErr>
+    requires { IsInRange options.now }
+{
+    let workspace = read_files(rt, directory)?;
+    let mut writer = Metered::new(rt.stdout());
+    let mut faults = Metered::new(rt.stderr());
+    run_files(
+        threads,
+        alloc,
+        &workspace,
+        &mut writer,
+        &mut faults,
+        options,
+    )
+}
+
+/// Runs with the one query of the words.
+fn run_one<T: Threads + Wait + RandomSource + Sync>(
+    rt: &HostRuntime,
+    threads: &T,
+    alloc: Global,
+    words: &Words,
+) -> Result<Status, RunErr>
+    requires { IsInRange words.now.options }
+{
+    match words.place {
+        Place::Input => run_on_bundle(rt, threads, alloc, rt.stdin(), &words.options),
+        Place::Bundle(path) => {
+            let file = open(rt, path)?;
+            run_on_bundle(rt, threads, alloc, file, &words.options)
+        }
+        Place::Directory(path) => run_on_directory(rt, threads, alloc, path, &words.options),
+    }
+}
+
+/// Reads the workspace at a place.
+fn read_workspace(rt: &HostRuntime, alloc: Global, place: Place) -> Result<Workspace, RunErr> {
+    match place {
+        Place::Input => read_bundle(alloc, &mut Metered::new(rt.stdin())),
+        Place::Bundle(path) => {
+            let file = open(rt, path)?;
+            read_bundle(alloc, &mut Metered::new(file))
+        }
+        Place::Directory(path) => read_files(rt, path),
+    }
+}
+
+/// Answers the queries that a reader has, with threads of this handle.
+fn answer_queries<T: Threads + Wait + RandomSource + Sync, R: Read + Drop>(
+    rt: &HostRuntime,
+    threads: &T,
+    alloc: Global,
+    reader: R,
+    words: &Words,
+) -> Result<SessionStatus, RunErr>
+    requires { IsInRange words.now.options }
+{
+    let Ok(reader) = BufReader::new(alloc, reader) else {
+        return Err(RunErr::Memory);
+    };
+    let workspace = read_workspace(rt, alloc, words.place)?;
+    let mut queries = Metered::new(reader);
+    let mut writer = Metered::new(rt.stdout());
+    let mut faults = Metered::new(rt.stderr());
+    run_queries(
+        threads,
+        alloc,
+        &workspace,
+        &mut queries,
+        &mut writer,
+        &mut faults,
+        &words.options,
+    )
+}
+
+/// Runs with the queries of a file, or of standard input.
+pub fn run_many<T: Threads + Wait + RandomSource + Sync>(
+    rt: &HostRuntime,
+    threads: &T,
+    alloc: Global,
+    file: &str,
+    words: &Words,
+) -> Result<SessionStatus, RunErr>
+    requires { IsInRange words.now.options }
+{
+    if file == "-" {
+        return answer_queries(rt, threads, alloc, rt.stdin(), words);
+    }
+    let file = open(rt, file)?;
+    answer_queries(rt, threads, alloc, file, words)
+}
+
+/// Writes the error line, if there is one, and returns the exit status.
+fn end(rt: &HostRuntime, ended: &Result<Status, RunErr>) -> u8 {
+    let mut errors = Metered::new(rt.stderr());
+    let _ = write_status_line(&mut errors, ended);
+    status_code(ended)
+}
+
+/// Runs as the words say, and returns the exit status.
+pub fn answer<T: Threads + Wait + RandomSource + Sync>(
+    rt: &HostRuntime,
+    threads: &T,
+    alloc: Global,
+    words: &Words,
+) -> u8
+    requires { IsInRange words.now.options }
+{
+    match words.queries {
+        None => end(rt, &run_one(rt, threads, alloc, words)),
+        Some(file) => match run_many(rt, threads, alloc, file, words) {
+            Ok(status) => session_code(status),
+            Err(error) => end(rt, &Err(error)),
+        },
+    }
+}
