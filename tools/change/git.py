@@ -40,7 +40,7 @@ class Git:
             raise NoRevision(f"git can't be run: {error.strerror}") from None
         if ended.returncode:
             said = ended.stderr.decode("utf-8", "surrogateescape").strip().splitlines()
-            raise NoRevision(next((it for it in said if it.startswith(("fatal:", "error:"))), f"git {words[0]} has failed"))
+            raise NoRevision(next((it.partition(": ")[2] for it in said if it.startswith(("fatal: ", "error: "))), f"git {words[0]} has failed"))
         return ended.stdout
 
     def commit(self, revision):
@@ -87,6 +87,8 @@ class Git:
         found, at = {}, 0
         for name in names:
             end = text.index(b"\n", at)
+            if text[at:end].endswith(b" missing"):
+                raise NoRevision(f"the repository lacks the object {name}")
             size = int(text[at:end].rpartition(b" ")[2])
             found[name] = text[end + 1:end + 1 + size]
             at = end + size + 2
