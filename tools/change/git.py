@@ -29,7 +29,7 @@ class Git:
         self.environment = {**os.environ, "LC_ALL": "C", "GIT_OPTIONAL_LOCKS": "0"}
         if not os.path.isdir(folder):
             raise NoRevision(f"there is no directory {folder}")
-        self.prefix = self.run("rev-parse", "--show-prefix").decode("utf-8", "surrogateescape").removesuffix("\n")
+        self.prefix = self.text("rev-parse", "--show-prefix")
 
     def run(self, *words, given=b"", **environment):
         """What git writes."""
@@ -43,17 +43,23 @@ class Git:
             raise NoRevision(next((it.partition(": ")[2] for it in said if it.startswith(("fatal: ", "error: "))), f"git {words[0]} has failed"))
         return ended.stdout
 
+    def text(self, *words, **environment):
+        """The line that git writes."""
+        return self.run(*words, **environment).decode("utf-8", "surrogateescape").removesuffix("\n")
+
     def commit(self, revision):
         """The commit that a revision names."""
         try:
-            return self.run("rev-parse", "--verify", "--quiet", "--end-of-options", f"{revision}^{{commit}}").decode().strip()
+            if not revision.startswith("-"):
+                return self.text("rev-parse", "--verify", "--quiet", f"{revision}^{{commit}}")
         except NoRevision:
-            raise NoRevision(f"there is no revision {revision}") from None
+            pass
+        raise NoRevision(f"there is no revision {revision}")
 
     def base(self):
         """The last commit that this work has in common with the branch that is everyone's."""
         try:
-            return self.run("merge-base", "origin/HEAD", "HEAD").decode().strip()
+            return self.text("merge-base", "origin/HEAD", "HEAD")
         except NoRevision:
             raise NoRevision("there is no origin/HEAD to compare with: name a revision, as --base HEAD") from None
 
@@ -63,14 +69,13 @@ class Git:
         if self.prefix:
             whole = f"{whole.removesuffix('^{tree}')}:{self.prefix.rstrip('/')}"
         try:
-            return Tree(self, self.run("rev-parse", "--verify", "--quiet", whole).decode().strip())
+            return Tree(self, self.text("rev-parse", "--verify", "--quiet", whole))
         except NoRevision:
             return Tree(self, "")  # (the folder wasn't there yet)
 
     def kept(self):
         """The tree of all files as they lie there, whether or not they are committed."""
-        index, objects = (self.run("rev-parse", "--path-format=absolute", "--git-path", name).decode("utf-8", "surrogateescape").removesuffix("\n")
-                          for name in ("index", "objects"))
+        index, objects = (os.path.abspath(os.path.join(self.folder, self.text("rev-parse", "--git-path", name))) for name in ("index", "objects"))
         if os.path.exists(index):
             # (with its time, by which git knows what may have changed since it was written)
             shutil.copy2(index, f"{self.room}/index")
@@ -78,7 +83,7 @@ class Git:
         others = os.environ.get("GIT_ALTERNATE_OBJECT_DIRECTORIES", "")
         self.environment |= {"GIT_OBJECT_DIRECTORY": f"{self.room}/objects", "GIT_ALTERNATE_OBJECT_DIRECTORIES": f"{objects}:{others}".rstrip(":")}
         self.run("add", "--all", "--", ".", GIT_INDEX_FILE=f"{self.room}/index")
-        return self.run("write-tree", GIT_INDEX_FILE=f"{self.room}/index").decode().strip()
+        return self.text("write-tree", GIT_INDEX_FILE=f"{self.room}/index")
 
     def contents(self, names):
         """The contents of objects, by their names."""
