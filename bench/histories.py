@@ -31,6 +31,10 @@ MACRO = '''def service(name, deps = [], size = "small"):
 '''
 
 
+# of histories at random: the seed, whether another repository is needed, and how many changes there are
+SEEDS = ((1, False, 12), (2, False, 12), (3, True, 5))
+
+
 class Project:
     """A workspace in a repository of git, in a folder of the bench's room."""
 
@@ -223,7 +227,7 @@ class Maker:
 
 def at_random(bench):
     """Histories of a workspace that is read as it is, and of one with another repository."""
-    for seed, is_bare, steps in ((1, False, 12), (2, False, 12), (3, True, 5)):
+    for seed, is_bare, steps in SEEDS:
         made = Maker(seed, is_bare)
         project = Project(bench, f"history{seed}", made.files())
         for step in range(steps):

@@ -101,7 +101,8 @@ class Git:
 
 
 class Tree:
-    """The files of a folder in a revision, with links followed as `bq --dir` follows them, but only to what is in the folder itself."""
+    """The files of a folder in a revision, with links followed as `bq --dir` follows them, but only to what is in the folder itself: one that
+    leads out of it counts as a file, of which nothing is known but where it leads."""
 
     def __init__(self, git, name):
         self.git, self.entries, self.inside = git, {}, defaultdict(list)
@@ -118,25 +119,27 @@ class Tree:
         self.reals = self.found()
 
     def real(self, path):
-        """Where a path leads; nothing where it leads out of the folder, in a circle, or to nothing."""
-        done, left, count = [], path.split("/")[::-1], 0
+        """Where a path leads: to an entry, which is a link if that leads out of the folder; nothing where it leads in a circle, or to nothing."""
+        done, left, count, link = [], path.split("/")[::-1], 0, None
         while left:
             part = left.pop()
             if part in ("", "."):
                 continue
             if part == "..":
                 if not done:
-                    return None
+                    return link
                 done.pop()
                 continue
-            to = self.links.get("/".join([*done, part]))
-            if to is None:
+            at = "/".join([*done, part])
+            if at not in self.links:
                 done.append(part)
                 continue
-            count += 1
-            if count > MOST_LINKS or to.startswith("/"):
+            count, link = count + 1, at
+            if self.links[at].startswith("/"):
+                return link
+            if count > MOST_LINKS:
                 return None
-            left += to.split("/")[::-1]
+            left += self.links[at].split("/")[::-1]
         found = "/".join(done)
         return found if not found or found in self.entries else None
 
@@ -152,14 +155,12 @@ class Tree:
                 if is_left_out(path, name, lambda: at in self.links):
                     continue
                 real = self.real(at) if at in self.links else at
-                if real is None:
-                    if has_content(path):
-                        raise Unreadable(f"{path}: a link that leads out of the workspace, or to nothing")
-                    continue
-                mode = self.entries[real][0] if real else "040000"
+                mode = "" if real is None else self.entries[real][0] if real else "040000"
+                if has_content(path) and mode in ("", LINK):
+                    raise Unreadable(f"{path}: a link that leads out of the workspace, or to nothing")
                 if mode == "040000" and path not in without and real not in around:
                     pending.append((path, real, (*around, real)))
-                if mode.startswith("100"):
+                if mode.startswith("100") or mode == LINK:
                     found[path] = real
         return found
 
