@@ -300,6 +300,9 @@ def one_by_one(bench, project, check):
     check("a fault", ["--base", "HEAD", "--kind", "lib_test"], "//app:app_test\n", told(1, "", 5, 1) + fault("", ""), 3)
     check("all on a fault", ["--base", "HEAD", "--kind", "lib_test", "--all-on-fault"], "//app:app_test\n//lib:lib_test\n",
           told(1, "", 5, 2).replace("affected\n", "listed\n") + fault(", so all are listed", ", so all are listed"))
+    project.write("lib/BUILD", "")
+    check("a label that names no target", ["--base", "HEAD", "--kind", "lib_test"], "//app:app_test\n", told(2, "s", 4, 1) + fault("", "").splitlines(True)[0], 3)
+    check("such a label, allowed", ["--base", "HEAD", "--kind", "lib_test", "--allow-dangling"], "//app:app_test\n", told(2, "s", 4, 1))
 
 
 LOSSY = {
