@@ -31,6 +31,10 @@ MACRO = '''def service(name, deps = [], size = "small"):
 '''
 
 
+# of histories at random: the seed, whether another repository is needed, and how many changes there are
+SEEDS = ((1, False, 12), (2, False, 12), (3, True, 5))
+
+
 class Project:
     """A workspace in a repository of git, in a folder of the bench's room."""
 
@@ -122,11 +126,18 @@ def followed(project, base, head, overlays=()):
     changed |= {label for label, it in old.items() if label in new and any(dep not in new for dep in it.get("deps", ()))}
     if not changed:
         return [], old_whole and new_whole
-    repositories = sorted({label.partition("//")[0] for label in new})
-    words = " ".join(f'"{label}"' for label in sorted(changed))
-    everywhere = " + ".join(f"{it}//...:*" for it in repositories)
-    answer = bench.run(f"\"$BZLQ_BQ\" --bundle '{bundle}' --queries -", given=f"rdeps({everywhere}, set({words}))\n".encode())[0]
-    return answer.splitlines()[1:], old_whole and new_whole
+    return dependents(bench, bundle, sorted({label.partition("//")[0] for label in new}), sorted(changed)), old_whole and new_whole
+
+
+def dependents(bench, bundle, repositories, changed):
+    """What depends on these, by bq."""
+    everywhere, queries, found = " + ".join(f"{it}//...:*" for it in repositories), "", set()
+    for first in range(0, len(changed), 1000):
+        words = " ".join(f'"{label}"' for label in changed[first:first + 1000])
+        queries += f"rdeps({everywhere}, set({words}))\n"
+    for line in bench.run(f"\"$BZLQ_BQ\" --bundle '{bundle}' --queries -", given=queries.encode())[0].splitlines():
+        found |= {line} if not line.startswith("=== ") else set()
+    return sorted(found)
 
 
 def compared(project, what, exactly, words=(), base="HEAD~1", head="HEAD", overlays=()):
@@ -216,7 +227,7 @@ class Maker:
 
 def at_random(bench):
     """Histories of a workspace that is read as it is, and of one with another repository."""
-    for seed, is_bare, steps in ((1, False, 14), (2, False, 14), (3, True, 6)):
+    for seed, is_bare, steps in SEEDS:
         made = Maker(seed, is_bare)
         project = Project(bench, f"history{seed}", made.files())
         for step in range(steps):
@@ -289,6 +300,9 @@ def one_by_one(bench, project, check):
     check("a fault", ["--base", "HEAD", "--kind", "lib_test"], "//app:app_test\n", told(1, "", 5, 1) + fault("", ""), 3)
     check("all on a fault", ["--base", "HEAD", "--kind", "lib_test", "--all-on-fault"], "//app:app_test\n//lib:lib_test\n",
           told(1, "", 5, 2).replace("affected\n", "listed\n") + fault(", so all are listed", ", so all are listed"))
+    project.write("lib/BUILD", "")
+    check("a label that names no target", ["--base", "HEAD", "--kind", "lib_test"], "//app:app_test\n", told(2, "s", 4, 1) + fault("", "").splitlines(True)[0], 3)
+    check("such a label, allowed", ["--base", "HEAD", "--kind", "lib_test", "--allow-dangling"], "//app:app_test\n", told(2, "s", 4, 1))
 
 
 LOSSY = {

@@ -136,7 +136,10 @@ def ended(script):
     except BrokenPipeError:
         os._exit(5)
     except OSError as error:
-        write([f"{name}: {error.filename}: {error.strerror}"], sys.stderr)
+        write([f"{name}: " + ": ".join(filter(None, (error.filename and os.fsdecode(error.filename), error.strerror or str(error))))], sys.stderr)
+        return 2
+    except RecursionError:
+        write([f"{name}: a file nests too deep to be read here"], sys.stderr)
         return 2
     except KeyboardInterrupt:
         return 130

@@ -15,7 +15,7 @@ import textwrap
 from program import ROOT, Refused, bytes_of, text_of
 
 # the scripts that users run, and the module that they import
-SCRIPTS = ("bzlq", "hints", "stubs", "bundle", "bq.py")
+SCRIPTS = ("bzlq", "hints", "affected", "why", "graph", "loads", "users", "cycles", "unused", "stubs", "bundle", "bq.py")
 IMPORT = re.compile(r"^\s*from ([\w.]+) import ([\w, ]+)", re.M)
 PAGE_HEAD = re.compile(r'^(\.TH \w+ 1) "" "bq"', re.M)
 # the day of a release is noon in UTC

@@ -6,12 +6,14 @@ import stat
 import sys
 
 SCHEMA = "rules.schema"
+# how many directories are read; one that links lead to is read once for each way to it
+MAX_DIRECTORIES = 1_048_576
 ROOT_FILES = ("MODULE.bazel", "REPO.bazel", "WORKSPACE", "WORKSPACE.bazel")
 VALID = re.compile(r"[ -9;-\[\]-~]+")
 
 
 class Unreadable(Exception):
-    """What `bq` calls E2: a name that is not UTF-8, or a file or directory that is needed and can't be read."""
+    """What `bq` calls E2, a name that is not UTF-8, or a file or directory that is needed and can't be read; or too many directories, E4."""
 
 
 def refused(text):
@@ -106,8 +108,12 @@ def files(root):
     except OSError as error:
         raise Unreadable(f"{root}: {error.strerror}") from error
     pending = [("", ((first.st_dev, first.st_ino),))]
+    left = MAX_DIRECTORIES
     while pending:
         directory, around = pending.pop()
+        left -= 1
+        if left < 0:
+            raise Unreadable(f"{root} has more than {MAX_DIRECTORIES:,} directories, links followed")
         try:
             entries = os.listdir(os.path.join(root, directory) or ".")
         except OSError as error:

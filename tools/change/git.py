@@ -29,7 +29,7 @@ class Git:
         self.environment = {**os.environ, "LC_ALL": "C", "GIT_OPTIONAL_LOCKS": "0"}
         if not os.path.isdir(folder):
             raise NoRevision(f"there is no directory {folder}")
-        self.prefix = self.run("rev-parse", "--show-prefix").decode("utf-8", "surrogateescape").removesuffix("\n")
+        self.prefix = self.text("rev-parse", "--show-prefix")
 
     def run(self, *words, given=b"", **environment):
         """What git writes."""
@@ -40,20 +40,26 @@ class Git:
             raise NoRevision(f"git can't be run: {error.strerror}") from None
         if ended.returncode:
             said = ended.stderr.decode("utf-8", "surrogateescape").strip().splitlines()
-            raise NoRevision(next((it for it in said if it.startswith(("fatal:", "error:"))), f"git {words[0]} has failed"))
+            raise NoRevision(next((it.partition(": ")[2] for it in said if it.startswith(("fatal: ", "error: "))), f"git {words[0]} has failed"))
         return ended.stdout
+
+    def text(self, *words, **environment):
+        """The line that git writes."""
+        return self.run(*words, **environment).decode("utf-8", "surrogateescape").removesuffix("\n")
 
     def commit(self, revision):
         """The commit that a revision names."""
         try:
-            return self.run("rev-parse", "--verify", "--quiet", "--end-of-options", f"{revision}^{{commit}}").decode().strip()
+            if not revision.startswith("-"):
+                return self.text("rev-parse", "--verify", "--quiet", f"{revision}^{{commit}}")
         except NoRevision:
-            raise NoRevision(f"there is no revision {revision}") from None
+            pass
+        raise NoRevision(f"there is no revision {revision}")
 
     def base(self):
         """The last commit that this work has in common with the branch that is everyone's."""
         try:
-            return self.run("merge-base", "origin/HEAD", "HEAD").decode().strip()
+            return self.text("merge-base", "origin/HEAD", "HEAD")
         except NoRevision:
             raise NoRevision("there is no origin/HEAD to compare with: name a revision, as --base HEAD") from None
 
@@ -63,14 +69,13 @@ class Git:
         if self.prefix:
             whole = f"{whole.removesuffix('^{tree}')}:{self.prefix.rstrip('/')}"
         try:
-            return Tree(self, self.run("rev-parse", "--verify", "--quiet", whole).decode().strip())
+            return Tree(self, self.text("rev-parse", "--verify", "--quiet", whole))
         except NoRevision:
             return Tree(self, "")  # (the folder wasn't there yet)
 
     def kept(self):
         """The tree of all files as they lie there, whether or not they are committed."""
-        index, objects = (self.run("rev-parse", "--path-format=absolute", "--git-path", name).decode("utf-8", "surrogateescape").removesuffix("\n")
-                          for name in ("index", "objects"))
+        index, objects = (os.path.abspath(os.path.join(self.folder, self.text("rev-parse", "--git-path", name))) for name in ("index", "objects"))
         if os.path.exists(index):
             # (with its time, by which git knows what may have changed since it was written)
             shutil.copy2(index, f"{self.room}/index")
@@ -78,7 +83,7 @@ class Git:
         others = os.environ.get("GIT_ALTERNATE_OBJECT_DIRECTORIES", "")
         self.environment |= {"GIT_OBJECT_DIRECTORY": f"{self.room}/objects", "GIT_ALTERNATE_OBJECT_DIRECTORIES": f"{objects}:{others}".rstrip(":")}
         self.run("add", "--all", "--", ".", GIT_INDEX_FILE=f"{self.room}/index")
-        return self.run("write-tree", GIT_INDEX_FILE=f"{self.room}/index").decode().strip()
+        return self.text("write-tree", GIT_INDEX_FILE=f"{self.room}/index")
 
     def contents(self, names):
         """The contents of objects, by their names."""
@@ -87,6 +92,8 @@ class Git:
         found, at = {}, 0
         for name in names:
             end = text.index(b"\n", at)
+            if text[at:end].endswith(b" missing"):
+                raise NoRevision(f"the repository lacks the object {name}")
             size = int(text[at:end].rpartition(b" ")[2])
             found[name] = text[end + 1:end + 1 + size]
             at = end + size + 2
@@ -94,7 +101,8 @@ class Git:
 
 
 class Tree:
-    """The files of a folder in a revision, with links followed as `bq --dir` follows them, but only to what is in the folder itself."""
+    """The files of a folder in a revision, with links followed as `bq --dir` follows them, but only to what is in the folder itself: one that
+    leads out of it counts as a file, of which nothing is known but where it leads."""
 
     def __init__(self, git, name):
         self.git, self.entries, self.inside = git, {}, defaultdict(list)
@@ -111,25 +119,27 @@ class Tree:
         self.reals = self.found()
 
     def real(self, path):
-        """Where a path leads; nothing where it leads out of the folder, in a circle, or to nothing."""
-        done, left, count = [], path.split("/")[::-1], 0
+        """Where a path leads: to an entry, which is a link if that leads out of the folder; nothing where it leads in a circle, or to nothing."""
+        done, left, count, link = [], path.split("/")[::-1], 0, None
         while left:
             part = left.pop()
             if part in ("", "."):
                 continue
             if part == "..":
                 if not done:
-                    return None
+                    return link
                 done.pop()
                 continue
-            to = self.links.get("/".join([*done, part]))
-            if to is None:
+            at = "/".join([*done, part])
+            if at not in self.links:
                 done.append(part)
                 continue
-            count += 1
-            if count > MOST_LINKS or to.startswith("/"):
+            count, link = count + 1, at
+            if self.links[at].startswith("/"):
+                return link
+            if count > MOST_LINKS:
                 return None
-            left += to.split("/")[::-1]
+            left += self.links[at].split("/")[::-1]
         found = "/".join(done)
         return found if not found or found in self.entries else None
 
@@ -145,14 +155,12 @@ class Tree:
                 if is_left_out(path, name, lambda: at in self.links):
                     continue
                 real = self.real(at) if at in self.links else at
-                if real is None:
-                    if has_content(path):
-                        raise Unreadable(f"{path}: a link that leads out of the workspace, or to nothing")
-                    continue
-                mode = self.entries[real][0] if real else "040000"
+                mode = "" if real is None else self.entries[real][0] if real else "040000"
+                if has_content(path) and mode in ("", LINK):
+                    raise Unreadable(f"{path}: a link that leads out of the workspace, or to nothing")
                 if mode == "040000" and path not in without and real not in around:
                     pending.append((path, real, (*around, real)))
-                if mode.startswith("100"):
+                if mode.startswith("100") or mode == LINK:
                     found[path] = real
         return found
 

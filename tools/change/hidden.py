@@ -70,13 +70,12 @@ class Texts:
         if text is None:
             return None
         copied = self.side.overlay.get(path)
-        try:
-            body = parsed(text).body
-        except (SyntaxError, ValueError, RecursionError):
-            return None
         lines = [it.strip() for it in text.split(b"\n")]
         others = None if copied is None else [it.strip() for it in copied.split(b"\n")]
-        return [Statement(node, lines, others) for node in body if not is_comment(node)]
+        try:
+            return [Statement(node, lines, others) for node in parsed(text).body if not is_comment(node)]
+        except (SyntaxError, ValueError, RecursionError, MemoryError):
+            return None
 
     def is_lossy(self, path):
         """Whether the overlay has something else in the place of a part of this .bzl file."""
@@ -98,8 +97,8 @@ def hidden(base, head):
         if target.line:
             declared.setdefault(target.file, []).append(target)
     for path, targets in declared.items():
-        reasons = Package(path, closures.get(path, ()), changed, before, after).reasons()
-        found |= {target.label: reasons[target.line] for target in targets if target.line in reasons}
+        of_all, by_line = Package(path, closures.get(path, ()), changed, before, after).reasons()
+        found |= {target.label: of_all or by_line[target.line] for target in targets if of_all or target.line in by_line}
     return found
 
 
@@ -127,60 +126,59 @@ class Package:
     """A BUILD file of the head, with what it loads."""
 
     def __init__(self, path, loaded, changed, before, after):
-        self.path, self.before, self.after = path, before, after
+        self.path, self.loaded, self.before, self.after = path, loaded, before, after
         self.changed_loaded = [it for it in loaded if it in changed]
         self.is_changed = path in changed
-        self.statements = after.statements(path)
-        self.is_stubbed = any(STUB in after.side.overlay.get(it, b"") for it in loaded)
-        has_dict = any(texts.has_dict(it) for texts in (before, after) for it in loaded)
-        self.is_lossy = self.is_stubbed and has_dict or any(texts.is_lossy(it) for texts in (before, after) for it in loaded)
+
+    def is_lossy(self):
+        """Whether something is left out of a file that it loads, or by the stub of a rule."""
+        sides = (self.before, self.after)
+        is_stubbed = any(STUB in self.after.side.overlay.get(it, b"") for it in self.loaded)
+        return is_stubbed and any(side.has_dict(it) for side in sides for it in self.loaded) or any(side.is_lossy(it) for side in sides for it in self.loaded)
 
     def reasons(self):
-        """The reasons by the lines of the statements that declare targets."""
+        """The reason that counts for all targets, and those by the lines of the statements that declare some."""
         if not self.is_changed and not self.changed_loaded:
-            return {}
-        if self.statements is None:
-            return Always(f"{self.path}, which bq reads in another way than it stands there") if self.path in self.after.side.overlay else {}
-        said = [it.said for it in self.before.statements(self.path) or ()]
-        of_package = [[it.said for it in texts.statements(self.path) or () if function_of(it.node) == "package"] for texts in (self.before, self.after)]
-        if self.is_changed and of_package[0] != of_package[1]:
-            return Always("package(..)")
-        if self.changed_loaded and self.is_lossy:
-            return Always(f"{self.changed_loaded[0]}, of which bq leaves something out")
-        return {it.first: "its call, of which bq leaves something out" for it in self.touched(said) if self.can_hide(it)}
+            return "", {}
+        earlier, statements = self.before.statements(self.path), self.after.statements(self.path)
+        if statements is None:
+            return f"{self.path}, whose text can't be compared", {}
+        if self.is_changed and of_package(earlier) != of_package(statements):
+            return "package(..)", {}
+        is_lossy = self.is_lossy()
+        if self.changed_loaded and is_lossy:
+            return f"{self.changed_loaded[0]}, of which bq leaves something out", {}
+        reason, has_overlay = f"{self.path}, of which bq leaves something out", bool(self.after.side.overlay)
+        touched = self.touched(earlier or [], statements)
+        return "", {it.first: reason for it in touched if is_lossy or it.is_copied or it.has_dict and has_overlay}
 
-    def touched(self, said):
+    def touched(self, earlier, statements):
         """The statements that changed, or that name something that did."""
-        names = set()
+        before, after = {it.said for it in earlier}, {it.said for it in statements}
+        names = {name for it in earlier if it.said not in after for name in made_by(it)}
         if self.changed_loaded:
-            names = {name for it in self.statements if it.is_load for name in names_loaded(it.node)}
+            names |= {name for it in statements if it.is_load for name in made_by(it)}
         found, count = [], -1
         while count != len(found):
             count = len(found)
-            for it in self.statements:
-                if it not in found and (it.said not in said or not it.is_load and names & it.names):
+            for it in statements:
+                if it not in found and (it.said not in before or not it.is_load and names & it.names):
                     found.append(it)
-                    names |= names_loaded(it.node) if it.is_load else set(bound_by(it.node))
+                    names |= made_by(it)
         return found
 
-    def can_hide(self, statement):
-        return statement.is_copied or self.is_lossy or statement.has_dict and bool(self.after.side.overlay)
+
+def of_package(statements):
+    """What calls of `package` say."""
+    return [it.said for it in statements or () if function_of(it.node) == "package"]
 
 
-class Always(dict):
-    """The same reason for each line."""
-
-    def __init__(self, reason):
-        super().__init__()
-        self.reason = reason
-
-    def __contains__(self, line):
-        return True
-
-    def __getitem__(self, line):
-        return self.reason
-
-
-def names_loaded(node):
-    call = node.value
-    return {it.value for it in call.args[1:] if isinstance(it, ast.Constant)} | {it.arg for it in call.keywords}
+def made_by(statement):
+    """The names that a statement binds, or whose values it changes."""
+    match statement.node:
+        case ast.Expr(value=ast.Call(args=[_, *rest], keywords=named)) if statement.is_load:
+            return {it.value for it in rest if isinstance(it, ast.Constant)} | {it.arg for it in named}
+        case ast.Expr(value=ast.Call(func=ast.Attribute(value=ast.Name(id=name)))):
+            return {name}
+        case node:
+            return set(bound_by(node))

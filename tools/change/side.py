@@ -4,11 +4,14 @@ import re
 
 from bq import facts
 from workspace import ROOT_FILES, SCHEMA, has_content, parts
-from wrapper.overlay import make_bundle, make_overlay
+from wrapper.made import with_overlay
+from wrapper.overlay import make_bundle
 
 # a line that can't be in a bundle; in a copy too a space stands before it
 HEADER = re.compile(rb"^=== ", re.M)
 WARNING = "stubs: WARNING: "
+# what is said of a workspace without a WORKSPACE, and is no calls that declare nothing
+NO_ROOT = " has no WORKSPACE or MODULE.bazel"
 
 
 class Side:
@@ -28,18 +31,11 @@ class Side:
         if overlays:
             make_bundle([bundle, *overlays], f"{room}/both")
         elif SCHEMA in tree.reals:
-            make_bundle([bundle], f"{room}/both")
+            os.rename(bundle, f"{room}/both")
         else:
-            self.warnings = self.made(room, bundle, program)
+            said = with_overlay(bundle, program, f"{room}/both")
+            self.warnings = [it.removeprefix(WARNING) for it in said if it.startswith(WARNING) and NO_ROOT not in it]
         laid = parts(f"{room}/both")
         self.overlay = {path: text for path, text in laid.items() if text.rstrip(b"\n") != HEADER.sub(b" === ", self.texts.get(path, b"")).rstrip(b"\n")}
         with open(f"{room}/both", "rb") as given:
             self.facts = facts(given, program=program)
-
-    @staticmethod
-    def made(room, bundle, program):
-        """Makes the overlay and the bundle of both; gives the warnings."""
-        os.makedirs(f"{room}/new")
-        said = make_overlay(bundle, program, f"{room}/new")
-        make_bundle([bundle, f"{room}/new/overlay"], f"{room}/both")
-        return [it.removeprefix(WARNING) for it in said if it.startswith(WARNING) and not it.startswith(f"{WARNING}{bundle} ")]

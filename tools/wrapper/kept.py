@@ -16,9 +16,13 @@ from wrapper.fresh import print_of
 from wrapper.overlay import TOOLS, make_bundle, make_overlay
 
 
-def cache_of(root):
+def cache():
     base = os.environ.get("XDG_CACHE_HOME") or os.path.join(os.path.expanduser("~"), ".cache")
-    return os.path.join(base, "bzlq", hashlib.sha256(os.fsencode(root)).hexdigest()[:16])
+    return os.path.join(base, "bzlq")
+
+
+def cache_of(root):
+    return os.path.join(cache(), hashlib.sha256(os.fsencode(root)).hexdigest()[:16])
 
 
 def version():
@@ -98,12 +102,13 @@ class Kept:
         if os.path.isfile(os.path.join(self.root, SCHEMA)):
             os.makedirs(f"{new}/overlay")
             warnings = []
+            make_bundle([self.root], f"{new}/bundle")
         elif is_same:
             shutil.copytree(self.overlay, f"{new}/overlay")
+            make_bundle([self.root, f"{new}/overlay"], f"{new}/bundle")
         else:
             print("bzlq: reading the workspace", file=sys.stderr, flush=True)
             warnings = make_overlay(self.root, self.program, new)
-        make_bundle([self.root, f"{new}/overlay"], f"{new}/bundle")
         with open(f"{new}/state", "w", encoding="utf-8") as file:
             json.dump({**now, "warnings": warnings}, file)
         # (the state goes first and comes last: a run that is ended in between leaves none, and the next one makes all anew)

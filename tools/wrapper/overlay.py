@@ -13,7 +13,7 @@ class Failed(Exception):
 
 
 def make_overlay(root, program, new):
-    """Writes `overlay`, with a second round where macros name targets of repositories that aren't there; gives the warnings."""
+    """Writes `overlay` and `bundle`, with a second round where macros name targets of repositories that aren't there; gives the warnings."""
     words = [f"{TOOLS}/stubs", root, f"{new}/overlay"]
     warnings = run(words).splitlines()
     make_bundle([root, f"{new}/overlay"], f"{new}/bundle")
@@ -24,6 +24,7 @@ def make_overlay(root, program, new):
             file.write(faults)
         run([*words, "--faults", f"{new}/faults"])
         os.remove(f"{new}/faults")
+        make_bundle([root, f"{new}/overlay"], f"{new}/bundle")
     return warnings
 
 

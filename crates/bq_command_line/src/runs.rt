@@ -36,6 +36,7 @@ fn read_files(rt: &HostRuntime, directory: &str) -> Result<Workspace, RunErr> {
         Err(DirectoryErr::Memory) => Err(RunErr::Memory),
         Err(DirectoryErr::Read) => Err(RunErr::Read),
         Err(DirectoryErr::TooManyFiles) => Err(RunErr::Bundle),
+        Err(DirectoryErr::TooManyDirectories) => Err(RunErr::Bundle),
     }
 }
 

@@ -17,6 +17,9 @@ pub enum DirectoryErr {
     /// There are more files than a workspace may have.
     #[error("there are more files than a workspace may have")]
     TooManyFiles,
+    /// There are more directories than are read.
+    #[error("there are more directories than are read")]
+    TooManyDirectories,
 }
 
 impl From<AllocError> for DirectoryErr {

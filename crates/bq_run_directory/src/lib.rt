@@ -12,6 +12,8 @@
 //! - what is neither a file nor a directory, and each name that makes no valid path of a workspace;
 //! - `.git`, links named `bazel-..` at the root, and the directories that a file `.bazelignore` at the root names.
 //!
+//! At most 1,048,576 directories are read, so that links which lead to one another in very many ways end the walk, too.
+//!
 //! In reading order:
 //!
 //! - `directory_err`: why a directory makes no workspace;

@@ -55,7 +55,8 @@ What was written is a beginning of the text. Make room, and run it again.
 then the file's bytes (docs/FORMATS.md). Bytes before the first such line are
 refused, and so are a path that is not valid, comes twice or is a directory of
 another, more than 65,536 files, and more than 1,073,741,824 bytes. With `--dir`
-it says that the directory has more files than that.
+it says that the directory has more files than that, or more than 1,048,576
+directories; one that links lead to counts once for each way to it.
 
     $ echo 'filegroup(name = "x")' | bq //...
     bq: E4 Bundle

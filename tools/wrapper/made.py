@@ -1,0 +1,53 @@
+"""What tools/stubs makes of a bundle, kept in the cache: takes the file of a bundle, writes that of it with an overlay, gives the warnings.
+
+A folder for each bundle, by its sum and the version of the scripts. It is made beside and then renamed, so what is there is whole; those
+that were asked for last are kept.
+"""
+import contextlib
+import hashlib
+import os
+import shutil
+import tempfile
+
+from wrapper.kept import cache, version
+from wrapper.overlay import make_overlay
+
+MOST = 8
+
+
+def with_overlay(bundle, program, to):
+    """Writes the bundle with its overlay to a path, and gives the warnings."""
+    with open(bundle, "rb") as file:
+        key = hashlib.sha256(file.read() + version().encode()).hexdigest()[:32]
+    folder = os.path.join(cache(), "bundles")
+    place = os.path.join(folder, key)
+    os.makedirs(folder, mode=0o700, exist_ok=True)
+    if not os.path.isdir(place):
+        make(bundle, program, folder, place)
+    os.utime(place)
+    shutil.copy(f"{place}/bundle", to)
+    with open(f"{place}/warnings", encoding="utf-8") as file:
+        return file.read().splitlines()
+
+
+def make(bundle, program, folder, place):
+    new = tempfile.mkdtemp(prefix="new-", dir=folder)
+    try:
+        warnings = make_overlay(bundle, program, new)
+        with open(f"{new}/warnings", "w", encoding="utf-8") as file:
+            file.write("".join(f"{it}\n" for it in warnings))
+        shutil.rmtree(f"{new}/overlay")
+        # (another run may have been quicker)
+        with contextlib.suppress(OSError):
+            os.rename(new, place)
+    finally:
+        shutil.rmtree(new, ignore_errors=True)
+    remove_old(folder)
+
+
+def remove_old(folder):
+    """Removes those that were asked for longest ago."""
+    with os.scandir(folder) as entries:
+        found = sorted((entry for entry in entries if not entry.name.startswith("new-")), key=lambda it: it.stat().st_mtime)
+    for entry in found[:-MOST]:
+        shutil.rmtree(entry.path, ignore_errors=True)
