@@ -194,14 +194,14 @@ module _ (inputs : InputParts) (x : LoadingParts) (all : AllByRecursion IfAny x.
           subst (FailsIn inputs l) (sym i.fault) (FailsIn.of_loads is.0 front.code is.1 is.2 h (told_there kind k i))
 
       by_loaded_values : (vs : Result (List ModuleView) ℕ) → ((k : ℕ) → vs ≡ Err k → Has (row p m) k) → Holds (evaluated (means x m) vs)
-      by_loaded_values (Ok vs) failed = by_result (means x m vs) (means_fails vs)
-      by_loaded_values (Err k) failed = of_kind f.LoadFailed k refl (failed k refl)
+      by_loaded_values (Ok vs) unread = by_result (means x m vs) (means_fails vs)
+      by_loaded_values (Err k) unread = of_kind f.LoadFailed k refl (unread k refl)
 
       by_cases : (cyclic deep : Bool) (k d : ℕ) (vs : Result (List ModuleView) ℕ) → (cyclic ≡ true → Has (row p m) k) → (deep ≡ true → Has (row p m) d) → ((j : ℕ) → vs ≡ Err j → Has (row p m) j)
           → Holds (cond cyclic (o.Cyclic k) (cond deep (o.TooDeep d) (evaluated (means x m) vs)))
-      by_cases true deep k d vs cycle far failed = of_kind f.CycleReached k refl (cycle refl)
-      by_cases false true k d vs cycle far failed = of_kind f.LoadDepth d refl (far refl)
-      by_cases false false k d vs cycle far failed = by_loaded_values vs failed
+      by_cases true deep k d vs cycle far unread = of_kind f.CycleReached k refl (cycle refl)
+      by_cases false true k d vs cycle far unread = of_kind f.LoadDepth d refl (far refl)
+      by_cases false false k d vs cycle far unread = by_loaded_values vs unread
 
       with_code : Holds (outcome (means x) p m)
       unfolding by_loads
