@@ -3,6 +3,9 @@ the page of figures."""
 import collections
 import contextlib
 import datetime
+import functools
+import importlib.machinery
+import importlib.util
 import io
 import os
 import re
@@ -63,6 +66,15 @@ def processor_seconds():
     """What the programs took that this one started, and that have ended."""
     used = resource.getrusage(resource.RUSAGE_CHILDREN)
     return used.ru_utime + used.ru_stime
+
+
+@functools.cache
+def module_of(path):
+    """The module of a script, which has no .py in its name."""
+    loader = importlib.machinery.SourceFileLoader(os.path.basename(path), path)
+    module = importlib.util.module_from_spec(importlib.util.spec_from_loader(loader.name, loader))
+    loader.exec_module(module)
+    return module
 
 
 Run = collections.namedtuple("Run", "clock seconds peak answer")

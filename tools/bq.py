@@ -7,10 +7,12 @@
             print(label)
 
 A workspace is a directory or the file of a bundle. Its process is `bq --queries -`, which ends with the block, with `close`, or after a
-ProcessError. Several threads may ask; they are answered in turn. This file needs Python 3.10 or later, and no other file: copy it to where
-you want it. docs/TOOLS.md says more.
+ProcessError. Several threads may ask; they are answered in turn. `workspace.facts()`, or `facts(PLACE)` without such a process, has the
+targets with their attributes and direct dependencies, the modules with their loads, and the faults. This file needs Python 3.10 or later,
+and no other file: copy it to where you want it. docs/TOOLS.md says more.
 """
 import io
+import json
 import os
 import re
 import select
@@ -18,6 +20,8 @@ import signal
 import subprocess
 import threading
 import time
+from collections.abc import Iterable, Mapping, Sequence
+from dataclasses import dataclass, field
 
 HERE = os.path.dirname(os.path.realpath(__file__))
 # where the program is: built in the repository, unpacked there from dist/, beside the tools in a tarball, or installed with them
@@ -109,6 +113,17 @@ def bytes_of(query: str) -> bytes:
         raise BadQuery(f"a query is written as UTF-8, which has no bytes for {query[error.start]!r}") from None
 
 
+def ended_by(program: str, status: int, errors: list[str], word: str) -> ProcessError:
+    """What a process of bq ended with: by its status, and the lines that it wrote to standard error. `word` is the one that it was given."""
+    error = ERROR.fullmatch(errors[-1]) if errors else None
+    if error and error["number"].startswith("E"):
+        return RunError(error["number"], error["name"], error["detail"])
+    if any(f"'{word}'" in line for line in errors):
+        return ProcessError(f"{program} is too old: it has no {word}")
+    how = f"with status {status}" if status >= 0 else f"by signal {-status} ({signal.strsignal(-status)})"
+    return ProcessError(": ".join([f"bq has ended {how}", *errors[:1]]))
+
+
 def unblocked(pipe: object) -> io.FileIO:
     """A pipe, from now on one whose reads and writes don't wait."""
     assert isinstance(pipe, io.FileIO)
@@ -129,6 +144,18 @@ def divided(lines: list[str]) -> tuple[list[str], list[str]]:
     while first and FAULT.fullmatch(lines[first - 1]):
         first -= 1
     return lines[:first], lines[first:]
+
+
+def where_of(place: str) -> tuple[list[str], str | None]:
+    """The words that name a directory or a bundle, and the folder in which bq is run with them."""
+    if not os.path.exists(place):
+        raise ProcessError(f"there is no directory or bundle {place}")
+    return (["--dir", "."], place) if os.path.isdir(place) else (["--bundle", os.path.abspath(place)], None)
+
+
+def options_of(jobs: int | None, max_steps: int | None) -> list[str]:
+    given = {"--jobs": jobs, "--max-steps": max_steps}
+    return [f"{word}={value}" for word, value in given.items() if value is not None]
 
 
 class Deadline:
@@ -196,8 +223,8 @@ class Workspace:
         self.program, self.timeout = program_of(program), timeout
         self._lock, self._rest = threading.Lock(), b""
         self._gone: ProcessError | None = None
-        given = {"--output": output, "--jobs": jobs, "--max-steps": max_steps}
-        self._start([f"{word}={value}" for word, value in given.items() if value is not None], os.fspath(place))
+        self._place, self._options = os.fspath(place), options_of(jobs, max_steps)
+        self._start([f"--output={output}", *self._options])
         status, _ = self._answer(NOTHING, Deadline(load_timeout, "loaded the workspace"))
         lines = self._errors.lines()
         self.printed, self.faults = divided(lines) if status == b"3" else (lines, [])
@@ -223,6 +250,10 @@ class Workspace:
             self._lock.release()
         return [text_of(line) for line in lines]
 
+    def facts(self, query: str = "", timeout: float | None = None) -> "Facts":
+        """The facts behind a query, or behind all of the workspace, as it is now: they come from a run of their own."""
+        return run_facts(self.program, self._place, query, self._options, self.timeout if timeout is None else timeout)
+
     def close(self) -> None:
         """Ends the process. A query that another thread waits for ends with an error."""
         why = self._gone or ProcessError("the workspace is closed")
@@ -235,14 +266,11 @@ class Workspace:
         finally:
             self._lock.release()
 
-    def _start(self, options: list[str], place: str) -> None:
-        if not os.path.exists(place):
-            raise ProcessError(f"there is no directory or bundle {place}")
-        is_folder, pipe = os.path.isdir(place), subprocess.PIPE
-        where = ["--dir", "."] if is_folder else ["--bundle", os.path.abspath(place)]
-        command = [self.program, *options, *where, "--queries", "-"]
+    def _start(self, options: list[str]) -> None:
+        where, folder = where_of(self._place)
+        command, pipe = [self.program, *options, *where, "--queries", "-"], subprocess.PIPE
         try:
-            self._process = subprocess.Popen(command, cwd=place if is_folder else None, bufsize=0, stdin=pipe, stdout=pipe, stderr=pipe)
+            self._process = subprocess.Popen(command, cwd=folder, bufsize=0, stdin=pipe, stdout=pipe, stderr=pipe)
         except OSError as error:
             raise ProcessError(f"{error.filename or self.program}: {error.strerror}") from error
         self._input, self._output = unblocked(self._process.stdin), unblocked(self._process.stdout)
@@ -307,14 +335,7 @@ class Workspace:
             status = self._process.wait(PATIENCE)
         except subprocess.TimeoutExpired:
             return ProcessError("bq has closed its output")
-        lines = self._errors.lines()
-        error = ERROR.fullmatch(lines[-1]) if lines else None
-        if error:
-            return RunError(error["number"], error["name"], error["detail"])
-        if any("'--queries'" in line for line in lines):
-            return ProcessError(f"{self.program} is too old: it has no --queries")
-        how = f"with status {status}" if status >= 0 else f"by signal {-status} ({signal.strsignal(-status)})"
-        return ProcessError(": ".join([f"bq has ended {how}", *lines[:1]]))
+        return ended_by(self.program, status, self._errors.lines(), "--queries")
 
     def _end(self, why: ProcessError, patience: float = 0) -> None:
         """Ends the process, at once or as soon as it sees that there are no more queries; from then on each query has this error."""
@@ -327,3 +348,105 @@ class Workspace:
             self._process.wait()
         self._output.close()
         self._errors.close()
+
+
+@dataclass(frozen=True)
+class Target:
+    """A target. A source file has neither line nor attributes nor dependencies. The line is that of the statement which declares it."""
+
+    label: str
+    kind: str
+    file: str
+    line: int = 0
+    attributes: Mapping[str, str | int | bool | list[str]] = field(default_factory=dict)
+    deps: Sequence[str] = ()
+
+
+@dataclass(frozen=True)
+class Load:
+    """A load of a module: what it loads, its line, and the symbols by the names that they get."""
+
+    label: str
+    file: str
+    line: int
+    symbols: Mapping[str, str]
+
+
+@dataclass(frozen=True)
+class Module:
+    """A BUILD file, or a .bzl file that is loaded."""
+
+    label: str
+    file: str
+    loads: Sequence[Load]
+
+
+@dataclass(frozen=True)
+class Fault:
+    """A fault line."""
+
+    number: str
+    name: str
+    label: str
+    file: str
+    line: int
+    detail: str
+
+    def __str__(self) -> str:
+        return " ".join(filter(None, (f"{self.file}:{self.line}:", self.number, self.name, self.detail)))
+
+
+@dataclass(frozen=True)
+class Facts:
+    """What is behind an answer: the targets and the modules by their labels, in order, and the faults."""
+
+    targets: dict[str, Target] = field(default_factory=dict)
+    modules: dict[str, Module] = field(default_factory=dict)
+    faults: list[Fault] = field(default_factory=list)
+
+    @staticmethod
+    def of_lines(lines: Iterable[bytes]) -> "Facts":
+        """The facts that these lines of `bq --facts` tell."""
+        found = Facts()
+        for line in lines:
+            found.add(json.loads(line))
+        return found
+
+    def add(self, told: dict) -> None:
+        if "target" in told:
+            more = (told["line"], told["attributes"], told["deps"]) if "line" in told else ()
+            self.targets[told["target"]] = Target(told["target"], told["kind"], told["file"], *more)
+        elif "module" in told:
+            loads = [Load(it["label"], it["file"], it["line"], it["symbols"]) for it in told["loads"]]
+            self.modules[told["module"]] = Module(told["module"], told["file"], loads)
+        else:
+            self.faults.append(Fault(told["fault"], told["name"], told["label"], told["file"], told["line"], told["detail"]))
+
+
+def facts(place: str | os.PathLike[str] | io.BufferedReader, query: str = "", *, program: str = "", jobs: int | None = None,
+          max_steps: int | None = None, timeout: float | None = None) -> Facts:
+    """The facts behind a query, or behind all of the workspace: a directory, the file of a bundle, or a bundle that is open."""
+    return run_facts(program_of(program), place if isinstance(place, io.BufferedReader) else os.fspath(place), query,
+                     options_of(jobs, max_steps), timeout)
+
+
+def run_facts(program: str, place: str | io.BufferedReader, query: str, options: list[str], timeout: float | None) -> Facts:
+    """Runs `bq --facts`, and reads what it writes."""
+    stdin, (where, folder) = (place, ([], None)) if isinstance(place, io.BufferedReader) else (subprocess.DEVNULL, where_of(place))
+    command = [program, *options, *where, "--facts", *(["--", bytes_of(query)] if query else [])]
+    try:
+        ended = subprocess.run(command, cwd=folder, stdin=stdin, capture_output=True, timeout=timeout, check=False)
+    except subprocess.TimeoutExpired:
+        raise QueryTimeout(f"bq has not told the facts in {timeout} seconds") from None
+    except OSError as error:
+        raise ProcessError(f"{error.filename or program}: {error.strerror}") from error
+    if ended.returncode in (0, 3):
+        try:
+            return Facts.of_lines(ended.stdout.splitlines())
+        except (ValueError, KeyError, TypeError):
+            raise ProcessError(f"{program} doesn't tell facts as bq does") from None
+    errors = text_of(ended.stderr).removesuffix("\n").split("\n")
+    error = ERROR.fullmatch(errors[-1])
+    if error and error["number"].startswith("Q"):
+        raise QueryError(error["number"], error["name"], error["detail"])
+    raise ended_by(program, ended.returncode, errors, "--facts")

@@ -1,4 +1,5 @@
-"""The files of a workspace on disk, as `bq --dir` finds them (docs/FORMATS.md, "The directory")."""
+"""The files of a workspace: of a directory, as `bq --dir` finds them (docs/FORMATS.md, "The directory"), or of the file of a bundle."""
+import functools
 import os
 import re
 import stat
@@ -43,11 +44,16 @@ def ignored(root):
     """The directories that `.bazelignore` at the root names."""
     try:
         with open(os.path.join(root, ".bazelignore"), "rb") as file:
-            lines = file.read().split(b"\n")
+            text = file.read()
     except (FileNotFoundError, NotADirectoryError, IsADirectoryError):
         return set()
+    return ignored_in(text)
+
+
+def ignored_in(text):
+    """The directories that the text of a `.bazelignore` names."""
     found = set()
-    for line in lines:
+    for line in text.split(b"\n"):
         path = line.strip(b" \t\r\f\v").removeprefix(b"./").removesuffix(b"/")
         if path and not path.startswith(b"#"):
             found.add(path.decode("utf-8", "replace"))
@@ -71,13 +77,29 @@ def what_is(place, path):
         return None
 
 
-def is_left_out(place, path, name):
-    is_output_link = "/" not in path and name.startswith("bazel-") and os.path.islink(place)
-    return not is_path(path) or name == ".git" or is_output_link
+def is_left_out(path, name, is_link):
+    """Whether a run doesn't look at an entry; `is_link` says whether it is a link."""
+    return not is_path(path) or name == ".git" or "/" not in path and name.startswith("bazel-") and is_link()
+
+
+def parts(path):
+    """The files of a bundle with their bytes, in order."""
+    entry = os.stat(path)
+    return parts_then(path, entry.st_ino, entry.st_size, entry.st_mtime_ns)
+
+
+@functools.lru_cache(maxsize=4)
+def parts_then(path, *_):
+    with open(path, "rb") as file:
+        found = re.split(rb"^=== ([^\n]*)\n", file.read(), flags=re.M)
+    return {name.decode("utf-8", "replace"): text for name, text in zip(found[1::2], found[2::2])}
 
 
 def files(root):
-    """The paths of the files in a directory and below it, in the order in which they are found."""
+    """The paths of the files in a directory and below it, in the order in which they are found; or of those in a bundle."""
+    if os.path.isfile(root):
+        yield from parts(root)
+        return
     without = ignored(root)
     try:
         first = os.stat(root)
@@ -94,7 +116,7 @@ def files(root):
             name = name_of(entry)
             path = f"{directory}/{name}" if directory else name
             place = os.path.join(root, path)
-            if is_left_out(place, path, name):
+            if is_left_out(path, name, lambda: os.path.islink(place)):
                 continue
             found = what_is(place, path)
             if found is None:
@@ -108,6 +130,8 @@ def files(root):
 
 def content(root, path):
     """The bytes of a file."""
+    if os.path.isfile(root):
+        return parts(root)[path]
     try:
         with open(os.path.join(root, path), "rb") as file:
             return file.read()

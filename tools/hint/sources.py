@@ -5,7 +5,7 @@ import re
 import warnings
 
 from hint import labels
-from workspace import SCHEMA, content, files
+from workspace import SCHEMA, content, files, parts
 
 STANDARD = {
     "filegroup": {"srcs": "label_list", "data": "label_list", "output_group": "string"},
@@ -45,9 +45,7 @@ class Sources:
     @staticmethod
     def of_bundle(path, place=lambda name: name):
         """The files of a bundle."""
-        with open(path, "rb") as file:
-            parts = re.split(rb"^=== ([^\n]*)\n", file.read(), flags=re.M)
-        found = {name.decode("utf-8", "replace"): text for name, text in zip(parts[1::2], parts[2::2])}
+        found = parts(path)
         return Sources(found, lambda name: found[name], place)
 
     def text(self, path):

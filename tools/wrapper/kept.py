@@ -8,19 +8,12 @@ import fcntl
 import hashlib
 import json
 import os
-import re
 import shutil
-import subprocess
 import sys
 
-from wrapper.fresh import print_of
 from workspace import SCHEMA
-
-TOOLS = os.path.dirname(os.path.dirname(os.path.realpath(__file__)))
-
-
-class Failed(Exception):
-    """The overlay or the bundle could not be made; the message says why."""
+from wrapper.fresh import print_of
+from wrapper.overlay import TOOLS, make_bundle, make_overlay
 
 
 def cache_of(root):
@@ -108,8 +101,9 @@ class Kept:
         elif is_same:
             shutil.copytree(self.overlay, f"{new}/overlay")
         else:
-            warnings = self.make_overlay(new)
-        self.bundle(f"{new}/overlay", f"{new}/bundle")
+            print("bzlq: reading the workspace", file=sys.stderr, flush=True)
+            warnings = make_overlay(self.root, self.program, new)
+        make_bundle([self.root, f"{new}/overlay"], f"{new}/bundle")
         with open(f"{new}/state", "w", encoding="utf-8") as file:
             json.dump({**now, "warnings": warnings}, file)
         # (the state goes first and comes last: a run that is ended in between leaves none, and the next one makes all anew)
@@ -120,30 +114,3 @@ class Kept:
         for name in ("overlay", "bundle", "state"):
             os.rename(f"{new}/{name}", self.path(name))
         os.rmdir(new)
-
-    def make_overlay(self, new):
-        """The overlay, with a second round where macros name targets of repositories that aren't there; gives the warnings."""
-        print("bzlq: reading the workspace", file=sys.stderr, flush=True)
-        words = [f"{TOOLS}/stubs", self.root, f"{new}/overlay"]
-        warnings = self.run(words).splitlines()
-        self.bundle(f"{new}/overlay", f"{new}/bundle")
-        with open(f"{new}/bundle", "rb") as bundle:
-            faults = subprocess.run([self.program, "//..."], stdin=bundle, stdout=subprocess.DEVNULL, stderr=subprocess.PIPE, check=False).stderr
-        if re.search(rb" F79 DanglingLabel @", faults):
-            with open(f"{new}/faults", "wb") as file:
-                file.write(faults)
-            self.run([*words, "--faults", f"{new}/faults"])
-            os.remove(f"{new}/faults")
-        return warnings
-
-    def bundle(self, overlay, path):
-        with open(path, "wb") as file:
-            self.run([f"{TOOLS}/bundle", self.root, overlay], file)
-
-    def run(self, words, output=subprocess.DEVNULL):
-        """What a script writes to standard error."""
-        ended = subprocess.run([sys.executable, *words], stdout=output, stderr=subprocess.PIPE, check=False)
-        text = ended.stderr.decode("utf-8", "replace")
-        if ended.returncode != 0:
-            raise Failed(text.strip() or f"{words[0]} ended with status {ended.returncode}")
-        return text

@@ -10,11 +10,11 @@ use Rattle.bq_board.specs.Graph.{Loads, edges, IsGraph}
 use Rattle.bq_board.specs.Plan.{source, Into}
 use Rattle.bq_board.specs.declared.view.View.{View}
 
--- the word of a module: 0 free, 1 claimed
+-- the index of a module's word, which is 0 while the module is free and 1 once it is claimed
 abbrev pub module_word : ℕ → ℕ
 module_word m = 1 + m
 
--- the word of an edge: 0 empty, 3 being filled, 1 posted, 2 fetched
+-- the index of an edge's word, which is 0 while the edge is empty, 3 while it is being filled, 1 once it is posted and 2 once it is fetched
 abbrev pub edge_word : Loads → ℕ → ℕ
 edge_word p e = 1 + length p + e
 

@@ -4,7 +4,7 @@ ghost use Rattle.std.specs.Prelude.{◌≡◌, ◌++◌, IfOk, OnOk};
 ghost use Rattle.bq_source.specs.StringLiteral.{quoted, quoted_byte};
 ghost use Rattle.bq_value.specs.Cells.{frozen};
 ghost use Rattle.bq_builtin_machine.specs.State.{stop_at};
-ghost use Rattle.bq_eval_rules.specs.Slots.{slots_of};
+ghost use Rattle.bq_eval_frame.specs.Slots.{slots_of};
 ghost use Rattle.bq_eval.specs.Module.{values_from, frozen_values, evaluated, failed, detail_of, fault_of};
 ghost use Rattle.bq_eval.specs.Outcomes.{ended_of};
 
@@ -12,7 +12,7 @@ use crate::module::ResolvedModule;
 use crate::outcome::FileOutcome;
 use bq_base::{Bytes, Fault, FaultKind};
 use bq_builtin_machine::Machine;
-use bq_eval_rules::Frame;
+use bq_eval_frame::Frame;
 use bq_value::{Value, freeze};
 use std::alloc::{AllocError, Global};
 

@@ -1,12 +1,12 @@
 //! What a file has before its first statement runs.
 
 ghost use Rattle.std.specs.Prelude.{◌≡◌, IfOk, OnOk};
+ghost use Rattle.bq_eval_frame.specs.Slots.{slots_of};
 ghost use Rattle.bq_eval_rules.specs.Round.{views_of};
-ghost use Rattle.bq_eval_rules.specs.Slots.{slots_of};
 ghost use Rattle.bq_eval_meaning_spec.specs.Module as meaning;
 ghost use Rattle.bq_eval.specs.Module.{first_store};
 
-use bq_eval_rules::Frame;
+use bq_eval_frame::Frame;
 use bq_resolve_scope::{LoadStmt, LoadedSymbol};
 use bq_value::{Frozen, Store, Value};
 use bq_value_seed::Seed;

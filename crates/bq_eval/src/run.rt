@@ -1,20 +1,21 @@
 //! The statements of a file.
 
 ghost use Rattle.std.specs.Prelude.{◌≡◌};
+ghost use Rattle.bq_eval_frame.specs.Slots.{slots_of};
 ghost use Rattle.bq_eval_rules.specs.Acts.{Acts};
-ghost use Rattle.bq_eval_rules.specs.Slots.{slots_of};
 ghost use Rattle.bq_eval.specs.Outcomes.{file_run, program_run};
 
 use crate::loads::first_globals;
 use crate::module::ResolvedModule;
 use bq_builtin_machine::MAX_ACTIVE;
-use bq_eval_rules::{Context, Frame, Globals, Program, Runtime, run_file};
+use bq_eval_frame::Frame;
+use bq_eval_rules::{Context, Globals, Program, Runtime, run_file};
 use bq_resolve_scope::{CodeTopLevel, LoadStmt};
 use bq_value::EvalErr;
 use std::alloc::Global;
 
 /// Runs statements, and returns their globals as those of one of the modules of a program.
-#[tactic(auto, using(bq_eval_rules::proofs::Slots::none_filled), unfolding(crate::specs::Outcomes::program_run, bq_eval_meaning_spec::specs::Module::eval_top, bq_eval_meaning_spec::specs::Calls::max_active, bq_eval_rules::specs::Round::evals, bq_eval_rules::specs::Round::outside_functions, bq_eval_rules::specs::Round::units_at))]
+#[tactic(auto, using(bq_eval_frame::proofs::Slots::none_filled), unfolding(crate::specs::Outcomes::program_run, bq_eval_meaning_spec::specs::Module::eval_top, bq_eval_meaning_spec::specs::Calls::max_active, bq_eval_rules::specs::Round::evals, bq_eval_rules::specs::Round::outside_functions, bq_eval_rules::specs::Round::units_at))]
 fn run_program<'f, R: Runtime>(
     alloc: Global,
     program: &Program<'_>,

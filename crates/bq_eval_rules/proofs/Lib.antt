@@ -1,7 +1,4 @@
 pub mod Depth
-pub mod SparsePairs
-pub mod SparseSearch
-pub mod Slots
 pub mod Layers
 pub mod Reversed
 pub mod Following

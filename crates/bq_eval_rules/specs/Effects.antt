@@ -10,10 +10,10 @@ use Rattle.bq_eval_meaning_spec.specs.Frame.{Frame}
 use Rattle.bq_eval_meaning_spec.specs.Primitives.{Primitives}
 use Rattle.bq_eval_meaning_spec.specs.Statements.{Exec}
 use Rattle.bq_eval_meaning_spec.specs.Targets.{Places}
+use Rattle.bq_eval_frame.specs.Slots.{Slots, slots_of}
 use Rattle.bq_eval_rules.specs.declared.flow.Flow as flows
 use Rattle.bq_eval_rules.specs.Acts.{Acts}
 use Rattle.bq_eval_rules.specs.Flows.{flow_of}
-use Rattle.bq_eval_rules.specs.Slots.{Slots, slots_of}
 
 module _ {R S : Type 0} (m : Primitives S) (seen : R → S) where
   -- the call returns what the action gives

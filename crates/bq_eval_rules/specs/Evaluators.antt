@@ -9,11 +9,11 @@ use Rattle.bq_builtin_machine.specs.Action.{Action}
 use Rattle.bq_eval_meaning_spec.specs.Frame.{Frame, Surroundings}
 use Rattle.bq_eval_meaning_spec.specs.Primitives.{Primitives}
 use Rattle.bq_eval_meaning_spec.specs.Trees.{Eval, Calls}
+use Rattle.bq_eval_frame.specs.Slots.{Slots, slots_of}
 use Rattle.bq_eval_rules.specs.declared.context.Context.{Context}
 use Rattle.bq_eval_rules.specs.declared.evaluator.Evaluator.{Evaluator}
 use Rattle.bq_eval_rules.specs.Nests.{Nests, nested}
 use Rattle.bq_eval_rules.specs.Round.{inside, round_of}
-use Rattle.bq_eval_rules.specs.Slots.{Slots, slots_of}
 
 module _ {R C F : Type 0} where
   -- what an expression inside means

@@ -6,9 +6,9 @@ use Rattle.bq_builtin_machine.specs.Action.{Action}
 use Rattle.bq_eval_meaning_spec.specs.Frame.{Frame}
 use Rattle.bq_eval_meaning_spec.specs.Calls.{Filling}
 use Rattle.bq_eval_meaning_spec.specs.Primitives.{Primitives}
+use Rattle.bq_eval_frame.specs.Slots.{Slots, slots_of}
 use Rattle.bq_eval_rules.specs.declared.filling.Filling as code
 use Rattle.bq_eval_rules.specs.Acts.{Acts}
-use Rattle.bq_eval_rules.specs.Slots.{Slots, slots_of}
 
 abbrev pub filling_of : code.Filling → Frame → Filling
 filling_of x frame = record { values = x.values.now; defaults = x.defaults.now; rest = tuple (data_of x.rest.now); keywords = x.keywords.now; frame = frame }

@@ -1,6 +1,4 @@
 pub mod Acts
-pub mod Sparse
-pub mod Slots
 pub mod Round
 pub mod Operands
 pub mod Nests

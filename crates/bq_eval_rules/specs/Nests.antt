@@ -8,9 +8,9 @@ use Rattle.bq_builtin_machine.specs.Args.{Passed}
 use Rattle.bq_eval_meaning_spec.specs.Primitives.{Primitives}
 use Rattle.bq_eval_meaning_spec.specs.Trees.{Eval}
 use Rattle.bq_eval_meaning_spec.specs.Expressions.{expr_to}
+use Rattle.bq_eval_frame.specs.Slots.{Slots, slots_of}
 use Rattle.bq_eval_rules.specs.declared.context.Context.{Context}
 use Rattle.bq_eval_rules.specs.Acts.{Acts}
-use Rattle.bq_eval_rules.specs.Slots.{Slots, slots_of}
 use Rattle.bq_eval_rules.specs.Round.{round_of, inside}
 
 -- what an expression inside means, to a depth

@@ -12,11 +12,11 @@ use Rattle.bq_eval_meaning_spec.specs.Expressions.{expr_to}
 use Rattle.bq_eval_meaning_spec.specs.Calls.{Units, calls}
 use Rattle.bq_eval_meaning_spec.specs.Statements.{Exec, run_in}
 use Rattle.bq_eval_meaning_spec.specs.Module.{Own, own_round, with_own, frozen_units}
+use Rattle.bq_eval_frame.specs.Slots.{slots_of}
 use Rattle.bq_eval_rules.specs.declared.context.Globals.{Globals}
 use Rattle.bq_eval_rules.specs.declared.context.Globals.TheVariants as g
 use Rattle.bq_eval_rules.specs.declared.context.Program.{Program}
 use Rattle.bq_eval_rules.specs.declared.context.Context.{Context}
-use Rattle.bq_eval_rules.specs.Slots.{slots_of}
 
 unfoldable pub globals_of : Globals → Frame
 globals_of g.Absent = empty

@@ -9,12 +9,12 @@ use Rattle.bq_builtin_machine.specs.Action.{done, ◌>>=◌}
 use Rattle.bq_eval_meaning_spec.specs.Primitives.{Primitives}
 use Rattle.bq_eval_meaning_spec.specs.Statements.{Exec, run_to, turns}
 use Rattle.bq_eval_meaning_spec.specs.Trees.{Eval}
+use Rattle.bq_eval_frame.specs.Slots.{Slots}
 use Rattle.bq_eval_rules.specs.declared.context.Context.{Context}
 use Rattle.bq_eval_rules.specs.declared.flow.Flow as flows
 use Rattle.bq_eval_rules.specs.declared.statements.Runner.{Runner}
 use Rattle.bq_eval_rules.specs.Readers.{evals_of}
 use Rattle.bq_eval_rules.specs.Runs.{Runs}
-use Rattle.bq_eval_rules.specs.Slots.{Slots}
 
 module _ {R C G : Type 0} where
   -- what a statement inside means

@@ -5,11 +5,11 @@ use Rattle.bq_resolve_scope.specs.declared.code.CodeStmt.{CodeStmt}
 use Rattle.bq_value.specs.declared.error.EvalErr.{EvalErr}
 use Rattle.bq_eval_meaning_spec.specs.Primitives.{Primitives}
 use Rattle.bq_eval_meaning_spec.specs.Statements.{run_to}
+use Rattle.bq_eval_frame.specs.Slots.{Slots, slots_of}
 use Rattle.bq_eval_rules.specs.declared.context.Context.{Context}
 use Rattle.bq_eval_rules.specs.declared.flow.Flow as flows
 use Rattle.bq_eval_rules.specs.Acts.{Acts}
 use Rattle.bq_eval_rules.specs.Flows.{flow_of}
-use Rattle.bq_eval_rules.specs.Slots.{Slots, slots_of}
 use Rattle.bq_eval_rules.specs.Round.{evals}
 
 pub record Runs {R S C : Type 0} (m : Primitives S) (seen : R → S) (bound depth : ℕ) (call : C)

@@ -2,9 +2,9 @@
 
 ghost use Rattle.std.specs.Prelude.{◌≡◌};
 ghost use Rattle.bq_eval_meaning_spec.specs.Calls as meaning;
+ghost use Rattle.bq_eval_frame.specs.Slots.{slots_of};
 ghost use Rattle.bq_eval_rules.specs.Acts.{Acts};
 ghost use Rattle.bq_eval_rules.specs.CodeUnits.{unit_of};
-ghost use Rattle.bq_eval_rules.specs.Slots.{slots_of};
 ghost use Rattle.bq_eval_rules.specs.Round.{inside};
 ghost use Rattle.bq_eval_rules.specs.Effects.{Returns};
 ghost use Rattle.bq_eval_rules.specs.ContextCalls.{body_here, call_here, call_place};
@@ -13,13 +13,13 @@ use crate::context::Context;
 use crate::direct::{are_plain, plain_frame};
 use crate::filling::{Filling, fill_parameters};
 use crate::flow::answered;
-use crate::frame::Frame;
 use crate::parameters::{bind_args, has_star_star, keywords_of};
 use crate::runtime::Runtime;
 use crate::statements::run_block;
 use crate::units::{CodeUnit, unit_at};
 use bq_base::FaultKind;
 use bq_builtin_machine::{Args, Bound};
+use bq_eval_frame::Frame;
 use bq_resolve_predeclared::{HostFunction, Predeclared};
 use bq_resolve_scope::CodeFunction;
 use bq_value::{EvalErr, Function, Node, Value};
@@ -46,7 +46,7 @@ pub fn entry<'f, R: Runtime>(
 }
 
 /// Returns the frame with which a function begins, by binding the arguments to its parameters.
-#[tactic(auto, using(crate::proofs::CallSteps::given_acts, crate::proofs::Slots::none_filled), unfolding(bq_eval_meaning_spec::specs::Calls::entry))]
+#[tactic(auto, using(crate::proofs::CallSteps::given_acts, bq_eval_frame::proofs::Slots::none_filled), unfolding(bq_eval_meaning_spec::specs::Calls::entry))]
 fn bound_entry<'f, R: Runtime>(
     alloc: Global,
     runtime: &mut R,

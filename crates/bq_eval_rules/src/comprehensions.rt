@@ -4,8 +4,8 @@ ghost use Rattle.std.specs.Prelude.{◌≡◌, []};
 ghost use Rattle.bq_value.specs.Contents.{items, pairs};
 ghost use Rattle.bq_builtin_machine.specs.Action.{pure, ◌>>=◌ as and_then};
 ghost use Rattle.bq_eval_meaning_spec.specs.Comprehensions as meaning;
+ghost use Rattle.bq_eval_frame.specs.Slots.{slots_of};
 ghost use Rattle.bq_eval_rules.specs.Acts.{Acts};
-ghost use Rattle.bq_eval_rules.specs.Slots.{slots_of};
 ghost use Rattle.bq_eval_rules.specs.OpenLoops.{loop_of, opening};
 ghost use Rattle.bq_eval_rules.specs.Effects.{Returns, Produces, Collects};
 ghost use Rattle.bq_eval_rules.specs.Evaluators.{EvaluatesInside, evals_in, frame_of};
@@ -13,10 +13,10 @@ ghost use Rattle.bq_eval_rules.specs.ComprehensionClauses.{element_in, clauses_i
 
 use crate::context::Context;
 use crate::evaluator::Evaluator;
-use crate::frame::Frame;
 use crate::open_loop::OpenLoop;
 use crate::runtime::Runtime;
 use crate::targets::begin_turn;
+use bq_eval_frame::Frame;
 use bq_resolve_scope::{Code, CodeClause, CodePair, CodeTarget};
 use bq_value::{Content, Dict, EvalErr, Value};
 use std::marker::PhantomData;

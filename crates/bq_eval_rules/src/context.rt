@@ -3,7 +3,7 @@
 ghost use Rattle.std.specs.Prelude.{◌≡◌, option_copied};
 ghost use Rattle.bq_eval_rules.specs.Round.{globals_of};
 
-use crate::frame::Frame;
+use bq_eval_frame::Frame;
 use bq_resolve_scope::{CodeFunction, Resolved};
 use bq_value::{Frozen, Value};
 use std::alloc::Global;

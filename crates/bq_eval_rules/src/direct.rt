@@ -2,10 +2,10 @@
 
 ghost use Rattle.std.specs.Prelude.{◌≡◌, IfOk};
 ghost use Rattle.bq_eval_meaning_spec.specs.Frame.{empty};
+ghost use Rattle.bq_eval_frame.specs.Slots.{slots_of};
 ghost use Rattle.bq_eval_rules.specs.Direct.{are_plain, filled};
-ghost use Rattle.bq_eval_rules.specs.Slots.{slots_of};
 
-use crate::frame::Frame;
+use bq_eval_frame::Frame;
 use bq_resolve_scope::CodeParameter;
 use bq_value::Value;
 use std::alloc::{AllocError, Global};
@@ -24,7 +24,7 @@ pub fn are_plain(parameters: &[CodeParameter]) -> bool
 }
 
 /// Returns a frame with room for `slots` slots in which these plain parameters hold `values`, one each.
-#[tactic(auto, using(crate::proofs::Slots::none_filled), unfolding(crate::specs::Direct::filled))]
+#[tactic(auto, using(bq_eval_frame::proofs::Slots::none_filled), unfolding(crate::specs::Direct::filled))]
 pub fn plain_frame<'f>(
     alloc: Global,
     slots: usize,

@@ -8,8 +8,8 @@ ghost use Rattle.bq_eval_rules.specs.Evaluators.{EvaluatesInside, evals_in, fram
 
 use crate::context::Context;
 use crate::evaluator::Evaluator;
-use crate::frame::Frame;
 use crate::runtime::Runtime;
+use bq_eval_frame::Frame;
 use bq_resolve_scope::{Code, CodePair};
 use bq_value::{Content, Dict, EvalErr, Value};
 

@@ -10,9 +10,9 @@ ghost use Rattle.bq_eval_rules.specs.Effects.{Returns};
 ghost use Rattle.bq_eval_rules.specs.Evaluators.{EvaluatesInside, value_inside};
 
 use crate::context::Context;
-use crate::frame::Frame;
 use crate::operand::{Operand, use_of};
 use crate::runtime::Runtime;
+use bq_eval_frame::Frame;
 use bq_resolve_scope::Code;
 use bq_value::{EvalErr, Value};
 use std::marker::PhantomData;

@@ -2,18 +2,18 @@
 
 ghost use Rattle.std.specs.Prelude.{◌≡◌};
 ghost use Rattle.bq_eval_meaning_spec.specs.Expressions as meaning;
-ghost use Rattle.bq_eval_rules.specs.Slots.{slots_of};
+ghost use Rattle.bq_eval_frame.specs.Slots.{slots_of};
 ghost use Rattle.bq_eval_rules.specs.Nests.{nested, AnswersCalls};
 ghost use Rattle.bq_eval_rules.specs.Effects.{Returns};
 ghost use Rattle.bq_eval_rules.specs.Evaluators.{EvaluatesInside, evals_in, calls_in, round_in, frame_of};
 
 use crate::context::Context;
 use crate::evaluator::Evaluator;
-use crate::frame::Frame;
 use crate::operand::use_of;
 use crate::runtime::Runtime;
 use bq_base::FaultKind;
 use bq_builtin_machine::Args;
+use bq_eval_frame::Frame;
 use bq_resolve_scope::Code;
 use bq_value::{EvalErr, Value};
 use std::marker::PhantomData;
@@ -98,7 +98,7 @@ impl<
 
     /// Evaluates a comprehension outside functions, in a frame of its own.
     #[inline(never)]
-    #[tactic(auto, unfolding(bq_eval_meaning_spec::specs::Expressions::framed), using(crate::proofs::Slots::none_filled))]
+    #[tactic(auto, unfolding(bq_eval_meaning_spec::specs::Expressions::framed), using(bq_eval_frame::proofs::Slots::none_filled))]
     fn framed(&self, runtime: &mut R, code: &Code) -> Result<Value, EvalErr>
         requires { EvaluatesInside R.means R.seen self.now F.pre F.post }
         ensures { Returns R.means R.seen (meaning.framed R.means (evals_in R.means self.now) code.now) runtime.old result runtime.new }

@@ -2,13 +2,13 @@
 
 ghost use Rattle.std.specs.Prelude.{◌≡◌};
 ghost use Rattle.bq_eval_meaning_spec.specs.Calls as meaning;
+ghost use Rattle.bq_eval_frame.specs.Slots.{slots_of};
 ghost use Rattle.bq_eval_rules.specs.Fillings.{filling_of, FillsFrame};
-ghost use Rattle.bq_eval_rules.specs.Slots.{slots_of};
 
-use crate::frame::Frame;
 use crate::runtime::Runtime;
 use bq_base::FaultKind;
 use bq_builtin_machine::copies;
+use bq_eval_frame::Frame;
 use bq_resolve_scope::CodeParameter;
 use bq_value::{EvalErr, Value};
 use std::alloc::Global;

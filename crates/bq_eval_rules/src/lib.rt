@@ -13,7 +13,8 @@
 //! In reading order:
 //!
 //! - `runtime`: what the rules ask for;
-//! - `slot_list`, `sparse`, `inner`, `frame`, `context`, `operand`: the values of names, and the environment of an expression;
+//! - `context`, `names`, `operand`: the values of names, which stand in frames (bq_eval_frame), and the environment of an
+//!   expression;
 //! - `evaluator`, `displays`, `operators`, `suffixes`, `comprehensions`, `expressions`: the rules of expressions;
 //! - `places`, `targets`, `reader`: the targets of assignments;
 //! - `flow`, `small`, `statements`: the rules of statements;
@@ -31,8 +32,7 @@ mod expressions;
 mod file;
 mod filling;
 mod flow;
-mod frame;
-mod inner;
+mod names;
 mod open_loop;
 mod operand;
 mod operators;
@@ -40,9 +40,7 @@ mod parameters;
 mod places;
 mod reader;
 mod runtime;
-mod slot_list;
 mod small;
-mod sparse;
 mod statements;
 mod suffixes;
 mod targets;
@@ -53,7 +51,6 @@ pub use context::{Context, Globals, Program};
 pub use evaluator::Evaluator;
 pub use file::run_file;
 pub use flow::Flow;
-pub use frame::Frame;
 pub use operand::Operand;
 pub use runtime::Runtime;
 pub use statements::run_block;

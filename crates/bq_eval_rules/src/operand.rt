@@ -2,15 +2,15 @@
 
 ghost use Rattle.std.specs.Prelude.{◌≡◌, IfOk};
 ghost use Rattle.bq_eval_meaning_spec.specs.Expressions as meaning;
+ghost use Rattle.bq_eval_frame.specs.Slots.{slots_of};
 ghost use Rattle.bq_eval_rules.specs.Acts.{Acts};
-ghost use Rattle.bq_eval_rules.specs.Slots.{slots_of};
 ghost use Rattle.bq_eval_rules.specs.Round.{round_of};
 ghost use Rattle.bq_eval_rules.specs.Operands.{read_of};
 
 use crate::context::Context;
-use crate::frame::Frame;
 use crate::runtime::Runtime;
 use bq_base::FaultKind;
+use bq_eval_frame::Frame;
 use bq_resolve_scope::Binding;
 use bq_value::{EvalErr, Value};
 use std::alloc::AllocError;

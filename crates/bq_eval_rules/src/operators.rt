@@ -9,8 +9,9 @@ ghost use Rattle.bq_eval_rules.specs.Evaluators.{EvaluatesInside, evals_in, fram
 
 use crate::context::Context;
 use crate::evaluator::Evaluator;
-use crate::frame::Frame;
+use crate::names::local_use;
 use crate::runtime::Runtime;
+use bq_eval_frame::Frame;
 use bq_parse_grammar::{Comparison, Operator, UnaryOperator};
 use bq_resolve_scope::{Binding, Code, CodeChoice, CodeOperation};
 use bq_value::{EvalErr, Value};
@@ -115,7 +116,7 @@ impl<
         if self.depth > 0 {
             if let Code::Use(binding) = operand {
                 if let Binding::Local(slot) = binding {
-                    let right = self.frame.local(runtime, *slot)?;
+                    let right = local_use(self.frame, runtime, *slot)?;
                     return runtime.binary(operator, left, right);
                 }
             }
@@ -197,7 +198,7 @@ impl<
         if self.depth > 0 {
             if let Code::Use(binding) = code {
                 if let Binding::Local(slot) = binding {
-                    let first = self.frame.local(runtime, *slot)?;
+                    let first = local_use(self.frame, runtime, *slot)?;
                     return self.chain(runtime, operations, first);
                 }
             }

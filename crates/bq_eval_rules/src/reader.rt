@@ -3,7 +3,7 @@
 ghost use Rattle.std.specs.Prelude.{◌≡◌};
 ghost use Rattle.bq_builtin_machine.specs.Action.{done, ◌>>=◌ as and_then};
 ghost use Rattle.bq_eval_meaning_spec.specs.Targets as meaning;
-ghost use Rattle.bq_eval_rules.specs.Slots.{slots_of};
+ghost use Rattle.bq_eval_frame.specs.Slots.{slots_of};
 ghost use Rattle.bq_eval_rules.specs.Nests.{AnswersCalls};
 ghost use Rattle.bq_eval_rules.specs.Round.{outside_functions};
 ghost use Rattle.bq_eval_rules.specs.Effects.{Returns, Produces, Rebinds};
@@ -11,12 +11,13 @@ ghost use Rattle.bq_eval_rules.specs.Readers.{evals_of, places_in_each, places_i
 
 use crate::context::{Context, Globals};
 use crate::expressions::expr_to;
-use crate::frame::Frame;
+use crate::names::bound;
 use crate::places::IndexedOperands;
 use crate::runtime::Runtime;
 use crate::targets::{MAX_LAYERS, bind_to};
 use bq_base::FaultKind;
 use bq_builtin_machine::Args;
+use bq_eval_frame::Frame;
 use bq_parse_grammar::Operator;
 use bq_resolve_scope::{Code, CodeTarget};
 use bq_value::{EvalErr, Value};
@@ -56,7 +57,7 @@ impl<
 
     /// Evaluates an expression outside functions.
     #[inline(never)]
-    #[tactic(auto, using(crate::proofs::Slots::none_filled), unfolding(crate::specs::Round::outside_functions, crate::specs::Round::inside, crate::specs::Round::round_of, crate::specs::Round::globals_of, bq_resolve_scope::specs::Names::max_layers))]
+    #[tactic(auto, using(bq_eval_frame::proofs::Slots::none_filled), unfolding(crate::specs::Round::outside_functions, crate::specs::Round::inside, crate::specs::Round::round_of, crate::specs::Round::globals_of, bq_resolve_scope::specs::Names::max_layers))]
     fn outside(&self, frame: &Frame<'_>, runtime: &mut R, code: &Code) -> Result<Value, EvalErr>
         requires { AnswersCalls R.means R.seen self.now.context.now self.now.call C.pre C.post }
         ensures { Returns R.means R.seen (outside_functions R.means self.now.context.now code.now (slots_of frame.now)) runtime.old result runtime.new }
@@ -245,7 +246,7 @@ impl<
         requires { AnswersCalls R.means R.seen self.now.context.now self.now.call C.pre C.post }
         ensures { Rebinds R.means R.seen (meaning.augment_name R.means (evals_of R.means self.now) slot op.entry.operator op.entry.code.now) frame.old runtime.old result frame.new runtime.new }
     {
-        let old = frame.read(&*runtime, slot)?;
+        let old = bound(frame, &*runtime, slot)?;
         let new = self.augmented(frame, runtime, old, op)?;
         frame.fill(slot, new)?;
         Ok(())

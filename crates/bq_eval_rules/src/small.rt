@@ -8,10 +8,10 @@ ghost use Rattle.bq_eval_rules.specs.Readers.{evals_of};
 
 use crate::context::Context;
 use crate::flow::Flow;
-use crate::frame::Frame;
 use crate::reader::Reader;
 use crate::runtime::Runtime;
 use bq_builtin_machine::Args;
+use bq_eval_frame::Frame;
 use bq_resolve_scope::{Code, CodeSmall, CodeTarget};
 use bq_value::{EvalErr, Value};
 

@@ -9,12 +9,12 @@ ghost use Rattle.bq_eval_rules.specs.Runners.{RunsInside, rule_in, walk};
 
 use crate::context::Context;
 use crate::flow::Flow;
-use crate::frame::Frame;
 use crate::reader::Reader;
 use crate::runtime::Runtime;
 use crate::targets::{MAX_LAYERS, begin_turn};
 use bq_base::FaultKind;
 use bq_builtin_machine::{Args, Elements};
+use bq_eval_frame::Frame;
 use bq_resolve_scope::{Code, CodeBranch, CodeStmt, CodeTarget};
 use bq_value::{EvalErr, Value};
 use std::marker::PhantomData;

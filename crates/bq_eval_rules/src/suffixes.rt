@@ -8,10 +8,10 @@ ghost use Rattle.bq_eval_rules.specs.Evaluators.{EvaluatesInside, evals_in, call
 
 use crate::context::Context;
 use crate::evaluator::Evaluator;
-use crate::frame::Frame;
 use crate::runtime::Runtime;
 use bq_base::{Bytes, FaultKind};
 use bq_builtin_machine::Args;
+use bq_eval_frame::Frame;
 use bq_resolve_scope::{Code, CodeArgument, CodeSuffix};
 use bq_value::{EvalErr, Value};
 use sqlite_items::Boxed;

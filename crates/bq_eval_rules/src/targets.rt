@@ -3,14 +3,14 @@
 ghost use Rattle.std.specs.Prelude.{◌≡◌};
 ghost use Rattle.bq_builtin_machine.specs.Action.{◌>>=◌ as and_then};
 ghost use Rattle.bq_eval_meaning_spec.specs.Targets as meaning;
-ghost use Rattle.bq_eval_rules.specs.Slots.{slots_of};
+ghost use Rattle.bq_eval_frame.specs.Slots.{slots_of};
 ghost use Rattle.bq_eval_rules.specs.Effects.{Produces, Rebinds, BindsParts};
 
-use crate::frame::Frame;
 use crate::places::IndexedOperands;
 use crate::runtime::Runtime;
 use bq_base::FaultKind;
 use bq_builtin_machine::Elements;
+use bq_eval_frame::Frame;
 use bq_resolve_scope::CodeTarget;
 use bq_value::{EvalErr, Value};
 use std::alloc::Global;

@@ -1,4 +1,6 @@
--- In reading order: members of filtered lists, direct dependencies, and objects cut in two.
+-- In reading order: members of filtered lists, direct dependencies, objects cut in two, lists of loads, and labels in full.
 pub mod Filtered
 pub mod Direct
 pub mod Objects
+pub mod Loads
+pub mod Paths

@@ -1,10 +1,21 @@
 -- The line of a fault.
-use Rattle.std.specs.Prelude.{ℕ, List, [], ◌∷◌, ◌++◌, codes}
+use Rattle.std.specs.Prelude.{ℕ, List, [], ◌∷◌, ◌++◌, Option, Some, None, codes}
 use Rattle.std.specs.Fmt.{decimal}
 use Rattle.bq_base.specs.Fault.{fault_number, fault_name}
+use Rattle.bq_label.specs.Label.{LabelParts, package_at}
+use Rattle.bq_label.specs.Packages.{label_path}
+use Rattle.bq_label.specs.Reading.{label_of}
 use Rattle.bq_load_fault_line.specs.declared.fault_line.FaultLine.{FaultLine}
 use Rattle.bq_facts_json.specs.Values.{Member, json_object}
 use Rattle.bq_facts.specs.Members.{string_member}
+
+abbrev pub path_by : Option LabelParts → List ℕ
+path_by None = []
+path_by (Some l) = label_path l
+
+-- the path of the file with this label, which is in full
+unfoldable pub file_labelled : List ℕ → List ℕ
+file_labelled label = path_by (label_of (package_at [] []) label)
 
 -- `F74`
 abbrev pub fault_code : FaultLine → List ℕ
@@ -13,10 +24,10 @@ fault_code l = codes "F" ++ decimal (fault_number l.kind)
 abbrev pub what_members : FaultLine → List Member
 what_members l = string_member (codes "fault") (fault_code l) ∷ string_member (codes "name") (fault_name l.kind) ∷ string_member (codes "label") l.label ∷ []
 
-abbrev pub where_members : FaultLine → List ℕ → List Member
-where_members l file =
-    string_member (codes "file") file ∷ record { key = codes "line"; value = decimal l.line } ∷ string_member (codes "detail") l.detail ∷ []
+abbrev pub where_members : FaultLine → List Member
+where_members l =
+    string_member (codes "file") (file_labelled l.label) ∷ record { key = codes "line"; value = decimal l.line } ∷ string_member (codes "detail") l.detail ∷ []
 
--- the object of a fault line, by the path of its file, and a newline
-unfoldable pub fault_object : FaultLine → List ℕ → List ℕ
-fault_object l file = json_object (what_members l ++ where_members l file) ++ 10 ∷ []
+-- the object of a fault line, and a newline
+unfoldable pub fault_object : FaultLine → List ℕ
+fault_object l = json_object (what_members l ++ where_members l) ++ 10 ∷ []

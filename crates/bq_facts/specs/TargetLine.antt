@@ -1,9 +1,10 @@
--- The line of a target (`--facts`). A source file has its own path; any other target has the path of its BUILD file, the line of the top-level
--- statement that declares it, its attributes and what it depends on.
-use Rattle.std.specs.Prelude.{ℕ, List, [], ◌∷◌, ◌++◌, codes, if◌then◌else◌}
+-- The line of a target (`--facts`). A source file has its own path; any other target has the path of its package's BUILD file, the line of the
+-- top-level statement that declares it, its attributes and what it depends on.
+use Rattle.std.specs.Prelude.{ℕ, List, [], ◌∷◌, ◌++◌, Option, Some, None, codes, if◌then◌else◌}
 use Rattle.std.specs.Fmt.{decimal}
-use Rattle.bq_label.specs.Label.{LabelParts, full_form}
-use Rattle.bq_label.specs.Packages.{label_path}
+use Rattle.bq_label.specs.declared.packages.BuildFile.{BuildFile}
+use Rattle.bq_label.specs.Label.{LabelParts, full_form, package_of}
+use Rattle.bq_label.specs.Packages.{label_path, package_named}
 use Rattle.bq_facts_json.specs.Values.{Member, json_object}
 use Rattle.bq_package_target.specs.declared.target.TargetKind.{TargetKind}
 use Rattle.bq_package_target.specs.declared.target.TargetKind.TheVariants as k
@@ -14,9 +15,14 @@ use Rattle.bq_facts.specs.Labels.{json_labels}
 use Rattle.bq_facts.specs.Attributes.{json_attributes}
 use Rattle.bq_facts.specs.Members.{string_member}
 
--- the path of a target's file, by the label of the BUILD file of its package
-abbrev pub file_of : LabelParts → Target → List ℕ
-file_of build_file t = if is_source t.kind then label_path t.label else label_path build_file
+-- every target's package has a BUILD file
+abbrev pub build_path : Option BuildFile → List ℕ
+build_path None = []
+build_path (Some b) = b.file.path
+
+-- the path of a target's file in a workspace with these packages
+abbrev pub file_of : List BuildFile → Target → List ℕ
+file_of packages t = if is_source t.kind then label_path t.label else build_path (package_named packages (package_of t.label))
 
 -- the members that every target has
 abbrev pub named : Target → List ℕ → List Member

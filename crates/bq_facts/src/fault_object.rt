@@ -1,15 +1,30 @@
 //! The lines of faults.
 
-ghost use Rattle.std.specs.Prelude.{◌≡◌, ◌++◌, ◌∷◌, OnOk};
+ghost use Rattle.std.specs.Prelude.{◌≡◌, ◌++◌, ◌∷◌, IfOk, OnOk};
 ghost use Rattle.std.specs.List.{join_by};
 ghost use Rattle.bq_facts_json.specs.Values.{comma, member_text};
 ghost use Rattle.bq_facts.specs.Members.{further_members};
-ghost use Rattle.bq_facts.specs.FaultObject.{what_members, where_members, fault_object};
+ghost use Rattle.bq_facts.specs.FaultObject.{file_labelled, what_members, where_members, fault_object};
 
 use crate::members::{next_string, open_with_string};
+use bq_base::SourceErr;
 use bq_facts_json::{close_object, next_key, push_number};
+use bq_label::{PackageId, label_path, read_label};
 use bq_load_fault_line::FaultLine;
 use std::alloc::{AllocError, Global};
+
+/// Returns the path of the file with this label, which is in full.
+#[tactic(auto, unfolding(crate::specs::FaultObject::file_labelled))]
+fn file_labelled(alloc: Global, label: &[u8]) -> Result<Vec<u8>, AllocError>
+    ensures { IfOk result (λ path. path.items ≡ file_labelled label.now) }
+{
+    let root = PackageId::root(alloc)?;
+    match read_label(alloc, label, &root) {
+        Ok(label) => label_path(alloc, &label),
+        Err(SourceErr::Bad(_)) => Ok(Vec::new(alloc)),
+        Err(SourceErr::Memory) => Err(AllocError),
+    }
+}
 
 /// Begins the object of a fault: its number, its name and the label of its file.
 fn push_what(alloc: Global, text: &mut Vec<u8>, line: &FaultLine) -> Result<(), AllocError>
@@ -23,26 +38,22 @@ fn push_what(alloc: Global, text: &mut Vec<u8>, line: &FaultLine) -> Result<(), 
 }
 
 /// Appends the path of the fault's file, its line and its detail.
-fn push_where(text: &mut Vec<u8>, line: &FaultLine, file: &[u8]) -> Result<(), AllocError>
-    ensures { OnOk result (text.new.items ≡ text.old.items ++ further_members (where_members line.now file.now)) }
+fn push_where(alloc: Global, text: &mut Vec<u8>, line: &FaultLine) -> Result<(), AllocError>
+    ensures { OnOk result (text.new.items ≡ text.old.items ++ further_members (where_members line.now)) }
 {
-    next_string(text, b"file", file)?;
+    let file = file_labelled(alloc, line.label.as_slice())?;
+    next_string(text, b"file", &file)?;
     next_key(text, b"line")?;
     push_number(text, line.line)?;
     next_string(text, b"detail", line.detail.as_slice())
 }
 
 /// Appends the line of a fault: an object with its number, its name, the label and the path of its file, its line and its detail.
-pub fn push_fault(
-    alloc: Global,
-    text: &mut Vec<u8>,
-    line: &FaultLine,
-    file: &[u8],
-) -> Result<(), AllocError>
-    ensures { OnOk result (text.new.items ≡ text.old.items ++ fault_object line.now file.now) }
+pub fn push_fault(alloc: Global, text: &mut Vec<u8>, line: &FaultLine) -> Result<(), AllocError>
+    ensures { OnOk result (text.new.items ≡ text.old.items ++ fault_object line.now) }
 {
     push_what(alloc, text, line)?;
-    push_where(text, line, file)?;
+    push_where(alloc, text, line)?;
     close_object(text)?;
     text.push(b'\n')?;
     Ok(())

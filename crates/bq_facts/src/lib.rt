@@ -1,7 +1,8 @@
-//! Targets and fault lines of a run come in; a line of JSON for each goes out, as `bq --facts` prints them.
+//! Targets, modules and fault lines of a run come in; a line of JSON for each goes out, as `bq --facts` prints them.
 //!
-//! The promise: the line of a target and that of a fault are the definitions' (`specs/TargetLine.antt`, `specs/FaultObject.antt`), and the
-//! numbers that [`direct_deps`] returns for a target of the graph are those of `deps(x, 1) - x` ([`direct_deps_are_deps`]).
+//! The promise: the lines of a target, of a module and of a fault are the definitions' (`specs/TargetLine.antt`, `specs/ModuleLine.antt`,
+//! `specs/FaultObject.antt`), and the numbers that [`direct_deps`] returns for a target of the graph are those of `deps(x, 1) - x`
+//! ([`direct_deps_are_deps`]).
 //!
 //! In reading order:
 //!
@@ -10,8 +11,9 @@
 //! - `members`: the parts of objects;
 //! - `deps`: what a target depends on directly;
 //! - `target_line`: targets;
+//! - `symbols`, `module_line`: modules with their loads;
 //! - `fault_object`: faults;
-//! - `laws`: what `deps` has, in the words of queries.
+//! - `laws`: what the definitions say together.
 #![tactic(auto)]
 
 mod attributes;
@@ -20,10 +22,13 @@ mod fault_object;
 mod labels;
 mod laws;
 mod members;
+mod module_line;
+mod symbols;
 mod target_line;
 
 pub use deps::direct_deps;
 pub use fault_object::push_fault;
 pub use labels::labels_at;
-pub use laws::direct_deps_are_deps;
+pub use laws::{direct_deps_are_deps, paths_of_labels};
+pub use module_line::push_module;
 pub use target_line::{file_of, push_target};

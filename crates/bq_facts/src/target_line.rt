@@ -2,27 +2,38 @@
 
 ghost use Rattle.std.specs.Prelude.{◌≡◌, ◌++◌, ◌∷◌, IfOk, OnOk};
 ghost use Rattle.std.specs.List.{join_by};
+ghost use Rattle.std.specs.Option.{option_copied};
 ghost use Rattle.bq_facts_json.specs.Values.{comma, member_text};
 ghost use Rattle.bq_facts.specs.Members.{further_members};
-ghost use Rattle.bq_facts.specs.TargetLine.{file_of, named, declared_members, declared_by, target_line};
+ghost use Rattle.bq_facts.specs.TargetLine.{build_path, file_of, named, declared_members, declared_by, target_line};
 
 use crate::attributes::push_attributes;
 use crate::labels::push_labels;
 use crate::members::{next_string, open_with_string};
 use bq_facts_json::{close_object, next_key, push_number};
-use bq_label::{Label, label_path};
+use bq_label::{BuildFile, Label, Packages, label_path};
 use bq_package_target::{Target, TargetKind};
 use bq_query_target_sets::{write_kind, write_label};
 use std::alloc::{AllocError, Global};
 
+/// Returns the path of a package's BUILD file.
+fn build_path(build_file: Option<&BuildFile>) -> &[u8]
+    ensures { result.now ≡ build_path (option_copied build_file.entry) }
+{
+    match build_file {
+        None => &[],
+        Some(build_file) => build_file.file.path.as_slice(),
+    }
+}
+
 /// Returns the path of a target's file: a source file's own, and else that of its package's BUILD file.
-pub fn file_of(alloc: Global, build_file: &Label, target: &Target) -> Result<Vec<u8>, AllocError>
-    ensures { IfOk result (λ path. path.items ≡ file_of build_file.now target.now) }
+pub fn file_of(alloc: Global, packages: &Packages, target: &Target) -> Result<Vec<u8>, AllocError>
+    ensures { IfOk result (λ path. path.items ≡ file_of packages.now target.now) }
 {
     if target.kind.is_source() {
         label_path(alloc, &target.label)
     } else {
-        label_path(alloc, build_file)
+        build_path(packages.named(target.label.package_id())).to_vec(alloc)
     }
 }
 

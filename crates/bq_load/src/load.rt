@@ -78,7 +78,7 @@ pub fn load_one_thread(
 
 /// Loads a workspace by several workers, each in a thread of its own with the stack that evaluation may take, and
 /// notifies a gate of each evaluation. It returns what one thread returns, whatever the order of the workers' steps.
-#[tactic(auto, using(crate::proofs::Joined::loaded_is, crate::proofs::Joined::gathered_is))]
+#[tactic(auto, using(crate::proofs::Joined::loaded_is))]
 pub fn load_with<R: Threads + Wait + Sync, G: Gate>(
     rt: &R,
     alloc: Global,
@@ -98,8 +98,6 @@ pub fn load_with<R: Threads + Wait + Sync, G: Gate>(
         Err(why) => return Err(why),
     };
     let (pool, seats) = Pool::open(alloc, workspace, schema, limit, seed, graph, workers)?;
-    let modules = pool.outcomes(rt, alloc, seats, gate)?;
-    let packages = pool.into_packages(); // drops the code, to lower the peak of memory
-    // PROOF: they give this
-    Ok(Loaded::gathered(alloc, &packages, modules)?)
+    // PROOF: the pool is of this load graph
+    Ok(pool.load(rt, alloc, seats, gate)?)
 }

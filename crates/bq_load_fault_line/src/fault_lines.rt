@@ -51,6 +51,13 @@ impl FaultLines {
         Ok(())
     }
 
+    /// Returns the lines in their order.
+    pub fn lines(&self) -> &BTreeSet<FaultLine>
+        ensures { result.now.keys ≡ self.now }
+    {
+        &self.lines
+    }
+
     /// Returns the text of the lines.
     pub fn text(&self, alloc: Global) -> Result<Vec<u8>, AllocError>
         ensures { IfOk result (λ text. text.items ≡ flat_map line_text self.now) }

@@ -1,19 +1,19 @@
 //! What the file of a module is on its own.
 
-ghost use Rattle.std.specs.Prelude.{◌≡◌};
+ghost use Rattle.std.specs.Prelude.{◌≡◌, []};
 ghost use Rattle.bq_base.specs.Gives.{Gives};
 ghost use Rattle.bq_base.specs.declared.fault.SourceErr.TheVariants.{Bad};
 ghost use Rattle.bq_load_front.specs.Code.{itself};
-ghost use Rattle.bq_load_front.specs.Front.{kind_of, front_of};
+ghost use Rattle.bq_load_front.specs.Front.{labels_of, kind_of, front_of};
 
 use crate::code::code_of;
 use crate::inputs::Inputs;
 use crate::named_files::NamedFiles;
 use bq_base::{Fault, FaultKind, SourceErr};
-use bq_label::{Label, label_file};
+use bq_label::{Label, PackageId, label_file};
 use bq_load_label::load_label;
 use bq_parse_grammar::FileKind;
-use bq_resolve_scope::Resolved;
+use bq_resolve_scope::{LoadStmt, Resolved};
 use sqlite_items::Items;
 use std::alloc::Global;
 
@@ -22,6 +22,30 @@ use std::alloc::Global;
 pub struct Front {
     pub code: Resolved,
     pub loads: NamedFiles,
+}
+
+/// Returns the files that loads in this package name, or the fault of the first bad load (F30, F31, F32, F37).
+#[tactic(auto, unfolding(crate::specs::Front::labels_of))]
+fn named_files(
+    alloc: Global,
+    inputs: &Inputs<'_>,
+    own: &PackageId,
+    loads: &[LoadStmt],
+) -> Result<NamedFiles, SourceErr>
+    ensures { Gives itself Bad result (labels_of inputs.now own.now [] loads.now) }
+{
+    let mut labels = Items::new(alloc);
+    for load in loads {
+        labels.push(load_label(
+            alloc,
+            inputs.workspace(),
+            inputs.packages(),
+            own,
+            load.line,
+            load.label.as_slice(),
+        )?)?;
+    }
+    Ok(NamedFiles::of(alloc, labels.as_slice())?)
 }
 
 /// Returns the kind of the file of this label: a .bzl file if its name ends so, a BUILD file otherwise.
@@ -37,8 +61,8 @@ pub fn kind_of(label: &Label) -> FileKind
 }
 
 /// Returns the code and the loads of the file of this label, or its first fault: of its text (F1 to F24), then of its
-/// first bad load (F30, F31, F32, F37). A label that names no file is F31; no module has such a label.
-#[tactic(auto, unfolding(crate::specs::Front::front_of, crate::specs::Front::labels_of))]
+/// first bad load. A label that names no file is F31; no module has such a label.
+#[tactic(auto, unfolding(crate::specs::Front::front_of))]
 pub fn front_of(alloc: Global, inputs: &Inputs<'_>, label: &Label) -> Result<Front, SourceErr>
     ensures { Gives itself Bad result (front_of inputs.now label.now) }
 {
@@ -47,17 +71,11 @@ pub fn front_of(alloc: Global, inputs: &Inputs<'_>, label: &Label) -> Result<Fro
     };
     let universe = inputs.universe(kind_of(label));
     let code = code_of(alloc, universe, file.content.as_slice())?;
-    let mut labels = Items::new(alloc);
-    for load in code.loads.as_slice() {
-        labels.push(load_label(
-            alloc,
-            inputs.workspace(),
-            inputs.packages(),
-            label.package_id(),
-            load.line,
-            load.label.as_slice(),
-        )?)?;
+    match named_files(alloc, inputs, label.package_id(), code.loads.as_slice()) {
+        Ok(loads) => Ok(Front { code, loads }),
+        Err(why) => {
+            drop(code); // PROOF: one call lets the code go
+            Err(why)
+        }
     }
-    let loads = NamedFiles::of(alloc, labels.as_slice())?;
-    Ok(Front { code, loads })
 }

@@ -5,7 +5,7 @@ ghost use Rattle.std.specs.List.{starts_with, ends_with};
 ghost use Rattle.bq_base.specs.Gives.{Gives};
 ghost use Rattle.bq_label.specs.Label.{full_form};
 ghost use Rattle.bq_base.specs.declared.fault.SourceErr.TheVariants.{Bad};
-ghost use Rattle.bq_load_label.specs.NamedFile.{bzl_label, load_label};
+ghost use Rattle.bq_load_label.specs.NamedFile.{bzl_label, fault_of_file, unless_fault, load_label};
 
 use crate::crossing::crosses;
 use bq_base::{Bytes, Fault, FaultKind, SourceErr};
@@ -41,11 +41,34 @@ fn file_fault(alloc: Global, kind: FaultKind, line: u32, label: &Label) -> Resul
     Ok(Fault { kind, line, detail })
 }
 
+/// Returns nothing if the label names a file that can be loaded, else the first fault that applies.
+#[tactic(auto, unfolding(crate::specs::NamedFile::fault_of_file))]
+fn check_file(
+    alloc: Global,
+    workspace: &Workspace,
+    packages: &Packages,
+    line: u32,
+    label: &Label,
+) -> Result<(), SourceErr>
+    ensures { Gives (λ _. label.now) Bad result (unless_fault line label.now (fault_of_file workspace.now packages.now label.now)) }
+{
+    let kind = if packages.named(label.package_id()).is_none() {
+        FaultKind::NoPackage
+    } else if crosses(alloc, packages, label)? {
+        FaultKind::CrossesPackage
+    } else if label_file(alloc, workspace, label)?.is_none() {
+        FaultKind::NoSuchFile
+    } else {
+        return Ok(());
+    };
+    Err(SourceErr::Bad(file_fault(alloc, kind, line, label)?))
+}
+
 /// Returns the label of the file that a load in the package `own` names by this text. The fault names the line of the
 /// load. It is F30, with an empty detail, if the text is no label of a .bzl file that begins with `//`, `@` or `:`;
 /// then F32 if the label has no package, F37 if another package owns its path, and F31 if its repository has no such
 /// file, with the label in full form as the detail.
-#[tactic(auto, unfolding(crate::specs::NamedFile::load_label, crate::specs::NamedFile::fault_of_file))]
+#[tactic(auto, unfolding(crate::specs::NamedFile::load_label))]
 pub fn load_label(
     alloc: Global,
     workspace: &Workspace,
@@ -59,14 +82,11 @@ pub fn load_label(
     let Some(label) = bzl_label(alloc, own, text)? else {
         return Err(SourceErr::Bad(Fault::at(FaultKind::BadLoadLabel, line)));
     };
-    if packages.named(label.package_id()).is_none() {
-        return Err(SourceErr::Bad(file_fault(alloc, FaultKind::NoPackage, line, &label)?));
+    match check_file(alloc, workspace, packages, line, &label) {
+        Ok(()) => Ok(label),
+        Err(why) => {
+            drop(label);
+            Err(why)
+        }
     }
-    if crosses(alloc, packages, &label)? {
-        return Err(SourceErr::Bad(file_fault(alloc, FaultKind::CrossesPackage, line, &label)?));
-    }
-    if label_file(alloc, workspace, &label)?.is_none() {
-        return Err(SourceErr::Bad(file_fault(alloc, FaultKind::NoSuchFile, line, &label)?));
-    }
-    Ok(label)
 }

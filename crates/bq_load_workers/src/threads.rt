@@ -20,6 +20,9 @@ use std::thread::{Promise, PromisedHandle, Scope, Threads};
 /// them) those with comprehensions took most, 32.5 MB.
 pub const EVALUATION_STACK: usize = 64 << 20;
 
+/// What is asked for where there is no room for that much: a fifth more than the deepest evaluation takes.
+const LEAST_EVALUATION_STACK: usize = 40 << 20;
+
 /// What a worker brought, unless it ran out of memory.
 pub type Answer<V, F> = Result<WorkDone<V, F>, AllocError>;
 
@@ -124,6 +127,28 @@ fn joined<R: Threads, E: Evaluate>(
     Ok(answers)
 }
 
+/// Evaluates in a thread with the least stack, or if there is none, on this one's.
+fn on_the_least_stack<
+    's,
+    X,
+    R: Threads + Wait,
+    P: Promise<T> + Drop,
+    F: FnOnce() -> T + Send + 's,
+    T: Send + Drop + 's,
+>(scope: &Scope<'s, X>, rt: &R, promise: P, evaluate: F) -> T
+    requires runs { F.pre evaluate }
+    requires keeps { (r : T) → F.post evaluate r → P.kept_by promise r }
+    ensures { P.kept_by promise result }
+{
+    match Stack::new()
+        .stack_size(LEAST_EVALUATION_STACK)
+        .spawn_scoped_with(scope, promise, evaluate)
+    {
+        Ok(thread) => thread.join(rt),
+        Err(refused) => (refused.value)(),
+    }
+}
+
 /// Returns the outcome of each module, where some are known. The others are evaluated in a thread, or if there is none,
 /// on this one's stack.
 pub(crate) fn completed<R: Threads + Wait + Sync, E: Evaluate, W: Watch>(
@@ -153,7 +178,10 @@ pub(crate) fn completed<R: Threads + Wait + Sync, E: Evaluate, W: Watch>(
                 .spawn_scoped_with(scope, base, evaluate)
             {
                 Ok(thread) => thread.join(rt),
-                Err(refused) => (refused.value)(),
+                Err(refused) => {
+                    let base = Base::of(&pool.evaluator, &pool.graph);
+                    on_the_least_stack(scope, rt, base, refused.value)
+                }
             }
         },
     )

@@ -1,5 +1,5 @@
 -- The target that a call declares is of its package, and so are the files that the rule makes.
-use Rattle.std.proofs.Common.{◌≡◌, ◌∙◌, ℕ, Bool, true, false, List, [], ◌∷◌, ◌++◌, Option, Some, None, Ok, refl, ap, subst, append-nil}
+use Rattle.std.proofs.Common.{◌≡◌, ◌∙◌, ℕ, Bool, true, false, List, [], ◌∷◌, ◌++◌, Option, Some, None, Ok, Err, refl, ap, subst, append-nil}
 use Rattle.std.specs.List.{list_all}
 use Rattle.std.proofs.lemmas.List.Folds.{list_all-map}
 use Rattle.std.proofs.lemmas.Grind.{flat_map-append}
@@ -67,3 +67,8 @@ declared_own own packages store class rule line passed t h =
     let q = both_ok (with_arguments own packages store class nothing_given r.0.keywords) (λ g. if_whole (gives_mandatory class r.0.keywords) rule class line g.name (g.attributes ++ defaults r.0.keywords class)) t r.2 in
     let mine = arguments_own own packages store class nothing_given q.0 r.0.keywords q.1 (record { name = tt; outputs = refl }) in
     whole_own own (gives_mandatory class r.0.keywords) rule class line q.0.name (q.0.attributes ++ defaults r.0.keywords class) t mine.name (with_defaults_own own q.0.attributes r.0.keywords class mine.outputs) q.2
+
+-- without an attribute that has to be given there is no target, whether or not the name is given
+pub lacks : (rule : List ℕ) (class : Class) (line : ℕ) (name : Option LabelParts) (gs : List GivenAttribute) → if_whole false rule class line name gs ≡ Err f.MissingAttribute
+lacks rule class line None gs = refl
+lacks rule class line (Some l) gs = refl

@@ -3,7 +3,8 @@
 ghost use Rattle.std.specs.Prelude.{◌≡◌, ◌++◌, IfOk, OnOk};
 ghost use Rattle.bq_base.specs.Gives.{Gives};
 ghost use Rattle.bq_value.specs.declared.error.EvalErr.TheVariants.{Bad};
-ghost use Rattle.bq_package_attributes.specs.Declarations.{gives, gives_mandatory, default_for, defaults, declaration};
+ghost use Rattle.bq_package_attributes.specs.Arguments.{nothing_given};
+ghost use Rattle.bq_package_attributes.specs.Declarations.{gives, gives_mandatory, default_for, defaults, target, declaration};
 
 use crate::arguments::{Callee, Given, is_none};
 use crate::named::Keywords;
@@ -14,6 +15,7 @@ use bq_package_target::{GivenAttribute, Target, TargetKind};
 use bq_value::EvalErr;
 use sqlite_items::Items;
 use std::alloc::{AllocError, Global};
+use std::mem;
 
 /// Returns whether a keyword argument of that name is there, and isn't `None`.
 fn gives(alloc: Global, keywords: &Keywords, name: &[u8]) -> Result<bool, AllocError>
@@ -92,9 +94,41 @@ fn add_defaults(
     Ok(())
 }
 
+/// Returns the target that these keyword arguments declare; or the faults of the arguments, F72 if its name isn't given,
+/// or another attribute that has to be. `given`, in which nothing is given yet, collects what they give and is the
+/// caller's, so that only the caller lets go of it where a call fails.
+#[tactic(auto, unfolding(crate::specs::Declarations::target), using(crate::proofs::Declared::lacks))]
+fn target(
+    alloc: Global,
+    callee: Callee<'_>,
+    line: u32,
+    keywords: &Keywords,
+    given: &mut Given,
+) -> Result<Target, EvalErr>
+    requires { given.old ≡ nothing_given }
+    ensures { Gives (λ t. t) Bad result (target callee.entry.scope.own.now callee.entry.scope.packages.now callee.entry.store.now callee.entry.class.now callee.entry.kind.now line keywords.now) }
+{
+    given.take_arguments(alloc, callee, keywords)?;
+    if !gives_mandatory(alloc, callee.class, keywords)? {
+        return Err(EvalErr::Bad(FaultKind::MissingAttribute));
+    }
+    add_defaults(alloc, callee.class, keywords, &mut given.attributes)?;
+    let class = callee.class.share()?;
+    let kind = callee.kind.share()?;
+    let Some(label) = given.name.take() else {
+        return Err(EvalErr::Bad(FaultKind::MissingAttribute));
+    };
+    Ok(Target {
+        label,
+        kind: TargetKind::Rule(kind, class),
+        attributes: mem::replace(&mut given.attributes, Items::new(alloc)),
+        line,
+    })
+}
+
 /// Returns the target that a call of a rule declares, with the line of the call; or F52, the faults of the arguments,
 /// F72 if its name isn't given, or another attribute that has to be.
-#[tactic(auto, unfolding(crate::specs::Declarations::declaration, crate::specs::Declarations::target))]
+#[tactic(auto, unfolding(crate::specs::Declarations::declaration))]
 pub fn declaration(
     alloc: Global,
     callee: Callee<'_>,
@@ -103,28 +137,11 @@ pub fn declaration(
 ) -> Result<Target, EvalErr>
     ensures { Gives (λ t. t) Bad result (declaration callee.entry.scope.own.now callee.entry.scope.packages.now callee.entry.store.now callee.entry.class.now callee.entry.kind.now line args) }
 {
-    let attributes = Items::from_vec(Vec::with_capacity(alloc, args.named.len())?);
+    let count = args.named.len();
     let keywords = Keywords::of(alloc, callee.store.seed(), args)?;
     let mut given = Given {
         name: None,
-        attributes,
+        attributes: Items::from_vec(Vec::with_capacity(alloc, count)?),
     };
-    given.take_arguments(alloc, callee, &keywords)?;
-    let Given {
-        name,
-        mut attributes,
-    } = given;
-    let Some(label) = name else {
-        return Err(EvalErr::Bad(FaultKind::MissingAttribute));
-    };
-    if !gives_mandatory(alloc, callee.class, &keywords)? {
-        return Err(EvalErr::Bad(FaultKind::MissingAttribute));
-    }
-    add_defaults(alloc, callee.class, &keywords, &mut attributes)?;
-    Ok(Target {
-        label,
-        kind: TargetKind::Rule(callee.kind.share()?, callee.class.share()?),
-        attributes,
-        line,
-    })
+    target(alloc, callee, line, &keywords, &mut given)
 }

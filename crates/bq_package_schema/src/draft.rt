@@ -104,6 +104,7 @@ impl Draft {
     {
         let Draft { names, classes } = self;
         let Some(classes) = classes else {
+            drop(attribute);
             return Ok(None);
         };
         let Classes { before, last } = classes;
@@ -125,7 +126,10 @@ impl Draft {
             Line::Skipped => Ok(Some(self)),
             Line::Rule(name) => self.with_rule(alloc, name),
             Line::Attribute(name, attribute) => self.with_attribute(alloc, name, attribute),
-            Line::Other => Ok(None),
+            Line::Other => {
+                drop(self);
+                Ok(None)
+            }
         }
     }
 }

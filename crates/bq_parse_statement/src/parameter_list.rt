@@ -52,6 +52,57 @@ fn parameters_after(allowed: AllowedParameters, kind: ParameterKind) -> Option<A
     }
 }
 
+/// Returns which kind of parameter comes next, by its first tokens.
+fn parameter_kind(tokens: &Tokens<'_>) -> ParameterKind
+    ensures { result ≡ spec.parameter_kind tokens.now }
+{
+    if tokens.sees(TokenKind::StarStar) {
+        ParameterKind::StarStar
+    } else if tokens.sees(TokenKind::Star) {
+        if tokens.following().sees(TokenKind::Identifier) {
+            ParameterKind::Star
+        } else {
+            ParameterKind::BareStar
+        }
+    } else if tokens.sees_named() {
+        ParameterKind::Default
+    } else {
+        ParameterKind::Plain
+    }
+}
+
+/// Reads a parameter of this kind.
+fn parameter_by(
+    alloc: Global,
+    tokens: &mut Tokens<'_>,
+    depth: usize,
+    kind: ParameterKind,
+) -> Result<Parameter, SyntaxErr>
+    ensures { Reads (spec.parameter_by depth kind tokens.old) result tokens.new }
+{
+    match kind {
+        ParameterKind::Plain => Ok(Parameter::Plain(tokens.word(alloc)?)),
+        ParameterKind::Default => {
+            let name = tokens.word(alloc)?;
+            tokens.expect(TokenKind::Assign)?;
+            let default = phrase(alloc, tokens, depth, Nested::Test)?;
+            Ok(Parameter::Default(name, default))
+        }
+        ParameterKind::BareStar => {
+            tokens.advance();
+            Ok(Parameter::BareStar)
+        }
+        ParameterKind::Star => {
+            tokens.advance();
+            Ok(Parameter::Star(tokens.word(alloc)?))
+        }
+        ParameterKind::StarStar => {
+            tokens.advance();
+            Ok(Parameter::StarStar(tokens.word(alloc)?))
+        }
+    }
+}
+
 /// Parameter = identifier | identifier '=' Test | '*' [identifier] | '**' identifier
 ///
 /// Where it is allowed; what may still come after it is returned too.
@@ -64,43 +115,12 @@ fn parameter(
 ) -> Result<(Parameter, AllowedParameters), SyntaxErr>
     ensures { Reads (spec.parameter depth allowed tokens.old) result tokens.new }
 {
-    let kind = if tokens.sees(TokenKind::StarStar) {
-        ParameterKind::StarStar
-    } else if tokens.sees(TokenKind::Star) {
-        if tokens.following().sees(TokenKind::Identifier) {
-            ParameterKind::Star
-        } else {
-            ParameterKind::BareStar
-        }
-    } else if tokens.sees_named() {
-        ParameterKind::Default
-    } else {
-        ParameterKind::Plain
-    };
+    let kind = parameter_kind(tokens);
     let Some(after) = parameters_after(allowed, kind) else {
         return Err(SyntaxErr::Syntax);
     };
-    match kind {
-        ParameterKind::Plain => Ok((Parameter::Plain(tokens.word(alloc)?), after)),
-        ParameterKind::Default => {
-            let name = tokens.word(alloc)?;
-            tokens.expect(TokenKind::Assign)?;
-            let default = phrase(alloc, tokens, depth, Nested::Test)?;
-            Ok((Parameter::Default(name, default), after))
-        }
-        ParameterKind::BareStar => {
-            tokens.advance();
-            Ok((Parameter::BareStar, after))
-        }
-        ParameterKind::Star => {
-            tokens.advance();
-            Ok((Parameter::Star(tokens.word(alloc)?), after))
-        }
-        ParameterKind::StarStar => {
-            tokens.advance();
-            Ok((Parameter::StarStar(tokens.word(alloc)?), after))
-        }
-    }
+    let parameter = parameter_by(alloc, tokens, depth, kind)?;
+    Ok((parameter, after))
 }
 
 /// Returns the parameters, where they may end.

@@ -1,7 +1,7 @@
 //! Small statements: those without a block.
 
-ghost use Rattle.std.specs.Prelude.{false};
-ghost use Rattle.bq_parse_grammar.specs.Turns.{Reads};
+ghost use Rattle.std.specs.Prelude.{Ok, false};
+ghost use Rattle.bq_parse_grammar.specs.Turns.{Reads, ◌>>=◌ as and_then};
 ghost use Rattle.bq_parse_grammar.specs.ReadingStatements as spec;
 
 use crate::loads::load;
@@ -24,6 +24,19 @@ fn returned(alloc: Global, tokens: &mut Tokens<'_>, depth: usize) -> Result<Smal
     Ok(SmallKind::Return(Some(expr_list(alloc, tokens, depth)?)))
 }
 
+/// Returns the value, and reads Expr. It is generic, since dropping a `T` is a single step for the proof.
+fn beside<T: Drop>(
+    alloc: Global,
+    tokens: &mut Tokens<'_>,
+    depth: usize,
+    value: T,
+) -> Result<(T, Expr), SyntaxErr>
+    ensures { Reads (and_then (spec.expr_to depth tokens.old) (λ x rest. Ok ((value, x), rest))) result tokens.new }
+{
+    let right = expr_list(alloc, tokens, depth)?;
+    Ok((value, right))
+}
+
 /// Target '=' Expr, after '='
 fn assigned(
     alloc: Global,
@@ -34,7 +47,8 @@ fn assigned(
     ensures { Reads (spec.assigned depth left tokens.old) result tokens.new }
 {
     let target = target(alloc, depth, left)?;
-    Ok(SmallKind::Assign(target, expr_list(alloc, tokens, depth)?))
+    let (target, value) = beside(alloc, tokens, depth, target)?;
+    Ok(SmallKind::Assign(target, value))
 }
 
 /// ( identifier | Primary '[' Expr ']' ) Aug Expr, after the left side, which stands in no parentheses
@@ -48,7 +62,8 @@ fn augmented(
 {
     let target = augmented_target(alloc, left)?;
     let operator = tokens.augmented()?;
-    Ok(SmallKind::Augment(target, operator, expr_list(alloc, tokens, depth)?))
+    let (target, value) = beside(alloc, tokens, depth, target)?;
+    Ok(SmallKind::Augment(target, operator, value))
 }
 
 /// Target '=' Expr | ( identifier | Primary '[' Expr ']' ) Aug Expr | Expr

@@ -5,6 +5,7 @@ ghost use Rattle.bq_parse_grammar.specs.ReadingStatements as spec;
 ghost use Rattle.bq_parse_statement.specs.Makes.{Makes};
 
 use crate::blocks::BlockRules;
+use crate::targets::refused;
 use bq_parse_cursor::Tokens;
 use bq_parse_grammar::{Stmt, SyntaxErr, TopLevel};
 use std::alloc::Global;
@@ -39,6 +40,6 @@ pub fn top_level(
     if tokens.left() == 0 {
         Ok(TopLevel { line, statement })
     } else {
-        Err(SyntaxErr::Syntax)
+        refused(statement)
     }
 }

@@ -49,7 +49,7 @@ fn indexed_by(
 {
     match last {
         Suffix::Index(index) => Ok(TargetExpr::Index(primary_of(alloc, operand, suffixes)?, index)),
-        _ => Err(SyntaxErr::Syntax),
+        other => refused((operand, suffixes, other)),
     }
 }
 
@@ -69,7 +69,7 @@ fn indexed(
     }
 }
 
-/// Drops what can't be assigned to. It is generic, since dropping a `T` is a single step for the proof.
+/// Drops what is refused, as an expression that can't be assigned to. It is generic, since dropping a `T` is a single step for the proof.
 pub fn refused<T: Drop, A>(_value: T) -> Result<A, SyntaxErr>
     ensures { result ≡ Err Syntax }
 {

@@ -1,13 +1,12 @@
 //! Trees: they are checked in the order of the text, and what they say is made on the way.
 
-ghost use Rattle.std.specs.Prelude.{◌≡◌, ◌++◌, [], ◌∷◌, map, IfOk};
+ghost use Rattle.std.specs.Prelude.{◌++◌, [], ◌∷◌, map};
 ghost use Rattle.bq_query_lex.specs.Functions.{function_named};
 ghost use Rattle.bq_query_lex.specs.declared.function.QueryFunction.TheVariants as f;
 ghost use Rattle.bq_query_target_pattern.specs.Reading.{words_fault};
 ghost use Rattle.bq_query_verdict.specs.Verdict as spec;
 ghost use Rattle.bq_query_verdict.specs.Verdict.{no_fault, part_of, operation_part, call_of, call_by, variable};
 ghost use Rattle.bq_query_check.specs.Checked.{Reads};
-ghost use Rattle.bq_query_check.specs.Formula as formula;
 ghost use Rattle.bq_query_check.specs.Formula.{formula_of, step_of};
 ghost use Rattle.bq_query_check.specs.FormulaOf.{IsFormulaOf, AreStepsOf, IsCallOf, IsCallNamed, IsNamed, IsOne, IsBound};
 
@@ -20,7 +19,7 @@ use bq_query_target_pattern::read_patterns;
 use bq_query_tree::{Query, SetOperation};
 use bq_query_verdict::unknown;
 use sqlite_items::{Boxed, Items};
-use std::alloc::{AllocError, Global};
+use std::alloc::Global;
 use std::slice::from_ref;
 
 /// Reads words as target patterns: Q3 or Q8 for the first that is none.
@@ -41,25 +40,13 @@ fn bound(names: &[Bytes], name: &Bytes) -> Result<SetExpr, QueryErr>
     }
 }
 
-/// Makes a function of two sets.
-fn two(alloc: Global, function: Binary, x: SetExpr, y: SetExpr) -> Result<SetExpr, AllocError>
-    ensures { IfOk result (λ r. formula_of r ≡ formula.two function (formula_of x) (formula_of y)) }
+/// Reads a tree into a box, so that what is held of it while more is read is a pointer.
+#[cycle(query)]
+fn boxed(alloc: Global, names: &[Bytes], query: &Query) -> Result<Boxed<SetExpr>, QueryErr>
+    ensures { Reads ((part_of query.now).all names.now) (λ r. IsFormulaOf names.now query.now (formula_of r)) result }
 {
-    Ok(SetExpr::Two(function, Boxed::new(alloc, x)?, Boxed::new(alloc, y)?))
-}
-
-/// Makes `let name = value in body`.
-fn let_in(alloc: Global, value: SetExpr, body: SetExpr) -> Result<SetExpr, AllocError>
-    ensures { IfOk result (λ r. formula_of r ≡ formula.let_in (formula_of value) (formula_of body)) }
-{
-    Ok(SetExpr::Let(Boxed::new(alloc, value)?, Boxed::new(alloc, body)?))
-}
-
-/// Makes a query with the operations on it.
-fn chain(alloc: Global, first: SetExpr, steps: Items<ChainStep>) -> Result<SetExpr, AllocError>
-    ensures { IfOk result (λ r. formula_of r ≡ formula.chained (formula_of first) (map step_of steps)) }
-{
-    Ok(SetExpr::Chain(Boxed::new(alloc, first)?, steps))
+    let set = read(alloc, names, query)?;
+    Ok(Boxed::new(alloc, set)?)
 }
 
 /// Makes a function of one set, which is read here.
@@ -67,8 +54,8 @@ fn chain(alloc: Global, first: SetExpr, steps: Items<ChainStep>) -> Result<SetEx
 fn one(alloc: Global, names: &[Bytes], function: Unary, query: &Query) -> Result<SetExpr, QueryErr>
     ensures { Reads ((part_of query.now).all names.now) (λ r. IsOne function names.now query.now (formula_of r)) result }
 {
-    let x = read(alloc, names, query)?;
-    Ok(SetExpr::One(function, Boxed::new(alloc, x)?))
+    let x = boxed(alloc, names, query)?;
+    Ok(SetExpr::One(function, x))
 }
 
 /// Reads `deps(x)` and `deps(x, n)`.
@@ -79,9 +66,9 @@ fn deps(alloc: Global, names: &[Bytes], arguments: &[Query]) -> Result<SetExpr, 
     match arguments {
         [x] => one(alloc, names, Unary::Deps, x),
         [x, n] => {
-            let x = read(alloc, names, x)?;
+            let x = boxed(alloc, names, x)?;
             let limit = limit(alloc, names, n)?;
-            Ok(SetExpr::One(Unary::DepsWithin(limit), Boxed::new(alloc, x)?))
+            Ok(SetExpr::One(Unary::DepsWithin(limit), x))
         }
         _ => Err(QueryErr::Arguments),
     }
@@ -94,15 +81,15 @@ fn rdeps(alloc: Global, names: &[Bytes], arguments: &[Query]) -> Result<SetExpr,
 {
     match arguments {
         [u, x] => {
-            let u = read(alloc, names, u)?;
-            let x = read(alloc, names, x)?;
-            Ok(two(alloc, Binary::Rdeps, u, x)?)
+            let u = boxed(alloc, names, u)?;
+            let x = boxed(alloc, names, x)?;
+            Ok(SetExpr::Two(Binary::Rdeps, u, x))
         }
         [u, x, n] => {
-            let u = read(alloc, names, u)?;
-            let x = read(alloc, names, x)?;
+            let u = boxed(alloc, names, u)?;
+            let x = boxed(alloc, names, x)?;
             let limit = limit(alloc, names, n)?;
-            Ok(two(alloc, Binary::RdepsWithin(limit), u, x)?)
+            Ok(SetExpr::Two(Binary::RdepsWithin(limit), u, x))
         }
         _ => Err(QueryErr::Arguments),
     }
@@ -115,9 +102,9 @@ fn allpaths(alloc: Global, names: &[Bytes], arguments: &[Query]) -> Result<SetEx
 {
     match arguments {
         [x, y] => {
-            let x = read(alloc, names, x)?;
-            let y = read(alloc, names, y)?;
-            Ok(two(alloc, Binary::Allpaths, x, y)?)
+            let x = boxed(alloc, names, x)?;
+            let y = boxed(alloc, names, y)?;
+            Ok(SetExpr::Two(Binary::Allpaths, x, y))
         }
         _ => Err(QueryErr::Arguments),
     }
@@ -225,11 +212,16 @@ fn steps(
 
 /// Reads the body of a let that binds the name.
 #[cycle(query)]
-fn body(alloc: Global, names: &[Bytes], name: &Bytes, query: &Query) -> Result<SetExpr, QueryErr>
+fn body(
+    alloc: Global,
+    names: &[Bytes],
+    name: &Bytes,
+    query: &Query,
+) -> Result<Boxed<SetExpr>, QueryErr>
     ensures { Reads ((part_of query.now).all (names.now ++ name.now ∷ [])) (λ r. IsFormulaOf (names.now ++ name.now ∷ []) query.now (formula_of r)) result }
 {
     let names = with_name(alloc, names, name)?;
-    read(alloc, names.as_slice(), query)
+    boxed(alloc, names.as_slice(), query)
 }
 
 /// Reads a tree, where the lets around it bind these names.
@@ -244,14 +236,14 @@ fn read(alloc: Global, names: &[Bytes], query: &Query) -> Result<SetExpr, QueryE
         Query::Set(texts) => named(alloc, texts.as_slice()),
         Query::Call(name, arguments) => call(alloc, names, name, arguments.as_slice()),
         Query::Let(name, value, inner) => {
-            let value = read(alloc, names, value.get())?;
+            let value = boxed(alloc, names, value.get())?;
             let inner = body(alloc, names, name, inner.get())?;
-            Ok(let_in(alloc, value, inner)?)
+            Ok(SetExpr::Let(value, inner))
         }
         Query::Chain(first, operations) => {
-            let first = read(alloc, names, first.get())?;
+            let first = boxed(alloc, names, first.get())?;
             let steps = steps(alloc, names, operations.as_slice())?;
-            Ok(chain(alloc, first, steps)?)
+            Ok(SetExpr::Chain(first, steps))
         }
     }
 }

@@ -1,6 +1,7 @@
 //! Graphs of numbered targets.
 ghost use Rattle.std.specs.Prelude.{◌≡◌, ℕ, ◌+◌, ◌<◌, ◌↔◌, List, length, IfOk};
-ghost use Rattle.bq_query_graph.specs.Paths.{Pair, AreBelow, AreTurned};
+ghost use Rattle.std.specs.List.{All};
+ghost use Rattle.bq_query_graph.specs.Paths.{row, Pair, AreBelow, AreTurned};
 ghost use Rattle.bq_query_graph.specs.Edges.{AreBetween, HasPairsOf};
 
 use crate::edge::{Direction, Edge};
@@ -43,5 +44,14 @@ impl DependencyGraph {
         ensures below { AreBelow self.now }
     {
         self.forward.len()
+    }
+
+    /// Returns the targets that the edges of the target `x` lead to.
+    pub fn row(&self, x: usize) -> &[usize]
+        requires { x < length self.now }
+        ensures row { result.now ≡ row self.now x }
+        ensures below { All (λ y. y < length self.now) result.now }
+    {
+        self.forward.row(x)
     }
 }

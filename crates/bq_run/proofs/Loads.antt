@@ -18,7 +18,7 @@ use Rattle.bq_run.specs.declared.options.Options.{Options}
 abbrev inside_of : List ℕ → List FaultLine → List PackageTargets → Inside
 inside_of a b c = record { prints = a; faults = b; packages = c }
 
-loaded_inside : (x : LoadingParts) (p : Loads) (l : Loaded) → IsLoaded x p l → record { prints = l.prints; faults = l.faults; packages = l.packages.items } ≡ inside_by x p
+pub loaded_inside : (x : LoadingParts) (p : Loads) (l : Loaded) → IsLoaded x p l → record { prints = l.prints; faults = l.faults; packages = l.packages.items } ≡ inside_by x p
 loaded_inside x p l is =
     ap (λ (a : List ℕ). inside_of a l.faults l.packages.items) is.prints
     ∙ ap (λ (b : List FaultLine). inside_of (inside_by x p).prints b l.packages.items) is.faults

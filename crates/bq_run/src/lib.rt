@@ -33,7 +33,8 @@ pub use bundle::read_bundle;
 pub use device::{ByteSink, ByteSource, Counted, Metered};
 pub use error::RunErr;
 pub use options::{MAX_JOBS, Options};
-pub use runs::{run, run_files};
+pub use reports::refused_report;
+pub use runs::{run, run_files, send_report};
 pub use status::{
     ANSWERED, DEVICE_FAILED, NO_MEMORY, REFUSED, WITH_FAULTS, end_run, status_code, status_of,
     write_status_line,

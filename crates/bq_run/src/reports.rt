@@ -22,7 +22,7 @@ use std::sync::Wait;
 use std::thread::Threads;
 
 /// Makes the report of a run that loads nothing.
-fn refused(alloc: Global, why: NoAnswer) -> Report
+pub fn refused_report(alloc: Global, why: NoAnswer) -> Report
     ensures { report_view result ≡ refused why }
 {
     Report {
@@ -59,7 +59,7 @@ fn report_by<T: Threads + Wait + RandomSource + Sync>(
         &OpenGate,
     ) {
         Ok(loaded) => report_on(alloc, loaded, question),
-        Err(LoadErr::TooManyModules) => Ok(refused(alloc, NoAnswer::TooManyModules)),
+        Err(LoadErr::TooManyModules) => Ok(refused_report(alloc, NoAnswer::TooManyModules)),
         Err(_) => Err(AllocError),
     }
 }
@@ -84,7 +84,7 @@ fn report_query<T: Threads + Wait + RandomSource + Sync>(
             };
             report_by(rt, alloc, workspace, &schema, question, options)
         }
-        Err(LoadErr::Schema(line)) => Ok(refused(alloc, NoAnswer::Schema(line))),
+        Err(LoadErr::Schema(line)) => Ok(refused_report(alloc, NoAnswer::Schema(line))),
         Err(_) => Err(AllocError),
     }
 }
@@ -106,6 +106,6 @@ pub fn report_workspace<T: Threads + Wait + RandomSource + Sync>(
             drop(query); // PROOF: one call lets the query go
             report
         }
-        Err(why) => Ok(refused(alloc, refusal_of(why)?)),
+        Err(why) => Ok(refused_report(alloc, refusal_of(why)?)),
     }
 }

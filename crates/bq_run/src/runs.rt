@@ -58,8 +58,8 @@ fn ended(end: Result<Status, NoAnswer>) -> Result<Status, RunErr>
     }
 }
 
-/// Writes a report, the faults first.
-fn send<W: ByteSink, F: ByteSink>(
+/// Writes a report, the faults first, and returns how the run ends.
+pub fn send_report<W: ByteSink, F: ByteSink>(
     report: Report,
     writer: &mut W,
     faults_writer: &mut F,
@@ -98,7 +98,7 @@ pub fn run_files<T: Threads + Wait + RandomSource + Sync, W: ByteSink, F: ByteSi
     ensures quiet { (IsErrOf result RunErr.Write → ⊥) → (F.failed faults_writer.new ≡ F.failed faults_writer.old) × (W.failed writer.new ≡ W.failed writer.old) }
 {
     let report = report_workspace(rt, alloc, workspace, options)?;
-    send(report, writer, faults_writer)
+    send_report(report, writer, faults_writer)
 }
 
 /// Runs: reads the bundle to its end, reads the query and the schema, loads the modules by as many workers as there are

@@ -19,5 +19,5 @@ mod whole;
 
 pub use ending::{NoAnswer, Status, refusal_of};
 pub use laws::one_report;
-pub use reply::Question;
-pub use whole::{Report, report_on};
+pub use reply::{Question, Reply};
+pub use whole::{Report, report_on, status_by};

@@ -25,7 +25,8 @@ pub struct Report {
     pub end: Result<Status, NoAnswer>,
 }
 
-fn status_by(lines: &FaultLines) -> Status
+/// Returns how a run ends that has these fault lines and is not refused.
+pub fn status_by(lines: &FaultLines) -> Status
     ensures { result ≡ status_by lines.now }
 {
     if lines.is_empty() {

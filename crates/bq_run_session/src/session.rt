@@ -4,7 +4,6 @@ ghost use Rattle.std.specs.Prelude.{◌≡◌, ◌≤◌, [], Ok, Err, IfOk, len
 ghost use Rattle.bq_load_discover.specs.Schema.{schema_in};
 ghost use Rattle.bq_query_check.specs.Formula.{formula_of};
 ghost use Rattle.bq_query_target_graph.specs.Order.{PackagesAscend};
-ghost use Rattle.bq_run_report.specs.Ending.{status_by};
 ghost use Rattle.bq_run_report.specs.Report.{Replies, inside};
 ghost use Rattle.bq_run.specs.Run.{IsInRange};
 ghost use Rattle.bq_run_session.specs.Queries.{max_query_bytes};
@@ -15,14 +14,13 @@ use bq_base_rope::Rope;
 use bq_label::Workspace;
 use bq_load::{Loaded, OpenGate, load_with};
 use bq_load_discover::{LoadErr, schema_of};
-use bq_load_fault_line::FaultLines;
 use bq_package_schema::Schema;
 use bq_query::{OutputForm, answer, print_answer};
 use bq_query_check::{CheckedQuery, parse_query};
 use bq_query_lex::QueryErr;
 use bq_query_target_graph::{TargetGraph, add_dangling};
 use bq_run::{Options, RunErr};
-use bq_run_report::{NoAnswer, Status, refusal_of};
+use bq_run_report::{NoAnswer, Status, refusal_of, status_by};
 use bq_value_seed::Seed;
 use std::alloc::{AllocError, Global};
 use std::random::RandomSource;
@@ -45,16 +43,6 @@ pub struct Session {
 pub struct Reply {
     pub text: Vec<u8>,
     pub end: Result<Status, NoAnswer>,
-}
-
-fn status_by(lines: &FaultLines) -> Status
-    ensures { result ≡ status_by lines.now }
-{
-    if lines.is_empty() {
-        Status::Answered
-    } else {
-        Status::WithFaults
-    }
 }
 
 /// Makes the session over a loaded workspace. A label that names no target is one more fault, F79.

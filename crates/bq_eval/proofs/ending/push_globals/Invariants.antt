@@ -1,6 +1,6 @@
 -- the values so far, and those of the globals that are left, are those of all
 use Rattle.std.proofs.Common.{◌≡◌, ◌++◌, drop}
-use Rattle.bq_eval_rules.specs.Slots.{slots_of}
+use Rattle.bq_eval_frame.specs.Slots.{slots_of}
 use Rattle.bq_eval.specs.Module.{values_from}
 use Rattle.bq_eval.proofs.ending.push_globals.Given as goal
 

@@ -1,6 +1,6 @@
 -- the loads that are left, with the values that are left, decide
 use Rattle.std.proofs.Common.{◌≡◌, drop}
-use Rattle.bq_eval_rules.specs.Slots.{slots_of}
+use Rattle.bq_eval_frame.specs.Slots.{slots_of}
 use Rattle.bq_eval_meaning_spec.specs.Module.{first_globals}
 use Rattle.bq_eval.proofs.loads.first_globals.Given as goal
 

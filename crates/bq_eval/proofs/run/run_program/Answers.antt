@@ -1,8 +1,8 @@
 use Rattle.std.proofs.Common.{arith}
 use Rattle.bq_eval_meaning_spec.specs.Calls.{max_active}
 use Rattle.bq_eval_meaning_spec.specs.Module.{eval_top}
+use Rattle.bq_eval_frame.proofs.Slots.{none_filled}
 use Rattle.bq_eval_rules.specs.Round.{evals, outside_functions, units_at}
-use Rattle.bq_eval_rules.proofs.Slots.{none_filled}
 use Rattle.bq_eval.specs.Outcomes.{program_run}
 use Rattle.bq_eval.proofs.run.run_program.Goals as goal
 

@@ -2,11 +2,11 @@ use Rattle.std.proofs.Common.{◌∙◌, ap, sym, subst, arith}
 use Rattle.std.proofs.lemmas.Grind.{common_steps}
 use Rattle.bq_value.specs.Datum.{Datum, list_of_data_of}
 use Rattle.bq_builtin_machine.specs.Action.{Run, done}
+use Rattle.bq_eval_frame.specs.Slots.{slots_of}
 use Rattle.bq_eval_rules.specs.Acts.{Acts}
 use Rattle.bq_eval_rules.specs.Round.{evals, in_function, inside, round_of, units_at, globals_of}
 use Rattle.bq_eval_rules.specs.CodeUnits.{unit_of}
 use Rattle.bq_eval_rules.specs.Flows.{flow_of}
-use Rattle.bq_eval_rules.specs.Slots.{slots_of}
 use Rattle.bq_eval_rules.proofs.CallSteps.{calls_step, known_function, no_body, no_function, no_unit, ran_body}
 use Rattle.bq_eval_meaning_spec.specs.Calls.{apply, call_function, inner_calls}
 use Rattle.bq_eval_rules.proofs.calls.+calls.Goals as goal

@@ -1,6 +1,6 @@
 use Rattle.std.proofs.Common.{arith}
 use Rattle.bq_eval_meaning_spec.specs.Targets.{bind_each, bind_to}
-use Rattle.bq_eval_rules.specs.Slots.{slots_of}
+use Rattle.bq_eval_frame.specs.Slots.{slots_of}
 use Rattle.bq_eval_rules.proofs.Depth.{deeper}
 use Rattle.std.proofs.lemmas.Grind.{common_steps}
 use Rattle.bq_eval_rules.proofs.targets.+targets.Goals as goal

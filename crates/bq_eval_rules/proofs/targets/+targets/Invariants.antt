@@ -1,6 +1,6 @@
 use Rattle.std.proofs.Common.{◌≡◌, ◌+◌, ◌*◌, drop}
 use Rattle.bq_eval_meaning_spec.specs.Targets.{bind_each, bind_to}
-use Rattle.bq_eval_rules.specs.Slots.{slots_of}
+use Rattle.bq_eval_frame.specs.Slots.{slots_of}
 use Rattle.bq_eval_rules.proofs.targets.+targets.Given as goal
 
 abbrev pub invariant-bind_each-loop-target : goal.invariant-bind_each-loop-target

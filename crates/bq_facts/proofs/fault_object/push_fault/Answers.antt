@@ -7,5 +7,5 @@ pub returns : goal.returns
 unfolding fault_object
 returns c =
     two_parts c.args.text.now.items c.push_what.new.text.items c.push_where.new.text.items c.close_object.new.text.items c.push.new.self.items
-    (what_members c.args.line.now) (where_members c.args.line.now c.args.file.now) (lit< tt) c.in_ok-push_what.ensures c.in_ok-push_where.ensures
+    (what_members c.args.line.now) (where_members c.args.line.now) (lit< tt) c.in_ok-push_what.ensures c.in_ok-push_where.ensures
     c.in_ok-close_object.ensures c.in_ok-push.ensures.items

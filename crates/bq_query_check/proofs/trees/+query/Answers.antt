@@ -14,17 +14,28 @@ use Rattle.bq_query_verdict.specs.Verdict as spec
 use Rattle.bq_query_verdict.specs.Verdict.{Need, no_fault, part_of, operation_part, argument, parts, call_by}
 use Rattle.bq_query_check.specs.declared.formula.SetExpr.{SetExpr}
 use Rattle.bq_query_check.specs.declared.formula.ChainStep.{ChainStep}
-use Rattle.bq_query_check.specs.declared.formula.SetExpr.TheVariants as query
 use Rattle.bq_query_check.specs.declared.formula.Unary.TheVariants as unary
+use Rattle.bq_query_check.specs.declared.formula.Binary.TheVariants as binary
 use Rattle.bq_query_check.specs.Checked.{Holds, FirstFails, Reads}
 use Rattle.bq_query_check.specs.Formula.{formula_of, step_of}
 use Rattle.bq_query_check.specs.FormulaOf.{IsFormulaOf, IsBound, IsCallOf, IsCallNamed, IsNamed, IsOne, AreStepsOf}
 use Rattle.bq_query_check.proofs.Needs.{all_hold, fails_before, fails_after, read_as, one_word}
 use Rattle.bq_query_check.proofs.Calls.{moved, part_fails, last_part, call_known}
 use Rattle.bq_query_check.proofs.Items.{one_item, two_items, three_items}
-use Rattle.bq_query_check.proofs.Says.{one_says}
+use Rattle.bq_query_check.proofs.Says.{let_says, chain_says, one_says, two_says}
 use Rattle.bq_query_check.proofs.Steps.{steps_pushed, parts_more, part_fails_there}
 use Rattle.bq_query_check.proofs.trees.+query.Goals as goal
+
+-- ---- boxes
+
+pub boxed-returns-in_err-set : goal.boxed-returns-in_err-set
+boxed-returns-in_err-set t c =
+    let p = err_from_is_err_and c.from_residual.result c.from_residual.ensures.1 in
+    rw (p.1, p.2) (λ other. c.in_err-set.ensures other)
+
+pub boxed-returns : goal.boxed-returns
+boxed-returns t c =
+    (c.in_ok-set.ensures.0, subst (λ (r : SetExpr). IsFormulaOf c.args.names.now c.args.query.now (formula_of r)) (sym c.in_ok-new.ensures) c.in_ok-set.ensures.1)
 
 -- ---- functions
 
@@ -34,14 +45,7 @@ one-returns-in_err-x t c =
     rw (p.1, p.2) (λ other. c.in_err-x.ensures other)
 
 pub one-returns : goal.one-returns
-one-returns t c = (
-  c.in_ok-x.ensures.0,
-  (
-    formula_of c.in_ok-x.x,
-    c.in_ok-x.ensures.1,
-    ap (λ (b : SetExpr). formula_of (query.One c.args.function b)) c.in_ok-new.ensures ∙ one_says c.args.function c.in_ok-x.x,
-  ),
-)
+one-returns t c = (c.in_ok-x.ensures.0, (formula_of c.in_ok-x.x, c.in_ok-x.ensures.1, one_says c.args.function c.in_ok-x.x))
 
 -- ---- calls
 
@@ -77,8 +81,8 @@ allpaths-returns-in_err-y-in-len2 t c =
     rw (p.1, p.2) (moved fn.Allpaths ns xs (u ∷ x ∷ []) (λ r. IsCallOf fn.Allpaths ns xs (formula_of r)) (Err _) same
     (part_fails (no_fault None ∷ (part_of u).all ns) ((part_of x).all ns) [] _ (refl, c.in_ok-x-in-len2.ensures.0) c.in_err-y-in-len2.ensures))
 
-pub allpaths-returns-in_ok-two-in-len2 : goal.allpaths-returns-in_ok-two-in-len2
-allpaths-returns-in_ok-two-in-len2 t c =
+pub allpaths-returns-in_ok-y-in-len2 : goal.allpaths-returns-in_ok-y-in-len2
+allpaths-returns-in_ok-y-in-len2 t c =
     let xs = c.args.arguments.now in
     let ns = c.args.names.now in
     let u = c.x-item.result in
@@ -86,7 +90,7 @@ allpaths-returns-in_ok-two-in-len2 t c =
     let same : c.args.arguments.now ≡ c.x-item.result ∷ c.y-item.result ∷ [] = two_items xs u x (omega arith) c.x-item.is c.y-item.is in
     moved fn.Allpaths ns xs (u ∷ x ∷ []) (λ r. IsCallOf fn.Allpaths ns xs (formula_of r)) (Ok _) same (
       (refl, all_hold ((part_of u).all ns) ((part_of x).all ns ++ []) c.in_ok-x-in-len2.ensures.0 (all_hold ((part_of x).all ns) [] c.in_ok-y-in-len2.ensures.0 tt)),
-      IsCallOf.allpaths same c.in_ok-x-in-len2.ensures.1 c.in_ok-y-in-len2.ensures.1 c.in_ok-two-in-len2.ensures,
+      IsCallOf.allpaths same c.in_ok-x-in-len2.ensures.1 c.in_ok-y-in-len2.ensures.1 (two_says binary.Allpaths c.in_ok-x-in-len2.x c.in_ok-y-in-len2.y),
     )
 
 pub rdeps-returns-in_err-u-in-len2 : goal.rdeps-returns-in_err-u-in-len2
@@ -111,8 +115,8 @@ rdeps-returns-in_err-x-in-len2 t c =
     rw (p.1, p.2) (moved fn.Rdeps ns xs (u ∷ x ∷ []) (λ r. IsCallOf fn.Rdeps ns xs (formula_of r)) (Err _) same
     (part_fails (no_fault None ∷ (part_of u).all ns) ((part_of x).all ns) [] _ (refl, c.in_ok-u-in-len2.ensures.0) c.in_err-x-in-len2.ensures))
 
-pub rdeps-returns-in_ok-two-in-len2 : goal.rdeps-returns-in_ok-two-in-len2
-rdeps-returns-in_ok-two-in-len2 t c =
+pub rdeps-returns-in_ok-x-in-len2 : goal.rdeps-returns-in_ok-x-in-len2
+rdeps-returns-in_ok-x-in-len2 t c =
     let xs = c.args.arguments.now in
     let ns = c.args.names.now in
     let u = c.u-item.result in
@@ -120,7 +124,7 @@ rdeps-returns-in_ok-two-in-len2 t c =
     let same : c.args.arguments.now ≡ c.u-item.result ∷ c.x-item.result ∷ [] = two_items xs u x (omega arith) c.u-item.is c.x-item.is in
     moved fn.Rdeps ns xs (u ∷ x ∷ []) (λ r. IsCallOf fn.Rdeps ns xs (formula_of r)) (Ok _) same (
       (refl, all_hold ((part_of u).all ns) ((part_of x).all ns ++ []) c.in_ok-u-in-len2.ensures.0 (all_hold ((part_of x).all ns) [] c.in_ok-x-in-len2.ensures.0 tt)),
-      IsCallOf.rdeps same c.in_ok-u-in-len2.ensures.1 c.in_ok-x-in-len2.ensures.1 c.in_ok-two-in-len2.ensures,
+      IsCallOf.rdeps same c.in_ok-u-in-len2.ensures.1 c.in_ok-x-in-len2.ensures.1 (two_says binary.Rdeps c.in_ok-u-in-len2.u c.in_ok-x-in-len2.x),
     )
 
 pub deps-returns-in_err-x-in-len2 : goal.deps-returns-in_err-x-in-len2
@@ -145,19 +149,17 @@ deps-returns-in_err-limit-in-len2 t c =
     rw (p.1, p.2) (moved fn.Deps ns xs (x ∷ n ∷ []) (λ r. IsCallOf fn.Deps ns xs (formula_of r)) (Err _) same
     (part_fails (no_fault None ∷ (part_of x).all ns) (argument None (part_of n) ns) [] _ (refl, c.in_ok-x-in-len2.ensures.0) c.in_err-limit-in-len2.ensures))
 
-pub deps-returns-in_ok-new-in-len2 : goal.deps-returns-in_ok-new-in-len2
-deps-returns-in_ok-new-in-len2 t c =
+pub deps-returns-in_ok-limit-in-len2 : goal.deps-returns-in_ok-limit-in-len2
+deps-returns-in_ok-limit-in-len2 t c =
     let xs = c.args.arguments.now in
     let ns = c.args.names.now in
     let x = c.x-item-then-arguments-lt3.result in
     let n = c.n-item.result in
     let same : c.args.arguments.now ≡ c.x-item-then-arguments-lt3.result ∷ c.n-item.result ∷ [] = two_items xs x n (omega arith) c.x-item-then-arguments-lt3.is c.n-item.is in
-    let k = c.in_ok-limit-in-len2.limit in
-    let q = c.in_ok-x-in-len2.x in
-    let says = ap (λ (b : SetExpr). formula_of (query.One (unary.DepsWithin k) b)) c.in_ok-new-in-len2.ensures ∙ one_says (unary.DepsWithin k) q in
     moved fn.Deps ns xs (x ∷ n ∷ []) (λ r. IsCallOf fn.Deps ns xs (formula_of r)) (Ok _) same (
       (refl, all_hold ((part_of x).all ns) (argument None (part_of n) ns ++ []) c.in_ok-x-in-len2.ensures.0 (all_hold (argument None (part_of n) ns) [] c.in_ok-limit-in-len2.ensures.0 tt)),
-      IsCallOf.deps_within same c.in_ok-x-in-len2.ensures.1 c.in_ok-limit-in-len2.ensures.1 says,
+      IsCallOf.deps_within same c.in_ok-x-in-len2.ensures.1 c.in_ok-limit-in-len2.ensures.1
+          (one_says (unary.DepsWithin c.in_ok-limit-in-len2.limit) c.in_ok-x-in-len2.x),
     )
 
 pub kind-returns-in_err-pattern-in-len2 : goal.kind-returns-in_err-pattern-in-len2
@@ -308,8 +310,8 @@ rdeps-returns-in_err-limit-in-len3 t c =
           (part_fails ((part_of x).all ns) (argument None (part_of n) ns) [] _ c.in_ok-x-in-len3.ensures.0 c.in_err-limit-in-len3.ensures other),
     )))
 
-pub rdeps-returns-in_ok-two-in-len3 : goal.rdeps-returns-in_ok-two-in-len3
-rdeps-returns-in_ok-two-in-len3 t c =
+pub rdeps-returns-in_ok-limit-in-len3 : goal.rdeps-returns-in_ok-limit-in-len3
+rdeps-returns-in_ok-limit-in-len3 t c =
     let xs = c.args.arguments.now in
     let ns = c.args.names.now in
     let u = c.u-item-then-arguments-lt4.result in
@@ -322,7 +324,8 @@ rdeps-returns-in_ok-two-in-len3 t c =
         all_hold ((part_of u).all ns) ((part_of x).all ns ++ (argument None (part_of n) ns ++ [])) c.in_ok-u-in-len3.ensures.0
             (all_hold ((part_of x).all ns) (argument None (part_of n) ns ++ []) c.in_ok-x-in-len3.ensures.0 (all_hold (argument None (part_of n) ns) [] c.in_ok-limit-in-len3.ensures.0 tt)),
       ),
-      IsCallOf.rdeps_within same c.in_ok-u-in-len3.ensures.1 c.in_ok-x-in-len3.ensures.1 c.in_ok-limit-in-len3.ensures.1 c.in_ok-two-in-len3.ensures,
+      IsCallOf.rdeps_within same c.in_ok-u-in-len3.ensures.1 c.in_ok-x-in-len3.ensures.1 c.in_ok-limit-in-len3.ensures.1
+          (two_says (binary.RdepsWithin c.in_ok-limit-in-len3.limit) c.in_ok-u-in-len3.u c.in_ok-x-in-len3.x),
     )
 
 pub call-returns-in-Some-Allpaths : goal.call-returns-in-Some-Allpaths
@@ -404,7 +407,7 @@ steps-returns t c =
 pub body-returns : goal.body-returns
 body-returns t c =
     let all = (part_of c.args.query.now).all in
-    subst (λ (names : List (List ℕ)). Reads (all names) (λ r. IsFormulaOf names c.args.query.now (formula_of r)) c.read.result) (c.as_slice.ensures ∙ c.in_ok-names.ensures) c.read.ensures
+    subst (λ (names : List (List ℕ)). Reads (all names) (λ r. IsFormulaOf names c.args.query.now (formula_of r)) c.boxed.result) (c.as_slice.ensures ∙ c.in_ok-names.ensures) c.boxed.ensures
 
 pub read-returns-in-Word : goal.read-returns-in-Word
 read-returns-in-Word t c =
@@ -483,8 +486,8 @@ read-returns-in_err-steps-in-Chain t c =
     rw (p.1, p.2) (λ other. subst (λ (xs : List Need). FirstFails xs c.in_err-steps-in-Chain.field-0.0) (sym says)
     (fails_after ((part_of c.get-in-Chain.result.now).all ns) (parts (map operation_part os) ns) c.in_err-steps-in-Chain.field-0.0 c.in_ok-first-in-Chain.ensures.0 (c.in_err-steps-in-Chain.ensures other)))
 
-pub read-returns-in_ok-let_in-in-Let : goal.read-returns-in_ok-let_in-in-Let
-read-returns-in_ok-let_in-in-Let t c =
+pub read-returns-in_ok-inner-in-Let : goal.read-returns-in_ok-inner-in-Let
+read-returns-in_ok-inner-in-Let t c =
     let ns = c.args.names.now in
     let name = c.in-Let.name in
     let value = c.get-in-Let.result.now in
@@ -493,11 +496,11 @@ read-returns-in_ok-let_in-in-Let t c =
     let is : c.args.query.now ≡ tree.Let c.in-Let.name c.get-in-Let.result.now c.get-in-Let-2.result.now =
     c.in-Let.is ∙ (ap (λ (v : Query). tree.Let name v c.in-Let.inner) (sym c.get-in-Let.ensures) ∙ ap (λ (v : Query). tree.Let name value v) (sym c.get-in-Let-2.ensures)) in (
       subst (AllByRecursion Holds) (sym says) (all_hold ((part_of value).all ns) ((part_of inner).all (ns ++ name ∷ [])) c.in_ok-value-in-Let.ensures.0 c.in_ok-inner-in-Let.ensures.0),
-      IsFormulaOf.binding is c.in_ok-value-in-Let.ensures.1 c.in_ok-inner-in-Let.ensures.1 c.in_ok-let_in-in-Let.ensures,
+      IsFormulaOf.binding is c.in_ok-value-in-Let.ensures.1 c.in_ok-inner-in-Let.ensures.1 (let_says c.in_ok-value-in-Let.value c.in_ok-inner-in-Let.inner),
     )
 
-pub read-returns-in_ok-chain-in-Chain : goal.read-returns-in_ok-chain-in-Chain
-read-returns-in_ok-chain-in-Chain t c =
+pub read-returns-in_ok-steps-in-Chain : goal.read-returns-in_ok-steps-in-Chain
+read-returns-in_ok-steps-in-Chain t c =
     let ns = c.args.names.now in
     let first = c.get-in-Chain.result.now in
     let os = c.as_slice-in-Chain.result.now in
@@ -505,5 +508,5 @@ read-returns-in_ok-chain-in-Chain t c =
     let is : c.args.query.now ≡ tree.Chain c.get-in-Chain.result.now c.as_slice-in-Chain.result.now =
     c.in-Chain.is ∙ (ap (λ (v : Query). tree.Chain v c.in-Chain.operations) (sym c.get-in-Chain.ensures) ∙ ap (λ (v : List SetOperation). tree.Chain first v) (sym c.as_slice-in-Chain.ensures)) in (
       subst (AllByRecursion Holds) (sym says) (all_hold ((part_of first).all ns) (parts (map operation_part os) ns) c.in_ok-first-in-Chain.ensures.0 c.in_ok-steps-in-Chain.ensures.0),
-      IsFormulaOf.chain is c.in_ok-first-in-Chain.ensures.1 c.in_ok-steps-in-Chain.ensures.1 c.in_ok-chain-in-Chain.ensures,
+      IsFormulaOf.chain is c.in_ok-first-in-Chain.ensures.1 c.in_ok-steps-in-Chain.ensures.1 (chain_says c.in_ok-first-in-Chain.first c.in_ok-steps-in-Chain.steps),
     )

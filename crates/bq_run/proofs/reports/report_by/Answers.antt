@@ -18,4 +18,4 @@ returns-in-Ok g c =
 
 pub returns-in-Err-TooManyModules : goal.returns-in-Err-TooManyModules
 returns-in-Err-TooManyModules g c =
-    IsReportOn.too_many c.args.question.query.now c.args.schema.now c.requires.query c.requires.schema (c.in-Err-TooManyModules.ensures.0 (search rules)) c.refused.ensures
+    IsReportOn.too_many c.args.question.query.now c.args.schema.now c.requires.query c.requires.schema (c.in-Err-TooManyModules.ensures.0 (search rules)) c.refused_report.ensures

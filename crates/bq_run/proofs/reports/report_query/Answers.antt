@@ -4,4 +4,4 @@ use Rattle.bq_run.proofs.reports.report_query.Goals as goal
 
 pub returns-in-Err-Schema : goal.returns-in-Err-Schema
 returns-in-Err-Schema g c =
-    IsReportOn.wrong_schema c.args.query.now c.in-Err-Schema.line c.requires.query (c.in-Err-Schema.ensures c.in-Err-Schema.line (search rules)) c.refused.ensures
+    IsReportOn.wrong_schema c.args.query.now c.in-Err-Schema.line c.requires.query (c.in-Err-Schema.ensures c.in-Err-Schema.line (search rules)) c.refused_report.ensures

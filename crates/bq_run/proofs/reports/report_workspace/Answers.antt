@@ -7,4 +7,4 @@ pub returns-in_ok-refusal_of-in-Err : goal.returns-in_ok-refusal_of-in-Err
 returns-in_ok-refusal_of-in-Err g c =
     let why = c.in-Err.why in
     let wrong = c.in-Err.ensures c.in_ok-refusal_of-in-Err.ensures.known in
-    IsReportOn.wrong_query why (subst (λ t. IsWrong t why) c.deref.ensures.value wrong) (c.refused.ensures ∙ ap refused c.in_ok-refusal_of-in-Err.ensures.value)
+    IsReportOn.wrong_query why (subst (λ t. IsWrong t why) c.deref.ensures.value wrong) (c.refused_report.ensures ∙ ap refused c.in_ok-refusal_of-in-Err.ensures.value)

@@ -6,4 +6,4 @@ use Rattle.bq_run.proofs.runs.run_files.Goals as goal
 pub returns-clause-does : goal.returns-clause-does
 returns-clause-does g c =
     let r = report_view c.in_ok-report.report in
-    DoesOne.ran (run_report r) (r, c.in_ok-report.ensures, refl) c.send.ensures.does
+    DoesOne.ran (run_report r) (r, c.in_ok-report.ensures, refl) c.send_report.ensures.does

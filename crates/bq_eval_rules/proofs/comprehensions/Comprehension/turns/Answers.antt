@@ -4,9 +4,9 @@ use Rattle.bq_value.specs.declared.error.EvalErr.TheVariants.{Bad}
 use Rattle.bq_builtin_machine.specs.Action.{stopped}
 use Rattle.bq_builtin_machine.specs.State.{stop_at}
 use Rattle.bq_eval_meaning_spec.specs.Comprehensions.{body}
+use Rattle.bq_eval_frame.specs.Slots.{slots_of}
 use Rattle.bq_eval_rules.specs.Nests.{nested}
 use Rattle.bq_eval_rules.specs.OpenLoops.{loop_left, loop_of, loops_of}
-use Rattle.bq_eval_rules.specs.Slots.{slots_of}
 use Rattle.bq_eval_rules.proofs.Loops.{end_counts, falls, last_ends, loop_ends, loops_begin, none_counts, none_opens, one_counts, one_opens, turn_stops}
 use Rattle.bq_eval_rules.proofs.comprehensions.Comprehension.turns.Goals as goal
 

@@ -1,8 +1,8 @@
 use Rattle.std.proofs.Common.{◌≡◌, ◌∷◌}
 use Rattle.bq_eval_meaning_spec.specs.Comprehensions.{body}
+use Rattle.bq_eval_frame.specs.Slots.{slots_of}
 use Rattle.bq_eval_rules.specs.Nests.{nested}
 use Rattle.bq_eval_rules.specs.OpenLoops.{loop_left, loop_of, loops_count, loops_left, loops_of}
-use Rattle.bq_eval_rules.specs.Slots.{slots_of}
 use Rattle.bq_eval_rules.proofs.comprehensions.Comprehension.turns.Given as goal
 
 -- what the loops that are open still do is what the first one does

@@ -7,9 +7,9 @@ use Rattle.bq_resolve_scope.specs.declared.code.Code.TheOpen.{Code-F}
 use Rattle.bq_value.specs.Datum.{Datum, int}
 use Rattle.bq_builtin_machine.specs.Action.{Run, following}
 use Rattle.bq_eval_meaning_spec.specs.Expressions.{literal}
+use Rattle.bq_eval_frame.specs.Slots.{slots_of}
 use Rattle.bq_eval_rules.specs.Acts.{Acts}
 use Rattle.bq_eval_rules.specs.Round.{inside, round_of}
-use Rattle.bq_eval_rules.specs.Slots.{slots_of}
 use Rattle.bq_eval_rules.proofs.Layers.{local_layer, int_layer}
 use Rattle.bq_eval_rules.proofs.evaluator.Evaluator.apply.Goals as goal
 

@@ -4,8 +4,8 @@ use Rattle.bq_resolve_scope.specs.declared.code.Binding.TheVariants as b
 use Rattle.bq_resolve_scope.specs.declared.code.Code.{out-Code}
 use Rattle.bq_resolve_scope.specs.declared.code.Code.TheVariants.{outs-Use}
 use Rattle.bq_resolve_scope.specs.declared.code.Code.TheOpen.{Code-F}
+use Rattle.bq_eval_frame.specs.Slots.{slots_of}
 use Rattle.bq_eval_rules.specs.Round.{inside, round_of}
-use Rattle.bq_eval_rules.specs.Slots.{slots_of}
 use Rattle.bq_eval_rules.proofs.Layers.{local_layer}
 use Rattle.bq_eval_rules.proofs.evaluator.Evaluator.chain_of.Goals as goal
 

@@ -1,6 +1,6 @@
 use Rattle.std.proofs.Common.{◌≡◌, drop}
 use Rattle.bq_eval_meaning_spec.specs.Expressions.{conditional}
-use Rattle.bq_eval_rules.specs.Slots.{slots_of}
+use Rattle.bq_eval_frame.specs.Slots.{slots_of}
 use Rattle.bq_eval_rules.specs.Nests.{nested}
 use Rattle.bq_eval_rules.proofs.evaluator.Evaluator.conditional.Given as goal
 

@@ -7,9 +7,9 @@ use Rattle.bq_value.specs.declared.error.EvalErr.TheVariants.{Bad}
 use Rattle.bq_builtin_machine.specs.Action.{stopped}
 use Rattle.bq_builtin_machine.specs.State.{stop_at}
 use Rattle.bq_eval_meaning_spec.specs.Comprehensions.{body, clauses}
+use Rattle.bq_eval_frame.specs.Slots.{slots_of}
 use Rattle.bq_eval_rules.specs.Nests.{nested}
 use Rattle.bq_eval_rules.specs.OpenLoops.{loop_of}
-use Rattle.bq_eval_rules.specs.Slots.{slots_of}
 use Rattle.bq_eval_rules.proofs.Clauses.{loop_opens, loop_fails, loop_counts, condition_stops, condition_holds, holds_count, condition_fails, fails_count, no_clause, no_count}
 use Rattle.bq_eval_rules.proofs.evaluator.Evaluator.inward.Goals as goal
 

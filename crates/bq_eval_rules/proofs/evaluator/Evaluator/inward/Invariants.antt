@@ -1,8 +1,8 @@
 use Rattle.std.proofs.Common.{◌≡◌, length}
 use Rattle.bq_eval_meaning_spec.specs.Comprehensions.{clauses, body}
+use Rattle.bq_eval_frame.specs.Slots.{slots_of}
 use Rattle.bq_eval_rules.specs.Nests.{nested}
 use Rattle.bq_eval_rules.specs.OpenLoops.{clauses_count}
-use Rattle.bq_eval_rules.specs.Slots.{slots_of}
 use Rattle.bq_eval_rules.proofs.evaluator.Evaluator.inward.Given as goal
 
 abbrev pub invariant-loop-rest : goal.invariant-loop-rest

@@ -5,10 +5,10 @@ use Rattle.bq_resolve_scope.specs.declared.code.Code.TheOpen.{Code-F}
 use Rattle.bq_value.specs.Datum.{Datum, int}
 use Rattle.bq_builtin_machine.specs.Action.{Run}
 use Rattle.bq_eval_meaning_spec.specs.Expressions.{literal}
+use Rattle.bq_eval_frame.specs.Slots.{slots_of}
 use Rattle.bq_eval_rules.specs.Acts.{Acts}
 use Rattle.bq_eval_rules.specs.Operands.{read_of}
 use Rattle.bq_eval_rules.specs.Round.{inside, round_of}
-use Rattle.bq_eval_rules.specs.Slots.{slots_of}
 use Rattle.bq_eval_rules.proofs.Layers.{use_layer, int_layer}
 use Rattle.bq_eval_rules.proofs.evaluator.Evaluator.operand.Goals as goal
 

@@ -2,9 +2,9 @@ use Rattle.std.proofs.Common.{subst}
 use Rattle.bq_builtin_machine.specs.Action.{following, pure}
 use Rattle.bq_eval_meaning_spec.specs.Comprehensions.{body, clauses}
 use Rattle.bq_eval_meaning_spec.specs.Frame.{Frame}
+use Rattle.bq_eval_frame.specs.Slots.{slots_of}
 use Rattle.bq_eval_rules.specs.Acts.{Acts}
 use Rattle.bq_eval_rules.specs.Nests.{nested}
-use Rattle.bq_eval_rules.specs.Slots.{slots_of}
 use Rattle.bq_eval_rules.proofs.Following.{first_acts}
 use Rattle.bq_eval_rules.proofs.evaluator.Evaluator.run_clauses.Goals as goal
 

@@ -3,7 +3,7 @@ use Rattle.bq_resolve_scope.specs.declared.code.CodeTarget.{out-CodeTarget}
 use Rattle.bq_resolve_scope.specs.declared.code.CodeTarget.TheVariants.{outs-Index, outs-Tuple, outs-List}
 use Rattle.bq_builtin_machine.specs.Action.{Run}
 use Rattle.bq_eval_meaning_spec.specs.Targets.{Places, places_each, places_of, places_to}
-use Rattle.bq_eval_rules.specs.Slots.{slots_of}
+use Rattle.bq_eval_frame.specs.Slots.{slots_of}
 use Rattle.bq_eval_rules.specs.Round.{evals}
 use Rattle.bq_eval_rules.specs.Acts.{Acts}
 use Rattle.bq_eval_rules.proofs.Assigning.{index_places, tuple_places, list_places}

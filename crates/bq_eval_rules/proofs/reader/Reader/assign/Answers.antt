@@ -3,8 +3,8 @@ use Rattle.std.proofs.lemmas.Grind.{common_steps}
 use Rattle.bq_resolve_scope.specs.declared.code.Code.TheOpen.{CodeTarget-F}
 use Rattle.bq_resolve_scope.specs.declared.code.CodeTarget.{out-CodeTarget}
 use Rattle.bq_resolve_scope.specs.declared.code.CodeTarget.TheVariants.{outs-Local, outs-Global}
+use Rattle.bq_eval_frame.specs.Slots.{slots_of}
 use Rattle.bq_eval_rules.specs.Round.{evals}
-use Rattle.bq_eval_rules.specs.Slots.{slots_of}
 use Rattle.bq_eval_rules.proofs.Assigning.{assign_local, assign_global}
 use Rattle.bq_eval_rules.proofs.reader.Reader.assign.Goals as goal
 

@@ -1,9 +1,9 @@
 use Rattle.std.proofs.Common.{sym, subst}
 use Rattle.bq_builtin_machine.specs.Action.{Run}
 use Rattle.bq_eval_meaning_spec.specs.Frame.{Frame}
+use Rattle.bq_eval_frame.specs.Slots.{slots_of}
 use Rattle.bq_eval_rules.specs.Acts.{Acts}
 use Rattle.bq_eval_rules.specs.Round.{evals}
-use Rattle.bq_eval_rules.specs.Slots.{slots_of}
 use Rattle.bq_eval_rules.proofs.Assigning.{index_augmented}
 use Rattle.bq_eval_rules.proofs.Following.{then_gives}
 use Rattle.bq_eval_rules.proofs.reader.Reader.augment_index.Goals as goal

@@ -1,6 +1,6 @@
 use Rattle.std.proofs.Common.{◌≡◌, drop}
 use Rattle.bq_eval_meaning_spec.specs.Module.{top_levels}
-use Rattle.bq_eval_rules.specs.Slots.{slots_of}
+use Rattle.bq_eval_frame.specs.Slots.{slots_of}
 use Rattle.bq_eval_rules.specs.Round.{evals, own_of}
 use Rattle.bq_eval_rules.proofs.reader.Reader.top_levels.Given as goal
 

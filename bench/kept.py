@@ -1,0 +1,170 @@
+"""Libraries of crates as the gate builds them, kept by their texts: each is proved once on a machine, whichever clone asks for it.
+
+rt's own modules say how a crate is checked; what is here keeps what they build in a folder of the user's cache, under a sum of the crate's
+texts and of those below it. The gate trusts none of it.
+"""
+import fcntl
+import hashlib
+import importlib.machinery
+import importlib.util
+import json
+import os
+import shutil
+import subprocess
+import sys
+import tempfile
+import time
+from concurrent.futures import FIRST_COMPLETED, ThreadPoolExecutor, wait
+
+import kit
+
+STORE = os.path.join(os.environ.get("XDG_CACHE_HOME") or os.path.expanduser("~/.cache"), "bq-proofs")
+# what a check takes that has not been seen yet, in processor seconds and in bytes
+UNKNOWN = (60, 3e9)
+
+
+def rt_module():
+    """rt's modules, from the command that the environment names."""
+    path = os.path.realpath(shutil.which(kit.RT) or sys.exit(f"there is no {kit.RT} on the PATH"))
+    loader = importlib.machinery.SourceFileLoader("rt", path)
+    module = importlib.util.module_from_spec(importlib.util.spec_from_loader("rt", loader))
+    sys.dont_write_bytecode = True
+    loader.exec_module(module)
+    return module
+
+
+class Kept:
+    """The crates of a clone, each with its place in the store."""
+
+    def __init__(self, root=kit.ROOT):
+        rt = rt_module()
+        self.lib, self.root, self.sums = rt.rtlib, root, {}
+        self.lib.Crate = rt.Crate
+        # as in the gate, the crates above a library load its statements and not its proofs
+        rt.Crate.cuts_libraries = True
+        # (its first call sets a signal's handler, which only the main thread may)
+        self.lib.guarded()
+        self.crates = {it.name: it for it in self.lib.crates_below(root)}
+        self.seen = {(it["crate"], it["tests"]): (it["seconds"], it["bytes"]) for it in self.log()}
+        for crate in self.crates.values():
+            crate.rlib = f"{self.place(crate)}/{crate.name}.rlib"
+
+    def log(self):
+        if not os.path.exists(f"{STORE}/log"):
+            return []
+        with open(f"{STORE}/log", encoding="utf-8") as lines:
+            return [json.loads(line) for line in lines]
+
+    def sum_of(self, crate):
+        """A sum of the texts of a crate and of those below it."""
+        if crate.name not in self.sums:
+            found = hashlib.sha256(repr((crate.name, crate.of_kit, [self.sum_of(it) for it in crate.deps])).encode())
+            with open(os.path.join(os.path.dirname(os.path.realpath(shutil.which(kit.RT))), "..", "KIT-ID"), "rb") as file:
+                found.update(file.read())
+            for part in kit.PARTS:
+                for at, folders, files in os.walk(f"{crate.folder}/{part}"):
+                    folders.sort()
+                    for name in sorted(files):
+                        with open(f"{at}/{name}", "rb") as file:
+                            found.update(repr((os.path.relpath(at, crate.folder), name, file.read())).encode())
+            self.sums[crate.name] = found.hexdigest()[:24]
+        return self.sums[crate.name]
+
+    def place(self, crate, tests=False):
+        return f"{STORE}/{crate.name}{'-tests' if tests else ''}-{self.sum_of(crate)}"
+
+    def is_there(self, crate, tests=False):
+        return os.path.exists(f"{self.place(crate, tests)}/proved")
+
+    def run(self, words, folder):
+        """Runs the prover: its status, what it says, its processor seconds and its bytes at the peak."""
+        with tempfile.NamedTemporaryFile("r") as report:
+            timed = ["/usr/bin/time", "-q", "-f", "%U %S %M", "-o", report.name]
+            words = [*self.lib.guarded(), *timed, self.lib.RATTLE, *words]
+            ran = subprocess.run(words, cwd=folder, stdin=subprocess.DEVNULL, stdout=subprocess.PIPE, stderr=subprocess.STDOUT, errors="replace")
+            user, system, peak = (report.read().split() or ["0"] * 3)[-3:]
+        return ran.returncode, ran.stdout, float(user) + float(system), int(peak) * 1024
+
+    def words(self, crate, tests, jobs):
+        with open(os.devnull, "w", encoding="utf-8") as crate.out:
+            return crate.words(["--jobs", str(jobs)], tests=tests, keeps=False)
+
+    def prove(self, crate, tests, jobs=1):
+        """Proves a crate, or its tests, from nothing, and keeps the library. Returns what was said where that failed, and its seconds."""
+        here = self.place(crate, tests)
+        os.makedirs(here, exist_ok=True)
+        with open(f"{here}/lock", "w", encoding="utf-8") as lock:
+            # (another clone may prove the same text)
+            fcntl.flock(lock, fcntl.LOCK_EX)
+            if self.is_there(crate, tests):
+                return None, 0
+            words = self.words(crate, tests, jobs)
+            if tests or crate.is_program:
+                words = ["check", *words]
+            else:
+                shutil.rmtree(crate.rlib, ignore_errors=True)
+                words = ["build", *words, "--statements", "-o", crate.rlib]
+            status, said, seconds, peak = self.run(words, crate.folder)
+            self.sums.pop(crate.name)
+            if here != self.place(crate, tests):
+                return "its text changed while it was proved", seconds
+            if status:
+                return said, seconds
+            with open(f"{STORE}/log", "a", encoding="utf-8") as log:
+                print(json.dumps({"crate": crate.name, "tests": tests, "seconds": round(seconds, 1), "bytes": peak}), file=log)
+            with open(f"{here}/proved", "w", encoding="utf-8") as file:
+                file.write(said.splitlines()[-1])
+            return None, seconds
+
+    def check(self, crate, flags):
+        """Checks a crate over what its last check kept in out/, and prints what the prover says. Returns its status."""
+        words = ["check", *self.words(crate, False, 1), *flags, "--incremental", "out/incremental-kept"]
+        os.makedirs(f"{crate.folder}/out", exist_ok=True)
+        status, said, seconds, peak = self.run(words, crate.folder)
+        print(f"{said}{seconds:.0f} s of a processor, {peak / 1e9:.1f} GB")
+        return status
+
+    def tasks(self, crates, with_tests):
+        """What has to be proved: the crate and whether its tests, each with the crates that it waits for."""
+        wanted = {it.name: it for crate in crates for it in [*crate.below(), crate]}
+        found = {(it.name, False): it for it in wanted.values() if not self.is_there(it)}
+        if with_tests:
+            found |= {(it.name, True): it for it in crates if it.has_tests() and not self.is_there(it, True)}
+        return {key: [(it.name, False) for it in crate.below() if not self.is_there(it)] for key, crate in found.items()}
+
+    def sweep(self, crates, with_tests, lanes, memory):
+        """Proves crates and those below them, those with the longest chain above them first. Yields each with what failed, if anything,
+        and its seconds."""
+        waits = self.tasks(crates, with_tests)
+        behind = {}
+
+        def chain(key):
+            if key not in behind:
+                behind[key] = self.seen.get(key, UNKNOWN)[0] + max((chain(it) for it in waits if key in waits[it]), default=0)
+            return behind[key]
+
+        left, running, failed, ended = sorted(waits, key=chain, reverse=True), {}, set(), set()
+        with ThreadPoolExecutor(lanes) as pool:
+            while left or running:
+                for key in [it for it in left if failed & {*waits[it]}]:
+                    left.remove(key)
+                    failed.add(key)
+                    yield *key, "what it stands on is not proved", 0
+                ready = [it for it in left if {*waits[it]} <= ended]
+                for key in ready[: lanes - len(running)]:
+                    needs = self.seen.get(key, UNKNOWN)[1]
+                    if running and sum(it[1] for it in running.values()) + needs > memory:
+                        continue
+                    left.remove(key)
+                    # what nothing else waits for a processor beside may take more of them
+                    jobs = max(1, (lanes - len(running)) // len(ready))
+                    running[pool.submit(self.prove, self.crates[key[0]], key[1], jobs)] = key, needs
+                for task in wait(running, timeout=1, return_when=FIRST_COMPLETED).done:
+                    key = running.pop(task)[0]
+                    why, seconds = task.result()
+                    (failed if why else ended).add(key)
+                    yield *key, why, seconds
+
+
+def clock():
+    return time.strftime("%H:%M:%S")

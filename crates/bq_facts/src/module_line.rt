@@ -1,0 +1,132 @@
+//! The lines of modules.
+
+ghost use Rattle.std.specs.Prelude.{◌≡◌, ◌++◌, ◌∷◌, OnOk};
+ghost use Rattle.std.specs.List.{join_by, zip};
+ghost use Rattle.bq_facts_json.specs.Values.{comma, member_text};
+ghost use Rattle.bq_facts.specs.Members.{further_members};
+ghost use Rattle.bq_facts.specs.ModuleLine.{comma_before, file_members, clause_members, load_object, json_loads, load_members, module_line};
+
+use crate::members::{next_string, open_with_string};
+use crate::symbols::push_symbols;
+use bq_facts_json::{close_object, next_key, push_number};
+use bq_label::{Label, label_path, print_label};
+use bq_load_front::NamedFiles;
+use bq_resolve_scope::LoadStmt;
+use std::alloc::{AllocError, Global};
+
+/// Begins an object with the label and the path of a file.
+fn open_with_file(
+    alloc: Global,
+    text: &mut Vec<u8>,
+    key: &[u8],
+    file: &Label,
+) -> Result<(), AllocError>
+    ensures { OnOk result (text.new.items ≡ text.old.items ++ (123 ∷ join_by member_text comma (file_members key.now file.now))) }
+{
+    let label = print_label(alloc, file)?;
+    let path = label_path(alloc, file)?;
+    open_with_string(text, key, &label)?;
+    next_string(text, b"file", &path)
+}
+
+/// Appends the line of a load, and the names that it binds.
+fn push_clauses(text: &mut Vec<u8>, load: &LoadStmt) -> Result<(), AllocError>
+    ensures { OnOk result (text.new.items ≡ text.old.items ++ further_members (clause_members load.now)) }
+{
+    next_key(text, b"line")?;
+    push_number(text, load.line)?;
+    next_key(text, b"symbols")?;
+    push_symbols(text, load.clauses.as_slice())
+}
+
+/// Appends a load, which names this file.
+fn push_load(
+    alloc: Global,
+    text: &mut Vec<u8>,
+    load: &LoadStmt,
+    file: &Label,
+) -> Result<(), AllocError>
+    ensures { OnOk result (text.new.items ≡ text.old.items ++ load_object (load.now, file.now)) }
+{
+    open_with_file(alloc, text, b"label", file)?;
+    push_clauses(text, load)?;
+    close_object(text)?;
+    Ok(())
+}
+
+/// Appends a comma, unless this is the first item.
+fn push_comma(text: &mut Vec<u8>, number: usize) -> Result<(), AllocError>
+    ensures { OnOk result (text.new.items ≡ text.old.items ++ comma_before number) }
+{
+    if number == 0 {
+        return Ok(());
+    }
+    text.push(b',')?;
+    Ok(())
+}
+
+/// Appends loads, which name these files.
+#[tactic(auto, using(crate::proofs::Loads::next_load, crate::proofs::Loads::no_file, crate::proofs::Loads::no_load))]
+fn push_items(
+    alloc: Global,
+    text: &mut Vec<u8>,
+    loads: &[LoadStmt],
+    files: &NamedFiles,
+) -> Result<(), AllocError>
+    ensures { OnOk result (text.new.items ≡ text.old.items ++ join_by load_object comma (zip loads.now files.now)) }
+{
+    for (number, load) in loads.iter().enumerate() {
+        let Some(file) = files.label(number) else {
+            return Ok(());
+        };
+        push_comma(text, number)?;
+        push_load(alloc, text, load, file)?;
+    }
+    Ok(())
+}
+
+/// Appends a list of loads, which name these files.
+#[tactic(auto, unfolding(bq_facts_json::specs::Values::json_array))]
+fn push_loads(
+    alloc: Global,
+    text: &mut Vec<u8>,
+    loads: &[LoadStmt],
+    files: &NamedFiles,
+) -> Result<(), AllocError>
+    ensures { OnOk result (text.new.items ≡ text.old.items ++ json_loads loads.now files.now) }
+{
+    text.push(b'[')?;
+    push_items(alloc, text, loads, files)?;
+    text.push(b']')?;
+    Ok(())
+}
+
+/// Appends the member of an object that has loads.
+fn push_load_member(
+    alloc: Global,
+    text: &mut Vec<u8>,
+    loads: &[LoadStmt],
+    files: &NamedFiles,
+) -> Result<(), AllocError>
+    ensures { OnOk result (text.new.items ≡ text.old.items ++ further_members (load_members loads.now files.now)) }
+{
+    next_key(text, b"loads")?;
+    push_loads(alloc, text, loads, files)
+}
+
+/// Appends the line of a module: an object with its label, the path of its file, and its loads, which name these files.
+pub fn push_module(
+    alloc: Global,
+    text: &mut Vec<u8>,
+    label: &Label,
+    loads: &[LoadStmt],
+    files: &NamedFiles,
+) -> Result<(), AllocError>
+    ensures { OnOk result (text.new.items ≡ text.old.items ++ module_line label.now loads.now files.now) }
+{
+    open_with_file(alloc, text, b"module", label)?;
+    push_load_member(alloc, text, loads, files)?;
+    close_object(text)?;
+    text.push(b'\n')?;
+    Ok(())
+}

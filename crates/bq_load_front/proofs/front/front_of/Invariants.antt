@@ -1,7 +1,0 @@
-use Rattle.std.proofs.Common.{◌≡◌, [], drop}
-use Rattle.bq_label.specs.Label.{package_of}
-use Rattle.bq_load_front.specs.Front.{labels_of}
-use Rattle.bq_load_front.proofs.front.front_of.Given as goal
-
-abbrev pub invariant-loop-load : goal.invariant-loop-load
-invariant-loop-load l = labels_of l.inputs (package_of l.label) l.labels (drop l.load-index l.load-items) ≡ labels_of l.inputs (package_of l.label) [] l.load-items

@@ -1,0 +1,66 @@
+-- A run that is asked for facts ends as one that is asked for the answer.
+use Rattle.std.proofs.Common.{◌≡◌, ◌∙◌, ℕ, List, [], Option, Some, None, Result, Ok, Err, ap, subst, sym, refl}
+use Rattle.bq_label.specs.declared.packages.BuildFile.{BuildFile}
+use Rattle.bq_label.specs.declared.workspace.File.{File}
+use Rattle.bq_query_check.specs.Checked.{IsChecked, IsWrong}
+use Rattle.bq_query_check.specs.Formula.{formula_of}
+use Rattle.bq_query_check.specs.declared.checked.CheckedQuery.{CheckedQuery}
+use Rattle.bq_query_target_graph.specs.Graph.{GraphParts}
+use Rattle.bq_query_verdict.specs.Verdict.{Fault}
+use Rattle.bq_query.specs.Faults.{fault_in}
+use Rattle.bq_query.specs.Graph.{targets_of}
+use Rattle.bq_query.specs.Printed.{printed}
+use Rattle.bq_query.specs.declared.print.OutputForm.{OutputForm}
+use Rattle.bq_run_report.specs.declared.ending.NoAnswer.{NoAnswer}
+use Rattle.bq_run_report.specs.declared.ending.Status.{Status}
+use Rattle.bq_run_report.specs.Ending.{status_by}
+use Rattle.bq_run_report.specs.Report.{Inside, ReplyView, ReportView, Replies, RepliesBy, Reports, all_faults}
+use Rattle.bq_run.specs.WorkspaceRun.{IsReportOn, loaded_in, refused}
+use Rattle.bq_run.specs.declared.options.Options.{Options}
+use Rattle.bq_run_facts.specs.Facts.{IsFactsBy, IsFactsOn, Tells, TellsBy, TellsFacts}
+use Rattle.bq_run_facts.specs.Laws.{EndsAsAnswer}
+
+reply_at : List ℕ → Result Status NoAnswer → ReplyView
+reply_at text end = record { text = text; end = end }
+
+report_at : List ℕ → List ℕ → Result Status NoAnswer → ReportView
+report_at faults answer end = record { faults = faults; answer = answer; end = end }
+
+abbrev HasAnswer : Options → List File → ReportView → Type 0
+HasAnswer o files r = (answer : List ℕ) × IsReportOn o files (record { faults = r.faults; answer = answer; end = r.end })
+
+-- a refusal has no text
+refusal : (r : ReportView) (why : NoAnswer) → r ≡ refused why → record { faults = r.faults; answer = []; end = r.end } ≡ refused why
+refusal r why e = ap (λ (s : ReportView). report_at s.faults [] s.end) e
+
+-- with the same words and targets
+replies : (f : Fault) (packages : List BuildFile) (w : GraphParts) (query : CheckedQuery) (form : OutputForm) (further : List ℕ) (status : Status) (text : List ℕ) (end : Result Status NoAnswer)
+    → TellsBy f packages w (Some query) further status (reply_at text end) → (answer : List ℕ) × RepliesBy f w (formula_of query.set) form status (reply_at answer end)
+unfolding reply_at
+replies None packages w query form further status text end (numbers, meant, is) =
+    let answer = printed form (targets_of w) numbers in
+    (answer, (numbers, meant, ap (λ (s : ReplyView). reply_at answer s.end) is))
+replies (Some why) packages w query form further status text end is = ([], ap (λ (s : ReplyView). reply_at [] s.end) is)
+
+reports : (packages : List BuildFile) (modules : List ℕ) (i : Inside) (query : CheckedQuery) (form : OutputForm) (r : ReportView) → TellsFacts packages modules i (Some query) r
+    → (answer : List ℕ) × Reports i query form (record { faults = r.faults; answer = answer; end = r.end })
+reports packages modules i query form r tells =
+    let w = tells.graph in
+    let found = replies (fault_in w (formula_of query.set)) packages w query form _ (status_by (all_faults i)) r.answer r.end tells.reply in
+    (found.0, record { graph = w; made = tells.made; faults = tells.faults; reply = found.1 })
+
+by_query : (o : Options) (files : List File) (query : CheckedQuery) (r : ReportView) → IsChecked o.query.items query → IsFactsBy o.max_steps files (Some query) r → HasAnswer o files r
+by_query o files query r checked (IsFactsBy.wrong_schema line e is) = ([], IsReportOn.wrong_schema query line checked e (refusal r _ is))
+by_query o files query r checked (IsFactsBy.too_many rules e many is) = ([], IsReportOn.too_many query rules checked e many (refusal r _ is))
+by_query o files query r checked (IsFactsBy.loaded rules g e found tells) =
+    let answered = reports _ _ (loaded_in files rules o.max_steps g) query o.output r tells in
+    (answered.0, IsReportOn.loaded query rules g checked e found answered.1)
+
+same_text : (a b : List ℕ) → Some a ≡ Some b → a ≡ b
+same_text a b e = cc
+
+pub ends_as_answer : EndsAsAnswer
+ends_as_answer o files r (IsFactsOn.wrong_query query why e wrong is) =
+    ([], IsReportOn.wrong_query why (subst (λ t. IsWrong t why) (sym (same_text o.query.items query e)) wrong) (refusal r _ is))
+ends_as_answer o files r (IsFactsOn.read None asked by) = absurd asked
+ends_as_answer o files r (IsFactsOn.read (Some query) asked by) = by_query o files query r asked by

@@ -1,0 +1,84 @@
+-- What a run writes that is asked for facts (`--facts`), and how it ends. Its faults and its ending are those of the run that is asked for the
+-- answer instead.
+use Rattle.std.specs.Prelude.{◌≡◌, ℕ, ◌++◌, List, [], Option, Some, None, Ok, Err, length}
+use Rattle.std.specs.List.{range_with_len}
+use Rattle.bq_label.specs.declared.packages.BuildFile.{BuildFile}
+use Rattle.bq_label.specs.declared.workspace.File.{File}
+use Rattle.bq_label.specs.Packages.{packages_of}
+use Rattle.bq_package_schema.specs.Schema.{Rules}
+use Rattle.bq_load_discover.specs.LoadGraph.{GraphParts as LoadParts, IsLoadGraph, inputs_of}
+use Rattle.bq_load_discover.specs.Modules.{AreTooMany}
+use Rattle.bq_load_discover.specs.Schema.{schema_in}
+use Rattle.bq_query_lex.specs.declared.query_error.QueryErr.{QueryErr}
+use Rattle.bq_query_target_graph.specs.Graph.{GraphParts}
+use Rattle.bq_query_target_graph.specs.Edges.{IsGraphOf}
+use Rattle.bq_query_verdict.specs.Verdict.{Fault}
+use Rattle.bq_query_check.specs.Checked.{IsChecked, IsWrong}
+use Rattle.bq_query_check.specs.Formula.{formula_of}
+use Rattle.bq_query_check.specs.declared.checked.CheckedQuery.{CheckedQuery}
+use Rattle.bq_query.specs.Faults.{fault_in}
+use Rattle.bq_run_report.specs.Ending.{status_by}
+use Rattle.bq_run_report.specs.Report.{Inside, IsAnswer, ReplyView, ReportView, all_faults, fault_text}
+use Rattle.bq_run_report.specs.declared.ending.NoAnswer.TheVariants.{Query, Schema, TooManyModules}
+use Rattle.bq_run_report.specs.declared.ending.Status.{Status}
+use Rattle.bq_run.specs.Run.{Run, run_report}
+use Rattle.bq_run.specs.WorkspaceRun.{loaded_in, refused}
+use Rattle.bq_run_facts.specs.Lines.{target_lines, module_lines, fault_objects}
+
+-- ---- which targets
+
+-- the query's text is read so, if there is a query
+abbrev pub IsAsked : Option (List ℕ) → Option CheckedQuery → Type 0
+IsAsked None None = Unit {0}
+IsAsked None (Some query) = ⊥
+IsAsked (Some text) None = ⊥
+IsAsked (Some text) (Some query) = IsChecked text query
+
+-- the first of the query's words that names what is not there
+abbrev pub fault_by : GraphParts → Option CheckedQuery → Fault
+fault_by w None = None
+fault_by w (Some query) = fault_in w (formula_of query.set)
+
+-- the targets that the query stands for, by number; all without a query
+abbrev pub AreMeant : GraphParts → Option CheckedQuery → List ℕ → Type 0
+AreMeant w None numbers = numbers ≡ range_with_len 0 (length w.targets)
+AreMeant w (Some query) numbers = IsAnswer w (formula_of query.set) numbers
+
+-- ---- the text
+
+-- the lines of the targets that are meant, and then these; nothing where a word of the query names what is not there
+abbrev pub TellsBy : Fault → List BuildFile → GraphParts → Option CheckedQuery → List ℕ → Status → ReplyView → Type 0
+TellsBy None packages w asked further status reply =
+    (numbers : List ℕ) × AreMeant w asked numbers × (reply ≡ record { text = target_lines packages w numbers ++ further; end = Ok status })
+TellsBy (Some why) packages w asked further status reply = reply ≡ record { text = []; end = Err (Query why) }
+
+abbrev pub Tells : List BuildFile → GraphParts → Option CheckedQuery → List ℕ → Status → ReplyView → Type 0
+Tells packages w asked further status reply = TellsBy (fault_by w asked) packages w asked further status reply
+
+-- The report over the graph of the targets of a workspace that is loaded: the lines of targets, these of its modules, and those of its faults.
+pub record TellsFacts (packages : List BuildFile) (modules : List ℕ) (i : Inside) (asked : Option CheckedQuery) (r : ReportView) : Type 0 where
+  pub graph : GraphParts
+  pub made : IsGraphOf i.packages graph
+  pub faults : r.faults ≡ fault_text i
+  pub reply : Tells packages graph asked (modules ++ fault_objects (all_faults i)) (status_by (all_faults i)) (record { text = r.answer; end = r.end })
+
+-- ---- the run
+
+-- the report of a run over these files whose query is read, where each module may take `limit` steps
+pub data IsFactsBy (limit : ℕ) (files : List File) (asked : Option CheckedQuery) (r : ReportView) : Type 0 where
+  -- E6
+  wrong_schema : (line : ℕ) → schema_in files ≡ Err line → r ≡ refused (Schema line) → IsFactsBy limit files asked r
+  -- E7
+  too_many : (rules : Rules) → schema_in files ≡ Ok rules → AreTooMany (inputs_of files rules) → r ≡ refused TooManyModules → IsFactsBy limit files asked r
+  loaded : (rules : Rules) (g : LoadParts) → schema_in files ≡ Ok rules → IsLoadGraph (inputs_of files rules) g
+      → TellsFacts (packages_of files) (module_lines g.modules) (loaded_in files rules limit g) asked r → IsFactsBy limit files asked r
+
+-- the report of a run with the query of this text, if there is one
+pub data IsFactsOn (limit : ℕ) (files : List File) (text : Option (List ℕ)) (r : ReportView) : Type 0 where
+  -- Q1 to Q4, Q7, Q8
+  wrong_query : (query : List ℕ) (why : QueryErr) → text ≡ Some query → IsWrong query why → r ≡ refused (Query why) → IsFactsOn limit files text r
+  read : (asked : Option CheckedQuery) → IsAsked text asked → IsFactsBy limit files asked r → IsFactsOn limit files text r
+
+-- what is written, and how the run ends
+abbrev pub IsFactsOver : ℕ → List File → Option (List ℕ) → Run → Type 0
+IsFactsOver limit files text what = (r : ReportView) × IsFactsOn limit files text r × (what ≡ run_report r)

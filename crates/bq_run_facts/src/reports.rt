@@ -1,0 +1,180 @@
+//! The report on a workspace.
+
+ghost use Rattle.std.specs.Prelude.{◌≡◌, Ok, IfOk};
+ghost use Rattle.std.specs.Option.{option_copied};
+ghost use Rattle.bq_load_discover.specs.LoadGraph.{IsLoadGraph, inputs_of};
+ghost use Rattle.bq_load_discover.specs.Schema.{schema_in};
+ghost use Rattle.bq_label.specs.Packages.{packages_of};
+ghost use Rattle.bq_query_target_graph.specs.Order.{PackagesAscend};
+ghost use Rattle.bq_run_report.specs.Report.{inside, report_view};
+ghost use Rattle.bq_run.specs.Run.{IsInRange};
+ghost use Rattle.bq_run.specs.WorkspaceRun.{loaded_in};
+ghost use Rattle.bq_run_facts.specs.Facts.{IsFactsBy, IsFactsOn, TellsFacts};
+ghost use Rattle.bq_run_facts.specs.Lines.{module_lines};
+
+use crate::lines::{push_faults, push_modules};
+use crate::replies::facts_over;
+use bq_label::{Packages, Workspace};
+use bq_load::{Loaded, OpenGate, Pool};
+use bq_load_discover::{LoadErr, LoadGraph, Module, discover_by_workers, schema_of};
+use bq_package_schema::Schema;
+use bq_query_check::{CheckedQuery, parse_query};
+use bq_query_target_graph::{TargetGraph, add_dangling};
+use bq_run::{Options, refused_report};
+use bq_run_report::{NoAnswer, Report, refusal_of, status_by};
+use bq_value_seed::Seed;
+use std::alloc::{AllocError, Global};
+use std::random::RandomSource;
+use std::sync::Wait;
+use std::thread::Threads;
+
+/// What is read of a load graph before its modules are evaluated.
+#[derive(Drop)]
+struct Before {
+    /// The lines of its modules.
+    modules: Vec<u8>,
+    packages: Packages,
+}
+
+fn before(alloc: Global, workspace: &Workspace, modules: &[Module]) -> Result<Before, AllocError>
+    ensures modules { IfOk result (λ b. b.modules.items ≡ module_lines modules.now) }
+    ensures packages { IfOk result (λ b. b.packages ≡ packages_of workspace.now) }
+{
+    let mut lines = Vec::new(alloc);
+    push_modules(alloc, &mut lines, modules)?;
+    let packages = Packages::of(alloc, workspace)?;
+    Ok(Before {
+        modules: lines,
+        packages,
+    })
+}
+
+/// Makes the report on a loaded workspace. A label that names no target is one more fault, F79.
+fn report_over(
+    alloc: Global,
+    before: Before,
+    loaded: Loaded,
+    asked: Option<&CheckedQuery>,
+) -> Result<Report, AllocError>
+    requires { PackagesAscend loaded.packages.items }
+    ensures { IfOk result (λ r. TellsFacts before.entry.packages before.entry.modules.items (inside loaded.entry) (option_copied asked.entry) (report_view r)) }
+{
+    let Before {
+        modules: mut further,
+        packages: known,
+    } = before;
+    let Loaded {
+        modules,
+        packages,
+        mut faults,
+        prints,
+    } = loaded;
+    drop(modules); // so that the graph gets the memory of their values
+    add_dangling(alloc, &packages, &mut faults)?;
+    let status = status_by(&faults);
+    push_faults(alloc, &mut further, &faults)?;
+    let mut text = prints;
+    faults.append_to(alloc, &mut text)?;
+    let graph = TargetGraph::new(alloc, packages)?;
+    let reply = facts_over(alloc, &known, &graph, asked, &further, status)?;
+    Ok(Report {
+        faults: text,
+        answer: reply.text,
+        end: reply.end,
+    })
+}
+
+/// Makes the report on a workspace with this load graph.
+fn report_graph<T: Threads + Wait + RandomSource + Sync>(
+    rt: &T,
+    alloc: Global,
+    workspace: &Workspace,
+    schema: &Schema,
+    graph: LoadGraph,
+    asked: Option<&CheckedQuery>,
+    options: &Options,
+) -> Result<Report, AllocError>
+    requires in_range { IsInRange options.now }
+    requires graph { IsLoadGraph (inputs_of workspace.now schema.now) graph }
+    ensures { IfOk result (λ r. TellsFacts (packages_of workspace.now) (module_lines graph.entry.modules) (loaded_in workspace.now schema.now options.now.max_steps graph.entry) (option_copied asked.entry) (report_view r)) }
+{
+    let Ok(before) = before(alloc, workspace, graph.modules()) else {
+        drop(graph); // PROOF: one call lets the graph go
+        return Err(AllocError);
+    };
+    let jobs = options.jobs as usize;
+    let (pool, seats) = Pool::open(
+        alloc,
+        workspace,
+        schema,
+        options.max_steps,
+        Seed::draw(rt),
+        graph,
+        jobs,
+    )?;
+    let loaded = pool.load(rt, alloc, seats, &OpenGate)?;
+    report_over(alloc, before, loaded, asked)
+}
+
+/// Makes the report on a workspace whose schema and query are read.
+fn report_schema<T: Threads + Wait + RandomSource + Sync>(
+    rt: &T,
+    alloc: Global,
+    workspace: &Workspace,
+    schema: &Schema,
+    asked: Option<&CheckedQuery>,
+    options: &Options,
+) -> Result<Report, AllocError>
+    requires in_range { IsInRange options.now }
+    requires schema { schema_in workspace.now ≡ Ok schema.now }
+    ensures { IfOk result (λ r. IsFactsBy options.now.max_steps workspace.now (option_copied asked.entry) (report_view r)) }
+{
+    match discover_by_workers(rt, alloc, workspace, schema, options.jobs as usize) {
+        Ok(graph) => report_graph(rt, alloc, workspace, schema, graph, asked, options),
+        Err(LoadErr::TooManyModules) => Ok(refused_report(alloc, NoAnswer::TooManyModules)),
+        Err(_) => Err(AllocError),
+    }
+}
+
+/// Makes the report on a workspace and a query that is read, if there is one.
+fn report_asked<T: Threads + Wait + RandomSource + Sync>(
+    rt: &T,
+    alloc: Global,
+    workspace: &Workspace,
+    asked: Option<&CheckedQuery>,
+    options: &Options,
+) -> Result<Report, AllocError>
+    requires in_range { IsInRange options.now }
+    ensures { IfOk result (λ r. IsFactsBy options.now.max_steps workspace.now (option_copied asked.entry) (report_view r)) }
+{
+    match schema_of(alloc, workspace) {
+        Ok(schema) => report_schema(rt, alloc, workspace, &schema, asked, options),
+        Err(LoadErr::Schema(line)) => Ok(refused_report(alloc, NoAnswer::Schema(line))),
+        Err(_) => Err(AllocError),
+    }
+}
+
+/// Returns the texts of a run over this workspace that is asked for facts, and how it ends once they are written. Only out
+/// of memory is an error; Q1 to Q8, E6 and E7 are in the ending.
+pub(crate) fn report_facts<T: Threads + Wait + RandomSource + Sync>(
+    rt: &T,
+    alloc: Global,
+    workspace: &Workspace,
+    query: Option<&[u8]>,
+    options: &Options,
+) -> Result<Report, AllocError>
+    requires in_range { IsInRange options.now }
+    ensures { IfOk result (λ r. IsFactsOn options.now.max_steps workspace.now (option_copied query.entry) (report_view r)) }
+{
+    let Some(query) = query else {
+        return report_asked(rt, alloc, workspace, None, options);
+    };
+    match parse_query(alloc, query) {
+        Ok(query) => {
+            let report = report_asked(rt, alloc, workspace, Some(&query), options);
+            drop(query); // PROOF: one call lets the query go
+            report
+        }
+        Err(why) => Ok(refused_report(alloc, refusal_of(why)?)),
+    }
+}

@@ -1,0 +1,142 @@
+"""What the scripts over facts share: the words that say which workspace is asked, its facts, and how a script ends.
+
+A script makes its words by `parser_of`, and has `run` call a function that takes an `Asked` and gives the lines to write. A directory or
+bundle is read as it is; without one it is the workspace that one stands in, with the overlay that tools/bzlq keeps of it.
+"""
+import argparse
+import os
+import re
+import sys
+
+from bq import BqError, RunError, facts, program_of
+from hint import labels
+from hint.near import did_you_mean
+from wrapper import words as relative
+from wrapper.kept import Kept
+from wrapper.overlay import Failed
+from wrapper.place import NoRoot, root_of
+from workspace import Unreadable
+
+# how many faults are told
+SHOWN = 3
+STATUSES = {"E1": 4, "E2": 5, "E3": 5}
+
+
+class Refused(Exception):
+    """A word that can't be answered; the message says why."""
+
+
+def parser_of(about):
+    """A parser that takes the words for a workspace."""
+    parser = argparse.ArgumentParser(description=about, formatter_class=argparse.RawDescriptionHelpFormatter)
+    where = parser.add_mutually_exclusive_group()
+    where.add_argument("--dir", metavar="DIR", help="the workspace, read as it is (else the one that you stand in, as bzlq reads it)")
+    where.add_argument("--bundle", metavar="FILE", help="the file of a bundle that holds the workspace")
+    parser.add_argument("--program", default="", metavar="PROGRAM", help="the program bq (else $BZLQ_BQ, else the one of this repository)")
+    return parser
+
+
+class Asked:
+    """A workspace, and what was found out about it."""
+
+    def __init__(self, words):
+        self.words, self.program = words, program_of(words.program)
+        self.root, self.folder, self.bundle, self.overlay = words.dir, "", words.bundle, ""
+        self.faults, self.warnings = [], []
+        if not words.dir and not words.bundle:
+            self.root = root_of(os.getcwd())
+            self.folder = os.path.relpath(os.path.realpath(os.getcwd()), self.root).removeprefix(".")
+            self.kept = Kept(self.root, self.program)
+            self.bundle, self.overlay = self.kept.path("bundle"), self.kept.overlay
+
+    def facts(self, query=""):
+        """The facts behind a query, or behind all of the workspace."""
+        if self.words.dir or self.words.bundle:
+            found = facts(self.words.dir or self.words.bundle, query, program=self.program)
+        else:
+            bundle, self.warnings = self.kept.open()
+            with bundle:
+                found = facts(bundle, query, program=self.program)
+        self.faults = found.faults
+        return found
+
+    def sources(self):
+        """The texts of the workspace's files."""
+        from hint.sources import Sources
+        return Sources.of_bundle(self.bundle) if self.bundle else Sources.of_directories([self.root])
+
+    def query(self, text):
+        """A query with labels in full."""
+        return relative.absolute(text, self.root, self.folder) if self.root else text
+
+    def label(self, word):
+        """The label in full that a word stands for."""
+        text = relative.label(word, self.root, self.folder) if self.root and not word.startswith(("//", "@")) else word
+        try:
+            return labels.joined(*labels.split(text))
+        except labels.BadLabel as error:
+            raise Refused(f"'{word}' is no label: {error}") from None
+
+    def target(self, word, targets):
+        """The target that a word stands for."""
+        label = self.label(word)
+        if label not in targets:
+            package = label.partition(":")[0]
+            inside = [it for it in targets if it.partition(":")[0] == package]
+            why = did_you_mean(label, inside) if inside else f": there is no package {package}"
+            raise Refused(f"there is no target {label}{why}")
+        return targets[label]
+
+    def path(self, path):
+        """A file's path from the folder that one stands in; in full for one that is only in the overlay."""
+        if not self.root:
+            return path
+        place = os.path.join(self.root, path)
+        return os.path.relpath(place) if not self.overlay or os.path.lexists(place) else os.path.join(self.overlay, path)
+
+    def told(self):
+        """What there is to say of the workspace, beside the answer."""
+        more = len(self.faults) - SHOWN
+        return [f"targets may be missing: {it}" for it in [*self.faults[:SHOWN], *self.warnings]] + ([f"and {more} faults more"] if more > 0 else [])
+
+
+def pattern(text):
+    """A regular expression for kinds."""
+    try:
+        return re.compile(text)
+    except (re.error, RecursionError, OverflowError) as error:
+        raise Refused(f"'{text}' is no regular expression: {error}") from None
+
+
+def write(lines, to):
+    to.buffer.write("".join(f"{line}\n" for line in lines).encode("utf-8", "surrogateescape"))
+    to.flush()
+
+
+def run(main, words):
+    """Runs a script, which is a function of what is asked, and writes the lines that it gives; gives the status."""
+    def script(name):
+        asked = Asked(words)
+        write(main(asked), sys.stdout)
+        write([f"{name}: {line}" for line in asked.told()], sys.stderr)
+        return 3 if asked.faults else 0
+
+    return ended(script)
+
+
+def ended(script):
+    """Runs a script, and says in a sentence what it can't do; gives the status."""
+    name = os.path.basename(sys.argv[0])
+    sys.setrecursionlimit(8000)
+    try:
+        return script(name)
+    except (BqError, Refused, NoRoot, relative.BadWord, Failed, Unreadable) as error:
+        write([f"{name}: {error}"], sys.stderr)
+        return STATUSES.get(error.number, 2) if isinstance(error, RunError) else 2
+    except BrokenPipeError:
+        os._exit(5)
+    except OSError as error:
+        write([f"{name}: {error.filename}: {error.strerror}"], sys.stderr)
+        return 2
+    except KeyboardInterrupt:
+        return 130
