@@ -11,7 +11,7 @@ PACKED = "bq-x86_64-linux.xz"
 # what `rt ci` builds by LLVM
 BUILT = f"{ROOT}/crates/bq/out/bq"
 VERSION = re.compile(r'^pub const VERSION: &str = "(\d+\.\d+\.\d+)";$', re.M)
-VERSION_IN = "crates/bq/src/words.rt"
+VERSION_IN = "crates/bq_command_line/src/command.rt"
 RELEASE = re.compile(r"^## (\d+\.\d+\.\d+), (\d{4}-\d{2}-\d{2})$", re.M)
 
 

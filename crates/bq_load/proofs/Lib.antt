@@ -5,7 +5,7 @@ mod ByName
 -- which modules have code
 pub mod Coding
 -- what may cross threads
-mod Crossing
+pub mod Crossing
 -- what an evaluation ends in, where its run is known
 pub mod Endings
 -- what is found for elements, one after another

@@ -3,4 +3,4 @@ use Rattle.bq_load_front.specs.Front.{labels_of}
 use Rattle.bq_load_front.proofs.front.named_files.Given as goal
 
 abbrev pub invariant-loop-load : goal.invariant-loop-load
-invariant-loop-load l = labels_of l.inputs l.own l.labels (drop l.load-index l.load-items) ≡ labels_of l.inputs l.own [] l.load-items
+invariant-loop-load l = labels_of l.inputs l.own l.labels (drop l.load-index l.fn.loads) ≡ labels_of l.inputs l.own [] l.fn.loads

@@ -1,7 +1,6 @@
 //! What command lines ask for, and the texts that refuse others.
 
-use crate::show;
-use crate::words::{Asked, Place, VERSION, Words, words_of};
+use bq_command_line::{Asked, Place, VERSION, Words, show, words_of};
 use bq_run::OutputForm;
 use bq_tests_rows::{is_row, row_of, wanted_of};
 use std::alloc::{AllocError, Global};
@@ -27,14 +26,14 @@ fn shown(alloc: Global, words: &Words) -> Result<Vec<u8>, AllocError> {
         OutputForm::Label => "labels",
         OutputForm::LabelKind => "labels and kinds",
     };
-    let place = match &words.place {
+    let place = match words.place {
         Place::Input => "standard input",
-        Place::Bundle(file) => file.as_str(),
-        Place::Directory(directory) => directory.as_str(),
+        Place::Bundle(file) => file,
+        Place::Directory(directory) => directory,
     };
     let jobs = options.jobs;
     let steps = options.max_steps;
-    let mut whole = match &words.queries {
+    let mut whole = match words.queries {
         Some(file) => format!(in alloc; "queries of {file}")?.into_bytes(),
         None => options.query.as_slice().to_vec(alloc)?,
     };

@@ -93,27 +93,25 @@ fn run_one<T: Threads + Wait + RandomSource + Sync>(
 ) -> Result<Status, RunErr>
     requires { IsInRange words.now.options }
 {
-    match &words.place {
+    match words.place {
         Place::Input => run_on_bundle(rt, threads, alloc, rt.stdin(), &words.options),
         Place::Bundle(path) => {
-            let file = open(rt, path.as_str())?;
+            let file = open(rt, path)?;
             run_on_bundle(rt, threads, alloc, file, &words.options)
         }
-        Place::Directory(path) => {
-            run_on_directory(rt, threads, alloc, path.as_str(), &words.options)
-        }
+        Place::Directory(path) => run_on_directory(rt, threads, alloc, path, &words.options),
     }
 }
 
 /// Reads the workspace at a place.
-fn read_workspace(rt: &HostRuntime, alloc: Global, place: &Place) -> Result<Workspace, RunErr> {
+fn read_workspace(rt: &HostRuntime, alloc: Global, place: Place) -> Result<Workspace, RunErr> {
     match place {
         Place::Input => read_bundle(alloc, &mut Metered::new(rt.stdin())),
         Place::Bundle(path) => {
-            let file = open(rt, path.as_str())?;
+            let file = open(rt, path)?;
             read_bundle(alloc, &mut Metered::new(file))
         }
-        Place::Directory(path) => read_files(rt, path.as_str()),
+        Place::Directory(path) => read_files(rt, path),
     }
 }
 
@@ -130,7 +128,7 @@ fn answer_queries<T: Threads + Wait + RandomSource + Sync, R: Read + Drop>(
     let Ok(reader) = BufReader::new(alloc, reader) else {
         return Err(RunErr::Memory);
     };
-    let workspace = read_workspace(rt, alloc, &words.place)?;
+    let workspace = read_workspace(rt, alloc, words.place)?;
     let mut queries = Metered::new(reader);
     let mut writer = Metered::new(rt.stdout());
     let mut faults = Metered::new(rt.stderr());
@@ -178,9 +176,9 @@ pub fn answer<T: Threads + Wait + RandomSource + Sync>(
 ) -> u8
     requires { IsInRange words.now.options }
 {
-    match &words.queries {
+    match words.queries {
         None => end(rt, &run_one(rt, threads, alloc, words)),
-        Some(file) => match run_many(rt, threads, alloc, file.as_str(), words) {
+        Some(file) => match run_many(rt, threads, alloc, file, words) {
             Ok(status) => session_code(status),
             Err(error) => end(rt, &Err(error)),
         },

@@ -1,8 +1,7 @@
 //! How runs over directories end.
 
 use super::lines::words_in;
-use crate::runs::run_on_directory;
-use crate::words::{Asked, Place, words_of};
+use bq_command_line::{Asked, Place, run_on_directory, words_of};
 use bq_run::{RunErr, Status, status_of};
 use bq_tests_rows::{is_row, row_of, wanted_of};
 use std::alloc::{AllocError, Global};
@@ -41,10 +40,10 @@ fn ending<T: Threads + Wait + RandomSource + Sync>(
     let Ok(Asked::Answer(words)) = words_of(alloc, &words) else {
         return b"refused".to_vec(alloc);
     };
-    let Place::Directory(directory) = &words.place else {
+    let Place::Directory(directory) = words.place else {
         return b"no directory".to_vec(alloc);
     };
-    let ended = run_on_directory(rt, threads, alloc, directory.as_str(), &words.options);
+    let ended = run_on_directory(rt, threads, alloc, directory, &words.options);
     shown(alloc, &ended)
 }
 

@@ -1,0 +1,173 @@
+//! The command line as clap takes it: its options, and what `--help` and `--version` print.
+
+use bq_run::MAX_JOBS;
+use clap::builder::ValueParser;
+use clap::{Arg, Command};
+use std::alloc::{AllocError, Global};
+
+/// How the program is called. `--queries` takes the place of a query, which is needed else.
+const USAGE: &str = "bq [OPTIONS] <QUERY>\n       bq [OPTIONS] --queries <FILE>";
+
+/// What `--help` prints after the options.
+const NOTES: &str =
+    r#"Without --dir and --bundle the workspace is read from standard input, as a bundle: for each file a line
+`=== PATH`, and then the file's bytes. The answer goes to standard output, a target a line, sorted.
+What files print, and the faults of files, go to standard error.
+
+With --dir, .git, directories in .bazelignore and links bazel-* at the root are left out.
+
+With --queries the workspace is loaded once for all the queries of a file, one a line. For each query
+standard output gets a line `=== STATUS LINES QUERY`, at once, and then that many lines: the answer, or
+the error.
+
+Examples:
+  bq --dir . 'deps(//some/package:target)'
+  bq --dir . 'kind("_test rule", rdeps(//..., //some/package:file.c))'
+  printf '=== a/BUILD\nfilegroup(name = "x", srcs = ["s.txt"])\n' | bq 'deps(//a:x)'
+  bq --dir . --queries queries.txt
+  bq --explain F47
+
+Exit status:
+  0  the query was answered, and no file has a fault
+  2  the arguments, the bundle, the query or the schema was refused, or there are too many modules
+  3  the query was answered, and standard error lists faults
+  4  out of memory
+  5  reading the input or writing the output failed"#;
+
+/// The version of the program. The man page and the packages take it from this line (`tools/release`).
+pub const VERSION: &str = "1.1.0";
+
+pub const MAX_STEPS: u64 = 1_000_000_000;
+
+/// An argument with a value: an option, or the query, which is written without a name.
+#[derive(Clone, Copy)]
+struct Argument {
+    /// What it is read back by, and the name of an option.
+    id: &'static str,
+    is_option: bool,
+    /// What stands for its value in help.
+    value: &'static str,
+    help: &'static str,
+    takes: ValueParser<'static>,
+    /// The value of an argument that is left out, if it has one then.
+    default: &'static [&'static str],
+    /// What can't be used beside it.
+    excludes: &'static [&'static str],
+    excludes_all: bool,
+    is_required: bool,
+}
+
+/// An option that takes any text and may be left out.
+const OPTION: Argument = Argument {
+    id: "",
+    is_option: true,
+    value: "FILE",
+    help: "",
+    takes: ValueParser::String,
+    default: &[],
+    excludes: &[],
+    excludes_all: false,
+    is_required: false,
+};
+
+/// The arguments, in the order of help.
+const ARGUMENTS: &[Argument] = &[
+    Argument {
+        id: "jobs",
+        value: "N",
+        help: "Number of workers that load modules, 1 to 256",
+        takes: ValueParser::Signed(1, MAX_JOBS as i64),
+        default: &["4"],
+        ..OPTION
+    },
+    Argument {
+        id: "output",
+        value: "FORM",
+        help: "Output format of each target",
+        takes: ValueParser::Names(&["label", "label_kind"]),
+        default: &["label"],
+        ..OPTION
+    },
+    Argument {
+        id: "max-steps",
+        value: "N",
+        help: "Step limit for evaluating one module, 1 to 1000000000",
+        takes: ValueParser::Unsigned(1, MAX_STEPS),
+        default: &["1000000"],
+        ..OPTION
+    },
+    Argument {
+        id: "dir",
+        value: "DIR",
+        help: "Directory that holds the workspace",
+        ..OPTION
+    },
+    Argument {
+        id: "bundle",
+        help: "File that holds the workspace, as a bundle",
+        excludes: &["dir"],
+        ..OPTION
+    },
+    Argument {
+        id: "queries",
+        help: "Answer the queries of a file, one a line; - is standard input",
+        excludes: &["query"],
+        ..OPTION
+    },
+    Argument {
+        id: "explain",
+        value: "NUMBER",
+        help: "Explain a fault or error, as F47, Q5 or E4, and exit",
+        excludes_all: true,
+        ..OPTION
+    },
+    Argument {
+        id: "query",
+        is_option: false,
+        value: "QUERY",
+        help: "The query, as //package:name or deps(//...)",
+        is_required: true,
+        ..OPTION
+    },
+];
+
+/// Declares an argument, but for what it excludes by name.
+fn declared<'a>(alloc: Global, argument: &Argument) -> Arg<'a> {
+    let arg = Arg::new(alloc, argument.id)
+        .value_name(argument.value)
+        .help(argument.help)
+        .value_parser(argument.takes)
+        .default_values(argument.default)
+        .exclusive(argument.excludes_all)
+        .required(argument.is_required);
+    if argument.is_option {
+        arg.long(argument.id)
+    } else {
+        arg
+    }
+}
+
+// PROOF: each call that hands on an argument or the command, of many parts, costs seconds: so there is one of each, in a loop over a table
+fn arguments<'a>(alloc: Global) -> Result<Vec<Arg<'a>>, AllocError> {
+    let mut arguments = Vec::new(alloc);
+    for argument in ARGUMENTS {
+        let declared = declared(alloc, argument).conflicts_with_all(argument.excludes)?;
+        arguments.push(declared)?;
+    }
+    Ok(arguments)
+}
+
+/// Makes the command, but for its arguments.
+fn named<'a>(alloc: Global) -> Command<'a> {
+    Command::new(alloc, "bq")
+        .version(VERSION)
+        .about("Answers a query over the targets of a workspace of BUILD files")
+        .override_usage(USAGE)
+        .after_help(NOTES)
+}
+
+/// Makes the command, before it has seen any words.
+pub fn command<'a>(alloc: Global) -> Result<Command<'a>, AllocError> {
+    let arguments = arguments(alloc)?;
+    named(alloc).args(arguments)
+}

@@ -1,0 +1,46 @@
+//! What is printed where there is no run.
+
+use bq_run::{ANSWERED, DEVICE_FAILED, NO_MEMORY, REFUSED, RunErr};
+use bq_run_explain::Explanation;
+use clap::Error;
+use clap::error::ErrorKind;
+use std::io;
+
+/// Writes the error line for out of memory, which takes no memory itself.
+pub fn report_no_memory(rt: &impl Eprint) -> u8 {
+    let _ = eprintln!(rt; "bq: {}", RunErr::Memory);
+    NO_MEMORY
+}
+
+/// Writes why the arguments could not be read: they are not UTF-8, or there is no memory for them.
+pub fn refuse_arguments(rt: &impl Eprint, error: &io::Error) -> u8 {
+    if error.kind() == io::ErrorKind::OutOfMemory {
+        return report_no_memory(rt);
+    }
+    let _ = eprintln!(rt; "error: an argument is not valid UTF-8");
+    REFUSED
+}
+
+/// Prints help or the version on standard output, or why words are refused on standard error.
+pub fn show<R: Print + Eprint>(rt: &R, error: &Error) -> u8 {
+    if error.kind() == ErrorKind::OutOfMemory {
+        return report_no_memory(rt);
+    }
+    let printed = error.print(rt);
+    match error.kind() {
+        ErrorKind::DisplayHelp | ErrorKind::DisplayVersion if printed.is_err() => DEVICE_FAILED,
+        ErrorKind::DisplayHelp | ErrorKind::DisplayVersion => ANSWERED,
+        _ => REFUSED,
+    }
+}
+
+/// Prints the explanation of a number.
+pub fn show_explanation(rt: &impl Print, explanation: &Explanation) -> u8 {
+    let number = explanation.number;
+    let name = explanation.name;
+    let text = explanation.text;
+    match print!(rt; "{number} {name}\n\n{text}") {
+        Ok(()) => ANSWERED,
+        Err(_) => DEVICE_FAILED,
+    }
+}

@@ -1,0 +1,135 @@
+//! What the words of a command line ask for.
+
+ghost use Rattle.std.specs.Prelude.{◌≡◌, IfOk};
+ghost use Rattle.bq_run.specs.Run.{IsInRange};
+ghost use Rattle.bq_command_line.specs.declared.words.Words.{Words};
+ghost use Rattle.bq_command_line.specs.declared.words.Asked.TheVariants.{Answer};
+
+use crate::command::{MAX_STEPS, command};
+use bq_run::{MAX_JOBS, Options, OutputForm};
+use bq_run_explain::{Explanation, explain};
+use clap::error::ErrorKind;
+use clap::{ArgMatches, Error};
+use std::alloc::{AllocError, Global};
+
+const DEFAULT_JOBS: u32 = 4;
+
+const DEFAULT_STEPS: u64 = 1_000_000;
+
+/// Why words are refused that name no place but standard input, and take the queries from there too.
+const INPUT_TWICE: &str =
+    "'--queries -' reads the queries from standard input: '--dir <DIR>' or '--bundle <FILE>' has to say where the workspace is";
+
+/// Where a workspace is.
+#[derive(Clone, Copy)]
+pub enum Place<'a> {
+    /// On standard input, as a bundle.
+    Input,
+    /// In a file, as a bundle.
+    Bundle(&'a str),
+    Directory(&'a str),
+}
+
+/// A query, or the file of many, and where the workspace is.
+#[derive(Drop)]
+pub struct Words<'a> {
+    pub options: Options,
+    pub place: Place<'a>,
+    /// The file of queries, `-` for standard input; then the options have no query.
+    pub queries: Option<&'a str>,
+}
+
+/// What the words ask for.
+#[derive(Drop)]
+pub enum Asked<'a> {
+    Answer(Words<'a>),
+    Explanation(Explanation),
+}
+
+fn place_of<'a>(matches: &ArgMatches<'a>) -> Place<'a> {
+    if let Some(directory) = matches.get_str("dir") {
+        return Place::Directory(directory);
+    }
+    match matches.get_str("bundle") {
+        Some(file) => Place::Bundle(file),
+        None => Place::Input,
+    }
+}
+
+fn options_of(alloc: Global, matches: &ArgMatches) -> Result<Options, AllocError>
+    ensures { IfOk result IsInRange }
+{
+    let jobs = matches.get_one::<u32>("jobs").unwrap_or(DEFAULT_JOBS);
+    let max_steps = matches.get_one::<u64>("max-steps").unwrap_or(DEFAULT_STEPS);
+    let output = match matches.get_str("output") {
+        Some("label_kind") => OutputForm::LabelKind,
+        _ => OutputForm::Label,
+    };
+    let query = matches.get_str("query").unwrap_or("");
+    Ok(Options {
+        query: query.as_bytes().to_vec(alloc)?,
+        jobs: jobs.clamp(1, MAX_JOBS),
+        output,
+        max_steps: max_steps.clamp(1, MAX_STEPS),
+    })
+}
+
+/// Refuses words as clap refuses others.
+fn refusal(alloc: Global, kind: ErrorKind, message: &str) -> Result<Error, AllocError> {
+    command(alloc)?.error(kind, message)
+}
+
+/// Returns whether both the workspace and the queries are to be read from standard input.
+fn reads_input_twice(place: Place, queries: Option<&str>) -> bool {
+    match place {
+        Place::Input => queries == Some("-"),
+        _ => false,
+    }
+}
+
+fn query_of<'a>(alloc: Global, matches: &ArgMatches<'a>) -> Result<Words<'a>, Error>
+    ensures { IfOk result (λ w. IsInRange w.options) }
+{
+    let place = place_of(matches);
+    let queries = matches.get_str("queries");
+    if reads_input_twice(place, queries) {
+        return Err(refusal(alloc, ErrorKind::MissingRequiredArgument, INPUT_TWICE)?);
+    }
+    Ok(Words {
+        options: options_of(alloc, matches)?,
+        place,
+        queries,
+    })
+}
+
+/// Returns the explanation of the number, if there is one.
+fn explanation_of(alloc: Global, number: &str) -> Result<Explanation, Error> {
+    match explain(number.as_bytes()) {
+        Some(explanation) => Ok(explanation),
+        None => {
+            let message = format!(in alloc;
+                "invalid value '{number}' for '--explain <NUMBER>': no fault or error has this number"
+            )?;
+            Err(refusal(alloc, ErrorKind::ValueValidation, message.as_str())?)
+        }
+    }
+}
+
+/// Returns what the words ask for that clap has read.
+fn asked_of<'a>(alloc: Global, matches: &ArgMatches<'a>) -> Result<Asked<'a>, Error>
+    ensures { IfOk result (λ a. (w : Words) → a ≡ Answer w → IsInRange w.options) }
+{
+    match matches.get_str("explain") {
+        Some(number) => Ok(Asked::Explanation(explanation_of(alloc, number)?)),
+        None => Ok(Asked::Answer(query_of(alloc, matches)?)),
+    }
+}
+
+/// Reads the words. The error has clap's text, for standard error or, with `--help` and `--version`, for standard output.
+pub fn words_of<'a>(alloc: Global, words: &'a [String]) -> Result<Asked<'a>, Error>
+    ensures { IfOk result (λ a. (w : Words) → a ≡ Answer w → IsInRange w.options) }
+{
+    // PROOF: what clap has read has many parts, so it is let go of in one place, whatever is made of it
+    let matches = command(alloc)?.try_get_matches_from(words)?;
+    asked_of(alloc, &matches)
+}
