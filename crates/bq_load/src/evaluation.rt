@@ -50,7 +50,8 @@ fn without_cells(alloc: Global, number: u32) -> Result<Arc<Frozen>, AllocError>
     ensures { IfOk result (λ f. f.value ≡ without_cells number) }
 {
     let store = Store::new(alloc, number, Seed::fixed());
-    Arc::new(alloc, freeze(alloc, store, &[], Vec::new(alloc))?)
+    let frozen = freeze(alloc, store, &[], Vec::new(alloc))?;
+    Ok(Arc::new(alloc, frozen)?)
 }
 
 /// Returns the module of a BUILD file, with its package. Nobody loads it, so it keeps no cell.
