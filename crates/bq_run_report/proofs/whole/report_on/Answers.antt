@@ -4,4 +4,4 @@ use Rattle.bq_run_report.proofs.whole.report_on.Goals as goal
 
 pub returns : goal.returns
 returns c =
-    whole (inside c.args.loaded) c.args.question.query.now c.args.question.form c.in_ok-session_over.session_over (reply_view c.in_ok-reply.reply) c.in_ok-session_over.ensures c.in_ok-reply.ensures
+    whole (inside c.args.loaded) c.args.question.query.now c.args.question.form c.in_ok-faults.field-0 (reply_view c.in_ok-reply.reply) c.in_ok-faults.ensures c.in_ok-reply.ensures
