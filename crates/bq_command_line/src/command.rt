@@ -2,11 +2,12 @@
 
 use bq_run::MAX_JOBS;
 use clap::builder::ValueParser;
-use clap::{Arg, Command};
+use clap::{Arg, ArgAction, Command};
 use std::alloc::{AllocError, Global};
 
-/// How the program is called. `--queries` takes the place of a query, which is needed else.
-const USAGE: &str = "bq [OPTIONS] <QUERY>\n       bq [OPTIONS] --queries <FILE>";
+/// How the program is called. `--queries` takes the place of a query; one is needed unless `--queries` or `--facts` is there.
+const USAGE: &str =
+    "bq [OPTIONS] <QUERY>\n       bq [OPTIONS] --queries <FILE>\n       bq [OPTIONS] --facts [QUERY]";
 
 /// What `--help` prints after the options.
 const NOTES: &str =
@@ -20,11 +21,16 @@ With --queries the workspace is loaded once for all the queries of a file, one a
 standard output gets a line `=== STATUS LINES QUERY`, at once, and then that many lines: the answer, or
 the error.
 
+With --facts standard output gets JSON, an object a line: each target of the query, or each target if
+there is none, with its kind, file, line, attributes and direct dependencies; each BUILD and .bzl file
+with its loads; and each fault.
+
 Examples:
   bq --dir . 'deps(//some/package:target)'
   bq --dir . 'kind("_test rule", rdeps(//..., //some/package:file.c))'
   printf '=== a/BUILD\nfilegroup(name = "x", srcs = ["s.txt"])\n' | bq 'deps(//a:x)'
   bq --dir . --queries queries.txt
+  bq --dir . --facts 'kind("_test rule", //...)'
   bq --explain F47
 
 Exit status:
@@ -39,12 +45,22 @@ pub const VERSION: &str = "1.1.0";
 
 pub const MAX_STEPS: u64 = 1_000_000_000;
 
-/// An argument with a value: an option, or the query, which is written without a name.
+/// How an argument is written.
+#[derive(Clone, Copy)]
+enum Shape {
+    /// By its name, and with a value.
+    Option,
+    /// By its name alone.
+    Flag,
+    /// As a value without a name.
+    Value,
+}
+
 #[derive(Clone, Copy)]
 struct Argument {
-    /// What it is read back by, and the name of an option.
+    /// What it is read back by, and its name.
     id: &'static str,
-    is_option: bool,
+    shape: Shape,
     /// What stands for its value in help.
     value: &'static str,
     help: &'static str,
@@ -54,20 +70,21 @@ struct Argument {
     /// What can't be used beside it.
     excludes: &'static [&'static str],
     excludes_all: bool,
-    is_required: bool,
+    /// If it isn't empty, the argument is needed unless one of these is used.
+    needed_unless: &'static [&'static str],
 }
 
 /// An option that takes any text and may be left out.
 const OPTION: Argument = Argument {
     id: "",
-    is_option: true,
+    shape: Shape::Option,
     value: "FILE",
     help: "",
     takes: ValueParser::String,
     default: &[],
     excludes: &[],
     excludes_all: false,
-    is_required: false,
+    needed_unless: &[],
 };
 
 /// The arguments, in the order of help.
@@ -115,6 +132,15 @@ const ARGUMENTS: &[Argument] = &[
         ..OPTION
     },
     Argument {
+        id: "facts",
+        shape: Shape::Flag,
+        value: "",
+        help: "Print the facts behind the answer as JSON, a line for each target, file and fault",
+        takes: ValueParser::Bool,
+        excludes: &["queries", "output"],
+        ..OPTION
+    },
+    Argument {
         id: "explain",
         value: "NUMBER",
         help: "Explain a fault or error, as F47, Q5 or E4, and exit",
@@ -123,27 +149,27 @@ const ARGUMENTS: &[Argument] = &[
     },
     Argument {
         id: "query",
-        is_option: false,
+        shape: Shape::Value,
         value: "QUERY",
         help: "The query, as //package:name or deps(//...)",
-        is_required: true,
+        needed_unless: &["queries", "facts"],
         ..OPTION
     },
 ];
 
-/// Declares an argument, but for what it excludes by name.
+/// Declares an argument, but for those that it names.
 fn declared<'a>(alloc: Global, argument: &Argument) -> Arg<'a> {
     let arg = Arg::new(alloc, argument.id)
-        .value_name(argument.value)
         .help(argument.help)
         .value_parser(argument.takes)
-        .default_values(argument.default)
-        .exclusive(argument.excludes_all)
-        .required(argument.is_required);
-    if argument.is_option {
-        arg.long(argument.id)
-    } else {
-        arg
+        .exclusive(argument.excludes_all);
+    match argument.shape {
+        Shape::Flag => arg.long(argument.id).action(ArgAction::SetTrue),
+        Shape::Option => arg
+            .long(argument.id)
+            .value_name(argument.value)
+            .default_values(argument.default),
+        Shape::Value => arg.value_name(argument.value),
     }
 }
 
@@ -151,7 +177,9 @@ fn declared<'a>(alloc: Global, argument: &Argument) -> Arg<'a> {
 fn arguments<'a>(alloc: Global) -> Result<Vec<Arg<'a>>, AllocError> {
     let mut arguments = Vec::new(alloc);
     for argument in ARGUMENTS {
-        let declared = declared(alloc, argument).conflicts_with_all(argument.excludes)?;
+        let declared = declared(alloc, argument)
+            .conflicts_with_all(argument.excludes)?
+            .required_unless_present_any(argument.needed_unless)?;
         arguments.push(declared)?;
     }
     Ok(arguments)

@@ -1,13 +1,14 @@
-//! Runs over bundles and directories, of one query and of many.
+//! Runs over bundles and directories, of one query and of many, and for facts.
 
 ghost use Rattle.bq_run.specs.Run.{IsInRange};
 
-use crate::words::{Place, Words};
+use crate::words::{Place, Wanted, Words};
 use bq_label::Workspace;
 use bq_run::{
     Metered, Options, RunErr, Status, read_bundle, run, run_files, status_code, write_status_line,
 };
 use bq_run_directory::{DirectoryErr, read_directory};
+use bq_run_facts::run_facts;
 use bq_run_session::{SessionStatus, run_queries, session_code};
 use std::alloc::Global;
 use std::fs::File;
@@ -161,6 +162,34 @@ pub fn run_many<T: Threads + Wait + RandomSource + Sync>(
     answer_queries(rt, threads, alloc, file, words)
 }
 
+/// Runs for the facts behind the answer to a query, or for all.
+fn run_for_facts<T: Threads + Wait + RandomSource + Sync>(
+    rt: &HostRuntime,
+    threads: &T,
+    alloc: Global,
+    query: Option<&str>,
+    words: &Words,
+) -> Result<Status, RunErr>
+    requires { IsInRange words.now.options }
+{
+    let workspace = read_workspace(rt, alloc, words.place)?;
+    let mut writer = Metered::new(rt.stdout());
+    let mut faults = Metered::new(rt.stderr());
+    let query = match query {
+        Some(query) => Some(query.as_bytes()),
+        None => None,
+    };
+    run_facts(
+        threads,
+        alloc,
+        &workspace,
+        query,
+        &mut writer,
+        &mut faults,
+        &words.options,
+    )
+}
+
 /// Writes the error line, if there is one, and returns the exit status.
 fn end(rt: &HostRuntime, ended: &Result<Status, RunErr>) -> u8 {
     let mut errors = Metered::new(rt.stderr());
@@ -177,9 +206,10 @@ pub fn answer<T: Threads + Wait + RandomSource + Sync>(
 ) -> u8
     requires { IsInRange words.now.options }
 {
-    match words.queries {
-        None => end(rt, &run_one(rt, threads, alloc, words)),
-        Some(file) => match run_many(rt, threads, alloc, file, words) {
+    match words.wanted {
+        Wanted::Answer => end(rt, &run_one(rt, threads, alloc, words)),
+        Wanted::Facts(query) => end(rt, &run_for_facts(rt, threads, alloc, query, words)),
+        Wanted::Answers(file) => match run_many(rt, threads, alloc, file, words) {
             Ok(status) => session_code(status),
             Err(error) => end(rt, &Err(error)),
         },

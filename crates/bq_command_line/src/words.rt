@@ -30,13 +30,23 @@ pub enum Place<'a> {
     Directory(&'a str),
 }
 
-/// A query, or the file of many, and where the workspace is.
+/// What is asked of a workspace.
+#[derive(Clone, Copy)]
+pub enum Wanted<'a> {
+    /// The answer to the query of the options.
+    Answer,
+    /// The answers to the queries of a file, `-` for standard input; the options have no query.
+    Answers(&'a str),
+    /// The facts behind the answer to a query, or all of them.
+    Facts(Option<&'a str>),
+}
+
+/// What is asked of a workspace, and where it is.
 #[derive(Drop)]
 pub struct Words<'a> {
     pub options: Options,
     pub place: Place<'a>,
-    /// The file of queries, `-` for standard input; then the options have no query.
-    pub queries: Option<&'a str>,
+    pub wanted: Wanted<'a>,
 }
 
 /// What the words ask for.
@@ -53,6 +63,16 @@ fn place_of<'a>(matches: &ArgMatches<'a>) -> Place<'a> {
     match matches.get_str("bundle") {
         Some(file) => Place::Bundle(file),
         None => Place::Input,
+    }
+}
+
+fn wanted_of<'a>(matches: &ArgMatches<'a>) -> Wanted<'a> {
+    if matches.get_flag("facts") {
+        return Wanted::Facts(matches.get_str("query"));
+    }
+    match matches.get_str("queries") {
+        Some(file) => Wanted::Answers(file),
+        None => Wanted::Answer,
     }
 }
 
@@ -80,9 +100,9 @@ fn refusal(alloc: Global, kind: ErrorKind, message: &str) -> Result<Error, Alloc
 }
 
 /// Returns whether both the workspace and the queries are to be read from standard input.
-fn reads_input_twice(place: Place, queries: Option<&str>) -> bool {
-    match place {
-        Place::Input => queries == Some("-"),
+fn reads_input_twice(place: Place, wanted: Wanted) -> bool {
+    match (place, wanted) {
+        (Place::Input, Wanted::Answers(file)) => file == "-",
         _ => false,
     }
 }
@@ -91,14 +111,14 @@ fn query_of<'a>(alloc: Global, matches: &ArgMatches<'a>) -> Result<Words<'a>, Er
     ensures { IfOk result (λ w. IsInRange w.options) }
 {
     let place = place_of(matches);
-    let queries = matches.get_str("queries");
-    if reads_input_twice(place, queries) {
+    let wanted = wanted_of(matches);
+    if reads_input_twice(place, wanted) {
         return Err(refusal(alloc, ErrorKind::MissingRequiredArgument, INPUT_TWICE)?);
     }
     Ok(Words {
         options: options_of(alloc, matches)?,
         place,
-        queries,
+        wanted,
     })
 }
 

@@ -1,5 +1,5 @@
 -- A list of loads, one load after another.
-use Rattle.std.proofs.Common.{◌≡◌, ◌∙◌, ◌+◌, ◌<◌, ◌≤◌, ℕ, zero, suc, List, [], ◌∷◌, ◌++◌, None, Some, length, drop, get_or, slice_get, refl, sym, ap, append_assoc, append-nil, arith}
+use Rattle.std.proofs.Common.{◌≡◌, ◌∙◌, ◌+◌, ◌<◌, ◌≤◌, ℕ, zero, suc, Bool, true, false, List, [], ◌∷◌, ◌++◌, None, Some, length, drop, get_or, slice_get, refl, sym, ap, append_assoc, append-nil, arith, ne_eqb}
 use Rattle.std.specs.Prelude.{◌==◌, if◌then◌else◌}
 use Rattle.std.specs.List.{flat_map, join_by, zip}
 use Rattle.std.proofs.lemmas.List.{drop_more}
@@ -17,23 +17,28 @@ further ps = flat_map (λ p. comma ++ load_object p) ps
 abbrev pub left : ℕ → List LoadStmt → List LabelParts → List ℕ
 left n loads files = if n == 0 then join_by load_object comma (zip loads files) else further (zip loads files)
 
+-- no place after another is the first
 later : (n : ℕ) (loads : List LoadStmt) (files : List LabelParts) → left (n + 1) loads files ≡ further (zip loads files)
-later zero loads files = refl
-later (suc n) loads files = refl
+later n loads files = ap (λ b. if b then join_by load_object comma (zip loads files) else further (zip loads files)) (ne_eqb (n + 1) 0 (λ e. omega (arith, e)))
+
+more_by : (first : Bool) (p : LoadStmt × LabelParts) (ps : List (LoadStmt × LabelParts))
+    → (if first then join_by load_object comma (p ∷ ps) else further (p ∷ ps)) ≡ (if first then [] else comma) ++ (load_object p ++ further ps)
+more_by true p ps = refl
+more_by false p ps = append_assoc comma (load_object p) (further ps)
 
 left_more : (n : ℕ) (s : LoadStmt) (ss : List LoadStmt) (l : LabelParts) (ls : List LabelParts) → left n (s ∷ ss) (l ∷ ls) ≡ comma_before n ++ (load_object (s, l) ++ left (n + 1) ss ls)
-left_more zero s ss l ls = refl
-left_more (suc n) s ss l ls = append_assoc comma (load_object (s, l)) (further (zip ss ls)) ∙ ap (λ t. comma ++ (load_object (s, l) ++ t)) (sym (later (suc n) ss ls))
+left_more n s ss l ls = more_by (n == 0) (s, l) (zip ss ls) ∙ ap (λ t. comma_before n ++ (load_object (s, l) ++ t)) (sym (later n ss ls))
+
+none_by : (first : Bool) → (if first then join_by load_object comma [] else further []) ≡ []
+none_by true = refl
+none_by false = refl
 
 left_none : (n : ℕ) (ls : List LabelParts) → left n [] ls ≡ []
-left_none zero ls = refl
-left_none (suc n) ls = refl
+left_none n ls = none_by (n == 0)
 
 left_no_file : (n : ℕ) (ss : List LoadStmt) → left n ss [] ≡ []
-left_no_file zero [] = refl
-left_no_file zero (s ∷ ss) = refl
-left_no_file (suc n) [] = refl
-left_no_file (suc n) (s ∷ ss) = refl
+left_no_file n [] = none_by (n == 0)
+left_no_file n (s ∷ ss) = none_by (n == 0)
 
 none_further : {X : Type 0} (xs : List X) (n : ℕ) → slice_get xs n ≡ None → length xs ≤ n
 none_further [] n e = omega arith

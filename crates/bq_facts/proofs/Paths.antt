@@ -1,7 +1,6 @@
 -- A label that is printed in full says where its file is.
-use Rattle.std.proofs.Common.{◌≡◌, ◌∙◌, [], Option, Some, ap, refl}
+use Rattle.std.proofs.Common.{[], Option, ap, refl}
 use Rattle.bq_label.specs.Label.{LabelParts, full_form, package_at}
-use Rattle.bq_label.specs.Packages.{label_path}
 use Rattle.bq_label.proofs.Readings.{full_form_reads, label_from_reading}
 use Rattle.bq_facts.specs.FaultObject.{file_labelled, path_by}
 use Rattle.bq_facts.specs.Laws.{PathsOfLabels}

@@ -66,7 +66,7 @@ fn push_comma(text: &mut Vec<u8>, number: usize) -> Result<(), AllocError>
 }
 
 /// Appends loads, which name these files.
-#[tactic(auto, using(crate::proofs::Loads::next_load, crate::proofs::Loads::no_file, crate::proofs::Loads::no_load))]
+#[tactic(auto, using(crate::proofs::Loads::no_load))]
 fn push_items(
     alloc: Global,
     text: &mut Vec<u8>,

@@ -1,12 +1,12 @@
 -- What a target depends on directly is what its row has, in order.
-use Rattle.std.proofs.Common.{◌≡◌, ◌≢◌, ◌∙◌, ◌+◌, ◌<◌, ℕ, Bool, true, List, length, get_or, sym, subst, arith, eq-eqb, ne_eqb}
-use Rattle.std.specs.Prelude.{◌==◌, ◌&&◌, not, nat_eq}
+use Rattle.std.proofs.Common.{◌≡◌, ◌≢◌, ◌∙◌, ◌+◌, ◌<◌, ℕ, true, List, [], ◌∷◌, ◌++◌, length, get_or, sym, ap, arith, map-id, eq-eqb, ne_eqb}
+use Rattle.std.specs.Prelude.{not, nat_eq}
 use Rattle.std.specs.List.{All, Contains, filter, list_any, range_with_len}
 use Rattle.std.specs.List.Sorted.{IsStrictlyIncreasing}
 use Rattle.std.proofs.lemmas.Bool.{and_from, and_parts, eqb-true, eqb-false, not-true, not_from_false}
 use Rattle.std.proofs.lemmas.List.Elements.{All-contains, All-from_get_or, Contains-get_or, filter_passes}
 use Rattle.std.proofs.lemmas.List.Folds.{list_any_at}
-use Rattle.std.proofs.lemmas.List.FromFn.{length-range_with_len, get_or-range_with_len}
+use Rattle.std.proofs.lemmas.List.FromFn.{length-range_with_len, get_or-range_with_len, map-range_with_len_more}
 use Rattle.std.proofs.lemmas.List.Kept.{IsStrictlyIncreasing-filter}
 use Rattle.std.proofs.lemmas.Map.Views.{Contains-from_any}
 use Rattle.bq_query_graph.specs.Paths.{row}
@@ -26,12 +26,16 @@ numbers_rise n k l =
     omega (arith, get_or-range_with_len 0 n k 0 (omega (arith, long)), get_or-range_with_len 0 n (k + 1) 0 long)
 
 number_there : (n y : ℕ) → y < n → Contains (range_with_len 0 n) y
-number_there n y l = (y, omega (arith, l, length-range_with_len 0 n), get_or-range_with_len 0 n y y l)
+number_there n y l = (y, omega (arith, l, length-range_with_len 0 n), omega (arith, get_or-range_with_len 0 n y y l))
 
 pub numbers_below : (n : ℕ) → All (λ y. y < n) (range_with_len 0 n)
 numbers_below n = All-from_get_or (λ y. y < n) (range_with_len 0 n) 0 (λ i l.
     let inside : i < n = omega (arith, l, length-range_with_len 0 n) in
     omega (arith, get_or-range_with_len 0 n i 0 inside, inside))
+
+pub numbers_more : (n : ℕ) → range_with_len 0 (n + 1) ≡ range_with_len 0 n ++ n ∷ []
+numbers_more n =
+    sym (map-id (range_with_len 0 (n + 1))) ∙ map-range_with_len_more (λ (y : ℕ). y) 0 n n (omega arith) ∙ ap (λ l. l ++ n ∷ []) (map-id (range_with_len 0 n))
 
 -- ---- direct dependencies
 

@@ -13,11 +13,16 @@ use bq_query_target_graph::TargetGraph;
 use std::alloc::{AllocError, Global};
 
 /// Returns the numbers of all targets.
+#[tactic(auto, using(crate::proofs::Direct::numbers_more, crate::proofs::Direct::numbers_below))]
 fn all_numbers(alloc: Global, count: usize) -> Result<Vec<usize>, AllocError>
     ensures all { IfOk result (λ v. v.items ≡ range_with_len 0 count) }
     ensures within { IfOk result (λ v. All (λ at. at < count) v.items) }
 {
-    (0..count).collect(alloc)
+    let mut numbers = Vec::with_capacity(alloc, count)?;
+    for at in 0..count {
+        numbers.push(at)?;
+    }
+    Ok(numbers)
 }
 
 /// Returns the numbers of the targets that the query stands for, or of all targets.
