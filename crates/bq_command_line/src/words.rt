@@ -30,6 +30,13 @@ pub enum Place<'a> {
     Directory(&'a str),
 }
 
+impl Place<'_> {
+    /// Returns whether the workspace is read from standard input.
+    pub fn is_input(self) -> bool {
+        matches!(self, Place::Input)
+    }
+}
+
 /// A query, or the file of many, and where the workspace is.
 #[derive(Drop)]
 pub struct Words<'a> {
@@ -79,20 +86,12 @@ fn refusal(alloc: Global, kind: ErrorKind, message: &str) -> Result<Error, Alloc
     command(alloc)?.error(kind, message)
 }
 
-/// Returns whether both the workspace and the queries are to be read from standard input.
-fn reads_input_twice(place: Place, queries: Option<&str>) -> bool {
-    match place {
-        Place::Input => queries == Some("-"),
-        _ => false,
-    }
-}
-
 fn query_of<'a>(alloc: Global, matches: &ArgMatches<'a>) -> Result<Words<'a>, Error>
     ensures { IfOk result (λ w. IsInRange w.options) }
 {
     let place = place_of(matches);
     let queries = matches.get_str("queries");
-    if reads_input_twice(place, queries) {
+    if place.is_input() && queries == Some("-") {
         return Err(refusal(alloc, ErrorKind::MissingRequiredArgument, INPUT_TWICE)?);
     }
     Ok(Words {
