@@ -1,5 +1,5 @@
 -- A run that is asked for facts ends as one that is asked for the answer.
-use Rattle.std.proofs.Common.{◌≡◌, ◌∙◌, ℕ, List, [], Option, Some, None, Result, Ok, Err, ap, subst, sym, refl}
+use Rattle.std.proofs.Common.{◌≡◌, ℕ, List, [], Some, None, Result, ap, subst, sym}
 use Rattle.bq_label.specs.declared.packages.BuildFile.{BuildFile}
 use Rattle.bq_label.specs.declared.workspace.File.{File}
 use Rattle.bq_query_check.specs.Checked.{IsChecked, IsWrong}
@@ -14,16 +14,16 @@ use Rattle.bq_query.specs.declared.print.OutputForm.{OutputForm}
 use Rattle.bq_run_report.specs.declared.ending.NoAnswer.{NoAnswer}
 use Rattle.bq_run_report.specs.declared.ending.Status.{Status}
 use Rattle.bq_run_report.specs.Ending.{status_by}
-use Rattle.bq_run_report.specs.Report.{Inside, ReplyView, ReportView, Replies, RepliesBy, Reports, all_faults}
+use Rattle.bq_run_report.specs.Report.{Inside, ReplyView, ReportView, RepliesBy, Reports, all_faults}
 use Rattle.bq_run.specs.WorkspaceRun.{IsReportOn, loaded_in, refused}
 use Rattle.bq_run.specs.declared.options.Options.{Options}
-use Rattle.bq_run_facts.specs.Facts.{IsFactsBy, IsFactsOn, Tells, TellsBy, TellsFacts}
+use Rattle.bq_run_facts.specs.Facts.{IsFactsBy, IsFactsOn, TellsBy, TellsFacts}
 use Rattle.bq_run_facts.specs.Laws.{EndsAsAnswer}
 
-reply_at : List ℕ → Result Status NoAnswer → ReplyView
+abbrev reply_at : List ℕ → Result Status NoAnswer → ReplyView
 reply_at text end = record { text = text; end = end }
 
-report_at : List ℕ → List ℕ → Result Status NoAnswer → ReportView
+abbrev report_at : List ℕ → List ℕ → Result Status NoAnswer → ReportView
 report_at faults answer end = record { faults = faults; answer = answer; end = end }
 
 abbrev HasAnswer : Options → List File → ReportView → Type 0
@@ -36,7 +36,6 @@ refusal r why e = ap (λ (s : ReportView). report_at s.faults [] s.end) e
 -- with the same words and targets
 replies : (f : Fault) (packages : List BuildFile) (w : GraphParts) (query : CheckedQuery) (form : OutputForm) (further : List ℕ) (status : Status) (text : List ℕ) (end : Result Status NoAnswer)
     → TellsBy f packages w (Some query) further status (reply_at text end) → (answer : List ℕ) × RepliesBy f w (formula_of query.set) form status (reply_at answer end)
-unfolding reply_at
 replies None packages w query form further status text end (numbers, meant, is) =
     let answer = printed form (targets_of w) numbers in
     (answer, (numbers, meant, ap (λ (s : ReplyView). reply_at answer s.end) is))

@@ -35,7 +35,11 @@ struct Before {
     packages: Packages,
 }
 
-fn before(alloc: Global, workspace: &Workspace, modules: &[Module]) -> Result<Before, AllocError>
+fn read_before(
+    alloc: Global,
+    workspace: &Workspace,
+    modules: &[Module],
+) -> Result<Before, AllocError>
     ensures modules { IfOk result (λ b. b.modules.items ≡ module_lines modules.now) }
     ensures packages { IfOk result (λ b. b.packages ≡ packages_of workspace.now) }
 {
@@ -55,7 +59,7 @@ fn report_over(
     loaded: Loaded,
     asked: Option<&CheckedQuery>,
 ) -> Result<Report, AllocError>
-    ensures { IfOk result (λ r. TellsFacts before.entry.packages before.entry.modules.items (inside loaded.entry) (option_copied asked.entry) (report_view r)) }
+    ensures { IfOk result (λ r. TellsFacts before.packages before.modules.items (inside loaded) (option_copied asked.entry) (report_view r)) }
 {
     let Before {
         modules: mut further,
@@ -94,9 +98,9 @@ fn report_graph<T: Threads + Wait + RandomSource + Sync>(
 ) -> Result<Report, AllocError>
     requires in_range { IsInRange options.now }
     requires graph { IsLoadGraph (inputs_of workspace.now schema.now) graph }
-    ensures { IfOk result (λ r. TellsFacts (packages_of workspace.now) (module_lines graph.entry.modules) (loaded_in workspace.now schema.now options.now.max_steps graph.entry) (option_copied asked.entry) (report_view r)) }
+    ensures { IfOk result (λ r. TellsFacts (packages_of workspace.now) (module_lines graph.modules) (loaded_in workspace.now schema.now options.now.max_steps graph) (option_copied asked.entry) (report_view r)) }
 {
-    let Ok(before) = before(alloc, workspace, graph.modules()) else {
+    let Ok(before) = read_before(alloc, workspace, graph.modules()) else {
         drop(graph); // PROOF: one call lets the graph go
         return Err(AllocError);
     };
