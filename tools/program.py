@@ -61,6 +61,14 @@ def differing(listed):
     return sorted({line.split(" ", 2)[-1] for line in changed})
 
 
+def toolchain():
+    """The line by which the toolchain names itself, of which one word is its release."""
+    try:
+        return subprocess.run(["rt", "version"], capture_output=True, check=True).stdout.decode()
+    except (OSError, subprocess.CalledProcessError) as error:
+        raise Refused("there is no rt on the PATH, or it doesn't say its version") from error
+
+
 def sum_of(content):
     return hashlib.sha256(content).hexdigest()
 
@@ -81,7 +89,7 @@ def stop_on_other_text():
 def check_sums():
     """Refuses a file of dist/ that isn't as SHA256SUMS says."""
     lines = dict(line.split("  ")[::-1] for line in text_of("dist/SHA256SUMS").splitlines() if "  " in line)
-    for name in (PACKED, "SOURCES"):
+    for name in (PACKED, "SOURCES", "TOOLCHAIN"):
         if lines.get(name) != sum_of(bytes_of(f"{DIST}/{name}")):
             raise Refused(f"dist/{name} isn't what dist/SHA256SUMS says")
 

@@ -28,7 +28,7 @@ fn target_count(packages: &[Package]) -> usize {
 
 fn show_loaded(rt: &HostRuntime, loaded: &Loaded) -> Result<()> {
     show_count(rt, loaded.modules.len())?;
-    show_count(rt, target_count(&loaded.packages))?;
+    show_count(rt, target_count(loaded.packages.as_slice()))?;
     show_bytes(rt, &loaded.prints.to_vec(rt.alloc())?)?;
     show_bytes(rt, &loaded.faults.text(rt.alloc())?)
 }

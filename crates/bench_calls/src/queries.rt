@@ -9,7 +9,7 @@ use bq_load::{Loaded, load_one_thread};
 use bq_package_schema::Schema;
 use bq_query::{answer, print_answer};
 use bq_query_check::{CheckedQuery, parse_query};
-use bq_query_target_graph::TargetGraph;
+use bq_query_target_graph::{TargetGraph, build_graph};
 use bq_run::{Metered, Options, OutputForm, RunErr, Status, run, status_of};
 use bq_value_seed::Seed;
 use std::alloc::Global;
@@ -28,7 +28,8 @@ fn graph_of(alloc: Global, workspace: &Workspace) -> Result<TargetGraph> {
     let schema = Schema::standard(alloc)?;
     let loaded = load_one_thread(alloc, workspace, &schema, LIMIT, Seed::fixed())?;
     let Loaded { packages, .. } = loaded;
-    Ok(TargetGraph::new(alloc, packages)?)
+    let (graph, _lines) = build_graph(alloc, packages)?;
+    Ok(graph)
 }
 
 fn answer_over(rt: &HostRuntime, graph: &TargetGraph, query: &CheckedQuery) -> Result<()> {

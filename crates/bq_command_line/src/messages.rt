@@ -5,6 +5,7 @@ use bq_run_explain::Explanation;
 use clap::Error;
 use clap::error::ErrorKind;
 use std::io;
+use std::io::IsTerminal;
 
 /// Writes the error line for out of memory, which takes no memory itself.
 pub fn report_no_memory(rt: &impl Eprint) -> u8 {
@@ -19,6 +20,15 @@ pub fn refuse_arguments(rt: &impl Eprint, error: &io::Error) -> u8 {
     }
     let _ = eprintln!(rt; "error: an argument is not valid UTF-8");
     REFUSED
+}
+
+/// Says what a run waits for that reads its bundle from a terminal, where nothing else would tell.
+pub fn announce_input(rt: &HostRuntime) {
+    if rt.stdin().is_terminal() {
+        let _ = eprintln!(rt;
+            "bq: reading the bundle from the terminal; --dir DIR reads a directory"
+        );
+    }
 }
 
 /// Prints help or the version on standard output, or why words are refused on standard error.

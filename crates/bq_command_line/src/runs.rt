@@ -1,12 +1,12 @@
 //! Runs over bundles and directories, of one query and of many, and for facts.
 
+ghost use Rattle.std.specs.Prelude.{◌≡◌, ◌-◌, ◌^◌, ◌<◌, IfOk};
 ghost use Rattle.bq_run.specs.Run.{IsInRange};
 
+use crate::messages::announce_input;
 use crate::words::{Place, Wanted, Words};
 use bq_label::Workspace;
-use bq_run::{
-    Metered, Options, RunErr, Status, read_bundle, run, run_files, status_code, write_status_line,
-};
+use bq_run::{ByteSource, Metered, Options, RunErr, Status, end_run, read_bundle, run, run_files};
 use bq_run_directory::{DirectoryErr, read_directory};
 use bq_run_facts::run_facts;
 use bq_run_session::{SessionStatus, run_queries, session_code};
@@ -41,26 +41,19 @@ fn read_files(rt: &HostRuntime, directory: &str) -> Result<Workspace, RunErr> {
 }
 
 /// Runs over the bundle that a reader has, with threads of this handle.
-fn run_on_bundle<T: Threads + Wait + RandomSource + Sync, R: Read + Drop>(
+fn run_on_bundle<T: Threads + Wait + RandomSource + Sync, R: ByteSource>(
     rt: &HostRuntime,
     threads: &T,
     alloc: Global,
-    reader: R,
+    reader: &mut R,
     options: &Options,
 ) -> Result<Status, RunErr>
-    requires { IsInRange options.now }
+    requires in_range { IsInRange options.now }
+    requires reader { R.failed reader.old < 2 ^ 64 - 1 }
 {
-    let mut reader = Metered::new(reader);
     let mut writer = Metered::new(rt.stdout());
     let mut faults = Metered::new(rt.stderr());
-    run(
-        threads,
-        alloc,
-        &mut reader,
-        &mut writer,
-        &mut faults,
-        options,
-    )
+    run(threads, alloc, reader, &mut writer, &mut faults, options)
 }
 
 /// Runs over the files of a directory, with threads of this handle.
@@ -96,10 +89,13 @@ fn run_one<T: Threads + Wait + RandomSource + Sync>(
     requires { IsInRange words.now.options }
 {
     match words.place {
-        Place::Input => run_on_bundle(rt, threads, alloc, rt.stdin(), &words.options),
+        Place::Input => {
+            let mut reader = Metered::new(rt.stdin());
+            run_on_bundle(rt, threads, alloc, &mut reader, &words.options)
+        }
         Place::Bundle(path) => {
-            let file = open(rt, path)?;
-            run_on_bundle(rt, threads, alloc, file, &words.options)
+            let mut reader = Metered::new(open(rt, path)?);
+            run_on_bundle(rt, threads, alloc, &mut reader, &words.options)
         }
         Place::Directory(path) => run_on_directory(rt, threads, alloc, path, &words.options),
     }
@@ -118,35 +114,42 @@ fn read_workspace(rt: &HostRuntime, alloc: Global, place: Place) -> Result<Works
 }
 
 /// Answers the queries that a reader has, with threads of this handle.
-fn answer_queries<T: Threads + Wait + RandomSource + Sync, R: Read + Drop>(
+fn answer_queries<T: Threads + Wait + RandomSource + Sync, Q: ByteSource>(
     rt: &HostRuntime,
     threads: &T,
     alloc: Global,
-    reader: R,
+    queries: &mut Q,
     words: &Words,
 ) -> Result<SessionStatus, RunErr>
-    requires { IsInRange words.now.options }
+    requires in_range { IsInRange words.now.options }
+    requires queries { Q.failed queries.old < 2 ^ 64 - 1 }
 {
-    let Ok(reader) = BufReader::new(alloc, reader) else {
-        return Err(RunErr::Memory);
-    };
     let workspace = read_workspace(rt, alloc, words.place)?;
-    let mut queries = Metered::new(reader);
     let mut writer = Metered::new(rt.stdout());
     let mut faults = Metered::new(rt.stderr());
     run_queries(
         threads,
         alloc,
         &workspace,
-        &mut queries,
+        queries,
         &mut writer,
         &mut faults,
         &words.options,
     )
 }
 
+/// Returns a reader that reads ahead.
+fn ahead<R: Read + Drop>(alloc: Global, reader: R) -> Result<Metered<BufReader<R>>, RunErr>
+    ensures { IfOk result (λ r. r.failures ≡ 0) }
+{
+    match BufReader::new(alloc, reader) {
+        Ok(reader) => Ok(Metered::new(reader)),
+        Err(_) => Err(RunErr::Memory),
+    }
+}
+
 /// Runs with the queries of a file, or of standard input.
-pub fn run_many<T: Threads + Wait + RandomSource + Sync>(
+fn run_many<T: Threads + Wait + RandomSource + Sync>(
     rt: &HostRuntime,
     threads: &T,
     alloc: Global,
@@ -156,10 +159,11 @@ pub fn run_many<T: Threads + Wait + RandomSource + Sync>(
     requires { IsInRange words.now.options }
 {
     if file == "-" {
-        return answer_queries(rt, threads, alloc, rt.stdin(), words);
+        let mut queries = ahead(alloc, rt.stdin())?;
+        return answer_queries(rt, threads, alloc, &mut queries, words);
     }
-    let file = open(rt, file)?;
-    answer_queries(rt, threads, alloc, file, words)
+    let mut queries = ahead(alloc, open(rt, file)?)?;
+    answer_queries(rt, threads, alloc, &mut queries, words)
 }
 
 /// Runs for the facts behind the answer to a query, or for all.
@@ -192,9 +196,7 @@ fn run_for_facts<T: Threads + Wait + RandomSource + Sync>(
 
 /// Writes the error line, if there is one, and returns the exit status.
 fn end(rt: &HostRuntime, ended: &Result<Status, RunErr>) -> u8 {
-    let mut errors = Metered::new(rt.stderr());
-    let _ = write_status_line(&mut errors, ended);
-    status_code(ended)
+    end_run(&mut Metered::new(rt.stderr()), ended)
 }
 
 /// Runs as the words say, and returns the exit status.
@@ -206,6 +208,9 @@ pub fn answer<T: Threads + Wait + RandomSource + Sync>(
 ) -> u8
     requires { IsInRange words.now.options }
 {
+    if words.place.is_input() {
+        announce_input(rt);
+    }
     match words.wanted {
         Wanted::Answer => end(rt, &run_one(rt, threads, alloc, words)),
         Wanted::Facts(query) => end(rt, &run_for_facts(rt, threads, alloc, query, words)),

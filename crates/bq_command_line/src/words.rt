@@ -30,6 +30,13 @@ pub enum Place<'a> {
     Directory(&'a str),
 }
 
+impl Place<'_> {
+    /// Returns whether the workspace is read from standard input.
+    pub fn is_input(self) -> bool {
+        matches!(self, Place::Input)
+    }
+}
+
 /// What is asked of a workspace.
 #[derive(Clone, Copy)]
 pub enum Wanted<'a> {
@@ -39,6 +46,16 @@ pub enum Wanted<'a> {
     Answers(&'a str),
     /// The facts behind the answer to a query, or all of them.
     Facts(Option<&'a str>),
+}
+
+impl Wanted<'_> {
+    /// Returns whether queries are read from standard input.
+    pub fn is_input(self) -> bool {
+        match self {
+            Wanted::Answers(file) => file == "-",
+            Wanted::Answer | Wanted::Facts(_) => false,
+        }
+    }
 }
 
 /// What is asked of a workspace, and where it is.
@@ -99,20 +116,12 @@ fn refusal(alloc: Global, kind: ErrorKind, message: &str) -> Result<Error, Alloc
     command(alloc)?.error(kind, message)
 }
 
-/// Returns whether both the workspace and the queries are to be read from standard input.
-fn reads_input_twice(place: Place, wanted: Wanted) -> bool {
-    match (place, wanted) {
-        (Place::Input, Wanted::Answers(file)) => file == "-",
-        _ => false,
-    }
-}
-
 fn query_of<'a>(alloc: Global, matches: &ArgMatches<'a>) -> Result<Words<'a>, Error>
     ensures { IfOk result (λ w. IsInRange w.options) }
 {
     let place = place_of(matches);
     let wanted = wanted_of(matches);
-    if reads_input_twice(place, wanted) {
+    if place.is_input() && wanted.is_input() {
         return Err(refusal(alloc, ErrorKind::MissingRequiredArgument, INPUT_TWICE)?);
     }
     Ok(Words {

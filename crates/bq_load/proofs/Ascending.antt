@@ -15,10 +15,8 @@ use Rattle.bq_package_target.specs.Target.{is_of}
 use Rattle.bq_package_target.specs.Package.{PackageTargets, no_targets}
 use Rattle.bq_load_discover.specs.Edges.{number_in}
 use Rattle.bq_load.specs.Views.{ModuleView, FailedView, OutcomeView}
-use Rattle.bq_load.specs.Loaded.{labels_of, own_package, package_by, package_at, package_in, packages_in, PackagesAscend}
-
-abbrev id_of : PackageTargets → PackageParts
-id_of p = package_of p.build_file
+use Rattle.bq_package_list.specs.Order.{id_of, PackagesAscend}
+use Rattle.bq_load.specs.Loaded.{labels_of, own_package, package_by, package_at, package_in, packages_in}
 
 -- ---- a BUILD file's package is of its directory
 

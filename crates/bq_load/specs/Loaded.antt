@@ -1,13 +1,12 @@
 -- What loading a workspace gives: its modules with their outcomes, the packages, the fault lines and the print lines.
 use Rattle.std.specs.Prelude.{◌≡◌, ℕ, ◌++◌, List, [], ◌∷◌, map, Option, Some, None, Result, Ok, Err, slice_get, codes, option_map, option_and_then, if◌then◌else◌}
 use Rattle.std.specs.List.{flat_map, filter_map}
-use Rattle.std.specs.List.Sorted.{IsStrictlySortedBy}
 use Rattle.bq_load_fault_line.specs.declared.fault_line.FaultLine.{FaultLine}
 use Rattle.bq_load_fault_line.specs.FaultLine.{sorted_lines}
 use Rattle.bq_label.specs.declared.workspace.File.{File}
 use Rattle.bq_label.specs.declared.packages.BuildFile.{BuildFile}
 use Rattle.bq_label.specs.Label.{LabelParts, package_of, full_form}
-use Rattle.bq_label.specs.Packages.{build_label, id_cmp}
+use Rattle.bq_label.specs.Packages.{build_label}
 use Rattle.bq_label_set.specs.Labels.{with_labels}
 use Rattle.bq_package_schema.specs.Schema.{Rules}
 use Rattle.bq_package_target.specs.Target.{is_of}
@@ -49,10 +48,6 @@ package_in os b = option_and_then (package_at os) (build_label b)
 abbrev pub packages_in : List BuildFile → List OutcomeView → List PackageTargets
 packages_in bs os = filter_map (package_in os) bs
 
--- packages in the order of their repositories and paths, none of them twice
-abbrev pub PackagesAscend : List PackageTargets → Type 0
-PackagesAscend ps = IsStrictlySortedBy (λ p q. id_cmp (package_of p.build_file) (package_of q.build_file)) ps
-
 -- ---- lines
 
 abbrev pub line_of : LabelParts → FailedView → FaultLine
@@ -90,8 +85,7 @@ print_lines os = flat_map prints_of os
 -- what modules with these outcomes give, in a workspace with these packages
 pub record IsGathered (bs : List BuildFile) (os : List OutcomeView) (l : Loaded) : Type 0 where
   pub modules : map outcome_view l.modules.items ≡ os
-  pub packages : l.packages.items ≡ packages_in bs os
-  pub ascend : PackagesAscend l.packages.items
+  pub packages : l.packages ≡ packages_in bs os
   pub faults : l.faults ≡ sorted_lines (fault_lines os)
   pub prints : l.prints ≡ print_lines os
 

@@ -1,6 +1,6 @@
 //! The evaluation of the statements of a file.
 
-ghost use Rattle.std.specs.Prelude.{◌≡◌, [], map, option_map, IfOk};
+ghost use Rattle.std.specs.Prelude.{◌≡◌, [], map, option_map, Some, IfOk};
 ghost use Rattle.bq_eval.specs.Outcomes.{ended_of};
 ghost use Rattle.bq_package.specs.Calls.{held_by, package_in};
 ghost use Rattle.bq_package_target.specs.Package.{finished};
@@ -45,8 +45,34 @@ fn frozen_of(
     Ok(all)
 }
 
-/// Returns a module that ran to its end, with the package that its host keeps. Nobody loads a BUILD file, so its module
-/// keeps no cell.
+/// Returns a frozen module of this number with no cell and no global.
+fn without_cells(alloc: Global, number: u32) -> Result<Arc<Frozen>, AllocError>
+    ensures { IfOk result (λ f. f.value ≡ without_cells number) }
+{
+    let store = Store::new(alloc, number, Seed::fixed());
+    let frozen = freeze(alloc, store, &[], Vec::new(alloc))?;
+    Ok(Arc::new(alloc, frozen)?)
+}
+
+/// Returns the module of a BUILD file, with its package. Nobody loads it, so it keeps no cell.
+fn build_module(
+    alloc: Global,
+    number: u32,
+    prints: Vec<Bytes>,
+    kept: PackageState,
+) -> Result<LoadedModule, AllocError>
+    ensures { IfOk result (λ m. module_view m ≡ record { frozen = without_cells number; prints = prints.items; «package» = Some (finished kept) }) }
+{
+    let package = kept.finish(alloc)?;
+    let frozen = without_cells(alloc, number)?;
+    Ok(LoadedModule {
+        frozen,
+        prints,
+        package: Some(package),
+    })
+}
+
+/// Returns a module that ran to its end, with the package that its host keeps.
 fn loaded_module(
     alloc: Global,
     frozen: Frozen,
@@ -62,19 +88,9 @@ fn loaded_module(
             package: None,
         });
     };
-    let package = kept.finish(alloc)?;
     let number = frozen.module();
-    let frozen = freeze(
-        alloc,
-        Store::new(alloc, number, Seed::fixed()),
-        &[],
-        Vec::new(alloc),
-    )?;
-    Ok(LoadedModule {
-        frozen: Arc::new(alloc, frozen)?,
-        prints,
-        package: Some(package),
-    })
+    drop(frozen);
+    build_module(alloc, number, prints, kept)
 }
 
 /// Returns the module of an ended evaluation.

@@ -10,7 +10,7 @@ use crate::packages::packages_in;
 use bq_base_rope::Rope;
 use bq_label::Packages;
 use bq_load_fault_line::FaultLines;
-use bq_package_target::Package;
+use bq_package_list::PackageList;
 use std::alloc::{AllocError, Global};
 
 /// A workspace that was loaded.
@@ -19,7 +19,7 @@ pub struct Loaded {
     /// The modules in the order of the bytes of their labels' full forms.
     pub modules: Vec<ModuleOutcome>,
     /// The packages in the order of their directories. A BUILD file that failed has one without targets.
-    pub packages: Vec<Package>,
+    pub packages: PackageList,
     /// A line for each module that failed.
     pub faults: FaultLines,
     /// `LABEL: TEXT` and a newline for each text that a module printed. Long texts are shared with the modules.
@@ -41,7 +41,7 @@ impl Loaded {
         let prints = print_lines(alloc, modules.as_slice())?;
         Ok(Loaded {
             modules,
-            packages: all,
+            packages: PackageList::of(all),
             faults,
             prints,
         })

@@ -7,7 +7,7 @@ ghost use Rattle.bq_label_set.specs.Labels.{with_labels};
 ghost use Rattle.std.specs.List.Sorted.{IsStrictlySortedBy};
 ghost use Rattle.bq_package_target.specs.Package.{no_targets};
 ghost use Rattle.bq_load.specs.Views.{result_view, outcome_view};
-ghost use Rattle.bq_load.specs.Loaded.{labels_of, package_by, package_at, package_in, packages_in, PackagesAscend};
+ghost use Rattle.bq_load.specs.Loaded.{labels_of, package_by, package_at, package_in, packages_in};
 
 use crate::outcome::{FailedModule, LoadedModule, ModuleOutcome};
 use bq_label::{BuildFile, Label, Packages};

@@ -6,7 +6,7 @@ ghost use Rattle.bq_label.specs.Label.{full_form};
 ghost use Rattle.bq_load_outcome_spec.specs.Outcome.{outcome};
 ghost use Rattle.bq_load_order.specs.Shown.{shown as shown_outcome};
 ghost use Rattle.bq_load_order.specs.Slots.{Tabulates};
-ghost use Rattle.bq_load.specs.Views.{module_view, failed_view, result_view, outcome_view};
+ghost use Rattle.bq_load.specs.Views.{module_view, failed_view, result_view, outcome_view, not_evaluated};
 ghost use Rattle.bq_load.specs.Sources.{loading_of};
 ghost use Rattle.bq_load.specs.Evaluation.{means, code_in};
 ghost use Rattle.bq_load.specs.Results.{line_of_load, line_by, load_fault, result_of, outcome_by, outcome_of, outcomes};
@@ -100,6 +100,46 @@ impl<'a> Loading<'a> {
         })
     }
 
+    /// Returns a module that failed for its load of module `k`.
+    fn not_loaded(
+        &self,
+        alloc: Global,
+        m: u32,
+        source: &Source,
+        kind: FaultKind,
+        k: u32,
+    ) -> Result<FailedModule, AllocError>
+        ensures { IfOk result (λ f. failed_view f ≡ not_evaluated (load_fault (loading_of self.now) m source.now kind k)) }
+    {
+        let fault = self.load_fault(alloc, m, source, kind, k)?;
+        Ok(FailedModule::not_evaluated(alloc, fault))
+    }
+
+    /// Returns what a module comes to, by its outcome along loads.
+    fn result_at(
+        &self,
+        alloc: Global,
+        m: u32,
+        source: &Source,
+        outcome: &SharedOutcome<LoadedModule, FailedModule>,
+    ) -> Result<Result<Arc<LoadedModule, Global>, FailedModule>, AllocError>
+        ensures { IfOk result (λ r. result_view r ≡ result_of (loading_of self.now) m source.now (shown_outcome module_view failed_view outcome.now)) }
+    {
+        match outcome {
+            Outcome::Loaded(module) => Ok(Ok(Arc::try_clone(module)?)),
+            Outcome::Faulty(failed) => Ok(Err(share_failed(alloc, failed)?)),
+            Outcome::Cyclic(k) => {
+                Ok(Err(self.not_loaded(alloc, m, source, FaultKind::CycleReached, *k)?))
+            }
+            Outcome::TooDeep(k) => {
+                Ok(Err(self.not_loaded(alloc, m, source, FaultKind::LoadDepth, *k)?))
+            }
+            Outcome::LoadFailed(k) => {
+                Ok(Err(self.not_loaded(alloc, m, source, FaultKind::LoadFailed, *k)?))
+            }
+        }
+    }
+
     /// Returns a module with its outcome, by its outcome along loads.
     pub(crate) fn outcome_at(
         &self,
@@ -111,22 +151,7 @@ impl<'a> Loading<'a> {
         ensures { IfOk result (λ o. outcome_view o ≡ outcome_by (loading_of self.now) m source.now (shown_outcome module_view failed_view outcome.now)) }
     {
         let label = source.label.share()?;
-        let result = match outcome {
-            Outcome::Loaded(module) => Ok(Arc::try_clone(module)?),
-            Outcome::Faulty(failed) => Err(share_failed(alloc, failed)?),
-            Outcome::Cyclic(k) => {
-                let fault = self.load_fault(alloc, m, source, FaultKind::CycleReached, *k)?;
-                Err(FailedModule::not_evaluated(alloc, fault))
-            }
-            Outcome::TooDeep(k) => {
-                let fault = self.load_fault(alloc, m, source, FaultKind::LoadDepth, *k)?;
-                Err(FailedModule::not_evaluated(alloc, fault))
-            }
-            Outcome::LoadFailed(k) => {
-                let fault = self.load_fault(alloc, m, source, FaultKind::LoadFailed, *k)?;
-                Err(FailedModule::not_evaluated(alloc, fault))
-            }
-        };
+        let result = self.result_at(alloc, m, source, outcome)?;
         Ok(ModuleOutcome { label, result })
     }
 

@@ -3,7 +3,7 @@
 ghost use Rattle.std.specs.Prelude.{◌≡◌, ◌↔◌, ◌++◌, [], IsTrue, IfOk, OnOk};
 ghost use Rattle.std.specs.BTreeSet.{insert_key};
 ghost use Rattle.std.specs.List.{flat_map};
-ghost use Rattle.bq_load_fault_line.specs.FaultLine.{line_cmp};
+ghost use Rattle.bq_load_fault_line.specs.FaultLine.{line_cmp, put_lines};
 ghost use Rattle.bq_load_fault_line.specs.LineText.{line_text};
 
 use crate::fault_line::FaultLine;
@@ -48,6 +48,16 @@ impl FaultLines {
         ensures { OnOk result (self.new ≡ insert_key line_cmp self.old line) }
     {
         self.lines.insert(line)?;
+        Ok(())
+    }
+
+    /// Inserts lines at their places, each unless it is there.
+    pub fn add_all(&mut self, more: FaultLines) -> Result<(), AllocError>
+        ensures { OnOk result (self.new ≡ put_lines self.old more) }
+    {
+        for line in more.lines {
+            self.lines.insert(line)?;
+        }
         Ok(())
     }
 

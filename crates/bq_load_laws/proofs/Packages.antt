@@ -6,3 +6,5 @@ pub mod Calls
 pub mod Made
 -- and that of each outcome
 pub mod Outcomes
+-- nobody sees what BUILD files keep
+pub mod Kept

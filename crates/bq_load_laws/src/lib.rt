@@ -9,16 +9,17 @@
 //! - `graph`: a load is refused for the first of the reasons that are listed (`specs/Graphs/Orders.antt`); and in the load graph a file
 //!   with a fault of its own, or with a bad load, loads nothing;
 //! - `outcome`: a module fails for the first of the reasons that are listed (`specs/Outcomes/Orders.antt`), and so does a symbol that it
-//!   loads; a fault of a load names the line of the first load of that file; a module exports what its own file binds; and what it printed
-//!   stays;
+//!   loads; a fault of a load names the line of the first load of that file, and there is one; a module exports what its own file
+//!   binds; and what it printed stays;
 //! - `package`: a module that was evaluated has a package exactly if it is a BUILD file, and then that of its own label, whatever was
 //!   called. So what `bq_load` gathers are the packages that evaluation made, as they are. The proofs: no operator, method or built-in
 //!   function changes what a host keeps, and each call of a build function or of a rule leaves the label of the package. So whatever a
 //!   program means leaves it (`proofs/Packages/Keeping.antt`, by the rules of `bq_eval_meaning_laws`), and so does a file (`Made`), and the
-//!   recursion along loads (`Outcomes`);
+//!   recursion along loads (`Outcomes`). And what a BUILD file's module keeps of its globals and cells is seen by nobody, since nobody
+//!   loads one (`Kept`);
 //! - `fault`: for every workspace, schema, limit and load graph, a module whose outcome is a fault fails in its tokens (F1 to F8), its
-//!   statements (F10 to F13), its names (F20 to F24), its loads (F30 to F38), or its evaluation (F37, F40 to F60, F70 to F78). The proofs:
-//!   what is read of a file is its code, or the fault of one of its parts, each with its numbers (`proofs/Faults/Texts.antt`); a file that
+//!   statements (F10 to F13), its names (F20 to F24), its loads (F30 to F38, at the line of one of them), or its evaluation (F37, F40 to
+//!   F60, F70 to F78). The proofs: what is read of a file is its code, or the fault of one of its parts, each with its numbers (`proofs/Faults/Texts.antt`); a file that
 //!   has code was parsed and resolved, so it is evaluated with faults of evaluation alone (bq_package_fault_laws); all others are of loads
 //!   (`proofs/Faults/Outcomes.antt`);
 //! - `call`: a module whose loads all have values can call the functions of each module that loads lead to from it, so none of its calls
@@ -41,4 +42,7 @@ pub use outcome::{
     faults_of_loads_name_the_first_load, modules_export_their_own, modules_fail_in_order,
     prints_are_kept, symbols_are_refused_in_order,
 };
-pub use package::{files_make_their_packages, outcomes_have_their_packages, packages_count};
+pub use package::{
+    files_make_their_packages, outcomes_have_their_packages, packages_count,
+    what_build_files_keep_is_not_seen,
+};

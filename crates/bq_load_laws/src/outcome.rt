@@ -15,7 +15,7 @@ ghost use Rattle.bq_load.specs.Sources.{LoadingParts};
 ghost use Rattle.bq_load.specs.Views.{ModuleView};
 ghost use Rattle.bq_builtin_refusal_laws.specs.Refusals.{first_fault, FailsForFirst};
 ghost use Rattle.bq_load_laws.specs.Outcomes.Exports.{ModulesExportTheirOwn};
-ghost use Rattle.bq_load_laws.specs.Outcomes.FirstLoad.{LoadsFirst, fault_at_load};
+ghost use Rattle.bq_load_laws.specs.Outcomes.FirstLoad.{LoadsFirst, fault_at_load, ModulesNameTheirLoads};
 ghost use Rattle.bq_load_laws.specs.Outcomes.Orders.{exporting, failure, loading};
 ghost use Rattle.bq_load_laws.specs.Outcomes.Prints.{PrintsAreKept};
 
@@ -31,9 +31,10 @@ pub fn modules_fail_in_order()
 {}
 
 /// F35, F36 and F38 name the line of the file's first load of the module, even if later ones load it too, and the
-/// module's label.
+/// module's label. In a load graph there is such a load.
 pub fn faults_of_loads_name_the_first_load()
-    ensures { (x : LoadingParts) (m k : ℕ) (s loaded : Source) (kind : FaultKind) (load : LoadStmt) → LoadsFirst x m k s loaded load → load_fault x m s kind k ≡ fault_at_load kind load loaded }
+    ensures first { (x : LoadingParts) (m k : ℕ) (s loaded : Source) (kind : FaultKind) (load : LoadStmt) → LoadsFirst x m k s loaded load → load_fault x m s kind k ≡ fault_at_load kind load loaded }
+    ensures loaded { ModulesNameTheirLoads }
 {}
 
 /// A module exports what its own file binds outside all functions, with its value there, and nothing else: no name that it loads.

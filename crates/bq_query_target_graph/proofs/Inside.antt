@@ -12,7 +12,8 @@ use Rattle.bq_package_target.specs.Value.{labels_of, labels_in}
 use Rattle.bq_package_target.specs.Target.{is_of, dependencies, dependencies_by}
 use Rattle.bq_package_target.specs.Package.{PackageTargets}
 use Rattle.bq_label_set.specs.Labels.{has_label}
-use Rattle.bq_query_target_graph.specs.Order.{all_targets, id_of}
+use Rattle.bq_package_list.specs.Order.{id_of}
+use Rattle.bq_query_target_graph.specs.Order.{all_targets}
 use Rattle.bq_query_target_graph.specs.Order.{labels_of as target_labels}
 use Rattle.bq_query_target_graph.specs.Dangling.{dangling, dangling_in, dangling_of, all_dangling}
 use Rattle.bq_query_target_graph.specs.Own.{names_own, keeps_inside_by, keeps_inside, is_closed}

@@ -10,7 +10,8 @@ use Rattle.bq_query_graph.specs.declared.edge.Edge.{Edge}
 use Rattle.bq_query_graph.specs.Edges.{AreBetween, HasPairsOf}
 use Rattle.bq_package_target.specs.declared.target.Target.{Target}
 use Rattle.bq_package_target.specs.Package.{PackageTargets, AreTargetsOf}
-use Rattle.bq_query_target_graph.specs.Order.{target_cmp, id_of, PackagesAscend, all_targets, targets_of, labels_of, AreValid}
+use Rattle.bq_package_list.specs.Order.{id_of, PackagesAscend}
+use Rattle.bq_query_target_graph.specs.Order.{target_cmp, all_targets, targets_of, labels_of, AreValid}
 use Rattle.bq_query_target_graph.specs.Graph.{IsGraph}
 use Rattle.bq_query_target_graph.specs.Edges.{IsGraphOf, edges_from}
 use Rattle.bq_query_target_graph.proofs.Ascends.{ascends, are_targets, distinct_from_order}

@@ -4,6 +4,7 @@ use Rattle.std.specs.List.{flat_map, Contains}
 use Rattle.bq_base.specs.declared.fault.FaultKind.TheVariants as f
 use Rattle.bq_label.specs.Label.{LabelParts, package_of, full_form}
 use Rattle.bq_load_fault_line.specs.declared.fault_line.FaultLine.{FaultLine}
+use Rattle.bq_load_fault_line.specs.FaultLine.{sorted_lines}
 use Rattle.bq_package_target.specs.declared.target.Target.{Target}
 use Rattle.bq_package_target.specs.Target.{is_of, dependencies}
 use Rattle.bq_package_target.specs.Package.{PackageTargets}
@@ -33,6 +34,10 @@ dangling_of known p = flat_map (dangling_in known p.build_file) p.targets
 -- the lines of all packages
 unfoldable pub all_dangling : List PackageTargets → List FaultLine
 all_dangling ps = flat_map (dangling_of (has_label (labels_of (all_targets ps)))) ps
+
+-- the lines in their order, each once
+abbrev pub dangling_lines : List PackageTargets → List FaultLine
+dangling_lines ps = sorted_lines (all_dangling ps)
 
 -- the same in words: a target of a package depends on a label of another package that no target has
 pub record IsDangling (ps : List PackageTargets) (x : FaultLine) : Type 0 where

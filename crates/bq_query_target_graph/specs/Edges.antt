@@ -8,7 +8,8 @@ use Rattle.bq_package_target.specs.declared.target.Target.{Target}
 use Rattle.bq_package_target.specs.Target.{dependencies}
 use Rattle.bq_package_target.specs.Package.{PackageTargets}
 use Rattle.bq_label_set.specs.Labels.{same_label}
-use Rattle.bq_query_target_graph.specs.Order.{id_of, targets_of}
+use Rattle.bq_package_list.specs.Order.{id_of}
+use Rattle.bq_query_target_graph.specs.Order.{targets_of}
 use Rattle.bq_query_target_graph.specs.Graph.{GraphParts}
 
 -- of the targets with these numbers, the first depends on the second

@@ -9,7 +9,7 @@ use Rattle.bq_package_target.specs.declared.target.TargetKind.TheVariants as k
 use Rattle.bq_package_target.specs.Value.{labels_of}
 use Rattle.bq_package_target.specs.Target.{is_of}
 use Rattle.bq_package_target.specs.Package.{PackageTargets}
-use Rattle.bq_query_target_graph.specs.Order.{id_of}
+use Rattle.bq_package_list.specs.Order.{id_of}
 
 abbrev pub names_own : PackageParts → GivenAttribute → Bool
 names_own own given = list_all (is_of own) (labels_of given.value)

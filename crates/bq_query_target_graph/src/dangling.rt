@@ -111,7 +111,7 @@ fn known_labels(alloc: Global, packages: &[Package]) -> Result<LabelSet, AllocEr
 }
 
 /// Adds a line for each label of another package that names no target, each once.
-pub fn add_dangling(
+pub(crate) fn add_dangling(
     alloc: Global,
     packages: &[Package],
     lines: &mut FaultLines,

@@ -1,7 +1,7 @@
 //! The graph of the targets of a workspace.
 
 ghost use Rattle.std.specs.Prelude.{◌≡◌, IfOk};
-ghost use Rattle.bq_query_target_graph.specs.Order.{PackagesAscend};
+ghost use Rattle.bq_package_list.specs.Order.{PackagesAscend};
 ghost use Rattle.bq_query_target_graph.specs.Edges.{IsGraphOf};
 
 use crate::edges::edges;
@@ -36,7 +36,7 @@ impl TargetGraph {
     ghost use Rattle.bq_query_target_graph.specs.Graph.{IsGraph};
 
     /// Makes the graph of the targets of packages.
-    pub fn new(alloc: Global, packages: Vec<Package>) -> Result<TargetGraph, AllocError>
+    pub(crate) fn new(alloc: Global, packages: Vec<Package>) -> Result<TargetGraph, AllocError>
         requires { PackagesAscend packages.items }
         ensures { IfOk result (IsGraphOf packages.items) }
     {

@@ -12,9 +12,11 @@
 //! - `edges`: which targets depend on which;
 //! - `graph`: the graph, and how it is made of packages;
 //! - `own`: targets that name labels of their own package alone;
-//! - `dangling`: the labels of other packages that name no target.
+//! - `dangling`: the labels of other packages that name no target;
+//! - `build`: the graph, with the lines of these.
 #![tactic(auto)]
 
+mod build;
 mod dangling;
 mod edges;
 mod graph;
@@ -23,5 +25,6 @@ mod numbers;
 mod order;
 mod own;
 
-pub use dangling::{add_dangling, dangling_in_words};
+pub use build::build_graph;
+pub use dangling::dangling_in_words;
 pub use graph::TargetGraph;

@@ -18,13 +18,13 @@ use Rattle.bq_run.specs.declared.options.Options.{Options}
 abbrev inside_of : List ℕ → List FaultLine → List PackageTargets → Inside
 inside_of a b c = record { prints = a; faults = b; packages = c }
 
-pub loaded_inside : (x : LoadingParts) (p : Loads) (l : Loaded) → IsLoaded x p l → record { prints = l.prints; faults = l.faults; packages = l.packages.items } ≡ inside_by x p
+pub loaded_inside : (x : LoadingParts) (p : Loads) (l : Loaded) → IsLoaded x p l → record { prints = l.prints; faults = l.faults; packages = l.packages } ≡ inside_by x p
 loaded_inside x p l is =
-    ap (λ (a : List ℕ). inside_of a l.faults l.packages.items) is.prints
-    ∙ ap (λ (b : List FaultLine). inside_of (inside_by x p).prints b l.packages.items) is.faults
+    ap (λ (a : List ℕ). inside_of a l.faults l.packages) is.prints
+    ∙ ap (λ (b : List FaultLine). inside_of (inside_by x p).prints b l.packages) is.faults
     ∙ ap (λ (c : List PackageTargets). inside_of (inside_by x p).prints (inside_by x p).faults c) is.packages
 
 pub loaded_report : (o : Options) (files : List File) (query : CheckedQuery) (rules : Rules) (l : Loaded) (r : ReportView) → IsChecked o.query.items query → schema_in files ≡ Ok rules
-    → LoadsWorkspace files rules o.max_steps (Ok l) → Reports (record { prints = l.prints; faults = l.faults; packages = l.packages.items }) query o.output r → IsReportOn o files r
+    → LoadsWorkspace files rules o.max_steps (Ok l) → Reports (record { prints = l.prints; faults = l.faults; packages = l.packages }) query o.output r → IsReportOn o files r
 loaded_report o files query rules l r checked schema loads reports =
     IsReportOn.loaded query rules loads.0 checked schema loads.1 (subst (λ (i : Inside). Reports i query o.output r) (loaded_inside _ _ l loads.2) reports)

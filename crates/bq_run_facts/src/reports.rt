@@ -5,7 +5,6 @@ ghost use Rattle.std.specs.Option.{option_copied};
 ghost use Rattle.bq_load_discover.specs.LoadGraph.{IsLoadGraph, inputs_of};
 ghost use Rattle.bq_load_discover.specs.Schema.{schema_in};
 ghost use Rattle.bq_label.specs.Packages.{packages_of};
-ghost use Rattle.bq_query_target_graph.specs.Order.{PackagesAscend};
 ghost use Rattle.bq_run_report.specs.Report.{inside, report_view};
 ghost use Rattle.bq_run.specs.Run.{IsInRange};
 ghost use Rattle.bq_run.specs.WorkspaceRun.{loaded_in};
@@ -19,7 +18,7 @@ use bq_load::{Loaded, OpenGate, Pool};
 use bq_load_discover::{LoadErr, LoadGraph, Module, discover_by_workers, schema_of};
 use bq_package_schema::Schema;
 use bq_query_check::{CheckedQuery, parse_query};
-use bq_query_target_graph::{TargetGraph, add_dangling};
+use bq_query_target_graph::build_graph;
 use bq_run::{Options, refused_report};
 use bq_run_report::{NoAnswer, Report, refusal_of, status_by};
 use bq_value_seed::Seed;
@@ -60,7 +59,6 @@ fn report_over(
     loaded: Loaded,
     asked: Option<&CheckedQuery>,
 ) -> Result<Report, AllocError>
-    requires { PackagesAscend loaded.packages.items }
     ensures { IfOk result (λ r. TellsFacts before.packages before.modules.items (inside loaded) (option_copied asked.entry) (report_view r)) }
 {
     let Before {
@@ -74,12 +72,12 @@ fn report_over(
         prints,
     } = loaded;
     drop(modules); // so that the graph gets the memory of their values
-    add_dangling(alloc, &packages, &mut faults)?;
+    let (graph, dangling) = build_graph(alloc, packages)?;
+    faults.add_all(dangling)?;
     let status = status_by(&faults);
     push_faults(alloc, &mut further, &faults)?;
     let mut text = prints;
     faults.append_to(alloc, &mut text)?;
-    let graph = TargetGraph::new(alloc, packages)?;
     let reply = facts_over(alloc, &known, &graph, asked, &further, status)?;
     Ok(Report {
         faults: text,

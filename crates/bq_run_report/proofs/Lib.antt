@@ -4,5 +4,5 @@ pub mod SamePairs
 pub mod OneList
 -- a workspace and a query have one report
 pub mod OneReport
--- the report of a graph's reply
+-- the report that a session and a reply are parts of
 pub mod Parts

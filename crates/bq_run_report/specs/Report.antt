@@ -9,7 +9,7 @@ use Rattle.bq_load_fault_line.specs.LineText.{line_text}
 use Rattle.bq_package_target.specs.Package.{PackageTargets}
 use Rattle.bq_query_target_graph.specs.Graph.{GraphParts}
 use Rattle.bq_query_target_graph.specs.Edges.{IsGraphOf}
-use Rattle.bq_query_target_graph.specs.Dangling.{all_dangling}
+use Rattle.bq_query_target_graph.specs.Dangling.{dangling_lines}
 use Rattle.bq_query_verdict.specs.Verdict.{Fault}
 use Rattle.bq_query_check.specs.declared.checked.CheckedQuery.{CheckedQuery}
 use Rattle.bq_query_check.specs.Formula.{Formula, formula_of}
@@ -24,6 +24,7 @@ use Rattle.bq_run_report.specs.declared.ending.NoAnswer.{NoAnswer}
 use Rattle.bq_run_report.specs.declared.ending.NoAnswer.TheVariants.{Query}
 use Rattle.bq_run_report.specs.declared.ending.Status.{Status}
 use Rattle.bq_run_report.specs.declared.reply.Reply.{Reply}
+use Rattle.bq_run_report.specs.declared.session.Session.{Session}
 use Rattle.bq_run_report.specs.declared.whole.Report.{Report}
 
 -- ---- what is in a workspace that is loaded
@@ -37,14 +38,20 @@ pub record Inside : Type 0 where
   pub packages : List PackageTargets
 
 abbrev pub inside : Loaded → Inside
-inside l = record { prints = l.prints; faults = l.faults; packages = l.packages.items }
+inside l = record { prints = l.prints; faults = l.faults; packages = l.packages }
 
 -- the lines of all its faults: a label that names no target is one more
 abbrev pub all_faults : Inside → List FaultLine
-all_faults i = put_lines i.faults (all_dangling i.packages)
+all_faults i = put_lines i.faults (dangling_lines i.packages)
 
 abbrev pub fault_text : Inside → List ℕ
 fault_text i = i.prints ++ flat_map line_text (all_faults i)
+
+-- the session is over a workspace with this in it
+pub record IsOver (i : Inside) (s : Session) : Type 0 where
+  pub faults : s.faults ≡ fault_text i
+  pub status : s.status ≡ status_by (all_faults i)
+  pub graph : IsGraphOf i.packages s.graph
 
 -- ---- the answer
 
@@ -68,12 +75,6 @@ RepliesBy (Some why) w x form status reply = reply ≡ record { text = []; end =
 
 abbrev pub Replies : GraphParts → Formula → OutputForm → Status → ReplyView → Type 0
 Replies w x form status reply = RepliesBy (fault_in w x) w x form status reply
-
--- the reply over the graph of the targets of these packages
-pub record RepliesOver (packages : List PackageTargets) (query : CheckedQuery) (form : OutputForm) (status : Status) (reply : ReplyView) : Type 0 where
-  pub graph : GraphParts
-  pub made : IsGraphOf packages graph
-  pub replies : Replies graph (formula_of query.set) form status reply
 
 -- ---- the report
 

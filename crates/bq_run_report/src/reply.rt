@@ -1,12 +1,10 @@
-//! The answer to the query, over the graph of the targets.
+//! The answer to a query, over the graph of the targets.
 
 ghost use Rattle.std.specs.Prelude.{IfOk};
 ghost use Rattle.bq_query_check.specs.Formula.{formula_of};
-ghost use Rattle.bq_run_report.specs.Report.{Replies, RepliesOver, reply_view};
-ghost use Rattle.bq_query_target_graph.specs.Order.{PackagesAscend};
+ghost use Rattle.bq_run_report.specs.Report.{Replies, reply_view};
 
 use crate::ending::{NoAnswer, Status, refusal_of};
-use bq_package_target::Package;
 use bq_query::{OutputForm, answer, print_answer};
 use bq_query_check::CheckedQuery;
 use bq_query_target_graph::TargetGraph;
@@ -27,7 +25,7 @@ pub struct Reply {
 }
 
 /// Returns the reply to a query; with an answer the run ends with `status`.
-fn reply_to(
+pub fn reply_to(
     alloc: Global,
     graph: &TargetGraph,
     question: Question<'_>,
@@ -45,18 +43,4 @@ fn reply_to(
             end: Err(refusal_of(why)?),
         }),
     }
-}
-
-/// Returns the reply to a query, over the graph of the targets of packages.
-pub fn reply_over(
-    alloc: Global,
-    packages: Vec<Package>,
-    question: Question<'_>,
-    status: Status,
-) -> Result<Reply, AllocError>
-    requires { PackagesAscend packages.items }
-    ensures { IfOk result (λ r. RepliesOver packages.items question.entry.query.now question.entry.form status (reply_view r)) }
-{
-    let graph = TargetGraph::new(alloc, packages)?;
-    reply_to(alloc, &graph, question, status)
 }

@@ -13,7 +13,7 @@ use Rattle.bq_run_session.specs.Answer.{AreAnswered, IsAnswerTo}
 use Rattle.bq_run_session.specs.Outcome.{Answers, DoesAnswer, EndsIn, session_status}
 use Rattle.bq_run_session.specs.Session.{IsAnswerIn, IsOn}
 use Rattle.bq_run_session.specs.declared.ending.SessionStatus.{SessionStatus}
-use Rattle.bq_run_session.specs.declared.session.Session.{Session}
+use Rattle.bq_run_report.specs.declared.session.Session.{Session}
 
 are_answered : (A B : List ℕ → ReplyView → Type 0) → ((query : List ℕ) (reply : ReplyView) → A query reply → B query reply) → (queries : List (List ℕ)) (text : List ℕ) (refused : Bool)
     → AreAnswered A queries text refused → AreAnswered B queries text refused

@@ -14,7 +14,7 @@ use Rattle.bq_run.specs.WorkspaceRun.{IsReportOn, loaded_in}
 use Rattle.bq_run_session.specs.Answer.{IsAnswerTo}
 use Rattle.bq_run_session.specs.Queries.{max_query_bytes}
 use Rattle.bq_run_session.specs.Session.{IsAnswerIn}
-use Rattle.bq_run_session.specs.declared.session.Session.{Session}
+use Rattle.bq_run_report.specs.declared.session.Session.{Session}
 
 pub answered : (s : Session) (form : OutputForm) (text : List ℕ) (query : CheckedQuery) (reply : ReplyView) → length text ≤ max_query_bytes → IsChecked text query
     → Replies s.graph (formula_of query.set) form s.status reply → IsAnswerIn s form text reply

@@ -6,20 +6,11 @@ use Rattle.bq_load_discover.specs.LoadGraph.{inputs_of}
 use Rattle.bq_load_discover.specs.Modules.{AreTooMany}
 use Rattle.bq_load_discover.specs.Schema.{schema_in}
 use Rattle.bq_query.specs.declared.print.OutputForm.{OutputForm}
-use Rattle.bq_query_target_graph.specs.Edges.{IsGraphOf}
-use Rattle.bq_run_report.specs.Ending.{status_by}
-use Rattle.bq_run_report.specs.Report.{Inside, ReplyView, all_faults, fault_text}
+use Rattle.bq_run_report.specs.declared.session.Session.{Session}
+use Rattle.bq_run_report.specs.Report.{Inside, IsOver, ReplyView}
 use Rattle.bq_run.specs.declared.error.RunErr.{RunErr}
 use Rattle.bq_run.specs.declared.error.RunErr.TheVariants as run
-use Rattle.bq_run_session.specs.declared.session.Reply.{Reply}
-use Rattle.bq_run_session.specs.declared.session.Session.{Session}
 use Rattle.bq_run_session.specs.Answer.{IsAnswerTo, IsLoadedAs}
-
--- the session is over a workspace with this in it
-pub record IsOver (i : Inside) (s : Session) : Type 0 where
-  pub faults : s.faults ≡ fault_text i
-  pub status : s.status ≡ status_by (all_faults i)
-  pub graph : IsGraphOf i.packages s.graph
 
 -- the session is over these files
 pub record IsOn (files : List File) (limit : ℕ) (s : Session) : Type 0 where
@@ -40,9 +31,6 @@ IsRefused files (run.Query why) = ⊥
 abbrev pub Opens : List File → ℕ → Result Session RunErr → Type 0
 Opens files limit (Ok s) = IsOn files limit s
 Opens files limit (Err why) = IsRefused files why
-
-abbrev pub reply_view : Reply → ReplyView
-reply_view r = record { text = r.text.items; end = r.end }
 
 -- over whatever files the session is, this is an answer to the query
 abbrev pub IsAnswerIn : Session → OutputForm → List ℕ → ReplyView → Type 0

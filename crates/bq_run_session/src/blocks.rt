@@ -5,14 +5,13 @@ ghost use Rattle.std.specs.Prelude.{◌≡◌, ◌⊎◌, ◌+◌, ◌-◌, ◌^
 ghost use Rattle.std.specs.Io.KnownBytes.{Appends, Keeps};
 ghost use Rattle.bq_run.specs.Device.{Begins};
 ghost use Rattle.bq_run.specs.Status.{status_code};
+ghost use Rattle.bq_run_report.specs.Report.{reply_view};
 ghost use Rattle.bq_run_session.specs.Block.{block, body, header, line_count, run_end};
 ghost use Rattle.bq_run_session.specs.Queries.{max_query_bytes};
-ghost use Rattle.bq_run_session.specs.Session.{reply_view};
 
 use crate::queries::MAX_QUERY_BYTES;
-use crate::session::Reply;
 use bq_run::{ByteSink, RunErr, status_of, write_all};
-use bq_run_report::{NoAnswer, Status};
+use bq_run_report::{NoAnswer, Reply, Status};
 use std::alloc::{AllocError, Global};
 
 fn line_count(text: &[u8]) -> usize

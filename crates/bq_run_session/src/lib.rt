@@ -7,7 +7,7 @@
 //! In reading order:
 //!
 //! - `queries`: the queries of a text;
-//! - `session`: a workspace that is loaded, and what it answers;
+//! - `session`: how a session is opened, and what it answers;
 //! - `blocks`: what is written for a query;
 //! - `ending`: how a session ends;
 //! - `runs`: the whole.
@@ -22,4 +22,4 @@ mod session;
 pub use ending::{SessionStatus, session_code};
 pub use queries::MAX_QUERY_BYTES;
 pub use runs::run_queries;
-pub use session::{Reply, Session, ask, open_session};
+pub use session::{ask, open_session};

@@ -1,73 +1,27 @@
-//! A workspace that is loaded, and what it answers.
+//! How a session over a workspace is opened, and what it answers.
 
 ghost use Rattle.std.specs.Prelude.{◌≡◌, ◌≤◌, [], Ok, Err, IfOk, length};
 ghost use Rattle.bq_load_discover.specs.Schema.{schema_in};
-ghost use Rattle.bq_query_check.specs.Formula.{formula_of};
-ghost use Rattle.bq_query_target_graph.specs.Order.{PackagesAscend};
-ghost use Rattle.bq_run_report.specs.Report.{Replies, inside};
+ghost use Rattle.bq_run_report.specs.Report.{reply_view};
 ghost use Rattle.bq_run.specs.Run.{IsInRange};
 ghost use Rattle.bq_run_session.specs.Queries.{max_query_bytes};
-ghost use Rattle.bq_run_session.specs.Session.{IsAnswerIn, IsOver, Opens, reply_view};
+ghost use Rattle.bq_run_session.specs.Session.{IsAnswerIn, Opens};
 
 use crate::queries::MAX_QUERY_BYTES;
-use bq_base_rope::Rope;
 use bq_label::Workspace;
-use bq_load::{Loaded, OpenGate, load_with};
+use bq_load::{OpenGate, load_with};
 use bq_load_discover::{LoadErr, schema_of};
 use bq_package_schema::Schema;
-use bq_query::{OutputForm, answer, print_answer};
-use bq_query_check::{CheckedQuery, parse_query};
+use bq_query::OutputForm;
+use bq_query_check::parse_query;
 use bq_query_lex::QueryErr;
-use bq_query_target_graph::{TargetGraph, add_dangling};
 use bq_run::{Options, RunErr};
-use bq_run_report::{NoAnswer, Status, refusal_of, status_by};
+use bq_run_report::{NoAnswer, Question, Reply, Session, refusal_of, reply_to, session_over};
 use bq_value_seed::Seed;
 use std::alloc::{AllocError, Global};
 use std::random::RandomSource;
 use std::sync::Wait;
 use std::thread::Threads;
-
-/// A workspace that is loaded.
-#[derive(Drop)]
-pub struct Session {
-    /// What its modules printed, and the lines of its faults.
-    pub faults: Rope,
-    /// How a run ends whose query is answered.
-    pub status: Status,
-    /// Its targets.
-    pub graph: TargetGraph,
-}
-
-/// What a query is answered: the text, and how a run ends with that query alone.
-#[derive(Drop)]
-pub struct Reply {
-    pub text: Vec<u8>,
-    pub end: Result<Status, NoAnswer>,
-}
-
-/// Makes the session over a loaded workspace. A label that names no target is one more fault, F79.
-fn session_over(alloc: Global, loaded: Loaded) -> Result<Session, AllocError>
-    requires { PackagesAscend loaded.packages.items }
-    ensures { IfOk result (IsOver (inside loaded)) }
-{
-    let Loaded {
-        modules,
-        packages,
-        mut faults,
-        prints,
-    } = loaded;
-    drop(modules); // so that the graph gets the memory of their values
-    add_dangling(alloc, &packages, &mut faults)?;
-    let status = status_by(&faults);
-    let mut text = prints;
-    faults.append_to(alloc, &mut text)?;
-    let graph = TargetGraph::new(alloc, packages)?;
-    Ok(Session {
-        faults: text,
-        status,
-        graph,
-    })
-}
 
 /// Makes the session over a workspace whose schema is read.
 fn open_with<T: Threads + Wait + RandomSource + Sync>(
@@ -126,24 +80,6 @@ fn refused(alloc: Global, why: NoAnswer) -> Reply
     }
 }
 
-/// Returns the reply to a query that is read.
-fn reply_to(
-    alloc: Global,
-    session: &Session,
-    query: &CheckedQuery,
-    form: OutputForm,
-) -> Result<Reply, AllocError>
-    ensures { IfOk result (λ r. Replies session.now.graph (formula_of query.now.set) form session.now.status (reply_view r)) }
-{
-    match answer(alloc, &session.graph, query) {
-        Ok(numbers) => Ok(Reply {
-            text: print_answer(alloc, form, session.graph.targets(), &numbers)?,
-            end: Ok(session.status),
-        }),
-        Err(why) => Ok(refused(alloc, refusal_of(why)?)),
-    }
-}
-
 /// Returns the reply to a query that isn't too long.
 fn reply_to_text(
     alloc: Global,
@@ -156,7 +92,11 @@ fn reply_to_text(
 {
     match parse_query(alloc, query) {
         Ok(query) => {
-            let reply = reply_to(alloc, session, &query, form);
+            let question = Question {
+                query: &query,
+                form,
+            };
+            let reply = reply_to(alloc, &session.graph, question, session.status);
             drop(query); // PROOF: one call lets the query go
             reply
         }

@@ -7,7 +7,6 @@ use crate::rows::{Row, Subject, check_rows, number_of};
 use bq_board::{Board, Claim, MAX_SEATS, Parcel, Plan, PlanErr, Seat};
 use std::alloc::{AllocError, Global};
 use std::sync::atomic::{AtomicU64, Ordering};
-use std::test::Fail;
 use std::thread::{Threads, for_each_mut, join};
 
 /// A parcel that says where it comes from and for which edge it was posted.
@@ -144,37 +143,45 @@ fn step_of(board: &Board<Note>, seat: &mut Seat<Note>, letter: u8, m: usize) -> 
     }
 }
 
-// The steps of a script, as `c1 l0`, and what each answers.
-fn played(
-    alloc: Global,
+fn add_answer(out: &mut String, answer: (&str, u64)) -> Result<(), AllocError> {
+    write!(out, "{} {};", answer.0, answer.1)?;
+    Ok(())
+}
+
+// Adds what each step of a script, as `c1 l0`, answers.
+fn play(
     board: &Board<Note>,
     seat: &mut Seat<Note>,
     script: &[u8],
-) -> Result<String, AllocError>
+    out: &mut String,
+) -> Result<(), AllocError>
     requires seat { IsSeatOf board.now seat.old }
     requires base { base_of board.now ≡ 7 }
     ensures seat { IsSeatOf board.now seat.new }
 {
-    let mut out = String::new(alloc);
     for word in script.split(|byte| *byte == b' ') {
         if let [letter, digits @ ..] = word {
-            let (answer, number) = step_of(board, seat, *letter, number_of(digits) as usize);
-            write!(out, "{answer} {number};")?;
+            let answer = step_of(board, seat, *letter, number_of(digits) as usize);
+            add_answer(out, answer)?;
         }
     }
-    Ok(out)
+    Ok(())
 }
 
 // The modules that each module loads, by their digits, with a `;` after each module.
 fn loads_of(alloc: Global, text: &[u8]) -> Result<Vec<Vec<u32>>, AllocError> {
     let mut rows = Vec::new(alloc);
-    let Some((_end, modules)) = text.split_last() else {
-        return Ok(rows);
-    };
-    for digits in modules.split(|byte| *byte == b';') {
+    add_loads(alloc, text, &mut rows)?;
+    // There is nothing after the last `;`.
+    let _none = rows.pop();
+    Ok(rows)
+}
+
+fn add_loads(alloc: Global, text: &[u8], rows: &mut Vec<Vec<u32>>) -> Result<(), AllocError> {
+    for digits in text.split(|byte| *byte == b';') {
         rows.push(modules_of(alloc, digits)?)?;
     }
-    Ok(rows)
+    Ok(())
 }
 
 fn modules_of(alloc: Global, digits: &[u8]) -> Result<Vec<u32>, AllocError> {
@@ -201,15 +208,25 @@ fn opened(
     Ok(Board::open(alloc, plan, seats, &base)?)
 }
 
-// The last two seats.
-fn last_two(board: &Board<Note>, seats: &mut Vec<Seat<Note>>) -> Option<(Seat<Note>, Seat<Note>)>
-    requires { All (λ s. IsSeatOf board.now s) seats.old.items }
-    ensures { IfSome result (λ p. IsSeatOf board.now p.0 × IsSeatOf board.now p.1) }
+// The last of the seats. The others are let go of.
+fn last_seat(board: &Board<Note>, mut seats: Vec<Seat<Note>>) -> Option<Seat<Note>>
+    requires { All (λ s. IsSeatOf board.now s) seats.items }
+    ensures { IfSome result (λ s. IsSeatOf board.now s) }
 {
     // PROOF: it says whose seats they are.
     let _ = board;
+    let last = seats.pop();
+    drop(seats);
+    last
+}
+
+// The last two.
+fn last_two(board: &Board<Note>, mut seats: Vec<Seat<Note>>) -> Option<(Seat<Note>, Seat<Note>)>
+    requires { All (λ s. IsSeatOf board.now s) seats.items }
+    ensures { IfSome result (λ p. IsSeatOf board.now p.0 × IsSeatOf board.now p.1) }
+{
     let last = seats.pop()?;
-    Some((last, seats.pop()?))
+    Some((last, last_seat(board, seats)?))
 }
 
 fn refusal(alloc: Global, error: &PlanErr) -> Result<Vec<u8>, AllocError> {
@@ -219,20 +236,54 @@ fn refusal(alloc: Global, error: &PlanErr) -> Result<Vec<u8>, AllocError> {
 /// What one seat is answered on a board with these loads.
 struct Scripts;
 
-fn one_seat(alloc: Global, loads: &[u8], script: &[u8]) -> Result<String, PlanErr> {
-    let (board, mut seats) = opened(alloc, loads_of(alloc, loads)?, 1, 7)?;
-    let mut seat = seats.pop().unwrap();
-    let out = played(alloc, &board, &mut seat, script)?;
+fn one_plays(
+    alloc: Global,
+    board: Board<Note>,
+    mut seat: Seat<Note>,
+    script: &[u8],
+) -> Result<Vec<u8>, AllocError>
+    requires seat { IsSeatOf board seat }
+    requires base { base_of board ≡ 7 }
+{
+    let mut out = String::new(alloc);
+    let played = play(&board, &mut seat, script, &mut out);
     board.close(seat);
-    Ok(out)
+    whole(played, out)
+}
+
+// What was written, if all of it was.
+fn whole(written: Result<(), AllocError>, out: String) -> Result<Vec<u8>, AllocError> {
+    match written {
+        Ok(()) => Ok(out.into_bytes()),
+        Err(error) => Err(error),
+    }
+}
+
+fn last_plays(
+    alloc: Global,
+    board: Board<Note>,
+    seats: Vec<Seat<Note>>,
+    script: &[u8],
+) -> Result<Vec<u8>, AllocError>
+    requires seats { All (λ s. IsSeatOf board s) seats.items }
+    requires base { base_of board ≡ 7 }
+{
+    match last_seat(&board, seats) {
+        Some(seat) => one_plays(alloc, board, seat, script),
+        None => b"no seat".to_vec(alloc),
+    }
+}
+
+fn one_seat(alloc: Global, loads: Vec<Vec<u32>>, script: &[u8]) -> Result<Vec<u8>, AllocError> {
+    match opened(alloc, loads, 1, 7) {
+        Ok((board, seats)) => last_plays(alloc, board, seats, script),
+        Err(error) => refusal(alloc, &error),
+    }
 }
 
 impl Subject for Scripts {
     fn answer(&self, alloc: Global, text: &[u8], row: Row) -> Result<Vec<u8>, AllocError> {
-        match one_seat(alloc, text, row.word(1)) {
-            Ok(out) => Ok(out.into_bytes()),
-            Err(error) => refusal(alloc, &error),
-        }
+        one_seat(alloc, loads_of(alloc, text)?, row.word(1))
     }
 }
 
@@ -332,37 +383,57 @@ const CHAINS: &str = r#"
 /// What two of the most seats are answered on the largest board.
 struct LargestBoard;
 
-fn two_play(
-    alloc: Global,
+fn both_play(
     board: &Board<Note>,
     a: &mut Seat<Note>,
     b: &mut Seat<Note>,
-) -> Result<String, AllocError>
+    out: &mut String,
+) -> Result<(), AllocError>
     requires a { IsSeatOf board.now a.old }
     requires b { IsSeatOf board.now b.old }
     requires base { base_of board.now ≡ 7 }
     ensures a { IsSeatOf board.now a.new }
 {
-    let mut out = played(alloc, board, a, b"c16383 l0")?;
-    out.push_str(&played(alloc, board, b, b"c1")?)?;
-    out.push_str(&played(alloc, board, a, b"d0")?)?;
-    Ok(out)
+    play(board, a, b"c16383 l0", out)?;
+    play(board, b, b"c1", out)?;
+    play(board, a, b"d0", out)
 }
 
-fn largest(alloc: Global) -> Result<String, PlanErr> {
-    let (board, mut seats) = opened(alloc, chain(alloc, 16382, 32)?, MAX_SEATS, 7)?;
-    let Some((mut a, mut b)) = last_two(&board, &mut seats) else {
-        return Ok(String::from_str(alloc, "fewer than two seats")?);
-    };
-    let out = two_play(alloc, &board, &mut a, &mut b)?;
+fn two_play(
+    alloc: Global,
+    board: Board<Note>,
+    mut a: Seat<Note>,
+    mut b: Seat<Note>,
+) -> Result<Vec<u8>, AllocError>
+    requires a { IsSeatOf board a }
+    requires b { IsSeatOf board b }
+    requires base { base_of board ≡ 7 }
+{
+    let mut out = String::new(alloc);
+    let played = both_play(&board, &mut a, &mut b, &mut out);
+    drop(b);
     board.close(a);
-    Ok(out)
+    whole(played, out)
+}
+
+fn last_two_play(
+    alloc: Global,
+    board: Board<Note>,
+    seats: Vec<Seat<Note>>,
+) -> Result<Vec<u8>, AllocError>
+    requires seats { All (λ s. IsSeatOf board s) seats.items }
+    requires base { base_of board ≡ 7 }
+{
+    match last_two(&board, seats) {
+        Some((a, b)) => two_play(alloc, board, a, b),
+        None => b"fewer than two seats".to_vec(alloc),
+    }
 }
 
 impl Subject for LargestBoard {
     fn answer(&self, alloc: Global, _text: &[u8], _row: Row) -> Result<Vec<u8>, AllocError> {
-        match largest(alloc) {
-            Ok(out) => Ok(out.into_bytes()),
+        match opened(alloc, chain(alloc, 16382, 32)?, MAX_SEATS, 7) {
+            Ok((board, seats)) => last_two_play(alloc, board, seats),
             Err(error) => refusal(alloc, &error),
         }
     }
@@ -381,10 +452,9 @@ const LARGEST: &str = r#"
 fn give(board: &Board<Note>, base: u64, mut seat: Seat<Note>) -> (bool, Seat<Note>)
     requires seat { IsSeatOf board.now seat }
     requires base { base_of board.now ≡ base }
-    requires module { 0 < length board.now.plan }
     ensures seat { IsSeatOf board.now result.1 }
 {
-    if !wins(board, &mut seat, 0) {
+    if board.plan().modules() == 0 || !wins(board, &mut seat, 0) {
         return (false, seat);
     }
     deliver(board, base, &mut seat, 0);
@@ -394,7 +464,6 @@ fn give(board: &Board<Note>, base: u64, mut seat: Seat<Note>) -> (bool, Seat<Not
 // Waits for module 0, and loads module 1, all of whose loads are posted by then.
 fn take(board: &Board<Note>, mut seat: Seat<Note>) -> (bool, Seat<Note>)
     requires seat { IsSeatOf board.now seat }
-    requires module { 1 < length board.now.plan }
     ensures seat { IsSeatOf board.now result.1 }
 {
     for _ in 0..MAX_TURNS {
@@ -402,7 +471,7 @@ fn take(board: &Board<Note>, mut seat: Seat<Note>) -> (bool, Seat<Note>)
             break;
         }
     }
-    if !wins(board, &mut seat, 1) {
+    if board.plan().modules() != 2 || !wins(board, &mut seat, 1) {
         return (false, seat);
     }
     let right = collect(board, &mut seat, 1);
@@ -421,24 +490,43 @@ fn give_and_take<R: Threads + Sync>(
     requires a { IsSeatOf board.now a }
     requires b { IsSeatOf board.now b }
     requires base { base_of board.now ≡ base }
-    requires modules { 1 < length board.now.plan }
     ensures seat { IsSeatOf board.now result.1 }
 {
-    let ((gave, _), (took, b)) = join(rt, || give(board, base, a), || take(board, b));
+    let ((gave, a), (took, b)) = join(rt, || give(board, base, a), || take(board, b));
+    drop(a);
     (gave && took, b)
 }
 
-#[test]
-fn a_seat_reads_what_another_wrote(rt: HostRuntime) -> Result<(), Fail> {
-    let (board, mut seats) = opened(rt.alloc(), loads_of(rt.alloc(), b";0;")?, 2, 7)?;
-    assert!(rt; board.plan().modules() == 2);
-    let Some((a, b)) = last_two(&board, &mut seats) else {
-        assert!(rt; false, "fewer than two seats");
-        return Ok(());
-    };
-    let (both, b) = give_and_take(&rt, &board, 7, a, b);
+fn two_work<R: Threads + Sync>(rt: &R, board: Board<Note>, a: Seat<Note>, b: Seat<Note>) -> bool
+    requires a { IsSeatOf board a }
+    requires b { IsSeatOf board b }
+    requires base { base_of board ≡ 7 }
+{
+    let (both, b) = give_and_take(rt, &board, 7, a, b);
     board.close(b);
-    assert!(rt; both);
+    both
+}
+
+fn last_two_work<R: Threads + Sync>(rt: &R, board: Board<Note>, seats: Vec<Seat<Note>>) -> bool
+    requires seats { All (λ s. IsSeatOf board s) seats.items }
+    requires base { base_of board ≡ 7 }
+{
+    match last_two(&board, seats) {
+        Some((a, b)) => two_work(rt, board, a, b),
+        None => false,
+    }
+}
+
+fn are_read<R: Threads + Sync>(rt: &R, alloc: Global) -> Result<bool, AllocError> {
+    match opened(alloc, loads_of(alloc, b";0;")?, 2, 7) {
+        Ok((board, seats)) => Ok(last_two_work(rt, board, seats)),
+        Err(_) => Ok(false),
+    }
+}
+
+#[test]
+fn a_seat_reads_what_another_wrote(rt: HostRuntime) -> Result<(), AllocError> {
+    assert!(rt; are_read(&rt, rt.alloc())?);
     Ok(())
 }
 
@@ -534,7 +622,7 @@ fn work_in_threads<R: Threads + Sync>(
     );
 }
 
-fn no_marks(alloc: Global, count: usize) -> Result<Vec<AtomicU64>, AllocError> {
+fn no_marks(alloc: Global, count: u64) -> Result<Vec<AtomicU64>, AllocError> {
     let mut marks = Vec::new(alloc);
     for _ in 0..count {
         marks.push(AtomicU64::new(0))?;
@@ -545,38 +633,62 @@ fn no_marks(alloc: Global, count: usize) -> Result<Vec<AtomicU64>, AllocError> {
 // Whether each module was won once, with the parcels of its loads.
 fn works_once<R: Threads + Sync>(
     rt: &R,
-    alloc: Global,
     board: &Board<Note>,
     seed: u64,
+    marks: &[AtomicU64],
     seats: &mut [Seat<Note>],
-) -> Result<bool, AllocError>
+) -> bool
     requires seats { All (λ s. IsSeatOf board.now s) seats.old }
     requires base { base_of board.now ≡ seed }
     ensures seats { All (λ s. IsSeatOf board.now s) seats.new }
 {
-    let marks = no_marks(alloc, board.plan().modules())?;
     if board.plan().modules() != marks.len() {
-        return Ok(false);
+        return false;
     }
     let wrong = AtomicU64::new(0);
-    work_in_threads(rt, board, seed, &marks, &wrong, seats);
-    Ok(wrong.load(Ordering::SeqCst) == 0 && marks.iter().all(|n| n.load(Ordering::SeqCst) == 1))
+    work_in_threads(rt, board, seed, marks, &wrong, seats);
+    wrong.load(Ordering::SeqCst) == 0 && marks.iter().all(|n| n.load(Ordering::SeqCst) == 1)
+}
+
+// Closes a board, and says whether all modules are finished.
+fn is_done(board: Board<Note>, mut seat: Seat<Note>) -> bool
+    requires { IsSeatOf board seat }
+{
+    let done = board.done(&mut seat);
+    board.close(seat);
+    done == MODULES
+}
+
+fn all_work<R: Threads + Sync>(
+    rt: &R,
+    board: Board<Note>,
+    seed: u64,
+    marks: &[AtomicU64],
+    mut seats: Vec<Seat<Note>>,
+) -> bool
+    requires seats { All (λ s. IsSeatOf board s) seats.items }
+    requires base { base_of board ≡ seed }
+{
+    let once = works_once(rt, &board, seed, marks, &mut seats);
+    match last_seat(&board, seats) {
+        Some(seat) => is_done(board, seat) && once,
+        None => false,
+    }
 }
 
 // One run by four threads.
-fn loads_all<R: Threads + Sync>(rt: &R, alloc: Global, seed: u64) -> Result<bool, PlanErr>
+fn loads_all<R: Threads + Sync>(rt: &R, alloc: Global, seed: u64) -> Result<bool, AllocError>
     requires { seed < 2000 }
 {
-    let (board, mut seats) = opened(alloc, random_loads(alloc, seed)?, 4, seed)?;
-    let once = works_once(rt, alloc, &board, seed, &mut seats)?;
-    let mut seat = seats.pop().unwrap();
-    let done = board.done(&mut seat);
-    board.close(seat);
-    Ok(once && done == MODULES)
+    let marks = no_marks(alloc, MODULES)?;
+    match opened(alloc, random_loads(alloc, seed)?, 4, seed) {
+        Ok((board, seats)) => Ok(all_work(rt, board, seed, &marks, seats)),
+        Err(_) => Ok(false),
+    }
 }
 
 #[test]
-fn four_threads_load_each_module_once(rt: HostRuntime) -> Result<(), PlanErr> {
+fn four_threads_load_each_module_once(rt: HostRuntime) -> Result<(), AllocError> {
     for seed in 0..RUNS {
         assert!(rt; loads_all(&rt, rt.alloc(), seed)?);
     }

@@ -6,26 +6,33 @@ use bq_query_lex::QueryErr;
 use std::alloc::{AllocError, Global};
 use std::fmt::Write;
 
-/// The number and the name of each kind, as `1 BadByte`.
-fn numbered(alloc: Global, kinds: &[FaultKind]) -> Result<String, AllocError> {
-    let mut written = String::new(alloc);
+/// Adds the number and the name of each kind, as `1 BadByte`.
+fn add_numbered(out: &mut String, kinds: &[FaultKind]) -> Result<(), AllocError> {
     for kind in kinds {
-        write!(written, "{} {};", kind.number(), kind.name())?;
+        write!(out, "{} {};", kind.number(), kind.name())?;
     }
-    Ok(written)
+    Ok(())
+}
+
+const KINDS: [FaultKind; 5] = [
+    FaultKind::BadByte,
+    FaultKind::LeftOut,
+    FaultKind::WrongType,
+    FaultKind::DoubleTarget,
+    FaultKind::Schema,
+];
+
+const NUMBERED: &str = "1 BadByte;12 LeftOut;40 Type;74 DoubleTarget;80 Schema;";
+
+fn are_numbered(alloc: Global) -> Result<bool, AllocError> {
+    let mut found = String::new(alloc);
+    add_numbered(&mut found, &KINDS)?;
+    Ok(found.as_str() == NUMBERED)
 }
 
 #[test]
 fn numbers_and_names(rt: HostRuntime) -> Result<(), AllocError> {
-    let kinds = [
-        FaultKind::BadByte,
-        FaultKind::LeftOut,
-        FaultKind::WrongType,
-        FaultKind::DoubleTarget,
-        FaultKind::Schema,
-    ];
-    let found = numbered(rt.alloc(), &kinds)?;
-    assert!(rt; found.as_str() == "1 BadByte;12 LeftOut;40 Type;74 DoubleTarget;80 Schema;");
+    assert!(rt; are_numbered(rt.alloc())?);
     Ok(())
 }
 
@@ -126,25 +133,40 @@ fn shows_bytes(rt: HostRuntime) -> Result<(), AllocError> {
     check_rows(&rt, rt.alloc(), SHARES, &Shares)
 }
 
-/// The titles of errors without detail, with how long that is.
-fn titles(alloc: Global, errors: &[QueryErr]) -> Result<String, AllocError> {
-    let mut out = String::new(alloc);
-    for error in errors {
-        write!(out, "{} {};", error.title(), error.detail().len())?;
+/// An error without detail, by the number that users see.
+fn error_of(number: u64) -> QueryErr {
+    match number {
+        1 => QueryErr::Syntax,
+        4 => QueryErr::BadRegex,
+        8 => QueryErr::Arguments,
+        _ => QueryErr::Memory,
     }
-    Ok(out)
+}
+
+/// Adds the title of an error, and how long its detail is.
+fn add_title(out: &mut String, error: &QueryErr) -> Result<(), AllocError> {
+    write!(out, "{} {};", error.title(), error.detail().len())?;
+    Ok(())
+}
+
+fn add_titles(out: &mut String, numbers: &[u64]) -> Result<(), AllocError> {
+    for number in numbers {
+        add_title(out, &error_of(*number))?;
+    }
+    Ok(())
+}
+
+const TITLES: &str = "Q1 Syntax 0;Q4 BadRegex 0;Q8 Arguments 0;Q9 Memory 0;";
+
+fn are_titled(alloc: Global) -> Result<bool, AllocError> {
+    let mut found = String::new(alloc);
+    add_titles(&mut found, &[1, 4, 8, 9])?;
+    Ok(found.as_str() == TITLES)
 }
 
 #[test]
 fn titles_of_query_errors(rt: HostRuntime) -> Result<(), AllocError> {
-    let errors = [
-        QueryErr::Syntax,
-        QueryErr::BadRegex,
-        QueryErr::Arguments,
-        QueryErr::Memory,
-    ];
-    let found = titles(rt.alloc(), &errors)?;
-    assert!(rt; found.as_str() == "Q1 Syntax 0;Q4 BadRegex 0;Q8 Arguments 0;Q9 Memory 0;");
+    assert!(rt; are_titled(rt.alloc())?);
     Ok(())
 }
 

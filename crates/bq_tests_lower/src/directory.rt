@@ -4,24 +4,28 @@
 //! link to where it leads; and `read` gives the files below a path, a line each, or says that they are refused.
 
 use crate::rows::{Row, Subject, check_rows};
-use bq_label::Workspace;
+use bq_label::{File, Workspace};
 use bq_run_directory::{DirectoryErr, read_directory};
 use std::alloc::{AllocError, Global};
 use std::fs::Files;
 use std::os::fd::AsRawFd;
 use std::os::unix::fs::symlink;
-use std::process::Abort;
 use std::{fs, io};
 
-/// A file a line: its path, ` = ` and its bytes.
-fn shown(alloc: Global, workspace: &Workspace) -> Result<Vec<u8>, AllocError> {
-    let mut text = Vec::new(alloc);
-    for file in workspace.files() {
+/// Adds a file a line: its path, ` = ` and its bytes.
+fn add_files(text: &mut Vec<u8>, files: &[File]) -> Result<(), AllocError> {
+    for file in files {
         text.extend_from_slice(file.path.as_slice())?;
         text.extend_from_slice(b" = ")?;
         text.extend_from_slice(file.content.as_slice())?;
         text.push(b'\n')?;
     }
+    Ok(())
+}
+
+fn shown(alloc: Global, workspace: &Workspace) -> Result<Vec<u8>, AllocError> {
+    let mut text = Vec::new(alloc);
+    add_files(&mut text, workspace.files())?;
     Ok(text)
 }
 
@@ -30,11 +34,14 @@ fn read<R: Files + Alloc<A = Global> + Clone + Drop>(
     rt: &R,
     root: &str,
 ) -> Result<Vec<u8>, AllocError> {
-    match read_directory(rt, root) {
-        Ok(workspace) => shown(rt.alloc(), &workspace),
+    let found = read_directory(rt, root);
+    let text = match &found {
+        Ok(workspace) => shown(rt.alloc(), workspace),
         Err(DirectoryErr::Read) => b"refused".to_vec(rt.alloc()),
         Err(_) => b"no answer".to_vec(rt.alloc()),
-    }
+    };
+    drop(found);
+    text
 }
 
 fn fresh<R: Files + Alloc<A = Global>>(rt: &R, root: &str) -> io::Result<()> {
@@ -62,17 +69,27 @@ fn text_of(bytes: &[u8]) -> &str {
 #[derive_where(Clone, Copy)]
 struct Disk<'a, R>(&'a R);
 
+/// What a call of a row gives, with a path and what it is made of.
+fn called<R: Files + Alloc<A = Global> + Clone + Drop>(
+    rt: &R,
+    word: &[u8],
+    path: &str,
+    of: &str,
+) -> Result<Vec<u8>, AllocError> {
+    if word == b"read".as_slice() {
+        return read(rt, path);
+    }
+    match make(rt, word, path, of) {
+        Ok(()) => Ok(Vec::new(rt.alloc())),
+        Err(_) => b"failed".to_vec(rt.alloc()),
+    }
+}
+
 impl<R: Files + Alloc<A = Global> + Clone + Drop> Subject for Disk<'_, R> {
     fn answer(&self, alloc: Global, text: &[u8], row: Row) -> Result<Vec<u8>, AllocError> {
         let path = row.bytes(alloc, 1)?;
         let of = row.bytes(alloc, 2)?;
-        if text == b"read".as_slice() {
-            return read(self.0, text_of(&path));
-        }
-        match make(self.0, text, text_of(&path), text_of(&of)) {
-            Ok(()) => Ok(Vec::new(alloc)),
-            Err(_) => b"failed".to_vec(alloc),
-        }
+        called(self.0, text, text_of(&path), text_of(&of))
     }
 }
 
@@ -106,29 +123,38 @@ fn stops_at_what_is_not_there(rt: HostRuntime) -> Result<(), AllocError> {
     check_rows(&rt, rt.alloc(), LOST, &Disk(&rt))
 }
 
-/// The directory `out/special` has this file alone.
-fn expect_one_file<R: Files + Alloc<A = Global> + Abort + Clone + Drop>(
+/// A directory with a file, and with links to a device and to the pipe of this number.
+fn make_special<R: Files + Alloc<A = Global>>(rt: &R, pipe: i32) -> io::Result<()> {
+    fresh(rt, "out/special")?;
+    fs::write(rt, "out/special/x", b"")?;
+    symlink(rt, "/dev/null", "out/special/null.bzl")?;
+    let pipe = format!(in rt.alloc(); "/proc/self/fd/{pipe}")?;
+    symlink(rt, pipe.as_str(), "out/special/BUILD")
+}
+
+/// What is read of it.
+fn read_special<R: Files + Alloc<A = Global> + Clone + Drop>(
     rt: &R,
-) -> Result<(), AllocError> {
-    let found = read(rt, "out/special")?;
+    pipe: i32,
+) -> Result<Vec<u8>, AllocError> {
+    match make_special(rt, pipe) {
+        Ok(()) => read(rt, "out/special"),
+        Err(_) => b"failed".to_vec(rt.alloc()),
+    }
+}
+
+#[test]
+fn leaves_out_what_is_no_file(rt: HostRuntime) -> io::Result<()> {
+    let (reader, writer) = io::pipe(&rt)?;
+    let found = read_special(&rt, reader.as_raw_fd());
+    drop(reader);
+    drop(writer);
+    let found = found?;
     assert!(rt;
         found.as_slice() == b"x = \n".as_slice(),
         "{}",
         found.escape_ascii()
     );
-    Ok(())
-}
-
-#[test]
-fn leaves_out_what_is_no_file(rt: HostRuntime) -> io::Result<()> {
-    fresh(&rt, "out/special")?;
-    fs::write(&rt, "out/special/x", b"")?;
-    symlink(&rt, "/dev/null", "out/special/null.bzl")?;
-    let (reader, writer) = io::pipe(&rt)?;
-    let pipe = format!(in rt.alloc(); "/proc/self/fd/{}", reader.as_raw_fd())?;
-    symlink(&rt, pipe.as_str(), "out/special/BUILD")?;
-    expect_one_file(&rt)?;
-    drop(writer);
     Ok(())
 }
 

@@ -14,14 +14,24 @@ enum Shown {
     Places,
 }
 
+fn add_token(text: &mut String, shown: Shown, t: &Token) -> Result<(), AllocError> {
+    match shown {
+        Shown::Kinds => write!(text, "{:?},", t.kind)?,
+        Shown::Places => write!(text, "{:?} {}..{} {};", t.kind, t.start, t.end, t.line)?,
+    }
+    Ok(())
+}
+
+fn add_tokens(text: &mut String, shown: Shown, tokens: &[Token]) -> Result<(), AllocError> {
+    for token in tokens {
+        add_token(text, shown, token)?;
+    }
+    Ok(())
+}
+
 fn written(alloc: Global, shown: Shown, tokens: &[Token]) -> Result<Vec<u8>, AllocError> {
     let mut text = String::new(alloc);
-    for t in tokens {
-        match shown {
-            Shown::Kinds => write!(text, "{:?},", t.kind)?,
-            Shown::Places => write!(text, "{:?} {}..{} {};", t.kind, t.start, t.end, t.line)?,
-        }
-    }
+    add_tokens(&mut text, shown, tokens)?;
     Ok(text.into_bytes())
 }
 

@@ -5,7 +5,7 @@ use bq_base::Bytes;
 use bq_package_rule_class::{Attribute, AttributeType};
 use bq_query_pattern::{PatternErr, read_pattern};
 use bq_resolve_predeclared::{Predeclared, RuleFunction};
-use bq_value::{EvalErr, Function, Store, Value};
+use bq_value::{Function, Store, Value};
 use bq_value_compare::equal;
 use bq_value_seed::Seed;
 use bq_value_text::text;
@@ -37,16 +37,27 @@ fn function(alloc: Global, defaults: Vec<Value>) -> Result<Value, AllocError> {
     )
 }
 
-fn put_into(alloc: Global, around: Around, value: Value) -> Result<Value, AllocError> {
-    let mut values = Vec::new(alloc);
-    values.push(value)?;
-    match around {
-        Around::Alone => {}
-        Around::First => values.push(Value::none())?,
-        Around::Last => values.insert(0, Value::none())?,
-        Around::Default => return function(alloc, values),
+/// One value, or two.
+fn list_of<T: Drop>(alloc: Global, first: T, second: Option<T>) -> Result<Vec<T>, AllocError> {
+    let mut items = Vec::new(alloc);
+    items.push(first)?;
+    match second {
+        Some(item) => items.push(item)?,
+        None => {}
     }
-    Value::tuple(alloc, values)
+    Ok(items)
+}
+
+fn put_into(alloc: Global, around: Around, value: Value) -> Result<Value, AllocError> {
+    let values = match around {
+        Around::First => list_of(alloc, value, Some(Value::none())),
+        Around::Last => list_of(alloc, Value::none(), Some(value)),
+        _ => list_of(alloc, value, None),
+    };
+    match around {
+        Around::Default => function(alloc, values?),
+        _ => Value::tuple(alloc, values?),
+    }
 }
 
 fn nested(alloc: Global, around: Around) -> Result<Value, AllocError> {
@@ -61,34 +72,39 @@ fn nested(alloc: Global, around: Around) -> Result<Value, AllocError> {
 #[test]
 fn deep_values_come_to_an_end(rt: HostRuntime) -> Result<(), AllocError> {
     for around in [Around::Alone, Around::First, Around::Last, Around::Default] {
-        let _dropped = nested(rt.alloc(), around)?;
+        drop(nested(rt.alloc(), around)?);
     }
     Ok(())
 }
 
-/// A tuple of two shares of a deep value.
-fn two_shares(alloc: Global) -> Result<Value, AllocError> {
-    let value = nested(alloc, Around::First)?;
-    let mut values = Vec::new(alloc);
-    values.push(value.share()?)?;
-    values.push(value)?;
-    Value::tuple(alloc, values)
-}
-
-/// A tuple that has a tuple a million times.
-fn wide(alloc: Global) -> Result<Value, AllocError> {
-    let value = put_into(alloc, Around::Alone, Value::int(1))?;
-    let mut values = Vec::new(alloc);
-    for _ in 0..TIMES {
+fn add_shares(values: &mut Vec<Value>, value: &Value, times: usize) -> Result<(), AllocError> {
+    for _ in 0..times {
         values.push(value.share()?)?;
     }
-    Value::tuple(alloc, values)
+    Ok(())
 }
 
+/// A tuple that has a value so many times, and is its only owner.
+fn repeated(alloc: Global, value: Value, times: usize) -> Result<Value, AllocError> {
+    let mut values = Vec::new(alloc);
+    let added = add_shares(&mut values, &value, times);
+    drop(value);
+    match added {
+        Ok(()) => Value::tuple(alloc, values),
+        Err(error) => {
+            drop(values);
+            Err(error)
+        }
+    }
+}
+
+/// A deep value of two owners, and a tuple of a million.
 #[test]
 fn shared_and_wide_values_come_to_an_end(rt: HostRuntime) -> Result<(), AllocError> {
-    let _shared = two_shares(rt.alloc())?;
-    let _wide = wide(rt.alloc())?;
+    let deep = nested(rt.alloc(), Around::First)?;
+    drop(repeated(rt.alloc(), deep, 2)?);
+    let one = put_into(rt.alloc(), Around::Alone, Value::int(1))?;
+    drop(repeated(rt.alloc(), one, TIMES)?);
     Ok(())
 }
 
@@ -104,42 +120,51 @@ fn attribute(alloc: Global, kind: AttributeType, is_mandatory: bool) -> Result<V
 }
 
 /// Whether two values are unlike, which takes one step of 99.
-fn are_unlike(alloc: Global, a: &Value, b: &Value) -> bool {
-    matches!(
-        equal(&Store::new(alloc, 1, Seed::fixed()), 99, a, b),
-        Ok((false, 98))
-    )
+fn are_unlike(alloc: Global, a: Value, b: Value) -> bool {
+    let store = Store::new(alloc, 1, Seed::fixed());
+    let found = equal(&store, 99, &a, &b);
+    let is_so = matches!(&found, Ok((false, 98)));
+    drop(found);
+    drop(a);
+    drop(b);
+    drop(store);
+    is_so
 }
 
 #[test]
 fn functions_that_declare_rules_are_equal_by_which_they_are(
     rt: HostRuntime,
 ) -> Result<(), AllocError> {
-    let int = Value::rule_function(RuleFunction::AttrInt);
+    let alloc = rt.alloc();
+    let made = attribute(alloc, AttributeType::String, false)?;
     let string = Value::rule_function(RuleFunction::AttrString);
-    let rule = Value::rule_function(RuleFunction::Rule);
-    let made = attribute(rt.alloc(), AttributeType::String, false)?;
-    assert!(rt; are_unlike(rt.alloc(), &rule, &int));
-    assert!(rt; are_unlike(rt.alloc(), &int, &Value::built_in(Predeclared::Int)));
-    assert!(rt; are_unlike(rt.alloc(), &made, &string));
+    assert!(rt; are_unlike(alloc, made, string));
+    let int = Value::rule_function(RuleFunction::AttrInt);
+    assert!(rt; are_unlike(alloc, Value::rule_function(RuleFunction::Rule), int));
+    let int = Value::rule_function(RuleFunction::AttrInt);
+    assert!(rt; are_unlike(alloc, int, Value::built_in(Predeclared::Int)));
     Ok(())
 }
 
-/// The text of a value, if it takes one step of 99.
-fn shown(alloc: Global, value: &Value) -> Result<Bytes, EvalErr> {
-    match text(alloc, &Store::new(alloc, 1, Seed::fixed()), 99, value)? {
-        (shown, 98) => Ok(shown),
-        _ => Ok(Bytes::empty()),
-    }
+/// Whether this is the text of a value, which takes one step of 99.
+fn has_text(alloc: Global, value: &Value, wanted: &[u8]) -> bool {
+    let store = Store::new(alloc, 1, Seed::fixed());
+    let found = text(alloc, &store, 99, value);
+    let is_so = match &found {
+        Ok((shown, 98)) => shown.as_slice() == wanted,
+        _ => false,
+    };
+    drop(found);
+    drop(store);
+    is_so
 }
 
 #[test]
 fn text_of_an_output_attribute(rt: HostRuntime) -> Result<(), AllocError> {
     let output = attribute(rt.alloc(), AttributeType::Output, true)?;
-    match shown(rt.alloc(), &output) {
-        Ok(found) => assert!(rt; found.as_slice() == b"<attr.output>".as_slice()),
-        Err(_) => assert!(rt; false, "no text"),
-    }
+    let is_shown = has_text(rt.alloc(), &output, b"<attr.output>");
+    drop(output);
+    assert!(rt; is_shown);
     Ok(())
 }
 

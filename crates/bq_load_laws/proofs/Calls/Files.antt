@@ -30,12 +30,12 @@ edge_is_bzl inputs m l c = elim ((the_labels_added [] (loads_of inputs m) l).0 c
 ]
 
 -- a number in a row is that of a label among those that the row is of
-record Labelled (labels ls : List LabelParts) (k : ℕ) : Type 0 where
-  label : LabelParts
-  at : slice_get labels k ≡ Some label
-  among : Contains ls label
+pub record Labelled (labels ls : List LabelParts) (k : ℕ) : Type 0 where
+  pub label : LabelParts
+  pub at : slice_get labels k ≡ Some label
+  pub among : Contains ls label
 
-labelled : (labels : List LabelParts) (row : List ℕ) (ls : List LabelParts) → map (slice_get labels) row ≡ map Some ls → (k : ℕ) → Has row k → Labelled labels ls k
+pub labelled : (labels : List LabelParts) (row : List ℕ) (ls : List LabelParts) → map (slice_get labels) row ≡ map Some ls → (k : ℕ) → Has row k → Labelled labels ls k
 labelled labels [] ls e k h = absurd (omega (arith, h))
 labelled labels (n ∷ row) [] e k h = absurd (cc)
 labelled labels (n ∷ row) (l ∷ ls) e k h =
@@ -53,7 +53,7 @@ module _ (inputs : InputParts) (g : GraphParts) (is : IsLoadGraph inputs g) wher
     pub at : slice_get g.labels k ≡ Some label
     pub bzl : kind_of label ≡ kinds.Bzl
 
-  abbrev edges_of : LabelParts → List (Option LabelParts)
+  abbrev pub edges_of : LabelParts → List (Option LabelParts)
   edges_of l = map Some (edges_from inputs l)
 
   by_row : (m : ℕ) (ls : List (Option LabelParts)) (o : Option (List ℕ)) → slice_get g.edges m ≡ o → option_map (map (slice_get g.labels)) o ≡ Some ls → map (slice_get g.labels) (row g.edges m) ≡ ls
@@ -62,7 +62,7 @@ module _ (inputs : InputParts) (g : GraphParts) (is : IsLoadGraph inputs g) wher
       let same : map (slice_get g.labels) r ≡ ls = cc in
       ap (map (slice_get g.labels)) (get_or_from_slice_get g.edges m r [] e) ∙ same
 
-  row_of : (m : ℕ) (l : LabelParts) → slice_get g.labels m ≡ Some l → map (slice_get g.labels) (row g.edges m) ≡ edges_of l
+  pub row_of : (m : ℕ) (l : LabelParts) → slice_get g.labels m ≡ Some l → map (slice_get g.labels) (row g.edges m) ≡ edges_of l
   row_of m l at =
       by_row m (edges_of l) (slice_get g.edges m) refl
       (sym (slice_get-map (map (slice_get g.labels)) g.edges m) ∙ ap (λ (z : List (List (Option LabelParts))). slice_get z m) is.edges ∙ slice_get-map edges_of g.labels m ∙ ap (option_map edges_of) at)

@@ -2,19 +2,20 @@
 use Rattle.std.proofs.Common.{◌≡◌, ◌∙◌, ℕ, suc, ◌+◌, ◌++◌, ◌&&◌, not, length, Bool, true, false, cond, List, [], ◌∷◌, map, Option, Some, None, Result, Ok, Err, slice_get, option_map, is_some, Contains, refl, sym, ap, subst, arith, IfErr}
 use Rattle.std.specs.Prelude.{if◌then◌else◌}
 use Rattle.std.specs.List.{AllByRecursion, list_any}
-use Rattle.std.proofs.lemmas.Option.{slice_get-map, get_or_from_slice_get}
+use Rattle.std.proofs.lemmas.Option.{get_or_from_slice_get}
 use Rattle.bq_base.specs.declared.fault.Fault.{Fault}
 use Rattle.bq_base.specs.declared.fault.FaultKind.{FaultKind}
 use Rattle.bq_base.specs.declared.fault.FaultKind.TheVariants as f
 use Rattle.bq_board.specs.Cycles.{is_cyclic, starts_path}
 use Rattle.bq_board.specs.Depth.{max_load_depth, is_too_deep}
-use Rattle.bq_board.specs.Graph.{Loads, row}
+use Rattle.bq_board.specs.Counts.{Has}
+use Rattle.bq_board.specs.Graph.{Loads, row, Known}
 use Rattle.bq_eval.specs.Module.{Ended, evaluated as ran, failed, ended, kept_after, module_run}
 use Rattle.bq_label.specs.Label.{LabelParts}
 use Rattle.bq_load.specs.declared.source.Source.{Source}
 use Rattle.bq_load.specs.Evaluation.{kept_first, evaluation, package_left, module_by, module_after, loaded_parts, by_imports, file_means, code_in, by_code, by_source, means}
 use Rattle.bq_load.specs.Imports.{is_private, global_by, or_no_symbol, exported, at_symbol, clause_values, module_named, imports, LoadedParts}
-use Rattle.bq_load.specs.Results.{load_fault_by, load_fault, result_of, outcomes_from, outcomes}
+use Rattle.bq_load.specs.Results.{load_fault, result_of, outcomes_from, outcomes}
 use Rattle.bq_load.specs.Sources.{LoadingParts, source_by, source_of, code_by, code_of, loading_in}
 use Rattle.bq_load.specs.Views.{ModuleView, FailedView}
 use Rattle.bq_load_discover.specs.LoadGraph.{inputs_of}
@@ -43,49 +44,61 @@ use Rattle.bq_resolve_scope.specs.declared.code.LoadStmt.{LoadStmt}
 use Rattle.bq_resolve_scope.specs.declared.code.LoadedSymbol.{LoadedSymbol}
 use Rattle.bq_resolve_scope.specs.declared.code.Resolved.{Resolved}
 use Rattle.bq_value.specs.Datum.{Datum}
-use Rattle.bq_load_laws.specs.Faults.Parts.{is_of_loads, universe_at, FailsIn, FailsInItsPart, OutcomesFailInTheirParts, LoadedModulesFailInTheirParts}
-use Rattle.bq_load_laws.proofs.Faults.Texts.{IsFront, fronts_fail}
+use Rattle.bq_load_laws.specs.Faults.Parts.{is_of_loads, universe_at, IsAtLoad, FailsIn, FailsInItsPart, OutcomesFailInTheirParts, LoadedModulesFailInTheirParts}
+use Rattle.bq_load_laws.specs.Outcomes.FirstLoad.{IsAtItsLoad, fault_at_load}
+use Rattle.bq_load_laws.proofs.Faults.Texts.{among_all, IsFront, fronts_fail}
+use Rattle.bq_load_laws.proofs.Outcomes.Loads.{on_cycle, too_far, values_have, at_load}
+use Rattle.bq_load_laws.proofs.Outcomes.Sources.{source_at, code_at}
 
 -- ---- symbols
 
--- a result that fails, if it does, with a fault of loads
-abbrev ByLoads : {A : Type 0} → Result A Fault → Type 0
-ByLoads (Ok x) = Unit {0}
-ByLoads (Err why) = is_of_loads why.kind ≡ true
+-- a result that fails, if it does, with a fault of loads at the line of one of these
+abbrev ByLoads : {A : Type 0} → List LoadStmt → Result A Fault → Type 0
+ByLoads all (Ok x) = Unit {0}
+ByLoads all (Err why) = (is_of_loads why.kind ≡ true) × IsAtLoad all why
 
-of_global : (line : ℕ) (name : Name) (v : Option Datum) → ByLoads (at_symbol line name (or_no_symbol v))
-of_global line name None = refl
-of_global line name (Some v) = tt
+then_only : {A B : Type 0} (all : List LoadStmt) (r : Result A Fault) (go : A → Result B Fault) → ByLoads all r → ((x : A) → ByLoads all (go x)) → ByLoads all (r >>= go)
+then_only all (Ok x) go h next = next x
+then_only all (Err why) go h next = h
 
-of_symbol : (code : List (Option Resolved)) (m : Option ModuleView) (line : ℕ) (name : Name) → ByLoads (at_symbol line name (exported code m name))
-unfolding exported
-of_symbol code m line name = by_privacy (is_private name)
-  where
-    by_privacy : (b : Bool) → ByLoads (at_symbol line name (if b then Err f.PrivateSymbol else or_no_symbol (global_by code m name)))
-    by_privacy true = refl
-    by_privacy false = of_global line name (global_by code m name)
+module _ (all : List LoadStmt) (load : LoadStmt) (among : Contains all load) where
+  at_it : (why : Fault) → why.line ≡ load.line → IsAtLoad all why
+  at_it why e = record { load = load; among = among; line = e }
 
-then_only : {A B : Type 0} (r : Result A Fault) (go : A → Result B Fault) → ByLoads r → ((x : A) → ByLoads (go x)) → ByLoads (r >>= go)
-then_only (Ok x) go h next = next x
-then_only (Err why) go h next = h
+  of_global : (name : Name) (v : Option Datum) → ByLoads all (at_symbol load.line name (or_no_symbol v))
+  of_global name None = (refl, at_it _ refl)
+  of_global name (Some v) = tt
 
-clauses_fail : (code : List (Option Resolved)) (m : Option ModuleView) (line : ℕ) (done : List Datum) (cs : List LoadedSymbol) → ByLoads (clause_values code m line done cs)
-unfolding clause_values
-clauses_fail code m line done [] = tt
-clauses_fail code m line done (c ∷ cs) =
-    then_only (at_symbol line c.symbol (exported code m c.symbol)) (λ v. clause_values code m line (done ++ v ∷ []) cs) (of_symbol code m line c.symbol)
-    (λ v. clauses_fail code m line (done ++ v ∷ []) cs)
+  of_symbol : (code : List (Option Resolved)) (m : Option ModuleView) (name : Name) → ByLoads all (at_symbol load.line name (exported code m name))
+  unfolding exported
+  of_symbol code m name = by_privacy (is_private name)
+    where
+      by_privacy : (b : Bool) → ByLoads all (at_symbol load.line name (if b then Err f.PrivateSymbol else or_no_symbol (global_by code m name)))
+      by_privacy true = (refl, at_it _ refl)
+      by_privacy false = of_global name (global_by code m name)
 
-imports_fail : (x : LoadedParts) (done : List Datum) (ss : List LoadStmt) (ls : List LabelParts) → ByLoads (imports x done ss ls)
+  clauses_fail : (code : List (Option Resolved)) (m : Option ModuleView) (done : List Datum) (cs : List LoadedSymbol) → ByLoads all (clause_values code m load.line done cs)
+  unfolding clause_values
+  clauses_fail code m done [] = tt
+  clauses_fail code m done (c ∷ cs) =
+      then_only all (at_symbol load.line c.symbol (exported code m c.symbol)) (λ v. clause_values code m load.line (done ++ v ∷ []) cs) (of_symbol code m c.symbol)
+      (λ v. clauses_fail code m (done ++ v ∷ []) cs)
+
+imports_fail : (all : List LoadStmt) (x : LoadedParts) (done : List Datum) (ss : List LoadStmt) (ls : List LabelParts) → ((s : LoadStmt) → Contains ss s → Contains all s) → ByLoads all (imports x done ss ls)
 unfolding imports
-imports_fail x done [] ls = tt
-imports_fail x done (s ∷ ss) [] = tt
-imports_fail x done (s ∷ ss) (l ∷ ls) =
-    then_only (clause_values x.code (module_named x l) s.line done s.clauses) (λ vs. imports x vs ss ls) (clauses_fail x.code (module_named x l) s.line done s.clauses) (λ vs. imports_fail x vs ss ls)
+imports_fail all x done [] ls inside = tt
+imports_fail all x done (s ∷ ss) [] inside = tt
+imports_fail all x done (s ∷ ss) (l ∷ ls) inside =
+    then_only all (clause_values x.code (module_named x l) s.line done s.clauses) (λ vs. imports x vs ss ls) (clauses_fail all s (inside s (at_head s ss)) x.code (module_named x l) done s.clauses)
+    (λ vs. imports_fail all x vs ss ls (λ r c. inside r (in_tail s ss r c)))
 
 and_false : (b : Bool) → (b && false) ≡ false
 and_false true = refl
 and_false false = refl
+
+-- each fault of the module of this number for a load is at the first such load in its file
+abbrev pub LoadsAreTold : InputParts → LoadingParts → Loads → ℕ → LabelParts → Type 0
+LoadsAreTold inputs x p m l = (front : Front) → front_of inputs l ≡ Ok front → (kind : FaultKind) (k : ℕ) → Has (row p m) k → IsAtItsLoad x m k (source_by l (front_of inputs l)) kind
 
 -- ---- a file of a load graph
 
@@ -126,8 +139,8 @@ module _ (inputs : InputParts) (x : LoadingParts) (all : AllByRecursion IfAny x.
         (package_left (kept_after (module_run x.names meaning x.code m front.code (map (λ v. v.frozen) modules) values x.limit (kept_first x l))))
         (files_fail x.names meaning calls_refuse x.code all m front.code is_resolved (map (λ v. v.frozen) modules) values x.limit (kept_first x l))
 
-    by_values : (r : Result (List Datum) Fault) → ByLoads r → Fails l (by_imports x m l front.code modules r)
-    by_values (Err why) h = FailsIn.of_loads is.0 front.code is.1 is.2 h
+    by_values : (r : Result (List Datum) Fault) → ByLoads front.code.loads r → Fails l (by_imports x m l front.code modules r)
+    by_values (Err why) h = FailsIn.of_loads is.0 front.code is.1 is.2 h.0 h.1
     by_values (Ok values) h = by_run values
 
   file_fails : (l : LabelParts) (front : Front) → IsFront inputs l (Ok front) → (m : ℕ) (modules : List ModuleView)
@@ -135,7 +148,7 @@ module _ (inputs : InputParts) (x : LoadingParts) (all : AllByRecursion IfAny x.
   unfolding file_means
   file_fails l front is m modules =
       let s : Source = record { label = l; loads = front.loads; fault = None } in
-      by_values l front is m modules (imports (loaded_parts x s modules) [] front.code.loads front.loads) (imports_fail (loaded_parts x s modules) [] front.code.loads front.loads)
+      by_values l front is m modules (imports (loaded_parts x s modules) [] front.code.loads front.loads) (imports_fail front.code.loads (loaded_parts x s modules) [] front.code.loads front.loads (λ r c. c))
 
   by_front : (l : LabelParts) (r : Result Front Fault) → IsFront inputs l r → (m : ℕ) (modules : List ModuleView) → Fails l (by_code x m (source_by l r) modules (code_by r))
   by_front l (Ok front) is m modules = file_fails l front is m modules
@@ -144,7 +157,7 @@ module _ (inputs : InputParts) (x : LoadingParts) (all : AllByRecursion IfAny x.
   -- ---- a module in its place
 
   module _ (p : Loads) (m : ℕ) (l : LabelParts) (at : slice_get x.sources m ≡ Some (source_by l (front_of inputs l))) (there : slice_get x.code m ≡ Some (code_by (front_of inputs l)))
-      (none : (why : Fault) → front_of inputs l ≡ Err why → row p m ≡ []) (is_file : is_some (label_file inputs.files l) ≡ true) where
+      (none : (why : Fault) → front_of inputs l ≡ Err why → row p m ≡ []) (known : Known p) (told : LoadsAreTold inputs x p m l) (is_file : is_some (label_file inputs.files l) ≡ true) where
     abbrev s : Source
     s = source_by l (front_of inputs l)
 
@@ -162,29 +175,40 @@ module _ (inputs : InputParts) (x : LoadingParts) (all : AllByRecursion IfAny x.
     by_result (Err why) h = h
 
     -- a file that has a code may load modules that are cyclic, too deep or failed
-    module _ (front : Front) (is : IsFront inputs l (Ok front)) where
-      of_kind : (kind : FaultKind) (k : ℕ) → is_of_loads kind ≡ true → FailsIn inputs l (load_fault x m s kind k)
-      unfolding load_fault
-      of_kind kind k h = by_loaded (slice_get x.sources k)
+    module _ (front : Front) (read : front_of inputs l ≡ Ok front) (is : IsFront inputs l (Ok front)) where
+      -- at the first load of the module that it names
+      told_there : (kind : FaultKind) (k : ℕ) (i : IsAtItsLoad x m k s kind) → IsAtLoad front.code.loads (fault_at_load kind i.load i.loaded)
+      told_there kind k i =
+          let of_file = i.first in
+          let same : of_file.file ≡ front.code = same_code of_file.file front.code (sym of_file.code ∙ (there ∙ ap (λ (z : Result Front Fault). Some (code_by z)) read)) in
+          let place = of_file.first in
+          let loads_are = ap (λ (z : Resolved). z.loads) (sym same) ∙ place.loads_are in
+          record { load = i.load; among = subst (λ (z : List LoadStmt). Contains z i.load) (sym loads_are) (among_all place.before i.load place.after); line = refl }
         where
-          by_loaded : (loaded : Option Source) → FailsIn inputs l (load_fault_by kind s (code_in (slice_get x.code m)) loaded)
-          by_loaded None = FailsIn.of_loads is.0 front.code is.1 is.2 h
-          by_loaded (Some source) = FailsIn.of_loads is.0 front.code is.1 is.2 h
+          same_code : (a b : Resolved) → Some (Some a) ≡ Some (Some b) → a ≡ b
+          same_code a b e = cc
 
-      by_loaded_values : (vs : Result (List ModuleView) ℕ) → Holds (evaluated (means x m) vs)
-      by_loaded_values (Ok vs) = by_result (means x m vs) (means_fails vs)
-      by_loaded_values (Err k) = of_kind f.LoadFailed k refl
+      of_kind : (kind : FaultKind) (k : ℕ) → is_of_loads kind ≡ true → Has (row p m) k → FailsIn inputs l (load_fault x m s kind k)
+      of_kind kind k h loads_it =
+          let i = told front read kind k loads_it in
+          subst (FailsIn inputs l) (sym i.fault) (FailsIn.of_loads is.0 front.code is.1 is.2 h (told_there kind k i))
 
-      by_cases : (cyclic deep : Bool) (k d : ℕ) (vs : Result (List ModuleView) ℕ) → Holds (cond cyclic (o.Cyclic k) (cond deep (o.TooDeep d) (evaluated (means x m) vs)))
-      by_cases true deep k d vs = of_kind f.CycleReached k refl
-      by_cases false true k d vs = of_kind f.LoadDepth d refl
-      by_cases false false k d vs = by_loaded_values vs
+      by_loaded_values : (vs : Result (List ModuleView) ℕ) → ((k : ℕ) → vs ≡ Err k → Has (row p m) k) → Holds (evaluated (means x m) vs)
+      by_loaded_values (Ok vs) unread = by_result (means x m vs) (means_fails vs)
+      by_loaded_values (Err k) unread = of_kind f.LoadFailed k refl (unread k refl)
+
+      by_cases : (cyclic deep : Bool) (k d : ℕ) (vs : Result (List ModuleView) ℕ) → (cyclic ≡ true → Has (row p m) k) → (deep ≡ true → Has (row p m) d) → ((j : ℕ) → vs ≡ Err j → Has (row p m) j)
+          → Holds (cond cyclic (o.Cyclic k) (cond deep (o.TooDeep d) (evaluated (means x m) vs)))
+      by_cases true deep k d vs cycle far unread = of_kind f.CycleReached k refl (cycle refl)
+      by_cases false true k d vs cycle far unread = of_kind f.LoadDepth d refl (far refl)
+      by_cases false false k d vs cycle far unread = by_loaded_values vs unread
 
       with_code : Holds (outcome (means x) p m)
       unfolding by_loads
       with_code =
           subst Holds (sym (outcome_is (means x) p m))
-          (by_cases (is_cyclic p m) (is_too_deep p m) (first (is_cyclic p) (row p m)) (first (starts_path p max_load_depth) (row p m)) (values (outcome (means x) p) (row p m)))
+          (by_cases (is_cyclic p m) (is_too_deep p m) (first (is_cyclic p) (row p m)) (first (starts_path p max_load_depth) (row p m)) (values (outcome (means x) p) (row p m)) (on_cycle (means x) p known m)
+          (too_far (means x) p known m) (values_have (outcome (means x) p) (row p m)))
 
     -- one that has none loads nothing, so its outcome is its own
     module _ (empty : row p m ≡ []) where
@@ -203,7 +227,7 @@ module _ (inputs : InputParts) (x : LoadingParts) (all : AllByRecursion IfAny x.
           (by_result (means x m []) (means_fails []))
 
     by_what_is_read : (r : Result Front Fault) → front_of inputs l ≡ r → IsFront inputs l r → Holds (outcome (means x) p m)
-    by_what_is_read (Ok front) e is = with_code front is
+    by_what_is_read (Ok front) e is = with_code front e is
     by_what_is_read (Err why) e is = without_code (none why e)
 
     module_fails : Holds (outcome (means x) p m)
@@ -212,26 +236,17 @@ module _ (inputs : InputParts) (x : LoadingParts) (all : AllByRecursion IfAny x.
 -- ---- all modules
 
 module _ (inputs : InputParts) (x : LoadingParts) (labels : List LabelParts) (sources : x.sources ≡ map source_of (map (module_of inputs) labels)) (codes : x.code ≡ map code_of (map (module_of inputs) labels)) (p : Loads)
-    (none : (m : ℕ) (l : LabelParts) (why : Fault) → slice_get labels m ≡ Some l → front_of inputs l ≡ Err why → row p m ≡ []) (all_there : AreThere inputs labels) where
+    (none : (m : ℕ) (l : LabelParts) (why : Fault) → slice_get labels m ≡ Some l → front_of inputs l ≡ Err why → row p m ≡ []) (known : Known p)
+    (told : (m : ℕ) (l : LabelParts) → slice_get labels m ≡ Some l → LoadsAreTold inputs x p m l) (all_there : AreThere inputs labels) where
   all_code : AllByRecursion IfAny x.code
   all_code = subst (AllByRecursion IfAny) (sym codes) (all_resolved inputs labels all_there)
-
-  source_at : (m : ℕ) (l : LabelParts) → slice_get labels m ≡ Some l → slice_get x.sources m ≡ Some (source_by l (front_of inputs l))
-  source_at m l at =
-      ap (λ (z : List Source). slice_get z m) sources ∙ slice_get-map source_of (map (module_of inputs) labels) m
-      ∙ ap (option_map source_of) (slice_get-map (module_of inputs) labels m ∙ ap (option_map (module_of inputs)) at)
-
-  code_at : (m : ℕ) (l : LabelParts) → slice_get labels m ≡ Some l → slice_get x.code m ≡ Some (code_by (front_of inputs l))
-  code_at m l at =
-      ap (λ (z : List (Option Resolved)). slice_get z m) codes ∙ slice_get-map code_of (map (module_of inputs) labels) m
-      ∙ ap (option_map code_of) (slice_get-map (module_of inputs) labels m ∙ ap (option_map (module_of inputs)) at)
 
   from : (m : ℕ) (ls : List LabelParts) → ((i : ℕ) → slice_get labels (m + i) ≡ slice_get ls i) → AreThere inputs ls → AllByRecursion (FailsInItsPart inputs) (outcomes_from x p m (map source_of (map (module_of inputs) ls)))
   from m [] same there = tt
   from m (l ∷ ls) same there =
       let zero_more : m + 0 ≡ m = omega arith in
       let at : slice_get labels m ≡ Some l = ap (slice_get labels) (sym zero_more) ∙ same 0 in
-      (one l (front_of inputs l) refl (module_fails inputs x all_code p m l (source_at m l at) (code_at m l at) (λ why. none m l why at) (there l (at_head l ls))), from (m + 1) ls next (λ k c. there k (in_tail l ls k c)))
+      (one l (front_of inputs l) refl (module_fails inputs x all_code p m l (source_at inputs x labels sources codes m l at) (code_at inputs x labels sources codes m l at) (λ why. none m l why at) known (told m l at) (there l (at_head l ls))), from (m + 1) ls next (λ k c. there k (in_tail l ls k c)))
     where
       next : (i : ℕ) → slice_get labels (m + 1 + i) ≡ slice_get ls i
       next i = let more : m + 1 + i ≡ m + suc i = omega arith in ap (slice_get labels) more ∙ same (suc i)
@@ -255,7 +270,7 @@ outcomes_fail files rules limit g w is =
     let codes : x.code ≡ map code_of (map (module_of inputs) g.labels) = ap (map code_of) read in
     let there : AreThere inputs g.labels = λ l c. let h = modules_have_files files rules l w (is.modules.only l c) in there_is_file files l h.0 h.1 in
     subst (λ ss. AllByRecursion (FailsInItsPart inputs) (outcomes_from x g.edges 0 ss)) (sym sources)
-    (from inputs x g.labels sources codes g.edges (λ m l why at bad. get_or_from_slice_get g.edges m [] [] (loads_nothing inputs g m l why is at bad)) there 0 g.labels (λ i. ap (slice_get g.labels) (from_zero i)) there)
+    (from inputs x g.labels sources codes g.edges (λ m l why at bad. get_or_from_slice_get g.edges m [] [] (loads_nothing inputs g m l why is at bad)) is.valid.1 (λ m l at front read. at_load files rules limit g is m l front at read) there 0 g.labels (λ i. ap (slice_get g.labels) (from_zero i)) there)
 
 pub loaded_fail : LoadedModulesFailInTheirParts
 loaded_fail files rules limit l w h =

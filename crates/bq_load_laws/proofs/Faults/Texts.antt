@@ -1,5 +1,5 @@
 -- The fault that is read of a file is one of its tokens, its statements, its names or its loads.
-use Rattle.std.proofs.Common.{◌≡◌, ◌∙◌, ℕ, inl, inr, true, List, [], Option, Some, None, Result, Ok, Err, refl, sym, ap, subst, is_some}
+use Rattle.std.proofs.Common.{◌≡◌, ◌∙◌, ℕ, inl, inr, true, List, [], ◌∷◌, ◌++◌, Option, Some, None, Result, Ok, Err, Contains, refl, sym, ap, subst, is_some}
 use Rattle.bq_base.specs.declared.fault.Fault.{Fault}
 use Rattle.bq_base.specs.declared.fault.FaultKind.{FaultKind}
 use Rattle.bq_base.specs.declared.fault.FaultKind.TheVariants as f
@@ -20,8 +20,10 @@ use Rattle.bq_parse_grammar.specs.Verdict.{ReadsAs}
 use Rattle.bq_parse_grammar.specs.declared.tree.FileKind.{FileKind}
 use Rattle.bq_parse_grammar.specs.declared.tree.TopLevel.{TopLevel}
 use Rattle.bq_parse_tree_laws.proofs.FileDepths.{file_within}
+use Rattle.bq_resolve_scope.specs.declared.code.LoadStmt.{LoadStmt}
 use Rattle.bq_resolve_scope.specs.declared.code.Resolved.{Resolved}
 use Rattle.bq_resolve_laws.proofs.Depths.Files.{all_of_names}
+use Rattle.bq_label.proofs.Orders.{at_head, in_tail}
 use Rattle.bq_label.specs.declared.workspace.File.{File}
 use Rattle.bq_label.specs.declared.packages.BuildFile.{BuildFile}
 use Rattle.bq_label.specs.Label.{LabelParts, PackageParts, package_of, full_form}
@@ -35,7 +37,7 @@ use Rattle.bq_load_front.specs.Laws.{HasCode, HasFault}
 use Rattle.bq_load_front.specs.declared.front.Front.{Front}
 use Rattle.bq_load_front.proofs.Codes.{codes_of_files, faults_of_files}
 use Rattle.bq_load_front.proofs.Loads.{loads_of_files}
-use Rattle.bq_load_laws.specs.Faults.Parts.{is_of_tokens, is_of_statements, is_of_loads, universe_at, FailsIn}
+use Rattle.bq_load_laws.specs.Faults.Parts.{is_of_tokens, is_of_statements, is_of_loads, universe_at, IsAtLoad, FailsIn}
 
 -- ---- tokens
 
@@ -115,6 +117,23 @@ load_fails : (files : List File) (packages : List BuildFile) (own : PackageParts
 unfolding load_label
 load_fails files packages own line text why e = of_name files packages line (bzl_label own text) why e
 
+-- at the line of the load
+line_of_label : (line : ℕ) (l : LabelParts) (o : Option FaultKind) (why : Fault) → unless_fault line l o ≡ Err why → why.line ≡ line
+line_of_label line l None why e = absurd (cc)
+line_of_label line l (Some kind) why e = let same : record { kind = kind; line = line; detail = full_form l } ≡ why = cc in sym (ap (λ (x : Fault). x.line) same)
+
+line_of_name : (files : List File) (packages : List BuildFile) (line : ℕ) (o : Option LabelParts) (why : Fault) → file_named files packages line o ≡ Err why → why.line ≡ line
+line_of_name files packages line None why e = let same : fault_at f.BadLoadLabel line ≡ why = cc in sym (ap (λ (x : Fault). x.line) same)
+line_of_name files packages line (Some l) why e = line_of_label line l (fault_of_file files packages l) why e
+
+line_of_load : (files : List File) (packages : List BuildFile) (own : PackageParts) (line : ℕ) (text : List ℕ) (why : Fault) → load_label files packages own line text ≡ Err why → why.line ≡ line
+unfolding load_label
+line_of_load files packages own line text why e = line_of_name files packages line (bzl_label own text) why e
+
+pub among_all : {X : Type 0} (before : List X) (x : X) (after : List X) → Contains (before ++ x ∷ after) x
+among_all [] x after = at_head x after
+among_all (b ∷ bs) x after = in_tail b (bs ++ x ∷ after) x (among_all bs x after)
+
 -- ---- files
 
 module _ (inputs : InputParts) (l : LabelParts) where
@@ -145,7 +164,12 @@ module _ (inputs : InputParts) (l : LabelParts) where
   by_labels x is code has (Ok ls) e = (x, is, has)
   by_labels x is code has (Err why) e =
       let bad = ((loads_of_files inputs (package_of l) code.loads).1 why).0 e in
-      FailsIn.of_loads x code is has (load_fails inputs.files inputs.packages (package_of l) bad.load.line bad.load.label why bad.bad)
+      let at : IsAtLoad code.loads why = record {
+        load = bad.load;
+        among = subst (λ (z : List LoadStmt). Contains z bad.load) (sym bad.split) (among_all bad.before bad.load bad.after);
+        line = line_of_load inputs.files inputs.packages (package_of l) bad.load.line bad.load.label why bad.bad;
+      } in
+      FailsIn.of_loads x code is has (load_fails inputs.files inputs.packages (package_of l) bad.load.line bad.load.label why bad.bad) at
 
   by_code : (x : File) → label_file inputs.files l ≡ Some x → (r : Result Resolved Fault) → code_of (universe_at inputs l) x.content ≡ r → IsFront (front_with r)
   by_code x is (Ok code) e = by_labels x is code ((codes_of_files (universe_at inputs l) x.content code).0 e) (labels code) refl

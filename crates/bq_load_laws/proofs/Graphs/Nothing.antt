@@ -12,13 +12,13 @@ no_loads : (inputs : InputParts) (l : LabelParts) (why : Fault) → front_of inp
 unfolding loads_of
 no_loads inputs l why h = ap loads_by h
 
-record At {A : Type 0} (xs : List A) (n : ℕ) (Q : A → Type 0) : Type 0 where
-  element : A
-  there : slice_get xs n ≡ Some element
-  holds : Q element
+pub record At {A : Type 0} (xs : List A) (n : ℕ) (Q : A → Type 0) : Type 0 where
+  pub element : A
+  pub there : slice_get xs n ≡ Some element
+  pub holds : Q element
 
 -- what two lists are mapped to is one: an element of the one comes from an element of the other
-both : {A B C : Type 0} (f : A → C) (g : B → C) (xs : List A) (ys : List B) (n : ℕ) (y : B) → map f xs ≡ map g ys → slice_get ys n ≡ Some y → At xs n (λ x. f x ≡ g y)
+pub both : {A B C : Type 0} (f : A → C) (g : B → C) (xs : List A) (ys : List B) (n : ℕ) (y : B) → map f xs ≡ map g ys → slice_get ys n ≡ Some y → At xs n (λ x. f x ≡ g y)
 both f g [] [] n y e at = absurd (cc)
 both f g [] (z ∷ zs) n y e at = absurd (cc)
 both f g (x ∷ xs) [] n y e at = absurd (cc)

@@ -59,7 +59,7 @@ fn by_workers<R: Threads + Wait + Sync, G: Gate>(
 /// How many targets the packages have.
 fn targets(loaded: &Loaded) -> usize {
     let mut count = 0usize;
-    for package in &loaded.packages {
+    for package in loaded.packages.as_slice() {
         count = count.wrapping_add(package.targets().len());
     }
     count

@@ -10,7 +10,7 @@ returns-in-Ok g c =
     let o = c.args.options.now in
     let l = c.in-Ok.loaded in
     let query = c.args.question.query.now in
-    let inside : Inside = record { prints = l.prints; faults = l.faults; packages = l.packages.items } in
+    let inside : Inside = record { prints = l.prints; faults = l.faults; packages = l.packages } in
     IfOk-weaker c.report_on.result (λ r. Reports inside query c.args.question.form (report_view r)) (λ r. IsReportOn o c.args.workspace.now (report_view r))
     (λ r h. loaded_report o c.args.workspace.now query c.args.schema.now l (report_view r) c.requires.query c.requires.schema c.in-Ok.ensures
     (subst (λ f. Reports inside query f (report_view r)) c.requires.form h))

@@ -4,7 +4,7 @@ use Rattle.bq_run.specs.Device.{Begins}
 use Rattle.bq_run.specs.Status.{status_code}
 use Rattle.bq_run.proofs.Transfers.{Appends-more, Begins-front, Begins-more}
 use Rattle.bq_run_session.specs.Block.{body, header, line_count, run_end}
-use Rattle.bq_run_session.specs.Session.{reply_view}
+use Rattle.bq_run_report.specs.Report.{reply_view}
 use Rattle.bq_run_session.proofs.blocks.write_block.Goals as goal
 
 pub returns-in_err-write_all-clause-begins : goal.returns-in_err-write_all-clause-begins

@@ -1,6 +1,7 @@
 use Rattle.std.proofs.Common.{rules}
 use Rattle.std.proofs.lemmas.Result.{err_from_is_err_and}
-use Rattle.bq_run_session.specs.Session.{IsAnswerIn, reply_view}
+use Rattle.bq_run_report.specs.Report.{reply_view}
+use Rattle.bq_run_session.specs.Session.{IsAnswerIn}
 use Rattle.bq_run_session.proofs.Progress.{one_failed}
 use Rattle.bq_run_session.proofs.runs.answer_one.Goals as goal
 

@@ -1,8 +1,8 @@
 use Rattle.std.proofs.Common.{◌∙◌, ap, subst, sym}
 use Rattle.std.proofs.lemmas.Result.{IfOk-weaker}
 use Rattle.bq_query_check.specs.Formula.{formula_of}
-use Rattle.bq_run_report.specs.Report.{Replies}
-use Rattle.bq_run_session.specs.Session.{IsAnswerIn, reply_view}
+use Rattle.bq_run_report.specs.Report.{Replies, reply_view}
+use Rattle.bq_run_session.specs.Session.{IsAnswerIn}
 use Rattle.bq_run_session.proofs.Replies.{answered, refused_view, wrong}
 use Rattle.bq_run_session.proofs.session.reply_to_text.Goals as goal
 

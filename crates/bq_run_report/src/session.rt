@@ -1,0 +1,66 @@
+//! A workspace that is loaded, ready for queries.
+
+ghost use Rattle.std.specs.Prelude.{◌≡◌, ◌++◌, IfOk};
+ghost use Rattle.std.specs.List.{flat_map};
+ghost use Rattle.bq_load_fault_line.specs.LineText.{line_text};
+ghost use Rattle.bq_run_report.specs.Ending.{status_by};
+ghost use Rattle.bq_run_report.specs.Report.{IsOver, inside};
+
+use crate::ending::Status;
+use bq_base_rope::Rope;
+use bq_load::Loaded;
+use bq_load_fault_line::FaultLines;
+use bq_query_target_graph::{TargetGraph, build_graph};
+use std::alloc::{AllocError, Global};
+
+/// A workspace that is loaded.
+#[derive(Drop)]
+pub struct Session {
+    /// What its modules printed, and the lines of its faults.
+    pub faults: Rope,
+    /// How a run ends whose query is answered.
+    pub status: Status,
+    /// Its targets.
+    pub graph: TargetGraph,
+}
+
+/// Returns how a run ends that has these fault lines and is not refused.
+pub fn status_by(lines: &FaultLines) -> Status
+    ensures { result ≡ status_by lines.now }
+{
+    if lines.is_empty() {
+        Status::Answered
+    } else {
+        Status::WithFaults
+    }
+}
+
+/// Returns what the modules printed, and then the lines of all faults, each of which is dropped once it is appended.
+fn fault_text(alloc: Global, mut prints: Rope, lines: FaultLines) -> Result<Rope, AllocError>
+    ensures { IfOk result (λ text. text ≡ prints ++ flat_map line_text lines) }
+{
+    lines.append_to(alloc, &mut prints)?;
+    Ok(prints)
+}
+
+/// Makes the session over a loaded workspace. A label that names no target is one more fault, F79.
+pub fn session_over(alloc: Global, loaded: Loaded) -> Result<Session, AllocError>
+    ensures { IfOk result (IsOver (inside loaded)) }
+{
+    let Loaded {
+        modules,
+        packages,
+        mut faults,
+        prints,
+    } = loaded;
+    drop(modules); // so that the graph gets the memory of their values
+    let (graph, dangling) = build_graph(alloc, packages)?;
+    faults.add_all(dangling)?;
+    let status = status_by(&faults);
+    let text = fault_text(alloc, prints, faults)?;
+    Ok(Session {
+        faults: text,
+        status,
+        graph,
+    })
+}
