@@ -314,6 +314,7 @@ LOSSY = {
     "c/BUILD": 'load("//:rules.bzl", "own")\nown(name = "seven")\n',
     "rules.bzl": 'def _impl(ctx):\n    return [DefaultInfo(files = depset(ctx.files.srcs))]\nown = rule(implementation = _impl, attrs = {"srcs": attr.label_list()})\n',
     "d/BUILD": 'load("@r//:r.bzl", "x_test")\nx_test(name = "eight")\n',
+    "e/BUILD": 'load("@r//:r.bzl", "flags", "x_test")\nx_test(name = "nine", copts = flags("a"))\nx_test("ten", "small")\nx_test(name = "eleven", n = 1)\n',
 }
 # what changes what an overlay leaves out: the file, the texts, and what is listed
 HIDDEN = (
@@ -328,6 +329,9 @@ HIDDEN = (
     ("defs.bzl", "env = env", 'env = dict(env, C = "3")', "//a:four //a:one //a:three //a:two"),
     ("defs.bzl", "def made", "# a comment\ndef made", ""),
     ("rules.bzl", "ctx.files.srcs", "[]", "//c:seven"),
+    ("e/BUILD", 'flags("a")', 'flags("b")', "//e:nine"),
+    ("e/BUILD", '"ten", "small"', '"ten", "large"', "//e:ten"),
+    ("e/BUILD", "n = 1", "n = 2", "//e:eleven"),
 )
 
 
@@ -344,7 +348,7 @@ def overlays(bench):
     bench.compare("a macro without targets", (output, "targets may be missing: head: 2 calls of plain (other.bzl:2" in errors, status), ("", True, 3))
     found = project.affected("--base", "HEAD", "--kind", "rule", "--all-on-fault")
     bench.compare("all, for a macro without targets", (found[0].split(), found[2]),
-                  ("//a:four //a:one //a:three //a:two //b:five //b:six //c:seven //d:eight".split(), 0))
+                  ("//a:four //a:one //a:three //a:two //b:five //b:six //c:seven //d:eight //e:eleven //e:nine //e:ten".split(), 0))
 
 
 def modules(bench):

@@ -1,28 +1,33 @@
 """Changes that facts can't show, since something else stands in an overlay for what bq leaves out (docs/REAL_WORKSPACES.md): a dict that is
 dropped, the conditions of a `select`, what a rule of Starlark does. Takes two sides, gives each target that they may concern with the reason.
 
-A statement is *lossy* where the overlay has another one in its place, or where it has a dict or the like, which the stub of a rule drops. Where a lossy
+A statement is *lossy* where the overlay has another one in its place, where it calls a stub that gives the same value whatever it is given, or
+where it has a dict or the like, which the stub of a rule drops. Where a lossy
 statement of a BUILD file changed, or names something that did, its targets count; where a .bzl file changed, and one that is loaded with it
 is lossy, all targets of the packages that load it. And what `package(..)` says counts for all of its package, with an overlay or without.
 """
 import ast
 import os
+import re
 
 from definitions import TAKEN
 from reading import bound_by, parsed
 
 STUB = TAKEN.encode()
+# a stub that drops what it is given
+DROPPING = re.compile(rb"^def (\w+)\(\*args, \*\*kwargs\)", re.M)
 
 
 class Statement:
-    def __init__(self, node, text, copied):
+    def __init__(self, node, text, copied, stubs):
         self.first, self.last, self.node = node.lineno, node.end_lineno, node
         self.said = ast.dump(without_comments(node))
         lines = slice(node.lineno - 1, node.end_lineno)
         self.is_load = function_of(node) == "load"
         self.has_dict = any(is_no_attribute(it) for it in ast.walk(node))
-        self.is_copied = copied is not None and not self.is_load and text[lines] != copied[lines]
         self.names = {it.id for it in ast.walk(node) if isinstance(it, ast.Name)}
+        is_dropped = any(drops(it, stubs) for it in ast.walk(node))
+        self.is_copied = not self.is_load and (is_dropped or copied is not None and text[lines] != copied[lines])
 
 
 def without_comments(node):
@@ -31,6 +36,14 @@ def without_comments(node):
         if isinstance(it, ast.FunctionDef) and isinstance(it.body[0], ast.Expr) and isinstance(it.body[0].value, ast.Constant):
             it.body[0] = ast.Pass()
     return node
+
+
+def drops(node, stubs):
+    """Whether an expression calls a stub that drops something of what it is given: all of it, or what comes after the name."""
+    if not isinstance(node, ast.Name | ast.Call):
+        return False
+    name = node.id if isinstance(node, ast.Name) else getattr(node.func, "id", "")
+    return name in stubs and (stubs[name] or isinstance(node, ast.Call) and len(node.args) > 1)
 
 
 def is_no_attribute(node):
@@ -58,6 +71,7 @@ class Texts:
 
     def __init__(self, side):
         self.side, self.known = side, {}
+        self.loads = {it.file: it.loads for it in side.facts.modules.values()}
 
     def statements(self, path):
         """The statements of a file; None where it can't be read here, or isn't there."""
@@ -73,9 +87,19 @@ class Texts:
         lines = [it.strip() for it in text.split(b"\n")]
         others = None if copied is None else [it.strip() for it in copied.split(b"\n")]
         try:
-            return [Statement(node, lines, others) for node in parsed(text).body if not is_comment(node)]
+            stubs = self.stubs(path)
+            return [Statement(node, lines, others, stubs) for node in parsed(text).body if not is_comment(node)]
         except (SyntaxError, ValueError, RecursionError, MemoryError):
             return None
+
+    def stubs(self, path):
+        """The names that a file loads from files of the overlay alone, each with whether it drops all that it is given."""
+        found = {}
+        for load in self.loads.get(path, ()):
+            if load.file in self.side.overlay and load.file not in self.side.texts:
+                dropping = {name.decode() for name in DROPPING.findall(self.side.overlay[load.file])}
+                found |= {name: symbol in dropping for name, symbol in load.symbols.items()}
+        return found
 
     def is_lossy(self, path):
         """Whether the overlay has something else in the place of a part of this .bzl file."""
