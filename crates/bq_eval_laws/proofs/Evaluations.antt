@@ -8,5 +8,3 @@ pub mod Files
 pub mod Callable
 -- rules
 pub mod Rules
--- the lines of faults
-pub mod Lines
