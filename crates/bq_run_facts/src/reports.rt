@@ -1,13 +1,14 @@
 //! The report on a workspace.
 
-ghost use Rattle.std.specs.Prelude.{◌≡◌, Ok, IfOk};
+ghost use Rattle.std.specs.Prelude.{◌≡◌, ℕ, Ok, IfOk};
 ghost use Rattle.std.specs.Option.{option_copied};
 ghost use Rattle.bq_load_discover.specs.LoadGraph.{IsLoadGraph, inputs_of};
 ghost use Rattle.bq_load_discover.specs.Schema.{schema_in};
 ghost use Rattle.bq_label.specs.Packages.{packages_of};
 ghost use Rattle.bq_run_report.specs.Report.{inside, report_view};
 ghost use Rattle.bq_run.specs.Run.{IsInRange};
-ghost use Rattle.bq_run.specs.WorkspaceRun.{loaded_in};
+ghost use Rattle.bq_run.specs.WorkspaceRun.{loaded_in, refused};
+ghost use Rattle.bq_run_report.specs.declared.ending.NoAnswer.TheVariants.{Schema as BadSchema, TooManyModules};
 ghost use Rattle.bq_run_facts.specs.Facts.{IsFactsBy, IsFactsOn, TellsFacts};
 ghost use Rattle.bq_run_facts.specs.Lines.{module_lines};
 
@@ -118,6 +119,17 @@ fn report_graph<T: Threads + Wait + RandomSource + Sync>(
     report_over(alloc, before, loaded, asked)
 }
 
+/// Makes the report of a run that finds no load graph.
+fn without_graph(alloc: Global, why: LoadErr) -> Result<Report, AllocError>
+    ensures why { IfOk result (λ _. why ≡ LoadErr.TooManyModules) }
+    ensures report { IfOk result (λ r. report_view r ≡ refused TooManyModules) }
+{
+    match why {
+        LoadErr::TooManyModules => Ok(refused_report(alloc, NoAnswer::TooManyModules)),
+        _ => Err(AllocError),
+    }
+}
+
 /// Makes the report on a workspace whose schema and query are read.
 fn report_schema<T: Threads + Wait + RandomSource + Sync>(
     rt: &T,
@@ -133,8 +145,17 @@ fn report_schema<T: Threads + Wait + RandomSource + Sync>(
 {
     match discover_by_workers(rt, alloc, workspace, schema, options.jobs as usize) {
         Ok(graph) => report_graph(rt, alloc, workspace, schema, graph, asked, options),
-        Err(LoadErr::TooManyModules) => Ok(refused_report(alloc, NoAnswer::TooManyModules)),
-        Err(_) => Err(AllocError),
+        Err(why) => without_graph(alloc, why), // PROOF: nothing is left to let go of
+    }
+}
+
+/// Makes the report of a run that finds no schema.
+fn without_schema(alloc: Global, why: LoadErr) -> Result<Report, AllocError>
+    ensures { IfOk result (λ r. (line : ℕ) × (why ≡ LoadErr.Schema line) × (report_view r ≡ refused (BadSchema line))) }
+{
+    match why {
+        LoadErr::Schema(line) => Ok(refused_report(alloc, NoAnswer::Schema(line))),
+        _ => Err(AllocError),
     }
 }
 
@@ -150,9 +171,12 @@ fn report_asked<T: Threads + Wait + RandomSource + Sync>(
     ensures { IfOk result (λ r. IsFactsBy options.now.max_steps workspace.now (option_copied asked.entry) (report_view r)) }
 {
     match schema_of(alloc, workspace) {
-        Ok(schema) => report_schema(rt, alloc, workspace, &schema, asked, options),
-        Err(LoadErr::Schema(line)) => Ok(refused_report(alloc, NoAnswer::Schema(line))),
-        Err(_) => Err(AllocError),
+        Ok(schema) => {
+            let report = report_schema(rt, alloc, workspace, &schema, asked, options);
+            drop(schema); // PROOF: one call lets the schema go
+            report
+        }
+        Err(why) => without_schema(alloc, why),
     }
 }
 
